@@ -1,0 +1,4 @@
+pub mod Instruction
+pub mod Laws
+pub mod Number
+pub mod Value
