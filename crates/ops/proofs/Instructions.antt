@@ -14,6 +14,7 @@ use Rattle.ops.specs.Instruction.{instruction, on_numbers, arithmetic, residue, 
 use Rattle.ops.proofs.Values.{AllowsValue-refl}
 use Rattle.ops.specs.Laws.{InstructionsAreMonotone, InstructionsKeepWidths, InstructionsAreDefined}
 
+-- what `arithmetic` and the others give is a value of iN
 pub residue-lt : (N : ℕ) (z : ℤ) → residue N z < 2 ^ N
 unfolding residue
 residue-lt N (pos n) = mod-lt n (pow_pos N)
@@ -42,6 +43,7 @@ IsEffectOf-instruction op flags N (Bits a) (Bits b) p q = IsValueOf-on_numbers o
 IsEffectOf-instruction op flags N (Bits a) Poison p q = tt
 IsEffectOf-instruction op flags N Poison b p q = tt
 
+-- and it is not undefined behaviour
 pub instruction-defined : InstructionsAreDefined
 unfolding instruction
 instruction-defined op flags N (Bits a) (Bits b) e = cc

@@ -1,4 +1,4 @@
--- What one instruction over iN does, over whole numbers (LLVM Language Reference, "Binary Operations" and "Bitwise Binary Operations").
+-- What one instruction over iN does, by whole numbers (LLVM Language Reference, "Binary Operations", "Bitwise Binary Operations").
 use Rattle.std.specs.Prelude.{ℕ, ◌≡◌, ◌-◌, ◌^◌, Bool, false, if◌then◌else◌, not, ◌&&◌, ◌||◌, nat_lt, bit_and, bit_or, bit_xor}
 use Rattle.std.specs.Prelude.{ℤ, pos, neg_ℤ, ◌+ℤ◌, ◌-ℤ◌, int_le, int_lt, unsigned_abs}
 use Rattle.std.specs.Int.{int_rem_euclid}
@@ -38,9 +38,13 @@ residue N z = unsigned_abs (int_rem_euclid z (pos (2 ^ N)))
 abbrev pub bits : ℕ → ℕ → Value
 bits N n = Bits (record { width = N; number = n })
 
--- the result u over unsigned numbers modulo 2^N; poison with nuw where u does not fit, and with nsw where the result s over signed numbers does not
+-- u is the result over unsigned numbers, and s over signed ones: u modulo 2^N, but poison with nuw where u does not fit, and
+-- with nsw where s does not
 unfoldable pub arithmetic : Flags → ℕ → ℤ → ℤ → Value
-arithmetic flags N u s = if (flags.nuw && not (fits_unsigned N u)) || (flags.nsw && not (fits_signed N s)) then Poison else bits N (residue N u)
+arithmetic flags N u s =
+    if (flags.nuw && not (fits_unsigned N u)) || (flags.nsw && not (fits_signed N s))
+    then Poison
+    else bits N (residue N u)
 
 -- what the instruction gives at the numbers a and b
 unfoldable pub on_numbers : Opcode → Flags → ℕ → ℕ → ℕ → Value

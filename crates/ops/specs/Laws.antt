@@ -8,12 +8,14 @@ use Rattle.ops.specs.declared.opcode.Flags.{Flags}
 use Rattle.ops.specs.Value.{AllowsValue, AllowsEffect, IsValueOf, IsEffectOf}
 use Rattle.ops.specs.Instruction.{instruction}
 
+-- a value allows itself, and what the values that it allows do
 abbrev pub ValuesAllowThemselves : Type 0
 ValuesAllowThemselves = (v : Value) → AllowsValue v v
 
 abbrev pub ValuesAllowAlong : Type 0
 ValuesAllowAlong = (u v w : Value) → AllowsValue u v → AllowsValue v w → AllowsValue u w
 
+-- an effect allows itself, and what the effects that it allows do
 abbrev pub EffectsAllowThemselves : Type 0
 EffectsAllowThemselves = (e : Effect) → AllowsEffect e e
 

@@ -5,6 +5,7 @@ use Rattle.ops.specs.declared.opcode.Flags.{Flags}
 use Rattle.ops.specs.Instruction.{on_numbers, arithmetic}
 use Rattle.ops.proofs.instruction.sub.Goals as goal
 
+-- equal results of the subtraction give equal values
 same_results : (flags : Flags) (N : ℕ) (u u' s s' : ℤ) → u ≡ u' → s ≡ s' → arithmetic flags N u s ≡ arithmetic flags N u' s'
 same_results flags N u u' s s' e f = cc
 
