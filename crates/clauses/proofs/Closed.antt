@@ -1,0 +1,109 @@
+-- A state that unit propagation adds nothing to: what it shows of derivations from less.
+use Rattle.std.proofs.Common.{◌≡◌, ℕ, Bool, true, false, not, cond, List, [], ◌∷◌, Some, length, refl, sym, ap, ◌∙◌, inl, inr, subst}
+use Rattle.std.specs.Prelude.{slice_get, remove, ◌⊎◌}
+use Rattle.clauses.specs.declared.literal.Lit.{Lit}
+use Rattle.clauses.specs.Literal.{negation_of, is_same}
+use Rattle.clauses.specs.Propagation.{Derives, IsFalsified, IsUnit, SomeFalsified, is_held, is_false, open_literals, negations_of}
+use Rattle.clauses.specs.ClauseSet.{IsNew, UnitsRefute}
+use Rattle.std.proofs.lemmas.Bool.{cases_Bool, or_cases, true≢false}
+use Rattle.std.proofs.lemmas.Option.{slice_get_read}
+use Rattle.clauses.proofs.Held.{is_same-true}
+
+-- what is held in the one state is held in the other
+pub record HeldWithin (held all : List Lit) : Type 0 where
+  pub each : (l : Lit) → is_held held l ≡ true → is_held all l ≡ true
+
+pub HeldWithin-nil : (all : List Lit) → HeldWithin [] all
+HeldWithin-nil all = record { each = λ l h. absurd (true≢false (sym h)) }
+
+pub HeldWithin-cons : (l : Lit) (held all : List Lit) → is_held all l ≡ true → HeldWithin held all → HeldWithin (l ∷ held) all
+HeldWithin-cons l held all here h =
+    record {
+      each = λ m is.
+          elim (or_cases (is_same m l) (is_held held m) is) [
+            | inl same ↦ ap (is_held all) (is_same-true m l same) ∙ here
+            | inr before ↦ h.each m before
+          ];
+    }
+
+-- no clause is false, and what a clause makes hold is held
+pub record IsClosed (clauses : List (List Lit)) (all : List Lit) : Type 0 where
+  pub none_false : (number : ℕ) (clause : List Lit) → slice_get clauses number ≡ Some clause → ¬ (IsFalsified all clause)
+  pub units_held : (number : ℕ) (clause : List Lit) (l : Lit) → slice_get clauses number ≡ Some clause → IsUnit all clause l → is_held all l ≡ true
+
+open_at : (held : List Lit) (l : Lit) (ls : List Lit) (b : Bool) → is_false held l ≡ b → open_literals held (l ∷ ls) ≡ cond (not b) (l ∷ open_literals held ls) (open_literals held ls)
+open_at held l ls b e = ap (λ c. cond (not c) (l ∷ open_literals held ls) (open_literals held ls)) e
+
+-- a clause that is false stays so where more is held
+pub IsFalsified-more : (held all : List Lit) → HeldWithin held all → (clause : List Lit) → IsFalsified held clause → IsFalsified all clause
+IsFalsified-more held all h [] none = refl
+IsFalsified-more held all h (l ∷ ls) none =
+    elim (cases_Bool (is_false held l)) [
+      | inl closed ↦
+          open_at all l ls true (h.each (negation_of l) closed)
+          ∙ IsFalsified-more held all h ls (sym (open_at held l ls true closed) ∙ none)
+      | inr kept ↦ let e : l ∷ open_literals held ls ≡ [] = sym (open_at held l ls false kept) ∙ none in cc
+    ]
+
+-- a unit clause is false or unit where more is held
+pub IsUnit-more : (held all : List Lit) → HeldWithin held all → (clause : List Lit) (l : Lit) → IsUnit held clause l → IsFalsified all clause ⊎ IsUnit all clause l
+IsUnit-more held all h [] l one = cc
+IsUnit-more held all h (m ∷ ms) l one =
+    elim (cases_Bool (is_false held m)) [
+      | inl closed ↦
+          let stays : open_literals all (m ∷ ms) ≡ open_literals all ms = open_at all m ms true (h.each (negation_of m) closed) in
+          elim (IsUnit-more held all h ms l (sym (open_at held m ms true closed) ∙ one)) [
+            | inl none ↦ inl (stays ∙ none)
+            | inr still ↦ inr (stays ∙ still)
+          ]
+      | inr kept ↦
+          let e : m ∷ open_literals held ms ≡ l ∷ [] = sym (open_at held m ms false kept) ∙ one in
+          let same : m ≡ l = cc in
+          let rest : open_literals held ms ≡ [] = cc in
+          let none : open_literals all ms ≡ [] = IsFalsified-more held all h ms rest in
+          elim (cases_Bool (is_false all m)) [
+            | inl closed ↦ inl (open_at all m ms true closed ∙ none)
+            | inr open' ↦ inr (open_at all m ms false open' ∙ ap (λ k. k ∷ open_literals all ms) same ∙ ap (λ ks. l ∷ ks) none)
+          ]
+    ]
+
+-- a derivation from less stays within a closed state
+pub Derives-within : (clauses : List (List Lit)) (all : List Lit) → IsClosed clauses all → (held : List Lit) (numbers : List ℕ) (after : List Lit) → HeldWithin held all → Derives clauses held numbers after → HeldWithin after all
+Derives-within clauses all closed held [] after h d = subst (λ state. HeldWithin state all) d h
+Derives-within clauses all closed held (number ∷ numbers) after h d =
+    let clause = d.1.0 in
+    let here : is_held all d.0 ≡ true =
+    elim (IsUnit-more held all h clause d.0 d.1.2) [
+      | inl none ↦ absurd (closed.none_false number clause d.1.1 none)
+      | inr still ↦ closed.units_held number clause d.0 d.1.1 still
+    ] in
+    Derives-within clauses all closed (d.0 ∷ held) numbers after (HeldWithin-cons d.0 held all here h) d.2
+
+-- within a closed state no clause is false
+pub not_SomeFalsified : (clauses : List (List Lit)) (all held : List Lit) → IsClosed clauses all → HeldWithin held all → ¬ (SomeFalsified clauses held)
+not_SomeFalsified clauses all held closed h (k, clause, within, at, none) =
+    closed.none_false k clause (slice_get_read clauses (length clauses) k clause refl within (sym at))
+    (IsFalsified-more held all h clause none)
+
+pub not_held : (held all : List Lit) (l : Lit) → HeldWithin held all → is_held all l ≡ false → is_held held l ≡ false
+not_held held all l h free =
+    elim (cases_Bool (is_held held l)) [
+      | inl here ↦ absurd (true≢false (sym (h.each l here) ∙ free))
+      | inr gone ↦ gone
+    ]
+
+-- A clause is new where a closed state holds the negations of its literals but the one at this place, and not that one.
+pub IsNew-from_closed : (earlier : List (List Lit)) (all clause : List Lit) (place : ℕ) (l : Lit) → IsClosed earlier all → slice_get clause place ≡ Some l → HeldWithin (negations_of (remove clause place)) all → is_held all l ≡ false → IsNew earlier clause
+IsNew-from_closed earlier all clause place l closed at within free = (
+  place,
+  l,
+  at,
+  λ moves held d.
+      let h : HeldWithin held all = Derives-within earlier all closed (negations_of (remove clause place)) moves held within d in
+      (not_held held all l h free, not_SomeFalsified earlier all held closed h),
+)
+
+-- units alone refute nothing where some state is closed
+pub not_UnitsRefute : (clauses : List (List Lit)) (all : List Lit) → IsClosed clauses all → ¬ (UnitsRefute clauses)
+not_UnitsRefute clauses all closed (moves, held, d, some) =
+    not_SomeFalsified clauses all held closed (Derives-within clauses all closed [] moves held (HeldWithin-nil all) d) some

@@ -1,0 +1,63 @@
+-- Derivations move by move, and hints hint by hint.
+use Rattle.std.proofs.Common.{◌≡◌, ℕ, List, [], ◌∷◌, ◌++◌, Some, refl, sym, ap, ◌∙◌, subst}
+use Rattle.std.specs.Prelude.{slice_get}
+use Rattle.clauses.specs.declared.literal.Lit.{Lit}
+use Rattle.clauses.specs.Propagation.{Derives, HintsRefute, NamesFalse, NamesUnit, open_literals}
+
+-- a number names one clause
+same_clause : (clauses : List (List Lit)) (number : ℕ) (c d : List Lit) → slice_get clauses number ≡ Some c → slice_get clauses number ≡ Some d → c ≡ d
+same_clause clauses number c d p q = let e : Some c ≡ Some d = sym p ∙ q in cc
+
+head_same : (l m : Lit) → l ∷ [] ≡ m ∷ [] → l ≡ m
+head_same l m e = cc
+
+-- a clause has at most one literal that it makes hold
+pub NamesUnit-same : (clauses : List (List Lit)) (held : List Lit) (number : ℕ) (l m : Lit) → NamesUnit clauses held number l → NamesUnit clauses held number m → l ≡ m
+NamesUnit-same clauses held number l m (c, at, one) (d, at', one') =
+    head_same l m (sym one ∙ ap (open_literals held) (same_clause clauses number c d at at') ∙ one')
+
+-- a clause that makes a literal hold isn't false
+pub NamesUnit-not_false : (clauses : List (List Lit)) (held : List Lit) (number : ℕ) (l : Lit) → NamesUnit clauses held number l → NamesFalse clauses held number → ⊥
+NamesUnit-not_false clauses held number l (c, at, one) (d, at', none) =
+    let e : l ∷ [] ≡ [] = sym one ∙ ap (open_literals held) (same_clause clauses number c d at at') ∙ none in cc
+
+-- one more move at the end
+pub Derives-push : (clauses : List (List Lit)) (held : List Lit) (numbers : List ℕ) (after : List Lit) (number : ℕ) (l : Lit) → Derives clauses held numbers after → NamesUnit clauses after number l → Derives clauses held (numbers ++ number ∷ []) (l ∷ after)
+Derives-push clauses held [] after number l d unit =
+    (l, subst (λ state. NamesUnit clauses state number l) (sym d) unit, ap (λ state. l ∷ state) d)
+Derives-push clauses held (n ∷ numbers) after number l d unit =
+    (d.0, d.1, Derives-push clauses (d.0 ∷ held) numbers after number l d.2 unit)
+
+-- one derivation after another
+pub Derives-append : (clauses : List (List Lit)) (held : List Lit) (numbers : List ℕ) (between : List Lit) (more : List ℕ) (after : List Lit) → Derives clauses held numbers between → Derives clauses between more after → Derives clauses held (numbers ++ more) after
+Derives-append clauses held [] between more after d e = subst (λ state. Derives clauses state more after) (sym d) e
+Derives-append clauses held (n ∷ numbers) between more after d e =
+    (d.0, d.1, Derives-append clauses (d.0 ∷ held) numbers between more after d.2 e)
+
+-- no hints refute nothing
+pub HintsRefute-nil : (clauses : List (List Lit)) (held : List Lit) → ¬ (HintsRefute clauses held [])
+HintsRefute-nil clauses held ([], last, after, is, d, named) = cc
+HintsRefute-nil clauses held (n ∷ ns, last, after, is, d, named) = cc
+
+-- one hint refutes where it names a false clause
+pub HintsRefute-one : (clauses : List (List Lit)) (held : List Lit) (number : ℕ) → NamesFalse clauses held number → HintsRefute clauses held (number ∷ [])
+HintsRefute-one clauses held number false_named = ([], number, held, refl, refl, false_named)
+
+pub HintsRefute-only : (clauses : List (List Lit)) (held : List Lit) (number : ℕ) → HintsRefute clauses held (number ∷ []) → NamesFalse clauses held number
+HintsRefute-only clauses held number ([], last, after, is, d, named) =
+    let e : number ≡ last = cc in
+    subst (λ n. NamesFalse clauses held n) (sym e) (subst (λ state. NamesFalse clauses state last) (sym d) named)
+HintsRefute-only clauses held number (n ∷ [], last, after, is, d, named) = cc
+HintsRefute-only clauses held number (n ∷ m ∷ ns, last, after, is, d, named) = cc
+
+-- a hint before others refutes where it is a move and they refute the state after it
+pub HintsRefute-cons : (clauses : List (List Lit)) (held : List Lit) (number : ℕ) (l : Lit) (hints : List ℕ) → NamesUnit clauses held number l → HintsRefute clauses (l ∷ held) hints → HintsRefute clauses held (number ∷ hints)
+HintsRefute-cons clauses held number l hints unit (moves, last, after, is, d, named) =
+    (number ∷ moves, last, after, ap (λ ns. number ∷ ns) is, (l, unit, d), named)
+
+pub HintsRefute-move : (clauses : List (List Lit)) (held : List Lit) (number next : ℕ) (hints : List ℕ) → HintsRefute clauses held (number ∷ next ∷ hints) → (l : Lit) × NamesUnit clauses held number l × HintsRefute clauses (l ∷ held) (next ∷ hints)
+HintsRefute-move clauses held number next hints ([], last, after, is, d, named) = cc
+HintsRefute-move clauses held number next hints (n ∷ moves, last, after, is, d, named) =
+    let first : number ≡ n = cc in
+    let others : next ∷ hints ≡ moves ++ last ∷ [] = cc in
+    (d.0, subst (λ k. NamesUnit clauses held k d.0) (sym first) d.1, (moves, last, after, others, d.2, named))

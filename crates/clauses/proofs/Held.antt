@@ -1,0 +1,91 @@
+-- What is held, and where it is true.
+use Rattle.std.proofs.Common.{◌≡◌, ℕ, Bool, true, false, not, ◌||◌, cond, eqb, List, [], ◌∷◌, refl, sym, ap, ◌∙◌, inl, inr}
+use Rattle.std.proofs.lemmas.Bool.{and_parts, and_from, or_cases, or_parts, eqb-true, eq-eqb, cases_Bool, true≢false, not-true}
+use Rattle.clauses.specs.declared.literal.Lit.{Lit}
+use Rattle.clauses.specs.Literal.{negation_of, is_same, literal_true, clause_true}
+use Rattle.clauses.specs.Propagation.{is_held, is_false, open_literals, negations_of}
+
+-- a literal of these parts
+abbrev pub made : ℕ → Bool → Lit
+made n b = record { variable = n; negated = b }
+
+made_same : (n m : ℕ) (a b : Bool) → n ≡ m → a ≡ b → made n a ≡ made m b
+made_same n m a b p q = ap (λ k. made k a) p ∙ ap (λ c. made m c) q
+
+bool_same : (a b : Bool) → cond a b (not b) ≡ true → a ≡ b
+bool_same true true h = refl
+bool_same true false h = sym h
+bool_same false true h = h
+bool_same false false h = refl
+
+bool_self : (a : Bool) → cond a a (not a) ≡ true
+bool_self true = refl
+bool_self false = refl
+
+-- the test says that two literals are equal
+pub is_same-true : (l m : Lit) → is_same l m ≡ true → l ≡ m
+is_same-true l m h =
+    let parts = and_parts (eqb l.variable m.variable) (cond l.negated m.negated (not m.negated)) h in
+    made_same l.variable m.variable l.negated m.negated (eqb-true l.variable m.variable parts.0)
+    (bool_same l.negated m.negated parts.1)
+
+pub is_same-self : (l : Lit) → is_same l l ≡ true
+is_same-self l =
+    and_from (eqb l.variable l.variable) (cond l.negated l.negated (not l.negated)) (eq-eqb l.variable l.variable refl)
+    (bool_self l.negated)
+
+not_not : (b : Bool) → not (not b) ≡ b
+not_not true = refl
+not_not false = refl
+
+pub negation-negation : (l : Lit) → negation_of (negation_of l) ≡ l
+negation-negation l = made_same l.variable l.variable (not (not l.negated)) l.negated refl (not_not l.negated)
+
+true_of_made : (v : ℕ → Bool) (n : ℕ) (b : Bool) → literal_true v (made n (not b)) ≡ not (literal_true v (made n b))
+true_of_made v n true = sym (not_not (v n))
+true_of_made v n false = refl
+
+-- the negation of a literal is true where the literal is false
+pub literal_true-negation : (v : ℕ → Bool) (l : Lit) → literal_true v (negation_of l) ≡ not (literal_true v l)
+literal_true-negation v l = true_of_made v l.variable l.negated
+
+pub false_of_negation : (v : ℕ → Bool) (l : Lit) → literal_true v (negation_of l) ≡ true → literal_true v l ≡ false
+false_of_negation v l h = not-true (literal_true v l) (sym (literal_true-negation v l) ∙ h)
+
+-- each literal that is held is true
+pub record HeldTrue (v : ℕ → Bool) (held : List Lit) : Type 0 where
+  pub each : (l : Lit) → is_held held l ≡ true → literal_true v l ≡ true
+
+pub HeldTrue-nil : (v : ℕ → Bool) → HeldTrue v []
+HeldTrue-nil v = record { each = λ l h. elim (true≢false (sym h)) [ ] }
+
+pub HeldTrue-cons : (v : ℕ → Bool) (l : Lit) (held : List Lit) → literal_true v l ≡ true → HeldTrue v held → HeldTrue v (l ∷ held)
+HeldTrue-cons v l held t h =
+    record {
+      each = λ m is.
+          elim (or_cases (is_same m l) (is_held held m) is) [
+            | inl same ↦ ap (literal_true v) (is_same-true m l same) ∙ t
+            | inr before ↦ h.each m before
+          ];
+    }
+
+-- where a clause is false, the negations of its literals are true
+pub HeldTrue-negations : (v : ℕ → Bool) (clause : List Lit) → clause_true v clause ≡ false → HeldTrue v (negations_of clause)
+HeldTrue-negations v [] h = HeldTrue-nil v
+HeldTrue-negations v (l ∷ ls) h =
+    let parts = or_parts (literal_true v l) (clause_true v ls) h in
+    HeldTrue-cons v (negation_of l) (negations_of ls) (literal_true-negation v l ∙ ap not parts.0) (HeldTrue-negations v ls parts.1)
+
+-- the literals of a clause that are false by what is held don't matter to its truth
+pub clause_true-open : (v : ℕ → Bool) (held : List Lit) → HeldTrue v held → (clause : List Lit) → clause_true v clause ≡ clause_true v (open_literals held clause)
+clause_true-open v held h [] = refl
+clause_true-open v held h (l ∷ ls) =
+    elim (cases_Bool (is_false held l)) [
+      | inl closed ↦
+          let isnt : literal_true v l ≡ false = false_of_negation v l (h.each (negation_of l) closed) in
+          ap (λ b. b || clause_true v ls) isnt ∙ clause_true-open v held h ls
+          ∙ sym (ap (λ b. clause_true v (cond (not b) (l ∷ open_literals held ls) (open_literals held ls))) closed)
+      | inr kept ↦
+          ap (λ b. literal_true v l || b) (clause_true-open v held h ls)
+          ∙ sym (ap (λ b. clause_true v (cond (not b) (l ∷ open_literals held ls) (open_literals held ls))) kept)
+    ]

@@ -1,0 +1,43 @@
+-- Reverse unit propagation is sound.
+use Rattle.std.proofs.Common.{◌≡◌, ℕ, Bool, true, false, ◌||◌, List, [], ◌∷◌, Some, sym, ap, ◌∙◌, inl, inr, subst}
+use Rattle.std.specs.Prelude.{slice_get}
+use Rattle.clauses.specs.declared.literal.Lit.{Lit}
+use Rattle.clauses.specs.Literal.{literal_true, clause_true, Meets}
+use Rattle.clauses.specs.Propagation.{Derives, HintsRefute, IsFalsified, IsUnit, negations_of}
+use Rattle.std.proofs.lemmas.Bool.{cases_Bool, true≢false, or_cases}
+use Rattle.std.proofs.lemmas.Option.{slice_get_within, get_or_from_slice_get}
+use Rattle.clauses.proofs.Held.{HeldTrue, HeldTrue-cons, HeldTrue-negations, clause_true-open}
+
+-- the clause of a number is true where all are
+pub Meets-at : (v : ℕ → Bool) (clauses : List (List Lit)) (number : ℕ) (clause : List Lit) → Meets v clauses → slice_get clauses number ≡ Some clause → clause_true v clause ≡ true
+Meets-at v clauses number clause meets is =
+    sym (ap (clause_true v) (get_or_from_slice_get clauses number clause clause is)) ∙ meets number clause (slice_get_within clauses number clause is)
+
+-- a move holds what is true
+pub unit_is_true : (v : ℕ → Bool) (held clause : List Lit) (l : Lit) → HeldTrue v held → clause_true v clause ≡ true → IsUnit held clause l → literal_true v l ≡ true
+unit_is_true v held clause l h t unit =
+    let one : (literal_true v l || false) ≡ true = sym (ap (clause_true v) unit) ∙ sym (clause_true-open v held h clause) ∙ t in
+    elim (or_cases (literal_true v l) false one) [ inl holds ↦ holds | inr none ↦ absurd (true≢false (sym none)) ]
+
+-- a clause with all literals false isn't true
+pub falsified_is_false : (v : ℕ → Bool) (held clause : List Lit) → HeldTrue v held → IsFalsified held clause → clause_true v clause ≡ false
+falsified_is_false v held clause h none = clause_true-open v held h clause ∙ ap (clause_true v) none
+
+-- a derivation over true clauses holds what is true
+pub derived_is_true : (v : ℕ → Bool) (clauses : List (List Lit)) → Meets v clauses → (held : List Lit) (numbers : List ℕ) (after : List Lit) → HeldTrue v held → Derives clauses held numbers after → HeldTrue v after
+derived_is_true v clauses meets held [] after h d = subst (HeldTrue v) d h
+derived_is_true v clauses meets held (number ∷ numbers) after h d =
+    let clause = d.1.0 in
+    let now_true : literal_true v d.0 ≡ true =
+    unit_is_true v held clause d.0 h (Meets-at v clauses number clause meets d.1.1) d.1.2 in
+    derived_is_true v clauses meets (d.0 ∷ held) numbers after (HeldTrue-cons v d.0 held now_true h) d.2
+
+-- what hints show is true where the earlier clauses are
+pub shown_is_true : (v : ℕ → Bool) (earlier : List (List Lit)) (clause : List Lit) (hints : List ℕ) → Meets v earlier → HintsRefute earlier (negations_of clause) hints → clause_true v clause ≡ true
+shown_is_true v earlier clause hints meets (moves, last, held, is, derived, (named, at, none)) =
+    elim (cases_Bool (clause_true v clause)) [
+      | inl holds ↦ holds
+      | inr fails ↦
+          let h : HeldTrue v held = derived_is_true v earlier meets (negations_of clause) moves held (HeldTrue-negations v clause fails) derived in
+          absurd (true≢false (sym (Meets-at v earlier last named meets at) ∙ falsified_is_false v held named h none))
+    ]

@@ -1,0 +1,72 @@
+-- Logs of derived clauses over a set: reverse unit propagation (RUP), and clauses that unit propagation alone
+-- doesn't give. Clauses are numbered from 0: the gates of the set, its roots, then the steps.
+use Rattle.std.specs.Prelude.{◌≡◌, ℕ, ◌-◌, ◌⊎◌, ◌++◌, Bool, true, false, List, [], length, take, map, remove, Some, slice_get, IsSomeAnd}
+use Rattle.clauses.specs.declared.literal.Lit.{Lit}
+use Rattle.clauses.specs.declared.step.Step.{Step}
+use Rattle.clauses.specs.declared.cnf.Cnf.{Cnf}
+use Rattle.clauses.specs.Literal.{IsVariable, IsWithin, literal_of}
+use Rattle.clauses.specs.Propagation.{Derives, HintsRefute, SomeFalsified, is_held, negations_of}
+
+-- the clauses of a set, in the order of their numbers
+abbrev pub all_clauses : Cnf → List (List Lit)
+all_clauses set = set.gates ++ set.roots
+
+abbrev pub clauses_of_steps : List Step → List (List Lit)
+clauses_of_steps log = map (λ step. step.clause) log
+
+-- the clauses before the step at this place of the log
+abbrev pub clauses_before : Cnf → List Step → ℕ → List (List Lit)
+clauses_before set log place = all_clauses set ++ clauses_of_steps (take place log)
+
+-- The step follows from the earlier clauses: its variables are the set's, and where the negations of its clause's
+-- literals are held, its hints refute.
+abbrev pub StepFollows : Cnf → List (List Lit) → Step → Type 0
+StepFollows set earlier step = IsWithin set.count step.clause × HintsRefute earlier (negations_of step.clause) step.hints
+
+-- each step of the log follows from the set and the steps before it
+abbrev pub LogFollows : Cnf → List Step → Type 0
+LogFollows set log =
+    (place : ℕ) (step : Step) → slice_get log place ≡ Some step → StepFollows set (clauses_before set log place) step
+
+-- the log ends with the empty clause
+abbrev pub EndsEmpty : List Step → Type 0
+EndsEmpty log = IsSomeAnd (slice_get log (length log - 1)) (λ step. step.clause ≡ [])
+
+-- a refutation: a log that follows and ends with the empty clause
+abbrev pub IsRefutation : Cnf → List Step → Type 0
+IsRefutation set log = LogFollows set log × EndsEmpty log
+
+-- The clause is new after the earlier ones: for the literal l at some place of it, when the negations of its literals
+-- at the other places are held, no derivation from the earlier clauses comes to hold l or makes a clause false. (The
+-- derivation without a move says that l isn't held at the start.)
+abbrev pub IsNew : List (List Lit) → List Lit → Type 0
+IsNew earlier clause =
+    (place : ℕ) × (l : Lit) × (slice_get clause place ≡ Some l)
+    × ((moves : List ℕ) (held : List Lit) → Derives earlier (negations_of (remove clause place)) moves held →
+    (is_held held l ≡ false) × ¬ (SomeFalsified earlier held))
+
+-- each step's clause is new after the set and the steps before it
+abbrev pub LogIsNew : Cnf → List Step → Type 0
+LogIsNew set log =
+    (place : ℕ) (step : Step) → slice_get log place ≡ Some step → IsNew (clauses_before set log place) step.clause
+
+-- units alone make a clause of the list false: a derivation from nothing held does
+abbrev pub UnitsRefute : List (List Lit) → Type 0
+UnitsRefute clauses =
+    (moves : List ℕ) × (held : List Lit) × Derives clauses [] moves held × SomeFalsified clauses held
+
+-- the literals that are held where the inputs have their values by the setting
+abbrev pub setting_literals : Cnf → (ℕ → Bool) → List Lit
+setting_literals set setting = map (λ n. literal_of n (setting n)) set.inputs
+
+-- the state gives each variable of the set a value
+abbrev pub AllSet : Cnf → List Lit → Type 0
+AllSet set held =
+    (n : ℕ) → IsVariable set.count n → (value : Bool) × (is_held held (literal_of n value) ≡ true)
+
+-- units, once the inputs are set, derive all the rest or make a clause of the set false
+abbrev pub UnitsDetermine : Cnf → Type 0
+UnitsDetermine set =
+    (setting : ℕ → Bool) →
+    (moves : List ℕ) × (held : List Lit) × Derives (all_clauses set) (setting_literals set setting) moves held
+    × (AllSet set held ⊎ SomeFalsified (all_clauses set) held)

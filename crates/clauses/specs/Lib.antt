@@ -1,0 +1,4 @@
+pub mod Literal
+pub mod Propagation
+pub mod ClauseSet
+pub mod Settings

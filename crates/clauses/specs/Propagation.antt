@@ -1,0 +1,57 @@
+-- Unit propagation over numbered clauses. The state is the list of the literals that are held; a literal is false
+-- where its negation is held. (Unit propagation of DPLL and of reverse unit propagation.)
+use Rattle.std.specs.Prelude.{◌≡◌, ℕ, Bool, not, List, [], ◌∷◌, ◌++◌, Some, slice_get, filter, map, Any}
+use Rattle.std.specs.List.{list_any}
+use Rattle.clauses.specs.declared.literal.Lit.{Lit}
+use Rattle.clauses.specs.Literal.{negation_of, is_same}
+
+-- whether the literal is held
+abbrev pub is_held : List Lit → Lit → Bool
+is_held held l = list_any (is_same l) held
+
+-- whether it is false, that is, its negation is held
+abbrev pub is_false : List Lit → Lit → Bool
+is_false held l = is_held held (negation_of l)
+
+-- The literals of a clause that aren't false, in order. A literal that stands in it twice is counted twice, so "all
+-- literals but one" means all places but one.
+abbrev pub open_literals : List Lit → List Lit → List Lit
+open_literals held clause = filter (λ l. not (is_false held l)) clause
+
+-- all literals of the clause are false
+abbrev pub IsFalsified : List Lit → List Lit → Type 0
+IsFalsified held clause = open_literals held clause ≡ []
+
+-- all literals of the clause are false but one, which is l, and l isn't false
+abbrev pub IsUnit : List Lit → List Lit → Lit → Type 0
+IsUnit held clause l = open_literals held clause ≡ l ∷ []
+
+-- the number names a clause with all literals false
+abbrev pub NamesFalse : List (List Lit) → List Lit → ℕ → Type 0
+NamesFalse clauses held number = (clause : List Lit) × (slice_get clauses number ≡ Some clause) × IsFalsified held clause
+
+-- the number names a clause with all literals false but one, which is l and isn't false
+abbrev pub NamesUnit : List (List Lit) → List Lit → ℕ → Lit → Type 0
+NamesUnit clauses held number l = (clause : List Lit) × (slice_get clauses number ≡ Some clause) × IsUnit held clause l
+
+-- The derivation by these numbers leads from the one state to the other: each number names a clause with all
+-- literals false but one; that one isn't false, and is then held.
+abbrev pub Derives : List (List Lit) → List Lit → List ℕ → List Lit → Type 0
+Derives clauses held [] after = held ≡ after
+Derives clauses held (number ∷ numbers) after =
+    (l : Lit) × NamesUnit clauses held number l × Derives clauses (l ∷ held) numbers after
+
+-- The hints refute the state: all but the last are a derivation, and the last names a clause that then has all
+-- literals false.
+abbrev pub HintsRefute : List (List Lit) → List Lit → List ℕ → Type 0
+HintsRefute clauses held hints =
+    (moves : List ℕ) × (last : ℕ) × (after : List Lit)
+    × (hints ≡ moves ++ last ∷ []) × Derives clauses held moves after × NamesFalse clauses after last
+
+-- some clause of the list has all literals false
+abbrev pub SomeFalsified : List (List Lit) → List Lit → Type 0
+SomeFalsified clauses held = Any (IsFalsified held) clauses
+
+-- the state in which the negations of the literals are held
+abbrev pub negations_of : List Lit → List Lit
+negations_of clause = map negation_of clause
