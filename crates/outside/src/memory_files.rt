@@ -1,0 +1,120 @@
+ghost use Rattle.std.specs.Prelude.{◌≡◌, ◌≤◌, [], ◌∷◌, ◌++◌, take, vec_len, IfOk, IfSome, IsErr, OnOk, OnErr, IsErrOf, Some, IsTrue, ◌↔◌, ◌⊎◌};
+ghost use Rattle.outside.specs.Faults.{Rose};
+ghost use Rattle.outside.specs.StoredFiles.{bytes_of};
+ghost use Rattle.outside.specs.MemoryFiles.{IsListed, IsMissing, files_after};
+
+use crate::errors::ReadError;
+use crate::files::Files;
+use crate::stored_file::{StoredFile, copied, find_bytes, first_bytes};
+use lists::{List, Text};
+use std::alloc::{AllocError, Global};
+use std::marker::Model;
+
+/// Files in memory. The reads that are listed fail, and so does the read of a name that nothing
+/// is held under. Where one name is held twice, the first file counts.
+#[derive(Debug, Drop)]
+pub struct MemoryFiles {
+    held: List<StoredFile>,
+    failing: List<u64>,
+    asked: List<Text>,
+    faults: u64,
+}
+
+impl Model for MemoryFiles {
+    ghost use Rattle.outside.specs.MemoryFiles.{MemoryFilesState};
+
+    ghost Value = { MemoryFilesState };
+
+    ghost view = { λ files. record { held = files.held; failing = files.failing; asked = files.asked; faults = files.faults } };
+}
+
+impl MemoryFiles {
+    /// No files, and no reads that fail.
+    pub fn new(alloc: Global) -> Self
+        ensures { result ≡ record { held = []; failing = []; asked = []; faults = 0 } }
+    {
+        MemoryFiles {
+            held: List::new(alloc),
+            failing: List::new(alloc),
+            asked: List::new(alloc),
+            faults: 0,
+        }
+    }
+
+    /// Holds copies of these bytes under a name.
+    pub fn add(&mut self, alloc: Global, name: &str, bytes: &[u8]) -> Result<(), AllocError>
+        ensures ok { OnOk result (self.new ≡ record self.old { held = self.old.held ++ record { name = name.now; bytes = bytes.now } ∷ [] }) }
+        ensures err { OnErr result (self.new ≡ self.old) }
+    {
+        self.held.push(StoredFile::new(alloc, name, bytes)?)
+    }
+
+    /// Lists a read to fail, by its number from 0. A read that is refused memory has no number.
+    pub fn fail_at(&mut self, read: u64) -> Result<(), AllocError>
+        ensures ok { OnOk result (self.new ≡ record self.old { failing = self.old.failing ++ read ∷ [] }) }
+        ensures err { OnErr result (self.new ≡ self.old) }
+    {
+        self.failing.push(read)
+    }
+
+    /// The names asked for, in order.
+    pub fn asked(&self) -> &[Text]
+        ensures { result.now ≡ self.now.asked }
+    {
+        self.asked.as_slice()
+    }
+
+    /// How many faults there were.
+    pub fn faults(&self) -> u64
+        ensures { result ≡ self.now.faults }
+    {
+        self.faults
+    }
+
+    /// Whether the read that comes next is one that fails.
+    fn is_listed(&self) -> bool
+        ensures { IsTrue result ↔ IsListed self.now }
+    {
+        let next = self.asked.len() as u64;
+        self.failing.as_slice().contains(&next)
+    }
+}
+
+impl Files for MemoryFiles {
+    ghost bytes_under = { λ files. bytes_of files.held };
+
+    ghost names_asked = { λ files. Some files.asked };
+
+    ghost faults = { λ files. files.faults };
+
+    fn read(&mut self, alloc: Global, name: &str, most: usize) -> Result<Vec<u8>, ReadError>
+        ensures bytes { IfOk result (λ read. IfSome (bytes_of self.old.held name.now) (λ held. read.items ≡ take most held)) }
+        ensures within { IfOk result (λ read. vec_len read ≤ most) }
+        ensures faults_grow { self.old.faults ≤ self.new.faults }
+        ensures failed { IsErrOf result ReadError.Failed → Rose self.old.faults self.new.faults }
+
+        // It fails exactly at a listed read and at a missing name, unless memory is refused.
+        ensures listed { IsListed self.old → IsErr result }
+        ensures missing { IsMissing self.old name.now → IsErr result }
+        ensures only { IsErrOf result ReadError.Failed → IsListed self.old ⊎ IsMissing self.old name.now }
+        ensures after { self.new ≡ files_after result self.old name.now }
+    {
+        let copy = copied(alloc, name.as_bytes())?;
+        let read = if self.is_listed() {
+            None
+        } else {
+            match find_bytes(self.held.as_slice(), name) {
+                Some(bytes) => Some(first_bytes(alloc, bytes, most)?),
+                None => None,
+            }
+        };
+        self.asked.push(copy)?;
+        match read {
+            Some(bytes) => Ok(bytes),
+            None => {
+                self.faults = self.faults.saturating_add(1);
+                Err(ReadError::Failed)
+            }
+        }
+    }
+}

@@ -1,0 +1,20 @@
+ghost use Rattle.std.specs.Prelude.{None, IsOk};
+
+use crate::errors::Failed;
+use crate::sink::Sink;
+
+/// A sink whose puts never fail. It forgets what it takes.
+#[derive(Clone, Copy, Debug)]
+pub struct SureSink;
+
+impl Sink for SureSink {
+    ghost written = { λ _. None };
+
+    ghost faults = { λ _. 0 };
+
+    fn put(&mut self, _piece: &[u8]) -> Result<(), Failed>
+        ensures { IsOk result }
+    {
+        Ok(())
+    }
+}
