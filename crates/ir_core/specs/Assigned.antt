@@ -1,0 +1,51 @@
+-- Where a register has a value on every way there (LangRef, "Well-Formedness", which says it by dominance).
+use Rattle.std.specs.Prelude.{◌≡◌, ℕ, ◌<◌, ◌⊎◌, List, [], ◌∷◌, length, Some, All, Contains, slice_get}
+use Rattle.ir_core.specs.declared.module.Function.{Function}
+use Rattle.ir_core.specs.declared.module.Block.{Block}
+use Rattle.ir_core.specs.declared.module.Inst.{Inst}
+use Rattle.ir_core.specs.declared.module.Op.{Op}
+use Rattle.ir_core.specs.declared.module.Op.TheVariants.{Binary}
+use Rattle.ir_core.specs.declared.module.Operand.{Operand}
+use Rattle.ir_core.specs.declared.module.Operand.TheVariants as operands
+use Rattle.ir_core.specs.declared.module.Register.{Register}
+use Rattle.ir_core.specs.declared.module.Register.TheVariants as registers
+use Rattle.ir_core.specs.declared.module.Terminator.{Terminator}
+use Rattle.ir_core.specs.declared.module.Terminator.TheVariants as terminators
+
+-- the blocks that a terminator names
+abbrev pub targets_of : Terminator → List ℕ
+targets_of (terminators.Return a) = []
+
+-- the terminator of block b names block c
+abbrev pub Names : Function → ℕ → ℕ → Type 0
+Names f b c = (block : Block) × (slice_get f.blocks b ≡ Some block) × Contains (targets_of block.end) c
+
+-- a walk from the first block, the last block first
+abbrev pub IsWalk : Function → List ℕ → Type 0
+IsWalk f [] = ⊥
+IsWalk f (b ∷ []) = b ≡ 0
+IsWalk f (c ∷ b ∷ before) = Names f b c × IsWalk f (b ∷ before)
+
+-- A register is assigned at place k of block b if every walk there has passed its definition, in an earlier block or
+-- in this one before the place. Parameters are assigned everywhere.
+abbrev pub IsAssigned : Function → Register → ℕ → ℕ → Type 0
+IsAssigned f (registers.Parameter p) b k = Unit {0}
+IsAssigned f (registers.Result d j) b k = (before : List ℕ) → IsWalk f (b ∷ before) → Contains before d ⊎ ((d ≡ b) × (j < k))
+
+-- an operand that is a register is assigned where it is used
+abbrev pub OperandIsAssigned : Function → ℕ → ℕ → Operand → Type 0
+OperandIsAssigned f b k (operands.Register r) = IsAssigned f r b k
+OperandIsAssigned f b k (operands.Number n) = Unit {0}
+OperandIsAssigned f b k operands.Undef = Unit {0}
+OperandIsAssigned f b k operands.Poison = Unit {0}
+
+abbrev pub operands_of : Op → List Operand
+operands_of (Binary op flags a b) = a ∷ b ∷ []
+
+abbrev pub operands_at_end : Terminator → List Operand
+operands_at_end (terminators.Return a) = a ∷ []
+
+-- every register is assigned wherever it is used
+pub record UsesAreAssigned (f : Function) : Type 0 where
+  pub insts : (b k : ℕ) (block : Block) (inst : Inst) → slice_get f.blocks b ≡ Some block → slice_get block.insts k ≡ Some inst → All (OperandIsAssigned f b k) (operands_of inst.op)
+  pub ends : (b : ℕ) (block : Block) → slice_get f.blocks b ≡ Some block → All (OperandIsAssigned f b (length block.insts)) (operands_at_end block.end)

@@ -1,0 +1,4 @@
+pub mod Names
+pub mod Run
+pub mod Refines
+pub mod Assigned
