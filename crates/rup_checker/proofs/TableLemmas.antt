@@ -1,0 +1,86 @@
+-- What the table says of a clause's literals.
+use Rattle.std.proofs.Common.{◌≡◌, ℕ, ◌+◌, ◌<◌, ◌≤◌, Bool, true, false, not, ◌&&◌, ◌||◌, cond, eqb, List, [], ◌∷◌, ◌++◌, Some, None, get_or, length, drop, refl, sym, ap, ◌∙◌, arith, inl, inr}
+use Rattle.std.specs.Prelude.{filter, Option, slice_get, unwrap_or}
+use Rattle.std.specs.Option.{option_to_list, is_some}
+use Rattle.std.proofs.lemmas.List.{at_drop_more}
+use Rattle.std.proofs.lemmas.Option.{unwrap_or-slice_get}
+use Rattle.std.proofs.lemmas.List.Elements.{filter_agree}
+use Rattle.std.proofs.lemmas.Bool.{false≢true, cases_Bool, or_parts, or_from, and_left, and_right, ne_eqb, eqb-false}
+use Rattle.clauses.specs.declared.literal.Lit.{Lit}
+use Rattle.clauses.specs.Literal.{is_same, negation_of}
+use Rattle.clauses.specs.Propagation.{is_false, is_held, negations_of, open_literals}
+use Rattle.rup_checker.specs.declared.table.Held.{Held}
+use Rattle.rup_checker.specs.Table.{Represents, is_marked, stands_in, stands_in_some}
+
+-- the literals of a clause that the table says aren't false
+abbrev pub unmarked : List Held → List Lit → List Lit
+unmarked table clause = filter (λ l. not (is_marked table (negation_of l))) clause
+
+pub unmarked-open : (table : List Held) (held clause : List Lit) → Represents table held → unmarked table clause ≡ open_literals held clause
+unmarked-open table held clause r =
+    filter_agree (λ l. not (is_marked table (negation_of l))) (λ l. not (is_false held l)) (λ l. ap not (r.each (negation_of l))) clause
+
+-- a second open literal of a clause
+pub two_open : (table : List Held) (held clause : List Lit) (found : Option Lit) (place : ℕ) (d : Lit) → is_some found ≡ true → place < length clause → is_marked table (negation_of (get_or clause place d)) ≡ false → option_to_list found ++ unmarked table (drop place clause) ≡ unmarked table clause → Represents table held → 2 ≤ length (open_literals held clause)
+two_open table held clause None place d some within free count r = absurd (false≢true some)
+two_open table held clause (Some first) place d some within free count r =
+    let rest : List Lit = unmarked table (drop (place + 1) clause) in
+    let here : unmarked table (drop place clause) ≡ get_or clause place d ∷ rest =
+    at_drop_more (unmarked table) clause place d within
+    ∙ ap (λ b. cond (not b) (get_or clause place d ∷ rest) rest) free in
+    let whole : first ∷ get_or clause place d ∷ rest ≡ open_literals held clause =
+    ap (λ ls. first ∷ ls) (sym here) ∙ count ∙ unmarked-open table held clause r in
+    omega (arith, ap length whole)
+
+-- where one more literal is held
+pub Represents-hold : (old new : List Held) (held : List Lit) (l : Lit) → ((m : Lit) → is_marked new m ≡ (is_same m l || is_marked old m)) → Represents old held → Represents new (l ∷ held)
+Represents-hold old new held l step r = record { each = λ m. step m ∙ ap (λ b. is_same m l || b) (r.each m) }
+
+-- a variable that doesn't stand in a clause isn't held by its negation
+negations_elsewhere : (clause : List Lit) (m : Lit) → stands_in m.variable clause ≡ false → is_held (negations_of clause) m ≡ false
+negations_elsewhere [] m none = refl
+negations_elsewhere (l ∷ ls) m none =
+    let parts = or_parts (eqb l.variable m.variable) (stands_in m.variable ls) none in
+    or_from (is_same m (negation_of l)) (is_held (negations_of ls) m)
+    (and_left (eqb m.variable l.variable) (cond m.negated (not l.negated) (not (not l.negated))) (ne_eqb m.variable l.variable (λ same. eqb-false l.variable m.variable parts.0 (sym same))))
+    (negations_elsewhere ls m parts.1)
+
+-- Where what a step held is released, nothing is held. The tables are those after its clause was negated, after its
+-- hints, and after the hints' clauses and the clause were released.
+pub Represents-released : (clauses : List (List Lit)) (clause : List Lit) (hints : List ℕ) (negated moved freed blank : List Held) → Represents negated (negations_of clause) → ((m : Lit) → stands_in_some clauses hints m.variable ≡ false → is_marked moved m ≡ is_marked negated m) → ((m : Lit) → is_marked freed m ≡ (is_marked moved m && not (stands_in_some clauses hints m.variable))) → ((m : Lit) → is_marked blank m ≡ (is_marked freed m && not (stands_in m.variable clause))) → Represents blank []
+Represents-released clauses clause hints negated moved freed blank r kept hinted released =
+    record {
+      each = λ m.
+          elim (cases_Bool (stands_in m.variable clause)) [
+            | inl stands ↦ released m ∙ and_right (is_marked freed m) (not (stands_in m.variable clause)) (ap not stands)
+            | inr none ↦
+                released m
+                ∙ and_left (is_marked freed m) (not (stands_in m.variable clause))
+                (elim (cases_Bool (stands_in_some clauses hints m.variable)) [
+                  | inl stands ↦ hinted m ∙ and_right (is_marked moved m) (not (stands_in_some clauses hints m.variable)) (ap not stands)
+                  | inr neither ↦
+                      hinted m
+                      ∙ and_left (is_marked moved m) (not (stands_in_some clauses hints m.variable)) (kept m neither ∙ r.each m ∙ negations_elsewhere clause m none)
+                ])
+          ];
+    }
+
+and_rotate : (s r m : Bool) → ((m && not s) && not r) ≡ (m && not (s || r))
+and_rotate true r true = refl
+and_rotate true r false = refl
+and_rotate false r true = refl
+and_rotate false r false = refl
+
+-- where the variables of one more number's clause are released
+pub release_more : (clauses : List (List Lit)) (numbers : List ℕ) (place n : ℕ) (found : Option (List Lit)) (old new : Bool) → place < length numbers → found ≡ slice_get clauses (get_or numbers place 0) → new ≡ (old && not (stands_in n (unwrap_or found []))) → (new && not (stands_in_some clauses (drop (place + 1) numbers) n)) ≡ (old && not (stands_in_some clauses (drop place numbers) n))
+release_more clauses numbers place n found old new within is step =
+    let rest = stands_in_some clauses (drop (place + 1) numbers) n in
+    let clause : unwrap_or found [] ≡ get_or clauses (get_or numbers place 0) [] =
+    ap (λ o. unwrap_or o []) is ∙ unwrap_or-slice_get clauses (get_or numbers place 0) [] in
+    ap (λ b. b && not rest) step ∙ and_rotate (stands_in n (unwrap_or found [])) rest old
+    ∙ ap (λ ls. old && not (stands_in n ls || rest)) clause
+    ∙ ap (λ b. old && not b) (sym (at_drop_more (λ ns. stands_in_some clauses ns n) numbers place 0 within))
+
+pub and-true : (b : Bool) → b ≡ (b && true)
+and-true true = refl
+and-true false = refl

@@ -1,0 +1,17 @@
+use Rattle.std.proofs.Common.{◌≡◌, false, List, [], ◌∷◌, ◌++◌, drop}
+use Rattle.std.specs.Prelude.{◌↔◌}
+use Rattle.clauses.specs.declared.literal.Lit.{Lit}
+use Rattle.clauses.specs.Propagation.{HintsRefute, negations_of}
+use Rattle.rup_checker.specs.Table.{Represents, is_marked, stands_in_some}
+use Rattle.rup_checker.specs.Earlier.{earlier_clauses}
+use Rattle.rup_checker.proofs.hints.hints_refute.Given as goal
+
+-- The table represents a state, and the hints refute the one at the start exactly where those to come refute it.
+-- Only literals of the hints' clauses were held.
+abbrev pub invariant-loop-number : goal.invariant-loop-number
+invariant-loop-number l =
+    record {
+      state : (held : List Lit) × Represents l.table held
+          × (HintsRefute (earlier_clauses l.cnf l.earlier) (negations_of l.step.clause) l.step.hints ↔ HintsRefute (earlier_clauses l.cnf l.earlier) held (drop l.number-index l.moves ++ l.last ∷ []));
+      kept : (m : Lit) → stands_in_some (earlier_clauses l.cnf l.earlier) l.step.hints m.variable ≡ false → is_marked l.table m ≡ is_marked l.initial.table m;
+    }

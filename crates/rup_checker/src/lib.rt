@@ -1,0 +1,15 @@
+//! An exact checker of logs by reverse unit propagation: it says yes exactly where each step of a
+//! log follows from the clauses of a set and the steps before it. One table of the variables is
+//! taken at the start of a check, and no memory after it.
+#![tactic(auto)]
+
+mod checker;
+mod hints;
+mod numbers;
+mod open_literals;
+mod table;
+
+pub use checker::{check, check_refutation};
+
+#[cfg(test)]
+mod tests;

@@ -1,0 +1,38 @@
+//! How many literals of a clause are open, that is, aren't false.
+ghost use Rattle.std.specs.Prelude.{◌<◌, List, length, All};
+ghost use Rattle.clauses.specs.declared.literal.Lit.{Lit as Literal};
+ghost use Rattle.clauses.specs.Propagation.{open_literals};
+ghost use Rattle.rup_checker.specs.Table.{Represents};
+ghost use Rattle.rup_checker.specs.OpenLiterals.{Counts};
+
+use crate::table::{Held, is_false};
+use clauses::Lit;
+
+/// The open literals of a clause, as far as unit propagation asks. A literal that stands in it
+/// twice is counted twice.
+#[derive(Clone, Copy, Debug)]
+pub enum OpenLiterals {
+    NoneOpen,
+    OneOpen(Lit),
+    SeveralOpen,
+}
+
+/// Counts the open literals of a clause. It stops at the second.
+pub fn open_literals_of(table: &[Held], clause: &[Lit]) -> OpenLiterals
+    requires { All (λ l. l.variable < length table.now) clause.now }
+    ensures { (held : List Literal) → Represents table.now held → Counts result (open_literals held clause.now) }
+{
+    let mut found = None;
+    for literal in clause {
+        if !is_false(table, *literal) {
+            if found.is_some() {
+                return OpenLiterals::SeveralOpen;
+            }
+            found = Some(*literal);
+        }
+    }
+    match found {
+        None => OpenLiterals::NoneOpen,
+        Some(literal) => OpenLiterals::OneOpen(literal),
+    }
+}

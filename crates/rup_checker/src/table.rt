@@ -1,0 +1,68 @@
+//! The table of the variables: which literals are held. It has an entry for each number up to the
+//! count of variables, at the place of that number.
+ghost use Rattle.std.specs.Prelude.{◌≡◌, ◌&&◌, ◌||◌, ◌<◌, not, [], length, All};
+ghost use Rattle.clauses.specs.declared.literal.Lit.{Lit as Literal};
+ghost use Rattle.clauses.specs.Literal.{is_same, negation_of};
+ghost use Rattle.clauses.specs.Propagation.{negations_of};
+ghost use Rattle.rup_checker.specs.Table.{Represents, is_marked, stands_in};
+
+use clauses::Lit;
+
+/// Which literals of one variable are held. Both are where a clause with a variable and its
+/// negation is negated.
+#[derive(Clone, Copy, Debug)]
+pub struct Held {
+    pub positive: bool,
+    pub negative: bool,
+}
+
+/// Whether the literal is false, that is, its negation is held.
+pub fn is_false(table: &[Held], literal: Lit) -> bool
+    requires { literal.variable < length table.now }
+    ensures { result ≡ is_marked table.now (negation_of literal) }
+{
+    let held = table[literal.variable as usize];
+    if literal.negated {
+        held.positive
+    } else {
+        held.negative
+    }
+}
+
+/// Holds a literal.
+pub fn hold(table: &mut [Held], literal: Lit)
+    requires { literal.variable < length table.old }
+    ensures { (l : Literal) → is_marked table.new l ≡ (is_same l literal || is_marked table.old l) }
+{
+    let place = literal.variable as usize;
+    if literal.negated {
+        table[place].negative = true;
+    } else {
+        table[place].positive = true;
+    }
+}
+
+/// Holds the negation of each literal of a clause, where nothing was held.
+pub fn hold_negations(table: &mut [Held], clause: &[Lit])
+    requires blank { Represents table.old [] }
+    requires room { All (λ l. l.variable < length table.old) clause.now }
+    ensures { Represents table.new (negations_of clause.now) }
+{
+    for literal in clause {
+        hold(table, literal.negation());
+    }
+}
+
+/// Holds no literal of a variable that stands in the clause any more.
+pub fn release(table: &mut [Held], clause: &[Lit])
+    requires { All (λ l. l.variable < length table.old) clause.now }
+    ensures { (l : Literal) → is_marked table.new l
+        ≡ (is_marked table.old l && not (stands_in l.variable clause.now)) }
+{
+    for literal in clause {
+        table[literal.variable as usize] = Held {
+            positive: false,
+            negative: false,
+        };
+    }
+}
