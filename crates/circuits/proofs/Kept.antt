@@ -1,0 +1,26 @@
+-- What a circuit that keeps its older literals keeps of a word of them.
+use Rattle.std.proofs.Common.{ℕ, get_or, subst, sym, ◌≡◌, suc, ◌<◌, Bool, List, [], ◌∷◌, map, length, refl, ◌∙◌, arith}
+use Rattle.std.specs.List.{All}
+use Rattle.circuits.specs.Circuit.{Keeps}
+
+pub All-kept : {C L : Type 0} {has_literal : C → L → Type 0} {admits : C → List Bool → Type 0} {value : C → List Bool → L → Bool} {old new : C} → Keeps has_literal admits value old new → (word : List L) → All (has_literal old) word → All (has_literal new) word
+All-kept keeps word own k d below = keeps.literals _ (own k d below)
+
+pub map-kept : {C L : Type 0} {has_literal : C → L → Type 0} {admits : C → List Bool → Type 0} {value : C → List Bool → L → Bool} {old new : C} → Keeps has_literal admits value old new → (inputs : List Bool) → admits old inputs → (word : List L) → All (has_literal old) word → map (value new inputs) word ≡ map (value old inputs) word
+map-kept keeps inputs admitted [] own = refl
+map-kept keeps inputs admitted (l ∷ word) own =
+    let first = keeps.values inputs l admitted (own 0 l (omega arith)) in
+    let rest = map-kept keeps inputs admitted word (λ k d below. own (suc k) d (omega arith)) in
+    cc
+
+pub Keeps-trans : {C L : Type 0} {has_literal : C → L → Type 0} {admits : C → List Bool → Type 0} {value : C → List Bool → L → Bool} {old mid new : C} → Keeps has_literal admits value old mid → Keeps has_literal admits value mid new → Keeps has_literal admits value old new
+Keeps-trans {old = old} {mid = mid} {new = new} k h = record {
+  literals = λ l own. h.literals l (k.literals l own);
+  admitted = λ inputs p. h.admitted inputs (k.admitted inputs p);
+  admits_no_more = λ inputs p. k.admits_no_more inputs (h.admits_no_more inputs p);
+  values = λ inputs l p own. h.values inputs l (k.admitted inputs p) (k.literals l own) ∙ k.values inputs l p own;
+}
+
+-- an element of a word that is the circuit's
+pub own_at : {L : Type 0} (P : L → Type 0) (a : List L) (i : ℕ) (x : L) → All P a → i < length a → x ≡ get_or a i x → P x
+own_at P a i x own below e = subst P (sym e) (own i x below)

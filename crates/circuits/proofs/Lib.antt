@@ -1,0 +1,7 @@
+pub mod Truth
+pub mod Words
+pub mod Kept
+pub mod Chain
+pub mod Compared
+pub mod Signed
+pub mod Shifts

@@ -1,0 +1,11 @@
+use Rattle.std.proofs.Common.{◌≡◌, ◌+◌, ◌*◌, ◌^◌, ◌≤◌, min, Bool, List, ◌++◌, map, take, drop, replicate, length}
+use Rattle.std.specs.List.{All}
+use Rattle.circuits.specs.Circuit.{Keeps}
+use Rattle.circuits.specs.Word.{number_of}
+use Rattle.circuits.proofs.shift.moved_down.Given as goal
+
+abbrev pub invariant-loop-bit : goal.invariant-loop-bit
+invariant-loop-bit g l =
+    let m = g.C.Circuit in
+    let n = length l.a in
+    Keeps m.has_literal m.admits m.value l.initial.c l.c × All (m.has_literal l.c) l.word × (length l.word ≡ n) × (l.distance ≡ min (2 ^ l.bit-index) n) × ((inputs : List Bool) → m.admits l.initial.c inputs → let amount = number_of (m.value l.initial.c inputs) (take l.bit-index l.amount) in map (m.value l.c inputs) l.word ≡ drop amount (map (m.value l.initial.c inputs) l.a ++ replicate amount (m.value l.initial.c inputs l.top))) × (m.inputs_made l.c ≡ m.inputs_made l.initial.c) × (m.gates_made l.c ≤ m.gates_made l.initial.c + n * l.bit-index)

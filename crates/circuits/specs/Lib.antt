@@ -1,0 +1,3 @@
+pub mod Circuit
+pub mod Evaluation
+pub mod Word
