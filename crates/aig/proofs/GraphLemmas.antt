@@ -1,0 +1,146 @@
+-- How the values of a graph's gates stand to one another, and what a new gate leaves as it was.
+use Rattle.std.proofs.Common.{◌≡◌, ℕ, zero, suc, ◌+◌, ◌≤◌, Bool, false, not, cond, List, [], ◌∷◌, ◌++◌, length, get_or, drop, replicate, Some, refl, sym, ap, ◌∙◌, subst, arith, length-drop, append_assoc, append-nil}
+use Rattle.std.specs.Prelude.{fold, slice_get}
+use Rattle.std.proofs.lemmas.List.{get_or_append_left, get_or_push, get_or_at, length_push, length-replicate}
+use Rattle.std.proofs.lemmas.List.Sums.{fold-append}
+use Rattle.circuits.specs.Circuit.{Keeps}
+use Rattle.aig.specs.declared.gate.Node.{Node}
+use Rattle.aig.specs.declared.gate.Node.TheVariants.{One, Input, Output}
+use Rattle.aig.specs.declared.gate.Literal.{Literal}
+use Rattle.aig.specs.declared.gate.Gate.{Gate}
+use Rattle.aig.specs.declared.gate.Gate.TheVariants.{And, Xor, Mux}
+use Rattle.aig.specs.Graph.{Graph, IsAmong, IsOwn, OperandsAmong, IsInOrder, node_value, literal_value, gate_value, gate_values, value_of}
+
+-- more inputs leave each operand older
+
+IsAmong-more : (n m k : ℕ) → n ≤ m → (node : Node) → IsAmong n k node → IsAmong m k node
+IsAmong-more n m k le One own = tt
+IsAmong-more n m k le (Input j) own = omega arith
+IsAmong-more n m k le (Output j) own = own
+
+pub OperandsAmong-more : (n m k : ℕ) → n ≤ m → (gate : Gate) → OperandsAmong n k gate → OperandsAmong m k gate
+OperandsAmong-more n m k le (And a b) own = (IsAmong-more n m k le a.node own.0, IsAmong-more n m k le b.node own.1)
+OperandsAmong-more n m k le (Xor a b) own = (IsAmong-more n m k le a.node own.0, IsAmong-more n m k le b.node own.1)
+OperandsAmong-more n m k le (Mux c a b) own =
+    (IsAmong-more n m k le c.node own.0, IsAmong-more n m k le a.node own.1, IsAmong-more n m k le b.node own.2)
+
+pub still_in_order : (n m : ℕ) (gates : List Gate) → n ≤ m → IsInOrder n gates → IsInOrder m gates
+still_in_order n m gates le order = λ k gate at. OperandsAmong-more n m k le gate (order k gate at)
+
+-- values of more gates leave those of older nodes as they were
+
+node_value-append : (inputs vs ws : List Bool) (n k : ℕ) → k ≤ length vs → (node : Node) → IsAmong n k node → node_value inputs (vs ++ ws) node ≡ node_value inputs vs node
+node_value-append inputs vs ws n k le One own = refl
+node_value-append inputs vs ws n k le (Input j) own = refl
+node_value-append inputs vs ws n k le (Output j) own = get_or_append_left vs ws false j (omega arith)
+
+literal_value-append : (inputs vs ws : List Bool) (n k : ℕ) → k ≤ length vs → (l : Literal) → IsAmong n k l.node → literal_value inputs (vs ++ ws) l ≡ literal_value inputs vs l
+literal_value-append inputs vs ws n k le l own =
+    ap (λ b. cond l.negated (not b) b) (node_value-append inputs vs ws n k le l.node own)
+
+gate_value-append : (inputs vs ws : List Bool) (n k : ℕ) → k ≤ length vs → (gate : Gate) → OperandsAmong n k gate → gate_value inputs (vs ++ ws) gate ≡ gate_value inputs vs gate
+gate_value-append inputs vs ws n k le (And a b) own =
+    let p = literal_value-append inputs vs ws n k le a own.0 in
+    let q = literal_value-append inputs vs ws n k le b own.1 in
+    cc
+gate_value-append inputs vs ws n k le (Xor a b) own =
+    let p = literal_value-append inputs vs ws n k le a own.0 in
+    let q = literal_value-append inputs vs ws n k le b own.1 in
+    cc
+gate_value-append inputs vs ws n k le (Mux c a b) own =
+    let o = literal_value-append inputs vs ws n k le c own.0 in
+    let p = literal_value-append inputs vs ws n k le a own.1 in
+    let q = literal_value-append inputs vs ws n k le b own.2 in
+    cc
+
+-- the values after these gates, from those of the older ones
+abbrev values_from : List Bool → List Bool → List Gate → List Bool
+values_from inputs older gates = fold (λ older gate. older ++ gate_value inputs older gate ∷ []) older gates
+
+length-values_from : (inputs older : List Bool) (gates : List Gate) → length (values_from inputs older gates) ≡ length older + length gates
+length-values_from inputs older [] = omega arith
+length-values_from inputs older (g ∷ gs) =
+    let v = gate_value inputs older g in
+    omega (arith, length-values_from inputs (older ++ v ∷ []) gs, length_push older v)
+
+pub length-gate_values : (inputs : List Bool) (gates : List Gate) → length (gate_values inputs gates) ≡ length gates
+length-gate_values inputs gates = omega (arith, length-values_from inputs [] gates)
+
+-- the older values stand at the front
+values_from-front : (inputs older : List Bool) (gates : List Gate) → (ws : List Bool) × (values_from inputs older gates ≡ older ++ ws)
+values_from-front inputs older [] = ([], sym (append-nil older))
+values_from-front inputs older (g ∷ gs) =
+    let v = gate_value inputs older g in
+    let rest = values_from-front inputs (older ++ v ∷ []) gs in
+    (v ∷ rest.0, rest.1 ∙ append_assoc older (v ∷ []) rest.0)
+
+value_from : (inputs older : List Bool) (n : ℕ) (gates : List Gate) (k : ℕ) (gate : Gate) → slice_get gates k ≡ Some gate → OperandsAmong n (length older + k) gate → get_or (values_from inputs older gates) (length older + k) false ≡ gate_value inputs (values_from inputs older gates) gate
+value_from inputs older n [] k gate at own = absurd (cc)
+value_from inputs older n (g ∷ gs) zero gate at own =
+    let v = gate_value inputs older g in
+    let same : g ≡ gate = cc in
+    let front = values_from-front inputs older (g ∷ gs) in
+    let rest = values_from-front inputs (older ++ v ∷ []) gs in
+    let all : values_from inputs older (g ∷ gs) ≡ older ++ v ∷ rest.0 = rest.1 ∙ append_assoc older (v ∷ []) rest.0 in
+    rw all (get_or_at older v rest.0 false (length older + 0) (omega arith)
+    ∙ ap (gate_value inputs older) same
+    ∙ sym (gate_value-append inputs older (v ∷ rest.0) n (length older + 0) (omega arith) gate own))
+value_from inputs older n (g ∷ gs) (suc k) gate at own =
+    let v = gate_value inputs older g in
+    let place : length (older ++ v ∷ []) + k ≡ length older + suc k = omega (arith, length_push older v) in
+    let own' : OperandsAmong n (length (older ++ v ∷ []) + k) gate = subst (λ j. OperandsAmong n j gate) (sym place) own in
+    ap (λ j. get_or (values_from inputs older (g ∷ gs)) j false) (sym place)
+    ∙ value_from inputs (older ++ v ∷ []) n gs k gate at own'
+
+-- a gate's value is its truth table over the values of its operands
+pub value_of_gate : (inputs : List Bool) (n : ℕ) (gates : List Gate) → IsInOrder n gates → (k : ℕ) (gate : Gate) → slice_get gates k ≡ Some gate → get_or (gate_values inputs gates) k false ≡ gate_value inputs (gate_values inputs gates) gate
+value_of_gate inputs n gates order k gate at =
+    let place : 0 + k ≡ k = omega arith in
+    ap (λ j. get_or (gate_values inputs gates) j false) (sym place)
+    ∙ value_from inputs [] n gates k gate at (subst (λ j. OperandsAmong n j gate) (sym place) (order k gate at))
+
+-- the graph with one more gate
+abbrev pushed_gate : Graph → Gate → Graph
+pushed_gate graph gate = record graph { gates = graph.gates ++ gate ∷ [] }
+
+gate_values-push : (inputs : List Bool) (gates : List Gate) (gate : Gate) → gate_values inputs (gates ++ gate ∷ []) ≡ gate_values inputs gates ++ gate_value inputs (gate_values inputs gates) gate ∷ []
+gate_values-push inputs gates gate = fold-append (λ older g. older ++ gate_value inputs older g ∷ []) [] gates (gate ∷ [])
+
+pub value_of-pushed : (graph : Graph) (gate : Gate) (inputs : List Bool) (l : Literal) → IsOwn graph l → value_of (pushed_gate graph gate) inputs l ≡ value_of graph inputs l
+value_of-pushed graph gate inputs l own =
+    let vs = gate_values inputs graph.gates in
+    ap (λ all. literal_value inputs all l) (gate_values-push inputs graph.gates gate)
+    ∙ literal_value-append inputs vs (gate_value inputs vs gate ∷ []) graph.inputs (length graph.gates)
+    (omega (arith, length-gate_values inputs graph.gates)) l own
+
+pub value_of-output : (graph : Graph) (gate : Gate) (inputs : List Bool) → value_of (pushed_gate graph gate) inputs (record { node = Output (length graph.gates); negated = false }) ≡ gate_value inputs (gate_values inputs graph.gates) gate
+value_of-output graph gate inputs =
+    let vs = gate_values inputs graph.gates in
+    ap (λ all. get_or all (length graph.gates) false) (gate_values-push inputs graph.gates gate)
+    ∙ get_or_push vs (gate_value inputs vs gate) false (length graph.gates) (length-gate_values inputs graph.gates)
+
+IsAmong-push : (n k : ℕ) (node : Node) → IsAmong n k node → IsAmong n (k + 1) node
+IsAmong-push n k One own = tt
+IsAmong-push n k (Input j) own = own
+IsAmong-push n k (Output j) own = omega arith
+
+pub Keeps-pushed : (graph : Graph) (gate : Gate) → Keeps IsOwn (λ _ _. Unit {0}) value_of graph (pushed_gate graph gate)
+Keeps-pushed graph gate =
+    record {
+      literals = λ l own.
+          subst (λ k. IsAmong graph.inputs k l.node) (sym (length_push graph.gates gate))
+          (IsAmong-push graph.inputs (length graph.gates) l.node own);
+      admitted = λ inputs _. tt;
+      admits_no_more = λ inputs _. tt;
+      values = λ inputs l _ own. value_of-pushed graph gate inputs l own;
+    }
+
+pub ruleset pushed = (value_of-pushed, value_of-output)
+
+-- what is left of a long list tells how much of it was taken
+pub count_from_rests : (m n : ℕ) → ((inputs : List Bool) → drop m inputs ≡ drop n inputs) → m ≡ n
+count_from_rests m n same =
+    let long : List Bool = replicate (m + n) false in
+    let count : length long ≡ m + n = length-replicate (m + n) false in
+    let rests : length (drop m long) ≡ length (drop n long) = ap length (same long) in
+    omega (arith, length-drop m long, length-drop n long)

@@ -1,0 +1,56 @@
+-- Graphs of gates over inputs (and-inverter graphs, with two more kinds of gate), and the values of their literals.
+use Rattle.std.specs.Prelude.{◌≡◌, ℕ, ◌<◌, Bool, true, false, not, ◌&&◌, if◌then◌else◌, List, [], ◌∷◌, ◌++◌, length, fold, Some, slice_get, slice_index_or}
+use Rattle.std.specs.Bool.{xor}
+use Rattle.aig.specs.declared.gate.Node.{Node}
+use Rattle.aig.specs.declared.gate.Node.TheVariants.{One, Input, Output}
+use Rattle.aig.specs.declared.gate.Literal.{Literal}
+use Rattle.aig.specs.declared.gate.Gate.{Gate}
+use Rattle.aig.specs.declared.gate.Gate.TheVariants.{And, Xor, Mux}
+
+-- a graph: how many inputs were made, and the gates in the order in which they were made
+pub record Graph : Type 0 where
+  pub inputs : ℕ
+  pub gates : List Gate
+
+-- the node is the constant, or one of so many inputs and of so many gates
+abbrev pub IsAmong : ℕ → ℕ → Node → Type 0
+IsAmong inputs gates One = Unit {0}
+IsAmong inputs gates (Input k) = k < inputs
+IsAmong inputs gates (Output k) = k < gates
+
+-- the literal's node is the graph's own
+abbrev pub IsOwn : Graph → Literal → Type 0
+IsOwn graph l = IsAmong graph.inputs (length graph.gates) l.node
+
+-- each operand of the gate is
+abbrev pub OperandsAmong : ℕ → ℕ → Gate → Type 0
+OperandsAmong inputs gates (And a b) = IsAmong inputs gates a.node × IsAmong inputs gates b.node
+OperandsAmong inputs gates (Xor a b) = IsAmong inputs gates a.node × IsAmong inputs gates b.node
+OperandsAmong inputs gates (Mux c a b) = IsAmong inputs gates c.node × IsAmong inputs gates a.node × IsAmong inputs gates b.node
+
+-- each gate's operands are older than the gate
+abbrev pub IsInOrder : ℕ → List Gate → Type 0
+IsInOrder inputs gates = (k : ℕ) (gate : Gate) → slice_get gates k ≡ Some gate → OperandsAmong inputs k gate
+
+-- A node's value under these values of the inputs and of the gates. An input past the list's end is false.
+abbrev pub node_value : List Bool → List Bool → Node → Bool
+node_value inputs gates One = true
+node_value inputs gates (Input k) = slice_index_or inputs k false
+node_value inputs gates (Output k) = slice_index_or gates k false
+
+abbrev pub literal_value : List Bool → List Bool → Literal → Bool
+literal_value inputs gates l = if l.negated then not (node_value inputs gates l.node) else node_value inputs gates l.node
+
+-- a gate's truth table over its operands' values
+abbrev pub gate_value : List Bool → List Bool → Gate → Bool
+gate_value inputs gates (And a b) = literal_value inputs gates a && literal_value inputs gates b
+gate_value inputs gates (Xor a b) = xor (literal_value inputs gates a) (literal_value inputs gates b)
+gate_value inputs gates (Mux c a b) = if literal_value inputs gates c then literal_value inputs gates a else literal_value inputs gates b
+
+-- the values of the gates in order, each over the older ones
+abbrev pub gate_values : List Bool → List Gate → List Bool
+gate_values inputs gates = fold (λ older gate. older ++ gate_value inputs older gate ∷ []) [] gates
+
+-- a literal's value in a graph
+abbrev pub value_of : Graph → List Bool → Literal → Bool
+value_of graph inputs l = literal_value inputs (gate_values inputs graph.gates) l
