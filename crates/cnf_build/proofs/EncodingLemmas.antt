@@ -1,0 +1,46 @@
+-- What the parts of the encoding give together.
+use Rattle.std.proofs.Common.{◌≡◌, ℕ, ◌+◌, true, List, [], ◌∷◌, length, Result, Ok, Err, IfOk, EachIndex, slice_index, sym, subst, ap, ◌∙◌}
+use Rattle.clauses.specs.declared.literal.Lit.{Lit}
+use Rattle.clauses.specs.declared.cnf.Cnf.{Cnf}
+use Rattle.clauses.specs.Literal.{IsVariable}
+use Rattle.clauses.specs.Settings.{StandsFor}
+use Rattle.aig.specs.declared.gate.Literal.{Literal}
+use Rattle.aig.specs.declared.gate.Gate.{Gate}
+use Rattle.aig.specs.Graph.{Graph, IsOwn, IsInOrder, value_of}
+use Rattle.cnf_build.specs.declared.definition.Definition.{Definition}
+use Rattle.cnf_build.specs.Definitions.{clauses_from}
+use Rattle.cnf_build.specs.Marks.{Marks, AreNeeded}
+use Rattle.cnf_build.specs.Names.{Names, lit_of, NamesFirst}
+use Rattle.cnf_build.proofs.Standing.{Encodes, StandsFor-from}
+use Rattle.cnf_build.proofs.NamesLemmas.{IsSound-named, root_within}
+
+module _ (graph : Graph) (root : Literal) (marks : Marks) (names : Names) (order : IsInOrder graph.inputs graph.gates) (own : IsOwn graph root) where
+  module _ (gates : List Gate) (gates_are : gates ≡ graph.gates) (needed : AreNeeded gates root marks) (named : NamesFirst gates marks (length gates) names) (same_inputs : names.inputs ≡ graph.inputs) (inputs : ℕ) (inputs_are : inputs ≡ graph.inputs) (ds : List Definition) (ds_are : ds ≡ names.definitions) (l : Lit) (l_is : l ≡ lit_of names root) where
+    needed' : AreNeeded graph.gates root marks
+    needed' = subst (λ gs. AreNeeded gs root marks) gates_are needed
+
+    named' : NamesFirst graph.gates marks (length graph.gates) names
+    named' = subst (λ gs. NamesFirst gs marks (length gs) names) gates_are named
+
+    inputs_same : names.inputs ≡ inputs
+    inputs_same = same_inputs ∙ sym inputs_are
+
+    -- the root's variable is one of the set
+    pub variable_within : IsVariable (inputs + length ds) l.variable
+    variable_within =
+        let within = root_within graph root marks names order own needed' same_inputs named' in
+        let e : l.variable ≡ (lit_of names root).variable = ap (λ (x : Lit). x.variable) l_is in
+        subst (λ n. IsVariable (n + length ds) l.variable) inputs_same
+        (subst (λ ds'. IsVariable (names.inputs + length ds') l.variable) (sym ds_are)
+        (subst (IsVariable (names.inputs + length names.definitions)) (sym e) within))
+
+    -- the set stands for the root
+    pub stands_for_root : {E : Type 0} (r : Result Cnf E) → IfOk r (λ set. set.gates ≡ clauses_from (inputs + 1) ds) → IfOk r (λ set. set.roots ≡ (l ∷ []) ∷ []) → IfOk r (λ set. length set.inputs ≡ inputs) → IfOk r (λ set. EachIndex set.inputs (λ k. slice_index set.inputs k ≡ k + 1)) → IfOk r (λ set. set.count ≡ inputs + length ds) → IfOk r (λ set. StandsFor set (λ values. value_of graph values root ≡ true))
+    stands_for_root (Err e) g t n f k = tt
+    stands_for_root (Ok set) g t n f k =
+        let sound = IsSound-named graph root marks names order own needed' same_inputs named' in
+        let encodes : Encodes inputs ds l set = record { gates = g; roots = t; input_count = n; first = f; count = k } in
+        let encodes' : Encodes names.inputs names.definitions (lit_of names root) set =
+        subst (λ x. Encodes names.inputs names.definitions x set) l_is
+        (subst (λ xs. Encodes names.inputs xs l set) ds_are (subst (λ i. Encodes i ds l set) (sym inputs_same) encodes)) in
+        StandsFor-from names.inputs names.definitions (lit_of names root) (λ values. value_of graph values root ≡ true) set encodes' sound

@@ -1,0 +1,24 @@
+use Rattle.std.proofs.Common.{◌≡◌, subst, ◌∙◌, slice_get, Some}
+use Rattle.cnf_build.proofs.MarksLemmas.{OperandsBelow-from_OperandsAmong}
+use Rattle.cnf_build.proofs.EncodingLemmas.{variable_within, stands_for_root}
+use Rattle.cnf_build.proofs.encoding.clauses_of.Goals as goal
+
+pub by-requires-clause-in_order : goal.by-requires-clause-in_order
+by-requires-clause-in_order c =
+    λ k gate at.
+    OperandsBelow-from_OperandsAmong c.args.aig.now.inputs k gate
+    (c.gates-gates.ensures.in_order k gate (subst (λ gs. slice_get gs k ≡ Some gate) c.gates-gates.ensures.gates at))
+
+pub encode-requires-clause-root : goal.encode-requires-clause-root
+encode-requires-clause-root c =
+    variable_within c.args.aig.now c.args.root c.in_ok-needed.needed c.in_ok-naming.naming c.gates-gates.ensures.in_order c.requires.own
+    c.gates-gates.result.now c.gates-gates.ensures.gates c.in_ok-needed.ensures c.in_ok-naming.ensures.named
+    (c.in_ok-naming.ensures.inputs ∙ c.input_count-inputs.ensures) c.input_count-inputs.result c.input_count-inputs.ensures c.definitions.result.now c.definitions.ensures
+    c.literal.result c.literal.ensures
+
+pub returns-clause-stands : goal.returns-clause-stands
+returns-clause-stands c =
+    stands_for_root c.args.aig.now c.args.root c.in_ok-needed.needed c.in_ok-naming.naming c.gates-gates.ensures.in_order c.requires.own
+    c.gates-gates.result.now c.gates-gates.ensures.gates c.in_ok-needed.ensures c.in_ok-naming.ensures.named
+    (c.in_ok-naming.ensures.inputs ∙ c.input_count-inputs.ensures) c.input_count-inputs.result c.input_count-inputs.ensures c.definitions.result.now c.definitions.ensures
+    c.literal.result c.literal.ensures c.encode.result c.encode.ensures.gates c.encode.ensures.roots c.encode.ensures.input_count c.encode.ensures.inputs c.encode.ensures.count

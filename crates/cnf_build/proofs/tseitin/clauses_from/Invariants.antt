@@ -1,0 +1,11 @@
+use Rattle.std.proofs.Common.{◌≡◌, ◌+◌, ◌++◌, drop}
+use Rattle.cnf_build.specs.Definitions.{clauses_from}
+use Rattle.cnf_build.proofs.tseitin.clauses_from.Given as goal
+
+-- the clauses so far and those of what is left are all
+abbrev pub invariant-loop-definition : goal.invariant-loop-definition
+invariant-loop-definition l =
+    record {
+      number : l.variable ≡ l.first + l.definition-index;
+      rest : l.clauses ++ clauses_from l.variable (drop l.definition-index l.definitions) ≡ clauses_from l.first l.definitions;
+    }

@@ -1,0 +1,67 @@
+-- Variables for the constant and the gates that are marked, after those of the inputs.
+use Rattle.std.specs.Prelude.{◌≡◌, ℕ, ◌+◌, ◌<◌, ◌≤◌, Bool, true, false, List, [], ◌∷◌, ◌++◌, length, Some, slice_get, slice_index}
+use Rattle.clauses.specs.declared.literal.Lit.{Lit}
+use Rattle.aig.specs.declared.gate.Node.{Node}
+use Rattle.aig.specs.declared.gate.Node.TheVariants.{One, Input, Output}
+use Rattle.aig.specs.declared.gate.Literal.{Literal}
+use Rattle.aig.specs.declared.gate.Gate.{Gate}
+use Rattle.aig.specs.declared.gate.Gate.TheVariants as gates
+use Rattle.aig.specs.Graph.{IsAmong}
+use Rattle.cnf_build.specs.declared.definition.Definition.{Definition}
+use Rattle.cnf_build.specs.declared.definition.Definition.TheVariants as definitions
+use Rattle.cnf_build.specs.Definitions.{AreOverSmaller}
+use Rattle.cnf_build.specs.Marks.{Marks, IsMarked}
+
+-- how many inputs there are, a number for each gate, and definitions of the variables after the inputs, in order
+pub record Names : Type 0 where
+  pub inputs : ℕ
+  pub numbers : List ℕ
+  pub definitions : List Definition
+
+-- the inputs have the first variables, and the constant the next
+abbrev pub number_of : Names → Node → ℕ
+number_of names One = names.inputs + 1
+number_of names (Input k) = k + 1
+number_of names (Output k) = slice_index names.numbers k
+
+abbrev pub lit_of : Names → Literal → Lit
+lit_of names l = record { variable = number_of names l.node; negated = l.negated }
+
+abbrev pub definition_of : Names → Gate → Definition
+definition_of names (gates.And a b) = definitions.And (lit_of names a) (lit_of names b)
+definition_of names (gates.Xor a b) = definitions.Xor (lit_of names a) (lit_of names b)
+definition_of names (gates.Mux c a b) = definitions.Mux (lit_of names c) (lit_of names a) (lit_of names b)
+
+-- the constant is named, if it is needed
+abbrev pub with_constant : Names → Bool → Names
+with_constant names true = record names { definitions = names.definitions ++ definitions.One ∷ [] }
+with_constant names false = names
+
+-- The next gate has the variable of the next definition; that definition is its own if it is needed.
+abbrev pub with_gate : Names → Gate → Bool → Names
+with_gate names gate true =
+    record {
+      inputs = names.inputs;
+      numbers = names.numbers ++ (names.inputs + 1 + length names.definitions) ∷ [];
+      definitions = names.definitions ++ definition_of names gate ∷ [];
+    }
+with_gate names gate false =
+    record names { numbers = names.numbers ++ (names.inputs + 1 + length names.definitions) ∷ [] }
+
+-- this definition is at the place of the node's variable
+abbrev pub HasDefinition : Names → Node → Definition → Type 0
+HasDefinition names node d =
+    (j : ℕ) × (number_of names node ≡ names.inputs + 1 + j) × (slice_get names.definitions j ≡ Some d)
+
+-- the constant and the first gates, so many, are named where they are marked, and nothing else is
+pub record NamesFirst (all : List Gate) (marks : Marks) (count : ℕ) (names : Names) : Type 0 where
+  pub length_numbers : length names.numbers ≡ count
+  pub length_definitions : length names.definitions ≤ count + 1
+  pub one_defined : marks.one ≡ true → HasDefinition names One definitions.One
+  pub gates_defined :
+      (k : ℕ) (gate : Gate) → k < count → slice_get all k ≡ Some gate → IsMarked marks (Output k) →
+      HasDefinition names (Output k) (definition_of names gate)
+  pub only_marked :
+      (j : ℕ) → j < length names.definitions →
+      (node : Node) × IsMarked marks node × (number_of names node ≡ names.inputs + 1 + j) × IsAmong names.inputs count node
+  pub over_smaller : AreOverSmaller (names.inputs + 1) names.definitions
