@@ -1,0 +1,187 @@
+-- What is learned of a conflict, and the state after the last decision is turned round.
+use Rattle.std.proofs.Common.{◌≡◌, ℕ, ◌+◌, ◌-◌, ◌<◌, Bool, Option, true, false, List, [], ◌∷◌, ◌++◌, Some, length, take, refl, sym, ap, ◌∙◌, arith, inl, inr, subst, length-append}
+use Rattle.std.specs.Prelude.{slice_get, remove, IsSomeAnd}
+use Rattle.std.proofs.lemmas.List.{map-append, length-take-le}
+use Rattle.std.proofs.lemmas.List.Elements.{filter-append}
+use Rattle.clauses.specs.declared.cnf.Cnf.{Cnf}
+use Rattle.clauses.specs.declared.step.Step.{Step}
+use Rattle.clauses.specs.Literal.{negation_of, IsWithin}
+use Rattle.clauses.specs.Propagation.{HintsRefute, NamesFalse, NamesUnit, IsUnit, is_held, open_literals, negations_of}
+use Rattle.clauses.specs.ClauseSet.{all_clauses, clauses_of_steps, StepFollows, IsNew, IsRefutation}
+use Rattle.clauses.proofs.Held.{negation-negation}
+use Rattle.clauses.proofs.Closed.{HeldWithin, IsNew-from_closed}
+use Rattle.cdcl_log.specs.declared.trail.Entry.{Entry}
+use Rattle.cdcl_log.specs.declared.trail.Cause.{Cause}
+use Rattle.cdcl_log.specs.declared.trail.Cause.TheVariants.{Input, Other, Reason}
+use Rattle.cdcl_log.specs.TrailEntries.{literals, decisions, is_decision, IsOpen, EachFresh}
+use Rattle.cdcl_log.specs.Settled.{IsSettled, AllSettled}
+use Rattle.cdcl_log.specs.DepthFirst.{clauses_with, IsDecided, IsCaused, EachCaused, IsLearned, IsState}
+use Rattle.cdcl_log.specs.Learned.{IsLearnedStep}
+use Rattle.cdcl_log.proofs.Lists.{slice_get_push_cases, slice_get_last, slice_get_below, slice_get_take, take_in_take, slice_get_in_take, take_left, take_whole}
+use Rattle.cdcl_log.proofs.HeldLists.{Consistent, held_last, both_held, not_held_nil, open_not_held, open_not_false, open_within, literals-append, literals_left, literal_at, HeldWithin-take}
+use Rattle.cdcl_log.proofs.Open.{open_at, IsSettled-from_different}
+use Rattle.cdcl_log.proofs.Derived.{decisions_refuted, decision_at, HeldWithin-decisions}
+use Rattle.cdcl_log.proofs.Attended.{IsAttended-push, IsAttended-settled}
+use Rattle.cdcl_log.proofs.States.{clauses_with-push, clauses_of_steps-push, NamesUnit-more, AllSettled-left, AllSettled-push, decided_from, EachForced-from_caused, LogFollows-push, LogIsNew-push, NoneEmpty-push, decisions_within, negations_twice, negated_in, all_false, remove_last, closed_from_settled}
+
+-- What a conflict below decisions shows: the trail and the log before, the last decision, and the false clause.
+module _ (set : Cnf) (values : List (Option Bool)) (log : List Step) (entries : List Entry) (conflict : ℕ) (step : Step) (ok : Consistent (literals entries)) (fresh : EachFresh values entries) (room : length values ≡ set.count + 1) (caused : EachCaused set log entries) (log_learned : IsLearned set log) (conflicts : NamesFalse (clauses_with set log) (literals entries) conflict) (shown : IsLearnedStep (clauses_with set log) entries conflict step) where
+  -- the learned step follows
+  learned_follows : StepFollows set (clauses_with set log) step
+  learned_follows =
+      let ds = decisions entries in
+      let cs = clauses_with set log in
+      let same : negations_of step.clause ≡ ds = ap negations_of shown.clause_is ∙ negations_twice ds in (
+        subst (IsWithin set.count) (sym shown.clause_is)
+            (decisions_within set.count entries (λ k f at. let h = fresh k f at in (h.0, omega (arith, h.1, room)))),
+        subst (λ held. HintsRefute cs held step.hints) (sym same)
+            (subst (HintsRefute cs ds) (sym shown.hints_are)
+            (decisions_refuted cs entries shown.marks conflict (EachForced-from_caused set log entries caused) ok shown.involved conflicts)),
+      )
+
+  -- where nothing was decided, it ends a refutation
+  pub refutation : decisions entries ≡ [] → IsRefutation set (log ++ step ∷ [])
+  refutation none =
+      let last : length (log ++ step ∷ []) - 1 ≡ length log = omega (arith, length-append log (step ∷ [])) in
+      let at : slice_get (log ++ step ∷ []) (length (log ++ step ∷ []) - 1) ≡ Some step =
+      ap (slice_get (log ++ step ∷ [])) last ∙ slice_get_last log step in (
+        LogFollows-push set log step log_learned.follows learned_follows,
+        subst (λ o. IsSomeAnd o (λ (s : Step). s.clause ≡ [])) (sym at) (shown.clause_is ∙ ap negations_of none),
+      )
+
+  -- below a last decision
+  module _ (place : ℕ) (e : Entry) (at : slice_get entries place ≡ Some e) (decides : is_decision e.cause ≡ true) (last : decisions entries ≡ decisions (take place entries) ++ e.literal ∷ []) where
+    open_there : IsOpen (literals (take place entries)) e.literal.variable
+    open_there = (fresh place e at).2
+
+    clause_ends : step.clause ≡ negations_of (decisions (take place entries)) ++ negation_of e.literal ∷ []
+    clause_ends = shown.clause_is ∙ ap negations_of last ∙ map-append negation_of (decisions (take place entries)) (e.literal ∷ [])
+
+    decided_there : IsDecided set log (literals (take place entries)) e.literal
+    decided_there = decided_from set log (literals (take place entries)) e.literal e.cause decides (caused place e at)
+
+    has_negation : (k : ℕ) (f : Entry) → slice_get entries k ≡ Some f → is_decision f.cause ≡ true → is_held (step.clause) (negation_of f.literal) ≡ true
+    has_negation k f there is =
+        ap (λ c. is_held c (negation_of f.literal)) shown.clause_is ∙ negated_in (decisions entries) f.literal (decision_at entries k f there is)
+
+    -- the clause is new
+    learned_is_new : IsNew (clauses_with set log) (step.clause)
+    learned_is_new =
+        let held = literals (take place entries) in
+        let ds = decisions (take place entries) in
+        let xs = negations_of ds in
+        let l = negation_of e.literal in
+        let rest : negations_of (remove (xs ++ l ∷ []) (length xs)) ≡ ds = ap negations_of (remove_last xs l) ∙ negations_twice ds in
+        subst (IsNew (clauses_with set log)) (sym clause_ends)
+        (IsNew-from_closed (clauses_with set log) held (xs ++ l ∷ []) (length xs) l (closed_from_settled (clauses_with set log) held decided_there.settled)
+        (slice_get_last xs l)
+        (subst (λ ls. HeldWithin ls held) (sym rest) (HeldWithin-decisions (take place entries)))
+        (open_not_held held l open_there))
+
+    learned_not_empty : ¬ (step.clause ≡ [])
+    learned_not_empty empty =
+        not_held_nil (negation_of e.literal) (sym (ap (λ c. is_held c (negation_of e.literal)) empty) ∙ has_negation place e at decides)
+
+    -- an earlier decision's state: within the last's, and the clause is settled there
+    module _ (k : ℕ) (f : Entry) (there : slice_get entries k ≡ Some f) (earlier : k < place) where
+      in_prefix : slice_get (take place entries) k ≡ Some f
+      in_prefix = slice_get_in_take place entries k f there earlier
+
+      same_prefix : take k (take place entries) ≡ take k entries
+      same_prefix = take_in_take place entries k f in_prefix
+
+      within_last : HeldWithin (literals (take k entries)) (literals (take place entries))
+      within_last = subst (λ es. HeldWithin (literals es) (literals (take place entries))) same_prefix (HeldWithin-take k (take place entries))
+
+      learned_settled : is_decision f.cause ≡ true → IsSettled (literals (take k entries)) (step.clause)
+      learned_settled is =
+          let held = literals (take k entries) in
+          let last_held = literals (take place entries) in
+          IsSettled-from_different held (step.clause) (negation_of f.literal) (negation_of e.literal)
+          (has_negation k f there is)
+          (open_not_false held (negation_of f.literal) (fresh k f there).2)
+          (has_negation place e at decides)
+          (open_not_false held (negation_of e.literal) (open_within held last_held e.literal.variable within_last open_there))
+          (λ same.
+          let lits : f.literal ≡ e.literal = sym (negation-negation f.literal) ∙ ap negation_of same ∙ negation-negation e.literal in
+          both_held last_held e.literal (sym (ap (is_held last_held) lits) ∙ literal_at (take place entries) k f in_prefix) (open_not_held last_held e.literal open_there))
+
+      decided_more : is_decision f.cause ≡ true → IsDecided set log (literals (take k entries)) f.literal → IsDecided set (log ++ step ∷ []) (literals (take k entries)) f.literal
+      decided_more is d =
+          let held = literals (take k entries) in
+          record {
+            settled =
+                subst (λ cs. AllSettled cs held) (sym (clauses_with-push set log step))
+                (AllSettled-push (clauses_with set log) (step.clause) held d.settled (learned_settled is));
+            learned = λ number c named.
+                elim (slice_get_push_cases (clauses_of_steps log) step.clause number c (sym (ap (λ cs. slice_get cs number) (clauses_of_steps-push log step)) ∙ named)) [
+                  | inl before ↦ d.learned number c before
+                  | inr here ↦ inr (subst (λ ls. is_held ls (negation_of f.literal) ≡ true) here.1 (has_negation k f there is))
+                ];
+          }
+
+      caused_more : (cause : Cause) → f.cause ≡ cause → IsCaused set log (literals (take k entries)) f.literal cause → IsCaused set (log ++ step ∷ []) (literals (take k entries)) f.literal cause
+      caused_more Input is h = (decided_more (ap is_decision is) h.0, h.1)
+      caused_more Other is h = (decided_more (ap is_decision is) h.0, h.1)
+      caused_more (Reason number) is h =
+          subst (λ cs. NamesUnit cs (literals (take k entries)) number f.literal) (sym (clauses_with-push set log (step)))
+          (NamesUnit-more (clauses_with set log) (step.clause ∷ []) (literals (take k entries)) number f.literal h)
+
+    -- the learned clause forces the decision's negation where it was decided
+    learned_forces : IsUnit (literals (take place entries)) (step.clause) (negation_of e.literal)
+    learned_forces =
+        let held = literals (take place entries) in
+        let ds = decisions (take place entries) in
+        let l = negation_of e.literal in
+        ap (open_literals held) clause_ends
+        ∙ filter-append _ (negations_of ds) (l ∷ [])
+        ∙ ap (λ ls. ls ++ open_literals held (l ∷ [])) (all_false ds held (HeldWithin-decisions (take place entries)))
+        ∙ open_at held l [] false (open_not_false held l open_there)
+
+    -- the state after the last decision is turned round
+    pub IsState-turned : (number : ℕ) → number ≡ length (clauses_with set log) → IsState set (log ++ step ∷ []) (take place entries ++ (record { literal = negation_of e.literal; cause = Reason number }) ∷ []) place
+    IsState-turned number is =
+        let prefix = take place entries in
+        let held = literals prefix in
+        let l = negation_of e.literal in
+        let t : Entry = record { literal = l; cause = Reason number } in
+        let below : place < length entries = slice_get_below entries place e at in
+        let lengths : length prefix ≡ place = length-take-le place entries (omega arith) in
+        let named : slice_get (clauses_with set (log ++ step ∷ [])) number ≡ Some step.clause =
+        ap (λ cs. slice_get cs number) (clauses_with-push set log step)
+        ∙ ap (slice_get (clauses_with set log ++ step.clause ∷ [])) is
+        ∙ slice_get_last (clauses_with set log) step.clause in
+        record {
+          caused = λ k f there.
+              elim (slice_get_push_cases prefix t k f there) [
+                | inl left ↦
+                    let (old, earlier) = slice_get_take place entries k f left in
+                    let same : take k (prefix ++ t ∷ []) ≡ take k entries = take_left prefix (t ∷ []) k f left ∙ take_in_take place entries k f left in
+                    subst (λ es. IsCaused set (log ++ step ∷ []) (literals es) f.literal f.cause) (sym same)
+                    (caused_more k f old earlier f.cause refl (caused k f old))
+                | inr here ↦
+                    let same : take k (prefix ++ t ∷ []) ≡ prefix = ap (λ n. take n (prefix ++ t ∷ [])) here.0 ∙ take_whole prefix (t ∷ []) in
+                    subst (λ es. IsCaused set (log ++ step ∷ []) (literals es) f.literal f.cause) (sym same)
+                    (subst (λ (g : Entry). IsCaused set (log ++ step ∷ []) held g.literal g.cause) here.1 (step.clause, named, learned_forces))
+              ];
+          satisfied = λ n c there.
+              let now : is_held (literals (prefix ++ t ∷ [])) l ≡ true =
+              ap (λ h. is_held h l) (literals-append prefix (t ∷ [])) ∙ held_last held l in
+              elim (slice_get_push_cases (clauses_of_steps log) step.clause n c (sym (ap (λ cs. slice_get cs n) (clauses_of_steps-push log step)) ∙ there)) [
+                | inl before ↦
+                    elim (decided_there.learned n c before) [
+                      | inl satisfied ↦ (satisfied.0, satisfied.1, literals_left prefix (t ∷ []) satisfied.0 satisfied.2)
+                      | inr has ↦ (l, has, now)
+                    ]
+                | inr here ↦ (l, subst (λ ls. is_held ls l ≡ true) here.1 (has_negation place e at decides), now)
+              ];
+          attended =
+              IsAttended-push (all_clauses set) prefix t place (omega (arith, lengths))
+              (IsAttended-settled (all_clauses set) prefix place (AllSettled-left (all_clauses set) (clauses_of_steps log) held decided_there.settled));
+          log_learned =
+              record {
+                follows = LogFollows-push set log step log_learned.follows learned_follows;
+                new = LogIsNew-push set log step log_learned.new learned_is_new;
+                none_empty = NoneEmpty-push set log step log_learned.none_empty learned_not_empty;
+              };
+        }

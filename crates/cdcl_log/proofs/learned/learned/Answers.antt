@@ -1,0 +1,46 @@
+use Rattle.std.proofs.Common.{◌≡◌, ◌∷◌, [], length, refl, sym, ap, ◌∙◌, arith, true, false}
+use Rattle.std.specs.Option.{option_to_list}
+use Rattle.std.proofs.lemmas.List.{append-nil}
+use Rattle.cdcl_log.proofs.Decisions.{clause_at_decision, clause_at_reason}
+use Rattle.cdcl_log.proofs.Involved.{hints_next, none_added, mark_read}
+use Rattle.cdcl_log.proofs.learned.learned.Goals as goal
+use Rattle.cdcl_log.proofs.learned.learned.Goals.{in-Some+then-index+in_ok-push-in-Some, in-Some+else-index, in-None+in_ok-push-in-None}
+
+pub loop-entry-preserved : goal.loop-entry-preserved
+loop-entry-preserved c =
+    let trail = c.args.trail.now in
+    let entries = trail.entries.items in
+    let items = c.deref-entry-items.result.now in
+    let marks = c.in_ok-involved.involved.items in
+    let k = c.loop-entry.entry-index in
+    let same = c.deref-entry-items.ensures.value in
+    let within = c.loop-entry-test.true in
+    let inv = c.loop-entry.invariant in
+    let size : length marks ≡ length trail.values.items = omega (arith, c.requires.variables, c.in_ok-involved.ensures.size) in
+    elim c.match-reason.branch [
+      | in-Some+then-index+in_ok-push-in-Some w ↦
+          record {
+            clause_so_far = clause_at_reason entries items k _ c.loop-entry.clause c.match-reason.clause c.reason.result _ same within c.reason.ensures w.in-Some.is inv.clause_so_far w.clause-is;
+            hints_so_far =
+                hints_next entries items k _ marks c.loop-entry.hints c.match-reason.hints (w.in-Some.number ∷ []) c.reason.result true same within c.reason.ensures
+                (mark_read entries items k _ trail.values.items marks w.index.result.now true trail.fresh size same within w.index.ensures w.if-index.true)
+                (ap option_to_list w.in-Some.is) inv.hints_so_far (w.hints-is ∙ w.in_ok-push-in-Some.ensures.ok);
+          }
+      | in-Some+else-index w ↦
+          record {
+            clause_so_far = clause_at_reason entries items k _ c.loop-entry.clause c.match-reason.clause c.reason.result _ same within c.reason.ensures w.in-Some.is inv.clause_so_far w.clause-is;
+            hints_so_far =
+                hints_next entries items k _ marks c.loop-entry.hints c.match-reason.hints [] c.reason.result false same within c.reason.ensures
+                (mark_read entries items k _ trail.values.items marks w.index.result.now false trail.fresh size same within w.index.ensures w.if-index.false)
+                refl inv.hints_so_far (w.hints-is ∙ sym (append-nil c.loop-entry.hints));
+          }
+      | in-None+in_ok-push-in-None w ↦
+          record {
+            clause_so_far =
+                clause_at_decision entries items k _ c.loop-entry.clause c.match-reason.clause c.reason.result w.negation.result same within c.reason.ensures w.in-None.is w.negation.ensures inv.clause_so_far
+                (w.clause-is ∙ w.in_ok-push-in-None.ensures.ok);
+            hints_so_far =
+                hints_next entries items k _ marks c.loop-entry.hints c.match-reason.hints [] c.reason.result _ same within c.reason.ensures refl
+                (none_added _ c.reason.result w.in-None.is) inv.hints_so_far (w.hints-is ∙ sym (append-nil c.loop-entry.hints));
+          }
+    ]

@@ -1,0 +1,43 @@
+use Rattle.std.proofs.Common.{◌≡◌, ◌+◌, Some, false, length, ◌<◌, refl, ap, sym, ◌∙◌, arith}
+use Rattle.std.specs.Prelude.{slice_get, is_some}
+use Rattle.std.proofs.lemmas.Option.{slice_get_read}
+use Rattle.clauses.specs.Literal.{negation_of}
+use Rattle.clauses.specs.ClauseSet.{all_clauses}
+use Rattle.cdcl_log.specs.declared.trail.Entry.{Entry}
+use Rattle.cdcl_log.specs.OccurrenceLists.{numbers_of}
+use Rattle.cdcl_log.specs.Settled.{AttendsAll}
+use Rattle.cdcl_log.proofs.Options.{IfNone_at}
+use Rattle.cdcl_log.proofs.Attended.{Grows-then, IsAttended-next, AllSettled-end}
+use Rattle.cdcl_log.proofs.propagation.propagate.Goals as goal
+
+pub returns-in_err-conflict-clause-grows : goal.returns-in_err-conflict-clause-grows
+returns-in_err-conflict-clause-grows c =
+    Grows-then _ _ _ _ c.loop-head.invariant.grows c.in_err-conflict.ensures.grows
+
+pub returns-then-is_some-clause-grows : goal.returns-then-is_some-clause-grows
+returns-then-is_some-clause-grows c =
+    Grows-then _ _ _ _ c.loop-head.invariant.grows c.in_ok-conflict.ensures.grows
+
+pub loop-head-preserved : goal.loop-head-preserved
+loop-head-preserved c =
+    let cs = all_clauses c.args.cnf.now in
+    let entries = c.loop-head.trail.entries.items in
+    let lists = c.args.occurrences.now in
+    let e : Entry = c.index.result.now in
+    let within : c.loop-head.head < length entries = omega (arith, c.loop-head-test.true, c.len.ensures) in
+    let here : slice_get entries c.loop-head.head ≡ Some e = slice_get_read entries (length entries) c.loop-head.head e refl within c.index.ensures in
+    let numbers : c.of.result.now ≡ numbers_of lists (negation_of e.literal) = c.of.ensures ∙ ap (numbers_of lists) c.negation-falsified.ensures in
+    let none : is_some c.in_ok-conflict.conflict ≡ false = sym c.is_some.ensures ∙ c.if-is_some.false in
+    record {
+      grows = Grows-then _ _ _ _ c.loop-head.invariant.grows c.in_ok-conflict.ensures.grows;
+      same_variables = c.in_ok-conflict.ensures.same_variables ∙ c.loop-head.invariant.same_variables;
+      attended =
+          IfNone_at c.in_ok-conflict.conflict (AttendsAll cs c.of.result.now entries c.visit.new.trail.entries.items) none c.in_ok-conflict.ensures.attended
+          (c.loop-head.head + 1) (omega (arith, within))
+          (IsAttended-next cs lists entries c.loop-head.head e c.of.result.now c.requires.index.all here numbers c.loop-head.invariant.attended);
+    }
+
+pub returns-clause-settled : goal.returns-clause-settled
+returns-clause-settled c =
+    AllSettled-end (all_clauses c.args.cnf.now) c.loop-head.trail.entries.items c.loop-head.head
+    (omega (arith, c.loop-head-test.false, c.len.ensures)) c.loop-head.invariant.attended

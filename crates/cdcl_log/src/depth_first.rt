@@ -1,0 +1,144 @@
+//! Going down decision by decision.
+
+ghost use Rattle.std.specs.Prelude.{◌≡◌, ◌+◌, ◌<◌, ◌≤◌, ◌⊎◌, ◌↔◌, ℕ, Contains, length, IfOk, IfSome, IfNone, IsTrue};
+ghost use Rattle.clauses.specs.Literal.{IsVariable};
+ghost use Rattle.clauses.specs.Propagation.{NamesFalse};
+ghost use Rattle.clauses.specs.ClauseSet.{all_clauses};
+ghost use Rattle.cdcl_log.specs.Found.{IsFound};
+ghost use Rattle.cdcl_log.specs.TrailEntries.{literals, Grows, IsOpen, IsSet};
+ghost use Rattle.cdcl_log.specs.Settled.{IsAttended};
+ghost use Rattle.cdcl_log.specs.DepthFirst.{InputsSet, IsNext};
+
+use crate::Found;
+use crate::learned::{ended, learned};
+use crate::occurrences::Occurrences;
+use crate::propagation::{propagate, visit};
+use crate::trail::{Cause, Entry, Trail};
+use clauses::{Cnf, Lit};
+use lists::List;
+use std::alloc::{AllocError, Global};
+
+/// Up to this many inputs the search goes through all their settings, whatever its limit.
+const FEW_INPUTS: usize = 12;
+
+/// Looks at all clauses of the set once.
+fn visit_all(alloc: Global, cnf: &Cnf, trail: &mut Trail) -> Result<Option<u32>, AllocError>
+    requires variables { length trail.old.values.items ≡ cnf.now.count + 1 }
+    ensures grows { Grows (all_clauses cnf.now) trail.old.entries.items trail.new.entries.items }
+    ensures same_variables { length trail.new.values.items ≡ length trail.old.values.items }
+    ensures attended { IfOk result (λ conflict. IfNone conflict (IsAttended (all_clauses cnf.now) trail.new.entries.items 0)) }
+    ensures falsified { IfOk result (λ conflict. IfSome conflict (NamesFalse (all_clauses cnf.now) (literals trail.new.entries.items))) }
+{
+    let mut numbers = Vec::new(alloc);
+    for number in 0..cnf.clause_count() {
+        numbers.push(number)?;
+    }
+    Ok(visit(cnf, &numbers, trail)?)
+}
+
+/// The first input that isn't set.
+fn open_input(cnf: &Cnf, trail: &Trail) -> Option<u32>
+    requires { length trail.now.values.items ≡ cnf.now.count + 1 }
+    ensures found { IfSome result (λ n. Contains cnf.now.inputs n × IsOpen (literals trail.now.entries.items) n) }
+    ensures none { IfNone result (InputsSet cnf.now (literals trail.now.entries.items)) }
+{
+    for &variable in cnf.inputs.as_slice() {
+        if trail.value(variable).is_none() {
+            return Some(variable);
+        }
+    }
+    None
+}
+
+/// The first variable that isn't set.
+fn open_variable(cnf: &Cnf, trail: &Trail) -> Option<u32>
+    requires { length trail.now.values.items ≡ cnf.now.count + 1 }
+    ensures found { IfSome result (λ n. IsVariable cnf.now.count n × IsOpen (literals trail.now.entries.items) n) }
+    ensures none { IfNone result ((n : ℕ) → IsVariable cnf.now.count n → IsSet (literals trail.now.entries.items) n) }
+{
+    for variable in 1..cnf.count + 1 {
+        if trail.value(variable).is_none() {
+            return Some(variable);
+        }
+    }
+    None
+}
+
+/// The value false for the first variable that isn't set, inputs before the others.
+fn next_decision(cnf: &Cnf, trail: &Trail) -> Option<Entry>
+    requires { length trail.now.values.items ≡ cnf.now.count + 1 }
+    ensures found { IfSome result (IsNext cnf.now (literals trail.now.entries.items)) }
+    ensures none { IfNone result ((n : ℕ) → IsVariable cnf.now.count n → IsSet (literals trail.now.entries.items) n) }
+{
+    if let Some(variable) = open_input(cnf, trail) {
+        return Some(decision(variable, Cause::Input));
+    }
+    if let Some(variable) = open_variable(cnf, trail) {
+        return Some(decision(variable, Cause::Other));
+    }
+    None
+}
+
+/// A variable decided to be false.
+fn decision(variable: u32, cause: Cause) -> Entry
+    ensures variable { result.literal.variable ≡ variable }
+    ensures cause { result.cause ≡ cause }
+{
+    let literal = Lit {
+        variable,
+        negated: true,
+    };
+    Entry { literal, cause }
+}
+
+/// Whether the search may give up at a conflict under this last decision: there are many inputs, or units didn't
+/// determine the rest.
+fn may_give_up(cnf: &Cnf, last: Entry) -> bool
+    ensures { IsTrue result ↔ ((last.cause ≡ Cause.Other) ⊎ (12 < length cnf.now.inputs)) }
+{
+    match last.cause {
+        Cause::Other => true,
+        Cause::Input | Cause::Reason(_) => cnf.inputs.len() > FEW_INPUTS,
+    }
+}
+
+/// Searches for a model of all clauses, and gives up after `limit` learned clauses. The empty clause that ends a
+/// refutation isn't counted.
+///
+/// Where at most twelve inputs are named it goes on past the limit as long as it has decided inputs alone, so that
+/// it gives up on no set in which units determine the rest.
+///
+/// The only error is want of memory.
+pub fn search(alloc: Global, cnf: &Cnf, limit: u32) -> Result<Found, AllocError>
+    requires { limit ≤ 1000000 }
+    ensures { IfOk result (IsFound cnf.now limit) }
+{
+    let occurrences = Occurrences::new(alloc, cnf)?;
+    let mut trail = Trail::new(alloc, cnf.count)?;
+    let mut log = Vec::new(alloc);
+    if let Some(conflict) = visit_all(alloc, cnf, &mut trail)? {
+        return Ok(Found::Unsat(ended(alloc, cnf, &trail, log, conflict)?));
+    }
+    let mut head = 0;
+    'descent: loop {
+        let Some(conflict) = propagate(cnf, &occurrences, &mut trail, head)? else {
+            let Some(entry) = next_decision(cnf, &trail) else {
+                return Ok(Found::Sat(trail.assignment(alloc)?));
+            };
+            head = trail.entries.len();
+            trail.push(entry)?;
+            continue 'descent;
+        };
+        let Some(place) = trail.last_decision() else {
+            return Ok(Found::Unsat(ended(alloc, cnf, &trail, log, conflict)?));
+        };
+        if log.len() >= limit as usize && may_give_up(cnf, trail.entries[place]) {
+            log.truncate(limit as usize);
+            return Ok(Found::Limit(List::from_vec(log)));
+        }
+        let number = cnf.clause_count() + log.len() as u32;
+        log.push(learned(alloc, cnf, &log, &trail, conflict)?)?;
+        trail.turn(place, number)?;
+        head = place;
+    }
+}

@@ -1,0 +1,16 @@
+use clauses::Log;
+use lists::List;
+
+/// The values of the variables: variable n has the value at place n - 1.
+pub type Assignment = List<bool>;
+
+/// What a search found.
+#[derive(Debug, Drop)]
+pub enum Found {
+    /// A model of all clauses.
+    Sat(Assignment),
+    /// A refutation: a log that ends with the empty clause.
+    Unsat(Log),
+    /// The search gave up, with as many learned clauses as it was allowed.
+    Limit(Log),
+}

@@ -1,0 +1,114 @@
+//! Unit propagation by the clauses in which a literal became false.
+
+ghost use Rattle.std.specs.Prelude.{◌≡◌, ◌+◌, ◌-◌, ◌<◌, length, All, IfOk, IfSome, IfNone};
+ghost use Rattle.std.specs.Bool.{OnTrue, OnFalse};
+ghost use Rattle.clauses.specs.Literal.{IsWithin};
+ghost use Rattle.clauses.specs.Propagation.{NamesFalse};
+ghost use Rattle.clauses.specs.ClauseSet.{all_clauses};
+ghost use Rattle.cdcl_log.specs.TrailEntries.{literals, Grows};
+ghost use Rattle.cdcl_log.specs.Settled.{IsStatus, AllSettled, IsAttended, AttendsTo, AttendsAll};
+ghost use Rattle.cdcl_log.specs.OccurrenceLists.{IsIndexOf};
+
+use crate::occurrences::Occurrences;
+use crate::trail::{Cause, Entry, Trail};
+use clauses::{Cnf, Lit};
+use std::alloc::AllocError;
+
+/// What a clause asks for, by what is held.
+enum Status {
+    /// Nothing: a literal of it is held, or two of them aren't false.
+    Settled,
+    /// This literal is to be held: all others are false, and it isn't set.
+    Forces(Lit),
+    /// All literals are false.
+    Falsified,
+}
+
+/// What the clause asks for.
+fn status_of(trail: &Trail, clause: &[Lit]) -> Status
+    requires { IsWithin (length trail.now.values.items - 1) clause.now }
+    ensures { IsStatus (literals trail.now.entries.items) clause.now result }
+{
+    let mut open = None;
+    for &literal in clause {
+        if trail.holds(literal) {
+            return Status::Settled;
+        }
+        if !trail.holds(literal.negation()) {
+            if open.is_some() {
+                return Status::Settled;
+            }
+            open = Some(literal);
+        }
+    }
+    match open {
+        Some(literal) => Status::Forces(literal),
+        None => Status::Falsified,
+    }
+}
+
+/// Looks at the clause of a number: what it forces is held. The answer is false where all its
+/// literals are.
+fn examine(cnf: &Cnf, number: u32, trail: &mut Trail) -> Result<bool, AllocError>
+    requires known { number < length (all_clauses cnf.now) }
+    requires variables { length trail.old.values.items ≡ cnf.now.count + 1 }
+    ensures grows { Grows (all_clauses cnf.now) trail.old.entries.items trail.new.entries.items }
+    ensures same_variables { length trail.new.values.items ≡ length trail.old.values.items }
+    ensures attended { IfOk result (λ good. OnTrue good (AttendsTo (all_clauses cnf.now) number trail.old.entries.items trail.new.entries.items)) }
+    ensures falsified { IfOk result (λ good. OnFalse good (NamesFalse (all_clauses cnf.now) (literals trail.new.entries.items) number)) }
+{
+    match status_of(trail, cnf.clause(number).as_slice()) {
+        Status::Settled => Ok(true),
+        Status::Forces(literal) => {
+            trail.push(Entry {
+                literal,
+                cause: Cause::Reason(number),
+            })?;
+            Ok(true)
+        }
+        Status::Falsified => Ok(false),
+    }
+}
+
+/// Looks at the clauses of these numbers in order, up to the first that is false.
+pub fn visit(cnf: &Cnf, numbers: &[u32], trail: &mut Trail) -> Result<Option<u32>, AllocError>
+    requires known { All (λ n. n < length (all_clauses cnf.now)) numbers.now }
+    requires variables { length trail.old.values.items ≡ cnf.now.count + 1 }
+    ensures grows { Grows (all_clauses cnf.now) trail.old.entries.items trail.new.entries.items }
+    ensures same_variables { length trail.new.values.items ≡ length trail.old.values.items }
+    ensures attended { IfOk result (λ conflict. IfNone conflict (AttendsAll (all_clauses cnf.now) numbers.now trail.old.entries.items trail.new.entries.items)) }
+    ensures falsified { IfOk result (λ conflict. IfSome conflict (NamesFalse (all_clauses cnf.now) (literals trail.new.entries.items))) }
+{
+    for &number in numbers {
+        if !examine(cnf, number, trail)? {
+            return Ok(Some(number));
+        }
+    }
+    Ok(None)
+}
+
+/// Propagates the entries from `head` on, and those that come of it, up to the first clause that is false.
+pub fn propagate(
+    cnf: &Cnf,
+    occurrences: &Occurrences,
+    trail: &mut Trail,
+    mut head: usize,
+) -> Result<Option<u32>, AllocError>
+    requires index { IsIndexOf cnf.now occurrences.now }
+    requires variables { length trail.old.values.items ≡ cnf.now.count + 1 }
+    requires attended { IsAttended (all_clauses cnf.now) trail.old.entries.items head }
+    ensures grows { Grows (all_clauses cnf.now) trail.old.entries.items trail.new.entries.items }
+    ensures same_variables { length trail.new.values.items ≡ length trail.old.values.items }
+    ensures settled { IfOk result (λ conflict. IfNone conflict (AllSettled (all_clauses cnf.now) (literals trail.new.entries.items))) }
+    ensures falsified { IfOk result (λ conflict. IfSome conflict (NamesFalse (all_clauses cnf.now) (literals trail.new.entries.items))) }
+{
+    while head < trail.entries.len() {
+        let falsified = trail.entries[head].literal.negation();
+        head += 1;
+        let conflict = visit(cnf, occurrences.of(falsified), trail)?;
+        if conflict.is_some() {
+            return Ok(conflict);
+        }
+    }
+    Ok(None)
+}
