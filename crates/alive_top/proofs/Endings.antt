@@ -1,0 +1,148 @@
+-- How the ways to end follow from one another.
+use Rattle.std.proofs.Common.{◌≡◌, ℕ, List, Option, Some, None, Ok, Err, refl, sym, subst, ⊎_elim, ◌⊎◌, inl, inr}
+use Rattle.std.specs.Prelude.{IfSome, IsSomeAnd}
+use Rattle.ir_core.specs.declared.module.Module.{Module}
+use Rattle.outside.specs.Faults.{Rose}
+use Rattle.alive_top.specs.declared.status.Status.{Status}
+use Rattle.alive_top.specs.declared.status.Status.TheVariants as statuses
+use Rattle.alive_top.specs.declared.top.Refusal.{Refusal}
+use Rattle.alive_top.specs.declared.top.Refusal.TheVariants as refusals
+use Rattle.alive_top.specs.Commands.{Optimise, IsRuleText, IsModuleText, IsOptimised}
+use Rattle.alive_top.specs.Working.{Asked, AsksNone, AsksOne, AsksTwo, IsNoRuleText, IsNoModuleText, PrintsTold, WorkOf}
+use Rattle.alive_top.specs.declared.top.Texts.{Texts}
+use Rattle.alive_top.specs.Printing.{text_of, report_of}
+use Rattle.alive_top.specs.Endings.{Fed, Gained, GainedNothing, Told, read_fault_line, WroteSome, RefusedAs, WrittenAs, Ends, EndsFor, StopsAtRules, StopsAtSource, IsDoneOrNoMemory, AreGood}
+
+-- which file could not be read
+abbrev AtOneFile : Asked → Optimise → List ℕ → Type 0
+AtOneFile a named name = ((name ≡ named.rules) × AsksOne a named.rules) ⊎ (IfSome (a.told named.rules) IsRuleText × (name ≡ named.source) × AsksTwo a named.rules named.source)
+
+read_ends : (a : Asked) (named : Optimise) (out err : Fed) (name : List ℕ) → Rose a.faults_before a.faults_after → AtOneFile a named name → GainedNothing out → Told err (read_fault_line name) → Ends a named out err statuses.ReadFault
+read_ends a named out err name rose (inl w) g t = (rose, g, inl (w.1, subst (λ (n : List ℕ). Told err (read_fault_line n)) w.0 t))
+read_ends a named out err name rose (inr w) g t = (rose, g, inr (w.0, w.2, subst (λ (n : List ℕ). Told err (read_fault_line n)) w.1 t))
+
+asked_some : (a : Asked) (named : Optimise) (name : List ℕ) → AtOneFile a named name → AsksNone a ⊎ (AsksOne a named.rules ⊎ AsksTwo a named.rules named.source)
+asked_some a named name (inl w) = inr (inl w.1)
+asked_some a named name (inr w) = inr (inr w.2)
+
+pub refused_ends : (command : Option Optimise) (a : Asked) (out err : Fed) (refusal : Refusal) (status : Status) → WorkOf a command (Err refusal) → GainedNothing out → RefusedAs refusal err status → EndsFor command a out err status
+refused_ends None a out err refusals.Usage status w g r = subst (EndsFor None a out err) (sym r.0) (w, g, r.1)
+refused_ends None a out err refusals.Rules status w g r = absurd w
+refused_ends None a out err refusals.Source status w g r = absurd w
+refused_ends None a out err refusals.Memory status w g r = absurd w
+refused_ends None a out err (refusals.Read name) status w g r = absurd w
+refused_ends (Some named) a out err refusals.Usage status w g r = absurd w
+refused_ends (Some named) a out err refusals.Rules status w g r = subst (Ends a named out err) (sym r.0) (w.0, w.1, g, r.1)
+refused_ends (Some named) a out err refusals.Source status w g r = subst (Ends a named out err) (sym r.0) (w.0, w.1, w.2, g, r.1)
+refused_ends (Some named) a out err refusals.Memory status w g r = subst (Ends a named out err) (sym r.0) (w, g, r.1)
+refused_ends (Some named) a out err (refusals.Read name) status w g (inl r) = subst (Ends a named out err) (sym r.0) (read_ends a named out err name.now w.0 w.1 g r.1)
+refused_ends (Some named) a out err (refusals.Read name) status w g (inr r) = subst (Ends a named out err) (sym r.0) (asked_some a named name.now w.1, g, r.1)
+
+-- where the texts of a module were written, as far as they were, the work was done
+worked : (o : Option (List ℕ)) (texts : Texts) (Wrote : List ℕ → List ℕ → Type 0) → PrintsTold o texts → Wrote texts.out.items texts.err.items → IfSome o (λ bytes. (new : Module) × IsOptimised bytes new × Wrote (text_of new) (report_of new))
+worked None texts Wrote prints wrote = tt
+worked (Some bytes) texts Wrote prints wrote = (prints.0, prints.1, subst (λ (report : List ℕ). Wrote (text_of prints.0) report) prints.3 (subst (λ (text : List ℕ). Wrote text texts.err.items) prints.2 wrote))
+
+pub written_ends : (command : Option Optimise) (a : Asked) (out err : Fed) (texts : Texts) (status : Status) → WorkOf a command (Ok texts) → WrittenAs texts out err status → EndsFor command a out err status
+written_ends None a out err texts status w h = absurd w
+written_ends (Some named) a out err texts statuses.Done w h = (w.2, w.0, worked (a.told named.source) texts (λ text report. Gained out text × Gained err report) w.1 h)
+written_ends (Some named) a out err texts statuses.WriteFault w h = (w.2, w.0, worked (a.told named.source) texts (WroteSome out err) w.1 h)
+written_ends (Some named) a out err texts statuses.Usage w h = absurd h
+written_ends (Some named) a out err texts statuses.RuleRefused w h = absurd h
+written_ends (Some named) a out err texts statuses.ModuleRefused w h = absurd h
+written_ends (Some named) a out err texts statuses.ReadFault w h = absurd h
+written_ends (Some named) a out err texts statuses.NoMemory w h = absurd h
+
+-- ---- what follows of each way to end
+
+pub usage_is : (command : Option Optimise) (a : Asked) (out err : Fed) (status : Status) → EndsFor command a out err status → (status ≡ statuses.Usage → command ≡ None) × (command ≡ None → status ≡ statuses.Usage)
+usage_is None a out err statuses.Usage e = (λ _. refl, λ _. refl)
+usage_is None a out err statuses.Done e = absurd e
+usage_is None a out err statuses.RuleRefused e = absurd e
+usage_is None a out err statuses.ModuleRefused e = absurd e
+usage_is None a out err statuses.ReadFault e = absurd e
+usage_is None a out err statuses.WriteFault e = absurd e
+usage_is None a out err statuses.NoMemory e = absurd e
+usage_is (Some named) a out err statuses.Usage e = absurd e
+usage_is (Some named) a out err statuses.Done e = (λ h. absurd cc, λ h. absurd cc)
+usage_is (Some named) a out err statuses.RuleRefused e = (λ h. absurd cc, λ h. absurd cc)
+usage_is (Some named) a out err statuses.ModuleRefused e = (λ h. absurd cc, λ h. absurd cc)
+usage_is (Some named) a out err statuses.ReadFault e = (λ h. absurd cc, λ h. absurd cc)
+usage_is (Some named) a out err statuses.WriteFault e = (λ h. absurd cc, λ h. absurd cc)
+usage_is (Some named) a out err statuses.NoMemory e = (λ h. absurd cc, λ h. absurd cc)
+
+-- what follows of what is told
+stops : {P R : List ℕ → Type 0} (o : Option (List ℕ)) → IfSome o P → ((bytes : List ℕ) → P bytes → R bytes) → IfSome o R
+stops None p h = tt
+stops (Some bytes) p h = h bytes p
+
+always : {R : List ℕ → Type 0} (o : Option (List ℕ)) → ((bytes : List ℕ) → R bytes) → IfSome o R
+always None h = tt
+always (Some bytes) h = h bytes
+
+pub rules_stop : (command : Option Optimise) (a : Asked) (out err : Fed) (status : Status) → EndsFor command a out err status → IfSome command (λ named. IfSome (a.told named.rules) (λ bytes. IsNoRuleText bytes → StopsAtRules status))
+rules_stop None a out err status e = tt
+rules_stop (Some named) a out err statuses.Usage e = absurd e
+rules_stop (Some named) a out err statuses.Done e = stops (a.told named.rules) e.1 (λ bytes is no_rules. no_rules is)
+rules_stop (Some named) a out err statuses.WriteFault e = stops (a.told named.rules) e.1 (λ bytes is no_rules. no_rules is)
+rules_stop (Some named) a out err statuses.ModuleRefused e = stops (a.told named.rules) e.0 (λ bytes is no_rules. no_rules is)
+rules_stop (Some named) a out err statuses.RuleRefused e = always (a.told named.rules) (λ bytes no_rules. tt)
+rules_stop (Some named) a out err statuses.ReadFault e = always (a.told named.rules) (λ bytes no_rules. tt)
+rules_stop (Some named) a out err statuses.NoMemory e = always (a.told named.rules) (λ bytes no_rules. tt)
+
+pub source_stops : (command : Option Optimise) (a : Asked) (out err : Fed) (status : Status) → EndsFor command a out err status → IfSome command (λ named. IfSome (a.told named.source) (λ bytes. IsNoModuleText bytes → StopsAtSource status))
+source_stops None a out err status e = tt
+source_stops (Some named) a out err statuses.Usage e = absurd e
+source_stops (Some named) a out err statuses.Done e = stops (a.told named.source) e.2 (λ bytes is none. none is.1.read is.1.source)
+source_stops (Some named) a out err statuses.WriteFault e = stops (a.told named.source) e.2 (λ bytes is none. none is.1.read is.1.source)
+source_stops (Some named) a out err statuses.ModuleRefused e = always (a.told named.source) (λ bytes none. tt)
+source_stops (Some named) a out err statuses.RuleRefused e = always (a.told named.source) (λ bytes none. tt)
+source_stops (Some named) a out err statuses.ReadFault e = always (a.told named.source) (λ bytes none. tt)
+source_stops (Some named) a out err statuses.NoMemory e = always (a.told named.source) (λ bytes none. tt)
+
+pub done_rules : (command : Option Optimise) (a : Asked) (out err : Fed) (status : Status) → EndsFor command a out err status → status ≡ statuses.Done → IfSome command (λ named. IfSome (a.told named.rules) IsRuleText)
+done_rules command a out err status e h = at command (subst (EndsFor command a out err) h e)
+  where
+    at : (command : Option Optimise) → EndsFor command a out err statuses.Done → IfSome command (λ named. IfSome (a.told named.rules) IsRuleText)
+    at None e = absurd e
+    at (Some named) e = e.1
+
+pub done_module : (command : Option Optimise) (a : Asked) (out err : Fed) (status : Status) → EndsFor command a out err status → status ≡ statuses.Done → IfSome command (λ named. IfSome (a.told named.source) (λ bytes. (new : Module) × IsOptimised bytes new × (Gained out (text_of new) × Gained err (report_of new))))
+done_module command a out err status e h = at command (subst (EndsFor command a out err) h e)
+  where
+    at : (command : Option Optimise) → EndsFor command a out err statuses.Done → IfSome command (λ named. IfSome (a.told named.source) (λ bytes. (new : Module) × IsOptimised bytes new × (Gained out (text_of new) × Gained err (report_of new))))
+    at None e = absurd e
+    at (Some named) e = e.2
+
+pub reads_fail : (command : Option Optimise) (a : Asked) (out err : Fed) (status : Status) → EndsFor command a out err status → status ≡ statuses.ReadFault → Rose a.faults_before a.faults_after
+reads_fail command a out err status e h = at command (subst (EndsFor command a out err) h e)
+  where
+    at : (command : Option Optimise) → EndsFor command a out err statuses.ReadFault → Rose a.faults_before a.faults_after
+    at None e = absurd e
+    at (Some named) e = e.0
+
+some_failed : (out err : Fed) (text report : List ℕ) → WroteSome out err text report → Rose out.faults_before out.faults_after ⊎ Rose err.faults_before err.faults_after
+some_failed out err text report (inl w) = inl w.0.0
+some_failed out err text report (inr w) = inr w.1.0
+
+is_some_torn : (o : Option (List ℕ)) (P : List ℕ → Type 0) → IsSomeAnd o P → IfSome o (λ bytes. P bytes → ⊥) → ⊥
+is_some_torn None P g e = absurd g
+is_some_torn (Some x) P g e = e g
+
+is_some_meets : (o : Option (List ℕ)) (P Q : List ℕ → Type 0) (R : Type 0) → IsSomeAnd o P → IfSome o Q → ((bytes : List ℕ) → Q bytes → R) → R
+is_some_meets None P Q R g e f = absurd g
+is_some_meets (Some x) P Q R g e f = f x e
+
+no_fault_ends : (command : Option Optimise) (a : Asked) (out err : Fed) (status : Status) → EndsFor command a out err status → (Rose a.faults_before a.faults_after → ⊥) → (Rose out.faults_before out.faults_after → ⊥) → (Rose err.faults_before err.faults_after → ⊥) → IfSome command (λ named. AreGood a.told named → IsDoneOrNoMemory status)
+no_fault_ends None a out err status e r w v = tt
+no_fault_ends (Some named) a out err statuses.Usage e r w v = absurd e
+no_fault_ends (Some named) a out err statuses.Done e r w v = λ good. tt
+no_fault_ends (Some named) a out err statuses.NoMemory e r w v = λ good. tt
+no_fault_ends (Some named) a out err statuses.RuleRefused e r w v = λ good. is_some_torn (a.told named.rules) IsRuleText good.0 e.0
+no_fault_ends (Some named) a out err statuses.ModuleRefused e r w v = λ good. is_some_torn (a.told named.source) (λ bytes. (m : Module) × IsModuleText bytes m) good.1 (stops (a.told named.source) e.1 (λ bytes none is. none is.0 is.1))
+no_fault_ends (Some named) a out err statuses.ReadFault e r w v = λ good. r e.0
+no_fault_ends (Some named) a out err statuses.WriteFault e r w v = λ good. is_some_meets (a.told named.source) (λ bytes. (m : Module) × IsModuleText bytes m) _ ⊥ good.1 e.2 (λ bytes is. ⊎_elim w v (some_failed out err _ _ is.2))
+
+pub complete : (command : Option Optimise) (a : Asked) (out err : Fed) (status : Status) → EndsFor command a out err status → IfSome command (λ named. AreGood a.told named → (Rose a.faults_before a.faults_after → ⊥) → (Rose out.faults_before out.faults_after → ⊥) → (Rose err.faults_before err.faults_after → ⊥) → IsDoneOrNoMemory status)
+complete None a out err status e = tt
+complete (Some named) a out err status e = λ good r w v. no_fault_ends (Some named) a out err status e r w v good

@@ -1,0 +1,46 @@
+-- Laws of functions that are read, and of cleaning.
+use Rattle.std.specs.Prelude.{ℕ, List, Contains}
+use Rattle.ops.specs.declared.value.Value.{Value}
+use Rattle.ir_core.specs.Assigned.{UsesAreAssigned}
+use Rattle.ir_core.specs.Refines.{AreArguments, Refines, ModuleRefines}
+use Rattle.ir_core.specs.Run.{HasOutcome, HasZeroOutcome}
+use Rattle.ir_core.specs.declared.module.Module.{Module}
+use Rattle.ir_core.specs.declared.module.Entry.TheVariants as entries
+use Rattle.ir_core.specs.declared.module.Function.{Function}
+use Rattle.ir_core.specs.declared.outcome.Outcome.{Outcome}
+use Rattle.alive_top.specs.Grammar.{RawFunction}
+use Rattle.alive_top.specs.Meaning.{FunctionMeans, ModuleMeans, Reads}
+use Rattle.alive_top.specs.Cleaning.{IsCleaned, ModuleCleaned}
+use Rattle.alive_top.specs.WellFormed.{IsWellFormed}
+
+-- what a function means is well formed
+abbrev pub MeantFunctionsAreWellFormed : Type 0
+MeantFunctionsAreWellFormed = (raw : RawFunction) (f : Function) → FunctionMeans raw f → IsWellFormed f
+
+-- each register of a well-formed function is assigned where it is used
+abbrev pub WellFormedUsesAreAssigned : Type 0
+WellFormedUsesAreAssigned = (f : Function) → IsWellFormed f → UsesAreAssigned f
+
+-- An outcome with each number that is left open being 0 is an outcome.
+abbrev pub ZeroOutcomesAreOutcomes : Type 0
+ZeroOutcomesAreOutcomes = (f : Function) (args : List Value) (n : ℕ) (o : Outcome) → HasZeroOutcome f args n o → HasOutcome f args n o
+
+-- a well-formed function has an outcome at all arguments and every bound of blocks entered
+abbrev pub WellFormedFunctionsHaveOutcomes : Type 0
+WellFormedFunctionsHaveOutcomes = (f : Function) → IsWellFormed f → (args : List Value) → AreArguments f.parameters args → (n : ℕ) → (o : Outcome) × HasZeroOutcome f args n o × HasOutcome f args n o
+
+-- so does each function of a module that was read
+abbrev pub ModulesReadHaveOutcomes : Type 0
+ModulesReadHaveOutcomes = (bytes : List ℕ) (m : Module) (f : Function) → Reads bytes m → Contains m.entries (entries.Function f) → (args : List Value) → AreArguments f.parameters args → (n : ℕ) → (o : Outcome) × HasZeroOutcome f args n o × HasOutcome f args n o
+
+-- a cleaned function may stand in the place of the old one
+abbrev pub CleanedFunctionsRefine : Type 0
+CleanedFunctionsRefine = (f g : Function) → IsWellFormed f → IsCleaned f g → Refines f g
+
+-- and is well formed too
+abbrev pub CleanedFunctionsAreWellFormed : Type 0
+CleanedFunctionsAreWellFormed = (f g : Function) → IsWellFormed f → IsCleaned f g → IsWellFormed g
+
+-- a cleaned module may stand in the place of one that was read
+abbrev pub CleanedModulesRefine : Type 0
+CleanedModulesRefine = (raws : List RawFunction) (m n : Module) → ModuleMeans raws m → ModuleCleaned m n → ModuleRefines m n

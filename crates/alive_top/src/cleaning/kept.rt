@@ -1,0 +1,121 @@
+//! The instructions that are kept, and where they stand then.
+
+ghost use Rattle.std.specs.Prelude.{◌≡◌, ◌∷◌, [], ◌++◌, length, IfOk, OnOk};
+ghost use Rattle.alive_top.specs.Cleaning as clean;
+ghost use Rattle.alive_top.specs.Cleaning.{moved_register, moved_operand, moved_op, moved_end, kept_insts};
+ghost use Rattle.alive_top.specs.Meaning.{StandsBefore};
+ghost use Rattle.alive_top.specs.Straight.{OperandStands, OpStands, EndStands, InstsStand};
+ghost use Rattle.alive_top.specs.Marking.{ArePlaces};
+
+use ir_core::{Inst, Op, Operand, Register, Terminator};
+use lists::List;
+use std::alloc::{AllocError, Global};
+
+/// Which instructions of a block are kept.
+#[derive(Drop)]
+pub(crate) struct Kept {
+    marks: Vec<bool>,
+    /// How many kept instructions stand before each.
+    places: Vec<usize>,
+    ghost counted: { ArePlaces marks.items places.items },
+}
+
+/// How many marks stand before each.
+fn counts(alloc: Global, marks: &[bool]) -> Result<Vec<usize>, AllocError>
+    ensures { IfOk result (λ places. ArePlaces marks.now places.items) }
+{
+    let mut places = Vec::new(alloc);
+    let mut count = 0;
+    for mark in marks {
+        places.push(count)?;
+        if *mark {
+            count += 1;
+        }
+    }
+    Ok(places)
+}
+
+/// What is kept by these marks.
+pub(crate) fn places(alloc: Global, marks: Vec<bool>) -> Result<Kept, AllocError>
+    ensures { IfOk result (λ kept. kept.marks.items ≡ marks.items) }
+{
+    let places = counts(alloc, marks.as_slice())?;
+    Ok(Kept { marks, places })
+}
+
+fn moved_register(kept: &Kept, register: Register) -> Register
+    requires { StandsBefore (length kept.now.marks.items) register }
+    ensures { result ≡ clean.moved_register (kept.now.marks.items ∷ []) register }
+{
+    match register {
+        Register::Parameter(parameter) => Register::Parameter(parameter),
+        Register::Result(block, place) => {
+            Register::Result(block, kept.places[place as usize] as u32)
+        }
+    }
+}
+
+fn moved_operand(kept: &Kept, operand: Operand) -> Operand
+    requires { OperandStands (length kept.now.marks.items) operand }
+    ensures { result ≡ clean.moved_operand (kept.now.marks.items ∷ []) operand }
+{
+    match operand {
+        Operand::Register(register) => Operand::Register(moved_register(kept, register)),
+        other => other,
+    }
+}
+
+fn moved_op(kept: &Kept, op: Op) -> Op
+    requires { OpStands (length kept.now.marks.items) op }
+    ensures { result ≡ clean.moved_op (kept.now.marks.items ∷ []) op }
+{
+    match op {
+        Op::Binary(opcode, flags, left, right) => Op::Binary(
+            opcode,
+            flags,
+            moved_operand(kept, left),
+            moved_operand(kept, right),
+        ),
+    }
+}
+
+/// The terminator with its operands where they stand then.
+pub(crate) fn moved_end(kept: &Kept, end: Terminator) -> Terminator
+    requires { EndStands (length kept.now.marks.items) end }
+    ensures { result ≡ clean.moved_end (kept.now.marks.items ∷ []) end }
+{
+    match end {
+        Terminator::Return(operand) => Terminator::Return(moved_operand(kept, operand)),
+    }
+}
+
+/// Adds an instruction if it is kept, with its operands where they stand then.
+fn push_kept(left: &mut Vec<Inst>, kept: &Kept, keep: bool, inst: Inst) -> Result<(), AllocError>
+    requires { OpStands (length kept.now.marks.items) inst.op }
+    ensures { OnOk result (left.new.items ≡ left.old.items ++ clean.kept_insts (kept.now.marks.items ∷ []) (keep ∷ []) (inst ∷ [])) }
+{
+    if keep {
+        let op = moved_op(kept, inst.op);
+        left.push(Inst { op, ..inst })?;
+    }
+    Ok(())
+}
+
+/// The kept instructions, each with its operands where they stand then.
+pub(crate) fn kept_insts(
+    alloc: Global,
+    kept: &Kept,
+    insts: List<Inst>,
+) -> Result<List<Inst>, AllocError>
+    requires { InstsStand 0 insts }
+    ensures { IfOk result (λ new. new ≡ clean.kept_insts (kept.now.marks.items ∷ []) kept.now.marks.items insts) }
+{
+    let mut left = Vec::new(alloc);
+    let mut insts = insts.into_vec().into_iter();
+    for keep in kept.marks.as_slice() {
+        if let Some(inst) = insts.next() {
+            push_kept(&mut left, kept, *keep, inst)?;
+        }
+    }
+    Ok(List::from_vec(left))
+}

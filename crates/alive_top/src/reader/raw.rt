@@ -1,0 +1,39 @@
+//! The productions of a module's text, names and numbers as written.
+
+use ops::Opcode;
+
+/// A function as written.
+#[derive(Drop)]
+pub(crate) struct RawFunction<'a> {
+    pub(crate) width: &'a [u8],
+    pub(crate) name: &'a [u8],
+    pub(crate) parameters: Vec<RawParameter<'a>>,
+    pub(crate) insts: Vec<RawInst<'a>>,
+    pub(crate) returned_width: &'a [u8],
+    pub(crate) returned: RawValue<'a>,
+}
+
+#[derive(Clone, Copy)]
+pub(crate) struct RawParameter<'a> {
+    pub(crate) width: &'a [u8],
+    pub(crate) name: &'a [u8],
+}
+
+#[derive(Clone, Copy)]
+pub(crate) struct RawInst<'a> {
+    pub(crate) name: &'a [u8],
+    pub(crate) opcode: Opcode,
+    pub(crate) width: &'a [u8],
+    pub(crate) left: RawValue<'a>,
+    pub(crate) right: RawValue<'a>,
+}
+
+#[derive(Clone, Copy)]
+pub(crate) enum RawValue<'a> {
+    Register(&'a [u8]),
+    Number(&'a [u8]),
+    True,
+    False,
+    Undef,
+    Poison,
+}

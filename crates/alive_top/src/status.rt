@@ -1,0 +1,46 @@
+//! How a command ends.
+
+ghost use Rattle.std.specs.Prelude.{◌≡◌};
+ghost use Rattle.alive_top.specs.Statuses.{code_of};
+
+/// The status of a command.
+#[derive(Clone, Copy, Debug, PartialEq, Eq)]
+pub enum Status {
+    /// The work was done and written.
+    Done,
+    /// The words are not those of a command.
+    Usage,
+    /// The rule file was read, and is not one.
+    RuleRefused,
+    /// The module was read, and is not one.
+    ModuleRefused,
+    /// A file could not be read.
+    ReadFault,
+    /// The work was done, and could not be written whole.
+    WriteFault,
+    /// There was no memory for the work.
+    NoMemory,
+}
+
+impl Status {
+    /// The exit status of the program.
+    pub fn code(self) -> u8
+        ensures { result ≡ code_of self }
+    {
+        match self {
+            Status::Done => 0,
+            Status::Usage => 2,
+            Status::RuleRefused => 3,
+            Status::ModuleRefused => 4,
+            Status::ReadFault => 5,
+            Status::WriteFault => 6,
+            Status::NoMemory => 7,
+        }
+    }
+}
+
+/// What a command leaves beside what it wrote.
+#[derive(Clone, Copy, Debug, PartialEq, Eq)]
+pub struct Ended {
+    pub status: Status,
+}
