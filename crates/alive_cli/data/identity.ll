@@ -1,0 +1,3 @@
+define i8 @f(i8 %a) {
+  ret i8 %a
+}
