@@ -1,0 +1,47 @@
+//! The words of the command line.
+
+use crate::clause_sets::Family;
+
+/// What the words of the command line ask for.
+#[derive(Clone, Copy, Debug)]
+pub struct Request {
+    pub family: Family,
+    pub timed: bool,
+}
+
+impl Request {
+    /// What the words ask for, of which the first is the program's own name.
+    pub fn of_words(words: &[String]) -> Option<Request> {
+        match words {
+            [_, rest @ .., last] if last.as_str() == "untimed" => Some(Request {
+                family: family(rest)?,
+                timed: false,
+            }),
+            [_, rest @ ..] => Some(Request {
+                family: family(rest)?,
+                timed: true,
+            }),
+            [] => None,
+        }
+    }
+}
+
+/// The set that the words name.
+fn family(words: &[String]) -> Option<Family> {
+    match words {
+        [command, kind, inputs, seed]
+            if command.as_str() == "search" && kind.as_str() == "random" => {
+            Some(Family::Random {
+                inputs: inputs.as_str().parse().ok()?,
+                seed: seed.as_str().parse().ok()?,
+            })
+        }
+        [command, kind, pigeons] if command.as_str() == "search" && kind.as_str() == "pigeonhole" =>
+            {
+                Some(Family::Pigeonhole {
+                    pigeons: pigeons.as_str().parse().ok()?,
+                })
+            }
+        _ => None,
+    }
+}
