@@ -29,6 +29,7 @@ pub mod RefinementKept
 pub mod RefinementMeant
 pub mod RefinementUses
 pub mod RefinementModules
+pub mod Settling
 pub mod StraightLemmas
 pub mod MarkLemmas
 pub mod KeptLemmas

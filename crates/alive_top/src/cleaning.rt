@@ -1,6 +1,6 @@
 //! Cleaning: of a function's instructions those are kept that its results stand on.
 
-ghost use Rattle.std.specs.Prelude.{◌≡◌, ◌∷◌, [], IfOk, List as Seq, Bool};
+ghost use Rattle.std.specs.Prelude.{◌≡◌, ◌∷◌, [], IfOk, OnOk, OnErr, List as Seq, Bool};
 ghost use Rattle.alive_top.specs.Cleaning.{IsCleaned, EntriesCleaned, ModuleCleaned};
 ghost use Rattle.alive_top.specs.Straight.{IsStraightBlock, IsStraight, AllStraight};
 ghost use Rattle.alive_top.specs.Marking.{AreNeededIn, kept_block};
@@ -13,52 +13,49 @@ use kept::{kept_insts, moved_end, places};
 use lists::List;
 use needed::needed;
 use std::alloc::{AllocError, Global};
+use std::mem;
 
 #[cfg(test)]
 mod tests;
 
-/// The block with its needed instructions alone.
-fn cleaned_block(alloc: Global, block: Block) -> Result<Block, AllocError>
-    requires { IsStraightBlock block }
-    ensures { IfOk result (λ new. (marks : Seq Bool) × AreNeededIn block marks × (new ≡ kept_block marks block)) }
+/// Keeps the needed instructions of a block alone. It takes its memory before it changes the block.
+fn clean_block(alloc: Global, block: &mut Block) -> Result<(), AllocError>
+    requires { IsStraightBlock block.old }
+    ensures ok { OnOk result ((marks : Seq Bool) × AreNeededIn block.old marks × (block.new ≡ kept_block marks block.old)) }
+    ensures err { OnErr result (block.new ≡ block.old) }
 {
-    let marks = needed(alloc, &block)?;
+    let marks = needed(alloc, block)?;
     let kept = places(alloc, marks)?;
-    let Block { name, insts, end } = block;
-    let end = moved_end(&kept, end);
-    let insts = kept_insts(alloc, &kept, insts)?;
-    Ok(Block { name, insts, end })
+    let insts = mem::replace(&mut block.insts, List::new(alloc));
+    block.insts = kept_insts(&kept, insts);
+    block.end = moved_end(&kept, block.end);
+    Ok(())
 }
 
-/// The function with exactly those instructions that its return needs.
-fn cleaned(alloc: Global, function: Function) -> Result<Function, AllocError>
-    requires { IsStraight function }
-    ensures { IfOk result (IsCleaned function) }
+/// Keeps exactly those instructions of a function that its return needs.
+///
+/// It takes its memory before it changes the function, which stays as it was where that is refused.
+fn clean(alloc: Global, function: &mut Function) -> Result<(), AllocError>
+    requires { IsStraight function.old }
+    ensures ok { OnOk result (IsCleaned function.old function.new) }
+    ensures err { OnErr result (function.new ≡ function.old) }
 {
-    let Function {
-        name,
-        width,
-        parameters,
-        blocks,
-    } = function;
-    let mut blocks = blocks.into_vec();
-    if let Some(block) = blocks.pop() {
-        blocks.push(cleaned_block(alloc, block)?)?;
-    }
-    Ok(Function {
-        name,
-        width,
-        parameters,
-        blocks: List::from_vec(blocks),
-    })
+    let mut blocks = mem::replace(&mut function.blocks, List::new(alloc)).into_vec();
+    let answer = match blocks.first_mut() {
+        Some(block) => clean_block(alloc, block),
+        None => Ok(()),
+    };
+    function.blocks = List::from_vec(blocks);
+    answer
 }
 
-fn cleaned_entry(alloc: Global, entry: Entry) -> Result<Entry, AllocError>
-    requires { AllStraight (entry ∷ []) }
-    ensures { IfOk result (λ new. EntriesCleaned (entry ∷ []) (new ∷ [])) }
+fn clean_entry(alloc: Global, entry: &mut Entry) -> Result<(), AllocError>
+    requires { AllStraight (entry.old ∷ []) }
+    ensures ok { OnOk result (EntriesCleaned (entry.old ∷ []) (entry.new ∷ [])) }
+    ensures err { OnErr result (entry.new ≡ entry.old) }
 {
     match entry {
-        Entry::Function(function) => Ok(Entry::Function(cleaned(alloc, function)?)),
+        Entry::Function(function) => clean(alloc, function),
     }
 }
 
@@ -67,9 +64,9 @@ pub(crate) fn cleaned_module(alloc: Global, module: Module) -> Result<Module, Al
     requires { AllStraight «module».entries }
     ensures { IfOk result (ModuleCleaned «module») }
 {
-    let mut entries = Vec::new(alloc);
-    for entry in module.entries.into_vec() {
-        entries.push(cleaned_entry(alloc, entry)?)?;
+    let mut entries = module.entries.into_vec();
+    for entry in entries.iter_mut() {
+        clean_entry(alloc, entry)?;
     }
     Ok(Module {
         entries: List::from_vec(entries),

@@ -1,8 +1,8 @@
 //! The instructions that are kept, and where they stand then.
 
-ghost use Rattle.std.specs.Prelude.{◌≡◌, ◌∷◌, [], ◌++◌, length, IfOk, OnOk};
+ghost use Rattle.std.specs.Prelude.{◌≡◌, ◌∷◌, [], length, IfOk};
 ghost use Rattle.alive_top.specs.Cleaning as clean;
-ghost use Rattle.alive_top.specs.Cleaning.{moved_register, moved_operand, moved_op, moved_end, kept_insts};
+ghost use Rattle.alive_top.specs.Cleaning.{moved_register, moved_operand, moved_op, moved_end, moved_inst, kept_insts};
 ghost use Rattle.alive_top.specs.Meaning.{StandsBefore};
 ghost use Rattle.alive_top.specs.Straight.{OperandStands, OpStands, EndStands, InstsStand};
 ghost use Rattle.alive_top.specs.Marking.{ArePlaces};
@@ -89,33 +89,29 @@ pub(crate) fn moved_end(kept: &Kept, end: Terminator) -> Terminator
     }
 }
 
-/// Adds an instruction if it is kept, with its operands where they stand then.
-fn push_kept(left: &mut Vec<Inst>, kept: &Kept, keep: bool, inst: Inst) -> Result<(), AllocError>
-    requires { OpStands (length kept.now.marks.items) inst.op }
-    ensures { OnOk result (left.new.items ≡ left.old.items ++ clean.kept_insts (kept.now.marks.items ∷ []) (keep ∷ []) (inst ∷ [])) }
+/// Moves an instruction's operands to where they stand then.
+fn move_operands(kept: &Kept, inst: &mut Inst)
+    requires { OpStands (length kept.now.marks.items) inst.old.op }
+    ensures { inst.new ≡ moved_inst (kept.now.marks.items ∷ []) inst.old }
 {
-    if keep {
-        let op = moved_op(kept, inst.op);
-        left.push(Inst { op, ..inst })?;
-    }
-    Ok(())
+    inst.op = moved_op(kept, inst.op);
 }
 
-/// The kept instructions, each with its operands where they stand then.
-pub(crate) fn kept_insts(
-    alloc: Global,
-    kept: &Kept,
-    insts: List<Inst>,
-) -> Result<List<Inst>, AllocError>
-    requires { InstsStand 0 insts }
-    ensures { IfOk result (λ new. new ≡ clean.kept_insts (kept.now.marks.items ∷ []) kept.now.marks.items insts) }
+/// The kept instructions, each with its operands where they stand then. It takes no memory.
+pub(crate) fn kept_insts(kept: &Kept, insts: List<Inst>) -> List<Inst>
+    requires stand { InstsStand 0 insts }
+    requires count { length kept.now.marks.items ≡ length insts }
+    ensures { result ≡ clean.kept_insts (kept.now.marks.items ∷ []) kept.now.marks.items insts }
 {
-    let mut left = Vec::new(alloc);
-    let mut insts = insts.into_vec().into_iter();
-    for keep in kept.marks.as_slice() {
-        if let Some(inst) = insts.next() {
-            push_kept(&mut left, kept, *keep, inst)?;
+    let mut insts = insts.into_vec();
+    let mut count = 0;
+    for place in 0..insts.len() {
+        if kept.marks[place] {
+            move_operands(kept, &mut insts[place]);
+            insts.swap(count, place);
+            count += 1;
         }
     }
-    Ok(List::from_vec(left))
+    insts.truncate(count);
+    List::from_vec(insts)
 }

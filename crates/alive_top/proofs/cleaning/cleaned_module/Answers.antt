@@ -1,23 +1,29 @@
-use Rattle.std.proofs.Common.{◌≡◌, [], ◌∷◌, ◌++◌, length, List, sym, ap, subst, ◌∙◌, arith, append_assoc}
-use Rattle.std.specs.Vec.Iter.{into_iter_items}
-use Rattle.ir_core.specs.declared.module.Entry.{Entry}
+use Rattle.std.proofs.Common.{length, sym, ap, subst, ◌∙◌, arith}
 use Rattle.alive_top.specs.Cleaning.{EntriesCleaned}
-use Rattle.alive_top.proofs.CleanedLemmas.{one_more_cleaned, first_straight, others_straight}
+use Rattle.alive_top.proofs.CleanedLemmas.{CleanedBefore, none_cleaned, next_is_straight, more_cleaned, all_cleaned, all_written}
 use Rattle.alive_top.proofs.cleaning.cleaned_module.Goals as goal
 
-pub cleaned_entry-requires : goal.cleaned_entry-requires
-cleaned_entry-requires c = first_straight (into_iter_items c.loop-entry.entry-iterator) c.in-Some.entry (into_iter_items c.next.new.self) c.in-Some.ensures.steps.0 c.loop-entry.invariant.straight
+pub loop-entry-init : goal.loop-entry-init
+loop-entry-init c = subst (CleanedBefore c.args.module.entries 0) (sym (c.deref_mut-entry-items.ensures.value ∙ c.into_vec-entries.ensures)) (none_cleaned c.args.module.entries c.requires)
+
+pub clean_entry-requires : goal.clean_entry-requires
+clean_entry-requires c =
+    let all = ap length (c.deref_mut-entry-items.ensures.value ∙ c.into_vec-entries.ensures) in
+    let within = c.loop-entry-test.true in
+    next_is_straight c.args.module.entries c.loop-entry.entry-items c.loop-entry.entry-index c.entry-item.result c.loop-entry.invariant (omega arith)
 
 pub loop-entry-preserved : goal.loop-entry-preserved
 loop-entry-preserved c =
-    let inv = c.loop-entry.invariant in
-    let entry = c.in-Some.entry in
-    let was = into_iter_items c.loop-entry.entry-iterator in
-    let rest = into_iter_items c.next.new.self in
-    let steps : was ≡ entry ∷ rest = c.in-Some.ensures.steps.0 in
-    record {
-      order = append_assoc c.loop-entry.yielded (entry ∷ []) rest ∙ ap (λ (l : List Entry). c.loop-entry.yielded ++ l) (sym steps) ∙ inv.order;
-      cleaned = subst (λ (l : List Entry). EntriesCleaned (c.loop-entry.yielded ++ entry ∷ []) l) (sym c.in_ok-push.ensures.items) (one_more_cleaned c.loop-entry.yielded c.loop-entry.entries.items entry _ inv.cleaned c.in_ok-cleaned_entry.ensures);
-      straight = others_straight was entry rest steps inv.straight;
-      count = let n = ap length steps in let len = c.in-Some.ensures.steps.1 in let count = inv.count in omega arith;
-    }
+    let all = ap length (c.deref_mut-entry-items.ensures.value ∙ c.into_vec-entries.ensures) in
+    let within = c.loop-entry-test.true in
+    more_cleaned c.args.module.entries c.loop-entry.entry-items c.loop-entry.entry-index c.entry-item.result c.clean_entry.new.entry c.loop-entry.invariant (omega arith) c.in_ok-clean_entry.ensures.ok
+
+pub returns : goal.returns
+returns c =
+    let all = ap length (c.deref_mut-entry-items.ensures.value ∙ c.into_vec-entries.ensures) in
+    let past = c.loop-entry-test.false in
+    let count = c.loop-entry.invariant.count in
+    let is = c.into_vec-entries.result.ok.0 in
+    let read = ap length c.into_vec-entries.ensures in
+    let written = all_written c.into_vec-entries.result.items c.loop-entry.entry-items c.into_vec-entries.result.len (count ∙ sym read) is in
+    subst (EntriesCleaned c.args.module.entries) (sym (c.from_vec.ensures ∙ written)) (all_cleaned c.args.module.entries c.loop-entry.entry-items c.loop-entry.entry-index c.loop-entry.invariant (omega arith))
