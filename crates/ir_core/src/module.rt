@@ -68,7 +68,7 @@ pub enum Operand {
     Register(Register),
     /// A literal number.
     Number(Word),
-    /// Some value of the operand's width, chosen each time the instruction runs.
+    /// Some number of the operand's width, chosen each time the instruction runs.
     Undef,
     /// The literal `poison`.
     Poison,

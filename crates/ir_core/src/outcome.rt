@@ -1,3 +1,5 @@
+//! How far a run came.
+
 use ops::Value;
 
 /// What a run of a function has come to, after at most so many blocks entered.

@@ -1,3 +1,5 @@
+//! Lists of values, as the fields of other types hold them.
+
 ghost use Rattle.std.specs.Prelude.{◌≡◌, ◌==◌, List as Seq, [], ◌∷◌, ◌++◌, length, OnOk, OnErr};
 
 use std::alloc::{AllocError, Global};
@@ -59,6 +61,7 @@ impl<T> List<T> {
         self.items.len()
     }
 
+    /// Whether there are no values.
     pub fn is_empty(&self) -> bool
         ensures { result ≡ (length self.now == 0) }
     {
@@ -67,7 +70,7 @@ impl<T> List<T> {
 }
 
 impl<T: Drop> List<T> {
-    /// Adds a value at the end.
+    /// Adds a value at the end. Where memory is refused the list stays as it was, and the value is dropped.
     pub fn push(&mut self, value: T) -> Result<(), AllocError>
         ensures ok { OnOk result (self.new ≡ self.old ++ value ∷ []) }
         ensures err { OnErr result (self.new ≡ self.old) }

@@ -1,3 +1,5 @@
+//! Lists that hold a few values in place.
+
 ghost use Rattle.std.specs.Prelude.{◌≡◌, ◌==◌, List as Seq, [], ◌∷◌, ◌++◌, length, OnOk, OnErr, IfOk};
 
 use smallvec::SmallVec;
@@ -42,15 +44,14 @@ impl<T: Drop + Default, const N: usize> ShortList<T, N> {
         self.items.len()
     }
 
+    /// Whether there are no values.
     pub fn is_empty(&self) -> bool
         ensures { result ≡ (length self.now == 0) }
     {
-        self.items.len() == 0
+        self.items.is_empty()
     }
-}
 
-impl<T: Drop + Default, const N: usize> ShortList<T, N> {
-    /// Adds a value at the end.
+    /// Adds a value at the end. Where memory is refused the list stays as it was, and the value is dropped.
     pub fn push(&mut self, value: T) -> Result<(), AllocError>
         ensures ok { OnOk result (self.new ≡ self.old ++ value ∷ []) }
         ensures err { OnErr result (self.new ≡ self.old) }
@@ -61,7 +62,7 @@ impl<T: Drop + Default, const N: usize> ShortList<T, N> {
 }
 
 impl<T: Copy + Default, const N: usize> ShortList<T, N> {
-    /// A copy of a slice.
+    /// A copy of a slice. The only error is want of memory.
     pub fn from_slice(alloc: Global, values: &[T]) -> Result<Self, AllocError>
         ensures { IfOk result (λ list. list ≡ values.now) }
     {

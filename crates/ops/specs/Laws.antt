@@ -32,6 +32,6 @@ abbrev pub InstructionsKeepWidths : Type 0
 InstructionsKeepWidths = (op : Opcode) (flags : Flags) (N : ℕ) (a b : Value) →
     IsValueOf N a → IsValueOf N b → IsEffectOf N (instruction op flags N a b)
 
--- no instruction without a division is undefined behaviour
+-- no instruction has undefined behaviour as its effect
 abbrev pub InstructionsAreDefined : Type 0
 InstructionsAreDefined = (op : Opcode) (flags : Flags) (N : ℕ) (a b : Value) → instruction op flags N a b ≢ Undefined

@@ -1,3 +1,5 @@
+//! What one instruction does at values.
+
 ghost use Rattle.std.specs.Prelude.{◌≡◌, ◌<◌, ◌≤ℤ◌, ◌<ℤ◌, ◌^◌, pos, neg_ℤ};
 ghost use Rattle.ops.specs.Instruction.{FlagsFit, instruction, on_numbers, arithmetic, signed, fits_signed, fits_unsigned, residue};
 ghost use Rattle.ops.specs.Value.{HasWidth, IsEffectOf};
@@ -25,7 +27,7 @@ pub fn evaluate(op: Opcode, flags: Flags, width: Width, a: Value, b: Value) -> E
     Effect::Gives(combine(op, flags, width, left.number(), right.number()))
 }
 
-// The same where both operands are numbers.
+/// The same where both operands are numbers.
 #[tactic(auto, unfolding(crate::specs::Instruction::on_numbers))]
 fn combine(op: Opcode, flags: Flags, width: Width, a: u64, b: u64) -> Value
     requires left { a < 2 ^ width }
@@ -63,7 +65,7 @@ fn sub(flags: Flags, width: Width, a: u64, b: u64) -> Value
     reduce(flags, width, unsigned_result, signed_result)
 }
 
-// The result modulo 2 to the power of `width`, or poison where it breaks a flag.
+/// The result modulo 2 to the power of `width`, or poison where it breaks a flag.
 #[tactic(auto, unfolding(crate::specs::Instruction::arithmetic))]
 fn reduce(flags: Flags, width: Width, unsigned_result: i128, signed_result: i128) -> Value
     requires least { neg_ℤ (pos (2 ^ 64)) ≤ℤ unsigned_result }
@@ -79,7 +81,7 @@ fn reduce(flags: Flags, width: Width, unsigned_result: i128, signed_result: i128
     }
 }
 
-// The number of `width` bits, read in two's complement.
+/// The number of `width` bits, read in two's complement.
 #[tactic(auto, unfolding(crate::specs::Instruction::signed))]
 fn signed(width: Width, number: u64) -> i128
     requires { number < 2 ^ width }
@@ -95,7 +97,7 @@ fn signed(width: Width, number: u64) -> i128
     }
 }
 
-// Whether the number is one of `width` bits without a sign.
+/// Whether the number is one of `width` bits without a sign.
 #[tactic(auto, unfolding(crate::specs::Instruction::fits_unsigned))]
 fn fits_unsigned(width: Width, number: i128) -> bool
     ensures { result ≡ fits_unsigned width number }
@@ -103,7 +105,7 @@ fn fits_unsigned(width: Width, number: i128) -> bool
     0 <= number && number < width.modulus()
 }
 
-// Whether the number is one of `width` bits in two's complement.
+/// Whether the number is one of `width` bits in two's complement.
 #[tactic(auto, unfolding(crate::specs::Instruction::fits_signed))]
 fn fits_signed(width: Width, number: i128) -> bool
     ensures { result ≡ fits_signed width number }
@@ -111,7 +113,7 @@ fn fits_signed(width: Width, number: i128) -> bool
     -width.half_modulus() <= number && number < width.half_modulus()
 }
 
-// The number modulo 2 to the power of `width`.
+/// The number modulo 2 to the power of `width`.
 #[tactic(auto, unfolding(crate::specs::Instruction::residue))]
 fn residue(width: Width, number: i128) -> u64
     ensures residue { result ≡ residue width number }

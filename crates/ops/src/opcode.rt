@@ -1,3 +1,5 @@
+//! Which instructions there are, and what they may promise.
+
 ghost use Rattle.std.specs.Prelude.{◌↔◌, IsTrue};
 ghost use Rattle.ops.specs.Instruction.{FlagsFit};
 
@@ -31,7 +33,7 @@ pub struct Flags {
     pub nuw: bool,
     /// No signed wrap: the result over signed numbers fits the type.
     pub nsw: bool,
-    /// No remainder, or no bit that is set, is lost.
+    /// No remainder, or no bit that is set, is lost. None of the instructions above takes it.
     pub exact: bool,
 }
 

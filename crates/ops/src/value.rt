@@ -1,3 +1,5 @@
+//! What registers hold and what instructions do.
+
 use crate::word::Word;
 
 /// What a register of an integer type can hold. (LLVM Language Reference, "Poison Values".)

@@ -1,3 +1,5 @@
+//! Widths of integer types.
+
 ghost use Rattle.std.specs.Prelude.{◌≡◌, ◌≤◌, ◌^◌, ◌-◌, ◌↔◌, IsSome, IfSome, pos};
 
 use std::marker::Model;

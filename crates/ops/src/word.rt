@@ -1,3 +1,5 @@
+//! Numbers of integer types.
+
 ghost use Rattle.std.specs.Prelude.{◌≡◌, ◌<◌, ◌%◌, ◌^◌, ◌↔◌, IsSome, IfSome};
 
 use crate::width::Width;

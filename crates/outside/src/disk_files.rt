@@ -1,3 +1,5 @@
+//! The files of the system.
+
 ghost use Rattle.std.specs.Prelude.{◌≡◌, ◌≤◌, None, take, vec_len, IfOk, IfSome};
 
 use crate::errors::ReadError;

@@ -1,3 +1,5 @@
+//! Why a file was not read, or a piece not written.
+
 ghost use Rattle.std.specs.Prelude.{◌≡◌, Some, codes};
 ghost use Rattle.outside.specs.Errors.{text_of};
 ghost use Rattle.outside.specs.declared.errors.ReadError.TheVariants.{NoMemory};

@@ -1,3 +1,5 @@
+//! What files are.
+
 ghost use Rattle.std.specs.Prelude.{◌≡◌, ◌≤◌, ℕ, List, Option, take, vec_len, IfOk, IfSome, IsErrOf};
 ghost use Rattle.outside.specs.Faults.{Rose};
 ghost use Rattle.outside.specs.Files.{names_after};
@@ -19,6 +21,8 @@ pub trait Files {
     ghost faults: { Self → ℕ };
 
     /// Reads what is under a name, or the first `most` bytes of it.
+    ///
+    /// `Failed` says that it could not be read, and that the count of faults rose; `NoMemory` that memory was refused.
     fn read(&mut self, alloc: Global, name: &str, most: usize) -> Result<Vec<u8>, ReadError>
         ensures bytes { IfOk result (λ read. IfSome (bytes_under self.old name.now) (λ told. read.items ≡ take most told)) }
         ensures within { IfOk result (λ read. vec_len read ≤ most) }

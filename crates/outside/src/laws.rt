@@ -1,3 +1,5 @@
+//! A law of counts that rise.
+
 ghost use Rattle.std.specs.Prelude.{◌≤◌, ℕ};
 ghost use Rattle.outside.specs.Faults.{Rose};
 

@@ -1,5 +1,5 @@
-//! The edge of the program: where texts come from (`Files`) and where they go (`Sink`), what
-//! both mean, files and sinks in memory, and adapters for real files and streams.
+//! What the program reads from (`Files`) and writes to (`Sink`): what both mean, files and sinks in
+//! memory, and adapters for real files and streams.
 #![tactic(auto)]
 
 mod disk_files;

@@ -1,3 +1,5 @@
+//! Files in memory, some of whose reads fail.
+
 ghost use Rattle.std.specs.Prelude.{◌≡◌, ◌≤◌, [], ◌∷◌, ◌++◌, take, vec_len, IfOk, IfSome, IsErr, OnOk, OnErr, IsErrOf, Some, IsTrue, ◌↔◌, ◌⊎◌};
 ghost use Rattle.outside.specs.Faults.{Rose};
 ghost use Rattle.outside.specs.StoredFiles.{bytes_of};

@@ -1,3 +1,5 @@
+//! A sink in memory, some of whose puts fail.
+
 ghost use Rattle.std.specs.Prelude.{◌≡◌, ◌≤◌, [], ◌∷◌, ◌++◌, length, take, IfOk, IfSome, IsSome, IsErr, OnOk, OnErr, Some, ◌⊎◌, option_map, find, ◌==◌};
 ghost use Rattle.outside.specs.Faults.{Rose};
 ghost use Rattle.outside.specs.MemorySink.{IsTooLong, listed, took, failed_after};

@@ -1,3 +1,5 @@
+//! A stream as a sink.
+
 ghost use Rattle.std.specs.Prelude.{◌≡◌, ◌≤◌, None, OnOk, OnErr};
 ghost use Rattle.std.specs.Io.KnownBytes.{Appends as StreamGains};
 ghost use Rattle.outside.specs.Faults.{Rose};

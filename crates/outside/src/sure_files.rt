@@ -1,3 +1,5 @@
+//! Files in memory whose reads never fail.
+
 ghost use Rattle.std.specs.Prelude.{◌≡◌, ◌≤◌, [], ◌∷◌, ◌++◌, take, vec_len, IfOk, IfSome, IsOkUnless, OnOk, OnErr, Some};
 ghost use Rattle.outside.specs.Files.{names_after};
 ghost use Rattle.outside.specs.StoredFiles.{bytes_or_none};

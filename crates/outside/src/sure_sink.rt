@@ -1,3 +1,5 @@
+//! A sink that takes everything.
+
 ghost use Rattle.std.specs.Prelude.{None, IsOk};
 
 use crate::errors::Failed;
