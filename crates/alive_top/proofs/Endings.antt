@@ -38,15 +38,10 @@ refused_ends (Some named) a out err refusals.Memory status w g r = subst (Ends a
 refused_ends (Some named) a out err (refusals.Read name) status w g (inl r) = subst (Ends a named out err) (sym r.0) (read_ends a named out err name.now w.0 w.1 g r.1)
 refused_ends (Some named) a out err (refusals.Read name) status w g (inr r) = subst (Ends a named out err) (sym r.0) (asked_some a named name.now w.1, g, r.1)
 
--- where the texts of a module were written, as far as they were, the work was done
-worked : (o : Option (List ℕ)) (texts : Texts) (Wrote : List ℕ → List ℕ → Type 0) → PrintsTold o texts → Wrote texts.out.items texts.err.items → IfSome o (λ bytes. (new : Module) × IsOptimised bytes new × Wrote (text_of new) (report_of new))
-worked None texts Wrote prints wrote = tt
-worked (Some bytes) texts Wrote prints wrote = (prints.0, prints.1, subst (λ (report : List ℕ). Wrote (text_of prints.0) report) prints.3 (subst (λ (text : List ℕ). Wrote text texts.err.items) prints.2 wrote))
-
 pub written_ends : (command : Option Optimise) (a : Asked) (out err : Fed) (texts : Texts) (status : Status) → WorkOf a command (Ok texts) → WrittenAs texts out err status → EndsFor command a out err status
 written_ends None a out err texts status w h = absurd w
-written_ends (Some named) a out err texts statuses.Done w h = (w.2, w.0, worked (a.told named.source) texts (λ text report. Gained out text × Gained err report) w.1 h)
-written_ends (Some named) a out err texts statuses.WriteFault w h = (w.2, w.0, worked (a.told named.source) texts (WroteSome out err) w.1 h)
+written_ends (Some named) a out err texts statuses.Done w h = (w.2, w.0, texts.out.items, texts.err.items, h, w.1)
+written_ends (Some named) a out err texts statuses.WriteFault w h = (w.2, w.0, texts.out.items, texts.err.items, h, w.1)
 written_ends (Some named) a out err texts statuses.Usage w h = absurd h
 written_ends (Some named) a out err texts statuses.RuleRefused w h = absurd h
 written_ends (Some named) a out err texts statuses.ModuleRefused w h = absurd h
@@ -93,8 +88,8 @@ rules_stop (Some named) a out err statuses.NoMemory e = always (a.told named.rul
 pub source_stops : (command : Option Optimise) (a : Asked) (out err : Fed) (status : Status) → EndsFor command a out err status → IfSome command (λ named. IfSome (a.told named.source) (λ bytes. IsNoModuleText bytes → StopsAtSource status))
 source_stops None a out err status e = tt
 source_stops (Some named) a out err statuses.Usage e = absurd e
-source_stops (Some named) a out err statuses.Done e = stops (a.told named.source) e.2 (λ bytes is none. none is.1.read is.1.source)
-source_stops (Some named) a out err statuses.WriteFault e = stops (a.told named.source) e.2 (λ bytes is none. none is.1.read is.1.source)
+source_stops (Some named) a out err statuses.Done e = stops (a.told named.source) e.5 (λ bytes is none. none is.1.read is.1.source)
+source_stops (Some named) a out err statuses.WriteFault e = stops (a.told named.source) e.5 (λ bytes is none. none is.1.read is.1.source)
 source_stops (Some named) a out err statuses.ModuleRefused e = always (a.told named.source) (λ bytes none. tt)
 source_stops (Some named) a out err statuses.RuleRefused e = always (a.told named.source) (λ bytes none. tt)
 source_stops (Some named) a out err statuses.ReadFault e = always (a.told named.source) (λ bytes none. tt)
@@ -112,7 +107,7 @@ done_module command a out err status e h = at command (subst (EndsFor command a 
   where
     at : (command : Option Optimise) → EndsFor command a out err statuses.Done → IfSome command (λ named. IfSome (a.told named.source) (λ bytes. (new : Module) × IsOptimised bytes new × (Gained out (text_of new) × Gained err (report_of new))))
     at None e = absurd e
-    at (Some named) e = e.2
+    at (Some named) e = stops (a.told named.source) e.5 (λ bytes p. (p.0, p.1, (subst (λ (t : List ℕ). Gained out t) p.2 e.4.0, subst (λ (t : List ℕ). Gained err t) p.3 e.4.1)))
 
 pub reads_fail : (command : Option Optimise) (a : Asked) (out err : Fed) (status : Status) → EndsFor command a out err status → status ≡ statuses.ReadFault → Rose a.faults_before a.faults_after
 reads_fail command a out err status e h = at command (subst (EndsFor command a out err) h e)
@@ -141,8 +136,24 @@ no_fault_ends (Some named) a out err statuses.NoMemory e r w v = λ good. tt
 no_fault_ends (Some named) a out err statuses.RuleRefused e r w v = λ good. is_some_torn (a.told named.rules) IsRuleText good.0 e.0
 no_fault_ends (Some named) a out err statuses.ModuleRefused e r w v = λ good. is_some_torn (a.told named.source) (λ bytes. (m : Module) × IsModuleText bytes m) good.1 (stops (a.told named.source) e.1 (λ bytes none is. none is.0 is.1))
 no_fault_ends (Some named) a out err statuses.ReadFault e r w v = λ good. r e.0
-no_fault_ends (Some named) a out err statuses.WriteFault e r w v = λ good. is_some_meets (a.told named.source) (λ bytes. (m : Module) × IsModuleText bytes m) _ ⊥ good.1 e.2 (λ bytes is. ⊎_elim w v (some_failed out err _ _ is.2))
+no_fault_ends (Some named) a out err statuses.WriteFault e r w v = λ good. ⊎_elim w v (some_failed out err _ _ e.4)
 
 pub complete : (command : Option Optimise) (a : Asked) (out err : Fed) (status : Status) → EndsFor command a out err status → IfSome command (λ named. AreGood a.told named → (Rose a.faults_before a.faults_after → ⊥) → (Rose out.faults_before out.faults_after → ⊥) → (Rose err.faults_before err.faults_after → ⊥) → IsDoneOrNoMemory status)
 complete None a out err status e = tt
 complete (Some named) a out err status e = λ good r w v. no_fault_ends (Some named) a out err status e r w v good
+
+pub writes_fail : (command : Option Optimise) (a : Asked) (out err : Fed) (status : Status) → EndsFor command a out err status → status ≡ statuses.WriteFault → Rose out.faults_before out.faults_after ⊎ Rose err.faults_before err.faults_after
+writes_fail command a out err status e h = at command (subst (EndsFor command a out err) h e)
+  where
+    at : (command : Option Optimise) → EndsFor command a out err statuses.WriteFault → Rose out.faults_before out.faults_after ⊎ Rose err.faults_before err.faults_after
+    at None e = absurd e
+    at (Some named) e = some_failed out err _ _ e.4
+
+pub written_is : (texts : Texts) (out err : Fed) (status : Status) → WrittenAs texts out err status → (status ≡ statuses.Done → ⊥) → (status ≡ statuses.WriteFault → ⊥) → ⊥
+written_is texts out err statuses.Done h d w = d refl
+written_is texts out err statuses.WriteFault h d w = w refl
+written_is texts out err statuses.Usage h d w = h
+written_is texts out err statuses.RuleRefused h d w = h
+written_is texts out err statuses.ModuleRefused h d w = h
+written_is texts out err statuses.ReadFault h d w = h
+written_is texts out err statuses.NoMemory h d w = h

@@ -34,3 +34,4 @@ pub mod StraightLemmas
 pub mod MarkLemmas
 pub mod KeptLemmas
 pub mod CleanedLemmas
+pub mod Readings

@@ -8,7 +8,7 @@ use Rattle.alive_top.specs.declared.status.Status.TheVariants as statuses
 use Rattle.alive_top.specs.declared.top.Refusal.{Refusal}
 use Rattle.alive_top.specs.declared.top.Refusal.TheVariants as refusals
 use Rattle.alive_top.specs.declared.top.Texts.{Texts}
-use Rattle.alive_top.specs.Commands.{Optimise, IsRuleText, IsModuleText, IsOptimised}
+use Rattle.alive_top.specs.Commands.{Optimise, IsRuleText, IsModuleText, IsOptimised, Prints}
 use Rattle.alive_top.specs.Printing.{text_of, report_of}
 use Rattle.alive_top.specs.Working.{Asked, AsksNone, AsksOne, AsksTwo, IsNoRuleText, IsNoModuleText}
 
@@ -65,7 +65,7 @@ WrittenAs texts out err statuses.NoMemory = ⊥
 -- The work was done: both files were read; where their bytes are told they are a rule file without rules and the text of a module;
 -- and of the text and the report of the module that may stand in its place this was written.
 abbrev pub Worked : Asked → Optimise → (List ℕ → List ℕ → Type 0) → Type 0
-Worked a named Wrote = AsksTwo a named.rules named.source × IfSome (a.told named.rules) IsRuleText × IfSome (a.told named.source) (λ bytes. (new : Module) × IsOptimised bytes new × Wrote (text_of new) (report_of new))
+Worked a named Wrote = AsksTwo a named.rules named.source × IfSome (a.told named.rules) IsRuleText × (text : List ℕ) × (report : List ℕ) × Wrote text report × IfSome (a.told named.source) (λ bytes. Prints bytes text report)
 
 -- how each status comes under `optimise`
 abbrev pub Ends : Asked → Optimise → Fed → Fed → Status → Type 0

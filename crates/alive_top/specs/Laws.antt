@@ -1,5 +1,6 @@
 -- Laws of functions that are read, and of cleaning.
-use Rattle.std.specs.Prelude.{ℕ, List, Contains}
+use Rattle.std.specs.Prelude.{◌≡◌, ℕ, List, Contains}
+use Rattle.alive_top.specs.Commands.{IsOptimised}
 use Rattle.ops.specs.declared.value.Value.{Value}
 use Rattle.ir_core.specs.Assigned.{UsesAreAssigned}
 use Rattle.ir_core.specs.Refines.{AreArguments, Refines, ModuleRefines}
@@ -44,3 +45,11 @@ CleanedFunctionsAreWellFormed = (f g : Function) → IsWellFormed f → IsCleane
 -- a cleaned module may stand in the place of one that was read
 abbrev pub CleanedModulesRefine : Type 0
 CleanedModulesRefine = (raws : List RawFunction) (m n : Module) → ModuleMeans raws m → ModuleCleaned m n → ModuleRefines m n
+
+-- so does each function of a module that is written
+abbrev pub ModulesWrittenHaveOutcomes : Type 0
+ModulesWrittenHaveOutcomes = (bytes : List ℕ) (new : Module) (f : Function) → IsOptimised bytes new → Contains new.entries (entries.Function f) → (args : List Value) → AreArguments f.parameters args → (n : ℕ) → (o : Outcome) × HasZeroOutcome f args n o × HasOutcome f args n o
+
+-- a text has one reading
+abbrev pub TextsHaveOneReading : Type 0
+TextsHaveOneReading = (bytes : List ℕ) (m n : Module) → Reads bytes m → Reads bytes n → m ≡ n

@@ -1,5 +1,5 @@
 //! The laws of functions that are read and of cleaning, each the contract of a function that does nothing.
-ghost use Rattle.alive_top.specs.Laws.{MeantFunctionsAreWellFormed, WellFormedUsesAreAssigned, ZeroOutcomesAreOutcomes, WellFormedFunctionsHaveOutcomes, ModulesReadHaveOutcomes, CleanedFunctionsRefine, CleanedFunctionsAreWellFormed, CleanedModulesRefine};
+ghost use Rattle.alive_top.specs.Laws.{MeantFunctionsAreWellFormed, WellFormedUsesAreAssigned, ZeroOutcomesAreOutcomes, WellFormedFunctionsHaveOutcomes, ModulesReadHaveOutcomes, CleanedFunctionsRefine, CleanedFunctionsAreWellFormed, CleanedModulesRefine, ModulesWrittenHaveOutcomes, TextsHaveOneReading};
 
 /// What the text of a function means is well formed: one block, where each operand is a literal or a register that stands
 /// before, of the width that is wanted there.
@@ -36,4 +36,14 @@ pub fn every_cleaned_function_refines_the_old()
 /// A cleaned module may stand in the place of one that was read.
 pub fn every_cleaned_module_refines_the_old()
     ensures refines { CleanedModulesRefine }
+{}
+
+/// So does each function of a module that is written.
+pub fn every_module_written_has_outcomes()
+    ensures outcome { ModulesWrittenHaveOutcomes }
+{}
+
+/// A text has one reading.
+pub fn every_text_has_one_reading()
+    ensures one { TextsHaveOneReading }
 {}

@@ -1,6 +1,6 @@
 //! The top call.
 
-ghost use Rattle.std.specs.Prelude.{◌≡◌, ◌≤◌, ◌+◌, ◌<◌, ◌^◌, ◌++◌, take, length, codes, map, string_bytes, Some, None, IfOk, IfSome, OnOk, IsSomeAnd, IsTrue, ◌↔◌, ◌≢◌};
+ghost use Rattle.std.specs.Prelude.{◌≡◌, ◌≤◌, ◌+◌, ◌<◌, ◌^◌, ◌++◌, take, length, codes, map, string_bytes, Some, None, IfOk, IfSome, OnOk, IsSomeAnd, IsTrue, ◌↔◌, ◌≢◌, ◌⊎◌};
 ghost use Rattle.alive_top.specs.Commands.{command_of, IsRuleText, IsOptimised};
 ghost use Rattle.alive_top.specs.Printing.{text_of, report_of};
 ghost use Rattle.ir_core.specs.declared.module.Module.{Module};
@@ -130,8 +130,10 @@ fn optimise<'a, F: Files>(
     rules: &'a str,
     source: &'a str,
 ) -> Result<Texts, Refusal<'a>>
-    ensures { OptimiseOf (asked (F.bytes_under files.old) (F.names_asked files.old) (F.names_asked files.new) (F.faults files.old) (F.faults files.new))
+    ensures answer { OptimiseOf (asked (F.bytes_under files.old) (F.names_asked files.old) (F.names_asked files.new) (F.faults files.old) (F.faults files.new))
         (record { rules = rules.now; source = source.now }) result }
+    ensures told_stay { F.bytes_under files.new ≡ F.bytes_under files.old }
+    ensures faults_grow { F.faults files.old ≤ F.faults files.new }
 {
     read_rules(alloc, files, rules)?;
     read_source(alloc, files, source)
@@ -143,8 +145,10 @@ fn work<'a, F: Files>(
     words: &'a [String],
     files: &mut F,
 ) -> Result<Texts, Refusal<'a>>
-    ensures { WorkOf (asked (F.bytes_under files.old) (F.names_asked files.old) (F.names_asked files.new) (F.faults files.old) (F.faults files.new))
+    ensures answer { WorkOf (asked (F.bytes_under files.old) (F.names_asked files.old) (F.names_asked files.new) (F.faults files.old) (F.faults files.new))
         (command_of (map string_bytes words.now)) result }
+    ensures told_stay { F.bytes_under files.new ≡ F.bytes_under files.old }
+    ensures faults_grow { F.faults files.old ≤ F.faults files.new }
 {
     match command(words) {
         Some((rules, source)) => optimise(alloc, files, rules, source),
@@ -164,7 +168,8 @@ fn read_fault_line(alloc: Global, name: &str) -> Result<Vec<u8>, AllocError>
 
 /// Puts a line. Where that fails, a prefix of it may be there.
 fn tell<E: Sink>(line: &[u8], err: &mut E)
-    ensures { Told (fed (E.written err.old) (E.written err.new) (E.faults err.old) (E.faults err.new)) line.now }
+    ensures told { Told (fed (E.written err.old) (E.written err.new) (E.faults err.old) (E.faults err.new)) line.now }
+    ensures faults_grow { E.faults err.old ≤ E.faults err.new }
 {
     match err.put(line) {
         Ok(()) | Err(_) => (),
@@ -173,7 +178,8 @@ fn tell<E: Sink>(line: &[u8], err: &mut E)
 
 /// Puts a refusal's line, and gives its status, which stays if the put fails.
 fn refuse<E: Sink>(alloc: Global, refusal: Refusal<'_>, err: &mut E) -> Status
-    ensures { RefusedAs refusal.entry (fed (E.written err.old) (E.written err.new) (E.faults err.old) (E.faults err.new)) result }
+    ensures answer { RefusedAs refusal.entry (fed (E.written err.old) (E.written err.new) (E.faults err.old) (E.faults err.new)) result }
+    ensures faults_grow { E.faults err.old ≤ E.faults err.new }
 {
     match refusal {
         Refusal::Usage => {
@@ -207,9 +213,11 @@ fn refuse<E: Sink>(alloc: Global, refusal: Refusal<'_>, err: &mut E) -> Status
 
 /// Writes the text and then the report.
 fn write<O: Sink, E: Sink>(texts: &Texts, out: &mut O, err: &mut E) -> Status
-    ensures { WrittenAs texts.now
+    ensures answer { WrittenAs texts.now
         (fed (O.written out.old) (O.written out.new) (O.faults out.old) (O.faults out.new))
         (fed (E.written err.old) (E.written err.new) (E.faults err.old) (E.faults err.new)) result }
+    ensures out_grows { O.faults out.old ≤ O.faults out.new }
+    ensures err_grows { E.faults err.old ≤ E.faults err.new }
 {
     if out.put(texts.out.as_slice()).is_err() {
         return Status::WriteFault;
@@ -228,10 +236,15 @@ fn run<F: Files, O: Sink, E: Sink>(
     out: &mut O,
     err: &mut E,
 ) -> Status
-    ensures { EndsFor (command_of (map string_bytes words.now))
+    ensures ends { EndsFor (command_of (map string_bytes words.now))
         (asked (F.bytes_under files.old) (F.names_asked files.old) (F.names_asked files.new) (F.faults files.old) (F.faults files.new))
         (fed (O.written out.old) (O.written out.new) (O.faults out.old) (O.faults out.new))
         (fed (E.written err.old) (E.written err.new) (E.faults err.old) (E.faults err.new)) result }
+    ensures untouched { result ≢ Status.Done → result ≢ Status.WriteFault → out.new ≡ out.old }
+    ensures told_stay { F.bytes_under files.new ≡ F.bytes_under files.old }
+    ensures files_grow { F.faults files.old ≤ F.faults files.new }
+    ensures out_grows { O.faults out.old ≤ O.faults out.new }
+    ensures err_grows { E.faults err.old ≤ E.faults err.new }
 {
     match work(alloc, words, files) {
         Ok(texts) => write(&texts, out, err),
@@ -267,6 +280,9 @@ pub fn alive<F: Files, O: Sink, E: Sink>(
         × (Appends (O.written out.old) (O.written out.new) (text_of new)
         × Appends (E.written err.old) (E.written err.new) (report_of new)))) }
 
+    // With the other statuses, but that of a write fault, the output is as it was.
+    ensures untouched { result.status ≢ Status.Done → result.status ≢ Status.WriteFault → out.new ≡ out.old }
+
     // Status 2 comes exactly where the words are no command.
     ensures usage { (result.status ≡ Status.Usage) ↔ (command_of (map string_bytes words.now.items) ≡ None) }
 
@@ -279,6 +295,9 @@ pub fn alive<F: Files, O: Sink, E: Sink>(
     // A read fault comes only where the count of the files rose.
     ensures read_fault { result.status ≡ Status.ReadFault → Rose (F.faults files.old) (F.faults files.new) }
 
+    // A write fault comes only where the count of a sink rose.
+    ensures write_fault { result.status ≡ Status.WriteFault → Rose (O.faults out.old) (O.faults out.new) ⊎ Rose (E.faults err.old) (E.faults err.new) }
+
     // Good files and no faults leave nothing but the whole work, or want of memory.
     ensures complete { IfSome (command_of (map string_bytes words.now.items)) (λ named.
         AreGood (F.bytes_under files.old) named
@@ -286,6 +305,12 @@ pub fn alive<F: Files, O: Sink, E: Sink>(
         → ¬ (Rose (O.faults out.old) (O.faults out.new))
         → ¬ (Rose (E.faults err.old) (E.faults err.new))
         → IsDoneOrNoMemory result.status) }
+
+    // What the files tell stays, and no count of faults falls.
+    ensures told_stay { F.bytes_under files.new ≡ F.bytes_under files.old }
+    ensures files_grow { F.faults files.old ≤ F.faults files.new }
+    ensures out_grows { O.faults out.old ≤ O.faults out.new }
+    ensures err_grows { E.faults err.old ≤ E.faults err.new }
 {
     let status = run(alloc, words.as_slice(), files, out, err);
     Ended { status }
