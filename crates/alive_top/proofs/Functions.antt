@@ -14,8 +14,8 @@ use Rattle.ir_core.specs.declared.module.Parameter.{Parameter}
 use Rattle.ir_core.specs.declared.module.Inst.{Inst}
 use Rattle.ir_core.specs.declared.module.Operand.{Operand}
 use Rattle.ir_core.specs.declared.module.Terminator.TheVariants as terminators
-use Rattle.alive_top.specs.declared.reader.fault.ModuleError.{ModuleError}
-use Rattle.alive_top.specs.declared.reader.fault.ModuleError.TheVariants as errors
+use Rattle.alive_top.specs.declared.reader.error.ModuleError.{ModuleError}
+use Rattle.alive_top.specs.declared.reader.error.ModuleError.TheVariants as errors
 use Rattle.alive_top.specs.declared.reader.names.Entity.TheVariants as entities
 use Rattle.alive_top.specs.Bytes.{is_digit, begins_with}
 use Rattle.alive_top.specs.Grammar.{RawFunction}

@@ -7,8 +7,8 @@ use Rattle.std.proofs.lemmas.Option.{same_Some, none-some}
 use Rattle.ops.specs.Number.{Number}
 use Rattle.ir_core.specs.declared.module.Operand.{Operand}
 use Rattle.ir_core.specs.declared.module.Operand.TheVariants as operands
-use Rattle.alive_top.specs.declared.reader.fault.ModuleError.{ModuleError}
-use Rattle.alive_top.specs.declared.reader.fault.ModuleError.TheVariants as errors
+use Rattle.alive_top.specs.declared.reader.error.ModuleError.{ModuleError}
+use Rattle.alive_top.specs.declared.reader.error.ModuleError.TheVariants as errors
 use Rattle.alive_top.specs.Bytes.{is_digit, begins_with}
 use Rattle.alive_top.specs.Tokens.{are_digits}
 use Rattle.alive_top.specs.Meaning.{decimal_value, IsType, IsLiteral, negative, unsigned}

@@ -6,8 +6,8 @@ use Rattle.ir_core.specs.declared.module.Entry.TheVariants as entries
 use Rattle.ir_core.specs.declared.module.Function.{Function}
 use Rattle.ir_core.specs.declared.module.Parameter.{Parameter}
 use Rattle.ir_core.specs.declared.module.Inst.{Inst}
-use Rattle.alive_top.specs.declared.reader.fault.ModuleError.{ModuleError}
-use Rattle.alive_top.specs.declared.reader.fault.ModuleError.TheVariants as errors
+use Rattle.alive_top.specs.declared.reader.error.ModuleError.{ModuleError}
+use Rattle.alive_top.specs.declared.reader.error.ModuleError.TheVariants as errors
 use Rattle.alive_top.specs.Grammar.{RawParameter, RawInst, RawFunction}
 use Rattle.alive_top.specs.Resolving.{◌>>=◌, Fails, fold_in, Known, Parameters, parameter_in, parameters_in, Insts, inst_in, insts_in, no_insts, all_insts_in, function_in, entry_in}
 

@@ -2,8 +2,8 @@
 use Rattle.std.proofs.Common.{◌≡◌, ℕ, zero, suc, ◌<◌, true, List, [], ◌∷◌, ◌++◌, Option, Some, None, Result, Err, length, refl, sym, ap, subst, ◌∙◌, arith}
 use Rattle.std.specs.Prelude.{codes, IsErrOf}
 use Rattle.ir_core.specs.declared.module.Module.{Module}
-use Rattle.alive_top.specs.declared.reader.fault.ModuleError.{ModuleError}
-use Rattle.alive_top.specs.declared.reader.fault.ModuleError.TheVariants.{Refused, NoMemory}
+use Rattle.alive_top.specs.declared.reader.error.ModuleError.{ModuleError}
+use Rattle.alive_top.specs.declared.reader.error.ModuleError.TheVariants.{Refused, NoMemory}
 use Rattle.alive_top.specs.Meaning.{Reads, ModuleMeans}
 use Rattle.alive_top.proofs.Basics.{some_is}
 use Rattle.std.specs.List.{flat_map}

@@ -19,13 +19,22 @@ use Rattle.ir_core.specs.declared.module.Terminator.TheVariants as terminators
 -- A register is needed where a terminator of any block names it, or the instruction of a needed register does: where a chain of
 -- operands joins it to a terminator.
 pub data IsNeeded (f : Function) : Register → Type 0 where
-  at_end : (b : ℕ) (block : Block) {r : Register} → slice_get f.blocks b ≡ Some block → Contains (operands_at_end block.end) (operands.Register r) → IsNeeded f r
-  by_inst : (b k : ℕ) (block : Block) (inst : Inst) {r : Register} → IsNeeded f (registers.Result b k) → slice_get f.blocks b ≡ Some block → slice_get block.insts k ≡ Some inst → Contains (operands_of inst.op) (operands.Register r) → IsNeeded f r
+  at_end : (b : ℕ) (block : Block) {r : Register}
+      → slice_get f.blocks b ≡ Some block
+      → Contains (operands_at_end block.end) (operands.Register r)
+      → IsNeeded f r
+  by_inst : (b k : ℕ) (block : Block) (inst : Inst) {r : Register}
+      → IsNeeded f (registers.Result b k)
+      → slice_get f.blocks b ≡ Some block
+      → slice_get block.insts k ≡ Some inst
+      → Contains (operands_of inst.op) (operands.Register r)
+      → IsNeeded f r
 
 -- for each instruction of each block, whether it is kept
 abbrev pub Marks : Type 0
 Marks = List (List Bool)
 
+-- the marks of block b
 abbrev pub marks_at : Marks → ℕ → List Bool
 marks_at [] b = []
 marks_at (marks ∷ others) zero = marks
@@ -36,6 +45,7 @@ abbrev pub moved_register : Marks → Register → Register
 moved_register marks (registers.Parameter p) = registers.Parameter p
 moved_register marks (registers.Result b k) = registers.Result b (count_by (λ mark. mark) (take k (marks_at marks b)))
 
+-- an operand, an operation, an instruction and a terminator, with each register where it stands then
 abbrev pub moved_operand : Marks → Operand → Operand
 moved_operand marks (operands.Register r) = operands.Register (moved_register marks r)
 moved_operand marks (operands.Number n) = operands.Number n
@@ -57,10 +67,14 @@ kept_insts marks (true ∷ keeps) (inst ∷ insts) = moved_inst marks inst ∷ k
 kept_insts marks (false ∷ keeps) (inst ∷ insts) = kept_insts marks keeps insts
 kept_insts marks keeps insts = []
 
+-- the blocks, each with its kept instructions
 abbrev pub kept_blocks : Marks → Marks → List Block → List Block
-kept_blocks marks (keeps ∷ others) (block ∷ blocks) = record { name = block.name; insts = kept_insts marks keeps block.insts; end = moved_end marks block.end } ∷ kept_blocks marks others blocks
+kept_blocks marks (keeps ∷ others) (block ∷ blocks) =
+    record { name = block.name; insts = kept_insts marks keeps block.insts; end = moved_end marks block.end }
+    ∷ kept_blocks marks others blocks
 kept_blocks marks keeps blocks = []
 
+-- the function with its kept instructions
 abbrev pub kept_function : Marks → Function → Function
 kept_function marks f = record { name = f.name; width = f.width; parameters = f.parameters; blocks = kept_blocks marks marks f.blocks }
 
@@ -68,7 +82,10 @@ kept_function marks f = record { name = f.name; width = f.width; parameters = f.
 pub record AreNeeded (f : Function) (marks : Marks) : Type 0 where
   pub blocks : length marks ≡ length f.blocks
   pub insts : (b : ℕ) (block : Block) → slice_get f.blocks b ≡ Some block → length (marks_at marks b) ≡ length block.insts
-  pub exact : (b k : ℕ) (block : Block) (inst : Inst) → slice_get f.blocks b ≡ Some block → slice_get block.insts k ≡ Some inst → (slice_get (marks_at marks b) k ≡ Some true) ↔ IsNeeded f (registers.Result b k)
+  pub exact : (b k : ℕ) (block : Block) (inst : Inst)
+      → slice_get f.blocks b ≡ Some block
+      → slice_get block.insts k ≡ Some inst
+      → (slice_get (marks_at marks b) k ≡ Some true) ↔ IsNeeded f (registers.Result b k)
 
 -- The new function is the old one with exactly the needed instructions.
 abbrev pub IsCleaned : Function → Function → Type 0
@@ -81,5 +98,6 @@ EntriesCleaned [] (e ∷ es) = ⊥
 EntriesCleaned (d ∷ ds) [] = ⊥
 EntriesCleaned (entries.Function f ∷ ds) (entries.Function g ∷ es) = IsCleaned f g × EntriesCleaned ds es
 
+-- each function of the module is cleaned
 abbrev pub ModuleCleaned : Module → Module → Type 0
 ModuleCleaned old new = EntriesCleaned old.entries new.entries

@@ -15,10 +15,11 @@ pub record Optimise : Type 0 where
 
 -- The words are the program's own name, `optimise`, a rule file and a module.
 abbrev pub command_of : List (List ℕ) → Option Optimise
-command_of (own ∷ command ∷ rules ∷ source ∷ []) = if bytes_eq command (codes "optimise") then Some (record { rules = rules; source = source }) else None
+command_of (own ∷ command ∷ rules ∷ source ∷ []) =
+    if bytes_eq command (codes "optimise") then Some (record { rules = rules; source = source }) else None
 command_of words = None
 
--- the most bytes of a rule file, and of a module
+-- the most bytes of a rule file, and of a module: 1 MiB and 16 MiB
 abbrev pub rules_limit : ℕ
 rules_limit = 1048576
 

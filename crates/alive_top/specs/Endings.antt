@@ -19,8 +19,10 @@ pub record Fed : Type 0 where
   pub faults_before : ℕ
   pub faults_after : ℕ
 
+-- those values, put together
 abbrev pub fed : Option (List ℕ) → Option (List ℕ) → ℕ → ℕ → Fed
-fed before after faults_before faults_after = record { before = before; after = after; faults_before = faults_before; faults_after = faults_after }
+fed before after faults_before faults_after =
+    record { before = before; after = after; faults_before = faults_before; faults_after = faults_after }
 
 -- the sink gained the text, or nothing
 abbrev pub Gained : Fed → List ℕ → Type 0
@@ -41,6 +43,7 @@ Told s line = Gained s line ⊎ Failed s line
 abbrev pub WroteSome : Fed → Fed → List ℕ → List ℕ → Type 0
 WroteSome out err text report = (Failed out text × GainedNothing err) ⊎ (Gained out text × Failed err report)
 
+-- the line that tells of a file that could not be read
 abbrev pub read_fault_line : List ℕ → List ℕ
 read_fault_line name = codes "read fault: " ++ name ++ codes "\n"
 
@@ -50,7 +53,9 @@ RefusedAs refusals.Usage err status = (status ≡ statuses.Usage) × Told err (c
 RefusedAs refusals.Rules err status = (status ≡ statuses.RuleRefused) × Told err (codes "rules refused\n")
 RefusedAs refusals.Source err status = (status ≡ statuses.ModuleRefused) × Told err (codes "module refused\n")
 RefusedAs refusals.Memory err status = (status ≡ statuses.NoMemory) × Told err (codes "want of memory\n")
-RefusedAs (refusals.Read name) err status = ((status ≡ statuses.ReadFault) × Told err (read_fault_line name.now)) ⊎ ((status ≡ statuses.NoMemory) × Told err (codes "want of memory\n"))
+RefusedAs (refusals.Read name) err status =
+    ((status ≡ statuses.ReadFault) × Told err (read_fault_line name.now))
+    ⊎ ((status ≡ statuses.NoMemory) × Told err (codes "want of memory\n"))
 
 -- how writing ends
 abbrev pub WrittenAs : Texts → Fed → Fed → Status → Type 0
@@ -62,21 +67,30 @@ WrittenAs texts out err statuses.ModuleRefused = ⊥
 WrittenAs texts out err statuses.ReadFault = ⊥
 WrittenAs texts out err statuses.NoMemory = ⊥
 
--- The work was done: both files were read; where their bytes are told they are a rule file without rules and the text of a module;
--- and of the text and the report of the module that may stand in its place this was written.
+-- The work was done: both files were read; where the rule file's bytes are told it is one without rules; this was written of a text
+-- and a report; and where the module's bytes are told these are of the module that may stand in its place.
 abbrev pub Worked : Asked → Optimise → (List ℕ → List ℕ → Type 0) → Type 0
-Worked a named Wrote = AsksTwo a named.rules named.source × IfSome (a.told named.rules) IsRuleText × (text : List ℕ) × (report : List ℕ) × Wrote text report × IfSome (a.told named.source) (λ bytes. Prints bytes text report)
+Worked a named Wrote = AsksTwo a named.rules named.source
+    × IfSome (a.told named.rules) IsRuleText
+    × (text : List ℕ) × (report : List ℕ) × Wrote text report
+    × IfSome (a.told named.source) (λ bytes. Prints bytes text report)
 
 -- how each status comes under `optimise`
 abbrev pub Ends : Asked → Optimise → Fed → Fed → Status → Type 0
 Ends a named out err statuses.Done = Worked a named (λ text report. Gained out text × Gained err report)
 Ends a named out err statuses.WriteFault = Worked a named (WroteSome out err)
 Ends a named out err statuses.Usage = ⊥
-Ends a named out err statuses.RuleRefused = IfSome (a.told named.rules) IsNoRuleText × AsksOne a named.rules × GainedNothing out × Told err (codes "rules refused\n")
-Ends a named out err statuses.ModuleRefused = IfSome (a.told named.rules) IsRuleText × IfSome (a.told named.source) IsNoModuleText × AsksTwo a named.rules named.source × GainedNothing out × Told err (codes "module refused\n")
+Ends a named out err statuses.RuleRefused = IfSome (a.told named.rules) IsNoRuleText
+    × AsksOne a named.rules × GainedNothing out × Told err (codes "rules refused\n")
+Ends a named out err statuses.ModuleRefused = IfSome (a.told named.rules) IsRuleText
+    × IfSome (a.told named.source) IsNoModuleText
+    × AsksTwo a named.rules named.source × GainedNothing out × Told err (codes "module refused\n")
 Ends a named out err statuses.ReadFault = Rose a.faults_before a.faults_after × GainedNothing out
-    × ((AsksOne a named.rules × Told err (read_fault_line named.rules)) ⊎ (IfSome (a.told named.rules) IsRuleText × AsksTwo a named.rules named.source × Told err (read_fault_line named.source)))
-Ends a named out err statuses.NoMemory = (AsksNone a ⊎ (AsksOne a named.rules ⊎ AsksTwo a named.rules named.source)) × GainedNothing out × Told err (codes "want of memory\n")
+    × ((AsksOne a named.rules × Told err (read_fault_line named.rules))
+    ⊎ (IfSome (a.told named.rules) IsRuleText
+    × AsksTwo a named.rules named.source × Told err (read_fault_line named.source)))
+Ends a named out err statuses.NoMemory = (AsksNone a ⊎ (AsksOne a named.rules ⊎ AsksTwo a named.rules named.source))
+    × GainedNothing out × Told err (codes "want of memory\n")
 
 -- how each status comes, for the words of a command or for others
 abbrev pub EndsFor : Option Optimise → Asked → Fed → Fed → Status → Type 0

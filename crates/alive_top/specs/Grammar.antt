@@ -6,6 +6,7 @@ use Rattle.alive_top.specs.declared.reader.token.Mark.TheVariants.{Equals, Comma
 use Rattle.alive_top.specs.Tokens.{Token, Word, Number, Register, Function, Punctuation}
 use Rattle.alive_top.specs.Printing.{opcode_text}
 
+-- a value: a register by its name or number, a number as written, or a word
 pub data RawValue : Type 0 where
   Register_named : (text : List ℕ) → RawValue
   Number_written : (text : List ℕ) → RawValue
@@ -14,10 +15,12 @@ pub data RawValue : Type 0 where
   Undef : RawValue
   Poison : RawValue
 
+-- a parameter: its type and its register
 pub record RawParameter : Type 0 where
   pub width : List ℕ
   pub name : List ℕ
 
+-- an instruction: the register that it defines, its opcode, its type and its two values
 pub record RawInst : Type 0 where
   pub name : List ℕ
   pub opcode : Opcode
@@ -25,6 +28,7 @@ pub record RawInst : Type 0 where
   pub left : RawValue
   pub right : RawValue
 
+-- a function: its type and its name, its parameters and instructions, and what it returns
 pub record RawFunction : Type 0 where
   pub width : List ℕ
   pub name : List ℕ
@@ -53,7 +57,9 @@ parameters_tokens (p ∷ parameters) = parameter_tokens p ++ flat_map (λ q. Pun
 
 -- inst := REGISTER '=' opcode type val ',' val
 abbrev pub inst_tokens : RawInst → List Token
-inst_tokens i = Register i.name ∷ Punctuation Equals ∷ Word (opcode_text i.opcode) ∷ Word i.width ∷ value_token i.left ∷ Punctuation Comma ∷ value_token i.right ∷ []
+inst_tokens i =
+    Register i.name ∷ Punctuation Equals ∷ Word (opcode_text i.opcode) ∷ Word i.width
+    ∷ value_token i.left ∷ Punctuation Comma ∷ value_token i.right ∷ []
 
 -- inst* 'ret' type val '}'
 abbrev pub body_tokens : RawFunction → List Token
@@ -61,7 +67,9 @@ body_tokens f = flat_map inst_tokens f.insts ++ Word (codes "ret") ∷ Word f.re
 
 -- function := 'define' type FUNCTION '(' params ')' '{' body
 abbrev pub function_tokens : RawFunction → List Token
-function_tokens f = Word (codes "define") ∷ Word f.width ∷ Function f.name ∷ Punctuation OpenParen ∷ (parameters_tokens f.parameters ++ Punctuation CloseParen ∷ Punctuation OpenBrace ∷ body_tokens f)
+function_tokens f =
+    Word (codes "define") ∷ Word f.width ∷ Function f.name ∷ Punctuation OpenParen
+    ∷ (parameters_tokens f.parameters ++ Punctuation CloseParen ∷ Punctuation OpenBrace ∷ body_tokens f)
 
 -- module := function*
 abbrev pub module_tokens : List RawFunction → List Token

@@ -28,11 +28,16 @@ ZeroOutcomesAreOutcomes = (f : Function) (args : List Value) (n : ℕ) (o : Outc
 
 -- a well-formed function has an outcome at all arguments and every bound of blocks entered
 abbrev pub WellFormedFunctionsHaveOutcomes : Type 0
-WellFormedFunctionsHaveOutcomes = (f : Function) → IsWellFormed f → (args : List Value) → AreArguments f.parameters args → (n : ℕ) → (o : Outcome) × HasZeroOutcome f args n o × HasOutcome f args n o
+WellFormedFunctionsHaveOutcomes = (f : Function) → IsWellFormed f
+    → (args : List Value) → AreArguments f.parameters args
+    → (n : ℕ) → (o : Outcome) × HasZeroOutcome f args n o × HasOutcome f args n o
 
 -- so does each function of a module that was read
 abbrev pub ModulesReadHaveOutcomes : Type 0
-ModulesReadHaveOutcomes = (bytes : List ℕ) (m : Module) (f : Function) → Reads bytes m → Contains m.entries (entries.Function f) → (args : List Value) → AreArguments f.parameters args → (n : ℕ) → (o : Outcome) × HasZeroOutcome f args n o × HasOutcome f args n o
+ModulesReadHaveOutcomes = (bytes : List ℕ) (m : Module) (f : Function)
+    → Reads bytes m → Contains m.entries (entries.Function f)
+    → (args : List Value) → AreArguments f.parameters args
+    → (n : ℕ) → (o : Outcome) × HasZeroOutcome f args n o × HasOutcome f args n o
 
 -- a cleaned function may stand in the place of the old one
 abbrev pub CleanedFunctionsRefine : Type 0

@@ -19,6 +19,7 @@ marked (operands.Number n) marks = marks
 marked operands.Undef marks = marks
 marked operands.Poison marks = marks
 
+-- the same for each operand of an operation, and of a terminator
 abbrev pub marked_op : Op → List Bool → List Bool
 marked_op (Binary op flags a b) marks = marked b (marked a marks)
 
@@ -36,4 +37,8 @@ pub record ArePlaces (marks : List Bool) (places : List ℕ) : Type 0 where
 
 -- the block with its marked instructions alone
 abbrev pub kept_block : List Bool → Block → Block
-kept_block marks block = record { name = block.name; insts = kept_insts (marks ∷ []) marks block.insts; end = moved_end (marks ∷ []) block.end }
+kept_block marks block = record {
+  name = block.name;
+  insts = kept_insts (marks ∷ []) marks block.insts;
+  end = moved_end (marks ∷ []) block.end;
+}

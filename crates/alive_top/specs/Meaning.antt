@@ -25,12 +25,21 @@ decimal_value digits = fold (λ n digit. 10 * n + (digit - 48)) 0 digits
 
 -- a type: `i` and the digits of a width from 1 to 64
 abbrev pub IsType : List ℕ → ℕ → Type 0
-IsType text width = (digits : List ℕ) × (text ≡ 105 ∷ digits) × (are_digits digits ≡ true) × (decimal_value digits ≡ width) × (1 ≤ width) × (width ≤ 64)
+IsType text width = (digits : List ℕ)
+    × (text ≡ 105 ∷ digits) × (are_digits digits ≡ true)
+    × (decimal_value digits ≡ width) × (1 ≤ width) × (width ≤ 64)
 
 -- a literal is a number from -2 ^ (N - 1) to 2 ^ N - 1, and means that number modulo 2 ^ N
 pub data IsLiteral (width : ℕ) : List ℕ → ℕ → Type 0 where
-  negative : {text : List ℕ} {n : ℕ} → decimal_value text ≤ 2 ^ (width - 1) → n ≡ (2 ^ width - decimal_value text) % 2 ^ width → IsLiteral width (45 ∷ text) n
-  unsigned : {text : List ℕ} {n : ℕ} → begins_with is_digit text ≡ true → decimal_value text < 2 ^ width → n ≡ decimal_value text → IsLiteral width text n
+  negative : {text : List ℕ} {n : ℕ}
+      → decimal_value text ≤ 2 ^ (width - 1)
+      → n ≡ (2 ^ width - decimal_value text) % 2 ^ width
+      → IsLiteral width (45 ∷ text) n
+  unsigned : {text : List ℕ} {n : ℕ}
+      → begins_with is_digit text ≡ true
+      → decimal_value text < 2 ^ width
+      → n ≡ decimal_value text
+      → IsLiteral width text n
 
 -- what a written name or number calls
 abbrev pub called : List ℕ → Identifier
@@ -52,7 +61,8 @@ StandsBefore k (registers.Result b j) = (b ≡ 0) × (j < k)
 
 -- An operand of a width at place k of the one block: a register of that width that stands before, or a literal.
 abbrev pub ValueMeans : Function → ℕ → ℕ → RawValue → Operand → Type 0
-ValueMeans f k width (Register_named text) (operands.Register r) = (identifier_of f r ≡ Some (called text)) × (width_of f r ≡ Some width) × StandsBefore k r
+ValueMeans f k width (Register_named text) (operands.Register r) =
+    (identifier_of f r ≡ Some (called text)) × (width_of f r ≡ Some width) × StandsBefore k r
 ValueMeans f k width (Number_written text) (operands.Number n) = (n.width ≡ width) × IsLiteral width text n.number
 ValueMeans f k width True (operands.Number n) = (width ≡ 1) × (n ≡ record { width = 1; number = 1 })
 ValueMeans f k width False (operands.Number n) = (width ≡ 1) × (n ≡ record { width = 1; number = 0 })
@@ -61,9 +71,11 @@ ValueMeans f k width Poison operands.Poison = Unit {0}
 -- no other operand is meant
 ValueMeans f k width raw operand = ⊥
 
+-- no flag is set: the text of a module has none
 abbrev pub no_flags : Flags
 no_flags = record { nuw = false; nsw = false; exact = false }
 
+-- parameter k of the function
 abbrev pub ParameterMeans : Function → ℕ → RawParameter → Parameter → Type 0
 ParameterMeans f k raw p = IsType raw.width p.width × IsDefinedAs f (registers.Parameter k) raw.name p.name
 
@@ -111,6 +123,7 @@ pub record FunctionMeans (raw : RawFunction) (f : Function) : Type 0 where
   -- parameters, blocks and results share their names, and none is given twice
   pub distinct : AreDistinct (identifiers_of f)
 
+-- each function, in order
 abbrev pub EntriesMean : List RawFunction → List Entry → Type 0
 EntriesMean [] [] = Unit {0}
 EntriesMean [] (e ∷ es) = ⊥

@@ -13,6 +13,7 @@ use Rattle.alive_top.specs.Grammar.{RawValue, Register_named, Number_written, Tr
 abbrev pub Read : Type 0 → Type 0
 Read A = Option (A × List ℕ)
 
+-- a word, a register and a function's name: where the token is one, and at the front of a text
 abbrev pub word_of : Option Token → List ℕ → Read (List ℕ)
 word_of (Some (Word text)) rest = Some (text, rest)
 word_of token rest = None
@@ -34,12 +35,14 @@ function_name_of token rest = None
 unfoldable pub function_name_at : List ℕ → Read (List ℕ)
 function_name_at text = next_at text >>= λ x. function_name_of x.0 x.1
 
+-- what follows a mark that is wanted, and a word that is wanted
 unfoldable pub mark_at : Mark → List ℕ → Option (List ℕ)
 mark_at wanted text = next_at text >>= λ x. if is_mark_token wanted x.0 then Some x.1 else None
 
 unfoldable pub keyword_at : List ℕ → List ℕ → Option (List ℕ)
 keyword_at wanted text = next_at text >>= λ x. if is_word_token wanted x.0 then Some x.1 else None
 
+-- the opcode, and the value, that a word is
 unfoldable pub opcode_in : List ℕ → Option Opcode
 opcode_in word =
     if bytes_eq word (codes "add") then Some Add
@@ -55,12 +58,14 @@ value_in word =
     else (if bytes_eq word (codes "undef") then Some Undef
     else (if bytes_eq word (codes "poison") then Some Poison else None)))
 
+-- the opcode at the front of a text
 unfoldable pub opcode_at : List ℕ → Read Opcode
 opcode_at text = do
   word ← word_at text
   opcode ← opcode_in word.0
   Some (opcode, word.1)
 
+-- a value: where the token is one, and at the front of a text
 abbrev pub value_of : Option Token → List ℕ → Read RawValue
 value_of (Some (Register text)) rest = Some (Register_named text, rest)
 value_of (Some (Number text)) rest = Some (Number_written text, rest)
@@ -81,6 +86,7 @@ inst_at name text = do
   right ← value_at behind
   Some (record { name = name; opcode = opcode.0; width = width.0; left = left.0; right = right.0 }, right.1)
 
+-- a type and a register
 unfoldable pub parameter_at : List ℕ → Read RawParameter
 parameter_at text = do
   width ← word_at text
@@ -92,7 +98,7 @@ abbrev pub with_front : {A : Type 0} → List A → Read (List A) → Read (List
 with_front front None = None
 with_front front (Some x) = Some (front ++ x.0, x.1)
 
--- Instructions as long as a register comes next. The number bounds how many; the length of the text is enough.
+-- Instructions as long as a register comes next. The number bounds how many; one more than the length of the text is enough.
 abbrev pub insts_go : (List ℕ → Read (List RawInst)) → Option Token → List ℕ → List ℕ → Read (List RawInst)
 insts_go next (Some (Register name)) rest text = do
   first ← inst_at name rest
@@ -104,7 +110,7 @@ unfoldable pub insts_at : ℕ → List ℕ → Read (List RawInst)
 insts_at zero text = None
 insts_at (suc n) text = next_at text >>= λ x. insts_go (insts_at n) x.0 x.1 text
 
--- parameters as long as a comma comes next
+-- parameters as long as a comma comes next, bounded in the same way
 abbrev pub parameters_go : (List ℕ → Read (List RawParameter)) → List ℕ → Read (List RawParameter)
 parameters_go next rest = do
   first ← parameter_at rest
@@ -113,7 +119,8 @@ parameters_go next rest = do
 
 unfoldable pub more_parameters_at : ℕ → List ℕ → Read (List RawParameter)
 more_parameters_at zero text = None
-more_parameters_at (suc n) text = next_at text >>= λ x. if is_mark_token Comma x.0 then parameters_go (more_parameters_at n) x.1 else Some ([], text)
+more_parameters_at (suc n) text = next_at text >>= λ x.
+    if is_mark_token Comma x.0 then parameters_go (more_parameters_at n) x.1 else Some ([], text)
 
 -- one parameter or more, and the `)` behind them
 abbrev pub some_parameters_at : List ℕ → Read (List RawParameter)
@@ -140,9 +147,19 @@ function_at text = do
   returned_width ← word_at ret
   returned ← value_at returned_width.1
   rest ← mark_at CloseBrace returned.1
-  Some (record { width = width.0; name = name.0; parameters = parameters.0; insts = insts.0; returned_width = returned_width.0; returned = returned.0 }, rest)
+  Some (
+    record {
+      width = width.0;
+      name = name.0;
+      parameters = parameters.0;
+      insts = insts.0;
+      returned_width = returned_width.0;
+      returned = returned.0;
+    },
+    rest,
+  )
 
--- functions up to the end of the text
+-- functions up to the end of the text, bounded in the same way
 abbrev pub functions_go : (List ℕ → Option (List RawFunction)) → List ℕ → Option (List RawFunction)
 functions_go next rest = do
   first ← function_at rest
@@ -151,4 +168,6 @@ functions_go next rest = do
 
 unfoldable pub functions_at : ℕ → List ℕ → Option (List RawFunction)
 functions_at zero text = None
-functions_at (suc n) text = next_at text >>= λ x. if is_end x.0 then Some [] else (if is_word_token (codes "define") x.0 then functions_go (functions_at n) x.1 else None)
+functions_at (suc n) text = next_at text >>= λ x.
+    if is_end x.0 then Some []
+    else (if is_word_token (codes "define") x.0 then functions_go (functions_at n) x.1 else None)

@@ -27,6 +27,7 @@ register_text None = codes "%"
 register_text (Some (Named text)) = codes "%" ++ text
 register_text (Some (Numbered n)) = codes "%" ++ decimal n
 
+-- the type of a width
 unfoldable pub type_text : ℕ → List ℕ
 type_text width = codes "i" ++ decimal width
 
@@ -37,6 +38,7 @@ number_text n =
     then (if n.number == 0 then codes "false" else codes "true")
     else (if nat_lt n.number (2 ^ (n.width - 1)) then decimal n.number else codes "-" ++ decimal (2 ^ n.width - n.number))
 
+-- the word of an opcode
 unfoldable pub opcode_text : Opcode → List ℕ
 opcode_text Add = codes "add"
 opcode_text Sub = codes "sub"
@@ -46,16 +48,23 @@ opcode_text Xor = codes "xor"
 
 -- the flags behind an opcode, in this order
 unfoldable pub flags_text : Flags → List ℕ
-flags_text flags = (if flags.nuw then codes " nuw" else []) ++ (if flags.nsw then codes " nsw" else []) ++ (if flags.exact then codes " exact" else [])
+flags_text flags =
+    (if flags.nuw then codes " nuw" else [])
+    ++ (if flags.nsw then codes " nsw" else [])
+    ++ (if flags.exact then codes " exact" else [])
 
+-- an operand of the function
 unfoldable pub operand_text : Function → Operand → List ℕ
 operand_text f (operands.Register r) = register_text (identifier_of f r)
 operand_text f (operands.Number n) = number_text n
 operand_text f operands.Undef = codes "undef"
 operand_text f operands.Poison = codes "poison"
 
+-- what stands behind the `=` of an instruction
 unfoldable pub op_text : Function → ℕ → Op → List ℕ
-op_text f width (Binary op flags a b) = opcode_text op ++ flags_text flags ++ codes " " ++ type_text width ++ codes " " ++ operand_text f a ++ codes ", " ++ operand_text f b
+op_text f width (Binary op flags a b) =
+    opcode_text op ++ flags_text flags ++ codes " "
+    ++ type_text width ++ codes " " ++ operand_text f a ++ codes ", " ++ operand_text f b
 
 -- the line of the instruction at place k of block b
 unfoldable pub inst_text : Function → ℕ → ℕ → Inst → List ℕ
@@ -66,6 +75,7 @@ unfoldable pub insts_text : Function → ℕ → ℕ → List Inst → List ℕ
 insts_text f b k [] = []
 insts_text f b k (i ∷ insts) = inst_text f b k i ++ insts_text f b (suc k) insts
 
+-- the line of a terminator
 unfoldable pub end_text : Function → Terminator → List ℕ
 end_text f (terminators.Return a) = codes "  ret " ++ type_text f.width ++ codes " " ++ operand_text f a ++ codes "\n"
 
@@ -80,16 +90,23 @@ blocks_text f b (block ∷ blocks) = block_text f b block ++ blocks_text f (suc 
 
 -- parameter k, behind a comma if it is not the first
 unfoldable pub parameter_text : Function → ℕ → Parameter → List ℕ
-parameter_text f k p = (if k == 0 then [] else codes ", ") ++ type_text p.width ++ codes " " ++ register_text (identifier_of f (registers.Parameter k))
+parameter_text f k p =
+    (if k == 0 then [] else codes ", ")
+    ++ type_text p.width ++ codes " " ++ register_text (identifier_of f (registers.Parameter k))
 
 -- the parameters from parameter k on
 unfoldable pub parameters_text : Function → ℕ → List Parameter → List ℕ
 parameters_text f k [] = []
 parameters_text f k (p ∷ parameters) = parameter_text f k p ++ parameters_text f (suc k) parameters
 
+-- the lines of a function
 unfoldable pub function_text : Function → List ℕ
-function_text f = codes "define " ++ type_text f.width ++ codes " @" ++ f.name ++ codes "(" ++ parameters_text f 0 f.parameters ++ codes ") {\n" ++ blocks_text f 0 f.blocks ++ codes "}\n"
+function_text f =
+    codes "define " ++ type_text f.width ++ codes " @" ++ f.name
+    ++ codes "(" ++ parameters_text f 0 f.parameters
+    ++ codes ") {\n" ++ blocks_text f 0 f.blocks ++ codes "}\n"
 
+-- the lines of an entry
 unfoldable pub entry_text : Entry → List ℕ
 entry_text (entries.Function f) = function_text f
 
@@ -99,6 +116,7 @@ entries_text [] = []
 entries_text (e ∷ []) = entry_text e
 entries_text (e ∷ d ∷ es) = entry_text e ++ codes "\n" ++ entries_text (d ∷ es)
 
+-- the text of a module
 abbrev pub text_of : Module → List ℕ
 text_of m = entries_text m.entries
 

@@ -7,6 +7,7 @@ use Rattle.alive_top.specs.declared.reader.raw.RawInst as code_inst
 use Rattle.alive_top.specs.declared.reader.raw.RawFunction as code_function
 use Rattle.alive_top.specs.Grammar.{RawValue, Register_named, Number_written, True, False, Undef, Poison, RawParameter, RawInst, RawFunction}
 
+-- a value, a parameter and an instruction
 abbrev pub seen_value : code_value.RawValue → RawValue
 seen_value (values.Register text) = Register_named text.now
 seen_value (values.Number text) = Number_written text.now
@@ -21,12 +22,14 @@ seen_parameter p = record { width = p.width.now; name = p.name.now }
 abbrev pub seen_inst : code_inst.RawInst → RawInst
 seen_inst i = record { name = i.name.now; opcode = i.opcode; width = i.width.now; left = seen_value i.left; right = seen_value i.right }
 
+-- parameters and instructions in order
 abbrev pub seen_parameters : List code_parameter.RawParameter → List RawParameter
 seen_parameters ps = map seen_parameter ps
 
 abbrev pub seen_insts : List code_inst.RawInst → List RawInst
 seen_insts is = map seen_inst is
 
+-- a function, and functions in order
 abbrev pub seen_function : code_function.RawFunction → RawFunction
 seen_function f = record {
   width = f.width.now;

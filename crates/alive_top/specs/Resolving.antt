@@ -15,8 +15,8 @@ use Rattle.ir_core.specs.declared.module.Operand.TheVariants as operands
 use Rattle.ir_core.specs.declared.module.Register.{Register}
 use Rattle.ir_core.specs.declared.module.Register.TheVariants as registers
 use Rattle.ir_core.specs.declared.module.Terminator.TheVariants as terminators
-use Rattle.alive_top.specs.declared.reader.fault.ModuleError.{ModuleError}
-use Rattle.alive_top.specs.declared.reader.fault.ModuleError.TheVariants as errors
+use Rattle.alive_top.specs.declared.reader.error.ModuleError.{ModuleError}
+use Rattle.alive_top.specs.declared.reader.error.ModuleError.TheVariants as errors
 use Rattle.alive_top.specs.declared.reader.names.Entity.{Entity}
 use Rattle.alive_top.specs.declared.reader.names.Entity.TheVariants as entities
 use Rattle.alive_top.specs.declared.identifier.Identifier.{Identifier as Written}
@@ -26,12 +26,13 @@ use Rattle.alive_top.specs.Grammar.{RawValue, Register_named, Number_written, Tr
 use Rattle.alive_top.specs.Identifiers.{seen}
 use Rattle.alive_top.specs.Meaning.{decimal_value, called, no_flags}
 
+-- a step with what the one before gave; where that gave none, so does this
 infixl 10 ◌>>=◌
 abbrev pub ◌>>=◌ : {A B : Type 0} → Option A → (A → Option B) → Option B
 None >>= f = None
 (Some x) >>= f = f x
 
--- A function of the code gave, seen by view, what the productions give, unless memory ran out.
+-- What a function of the code gave, seen by view, is what the productions give, unless memory ran out.
 abbrev pub Fails : {Y : Type 0} → ModuleError → Option Y → Type 0
 Fails errors.NoMemory given = Unit {0}
 Fails errors.Refused given = given ≡ None
@@ -45,6 +46,7 @@ unfoldable pub fold_in : {S A : Type 0} → (S → A → Option S) → S → Lis
 fold_in step s [] = Some s
 fold_in step s (x ∷ xs) = step s x >>= λ t. fold_in step t xs
 
+-- the width of a type: `i` and a number from 1 to 64
 unfoldable pub width_in : List ℕ → Option ℕ
 width_in [] = None
 width_in (b ∷ digits) =
@@ -60,6 +62,7 @@ unsigned_in width number = if nat_lt number (2 ^ width) then Some number else No
 unfoldable pub negated_in : ℕ → ℕ → Option ℕ
 negated_in width magnitude = if nat_le magnitude (2 ^ (width - 1)) then Some ((2 ^ width - magnitude) % 2 ^ width) else None
 
+-- the number that a literal means, modulo 2 ^ N
 unfoldable pub literal_in : ℕ → List ℕ → Option ℕ
 literal_in width [] = None
 literal_in width (b ∷ digits) =
@@ -71,9 +74,11 @@ literal_in width (b ∷ digits) =
 abbrev pub Known : Type 0
 Known = Identifier × Entity
 
+-- the identifiers without where their text lies, in text order
 abbrev pub seen_entries : List (Written × Entity) → List Known
 seen_entries entries = map (λ e. (seen e.0, e.1)) entries
 
+-- whether two identifiers are the same
 abbrev pub same : Identifier → Identifier → Bool
 same (Named a) (Named b) = pointwise ◌==◌ a b
 same (Numbered m) (Numbered n) = m == n
@@ -87,8 +92,12 @@ lookup_in (k ∷ known) i = if same i k.0 then Some (0, k.1) else option_map (λ
 
 -- the series has reached no number that is as great as the count of identifiers so far
 unfoldable pub find_in : List Known → List ℕ → Option (ℕ × Entity)
-find_in known text = if begins_with is_digit text && nat_le (length known) (decimal_value text) then None else lookup_in known (called text)
+find_in known text =
+    if begins_with is_digit text && nat_le (length known) (decimal_value text)
+    then None
+    else lookup_in known (called text)
 
+-- the identifiers with one more, which none of them is
 unfoldable pub add_in : List Known → Identifier → Entity → Option (List Known)
 add_in known i entity = if is_none (lookup_in known i) then Some (known ++ (i, entity) ∷ []) else None
 
@@ -96,9 +105,12 @@ add_in known i entity = if is_none (lookup_in known i) then Some (known ++ (i, e
 unfoldable pub define_in : List Known → ℕ → List ℕ → ℕ → Option (List Known × Name × ℕ)
 define_in known next text width =
     if begins_with is_digit text
-    then (if decimal_value text == next then (add_in known (Numbered next) (entities.Register width) >>= λ k. Some (k, None, suc next)) else None)
+    then (if decimal_value text == next
+    then (add_in known (Numbered next) (entities.Register width) >>= λ k. Some (k, None, suc next))
+    else None)
     else (add_in known (Named text) (entities.Register width) >>= λ k. Some (k, Some text, next))
 
+-- The block without a label takes a number. What is known then, and the next number.
 unfoldable pub enter_in : List Known → ℕ → Option (List Known × ℕ)
 enter_in known next = add_in known (Numbered next) entities.Block >>= λ k. Some (k, suc next)
 
@@ -106,10 +118,13 @@ enter_in known next = add_in known (Numbered next) entities.Block >>= λ k. Some
 unfoldable pub register_at : ℕ → ℕ → Register
 register_at parameters place = if nat_lt place parameters then registers.Parameter place else registers.Result 0 (place - parameters - 1)
 
+-- the register at a place, where it is of the width
 unfoldable pub register_in : ℕ → ℕ → ℕ × Entity → Option Operand
-register_in parameters width (place, entities.Register bits) = if bits == width then Some (operands.Register (register_at parameters place)) else None
+register_in parameters width (place, entities.Register bits) =
+    if bits == width then Some (operands.Register (register_at parameters place)) else None
 register_in parameters width (place, entities.Block) = None
 
+-- a literal number as an operand of a width
 unfoldable pub number_in : ℕ → List ℕ → Option Operand
 number_in width text = option_map (λ n. operands.Number (record { width = width; number = n })) (literal_in width text)
 
@@ -117,6 +132,7 @@ number_in width text = option_map (λ n. operands.Number (record { width = width
 unfoldable pub truth_in : ℕ → ℕ → Option Operand
 truth_in width n = if width == 1 then Some (operands.Number (record { width = 1; number = n })) else None
 
+-- the operand of a width that a value means
 unfoldable pub operand_in : ℕ → List Known → ℕ → RawValue → Option Operand
 operand_in parameters known width (Register_named text) = find_in known text >>= register_in parameters width
 operand_in parameters known width (Number_written text) = number_in width text
@@ -132,11 +148,13 @@ parameter_in known next raw = do
   d ← define_in known next raw.name width
   Some (d.0, record { width = width; name = d.1 }, d.2)
 
+-- what is known behind some parameters, the next number, and these parameters
 pub record Parameters : Type 0 where
   pub known : List Known
   pub next : ℕ
   pub parameters : List Parameter
 
+-- one parameter more, and all of them
 unfoldable pub parameters_in : Parameters → RawParameter → Option Parameters
 parameters_in s raw = do
   d ← parameter_in s.known s.next raw
@@ -145,11 +163,13 @@ parameters_in s raw = do
 unfoldable pub all_parameters_in : List Known → List RawParameter → Option Parameters
 all_parameters_in known raws = fold_in parameters_in (record { known = known; next = 0; parameters = [] }) raws
 
+-- what is known behind some instructions, the next number, and these instructions
 pub record Insts : Type 0 where
   pub known : List Known
   pub next : ℕ
   pub insts : List Inst
 
+-- what is known behind it, the instruction, and the next number
 unfoldable pub inst_in : ℕ → List Known → ℕ → RawInst → Option (List Known × Inst × ℕ)
 inst_in parameters known next raw = do
   width ← width_in raw.width
@@ -158,14 +178,17 @@ inst_in parameters known next raw = do
   d ← define_in known next raw.name width
   Some (d.0, record { name = d.1; width = width; op = Binary raw.opcode no_flags left right }, d.2)
 
+-- one instruction more
 unfoldable pub insts_in : ℕ → Insts → RawInst → Option Insts
 insts_in parameters s raw = do
   d ← inst_in parameters s.known s.next raw
   Some (record { known = d.0; next = d.2; insts = s.insts ++ d.1 ∷ [] })
 
+-- no instructions, where so much is known
 abbrev pub no_insts : List Known → ℕ → Insts
 no_insts known next = record { known = known; next = next; insts = [] }
 
+-- what is known behind all instructions, and these
 unfoldable pub all_insts_in : ℕ → List Known → ℕ → List RawInst → Option (List Known × List Inst)
 all_insts_in parameters known next raws = fold_in (insts_in parameters) (no_insts known next) raws >>= λ s. Some (s.known, s.insts)
 
@@ -186,6 +209,7 @@ plain_in name = if begins_with is_digit name then None else Some name
 unfoldable pub returned_in : List ℕ → ℕ → Option ℕ
 returned_in text width = width_in text >>= λ w. if w == width then Some width else None
 
+-- the function of a production
 unfoldable pub function_in : RawFunction → Option Function
 function_in raw = do
   name ← plain_in raw.name
@@ -194,5 +218,6 @@ function_in raw = do
   b ← body_in raw width
   Some (record { name = name; width = width; parameters = b.0; blocks = b.1 ∷ [] })
 
+-- the entries with one function more
 unfoldable pub entry_in : List Entry → RawFunction → Option (List Entry)
 entry_in es raw = function_in raw >>= λ f. Some (es ++ entries.Function f ∷ [])

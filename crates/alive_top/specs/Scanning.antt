@@ -1,8 +1,8 @@
 -- Reading tokens from left to right: what a reader answers for a text, as functions on lists.
 use Rattle.std.specs.Prelude.{◌≡◌, ℕ, ◌==◌, Bool, true, false, if◌then◌else◌, List, [], ◌∷◌, Option, Some, None, option_and_then, Result, Ok, Err}
 use Rattle.std.specs.Str.{bytes_eq}
-use Rattle.alive_top.specs.declared.reader.fault.ModuleError.{ModuleError}
-use Rattle.alive_top.specs.declared.reader.fault.ModuleError.TheVariants.{Refused, NoMemory}
+use Rattle.alive_top.specs.declared.reader.error.ModuleError.{ModuleError}
+use Rattle.alive_top.specs.declared.reader.error.ModuleError.TheVariants.{Refused, NoMemory}
 use Rattle.alive_top.specs.declared.reader.token.Token.{Token as Scanned}
 use Rattle.alive_top.specs.declared.reader.token.Token.TheVariants as scanned
 use Rattle.alive_top.specs.declared.reader.token.Mark.{Mark}
@@ -19,6 +19,7 @@ abbrev pub Gives : {X Y : Type 0} → (X → Y) → Result X ModuleError → Opt
 Gives view (Ok x) read = read ≡ Some (view x)
 Gives view (Err e) read = Fails e read
 
+-- a step with what the one before gave; where that gave none, so does this
 infixl 10 ◌>>=◌
 abbrev pub ◌>>=◌ : {A B : Type 0} → Option A → (A → Option B) → Option B
 o >>= f = option_and_then f o
@@ -36,7 +37,8 @@ seen_token (scanned.Punctuation mark) = Some (Punctuation mark)
 abbrev pub behind_gap : Bool → List ℕ → List ℕ
 behind_gap in_comment [] = []
 behind_gap true (b ∷ bytes) = if b == 10 then behind_gap false bytes else behind_gap true bytes
-behind_gap false (b ∷ bytes) = if b == 59 then behind_gap true bytes else (if is_blank b then behind_gap false bytes else b ∷ bytes)
+behind_gap false (b ∷ bytes) =
+    if b == 59 then behind_gap true bytes else (if is_blank b then behind_gap false bytes else b ∷ bytes)
 
 -- the longest front of bytes that pass, and what follows it
 abbrev pub front : (ℕ → Bool) → List ℕ → List ℕ
@@ -47,8 +49,15 @@ abbrev pub back : (ℕ → Bool) → List ℕ → List ℕ
 back p [] = []
 back p (b ∷ bytes) = if p b then back p bytes else b ∷ bytes
 
+-- the mark that a byte is
 abbrev pub mark_of : ℕ → Option Mark
-mark_of b = if b == 61 then Some Equals else (if b == 44 then Some Comma else (if b == 40 then Some OpenParen else (if b == 41 then Some CloseParen else (if b == 123 then Some OpenBrace else (if b == 125 then Some CloseBrace else None)))))
+mark_of b =
+    if b == 61 then Some Equals
+    else (if b == 44 then Some Comma
+    else (if b == 40 then Some OpenParen
+    else (if b == 41 then Some CloseParen
+    else (if b == 123 then Some OpenBrace
+    else (if b == 125 then Some CloseBrace else None)))))
 
 -- what stands behind a `%` or a `@`
 unfoldable pub name_at : List ℕ → Option (List ℕ × List ℕ)
@@ -56,12 +65,13 @@ name_at text =
     if begins_with is_digit text then Some (front is_digit text, back is_digit text)
     else (if begins_with is_name_byte text then Some (front is_name_byte text, back is_name_byte text) else None)
 
+-- the word or number at the front
 unfoldable pub word_or_number_at : List ℕ → Option (Option Token × List ℕ)
 word_or_number_at text =
     if begins_with begins_word (front is_name_byte text) then Some (Some (Word (front is_name_byte text)), back is_name_byte text)
     else (if is_number (front is_name_byte text) then Some (Some (Number (front is_name_byte text)), back is_name_byte text) else None)
 
--- the token at a byte that is a mark or not
+-- the token at a byte that is no mark, and at one that is a mark or not
 abbrev pub other_at : ℕ → List ℕ → Option (Option Token × List ℕ)
 other_at b bytes =
     if b == 37 then (name_at bytes >>= λ name. Some (Some (Register name.0), name.1))
@@ -71,6 +81,7 @@ abbrev pub marked_at : Option Mark → ℕ → List ℕ → Option (Option Token
 marked_at (Some mark) b bytes = Some (Some (Punctuation mark), bytes)
 marked_at None b bytes = other_at b bytes
 
+-- the token at the front of a text that begins with no gap
 unfoldable pub token_at : List ℕ → Option (Option Token × List ℕ)
 token_at [] = Some (None, [])
 token_at (b ∷ bytes) = marked_at (mark_of b) b bytes

@@ -3,6 +3,7 @@ use Rattle.std.specs.Prelude.{ℕ}
 use Rattle.alive_top.specs.declared.status.Status.{Status}
 use Rattle.alive_top.specs.declared.status.Status.TheVariants.{Done, Usage, RuleRefused, ModuleRefused, ReadFault, WriteFault, NoMemory}
 
+-- the exit status of the program
 abbrev pub code_of : Status → ℕ
 code_of Done = 0
 code_of Usage = 2

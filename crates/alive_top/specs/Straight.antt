@@ -20,6 +20,7 @@ OperandStands k (operands.Number n) = Unit {0}
 OperandStands k operands.Undef = Unit {0}
 OperandStands k operands.Poison = Unit {0}
 
+-- the same for each operand of an operation, and of a terminator
 abbrev pub OpStands : ℕ → Op → Type 0
 OpStands k (Binary op flags a b) = OperandStands k a × OperandStands k b
 
@@ -36,6 +37,7 @@ pub record IsStraightBlock (block : Block) : Type 0 where
   pub insts : InstsStand 0 block.insts
   pub end : EndStands (length block.insts) block.end
 
+-- the function has one block, which is straight
 pub record IsStraight (f : Function) : Type 0 where
   pub block : Block
   pub blocks : f.blocks ≡ block ∷ []

@@ -5,6 +5,7 @@ use Rattle.alive_top.specs.declared.reader.token.Mark.{Mark}
 use Rattle.alive_top.specs.declared.reader.token.Mark.TheVariants.{Equals, Comma, OpenParen, CloseParen, OpenBrace, CloseBrace}
 use Rattle.alive_top.specs.Bytes.{is_blank, is_digit, begins_name, is_name_byte, begins_word, begins_with}
 
+-- a token: a word, a number, a register, a function's name or a mark
 pub data Token : Type 0 where
   Word : (text : List ℕ) → Token
   Number : (text : List ℕ) → Token
@@ -85,4 +86,6 @@ IsLastGap bytes = IsGap bytes ⊎ ((gap : List ℕ) × (text : List ℕ) × IsGa
 -- the bytes are these tokens, with gaps before, between and behind them
 abbrev pub Spells : List ℕ → List Token → Type 0
 Spells bytes [] = IsLastGap bytes
-Spells bytes (t ∷ ts) = (gap : List ℕ) × (rest : List ℕ) × IsGap gap × IsToken t × IsWhole t rest × (bytes ≡ gap ++ (spelling_of t ++ rest)) × Spells rest ts
+Spells bytes (t ∷ ts) = (gap : List ℕ) × (rest : List ℕ)
+    × IsGap gap × IsToken t × IsWhole t rest
+    × (bytes ≡ gap ++ (spelling_of t ++ rest)) × Spells rest ts

@@ -16,8 +16,15 @@ pub record Asked : Type 0 where
   pub faults_before : ℕ
   pub faults_after : ℕ
 
+-- those values, put together
 abbrev pub asked : (List ℕ → Option (List ℕ)) → Option (List (List ℕ)) → Option (List (List ℕ)) → ℕ → ℕ → Asked
-asked told names_before names_after faults_before faults_after = record { told = told; names_before = names_before; names_after = names_after; faults_before = faults_before; faults_after = faults_after }
+asked told names_before names_after faults_before faults_after = record {
+  told = told;
+  names_before = names_before;
+  names_after = names_after;
+  faults_before = faults_before;
+  faults_after = faults_after;
+}
 
 -- which names were asked for: none, one, or one and then another
 abbrev pub AsksNone : Asked → Type 0
@@ -80,14 +87,21 @@ SourceOf a name (Err Rules) = ⊥
 abbrev pub Refuses : Asked → Optimise → Refusal → Type 0
 Refuses a named Usage = ⊥
 Refuses a named Rules = IfSome (a.told named.rules) IsNoRuleText × AsksOne a named.rules
-Refuses a named Source = IfSome (a.told named.rules) IsRuleText × IfSome (a.told named.source) IsNoModuleText × AsksTwo a named.rules named.source
-Refuses a named (Read n) = Rose a.faults_before a.faults_after × (((n.now ≡ named.rules) × AsksOne a named.rules) ⊎ (IfSome (a.told named.rules) IsRuleText × (n.now ≡ named.source) × AsksTwo a named.rules named.source))
+Refuses a named Source = IfSome (a.told named.rules) IsRuleText
+    × IfSome (a.told named.source) IsNoModuleText × AsksTwo a named.rules named.source
+Refuses a named (Read n) = Rose a.faults_before a.faults_after
+    × (((n.now ≡ named.rules) × AsksOne a named.rules)
+    ⊎ (IfSome (a.told named.rules) IsRuleText
+    × (n.now ≡ named.source) × AsksTwo a named.rules named.source))
 Refuses a named Memory = AsksNone a ⊎ (AsksOne a named.rules ⊎ AsksTwo a named.rules named.source)
 
+-- the work of `optimise`, before anything is written
 abbrev pub OptimiseOf : Asked → Optimise → Result Texts Refusal → Type 0
-OptimiseOf a named (Ok texts) = IfSome (a.told named.rules) IsRuleText × PrintsTold (a.told named.source) texts × AsksTwo a named.rules named.source
+OptimiseOf a named (Ok texts) = IfSome (a.told named.rules) IsRuleText
+    × PrintsTold (a.told named.source) texts × AsksTwo a named.rules named.source
 OptimiseOf a named (Err refusal) = Refuses a named refusal
 
+-- the work of a command, or of words that are none
 abbrev pub WorkOf : Asked → Option Optimise → Result Texts Refusal → Type 0
 WorkOf a (Some named) result = OptimiseOf a named result
 WorkOf a None (Ok texts) = ⊥

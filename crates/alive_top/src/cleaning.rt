@@ -21,7 +21,8 @@ mod tests;
 /// Keeps the needed instructions of a block alone. It takes its memory before it changes the block.
 fn clean_block(alloc: Global, block: &mut Block) -> Result<(), AllocError>
     requires { IsStraightBlock block.old }
-    ensures ok { OnOk result ((marks : Seq Bool) × AreNeededIn block.old marks × (block.new ≡ kept_block marks block.old)) }
+    ensures ok { OnOk result ((marks : Seq Bool)
+        × AreNeededIn block.old marks × (block.new ≡ kept_block marks block.old)) }
     ensures err { OnErr result (block.new ≡ block.old) }
 {
     let marks = needed(alloc, block)?;

@@ -1,7 +1,7 @@
 //! Reads a module of straight-line functions.
 
 mod bytes;
-mod fault;
+mod error;
 mod gap;
 mod module;
 mod names;
@@ -12,6 +12,6 @@ mod read;
 mod scan;
 mod token;
 
-pub(crate) use fault::ModuleError;
+pub(crate) use error::ModuleError;
 pub(crate) use gap::after_gap;
 pub(crate) use read::read_module;

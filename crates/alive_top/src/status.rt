@@ -10,9 +10,9 @@ pub enum Status {
     Done,
     /// The words are not those of a command.
     Usage,
-    /// The rule file was read, and is not one.
+    /// The rule file was read, and holds more than blanks and comments, or more than 1 MiB.
     RuleRefused,
-    /// The module was read, and is not one.
+    /// The module was read, and isn't of the form, or has more than 16 MiB.
     ModuleRefused,
     /// A file could not be read.
     ReadFault,

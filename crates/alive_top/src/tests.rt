@@ -22,7 +22,7 @@ fn strings(alloc: Global, words: &[&str]) -> Result<Vec<String>, Fail> {
 }
 
 /// The status of `optimise` over a rule file `r` and a module `m` in memory, with what it leaves.
-fn optimised<'a>(
+fn optimised(
     alloc: Global,
     rules: &[u8],
     source: &[u8],

@@ -58,7 +58,9 @@ fn read<'a, F: Files>(
     name: &'a str,
     most: usize,
 ) -> Result<Vec<u8>, Refusal<'a>>
-    ensures answer { ReadOf (asked (F.bytes_under files.old) (F.names_asked files.old) (F.names_asked files.new) (F.faults files.old) (F.faults files.new)) name.now
+    ensures answer { ReadOf
+        (asked (F.bytes_under files.old) (F.names_asked files.old) (F.names_asked files.new) (F.faults files.old) (F.faults files.new))
+        name.now
         (λ read. IfSome (F.bytes_under files.old name.now) (λ told. read.items ≡ take most told)) result }
     ensures told_stay { F.bytes_under files.new ≡ F.bytes_under files.old }
     ensures faults_grow { F.faults files.old ≤ F.faults files.new }
@@ -79,7 +81,9 @@ fn is_rule_text(bytes: &[u8]) -> bool
 
 /// Reads the rule file, which has no rules.
 fn read_rules<'a, F: Files>(alloc: Global, files: &mut F, name: &'a str) -> Result<(), Refusal<'a>>
-    ensures answer { RulesOf (asked (F.bytes_under files.old) (F.names_asked files.old) (F.names_asked files.new) (F.faults files.old) (F.faults files.new)) name.now result }
+    ensures answer { RulesOf
+        (asked (F.bytes_under files.old) (F.names_asked files.old) (F.names_asked files.new) (F.faults files.old) (F.faults files.new))
+        name.now result }
     ensures told_stay { F.bytes_under files.new ≡ F.bytes_under files.old }
     ensures faults_grow { F.faults files.old ≤ F.faults files.new }
 {
@@ -115,7 +119,9 @@ fn read_source<'a, F: Files>(
     files: &mut F,
     name: &'a str,
 ) -> Result<Texts, Refusal<'a>>
-    ensures answer { SourceOf (asked (F.bytes_under files.old) (F.names_asked files.old) (F.names_asked files.new) (F.faults files.old) (F.faults files.new)) name.now result }
+    ensures answer { SourceOf
+        (asked (F.bytes_under files.old) (F.names_asked files.old) (F.names_asked files.new) (F.faults files.old) (F.faults files.new))
+        name.now result }
     ensures told_stay { F.bytes_under files.new ≡ F.bytes_under files.old }
     ensures faults_grow { F.faults files.old ≤ F.faults files.new }
 {
@@ -130,7 +136,8 @@ fn optimise<'a, F: Files>(
     rules: &'a str,
     source: &'a str,
 ) -> Result<Texts, Refusal<'a>>
-    ensures answer { OptimiseOf (asked (F.bytes_under files.old) (F.names_asked files.old) (F.names_asked files.new) (F.faults files.old) (F.faults files.new))
+    ensures answer { OptimiseOf
+        (asked (F.bytes_under files.old) (F.names_asked files.old) (F.names_asked files.new) (F.faults files.old) (F.faults files.new))
         (record { rules = rules.now; source = source.now }) result }
     ensures told_stay { F.bytes_under files.new ≡ F.bytes_under files.old }
     ensures faults_grow { F.faults files.old ≤ F.faults files.new }
@@ -145,7 +152,8 @@ fn work<'a, F: Files>(
     words: &'a [String],
     files: &mut F,
 ) -> Result<Texts, Refusal<'a>>
-    ensures answer { WorkOf (asked (F.bytes_under files.old) (F.names_asked files.old) (F.names_asked files.new) (F.faults files.old) (F.faults files.new))
+    ensures answer { WorkOf
+        (asked (F.bytes_under files.old) (F.names_asked files.old) (F.names_asked files.new) (F.faults files.old) (F.faults files.new))
         (command_of (map string_bytes words.now)) result }
     ensures told_stay { F.bytes_under files.new ≡ F.bytes_under files.old }
     ensures faults_grow { F.faults files.old ≤ F.faults files.new }
@@ -171,9 +179,7 @@ fn tell<E: Sink>(line: &[u8], err: &mut E)
     ensures told { Told (fed (E.written err.old) (E.written err.new) (E.faults err.old) (E.faults err.new)) line.now }
     ensures faults_grow { E.faults err.old ≤ E.faults err.new }
 {
-    match err.put(line) {
-        Ok(()) | Err(_) => (),
-    }
+    let _ = err.put(line);
 }
 
 /// Puts a refusal's line, and gives its status, which stays if the put fails.
@@ -256,6 +262,8 @@ fn run<F: Files, O: Sink, E: Sink>(
 ///
 /// `optimise RULES MODULE` reads both files and writes the module, each function with its needed instructions alone, to `out` and
 /// a report to `err`. What it writes may stand in the place of what it read.
+///
+/// A rule file of more than 1 MiB and a module of more than 16 MiB are refused. The status says how it ended.
 pub fn alive<F: Files, O: Sink, E: Sink>(
     alloc: Global,
     words: &Vec<String>,

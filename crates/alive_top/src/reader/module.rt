@@ -8,7 +8,7 @@ ghost use Rattle.alive_top.specs.Meaning.{AreDistinct, IsType, IsLiteral, Module
 ghost use Rattle.alive_top.specs.Resolving.{Gives, fold_in, width_in, seen_entries, Known, number_in, truth_in, operand_in, parameter_in, all_parameters_in, inst_in, all_insts_in, body_in, plain_in, returned_in, function_in, entry_in};
 
 use crate::reader::bytes::is_digit;
-use crate::reader::fault::ModuleError;
+use crate::reader::error::ModuleError;
 use crate::reader::names::{Entity, Scope, define, enter_block, find, register_at};
 use crate::reader::number::{literal, width_of};
 use crate::reader::raw::{RawFunction, RawInst, RawParameter, RawValue};
@@ -31,7 +31,8 @@ fn width(word: &[u8]) -> Result<Width, ModuleError>
 #[tactic(auto, unfolding(crate::specs::Resolving::number_in))]
 fn number(width: Width, text: &[u8]) -> Result<Operand, ModuleError>
     ensures gives { Gives (λ x. x) result (number_in width text.now) }
-    ensures ok { IfOk result (λ x. (n : ℕ) × (x ≡ Operand.Number (record { width = width; number = n })) × IsLiteral width text.now n) }
+    ensures ok { IfOk result (λ x. (n : ℕ)
+        × (x ≡ Operand.Number (record { width = width; number = n })) × IsLiteral width text.now n) }
     ensures err { OnErr result ((n : ℕ) → IsLiteral width text.now n → ⊥) }
 {
     match literal(width, text) {
@@ -63,7 +64,8 @@ fn register(
     width: Width,
     text: &[u8],
 ) -> Result<Operand, ModuleError>
-    ensures { Gives (λ x. x) result (operand_in parameters (seen_entries scope.now.entries) width (Register_named text.now)) }
+    ensures { Gives (λ x. x) result
+        (operand_in parameters (seen_entries scope.now.entries) width (Register_named text.now)) }
 {
     match find(scope, text) {
         Some((place, Entity::Register(bits))) if bits == width.bits() => {
@@ -83,7 +85,8 @@ fn operand(
     width: Width,
     value: RawValue<'_>,
 ) -> Result<Operand, ModuleError>
-    ensures { Gives (λ x. x) result (operand_in parameters (seen_entries scope.now.entries) width (seen_value value.entry)) }
+    ensures { Gives (λ x. x) result
+        (operand_in parameters (seen_entries scope.now.entries) width (seen_value value.entry)) }
 {
     match value {
         RawValue::Register(text) => register(scope, parameters, width, text),
@@ -103,7 +106,8 @@ fn parameter<'a>(
     next_number: u64,
     raw: &RawParameter<'a>,
 ) -> Result<(Parameter, u64), ModuleError>
-    ensures { Gives (λ x. (seen_entries scope.new.entries, x.0, x.1)) result (parameter_in (seen_entries scope.old.entries) next_number (seen_parameter raw.now)) }
+    ensures { Gives (λ x. (seen_entries scope.new.entries, x.0, x.1)) result
+        (parameter_in (seen_entries scope.old.entries) next_number (seen_parameter raw.now)) }
 {
     let width = width(raw.width)?;
     let (name, next_number) = define(alloc, scope, next_number, raw.name, width)?;
@@ -117,7 +121,9 @@ fn parameters<'a>(
     scope: &mut Scope<'a>,
     raw: &[RawParameter<'a>],
 ) -> Result<(Vec<Parameter>, u64), ModuleError>
-    ensures { Gives (λ x. record { known = seen_entries scope.new.entries; next = x.1; parameters = x.0.items }) result (all_parameters_in (seen_entries scope.old.entries) (map seen_parameter raw.now)) }
+    ensures { Gives
+        (λ x. record { known = seen_entries scope.new.entries; next = x.1; parameters = x.0.items })
+        result (all_parameters_in (seen_entries scope.old.entries) (map seen_parameter raw.now)) }
 {
     let mut parameters = Vec::new(alloc);
     let mut next_number = 0;
@@ -138,7 +144,8 @@ fn inst<'a>(
     next_number: u64,
     raw: &RawInst<'a>,
 ) -> Result<(Inst, u64), ModuleError>
-    ensures { Gives (λ x. (seen_entries scope.new.entries, x.0, x.1)) result (inst_in parameters (seen_entries scope.old.entries) next_number (seen_inst raw.now)) }
+    ensures { Gives (λ x. (seen_entries scope.new.entries, x.0, x.1)) result
+        (inst_in parameters (seen_entries scope.old.entries) next_number (seen_inst raw.now)) }
 {
     let width = width(raw.width)?;
     let left = operand(scope, parameters, width, raw.left)?;
@@ -156,7 +163,8 @@ fn insts<'a>(
     next_number: u64,
     raw: &[RawInst<'a>],
 ) -> Result<Vec<Inst>, ModuleError>
-    ensures { Gives (λ v. (seen_entries scope.new.entries, v.items)) result (all_insts_in parameters (seen_entries scope.old.entries) next_number (map seen_inst raw.now)) }
+    ensures { Gives (λ v. (seen_entries scope.new.entries, v.items)) result
+        (all_insts_in parameters (seen_entries scope.old.entries) next_number (map seen_inst raw.now)) }
 {
     let mut insts = Vec::new(alloc);
     let mut next_number = next_number;
@@ -260,7 +268,8 @@ fn resolved(alloc: Global, raw: &[RawFunction<'_>]) -> Result<Vec<Entry>, Module
 /// The entries of a module, whose functions have different names.
 pub(crate) fn entries(alloc: Global, raw: &[RawFunction<'_>]) -> Result<Vec<Entry>, ModuleError>
     ensures ok { IfOk result (λ es. ModuleMeans (seen_functions raw.now) (record { entries = es.items })) }
-    ensures refused { IsErrOf result ModuleError.Refused → (m : Module) → ModuleMeans (seen_functions raw.now) m → ⊥ }
+    ensures refused { IsErrOf result ModuleError.Refused
+        → (m : Module) → ModuleMeans (seen_functions raw.now) m → ⊥ }
 {
     if !names_differ(alloc, raw)? {
         return Err(ModuleError::Refused);

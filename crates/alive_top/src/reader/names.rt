@@ -9,7 +9,7 @@ ghost use Rattle.alive_top.specs.Resolving.{Gives, seen_entries, lookup_in, find
 
 use crate::identifier::Identifier;
 use crate::reader::bytes::is_digit;
-use crate::reader::fault::ModuleError;
+use crate::reader::error::ModuleError;
 use crate::reader::number::decimal_number;
 use indexmap::IndexMap;
 use ir_core::Register;
@@ -30,7 +30,9 @@ pub(crate) type Scope<'a> = IndexMap<Identifier<'a>, Entity>;
 
 /// What a written name or number calls. No register has a number of 2 ^ 64 or more.
 fn identifier(text: &[u8]) -> Option<Identifier<'_>>
-    ensures { MatchOption result ((begins_with is_digit text.now ≡ true) × (2 ^ 64 ≤ decimal_value text.now)) (λ i. seen i ≡ called text.now) }
+    ensures { MatchOption result
+        ((begins_with is_digit text.now ≡ true) × (2 ^ 64 ≤ decimal_value text.now))
+        (λ i. seen i ≡ called text.now) }
 {
     match text {
         [first, ..] if is_digit(*first) => Some(Identifier::Numbered(decimal_number(text)?)),
@@ -44,8 +46,11 @@ fn put<'a>(
     identifier: Identifier<'a>,
     entity: Entity,
 ) -> Result<bool, AllocError>
-    ensures new { IfOk result (λ new. new ≡ is_none (lookup_in (seen_entries scope.old.entries) (seen identifier.entry))) }
-    ensures added { IfOk result (λ new. new ≡ true → seen_entries scope.new.entries ≡ seen_entries scope.old.entries ++ (seen identifier.entry, entity) ∷ []) }
+    ensures new { IfOk result (λ new.
+        new ≡ is_none (lookup_in (seen_entries scope.old.entries) (seen identifier.entry))) }
+    ensures added { IfOk result (λ new. new ≡ true
+        → seen_entries scope.new.entries
+        ≡ seen_entries scope.old.entries ++ (seen identifier.entry, entity) ∷ []) }
 {
     Ok(scope.insert(identifier, entity)?.is_none())
 }
@@ -57,7 +62,8 @@ fn add<'a>(
     identifier: Identifier<'a>,
     entity: Entity,
 ) -> Result<(), ModuleError>
-    ensures { Gives (λ _. seen_entries scope.new.entries) result (add_in (seen_entries scope.old.entries) (seen identifier.entry) entity) }
+    ensures { Gives (λ _. seen_entries scope.new.entries) result
+        (add_in (seen_entries scope.old.entries) (seen identifier.entry) entity) }
 {
     if put(scope, identifier, entity)? {
         Ok(())
@@ -75,7 +81,8 @@ pub(crate) fn define<'a>(
     text: &'a [u8],
     width: Width,
 ) -> Result<(Option<Text>, u64), ModuleError>
-    ensures { Gives (λ x. (seen_entries scope.new.entries, x.0, x.1)) result (define_in (seen_entries scope.old.entries) next_number text.now width) }
+    ensures { Gives (λ x. (seen_entries scope.new.entries, x.0, x.1)) result
+        (define_in (seen_entries scope.old.entries) next_number text.now width) }
 {
     match identifier(text) {
         Some(Identifier::Named(name)) => {
@@ -109,7 +116,8 @@ fn number_after(number: u64) -> Result<u64, ModuleError>
 /// Adds the first block, which has no label and takes a number. Gives the next number.
 #[tactic(auto, unfolding(crate::specs::Resolving::enter_in))]
 pub(crate) fn enter_block(scope: &mut Scope<'_>, next_number: u64) -> Result<u64, ModuleError>
-    ensures { Gives (λ n. (seen_entries scope.new.entries, n)) result (enter_in (seen_entries scope.old.entries) next_number) }
+    ensures { Gives (λ n. (seen_entries scope.new.entries, n)) result
+        (enter_in (seen_entries scope.old.entries) next_number) }
 {
     add(scope, Identifier::Numbered(next_number), Entity::Block)?;
     number_after(next_number)
@@ -136,7 +144,9 @@ pub(crate) fn find(scope: &Scope<'_>, text: &[u8]) -> Option<(usize, Entity)>
     }
 }
 
-/// The register at a place in text order behind which so many parameters stand. A function with 2 ^ 32 registers has no places for them.
+/// The register at a place in text order, where the first `parameters` places are parameters and the next is the block.
+///
+/// None where the register's number is 2 ^ 32 or more.
 #[tactic(auto, unfolding(crate::specs::Resolving::register_at))]
 pub(crate) fn register_at(parameters: usize, place: usize) -> Option<Register>
     ensures { IfSome result (λ r. r ≡ register_at parameters place) }

@@ -58,8 +58,9 @@ pub(crate) fn width_of(word: &[u8]) -> Option<Width>
     }
 }
 
-/// The word that a literal number means at a width. The literal is from -2 ^ (N - 1) to 2 ^ N - 1, and means that number
-/// modulo 2 ^ N.
+/// The word that a literal number means at a width.
+///
+/// At N bits the literal is from -2 ^ (N - 1) to 2 ^ N - 1, and means that number modulo 2 ^ N.
 #[tactic(auto, unfolding(crate::specs::Resolving::literal_in))]
 pub(crate) fn literal(width: Width, text: &[u8]) -> Option<Word>
     ensures { result ≡ option_map (λ n. record { width = width; number = n }) (literal_in width text.now) }

@@ -2,7 +2,7 @@ ghost use Rattle.std.specs.Prelude.{◌≡◌, IfOk, IsErrOf};
 ghost use Rattle.ir_core.specs.declared.module.Module.{Module};
 ghost use Rattle.alive_top.specs.Meaning.{Reads};
 
-use crate::reader::fault::ModuleError;
+use crate::reader::error::ModuleError;
 use crate::reader::module::entries;
 use crate::reader::parse::functions;
 use ir_core::Module;

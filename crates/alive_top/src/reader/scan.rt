@@ -6,7 +6,7 @@ ghost use Rattle.alive_top.specs.Tokens.{are_digits, is_word, is_number};
 ghost use Rattle.alive_top.specs.Scanning.{Gives, front, back, mark_of, name_at, word_or_number_at, token_at, next_at, seen_token};
 
 use crate::reader::bytes::{begins_name, is_digit, is_name_byte};
-use crate::reader::fault::ModuleError;
+use crate::reader::error::ModuleError;
 use crate::reader::gap::after_gap;
 use crate::reader::token::{Mark, Token};
 

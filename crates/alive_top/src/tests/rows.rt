@@ -13,9 +13,41 @@ struct Row {
     err: &'static str,
 }
 
-const WORDS: [Row; 2] = [
+const WORDS: [Row; 6] = [
+    Row {
+        words: &[],
+        rules: "; none",
+        source: IDENTITY,
+        status: 2,
+        out: "",
+        err: "error: words\n",
+    },
+    Row {
+        words: &["alive"],
+        rules: "; none",
+        source: IDENTITY,
+        status: 2,
+        out: "",
+        err: "error: words\n",
+    },
     Row {
         words: &["alive", "optimise", "r"],
+        rules: "; none",
+        source: IDENTITY,
+        status: 2,
+        out: "",
+        err: "error: words\n",
+    },
+    Row {
+        words: &["alive", "optimise", "r", "m", "m"],
+        rules: "; none",
+        source: IDENTITY,
+        status: 2,
+        out: "",
+        err: "error: words\n",
+    },
+    Row {
+        words: &["alive", "verify", "r", "m"],
         rules: "; none",
         source: IDENTITY,
         status: 2,
@@ -101,10 +133,7 @@ fn check<R: Abort + AllocGlobal>(rt: &R, row: &Row) -> Result<(), Fail> {
 
 #[test]
 fn commands_leave_what_they_say(rt: HostRuntime) -> Result<(), Fail> {
-    for row in &WORDS {
-        check(&rt, row)?;
-    }
-    for row in &MODULES {
+    for row in WORDS.iter().chain(MODULES.iter()) {
         check(&rt, row)?;
     }
     Ok(())

@@ -1,5 +1,5 @@
 ghost use Rattle.std.specs.Prelude.{◌≡◌};
-ghost use Rattle.alive_top.specs.declared.reader.fault.ModuleError.TheVariants.{NoMemory};
+ghost use Rattle.alive_top.specs.declared.reader.error.ModuleError.TheVariants.{NoMemory};
 
 use std::alloc::{AllocError, AllocFailed};
 
