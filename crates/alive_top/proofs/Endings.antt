@@ -11,6 +11,7 @@ use Rattle.alive_top.specs.Commands.{Optimise, IsRuleText, IsModuleText, IsOptim
 use Rattle.alive_top.specs.Working.{Asked, AsksNone, AsksOne, AsksTwo, IsNoRuleText, IsNoModuleText, PrintsTold, WorkOf}
 use Rattle.alive_top.specs.declared.top.Texts.{Texts}
 use Rattle.alive_top.specs.Printing.{text_of, report_of}
+use Rattle.alive_top.specs.Strategy.{Tally}
 use Rattle.alive_top.specs.Endings.{Fed, Gained, GainedNothing, Told, read_fault_line, WroteSome, RefusedAs, WrittenAs, Ends, EndsFor, StopsAtRules, StopsAtSource, IsDoneOrNoMemory, AreGood}
 
 -- which file could not be read
@@ -88,8 +89,8 @@ rules_stop (Some named) a out err statuses.NoMemory e = always (a.told named.rul
 pub source_stops : (command : Option Optimise) (a : Asked) (out err : Fed) (status : Status) → EndsFor command a out err status → IfSome command (λ named. IfSome (a.told named.source) (λ bytes. IsNoModuleText bytes → StopsAtSource status))
 source_stops None a out err status e = tt
 source_stops (Some named) a out err statuses.Usage e = absurd e
-source_stops (Some named) a out err statuses.Done e = stops (a.told named.source) e.5 (λ bytes is none. none is.1.read is.1.source)
-source_stops (Some named) a out err statuses.WriteFault e = stops (a.told named.source) e.5 (λ bytes is none. none is.1.read is.1.source)
+source_stops (Some named) a out err statuses.Done e = stops (a.told named.source) e.5 (λ bytes is none. none is.2.read is.2.source)
+source_stops (Some named) a out err statuses.WriteFault e = stops (a.told named.source) e.5 (λ bytes is none. none is.2.read is.2.source)
 source_stops (Some named) a out err statuses.ModuleRefused e = always (a.told named.source) (λ bytes none. tt)
 source_stops (Some named) a out err statuses.RuleRefused e = always (a.told named.source) (λ bytes none. tt)
 source_stops (Some named) a out err statuses.ReadFault e = always (a.told named.source) (λ bytes none. tt)
@@ -102,12 +103,12 @@ done_rules command a out err status e h = at command (subst (EndsFor command a o
     at None e = absurd e
     at (Some named) e = e.1
 
-pub done_module : (command : Option Optimise) (a : Asked) (out err : Fed) (status : Status) → EndsFor command a out err status → status ≡ statuses.Done → IfSome command (λ named. IfSome (a.told named.source) (λ bytes. (new : Module) × IsOptimised bytes new × (Gained out (text_of new) × Gained err (report_of new))))
+pub done_module : (command : Option Optimise) (a : Asked) (out err : Fed) (status : Status) → EndsFor command a out err status → status ≡ statuses.Done → IfSome command (λ named. IfSome (a.told named.source) (λ bytes. (new : Module) × (tallies : List Tally) × IsOptimised bytes new tallies × (Gained out (text_of new) × Gained err (report_of new tallies))))
 done_module command a out err status e h = at command (subst (EndsFor command a out err) h e)
   where
-    at : (command : Option Optimise) → EndsFor command a out err statuses.Done → IfSome command (λ named. IfSome (a.told named.source) (λ bytes. (new : Module) × IsOptimised bytes new × (Gained out (text_of new) × Gained err (report_of new))))
+    at : (command : Option Optimise) → EndsFor command a out err statuses.Done → IfSome command (λ named. IfSome (a.told named.source) (λ bytes. (new : Module) × (tallies : List Tally) × IsOptimised bytes new tallies × (Gained out (text_of new) × Gained err (report_of new tallies))))
     at None e = absurd e
-    at (Some named) e = stops (a.told named.source) e.5 (λ bytes p. (p.0, p.1, (subst (λ (t : List ℕ). Gained out t) p.2 e.4.0, subst (λ (t : List ℕ). Gained err t) p.3 e.4.1)))
+    at (Some named) e = stops (a.told named.source) e.5 (λ bytes p. (p.0, p.1, p.2, (subst (λ (t : List ℕ). Gained out t) p.3 e.4.0, subst (λ (t : List ℕ). Gained err t) p.4 e.4.1)))
 
 pub reads_fail : (command : Option Optimise) (a : Asked) (out err : Fed) (status : Status) → EndsFor command a out err status → status ≡ statuses.ReadFault → Rose a.faults_before a.faults_after
 reads_fail command a out err status e h = at command (subst (EndsFor command a out err) h e)

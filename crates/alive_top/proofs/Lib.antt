@@ -35,3 +35,4 @@ pub mod MarkLemmas
 pub mod KeptLemmas
 pub mod CleanedLemmas
 pub mod Readings
+pub mod Reports

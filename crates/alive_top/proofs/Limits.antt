@@ -28,7 +28,7 @@ no_rule_told (Some told) items h refused = λ is. refused (subst IsRuleText (sym
 
 prints_told : (o : Option (List ℕ)) (items : List ℕ) (texts : Texts) → IfSome o (λ told. items ≡ take (source_limit + 1) told) → Prints items texts.out.items texts.err.items → PrintsTold o texts
 prints_told None items texts h p = tt
-prints_told (Some told) items texts h p = subst (λ (bytes : List ℕ). Prints bytes texts.out.items texts.err.items) (within source_limit told items h p.1.source.short) p
+prints_told (Some told) items texts h p = subst (λ (bytes : List ℕ). Prints bytes texts.out.items texts.err.items) (within source_limit told items h p.2.source.short) p
 
 no_module_told : (o : Option (List ℕ)) (items : List ℕ) → IfSome o (λ told. items ≡ take (source_limit + 1) told) → IsNoModuleText items → IfSome o IsNoModuleText
 no_module_told None items h refused = tt

@@ -29,9 +29,9 @@ kept_well_formed (raw ∷ raws) (entries.Function f ∷ ds) (entries.Function g 
 kept_well_formed (raw ∷ raws) (entries.Function f ∷ ds) (entries.Function g ∷ es) h c (suc k) d lt = kept_well_formed raws ds es h.1 c.1 k d (omega arith)
 
 pub written_has_outcomes : ModulesWrittenHaveOutcomes
-written_has_outcomes bytes new f is h args a n =
+written_has_outcomes bytes new tallies f is h args a n =
     let reads = is.source.reads in
-    has_outcomes f (subst EntryIsWellFormed h.2 (kept_well_formed reads.functions is.read.entries new.entries reads.means.entries is.cleaned h.0 (entries.Function f) h.1)) args a n
+    has_outcomes f (subst EntryIsWellFormed h.2 (kept_well_formed reads.functions is.read.entries new.entries reads.means.entries is.strategy.cleaned h.0 (entries.Function f) h.1)) args a n
 
 entries_one : (raws : List RawFunction) (ds es : List Entry) → EntriesMean raws ds → EntriesMean raws es → ds ≡ es
 entries_one [] [] [] h c = refl

@@ -1,5 +1,5 @@
 -- The laws of straight-line functions for the modules that are read.
-use Rattle.std.proofs.Common.{ℕ, zero, suc, ◌<◌, List, [], ◌∷◌, length, subst, arith, Contains}
+use Rattle.std.proofs.Common.{map, refl, ℕ, zero, suc, ◌<◌, List, [], ◌∷◌, length, subst, arith, Contains}
 use Rattle.std.specs.Prelude.{◌≤◌, slice_index_or}
 use Rattle.ir_core.specs.Refines.{EntriesRefine}
 use Rattle.ir_core.specs.declared.module.Module.{Module}
@@ -9,6 +9,7 @@ use Rattle.ir_core.specs.declared.module.Function.{Function}
 use Rattle.alive_top.specs.Grammar.{RawFunction}
 use Rattle.alive_top.specs.Meaning.{EntriesMean, ModuleMeans, Reads}
 use Rattle.alive_top.specs.Cleaning.{EntriesCleaned, ModuleCleaned}
+use Rattle.alive_top.specs.Strategy.{no_step}
 use Rattle.alive_top.specs.Commands.{IsOptimised, source_limit}
 use Rattle.alive_top.specs.WellFormed.{IsWellFormed}
 use Rattle.alive_top.specs.Laws.{ModulesReadHaveOutcomes, CleanedModulesRefine}
@@ -48,10 +49,10 @@ pub modules_refine : CleanedModulesRefine
 modules_refine raws m n means cleaned = entries_refine raws m.entries n.entries means.entries cleaned
 
 -- a module that was read, and cleaned then, may stand in the place of the one that was read
-pub optimised : (bytes : List ℕ) (read new : Module) → length bytes ≤ source_limit → Reads bytes read → ModuleCleaned read new → IsOptimised bytes new
+pub optimised : (bytes : List ℕ) (read new : Module) → length bytes ≤ source_limit → Reads bytes read → ModuleCleaned read new → IsOptimised bytes new (map (λ entry. no_step) new.entries)
 optimised bytes read new short reads cleaned = record {
   read = read;
   source = record { short = short; reads = reads };
-  cleaned = cleaned;
+  strategy = record { cleaned = cleaned; unchanged = refl };
   refines = modules_refine reads.functions read new reads.means cleaned;
 }

@@ -5,7 +5,7 @@ use Rattle.ir_core.specs.Refines.{ModuleRefines}
 use Rattle.ir_core.specs.declared.module.Module.{Module}
 use Rattle.alive_top.specs.Tokens.{IsLastGap}
 use Rattle.alive_top.specs.Meaning.{Reads}
-use Rattle.alive_top.specs.Cleaning.{ModuleCleaned}
+use Rattle.alive_top.specs.Strategy.{Tally, StrategyGives}
 use Rattle.alive_top.specs.Printing.{text_of, report_of}
 
 -- `optimise` and its two files
@@ -36,13 +36,14 @@ pub record IsModuleText (bytes : List ℕ) (m : Module) : Type 0 where
   pub short : length bytes ≤ source_limit
   pub reads : Reads bytes m
 
--- The module that `optimise` writes for the text of another: the needed instructions of that alone, and it may stand in its place.
-pub record IsOptimised (bytes : List ℕ) (new : Module) : Type 0 where
+-- The module that `optimise` writes for the text of another: what the plain strategy gives, which may stand in its place.
+pub record IsOptimised (bytes : List ℕ) (new : Module) (tallies : List Tally) : Type 0 where
   pub read : Module
   pub source : IsModuleText bytes read
-  pub cleaned : ModuleCleaned read new
+  pub strategy : StrategyGives read new tallies
   pub refines : ModuleRefines read new
 
 -- the printed form of that module, and the report on it
 abbrev pub Prints : List ℕ → List ℕ → List ℕ → Type 0
-Prints bytes out err = (new : Module) × IsOptimised bytes new × (out ≡ text_of new) × (err ≡ report_of new)
+Prints bytes out err = (new : Module) × (tallies : List Tally) × IsOptimised bytes new tallies
+    × (out ≡ text_of new) × (err ≡ report_of new tallies)

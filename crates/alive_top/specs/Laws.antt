@@ -1,6 +1,7 @@
 -- Laws of functions that are read, and of cleaning.
 use Rattle.std.specs.Prelude.{◌≡◌, ℕ, List, Contains}
 use Rattle.alive_top.specs.Commands.{IsOptimised}
+use Rattle.alive_top.specs.Strategy.{Tally}
 use Rattle.ops.specs.declared.value.Value.{Value}
 use Rattle.ir_core.specs.Assigned.{UsesAreAssigned}
 use Rattle.ir_core.specs.Refines.{AreArguments, Refines, ModuleRefines}
@@ -51,9 +52,12 @@ CleanedFunctionsAreWellFormed = (f g : Function) → IsWellFormed f → IsCleane
 abbrev pub CleanedModulesRefine : Type 0
 CleanedModulesRefine = (raws : List RawFunction) (m n : Module) → ModuleMeans raws m → ModuleCleaned m n → ModuleRefines m n
 
--- so does each function of a module that is written
+-- and each function of a module that is written
 abbrev pub ModulesWrittenHaveOutcomes : Type 0
-ModulesWrittenHaveOutcomes = (bytes : List ℕ) (new : Module) (f : Function) → IsOptimised bytes new → Contains new.entries (entries.Function f) → (args : List Value) → AreArguments f.parameters args → (n : ℕ) → (o : Outcome) × HasZeroOutcome f args n o × HasOutcome f args n o
+ModulesWrittenHaveOutcomes = (bytes : List ℕ) (new : Module) (tallies : List Tally) (f : Function)
+    → IsOptimised bytes new tallies → Contains new.entries (entries.Function f)
+    → (args : List Value) → AreArguments f.parameters args
+    → (n : ℕ) → (o : Outcome) × HasZeroOutcome f args n o × HasOutcome f args n o
 
 -- a text has one reading
 abbrev pub TextsHaveOneReading : Type 0

@@ -17,4 +17,5 @@ pub mod Endings
 pub mod WellFormed
 pub mod Laws
 pub mod Straight
+pub mod Strategy
 pub mod Marking

@@ -1,6 +1,5 @@
 -- The printed form of a module: one function of the module. Each line ends by a line feed.
 use Rattle.std.specs.Prelude.{ℕ, suc, ◌-◌, ◌^◌, ◌==◌, nat_lt, if◌then◌else◌, List, [], ◌∷◌, ◌++◌, Option, None, Some, codes, decimal}
-use Rattle.std.specs.List.{flat_map}
 use Rattle.ops.specs.Number.{Number}
 use Rattle.ops.specs.declared.opcode.Opcode.{Opcode}
 use Rattle.ops.specs.declared.opcode.Opcode.TheVariants.{Add, Sub, And, Or, Xor}
@@ -20,6 +19,7 @@ use Rattle.ir_core.specs.declared.module.Operand.TheVariants as operands
 use Rattle.ir_core.specs.declared.module.Register.TheVariants as registers
 use Rattle.ir_core.specs.declared.module.Terminator.{Terminator}
 use Rattle.ir_core.specs.declared.module.Terminator.TheVariants as terminators
+use Rattle.alive_top.specs.Strategy.{Tally}
 
 -- a register: its name, or its number in the series
 unfoldable pub register_text : Option Identifier → List ℕ
@@ -120,10 +120,21 @@ entries_text (e ∷ d ∷ es) = entry_text e ++ codes "\n" ++ entries_text (d �
 abbrev pub text_of : Module → List ℕ
 text_of m = entries_text m.entries
 
--- the report's line of an entry: its function was not rewritten
-unfoldable pub entry_report : Entry → List ℕ
-entry_report (entries.Function f) = codes "@" ++ f.name ++ codes ": 0 rewrites\n"
+-- the report's line of a function: how often it was rewritten, and whether that was limited
+unfoldable pub function_report : Function → Tally → List ℕ
+function_report f tally =
+    codes "@" ++ f.name ++ codes ": " ++ decimal tally.rewrites ++ codes " rewrites"
+    ++ (if tally.limited then codes ", limit" else []) ++ codes "\n"
 
--- the report: a line for each function
-abbrev pub report_of : Module → List ℕ
-report_of m = flat_map entry_report m.entries
+-- the report's line of an entry
+abbrev pub entry_report : Entry → Tally → List ℕ
+entry_report (entries.Function f) tally = function_report f tally
+
+-- the lines of the entries in order
+abbrev pub entries_report : List Entry → List Tally → List ℕ
+entries_report (e ∷ es) (tally ∷ tallies) = entry_report e tally ++ entries_report es tallies
+entries_report es tallies = []
+
+-- the report on a module: a line for each function
+abbrev pub report_of : Module → List Tally → List ℕ
+report_of m tallies = entries_report m.entries tallies

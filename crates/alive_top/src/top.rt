@@ -1,8 +1,9 @@
 //! The top call.
 
-ghost use Rattle.std.specs.Prelude.{◌≡◌, ◌≤◌, ◌+◌, ◌<◌, ◌^◌, ◌++◌, take, length, codes, map, string_bytes, Some, None, IfOk, IfSome, OnOk, IsSomeAnd, IsTrue, ◌↔◌, ◌≢◌, ◌⊎◌};
+ghost use Rattle.std.specs.Prelude.{List, ◌≡◌, ◌≤◌, ◌+◌, ◌<◌, ◌^◌, ◌++◌, take, length, codes, map, string_bytes, Some, None, IfOk, IfSome, OnOk, IsSomeAnd, IsTrue, ◌↔◌, ◌≢◌, ◌⊎◌};
 ghost use Rattle.alive_top.specs.Commands.{command_of, IsRuleText, IsOptimised};
 ghost use Rattle.alive_top.specs.Printing.{text_of, report_of};
+ghost use Rattle.alive_top.specs.Strategy.{Tally};
 ghost use Rattle.ir_core.specs.declared.module.Module.{Module};
 ghost use Rattle.outside.specs.Sink.{Appends};
 ghost use Rattle.alive_top.specs.Working.{asked, ReadOf, RulesOf, TextsOf, SourceOf, OptimiseOf, WorkOf, IsNoRuleText, IsNoModuleText};
@@ -284,9 +285,9 @@ pub fn alive<F: Files, O: Sink, E: Sink>(
     // With status 0 the module's bytes, where they are told, are the text of a module; and what was written is the text and the
     // report of the one that has its needed instructions alone, and refines it.
     ensures done_module { result.status ≡ Status.Done → IfSome (command_of (map string_bytes words.now.items)) (λ named.
-        IfSome (F.bytes_under files.old named.source) (λ bytes. (new : Module) × IsOptimised bytes new
+        IfSome (F.bytes_under files.old named.source) (λ bytes. (new : Module) × (tallies : List Tally) × IsOptimised bytes new tallies
         × (Appends (O.written out.old) (O.written out.new) (text_of new)
-        × Appends (E.written err.old) (E.written err.new) (report_of new)))) }
+        × Appends (E.written err.old) (E.written err.new) (report_of new tallies)))) }
 
     // With the other statuses, but that of a write fault, the output is as it was.
     ensures untouched { result.status ≢ Status.Done → result.status ≢ Status.WriteFault → out.new ≡ out.old }

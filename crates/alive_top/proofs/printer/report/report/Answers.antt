@@ -1,0 +1,12 @@
+use Rattle.std.proofs.Common.{ap, take, sym, ◌∙◌, List, ℕ}
+use Rattle.std.proofs.lemmas.List.{take_all}
+use Rattle.std.specs.List.{flat_map}
+use Rattle.ir_core.specs.declared.module.Entry.{Entry}
+use Rattle.alive_top.specs.Printing.{entry_report}
+use Rattle.alive_top.specs.Strategy.{no_step}
+use Rattle.alive_top.proofs.Reports.{lines_are}
+use Rattle.alive_top.proofs.printer.report.report.Goals as goal
+
+pub returns : goal.returns
+returns c = let e = c.as_slice-entry-items.ensures in
+    c.loop-entry.invariant ∙ ap (λ (es : List Entry). flat_map (λ entry. entry_report entry no_step) es) (take_all c.loop-entry.entry-index c.as_slice-entry-items.result.now c.loop-entry-test.false ∙ e) ∙ lines_are c.args.module.now.entries
