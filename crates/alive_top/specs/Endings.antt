@@ -72,8 +72,7 @@ WrittenAs texts out err statuses.NoMemory = ⊥
 abbrev pub Worked : Asked → Optimise → (List ℕ → List ℕ → Type 0) → Type 0
 Worked a named Wrote = AsksTwo a named.rules named.source
     × IfSome (a.told named.rules) IsRuleText
-    × IfSome (a.told named.source)
-    (λ bytes. (new : Module) × IsOptimised bytes new × Wrote (text_of new) (report_of new))
+    × IfSome (a.told named.source) (λ bytes. (new : Module) × IsOptimised bytes new × Wrote (text_of new) (report_of new))
 
 -- how each status comes under `optimise`
 abbrev pub Ends : Asked → Optimise → Fed → Fed → Status → Type 0
@@ -87,8 +86,7 @@ Ends a named out err statuses.ModuleRefused = IfSome (a.told named.rules) IsRule
     × AsksTwo a named.rules named.source × GainedNothing out × Told err (codes "module refused\n")
 Ends a named out err statuses.ReadFault = Rose a.faults_before a.faults_after × GainedNothing out
     × ((AsksOne a named.rules × Told err (read_fault_line named.rules))
-    ⊎ (IfSome (a.told named.rules) IsRuleText
-    × AsksTwo a named.rules named.source × Told err (read_fault_line named.source)))
+    ⊎ (IfSome (a.told named.rules) IsRuleText × AsksTwo a named.rules named.source × Told err (read_fault_line named.source)))
 Ends a named out err statuses.NoMemory = (AsksNone a ⊎ (AsksOne a named.rules ⊎ AsksTwo a named.rules named.source))
     × GainedNothing out × Told err (codes "want of memory\n")
 

@@ -105,9 +105,7 @@ add_in known i entity = if is_none (lookup_in known i) then Some (known ++ (i, e
 unfoldable pub define_in : List Known → ℕ → List ℕ → ℕ → Option (List Known × Name × ℕ)
 define_in known next text width =
     if begins_with is_digit text
-    then (if decimal_value text == next
-    then (add_in known (Numbered next) (entities.Register width) >>= λ k. Some (k, None, suc next))
-    else None)
+    then (if decimal_value text == next then (add_in known (Numbered next) (entities.Register width) >>= λ k. Some (k, None, suc next)) else None)
     else (add_in known (Named text) (entities.Register width) >>= λ k. Some (k, Some text, next))
 
 -- The block without a label takes a number. What is known then, and the next number.
