@@ -215,7 +215,7 @@ fn check_returned(word: &[u8], wanted: Width) -> Result<(), ModuleError>
     ensures { Gives (λ _. wanted) result (returned_in word.now wanted) }
 {
     let width = width(word)?;
-    if width.bits() == wanted.bits() {
+    if width == wanted {
         Ok(())
     } else {
         Err(ModuleError::Refused)
