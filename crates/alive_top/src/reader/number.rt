@@ -57,7 +57,6 @@ fn unsigned(width: Width, digits: &[u8]) -> Option<Word>
     ensures { result ≡ option_map (λ n. record { width = width; number = n }) (unsigned_in width (decimal_value digits.now)) }
 {
     // A width is at most 64, so that a number of 2 ^ 64 or more does not fit.
-    let _bits = width.bits();
     Word::new(width, decimal_number(digits)?)
 }
 
