@@ -10,7 +10,8 @@ use Rattle.std.proofs.lemmas.Option.{same_Some}
 use Rattle.ir_core.specs.Names.{Name, Identifier, Named, Numbered, identifiers_from}
 use Rattle.alive_top.specs.declared.reader.names.Entity.{Entity}
 use Rattle.alive_top.specs.Meaning.{AreDistinct}
-use Rattle.alive_top.specs.Resolving.{◌>>=◌, Known, same, lookup_in}
+use Rattle.alive_top.specs.Giving.{◌>>=◌}
+use Rattle.alive_top.specs.Resolving.{Known, same, lookup_in}
 use Rattle.alive_top.proofs.Distinct.{clash_head}
 
 -- the value of a step that did not fail

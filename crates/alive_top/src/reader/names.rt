@@ -5,7 +5,8 @@ ghost use Rattle.std.specs.Option.{is_none};
 ghost use Rattle.alive_top.specs.Bytes.{is_digit, begins_with};
 ghost use Rattle.alive_top.specs.Meaning.{decimal_value, called};
 ghost use Rattle.alive_top.specs.Identifiers.{seen};
-ghost use Rattle.alive_top.specs.Resolving.{Gives, seen_entries, lookup_in, find_in, add_in, define_in, enter_in, register_at};
+ghost use Rattle.alive_top.specs.Giving.{Gives};
+ghost use Rattle.alive_top.specs.Resolving.{seen_entries, lookup_in, find_in, add_in, define_in, enter_in, register_at};
 
 use crate::identifier::Identifier;
 use crate::reader::bytes::is_digit;

@@ -3,7 +3,8 @@
 ghost use Rattle.std.specs.Prelude.{◌≡◌, ◌↔◌, length, IsTrue};
 ghost use Rattle.alive_top.specs.Bytes as bytes;
 ghost use Rattle.alive_top.specs.Tokens.{is_number};
-ghost use Rattle.alive_top.specs.Scanning.{Gives, front, back, mark_of, name_at, word_or_number_at, token_at, next_at, seen_token};
+ghost use Rattle.alive_top.specs.Giving.{Gives};
+ghost use Rattle.alive_top.specs.Scanning.{front, back, mark_of, name_at, word_or_number_at, token_at, next_at, seen_token};
 
 use crate::reader::bytes::{are_digits, begins_name, is_digit, is_name_byte};
 use crate::reader::error::ModuleError;
