@@ -17,7 +17,8 @@ use Rattle.alive_top.specs.Grammar.{RawValue, Register_named, Number_written, Tr
 use Rattle.alive_top.specs.Meaning.{decimal_value, called, ValueMeans}
 use Rattle.alive_top.specs.Giving.{◌>>=◌}
 use Rattle.alive_top.specs.Resolving.{Known, lookup_in, find_in, register_at, register_in, operand_in}
-use Rattle.alive_top.proofs.Things.{bind_some, lookup_sound, lookup_complete, Thing, known_from, number_at_place}
+use Rattle.alive_top.proofs.Basics.{bind_some}
+use Rattle.alive_top.proofs.Things.{lookup_sound, lookup_complete, Thing, known_from, number_at_place}
 use Rattle.alive_top.proofs.Defining.{guarded, IsAt}
 use Rattle.alive_top.proofs.Literals.{word, number_sound, number_complete, truth_sound, truth_complete}
 use Rattle.alive_top.proofs.Registers.{made, things, RegisterIs, register_sound, register_complete}
