@@ -1,6 +1,6 @@
 //! The top call.
 
-ghost use Rattle.std.specs.Prelude.{◌≡◌, ◌≤◌, ◌+◌, ◌<◌, ◌^◌, ◌++◌, take, length, codes, map, string_bytes, Some, None, IfOk, IfSome, OnOk, IsSomeAnd, IsTrue, ◌↔◌, ◌≢◌};
+ghost use Rattle.std.specs.Prelude.{◌≡◌, ◌≤◌, ◌++◌, take, codes, map, string_bytes, None, IfOk, IfSome, IsTrue, ◌↔◌};
 ghost use Rattle.alive_top.specs.Commands.{command_of, seen_optimise, IsRuleText, IsOptimised};
 ghost use Rattle.alive_top.specs.Printing.{text_of, report_of};
 ghost use Rattle.ir_core.specs.declared.module.Module.{Module};
@@ -9,7 +9,6 @@ ghost use Rattle.alive_top.specs.Working.{asked, ReadOf, RulesOf, TextsOf, Sourc
 ghost use Rattle.alive_top.specs.Endings.{fed, Told, RefusedAs, WrittenAs, EndsFor, StopsAtRules, StopsAtSource, IsDoneOrNoMemory, AreGood};
 ghost use Rattle.outside.specs.Faults.{Rose};
 ghost use Rattle.alive_top.specs.declared.top.Refusal.TheVariants.{Memory};
-ghost use Rattle.alive_top.specs.declared.top.TheConstants.{RULES_LIMIT, SOURCE_LIMIT};
 
 use crate::cleaning::cleaned_module;
 use crate::command::{Optimise, command};

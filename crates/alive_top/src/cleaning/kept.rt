@@ -2,7 +2,7 @@
 
 ghost use Rattle.std.specs.Prelude.{◌≡◌, ◌∷◌, [], length, IfOk};
 ghost use Rattle.alive_top.specs.Cleaning as clean;
-ghost use Rattle.alive_top.specs.Cleaning.{moved_register, moved_operand, moved_op, moved_end, moved_inst, kept_insts};
+ghost use Rattle.alive_top.specs.Cleaning.{moved_inst};
 ghost use Rattle.alive_top.specs.Meaning.{StandsBefore};
 ghost use Rattle.alive_top.specs.Straight.{OperandStands, OpStands, EndStands, InstsStand};
 ghost use Rattle.alive_top.specs.Marking.{AreKeptPlaces};

@@ -1,6 +1,6 @@
 //! The registers of a function that is being read, by their names and numbers.
 
-ghost use Rattle.std.specs.Prelude.{◌≡◌, ◌≤◌, [], ◌∷◌, ◌++◌, ◌^◌, true, suc, length, IfOk, OnOk, IfSome, MatchOption};
+ghost use Rattle.std.specs.Prelude.{◌≡◌, ◌≤◌, [], ◌∷◌, ◌++◌, ◌^◌, true, suc, IfOk, IfSome, MatchOption};
 ghost use Rattle.std.specs.Option.{is_none};
 ghost use Rattle.alive_top.specs.Bytes.{is_digit, begins_with};
 ghost use Rattle.alive_top.specs.Meaning.{decimal_value, called};

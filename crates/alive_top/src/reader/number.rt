@@ -1,6 +1,6 @@
 //! Numbers and types as written.
 
-ghost use Rattle.std.specs.Prelude.{◌≡◌, ◌<◌, ◌^◌, ◌==◌, SomeIff, option_map};
+ghost use Rattle.std.specs.Prelude.{◌≡◌, ◌<◌, ◌^◌, SomeIff, option_map};
 ghost use Rattle.alive_top.specs.Meaning.{decimal_value};
 ghost use Rattle.alive_top.specs.Resolving.{width_in, unsigned_in, negated_in, literal_in};
 

@@ -1,6 +1,6 @@
 //! Takes tokens off the front of a text.
 
-ghost use Rattle.std.specs.Prelude.{◌≡◌, ◌↔◌, length, IsTrue};
+ghost use Rattle.std.specs.Prelude.{◌≡◌};
 ghost use Rattle.alive_top.specs.Bytes as bytes;
 ghost use Rattle.alive_top.specs.Tokens.{is_number};
 ghost use Rattle.alive_top.specs.Giving.{Gives};
