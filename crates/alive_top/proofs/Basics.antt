@@ -1,6 +1,6 @@
 -- Steps that may fail, and tests.
 use Rattle.std.proofs.Common.{◌≡◌, ℕ, ◌≤◌, Bool, true, false, cond, List, Option, Some, None, length, refl, inl, inr, ◌⊎◌}
-use Rattle.alive_top.specs.Scanning.{◌>>=◌}
+use Rattle.alive_top.specs.Giving.{◌>>=◌}
 
 -- the value of a step that did not fail
 pub bind_some : {A B : Type 0} (o : Option A) (f : A → Option B) (y : B) → (o >>= f) ≡ Some y → (x : A) × (o ≡ Some x) × (f x ≡ Some y)

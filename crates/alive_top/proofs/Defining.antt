@@ -9,9 +9,11 @@ use Rattle.alive_top.specs.declared.reader.names.Entity.{Entity}
 use Rattle.alive_top.specs.declared.reader.names.Entity.TheVariants as entities
 use Rattle.alive_top.specs.Bytes.{is_digit, begins_with}
 use Rattle.alive_top.specs.Meaning.{AreDistinct, decimal_value, called, name_given}
-use Rattle.alive_top.specs.Resolving.{◌>>=◌, Known, same, lookup_in, add_in, define_in, enter_in}
+use Rattle.alive_top.specs.Giving.{◌>>=◌}
+use Rattle.alive_top.specs.Resolving.{Known, same, lookup_in, add_in, define_in, enter_in}
 use Rattle.alive_top.proofs.Distinct.{distinct_push, none_before}
-use Rattle.alive_top.proofs.Things.{bind_some, same_decides, key, keys, is_none-lookup, Thing, known_from, next_after, known-append, next-append}
+use Rattle.alive_top.proofs.Basics.{bind_some}
+use Rattle.alive_top.proofs.Things.{same_decides, key, keys, is_none-lookup, Thing, known_from, next_after, known-append, next-append}
 
 -- a test that did not fail
 pub guarded : {A : Type 0} (b : Bool) (o : Option A) (y : A) → cond b o None ≡ Some y → (b ≡ true) × (o ≡ Some y)

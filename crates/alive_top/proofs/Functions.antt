@@ -20,8 +20,10 @@ use Rattle.alive_top.specs.declared.reader.names.Entity.TheVariants as entities
 use Rattle.alive_top.specs.Bytes.{is_digit, begins_with}
 use Rattle.alive_top.specs.Grammar.{RawFunction}
 use Rattle.alive_top.specs.Meaning.{AreDistinct, IsType, ValueMeans, ParametersMean, InstsMean, FunctionMeans, EntriesMean, ModuleMeans}
-use Rattle.alive_top.specs.Resolving.{◌>>=◌, Gives, Known, width_in, operand_in, enter_in, fold_in, Parameters, all_parameters_in, Insts, insts_in, no_insts, all_insts_in, body_in, plain_in, returned_in, function_in, entry_in}
-use Rattle.alive_top.proofs.Things.{bind_some, keys, Thing, known_from, next_after, known-append, length-known}
+use Rattle.alive_top.specs.Giving.{◌>>=◌, Gives}
+use Rattle.alive_top.specs.Resolving.{Known, width_in, operand_in, enter_in, fold_in, Parameters, all_parameters_in, Insts, insts_in, no_insts, all_insts_in, body_in, plain_in, returned_in, function_in, entry_in}
+use Rattle.alive_top.proofs.Basics.{bind_some}
+use Rattle.alive_top.proofs.Things.{keys, Thing, known_from, next_after, known-append, length-known}
 use Rattle.alive_top.proofs.Defining.{guarded, IsAt, enter_sound, enter_complete}
 use Rattle.alive_top.proofs.Literals.{type_sound, type_complete}
 use Rattle.alive_top.proofs.Registers.{made, parameter_thing, inst_thing, things, keys_are}

@@ -13,8 +13,10 @@ use Rattle.ir_core.specs.declared.module.Register.TheVariants as registers
 use Rattle.alive_top.specs.declared.reader.names.Entity.TheVariants as entities
 use Rattle.alive_top.specs.Grammar.{RawInst}
 use Rattle.alive_top.specs.Meaning.{AreDistinct, called, name_given, IsType, InstMeans, InstsMean, no_flags}
-use Rattle.alive_top.specs.Resolving.{◌>>=◌, Known, width_in, operand_in, define_in, fold_in, Insts, inst_in, insts_in}
-use Rattle.alive_top.proofs.Things.{bind_some, keys, Thing, known_from, next_after, known-append, length-known}
+use Rattle.alive_top.specs.Giving.{◌>>=◌}
+use Rattle.alive_top.specs.Resolving.{Known, width_in, operand_in, define_in, fold_in, Insts, inst_in, insts_in}
+use Rattle.alive_top.proofs.Basics.{bind_some}
+use Rattle.alive_top.proofs.Things.{keys, Thing, known_from, next_after, known-append, length-known}
 use Rattle.alive_top.proofs.Defining.{IsAt, define_sound, define_complete, identifier_here}
 use Rattle.alive_top.proofs.Literals.{type_sound, type_complete}
 use Rattle.alive_top.proofs.Registers.{made, inst_thing, things, keys_are}

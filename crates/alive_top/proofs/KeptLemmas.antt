@@ -16,7 +16,7 @@ use Rattle.ir_core.specs.declared.module.Terminator.{Terminator}
 use Rattle.alive_top.specs.Cleaning.{Marks, marks_at, moved_register, moved_end, kept_insts}
 use Rattle.alive_top.specs.Meaning.{StandsBefore}
 use Rattle.alive_top.specs.Straight.{OperandStands, OpStands, InstsStand}
-use Rattle.alive_top.specs.Marking.{ArePlaces, kept_block}
+use Rattle.alive_top.specs.Marking.{AreKeptPlaces, kept_block}
 
 -- how many of the first k are marked
 abbrev pub marked_before : List Bool → ℕ → ℕ
@@ -66,7 +66,7 @@ pub counted_other : (ms : List Bool) (i : ℕ) (places : List ℕ) (count : ℕ)
 counted_other ms i places count d c within is =
     counted_more ms i places count count c (c.count_is ∙ sym (count_by_more_no (λ mark. mark) ms i d within is))
 
-pub all_counted : (ms : List Bool) (i : ℕ) (places : List ℕ) (count : ℕ) → Counted ms i places count → length ms ≤ i → i ≤ length ms → ArePlaces ms places
+pub all_counted : (ms : List Bool) (i : ℕ) (places : List ℕ) (count : ℕ) → Counted ms i places count → length ms ≤ i → i ≤ length ms → AreKeptPlaces ms places
 all_counted ms i places count c le ge = record {
   count = let l = c.length_is in omega arith;
   at = λ k h. c.at k (omega arith);
@@ -131,10 +131,10 @@ stand_none k insts e = subst (InstsStand k) (sym e) tt
 
 -- the place that is read
 
-pub place_is : (ms : List Bool) (places : List ℕ) (j v : ℕ) → ArePlaces ms places → j < length ms → v ≡ get_or places j v → v ≡ marked_before ms j
+pub place_is : (ms : List Bool) (places : List ℕ) (j v : ℕ) → AreKeptPlaces ms places → j < length ms → v ≡ get_or places j v → v ≡ marked_before ms j
 place_is ms places j v p within is = is ∙ get_or_from_slice_get places j (marked_before ms j) v (p.at j within)
 
-pub place_le : (ms : List Bool) (places : List ℕ) (r : Register) (b j v : ℕ) → ArePlaces ms places → StandsBefore (length ms) r → r ≡ registers.Result b j → v ≡ get_or places j v → v ≤ j
+pub place_le : (ms : List Bool) (places : List ℕ) (r : Register) (b j v : ℕ) → AreKeptPlaces ms places → StandsBefore (length ms) r → r ≡ registers.Result b j → v ≡ get_or places j v → v ≤ j
 place_le ms places (registers.Parameter q) b j v p h e is = absurd cc
 place_le ms places (registers.Result d i) b j v p h e is =
     let same : i ≡ j = cc in
@@ -143,7 +143,7 @@ place_le ms places (registers.Result d i) b j v p h e is =
     let le = marked_before_le ms j in
     omega arith
 
-pub moved_is : (ms : List Bool) (places : List ℕ) (r : Register) (b j v : ℕ) → ArePlaces ms places → StandsBefore (length ms) r → r ≡ registers.Result b j → v ≡ get_or places j v → registers.Result b v ≡ moved_register (ms ∷ []) r
+pub moved_is : (ms : List Bool) (places : List ℕ) (r : Register) (b j v : ℕ) → AreKeptPlaces ms places → StandsBefore (length ms) r → r ≡ registers.Result b j → v ≡ get_or places j v → registers.Result b v ≡ moved_register (ms ∷ []) r
 moved_is ms places (registers.Parameter q) b j v p h e is = absurd cc
 moved_is ms places (registers.Result d i) b j v p h e is =
     let block : d ≡ b = cc in

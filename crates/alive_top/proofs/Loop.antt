@@ -9,7 +9,8 @@ use Rattle.ir_core.specs.declared.module.Inst.{Inst}
 use Rattle.alive_top.specs.declared.reader.error.ModuleError.{ModuleError}
 use Rattle.alive_top.specs.declared.reader.error.ModuleError.TheVariants as errors
 use Rattle.alive_top.specs.Grammar.{RawParameter, RawInst, RawFunction}
-use Rattle.alive_top.specs.Resolving.{◌>>=◌, Fails, fold_in, Known, Parameters, parameter_in, parameters_in, Insts, inst_in, insts_in, no_insts, all_insts_in, function_in, entry_in}
+use Rattle.alive_top.specs.Giving.{◌>>=◌, Fails}
+use Rattle.alive_top.specs.Resolving.{fold_in, Known, Parameters, parameter_in, parameters_in, Insts, inst_in, insts_in, no_insts, all_insts_in, function_in, entry_in}
 
 module _ {S A R : Type 0} (step : S → A → Option S) (view : R → A) (raws : List R) (s : S) (i : ℕ) (d : R) (total : Option S) (lt : i < length raws) (so_far : fold_in step s (map view (drop i raws)) ≡ total) where
   next_step : fold_in step s (map view (drop i raws)) ≡ (step s (view (get_or raws i d)) >>= λ t. fold_in step t (map view (drop (i + 1) raws)))

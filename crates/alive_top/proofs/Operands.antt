@@ -15,8 +15,10 @@ use Rattle.alive_top.specs.declared.reader.names.Entity.TheVariants as entities
 use Rattle.alive_top.specs.Bytes.{is_digit, begins_with}
 use Rattle.alive_top.specs.Grammar.{RawValue, Register_named, Number_written, True, False, Undef, Poison}
 use Rattle.alive_top.specs.Meaning.{decimal_value, called, ValueMeans}
-use Rattle.alive_top.specs.Resolving.{◌>>=◌, Known, lookup_in, find_in, register_at, register_in, operand_in}
-use Rattle.alive_top.proofs.Things.{bind_some, lookup_sound, lookup_complete, Thing, known_from, number_at_place}
+use Rattle.alive_top.specs.Giving.{◌>>=◌}
+use Rattle.alive_top.specs.Resolving.{Known, lookup_in, find_in, register_at, register_in, operand_in}
+use Rattle.alive_top.proofs.Basics.{bind_some}
+use Rattle.alive_top.proofs.Things.{lookup_sound, lookup_complete, Thing, known_from, number_at_place}
 use Rattle.alive_top.proofs.Defining.{guarded, IsAt}
 use Rattle.alive_top.proofs.Literals.{word, number_sound, number_complete, truth_sound, truth_complete}
 use Rattle.alive_top.proofs.Registers.{made, things, RegisterIs, register_sound, register_complete}

@@ -11,8 +11,10 @@ use Rattle.alive_top.specs.declared.reader.names.Entity.{Entity}
 use Rattle.alive_top.specs.declared.reader.names.Entity.TheVariants as entities
 use Rattle.alive_top.specs.Grammar.{RawParameter}
 use Rattle.alive_top.specs.Meaning.{AreDistinct, called, name_given, IsType, ParametersMean}
-use Rattle.alive_top.specs.Resolving.{◌>>=◌, Known, width_in, define_in, fold_in, Parameters, parameter_in, parameters_in}
-use Rattle.alive_top.proofs.Things.{bind_some, keys, Thing, known_from, next_after, known-append, length-known}
+use Rattle.alive_top.specs.Giving.{◌>>=◌}
+use Rattle.alive_top.specs.Resolving.{Known, width_in, define_in, fold_in, Parameters, parameter_in, parameters_in}
+use Rattle.alive_top.proofs.Basics.{bind_some}
+use Rattle.alive_top.proofs.Things.{keys, Thing, known_from, next_after, known-append, length-known}
 use Rattle.alive_top.proofs.Defining.{IsAt, define_sound, define_complete, identifier_here, next_past, known-cons, keys-append}
 use Rattle.alive_top.proofs.Literals.{type_sound, type_complete}
 use Rattle.alive_top.proofs.Registers.{get_seam, parameter_thing}

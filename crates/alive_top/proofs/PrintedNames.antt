@@ -12,7 +12,7 @@ use Rattle.ir_core.specs.declared.module.Register.{Register}
 use Rattle.ir_core.specs.declared.module.Register.TheVariants as registers
 use Rattle.alive_top.specs.declared.identifier.Identifier.{Identifier as Stored}
 use Rattle.alive_top.specs.Identifiers.{seen}
-use Rattle.alive_top.specs.Series.{next_after, Adds, ArePlaces}
+use Rattle.alive_top.specs.Series.{next_after, Adds, AreBlockStarts}
 
 -- the identifiers of names, and then of further ones
 pub identifiers_from-append : (next : ℕ) (xs ys : List Name) → identifiers_from next (xs ++ ys) ≡ identifiers_from next xs ++ identifiers_from (next_after next xs) ys
@@ -58,8 +58,8 @@ pub Adds-length : (next : ℕ) (names : List Name) (before after : List Stored) 
 Adds-length next names before after n adds = omega (arith, length-map before seen, length-map after seen, simp (length-append, length-identifiers_from) at (ap length adds.identifiers))
 
 -- one more place
-pub ArePlaces-more : (first : ℕ) (blocks : List Block) (i : ℕ) (places : List ℕ) (place : ℕ) → i < length blocks → ArePlaces first (take i blocks) places → place ≡ first + length (flat_map block_names (take i blocks)) → ArePlaces first (take (i + 1) blocks) (places ++ place ∷ [])
-ArePlaces-more first blocks i places place within so_far is =
+pub AreBlockStarts-more : (first : ℕ) (blocks : List Block) (i : ℕ) (places : List ℕ) (place : ℕ) → i < length blocks → AreBlockStarts first (take i blocks) places → place ≡ first + length (flat_map block_names (take i blocks)) → AreBlockStarts first (take (i + 1) blocks) (places ++ place ∷ [])
+AreBlockStarts-more first blocks i places place within so_far is =
     let now : length (take i blocks) ≡ i = length-take-le i blocks (omega arith) in
     let then : length (take (i + 1) blocks) ≡ i + 1 = length-take-le (i + 1) blocks (omega arith) in
     let all : length places ≡ i = so_far.all ∙ now in
@@ -96,14 +96,14 @@ none_past xs i none = elim (cases_lt i (length xs)) [
 ]
 
 -- a result in no block of the function
-pub no_block : (f : Function) (starts : List ℕ) (b k : ℕ) → ArePlaces (length f.parameters) f.blocks starts → slice_get starts b ≡ None → identifier_of f (registers.Result b k) ≡ None
+pub no_block : (f : Function) (starts : List ℕ) (b k : ℕ) → AreBlockStarts (length f.parameters) f.blocks starts → slice_get starts b ≡ None → identifier_of f (registers.Result b k) ≡ None
 no_block f starts b k places none =
     let past : length f.blocks ≤ b = omega (arith, places.all, none_past starts b none) in
     let blocks : length (flat_map block_names (take b f.blocks)) ≡ length (flat_map block_names f.blocks) = ap (λ (l : List Block). length (flat_map block_names l)) (take_all b f.blocks past) in
     slice_get_past (identifiers_of f) (block_place f b + 1 + k) (omega (arith, length-identifiers_of f))
 
 -- where a block begins
-pub start_is : (f : Function) (starts : List ℕ) (b start : ℕ) → ArePlaces (length f.parameters) f.blocks starts → slice_get starts b ≡ Some start → start ≡ block_place f b
+pub start_is : (f : Function) (starts : List ℕ) (b start : ℕ) → AreBlockStarts (length f.parameters) f.blocks starts → slice_get starts b ≡ Some start → start ≡ block_place f b
 start_is f starts b start places some =
     let within : b < length starts = slice_get_within starts b start some in
     sym (get_or_from_slice_get starts b start 0 some) ∙ places.each b (omega (arith, places.all))

@@ -11,7 +11,8 @@ use Rattle.alive_top.specs.Tokens.{Token, Word, Number, Register, Function, Punc
 use Rattle.std.specs.Borrow.{Bor}
 use Rattle.alive_top.specs.declared.reader.token.Token.{Token as Scanned}
 use Rattle.alive_top.specs.declared.reader.token.Token.TheVariants as scanned
-use Rattle.alive_top.specs.Scanning.{◌>>=◌, Fails, seen_token, next_at, is_end, is_word_token, is_mark_token}
+use Rattle.alive_top.specs.Giving.{◌>>=◌, Fails}
+use Rattle.alive_top.specs.Scanning.{seen_token, next_at, is_end, is_word_token, is_mark_token}
 use Rattle.alive_top.specs.Printing.{opcode_text}
 use Rattle.alive_top.specs.Grammar.{RawParameter, RawInst, RawFunction, value_token, parameter_tokens, parameters_tokens, inst_tokens, body_tokens, function_tokens, module_tokens}
 use Rattle.alive_top.specs.Parsing.{Read, word_at, register_at, function_name_at, mark_at, keyword_at, opcode_at, value_at, inst_at, parameter_at, with_front, insts_go, insts_at, parameters_go, more_parameters_at, some_parameters_at, parameters_at, function_at, functions_go, functions_at}

@@ -14,7 +14,8 @@ use Rattle.ops.specs.declared.opcode.Opcode.TheVariants.{Add, Sub, And, Or, Xor}
 use Rattle.alive_top.specs.declared.reader.token.Mark.{Mark}
 use Rattle.alive_top.specs.declared.reader.token.Mark.TheVariants.{Equals, Comma, OpenParen, CloseParen, OpenBrace, CloseBrace}
 use Rattle.alive_top.specs.Tokens.{Token, Word, Register, Function, Punctuation, Spells}
-use Rattle.alive_top.specs.Scanning.{Fails, next_at, is_mark_token}
+use Rattle.alive_top.specs.Giving.{Fails}
+use Rattle.alive_top.specs.Scanning.{next_at, is_mark_token}
 use Rattle.alive_top.specs.Printing.{opcode_text}
 use Rattle.alive_top.specs.Grammar.{RawValue, Register_named, Number_written, True, False, Undef, Poison, RawParameter, RawInst, RawFunction, value_token, parameter_tokens, parameters_tokens, inst_tokens, body_tokens, function_tokens, module_tokens}
 use Rattle.alive_top.specs.Parsing.{word_at, register_at, function_name_at, mark_at, keyword_at, opcode_in, value_in, opcode_at, value_of, value_at, inst_at, parameter_at, insts_at, more_parameters_at, parameters_at, function_at, functions_at}

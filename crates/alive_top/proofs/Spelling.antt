@@ -7,7 +7,8 @@ use Rattle.alive_top.specs.declared.reader.token.Mark.{Mark}
 use Rattle.alive_top.specs.declared.reader.token.Mark.TheVariants.{Equals, Comma, OpenParen, CloseParen, OpenBrace, CloseBrace}
 use Rattle.alive_top.specs.Bytes.{is_blank, is_digit, begins_name, is_name_byte, begins_word, begins_with}
 use Rattle.alive_top.specs.Tokens.{Token, Word, Number, Register, Function, mark_byte, spelling_of, is_word, are_digits, is_number, is_name, IsToken, goes_on, IsWhole, IsInLine, IsGap, nothing, blank, comment, IsLastGap, Spells}
-use Rattle.alive_top.specs.Scanning.{◌>>=◌, behind_gap, front, back, mark_of, name_at, word_or_number_at, other_at, marked_at, token_at, next_at}
+use Rattle.alive_top.specs.Giving.{◌>>=◌}
+use Rattle.alive_top.specs.Scanning.{behind_gap, front, back, mark_of, name_at, word_or_number_at, other_at, marked_at, token_at, next_at}
 use Rattle.alive_top.proofs.Basics.{bind_some, some_is, guard_some, chosen}
 use Rattle.alive_top.proofs.Taking.{Takes}
 

@@ -9,7 +9,8 @@ use Rattle.alive_top.specs.declared.reader.token.Mark.{Mark}
 use Rattle.alive_top.specs.declared.reader.token.Mark.TheVariants.{Equals, Comma, OpenParen, CloseParen, OpenBrace, CloseBrace}
 use Rattle.alive_top.specs.Bytes.{is_blank, is_digit, is_name_byte, begins_word, begins_with}
 use Rattle.alive_top.specs.Tokens.{Token, Word, Number, Register, Function, Punctuation, is_number, mark_byte}
-use Rattle.alive_top.specs.Scanning.{◌>>=◌, behind_gap, front, back, mark_of, name_at, word_or_number_at, other_at, marked_at, token_at, next_at, is_end, is_word_token, is_mark_token}
+use Rattle.alive_top.specs.Giving.{◌>>=◌}
+use Rattle.alive_top.specs.Scanning.{behind_gap, front, back, mark_of, name_at, word_or_number_at, other_at, marked_at, token_at, next_at, is_end, is_word_token, is_mark_token}
 use Rattle.alive_top.specs.Printing.{opcode_text}
 use Rattle.alive_top.specs.Grammar.{RawValue, True, False, Undef, Poison, value_token}
 use Rattle.alive_top.specs.Parsing.{word_of, word_at, register_of, register_at, function_name_of, function_name_at, mark_at, keyword_at, opcode_in, value_in, opcode_at, value_of, value_at}

@@ -10,13 +10,8 @@ use Rattle.std.proofs.lemmas.Option.{same_Some}
 use Rattle.ir_core.specs.Names.{Name, Identifier, Named, Numbered, identifiers_from}
 use Rattle.alive_top.specs.declared.reader.names.Entity.{Entity}
 use Rattle.alive_top.specs.Meaning.{AreDistinct}
-use Rattle.alive_top.specs.Resolving.{◌>>=◌, Known, same, lookup_in}
+use Rattle.alive_top.specs.Resolving.{Known, same, lookup_in}
 use Rattle.alive_top.proofs.Distinct.{clash_head}
-
--- the value of a step that did not fail
-pub bind_some : {A B : Type 0} (o : Option A) (f : A → Option B) (y : B) → (o >>= f) ≡ Some y → (x : A) × (o ≡ Some x) × (f x ≡ Some y)
-bind_some None f y e = absurd cc
-bind_some (Some x) f y e = (x, refl, e)
 
 pub same_decides : (x y : Identifier) → Decides (same x y) (x ≡ y)
 same_decides (Named a) (Named b) = (λ h. ap (λ (t : List ℕ). Named t) ((bytes_decides a b).0 h), λ e. (bytes_decides a b).1 cc)

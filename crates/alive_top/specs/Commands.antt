@@ -3,6 +3,7 @@ use Rattle.std.specs.Prelude.{◌≡◌, ℕ, ◌≤◌, if◌then◌else◌, Li
 use Rattle.std.specs.Str.{bytes_eq}
 use Rattle.ir_core.specs.Refines.{ModuleRefines}
 use Rattle.ir_core.specs.declared.module.Module.{Module}
+use Rattle.alive_top.specs.declared.command.Optimise.{Optimise as Stored}
 use Rattle.alive_top.specs.Tokens.{IsLastGap}
 use Rattle.alive_top.specs.Meaning.{Reads}
 use Rattle.alive_top.specs.Strategy.{Tally, StrategyGives}
@@ -12,6 +13,10 @@ use Rattle.alive_top.specs.Printing.{text_of, report_of}
 pub record Optimise : Type 0 where
   pub rules : List ℕ
   pub source : List ℕ
+
+-- the command that it is, without where its names lie in memory
+abbrev pub seen_optimise : Stored → Optimise
+seen_optimise named = record { rules = named.rules.now; source = named.source.now }
 
 -- The words are the program's own name, `optimise`, a rule file and a module.
 abbrev pub command_of : List (List ℕ) → Option Optimise

@@ -87,8 +87,7 @@ Ends a named out err statuses.ModuleRefused = IfSome (a.told named.rules) IsRule
     × AsksTwo a named.rules named.source × GainedNothing out × Told err (codes "module refused\n")
 Ends a named out err statuses.ReadFault = Rose a.faults_before a.faults_after × GainedNothing out
     × ((AsksOne a named.rules × Told err (read_fault_line named.rules))
-    ⊎ (IfSome (a.told named.rules) IsRuleText
-    × AsksTwo a named.rules named.source × Told err (read_fault_line named.source)))
+    ⊎ (IfSome (a.told named.rules) IsRuleText × AsksTwo a named.rules named.source × Told err (read_fault_line named.source)))
 Ends a named out err statuses.NoMemory = (AsksNone a ⊎ (AsksOne a named.rules ⊎ AsksTwo a named.rules named.source))
     × GainedNothing out × Told err (codes "want of memory\n")
 

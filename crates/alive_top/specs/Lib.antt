@@ -1,5 +1,6 @@
 pub mod Bytes
 pub mod Tokens
+pub mod Giving
 pub mod Scanning
 pub mod Grammar
 pub mod Parsing

@@ -31,7 +31,7 @@ abbrev pub AreNeededIn : Block → List Bool → Type 0
 AreNeededIn block marks = (f : Function) → f.blocks ≡ block ∷ [] → AreNeeded f (marks ∷ [])
 
 -- how many marked instructions stand before each instruction
-pub record ArePlaces (marks : List Bool) (places : List ℕ) : Type 0 where
+pub record AreKeptPlaces (marks : List Bool) (places : List ℕ) : Type 0 where
   pub count : length places ≡ length marks
   pub at : (k : ℕ) → k < length marks → slice_get places k ≡ Some (count_by (λ mark. mark) (take k marks))
 

@@ -6,7 +6,8 @@ use Rattle.ops.specs.declared.opcode.Opcode.TheVariants.{Add, Sub, And, Or, Xor}
 use Rattle.alive_top.specs.declared.reader.token.Mark.{Mark}
 use Rattle.alive_top.specs.declared.reader.token.Mark.TheVariants.{Equals, Comma, OpenParen, CloseParen, OpenBrace, CloseBrace}
 use Rattle.alive_top.specs.Tokens.{Token, Word, Number, Register, Function}
-use Rattle.alive_top.specs.Scanning.{◌>>=◌, next_at, is_end, is_word_token, is_mark_token}
+use Rattle.alive_top.specs.Giving.{◌>>=◌}
+use Rattle.alive_top.specs.Scanning.{next_at, is_end, is_word_token, is_mark_token}
 use Rattle.alive_top.specs.Grammar.{RawValue, Register_named, Number_written, True, False, Undef, Poison, RawParameter, RawInst, RawFunction}
 
 -- a value and the text behind it, or nothing where none is spelled

@@ -1,5 +1,5 @@
 -- What productions give from left to right, each with what stands before it. None is a refusal.
-use Rattle.std.specs.Prelude.{◌≡◌, ℕ, suc, ◌-◌, ◌%◌, ◌^◌, ◌==◌, nat_lt, nat_le, Bool, false, ◌&&◌, if◌then◌else◌, List, [], ◌∷◌, ◌++◌, length, map, Option, None, Some, option_map, Result, Ok, Err}
+use Rattle.std.specs.Prelude.{ℕ, suc, ◌-◌, ◌%◌, ◌^◌, ◌==◌, nat_lt, nat_le, Bool, false, ◌&&◌, if◌then◌else◌, List, [], ◌∷◌, ◌++◌, length, map, Option, None, Some, option_map}
 use Rattle.std.specs.Option.{is_none}
 use Rattle.std.specs.Cmp.Lexicographic.{pointwise}
 use Rattle.ir_core.specs.Names.{Name, Identifier, Named, Numbered}
@@ -15,31 +15,15 @@ use Rattle.ir_core.specs.declared.module.Operand.TheVariants as operands
 use Rattle.ir_core.specs.declared.module.Register.{Register}
 use Rattle.ir_core.specs.declared.module.Register.TheVariants as registers
 use Rattle.ir_core.specs.declared.module.Terminator.TheVariants as terminators
-use Rattle.alive_top.specs.declared.reader.error.ModuleError.{ModuleError}
-use Rattle.alive_top.specs.declared.reader.error.ModuleError.TheVariants as errors
 use Rattle.alive_top.specs.declared.reader.names.Entity.{Entity}
 use Rattle.alive_top.specs.declared.reader.names.Entity.TheVariants as entities
 use Rattle.alive_top.specs.declared.identifier.Identifier.{Identifier as Written}
 use Rattle.alive_top.specs.Bytes.{is_digit, begins_with}
 use Rattle.alive_top.specs.Tokens.{are_digits}
 use Rattle.alive_top.specs.Grammar.{RawValue, Register_named, Number_written, True, False, Undef, Poison, RawParameter, RawInst, RawFunction}
+use Rattle.alive_top.specs.Giving.{◌>>=◌}
 use Rattle.alive_top.specs.Identifiers.{seen}
 use Rattle.alive_top.specs.Meaning.{decimal_value, called, no_flags}
-
--- a step with what the one before gave; where that gave none, so does this
-infixl 10 ◌>>=◌
-abbrev pub ◌>>=◌ : {A B : Type 0} → Option A → (A → Option B) → Option B
-None >>= f = None
-(Some x) >>= f = f x
-
--- What a function of the code gave, seen by view, is what the productions give, unless memory ran out.
-abbrev pub Fails : {Y : Type 0} → ModuleError → Option Y → Type 0
-Fails errors.NoMemory given = Unit {0}
-Fails errors.Refused given = given ≡ None
-
-abbrev pub Gives : {X Y : Type 0} → (X → Y) → Result X ModuleError → Option Y → Type 0
-Gives view (Ok x) given = given ≡ Some (view x)
-Gives view (Err e) given = Fails e given
 
 -- each step begins with what the one before gave
 unfoldable pub fold_in : {S A : Type 0} → (S → A → Option S) → S → List A → Option S
@@ -105,9 +89,7 @@ add_in known i entity = if is_none (lookup_in known i) then Some (known ++ (i, e
 unfoldable pub define_in : List Known → ℕ → List ℕ → ℕ → Option (List Known × Name × ℕ)
 define_in known next text width =
     if begins_with is_digit text
-    then (if decimal_value text == next
-    then (add_in known (Numbered next) (entities.Register width) >>= λ k. Some (k, None, suc next))
-    else None)
+    then (if decimal_value text == next then (add_in known (Numbered next) (entities.Register width) >>= λ k. Some (k, None, suc next)) else None)
     else (add_in known (Named text) (entities.Register width) >>= λ k. Some (k, Some text, next))
 
 -- The block without a label takes a number. What is known then, and the next number.

@@ -1,28 +1,13 @@
 -- Reading tokens from left to right: what a reader answers for a text, as functions on lists.
-use Rattle.std.specs.Prelude.{◌≡◌, ℕ, ◌==◌, Bool, true, false, if◌then◌else◌, List, [], ◌∷◌, Option, Some, None, option_and_then, Result, Ok, Err}
+use Rattle.std.specs.Prelude.{ℕ, ◌==◌, Bool, true, false, if◌then◌else◌, List, [], ◌∷◌, Option, Some, None}
 use Rattle.std.specs.Str.{bytes_eq}
-use Rattle.alive_top.specs.declared.reader.error.ModuleError.{ModuleError}
-use Rattle.alive_top.specs.declared.reader.error.ModuleError.TheVariants.{Refused, NoMemory}
 use Rattle.alive_top.specs.declared.reader.token.Token.{Token as Scanned}
 use Rattle.alive_top.specs.declared.reader.token.Token.TheVariants as scanned
 use Rattle.alive_top.specs.declared.reader.token.Mark.{Mark}
 use Rattle.alive_top.specs.declared.reader.token.Mark.TheVariants.{Equals, Comma, OpenParen, CloseParen, OpenBrace, CloseBrace}
 use Rattle.alive_top.specs.Bytes.{is_blank, is_digit, is_name_byte, begins_with, begins_word}
+use Rattle.alive_top.specs.Giving.{◌>>=◌}
 use Rattle.alive_top.specs.Tokens.{Token, Word, Number, Register, Function, Punctuation, is_number, mark_byte}
-
--- What a function returned, seen by view, is what reading gives, unless memory ran out.
-abbrev pub Fails : {Y : Type 0} → ModuleError → Option Y → Type 0
-Fails NoMemory read = Unit {0}
-Fails Refused read = read ≡ None
-
-abbrev pub Gives : {X Y : Type 0} → (X → Y) → Result X ModuleError → Option Y → Type 0
-Gives view (Ok x) read = read ≡ Some (view x)
-Gives view (Err e) read = Fails e read
-
--- a step with what the one before gave; where that gave none, so does this
-infixl 10 ◌>>=◌
-abbrev pub ◌>>=◌ : {A B : Type 0} → Option A → (A → Option B) → Option B
-o >>= f = option_and_then f o
 
 -- a token without where it lies in memory; the end is none
 abbrev pub seen_token : Scanned → Option Token

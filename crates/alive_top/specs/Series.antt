@@ -19,6 +19,6 @@ pub record Adds (number : ℕ) (names : List Name) (before after : List Stored) 
   pub goes_on : next ≡ next_after number names
 
 -- the places in text order of these blocks, of which the first stands at a place
-pub record ArePlaces (first : ℕ) (blocks : List Block) (places : List ℕ) : Type 0 where
+pub record AreBlockStarts (first : ℕ) (blocks : List Block) (places : List ℕ) : Type 0 where
   pub all : length places ≡ length blocks
   pub each : (b : ℕ) → b < length blocks → slice_index places b ≡ first + length (flat_map block_names (take b blocks))

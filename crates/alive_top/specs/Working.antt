@@ -91,8 +91,7 @@ Refuses a named Source = IfSome (a.told named.rules) IsRuleText
     × IfSome (a.told named.source) IsNoModuleText × AsksTwo a named.rules named.source
 Refuses a named (Read n) = Rose a.faults_before a.faults_after
     × (((n.now ≡ named.rules) × AsksOne a named.rules)
-    ⊎ (IfSome (a.told named.rules) IsRuleText
-    × (n.now ≡ named.source) × AsksTwo a named.rules named.source))
+    ⊎ (IfSome (a.told named.rules) IsRuleText × (n.now ≡ named.source) × AsksTwo a named.rules named.source))
 Refuses a named Memory = AsksNone a ⊎ (AsksOne a named.rules ⊎ AsksTwo a named.rules named.source)
 
 -- the work of `optimise`, before anything is written

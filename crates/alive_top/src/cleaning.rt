@@ -9,7 +9,7 @@ mod kept;
 mod needed;
 
 use ir_core::{Block, Entry, Function, Module};
-use kept::{kept_insts, moved_end, places};
+use kept::{Kept, kept_insts, moved_end};
 use lists::List;
 use needed::needed;
 use std::alloc::{AllocError, Global};
@@ -26,7 +26,7 @@ fn clean_block(alloc: Global, block: &mut Block) -> Result<(), AllocError>
     ensures err { OnErr result (block.new ≡ block.old) }
 {
     let marks = needed(alloc, block)?;
-    let kept = places(alloc, marks)?;
+    let kept = Kept::by_marks(alloc, marks)?;
     let insts = mem::replace(&mut block.insts, List::new(alloc));
     block.insts = kept_insts(&kept, insts);
     block.end = moved_end(&kept, block.end);

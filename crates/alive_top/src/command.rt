@@ -1,16 +1,26 @@
 //! The words of a command line.
 
 ghost use Rattle.std.specs.Prelude.{◌≡◌, map, option_map, string_bytes};
-ghost use Rattle.alive_top.specs.Commands.{command_of};
+ghost use Rattle.alive_top.specs.Commands.{command_of, seen_optimise};
+
+/// The command `optimise`, with the names of its two files.
+#[derive(Clone, Copy)]
+pub(crate) struct Optimise<'a> {
+    pub(crate) rules: &'a str,
+    pub(crate) source: &'a str,
+}
 
 /// The command that the words name, of which the first is the program's own name.
-pub(crate) fn command(words: &[String]) -> Option<(&str, &str)>
-    ensures { option_map (λ p. record { rules = p.0.now; source = p.1.now }) result ≡ command_of (map string_bytes words.now) }
+pub(crate) fn command(words: &[String]) -> Option<Optimise<'_>>
+    ensures { option_map seen_optimise result ≡ command_of (map string_bytes words.now) }
 {
     match words {
         [_, command, rules, source] => {
             if command.as_str() == "optimise" {
-                Some((rules.as_str(), source.as_str()))
+                Some(Optimise {
+                    rules: rules.as_str(),
+                    source: source.as_str(),
+                })
             } else {
                 None
             }

@@ -1,7 +1,7 @@
 //! The top call.
 
-ghost use Rattle.std.specs.Prelude.{List, ◌≡◌, ◌≤◌, ◌+◌, ◌<◌, ◌^◌, ◌++◌, take, length, codes, map, string_bytes, Some, None, IfOk, IfSome, OnOk, IsSomeAnd, IsTrue, ◌↔◌, ◌≢◌, ◌⊎◌};
-ghost use Rattle.alive_top.specs.Commands.{command_of, IsRuleText, IsOptimised};
+ghost use Rattle.std.specs.Prelude.{◌≡◌, ◌≢◌, ◌≤◌, ◌↔◌, ◌⊎◌, ◌++◌, List, take, codes, map, string_bytes, None, IfOk, IfSome, IsTrue};
+ghost use Rattle.alive_top.specs.Commands.{command_of, seen_optimise, IsRuleText, IsOptimised};
 ghost use Rattle.alive_top.specs.Printing.{text_of, report_of};
 ghost use Rattle.alive_top.specs.Strategy.{Tally};
 ghost use Rattle.ir_core.specs.declared.module.Module.{Module};
@@ -10,10 +10,9 @@ ghost use Rattle.alive_top.specs.Working.{asked, ReadOf, RulesOf, TextsOf, Sourc
 ghost use Rattle.alive_top.specs.Endings.{fed, Told, RefusedAs, WrittenAs, EndsFor, StopsAtRules, StopsAtSource, IsDoneOrNoMemory, AreGood};
 ghost use Rattle.outside.specs.Faults.{Rose};
 ghost use Rattle.alive_top.specs.declared.top.Refusal.TheVariants.{Memory};
-ghost use Rattle.alive_top.specs.declared.top.TheConstants.{RULES_LIMIT, SOURCE_LIMIT};
 
 use crate::cleaning::cleaned_module;
-use crate::command::command;
+use crate::command::{Optimise, command};
 use crate::printer::{print_module, report};
 use crate::reader::{ModuleError, read_module};
 use crate::rule_file::has_no_rules;
@@ -134,17 +133,16 @@ fn read_source<'a, F: Files>(
 fn optimise<'a, F: Files>(
     alloc: Global,
     files: &mut F,
-    rules: &'a str,
-    source: &'a str,
+    named: Optimise<'a>,
 ) -> Result<Texts, Refusal<'a>>
     ensures answer { OptimiseOf
         (asked (F.bytes_under files.old) (F.names_asked files.old) (F.names_asked files.new) (F.faults files.old) (F.faults files.new))
-        (record { rules = rules.now; source = source.now }) result }
+        (seen_optimise named.entry) result }
     ensures told_stay { F.bytes_under files.new ≡ F.bytes_under files.old }
     ensures faults_grow { F.faults files.old ≤ F.faults files.new }
 {
-    read_rules(alloc, files, rules)?;
-    read_source(alloc, files, source)
+    read_rules(alloc, files, named.rules)?;
+    read_source(alloc, files, named.source)
 }
 
 /// The work of a command, before anything is written.
@@ -160,7 +158,7 @@ fn work<'a, F: Files>(
     ensures faults_grow { F.faults files.old ≤ F.faults files.new }
 {
     match command(words) {
-        Some((rules, source)) => optimise(alloc, files, rules, source),
+        Some(named) => optimise(alloc, files, named),
         None => Err(Refusal::Usage),
     }
 }

@@ -2,10 +2,10 @@
 
 ghost use Rattle.std.specs.Prelude.{◌≡◌, ◌∷◌, [], length, IfOk};
 ghost use Rattle.alive_top.specs.Cleaning as clean;
-ghost use Rattle.alive_top.specs.Cleaning.{moved_register, moved_operand, moved_op, moved_end, moved_inst, kept_insts};
+ghost use Rattle.alive_top.specs.Cleaning.{moved_inst};
 ghost use Rattle.alive_top.specs.Meaning.{StandsBefore};
 ghost use Rattle.alive_top.specs.Straight.{OperandStands, OpStands, EndStands, InstsStand};
-ghost use Rattle.alive_top.specs.Marking.{ArePlaces};
+ghost use Rattle.alive_top.specs.Marking.{AreKeptPlaces};
 
 use ir_core::{Inst, Op, Operand, Register, Terminator};
 use lists::List;
@@ -14,15 +14,16 @@ use std::alloc::{AllocError, Global};
 /// Which instructions of a block are kept.
 #[derive(Drop)]
 pub(crate) struct Kept {
+    /// For each instruction, whether it is kept.
     marks: Vec<bool>,
-    /// How many kept instructions stand before each.
+    /// For each instruction, how many kept ones stand before it.
     places: Vec<usize>,
-    ghost counted: { ArePlaces marks.items places.items },
+    ghost counted: { AreKeptPlaces marks.items places.items },
 }
 
-/// How many marks stand before each.
-fn counts(alloc: Global, marks: &[bool]) -> Result<Vec<usize>, AllocError>
-    ensures { IfOk result (λ places. ArePlaces marks.now places.items) }
+/// For each instruction, how many kept ones stand before it.
+fn places(alloc: Global, marks: &[bool]) -> Result<Vec<usize>, AllocError>
+    ensures { IfOk result (λ places. AreKeptPlaces marks.now places.items) }
 {
     let mut places = Vec::new(alloc);
     let mut count = 0;
@@ -35,12 +36,14 @@ fn counts(alloc: Global, marks: &[bool]) -> Result<Vec<usize>, AllocError>
     Ok(places)
 }
 
-/// What is kept by these marks.
-pub(crate) fn places(alloc: Global, marks: Vec<bool>) -> Result<Kept, AllocError>
-    ensures { IfOk result (λ kept. kept.marks.items ≡ marks.items) }
-{
-    let places = counts(alloc, marks.as_slice())?;
-    Ok(Kept { marks, places })
+impl Kept {
+    /// The instructions that are marked are kept.
+    pub(crate) fn by_marks(alloc: Global, marks: Vec<bool>) -> Result<Kept, AllocError>
+        ensures { IfOk result (λ kept. kept.marks.items ≡ marks.items) }
+    {
+        let places = places(alloc, marks.as_slice())?;
+        Ok(Kept { marks, places })
+    }
 }
 
 fn moved_register(kept: &Kept, register: Register) -> Register

@@ -1,8 +1,6 @@
 //! Prints a function.
 
-ghost use Rattle.std.specs.Prelude.{◌≡◌, ◌++◌, codes, option_map, OnOk};
-ghost use Rattle.ir_core.specs.Names.{identifier_of};
-ghost use Rattle.alive_top.specs.Identifiers.{seen};
+ghost use Rattle.std.specs.Prelude.{◌≡◌, ◌++◌, codes, OnOk};
 ghost use Rattle.alive_top.specs.Printing.{type_text, operand_text, op_text, inst_text, insts_text, end_text, block_text, blocks_text, parameter_text, parameters_text, function_text};
 
 use crate::identifier::Identifier;

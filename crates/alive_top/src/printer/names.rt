@@ -4,7 +4,7 @@ ghost use Rattle.std.specs.Prelude.{◌≡◌, ◌≤◌, ◌∷◌, [], ◌++�
 ghost use Rattle.std.specs.List.{flat_map};
 ghost use Rattle.ir_core.specs.Names.{identifiers_from, identifiers_of, identifier_of, block_names};
 ghost use Rattle.alive_top.specs.Identifiers.{seen};
-ghost use Rattle.alive_top.specs.Series.{Adds, ArePlaces};
+ghost use Rattle.alive_top.specs.Series.{Adds, AreBlockStarts};
 
 use crate::identifier::Identifier;
 use ir_core::{Block, Function, Inst, Parameter, Register};
@@ -18,7 +18,7 @@ pub(crate) struct Names<'a> {
     identifiers: Vec<Identifier<'a>>,
     starts: Vec<usize>,
     ghost all_identifiers: { map seen identifiers.items ≡ identifiers_of function.now },
-    ghost all_starts: { ArePlaces (length function.now.parameters)
+    ghost all_starts: { AreBlockStarts (length function.now.parameters)
         function.now.blocks starts.items },
 }
 
@@ -106,7 +106,7 @@ fn push_blocks<'a>(
         ≡ map seen identifiers.old.items
         ++ identifiers_from next_number (flat_map block_names blocks.now)) }
     ensures starts { IfOk result
-        (λ starts. ArePlaces (length identifiers.old.items) blocks.now starts.items) }
+        (λ starts. AreBlockStarts (length identifiers.old.items) blocks.now starts.items) }
 {
     let mut starts = Vec::new(alloc);
     for block in blocks {

@@ -2,6 +2,7 @@
 
 ghost use Rattle.std.specs.Prelude.{◌≡◌};
 ghost use Rattle.alive_top.specs.Bytes.{is_blank, is_digit, is_letter, begins_name, is_name_byte};
+ghost use Rattle.alive_top.specs.Tokens.{are_digits};
 
 /// Whether a byte separates tokens: a space, a tab, a carriage return or a line feed.
 #[tactic(auto, unfolding(crate::specs::Bytes::is_blank))]
@@ -16,6 +17,17 @@ pub(crate) fn is_digit(byte: u8) -> bool
     ensures { result ≡ is_digit byte }
 {
     byte.is_ascii_digit()
+}
+
+/// Whether a text is one digit or more.
+#[tactic(auto, unfolding(crate::specs::Tokens::are_digits))]
+pub(crate) fn are_digits(text: &[u8]) -> bool
+    ensures { result ≡ are_digits text.now }
+{
+    match text {
+        [] => false,
+        [first, ..] => is_digit(*first) && text.iter().all(|byte| is_digit(*byte)),
+    }
 }
 
 #[tactic(auto, unfolding(crate::specs::Bytes::is_letter))]

@@ -1,11 +1,12 @@
 //! Gives productions their meaning: types, literals, and registers by place.
 
-ghost use Rattle.std.specs.Prelude.{◌≡◌, ◌<◌, [], ◌∷◌, List, length, map, Option, None, Some, option_map, ℕ, IfOk, OnErr, IsTrue, IsErrOf, ◌↔◌};
+ghost use Rattle.std.specs.Prelude.{◌≡◌, ◌<◌, [], map, ℕ, IfOk, OnErr, IsTrue, IsErrOf, ◌↔◌};
 ghost use Rattle.ir_core.specs.declared.module.Module.{Module};
 ghost use Rattle.alive_top.specs.Grammar.{Register_named};
 ghost use Rattle.alive_top.specs.RawViews.{seen_value, seen_parameter, seen_inst, seen_function, seen_functions};
 ghost use Rattle.alive_top.specs.Meaning.{AreDistinct, IsType, IsLiteral, ModuleMeans};
-ghost use Rattle.alive_top.specs.Resolving.{Gives, fold_in, width_in, seen_entries, Known, number_in, truth_in, operand_in, parameter_in, all_parameters_in, inst_in, all_insts_in, body_in, plain_in, returned_in, function_in, entry_in};
+ghost use Rattle.alive_top.specs.Giving.{Gives};
+ghost use Rattle.alive_top.specs.Resolving.{fold_in, width_in, seen_entries, number_in, truth_in, operand_in, parameter_in, all_parameters_in, inst_in, all_insts_in, body_in, plain_in, returned_in, function_in, entry_in};
 
 use crate::reader::bytes::is_digit;
 use crate::reader::error::ModuleError;
@@ -215,7 +216,7 @@ fn check_returned(word: &[u8], wanted: Width) -> Result<(), ModuleError>
     ensures { Gives (λ _. wanted) result (returned_in word.now wanted) }
 {
     let width = width(word)?;
-    if width.bits() == wanted.bits() {
+    if width == wanted {
         Ok(())
     } else {
         Err(ModuleError::Refused)

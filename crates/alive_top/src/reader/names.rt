@@ -1,11 +1,12 @@
 //! The registers of a function that is being read, by their names and numbers.
 
-ghost use Rattle.std.specs.Prelude.{◌≡◌, ◌≤◌, [], ◌∷◌, ◌++◌, ◌^◌, true, suc, length, IfOk, OnOk, IfSome, MatchOption};
+ghost use Rattle.std.specs.Prelude.{◌≡◌, ◌≤◌, [], ◌∷◌, ◌++◌, ◌^◌, true, suc, IfOk, IfSome, MatchOption};
 ghost use Rattle.std.specs.Option.{is_none};
 ghost use Rattle.alive_top.specs.Bytes.{is_digit, begins_with};
 ghost use Rattle.alive_top.specs.Meaning.{decimal_value, called};
 ghost use Rattle.alive_top.specs.Identifiers.{seen};
-ghost use Rattle.alive_top.specs.Resolving.{Gives, seen_entries, lookup_in, find_in, add_in, define_in, enter_in, register_at};
+ghost use Rattle.alive_top.specs.Giving.{Gives};
+ghost use Rattle.alive_top.specs.Resolving.{seen_entries, lookup_in, find_in, add_in, define_in, enter_in, register_at};
 
 use crate::identifier::Identifier;
 use crate::reader::bytes::is_digit;

@@ -1,13 +1,10 @@
 //! Numbers and types as written.
 
-ghost use Rattle.std.specs.Prelude.{◌≡◌, ◌<◌, ◌^◌, ◌==◌, SomeIff, option_map};
-ghost use Rattle.std.specs.List.{list_all};
-ghost use Rattle.alive_top.specs.Bytes.{is_digit};
-ghost use Rattle.alive_top.specs.Tokens.{are_digits};
+ghost use Rattle.std.specs.Prelude.{◌≡◌, ◌<◌, ◌^◌, SomeIff, option_map};
 ghost use Rattle.alive_top.specs.Meaning.{decimal_value};
 ghost use Rattle.alive_top.specs.Resolving.{width_in, unsigned_in, negated_in, literal_in};
 
-use crate::reader::bytes::is_digit;
+use crate::reader::bytes::{are_digits, is_digit};
 use ops::{Width, Word};
 
 /// The number that decimal digits spell, where it is below 2 ^ 64.
@@ -20,24 +17,6 @@ pub(crate) fn decimal_number(digits: &[u8]) -> Option<u64>
         number = number.checked_mul(10)?.checked_add(value)?;
     }
     Some(number)
-}
-
-/// Whether there are digits only.
-fn all_digits(text: &[u8]) -> bool
-    ensures { result ≡ list_all is_digit text.now }
-{
-    text.iter().all(|byte| is_digit(*byte))
-}
-
-/// Whether a text is one digit or more.
-#[tactic(auto, unfolding(crate::specs::Tokens::are_digits))]
-fn are_digits(text: &[u8]) -> bool
-    ensures { result ≡ are_digits text.now }
-{
-    match text {
-        [first, ..] => is_digit(*first) && all_digits(text),
-        [] => false,
-    }
 }
 
 /// The width of a type: `i` and digits, from 1 to 64.
@@ -78,7 +57,6 @@ fn unsigned(width: Width, digits: &[u8]) -> Option<Word>
     ensures { result ≡ option_map (λ n. record { width = width; number = n }) (unsigned_in width (decimal_value digits.now)) }
 {
     // A width is at most 64, so that a number of 2 ^ 64 or more does not fit.
-    let _bits = width.bits();
     Word::new(width, decimal_number(digits)?)
 }
 

@@ -1,7 +1,7 @@
 //! Reads productions off the front of a text.
 
-ghost use Rattle.std.specs.Prelude.{◌≡◌, [], ◌∷◌, suc, length};
-ghost use Rattle.alive_top.specs.Scanning.{Gives};
+ghost use Rattle.std.specs.Prelude.{[], ◌∷◌, suc, length};
+ghost use Rattle.alive_top.specs.Giving.{Gives};
 ghost use Rattle.alive_top.specs.RawViews.{seen_value, seen_inst, seen_parameter, seen_function, seen_insts, seen_parameters, seen_functions};
 ghost use Rattle.alive_top.specs.Parsing.{word_at, mark_at, keyword_at, register_at, function_name_at, opcode_in, value_in, opcode_at, value_at, inst_at, insts_at, parameter_at, more_parameters_at, parameters_at, function_at, functions_at, with_front};
 

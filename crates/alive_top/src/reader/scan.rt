@@ -1,11 +1,12 @@
 //! Takes tokens off the front of a text.
 
-ghost use Rattle.std.specs.Prelude.{◌≡◌, ◌↔◌, length, IsTrue};
+ghost use Rattle.std.specs.Prelude.{◌≡◌};
 ghost use Rattle.alive_top.specs.Bytes as bytes;
-ghost use Rattle.alive_top.specs.Tokens.{are_digits, is_word, is_number};
-ghost use Rattle.alive_top.specs.Scanning.{Gives, front, back, mark_of, name_at, word_or_number_at, token_at, next_at, seen_token};
+ghost use Rattle.alive_top.specs.Tokens.{is_number};
+ghost use Rattle.alive_top.specs.Giving.{Gives};
+ghost use Rattle.alive_top.specs.Scanning.{front, back, mark_of, name_at, word_or_number_at, token_at, next_at, seen_token};
 
-use crate::reader::bytes::{begins_name, is_digit, is_name_byte};
+use crate::reader::bytes::{are_digits, begins_name, is_digit, is_name_byte};
 use crate::reader::error::ModuleError;
 use crate::reader::gap::after_gap;
 use crate::reader::token::{Mark, Token};
@@ -36,17 +37,6 @@ fn digit_run(text: &[u8]) -> (&[u8], &[u8])
     (text, &[])
 }
 
-/// Whether a text is digits, one or more.
-#[tactic(auto, unfolding(crate::specs::Tokens::are_digits))]
-fn is_digits(text: &[u8]) -> bool
-    ensures { result ≡ are_digits text.now }
-{
-    match text {
-        [] => false,
-        [first, ..] => is_digit(*first) && text.iter().all(|byte| is_digit(*byte)),
-    }
-}
-
 /// Whether a run is digits, maybe behind a `-`.
 #[tactic(auto, unfolding(crate::specs::Tokens::is_number))]
 fn is_number_run(run: &[u8]) -> bool
@@ -56,9 +46,9 @@ fn is_number_run(run: &[u8]) -> bool
         [] => false,
         [first, digits @ ..] => {
             if *first == b'-' {
-                is_digits(digits)
+                are_digits(digits)
             } else {
-                is_digits(run)
+                are_digits(run)
             }
         }
     }

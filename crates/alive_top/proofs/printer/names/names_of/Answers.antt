@@ -1,6 +1,6 @@
 use Rattle.std.proofs.Common.{◌≡◌, ℕ, length, map, ap, subst, arith}
 use Rattle.std.proofs.lemmas.List.{length-map}
-use Rattle.alive_top.specs.Series.{ArePlaces}
+use Rattle.alive_top.specs.Series.{AreBlockStarts}
 use Rattle.alive_top.proofs.PrintedNames.{all_identifiers, Adds-length}
 use Rattle.alive_top.proofs.printer.names.names_of.Goals as goal
 
@@ -13,5 +13,5 @@ invariant_of-result c =
     let start : length c.push_parameters.new.identifiers.items ≡ length f.parameters = omega (arith, first, none, length-map f.parameters (λ p. p.name)) in
     record {
       all_identifiers = all_identifiers f c.new-identifiers.result.items c.push_parameters.new.identifiers.items c.push_blocks.new.identifiers.items c.in_ok-next_number.next_number c.new-identifiers.ensures.items adds (rw c.as_slice-2.ensures at c.in_ok-starts.ensures.adds);
-      all_starts = subst (λ (n : ℕ). ArePlaces n f.blocks c.in_ok-starts.starts.items) start (rw c.as_slice-2.ensures at c.in_ok-starts.ensures.starts);
+      all_starts = subst (λ (n : ℕ). AreBlockStarts n f.blocks c.in_ok-starts.starts.items) start (rw c.as_slice-2.ensures at c.in_ok-starts.ensures.starts);
     }

@@ -1,7 +1,7 @@
 use Rattle.std.proofs.Common.{◌≡◌, ◌+◌, length, take, arith}
 use Rattle.std.specs.List.{flat_map}
 use Rattle.ir_core.specs.Names.{block_names}
-use Rattle.alive_top.proofs.PrintedNames.{Adds-all_more, Adds-length, ArePlaces-more}
+use Rattle.alive_top.proofs.PrintedNames.{Adds-all_more, Adds-length, AreBlockStarts-more}
 use Rattle.alive_top.proofs.printer.names.push_blocks.Goals as goal
 
 pub loop-block-preserved : goal.loop-block-preserved
@@ -12,5 +12,5 @@ loop-block-preserved c =
     record {
       adds = Adds-all_more block_names c.args.next_number blocks i c.block-item.result _ _ _ _ _ c.loop-block-test.true c.block-item.is c.loop-block.invariant.adds c.in_ok-next_number.ensures.adds;
       counted = c.in_ok-next_number.ensures.counted;
-      starts = rw c.in_ok-push.ensures.items (ArePlaces-more _ blocks i c.loop-block.starts.items c.len.result c.loop-block-test.true c.loop-block.invariant.starts place);
+      starts = rw c.in_ok-push.ensures.items (AreBlockStarts-more _ blocks i c.loop-block.starts.items c.len.result c.loop-block-test.true c.loop-block.invariant.starts place);
     }

@@ -1,7 +1,8 @@
 use Rattle.std.proofs.Common.{Option, Some, ap}
 use Rattle.std.proofs.lemmas.Result.{err_from_is_err_and}
 use Rattle.alive_top.specs.RawViews.{seen_inst}
-use Rattle.alive_top.specs.Resolving.{◌>>=◌, Insts, insts_in, all_insts_in, seen_entries}
+use Rattle.alive_top.specs.Giving.{◌>>=◌}
+use Rattle.alive_top.specs.Resolving.{Insts, insts_in, all_insts_in, seen_entries}
 use Rattle.alive_top.proofs.Loop.{goes_on, fails, is_done, inst_step, inst_fails, insts_fail}
 use Rattle.alive_top.proofs.reader.module.insts.Goals as goal
 

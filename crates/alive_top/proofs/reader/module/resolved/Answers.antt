@@ -2,7 +2,8 @@ use Rattle.std.proofs.Common.{◌≡◌, Some, subst}
 use Rattle.std.proofs.lemmas.Result.{err_from_is_err_and}
 use Rattle.alive_top.specs.declared.reader.raw.RawFunction as code
 use Rattle.alive_top.specs.RawViews.{seen_function}
-use Rattle.alive_top.specs.Resolving.{Fails, function_in, entry_in}
+use Rattle.alive_top.specs.Giving.{Fails}
+use Rattle.alive_top.specs.Resolving.{function_in, entry_in}
 use Rattle.alive_top.proofs.Loop.{goes_on, fails, is_done, entry_step, entry_fails}
 use Rattle.alive_top.proofs.reader.module.resolved.Goals as goal
 

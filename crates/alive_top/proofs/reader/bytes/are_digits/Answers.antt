@@ -4,7 +4,7 @@ use Rattle.std.proofs.lemmas.Iterator.Search.{all_from_yields_List}
 use Rattle.alive_top.specs.Bytes.{is_digit, begins_with}
 use Rattle.alive_top.specs.Tokens.{are_digits}
 use Rattle.alive_top.proofs.Runs.{begins_with-first}
-use Rattle.alive_top.proofs.reader.scan.is_digits.Goals as goal
+use Rattle.alive_top.proofs.reader.bytes.are_digits.Goals as goal
 
 pub returns-then-is_digit : goal.returns-then-is_digit
 unfolding are_digits

@@ -1,6 +1,6 @@
 use Rattle.alive_top.proofs.KeptLemmas.{counted_marked, counted_other}
-use Rattle.alive_top.proofs.cleaning.kept.counts.Goals.{then-mark, else-mark}
-use Rattle.alive_top.proofs.cleaning.kept.counts.Goals as goal
+use Rattle.alive_top.proofs.cleaning.kept.places.Goals.{then-mark, else-mark}
+use Rattle.alive_top.proofs.cleaning.kept.places.Goals as goal
 
 pub loop-mark-preserved : goal.loop-mark-preserved
 loop-mark-preserved c =

@@ -1,5 +1,5 @@
 use Rattle.alive_top.proofs.KeptLemmas.{Counted}
-use Rattle.alive_top.proofs.cleaning.kept.counts.Given as goal
+use Rattle.alive_top.proofs.cleaning.kept.places.Given as goal
 
 abbrev pub invariant-loop-mark : goal.invariant-loop-mark
 invariant-loop-mark l = Counted l.marks l.mark-index l.places.items l.count
