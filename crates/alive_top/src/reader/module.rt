@@ -79,6 +79,7 @@ fn register(
     }
 }
 
+/// What an instruction or a return reads.
 #[tactic(auto, unfolding(crate::specs::Resolving::operand_in))]
 fn operand(
     scope: &Scope<'_>,
@@ -156,6 +157,7 @@ fn inst<'a>(
     Ok((Inst { name, width, op }, next_number))
 }
 
+/// The instructions in order.
 #[tactic(auto, unfolding(crate::specs::Resolving::all_insts_in))]
 fn insts<'a>(
     alloc: Global,
@@ -200,6 +202,7 @@ fn body(
     Ok((parameters, block))
 }
 
+/// The name of a function, which is no number.
 #[tactic(auto, unfolding(crate::specs::Resolving::plain_in))]
 fn function_name(alloc: Global, name: &[u8]) -> Result<Text, ModuleError>
     ensures { Gives (λ t. t) result (plain_in name.now) }
@@ -223,6 +226,7 @@ fn check_returned(word: &[u8], wanted: Width) -> Result<(), ModuleError>
     }
 }
 
+/// What a function's text means.
 #[tactic(auto, unfolding(crate::specs::Resolving::function_in))]
 fn function(alloc: Global, raw: &RawFunction<'_>) -> Result<Function, ModuleError>
     ensures { Gives (λ f. f) result (function_in (seen_function raw.now)) }

@@ -1,6 +1,6 @@
 //! The registers of a function that is being read, by their names and numbers.
 
-ghost use Rattle.std.specs.Prelude.{◌≡◌, ◌≤◌, [], ◌∷◌, ◌++◌, ◌^◌, true, suc, IfOk, IfSome, MatchOption};
+ghost use Rattle.std.specs.Prelude.{◌≡◌, ◌<◌, ◌≤◌, [], ◌∷◌, ◌++◌, ◌^◌, true, suc, IfOk, IfSome, IsSome, MatchOption};
 ghost use Rattle.std.specs.Option.{is_none};
 ghost use Rattle.alive_top.specs.Bytes.{is_digit, begins_with};
 ghost use Rattle.alive_top.specs.Meaning.{decimal_value, called};
@@ -150,7 +150,8 @@ pub(crate) fn find(scope: &Scope<'_>, text: &[u8]) -> Option<(usize, Entity)>
 /// None where the register's number is 2 ^ 32 or more.
 #[tactic(auto, unfolding(crate::specs::Resolving::register_at))]
 pub(crate) fn register_at(parameters: usize, place: usize) -> Option<Register>
-    ensures { IfSome result (λ r. r ≡ register_at parameters place) }
+    ensures register { IfSome result (λ r. r ≡ register_at parameters place) }
+    ensures given { place < 2 ^ 32 → IsSome result }
 {
     if place < parameters {
         Some(Register::Parameter(u32::try_from(place).ok()?))
