@@ -1,5 +1,5 @@
 -- A cleaned function may stand in the place of the old one.
-use Rattle.std.proofs.Common.{◌≡◌, ℕ, zero, suc, ◌+◌, ◌<◌, Bool, true, false, ◌⊎◌, inl, inr, List, [], ◌∷◌, length, Some, refl, sym, ap, subst, ◌∙◌, arith, Contains}
+use Rattle.std.proofs.Common.{◌≡◌, ℕ, zero, suc, ◌+◌, ◌<◌, Bool, true, false, ◌⊎◌, inl, inr, List, [], ◌∷◌, length, None, Some, refl, sym, ap, subst, ◌∙◌, arith, Contains}
 use Rattle.std.specs.Prelude.{slice_get, option_map}
 use Rattle.std.proofs.lemmas.Bool.{cases_eq}
 use Rattle.std.proofs.lemmas.Option.{same_Some}
@@ -100,7 +100,7 @@ op_back : (f : Function) (marks : Marks) (k w : ℕ) (held new : Registers) (op 
 op_back f marks k w held new (Binary op flags a b) e h fits m g =
     (g.0, g.1, operand_back f marks k w held new a g.0 h fits.0 m.0 g.2, operand_back f marks k w held new b g.1 h fits.1 m.1 g.3, g.4)
 
-end_back : (f : Function) (marks : Marks) (k : ℕ) (held new : Registers) (t : Terminator) (end : Ending) → Agree marks k held new → EndFits f k t → EndStays marks t → EndGives AnyNumber new f.width (moved_end marks t) end → EndGives AnyNumber held f.width t end
+end_back : (f : Function) (marks : Marks) (k : ℕ) (held new : Registers) (t : Terminator) (end : Ending) → Agree marks k held new → EndFits f k t → EndStays marks t → EndGives AnyNumber new (kept_function marks f) (moved_end marks t) end → EndGives AnyNumber held f t end
 end_back f marks k held new (terminators.Return a) end h fits m g = (g.0, operand_back f marks k f.width held new a g.0 h fits m g.1, g.2)
 
 -- after an instruction that is kept
@@ -139,8 +139,8 @@ pass_back : (f : Function) (marks : Marks) (block : Block) → AreNeeded f marks
     → length keeps ≡ length insts
     → c ≡ marked_before k (marks_at marks 0)
     → CodeFits f k insts block.end → AreHeld f k held → Agree marks k held new
-    → Follows AnyNumber f.width 0 c (kept_insts marks keeps insts) (moved_end marks block.end) new end
-    → Follows AnyNumber f.width 0 k insts block.end held end
+    → Follows AnyNumber (kept_function marks f) 0 c (kept_insts marks keeps insts) (moved_end marks block.end) new end
+    → Follows AnyNumber f 0 k insts block.end held end
 pass_back f marks block needed at_block k c [] [] held new end ms is len at fits h a g =
     end_back f marks k held new block.end end a fits (end_stays f marks 0 k block needed at_block block.end refl fits) g
 pass_back f marks block needed at_block k c [] (i ∷ insts) held new end ms is len at fits h a g = absurd (omega arith)
@@ -152,8 +152,8 @@ pass_back f marks block needed at_block k c (true ∷ keeps) (i ∷ insts) held 
       g.0,
       op_back f marks k i.width held new i.op g.0 a fits.0 (op_stays f marks 0 k block i needed at_block here kept i.op refl fits.0) g.1,
       goes_on
-          (λ v. Follows AnyNumber f.width 0 (suc c) (kept_insts marks keeps insts) (moved_end marks block.end) (holding new 0 c v) end)
-          (λ v. Follows AnyNumber f.width 0 (suc k) insts block.end (holding held 0 k v) end)
+          (λ v. Follows AnyNumber (kept_function marks f) 0 (suc c) (kept_insts marks keeps insts) (moved_end marks block.end) (holding new 0 c v) end)
+          (λ v. Follows AnyNumber f 0 (suc k) insts block.end (holding held 0 k v) end)
           g.0
           end
           (λ v rest. pass_back f marks block needed at_block (suc k) (suc c) keeps insts (holding held 0 k v) (holding new 0 c v) end (marked_next (marks_at marks 0) k true keeps ms) (marked_next block.insts k i insts is) (omega arith) next_at fits.1 (held_next f k held v h) (agree_kept marks k c held new v at a) rest)
@@ -179,12 +179,12 @@ ends_on : (next : Value → Type 0) (e : Effect) (end : Ending) → ((v : Value)
 ends_on next effects.Undefined end f g = subst EndsRun (sym g) tt
 ends_on next (effects.Gives v) end f g = f v g
 
-ends_run : (w b k : ℕ) (insts : List Inst) (t : Terminator) (held : Registers) (end : Ending) → Follows AnyNumber w b k insts t held end → EndsRun end
-ends_run w b k [] (terminators.Return a) held end g = subst EndsRun (sym g.2) tt
-ends_run w b k (i ∷ insts) t held end g =
-    ends_on (λ v. Follows AnyNumber w b (suc k) insts t (holding held b k v) end) g.0 end (λ v rest. ends_run w b (suc k) insts t (holding held b k v) end rest) g.2
+ends_run : (f : Function) (b k : ℕ) (insts : List Inst) (t : Terminator) (held : Registers) (end : Ending) → Follows AnyNumber f b k insts t held end → EndsRun end
+ends_run f b k [] (terminators.Return a) held end g = subst EndsRun (sym g.2) tt
+ends_run f b k (i ∷ insts) t held end g =
+    ends_on (λ v. Follows AnyNumber f b (suc k) insts t (holding held b k v) end) g.0 end (λ v rest. ends_run f b (suc k) insts t (holding held b k v) end rest) g.2
 
-outcome_by : (f : Function) (args : List Value) (n : ℕ) (end : Ending) (o : Outcome) → Passes AnyNumber f 0 (arguments args) end → EndsRun end → (next : ℕ → Registers → Outcome → Type 0) → Leads next end o → (allowed_by : Outcome) × HasOutcome f args (suc n) allowed_by × AllowsOutcome allowed_by o
+outcome_by : (f : Function) (args : List Value) (n : ℕ) (end : Ending) (o : Outcome) → Passes AnyNumber f None 0 (arguments args) end → EndsRun end → (next : ℕ → Registers → Outcome → Type 0) → Leads next end o → (allowed_by : Outcome) × HasOutcome f args (suc n) allowed_by × AllowsOutcome allowed_by o
 outcome_by f args n Undefines o pass ends next g = (outcomes.Undefined, (Undefines, pass, refl), tt)
 outcome_by f args n (Returns v) o pass ends next g = (outcomes.Return v, (Returns v, pass, refl), subst (AllowsOutcome (outcomes.Return v)) (sym g) (AllowsValue-refl v))
 outcome_by f args n (Goes b held) o pass ends next g = absurd ends
@@ -199,11 +199,11 @@ outcomes_back : (f : Function) (block : Block) (keeps : List Bool) → AreNeeded
 outcomes_back f block keeps needed fits args zero o a h = (outcomes.Running 0, refl, h)
 outcomes_back f block keeps needed fits args (suc n) o a h =
     let is : kept_block (keeps ∷ []) keeps block ≡ h.1.0 = same_Some (kept_block (keeps ∷ []) keeps block) h.1.0 h.1.1 in
-    let new_pass : Follows AnyNumber f.width 0 0 (kept_insts (keeps ∷ []) keeps block.insts) (moved_end (keeps ∷ []) block.end) (arguments args) h.0 = subst (λ (b : Block). Follows AnyNumber f.width 0 0 b.insts b.end (arguments args) h.0) (sym is) h.1.2 in
+    let new_pass : Follows AnyNumber (kept_function (keeps ∷ []) (one f block)) 0 0 (kept_insts (keeps ∷ []) keeps block.insts) (moved_end (keeps ∷ []) block.end) (arguments args) h.0 = subst (λ (b : Block). Follows AnyNumber (kept_function (keeps ∷ []) (one f block)) 0 0 b.insts b.end (arguments args) h.0) (sym is) h.1.2 in
     let first : Agree (keeps ∷ []) 0 (arguments args) (arguments args) = record { parameters = λ p. refl; results = λ j lt m. absurd (omega arith) } in
-    let pass : Follows AnyNumber f.width 0 0 block.insts block.end (arguments args) h.0 =
+    let pass : Follows AnyNumber (one f block) 0 0 block.insts block.end (arguments args) h.0 =
     pass_back (one f block) (keeps ∷ []) block needed refl 0 0 keeps block.insts (arguments args) (arguments args) h.0 (λ i. ap (slice_get keeps) (omega arith)) (λ i. ap (slice_get block.insts) (omega arith)) (needed.insts 0 block refl) refl fits (held_first (one f block) args a) first new_pass in
-    outcome_by (one f block) args n h.0 o (block, refl, pass) (ends_run f.width 0 0 block.insts block.end (arguments args) h.0 pass) (RunsFrom AnyNumber (kept_function (keeps ∷ []) (one f block)) n) h.2
+    outcome_by (one f block) args n h.0 o (block, refl, pass) (ends_run (one f block) 0 0 block.insts block.end (arguments args) h.0 pass) (RunsFrom AnyNumber (kept_function (keeps ∷ []) (one f block)) n (Some 0)) h.2
 
 refines_one : (f : Function) (block : Block) (marks : Marks) → AreNeeded (one f block) marks → CodeFits (one f block) 0 block.insts block.end → Refines (one f block) (kept_function marks (one f block))
 refines_one f block [] needed fits = absurd (let e : 0 ≡ 1 = needed.blocks in omega arith)

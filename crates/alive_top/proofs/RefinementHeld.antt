@@ -1,5 +1,5 @@
 -- What the registers of a straight-line function hold.
-use Rattle.std.proofs.Common.{◌≡◌, ℕ, zero, suc, ◌<◌, ◌^◌, cond, ◌==◌, ◌⊎◌, inl, inr, List, [], ◌∷◌, Some, refl, sym, ap, subst, ◌∙◌, arith}
+use Rattle.std.proofs.Common.{◌≡◌, ℕ, zero, suc, ◌<◌, ◌^◌, cond, ◌==◌, ◌⊎◌, inl, inr, List, [], ◌∷◌, Option, None, Some, refl, sym, ap, subst, ◌∙◌, arith}
 use Rattle.std.specs.Prelude.{slice_get, option_map, ◌≢◌}
 use Rattle.std.proofs.lemmas.Bool.{eq-eqb, ne_eqb, cases_eq, and_from, and_right}
 use Rattle.std.proofs.lemmas.Nat.{pow_pos}
@@ -8,6 +8,9 @@ use Rattle.ops.specs.declared.value.Value.{Value}
 use Rattle.ops.specs.declared.value.Value.TheVariants as values
 use Rattle.ops.specs.declared.value.Effect.{Effect}
 use Rattle.ops.specs.declared.value.Effect.TheVariants as effects
+use Rattle.ops.specs.declared.opcode.Opcode.{Opcode}
+use Rattle.ops.specs.declared.opcode.Opcode.TheVariants.{Add, Sub, And, Or, Xor}
+use Rattle.ops.specs.Laws.{HasNoDivision}
 use Rattle.ops.proofs.Instructions.{instruction-defined}
 use Rattle.ir_core.specs.Names.{width_of}
 use Rattle.ir_core.specs.Refines.{AreArguments}
@@ -75,21 +78,29 @@ defined : (e : Effect) → e ≢ effects.Undefined → (v : Value) × (e ≡ eff
 defined effects.Undefined h = absurd (h refl)
 defined (effects.Gives v) h = (v, refl)
 
+-- none of the instructions divides
+no_division : (op : Opcode) → HasNoDivision op
+no_division Add = tt
+no_division Sub = tt
+no_division And = tt
+no_division Or = tt
+no_division Xor = tt
+
 pub op_gives : (f : Function) (k w : ℕ) (held : Registers) (op : Op) → AreHeld f k held → OpFits f k w op → (v : Value) × OpGives OnlyZero held w op (effects.Gives v)
 op_gives f k w held (Binary op flags a b) h fits =
     let x : (v : Value) × OperandGives OnlyZero held w a v = operand_gives f k w held a h fits.0 in
     let y : (v : Value) × OperandGives OnlyZero held w b v = operand_gives f k w held b h fits.1 in
-    let r : (v : Value) × (instruction op flags w x.0 y.0 ≡ effects.Gives v) = defined (instruction op flags w x.0 y.0) (instruction-defined op flags w x.0 y.0) in
+    let r : (v : Value) × (instruction op flags w x.0 y.0 ≡ effects.Gives v) = defined (instruction op flags w x.0 y.0) (instruction-defined op flags w x.0 y.0 (no_division op)) in
     (r.0, (x.0, y.0, x.1, y.1, sym r.1))
 
 -- so does the pass through the block return a value
-pub returns : (f : Function) (k : ℕ) (insts : List Inst) (t : Terminator) (held : Registers) → AreHeld f k held → CodeFits f k insts t → (v : Value) × Follows OnlyZero f.width 0 k insts t held (Returns v)
+pub returns : (f : Function) (k : ℕ) (insts : List Inst) (t : Terminator) (held : Registers) → AreHeld f k held → CodeFits f k insts t → (v : Value) × Follows OnlyZero f 0 k insts t held (Returns v)
 returns f k [] (terminators.Return a) held h fits =
     let x : (v : Value) × OperandGives OnlyZero held f.width a v = operand_gives f k f.width held a h fits in
     (x.0, (x.0, x.1, refl))
 returns f k (i ∷ insts) t held h fits =
     let r : (v : Value) × OpGives OnlyZero held i.width i.op (effects.Gives v) = op_gives f k i.width held i.op h fits.0 in
-    let rest : (v : Value) × Follows OnlyZero f.width 0 (suc k) insts t (holding held 0 k r.0) (Returns v) = returns f (suc k) insts t (holding held 0 k r.0) (held_next f k held r.0 h) fits.1 in
+    let rest : (v : Value) × Follows OnlyZero f 0 (suc k) insts t (holding held 0 k r.0) (Returns v) = returns f (suc k) insts t (holding held 0 k r.0) (held_next f k held r.0 h) fits.1 in
     (rest.0, (effects.Gives r.0, r.1, rest.1))
 
 -- ---- what holds of the number 0 holds of some number
@@ -110,12 +121,12 @@ pub goes_on : (next later : Value → Type 0) (e : Effect) (end : Ending) → On
 goes_on next later effects.Undefined end f g = g
 goes_on next later (effects.Gives v) end f g = f v g
 
-follows_any : (w b k : ℕ) (insts : List Inst) (t : Terminator) (held : Registers) (end : Ending) → Follows OnlyZero w b k insts t held end → Follows AnyNumber w b k insts t held end
-follows_any w b k [] (terminators.Return a) held end h = (h.0, operand_any held w a h.0 h.1, h.2)
-follows_any w b k (i ∷ insts) t held end h = (
+follows_any : (f : Function) (b k : ℕ) (insts : List Inst) (t : Terminator) (held : Registers) (end : Ending) → Follows OnlyZero f b k insts t held end → Follows AnyNumber f b k insts t held end
+follows_any f b k [] (terminators.Return a) held end h = (h.0, operand_any held f.width a h.0 h.1, h.2)
+follows_any f b k (i ∷ insts) t held end h = (
   h.0,
   op_any held i.width i.op h.0 h.1,
-  goes_on (λ v. Follows OnlyZero w b (suc k) insts t (holding held b k v) end) (λ v. Follows AnyNumber w b (suc k) insts t (holding held b k v) end) h.0 end (λ v g. follows_any w b (suc k) insts t (holding held b k v) end g) h.2,
+  goes_on (λ v. Follows OnlyZero f b (suc k) insts t (holding held b k v) end) (λ v. Follows AnyNumber f b (suc k) insts t (holding held b k v) end) h.0 end (λ v g. follows_any f b (suc k) insts t (holding held b k v) end g) h.2,
 )
 
 leads : (next later : ℕ → Registers → Outcome → Type 0) (end : Ending) (o : Outcome) → ((c : ℕ) (held : Registers) → next c held o → later c held o) → Leads next end o → Leads later end o
@@ -123,21 +134,21 @@ leads next later Undefines o f g = g
 leads next later (Returns v) o f g = g
 leads next later (Goes c held) o f g = f c held g
 
-runs_any : (f : Function) (n b : ℕ) (held : Registers) (o : Outcome) → RunsFrom OnlyZero f n b held o → RunsFrom AnyNumber f n b held o
-runs_any f zero b held o h = h
-runs_any f (suc n) b held o h = (
+runs_any : (f : Function) (n : ℕ) (from : Option ℕ) (b : ℕ) (held : Registers) (o : Outcome) → RunsFrom OnlyZero f n from b held o → RunsFrom AnyNumber f n from b held o
+runs_any f zero from b held o h = h
+runs_any f (suc n) from b held o h = (
   h.0,
-  (h.1.0, h.1.1, follows_any f.width b 0 h.1.0.insts h.1.0.end held h.0 h.1.2),
-  leads (RunsFrom OnlyZero f n) (RunsFrom AnyNumber f n) h.0 o (λ c there g. runs_any f n c there o g) h.2,
+  (h.1.0, h.1.1, follows_any f b 0 h.1.0.insts h.1.0.end held h.0 h.1.2),
+  leads (RunsFrom OnlyZero f n (Some b)) (RunsFrom AnyNumber f n (Some b)) h.0 o (λ c there g. runs_any f n (Some b) c there o g) h.2,
 )
 
 pub zero_is_outcome : (f : Function) (args : List Value) (n : ℕ) (o : Outcome) → HasZeroOutcome f args n o → HasOutcome f args n o
-zero_is_outcome f args n o h = runs_any f n 0 (arguments args) o h
+zero_is_outcome f args n o h = runs_any f n None 0 (arguments args) o h
 
 outcome_of_one : (f : Function) (block : Block) → CodeFits (one f block) 0 block.insts block.end → (args : List Value) → AreArguments f.parameters args → (n : ℕ) → (o : Outcome) × HasZeroOutcome (one f block) args n o
 outcome_of_one f block fits args a zero = (outcomes.Running 0, refl)
 outcome_of_one f block fits args a (suc n) =
-    let r : (v : Value) × Follows OnlyZero f.width 0 0 block.insts block.end (arguments args) (Returns v) = returns (one f block) 0 block.insts block.end (arguments args) (held_first (one f block) args a) fits in
+    let r : (v : Value) × Follows OnlyZero (one f block) 0 0 block.insts block.end (arguments args) (Returns v) = returns (one f block) 0 block.insts block.end (arguments args) (held_first (one f block) args a) fits in
     (outcomes.Return r.0, (Returns r.0, (block, refl, r.1), refl))
 
 pub has_outcome : (f : Function) → IsWellFormed f → (args : List Value) → AreArguments f.parameters args → (n : ℕ) → (o : Outcome) × HasZeroOutcome f args n o

@@ -40,7 +40,7 @@ abbrev pub place_of : Function → Register → ℕ
 place_of f (registers.Parameter k) = k
 place_of f (registers.Result b k) = block_place f b + 1 + k
 
--- what a register is called, if the function has it
+-- the identifier that stands at the register's place: what the register is called, where the function has it
 abbrev pub identifier_of : Function → Register → Option Identifier
 identifier_of f r = slice_get (identifiers_of f) (place_of f r)
 

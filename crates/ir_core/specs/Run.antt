@@ -65,23 +65,24 @@ module _ (MayChoose : ℕ → ℕ → Type 0) where
   abbrev pub OpGives : Registers → ℕ → Op → Effect → Type 0
   OpGives held width (Binary op flags a b) e = (x : Value) × (y : Value) × OperandGives held width a x × OperandGives held width b y × (e ≡ instruction op flags width x y)
 
-  -- a terminator ends the pass (LangRef, "Terminator Instructions")
-  abbrev pub EndGives : Registers → ℕ → Terminator → Ending → Type 0
-  EndGives held width (terminators.Return a) end = (v : Value) × OperandGives held width a v × (end ≡ Returns v)
+  -- a terminator of the function ends the pass (LangRef, "Terminator Instructions")
+  abbrev pub EndGives : Registers → Function → Terminator → Ending → Type 0
+  EndGives held f (terminators.Return a) end = (v : Value) × OperandGives held f.width a v × (end ≡ Returns v)
 
   -- the instructions of block b from place k on follow in order, each result held, and then the terminator
-  abbrev pub Follows : ℕ → ℕ → ℕ → List Inst → Terminator → Registers → Ending → Type 0
-  Follows width b k [] t held end = EndGives held width t end
-  Follows width b k (i ∷ insts) t held end = (e : Effect) × OpGives held i.width i.op e × GoesOn (λ v. Follows width b (suc k) insts t (holding held b k v) end) e end
+  abbrev pub Follows : Function → ℕ → ℕ → List Inst → Terminator → Registers → Ending → Type 0
+  Follows f b k [] t held end = EndGives held f t end
+  Follows f b k (i ∷ insts) t held end = (e : Effect) × OpGives held i.width i.op e × GoesOn (λ v. Follows f b (suc k) insts t (holding held b k v) end) e end
 
-  -- one pass through block b
-  abbrev pub Passes : Function → ℕ → Registers → Ending → Type 0
-  Passes f b held end = (block : Block) × (slice_get f.blocks b ≡ Some block) × Follows f.width b 0 block.insts block.end held end
+  -- one pass through block b. `from` is the block that was executed just before, None at the entry; no instruction
+  -- here reads it.
+  abbrev pub Passes : Function → Option ℕ → ℕ → Registers → Ending → Type 0
+  Passes f from b held end = (block : Block) × (slice_get f.blocks b ≡ Some block) × Follows f b 0 block.insts block.end held end
 
-  -- the outcome from block b on, after at most n blocks entered
-  abbrev pub RunsFrom : Function → ℕ → ℕ → Registers → Outcome → Type 0
-  RunsFrom f zero b held o = o ≡ outcomes.Running b
-  RunsFrom f (suc n) b held o = (end : Ending) × Passes f b held end × Leads (RunsFrom f n) end o
+  -- the outcome from block b on, after at most n blocks entered, where `from` is the block that was executed just before
+  abbrev pub RunsFrom : Function → ℕ → Option ℕ → ℕ → Registers → Outcome → Type 0
+  RunsFrom f zero from b held o = o ≡ outcomes.Running b
+  RunsFrom f (suc n) from b held o = (end : Ending) × Passes f from b held end × Leads (RunsFrom f n (Some b)) end o
 
 -- any number of the width
 abbrev pub AnyNumber : ℕ → ℕ → Type 0
@@ -93,8 +94,8 @@ OnlyZero width n = n ≡ 0
 
 -- o is an outcome of the function at these arguments, after at most n blocks entered
 abbrev pub HasOutcome : Function → List Value → ℕ → Outcome → Type 0
-HasOutcome f args n o = RunsFrom AnyNumber f n 0 (arguments args) o
+HasOutcome f args n o = RunsFrom AnyNumber f n None 0 (arguments args) o
 
 -- the same with each number that is left open being 0
 abbrev pub HasZeroOutcome : Function → List Value → ℕ → Outcome → Type 0
-HasZeroOutcome f args n o = RunsFrom OnlyZero f n 0 (arguments args) o
+HasZeroOutcome f args n o = RunsFrom OnlyZero f n None 0 (arguments args) o

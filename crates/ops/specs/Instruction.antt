@@ -46,16 +46,24 @@ arithmetic flags N u s =
     then Poison
     else bits N (residue N u)
 
--- what the instruction gives at the numbers a and b
-unfoldable pub on_numbers : Opcode → Flags → ℕ → ℕ → ℕ → Value
-on_numbers Add flags N a b = arithmetic flags N (pos a +ℤ pos b) (signed N a +ℤ signed N b)
-on_numbers Sub flags N a b = arithmetic flags N (pos a -ℤ pos b) (signed N a -ℤ signed N b)
-on_numbers And flags N a b = bits N (bit_and a b)
-on_numbers Or flags N a b = bits N (bit_or a b)
-on_numbers Xor flags N a b = bits N (bit_xor a b)
+-- the instruction's effect at the numbers a and b
+unfoldable pub on_numbers : Opcode → Flags → ℕ → ℕ → ℕ → Effect
+on_numbers Add flags N a b = Gives (arithmetic flags N (pos a +ℤ pos b) (signed N a +ℤ signed N b))
+on_numbers Sub flags N a b = Gives (arithmetic flags N (pos a -ℤ pos b) (signed N a -ℤ signed N b))
+on_numbers And flags N a b = Gives (bits N (bit_and a b))
+on_numbers Or flags N a b = Gives (bits N (bit_or a b))
+on_numbers Xor flags N a b = Gives (bits N (bit_xor a b))
 
--- the instruction's effect at two operands: a poison operand gives poison
+-- the instruction's effect where an operand is poison, and b is the one on the right
+unfoldable pub on_poison : Opcode → ℕ → Value → Effect
+on_poison Add N b = Gives Poison
+on_poison Sub N b = Gives Poison
+on_poison And N b = Gives Poison
+on_poison Or N b = Gives Poison
+on_poison Xor N b = Gives Poison
+
+-- the instruction's effect at two operands
 unfoldable pub instruction : Opcode → Flags → ℕ → Value → Value → Effect
-instruction op flags N (Bits a) (Bits b) = Gives (on_numbers op flags N a.number b.number)
-instruction op flags N (Bits a) Poison = Gives Poison
-instruction op flags N Poison b = Gives Poison
+instruction op flags N (Bits a) (Bits b) = on_numbers op flags N a.number b.number
+instruction op flags N (Bits a) Poison = on_poison op N Poison
+instruction op flags N Poison b = on_poison op N b

@@ -4,6 +4,7 @@ use Rattle.ops.specs.declared.value.Value.{Value}
 use Rattle.ops.specs.declared.value.Effect.{Effect}
 use Rattle.ops.specs.declared.value.Effect.TheVariants.{Undefined}
 use Rattle.ops.specs.declared.opcode.Opcode.{Opcode}
+use Rattle.ops.specs.declared.opcode.Opcode.TheVariants.{Add, Sub, And, Or, Xor}
 use Rattle.ops.specs.declared.opcode.Flags.{Flags}
 use Rattle.ops.specs.Value.{AllowsValue, AllowsEffect, IsValueOf, IsEffectOf}
 use Rattle.ops.specs.Instruction.{instruction}
@@ -32,6 +33,14 @@ abbrev pub InstructionsKeepWidths : Type 0
 InstructionsKeepWidths = (op : Opcode) (flags : Flags) (N : ℕ) (a b : Value) →
     IsValueOf N a → IsValueOf N b → IsEffectOf N (instruction op flags N a b)
 
--- no instruction has undefined behaviour as its effect
-abbrev pub InstructionsAreDefined : Type 0
-InstructionsAreDefined = (op : Opcode) (flags : Flags) (N : ℕ) (a b : Value) → instruction op flags N a b ≢ Undefined
+-- the instruction does not divide
+abbrev pub HasNoDivision : Opcode → Type 0
+HasNoDivision Add = Unit {0}
+HasNoDivision Sub = Unit {0}
+HasNoDivision And = Unit {0}
+HasNoDivision Or = Unit {0}
+HasNoDivision Xor = Unit {0}
+
+-- no instruction without a division has undefined behaviour as its effect
+abbrev pub InstructionsWithoutDivisionAreDefined : Type 0
+InstructionsWithoutDivisionAreDefined = (op : Opcode) (flags : Flags) (N : ℕ) (a b : Value) → HasNoDivision op → instruction op flags N a b ≢ Undefined

@@ -1,7 +1,7 @@
 //! What one instruction does at values.
 
-ghost use Rattle.std.specs.Prelude.{◌≡◌, ◌<◌, ◌≤ℤ◌, ◌<ℤ◌, ◌^◌, pos, neg_ℤ};
-ghost use Rattle.ops.specs.Instruction.{FlagsFit, instruction, on_numbers, arithmetic, signed, fits_signed, fits_unsigned, residue};
+ghost use Rattle.std.specs.Prelude.{ℕ, ◌≡◌, ◌<◌, ◌≤ℤ◌, ◌<ℤ◌, ◌^◌, pos, neg_ℤ};
+ghost use Rattle.ops.specs.Instruction.{FlagsFit, instruction, on_numbers, on_poison, arithmetic, signed, fits_signed, fits_unsigned, residue};
 ghost use Rattle.ops.specs.Value.{HasWidth, IsEffectOf};
 
 use crate::opcode::{Flags, Opcode};
@@ -19,27 +19,39 @@ pub fn evaluate(op: Opcode, flags: Flags, width: Width, a: Value, b: Value) -> E
     ensures width { IsEffectOf width result }
 {
     let Value::Bits(left) = a else {
-        return Effect::Gives(Value::Poison);
+        return on_poison(op);
     };
     let Value::Bits(right) = b else {
-        return Effect::Gives(Value::Poison);
+        return on_poison(op);
     };
-    Effect::Gives(combine(op, flags, width, left.number(), right.number()))
+    on_numbers(op, flags, width, left.number(), right.number())
+}
+
+/// The same where an operand is poison, whatever the other one is.
+#[tactic(auto, unfolding(crate::specs::Instruction::on_poison))]
+fn on_poison(op: Opcode) -> Effect
+    ensures { (N : ℕ) (b : Value) → result ≡ on_poison op N b }
+{
+    match op {
+        Opcode::Add | Opcode::Sub | Opcode::And | Opcode::Or | Opcode::Xor => {
+            Effect::Gives(Value::Poison)
+        }
+    }
 }
 
 /// The same where both operands are numbers.
 #[tactic(auto, unfolding(crate::specs::Instruction::on_numbers))]
-fn combine(op: Opcode, flags: Flags, width: Width, a: u64, b: u64) -> Value
+fn on_numbers(op: Opcode, flags: Flags, width: Width, a: u64, b: u64) -> Effect
     requires left { a < 2 ^ width }
     requires right { b < 2 ^ width }
     ensures { result ≡ on_numbers op flags width a b }
 {
     match op {
-        Opcode::Add => add(flags, width, a, b),
-        Opcode::Sub => sub(flags, width, a, b),
-        Opcode::And => Value::Bits(Word::fitting(width, a & b)),
-        Opcode::Or => Value::Bits(Word::fitting(width, a | b)),
-        Opcode::Xor => Value::Bits(Word::fitting(width, a ^ b)),
+        Opcode::Add => Effect::Gives(add(flags, width, a, b)),
+        Opcode::Sub => Effect::Gives(sub(flags, width, a, b)),
+        Opcode::And => Effect::Gives(Value::Bits(Word::fitting(width, a & b))),
+        Opcode::Or => Effect::Gives(Value::Bits(Word::fitting(width, a | b))),
+        Opcode::Xor => Effect::Gives(Value::Bits(Word::fitting(width, a ^ b))),
     }
 }
 
@@ -47,7 +59,7 @@ fn combine(op: Opcode, flags: Flags, width: Width, a: u64, b: u64) -> Value
 fn add(flags: Flags, width: Width, a: u64, b: u64) -> Value
     requires left { a < 2 ^ width }
     requires right { b < 2 ^ width }
-    ensures { result ≡ on_numbers Opcode.Add flags width a b }
+    ensures { Effect.Gives result ≡ on_numbers Opcode.Add flags width a b }
 {
     let unsigned_result = i128::from(a) + i128::from(b);
     let signed_result = signed(width, a) + signed(width, b);
@@ -58,7 +70,7 @@ fn add(flags: Flags, width: Width, a: u64, b: u64) -> Value
 fn sub(flags: Flags, width: Width, a: u64, b: u64) -> Value
     requires left { a < 2 ^ width }
     requires right { b < 2 ^ width }
-    ensures { result ≡ on_numbers Opcode.Sub flags width a b }
+    ensures { Effect.Gives result ≡ on_numbers Opcode.Sub flags width a b }
 {
     let unsigned_result = i128::from(a) - i128::from(b);
     let signed_result = signed(width, a) - signed(width, b);

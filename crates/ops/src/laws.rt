@@ -1,5 +1,5 @@
 //! The laws of values and instructions, each the contract of a function that does nothing.
-ghost use Rattle.ops.specs.Laws.{ValuesAllowThemselves, ValuesAllowAlong, EffectsAllowThemselves, EffectsAllowAlong, InstructionsAreMonotone, InstructionsKeepWidths, InstructionsAreDefined};
+ghost use Rattle.ops.specs.Laws.{ValuesAllowThemselves, ValuesAllowAlong, EffectsAllowThemselves, EffectsAllowAlong, InstructionsAreMonotone, InstructionsKeepWidths, InstructionsWithoutDivisionAreDefined};
 
 /// Each value allows itself.
 pub fn every_value_allows_itself()
@@ -31,7 +31,7 @@ pub fn instructions_keep_widths()
     ensures { InstructionsKeepWidths }
 {}
 
-/// Undefined behaviour is the effect of none of these instructions.
-pub fn instructions_are_defined()
-    ensures { InstructionsAreDefined }
+/// Undefined behaviour is the effect of no instruction without a division.
+pub fn instructions_without_division_are_defined()
+    ensures { InstructionsWithoutDivisionAreDefined }
 {}

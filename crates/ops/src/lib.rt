@@ -11,7 +11,7 @@ mod word;
 pub use instruction::evaluate;
 pub use laws::{
     effects_allow_along, every_effect_allows_itself, every_value_allows_itself,
-    instructions_are_defined, instructions_are_monotone, instructions_keep_widths,
+    instructions_are_monotone, instructions_keep_widths, instructions_without_division_are_defined,
     values_allow_along,
 };
 pub use opcode::{Flags, Opcode};

@@ -1,12 +1,22 @@
-use Rattle.ops.proofs.Instructions.{IsValueOf-on_numbers}
+use Rattle.ops.proofs.Instructions.{IsEffectOf-on_numbers, IsEffectOf-on_poison}
 use Rattle.ops.proofs.instruction.evaluate.Goals as goal
+
+pub returns-in_default-clause-width : goal.returns-in_default-clause-width
+returns-in_default-clause-width c =
+    rw (c.on_poison.ensures c.args.width c.args.b)
+    (IsEffectOf-on_poison c.args.op c.args.width c.args.b)
+
+pub returns-in_default-b-clause-width : goal.returns-in_default-b-clause-width
+returns-in_default-b-clause-width c =
+    rw (c.on_poison-in_default-b.ensures c.args.width c.args.b)
+    (IsEffectOf-on_poison c.args.op c.args.width c.args.b)
 
 pub returns-clause-width : goal.returns-clause-width
 returns-clause-width c =
     let left_width = rw c.in-Bits.is at c.requires.left in
     let right_width = rw c.in-Bits-b.is at c.requires.right in
-    rw c.combine.ensures
-    (IsValueOf-on_numbers
+    rw c.on_numbers.ensures
+    (IsEffectOf-on_numbers
     c.args.op
     c.args.flags
     c.args.width

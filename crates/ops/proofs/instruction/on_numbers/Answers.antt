@@ -1,5 +1,5 @@
 use Rattle.std.proofs.lemmas.Nat.{or_lt, xor_lt}
-use Rattle.ops.proofs.instruction.combine.Goals as goal
+use Rattle.ops.proofs.instruction.on_numbers.Goals as goal
 
 pub fitting-requires-in-Or : goal.fitting-requires-in-Or
 fitting-requires-in-Or c = or_lt _ _ _ c.requires.left c.requires.right
