@@ -10,7 +10,7 @@ use Rattle.clauses.specs.declared.cnf.Cnf.{Cnf}
 use Rattle.clauses.specs.declared.step.Step.{Step}
 use Rattle.clauses.specs.Literal.{negation_of, is_same, literal_of, literal_true, clause_true, assignment_of, IsVariable}
 use Rattle.clauses.specs.Propagation.{IsFalsified, is_held, is_false, open_literals}
-use Rattle.clauses.specs.ClauseSet.{all_clauses, clauses_of_steps, clauses_before, LogFollows, LogIsNew, IsNew, StepFollows, UnitsDetermine, setting_literals}
+use Rattle.clauses.specs.ClauseSet.{all_clauses, clauses_of_steps, clauses_before, LogFollows, LogIsNew, IsNew, StepFollows, UnitsDetermine, setting_literals, clauses_with}
 use Rattle.clauses.proofs.Held.{is_same-true}
 use Rattle.clauses.proofs.Closed.{HeldWithin, HeldWithin-nil, HeldWithin-cons, IsClosed, Derives-within, not_SomeFalsified, not_UnitsRefute}
 use Rattle.cdcl_log.specs.declared.trail.Entry.{Entry}
@@ -19,7 +19,7 @@ use Rattle.cdcl_log.specs.declared.trail.Cause.TheVariants.{Other}
 use Rattle.cdcl_log.specs.Found.{IsModel, IsHonestLimit, NoneEmpty}
 use Rattle.cdcl_log.specs.TrailEntries.{literals, is_decision, IsOpen, IsSet, IsTableOf, value_makes, value_or_false}
 use Rattle.cdcl_log.specs.Settled.{AllSettled}
-use Rattle.cdcl_log.specs.DepthFirst.{clauses_with, InputsSet, IsCaused, IsLearned, IsDecided}
+use Rattle.cdcl_log.specs.DepthFirst.{InputsSet, IsCaused, IsLearned, IsDecided}
 use Rattle.cdcl_log.proofs.Lists.{slice_get_left, slice_get_take, take_in_take}
 use Rattle.cdcl_log.proofs.HeldLists.{not_held_nil, both_held, held_one}
 use Rattle.cdcl_log.proofs.Open.{open_inside, variable_within}

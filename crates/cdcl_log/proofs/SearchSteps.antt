@@ -7,13 +7,13 @@ use Rattle.clauses.specs.declared.cnf.Cnf.{Cnf}
 use Rattle.clauses.specs.declared.step.Step.{Step}
 use Rattle.clauses.specs.Literal.{negation_of}
 use Rattle.clauses.specs.Propagation.{NamesFalse}
-use Rattle.clauses.specs.ClauseSet.{all_clauses, clauses_of_steps}
+use Rattle.clauses.specs.ClauseSet.{all_clauses, clauses_of_steps, clauses_with}
 use Rattle.cdcl_log.specs.declared.trail.Entry.{Entry}
 use Rattle.cdcl_log.specs.declared.trail.Cause.{Cause}
 use Rattle.cdcl_log.specs.declared.trail.Cause.TheVariants.{Input, Other, Reason}
 use Rattle.cdcl_log.specs.TrailEntries.{literals, decisions, is_decision, IsOpen, IsTableOf, EachFresh, Grows, open_count}
 use Rattle.cdcl_log.specs.Settled.{IsAttended}
-use Rattle.cdcl_log.specs.DepthFirst.{clauses_with, IsCaused, EachCaused, IsLearned, IsState}
+use Rattle.cdcl_log.specs.DepthFirst.{IsCaused, EachCaused, IsLearned, IsState}
 use Rattle.cdcl_log.proofs.Lists.{slice_get_left, slice_get_below}
 use Rattle.cdcl_log.proofs.TrailTable.{open_count-push}
 use Rattle.cdcl_log.proofs.States.{EachCaused-grown}

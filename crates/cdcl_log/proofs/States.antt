@@ -9,7 +9,7 @@ use Rattle.clauses.specs.declared.cnf.Cnf.{Cnf}
 use Rattle.clauses.specs.declared.step.Step.{Step}
 use Rattle.clauses.specs.Literal.{negation_of, is_same, IsVariable, IsWithin}
 use Rattle.clauses.specs.Propagation.{NamesUnit, is_held, is_false, open_literals, negations_of}
-use Rattle.clauses.specs.ClauseSet.{all_clauses, clauses_of_steps, clauses_before, StepFollows, LogFollows, LogIsNew, IsNew}
+use Rattle.clauses.specs.ClauseSet.{all_clauses, clauses_of_steps, clauses_before, StepFollows, LogFollows, LogIsNew, IsNew, clauses_with}
 use Rattle.clauses.proofs.Held.{negation-negation, is_same-true, is_same-self}
 use Rattle.clauses.proofs.Closed.{HeldWithin, IsClosed}
 use Rattle.cdcl_log.specs.declared.trail.Entry.{Entry}
@@ -18,7 +18,7 @@ use Rattle.cdcl_log.specs.declared.trail.Cause.TheVariants.{Input, Other, Reason
 use Rattle.cdcl_log.specs.Found.{NoneEmpty}
 use Rattle.cdcl_log.specs.TrailEntries.{literals, decisions, is_decision, Grows}
 use Rattle.cdcl_log.specs.Settled.{IsSettled, AllSettled, IsAttended}
-use Rattle.cdcl_log.specs.DepthFirst.{clauses_with, AllSatisfied, IsDecided, IsCaused, EachCaused, IsState, IsNext, IsAllowed}
+use Rattle.cdcl_log.specs.DepthFirst.{AllSatisfied, IsDecided, IsCaused, EachCaused, IsState, IsNext, IsAllowed}
 use Rattle.cdcl_log.proofs.Lists.{slice_get_left, slice_get_cases, slice_get_push_cases, take_left, take_right, take_whole}
 use Rattle.cdcl_log.proofs.HeldLists.{Consistent, literals_left}
 use Rattle.cdcl_log.proofs.Open.{open_at, IsSettled-from_held}

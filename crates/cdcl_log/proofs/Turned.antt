@@ -7,7 +7,7 @@ use Rattle.clauses.specs.declared.cnf.Cnf.{Cnf}
 use Rattle.clauses.specs.declared.step.Step.{Step}
 use Rattle.clauses.specs.Literal.{negation_of, IsWithin}
 use Rattle.clauses.specs.Propagation.{HintsRefute, NamesFalse, NamesUnit, IsUnit, is_held, open_literals, negations_of}
-use Rattle.clauses.specs.ClauseSet.{all_clauses, clauses_of_steps, StepFollows, IsNew, IsRefutation}
+use Rattle.clauses.specs.ClauseSet.{all_clauses, clauses_of_steps, StepFollows, IsNew, IsRefutation, clauses_with}
 use Rattle.clauses.proofs.Held.{negation-negation}
 use Rattle.clauses.proofs.Closed.{HeldWithin, IsNew-from_closed}
 use Rattle.cdcl_log.specs.declared.trail.Entry.{Entry}
@@ -15,7 +15,7 @@ use Rattle.cdcl_log.specs.declared.trail.Cause.{Cause}
 use Rattle.cdcl_log.specs.declared.trail.Cause.TheVariants.{Input, Other, Reason}
 use Rattle.cdcl_log.specs.TrailEntries.{literals, decisions, is_decision, IsOpen, EachFresh}
 use Rattle.cdcl_log.specs.Settled.{IsSettled, AllSettled}
-use Rattle.cdcl_log.specs.DepthFirst.{clauses_with, IsDecided, IsCaused, EachCaused, IsLearned, IsState}
+use Rattle.cdcl_log.specs.DepthFirst.{IsDecided, IsCaused, EachCaused, IsLearned, IsState}
 use Rattle.cdcl_log.specs.Learned.{IsLearnedStep}
 use Rattle.cdcl_log.proofs.Lists.{slice_get_push_cases, slice_get_last, slice_get_below, slice_get_take, take_in_take, slice_get_in_take, take_left, take_whole}
 use Rattle.cdcl_log.proofs.HeldLists.{Consistent, held_last, both_held, not_held_nil, open_not_held, open_not_false, open_within, literals-append, literals_left, literal_at, HeldWithin-take}

@@ -1,22 +1,18 @@
 -- A depth-first search for a model: its state between two steps. Each learned clause is satisfied by what is held;
 -- below a decision, it is satisfied already or has the decision's negation, to which the search turns later.
-use Rattle.std.specs.Prelude.{◌≡◌, ℕ, ◌⊎◌, ◌++◌, true, List, Some, All, Contains, take, slice_get}
+use Rattle.std.specs.Prelude.{◌≡◌, ℕ, ◌⊎◌, true, List, Some, All, Contains, take, slice_get}
 use Rattle.clauses.specs.declared.literal.Lit.{Lit}
 use Rattle.clauses.specs.declared.cnf.Cnf.{Cnf}
 use Rattle.clauses.specs.declared.step.Step.{Step}
 use Rattle.clauses.specs.Literal.{negation_of, IsVariable}
 use Rattle.clauses.specs.Propagation.{NamesUnit, is_held}
-use Rattle.clauses.specs.ClauseSet.{all_clauses, clauses_of_steps, LogFollows, LogIsNew}
+use Rattle.clauses.specs.ClauseSet.{all_clauses, clauses_of_steps, LogFollows, LogIsNew, clauses_with}
 use Rattle.cdcl_log.specs.declared.trail.Entry.{Entry}
 use Rattle.cdcl_log.specs.declared.trail.Cause.{Cause}
 use Rattle.cdcl_log.specs.declared.trail.Cause.TheVariants.{Input, Other, Reason}
 use Rattle.cdcl_log.specs.TrailEntries.{literals, IsOpen, IsSet}
 use Rattle.cdcl_log.specs.Found.{NoneEmpty}
 use Rattle.cdcl_log.specs.Settled.{AllSettled, IsAttended}
-
--- the clauses of the set and then those of the log
-abbrev pub clauses_with : Cnf → List Step → List (List Lit)
-clauses_with set log = all_clauses set ++ clauses_of_steps log
 
 -- a literal of the clause is held
 abbrev pub IsSatisfied : List Lit → List Lit → Type 0

@@ -33,7 +33,7 @@ fn visit_all(alloc: Global, cnf: &Cnf, trail: &mut Trail) -> Result<Option<u32>,
     for number in 0..cnf.clause_count() {
         numbers.push(number)?;
     }
-    Ok(visit(cnf, &numbers, trail)?)
+    visit(cnf, &numbers, trail)
 }
 
 /// The first input that isn't set.
@@ -103,10 +103,13 @@ fn may_give_up(cnf: &Cnf, last: Entry) -> bool
 }
 
 /// Searches for a model of all clauses, and gives up after `limit` learned clauses. The empty clause that ends a
-/// refutation isn't counted.
+/// refutation isn't counted. A limit is at most 1,000,000, so that clause numbers fit a `u32`.
 ///
 /// Where at most twelve inputs are named it goes on past the limit as long as it has decided inputs alone, so that
 /// it gives up on no set in which units determine the rest.
+///
+/// A decision looks through the variables, and a conflict through the trail: the learned clause may be as long as
+/// that anyway.
 ///
 /// The only error is want of memory.
 pub fn search(alloc: Global, cnf: &Cnf, limit: u32) -> Result<Found, AllocError>
@@ -120,14 +123,14 @@ pub fn search(alloc: Global, cnf: &Cnf, limit: u32) -> Result<Found, AllocError>
         return Ok(Found::Unsat(ended(alloc, cnf, &trail, log, conflict)?));
     }
     let mut head = 0;
-    'descent: loop {
+    loop {
         let Some(conflict) = propagate(cnf, &occurrences, &mut trail, head)? else {
             let Some(entry) = next_decision(cnf, &trail) else {
                 return Ok(Found::Sat(trail.assignment(alloc)?));
             };
             head = trail.entries.len();
             trail.push(entry)?;
-            continue 'descent;
+            continue;
         };
         let Some(place) = trail.last_decision() else {
             return Ok(Found::Unsat(ended(alloc, cnf, &trail, log, conflict)?));

@@ -1,3 +1,5 @@
+//! What a search answers.
+
 use clauses::Log;
 use lists::List;
 

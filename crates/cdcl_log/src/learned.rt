@@ -2,19 +2,19 @@
 
 ghost use Rattle.std.specs.Prelude.{◌≡◌, ◌+◌, ◌<◌, length, All, Some, slice_get, IfOk};
 ghost use Rattle.clauses.specs.Propagation.{NamesFalse};
-ghost use Rattle.clauses.specs.ClauseSet.{LogFollows};
+ghost use Rattle.clauses.specs.ClauseSet.{LogFollows, clauses_with};
 ghost use Rattle.cdcl_log.specs.TrailEntries.{literals};
-ghost use Rattle.cdcl_log.specs.DepthFirst.{clauses_with, EachCaused};
+ghost use Rattle.cdcl_log.specs.DepthFirst.{EachCaused};
 ghost use Rattle.cdcl_log.specs.Learned.{Marks, IsInvolved, IsLearnedStep, EndsLearned};
 
 use crate::trail::Trail;
-use clauses::{Clause, Cnf, Lit, Log, Step};
+use clauses::{Clause, Cnf, Lit, Log, Step, clause_in};
 use lists::List;
 use std::alloc::{AllocError, Global};
 
 /// The clause of the negated decisions of a trail. Its hints are the reasons, in order, of what the conflict rests
 /// on, and then the number of the clause that is false.
-pub fn learned(
+pub(crate) fn learned(
     alloc: Global,
     cnf: &Cnf,
     log: &[Step],
@@ -45,7 +45,7 @@ pub fn learned(
 }
 
 /// The log that ends with what a last conflict shows.
-pub fn ended(
+pub(crate) fn ended(
     alloc: Global,
     cnf: &Cnf,
     trail: &Trail,
@@ -93,17 +93,12 @@ fn involved(
     Ok(marked)
 }
 
-/// The clause of a number: those of the set first, then those of the log.
+/// The clause of a number of the set and the log.
 fn numbered<'a>(cnf: &'a Cnf, log: &'a [Step], number: u32) -> &'a [Lit]
     requires { number < length (clauses_with cnf.now log.now) }
     ensures { slice_get (clauses_with cnf.now log.now) number ≡ Some result.now }
 {
-    let count = cnf.clause_count();
-    if number < count {
-        cnf.clause(number).as_slice()
-    } else {
-        log[(number - count) as usize].clause.as_slice()
-    }
+    clause_in(cnf, log, number).unwrap().as_slice()
 }
 
 /// Marks the variables of a clause.

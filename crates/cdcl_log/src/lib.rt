@@ -4,6 +4,9 @@
 //! decision units are propagated. At a conflict it learns the clause of the negated decisions, whose hints are
 //! the reasons that the conflict rests on, in order, and then the conflict (reverse unit propagation), and turns
 //! the last decision round. So the log is a refutation where the search ends without a model.
+//!
+//! Learned clauses aren't propagated: the turned decision already holds what each would force. This is the
+//! simplest scheme of conflict-driven clause learning (CDCL), which learns the negated decisions.
 #![tactic(auto)]
 
 mod depth_first;

@@ -8,7 +8,7 @@ use std::alloc::{AllocError, Global};
 
 /// For each literal the numbers of the clauses in which it stands, by its variable.
 #[derive(Debug, Drop)]
-pub struct Occurrences {
+pub(crate) struct Occurrences {
     positive: Vec<List<u32>>,
     negative: Vec<List<u32>>,
 }
@@ -19,7 +19,7 @@ impl Occurrences {
     ghost use Rattle.cdcl_log.specs.OccurrenceLists.{numbers_of, CoversBelow, AddsNumber, AddsClause, IsIndexOf};
 
     /// Those of the clauses of a set.
-    pub fn new(alloc: Global, cnf: &Cnf) -> Result<Occurrences, AllocError>
+    pub(crate) fn new(alloc: Global, cnf: &Cnf) -> Result<Occurrences, AllocError>
         ensures { IfOk result (IsIndexOf cnf.now) }
     {
         let mut occurrences = Occurrences::empty(alloc, cnf.count)?;
@@ -42,7 +42,7 @@ impl Occurrences {
     }
 
     /// The numbers of the clauses in which the literal stands.
-    pub fn of(&self, literal: Lit) -> &[u32]
+    pub(crate) fn of(&self, literal: Lit) -> &[u32]
         requires positive { literal.variable < length self.now.positive.items }
         requires negative { literal.variable < length self.now.negative.items }
         ensures { result.now ≡ numbers_of self.now literal }

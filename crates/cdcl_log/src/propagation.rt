@@ -71,7 +71,11 @@ fn examine(cnf: &Cnf, number: u32, trail: &mut Trail) -> Result<bool, AllocError
 }
 
 /// Looks at the clauses of these numbers in order, up to the first that is false.
-pub fn visit(cnf: &Cnf, numbers: &[u32], trail: &mut Trail) -> Result<Option<u32>, AllocError>
+pub(crate) fn visit(
+    cnf: &Cnf,
+    numbers: &[u32],
+    trail: &mut Trail,
+) -> Result<Option<u32>, AllocError>
     requires known { All (λ n. n < length (all_clauses cnf.now)) numbers.now }
     requires variables { length trail.old.values.items ≡ cnf.now.count + 1 }
     ensures grows { Grows (all_clauses cnf.now) trail.old.entries.items trail.new.entries.items }
@@ -88,7 +92,7 @@ pub fn visit(cnf: &Cnf, numbers: &[u32], trail: &mut Trail) -> Result<Option<u32
 }
 
 /// Propagates the entries from `head` on, and those that come of it, up to the first clause that is false.
-pub fn propagate(
+pub(crate) fn propagate(
     cnf: &Cnf,
     occurrences: &Occurrences,
     trail: &mut Trail,

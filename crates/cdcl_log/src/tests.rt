@@ -1,5 +1,7 @@
-ghost use Rattle.std.specs.Prelude.{◌≡◌, ◌+◌, ◌^◌, ◌<◌, ◌≤◌, length, IfOk};
-ghost use Rattle.clauses.specs.Literal.{IsWithin};
+//! Small sets whose answers are seen by hand, and the pigeonhole principle at several limits. A log is read here
+//! with no look at its hints.
+
+ghost use Rattle.std.specs.Prelude.{◌≤◌};
 
 use super::*;
 use clauses::{Clause, Cnf, Lit, Step};
@@ -34,45 +36,27 @@ const PIGEONS: [&[i32]; 22] = [
     &[-9, -12],
 ];
 
-/// A clause as in DIMACS: a variable, negative where it is negated. What isn't a variable up to
-/// `count` is left out.
-fn clause_of(alloc: Global, numbers: &[i32], count: u32) -> Result<Clause, AllocError>
-    ensures { IfOk result (IsWithin count) }
-{
+/// A clause as in DIMACS: a variable, negative where it is negated.
+fn clause_of(alloc: Global, numbers: &[i32]) -> Result<Clause, AllocError> {
     let mut clause = Clause::new(alloc);
     for &number in numbers {
-        let variable = number.unsigned_abs();
-        if 1 <= variable && variable <= count {
-            clause.push(Lit {
-                variable,
-                negated: number < 0,
-            })?;
-        }
+        clause.push(Lit {
+            variable: number.unsigned_abs(),
+            negated: number < 0,
+        })?;
     }
     Ok(clause)
 }
 
 /// The set of these clauses, with the first variables as its inputs.
-fn set_of(alloc: Global, clauses: &[&[i32]], inputs: u32, count: u32) -> Result<Cnf, AllocError>
-    requires few_clauses { length clauses.now < 2 ^ 31 }
-    requires few_variables { count < 2 ^ 31 }
-    requires inputs { inputs ≤ count }
-    ensures { IfOk result (λ set. length set.inputs ≡ inputs) }
-{
+fn set_of(alloc: Global, clauses: &[&[i32]], inputs: u32, count: u32) -> Result<Cnf, Fail> {
     let mut roots = List::new(alloc);
     for &numbers in clauses {
-        roots.push(clause_of(alloc, numbers, count)?)?;
+        roots.push(clause_of(alloc, numbers)?)?;
     }
-    let mut named = List::new(alloc);
-    for variable in 1..inputs + 1 {
-        named.push(variable)?;
-    }
-    Ok(Cnf {
-        gates: List::new(alloc),
-        roots,
-        inputs: named,
-        count,
-    })
+    let inputs = List::from_vec((1..=inputs).collect(alloc)?);
+    let set = Cnf::new(List::new(alloc), roots, inputs, count);
+    Ok(set.ok_or("a variable isn't one of the set's")?)
 }
 
 /// Whether the values make each clause true.
@@ -80,6 +64,7 @@ fn is_model(set: &Cnf, values: &[bool]) -> bool {
     set.roots.as_slice().iter().all(|clause| clause.as_slice().iter().any(|l| makes(values, *l)))
 }
 
+/// Whether the values make the literal true.
 fn makes(values: &[bool], literal: Lit) -> bool {
     let place = literal.variable.saturating_sub(1) as usize;
     values.get(place).copied().unwrap_or(false) != literal.negated
@@ -140,6 +125,7 @@ fn is_refutation(alloc: Global, set: &Cnf, log: &[Step]) -> Result<bool, AllocEr
 enum Want {
     Model,
     Refutation,
+    /// To give up with so many steps.
     Steps(usize),
 }
 
@@ -204,11 +190,11 @@ fn hints_are_the_reasons(rt: HostRuntime) -> Result<(), Fail> {
     let set = set_of(rt.alloc(), &clauses, 2, 3)?;
     let steps: [(&[i32], &[u32]); 2] = [(&[1], &[0, 2]), (&[], &[5, 1, 3])];
     let Found::Unsat(log) = search(rt.alloc(), &set, 1000)? else {
-        return Ok(assert!(rt; false));
+        return Err(Fail::new("the set has no model"));
     };
     assert_eq!(rt; log.len(), 2);
     for (step, (clause, hints)) in log.as_slice().iter().zip(steps) {
-        let wanted = clause_of(rt.alloc(), clause, 2)?;
+        let wanted = clause_of(rt.alloc(), clause)?;
         assert_eq!(rt; step.clause.as_slice(), wanted.as_slice());
         assert_eq!(rt; step.hints.as_slice(), hints);
     }
@@ -220,7 +206,7 @@ fn hints_are_the_reasons(rt: HostRuntime) -> Result<(), Fail> {
 fn empty_clause_is_not_counted(rt: HostRuntime) -> Result<(), Fail> {
     let set = set_of(rt.alloc(), &PIGEONS, 13, 13)?;
     let Found::Unsat(log) = search(rt.alloc(), &set, 1000)? else {
-        return Ok(assert!(rt; false));
+        return Err(Fail::new("the set has no model"));
     };
     assert!(rt; 2 <= log.len() && log.len() <= 1000);
     let enough = log.len() as u32 - 1;

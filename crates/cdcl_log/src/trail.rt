@@ -10,7 +10,7 @@ use std::alloc::{AllocError, Global};
 
 /// Why a literal is held.
 #[derive(Clone, Copy, Debug)]
-pub enum Cause {
+pub(crate) enum Cause {
     /// The value of an input was decided.
     Input,
     /// The value of another variable was decided, once all inputs were set.
@@ -21,20 +21,20 @@ pub enum Cause {
 
 /// A literal that is held, and why.
 #[derive(Clone, Copy, Debug)]
-pub struct Entry {
-    pub literal: Lit,
-    pub cause: Cause,
+pub(crate) struct Entry {
+    pub(crate) literal: Lit,
+    pub(crate) cause: Cause,
 }
 
 /// The literals that are held, in the order in which they came, and the table of the variables' values.
 #[derive(Debug, Drop)]
-pub struct Trail {
-    pub entries: Vec<Entry>,
+pub(crate) struct Trail {
+    pub(crate) entries: Vec<Entry>,
     /// The value of each variable that is set; place 0 belongs to none.
-    pub values: Vec<Option<bool>>,
-    pub ghost table: { IsTableOf values.items entries.items },
-    pub ghost fresh: { EachFresh values.items entries.items },
-    pub ghost counted: { open_count values.items + length entries.items ≡ length values.items },
+    pub(crate) values: Vec<Option<bool>>,
+    pub(crate) ghost table: { IsTableOf values.items entries.items },
+    pub(crate) ghost fresh: { EachFresh values.items entries.items },
+    pub(crate) ghost counted: { open_count values.items + length entries.items ≡ length values.items },
 }
 
 impl Cause {
@@ -42,7 +42,7 @@ impl Cause {
     ghost use Rattle.cdcl_log.specs.TrailEntries.{is_decision, reason_of};
 
     /// The number of the clause that is the reason, unless the literal was decided.
-    pub fn reason(self) -> Option<u32>
+    pub(crate) fn reason(self) -> Option<u32>
         ensures { result ≡ reason_of self }
     {
         match self {
@@ -51,7 +51,8 @@ impl Cause {
         }
     }
 
-    pub fn is_decision(self) -> bool
+    /// Whether the literal was decided.
+    pub(crate) fn is_decision(self) -> bool
         ensures { result ≡ is_decision self }
     {
         match self {
@@ -68,7 +69,7 @@ impl Trail {
     ghost use Rattle.cdcl_log.specs.TrailEntries.{literals, decisions, IsOpen, value_or_false, IsLastDecision, IsTurned};
 
     /// The empty trail over the variables from 1 to `count`.
-    pub fn new(alloc: Global, count: u32) -> Result<Trail, AllocError>
+    pub(crate) fn new(alloc: Global, count: u32) -> Result<Trail, AllocError>
         ensures empty { IfOk result (λ trail. trail.entries.items ≡ []) }
         ensures variables { IfOk result (λ trail. length trail.values.items ≡ count + 1) }
     {
@@ -79,7 +80,7 @@ impl Trail {
     }
 
     /// The value of a variable, if it is set.
-    pub fn value(&self, variable: u32) -> Option<bool>
+    pub(crate) fn value(&self, variable: u32) -> Option<bool>
         requires { variable < length self.now.values.items }
         ensures open { IfNone result (IsOpen (literals self.now.entries.items) variable) }
         ensures set { IfSome result (λ value. is_held (literals self.now.entries.items) (literal_of variable value) ≡ true) }
@@ -88,7 +89,7 @@ impl Trail {
     }
 
     /// Whether the literal is held.
-    pub fn holds(&self, literal: Lit) -> bool
+    pub(crate) fn holds(&self, literal: Lit) -> bool
         requires { literal.variable < length self.now.values.items }
         ensures { result ≡ is_held (literals self.now.entries.items) literal }
     {
@@ -99,7 +100,7 @@ impl Trail {
     }
 
     /// The values of the variables from 1 on, where one that isn't set counts as false.
-    pub fn assignment(&self, alloc: Global) -> Result<Assignment, AllocError>
+    pub(crate) fn assignment(&self, alloc: Global) -> Result<Assignment, AllocError>
         ensures { IfOk result (λ values. values ≡ map value_or_false (drop 1 self.now.values.items)) }
     {
         let mut values = List::new(alloc);
@@ -110,7 +111,7 @@ impl Trail {
     }
 
     /// Adds an entry for a variable that isn't set.
-    pub fn push(&mut self, entry: Entry) -> Result<(), AllocError>
+    pub(crate) fn push(&mut self, entry: Entry) -> Result<(), AllocError>
         requires first { 1 ≤ entry.literal.variable }
         requires last { entry.literal.variable < length self.old.values.items }
         requires open { IsOpen (literals self.old.entries.items) entry.literal.variable }
@@ -144,7 +145,7 @@ impl Trail {
     }
 
     /// The place of the last decision.
-    pub fn last_decision(&self) -> Option<usize>
+    pub(crate) fn last_decision(&self) -> Option<usize>
         ensures none { IfNone result (decisions self.now.entries.items ≡ []) }
         ensures last { IfSome result (IsLastDecision self.now.entries.items) }
     {
@@ -159,7 +160,7 @@ impl Trail {
 
     /// Turns the decision at a place round: all from there on is taken back, and the decision's
     /// negation is held, for the reason of this number.
-    pub fn turn(&mut self, place: usize, reason: u32) -> Result<(), AllocError>
+    pub(crate) fn turn(&mut self, place: usize, reason: u32) -> Result<(), AllocError>
         requires { place < length self.old.entries.items }
         ensures ok { OnOk result (IsTurned self.old.entries.items place reason self.new.entries.items) }
         ensures variables { length self.new.values.items ≡ length self.old.values.items }

@@ -7,6 +7,13 @@ use Rattle.clauses.specs.declared.cnf.Cnf.{Cnf}
 use Rattle.clauses.specs.Literal.{IsVariable, IsWithin, literal_of}
 use Rattle.clauses.specs.Propagation.{Derives, HintsRefute, SomeFalsified, is_held, negations_of}
 
+-- The set has exactly these clauses, inputs and count of variables.
+pub record IsMadeOf (gates roots : List (List Lit)) (inputs : List ℕ) (count : ℕ) (set : Cnf) : Type 0 where
+  pub gates_are : set.gates ≡ gates
+  pub roots_are : set.roots ≡ roots
+  pub inputs_are : set.inputs ≡ inputs
+  pub count_is : set.count ≡ count
+
 -- the clauses of a set, in the order of their numbers
 abbrev pub all_clauses : Cnf → List (List Lit)
 all_clauses set = set.gates ++ set.roots
@@ -14,9 +21,13 @@ all_clauses set = set.gates ++ set.roots
 abbrev pub clauses_of_steps : List Step → List (List Lit)
 clauses_of_steps log = map (λ step. step.clause) log
 
+-- the clauses of a set and of the steps after it, in the order of their numbers
+abbrev pub clauses_with : Cnf → List Step → List (List Lit)
+clauses_with set steps = all_clauses set ++ clauses_of_steps steps
+
 -- the clauses before the step at this place of the log
 abbrev pub clauses_before : Cnf → List Step → ℕ → List (List Lit)
-clauses_before set log place = all_clauses set ++ clauses_of_steps (take place log)
+clauses_before set log place = clauses_with set (take place log)
 
 -- The step follows from the earlier clauses: its variables are the set's, and where the negations of its clause's
 -- literals are held, its hints refute.

@@ -1,18 +1,22 @@
+//! Sets of clauses.
+
 ghost use Rattle.std.specs.Prelude.{◌+◌, ◌^◌, ◌<◌, ◌≤◌, length, All};
 ghost use Rattle.clauses.specs.Literal.{VariablesWithin, IsVariable};
 
 use crate::Clause;
+use crate::literal::{are_variables, are_within};
 use lists::List;
 
-/// A set of clauses in conjunctive normal form: the clauses of gates, which fix the variables that
-/// aren't inputs, and the root clauses, which state what is asked. Its variables are the numbers
-/// from 1 to `count`.
+/// A set of clauses in conjunctive normal form. Its variables are the numbers from 1 to `count`.
 #[derive(Debug, Drop)]
 pub struct Cnf {
+    /// The clauses of gates, which fix the variables that aren't inputs (Tseitin's encoding).
     pub gates: List<Clause>,
+    /// The clauses that state what is asked.
     pub roots: List<Clause>,
     /// The input variables, in order.
     pub inputs: List<u32>,
+    /// How many variables there are.
     pub count: u32,
     pub ghost gate_variables: { VariablesWithin count gates },
     pub ghost root_variables: { VariablesWithin count roots },
@@ -22,8 +26,37 @@ pub struct Cnf {
 }
 
 impl Cnf {
-    ghost use Rattle.std.specs.Prelude.{◌≡◌, ◌<◌, length, Some, slice_get};
-    ghost use Rattle.clauses.specs.ClauseSet.{all_clauses};
+    ghost use Rattle.std.specs.Prelude.{◌≡◌, ◌↔◌, ◌<◌, length, IfSome, IsSome, Some, slice_get};
+    ghost use Rattle.clauses.specs.Literal.{MakeSet};
+    ghost use Rattle.clauses.specs.ClauseSet.{IsMadeOf, all_clauses};
+
+    /// The set of these parts. It is `None` exactly where a variable of a clause or an input isn't
+    /// one of the numbers from 1 to `count`, or there are 2^31 variables or clauses or more.
+    pub fn new(
+        gates: List<Clause>,
+        roots: List<Clause>,
+        inputs: List<u32>,
+        count: u32,
+    ) -> Option<Cnf>
+        ensures ok { IfSome result (IsMadeOf gates roots inputs count) }
+        ensures exact { IsSome result ↔ MakeSet gates roots inputs count }
+    {
+        let few = count < 1 << 31 && gates.len() + roots.len() < 1 << 31;
+        if few
+            && are_within(count, gates.as_slice())
+            && are_within(count, roots.as_slice())
+            && are_variables(count, inputs.as_slice())
+        {
+            Some(Cnf {
+                gates,
+                roots,
+                inputs,
+                count,
+            })
+        } else {
+            None
+        }
+    }
 
     /// How many clauses there are, gates and roots together.
     pub fn clause_count(&self) -> u32

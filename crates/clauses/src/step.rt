@@ -1,13 +1,38 @@
-use crate::Clause;
+//! Derived clauses, and the numbers by which steps name clauses.
+
+ghost use Rattle.std.specs.Prelude.{◌≡◌, slice_get};
+ghost use Rattle.std.specs.Option.{option_copied};
+ghost use Rattle.clauses.specs.ClauseSet.{clauses_with};
+
+use crate::{Clause, Cnf};
 use lists::List;
 
-/// A derived clause, and the numbers of the earlier clauses that show it, in the order of use.
-/// Clauses are numbered from 0: those of the set first, then those of the steps.
+/// A clause derived by reverse unit propagation (RUP). Clauses are numbered from 0: those of the
+/// set first, then those of the steps.
 #[derive(Debug, Drop)]
 pub struct Step {
+    /// The clause that is derived.
     pub clause: Clause,
+    /// The numbers of the earlier clauses that show it, in the order of use.
     pub hints: List<u32>,
 }
 
 /// Derived clauses in order, each shown by clauses before it.
 pub type Log = List<Step>;
+
+/// The clause of a number, of the set and the steps after it; `None` where they have no such
+/// number.
+pub fn clause_in<'a>(set: &'a Cnf, steps: &'a [Step], number: u32) -> Option<&'a Clause>
+    ensures { option_copied result ≡ slice_get (clauses_with set.now steps.now) number }
+{
+    let count = set.clause_count();
+    if number < count {
+        return Some(set.clause(number));
+    }
+    let place = (number - count) as usize;
+    if place < steps.len() {
+        Some(&steps[place].clause)
+    } else {
+        None
+    }
+}

@@ -1,36 +1,90 @@
-ghost use Rattle.std.specs.Prelude.{◌≡◌};
+//! Numbers of clauses, and what a set may be made of.
 
 use super::*;
 use lists::List;
+use std::alloc::{AllocError, Global};
 use std::test::Fail;
 
-fn literal(variable: u32, negated: bool) -> Lit
-    ensures { result ≡ record { variable = variable; negated = negated } }
-{
+fn literal(variable: u32, negated: bool) -> Lit {
     Lit { variable, negated }
 }
 
-/// The set of one gate clause, 2 or not 1, and one root clause, 2, over the input 1.
+/// The list of one clause.
+fn one_clause(alloc: Global, literals: &[Lit]) -> Result<List<Clause>, AllocError> {
+    let mut clauses = List::new(alloc);
+    clauses.push(Clause::from_slice(alloc, literals)?)?;
+    Ok(clauses)
+}
+
+/// The list of one input.
+fn one_input(alloc: Global, variable: u32) -> Result<List<u32>, AllocError> {
+    let mut inputs = List::new(alloc);
+    inputs.push(variable)?;
+    Ok(inputs)
+}
+
+/// One gate clause, 2 or not 1, and one root clause, 2, over the input 1; then a step that derives
+/// 1.
 #[test]
-fn sets_number_their_clauses(rt: HostRuntime) -> Result<(), Fail> {
+fn clauses_have_numbers(rt: HostRuntime) -> Result<(), Fail> {
+    let alloc = rt.alloc();
     let gate = [literal(2, false), literal(1, true)];
     let root = [literal(2, false)];
-    let mut gates = List::new(rt.alloc());
-    gates.push(Clause::from_slice(rt.alloc(), &gate)?)?;
-    let mut roots = List::new(rt.alloc());
-    roots.push(Clause::from_slice(rt.alloc(), &root)?)?;
-    let mut inputs = List::new(rt.alloc());
-    inputs.push(1)?;
-    let set = Cnf {
-        gates,
-        roots,
-        inputs,
-        count: 2,
-    };
+    let derived = [literal(1, false)];
+    let set = Cnf::new(
+        one_clause(alloc, &gate)?,
+        one_clause(alloc, &root)?,
+        one_input(alloc, 1)?,
+        2,
+    )
+    .ok_or("the parts are a set's")?;
+    let steps = [Step {
+        clause: Clause::from_slice(alloc, &derived)?,
+        hints: List::new(alloc),
+    }];
+    let clauses: [&[Lit]; 3] = [&gate, &root, &derived];
     assert_eq!(rt; set.clause_count(), 2);
-    assert_eq!(rt; set.clause(0).as_slice(), gate.as_slice());
-    assert_eq!(rt; set.clause(1).as_slice(), root.as_slice());
-    assert_eq!(rt; gate[1].negation(), literal(1, false));
-    assert_eq!(rt; root[0].negation(), literal(2, true));
+    assert_eq!(rt; set.clause(0).as_slice(), clauses[0]);
+    assert_eq!(rt; set.clause(1).as_slice(), clauses[1]);
+    for (number, literals) in (0..).zip(clauses) {
+        let clause = clause_in(&set, &steps, number).ok_or("the number is a clause's")?;
+        assert_eq!(rt; clause.as_slice(), literals);
+    }
+    assert!(rt; clause_in(&set, &steps, 3).is_none());
+    Ok(())
+}
+
+#[test]
+fn negations_differ_in_sign(rt: HostRuntime) -> Result<(), Fail> {
+    assert_eq!(rt; literal(1, true).negation(), literal(1, false));
+    assert_eq!(rt; literal(2, false).negation(), literal(2, true));
+    Ok(())
+}
+
+/// Each row has the variable of a gate clause, of a root clause and of an input, the count of
+/// variables, and whether these make a set.
+#[test]
+fn sets_are_over_their_variables(rt: HostRuntime) -> Result<(), Fail> {
+    let alloc = rt.alloc();
+    let rows = [
+        (1, 2, 2, 2, true),
+        (0, 2, 2, 2, false),
+        (3, 2, 2, 2, false),
+        (1, 0, 2, 2, false),
+        (1, 3, 2, 2, false),
+        (1, 2, 0, 2, false),
+        (1, 2, 3, 2, false),
+        (1, 2, 2, (1 << 31) - 1, true),
+        (1, 2, 2, 1 << 31, false),
+    ];
+    for (gate, root, input, count, made) in rows {
+        let set = Cnf::new(
+            one_clause(alloc, &[literal(gate, false)])?,
+            one_clause(alloc, &[literal(root, true)])?,
+            one_input(alloc, input)?,
+            count,
+        );
+        assert_eq!(rt; set.is_some(), made, "{gate} {root} {input} {count}");
+    }
     Ok(())
 }

@@ -1,14 +1,13 @@
 //! Steps and logs, one after another, over the one table.
 ghost use Rattle.std.specs.Prelude.{◌↔◌, ◌<◌, ℕ, Bool, [], length, IsTrue, IfOk};
 ghost use Rattle.std.specs.Bool.{OnTrue};
-ghost use Rattle.clauses.specs.Literal.{IsWithin, Meets, VariablesWithin};
-ghost use Rattle.clauses.specs.ClauseSet.{EndsEmpty, IsRefutation, LogFollows, StepFollows, all_clauses};
+ghost use Rattle.clauses.specs.Literal.{Meets, VariablesWithin};
+ghost use Rattle.clauses.specs.ClauseSet.{EndsEmpty, IsRefutation, LogFollows, StepFollows, all_clauses, clauses_with};
 ghost use Rattle.rup_checker.specs.Table.{Represents};
-ghost use Rattle.rup_checker.specs.Earlier.{earlier_clauses};
 
 use crate::hints::{hints_refute, release_named};
 use crate::table::{Held, hold_negations, release};
-use clauses::{Cnf, Lit, Log, Step};
+use clauses::{Cnf, Log, Step, is_within};
 use std::alloc::{AllocError, Global};
 
 /// Whether each step of the log follows from the set and the steps before it, by reverse unit
@@ -17,11 +16,7 @@ use std::alloc::{AllocError, Global};
 pub fn check(alloc: Global, cnf: &Cnf, log: &Log) -> Result<bool, AllocError>
     ensures { IfOk result (λ yes. IsTrue yes ↔ LogFollows cnf.now log.now) }
 {
-    let nothing = Held {
-        positive: false,
-        negative: false,
-    };
-    let mut table = vec![in alloc; nothing; cnf.count as usize + 1]?;
+    let mut table = vec![in alloc; Held::NEITHER; cnf.count as usize + 1]?;
     Ok(log_follows(cnf, log.as_slice(), &mut table))
 }
 
@@ -63,10 +58,10 @@ fn log_follows(cnf: &Cnf, log: &[Step], table: &mut [Held]) -> bool
 /// clauses were written, so going over these once more undoes that. Where it doesn't, the log fails,
 /// and the table is done with.
 fn step_follows(cnf: &Cnf, earlier: &[Step], step: &Step, table: &mut [Held]) -> bool
-    requires within { VariablesWithin cnf.now.count (earlier_clauses cnf.now earlier.now) }
+    requires within { VariablesWithin cnf.now.count (clauses_with cnf.now earlier.now) }
     requires blank { Represents table.old [] }
     requires room { cnf.now.count < length table.old }
-    ensures follows { IsTrue result ↔ StepFollows cnf.now (earlier_clauses cnf.now earlier.now) step.now }
+    ensures follows { IsTrue result ↔ StepFollows cnf.now (clauses_with cnf.now earlier.now) step.now }
     ensures blank { OnTrue result (Represents table.new []) }
 {
     let clause = step.clause.as_slice();
@@ -80,11 +75,4 @@ fn step_follows(cnf: &Cnf, earlier: &[Step], step: &Step, table: &mut [Held]) ->
     release_named(cnf, earlier, step.hints.as_slice(), table);
     release(table, clause);
     true
-}
-
-/// Whether each variable of the clause is one of the numbers from 1 to the count.
-pub fn is_within(count: u32, clause: &[Lit]) -> bool
-    ensures { IsTrue result ↔ IsWithin count clause.now }
-{
-    clause.iter().all(|literal| 1 <= literal.variable && literal.variable <= count)
 }

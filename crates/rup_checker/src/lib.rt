@@ -5,7 +5,6 @@
 
 mod checker;
 mod hints;
-mod numbers;
 mod open_literals;
 mod table;
 

@@ -11,14 +11,14 @@ use clauses::Lit;
 /// The open literals of a clause, as far as unit propagation asks. A literal that stands in it
 /// twice is counted twice.
 #[derive(Clone, Copy, Debug)]
-pub enum OpenLiterals {
+pub(crate) enum OpenLiterals {
     NoneOpen,
     OneOpen(Lit),
     SeveralOpen,
 }
 
 /// Counts the open literals of a clause. It stops at the second.
-pub fn open_literals_of(table: &[Held], clause: &[Lit]) -> OpenLiterals
+pub(crate) fn open_literals_of(table: &[Held], clause: &[Lit]) -> OpenLiterals
     requires { All (λ l. l.variable < length table.now) clause.now }
     ensures { (held : List Literal) → Represents table.now held → Counts result (open_literals held clause.now) }
 {

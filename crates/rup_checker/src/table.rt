@@ -11,13 +11,21 @@ use clauses::Lit;
 /// Which literals of one variable are held. Both are where a clause with a variable and its
 /// negation is negated.
 #[derive(Clone, Copy, Debug)]
-pub struct Held {
-    pub positive: bool,
-    pub negative: bool,
+pub(crate) struct Held {
+    pub(crate) positive: bool,
+    pub(crate) negative: bool,
+}
+
+impl Held {
+    /// Neither literal is held.
+    pub(crate) const NEITHER: Held = Held {
+        positive: false,
+        negative: false,
+    };
 }
 
 /// Whether the literal is false, that is, its negation is held.
-pub fn is_false(table: &[Held], literal: Lit) -> bool
+pub(crate) fn is_false(table: &[Held], literal: Lit) -> bool
     requires { literal.variable < length table.now }
     ensures { result ≡ is_marked table.now (negation_of literal) }
 {
@@ -30,7 +38,7 @@ pub fn is_false(table: &[Held], literal: Lit) -> bool
 }
 
 /// Holds a literal.
-pub fn hold(table: &mut [Held], literal: Lit)
+pub(crate) fn hold(table: &mut [Held], literal: Lit)
     requires { literal.variable < length table.old }
     ensures { (l : Literal) → is_marked table.new l ≡ (is_same l literal || is_marked table.old l) }
 {
@@ -43,7 +51,7 @@ pub fn hold(table: &mut [Held], literal: Lit)
 }
 
 /// Holds the negation of each literal of a clause, where nothing was held.
-pub fn hold_negations(table: &mut [Held], clause: &[Lit])
+pub(crate) fn hold_negations(table: &mut [Held], clause: &[Lit])
     requires blank { Represents table.old [] }
     requires room { All (λ l. l.variable < length table.old) clause.now }
     ensures { Represents table.new (negations_of clause.now) }
@@ -54,15 +62,12 @@ pub fn hold_negations(table: &mut [Held], clause: &[Lit])
 }
 
 /// Holds no literal of a variable that stands in the clause any more.
-pub fn release(table: &mut [Held], clause: &[Lit])
+pub(crate) fn release(table: &mut [Held], clause: &[Lit])
     requires { All (λ l. l.variable < length table.old) clause.now }
     ensures { (l : Literal) → is_marked table.new l
         ≡ (is_marked table.old l && not (stands_in l.variable clause.now)) }
 {
     for literal in clause {
-        table[literal.variable as usize] = Held {
-            positive: false,
-            negative: false,
-        };
+        table[literal.variable as usize] = Held::NEITHER;
     }
 }

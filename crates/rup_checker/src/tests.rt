@@ -1,8 +1,6 @@
-ghost use Rattle.std.specs.Prelude.{◌≤◌, IfOk, length};
-ghost use Rattle.clauses.specs.Literal.{VariablesWithin};
+//! Small logs, of which it is seen by hand whether their steps follow.
 
 use super::*;
-use crate::checker::is_within;
 use clauses::{Clause, Cnf, Lit, Log, Step};
 use lists::List;
 use std::alloc::{AllocError, Global};
@@ -21,50 +19,37 @@ fn clause_by(alloc: Global, numbers: &[i8]) -> Result<Clause, AllocError> {
     Ok(clause)
 }
 
-fn clauses_by(
-    rt: &impl Abort,
-    alloc: Global,
-    count: u32,
-    rows: &[&[i8]],
-) -> Result<List<Clause>, AllocError>
-    ensures within { IfOk result (λ clauses. VariablesWithin count clauses) }
-    ensures length { IfOk result (λ clauses. length clauses ≤ length rows.now) }
-{
+/// A list of clauses, by the numbers of each.
+fn clauses_by(alloc: Global, rows: &[&[i8]]) -> Result<List<Clause>, AllocError> {
     let mut clauses = List::new(alloc);
     for row in rows {
-        let clause = clause_by(alloc, row)?;
-        assert!(rt; is_within(count, clause.as_slice()));
-        clauses.push(clause)?;
+        clauses.push(clause_by(alloc, row)?)?;
     }
     Ok(clauses)
 }
 
-/// A set of a few variables, gates and roots.
-fn set_by(
-    rt: &impl Abort,
-    alloc: Global,
-    count: u32,
-    gates: &[&[i8]],
-    roots: &[&[i8]],
-) -> Result<Cnf, AllocError> {
-    assert!(rt; count < 10 && gates.len() < 10 && roots.len() < 10);
-    Ok(Cnf {
-        gates: clauses_by(rt, alloc, count, gates)?,
-        roots: clauses_by(rt, alloc, count, roots)?,
-        inputs: List::new(alloc),
-        count,
-    })
+/// A set by the rows of its gate and its root clauses, with no inputs.
+fn set_by(alloc: Global, count: u32, gates: &[&[i8]], roots: &[&[i8]]) -> Result<Cnf, Fail> {
+    let gates = clauses_by(alloc, gates)?;
+    let roots = clauses_by(alloc, roots)?;
+    let set = Cnf::new(gates, roots, List::new(alloc), count);
+    Ok(set.ok_or("a variable isn't one of the set's")?)
 }
 
 /// The steps of a log: the clause of each, and its hints.
 type Steps<'a> = &'a [(&'a [i8], &'a [u32])];
 
+/// What the checker is to say of a log.
 enum Answer {
+    /// A step doesn't follow.
     Refused,
+    /// Each step follows, and the log doesn't end with the empty clause.
     Follows,
+    /// Each step follows, and the last is the empty clause.
     Refutes,
 }
 
+/// Fails unless both checks of each log say what they are to.
 fn expect_answers(
     rt: &impl Abort,
     alloc: Global,
@@ -98,7 +83,7 @@ fn expect_answers(
 #[test]
 fn units(rt: HostRuntime) -> Result<(), Fail> {
     let alloc = rt.alloc();
-    let nothing = set_by(&rt, alloc, 0, &[], &[])?;
+    let nothing = set_by(alloc, 0, &[], &[])?;
     expect_answers(
         &rt,
         alloc,
@@ -110,7 +95,7 @@ fn units(rt: HostRuntime) -> Result<(), Fail> {
             (&[(&[], &[0])], Answer::Refused),
         ],
     )?;
-    let empty = set_by(&rt, alloc, 1, &[], &[&[]])?;
+    let empty = set_by(alloc, 1, &[], &[&[]])?;
     expect_answers(
         &rt,
         alloc,
@@ -122,7 +107,7 @@ fn units(rt: HostRuntime) -> Result<(), Fail> {
             (&[(&[], &[0]), (&[1], &[1])], Answer::Follows),
         ],
     )?;
-    let opposed = set_by(&rt, alloc, 2, &[], &[&[1], &[-1]])?;
+    let opposed = set_by(alloc, 2, &[], &[&[1], &[-1]])?;
     expect_answers(
         &rt,
         alloc,
@@ -147,7 +132,7 @@ fn units(rt: HostRuntime) -> Result<(), Fail> {
 #[test]
 fn pairs(rt: HostRuntime) -> Result<(), Fail> {
     let alloc = rt.alloc();
-    let pigeons = set_by(&rt, alloc, 2, &[&[-1, -2]], &[&[1], &[2]])?;
+    let pigeons = set_by(alloc, 2, &[&[-1, -2]], &[&[1], &[2]])?;
     expect_answers(
         &rt,
         alloc,
@@ -160,13 +145,7 @@ fn pairs(rt: HostRuntime) -> Result<(), Fail> {
             (&[(&[], &[0, 1, 2])], Answer::Refused),
         ],
     )?;
-    let four = set_by(
-        &rt,
-        alloc,
-        2,
-        &[],
-        &[&[1, 2], &[1, -2], &[-1, 2], &[-1, -2]],
-    )?;
+    let four = set_by(alloc, 2, &[], &[&[1, 2], &[1, -2], &[-1, 2], &[-1, -2]])?;
     expect_answers(
         &rt,
         alloc,
@@ -180,7 +159,7 @@ fn pairs(rt: HostRuntime) -> Result<(), Fail> {
             (&[(&[1], &[4])], Answer::Refused),
         ],
     )?;
-    let repeated = set_by(&rt, alloc, 2, &[], &[&[1, 1], &[-1], &[-1, 2]])?;
+    let repeated = set_by(alloc, 2, &[], &[&[1, 1], &[-1], &[-1, 2]])?;
     expect_answers(
         &rt,
         alloc,

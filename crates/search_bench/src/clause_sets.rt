@@ -1,12 +1,10 @@
 //! The sets of clauses that are searched.
 
-ghost use Rattle.std.specs.Prelude.{◌↔◌, ◌<◌, ◌≤◌, All, IsTrue};
-ghost use Rattle.clauses.specs.Literal.{IsVariable, IsWithin, VariablesWithin};
-
 use crate::generator::Generator;
 use clauses::{Clause, Cnf, Lit};
 use lists::List;
 use std::alloc::{AllocError, Global};
+use std::fmt;
 
 /// How many clauses a random set has for each input.
 const CLAUSES_AN_INPUT: u32 = 5;
@@ -16,7 +14,7 @@ const LITERALS_A_CLAUSE: u32 = 3;
 
 /// A set of clauses to search.
 #[derive(Clone, Copy, Debug)]
-pub enum Family {
+pub(crate) enum Family {
     /// Random clauses of three literals each.
     Random { inputs: u8, seed: u64 },
     /// So many pigeons, and one hole less: no two may share one.
@@ -25,68 +23,36 @@ pub enum Family {
 
 impl Family {
     /// The set of clauses, all of whose variables are inputs.
-    pub fn clauses(self, alloc: Global) -> Result<Option<Cnf>, AllocError> {
-        match self {
+    pub(crate) fn clauses(self, alloc: Global) -> Result<Option<Cnf>, AllocError> {
+        let (roots, count) = match self {
             Family::Random { inputs, seed } => {
-                let count = u32::from(inputs);
-                set_of(alloc, random_clauses(alloc, count, seed)?, count)
+                (random_clauses(alloc, inputs, seed)?, u32::from(inputs))
             }
             Family::Pigeonhole { pigeons } => {
-                let pigeons = u32::from(pigeons);
                 let holes = pigeons.saturating_sub(1);
-                let roots = pigeonhole_clauses(alloc, pigeons, holes)?;
-                set_of(alloc, roots, pigeons.saturating_mul(holes))
+                let count = u32::from(pigeons) * u32::from(holes);
+                (pigeonhole_clauses(alloc, pigeons, holes)?, count)
             }
+        };
+        let inputs = List::from_vec((1..=count).collect(alloc)?);
+        Ok(Cnf::new(List::new(alloc), roots, inputs, count))
+    }
+}
+
+impl fmt::Display for Family {
+    fn fmt<W: fmt::Write>(&self, f: &mut fmt::Formatter<W>) -> fmt::Result {
+        match self {
+            Family::Random { inputs, .. } => write!(f, "random {inputs}"),
+            Family::Pigeonhole { pigeons } => write!(f, "pigeonhole {pigeons}"),
         }
     }
 }
 
-/// Whether each literal's variable is one of the numbers from 1 to the count.
-fn is_within(count: u32, clause: &[Lit]) -> bool
-    ensures { IsTrue result ↔ IsWithin count clause.now }
-{
-    clause.iter().all(|literal| 1 <= literal.variable && literal.variable <= count)
-}
-
-/// Whether each clause's literals are so.
-fn are_within(count: u32, clauses: &[Clause]) -> bool
-    ensures { IsTrue result ↔ VariablesWithin count clauses.now }
-{
-    clauses
-        .iter()
-        .all(|clause| is_within(count, clause.as_slice()))
-}
-
-/// Whether each input is one of the numbers from 1 to the count.
-fn are_variables(count: u32, inputs: &[u32]) -> bool
-    ensures { IsTrue result ↔ All (IsVariable count) inputs.now }
-{
-    inputs.iter().all(|&input| 1 <= input && input <= count)
-}
-
-/// The set of the clauses, where their variables are the numbers from 1 to the count.
-fn set_of(alloc: Global, roots: List<Clause>, count: u32) -> Result<Option<Cnf>, AllocError> {
-    let inputs = List::from_vec((1..=count).collect(alloc)?);
-    let gates = List::new(alloc);
-    if count >= 1 << 31 || roots.len() >= 1 << 31 {
-        return Ok(None);
-    }
-    if !are_within(count, roots.as_slice()) || !are_variables(count, inputs.as_slice()) {
-        return Ok(None);
-    }
-    Ok(Some(Cnf {
-        gates,
-        roots,
-        inputs,
-        count,
-    }))
-}
-
 /// Random clauses over the variables from 1 to the count, some for each of them.
-fn random_clauses(alloc: Global, count: u32, seed: u64) -> Result<List<Clause>, AllocError> {
+fn random_clauses(alloc: Global, count: u8, seed: u64) -> Result<List<Clause>, AllocError> {
     let mut generator = Generator::new(seed);
     let mut clauses = List::new(alloc);
-    for _ in 0..count.saturating_mul(CLAUSES_AN_INPUT) {
+    for _ in 0..u32::from(count) * CLAUSES_AN_INPUT {
         clauses.push(random_clause(alloc, count, &mut generator)?)?;
     }
     Ok(clauses)
@@ -95,10 +61,10 @@ fn random_clauses(alloc: Global, count: u32, seed: u64) -> Result<List<Clause>, 
 /// A random clause, whose variables differ.
 fn random_clause(
     alloc: Global,
-    count: u32,
+    count: u8,
     generator: &mut Generator,
 ) -> Result<Clause, AllocError> {
-    let mut rest: Vec<u32> = (1..=count).collect(alloc)?;
+    let mut rest: Vec<u32> = (1..=u32::from(count)).collect(alloc)?;
     let mut clause = Clause::new(alloc);
     for _ in 0..LITERALS_A_CLAUSE {
         if rest.is_empty() {
@@ -114,8 +80,20 @@ fn random_clause(
 }
 
 /// The clauses of the pigeonhole principle: each pigeon sits in a hole, and no two in the same one.
-fn pigeonhole_clauses(alloc: Global, pigeons: u32, holes: u32) -> Result<List<Clause>, AllocError> {
+fn pigeonhole_clauses(alloc: Global, pigeons: u8, holes: u8) -> Result<List<Clause>, AllocError> {
     let mut clauses = List::new(alloc);
+    push_somewhere(alloc, pigeons, holes, &mut clauses)?;
+    push_apart(alloc, pigeons, holes, &mut clauses)?;
+    Ok(clauses)
+}
+
+/// Pushes the clauses that say that each pigeon sits in a hole.
+fn push_somewhere(
+    alloc: Global,
+    pigeons: u8,
+    holes: u8,
+    clauses: &mut List<Clause>,
+) -> Result<(), AllocError> {
     for pigeon in 0..pigeons {
         let mut somewhere = Clause::new(alloc);
         for hole in 0..holes {
@@ -123,6 +101,16 @@ fn pigeonhole_clauses(alloc: Global, pigeons: u32, holes: u32) -> Result<List<Cl
         }
         clauses.push(somewhere)?;
     }
+    Ok(())
+}
+
+/// Pushes the clauses that say that no two pigeons sit in the same hole.
+fn push_apart(
+    alloc: Global,
+    pigeons: u8,
+    holes: u8,
+    clauses: &mut List<Clause>,
+) -> Result<(), AllocError> {
     for second in 0..pigeons {
         for first in 0..second {
             for hole in 0..holes {
@@ -134,16 +122,13 @@ fn pigeonhole_clauses(alloc: Global, pigeons: u32, holes: u32) -> Result<List<Cl
             }
         }
     }
-    Ok(clauses)
+    Ok(())
 }
 
 /// The literal that says that the pigeon sits in the hole, each numbered from 0.
-fn sits(pigeon: u32, hole: u32, holes: u32) -> Lit {
+fn sits(pigeon: u8, hole: u8, holes: u8) -> Lit {
     Lit {
-        variable: pigeon
-            .wrapping_mul(holes)
-            .wrapping_add(hole)
-            .wrapping_add(1),
+        variable: u32::from(pigeon) * u32::from(holes) + u32::from(hole) + 1,
         negated: false,
     }
 }

@@ -4,13 +4,13 @@ use Rattle.std.proofs.lemmas.Option.{slice_get_read}
 use Rattle.std.proofs.lemmas.Bool.{iff_false}
 use Rattle.clauses.specs.Literal.{IsVariable, negation_of}
 use Rattle.clauses.specs.Propagation.{NamesFalse}
-use Rattle.clauses.specs.ClauseSet.{all_clauses, IsRefutation}
+use Rattle.clauses.specs.ClauseSet.{all_clauses, IsRefutation, clauses_with}
 use Rattle.cdcl_log.specs.declared.trail.Entry.{Entry}
 use Rattle.cdcl_log.specs.declared.trail.Cause.TheVariants.{Other, Reason}
 use Rattle.cdcl_log.specs.Found.{IsModel, IsHonestLimit}
 use Rattle.cdcl_log.specs.TrailEntries.{literals}
 use Rattle.cdcl_log.specs.Settled.{AllSettled, IsAttended}
-use Rattle.cdcl_log.specs.DepthFirst.{clauses_with, EachCaused, IsState, IsNext}
+use Rattle.cdcl_log.specs.DepthFirst.{EachCaused, IsState, IsNext}
 use Rattle.cdcl_log.specs.Learned.{IsLearnedStep}
 use Rattle.cdcl_log.proofs.Lists.{some_same, slice_get_below}
 use Rattle.cdcl_log.proofs.TrailTable.{Consistent-from_table}
@@ -41,8 +41,8 @@ returns-in-Some c =
     (NamesFalse-with set log (literals entries) conflict false_named) ends.shown
     (no_decisions (all_clauses set) c.in_ok-trail.trail.entries.items entries c.in_ok-trail.ensures.empty grows))
 
-pub descent-init : goal.descent-init
-descent-init c =
+pub loop-log-init : goal.loop-log-init
+loop-log-init c =
     let set = c.args.cnf.now in
     let entries = c.visit_all.new.trail.entries.items in
     let attended : IsAttended (all_clauses set) entries 0 =
@@ -63,35 +63,35 @@ returns-in_default-next_decision c =
     let settled : AllSettled (all_clauses set) (literals entries) =
     IfNone_is c.in_ok-conflict-2.field-0 (AllSettled (all_clauses set) (literals entries)) c.in_default-2.is c.in_ok-conflict-2.ensures.settled in
     subst (IsModel set) (sym c.in_ok-assignment.ensures)
-    (IsModel-from_settled set trail.values.items entries trail.table (c.in_ok-conflict-2.ensures.same_variables ∙ c.descent.invariant.variables) settled c.in_default-next_decision.ensures.none)
+    (IsModel-from_settled set trail.values.items entries trail.table (c.in_ok-conflict-2.ensures.same_variables ∙ c.loop-log.invariant.variables) settled c.in_default-next_decision.ensures.none)
 
-pub descent-smaller-in_default-2 : goal.descent-smaller-in_default-2
-descent-smaller-in_default-2 c =
+pub loop-log-smaller-in_default-2 : goal.loop-log-smaller-in_default-2
+loop-log-smaller-in_default-2 c =
     let set = c.args.cnf.now in
     let trail = c.propagate.new.trail in
     let e = c.in-Some-next_decision.entry in
     let same = c.in_ok-conflict-2.ensures.same_variables in
     let next : IsNext set (literals trail.entries.items) e = c.in-Some-next_decision.ensures.found in
-    let within : e.literal.variable < length trail.values.items = omega (arith, same, c.descent.invariant.variables, next.variable.1) in
+    let within : e.literal.variable < length trail.values.items = omega (arith, same, c.loop-log.invariant.variables, next.variable.1) in
     let room = room_left trail.values.items trail.entries.items e.literal.variable trail.table trail.counted within next.unset in
-    decided_smaller (all_clauses set) (length c.descent.trail.values.items) (length c.push.new.self.values.items) c.descent.trail.entries.items trail.entries.items c.push.new.self.entries.items e
+    decided_smaller (all_clauses set) (length c.loop-log.trail.values.items) (length c.push.new.self.values.items) c.loop-log.trail.entries.items trail.entries.items c.push.new.self.entries.items e
     (c.in_ok-push.ensures.variables ∙ same) c.in_ok-conflict-2.ensures.grows c.in_ok-push.ensures.ok (omega (arith, room, same))
 
-pub descent-preserved-in_default-2 : goal.descent-preserved-in_default-2
-descent-preserved-in_default-2 c =
+pub loop-log-preserved-in_default-2 : goal.loop-log-preserved-in_default-2
+loop-log-preserved-in_default-2 c =
     let set = c.args.cnf.now in
     let trail = c.propagate.new.trail in
     let entries = trail.entries.items in
     let e = c.in-Some-next_decision.entry in
-    let log = c.descent.log.items in
-    let inv = c.descent.invariant in
+    let log = c.loop-log.log.items in
+    let inv = c.loop-log.invariant in
     let grows = c.in_ok-conflict-2.ensures.grows in
     let settled : AllSettled (all_clauses set) (literals entries) =
     IfNone_is c.in_ok-conflict-2.field-0 (AllSettled (all_clauses set) (literals entries)) c.in_default-2.is c.in_ok-conflict-2.ensures.settled in
     let next : IsNext set (literals entries) e = c.in-Some-next_decision.ensures.found in
     let head : c.len-head.result ≡ length entries = c.len-head.ensures ∙ trail.entries.ok.0 in
     let grown : IsState set log entries (length entries) =
-    IsState-grown set log c.descent.trail.entries.items entries c.descent.head (length entries) grows
+    IsState-grown set log c.loop-log.trail.entries.items entries c.loop-log.head (length entries) grows
     (IsAttended-settled (all_clauses set) entries (length entries) settled) inv.state in
     let decided : IsState set log (entries ++ e ∷ []) (length entries) =
     IsState-decided set log entries (length entries) e (Consistent-from_table trail.values.items entries trail.table) grown settled next in
@@ -101,7 +101,7 @@ descent-preserved-in_default-2 c =
       state = subst (λ es. IsState set log es c.len-head.result) (sym c.in_ok-push.ensures.ok) (subst (IsState set log (entries ++ e ∷ [])) (sym head) decided);
       bounded =
           bounded_more set c.args.limit log entries (e ∷ []) c.push.new.self.entries.items c.in_ok-push.ensures.ok
-          (bounded_grow set c.args.limit log c.descent.trail.entries.items entries grows inv.bounded);
+          (bounded_grow set c.args.limit log c.loop-log.trail.entries.items entries grows inv.bounded);
     }
 
 pub returns-in_default-last_decision : goal.returns-in_default-last_decision
@@ -109,8 +109,8 @@ returns-in_default-last_decision c =
     let set = c.args.cnf.now in
     let trail = c.propagate.new.trail in
     let entries = trail.entries.items in
-    let log = c.descent.log.items in
-    let inv = c.descent.invariant in
+    let log = c.loop-log.log.items in
+    let inv = c.loop-log.invariant in
     let conflict = c.in-Some-2.conflict in
     let false_named : NamesFalse (all_clauses set) (literals entries) conflict =
     IfSome_is c.in_ok-conflict-2.field-0 conflict (NamesFalse (all_clauses set) (literals entries)) c.in-Some-2.is c.in_ok-conflict-2.ensures.falsified in
@@ -118,7 +118,7 @@ returns-in_default-last_decision c =
     subst (IsRefutation set) (sym ends.is)
     (refutation set trail.values.items log entries conflict ends.step (Consistent-from_table trail.values.items entries trail.table) trail.fresh
     (c.in_ok-conflict-2.ensures.same_variables ∙ inv.variables)
-    (EachCaused-grown set log c.descent.trail.entries.items entries c.in_ok-conflict-2.ensures.grows inv.state.caused)
+    (EachCaused-grown set log c.loop-log.trail.entries.items entries c.in_ok-conflict-2.ensures.grows inv.state.caused)
     inv.state.log_learned (NamesFalse-with set log (literals entries) conflict false_named) ends.shown c.in_default-last_decision.ensures.none)
 
 pub returns-then-may_give_up : goal.returns-then-may_give_up
@@ -126,8 +126,8 @@ returns-then-may_give_up c =
     let set = c.args.cnf.now in
     let trail = c.propagate.new.trail in
     let entries = trail.entries.items in
-    let log = c.descent.log.items in
-    let inv = c.descent.invariant in
+    let log = c.loop-log.log.items in
+    let inv = c.loop-log.invariant in
     let place = c.in-Some-last_decision.place in
     let (e, at, decides, last) = c.in-Some-last_decision.ensures.last in
     let here = c.index.result.now in
@@ -139,60 +139,60 @@ returns-then-may_give_up c =
     let fresh = trail.fresh place e at in
     let within : IsVariable set.count e.literal.variable =
     (fresh.0, omega (arith, fresh.1, c.in_ok-conflict-2.ensures.same_variables, inv.variables)) in
-    let enough : c.args.limit ≤ length log = omega (arith, c.if-len-limit.true, c.len.ensures, c.descent.log.ok.0) in
-    let caused = EachCaused-grown set log c.descent.trail.entries.items entries c.in_ok-conflict-2.ensures.grows inv.state.caused place e at in
+    let enough : c.args.limit ≤ length log = omega (arith, c.if-len-limit.true, c.len.ensures, c.loop-log.log.ok.0) in
+    let caused = EachCaused-grown set log c.loop-log.trail.entries.items entries c.in_ok-conflict-2.ensures.grows inv.state.caused place e at in
     let first : c.from_vec.result ≡ take c.args.limit log = c.from_vec.ensures ∙ c.truncate.ensures.items in
     subst (IsHonestLimit set c.args.limit) (sym first)
     (IsHonestLimit-from_conflict set log c.args.limit (literals (take place entries)) e.literal e.cause enough inv.state.log_learned decides caused within fresh.2 may)
 
 pub overflow_cast-number : goal.overflow_cast-number
 overflow_cast-number c =
-    let bound = bounded_length c.args.cnf.now c.args.limit c.descent.log.items c.descent.trail.entries.items c.descent.invariant.bounded in
-    omega (arith, bound, c.requires, c.len-in-descent.ensures, c.descent.log.ok.0)
+    let bound = bounded_length c.args.cnf.now c.args.limit c.loop-log.log.items c.loop-log.trail.entries.items c.loop-log.invariant.bounded in
+    omega (arith, bound, c.requires, c.len-in-loop-log.ensures, c.loop-log.log.ok.0)
 
 pub overflow_add-number : goal.overflow_add-number
 overflow_add-number c =
     let set = c.args.cnf.now in
-    let bound = bounded_length set c.args.limit c.descent.log.items c.descent.trail.entries.items c.descent.invariant.bounded in
-    omega (arith, bound, c.requires, c.clause_count.ensures, length-append set.gates set.roots, set.few_clauses, c.len-in-descent.ensures, c.descent.log.ok.0)
+    let bound = bounded_length set c.args.limit c.loop-log.log.items c.loop-log.trail.entries.items c.loop-log.invariant.bounded in
+    omega (arith, bound, c.requires, c.clause_count.ensures, length-append set.gates set.roots, set.few_clauses, c.len-in-loop-log.ensures, c.loop-log.log.ok.0)
 
-pub descent-smaller : goal.descent-smaller
-descent-smaller c =
+pub loop-log-smaller : goal.loop-log-smaller
+loop-log-smaller c =
     let trail = c.propagate.new.trail in
     let entries = trail.entries.items in
     let place = c.in-Some-last_decision.place in
-    let number = c.clause_count.result + c.len-in-descent.result in
+    let number = c.clause_count.result + c.len-in-loop-log.result in
     let (e, at, decides, last) = c.in-Some-last_decision.ensures.last in
     let same = c.in_ok-conflict-2.ensures.same_variables in
-    turned_smaller (all_clauses c.args.cnf.now) (length c.descent.trail.values.items) (length c.turn.new.self.values.items) c.descent.trail.entries.items entries c.turn.new.self.entries.items place number e
+    turned_smaller (all_clauses c.args.cnf.now) (length c.loop-log.trail.values.items) (length c.turn.new.self.values.items) c.loop-log.trail.entries.items entries c.turn.new.self.entries.items place number e
     (record { literal = negation_of e.literal; cause = Reason number })
     (c.in_ok-turn.ensures.variables ∙ same) c.in_ok-conflict-2.ensures.grows (c.in_ok-turn.ensures.ok e at)
     (omega (arith, trail.counted, same)) at decides refl
 
-pub descent-preserved : goal.descent-preserved
-descent-preserved c =
+pub loop-log-preserved : goal.loop-log-preserved
+loop-log-preserved c =
     let set = c.args.cnf.now in
     let trail = c.propagate.new.trail in
     let values = trail.values.items in
     let entries = trail.entries.items in
-    let log = c.descent.log.items in
-    let inv = c.descent.invariant in
+    let log = c.loop-log.log.items in
+    let inv = c.loop-log.invariant in
     let limit = c.args.limit in
     let place = c.in-Some-last_decision.place in
     let conflict = c.in-Some-2.conflict in
     let step = c.in_ok-learned.field-0 in
-    let number = c.clause_count.result + c.len-in-descent.result in
+    let number = c.clause_count.result + c.len-in-loop-log.result in
     let (e, at, decides, last) = c.in-Some-last_decision.ensures.last in
     let grows = c.in_ok-conflict-2.ensures.grows in
     let room : length values ≡ set.count + 1 = c.in_ok-conflict-2.ensures.same_variables ∙ inv.variables in
     let false_named : NamesFalse (all_clauses set) (literals entries) conflict =
     IfSome_is c.in_ok-conflict-2.field-0 conflict (NamesFalse (all_clauses set) (literals entries)) c.in-Some-2.is c.in_ok-conflict-2.ensures.falsified in
-    let caused = EachCaused-grown set log c.descent.trail.entries.items entries grows inv.state.caused in
+    let caused = EachCaused-grown set log c.loop-log.trail.entries.items entries grows inv.state.caused in
     let is_number : number ≡ length (clauses_with set log) =
-    omega (arith, c.clause_count.ensures, c.len-in-descent.ensures, c.descent.log.ok.0, length-clauses_with set log) in
+    omega (arith, c.clause_count.ensures, c.len-in-loop-log.ensures, c.loop-log.log.ok.0, length-clauses_with set log) in
     let shown : IsLearnedStep (clauses_with set log) entries conflict step =
     subst (λ steps. IsLearnedStep (clauses_with set steps) entries conflict step) c.deref.ensures.value c.in_ok-learned.ensures in
-    let longer : c.push-in-descent.new.self.items ≡ log ++ step ∷ [] =
+    let longer : c.push-in-loop-log.new.self.items ≡ log ++ step ∷ [] =
     c.in_ok-push-2.ensures.items in
     let turned : c.turn.new.self.entries.items ≡ take place entries ++ (record { literal = negation_of e.literal; cause = Reason number }) ∷ [] =
     c.in_ok-turn.ensures.ok e at in
@@ -207,19 +207,19 @@ descent-preserved c =
           slice_get_read entries (length entries) place here refl (slice_get_below entries place e at) w.index.ensures in
           let same : here ≡ e = some_same here e (sym read ∙ at) in
           inr (subst (λ (f : Entry). ((f.cause ≡ Other) ⊎ (12 < length set.inputs)) → ⊥) same (iff_false w.may_give_up.ensures w.if-may_give_up.false))
-      | else-len-limit-via-else-len-limit w ↦ inl (omega (arith, w.if-len-limit.false, c.len.ensures, c.descent.log.ok.0))
+      | else-len-limit-via-else-len-limit w ↦ inl (omega (arith, w.if-len-limit.false, c.len.ensures, c.loop-log.log.ok.0))
     ] in
     record {
       index = inv.index;
       variables = c.in_ok-turn.ensures.variables ∙ room;
       state =
-          subst (λ es. IsState set c.push-in-descent.new.self.items es place) (sym turned)
+          subst (λ es. IsState set c.push-in-loop-log.new.self.items es place) (sym turned)
           (subst (λ steps. IsState set steps (take place entries ++ (record { literal = negation_of e.literal; cause = Reason number }) ∷ []) place) (sym longer) state);
       bounded =
-          subst (IsBounded set limit c.push-in-descent.new.self.items) (sym turned)
+          subst (IsBounded set limit c.push-in-loop-log.new.self.items) (sym turned)
           (subst (λ steps. IsBounded set limit steps (take place entries ++ (record { literal = negation_of e.literal; cause = Reason number }) ∷ [])) (sym longer)
           (bounded_turn set limit values log entries place number e step trail.fresh caused at decides goes_on
-          (bounded_grow set limit log c.descent.trail.entries.items entries grows inv.bounded)));
+          (bounded_grow set limit log c.loop-log.trail.entries.items entries grows inv.bounded)));
     }
 
 pub ended-requires-clause-caused : goal.ended-requires-clause-caused
@@ -228,13 +228,13 @@ ended-requires-clause-caused c =
 
 pub ended-requires-in_default-last_decision-clause-caused : goal.ended-requires-in_default-last_decision-clause-caused
 ended-requires-in_default-last_decision-clause-caused c =
-    EachCaused-grown c.args.cnf.now c.descent.log.items c.descent.trail.entries.items c.propagate.new.trail.entries.items c.in_ok-conflict-2.ensures.grows c.descent.invariant.state.caused
+    EachCaused-grown c.args.cnf.now c.loop-log.log.items c.loop-log.trail.entries.items c.propagate.new.trail.entries.items c.in_ok-conflict-2.ensures.grows c.loop-log.invariant.state.caused
 
 pub ended-requires-in_default-last_decision-clause-falsified : goal.ended-requires-in_default-last_decision-clause-falsified
 ended-requires-in_default-last_decision-clause-falsified c =
     let set = c.args.cnf.now in
     let held = literals c.propagate.new.trail.entries.items in
-    NamesFalse-with set c.descent.log.items held c.in-Some-2.conflict
+    NamesFalse-with set c.loop-log.log.items held c.in-Some-2.conflict
     (IfSome_is c.in_ok-conflict-2.field-0 c.in-Some-2.conflict (NamesFalse (all_clauses set) held) c.in-Some-2.is c.in_ok-conflict-2.ensures.falsified)
 
 pub learned-requires-clause-caused : goal.learned-requires-clause-caused
@@ -242,12 +242,12 @@ learned-requires-clause-caused c =
     let set = c.args.cnf.now in
     let entries = c.propagate.new.trail.entries.items in
     subst (λ steps. EachCaused set steps entries) (sym c.deref.ensures.value)
-    (EachCaused-grown set c.descent.log.items c.descent.trail.entries.items entries c.in_ok-conflict-2.ensures.grows c.descent.invariant.state.caused)
+    (EachCaused-grown set c.loop-log.log.items c.loop-log.trail.entries.items entries c.in_ok-conflict-2.ensures.grows c.loop-log.invariant.state.caused)
 
 pub learned-requires-clause-falsified : goal.learned-requires-clause-falsified
 learned-requires-clause-falsified c =
     let set = c.args.cnf.now in
     let held = literals c.propagate.new.trail.entries.items in
     subst (λ steps. NamesFalse (clauses_with set steps) held c.in-Some-2.conflict) (sym c.deref.ensures.value)
-    (NamesFalse-with set c.descent.log.items held c.in-Some-2.conflict
+    (NamesFalse-with set c.loop-log.log.items held c.in-Some-2.conflict
     (IfSome_is c.in_ok-conflict-2.field-0 c.in-Some-2.conflict (NamesFalse (all_clauses set) held) c.in-Some-2.is c.in_ok-conflict-2.ensures.falsified))

@@ -5,8 +5,8 @@ use Rattle.cdcl_log.proofs.Weight.{weight}
 use Rattle.cdcl_log.proofs.SearchSteps.{IsBounded}
 use Rattle.cdcl_log.proofs.depth_first.search.Given as goal
 
-abbrev pub invariant-descent : goal.invariant-descent
-invariant-descent l =
+abbrev pub invariant-loop-log : goal.invariant-loop-log
+invariant-loop-log l =
     record {
       index : IsIndexOf l.cnf l.occurrences;
       variables : length l.trail.values.items ≡ l.cnf.count + 1;
@@ -14,5 +14,5 @@ invariant-descent l =
       bounded : IsBounded l.cnf l.limit l.log.items l.trail.entries.items;
     }
 
-abbrev pub decreases-descent : goal.decreases-descent
-decreases-descent l = weight (length l.trail.values.items) l.trail.entries.items
+abbrev pub decreases-loop-log : goal.decreases-loop-log
+decreases-loop-log l = weight (length l.trail.values.items) l.trail.entries.items

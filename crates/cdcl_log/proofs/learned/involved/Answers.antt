@@ -4,7 +4,7 @@ use Rattle.std.proofs.lemmas.Bool.{true≢false}
 use Rattle.std.proofs.lemmas.List.{get_or_read}
 use Rattle.std.proofs.lemmas.Option.{slice_get_read}
 use Rattle.cdcl_log.specs.declared.trail.Cause.TheVariants.{Reason}
-use Rattle.cdcl_log.specs.DepthFirst.{clauses_with}
+use Rattle.clauses.specs.ClauseSet.{clauses_with}
 use Rattle.cdcl_log.specs.Learned.{IsInvolved, is_marked}
 use Rattle.cdcl_log.proofs.Lists.{slice_get_below}
 use Rattle.cdcl_log.proofs.Sets.{below_from_within}

@@ -1,5 +1,5 @@
 use Rattle.std.proofs.Common.{◌≡◌, ◌+◌, ◌≤◌, length}
-use Rattle.cdcl_log.specs.DepthFirst.{clauses_with}
+use Rattle.clauses.specs.ClauseSet.{clauses_with}
 use Rattle.cdcl_log.specs.Learned.{IsInvolved}
 use Rattle.cdcl_log.proofs.learned.involved.Given as goal
 

@@ -1,13 +1,13 @@
 use Rattle.std.proofs.Common.{not, ◌&&◌, ap, ◌∙◌, subst}
 use Rattle.clauses.specs.Propagation.{negations_of}
-use Rattle.rup_checker.specs.Earlier.{earlier_clauses}
+use Rattle.clauses.specs.ClauseSet.{clauses_with}
 use Rattle.rup_checker.specs.Table.{Represents, is_marked, stands_in, stands_in_some}
 use Rattle.rup_checker.proofs.TableLemmas.{Represents-released}
 use Rattle.rup_checker.proofs.checker.step_follows.Goals as goal
 
 pub returns-clause-blank : goal.returns-clause-blank
 returns-clause-blank c =
-    let clauses = earlier_clauses c.args.cnf.now c.args.earlier.now in
+    let clauses = clauses_with c.args.cnf.now c.args.earlier.now in
     let step = c.args.step.now in
     let negated = c.hold_negations.new.table in
     let moved = c.hints_refute.new.table in

@@ -3,7 +3,7 @@ use Rattle.std.proofs.lemmas.Bool.{false≢true}
 use Rattle.std.proofs.lemmas.List.{at_drop_more}
 use Rattle.clauses.specs.Propagation.{HintsRefute}
 use Rattle.clauses.proofs.Derivations.{HintsRefute-cons}
-use Rattle.rup_checker.specs.Earlier.{earlier_clauses}
+use Rattle.clauses.specs.ClauseSet.{clauses_with}
 use Rattle.rup_checker.specs.Table.{is_marked}
 use Rattle.rup_checker.proofs.TableLemmas.{Represents-hold}
 use Rattle.rup_checker.proofs.HintLemmas.{no_move, after_move, move_elsewhere, unit_within}
@@ -11,7 +11,7 @@ use Rattle.rup_checker.proofs.hints.hints_refute.Goals as goal
 
 pub returns-in_default-unit_named-clause-refute : goal.returns-in_default-unit_named-clause-refute
 returns-in_default-unit_named-clause-refute c =
-    let clauses = earlier_clauses c.args.cnf.now c.args.earlier.now in
+    let clauses = clauses_with c.args.cnf.now c.args.earlier.now in
     let (held, represents, same) = c.loop-number.invariant.state in
     let moves = c.in-Some.moves.now in
     let place = c.loop-number.number-index in
@@ -26,14 +26,14 @@ returns-in_default-unit_named-clause-refute c =
 
 pub hold-requires : goal.hold-requires
 hold-requires c =
-    let clauses = earlier_clauses c.args.cnf.now c.args.earlier.now in
+    let clauses = clauses_with c.args.cnf.now c.args.earlier.now in
     let (held, represents, same) = c.loop-number.invariant.state in
     let variable = unit_within c.args.cnf.now.count clauses held (get_or c.in-Some.moves.now c.loop-number.number-index 0) c.in-Some-unit_named.literal c.requires.within (c.in-Some-unit_named.ensures held represents) in
     omega (arith, variable.1, c.requires.room, c.loop-number.auto.table)
 
 pub loop-number-preserved : goal.loop-number-preserved
 loop-number-preserved c =
-    let clauses = earlier_clauses c.args.cnf.now c.args.earlier.now in
+    let clauses = clauses_with c.args.cnf.now c.args.earlier.now in
     let (held, represents, same) = c.loop-number.invariant.state in
     let moves = c.in-Some.moves.now in
     let place = c.loop-number.number-index in

@@ -3,7 +3,7 @@ use Rattle.std.specs.Prelude.{◌↔◌}
 use Rattle.clauses.specs.declared.literal.Lit.{Lit}
 use Rattle.clauses.specs.Propagation.{HintsRefute, negations_of}
 use Rattle.rup_checker.specs.Table.{Represents, is_marked, stands_in_some}
-use Rattle.rup_checker.specs.Earlier.{earlier_clauses}
+use Rattle.clauses.specs.ClauseSet.{clauses_with}
 use Rattle.rup_checker.proofs.hints.hints_refute.Given as goal
 
 -- The table represents a state, and the hints refute the one at the start exactly where those to come refute it.
@@ -12,6 +12,6 @@ abbrev pub invariant-loop-number : goal.invariant-loop-number
 invariant-loop-number l =
     record {
       state : (held : List Lit) × Represents l.table held
-          × (HintsRefute (earlier_clauses l.cnf l.earlier) (negations_of l.step.clause) l.step.hints ↔ HintsRefute (earlier_clauses l.cnf l.earlier) held (drop l.number-index l.moves ++ l.last ∷ []));
-      kept : (m : Lit) → stands_in_some (earlier_clauses l.cnf l.earlier) l.step.hints m.variable ≡ false → is_marked l.table m ≡ is_marked l.initial.table m;
+          × (HintsRefute (clauses_with l.cnf l.earlier) (negations_of l.step.clause) l.step.hints ↔ HintsRefute (clauses_with l.cnf l.earlier) held (drop l.number-index l.moves ++ l.last ∷ []));
+      kept : (m : Lit) → stands_in_some (clauses_with l.cnf l.earlier) l.step.hints m.variable ≡ false → is_marked l.table m ≡ is_marked l.initial.table m;
     }

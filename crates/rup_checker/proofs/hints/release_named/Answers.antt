@@ -1,5 +1,5 @@
 use Rattle.std.proofs.Common.{Some, None, not, ◌&&◌, ap, ◌∙◌}
-use Rattle.rup_checker.specs.Earlier.{earlier_clauses}
+use Rattle.clauses.specs.ClauseSet.{clauses_with}
 use Rattle.rup_checker.specs.Table.{is_marked, stands_in}
 use Rattle.rup_checker.proofs.TableLemmas.{release_more, and-true}
 use Rattle.rup_checker.proofs.hints.release_named.Goals as goal
@@ -8,10 +8,10 @@ use Rattle.rup_checker.proofs.hints.release_named.Goals.{in-Some, in_default}
 pub loop-number-preserved : goal.loop-number-preserved
 loop-number-preserved c =
     λ m.
-    let clauses = earlier_clauses c.args.cnf.now c.args.earlier.now in
+    let clauses = clauses_with c.args.cnf.now c.args.earlier.now in
     let old = is_marked c.loop-number.table m in
-    let new = is_marked c.match-clause_of.table m in
-    elim c.match-clause_of.branch [
+    let new = is_marked c.match-clause_in.table m in
+    elim c.match-clause_in.branch [
       | in-Some w ↦
           release_more clauses c.args.numbers.now c.loop-number.number-index m.variable (Some w.in-Some.clause.now) old new c.loop-number-test.true w.in-Some.ensures
           (ap (λ t. is_marked t m) w.table-is ∙ w.release.ensures m ∙ ap (λ ls. old && not (stands_in m.variable ls)) w.as_slice.ensures)

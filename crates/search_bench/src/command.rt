@@ -4,20 +4,21 @@ use crate::clause_sets::Family;
 
 /// What the words of the command line ask for.
 #[derive(Clone, Copy, Debug)]
-pub struct Request {
-    pub family: Family,
-    pub timed: bool,
+pub(crate) struct Command {
+    pub(crate) family: Family,
+    /// Whether the times are printed.
+    pub(crate) timed: bool,
 }
 
-impl Request {
+impl Command {
     /// What the words ask for, of which the first is the program's own name.
-    pub fn of_words(words: &[String]) -> Option<Request> {
+    pub(crate) fn of_words(words: &[String]) -> Option<Command> {
         match words {
-            [_, rest @ .., last] if last.as_str() == "untimed" => Some(Request {
+            [_, rest @ .., last] if last.as_str() == "untimed" => Some(Command {
                 family: family(rest)?,
                 timed: false,
             }),
-            [_, rest @ ..] => Some(Request {
+            [_, rest @ ..] => Some(Command {
                 family: family(rest)?,
                 timed: true,
             }),
