@@ -98,7 +98,7 @@ fn build<C: Circuit>(alloc: Global, circuit: &mut C, root: Root) -> Result<C::Li
     }
 }
 
-/// The root's clause set, if its graph has no more inputs and gates than it is to have.
+/// The root's clause set, if its graph has three inputs and at most three gates.
 fn encoded(alloc: Global, root: Root) -> Result<Option<Cnf>, AllocError> {
     let mut aig = Aig::new(alloc);
     let literal = build(alloc, &mut aig, root)?;

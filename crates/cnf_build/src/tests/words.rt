@@ -133,8 +133,8 @@ fn sets_of(alloc: Global, aig: &Aig, roots: &[Literal]) -> Result<Vec<Cnf>, Allo
     Ok(sets)
 }
 
-/// The clause set of each bit of an answer, if its graph has no more inputs and gates than it is
-/// to have.
+/// The clause set of each bit of an answer, if its graph has six inputs and at most fifteen
+/// gates.
 fn encoded(alloc: Global, operation: Operation) -> Result<Option<Vec<Cnf>>, AllocError> {
     let mut aig = Aig::new(alloc);
     let bits = answer(alloc, &mut aig, operation)?;
