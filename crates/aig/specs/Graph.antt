@@ -22,7 +22,7 @@ IsAmong inputs gates (Output k) = k < gates
 abbrev pub IsOwn : Graph → Literal → Type 0
 IsOwn graph l = IsAmong graph.inputs (length graph.gates) l.node
 
--- each operand of the gate is
+-- each operand of the gate is over the constant, or over one of so many inputs and of so many gates
 abbrev pub OperandsAmong : ℕ → ℕ → Gate → Type 0
 OperandsAmong inputs gates (And a b) = IsAmong inputs gates a.node × IsAmong inputs gates b.node
 OperandsAmong inputs gates (Xor a b) = IsAmong inputs gates a.node × IsAmong inputs gates b.node
@@ -38,6 +38,7 @@ node_value inputs gates One = true
 node_value inputs gates (Input k) = slice_index_or inputs k false
 node_value inputs gates (Output k) = slice_index_or gates k false
 
+-- a literal's value under these values of the inputs and of the gates: its node's, or the opposite where it is negated
 abbrev pub literal_value : List Bool → List Bool → Literal → Bool
 literal_value inputs gates l = if l.negated then not (node_value inputs gates l.node) else node_value inputs gates l.node
 
@@ -45,7 +46,8 @@ literal_value inputs gates l = if l.negated then not (node_value inputs gates l.
 abbrev pub gate_value : List Bool → List Bool → Gate → Bool
 gate_value inputs gates (And a b) = literal_value inputs gates a && literal_value inputs gates b
 gate_value inputs gates (Xor a b) = xor (literal_value inputs gates a) (literal_value inputs gates b)
-gate_value inputs gates (Mux c a b) = if literal_value inputs gates c then literal_value inputs gates a else literal_value inputs gates b
+gate_value inputs gates (Mux c a b) =
+    if literal_value inputs gates c then literal_value inputs gates a else literal_value inputs gates b
 
 -- the values of the gates in order, each over the older ones
 abbrev pub gate_values : List Bool → List Gate → List Bool

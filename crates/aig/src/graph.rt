@@ -1,3 +1,4 @@
+//! The graph that keeps its gates, and that it is a circuit.
 ghost use Rattle.std.specs.Prelude.{◌≡◌, false, [], ◌∷◌, ◌++◌, length, IfOk, OnOk, OnErr};
 
 use crate::gate::{Gate, Literal, Node};
@@ -53,7 +54,8 @@ impl Aig {
         self.gates.as_slice()
     }
 
-    // Adds a gate at the end, and answers its output.
+    /// Adds a gate at the end, and answers its output. A call that is refused for want of memory
+    /// leaves the graph as it was.
     fn push(&mut self, gate: Gate) -> Result<Literal, AllocError>
         requires { OperandsAmong self.old.inputs (length self.old.gates) gate }
         ensures output { IfOk result (λ made. made ≡ record { node = Node.Output (length self.old.gates); negated = false }) }
@@ -70,7 +72,7 @@ impl Aig {
     }
 }
 
-/// Where a `usize` can't count an input more, it is refused as for want of memory.
+/// An input past the last that a `usize` counts is refused as for want of memory.
 impl Circuit for Aig {
     ghost use Rattle.std.specs.Prelude.{length};
     ghost use Rattle.aig.specs.Graph.{IsOwn, value_of};

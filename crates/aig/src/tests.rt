@@ -1,3 +1,4 @@
+//! A graph as it is built, gate by gate.
 ghost use Rattle.std.specs.Prelude.{◌≡◌};
 
 use super::*;
@@ -20,6 +21,7 @@ fn build<C: Circuit>(alloc: Global, circuit: &mut C) -> Result<(), AllocError> {
     Ok(())
 }
 
+/// The node, or its negation.
 fn literal(node: Node, negated: bool) -> Literal
     ensures { result ≡ record { node = node; negated = negated } }
 {

@@ -1,3 +1,4 @@
+-- Tables of truth values.
 use Rattle.std.proofs.Common.{◌≡◌, ◌+◌, ◌*◌, Bool, true, false, not, ◌&&◌, ◌||◌, refl, arith}
 use Rattle.std.specs.Bool.{xor, beq}
 use Rattle.circuits.specs.Word.{bit}

@@ -1,3 +1,4 @@
+-- What a circuit keeps of its older literals as it grows.
 use Rattle.std.specs.Prelude.{◌≡◌, Bool, List}
 
 -- From an older state of a circuit to a newer one the older literals stay the circuit's and keep their values, under the same

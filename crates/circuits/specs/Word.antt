@@ -1,3 +1,4 @@
+-- The whole numbers, unsigned and signed, that words of truth values stand for.
 use Rattle.std.specs.Prelude.{ℕ, ◌+◌, ◌-◌, ◌*◌, ◌^◌, ℤ, pos, ◌-ℤ◌, Bool, true, false, nat_le, if◌then◌else◌, List, [], ◌∷◌, map}
 
 -- a truth value as a binary digit

@@ -1,3 +1,4 @@
+//! The trait of circuits, whose clauses are the laws.
 ghost use Rattle.std.specs.Prelude.{◌≡◌, ℕ, ◌+◌, ◌≤◌, Bool, true, false, not, ◌&&◌, if◌then◌else◌, List as Seq, drop, slice_index_or, IfOk, OnOk, OnErr};
 ghost use Rattle.std.specs.Bool.{xor};
 ghost use Rattle.circuits.specs.Circuit.{Keeps};
@@ -13,19 +14,19 @@ pub trait Circuit {
     /// Names an input or a gate, or the negation of one, or a constant.
     type Literal: Copy;
 
-    // Which literals are the circuit's own.
+    /// Which literals are the circuit's own.
     ghost has_literal: { Self → Self.Literal → Type 0 };
 
-    // Under which lists of inputs its literals have a value.
+    /// Under which lists of inputs its literals have a value.
     ghost admits: { Self → Seq Bool → Type 0 };
 
-    // The value of a literal under a list of inputs.
+    /// The value of a literal under a list of inputs.
     ghost value: { Self → Seq Bool → Self.Literal → Bool };
 
-    // How many inputs were made.
+    /// How many inputs were made.
     ghost inputs_made: { Self → ℕ };
 
-    // How many gates were made.
+    /// How many gates were made.
     ghost gates_made: { Self → ℕ };
 
     /// The literal that is false.

@@ -1,4 +1,5 @@
-ghost use Rattle.std.specs.Prelude.{◌≡◌, ◌+◌, false, not, ◌&&◌, if◌then◌else◌, List as Seq, length, min, slice_index_or};
+//! The circuit whose literals are truth values, so that building a word evaluates it.
+ghost use Rattle.std.specs.Prelude.{◌≡◌, ◌+◌, false, ◌&&◌, if◌then◌else◌, length, min, slice_index_or};
 ghost use Rattle.std.specs.Bool.{xor};
 
 use crate::circuit::Circuit;

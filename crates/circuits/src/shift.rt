@@ -1,7 +1,8 @@
-ghost use Rattle.std.specs.Prelude.{◌≡◌, ◌+◌, ◌-◌, ◌*◌, ◌/◌, ◌%◌, ◌^◌, ◌≤◌, min, Bool, false, if◌then◌else◌, List as Seq, ◌++◌, map, take, drop, replicate, length, IfOk};
+//! Shifts of words by a word, in either direction.
+ghost use Rattle.std.specs.Prelude.{◌≡◌, ◌+◌, ◌-◌, ◌*◌, ◌/◌, ◌%◌, ◌^◌, ◌≤◌, min, Bool, List as Seq, ◌++◌, take, drop, replicate, length, IfOk};
 ghost use Rattle.std.specs.List.{All};
 ghost use Rattle.circuits.specs.Circuit.{Keeps};
-ghost use Rattle.circuits.specs.Word.{bit, number, number_of};
+ghost use Rattle.circuits.specs.Word.{bit, number_of};
 
 use crate::circuit::Circuit;
 use crate::word::{Bits, select};
@@ -10,6 +11,9 @@ use std::alloc::{AllocError, Global};
 
 /// A word of width N shifted left by the number of another: times 2^amount, modulo 2^N, so that zeros come in, and an amount
 /// not below N leaves zeros alone. It adds at most N gates for each bit of the amount.
+///
+/// A barrel shifter: a stage for each bit of the amount, lowest first, moves the word by that bit's power of two, or by the
+/// whole width where that is less.
 pub fn shift_left<C: Circuit>(
     alloc: Global,
     c: &mut C,
@@ -28,11 +32,19 @@ pub fn shift_left<C: Circuit>(
     ensures gates { C.gates_made c.new ≤ C.gates_made c.old + length a.now * length amount.now }
     ensures keeps { Keeps C.has_literal C.admits C.value c.old c.new }
 {
-    moved_up(alloc, c, a.as_slice(), amount.as_slice())
+    let zero = c.zero();
+    let mut word = List::from_vec(Vec::from_slice(alloc, a.as_slice())?);
+    let mut distance = a.len().min(1);
+    for bit in amount.as_slice() {
+        let moved = moved_up(alloc, word.as_slice(), distance, zero)?;
+        word = select(alloc, c, *bit, moved.as_slice(), word.as_slice())?;
+        distance = doubled(distance, a.len());
+    }
+    Ok(word)
 }
 
 /// A word of width N shifted right by the number of another, with `top` coming in: the word with `top` above it as often as the
-/// amount says, divided by 2^amount. It adds at most N gates for each bit of the amount.
+/// amount says, divided by 2^amount. It adds at most N gates for each bit of the amount, by the stages of [`shift_left`].
 pub fn shift_right<C: Circuit>(
     alloc: Global,
     c: &mut C,
@@ -54,66 +66,10 @@ pub fn shift_right<C: Circuit>(
     ensures gates { C.gates_made c.new ≤ C.gates_made c.old + length a.now * length amount.now }
     ensures keeps { Keeps C.has_literal C.admits C.value c.old c.new }
 {
-    moved_down(alloc, c, a.as_slice(), amount.as_slice(), top)
-}
-
-/// The word moved up by the amount's number: a stage for each bit of the amount, lowest first, moves it by that bit's power of
-/// two, or by its whole width where that is less.
-fn moved_up<C: Circuit>(
-    alloc: Global,
-    c: &mut C,
-    a: &[C::Literal],
-    amount: &[C::Literal],
-) -> Result<Bits<C::Literal>, AllocError>
-    requires own_a { All (C.has_literal c.old) a.now }
-    requires own_amount { All (C.has_literal c.old) amount.now }
-    ensures own { IfOk result (All (C.has_literal c.new)) }
-    ensures width { IfOk result (λ word. length word ≡ length a.now) }
-    ensures number { IfOk result (λ word. (inputs : Seq Bool) → C.admits c.old inputs →
-        number_of (C.value c.new inputs) word
-        ≡ (number_of (C.value c.old inputs) a.now * 2 ^ number_of (C.value c.old inputs) amount.now)
-        % 2 ^ length a.now) }
-    ensures inputs { C.inputs_made c.new ≡ C.inputs_made c.old }
-    ensures gates { C.gates_made c.new ≤ C.gates_made c.old + length a.now * length amount.now }
-    ensures keeps { Keeps C.has_literal C.admits C.value c.old c.new }
-{
-    let zero = c.zero();
-    let mut word = List::from_vec(Vec::from_slice(alloc, a)?);
+    let mut word = List::from_vec(Vec::from_slice(alloc, a.as_slice())?);
     let mut distance = a.len().min(1);
-    for bit in amount {
-        let moved = moved_up_by(alloc, word.as_slice(), distance, zero)?;
-        word = select(alloc, c, *bit, moved.as_slice(), word.as_slice())?;
-        distance = doubled(distance, a.len());
-    }
-    Ok(word)
-}
-
-/// The word moved down by the amount's number, with `top` coming in, by the same stages.
-fn moved_down<C: Circuit>(
-    alloc: Global,
-    c: &mut C,
-    a: &[C::Literal],
-    amount: &[C::Literal],
-    top: C::Literal,
-) -> Result<Bits<C::Literal>, AllocError>
-    requires own_a { All (C.has_literal c.old) a.now }
-    requires own_amount { All (C.has_literal c.old) amount.now }
-    requires own_top { C.has_literal c.old top }
-    ensures own { IfOk result (All (C.has_literal c.new)) }
-    ensures width { IfOk result (λ word. length word ≡ length a.now) }
-    ensures number { IfOk result (λ word. (inputs : Seq Bool) → C.admits c.old inputs →
-        number_of (C.value c.new inputs) word
-        ≡ (number_of (C.value c.old inputs) a.now + bit (C.value c.old inputs top)
-        * (2 ^ (length a.now + number_of (C.value c.old inputs) amount.now) - 2 ^ length a.now))
-        / 2 ^ number_of (C.value c.old inputs) amount.now) }
-    ensures inputs { C.inputs_made c.new ≡ C.inputs_made c.old }
-    ensures gates { C.gates_made c.new ≤ C.gates_made c.old + length a.now * length amount.now }
-    ensures keeps { Keeps C.has_literal C.admits C.value c.old c.new }
-{
-    let mut word = List::from_vec(Vec::from_slice(alloc, a)?);
-    let mut distance = a.len().min(1);
-    for bit in amount {
-        let moved = moved_down_by(alloc, word.as_slice(), distance, top)?;
+    for bit in amount.as_slice() {
+        let moved = moved_down(alloc, word.as_slice(), distance, top)?;
         word = select(alloc, c, *bit, moved.as_slice(), word.as_slice())?;
         distance = doubled(distance, a.len());
     }
@@ -133,7 +89,7 @@ fn doubled(distance: usize, width: usize) -> usize
 }
 
 /// The word with its bits moved up by a distance, and `low` below them.
-fn moved_up_by<L: Copy>(
+fn moved_up<L: Copy>(
     alloc: Global,
     word: &[L],
     distance: usize,
@@ -149,7 +105,7 @@ fn moved_up_by<L: Copy>(
 }
 
 /// The word with its bits moved down by a distance, and `top` above them.
-fn moved_down_by<L: Copy>(
+fn moved_down<L: Copy>(
     alloc: Global,
     word: &[L],
     distance: usize,

@@ -1,3 +1,4 @@
+//! Words at tables of numbers that were worked out apart from the circuits.
 ghost use Rattle.std.specs.Prelude.{◌≡◌, ◌<◌, ◌≤◌, length, IfOk};
 ghost use Rattle.std.specs.List.{All};
 ghost use Rattle.circuits.specs.Circuit.{Keeps};
@@ -6,136 +7,9 @@ use super::*;
 use lists::List;
 use std::alloc::{AllocError, Global};
 use std::test::Fail;
+use tables::{ARITHMETIC, CUT, EXTENDED, SHIFTED};
 
-/// Two words of one width, and what arithmetic says of them:
-/// width, a, b, a + b, a - b, -a, a < b, signed a < b, a == b.
-type Row = (usize, u64, u64, u64, u64, u64, bool, bool, bool);
-
-static ROWS: [Row; 23] = [
-    (1, 0, 0, 0, 0, 0, false, false, true),
-    (1, 0, 1, 1, 1, 0, true, false, false),
-    (1, 1, 0, 1, 1, 1, false, true, false),
-    (1, 1, 1, 0, 0, 1, false, false, true),
-    (2, 1, 2, 3, 3, 3, true, false, false),
-    (2, 3, 3, 2, 0, 1, false, false, true),
-    (2, 2, 1, 3, 1, 2, false, true, false),
-    (2, 0, 3, 3, 1, 0, true, false, false),
-    (7, 100, 27, 127, 73, 28, false, true, false),
-    (7, 100, 28, 0, 72, 28, false, true, false),
-    (7, 5, 5, 10, 0, 123, false, false, true),
-    (7, 64, 63, 127, 1, 64, false, true, false),
-    (8, 200, 56, 0, 144, 56, false, true, false),
-    (8, 255, 1, 0, 254, 1, false, true, false),
-    (8, 127, 128, 255, 255, 129, true, false, false),
-    (8, 0, 255, 255, 1, 0, true, false, false),
-    (
-        63,
-        0x4000000000000000,
-        0x4000000000000000,
-        0,
-        0,
-        0x4000000000000000,
-        false,
-        false,
-        true,
-    ),
-    (
-        63,
-        0x7fffffffffffffff,
-        1,
-        0,
-        0x7ffffffffffffffe,
-        1,
-        false,
-        true,
-        false,
-    ),
-    (
-        63,
-        3,
-        0x4000000000000001,
-        0x4000000000000004,
-        0x4000000000000002,
-        0x7ffffffffffffffd,
-        true,
-        false,
-        false,
-    ),
-    (
-        64,
-        0x8000000000000000,
-        0x8000000000000000,
-        0,
-        0,
-        0x8000000000000000,
-        false,
-        false,
-        true,
-    ),
-    (
-        64,
-        0xffffffffffffffff,
-        0xffffffffffffffff,
-        0xfffffffffffffffe,
-        0,
-        1,
-        false,
-        false,
-        true,
-    ),
-    (
-        64,
-        0x7fffffffffffffff,
-        0x8000000000000000,
-        0xffffffffffffffff,
-        0xffffffffffffffff,
-        0x8000000000000001,
-        true,
-        false,
-        false,
-    ),
-    (64, 10, 3, 13, 7, 0xfffffffffffffff6, false, false, false),
-];
-
-/// A word, and what it is when it is extended:
-/// width, a, to, with zeros, with ones.
-type ExtendedRow = (usize, u64, usize, u64, u64);
-
-static EXTENDED: [ExtendedRow; 7] = [
-    (1, 1, 1, 1, 1),
-    (1, 0, 2, 0, 2),
-    (2, 2, 7, 2, 126),
-    (7, 85, 8, 85, 213),
-    (8, 128, 63, 128, 0x7fffffffffffff80),
-    (
-        63,
-        0x4000000000000005,
-        64,
-        0x4000000000000005,
-        0xc000000000000005,
-    ),
-    (
-        64,
-        0x8000000000000001,
-        64,
-        0x8000000000000001,
-        0x8000000000000001,
-    ),
-];
-
-/// A word, and what is left when it is cut:
-/// width, a, to, the lowest bits.
-type CutRow = (usize, u64, usize, u64);
-
-static CUT: [CutRow; 7] = [
-    (1, 1, 1, 1),
-    (2, 2, 1, 0),
-    (7, 127, 2, 3),
-    (8, 165, 7, 37),
-    (63, 0x40000000000000c8, 8, 200),
-    (64, 0xffffffffffffffff, 63, 0x7fffffffffffffff),
-    (64, 0x800000000000004d, 64, 0x800000000000004d),
-];
+mod tables;
 
 /// The lowest bits of a number.
 fn bits(alloc: Global, number: u64, width: usize) -> Result<Vec<bool>, AllocError>
@@ -146,14 +20,18 @@ fn bits(alloc: Global, number: u64, width: usize) -> Result<Vec<bool>, AllocErro
 }
 
 /// A word of the next inputs.
-fn word<C: Circuit>(alloc: Global, c: &mut C, width: usize) -> Result<Bits<C::Literal>, AllocError>
-    ensures own { IfOk result (All (C.has_literal c.new)) }
+fn word<C: Circuit>(
+    alloc: Global,
+    circuit: &mut C,
+    width: usize,
+) -> Result<Bits<C::Literal>, AllocError>
+    ensures own { IfOk result (All (C.has_literal circuit.new)) }
     ensures width { IfOk result (λ word. length word ≡ width) }
-    ensures keeps { Keeps C.has_literal C.admits C.value c.old c.new }
+    ensures keeps { Keeps C.has_literal C.admits C.value circuit.old circuit.new }
 {
     let mut word = List::new(alloc);
     for _i in 0..width {
-        word.push(c.input(alloc)?)?;
+        word.push(circuit.input(alloc)?)?;
     }
     Ok(word)
 }
@@ -163,151 +41,119 @@ struct Results<L> {
     sum: Bits<L>,
     difference: Bits<L>,
     negation: Bits<L>,
-    below: L,
-    signed_below: L,
-    equal: L,
+    is_below: L,
+    is_signed_below: L,
+    is_equal: L,
 }
 
 /// What the circuits say of two words of inputs.
 fn found<C: Circuit>(
     alloc: Global,
-    c: &mut C,
+    circuit: &mut C,
     width: usize,
 ) -> Result<Results<C::Literal>, AllocError>
     requires { 0 < width }
 {
-    let a = word(alloc, c, width)?;
-    let b = word(alloc, c, width)?;
+    let a = word(alloc, circuit, width)?;
+    let b = word(alloc, circuit, width)?;
     Ok(Results {
-        sum: add(alloc, c, &a, &b)?,
-        difference: sub(alloc, c, &a, &b)?,
-        negation: neg(alloc, c, &a)?,
-        below: less_unsigned(alloc, c, &a, &b)?,
-        signed_below: less_signed(alloc, c, &a, &b)?,
-        equal: equal(alloc, c, &a, &b)?,
+        sum: add(alloc, circuit, &a, &b)?,
+        difference: sub(alloc, circuit, &a, &b)?,
+        negation: neg(alloc, circuit, &a)?,
+        is_below: less_unsigned(alloc, circuit, &a, &b)?,
+        is_signed_below: less_signed(alloc, circuit, &a, &b)?,
+        is_equal: equal(alloc, circuit, &a, &b)?,
     })
 }
 
 #[test]
 fn arithmetic_at_a_table(rt: HostRuntime) -> Result<(), Fail> {
-    for &(width, a, b, sum, difference, negation, below, signed_below, same) in &ROWS {
+    for row in &ARITHMETIC {
+        let width = row.width;
         assert!(rt; 0 < width && width <= 64);
-        let mut inputs = bits(rt.alloc(), a, width)?;
-        inputs.extend_from_slice(bits(rt.alloc(), b, width)?.as_slice())?;
-        let mut c = EvalCircuit::new(List::from_vec(inputs));
-        let found = found(rt.alloc(), &mut c, width)?;
-        let sum = bits(rt.alloc(), sum, width)?;
-        let difference = bits(rt.alloc(), difference, width)?;
-        let negation = bits(rt.alloc(), negation, width)?;
+        let mut inputs = bits(rt.alloc(), row.a, width)?;
+        inputs.extend_from_slice(bits(rt.alloc(), row.b, width)?.as_slice())?;
+        let mut circuit = EvalCircuit::new(List::from_vec(inputs));
+        let found = found(rt.alloc(), &mut circuit, width)?;
+        let sum = bits(rt.alloc(), row.sum, width)?;
+        let difference = bits(rt.alloc(), row.difference, width)?;
+        let negation = bits(rt.alloc(), row.negation, width)?;
         assert_eq!(rt; found.sum.as_slice(), sum.as_slice());
         assert_eq!(rt; found.difference.as_slice(), difference.as_slice());
         assert_eq!(rt; found.negation.as_slice(), negation.as_slice());
-        assert_eq!(rt; found.below, below);
-        assert_eq!(rt; found.signed_below, signed_below);
-        assert_eq!(rt; found.equal, same);
+        assert_eq!(rt; found.is_below, row.a < row.b);
+        assert_eq!(rt; found.is_signed_below, row.is_signed_below);
+        assert_eq!(rt; found.is_equal, row.a == row.b);
     }
     Ok(())
 }
 
+#[derive(Drop)]
+struct Extended<L> {
+    with_zeros: Bits<L>,
+    with_ones: Bits<L>,
+}
+
 /// A word of inputs, extended by zeros and by ones.
-fn extended<C: Circuit>(
+fn extend_both_ways<C: Circuit>(
     alloc: Global,
-    c: &mut C,
+    circuit: &mut C,
     width: usize,
     to: usize,
-) -> Result<(Bits<C::Literal>, Bits<C::Literal>), AllocError>
+) -> Result<Extended<C::Literal>, AllocError>
     requires { width ≤ to }
 {
-    let a = word(alloc, c, width)?;
-    let zero = c.zero();
-    let with_zeros = extend(alloc, c, &a, to, zero)?;
-    let one = c.one();
-    Ok((with_zeros, extend(alloc, c, &a, to, one)?))
+    let word = word(alloc, circuit, width)?;
+    let zero = circuit.zero();
+    let with_zeros = extend(alloc, circuit, &word, to, zero)?;
+    let one = circuit.one();
+    let with_ones = extend(alloc, circuit, &word, to, one)?;
+    Ok(Extended {
+        with_zeros,
+        with_ones,
+    })
 }
 
 /// The lowest bits of a word of inputs.
 fn lowest<C: Circuit>(
     alloc: Global,
-    c: &mut C,
+    circuit: &mut C,
     width: usize,
     to: usize,
 ) -> Result<Bits<C::Literal>, AllocError>
     requires { to ≤ width }
 {
-    let a = word(alloc, c, width)?;
-    cut(alloc, c, &a, to)
+    let word = word(alloc, circuit, width)?;
+    cut(alloc, circuit, &word, to)
 }
 
 #[test]
-fn widths_at_a_table(rt: HostRuntime) -> Result<(), Fail> {
-    for &(width, a, to, with_zeros, with_ones) in &EXTENDED {
-        assert!(rt; width <= to && to <= 64);
-        let inputs = bits(rt.alloc(), a, width)?;
-        let mut c = EvalCircuit::new(List::from_vec(inputs));
-        let (zeros, ones) = extended(rt.alloc(), &mut c, width, to)?;
-        let with_zeros = bits(rt.alloc(), with_zeros, to)?;
-        let with_ones = bits(rt.alloc(), with_ones, to)?;
-        assert_eq!(rt; zeros.as_slice(), with_zeros.as_slice());
-        assert_eq!(rt; ones.as_slice(), with_ones.as_slice());
-    }
-    for &(width, a, to, low) in &CUT {
-        assert!(rt; to <= width && width <= 64);
-        let inputs = bits(rt.alloc(), a, width)?;
-        let mut c = EvalCircuit::new(List::from_vec(inputs));
-        let left = lowest(rt.alloc(), &mut c, width, to)?;
-        let expected = bits(rt.alloc(), low, to)?;
-        assert_eq!(rt; left.as_slice(), expected.as_slice());
+fn extended_words_at_a_table(rt: HostRuntime) -> Result<(), Fail> {
+    for row in &EXTENDED {
+        assert!(rt; row.width <= row.to && row.to <= 64);
+        let inputs = bits(rt.alloc(), row.word, row.width)?;
+        let mut circuit = EvalCircuit::new(List::from_vec(inputs));
+        let found = extend_both_ways(rt.alloc(), &mut circuit, row.width, row.to)?;
+        let with_zeros = bits(rt.alloc(), row.with_zeros, row.to)?;
+        let with_ones = bits(rt.alloc(), row.with_ones, row.to)?;
+        assert_eq!(rt; found.with_zeros.as_slice(), with_zeros.as_slice());
+        assert_eq!(rt; found.with_ones.as_slice(), with_ones.as_slice());
     }
     Ok(())
 }
 
-/// A word, an amount of the same width, and what the shifts give:
-/// width, a, amount, left, right, right with ones.
-type ShiftedRow = (usize, u64, u64, u64, u64, u64);
-
-static SHIFTED: [ShiftedRow; 13] = [
-    (1, 1, 0, 1, 1, 1),
-    (1, 1, 1, 0, 0, 1),
-    (2, 3, 1, 2, 1, 3),
-    (2, 2, 3, 0, 0, 3),
-    (7, 85, 3, 40, 10, 122),
-    (7, 65, 6, 64, 1, 127),
-    (8, 129, 7, 128, 1, 255),
-    (8, 255, 200, 0, 0, 255),
-    (
-        63,
-        0x4000000000000001,
-        62,
-        0x4000000000000000,
-        1,
-        0x7fffffffffffffff,
-    ),
-    (
-        64,
-        0x8000000000000001,
-        1,
-        2,
-        0x4000000000000000,
-        0xc000000000000000,
-    ),
-    (
-        64,
-        0xffffffffffffffff,
-        63,
-        0x8000000000000000,
-        1,
-        0xffffffffffffffff,
-    ),
-    (
-        64,
-        0x123456789abcdef,
-        4,
-        0x123456789abcdef0,
-        0x123456789abcde,
-        0xf0123456789abcde,
-    ),
-    (64, 5, 64, 0, 0, 0xffffffffffffffff),
-];
+#[test]
+fn cut_words_at_a_table(rt: HostRuntime) -> Result<(), Fail> {
+    for row in &CUT {
+        assert!(rt; row.to <= row.width && row.width <= 64);
+        let inputs = bits(rt.alloc(), row.word, row.width)?;
+        let mut circuit = EvalCircuit::new(List::from_vec(inputs));
+        let found = lowest(rt.alloc(), &mut circuit, row.width, row.to)?;
+        let expected = bits(rt.alloc(), row.lowest, row.to)?;
+        assert_eq!(rt; found.as_slice(), expected.as_slice());
+    }
+    Ok(())
+}
 
 #[derive(Drop)]
 struct Shifts<L> {
@@ -319,16 +165,16 @@ struct Shifts<L> {
 /// A word of inputs, shifted by another.
 fn shifted<C: Circuit>(
     alloc: Global,
-    c: &mut C,
+    circuit: &mut C,
     width: usize,
 ) -> Result<Shifts<C::Literal>, AllocError> {
-    let a = word(alloc, c, width)?;
-    let amount = word(alloc, c, width)?;
-    let left = shift_left(alloc, c, &a, &amount)?;
-    let zero = c.zero();
-    let right = shift_right(alloc, c, &a, &amount, zero)?;
-    let one = c.one();
-    let right_with_ones = shift_right(alloc, c, &a, &amount, one)?;
+    let shifted = word(alloc, circuit, width)?;
+    let amount = word(alloc, circuit, width)?;
+    let left = shift_left(alloc, circuit, &shifted, &amount)?;
+    let zero = circuit.zero();
+    let right = shift_right(alloc, circuit, &shifted, &amount, zero)?;
+    let one = circuit.one();
+    let right_with_ones = shift_right(alloc, circuit, &shifted, &amount, one)?;
     Ok(Shifts {
         left,
         right,
@@ -338,57 +184,80 @@ fn shifted<C: Circuit>(
 
 #[test]
 fn shifts_at_a_table(rt: HostRuntime) -> Result<(), Fail> {
-    for &(width, a, amount, left, right, right_with_ones) in &SHIFTED {
+    for row in &SHIFTED {
+        let width = row.width;
         assert!(rt; width <= 64);
-        let mut inputs = bits(rt.alloc(), a, width)?;
-        inputs.extend_from_slice(bits(rt.alloc(), amount, width)?.as_slice())?;
-        let mut c = EvalCircuit::new(List::from_vec(inputs));
-        let found = shifted(rt.alloc(), &mut c, width)?;
-        let expected = bits(rt.alloc(), left, width)?;
-        assert_eq!(rt; found.left.as_slice(), expected.as_slice());
-        let expected = bits(rt.alloc(), right, width)?;
-        assert_eq!(rt; found.right.as_slice(), expected.as_slice());
-        let expected = bits(rt.alloc(), right_with_ones, width)?;
-        assert_eq!(rt; found.right_with_ones.as_slice(), expected.as_slice());
+        let mut inputs = bits(rt.alloc(), row.word, width)?;
+        inputs.extend_from_slice(bits(rt.alloc(), row.amount, width)?.as_slice())?;
+        let mut circuit = EvalCircuit::new(List::from_vec(inputs));
+        let found = shifted(rt.alloc(), &mut circuit, width)?;
+        let left = bits(rt.alloc(), row.left, width)?;
+        let right = bits(rt.alloc(), row.right, width)?;
+        let right_with_ones = bits(rt.alloc(), row.right_with_ones, width)?;
+        assert_eq!(rt; found.left.as_slice(), left.as_slice());
+        assert_eq!(rt; found.right.as_slice(), right.as_slice());
+        assert_eq!(rt;
+            found.right_with_ones.as_slice(),
+            right_with_ones.as_slice()
+        );
     }
     Ok(())
 }
 
-/// The inputs' values in order, `not` of the first, `and` and `xor` of the first two, the first where the second is true
-/// and else true, and the constants.
-fn gates<C: Circuit>(alloc: Global, c: &mut C) -> Result<[C::Literal; 9], AllocError> {
-    let x = c.input(alloc)?;
-    let y = c.input(alloc)?;
-    let past = c.input(alloc)?;
-    let both = c.and(alloc, x, y)?;
-    let differ = c.xor(alloc, x, y)?;
-    let chosen = c.mux(alloc, y, x, c.one())?;
-    Ok([
-        x,
-        y,
+/// A literal of each kind over two inputs.
+#[derive(Drop)]
+struct Gates<L> {
+    first: L,
+    second: L,
+    /// An input past the two that have values.
+    past: L,
+    not_first: L,
+    both: L,
+    differ: L,
+    /// The first where the second is true, and else true.
+    chosen: L,
+    zero: L,
+    one: L,
+}
+
+fn build_gates<C: Circuit>(
+    alloc: Global,
+    circuit: &mut C,
+) -> Result<Gates<C::Literal>, AllocError> {
+    let first = circuit.input(alloc)?;
+    let second = circuit.input(alloc)?;
+    let past = circuit.input(alloc)?;
+    let zero = circuit.zero();
+    let one = circuit.one();
+    Ok(Gates {
+        first,
+        second,
         past,
-        c.not(x),
-        both,
-        differ,
-        chosen,
-        c.zero(),
-        c.one(),
-    ])
+        not_first: circuit.not(first),
+        both: circuit.and(alloc, first, second)?,
+        differ: circuit.xor(alloc, first, second)?,
+        chosen: circuit.mux(alloc, second, first, one)?,
+        zero,
+        one,
+    })
 }
 
 #[test]
 fn gates_have_their_tables(rt: HostRuntime) -> Result<(), Fail> {
-    let tables = [
-        [false, false, false, true, false, false, true, false, true],
-        [false, true, false, true, false, true, false, false, true],
-        [true, false, false, false, false, true, true, false, true],
-        [true, true, false, false, true, false, true, false, true],
-    ];
-    for row in tables {
-        let inputs = row[..2].to_vec(rt.alloc())?;
-        let mut c = EvalCircuit::new(List::from_vec(inputs));
-        let found = gates(rt.alloc(), &mut c)?;
-        assert_eq!(rt; found.as_slice(), row.as_slice());
+    for values in [[false, false], [false, true], [true, false], [true, true]] {
+        let [first, second] = values;
+        let inputs = values.to_vec(rt.alloc())?;
+        let mut circuit = EvalCircuit::new(List::from_vec(inputs));
+        let found = build_gates(rt.alloc(), &mut circuit)?;
+        assert_eq!(rt; found.first, first);
+        assert_eq!(rt; found.second, second);
+        assert_eq!(rt; found.past, false);
+        assert_eq!(rt; found.not_first, !first);
+        assert_eq!(rt; found.both, first && second);
+        assert_eq!(rt; found.differ, first != second);
+        assert_eq!(rt; found.chosen, first || !second);
+        assert_eq!(rt; found.zero, false);
+        assert_eq!(rt; found.one, true);
     }
     Ok(())
 }

@@ -1,3 +1,4 @@
+//! Words of literals, and the plain ways to make one.
 ghost use Rattle.std.specs.Prelude.{◌≡◌, ◌+◌, ◌≤◌, Bool, not, if◌then◌else◌, List as Seq, map, replicate, length, IfOk};
 ghost use Rattle.std.specs.List.{All};
 ghost use Rattle.circuits.specs.Circuit.{Keeps};
@@ -6,7 +7,7 @@ use crate::circuit::Circuit;
 use lists::List;
 use std::alloc::{AllocError, Global};
 
-/// A word of literals, its lowest bit first.
+/// A word: its bits as literals, the lowest first. So its width is the number of its literals.
 pub type Bits<L> = List<L>;
 
 /// The word of the negations of a word's bits. It makes no gate.

@@ -1,4 +1,4 @@
--- Definitions of variables over smaller ones, and their clauses (Tseitin).
+-- Definitions of variables over smaller ones, and their clauses by Tseitin's encoding.
 use Rattle.std.specs.Prelude.{◌≡◌, ℕ, ◌+◌, ◌<◌, ◌≤◌, Bool, true, false, ◌&&◌, if◌then◌else◌, List, [], ◌∷◌, ◌++◌, Some, slice_get}
 use Rattle.std.specs.Bool.{xor}
 use Rattle.clauses.specs.declared.literal.Lit.{Lit}
@@ -13,7 +13,8 @@ definition_value v (And a b) = literal_true v a && literal_true v b
 definition_value v (Xor a b) = xor (literal_true v a) (literal_true v b)
 definition_value v (Mux c a b) = if literal_true v c then literal_true v a else literal_true v b
 
--- the variable n is made equal to the value: one clause for each row of the truth table, rows of one kind joined
+-- The clauses that are all true exactly where the variable n has the definition's value: one for each row of the truth table,
+-- rows that differ in one operand alone joined.
 abbrev pub clauses_of_definition : ℕ → Definition → List (List Lit)
 clauses_of_definition n One = (literal_of n true ∷ []) ∷ []
 clauses_of_definition n (And a b) =
@@ -34,7 +35,7 @@ clauses_from n (d ∷ ds) = clauses_of_definition n d ++ clauses_from (n + 1) ds
 abbrev pub IsSmaller : ℕ → Lit → Type 0
 IsSmaller n l = (1 ≤ l.variable) × (l.variable < n)
 
--- each operand's is
+-- each operand's variable is one of those below n
 abbrev pub IsOverSmaller : ℕ → Definition → Type 0
 IsOverSmaller n One = Unit {0}
 IsOverSmaller n (And a b) = IsSmaller n a × IsSmaller n b

@@ -17,6 +17,7 @@ OutputBelow count One = Unit {0}
 OutputBelow count (Input k) = Unit {0}
 OutputBelow count (Output k) = k < count
 
+-- if an operand of the gate is a gate, it is one of so many
 abbrev pub OperandsBelow : ℕ → Gate → Type 0
 OperandsBelow count (And a b) = OutputBelow count a.node × OutputBelow count b.node
 OperandsBelow count (Xor a b) = OutputBelow count a.node × OutputBelow count b.node
@@ -40,6 +41,7 @@ with_node marks One = record marks { one = true }
 with_node marks (Input k) = marks
 with_node marks (Output k) = record marks { gates = slice_set marks.gates k true }
 
+-- the marks with those of the gate's operands too
 abbrev pub with_operands : Marks → Gate → Marks
 with_operands marks (And a b) = with_node (with_node marks a.node) b.node
 with_operands marks (Xor a b) = with_node (with_node marks a.node) b.node

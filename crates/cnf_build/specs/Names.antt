@@ -24,9 +24,11 @@ number_of names One = names.inputs + 1
 number_of names (Input k) = k + 1
 number_of names (Output k) = slice_index names.numbers k
 
+-- a literal of the graph as a literal of its node's variable
 abbrev pub lit_of : Names → Literal → Lit
 lit_of names l = record { variable = number_of names l.node; negated = l.negated }
 
+-- a gate's definition over its operands' variables
 abbrev pub definition_of : Names → Gate → Definition
 definition_of names (gates.And a b) = definitions.And (lit_of names a) (lit_of names b)
 definition_of names (gates.Xor a b) = definitions.Xor (lit_of names a) (lit_of names b)

@@ -1,8 +1,9 @@
+//! What the variables after the inputs stand for.
 use clauses::Lit;
 
 /// What a variable that is no input stands for, over smaller variables.
 #[derive(Clone, Copy, Debug)]
-pub enum Definition {
+pub(crate) enum Definition {
     /// The constant that is true.
     One,
     /// Both of two literals.

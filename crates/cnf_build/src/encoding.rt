@@ -1,3 +1,4 @@
+//! The clause set of a root, put together from names and clauses.
 ghost use Rattle.std.specs.Prelude.{◌≡◌, true, ◌+◌, ◌^◌, ◌<◌, ◌≤◌, [], ◌∷◌, length, IfOk, EachIndex, slice_index};
 ghost use Rattle.aig.specs.Graph.{IsOwn, value_of};
 ghost use Rattle.clauses.specs.Literal.{IsVariable};
@@ -13,8 +14,12 @@ use clauses::{Clause, Cnf, Lit};
 use lists::List;
 use std::alloc::{AllocError, Global};
 
-/// A clause set that stands for the test that the root is true. Its inputs are those of the graph,
-/// in order, those that the root doesn't need among them.
+/// A clause set that stands for the test that the root is true, by Tseitin's encoding: a variable
+/// for each gate that the root needs, clauses that make it equal to the gate's value, and the root
+/// as a unit clause.
+///
+/// The set's inputs are those of the graph, in order, those that the root doesn't need among them.
+/// The only error is want of memory.
 pub fn clauses_of(alloc: Global, aig: &Aig, root: Literal) -> Result<Cnf, AllocError>
     requires own { IsOwn aig.now root }
     requires few { aig.now.inputs + length aig.now.gates < 2 ^ 28 }
@@ -31,7 +36,8 @@ pub fn clauses_of(alloc: Global, aig: &Aig, root: Literal) -> Result<Cnf, AllocE
     encode(alloc, inputs, naming.definitions(), naming.literal(root))
 }
 
-// The set of these definitions' clauses, with the root as its root clause.
+/// The set of these definitions' clauses, with the root as its root clause. The variables are
+/// numbered from 1: those of the inputs, and then one for each definition.
 fn encode(
     alloc: Global,
     inputs: u32,
@@ -56,7 +62,7 @@ fn encode(
     })
 }
 
-// The clauses that ask for a literal: its unit clause.
+/// The clauses that ask for a literal: its unit clause.
 fn root_clauses(alloc: Global, root: Lit) -> Result<List<Clause>, AllocError>
     ensures { IfOk result (λ clauses. clauses ≡ (root ∷ []) ∷ []) }
 {
@@ -65,7 +71,7 @@ fn root_clauses(alloc: Global, root: Lit) -> Result<List<Clause>, AllocError>
     Ok(clauses)
 }
 
-// The numbers from 1 to `count`, in order.
+/// The numbers from 1 to `count`, in order.
 fn input_variables(alloc: Global, count: u32) -> Result<List<u32>, AllocError>
     requires { count < 2 ^ 31 }
     ensures count { IfOk result (λ variables. length variables ≡ count) }

@@ -1,3 +1,4 @@
+//! Variables for the constant and for the gates that a root needs.
 ghost use Rattle.std.specs.Prelude.{◌≡◌, ◌+◌, ◌^◌, ◌<◌, length, IfOk, OnOk};
 ghost use Rattle.aig.specs.Graph.{IsAmong, OperandsAmong, IsInOrder};
 
@@ -11,7 +12,7 @@ use std::marker::Model;
 /// The variables that come after the inputs: for each gate the variable that it has if it is
 /// needed, and the definitions of these variables in order.
 #[derive(Debug, Drop)]
-pub struct Naming {
+pub(crate) struct Naming {
     inputs: u32,
     numbers: Vec<u32>,
     definitions: Vec<Definition>,
@@ -30,7 +31,7 @@ impl Naming {
     ghost use Rattle.cnf_build.specs.Marks.{IsClosed};
 
     /// Names what is needed of a graph with so many inputs and these gates.
-    pub fn of(
+    pub(crate) fn of(
         alloc: Global,
         inputs: u32,
         gates: &[Gate],
@@ -56,14 +57,14 @@ impl Naming {
     }
 
     /// The definitions in the order of their variables, the first of which comes after the inputs.
-    pub fn definitions(&self) -> &[Definition]
+    pub(crate) fn definitions(&self) -> &[Definition]
         ensures { result.now ≡ self.now.definitions }
     {
         self.definitions.as_slice()
     }
 
     /// A literal of the graph as a literal of its node's variable.
-    pub fn literal(&self, literal: Literal) -> Lit
+    pub(crate) fn literal(&self, literal: Literal) -> Lit
         requires few { self.now.inputs < 2 ^ 28 }
         requires own { IsAmong self.now.inputs (length self.now.numbers) literal.node }
         ensures { result ≡ lit_of self.now literal }
@@ -79,7 +80,7 @@ impl Naming {
         }
     }
 
-    // A gate's definition over its operands' variables.
+    /// A gate's definition over its operands' variables.
     fn definition(&self, gate: Gate) -> Definition
         requires few { self.now.inputs < 2 ^ 28 }
         requires own { OperandsAmong self.now.inputs (length self.now.numbers) gate }
@@ -96,7 +97,7 @@ impl Naming {
         }
     }
 
-    // Names the constant if it is needed, before any gate.
+    /// Names the constant if it is needed, before any gate.
     fn name_constant(&mut self, is_needed: bool) -> Result<(), AllocError>
         ensures { OnOk result (self.new ≡ with_constant self.old is_needed) }
     {
@@ -106,7 +107,7 @@ impl Naming {
         Ok(())
     }
 
-    // The next gate gets the variable after those that are defined, and is defined if it is needed.
+    /// The next gate gets the variable after those that are defined, and is defined if it is needed.
     fn name_gate(&mut self, gate: Gate, is_needed: bool) -> Result<(), AllocError>
         requires few { self.old.inputs + length self.old.definitions < 2 ^ 29 }
         requires few_inputs { self.old.inputs < 2 ^ 28 }

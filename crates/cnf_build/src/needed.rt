@@ -1,3 +1,4 @@
+//! Which gates a root needs.
 ghost use Rattle.std.specs.Prelude.{◌≡◌, ℕ, ◌<◌, false, length, Some, slice_get, slice_index_or, IfOk};
 
 use aig::{Gate, Literal, Node};
@@ -7,7 +8,7 @@ use std::marker::Model;
 /// Which of the constant and the gates of a graph a root needs: its own node, and each operand of
 /// a gate that it needs.
 #[derive(Debug, Drop)]
-pub struct Needed {
+pub(crate) struct Needed {
     one: bool,
     gates: Vec<bool>,
 }
@@ -24,7 +25,7 @@ impl Needed {
     ghost use Rattle.cnf_build.specs.Marks.{OutputBelow, OperandsBelow, with_node, with_operands, AreNeeded};
 
     /// What the root needs of these gates.
-    pub fn by(alloc: Global, gates: &[Gate], root: Literal) -> Result<Self, AllocError>
+    pub(crate) fn by(alloc: Global, gates: &[Gate], root: Literal) -> Result<Self, AllocError>
         requires root { OutputBelow (length gates.now) root.node }
         requires in_order { (k : ℕ) (gate : Gate) → slice_get gates.now k ≡ Some gate → OperandsBelow k gate }
         ensures { IfOk result (AreNeeded gates.now root) }
@@ -43,21 +44,21 @@ impl Needed {
     }
 
     /// Whether the constant is needed.
-    pub fn has_one(&self) -> bool
+    pub(crate) fn has_one(&self) -> bool
         ensures { result ≡ self.now.one }
     {
         self.one
     }
 
     /// Whether the gate at this place is needed.
-    pub fn has_gate(&self, place: usize) -> bool
+    pub(crate) fn has_gate(&self, place: usize) -> bool
         requires { place < length self.now.gates }
         ensures { result ≡ slice_index_or self.now.gates place false }
     {
         self.gates[place]
     }
 
-    // Marks the literal's node, if it isn't an input.
+    /// Marks the literal's node, if it isn't an input.
     fn mark(&mut self, literal: Literal)
         requires { OutputBelow (length self.old.gates) literal.node }
         ensures { self.new ≡ with_node self.old literal.node }
@@ -69,7 +70,7 @@ impl Needed {
         }
     }
 
-    // Marks the nodes of the gate's operands.
+    /// Marks the nodes of the gate's operands.
     fn mark_operands(&mut self, gate: Gate)
         requires { OperandsBelow (length self.old.gates) gate }
         ensures { self.new ≡ with_operands self.old gate }

@@ -1,3 +1,4 @@
+//! Clause sets of single gates and small graphs, compared with truth tables.
 ghost use Rattle.std.specs.Prelude.{IfOk};
 
 use super::*;
@@ -45,6 +46,7 @@ const ROOTS: [Root; 11] = [
     Root::Odd,
 ];
 
+/// What the root is by its truth table.
 fn expected(root: Root, a: bool, b: bool, c: bool) -> bool {
     match root {
         Root::And => a && b,
@@ -96,6 +98,7 @@ fn build<C: Circuit>(alloc: Global, circuit: &mut C, root: Root) -> Result<C::Li
     }
 }
 
+/// The root's clause set, if its graph has three inputs and at most three gates.
 fn encoded(alloc: Global, root: Root) -> Result<Option<Cnf>, AllocError> {
     let mut aig = Aig::new(alloc);
     let literal = build(alloc, &mut aig, root)?;
@@ -105,12 +108,13 @@ fn encoded(alloc: Global, root: Root) -> Result<Option<Cnf>, AllocError> {
     Ok(Some(clauses_of(alloc, &aig, literal)?))
 }
 
-/// Whether variable n has the value of bit n - 1.
+/// Whether the literal is true where variable n has the value of bit n - 1.
 fn holds(literal: Lit, values: u32) -> bool {
     let bit = values.wrapping_shr(literal.variable.wrapping_sub(1)) & 1;
     (bit == 1) != literal.negated
 }
 
+/// Whether each clause has a true literal.
 fn is_met(clauses: &[Clause], values: u32) -> bool {
     clauses.iter().all(|clause| clause.as_slice().iter().any(|l| holds(*l, values)))
 }
@@ -145,24 +149,65 @@ fn sets_say_what_their_roots_do(rt: HostRuntime) -> Result<(), Fail> {
     Ok(())
 }
 
-/// How many variables and clauses a set has: the inputs, the gates that the root needs, and the
-/// constant where it is used.
+/// A root, and how many variables and clauses its set has: variables for the inputs, for the gates
+/// that the root needs, and for the constant where it is used.
+#[derive(Clone, Copy)]
+struct Size {
+    root: Root,
+    variables: u32,
+    clauses: u32,
+}
+
+const SIZES: [Size; 8] = [
+    Size {
+        root: Root::And,
+        variables: 4,
+        clauses: 4,
+    },
+    Size {
+        root: Root::Xor,
+        variables: 4,
+        clauses: 5,
+    },
+    Size {
+        root: Root::Mux,
+        variables: 4,
+        clauses: 5,
+    },
+    Size {
+        root: Root::NotBoth,
+        variables: 4,
+        clauses: 4,
+    },
+    Size {
+        root: Root::One,
+        variables: 4,
+        clauses: 2,
+    },
+    Size {
+        root: Root::Input,
+        variables: 3,
+        clauses: 1,
+    },
+    Size {
+        root: Root::AndOne,
+        variables: 5,
+        clauses: 5,
+    },
+    Size {
+        root: Root::Odd,
+        variables: 5,
+        clauses: 9,
+    },
+];
+
 #[test]
 fn sets_name_only_what_is_needed(rt: HostRuntime) -> Result<(), Fail> {
-    let sizes = [
-        (Root::And, 4, 4),
-        (Root::Xor, 4, 5),
-        (Root::Mux, 4, 5),
-        (Root::NotBoth, 4, 4),
-        (Root::One, 4, 2),
-        (Root::Input, 3, 1),
-        (Root::AndOne, 5, 5),
-        (Root::Odd, 5, 9),
-    ];
-    for (root, variables, clauses) in sizes {
+    for size in SIZES {
+        let root = size.root;
         let set = encoded(rt.alloc(), root)?.ok_or("too many inputs or gates")?;
-        assert_eq!(rt; set.count, variables, "{root:?}");
-        assert_eq!(rt; set.clause_count(), clauses, "{root:?}");
+        assert_eq!(rt; set.count, size.variables, "{root:?}");
+        assert_eq!(rt; set.clause_count(), size.clauses, "{root:?}");
     }
     Ok(())
 }

@@ -1,3 +1,4 @@
+//! The clauses of definitions, by Tseitin's encoding.
 ghost use Rattle.std.specs.Prelude.{◌≡◌, ◌+◌, ◌^◌, ◌<◌, [], ◌∷◌, ◌++◌, length, IfOk, OnOk};
 ghost use Rattle.cnf_build.specs.Definitions.{clauses_of_definition, clauses_from};
 
@@ -7,7 +8,7 @@ use lists::List;
 use std::alloc::{AllocError, Global};
 
 /// The clauses of definitions in order, of which the first defines the variable `first`.
-pub fn clauses_from(
+pub(crate) fn clauses_from(
     alloc: Global,
     first: u32,
     definitions: &[Definition],
@@ -61,7 +62,7 @@ fn push_definition(
 }
 
 /// Adds the clause of these literals.
-pub fn push_clause(
+pub(crate) fn push_clause(
     alloc: Global,
     clauses: &mut List<Clause>,
     literals: &[Lit],

@@ -1,3 +1,4 @@
+//! Clause sets and evaluations of words of three bits, compared with whole-number arithmetic.
 ghost use Rattle.std.specs.Prelude.{◌≡◌, ◌<◌, ◌+◌, ◌^◌, [], ◌∷◌, length, IfOk};
 ghost use Rattle.std.specs.List.{All};
 ghost use Rattle.circuits.specs.Circuit.{Keeps};
@@ -24,15 +25,22 @@ enum Operation {
     Equal,
 }
 
-/// Each operation, and how many bits it answers.
-const OPERATIONS: [(Operation, usize); 6] = [
-    (Operation::Add, 3),
-    (Operation::Sub, 3),
-    (Operation::Neg, 3),
-    (Operation::LessUnsigned, 1),
-    (Operation::LessSigned, 1),
-    (Operation::Equal, 1),
+const OPERATIONS: [Operation; 6] = [
+    Operation::Add,
+    Operation::Sub,
+    Operation::Neg,
+    Operation::LessUnsigned,
+    Operation::LessSigned,
+    Operation::Equal,
 ];
+
+/// How many bits an operation answers.
+fn width(operation: Operation) -> usize {
+    match operation {
+        Operation::Add | Operation::Sub | Operation::Neg => 3,
+        Operation::LessUnsigned | Operation::LessSigned | Operation::Equal => 1,
+    }
+}
 
 /// What whole-number arithmetic says, as the number that the answer's bits have.
 fn expected(operation: Operation, a: u32, b: u32) -> u32
@@ -57,6 +65,7 @@ fn signed(word: u32) -> i32
     if number < 4 { number } else { number - 8 }
 }
 
+/// Whether the number has this bit, the lowest at place 0.
 fn bit(number: u32, place: u32) -> bool {
     number.wrapping_shr(place) & 1 == 1
 }
@@ -124,7 +133,8 @@ fn sets_of(alloc: Global, aig: &Aig, roots: &[Literal]) -> Result<Vec<Cnf>, Allo
     Ok(sets)
 }
 
-/// The clause set of each bit of an answer.
+/// The clause set of each bit of an answer, if its graph has six inputs and at most fifteen
+/// gates.
 fn encoded(alloc: Global, operation: Operation) -> Result<Option<Vec<Cnf>>, AllocError> {
     let mut aig = Aig::new(alloc);
     let bits = answer(alloc, &mut aig, operation)?;
@@ -168,9 +178,9 @@ fn extension(set: &Cnf, setting: u32) -> Option<u32> {
 
 #[test]
 fn sets_say_what_arithmetic_says(rt: HostRuntime) -> Result<(), Fail> {
-    for (operation, width) in OPERATIONS {
+    for operation in OPERATIONS {
         let sets = encoded(rt.alloc(), operation)?.ok_or("too many inputs or gates")?;
-        assert_eq!(rt; sets.len(), width, "{operation:?}");
+        assert_eq!(rt; sets.len(), width(operation), "{operation:?}");
         let mut place = 0u32;
         for set in sets.as_slice() {
             assert_eq!(rt; set.inputs.as_slice(), [1, 2, 3, 4, 5, 6].as_slice());
@@ -191,12 +201,12 @@ fn sets_say_what_arithmetic_says(rt: HostRuntime) -> Result<(), Fail> {
 
 #[test]
 fn evaluation_says_what_arithmetic_says(rt: HostRuntime) -> Result<(), Fail> {
-    for (operation, width) in OPERATIONS {
+    for operation in OPERATIONS {
         for setting in 0..64u32 {
             let inputs = (0..6u32).map(|k| bit(setting, k)).collect(rt.alloc())?;
             let mut circuit = EvalCircuit::new(List::from_vec(inputs));
             let found = answer(rt.alloc(), &mut circuit, operation)?;
-            assert_eq!(rt; found.len(), width, "{operation:?}");
+            assert_eq!(rt; found.len(), width(operation), "{operation:?}");
             let number = expected(operation, setting % 8, setting / 8);
             let mut place = 0u32;
             for value in found.as_slice() {

@@ -6,4 +6,4 @@ use Rattle.circuits.proofs.tests.word.Given as goal
 abbrev pub invariant-loop-i : goal.invariant-loop-i
 invariant-loop-i g l =
     let m = g.C.Circuit in
-    Keeps m.has_literal m.admits m.value l.initial.c l.c × All (m.has_literal l.c) l.word × (length l.word ≡ l._i)
+    Keeps m.has_literal m.admits m.value l.initial.circuit l.circuit × All (m.has_literal l.circuit) l.word × (length l.word ≡ l._i)

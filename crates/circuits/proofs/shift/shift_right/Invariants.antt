@@ -2,7 +2,7 @@ use Rattle.std.proofs.Common.{◌≡◌, ◌+◌, ◌*◌, ◌^◌, ◌≤◌, m
 use Rattle.std.specs.List.{All}
 use Rattle.circuits.specs.Circuit.{Keeps}
 use Rattle.circuits.specs.Word.{number_of}
-use Rattle.circuits.proofs.shift.moved_down.Given as goal
+use Rattle.circuits.proofs.shift.shift_right.Given as goal
 
 abbrev pub invariant-loop-bit : goal.invariant-loop-bit
 invariant-loop-bit g l =
