@@ -1,3 +1,5 @@
+//! The whole program, over files and sinks in memory.
+
 use super::*;
 use outside::{FailingPut, MemoryFiles, MemorySink, SureFiles, SureSink};
 use std::alloc::Global;

@@ -1,3 +1,5 @@
+//! Each call of the lists once.
+
 use super::*;
 use std::test::Fail;
 

@@ -1,3 +1,5 @@
+//! Rows of instructions and their effects.
+
 ghost use Rattle.ops.specs.Value.{HasWidth};
 
 use super::*;

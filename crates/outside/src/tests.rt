@@ -1,3 +1,5 @@
+//! Files and sinks, and what they do at faults.
+
 ghost use Rattle.std.specs.Prelude.{◌≡◌, ◌++◌, take, IfOk, IfSome, IsOk, IsErrOf, IsOkUnless, OnOk, OnErr};
 ghost use Rattle.outside.specs.Faults.{Rose};
 ghost use Rattle.outside.specs.Files.{with_name};

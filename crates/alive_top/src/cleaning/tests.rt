@@ -1,3 +1,5 @@
+//! Functions, and what is left of them.
+
 use super::*;
 use crate::printer::print_module;
 use crate::reader::read_module;

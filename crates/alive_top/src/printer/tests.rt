@@ -1,3 +1,5 @@
+//! Modules, and how they print.
+
 use super::*;
 use ir_core::{Block, Function, Inst, Op, Operand, Parameter, Register, Terminator};
 use lists::{List, Text};

@@ -1,3 +1,5 @@
+//! Why a text gives no module.
+
 ghost use Rattle.std.specs.Prelude.{◌≡◌};
 ghost use Rattle.alive_top.specs.declared.reader.error.ModuleError.TheVariants.{NoMemory};
 

@@ -1,3 +1,5 @@
+//! What stands between tokens.
+
 ghost use Rattle.std.specs.Prelude.{◌≡◌, false};
 ghost use Rattle.alive_top.specs.Scanning.{behind_gap};
 

@@ -147,7 +147,7 @@ pub(crate) fn find(scope: &Scope<'_>, text: &[u8]) -> Option<(usize, Entity)>
 
 /// The register at a place in text order, where the first `parameters` places are parameters and the next is the block.
 ///
-/// None where the register's number is 2 ^ 32 or more.
+/// `None` where its place among the parameters, or among the results, is 2 ^ 32 or more.
 #[tactic(auto, unfolding(crate::specs::Resolving::register_at))]
 pub(crate) fn register_at(parameters: usize, place: usize) -> Option<Register>
     ensures register { IfSome result (λ r. r ≡ register_at parameters place) }

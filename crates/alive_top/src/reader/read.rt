@@ -1,3 +1,5 @@
+//! From bytes to a module.
+
 ghost use Rattle.std.specs.Prelude.{IfOk, IsErrOf};
 ghost use Rattle.ir_core.specs.declared.module.Module.{Module};
 ghost use Rattle.alive_top.specs.Meaning.{Reads};
