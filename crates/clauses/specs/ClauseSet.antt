@@ -1,11 +1,20 @@
--- Logs of derived clauses over a set: reverse unit propagation (RUP), and clauses that unit propagation alone
--- doesn't give. Clauses are numbered from 0: the gates of the set, its roots, then the steps.
-use Rattle.std.specs.Prelude.{◌≡◌, ℕ, ◌-◌, ◌⊎◌, ◌++◌, Bool, true, false, List, [], length, take, map, remove, Some, slice_get, IsSomeAnd}
+-- Clause sets, and logs of derived clauses over them: reverse unit propagation (RUP), and clauses that unit propagation
+-- alone doesn't give. Clauses are numbered from 0: the gates of the set, its roots, then the steps.
+use Rattle.std.specs.Prelude.{◌≡◌, ℕ, ◌+◌, ◌-◌, ◌^◌, ◌<◌, ◌⊎◌, ◌++◌, Bool, true, false, List, [], length, take, map, remove, Some, slice_get, IsSomeAnd, All}
 use Rattle.clauses.specs.declared.literal.Lit.{Lit}
 use Rattle.clauses.specs.declared.step.Step.{Step}
 use Rattle.clauses.specs.declared.cnf.Cnf.{Cnf}
-use Rattle.clauses.specs.Literal.{IsVariable, IsWithin, literal_of}
+use Rattle.clauses.specs.Literal.{IsVariable, IsWithin, VariablesWithin, literal_of}
 use Rattle.clauses.specs.Propagation.{Derives, HintsRefute, SomeFalsified, is_held, negations_of}
+
+-- What a set asks of its parts: each variable of a clause and each input is one of the count, and there are fewer than
+-- 2 ^ 31 variables, and fewer than 2 ^ 31 clauses.
+pub record MakeSet (gates roots : List (List Lit)) (inputs : List ℕ) (count : ℕ) : Type 0 where
+  pub gate_variables : VariablesWithin count gates
+  pub root_variables : VariablesWithin count roots
+  pub input_variables : All (IsVariable count) inputs
+  pub few_variables : count < 2 ^ 31
+  pub few_clauses : length gates + length roots < 2 ^ 31
 
 -- The set has exactly these clauses, inputs and count of variables.
 pub record IsMadeOf (gates roots : List (List Lit)) (inputs : List ℕ) (count : ℕ) (set : Cnf) : Type 0 where

@@ -1,6 +1,6 @@
 -- Literals and clauses, and where an assignment makes them true (propositional logic).
 -- An assignment is a function from variables to truth values; the variables are numbered from 1.
-use Rattle.std.specs.Prelude.{◌≡◌, ℕ, ◌+◌, ◌-◌, ◌^◌, ◌<◌, ◌≤◌, Bool, true, false, not, ◌&&◌, ◌==◌, if◌then◌else◌, List, length, slice_index_or, All}
+use Rattle.std.specs.Prelude.{◌≡◌, ℕ, ◌-◌, ◌≤◌, Bool, true, false, not, ◌&&◌, ◌==◌, if◌then◌else◌, List, slice_index_or, All}
 use Rattle.std.specs.List.{list_any}
 use Rattle.clauses.specs.declared.literal.Lit.{Lit}
 
@@ -41,12 +41,3 @@ IsWithin count clause = All (λ l. IsVariable count l.variable) clause
 
 abbrev pub VariablesWithin : ℕ → List (List Lit) → Type 0
 VariablesWithin count clauses = All (IsWithin count) clauses
-
--- What a set asks of its parts: each variable of a clause and each input is one of the count, and there are fewer than
--- 2 ^ 31 variables and fewer clauses.
-pub record MakeSet (gates roots : List (List Lit)) (inputs : List ℕ) (count : ℕ) : Type 0 where
-  pub gate_variables : VariablesWithin count gates
-  pub root_variables : VariablesWithin count roots
-  pub input_variables : All (IsVariable count) inputs
-  pub few_variables : count < 2 ^ 31
-  pub few_clauses : length gates + length roots < 2 ^ 31

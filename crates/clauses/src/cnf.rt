@@ -1,6 +1,6 @@
 //! Sets of clauses.
 
-ghost use Rattle.std.specs.Prelude.{◌+◌, ◌^◌, ◌<◌, ◌≤◌, length, All};
+ghost use Rattle.std.specs.Prelude.{◌+◌, ◌^◌, ◌<◌, length, All};
 ghost use Rattle.clauses.specs.Literal.{VariablesWithin, IsVariable};
 
 use crate::Clause;
@@ -27,8 +27,7 @@ pub struct Cnf {
 
 impl Cnf {
     ghost use Rattle.std.specs.Prelude.{◌≡◌, ◌↔◌, ◌<◌, length, IfSome, IsSome, Some, slice_get};
-    ghost use Rattle.clauses.specs.Literal.{MakeSet};
-    ghost use Rattle.clauses.specs.ClauseSet.{IsMadeOf, all_clauses};
+    ghost use Rattle.clauses.specs.ClauseSet.{IsMadeOf, MakeSet, all_clauses};
 
     /// The set of these parts. It is `None` exactly where a variable of a clause or an input isn't
     /// one of the numbers from 1 to `count`, or there are 2^31 variables or clauses or more.

@@ -4,8 +4,8 @@ ghost use Rattle.std.specs.Prelude.{◌≡◌, ◌↔◌, ◌&&◌, ◌<◌, IsT
 ghost use Rattle.clauses.specs.declared.literal.Lit.{Lit as Literal};
 ghost use Rattle.clauses.specs.Literal.{VariablesWithin};
 ghost use Rattle.clauses.specs.Propagation.{HintsRefute, NamesFalse, NamesUnit, negations_of};
-ghost use Rattle.rup_checker.specs.Table.{Represents, is_marked, stands_in_some};
 ghost use Rattle.clauses.specs.ClauseSet.{clauses_with};
+ghost use Rattle.rup_checker.specs.Table.{Represents, is_marked, stands_in_some};
 
 use crate::open_literals::{OpenLiterals, open_literals_of};
 use crate::table::{Held, hold, release};
