@@ -1,6 +1,6 @@
 //! Lists of values, as the fields of other types hold them.
 
-ghost use Rattle.std.specs.Prelude.{◌≡◌, ◌==◌, List as Seq, [], ◌∷◌, ◌++◌, length, OnOk, OnErr};
+ghost use Rattle.std.specs.Prelude.{◌≡◌, ◌==◌, ◌<◌, List as Seq, [], ◌∷◌, ◌++◌, length, slice_index_or, OnOk, OnErr};
 
 use std::alloc::{AllocError, Global};
 use std::marker::Model;
@@ -23,6 +23,9 @@ impl<T> Model for List<T> {
 }
 
 impl<T> List<T> {
+    ghost use Rattle.std.specs.Borrow.{sem};
+    ghost use Rattle.lists.specs.Lends.{lends_item};
+
     /// The empty list. It takes no memory.
     pub fn new(alloc: Global) -> Self
         ensures { result ≡ [] }
@@ -52,6 +55,15 @@ impl<T> List<T> {
         ensures { result.now ≡ self.now }
     {
         self.items.as_slice()
+    }
+
+    /// The value at a place, to be changed there.
+    pub fn get_mut(&mut self, index: usize) -> &mut T
+        requires { index < length self.old }
+        ensures* writes_back { sem 𝓛 (lends_item T.row self.entry index result) }
+        ensures value { result.now ≡ slice_index_or self.old index result.now }
+    {
+        &mut self.items[index]
     }
 
     /// How many values there are.

@@ -11,6 +11,9 @@ fn lists_keep_their_values(rt: HostRuntime) -> Result<(), Fail> {
     list.push(8)?;
     assert_eq!(rt; list.len(), 2);
     assert_eq!(rt; list.as_slice(), [7, 8].as_slice());
+    *list.get_mut(1) += 1;
+    assert_eq!(rt; list.as_slice(), [7, 9].as_slice());
+    *list.get_mut(1) -= 1;
     assert_eq!(rt;
         List::from_vec(list.into_vec()).as_slice(),
         [7, 8].as_slice()
