@@ -1,3 +1,4 @@
+pub mod DiskFiles
 pub mod Errors
 pub mod Faults
 pub mod Files
@@ -5,4 +6,5 @@ pub mod MemoryFiles
 pub mod MemorySink
 pub mod Sink
 pub mod StoredFiles
+pub mod StreamSink
 pub mod SureFiles

@@ -1,11 +1,13 @@
 //! The files of the system.
 
-ghost use Rattle.std.specs.Prelude.{◌≡◌, ◌≤◌, None, take, vec_len, IfOk, IfSome};
+ghost use Rattle.std.specs.Prelude.{◌≡◌, ◌≤◌, None, take, vec_len, IfOk, IfSome, IsErrOf};
+ghost use Rattle.outside.specs.Faults.{faults_after_read, Rose};
 
 use crate::errors::ReadError;
 use crate::files::Files;
 use std::alloc::Global;
 use std::io::Read;
+use std::marker::Model;
 use std::{fs, rt};
 
 /// How many bytes one read of a real file asks for.
@@ -20,12 +22,27 @@ pub struct DiskFiles<R> {
     faults: u64,
 }
 
+impl<R> Model for DiskFiles<R> {
+    ghost use Rattle.outside.specs.DiskFiles.{DiskFilesState};
+
+    ghost Value = { DiskFilesState };
+
+    ghost view = { λ files. record { faults = files.faults } };
+}
+
 impl<R: rt::Files> DiskFiles<R> {
     /// The files that a runtime opens, with no faults yet.
     pub fn new(runtime: R) -> Self
-        ensures { ⟦<DiskFiles<R> as Files>⟧.faults result ≡ 0 }
+        ensures { result ≡ record { faults = 0 } }
     {
         DiskFiles { runtime, faults: 0 }
+    }
+
+    /// How many faults there were.
+    pub fn faults(&self) -> u64
+        ensures { result ≡ self.now.faults }
+    {
+        self.faults
     }
 }
 
@@ -71,7 +88,12 @@ impl<R: rt::Files> Files for DiskFiles<R> {
 
     ghost faults = { λ files. files.faults };
 
-    fn read(&mut self, alloc: Global, name: &str, most: usize) -> Result<Vec<u8>, ReadError> {
+    fn read(&mut self, alloc: Global, name: &str, most: usize) -> Result<Vec<u8>, ReadError>
+        ensures within { IfOk result (λ read. vec_len read ≤ most) }
+        ensures faults_grow { self.old.faults ≤ self.new.faults }
+        ensures failed { IsErrOf result ReadError.Failed → Rose self.old.faults self.new.faults }
+        ensures faults { self.new.faults ≡ faults_after_read result self.old.faults }
+    {
         let read = read_file(&self.runtime, alloc, name, most);
         if let Err(ReadError::Failed) = &read {
             self.faults = self.faults.saturating_add(1);

@@ -1,42 +1,58 @@
 //! A stream as a sink.
 
 ghost use Rattle.std.specs.Prelude.{◌≡◌, ◌≤◌, None, OnOk, OnErr};
-ghost use Rattle.std.specs.Io.KnownBytes.{Appends as StreamGains};
-ghost use Rattle.outside.specs.Faults.{Rose};
+ghost use Rattle.std.specs.Io.KnownBytes.{Appends as Gains};
+ghost use Rattle.outside.specs.Faults.{raised, Rose};
+ghost use Rattle.outside.specs.StreamSink.{GainsPrefix};
 
 use crate::errors::Failed;
 use crate::sink::Sink;
 use std::io::Write;
+use std::marker::Model;
 
 /// A stream, as standard output. As a sink it doesn't tell what was written.
 ///
 /// A fault is an error of the stream at writing or flushing, or that it takes nothing of what is left.
 #[derive(Debug, Drop)]
-pub struct StreamSink<W> {
-    /// Where the bytes go.
-    pub stream: W,
-    /// How many faults there were. It stands still at its last value.
-    pub faults: u64,
+pub struct StreamSink<W: Write> {
+    stream: W,
+    faults: u64,
+}
+
+impl<W: Write> Model for StreamSink<W> {
+    ghost use Rattle.outside.specs.StreamSink.{StreamSinkState};
+
+    ghost Value = { StreamSinkState };
+
+    ghost view = { λ sink. record { contents = W.contents sink.stream; faults = sink.faults } };
 }
 
 impl<W: Write> StreamSink<W> {
     /// A sink over a stream, with no faults yet.
     pub fn new(stream: W) -> Self
-        ensures { result ≡ record { stream = stream; faults = 0 } }
+        ensures { result ≡ record { contents = W.contents stream; faults = 0 } }
     {
         StreamSink { stream, faults: 0 }
     }
+
+    /// How many faults there were.
+    pub fn faults(&self) -> u64
+        ensures { result ≡ self.now.faults }
+    {
+        self.faults
+    }
 }
 
-/// Writes all of a piece to a stream, and flushes it.
+/// Writes all of a piece to a stream, and flushes it. At an error the stream has taken a prefix.
 fn write_piece<W: Write>(stream: &mut W, piece: &[u8]) -> Result<(), Failed>
-    ensures { OnOk result (StreamGains (W.contents stream.old) (W.contents stream.new) piece.now) }
+    ensures ok { OnOk result (Gains (W.contents stream.old) (W.contents stream.new) piece.now) }
+    ensures prefix { OnErr result (GainsPrefix (W.contents stream.old) (W.contents stream.new) piece.now) }
 {
-    let mut rest = piece;
-    while !rest.is_empty() {
-        match stream.write(rest) {
+    let mut taken = 0;
+    while taken < piece.len() {
+        match stream.write(&piece[taken..]) {
             Ok(0) | Err(_) => return Err(Failed),
-            Ok(count) => rest = &rest[count..],
+            Ok(count) => taken += count,
         }
     }
     stream.flush().map_err(|_| Failed)
@@ -49,9 +65,13 @@ impl<W: Write> Sink for StreamSink<W> {
 
     fn put(&mut self, piece: &[u8]) -> Result<(), Failed>
         // A stream that tells what it holds, as one in memory, has gained exactly the piece.
-        ensures ok { OnOk result (StreamGains (W.contents self.old.stream) (W.contents self.new.stream) piece.now) }
+        ensures ok { OnOk result (Gains self.old.contents self.new.contents piece.now) }
+        ensures prefix { OnErr result (GainsPrefix self.old.contents self.new.contents piece.now) }
+
         ensures faults_grow { self.old.faults ≤ self.new.faults }
         ensures failed { OnErr result (Rose self.old.faults self.new.faults) }
+        ensures no_fault { OnOk result (self.new.faults ≡ self.old.faults) }
+        ensures fault { OnErr result (self.new.faults ≡ raised self.old.faults) }
     {
         let answer = write_piece(&mut self.stream, piece);
         if answer.is_err() {

@@ -1,13 +1,16 @@
-use Rattle.std.proofs.Common.{length}
-use Rattle.std.specs.Io.KnownBytes.{Appends, append_known}
+use Rattle.std.proofs.Common.{◌-◌, ◌≤◌, length, take}
+use Rattle.std.specs.Io.KnownBytes.{Appends}
 use Rattle.outside.proofs.stream_sink.write_piece.Given as goal
 
--- what the stream tells, and then what is left to write, is what it told at first, and then the piece
-abbrev pub invariant-loop-rest : goal.invariant-loop-rest
-invariant-loop-rest g l =
+-- the stream took this much of the piece
+abbrev pub invariant-loop-taken : goal.invariant-loop-taken
+invariant-loop-taken g l =
     let contents = g.W.Write.contents in
-    Appends (contents l.fn.stream) (append_known (contents l.stream) l.rest) l.piece
+    record {
+      within : l.taken ≤ length l.piece;
+      gains : Appends (contents l.fn.stream) (contents l.stream) (take l.taken l.piece);
+    }
 
 -- what is left to write
-abbrev pub decreases-loop-rest : goal.decreases-loop-rest
-decreases-loop-rest g l = length l.rest
+abbrev pub decreases-loop-taken : goal.decreases-loop-taken
+decreases-loop-taken g l = length l.piece - l.taken
