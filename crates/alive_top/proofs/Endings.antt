@@ -8,23 +8,11 @@ use Rattle.alive_top.specs.declared.status.Status.TheVariants as statuses
 use Rattle.alive_top.specs.declared.top.Refusal.{Refusal}
 use Rattle.alive_top.specs.declared.top.Refusal.TheVariants as refusals
 use Rattle.alive_top.specs.Commands.{Optimise, IsRuleText, IsModuleText, IsOptimised}
-use Rattle.alive_top.specs.Working.{Asked, AsksNone, AsksOne, AsksTwo, IsNoRuleText, IsNoModuleText, PrintsTold, WorkOf}
+use Rattle.alive_top.specs.Working.{Asked, IsNoRuleText, IsNoModuleText, WorkOf}
 use Rattle.alive_top.specs.declared.top.Texts.{Texts}
 use Rattle.alive_top.specs.Printing.{text_of, report_of}
 use Rattle.alive_top.specs.Strategy.{Tally}
-use Rattle.alive_top.specs.Endings.{Fed, Gained, GainedNothing, Told, read_fault_line, WroteSome, RefusedAs, WrittenAs, Ends, EndsFor, StopsAtRules, StopsAtSource, IsDoneOrNoMemory, AreGood}
-
--- which file could not be read
-abbrev AtOneFile : Asked → Optimise → List ℕ → Type 0
-AtOneFile a named name = ((name ≡ named.rules) × AsksOne a named.rules) ⊎ (IfSome (a.told named.rules) IsRuleText × (name ≡ named.source) × AsksTwo a named.rules named.source)
-
-read_ends : (a : Asked) (named : Optimise) (out err : Fed) (name : List ℕ) → Rose a.faults_before a.faults_after → AtOneFile a named name → GainedNothing out → Told err (read_fault_line name) → Ends a named out err statuses.ReadFault
-read_ends a named out err name rose (inl w) g t = (rose, g, inl (w.1, subst (λ (n : List ℕ). Told err (read_fault_line n)) w.0 t))
-read_ends a named out err name rose (inr w) g t = (rose, g, inr (w.0, w.2, subst (λ (n : List ℕ). Told err (read_fault_line n)) w.1 t))
-
-asked_some : (a : Asked) (named : Optimise) (name : List ℕ) → AtOneFile a named name → AsksNone a ⊎ (AsksOne a named.rules ⊎ AsksTwo a named.rules named.source)
-asked_some a named name (inl w) = inr (inl w.1)
-asked_some a named name (inr w) = inr (inr w.2)
+use Rattle.alive_top.specs.Endings.{Fed, Gained, GainedNothing, WroteSome, RefusedAs, WrittenAs, Ends, EndsFor, StopsAtRules, StopsAtSource, IsDoneOrNoMemory, AreGood}
 
 pub refused_ends : (command : Option Optimise) (a : Asked) (out err : Fed) (refusal : Refusal) (status : Status) → WorkOf a command (Err refusal) → GainedNothing out → RefusedAs refusal err status → EndsFor command a out err status
 refused_ends None a out err refusals.Usage status w g r = subst (EndsFor None a out err) (sym r.0) (w, g, r.1)
@@ -35,9 +23,9 @@ refused_ends None a out err (refusals.Read name) status w g r = absurd w
 refused_ends (Some named) a out err refusals.Usage status w g r = absurd w
 refused_ends (Some named) a out err refusals.Rules status w g r = subst (Ends a named out err) (sym r.0) (w.0, w.1, g, r.1)
 refused_ends (Some named) a out err refusals.Source status w g r = subst (Ends a named out err) (sym r.0) (w.0, w.1, w.2, g, r.1)
-refused_ends (Some named) a out err refusals.Memory status w g r = subst (Ends a named out err) (sym r.0) (w, g, r.1)
-refused_ends (Some named) a out err (refusals.Read name) status w g (inl r) = subst (Ends a named out err) (sym r.0) (read_ends a named out err name.now w.0 w.1 g r.1)
-refused_ends (Some named) a out err (refusals.Read name) status w g (inr r) = subst (Ends a named out err) (sym r.0) (asked_some a named name.now w.1, g, r.1)
+refused_ends (Some named) a out err refusals.Memory status w g r = subst (Ends a named out err) (sym r.0) (inl w, g, r.1)
+refused_ends (Some named) a out err (refusals.Read name) status w g (inl r) = subst (Ends a named out err) (sym r.0) (name.now, w, g, r.1)
+refused_ends (Some named) a out err (refusals.Read name) status w g (inr r) = subst (Ends a named out err) (sym r.0) (inr (name.now, w), g, r.1)
 
 pub written_ends : (command : Option Optimise) (a : Asked) (out err : Fed) (texts : Texts) (status : Status) → WorkOf a command (Ok texts) → WrittenAs texts out err status → EndsFor command a out err status
 written_ends None a out err texts status w h = absurd w
@@ -115,7 +103,7 @@ reads_fail command a out err status e h = at command (subst (EndsFor command a o
   where
     at : (command : Option Optimise) → EndsFor command a out err statuses.ReadFault → Rose a.faults_before a.faults_after
     at None e = absurd e
-    at (Some named) e = e.0
+    at (Some named) e = e.1.0
 
 some_failed : (out err : Fed) (text report : List ℕ) → WroteSome out err text report → Rose out.faults_before out.faults_after ⊎ Rose err.faults_before err.faults_after
 some_failed out err text report (inl w) = inl w.0.0
@@ -136,7 +124,7 @@ no_fault_ends (Some named) a out err statuses.Done e r w v = λ good. tt
 no_fault_ends (Some named) a out err statuses.NoMemory e r w v = λ good. tt
 no_fault_ends (Some named) a out err statuses.RuleRefused e r w v = λ good. is_some_torn (a.told named.rules) IsRuleText good.0 e.0
 no_fault_ends (Some named) a out err statuses.ModuleRefused e r w v = λ good. is_some_torn (a.told named.source) (λ bytes. (m : Module) × IsModuleText bytes m) good.1 (stops (a.told named.source) e.1 (λ bytes none is. none is.0 is.1))
-no_fault_ends (Some named) a out err statuses.ReadFault e r w v = λ good. r e.0
+no_fault_ends (Some named) a out err statuses.ReadFault e r w v = λ good. r e.1.0
 no_fault_ends (Some named) a out err statuses.WriteFault e r w v = λ good. ⊎_elim w v (some_failed out err _ _ e.4)
 
 pub complete : (command : Option Optimise) (a : Asked) (out err : Fed) (status : Status) → EndsFor command a out err status → IfSome command (λ named. AreGood a.told named → (Rose a.faults_before a.faults_after → ⊥) → (Rose out.faults_before out.faults_after → ⊥) → (Rose err.faults_before err.faults_after → ⊥) → IsDoneOrNoMemory status)

@@ -12,6 +12,7 @@ use Rattle.ir_core.specs.declared.module.Operand.{Operand}
 use Rattle.ir_core.specs.declared.module.Register.TheVariants as registers
 use Rattle.alive_top.specs.declared.reader.names.Entity.TheVariants as entities
 use Rattle.alive_top.specs.Grammar.{RawInst}
+use Rattle.alive_top.specs.Operations.{opcode_of}
 use Rattle.alive_top.specs.Meaning.{AreDistinct, called, name_given, IsType, InstMeans, InstsMean, no_flags}
 use Rattle.alive_top.specs.Giving.{◌>>=◌}
 use Rattle.alive_top.specs.Resolving.{Known, width_in, operand_in, define_in, fold_in, Insts, inst_in, insts_in}
@@ -26,7 +27,7 @@ use Rattle.alive_top.proofs.Parameters.{length-at, length-push, key_behind, at_f
 -- ---- what is read is meant
 
 abbrev one_inst : RawInst → ℕ → Operand → Operand → List Known × Name × ℕ → List Known × Inst × ℕ
-one_inst raw w left right d = (d.0, record { name = d.1; width = w; op = Binary raw.opcode no_flags left right }, d.2)
+one_inst raw w left right d = (d.0, record { name = d.1; width = w; op = Binary (opcode_of raw.operation) no_flags left right }, d.2)
 
 abbrev more_insts : Insts → List Known × Inst × ℕ → Insts
 more_insts s d = record { known = d.0; next = d.2; insts = s.insts ++ d.1 ∷ [] }
@@ -35,7 +36,7 @@ record OneRead (parameters : ℕ) (s : Insts) (ts : List Thing) (raw : RawInst) 
   inst : Inst
   left : Operand
   right : Operand
-  op : inst.op ≡ Binary raw.opcode no_flags left right
+  op : inst.op ≡ Binary (opcode_of raw.operation) no_flags left right
   left_read : operand_in parameters s.known inst.width raw.left ≡ Some left
   right_read : operand_in parameters s.known inst.width raw.right ≡ Some right
   type : IsType raw.width inst.width
@@ -56,7 +57,7 @@ one_sound n s ts raw u at h =
     let one_is : one_inst raw b.0 l.0 r.0 c.0 ≡ a.0 = same_Some (one_inst raw b.0 l.0 r.0 c.0) a.0 c.2 in
     let more_is : more_insts s (one_inst raw b.0 l.0 r.0 c.0) ≡ u = ap (more_insts s) one_is ∙ same_Some (more_insts s a.0) u a.2 in
     subst (OneRead n s ts raw) more_is (record {
-      inst = record { name = c.0.1; width = b.0; op = Binary raw.opcode no_flags l.0 r.0 };
+      inst = record { name = c.0.1; width = b.0; op = Binary (opcode_of raw.operation) no_flags l.0 r.0 };
       left = l.0;
       right = r.0;
       op = refl;
@@ -154,7 +155,7 @@ module _ (name : List ℕ) (width : ℕ) (ps : List Parameter) (is : List Inst) 
       let l = operand_complete name width ps is returned k s.known rest parts len_known s.next ts at i.width raw.left m.left m.left_means in
       let r = operand_complete name width ps is returned k s.known rest parts len_known s.next ts at i.width raw.right m.right m.right_means in
       let defined = define_complete s.known s.next ts raw.name i.name i.width at m.defined.given here (distinct_behind ts us (inst_thing i) dts) in
-      let inst_is : ◌≡◌ {A = Inst} (record { name = i.name; width = i.width; op = Binary raw.opcode no_flags m.left m.right }) i = λ j. record { name = i.name; width = i.width; op = sym m.op j } in
+      let inst_is : ◌≡◌ {A = Inst} (record { name = i.name; width = i.width; op = Binary (opcode_of raw.operation) no_flags m.left m.right }) i = λ j. record { name = i.name; width = i.width; op = sym m.op j } in
       ap (λ (o : Option ℕ). (o >>= λ w. operand_in n s.known w raw.left >>= λ x. operand_in n s.known w raw.right >>= λ y. define_in s.known s.next raw.name w >>= λ z. Some (one_inst raw w x y z)) >>= λ x. Some (more_insts s x)) (type_complete raw.width i.width m.width)
       ∙ ap (λ (o : Option Operand). (o >>= λ x. operand_in n s.known i.width raw.right >>= λ y. define_in s.known s.next raw.name i.width >>= λ z. Some (one_inst raw i.width x y z)) >>= λ x. Some (more_insts s x)) l
       ∙ ap (λ (o : Option Operand). (o >>= λ y. define_in s.known s.next raw.name i.width >>= λ z. Some (one_inst raw i.width m.left y z)) >>= λ x. Some (more_insts s x)) r

@@ -259,7 +259,7 @@ pub not_marked : (ms : List Bool) (k : ℕ) (mark : Bool) → IsMarked ms k → 
 not_marked ms k mark m is no_mark =
     let there : slice_index_or ms k mark ≡ true = get_or_from_slice_get ms k true mark m in cc
 
-pub is_marked : (ms : List Bool) (k : ℕ) (mark : Bool) → k < length ms → mark ≡ slice_index_or ms k mark → mark ≡ true → IsMarked ms k
-is_marked ms k mark within is set =
+pub IsMarked-read : (ms : List Bool) (k : ℕ) (mark : Bool) → k < length ms → mark ≡ slice_index_or ms k mark → mark ≡ true → IsMarked ms k
+IsMarked-read ms k mark within is set =
     let there : slice_get ms k ≡ Some mark = slice_get_read ms (length ms) k mark refl within is in
     subst (λ (m : Bool). slice_get ms k ≡ Some m) set there

@@ -13,10 +13,10 @@ use Rattle.ir_core.specs.declared.module.Register.{Register}
 use Rattle.alive_top.specs.declared.reader.names.Entity.{Entity}
 use Rattle.alive_top.specs.declared.reader.names.Entity.TheVariants as entities
 use Rattle.alive_top.specs.Bytes.{is_digit, begins_with}
-use Rattle.alive_top.specs.Grammar.{RawValue, Register_named, Number_written, True, False, Undef, Poison}
+use Rattle.alive_top.specs.Grammar.{RawValue, NamedRegister, WrittenNumber, True, False, Undef, Poison}
 use Rattle.alive_top.specs.Meaning.{decimal_value, called, ValueMeans}
 use Rattle.alive_top.specs.Giving.{◌>>=◌}
-use Rattle.alive_top.specs.Resolving.{Known, lookup_in, find_in, register_at, register_in, operand_in}
+use Rattle.alive_top.specs.Resolving.{Known, lookup_in, find_in, register_at_place, register_in, operand_in}
 use Rattle.alive_top.proofs.Basics.{bind_some}
 use Rattle.alive_top.proofs.Things.{lookup_sound, lookup_complete, Thing, known_from, number_at_place}
 use Rattle.alive_top.proofs.Defining.{guarded, IsAt}
@@ -56,16 +56,16 @@ find_complete known next ts text i e at h =
 abbrev found : ℕ → Entity → ℕ × Entity
 found i e = (i, e)
 
-register_in_sound : (n w i : ℕ) (e : Entity) (op : Operand) → register_in n w (found i e) ≡ Some op → (e ≡ entities.Register w) × (op ≡ operands.Register (register_at n i))
+register_in_sound : (n w i : ℕ) (e : Entity) (op : Operand) → register_in n w (found i e) ≡ Some op → (e ≡ entities.Register w) × (op ≡ operands.Register (register_at_place n i))
 unfolding register_in
 register_in_sound n w i (entities.Register bits) op h =
-    let g = guarded (eqb bits w) (Some (operands.Register (register_at n i))) op h in
-    (ap (λ (b : ℕ). entities.Register b) (eqb-true bits w g.0), sym (same_Some (operands.Register (register_at n i)) op g.1))
+    let g = guarded (eqb bits w) (Some (operands.Register (register_at_place n i))) op h in
+    (ap (λ (b : ℕ). entities.Register b) (eqb-true bits w g.0), sym (same_Some (operands.Register (register_at_place n i)) op g.1))
 register_in_sound n w i entities.Block op h = absurd cc
 
-register_in_again : (n w i : ℕ) → register_in n w (found i (entities.Register w)) ≡ Some (operands.Register (register_at n i))
+register_in_again : (n w i : ℕ) → register_in n w (found i (entities.Register w)) ≡ Some (operands.Register (register_at_place n i))
 unfolding register_in
-register_in_again n w i = ap (λ (b : Bool). cond b (Some (operands.Register (register_at n i))) None) (eq-eqb w w refl)
+register_in_again n w i = ap (λ (b : Bool). cond b (Some (operands.Register (register_at_place n i))) None) (eq-eqb w w refl)
 
 -- ---- operands
 
@@ -73,24 +73,24 @@ module _ (name : List ℕ) (width : ℕ) (ps : List Parameter) (is : List Inst) 
   abbrev f : Function
   f = made name width ps is returned
 
-  register_meant : (w : ℕ) (text : List ℕ) (op : Operand) → (find_in known text >>= register_in (length ps) w) ≡ Some op → ValueMeans f k w (Register_named text) op
+  register_meant : (w : ℕ) (text : List ℕ) (op : Operand) → (find_in known text >>= register_in (length ps) w) ≡ Some op → ValueMeans f k w (NamedRegister text) op
   register_meant w text op h =
       let a = bind_some (find_in known text) (register_in (length ps) w) op h in
       let r = register_in_sound (length ps) w a.0.0 a.0.1 op a.2 in
       let there : slice_get known a.0.0 ≡ Some (called text, entities.Register w) = find_sound known text a.0.0 a.0.1 a.1 ∙ ap (λ (e : Entity). Some (called text, e)) r.0 in
       let s = register_sound name width ps is returned k known rest a.0.0 w (called text) parts len there in
-      subst (ValueMeans f k w (Register_named text)) (sym r.1) (s.identifier, s.width, s.before)
+      subst (ValueMeans f k w (NamedRegister text)) (sym r.1) (s.identifier, s.width, s.before)
 
-  number_meant : (w : ℕ) (text : List ℕ) (op : Operand) → operand_in (length ps) known w (Number_written text) ≡ Some op → ValueMeans f k w (Number_written text) op
+  number_meant : (w : ℕ) (text : List ℕ) (op : Operand) → operand_in (length ps) known w (WrittenNumber text) ≡ Some op → ValueMeans f k w (WrittenNumber text) op
   unfolding operand_in
   number_meant w text op h =
       let s = number_sound w text op h in
-      subst (ValueMeans f k w (Number_written text)) (sym s.1) (refl, s.2)
+      subst (ValueMeans f k w (WrittenNumber text)) (sym s.1) (refl, s.2)
 
   pub operand_sound : (w : ℕ) (raw : RawValue) (op : Operand) → operand_in (length ps) known w raw ≡ Some op → ValueMeans f k w raw op
   unfolding operand_in
-  operand_sound w (Register_named text) op h = register_meant w text op h
-  operand_sound w (Number_written text) op h = number_meant w text op h
+  operand_sound w (NamedRegister text) op h = register_meant w text op h
+  operand_sound w (WrittenNumber text) op h = number_meant w text op h
   operand_sound w True op h = let s = truth_sound w 1 op h in subst (ValueMeans f k w True) (sym s.1) (s.0, refl)
   operand_sound w False op h = let s = truth_sound w 0 op h in subst (ValueMeans f k w False) (sym s.1) (s.0, refl)
   operand_sound w Undef op h = subst (ValueMeans f k w Undef) (same_Some operands.Undef op h) tt
@@ -105,8 +105,8 @@ module _ (name : List ℕ) (width : ℕ) (ps : List Parameter) (is : List Inst) 
 
     pub operand_complete : (w : ℕ) (raw : RawValue) (op : Operand) → ValueMeans f k w raw op → operand_in (length ps) known w raw ≡ Some op
     unfolding operand_in
-    operand_complete w (Register_named text) (operands.Register r) m = register_again w text r (record { identifier = m.0; width = m.1; before = m.2 })
-    operand_complete w (Number_written text) (operands.Number n) m = number_complete w text n.number m.1 ∙ ap (λ (x : ℕ). Some (word x n.number)) (sym m.0)
+    operand_complete w (NamedRegister text) (operands.Register r) m = register_again w text r (record { identifier = m.0; width = m.1; before = m.2 })
+    operand_complete w (WrittenNumber text) (operands.Number n) m = number_complete w text n.number m.1 ∙ ap (λ (x : ℕ). Some (word x n.number)) (sym m.0)
     operand_complete w True (operands.Number n) m = truth_complete w 1 m.0 ∙ ap (λ x. Some (operands.Number x)) (sym m.1)
     operand_complete w False (operands.Number n) m = truth_complete w 0 m.0 ∙ ap (λ x. Some (operands.Number x)) (sym m.1)
     operand_complete w Undef operands.Undef m = refl

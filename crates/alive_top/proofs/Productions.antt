@@ -13,29 +13,30 @@ use Rattle.alive_top.specs.declared.reader.token.Token.{Token as Scanned}
 use Rattle.alive_top.specs.declared.reader.token.Token.TheVariants as scanned
 use Rattle.alive_top.specs.Giving.{◌>>=◌, Fails}
 use Rattle.alive_top.specs.Scanning.{seen_token, next_at, is_end, is_word_token, is_mark_token}
+use Rattle.alive_top.specs.Operations.{opcode_of}
 use Rattle.alive_top.specs.Printing.{opcode_text}
 use Rattle.alive_top.specs.Grammar.{RawParameter, RawInst, RawFunction, value_token, parameter_tokens, parameters_tokens, inst_tokens, body_tokens, function_tokens, module_tokens}
-use Rattle.alive_top.specs.Parsing.{Read, word_at, register_at, function_name_at, mark_at, keyword_at, opcode_at, value_at, inst_at, parameter_at, with_front, insts_go, insts_at, parameters_go, more_parameters_at, some_parameters_at, parameters_at, function_at, functions_go, functions_at}
+use Rattle.alive_top.specs.Parsing.{Read, word_at, register_at, function_name_at, mark_at, keyword_at, operation_at, value_at, inst_at, parameter_at, with_front, insts_go, insts_at, parameters_go, more_parameters_at, some_parameters_at, parameters_at, function_at, functions_go, functions_at}
 use Rattle.alive_top.proofs.Basics.{bind_some, bind-same, some_is, chosen}
-use Rattle.alive_top.proofs.Taking.{Takes, Takes-append, Takes-short, one_taken, next-shorter, word_at-is, register_at-is, function_name_at-is, mark_at-is, keyword_at-is, opcode_at-is, value_at-is, is_mark-is, is_word-is, is_end-is}
+use Rattle.alive_top.proofs.Taking.{Takes, Takes-append, Takes-short, one_taken, next-shorter, word_at-is, register_at-is, function_name_at-is, mark_at-is, keyword_at-is, operation_at-is, value_at-is, is_mark-is, is_word-is, is_end-is}
 
 -- the tokens of an instruction behind its register
 abbrev pub inst_tail : RawInst → List Token
-inst_tail i = Punctuation Equals ∷ Word (opcode_text i.opcode) ∷ Word i.width ∷ value_token i.left ∷ Punctuation Comma ∷ value_token i.right ∷ []
+inst_tail i = Punctuation Equals ∷ Word (opcode_text (opcode_of i.operation)) ∷ Word i.width ∷ value_token i.left ∷ Punctuation Comma ∷ value_token i.right ∷ []
 
 pub inst_at-is : (name text : List ℕ) (x : RawInst × List ℕ) → inst_at name text ≡ Some x → (x.0.name ≡ name) × Takes text (inst_tail x.0) x.1
 unfolding inst_at
 inst_at-is name text x e =
     let a = bind_some (mark_at Equals text) _ _ e in
-    let b = bind_some (opcode_at a.0) _ _ a.2 in
+    let b = bind_some (operation_at a.0) _ _ a.2 in
     let c = bind_some (word_at b.0.1) _ _ b.2 in
     let d = bind_some (value_at c.0.1) _ _ c.2 in
     let f = bind_some (mark_at Comma d.0.1) _ _ d.2 in
     let g = bind_some (value_at f.0) _ _ f.2 in
-    let made : RawInst × List ℕ = (record { name = name; opcode = b.0.0; width = c.0.0; left = d.0.0; right = g.0.0 }, g.0.1) in
+    let made : RawInst × List ℕ = (record { name = name; operation = b.0.0; width = c.0.0; left = d.0.0; right = g.0.0 }, g.0.1) in
     let P = λ (y : RawInst × List ℕ). (y.0.name ≡ name) × Takes text (inst_tail y.0) y.1 in
     subst P (some_is made x g.2)
-    (refl, (a.0, mark_at-is Equals text a.0 a.1, (b.0.1, opcode_at-is a.0 b.0 b.1, (c.0.1, word_at-is b.0.1 c.0 c.1, (d.0.1, value_at-is c.0.1 d.0 d.1, (f.0, mark_at-is Comma d.0.1 f.0 f.1, (g.0.1, value_at-is f.0 g.0 g.1, refl)))))))
+    (refl, (a.0, mark_at-is Equals text a.0 a.1, (b.0.1, operation_at-is a.0 b.0 b.1, (c.0.1, word_at-is b.0.1 c.0 c.1, (d.0.1, value_at-is c.0.1 d.0 d.1, (f.0, mark_at-is Comma d.0.1 f.0 f.1, (g.0.1, value_at-is f.0 g.0 g.1, refl)))))))
 
 pub inst_at-shorter : (name text : List ℕ) (x : RawInst × List ℕ) → inst_at name text ≡ Some x → length x.1 < length text
 inst_at-shorter name text x e = omega (arith, Takes-short text (inst_tail x.0) x.1 (inst_at-is name text x e).1)
@@ -140,8 +141,8 @@ abbrev pub comma_tokens : RawParameter → List Token
 comma_tokens p = Punctuation Comma ∷ parameter_tokens p
 
 -- a token that next gave, known better
-told : (text : List ℕ) (x : Option Token × List ℕ) (token : Option Token) → next_at text ≡ Some x → x.0 ≡ token → next_at text ≡ Some (token, x.1)
-told text x token n e = n ∙ ap (λ (o : Option Token). Some (o, x.1)) e
+next-known : (text : List ℕ) (x : Option Token × List ℕ) (token : Option Token) → next_at text ≡ Some x → x.0 ≡ token → next_at text ≡ Some (token, x.1)
+next-known text x token n e = n ∙ ap (λ (o : Option Token). Some (o, x.1)) e
 
 parameters_go-is : (next : List ℕ → Read (List RawParameter)) (rest text : List ℕ) (x : List RawParameter × List ℕ) → ((s : List ℕ) (y : List RawParameter × List ℕ) → next s ≡ Some y → Takes s (flat_map comma_tokens y.0) y.1) → next_at text ≡ Some (Some (Punctuation Comma), rest) → parameters_go next rest ≡ Some x → Takes text (flat_map comma_tokens x.0) x.1
 parameters_go-is next rest text x h n e =
@@ -158,7 +159,7 @@ more_parameters_at-is (suc n) text x e =
     let a = bind_some (next_at text) _ _ e in
     let P = λ (y : List RawParameter × List ℕ). Takes text (flat_map comma_tokens y.0) y.1 in
     ⊎_elim
-    (λ (h : (is_mark_token Comma a.0.0 ≡ true) × (parameters_go (more_parameters_at n) a.0.1 ≡ Some x)). parameters_go-is (more_parameters_at n) a.0.1 text x (more_parameters_at-is n) (told text a.0 _ a.1 (is_mark-is Comma a.0.0 h.0)) h.1)
+    (λ (h : (is_mark_token Comma a.0.0 ≡ true) × (parameters_go (more_parameters_at n) a.0.1 ≡ Some x)). parameters_go-is (more_parameters_at n) a.0.1 text x (more_parameters_at-is n) (next-known text a.0 _ a.1 (is_mark-is Comma a.0.0 h.0)) h.1)
     (λ (h : (is_mark_token Comma a.0.0 ≡ false) × (some_read [] text ≡ Some x)). subst P (some_is _ _ h.1) refl)
     (chosen (is_mark_token Comma a.0.0) _ (some_read [] text) _ a.2)
 
@@ -177,7 +178,7 @@ more_parameters_at-enough zero m text p q = absurd (omega arith)
 more_parameters_at-enough (suc n) zero text p q = absurd (omega arith)
 more_parameters_at-enough (suc n) (suc m) text p q = bind-same (next_at text) _ _ (λ x e.
     same_where (is_mark_token Comma x.0) (parameters_go (more_parameters_at n) x.1) (parameters_go (more_parameters_at m) x.1) (some_read [] text) (λ h.
-    let short = next-shorter text (Punctuation Comma) x.1 (told text x _ e (is_mark-is Comma x.0 h)) in
+    let short = next-shorter text (Punctuation Comma) x.1 (next-known text x _ e (is_mark-is Comma x.0 h)) in
     parameters_go-same (more_parameters_at n) (more_parameters_at m) x.1 (λ s k. more_parameters_at-enough n m s (omega (arith, short)) (omega (arith, short)))))
 
 pub parameters-more : (front : List RawParameter) (text : List ℕ) (t : Option Token × List ℕ) (x : RawParameter × List ℕ) (total : Read (List RawParameter)) → next_at text ≡ Some t → is_mark_token Comma t.0 ≡ true → parameter_at t.1 ≡ Some x
@@ -185,12 +186,12 @@ pub parameters-more : (front : List RawParameter) (text : List ℕ) (t : Option 
 unfolding more_parameters_at
 parameters-more front text t x total n m i so_far =
     let one : more_parameters_at (suc (length text)) text ≡ (more_parameters_at (length text) x.1 >>= λ others. Some (x.0 ∷ others.0, others.1)) = rw (n, m, i) refl in
-    let short = next-shorter text (Punctuation Comma) t.1 (told text t _ n (is_mark-is Comma t.0 m)) in
+    let short = next-shorter text (Punctuation Comma) t.1 (next-known text t _ n (is_mark-is Comma t.0 m)) in
     let enough = more_parameters_at-enough (length text) (suc (length x.1)) x.1 (omega (arith, short, parameter_at-shorter t.1 x i)) (omega arith) in
     sym (regroup front x.0 (more_parameters_at (suc (length x.1)) x.1)) ∙ ap (λ (r : Read (List RawParameter)). with_front front (r >>= λ others. Some (x.0 ∷ others.0, others.1))) (sym enough) ∙ ap (λ (r : Read (List RawParameter)). with_front front r) (sym one) ∙ so_far
 
 pub parameters-smaller : (text : List ℕ) (t : Option Token × List ℕ) (x : RawParameter × List ℕ) → next_at text ≡ Some t → is_mark_token Comma t.0 ≡ true → parameter_at t.1 ≡ Some x → length x.1 < length text
-parameters-smaller text t x n m i = omega (arith, next-shorter text (Punctuation Comma) t.1 (told text t _ n (is_mark-is Comma t.0 m)), parameter_at-shorter t.1 x i)
+parameters-smaller text t x n m i = omega (arith, next-shorter text (Punctuation Comma) t.1 (next-known text t _ n (is_mark-is Comma t.0 m)), parameter_at-shorter t.1 x i)
 
 pub parameters-no_token : (front : List RawParameter) (text : List ℕ) (total : Read (List RawParameter)) (e : ModuleError) → Fails e (next_at text) → with_front front (more_parameters_at (suc (length text)) text) ≡ total → Fails e total
 unfolding more_parameters_at
@@ -229,7 +230,7 @@ unfolding parameters_at
 parameters_at-is text x e =
     let a = bind_some (next_at text) _ _ e in
     ⊎_elim
-    (λ (h : (is_mark_token CloseParen a.0.0 ≡ true) × (some_read [] a.0.1 ≡ Some x)). subst (λ (y : List RawParameter × List ℕ). Takes text (parameters_tokens y.0 ++ Punctuation CloseParen ∷ []) y.1) (some_is _ _ h.1) (a.0.1, told text a.0 _ a.1 (is_mark-is CloseParen a.0.0 h.0), refl))
+    (λ (h : (is_mark_token CloseParen a.0.0 ≡ true) × (some_read [] a.0.1 ≡ Some x)). subst (λ (y : List RawParameter × List ℕ). Takes text (parameters_tokens y.0 ++ Punctuation CloseParen ∷ []) y.1) (some_is _ _ h.1) (a.0.1, next-known text a.0 _ a.1 (is_mark-is CloseParen a.0.0 h.0), refl))
     (λ (h : (is_mark_token CloseParen a.0.0 ≡ false) × (some_parameters_at text ≡ Some x)). some_parameters-is text x h.1)
     (chosen (is_mark_token CloseParen a.0.0) (some_read [] a.0.1) (some_parameters_at text) _ a.2)
 
@@ -292,9 +293,9 @@ functions_at-is zero text fs e = absurd cc
 functions_at-is (suc n) text fs e =
     let a = bind_some (next_at text) _ _ e in
     ⊎_elim
-    (λ (h : (is_end a.0.0 ≡ true) × (some_functions [] ≡ Some fs)). subst (λ (gs : List RawFunction). TakesAll text (flat_map function_tokens gs)) (some_is [] fs h.1) (text, a.0.1, refl, told text a.0 None a.1 (is_end-is a.0.0 h.0)))
+    (λ (h : (is_end a.0.0 ≡ true) × (some_functions [] ≡ Some fs)). subst (λ (gs : List RawFunction). TakesAll text (flat_map function_tokens gs)) (some_is [] fs h.1) (text, a.0.1, refl, next-known text a.0 None a.1 (is_end-is a.0.0 h.0)))
     (λ (h : (is_end a.0.0 ≡ false) × (cond (is_word_token (codes "define") a.0.0) (functions_go (functions_at n) a.0.1) None ≡ Some fs)). ⊎_elim
-    (λ (k : (is_word_token (codes "define") a.0.0 ≡ true) × (functions_go (functions_at n) a.0.1 ≡ Some fs)). functions_go-is (functions_at n) a.0.1 text fs (functions_at-is n) (told text a.0 _ a.1 (is_word-is (codes "define") a.0.0 k.0)) k.1)
+    (λ (k : (is_word_token (codes "define") a.0.0 ≡ true) × (functions_go (functions_at n) a.0.1 ≡ Some fs)). functions_go-is (functions_at n) a.0.1 text fs (functions_at-is n) (next-known text a.0 _ a.1 (is_word-is (codes "define") a.0.0 k.0)) k.1)
     (λ (k : (is_word_token (codes "define") a.0.0 ≡ false) × (none_read ≡ Some fs)). absurd (let no : none_read ≡ Some fs = k.1 in cc))
     (chosen (is_word_token (codes "define") a.0.0) (functions_go (functions_at n) a.0.1) none_read _ h.1))
     (chosen (is_end a.0.0) (some_functions []) _ _ a.2)
@@ -308,7 +309,7 @@ functions_at-enough zero m text p q = absurd (omega arith)
 functions_at-enough (suc n) zero text p q = absurd (omega arith)
 functions_at-enough (suc n) (suc m) text p q = bind-same (next_at text) _ _ (λ x e.
     ap (cond (is_end x.0) (some_functions [])) (same_where (is_word_token (codes "define") x.0) (functions_go (functions_at n) x.1) (functions_go (functions_at m) x.1) None (λ h.
-    let short = next-shorter text (Word (codes "define")) x.1 (told text x _ e (is_word-is (codes "define") x.0 h)) in
+    let short = next-shorter text (Word (codes "define")) x.1 (next-known text x _ e (is_word-is (codes "define") x.0 h)) in
     functions_go-same (functions_at n) (functions_at m) x.1 (λ s k. functions_at-enough n m s (omega (arith, short)) (omega (arith, short))))))
 
 -- functions that were read before, and those that are still read
@@ -321,7 +322,7 @@ regroup_functions front f (Some fs) = ap (λ (xs : List RawFunction). Some xs) (
 regroup_functions front f None = refl
 
 pub functions-smaller : (text : List ℕ) (t : Option Token × List ℕ) (x : RawFunction × List ℕ) → next_at text ≡ Some t → is_word_token (codes "define") t.0 ≡ true → function_at t.1 ≡ Some x → length x.1 < length text
-functions-smaller text t x n w i = omega (arith, next-shorter text (Word (codes "define")) t.1 (told text t _ n (is_word-is (codes "define") t.0 w)), function_at-shorter t.1 x i)
+functions-smaller text t x n w i = omega (arith, next-shorter text (Word (codes "define")) t.1 (next-known text t _ n (is_word-is (codes "define") t.0 w)), function_at-shorter t.1 x i)
 
 pub functions-more : (front : List RawFunction) (text : List ℕ) (t : Option Token × List ℕ) (x : RawFunction × List ℕ) (total : Option (List RawFunction)) → next_at text ≡ Some t → is_end t.0 ≡ false → is_word_token (codes "define") t.0 ≡ true → function_at t.1 ≡ Some x
     → all_with front (functions_at (suc (length text)) text) ≡ total → all_with (front ++ x.0 ∷ []) (functions_at (suc (length x.1)) x.1) ≡ total

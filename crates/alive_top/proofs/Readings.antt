@@ -1,20 +1,24 @@
--- Texts have one reading, and what is written for one has outcomes.
-use Rattle.std.proofs.Common.{◌≡◌, ℕ, zero, suc, ◌<◌, List, [], ◌∷◌, Some, length, refl, sym, ap, subst, ◌∙◌, arith, Contains}
+-- Texts have one reading; what is written for one has outcomes; what is read and written uses what is assigned.
+use Rattle.std.proofs.Common.{◌≡◌, ℕ, zero, suc, ◌<◌, List, [], ◌∷◌, length, refl, sym, ap, subst, ◌∙◌, arith, Contains}
 use Rattle.std.specs.Prelude.{slice_index_or}
 use Rattle.ir_core.specs.declared.module.Module.{Module}
 use Rattle.ir_core.specs.declared.module.Entry.{Entry}
 use Rattle.ir_core.specs.declared.module.Entry.TheVariants as entries
 use Rattle.ir_core.specs.declared.module.Function.{Function}
 use Rattle.alive_top.specs.Grammar.{RawFunction}
-use Rattle.alive_top.specs.Meaning.{EntriesMean, ModuleMeans, Reads}
+use Rattle.alive_top.specs.Meaning.{EntriesMean}
 use Rattle.alive_top.specs.Cleaning.{EntriesCleaned}
+use Rattle.alive_top.specs.Commands.{IsOptimised}
+use Rattle.alive_top.specs.Strategy.{Tally}
 use Rattle.alive_top.specs.WellFormed.{IsWellFormed}
-use Rattle.alive_top.specs.Laws.{ModulesWrittenHaveOutcomes, TextsHaveOneReading}
+use Rattle.alive_top.specs.Laws.{ModulesWrittenHaveOutcomes, UsesReadAreAssigned, UsesWrittenAreAssigned, TextsHaveOneReading}
 use Rattle.alive_top.proofs.Basics.{some_is}
 use Rattle.alive_top.proofs.Functions.{function_complete}
 use Rattle.alive_top.proofs.RefinementHeld.{has_outcomes}
 use Rattle.alive_top.proofs.RefinementMeant.{well_formed}
 use Rattle.alive_top.proofs.RefinementKept.{cleaned_well_formed}
+use Rattle.alive_top.proofs.RefinementModules.{contained_well_formed}
+use Rattle.alive_top.proofs.RefinementUses.{uses_are_assigned}
 use Rattle.alive_top.proofs.Reproducing.{functions_at-again, read_as}
 
 abbrev EntryIsWellFormed : Entry → Type 0
@@ -28,10 +32,23 @@ kept_well_formed (raw ∷ raws) [] (e ∷ es) h c k d lt = absurd h
 kept_well_formed (raw ∷ raws) (entries.Function f ∷ ds) (entries.Function g ∷ es) h c zero d lt = cleaned_well_formed f g (well_formed raw f h.0) c.0
 kept_well_formed (raw ∷ raws) (entries.Function f ∷ ds) (entries.Function g ∷ es) h c (suc k) d lt = kept_well_formed raws ds es h.1 c.1 k d (omega arith)
 
-pub written_has_outcomes : ModulesWrittenHaveOutcomes
-written_has_outcomes bytes new tallies f is h args a n =
+written_well_formed : (bytes : List ℕ) (new : Module) (tallies : List Tally) (f : Function) → IsOptimised bytes new tallies → Contains new.entries (entries.Function f) → IsWellFormed f
+written_well_formed bytes new tallies f is h =
     let reads = is.source.reads in
-    has_outcomes f (subst EntryIsWellFormed h.2 (kept_well_formed reads.functions is.read.entries new.entries reads.means.entries is.strategy.cleaned h.0 (entries.Function f) h.1)) args a n
+    subst EntryIsWellFormed h.2 (kept_well_formed reads.functions is.read.entries new.entries reads.means.entries is.strategy.cleaned h.0 (entries.Function f) h.1)
+
+pub written_has_outcomes : ModulesWrittenHaveOutcomes
+written_has_outcomes bytes new tallies f is h args a n = has_outcomes f (written_well_formed bytes new tallies f is h) args a n
+
+-- ---- registers are assigned where they are used
+
+pub uses_read : UsesReadAreAssigned
+uses_read bytes m f reads h = uses_are_assigned f (contained_well_formed reads.functions m f reads.means h)
+
+pub uses_written : UsesWrittenAreAssigned
+uses_written bytes new tallies f is h = uses_are_assigned f (written_well_formed bytes new tallies f is h)
+
+-- ---- one reading
 
 entries_one : (raws : List RawFunction) (ds es : List Entry) → EntriesMean raws ds → EntriesMean raws es → ds ≡ es
 entries_one [] [] [] h c = refl

@@ -28,7 +28,8 @@ use Rattle.alive_top.specs.Meaning.{StandsBefore}
 use Rattle.alive_top.specs.Cleaning.{IsNeeded, Marks, marks_at, moved_register, moved_operand, moved_op, moved_end, kept_insts, kept_function, AreNeeded, IsCleaned}
 use Rattle.alive_top.specs.WellFormed.{OperandFits, OpFits, EndFits, CodeFits, IsWellFormed}
 use Rattle.alive_top.proofs.RefinementPieces.{marked_before, count-kept, count-dropped, count-below, contains_first, contains_second, mapped, chained, one, is_one}
-use Rattle.alive_top.proofs.RefinementHeld.{held-new, held-other, AreHeld, held_next, held_first, op_gives, op_any, goes_on}
+use Rattle.alive_top.proofs.RefinementHeld.{held-new, held-other, AreHeld, held_next, held_first, op_gives}
+use Rattle.ir_core.proofs.ZeroOutcomes.{op_any, goes_on}
 
 -- ---- marks of registers
 

@@ -1,20 +1,20 @@
 -- What the registers of a straight-line function hold.
-use Rattle.std.proofs.Common.{◌≡◌, ℕ, zero, suc, ◌<◌, ◌^◌, cond, ◌==◌, ◌⊎◌, inl, inr, List, [], ◌∷◌, Option, None, Some, refl, sym, ap, subst, ◌∙◌, arith}
+use Rattle.std.proofs.Common.{◌≡◌, ℕ, zero, suc, ◌<◌, cond, ◌==◌, ◌⊎◌, inl, inr, List, [], ◌∷◌, Some, refl, sym, ap, subst, ◌∙◌, arith}
 use Rattle.std.specs.Prelude.{slice_get, option_map, ◌≢◌}
 use Rattle.std.proofs.lemmas.Bool.{eq-eqb, ne_eqb, cases_eq, and_from, and_right}
-use Rattle.std.proofs.lemmas.Nat.{pow_pos}
-use Rattle.ops.specs.Instruction.{instruction}
+use Rattle.ops.specs.Instruction.{instruction, on_numbers, on_poison}
 use Rattle.ops.specs.declared.value.Value.{Value}
 use Rattle.ops.specs.declared.value.Value.TheVariants as values
 use Rattle.ops.specs.declared.value.Effect.{Effect}
 use Rattle.ops.specs.declared.value.Effect.TheVariants as effects
 use Rattle.ops.specs.declared.opcode.Opcode.{Opcode}
-use Rattle.ops.specs.declared.opcode.Opcode.TheVariants.{Add, Sub, And, Or, Xor}
-use Rattle.ops.specs.Laws.{HasNoDivision}
-use Rattle.ops.proofs.Instructions.{instruction-defined}
+use Rattle.ops.specs.declared.opcode.Flags.{Flags}
+use Rattle.ops.specs.declared.opcode.Opcode.TheVariants.{Add, Sub, Mul, UDiv, SDiv, URem, SRem, Shl, LShr, AShr, And, Or, Xor}
+use Rattle.ops.specs.Laws.{IsDivision}
 use Rattle.ir_core.specs.Names.{width_of}
 use Rattle.ir_core.specs.Refines.{AreArguments}
-use Rattle.ir_core.specs.Run.{Registers, arguments, holding, Ending, Undefines, Returns, Goes, GoesOn, Leads, OperandGives, OpGives, Follows, RunsFrom, AnyNumber, OnlyZero, HasOutcome, HasZeroOutcome}
+use Rattle.ir_core.specs.Run.{Registers, arguments, holding, Returns, OperandGives, OpGives, Follows, OnlyZero, HasOutcome, HasZeroOutcome}
+use Rattle.ir_core.proofs.ZeroOutcomes.{zero_is_outcome}
 use Rattle.ir_core.specs.declared.module.Function.{Function}
 use Rattle.ir_core.specs.declared.module.Parameter.{Parameter}
 use Rattle.ir_core.specs.declared.module.Block.{Block}
@@ -74,23 +74,50 @@ operand_gives f k w held (operands.Number n) h fits = (values.Bits n, refl)
 operand_gives f k w held operands.Undef h fits = (values.Bits (record { width = w; number = 0 }), (0, refl, refl))
 operand_gives f k w held operands.Poison h fits = (values.Poison, refl)
 
-defined : (e : Effect) → e ≢ effects.Undefined → (v : Value) × (e ≡ effects.Gives v)
-defined effects.Undefined h = absurd (h refl)
-defined (effects.Gives v) h = (v, refl)
+-- an instruction that does not divide gives a value
+numbers_give : (op : Opcode) (flags : Flags) (N a b : ℕ) → ¬ IsDivision op → (v : Value) × (on_numbers op flags N a b ≡ effects.Gives v)
+unfolding on_numbers
+numbers_give Add flags N a b h = (_, refl)
+numbers_give Sub flags N a b h = (_, refl)
+numbers_give Mul flags N a b h = (_, refl)
+numbers_give UDiv flags N a b h = absurd (h tt)
+numbers_give SDiv flags N a b h = absurd (h tt)
+numbers_give URem flags N a b h = absurd (h tt)
+numbers_give SRem flags N a b h = absurd (h tt)
+numbers_give Shl flags N a b h = (_, refl)
+numbers_give LShr flags N a b h = (_, refl)
+numbers_give AShr flags N a b h = (_, refl)
+numbers_give And flags N a b h = (_, refl)
+numbers_give Or flags N a b h = (_, refl)
+numbers_give Xor flags N a b h = (_, refl)
 
--- none of the instructions divides
-no_division : (op : Opcode) → HasNoDivision op
-no_division Add = tt
-no_division Sub = tt
-no_division And = tt
-no_division Or = tt
-no_division Xor = tt
+poison_gives : (op : Opcode) (N : ℕ) (b : Value) → ¬ IsDivision op → (v : Value) × (on_poison op N b ≡ effects.Gives v)
+unfolding on_poison
+poison_gives Add N b h = (_, refl)
+poison_gives Sub N b h = (_, refl)
+poison_gives Mul N b h = (_, refl)
+poison_gives UDiv N b h = absurd (h tt)
+poison_gives SDiv N b h = absurd (h tt)
+poison_gives URem N b h = absurd (h tt)
+poison_gives SRem N b h = absurd (h tt)
+poison_gives Shl N b h = (_, refl)
+poison_gives LShr N b h = (_, refl)
+poison_gives AShr N b h = (_, refl)
+poison_gives And N b h = (_, refl)
+poison_gives Or N b h = (_, refl)
+poison_gives Xor N b h = (_, refl)
+
+instruction_gives : (op : Opcode) (flags : Flags) (N : ℕ) (x y : Value) → ¬ IsDivision op → (v : Value) × (instruction op flags N x y ≡ effects.Gives v)
+unfolding instruction
+instruction_gives op flags N (values.Bits a) (values.Bits b) h = numbers_give op flags N a.number b.number h
+instruction_gives op flags N (values.Bits a) values.Poison h = poison_gives op N values.Poison h
+instruction_gives op flags N values.Poison y h = poison_gives op N y h
 
 pub op_gives : (f : Function) (k w : ℕ) (held : Registers) (op : Op) → AreHeld f k held → OpFits f k w op → (v : Value) × OpGives OnlyZero held w op (effects.Gives v)
 op_gives f k w held (Binary op flags a b) h fits =
     let x : (v : Value) × OperandGives OnlyZero held w a v = operand_gives f k w held a h fits.0 in
     let y : (v : Value) × OperandGives OnlyZero held w b v = operand_gives f k w held b h fits.1 in
-    let r : (v : Value) × (instruction op flags w x.0 y.0 ≡ effects.Gives v) = defined (instruction op flags w x.0 y.0) (instruction-defined op flags w x.0 y.0 (no_division op)) in
+    let r : (v : Value) × (instruction op flags w x.0 y.0 ≡ effects.Gives v) = instruction_gives op flags w x.0 y.0 fits.2 in
     (r.0, (x.0, y.0, x.1, y.1, sym r.1))
 
 -- so does the pass through the block return a value
@@ -102,48 +129,6 @@ returns f k (i ∷ insts) t held h fits =
     let r : (v : Value) × OpGives OnlyZero held i.width i.op (effects.Gives v) = op_gives f k i.width held i.op h fits.0 in
     let rest : (v : Value) × Follows OnlyZero f 0 (suc k) insts t (holding held 0 k r.0) (Returns v) = returns f (suc k) insts t (holding held 0 k r.0) (held_next f k held r.0 h) fits.1 in
     (rest.0, (effects.Gives r.0, r.1, rest.1))
-
--- ---- what holds of the number 0 holds of some number
-
-pub operand_any : (held : Registers) (w : ℕ) (a : Operand) (v : Value) → OperandGives OnlyZero held w a v → OperandGives AnyNumber held w a v
-operand_any held w (operands.Register r) v h = h
-operand_any held w (operands.Number n) v h = h
-operand_any held w operands.Undef v h = (h.0, subst (λ n. n < 2 ^ w) (sym h.1) (pow_pos w), h.2)
-operand_any held w operands.Poison v h = h
-
-pub op_any : (held : Registers) (w : ℕ) (op : Op) (e : Effect) → OpGives OnlyZero held w op e → OpGives AnyNumber held w op e
-op_any held w (Binary op flags a b) e h = (h.0, h.1, operand_any held w a h.0 h.2, operand_any held w b h.1 h.3, h.4)
-
-abbrev pub Onward : (Value → Type 0) → (Value → Type 0) → Type 0
-Onward next later = (v : Value) → next v → later v
-
-pub goes_on : (next later : Value → Type 0) (e : Effect) (end : Ending) → Onward next later → GoesOn next e end → GoesOn later e end
-goes_on next later effects.Undefined end f g = g
-goes_on next later (effects.Gives v) end f g = f v g
-
-follows_any : (f : Function) (b k : ℕ) (insts : List Inst) (t : Terminator) (held : Registers) (end : Ending) → Follows OnlyZero f b k insts t held end → Follows AnyNumber f b k insts t held end
-follows_any f b k [] (terminators.Return a) held end h = (h.0, operand_any held f.width a h.0 h.1, h.2)
-follows_any f b k (i ∷ insts) t held end h = (
-  h.0,
-  op_any held i.width i.op h.0 h.1,
-  goes_on (λ v. Follows OnlyZero f b (suc k) insts t (holding held b k v) end) (λ v. Follows AnyNumber f b (suc k) insts t (holding held b k v) end) h.0 end (λ v g. follows_any f b (suc k) insts t (holding held b k v) end g) h.2,
-)
-
-leads : (next later : ℕ → Registers → Outcome → Type 0) (end : Ending) (o : Outcome) → ((c : ℕ) (held : Registers) → next c held o → later c held o) → Leads next end o → Leads later end o
-leads next later Undefines o f g = g
-leads next later (Returns v) o f g = g
-leads next later (Goes c held) o f g = f c held g
-
-runs_any : (f : Function) (n : ℕ) (from : Option ℕ) (b : ℕ) (held : Registers) (o : Outcome) → RunsFrom OnlyZero f n from b held o → RunsFrom AnyNumber f n from b held o
-runs_any f zero from b held o h = h
-runs_any f (suc n) from b held o h = (
-  h.0,
-  (h.1.0, h.1.1, follows_any f b 0 h.1.0.insts h.1.0.end held h.0 h.1.2),
-  leads (RunsFrom OnlyZero f n (Some b)) (RunsFrom AnyNumber f n (Some b)) h.0 o (λ c there g. runs_any f n (Some b) c there o g) h.2,
-)
-
-pub zero_is_outcome : (f : Function) (args : List Value) (n : ℕ) (o : Outcome) → HasZeroOutcome f args n o → HasOutcome f args n o
-zero_is_outcome f args n o h = runs_any f n None 0 (arguments args) o h
 
 outcome_of_one : (f : Function) (block : Block) → CodeFits (one f block) 0 block.insts block.end → (args : List Value) → AreArguments f.parameters args → (n : ℕ) → (o : Outcome) × HasZeroOutcome (one f block) args n o
 outcome_of_one f block fits args a zero = (outcomes.Running 0, refl)

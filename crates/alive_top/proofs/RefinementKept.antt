@@ -60,7 +60,7 @@ module _ (f : Function) (block : Block) (keeps : List Bool) where
   operand_fits k c w operands.Poison at fits m = tt
 
   op_fits : (k c w : ℕ) (op : Op) → c ≡ marked_before k keeps → OpFits old k w op → OpStays (keeps ∷ []) op → OpFits new c w (moved_op (keeps ∷ []) op)
-  op_fits k c w (Binary op flags a b) at fits m = (operand_fits k c w a at fits.0 m.0, operand_fits k c w b at fits.1 m.1)
+  op_fits k c w (Binary op flags a b) at fits m = (operand_fits k c w a at fits.0 m.0, operand_fits k c w b at fits.1 m.1, fits.2)
 
   end_fits : (k c : ℕ) (t : Terminator) → c ≡ marked_before k keeps → EndFits old k t → EndStays (keeps ∷ []) t → EndFits new c (moved_end (keeps ∷ []) t)
   end_fits k c (terminators.Return a) at fits m = operand_fits k c f.width a at fits m

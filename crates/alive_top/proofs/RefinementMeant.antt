@@ -8,7 +8,11 @@ use Rattle.ir_core.specs.declared.module.Inst.{Inst}
 use Rattle.ir_core.specs.declared.module.Operand.{Operand}
 use Rattle.ir_core.specs.declared.module.Operand.TheVariants as operands
 use Rattle.ir_core.specs.declared.module.Terminator.TheVariants as terminators
-use Rattle.alive_top.specs.Grammar.{RawValue, Register_named, Number_written, True, False, Undef, Poison, RawInst, RawFunction}
+use Rattle.ops.specs.Laws.{IsDivision}
+use Rattle.alive_top.specs.declared.reader.raw.Operation.{Operation}
+use Rattle.alive_top.specs.declared.reader.raw.Operation.TheVariants.{Add, Sub, And, Or, Xor}
+use Rattle.alive_top.specs.Operations.{opcode_of}
+use Rattle.alive_top.specs.Grammar.{RawValue, NamedRegister, WrittenNumber, True, False, Undef, Poison, RawInst, RawFunction}
 use Rattle.alive_top.specs.Meaning.{IsLiteral, decimal_value, ValueMeans, InstMeans, InstsMean, FunctionMeans}
 use Rattle.alive_top.specs.WellFormed.{OperandFits, OpFits, CodeFits, IsWellFormed}
 
@@ -21,10 +25,10 @@ bit_fits width n b lt w e =
     subst (λ (m : Number). (m.width ≡ width) × (m.number < 2 ^ width)) (sym e) (sym w, subst (λ k. b < 2 ^ k) (sym w) lt)
 
 operand_fits : (f : Function) (k w : ℕ) (raw : RawValue) (a : Operand) → ValueMeans f k w raw a → OperandFits f k w a
-operand_fits f k w (Register_named text) (operands.Register r) h = (h.1, h.2)
-operand_fits f k w (Register_named text) (operands.Number n) h = absurd h
-operand_fits f k w (Number_written text) (operands.Register r) h = absurd h
-operand_fits f k w (Number_written text) (operands.Number n) h = (h.0, literal_below w n.number text h.1)
+operand_fits f k w (NamedRegister text) (operands.Register r) h = (h.1, h.2)
+operand_fits f k w (NamedRegister text) (operands.Number n) h = absurd h
+operand_fits f k w (WrittenNumber text) (operands.Register r) h = absurd h
+operand_fits f k w (WrittenNumber text) (operands.Number n) h = (h.0, literal_below w n.number text h.1)
 operand_fits f k w True (operands.Register r) h = absurd h
 operand_fits f k w True (operands.Number n) h = bit_fits w n 1 (omega arith) h.0 h.1
 operand_fits f k w False (operands.Register r) h = absurd h
@@ -36,9 +40,17 @@ operand_fits f k w Poison (operands.Number n) h = absurd h
 operand_fits f k w raw operands.Undef h = tt
 operand_fits f k w raw operands.Poison h = tt
 
+-- what is read does not divide
+no_division : (operation : Operation) → ¬ IsDivision (opcode_of operation)
+no_division Add h = h
+no_division Sub h = h
+no_division And h = h
+no_division Or h = h
+no_division Xor h = h
+
 op_fits : (f : Function) (k : ℕ) (raw : RawInst) (i : Inst) → InstMeans f k raw i → OpFits f k i.width i.op
 op_fits f k raw i h =
-    subst (OpFits f k i.width) (sym h.op) (operand_fits f k i.width raw.left h.left h.left_means, operand_fits f k i.width raw.right h.right h.right_means)
+    subst (OpFits f k i.width) (sym h.op) (operand_fits f k i.width raw.left h.left h.left_means, operand_fits f k i.width raw.right h.right h.right_means, no_division raw.operation)
 
 code_fits : (f : Function) (k : ℕ) (raws : List RawInst) (insts : List Inst) (raw : RawValue) (a : Operand) → InstsMean f k raws insts → ValueMeans f (k + length insts) f.width raw a → CodeFits f k insts (terminators.Return a)
 code_fits f k [] [] raw a h g = operand_fits f k f.width raw a (subst (λ m. ValueMeans f m f.width raw a) (omega arith) g)

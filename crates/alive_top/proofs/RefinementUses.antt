@@ -1,8 +1,11 @@
 -- In a well-formed function each register is assigned where it is used.
-use Rattle.std.proofs.Common.{◌≡◌, ℕ, zero, suc, ◌+◌, inr, List, [], ◌∷◌, length, Some, sym, ap, subst, ◌∙◌, arith, All}
-use Rattle.std.specs.Prelude.{slice_get}
-use Rattle.ir_core.specs.Assigned.{IsAssigned, OperandIsAssigned, operands_of, operands_at_end, UsesAreAssigned}
+use Rattle.std.proofs.Common.{◌≡◌, ℕ, zero, suc, ◌+◌, inr, ◌<◌, List, [], ◌∷◌, length, Some, sym, ap, subst, ◌∙◌, arith, All}
+use Rattle.std.specs.Prelude.{slice_get, option_map}
+use Rattle.std.proofs.lemmas.Option.{slice_get_within}
+use Rattle.ir_core.specs.Names.{width_of}
+use Rattle.ir_core.specs.Assigned.{HasInst, IsAssigned, OperandIsAssigned, operands_of, operands_at_end, UsesAreAssigned}
 use Rattle.ir_core.specs.declared.module.Function.{Function}
+use Rattle.ir_core.specs.declared.module.Parameter.{Parameter}
 use Rattle.ir_core.specs.declared.module.Block.{Block}
 use Rattle.ir_core.specs.declared.module.Inst.{Inst}
 use Rattle.ir_core.specs.declared.module.Op.{Op}
@@ -15,14 +18,26 @@ use Rattle.ir_core.specs.declared.module.Terminator.{Terminator}
 use Rattle.ir_core.specs.declared.module.Terminator.TheVariants as terminators
 use Rattle.alive_top.specs.Meaning.{StandsBefore}
 use Rattle.alive_top.specs.WellFormed.{OperandFits, OpFits, EndFits, CodeFits, IsWellFormed}
-use Rattle.alive_top.proofs.RefinementPieces.{all_one, all_two, only}
+use Rattle.alive_top.proofs.RefinementPieces.{all_one, all_two, mapped, chained, only}
 
-register_assigned : (f : Function) (b k : ℕ) (r : Register) → b ≡ 0 → StandsBefore k r → IsAssigned f r b k
-register_assigned f b k (registers.Parameter p) e s = tt
-register_assigned f b k (registers.Result d j) e s = λ before walk. inr (s.0 ∙ sym e, s.1)
+-- a register that has a width is one of the function's
+parameter_there : (f : Function) (p w : ℕ) → width_of f (registers.Parameter p) ≡ Some w → p < length f.parameters
+parameter_there f p w h =
+    let x = mapped (λ (q : Parameter). q.width) (slice_get f.parameters p) w h in
+    slice_get_within f.parameters p x.0 x.1
+
+inst_there : (f : Function) (d j w : ℕ) → width_of f (registers.Result d j) ≡ Some w → HasInst f d j
+inst_there f d j w h =
+    let x = chained (λ (block : Block). option_map (λ (i : Inst). i.width) (slice_get block.insts j)) (slice_get f.blocks d) w h in
+    let y = mapped (λ (i : Inst). i.width) (slice_get x.0.insts j) w x.2 in
+    (x.0, x.1, slice_get_within x.0.insts j y.0 y.1)
+
+register_assigned : (f : Function) (b k w : ℕ) (r : Register) → b ≡ 0 → width_of f r ≡ Some w → StandsBefore k r → IsAssigned f r b k
+register_assigned f b k w (registers.Parameter p) e h s = parameter_there f p w h
+register_assigned f b k w (registers.Result d j) e h s = (inst_there f d j w h, λ before walk. inr (s.0 ∙ sym e, s.1))
 
 operand_assigned : (f : Function) (b k w : ℕ) (a : Operand) → b ≡ 0 → OperandFits f k w a → OperandIsAssigned f b k a
-operand_assigned f b k w (operands.Register r) e fits = register_assigned f b k r e fits.1
+operand_assigned f b k w (operands.Register r) e fits = register_assigned f b k w r e fits.0 fits.1
 operand_assigned f b k w (operands.Number n) e fits = tt
 operand_assigned f b k w operands.Undef e fits = tt
 operand_assigned f b k w operands.Poison e fits = tt

@@ -14,7 +14,7 @@ use Rattle.ir_core.specs.declared.module.Terminator.TheVariants as terminators
 use Rattle.alive_top.specs.declared.reader.names.Entity.{Entity}
 use Rattle.alive_top.specs.declared.reader.names.Entity.TheVariants as entities
 use Rattle.alive_top.specs.Meaning.{StandsBefore}
-use Rattle.alive_top.specs.Resolving.{Known, register_at}
+use Rattle.alive_top.specs.Resolving.{Known, register_at_place}
 use Rattle.alive_top.proofs.Things.{key, entity, keys, Thing, thing_name, thing_entity, known_from, keys-known, entities-known}
 
 -- ---- places in lists
@@ -114,12 +114,12 @@ parameter_within (x ∷ ps) zero w h = omega arith
 parameter_within (x ∷ ps) (suc p) w h = omega (arith, parameter_within ps p w h)
 
 -- the register at a place
-at_parameter : (n place : ℕ) → place < n → register_at n place ≡ registers.Parameter place
-unfolding register_at
+at_parameter : (n place : ℕ) → place < n → register_at_place n place ≡ registers.Parameter place
+unfolding register_at_place
 at_parameter n place lt = ap (λ (b : Bool). cond b (registers.Parameter place) (registers.Result 0 (place - n - 1))) (lt-ltb place n lt)
 
-at_result : (n j : ℕ) → register_at n (suc (n + j)) ≡ registers.Result 0 j
-unfolding register_at
+at_result : (n j : ℕ) → register_at_place n (suc (n + j)) ≡ registers.Result 0 j
+unfolding register_at_place
 at_result n j =
     ap (λ (b : Bool). cond b (registers.Parameter (suc (n + j))) (registers.Result 0 (suc (n + j) - n - 1))) (le-ltb (suc (n + j)) n (omega arith))
     ∙ ap (λ (k : ℕ). registers.Result 0 k) (omega arith)
@@ -188,7 +188,7 @@ module _ (name : List ℕ) (width : ℕ) (ps : List Parameter) (is : List Inst) 
 
   -- what is called by an identifier so far, is a register before here
   pub register_sound : (k : ℕ) (known rest : List Known) (i w : ℕ) (d : Identifier) → whole ≡ known ++ rest → length known ≡ suc (length ps + k) → slice_get known i ≡ Some (d, entities.Register w)
-      → RegisterIs f k w d (register_at (length ps) i)
+      → RegisterIs f k w d (register_at_place (length ps) i)
   register_sound k known rest i w d parts len h =
       let here : slice_get whole i ≡ Some (d, entities.Register w) = ap (λ (l : List Known). slice_get l i) parts ∙ get_prefix known rest i (d, entities.Register w) h in
       let within : i < length known = slice_get_within known i (d, entities.Register w) h in
@@ -199,14 +199,14 @@ module _ (name : List ℕ) (width : ℕ) (ps : List Parameter) (is : List Inst) 
             let j = i - length ps - 1 in
             let is_place : i ≡ suc (length ps + j) = omega arith in
             let there : slice_get whole (suc (length ps + j)) ≡ Some (d, entities.Register w) = ap (slice_get whole) (sym is_place) ∙ here in
-            subst (RegisterIs f k w d) (sym (at_result (length ps) j) ∙ ap (register_at (length ps)) (sym is_place)) (result_is k j w d (omega arith) there)
+            subst (RegisterIs f k w d) (sym (at_result (length ps) j) ∙ ap (register_at_place (length ps)) (sym is_place)) (result_is k j w d (omega arith) there)
       ]
 
   -- a register before here is called so by what is known
   pub record CalledAt (known : List Known) (w : ℕ) (d : Identifier) (r : Register) : Type 0 where
     pub place : ℕ
     pub there : slice_get known place ≡ Some (d, entities.Register w)
-    pub register : register_at (length ps) place ≡ r
+    pub register : register_at_place (length ps) place ≡ r
 
   pub register_complete : (k : ℕ) (known rest : List Known) (w : ℕ) (d : Identifier) (r : Register) → whole ≡ known ++ rest → length known ≡ suc (length ps + k) → RegisterIs f k w d r → CalledAt known w d r
   register_complete k known rest w d (registers.Parameter p) parts len h =

@@ -9,16 +9,17 @@ use Rattle.alive_top.proofs.Basics.{some_is}
 use Rattle.std.specs.List.{flat_map}
 use Rattle.std.proofs.lemmas.Slice.Eq.{bytes_eq-Decides}
 use Rattle.std.proofs.lemmas.List.Concat.{flat_map-cons}
-use Rattle.ops.specs.declared.opcode.Opcode.{Opcode}
-use Rattle.ops.specs.declared.opcode.Opcode.TheVariants.{Add, Sub, And, Or, Xor}
+use Rattle.alive_top.specs.declared.reader.raw.Operation.{Operation}
+use Rattle.alive_top.specs.declared.reader.raw.Operation.TheVariants.{Add, Sub, And, Or, Xor}
 use Rattle.alive_top.specs.declared.reader.token.Mark.{Mark}
 use Rattle.alive_top.specs.declared.reader.token.Mark.TheVariants.{Equals, Comma, OpenParen, CloseParen, OpenBrace, CloseBrace}
 use Rattle.alive_top.specs.Tokens.{Token, Word, Register, Function, Punctuation, Spells}
 use Rattle.alive_top.specs.Giving.{Fails}
 use Rattle.alive_top.specs.Scanning.{next_at, is_mark_token}
+use Rattle.alive_top.specs.Operations.{opcode_of}
 use Rattle.alive_top.specs.Printing.{opcode_text}
-use Rattle.alive_top.specs.Grammar.{RawValue, Register_named, Number_written, True, False, Undef, Poison, RawParameter, RawInst, RawFunction, value_token, parameter_tokens, parameters_tokens, inst_tokens, body_tokens, function_tokens, module_tokens}
-use Rattle.alive_top.specs.Parsing.{word_at, register_at, function_name_at, mark_at, keyword_at, opcode_in, value_in, opcode_at, value_of, value_at, inst_at, parameter_at, insts_at, more_parameters_at, parameters_at, function_at, functions_at}
+use Rattle.alive_top.specs.Grammar.{RawValue, NamedRegister, WrittenNumber, True, False, Undef, Poison, RawParameter, RawInst, RawFunction, value_token, parameter_tokens, parameters_tokens, inst_tokens, body_tokens, function_tokens, module_tokens}
+use Rattle.alive_top.specs.Parsing.{word_at, register_at, function_name_at, mark_at, keyword_at, operation_in, value_in, operation_at, value_of, value_at, inst_at, parameter_at, insts_at, more_parameters_at, parameters_at, function_at, functions_at}
 use Rattle.alive_top.proofs.Taking.{Takes, Takes-short}
 use Rattle.alive_top.proofs.Productions.{inst_tail, comma_tokens, function_tail}
 use Rattle.alive_top.proofs.Rereading.{Spells-none, Spells-takes}
@@ -53,22 +54,22 @@ keyword_at-again : (word text rest : List ℕ) → next_at text ≡ Some (Some (
 unfolding keyword_at
 keyword_at-again word text rest e = rw (e, (bytes_eq-Decides word word).1 refl) refl
 
-opcode_in-again : (opcode : Opcode) → opcode_in (opcode_text opcode) ≡ Some opcode
-unfolding opcode_in opcode_text
-opcode_in-again Add = refl
-opcode_in-again Sub = refl
-opcode_in-again And = refl
-opcode_in-again Or = refl
-opcode_in-again Xor = refl
+operation_in-again : (operation : Operation) → operation_in (opcode_text (opcode_of operation)) ≡ Some operation
+unfolding operation_in opcode_text
+operation_in-again Add = refl
+operation_in-again Sub = refl
+operation_in-again And = refl
+operation_in-again Or = refl
+operation_in-again Xor = refl
 
-opcode_at-again : (opcode : Opcode) (text rest : List ℕ) → next_at text ≡ Some (Some (Word (opcode_text opcode)), rest) → opcode_at text ≡ Some (opcode, rest)
-unfolding opcode_at
-opcode_at-again opcode text rest e = rw (word_at-again text (opcode_text opcode) rest e, opcode_in-again opcode) refl
+operation_at-again : (operation : Operation) (text rest : List ℕ) → next_at text ≡ Some (Some (Word (opcode_text (opcode_of operation))), rest) → operation_at text ≡ Some (operation, rest)
+unfolding operation_at
+operation_at-again operation text rest e = rw (word_at-again text (opcode_text (opcode_of operation)) rest e, operation_in-again operation) refl
 
 value_of-again : (value : RawValue) (rest : List ℕ) → value_of (Some (value_token value)) rest ≡ Some (value, rest)
 unfolding value_in
-value_of-again (Register_named text) rest = refl
-value_of-again (Number_written text) rest = refl
+value_of-again (NamedRegister text) rest = refl
+value_of-again (WrittenNumber text) rest = refl
 value_of-again True rest = refl
 value_of-again False rest = refl
 value_of-again Undef rest = refl
@@ -88,7 +89,7 @@ inst_at-again : (i : RawInst) (text rest : List ℕ) → Takes text (inst_tail i
 unfolding inst_at
 inst_at-again i text rest p =
     let q = p.2 in let r = q.2 in let s = r.2 in let t = s.2 in let u = t.2 in
-    rw (mark_at-again Equals text p.0 p.1, opcode_at-again i.opcode p.0 q.0 q.1, word_at-again q.0 i.width r.0 r.1, value_at-again i.left r.0 s.0 s.1, mark_at-again Comma s.0 t.0 t.1, value_at-again i.right t.0 u.0 u.1, u.2) refl
+    rw (mark_at-again Equals text p.0 p.1, operation_at-again i.operation p.0 q.0 q.1, word_at-again q.0 i.width r.0 r.1, value_at-again i.left r.0 s.0 s.1, mark_at-again Comma s.0 t.0 t.1, value_at-again i.right t.0 u.0 u.1, u.2) refl
 
 parameter_at-again : (p : RawParameter) (text rest : List ℕ) → Takes text (parameter_tokens p) rest → parameter_at text ≡ Some (p, rest)
 unfolding parameter_at

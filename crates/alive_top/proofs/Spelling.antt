@@ -130,7 +130,7 @@ begins_plain (b ∷ text) e h = plain (begins_name b) (is_digit b) e h
     plain true y e h = refl
     plain false y e h = absurd (false≢true (sym h ∙ e))
 
-pub record Named_so (text name rest : List ℕ) : Type 0 where
+pub record SpellsName (text name rest : List ℕ) : Type 0 where
   pub form : is_name name ≡ true
   pub whole : goes_on name rest ≡ false
   pub text_is : text ≡ name ++ rest
@@ -140,12 +140,12 @@ unfolding is_name_byte
 digit_is_name [] e = absurd cc
 digit_is_name (b ∷ text) e = or-right (begins_name b) (is_digit b) e
 
-name_at-is : (text : List ℕ) (x : List ℕ × List ℕ) → name_at text ≡ Some x → Named_so text x.0 x.1
+name_at-is : (text : List ℕ) (x : List ℕ × List ℕ) → name_at text ≡ Some x → SpellsName text x.0 x.1
 unfolding name_at is_name are_digits
 name_at-is text x e = ⊎_elim
     (λ (h : (begins_with is_digit text ≡ true) × (Some (front is_digit text, back is_digit text) ≡ Some x)).
     let begins : begins_with is_digit (front is_digit text) ≡ true = front-begins is_digit is_digit text h.0 ∙ h.0 in
-    subst (λ (y : List ℕ × List ℕ). Named_so text y.0 y.1) (some_is _ _ h.1) (record {
+    subst (λ (y : List ℕ × List ℕ). SpellsName text y.0 y.1) (some_is _ _ h.1) (record {
       form = or-left (begins_with is_digit (front is_digit text) && list_all is_digit (front is_digit text)) _ (and-both _ _ begins (front-all is_digit text));
       whole = rw begins (back-ends is_digit text);
       text_is = sym (parts is_digit text);
@@ -154,7 +154,7 @@ name_at-is text x e = ⊎_elim
     let g = guard_some _ _ _ h.1 in
     let no_digit : begins_with is_digit (front is_name_byte text) ≡ false = front-begins is_name_byte is_digit text g.0 ∙ h.0 in
     let plain : begins_with begins_name (front is_name_byte text) ≡ true = front-begins is_name_byte begins_name text g.0 ∙ begins_plain text g.0 h.0 in
-    subst (λ (y : List ℕ × List ℕ). Named_so text y.0 y.1) g.1 (record {
+    subst (λ (y : List ℕ × List ℕ). SpellsName text y.0 y.1) g.1 (record {
       form = or-right (begins_with is_digit (front is_name_byte text) && list_all is_digit (front is_name_byte text)) (begins_with begins_name (front is_name_byte text) && list_all is_name_byte (front is_name_byte text)) (and-both _ _ plain (front-all is_name_byte text));
       whole = rw no_digit (back-ends is_name_byte text);
       text_is = sym (parts is_name_byte text);

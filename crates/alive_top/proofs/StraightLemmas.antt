@@ -8,7 +8,8 @@ use Rattle.ir_core.specs.declared.module.Inst.{Inst}
 use Rattle.ir_core.specs.declared.module.Op.TheVariants.{Binary}
 use Rattle.ir_core.specs.declared.module.Operand.{Operand}
 use Rattle.ir_core.specs.declared.module.Operand.TheVariants as operands
-use Rattle.alive_top.specs.Grammar.{RawValue, Register_named, Number_written, True, False, Undef, Poison, RawInst, RawFunction}
+use Rattle.alive_top.specs.Operations.{opcode_of}
+use Rattle.alive_top.specs.Grammar.{RawValue, NamedRegister, WrittenNumber, True, False, Undef, Poison, RawInst, RawFunction}
 use Rattle.alive_top.specs.Meaning.{ValueMeans, InstsMean, FunctionMeans, EntriesMean, ModuleMeans, Reads, no_flags}
 use Rattle.alive_top.specs.Straight.{OperandStands, OpStands, InstsStand, IsStraight, AllStraight}
 
@@ -16,8 +17,8 @@ operand_stands : (f : Function) (k width : ℕ) (raw : RawValue) (o : Operand) �
 operand_stands f k width raw (operands.Number n) h = tt
 operand_stands f k width raw operands.Undef h = tt
 operand_stands f k width raw operands.Poison h = tt
-operand_stands f k width (Register_named text) (operands.Register r) h = h.2
-operand_stands f k width (Number_written text) (operands.Register r) h = absurd h
+operand_stands f k width (NamedRegister text) (operands.Register r) h = h.2
+operand_stands f k width (WrittenNumber text) (operands.Register r) h = absurd h
 operand_stands f k width True (operands.Register r) h = absurd h
 operand_stands f k width False (operands.Register r) h = absurd h
 operand_stands f k width Undef (operands.Register r) h = absurd h
@@ -28,7 +29,7 @@ insts_stand f k raws [] h = tt
 insts_stand f k [] (i ∷ is) h = absurd h
 insts_stand f k (raw ∷ raws) (i ∷ is) h =
     let m = h.0 in
-    let stands : OpStands k (Binary raw.opcode no_flags m.left m.right) = (operand_stands f k i.width raw.left m.left m.left_means, operand_stands f k i.width raw.right m.right m.right_means) in
+    let stands : OpStands k (Binary (opcode_of raw.operation) no_flags m.left m.right) = (operand_stands f k i.width raw.left m.left m.left_means, operand_stands f k i.width raw.right m.right m.right_means) in
     (rw m.op stands, insts_stand f (suc k) raws is h.1)
 
 pub straight_from_meaning : (raw : RawFunction) (f : Function) → FunctionMeans raw f → IsStraight f

@@ -3,17 +3,18 @@ use Rattle.std.proofs.Common.{◌≡◌, ℕ, ◌+◌, ◌≤◌, ◌<◌, Bool,
 use Rattle.std.specs.Prelude.{codes}
 use Rattle.std.specs.Str.{bytes_eq}
 use Rattle.std.proofs.lemmas.Slice.Eq.{bytes_eq-Decides}
-use Rattle.ops.specs.declared.opcode.Opcode.{Opcode}
-use Rattle.ops.specs.declared.opcode.Opcode.TheVariants.{Add, Sub, And, Or, Xor}
+use Rattle.alive_top.specs.declared.reader.raw.Operation.{Operation}
+use Rattle.alive_top.specs.declared.reader.raw.Operation.TheVariants.{Add, Sub, And, Or, Xor}
 use Rattle.alive_top.specs.declared.reader.token.Mark.{Mark}
 use Rattle.alive_top.specs.declared.reader.token.Mark.TheVariants.{Equals, Comma, OpenParen, CloseParen, OpenBrace, CloseBrace}
 use Rattle.alive_top.specs.Bytes.{is_blank, is_digit, is_name_byte, begins_word, begins_with}
 use Rattle.alive_top.specs.Tokens.{Token, Word, Number, Register, Function, Punctuation, is_number, mark_byte}
 use Rattle.alive_top.specs.Giving.{◌>>=◌}
 use Rattle.alive_top.specs.Scanning.{behind_gap, front, back, mark_of, name_at, word_or_number_at, other_at, marked_at, token_at, next_at, is_end, is_word_token, is_mark_token}
+use Rattle.alive_top.specs.Operations.{opcode_of}
 use Rattle.alive_top.specs.Printing.{opcode_text}
 use Rattle.alive_top.specs.Grammar.{RawValue, True, False, Undef, Poison, value_token}
-use Rattle.alive_top.specs.Parsing.{word_of, word_at, register_of, register_at, function_name_of, function_name_at, mark_at, keyword_at, opcode_in, value_in, opcode_at, value_of, value_at}
+use Rattle.alive_top.specs.Parsing.{word_of, word_at, register_of, register_at, function_name_of, function_name_at, mark_at, keyword_at, operation_in, value_in, operation_at, value_of, value_at}
 use Rattle.alive_top.proofs.Basics.{bind_some, some_is, guard_some, chosen, cond-le}
 
 -- ---- what follows a token is shorter
@@ -201,15 +202,15 @@ tried P word wanted x y others e here there =
     (λ (h : (bytes_eq word wanted ≡ false) × (others ≡ Some y)). there h.1)
     (chosen (bytes_eq word wanted) (Some x) others (Some y) e)
 
-pub opcode_in-is : (word : List ℕ) (opcode : Opcode) → opcode_in word ≡ Some opcode → word ≡ opcode_text opcode
-unfolding opcode_in opcode_text
-opcode_in-is word opcode e =
-    let P = λ (o : Opcode). word ≡ opcode_text o in
-    tried P word (codes "add") Add opcode _ e (λ h. h) (λ e1.
-    tried P word (codes "sub") Sub opcode _ e1 (λ h. h) (λ e2.
-    tried P word (codes "and") And opcode _ e2 (λ h. h) (λ e3.
-    tried P word (codes "or") Or opcode _ e3 (λ h. h) (λ e4.
-    tried P word (codes "xor") Xor opcode _ e4 (λ h. h) (λ e5. absurd cc)))))
+pub operation_in-is : (word : List ℕ) (operation : Operation) → operation_in word ≡ Some operation → word ≡ opcode_text (opcode_of operation)
+unfolding operation_in opcode_text
+operation_in-is word operation e =
+    let P = λ (o : Operation). word ≡ opcode_text (opcode_of o) in
+    tried P word (codes "add") Add operation _ e (λ h. h) (λ e1.
+    tried P word (codes "sub") Sub operation _ e1 (λ h. h) (λ e2.
+    tried P word (codes "and") And operation _ e2 (λ h. h) (λ e3.
+    tried P word (codes "or") Or operation _ e3 (λ h. h) (λ e4.
+    tried P word (codes "xor") Xor operation _ e4 (λ h. h) (λ e5. absurd cc)))))
 
 pub value_in-is : (word : List ℕ) (value : RawValue) → value_in word ≡ Some value → Word word ≡ value_token value
 unfolding value_in
@@ -220,13 +221,13 @@ value_in-is word value e =
     tried P word (codes "undef") Undef value _ e2 (λ h. ap Word h) (λ e3.
     tried P word (codes "poison") Poison value _ e3 (λ h. ap Word h) (λ e4. absurd cc))))
 
-pub opcode_at-is : (text : List ℕ) (x : Opcode × List ℕ) → opcode_at text ≡ Some x → next_at text ≡ Some (Some (Word (opcode_text x.0)), x.1)
-unfolding opcode_at
-opcode_at-is text x e =
+pub operation_at-is : (text : List ℕ) (x : Operation × List ℕ) → operation_at text ≡ Some x → next_at text ≡ Some (Some (Word (opcode_text (opcode_of x.0))), x.1)
+unfolding operation_at
+operation_at-is text x e =
     let n = bind_some (word_at text) _ _ e in
-    let o = bind_some (opcode_in n.0.0) _ _ n.2 in
+    let o = bind_some (operation_in n.0.0) _ _ n.2 in
     let made : (o.0, n.0.1) ≡ x = some_is _ _ o.2 in
-    word_at-is text n.0 n.1 ∙ ap (λ (w : List ℕ). Some (Some (Word w), n.0.1)) (opcode_in-is n.0.0 o.0 o.1) ∙ ap (λ (y : Opcode × List ℕ). Some (Some (Word (opcode_text y.0)), y.1)) made
+    word_at-is text n.0 n.1 ∙ ap (λ (w : List ℕ). Some (Some (Word w), n.0.1)) (operation_in-is n.0.0 o.0 o.1) ∙ ap (λ (y : Operation × List ℕ). Some (Some (Word (opcode_text (opcode_of y.0))), y.1)) made
 
 value_of-is : (token : Option Token) (rest : List ℕ) (x : RawValue × List ℕ) → value_of token rest ≡ Some x → (token ≡ Some (value_token x.0)) × (rest ≡ x.1)
 value_of-is None rest x e = absurd cc

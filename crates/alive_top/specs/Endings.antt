@@ -8,9 +8,8 @@ use Rattle.alive_top.specs.declared.status.Status.TheVariants as statuses
 use Rattle.alive_top.specs.declared.top.Refusal.{Refusal}
 use Rattle.alive_top.specs.declared.top.Refusal.TheVariants as refusals
 use Rattle.alive_top.specs.declared.top.Texts.{Texts}
-use Rattle.alive_top.specs.Commands.{Optimise, IsRuleText, IsModuleText, IsOptimised, Prints}
-use Rattle.alive_top.specs.Printing.{text_of, report_of}
-use Rattle.alive_top.specs.Working.{Asked, AsksNone, AsksOne, AsksTwo, IsNoRuleText, IsNoModuleText}
+use Rattle.alive_top.specs.Commands.{Optimise, IsRuleText, IsModuleText, Prints}
+use Rattle.alive_top.specs.Working.{Asked, AsksNone, AsksOne, AsksTwo, ReadFails, MemoryIsRefused, IsNoRuleText, IsNoModuleText}
 
 -- what is told of a sink before and after: the bytes written, and the count of faults
 pub record Fed : Type 0 where
@@ -36,26 +35,26 @@ abbrev pub Failed : Fed → List ℕ → Type 0
 Failed s text = Rose s.faults_before s.faults_after × AppendsPrefix s.before s.after text
 
 -- the sink gained the line, or a prefix of it where its count of faults rose
-abbrev pub Told : Fed → List ℕ → Type 0
-Told s line = Gained s line ⊎ Failed s line
+abbrev pub Took : Fed → List ℕ → Type 0
+Took s line = Gained s line ⊎ Failed s line
 
 -- the text went to out, and then the report to err, as far as neither failed
 abbrev pub WroteSome : Fed → Fed → List ℕ → List ℕ → Type 0
 WroteSome out err text report = (Failed out text × GainedNothing err) ⊎ (Gained out text × Failed err report)
 
--- the line that tells of a file that could not be read
+-- the line that names a file that could not be read
 abbrev pub read_fault_line : List ℕ → List ℕ
 read_fault_line name = codes "read fault: " ++ name ++ codes "\n"
 
 -- how a refusal ends
 abbrev pub RefusedAs : Refusal → Fed → Status → Type 0
-RefusedAs refusals.Usage err status = (status ≡ statuses.Usage) × Told err (codes "error: words\n")
-RefusedAs refusals.Rules err status = (status ≡ statuses.RuleRefused) × Told err (codes "rules refused\n")
-RefusedAs refusals.Source err status = (status ≡ statuses.ModuleRefused) × Told err (codes "module refused\n")
-RefusedAs refusals.Memory err status = (status ≡ statuses.NoMemory) × Told err (codes "want of memory\n")
+RefusedAs refusals.Usage err status = (status ≡ statuses.Usage) × Took err (codes "error: words\n")
+RefusedAs refusals.Rules err status = (status ≡ statuses.RuleRefused) × Took err (codes "rules refused\n")
+RefusedAs refusals.Source err status = (status ≡ statuses.ModuleRefused) × Took err (codes "module refused\n")
+RefusedAs refusals.Memory err status = (status ≡ statuses.NoMemory) × Took err (codes "want of memory\n")
 RefusedAs (refusals.Read name) err status =
-    ((status ≡ statuses.ReadFault) × Told err (read_fault_line name.now))
-    ⊎ ((status ≡ statuses.NoMemory) × Told err (codes "want of memory\n"))
+    ((status ≡ statuses.ReadFault) × Took err (read_fault_line name.now))
+    ⊎ ((status ≡ statuses.NoMemory) × Took err (codes "want of memory\n"))
 
 -- how writing ends
 abbrev pub WrittenAs : Texts → Fed → Fed → Status → Type 0
@@ -81,20 +80,20 @@ Ends a named out err statuses.Done = Worked a named (λ text report. Gained out 
 Ends a named out err statuses.WriteFault = Worked a named (WroteSome out err)
 Ends a named out err statuses.Usage = ⊥
 Ends a named out err statuses.RuleRefused = IfSome (a.told named.rules) IsNoRuleText
-    × AsksOne a named.rules × GainedNothing out × Told err (codes "rules refused\n")
+    × AsksOne a named.rules × GainedNothing out × Took err (codes "rules refused\n")
 Ends a named out err statuses.ModuleRefused = IfSome (a.told named.rules) IsRuleText
     × IfSome (a.told named.source) IsNoModuleText
-    × AsksTwo a named.rules named.source × GainedNothing out × Told err (codes "module refused\n")
-Ends a named out err statuses.ReadFault = Rose a.faults_before a.faults_after × GainedNothing out
-    × ((AsksOne a named.rules × Told err (read_fault_line named.rules))
-    ⊎ (IfSome (a.told named.rules) IsRuleText × AsksTwo a named.rules named.source × Told err (read_fault_line named.source)))
-Ends a named out err statuses.NoMemory = (AsksNone a ⊎ (AsksOne a named.rules ⊎ AsksTwo a named.rules named.source))
-    × GainedNothing out × Told err (codes "want of memory\n")
+    × AsksTwo a named.rules named.source × GainedNothing out × Took err (codes "module refused\n")
+Ends a named out err statuses.ReadFault = (name : List ℕ) × ReadFails a named name
+    × GainedNothing out × Took err (read_fault_line name)
+-- memory was refused in the work, or for the line of a read fault
+Ends a named out err statuses.NoMemory = (MemoryIsRefused a named ⊎ ((name : List ℕ) × ReadFails a named name))
+    × GainedNothing out × Took err (codes "want of memory\n")
 
 -- how each status comes, for the words of a command or for others
 abbrev pub EndsFor : Option Optimise → Asked → Fed → Fed → Status → Type 0
 EndsFor (Some named) a out err status = Ends a named out err status
-EndsFor None a out err statuses.Usage = AsksNone a × GainedNothing out × Told err (codes "error: words\n")
+EndsFor None a out err statuses.Usage = AsksNone a × GainedNothing out × Took err (codes "error: words\n")
 EndsFor None a out err status = ⊥
 
 -- the statuses that may come where the rule file is none

@@ -1,15 +1,16 @@
 -- The productions of a module's text, as written, and the tokens that each is.
 use Rattle.std.specs.Prelude.{ℕ, List, [], ◌∷◌, ◌++◌, codes}
 use Rattle.std.specs.List.{flat_map}
-use Rattle.ops.specs.declared.opcode.Opcode.{Opcode}
+use Rattle.alive_top.specs.declared.reader.raw.Operation.{Operation}
 use Rattle.alive_top.specs.declared.reader.token.Mark.TheVariants.{Equals, Comma, OpenParen, CloseParen, OpenBrace, CloseBrace}
 use Rattle.alive_top.specs.Tokens.{Token, Word, Number, Register, Function, Punctuation}
+use Rattle.alive_top.specs.Operations.{opcode_of}
 use Rattle.alive_top.specs.Printing.{opcode_text}
 
 -- a value: a register by its name or number, a number as written, or a word
 pub data RawValue : Type 0 where
-  Register_named : (text : List ℕ) → RawValue
-  Number_written : (text : List ℕ) → RawValue
+  NamedRegister : (text : List ℕ) → RawValue
+  WrittenNumber : (text : List ℕ) → RawValue
   True : RawValue
   False : RawValue
   Undef : RawValue
@@ -23,7 +24,7 @@ pub record RawParameter : Type 0 where
 -- an instruction: the register that it defines, its opcode, its type and its two values
 pub record RawInst : Type 0 where
   pub name : List ℕ
-  pub opcode : Opcode
+  pub operation : Operation
   pub width : List ℕ
   pub left : RawValue
   pub right : RawValue
@@ -39,8 +40,8 @@ pub record RawFunction : Type 0 where
 
 -- val := REGISTER | NUMBER | 'true' | 'false' | 'undef' | 'poison'
 abbrev pub value_token : RawValue → Token
-value_token (Register_named text) = Register text
-value_token (Number_written text) = Number text
+value_token (NamedRegister text) = Register text
+value_token (WrittenNumber text) = Number text
 value_token True = Word (codes "true")
 value_token False = Word (codes "false")
 value_token Undef = Word (codes "undef")
@@ -58,7 +59,7 @@ parameters_tokens (p ∷ parameters) = parameter_tokens p ++ flat_map (λ q. Pun
 -- inst := REGISTER '=' opcode type val ',' val
 abbrev pub inst_tokens : RawInst → List Token
 inst_tokens i =
-    Register i.name ∷ Punctuation Equals ∷ Word (opcode_text i.opcode) ∷ Word i.width
+    Register i.name ∷ Punctuation Equals ∷ Word (opcode_text (opcode_of i.operation)) ∷ Word i.width
     ∷ value_token i.left ∷ Punctuation Comma ∷ value_token i.right ∷ []
 
 -- inst* 'ret' type val '}'

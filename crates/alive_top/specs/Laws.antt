@@ -19,14 +19,6 @@ use Rattle.alive_top.specs.WellFormed.{IsWellFormed}
 abbrev pub MeantFunctionsAreWellFormed : Type 0
 MeantFunctionsAreWellFormed = (raw : RawFunction) (f : Function) → FunctionMeans raw f → IsWellFormed f
 
--- each register of a well-formed function is assigned where it is used
-abbrev pub WellFormedUsesAreAssigned : Type 0
-WellFormedUsesAreAssigned = (f : Function) → IsWellFormed f → UsesAreAssigned f
-
--- An outcome with each number that is left open being 0 is an outcome.
-abbrev pub ZeroOutcomesAreOutcomes : Type 0
-ZeroOutcomesAreOutcomes = (f : Function) (args : List Value) (n : ℕ) (o : Outcome) → HasZeroOutcome f args n o → HasOutcome f args n o
-
 -- a well-formed function has an outcome at all arguments and every bound of blocks entered
 abbrev pub WellFormedFunctionsHaveOutcomes : Type 0
 WellFormedFunctionsHaveOutcomes = (f : Function) → IsWellFormed f
@@ -58,6 +50,16 @@ ModulesWrittenHaveOutcomes = (bytes : List ℕ) (new : Module) (tallies : List T
     → IsOptimised bytes new tallies → Contains new.entries (entries.Function f)
     → (args : List Value) → AreArguments f.parameters args
     → (n : ℕ) → (o : Outcome) × HasZeroOutcome f args n o × HasOutcome f args n o
+
+-- in each function of a module that was read the registers are assigned where they are used
+abbrev pub UsesReadAreAssigned : Type 0
+UsesReadAreAssigned = (bytes : List ℕ) (m : Module) (f : Function)
+    → Reads bytes m → Contains m.entries (entries.Function f) → UsesAreAssigned f
+
+-- and in each function of a module that is written
+abbrev pub UsesWrittenAreAssigned : Type 0
+UsesWrittenAreAssigned = (bytes : List ℕ) (new : Module) (tallies : List Tally) (f : Function)
+    → IsOptimised bytes new tallies → Contains new.entries (entries.Function f) → UsesAreAssigned f
 
 -- a text has one reading
 abbrev pub TextsHaveOneReading : Type 0

@@ -20,3 +20,4 @@ pub mod Laws
 pub mod Straight
 pub mod Strategy
 pub mod Marking
+pub mod Operations

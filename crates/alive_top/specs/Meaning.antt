@@ -16,8 +16,9 @@ use Rattle.ir_core.specs.declared.module.Register.{Register}
 use Rattle.ir_core.specs.declared.module.Register.TheVariants as registers
 use Rattle.ir_core.specs.declared.module.Terminator.TheVariants as terminators
 use Rattle.alive_top.specs.Bytes.{is_digit, begins_with}
+use Rattle.alive_top.specs.Operations.{opcode_of}
 use Rattle.alive_top.specs.Tokens.{are_digits, Spells}
-use Rattle.alive_top.specs.Grammar.{RawValue, Register_named, Number_written, True, False, Undef, Poison, RawParameter, RawInst, RawFunction, module_tokens}
+use Rattle.alive_top.specs.Grammar.{RawValue, NamedRegister, WrittenNumber, True, False, Undef, Poison, RawParameter, RawInst, RawFunction, module_tokens}
 
 -- the number that decimal digits spell
 abbrev pub decimal_value : List ℕ → ℕ
@@ -61,9 +62,9 @@ StandsBefore k (registers.Result b j) = (b ≡ 0) × (j < k)
 
 -- An operand of a width at place k of the one block: a register of that width that stands before, or a literal.
 abbrev pub ValueMeans : Function → ℕ → ℕ → RawValue → Operand → Type 0
-ValueMeans f k width (Register_named text) (operands.Register r) =
+ValueMeans f k width (NamedRegister text) (operands.Register r) =
     (identifier_of f r ≡ Some (called text)) × (width_of f r ≡ Some width) × StandsBefore k r
-ValueMeans f k width (Number_written text) (operands.Number n) = (n.width ≡ width) × IsLiteral width text n.number
+ValueMeans f k width (WrittenNumber text) (operands.Number n) = (n.width ≡ width) × IsLiteral width text n.number
 ValueMeans f k width True (operands.Number n) = (width ≡ 1) × (n ≡ record { width = 1; number = 1 })
 ValueMeans f k width False (operands.Number n) = (width ≡ 1) × (n ≡ record { width = 1; number = 0 })
 ValueMeans f k width Undef operands.Undef = Unit {0}
@@ -92,7 +93,7 @@ pub record InstMeans (f : Function) (k : ℕ) (raw : RawInst) (inst : Inst) : Ty
   pub defined : IsDefinedAs f (registers.Result 0 k) raw.name inst.name
   pub left : Operand
   pub right : Operand
-  pub op : inst.op ≡ Binary raw.opcode no_flags left right
+  pub op : inst.op ≡ Binary (opcode_of raw.operation) no_flags left right
   pub left_means : ValueMeans f k inst.width raw.left left
   pub right_means : ValueMeans f k inst.width raw.right right
 

@@ -1,14 +1,14 @@
 -- Reading productions from left to right: what a reader answers for a text, and what follows it.
 use Rattle.std.specs.Prelude.{ℕ, zero, suc, if◌then◌else◌, List, [], ◌∷◌, ◌++◌, length, Option, Some, None, codes}
 use Rattle.std.specs.Str.{bytes_eq}
-use Rattle.ops.specs.declared.opcode.Opcode.{Opcode}
-use Rattle.ops.specs.declared.opcode.Opcode.TheVariants.{Add, Sub, And, Or, Xor}
+use Rattle.alive_top.specs.declared.reader.raw.Operation.{Operation}
+use Rattle.alive_top.specs.declared.reader.raw.Operation.TheVariants.{Add, Sub, And, Or, Xor}
 use Rattle.alive_top.specs.declared.reader.token.Mark.{Mark}
 use Rattle.alive_top.specs.declared.reader.token.Mark.TheVariants.{Equals, Comma, OpenParen, CloseParen, OpenBrace, CloseBrace}
 use Rattle.alive_top.specs.Tokens.{Token, Word, Number, Register, Function}
 use Rattle.alive_top.specs.Giving.{◌>>=◌}
 use Rattle.alive_top.specs.Scanning.{next_at, is_end, is_word_token, is_mark_token}
-use Rattle.alive_top.specs.Grammar.{RawValue, Register_named, Number_written, True, False, Undef, Poison, RawParameter, RawInst, RawFunction}
+use Rattle.alive_top.specs.Grammar.{RawValue, NamedRegister, WrittenNumber, True, False, Undef, Poison, RawParameter, RawInst, RawFunction}
 
 -- a value and the text behind it, or nothing where none is spelled
 abbrev pub Read : Type 0 → Type 0
@@ -43,9 +43,9 @@ mark_at wanted text = next_at text >>= λ x. if is_mark_token wanted x.0 then So
 unfoldable pub keyword_at : List ℕ → List ℕ → Option (List ℕ)
 keyword_at wanted text = next_at text >>= λ x. if is_word_token wanted x.0 then Some x.1 else None
 
--- the opcode, and the value, that a word is
-unfoldable pub opcode_in : List ℕ → Option Opcode
-opcode_in word =
+-- the operation, and the value, that a word is
+unfoldable pub operation_in : List ℕ → Option Operation
+operation_in word =
     if bytes_eq word (codes "add") then Some Add
     else (if bytes_eq word (codes "sub") then Some Sub
     else (if bytes_eq word (codes "and") then Some And
@@ -59,17 +59,17 @@ value_in word =
     else (if bytes_eq word (codes "undef") then Some Undef
     else (if bytes_eq word (codes "poison") then Some Poison else None)))
 
--- the opcode at the front of a text
-unfoldable pub opcode_at : List ℕ → Read Opcode
-opcode_at text = do
+-- the operation at the front of a text
+unfoldable pub operation_at : List ℕ → Read Operation
+operation_at text = do
   word ← word_at text
-  opcode ← opcode_in word.0
-  Some (opcode, word.1)
+  operation ← operation_in word.0
+  Some (operation, word.1)
 
 -- a value: where the token is one, and at the front of a text
 abbrev pub value_of : Option Token → List ℕ → Read RawValue
-value_of (Some (Register text)) rest = Some (Register_named text, rest)
-value_of (Some (Number text)) rest = Some (Number_written text, rest)
+value_of (Some (Register text)) rest = Some (NamedRegister text, rest)
+value_of (Some (Number text)) rest = Some (WrittenNumber text, rest)
 value_of (Some (Word text)) rest = value_in text >>= λ value. Some (value, rest)
 value_of token rest = None
 
@@ -80,12 +80,12 @@ value_at text = next_at text >>= λ x. value_of x.0 x.1
 unfoldable pub inst_at : List ℕ → List ℕ → Read RawInst
 inst_at name text = do
   rest ← mark_at Equals text
-  opcode ← opcode_at rest
-  width ← word_at opcode.1
+  operation ← operation_at rest
+  width ← word_at operation.1
   left ← value_at width.1
   behind ← mark_at Comma left.1
   right ← value_at behind
-  Some (record { name = name; opcode = opcode.0; width = width.0; left = left.0; right = right.0 }, right.1)
+  Some (record { name = name; operation = operation.0; width = width.0; left = left.0; right = right.0 }, right.1)
 
 -- a type and a register
 unfoldable pub parameter_at : List ℕ → Read RawParameter

@@ -2,7 +2,7 @@
 use Rattle.std.specs.Prelude.{ℕ, suc, ◌-◌, ◌^◌, ◌==◌, nat_lt, if◌then◌else◌, List, [], ◌∷◌, ◌++◌, Option, None, Some, codes, decimal}
 use Rattle.ops.specs.Number.{Number}
 use Rattle.ops.specs.declared.opcode.Opcode.{Opcode}
-use Rattle.ops.specs.declared.opcode.Opcode.TheVariants.{Add, Sub, And, Or, Xor}
+use Rattle.ops.specs.declared.opcode.Opcode.TheVariants.{Add, Sub, Mul, UDiv, SDiv, URem, SRem, Shl, LShr, AShr, And, Or, Xor}
 use Rattle.ops.specs.declared.opcode.Flags.{Flags}
 use Rattle.ir_core.specs.Names.{Identifier, Named, Numbered, identifier_of}
 use Rattle.ir_core.specs.declared.module.Module.{Module}
@@ -42,6 +42,14 @@ number_text n =
 unfoldable pub opcode_text : Opcode → List ℕ
 opcode_text Add = codes "add"
 opcode_text Sub = codes "sub"
+opcode_text Mul = codes "mul"
+opcode_text UDiv = codes "udiv"
+opcode_text SDiv = codes "sdiv"
+opcode_text URem = codes "urem"
+opcode_text SRem = codes "srem"
+opcode_text Shl = codes "shl"
+opcode_text LShr = codes "lshr"
+opcode_text AShr = codes "ashr"
 opcode_text And = codes "and"
 opcode_text Or = codes "or"
 opcode_text Xor = codes "xor"

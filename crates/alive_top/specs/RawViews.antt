@@ -5,12 +5,12 @@ use Rattle.alive_top.specs.declared.reader.raw.RawValue.TheVariants as values
 use Rattle.alive_top.specs.declared.reader.raw.RawParameter as code_parameter
 use Rattle.alive_top.specs.declared.reader.raw.RawInst as code_inst
 use Rattle.alive_top.specs.declared.reader.raw.RawFunction as code_function
-use Rattle.alive_top.specs.Grammar.{RawValue, Register_named, Number_written, True, False, Undef, Poison, RawParameter, RawInst, RawFunction}
+use Rattle.alive_top.specs.Grammar.{RawValue, NamedRegister, WrittenNumber, True, False, Undef, Poison, RawParameter, RawInst, RawFunction}
 
 -- a value, a parameter and an instruction
 abbrev pub seen_value : code_value.RawValue → RawValue
-seen_value (values.Register text) = Register_named text.now
-seen_value (values.Number text) = Number_written text.now
+seen_value (values.Register text) = NamedRegister text.now
+seen_value (values.Number text) = WrittenNumber text.now
 seen_value values.True = True
 seen_value values.False = False
 seen_value values.Undef = Undef
@@ -20,7 +20,7 @@ abbrev pub seen_parameter : code_parameter.RawParameter → RawParameter
 seen_parameter p = record { width = p.width.now; name = p.name.now }
 
 abbrev pub seen_inst : code_inst.RawInst → RawInst
-seen_inst i = record { name = i.name.now; opcode = i.opcode; width = i.width.now; left = seen_value i.left; right = seen_value i.right }
+seen_inst i = record { name = i.name.now; operation = i.operation; width = i.width.now; left = seen_value i.left; right = seen_value i.right }
 
 -- parameters and instructions in order
 abbrev pub seen_parameters : List code_parameter.RawParameter → List RawParameter

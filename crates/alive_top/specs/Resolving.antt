@@ -19,8 +19,9 @@ use Rattle.alive_top.specs.declared.reader.names.Entity.{Entity}
 use Rattle.alive_top.specs.declared.reader.names.Entity.TheVariants as entities
 use Rattle.alive_top.specs.declared.identifier.Identifier.{Identifier as Written}
 use Rattle.alive_top.specs.Bytes.{is_digit, begins_with}
+use Rattle.alive_top.specs.Operations.{opcode_of}
 use Rattle.alive_top.specs.Tokens.{are_digits}
-use Rattle.alive_top.specs.Grammar.{RawValue, Register_named, Number_written, True, False, Undef, Poison, RawParameter, RawInst, RawFunction}
+use Rattle.alive_top.specs.Grammar.{RawValue, NamedRegister, WrittenNumber, True, False, Undef, Poison, RawParameter, RawInst, RawFunction}
 use Rattle.alive_top.specs.Giving.{◌>>=◌}
 use Rattle.alive_top.specs.Identifiers.{seen}
 use Rattle.alive_top.specs.Meaning.{decimal_value, called, no_flags}
@@ -97,13 +98,13 @@ unfoldable pub enter_in : List Known → ℕ → Option (List Known × ℕ)
 enter_in known next = add_in known (Numbered next) entities.Block >>= λ k. Some (k, suc next)
 
 -- the register at a place in text order behind which so many parameters stand: a parameter, or a result behind the block
-unfoldable pub register_at : ℕ → ℕ → Register
-register_at parameters place = if nat_lt place parameters then registers.Parameter place else registers.Result 0 (place - parameters - 1)
+unfoldable pub register_at_place : ℕ → ℕ → Register
+register_at_place parameters place = if nat_lt place parameters then registers.Parameter place else registers.Result 0 (place - parameters - 1)
 
 -- the register at a place, where it is of the width
 unfoldable pub register_in : ℕ → ℕ → ℕ × Entity → Option Operand
 register_in parameters width (place, entities.Register bits) =
-    if bits == width then Some (operands.Register (register_at parameters place)) else None
+    if bits == width then Some (operands.Register (register_at_place parameters place)) else None
 register_in parameters width (place, entities.Block) = None
 
 -- a literal number as an operand of a width
@@ -116,8 +117,8 @@ truth_in width n = if width == 1 then Some (operands.Number (record { width = 1;
 
 -- the operand of a width that a value means
 unfoldable pub operand_in : ℕ → List Known → ℕ → RawValue → Option Operand
-operand_in parameters known width (Register_named text) = find_in known text >>= register_in parameters width
-operand_in parameters known width (Number_written text) = number_in width text
+operand_in parameters known width (NamedRegister text) = find_in known text >>= register_in parameters width
+operand_in parameters known width (WrittenNumber text) = number_in width text
 operand_in parameters known width True = truth_in width 1
 operand_in parameters known width False = truth_in width 0
 operand_in parameters known width Undef = Some operands.Undef
@@ -158,7 +159,7 @@ inst_in parameters known next raw = do
   left ← operand_in parameters known width raw.left
   right ← operand_in parameters known width raw.right
   d ← define_in known next raw.name width
-  Some (d.0, record { name = d.1; width = width; op = Binary raw.opcode no_flags left right }, d.2)
+  Some (d.0, record { name = d.1; width = width; op = Binary (opcode_of raw.operation) no_flags left right }, d.2)
 
 -- one instruction more
 unfoldable pub insts_in : ℕ → Insts → RawInst → Option Insts

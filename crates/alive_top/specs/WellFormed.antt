@@ -1,5 +1,6 @@
 -- Functions of one block whose operands stand before and fit in width.
 use Rattle.std.specs.Prelude.{◌≡◌, ℕ, suc, ◌^◌, ◌<◌, List, [], ◌∷◌, Some}
+use Rattle.ops.specs.Laws.{IsDivision}
 use Rattle.ir_core.specs.Names.{width_of}
 use Rattle.ir_core.specs.declared.module.Function.{Function}
 use Rattle.ir_core.specs.declared.module.Block.{Block}
@@ -19,9 +20,9 @@ OperandFits f k width (operands.Number n) = (n.width ≡ width) × (n.number < 2
 OperandFits f k width operands.Undef = Unit {0}
 OperandFits f k width operands.Poison = Unit {0}
 
--- both operands are of the result's width
+-- the instruction divides by nothing, and both operands are of the result's width
 abbrev pub OpFits : Function → ℕ → ℕ → Op → Type 0
-OpFits f k width (Binary op flags a b) = OperandFits f k width a × OperandFits f k width b
+OpFits f k width (Binary op flags a b) = OperandFits f k width a × OperandFits f k width b × ¬ IsDivision op
 
 -- what is returned is of the function's width
 abbrev pub EndFits : Function → ℕ → Terminator → Type 0

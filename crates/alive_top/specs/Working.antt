@@ -83,16 +83,25 @@ SourceOf a name (Err Memory) = AsksNone a ⊎ AsksOne a name
 SourceOf a name (Err Usage) = ⊥
 SourceOf a name (Err Rules) = ⊥
 
+-- a file could not be read: the rule file, or the module behind a rule file without rules
+abbrev pub ReadFails : Asked → Optimise → List ℕ → Type 0
+ReadFails a named name = Rose a.faults_before a.faults_after
+    × (((name ≡ named.rules) × AsksOne a named.rules)
+    ⊎ (IfSome (a.told named.rules) IsRuleText × (name ≡ named.source) × AsksTwo a named.rules named.source))
+
+-- memory was refused: before the rule file was read, or behind one without rules
+abbrev pub MemoryIsRefused : Asked → Optimise → Type 0
+MemoryIsRefused a named = AsksNone a
+    ⊎ (IfSome (a.told named.rules) IsRuleText × (AsksOne a named.rules ⊎ AsksTwo a named.rules named.source))
+
 -- Why the work of `optimise` was not done: the first cause in the order words, rule file, module.
 abbrev pub Refuses : Asked → Optimise → Refusal → Type 0
 Refuses a named Usage = ⊥
 Refuses a named Rules = IfSome (a.told named.rules) IsNoRuleText × AsksOne a named.rules
 Refuses a named Source = IfSome (a.told named.rules) IsRuleText
     × IfSome (a.told named.source) IsNoModuleText × AsksTwo a named.rules named.source
-Refuses a named (Read n) = Rose a.faults_before a.faults_after
-    × (((n.now ≡ named.rules) × AsksOne a named.rules)
-    ⊎ (IfSome (a.told named.rules) IsRuleText × (n.now ≡ named.source) × AsksTwo a named.rules named.source))
-Refuses a named Memory = AsksNone a ⊎ (AsksOne a named.rules ⊎ AsksTwo a named.rules named.source)
+Refuses a named (Read n) = ReadFails a named n.now
+Refuses a named Memory = MemoryIsRefused a named
 
 -- the work of `optimise`, before anything is written
 abbrev pub OptimiseOf : Asked → Optimise → Result Texts Refusal → Type 0

@@ -15,9 +15,6 @@ use needed::needed;
 use std::alloc::{AllocError, Global};
 use std::mem;
 
-#[cfg(test)]
-mod tests;
-
 /// Keeps the needed instructions of a block alone. It takes its memory before it changes the block.
 fn clean_block(alloc: Global, block: &mut Block) -> Result<(), AllocError>
     requires { IsStraightBlock block.old }

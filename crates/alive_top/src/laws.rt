@@ -1,20 +1,10 @@
 //! The laws of functions that are read and of cleaning, each the contract of a function that does nothing.
-ghost use Rattle.alive_top.specs.Laws.{MeantFunctionsAreWellFormed, WellFormedUsesAreAssigned, ZeroOutcomesAreOutcomes, WellFormedFunctionsHaveOutcomes, ModulesReadHaveOutcomes, CleanedFunctionsRefine, CleanedFunctionsAreWellFormed, CleanedModulesRefine, ModulesWrittenHaveOutcomes, TextsHaveOneReading};
+ghost use Rattle.alive_top.specs.Laws.{MeantFunctionsAreWellFormed, WellFormedFunctionsHaveOutcomes, ModulesReadHaveOutcomes, CleanedFunctionsRefine, CleanedFunctionsAreWellFormed, CleanedModulesRefine, ModulesWrittenHaveOutcomes, UsesReadAreAssigned, UsesWrittenAreAssigned, TextsHaveOneReading};
 
 /// What the text of a function means is well formed: one block, where each operand is a literal or a register that stands
 /// before, of the width that is wanted there.
 pub fn every_function_read_is_well_formed()
     ensures well_formed { MeantFunctionsAreWellFormed }
-{}
-
-/// In a well-formed function each register is assigned wherever it is used. (LLVM Language Reference, "Well-Formedness".)
-pub fn registers_are_assigned_where_they_are_used()
-    ensures uses { WellFormedUsesAreAssigned }
-{}
-
-/// An outcome where each number that is left open is 0 is an outcome.
-pub fn every_zero_outcome_is_an_outcome()
-    ensures outcome { ZeroOutcomesAreOutcomes }
 {}
 
 /// A well-formed function has an outcome at all arguments, after any number of blocks entered.
@@ -41,6 +31,13 @@ pub fn every_cleaned_module_refines_the_old()
 /// So does each function of a module that is written.
 pub fn every_module_written_has_outcomes()
     ensures outcome { ModulesWrittenHaveOutcomes }
+{}
+
+/// In each function of a module that was read, and of one that is written, a register is assigned wherever it is used. (LLVM
+/// Language Reference, "Well-Formedness".)
+pub fn registers_are_assigned_where_they_are_used()
+    ensures read { UsesReadAreAssigned }
+    ensures written { UsesWrittenAreAssigned }
 {}
 
 /// A text has one reading.

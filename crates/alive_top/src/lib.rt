@@ -15,8 +15,7 @@ pub use laws::{
     every_cleaned_function_refines_the_old, every_cleaned_module_refines_the_old,
     every_function_read_is_well_formed, every_module_read_has_outcomes,
     every_module_written_has_outcomes, every_text_has_one_reading,
-    every_well_formed_function_has_outcomes, every_zero_outcome_is_an_outcome,
-    registers_are_assigned_where_they_are_used,
+    every_well_formed_function_has_outcomes, registers_are_assigned_where_they_are_used,
 };
 pub use status::{Ended, Status};
 pub use top::alive;

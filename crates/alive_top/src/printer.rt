@@ -42,6 +42,3 @@ pub(crate) fn print_module(alloc: Global, module: &Module) -> Result<Vec<u8>, Al
     }
     Ok(out)
 }
-
-#[cfg(test)]
-mod tests;

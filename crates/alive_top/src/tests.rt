@@ -1,19 +1,38 @@
 //! The whole program, over files and sinks in memory.
 
 use super::*;
-use outside::{FailingPut, MemoryFiles, MemorySink, SureFiles, SureSink};
+use outside::{FailingPut, MemoryFiles, MemorySink};
 use std::alloc::Global;
-use std::process::Abort;
 use std::test::Fail;
 
-mod damage;
-mod faults;
 mod rows;
-mod sure;
+mod texts;
 
 const OPTIMISE: &[&str] = &["alive", "optimise", "r", "m"];
 
 const IDENTITY: &str = "define i8 @f(i8 %a) {\n  ret i8 %a\n}\n";
+
+/// The read and the puts that fail.
+#[derive(Clone, Copy)]
+struct Faults {
+    read: Option<u64>,
+    out: Option<FailingPut>,
+    err: Option<FailingPut>,
+}
+
+const NO_FAULTS: Faults = Faults {
+    read: None,
+    out: None,
+    err: None,
+};
+
+/// How a command ended, and what it left.
+#[derive(Drop)]
+struct Left {
+    status: u8,
+    out: MemorySink,
+    err: MemorySink,
+}
 
 fn strings(alloc: Global, words: &[&str]) -> Result<Vec<String>, Fail> {
     let mut all = Vec::new(alloc);
@@ -23,18 +42,43 @@ fn strings(alloc: Global, words: &[&str]) -> Result<Vec<String>, Fail> {
     Ok(all)
 }
 
-/// The status of `optimise` over a rule file `r` and a module `m` in memory, with what it leaves.
-fn optimised(
+fn sink(alloc: Global, failing: Option<FailingPut>) -> Result<MemorySink, Fail> {
+    let mut sink = MemorySink::with_room(alloc, 1000)?;
+    if let Some(put) = failing {
+        sink.fail_at(put)?;
+    }
+    Ok(sink)
+}
+
+/// A rule file `r` and a module `m`.
+fn files(
     alloc: Global,
     rules: &[u8],
     source: &[u8],
-) -> Result<(u8, MemorySink, MemorySink), Fail> {
-    let words = strings(alloc, OPTIMISE)?;
+    failing: Option<u64>,
+) -> Result<MemoryFiles, Fail> {
     let mut files = MemoryFiles::new(alloc);
     files.add(alloc, "r", rules)?;
     files.add(alloc, "m", source)?;
-    let mut out = MemorySink::with_room(alloc, 1000)?;
-    let mut err = MemorySink::with_room(alloc, 1000)?;
+    if let Some(read) = failing {
+        files.fail_at(read)?;
+    }
+    Ok(files)
+}
+
+/// What a command leaves over these files.
+fn what_is_left(
+    alloc: Global,
+    words: &[&str],
+    rules: &[u8],
+    source: &[u8],
+    faults: Faults,
+) -> Result<Left, Fail> {
+    let words = strings(alloc, words)?;
+    let mut files = files(alloc, rules, source, faults.read)?;
+    let mut out = sink(alloc, faults.out)?;
+    let mut err = sink(alloc, faults.err)?;
     let ended = alive(alloc, &words, &mut files, &mut out, &mut err);
-    Ok((ended.status.code(), out, err))
+    let status = ended.status.code();
+    Ok(Left { status, out, err })
 }

@@ -7,7 +7,7 @@ ghost use Rattle.alive_top.specs.Strategy.{Tally};
 ghost use Rattle.ir_core.specs.declared.module.Module.{Module};
 ghost use Rattle.outside.specs.Sink.{Appends};
 ghost use Rattle.alive_top.specs.Working.{asked, ReadOf, RulesOf, TextsOf, SourceOf, OptimiseOf, WorkOf, IsNoRuleText, IsNoModuleText};
-ghost use Rattle.alive_top.specs.Endings.{fed, Told, RefusedAs, WrittenAs, EndsFor, StopsAtRules, StopsAtSource, IsDoneOrNoMemory, AreGood};
+ghost use Rattle.alive_top.specs.Endings.{fed, Took, RefusedAs, WrittenAs, EndsFor, StopsAtRules, StopsAtSource, IsDoneOrNoMemory, AreGood};
 ghost use Rattle.outside.specs.Faults.{Rose};
 ghost use Rattle.alive_top.specs.declared.top.Refusal.TheVariants.{Memory};
 
@@ -163,7 +163,7 @@ fn work<'a, F: Files>(
     }
 }
 
-/// The line that tells of a file that could not be read.
+/// The line that names a file that could not be read.
 fn read_fault_line(alloc: Global, name: &str) -> Result<Vec<u8>, AllocError>
     ensures { IfOk result (λ line. line.items ≡ codes "read fault: " ++ name.now ++ codes "\n") }
 {
@@ -174,8 +174,8 @@ fn read_fault_line(alloc: Global, name: &str) -> Result<Vec<u8>, AllocError>
 }
 
 /// Puts a line. Where that fails, a prefix of it may be there.
-fn tell<E: Sink>(line: &[u8], err: &mut E)
-    ensures told { Told (fed (E.written err.old) (E.written err.new) (E.faults err.old) (E.faults err.new)) line.now }
+fn put_line<E: Sink>(line: &[u8], err: &mut E)
+    ensures took { Took (fed (E.written err.old) (E.written err.new) (E.faults err.old) (E.faults err.new)) line.now }
     ensures faults_grow { E.faults err.old ≤ E.faults err.new }
 {
     let _ = err.put(line);
@@ -188,29 +188,29 @@ fn refuse<E: Sink>(alloc: Global, refusal: Refusal<'_>, err: &mut E) -> Status
 {
     match refusal {
         Refusal::Usage => {
-            tell(b"error: words\n", err);
+            put_line(b"error: words\n", err);
             Status::Usage
         }
         Refusal::Rules => {
-            tell(b"rules refused\n", err);
+            put_line(b"rules refused\n", err);
             Status::RuleRefused
         }
         Refusal::Source => {
-            tell(b"module refused\n", err);
+            put_line(b"module refused\n", err);
             Status::ModuleRefused
         }
         Refusal::Read(name) => match read_fault_line(alloc, name) {
             Ok(line) => {
-                tell(line.as_slice(), err);
+                put_line(line.as_slice(), err);
                 Status::ReadFault
             }
             Err(_) => {
-                tell(b"want of memory\n", err);
+                put_line(b"want of memory\n", err);
                 Status::NoMemory
             }
         },
         Refusal::Memory => {
-            tell(b"want of memory\n", err);
+            put_line(b"want of memory\n", err);
             Status::NoMemory
         }
     }

@@ -26,11 +26,15 @@ IsWalk f [] = ⊥
 IsWalk f (b ∷ []) = b ≡ 0
 IsWalk f (c ∷ b ∷ before) = Names f b c × IsWalk f (b ∷ before)
 
--- A register is assigned at place k of block b if every walk there has passed its definition, in an earlier block or
--- in this one before the place. Parameters are assigned everywhere.
+-- the function has an instruction at place j of block d
+abbrev pub HasInst : Function → ℕ → ℕ → Type 0
+HasInst f d j = (block : Block) × (slice_get f.blocks d ≡ Some block) × (j < length block.insts)
+
+-- A register is assigned at place k of block b if the function has it and every walk there has passed its definition, in an
+-- earlier block or in this one before the place. Parameters are assigned everywhere.
 abbrev pub IsAssigned : Function → Register → ℕ → ℕ → Type 0
-IsAssigned f (registers.Parameter p) b k = Unit {0}
-IsAssigned f (registers.Result d j) b k = (before : List ℕ) → IsWalk f (b ∷ before) → Contains before d ⊎ ((d ≡ b) × (j < k))
+IsAssigned f (registers.Parameter p) b k = p < length f.parameters
+IsAssigned f (registers.Result d j) b k = HasInst f d j × ((before : List ℕ) → IsWalk f (b ∷ before) → Contains before d ⊎ ((d ≡ b) × (j < k)))
 
 -- an operand that is a register is assigned where it is used
 abbrev pub OperandIsAssigned : Function → ℕ → ℕ → Operand → Type 0

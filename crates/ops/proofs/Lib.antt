@@ -1,2 +1,6 @@
-pub mod Instructions
+pub mod Monotone
+pub mod Quotients
+pub mod Signed
+pub mod Undefined
 pub mod Values
+pub mod Widths

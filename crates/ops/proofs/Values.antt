@@ -2,26 +2,26 @@
 use Rattle.std.proofs.Common.{ℕ, refl, ◌∙◌}
 use Rattle.ops.specs.declared.value.Value.{Value}
 use Rattle.ops.specs.declared.value.Value.TheVariants.{Poison, Bits}
-use Rattle.ops.specs.declared.value.Effect.{Effect}
 use Rattle.ops.specs.declared.value.Effect.TheVariants.{Undefined, Gives}
-use Rattle.ops.specs.Value.{AllowsValue, AllowsEffect, IsValueOf, HasWidth}
+use Rattle.ops.specs.Value.{IsValueOf, HasWidth}
+use Rattle.ops.specs.Laws.{AllowsValueIsReflexive, AllowsValueIsTransitive, AllowsEffectIsReflexive, AllowsEffectIsTransitive}
 
 -- a value allows itself, and what the values that it allows do
-pub AllowsValue-refl : (v : Value) → AllowsValue v v
+pub AllowsValue-refl : AllowsValueIsReflexive
 AllowsValue-refl Poison = tt
 AllowsValue-refl (Bits a) = refl
 
-pub AllowsValue-trans : (u v w : Value) → AllowsValue u v → AllowsValue v w → AllowsValue u w
+pub AllowsValue-trans : AllowsValueIsTransitive
 AllowsValue-trans Poison v w p q = tt
 AllowsValue-trans (Bits a) Poison w p q = cc
 AllowsValue-trans (Bits a) (Bits b) w p q = q ∙ p
 
 -- and so do effects
-pub AllowsEffect-refl : (e : Effect) → AllowsEffect e e
+pub AllowsEffect-refl : AllowsEffectIsReflexive
 AllowsEffect-refl Undefined = tt
 AllowsEffect-refl (Gives v) = AllowsValue-refl v
 
-pub AllowsEffect-trans : (d e f : Effect) → AllowsEffect d e → AllowsEffect e f → AllowsEffect d f
+pub AllowsEffect-trans : AllowsEffectIsTransitive
 AllowsEffect-trans Undefined e f p q = tt
 AllowsEffect-trans (Gives u) Undefined f p q = absurd p
 AllowsEffect-trans (Gives u) (Gives v) Undefined p q = absurd q

@@ -1,46 +1,92 @@
 -- Laws of values, effects and instructions.
-use Rattle.std.specs.Prelude.{ℕ, ◌≢◌}
+use Rattle.std.specs.Prelude.{ℕ, ◌≡◌, ◌≤◌, ◌-◌, ◌^◌, ◌⊎◌, ◌↔◌, ℤ, pos, neg_ℤ}
 use Rattle.ops.specs.declared.value.Value.{Value}
+use Rattle.ops.specs.declared.value.Value.TheVariants.{Poison, Bits}
 use Rattle.ops.specs.declared.value.Effect.{Effect}
 use Rattle.ops.specs.declared.value.Effect.TheVariants.{Undefined}
 use Rattle.ops.specs.declared.opcode.Opcode.{Opcode}
-use Rattle.ops.specs.declared.opcode.Opcode.TheVariants.{Add, Sub, And, Or, Xor}
+use Rattle.ops.specs.declared.opcode.Opcode.TheVariants.{UDiv, SDiv, URem, SRem}
 use Rattle.ops.specs.declared.opcode.Flags.{Flags}
+use Rattle.ops.specs.declared.comparison.Pred.{Pred}
+use Rattle.ops.specs.declared.conversion.Cast.{Cast}
 use Rattle.ops.specs.Value.{AllowsValue, AllowsEffect, IsValueOf, IsEffectOf}
+use Rattle.ops.specs.Integer.{signed}
 use Rattle.ops.specs.Instruction.{instruction}
+use Rattle.ops.specs.Comparison.{comparison, selection}
+use Rattle.ops.specs.Conversion.{CastFits, conversion}
 
--- a value allows itself, and what the values that it allows do
-abbrev pub ValuesAllowThemselves : Type 0
-ValuesAllowThemselves = (v : Value) → AllowsValue v v
+-- a value allows itself, and so does an effect
+abbrev pub AllowsValueIsReflexive : Type 0
+AllowsValueIsReflexive = (v : Value) → AllowsValue v v
 
-abbrev pub ValuesAllowAlong : Type 0
-ValuesAllowAlong = (u v w : Value) → AllowsValue u v → AllowsValue v w → AllowsValue u w
+abbrev pub AllowsEffectIsReflexive : Type 0
+AllowsEffectIsReflexive = (e : Effect) → AllowsEffect e e
 
--- an effect allows itself, and what the effects that it allows do
-abbrev pub EffectsAllowThemselves : Type 0
-EffectsAllowThemselves = (e : Effect) → AllowsEffect e e
+-- a value allows what the values that it allows do, and so does an effect
+abbrev pub AllowsValueIsTransitive : Type 0
+AllowsValueIsTransitive = (u v w : Value) → AllowsValue u v → AllowsValue v w → AllowsValue u w
 
-abbrev pub EffectsAllowAlong : Type 0
-EffectsAllowAlong = (d e f : Effect) → AllowsEffect d e → AllowsEffect e f → AllowsEffect d f
+abbrev pub AllowsEffectIsTransitive : Type 0
+AllowsEffectIsTransitive = (d e f : Effect) → AllowsEffect d e → AllowsEffect e f → AllowsEffect d f
 
--- operands that allow others give an effect that allows theirs
-abbrev pub InstructionsAreMonotone : Type 0
-InstructionsAreMonotone = (op : Opcode) (flags : Flags) (N : ℕ) (a b a' b' : Value) →
+-- operands that allow others give an effect, or a value, that allows theirs
+abbrev pub InstructionIsMonotone : Type 0
+InstructionIsMonotone = (op : Opcode) (flags : Flags) (N : ℕ) (a b a' b' : Value) →
     AllowsValue a a' → AllowsValue b b' → AllowsEffect (instruction op flags N a b) (instruction op flags N a' b')
 
--- operands of iN give an effect over iN
-abbrev pub InstructionsKeepWidths : Type 0
-InstructionsKeepWidths = (op : Opcode) (flags : Flags) (N : ℕ) (a b : Value) →
+abbrev pub ComparisonIsMonotone : Type 0
+ComparisonIsMonotone = (pred : Pred) (N : ℕ) (a b a' b' : Value) →
+    AllowsValue a a' → AllowsValue b b' → AllowsValue (comparison pred N a b) (comparison pred N a' b')
+
+abbrev pub ConversionIsMonotone : Type 0
+ConversionIsMonotone = (cast : Cast) (from to : ℕ) (a a' : Value) →
+    AllowsValue a a' → AllowsValue (conversion cast from to a) (conversion cast from to a')
+
+abbrev pub SelectionIsMonotone : Type 0
+SelectionIsMonotone = (c a b c' a' b' : Value) →
+    AllowsValue c c' → AllowsValue a a' → AllowsValue b b' → AllowsValue (selection c a b) (selection c' a' b')
+
+-- operands of the widths that are named give an effect over iN, or a value of the result's width
+abbrev pub InstructionKeepsWidth : Type 0
+InstructionKeepsWidth = (op : Opcode) (flags : Flags) (N : ℕ) (a b : Value) →
     IsValueOf N a → IsValueOf N b → IsEffectOf N (instruction op flags N a b)
 
--- the instruction does not divide
-abbrev pub HasNoDivision : Opcode → Type 0
-HasNoDivision Add = Unit {0}
-HasNoDivision Sub = Unit {0}
-HasNoDivision And = Unit {0}
-HasNoDivision Or = Unit {0}
-HasNoDivision Xor = Unit {0}
+abbrev pub ComparisonIsOneBit : Type 0
+ComparisonIsOneBit = (pred : Pred) (N : ℕ) (a b : Value) → IsValueOf 1 (comparison pred N a b)
 
--- no instruction without a division has undefined behaviour as its effect
-abbrev pub InstructionsWithoutDivisionAreDefined : Type 0
-InstructionsWithoutDivisionAreDefined = (op : Opcode) (flags : Flags) (N : ℕ) (a b : Value) → HasNoDivision op → instruction op flags N a b ≢ Undefined
+abbrev pub ConversionHasWidth : Type 0
+ConversionHasWidth = (cast : Cast) (from to : ℕ) (a : Value) →
+    CastFits cast from to → IsValueOf from a → IsValueOf to (conversion cast from to a)
+
+abbrev pub SelectionKeepsWidth : Type 0
+SelectionKeepsWidth = (N : ℕ) (c a b : Value) → IsValueOf N a → IsValueOf N b → IsValueOf N (selection c a b)
+
+-- the instruction divides; it divides signed numbers
+abbrev pub IsDivision : Opcode → Type 0
+IsDivision UDiv = Unit {0}
+IsDivision SDiv = Unit {0}
+IsDivision URem = Unit {0}
+IsDivision SRem = Unit {0}
+IsDivision op = ⊥
+
+abbrev pub IsSignedDivision : Opcode → Type 0
+IsSignedDivision SDiv = Unit {0}
+IsSignedDivision SRem = Unit {0}
+IsSignedDivision op = ⊥
+
+-- the value of iN is a number, which is z in two's complement
+abbrev pub IsSigned : ℕ → Value → ℤ → Type 0
+IsSigned N Poison z = ⊥
+IsSigned N (Bits a) z = signed N a.number ≡ z
+
+-- A division has undefined behaviour by poison and by 0; a signed one also by -1, where the dividend is poison or the least
+-- number.
+abbrev pub IsUndefinedDivision : Opcode → ℕ → Value → Value → Type 0
+IsUndefinedDivision op N a b =
+    IsDivision op × ((b ≡ Poison) ⊎ IsSigned N b (pos 0))
+    ⊎ IsSignedDivision op × IsSigned N b (neg_ℤ (pos 1)) × ((a ≡ Poison) ⊎ IsSigned N a (neg_ℤ (pos (2 ^ (N - 1)))))
+
+-- undefined behaviour is the effect of exactly these
+abbrev pub UndefinedIsOfDivisions : Type 0
+UndefinedIsOfDivisions = (op : Opcode) (flags : Flags) (N : ℕ) (a b : Value) →
+    1 ≤ N → IsValueOf N a → IsValueOf N b → (instruction op flags N a b ≡ Undefined) ↔ IsUndefinedDivision op N a b

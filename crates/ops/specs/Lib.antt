@@ -1,4 +1,11 @@
+pub mod Arithmetic
+pub mod Comparison
+pub mod Conversion
+pub mod Division
+pub mod Flags
 pub mod Instruction
+pub mod Integer
 pub mod Laws
 pub mod Number
+pub mod Shifts
 pub mod Value

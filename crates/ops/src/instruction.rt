@@ -1,13 +1,17 @@
-//! What one instruction does at values.
+//! What one instruction with two operands of one type does.
 
-ghost use Rattle.std.specs.Prelude.{ℕ, ◌≡◌, ◌<◌, ◌≤ℤ◌, ◌<ℤ◌, ◌^◌, pos, neg_ℤ};
-ghost use Rattle.ops.specs.Instruction.{FlagsFit, instruction, on_numbers, on_poison, arithmetic, signed, fits_signed, fits_unsigned, residue};
+ghost use Rattle.std.specs.Prelude.{◌≡◌, ◌<◌, ◌^◌};
+ghost use Rattle.ops.specs.Flags.{FlagsFit};
+ghost use Rattle.ops.specs.Instruction.{instruction, on_numbers, on_poison};
 ghost use Rattle.ops.specs.Value.{HasWidth, IsEffectOf};
 
+use crate::arithmetic::{add, mul, sub};
+use crate::bitwise::{and, or, xor};
+use crate::division::{sdiv, signed_poison, srem, udiv, unsigned_poison, urem};
 use crate::opcode::{Flags, Opcode};
+use crate::shift::{ashr, lshr, shl};
 use crate::value::{Effect, Value};
 use crate::width::Width;
-use crate::word::Word;
 
 /// What an instruction over `iN` does at these operands, where N is `width`. It takes no memory.
 #[tactic(auto, unfolding(crate::specs::Instruction::instruction))]
@@ -19,23 +23,31 @@ pub fn evaluate(op: Opcode, flags: Flags, width: Width, a: Value, b: Value) -> E
     ensures width { IsEffectOf width result }
 {
     let Value::Bits(left) = a else {
-        return on_poison(op);
+        return on_poison(op, width, b);
     };
     let Value::Bits(right) = b else {
-        return on_poison(op);
+        return on_poison(op, width, b);
     };
     on_numbers(op, flags, width, left.number(), right.number())
 }
 
-/// The same where an operand is poison, whatever the other one is.
+/// The same where an operand is poison, and `b` is the one on the right.
 #[tactic(auto, unfolding(crate::specs::Instruction::on_poison))]
-fn on_poison(op: Opcode) -> Effect
-    ensures { (N : ℕ) (b : Value) → result ≡ on_poison op N b }
+fn on_poison(op: Opcode, width: Width, b: Value) -> Effect
+    ensures { result ≡ on_poison op width b }
 {
     match op {
-        Opcode::Add | Opcode::Sub | Opcode::And | Opcode::Or | Opcode::Xor => {
-            Effect::Gives(Value::Poison)
-        }
+        Opcode::UDiv | Opcode::URem => unsigned_poison(b),
+        Opcode::SDiv | Opcode::SRem => signed_poison(width, b),
+        Opcode::Add
+        | Opcode::Sub
+        | Opcode::Mul
+        | Opcode::Shl
+        | Opcode::LShr
+        | Opcode::AShr
+        | Opcode::And
+        | Opcode::Or
+        | Opcode::Xor => Effect::Gives(Value::Poison),
     }
 }
 
@@ -49,87 +61,16 @@ fn on_numbers(op: Opcode, flags: Flags, width: Width, a: u64, b: u64) -> Effect
     match op {
         Opcode::Add => Effect::Gives(add(flags, width, a, b)),
         Opcode::Sub => Effect::Gives(sub(flags, width, a, b)),
-        Opcode::And => Effect::Gives(Value::Bits(Word::fitting(width, a & b))),
-        Opcode::Or => Effect::Gives(Value::Bits(Word::fitting(width, a | b))),
-        Opcode::Xor => Effect::Gives(Value::Bits(Word::fitting(width, a ^ b))),
+        Opcode::Mul => Effect::Gives(mul(flags, width, a, b)),
+        Opcode::UDiv => udiv(flags, width, a, b),
+        Opcode::SDiv => sdiv(flags, width, a, b),
+        Opcode::URem => urem(width, a, b),
+        Opcode::SRem => srem(width, a, b),
+        Opcode::Shl => Effect::Gives(shl(flags, width, a, b)),
+        Opcode::LShr => Effect::Gives(lshr(flags, width, a, b)),
+        Opcode::AShr => Effect::Gives(ashr(flags, width, a, b)),
+        Opcode::And => Effect::Gives(and(width, a, b)),
+        Opcode::Or => Effect::Gives(or(width, a, b)),
+        Opcode::Xor => Effect::Gives(xor(width, a, b)),
     }
-}
-
-#[tactic(auto, unfolding(crate::specs::Instruction::on_numbers))]
-fn add(flags: Flags, width: Width, a: u64, b: u64) -> Value
-    requires left { a < 2 ^ width }
-    requires right { b < 2 ^ width }
-    ensures { Effect.Gives result ≡ on_numbers Opcode.Add flags width a b }
-{
-    let unsigned_result = i128::from(a) + i128::from(b);
-    let signed_result = signed(width, a) + signed(width, b);
-    reduce(flags, width, unsigned_result, signed_result)
-}
-
-#[tactic(auto, unfolding(crate::specs::Instruction::on_numbers))]
-fn sub(flags: Flags, width: Width, a: u64, b: u64) -> Value
-    requires left { a < 2 ^ width }
-    requires right { b < 2 ^ width }
-    ensures { Effect.Gives result ≡ on_numbers Opcode.Sub flags width a b }
-{
-    let unsigned_result = i128::from(a) - i128::from(b);
-    let signed_result = signed(width, a) - signed(width, b);
-    reduce(flags, width, unsigned_result, signed_result)
-}
-
-/// The result modulo 2 to the power of `width`, or poison where it breaks a flag.
-#[tactic(auto, unfolding(crate::specs::Instruction::arithmetic))]
-fn reduce(flags: Flags, width: Width, unsigned_result: i128, signed_result: i128) -> Value
-    requires least { neg_ℤ (pos (2 ^ 64)) ≤ℤ unsigned_result }
-    requires most { unsigned_result <ℤ pos (2 ^ 65) }
-    ensures { result ≡ arithmetic flags width unsigned_result signed_result }
-{
-    let wraps = flags.nuw && !fits_unsigned(width, unsigned_result);
-    let wraps_signed = flags.nsw && !fits_signed(width, signed_result);
-    if wraps || wraps_signed {
-        Value::Poison
-    } else {
-        Value::Bits(Word::fitting(width, residue(width, unsigned_result)))
-    }
-}
-
-/// The number of `width` bits, read in two's complement.
-#[tactic(auto, unfolding(crate::specs::Instruction::signed))]
-fn signed(width: Width, number: u64) -> i128
-    requires { number < 2 ^ width }
-    ensures number { result ≡ signed width number }
-    ensures least { neg_ℤ (pos (2 ^ 64)) ≤ℤ result }
-    ensures most { result <ℤ pos (2 ^ 64) }
-{
-    let number = i128::from(number);
-    if number < width.half_modulus() {
-        number
-    } else {
-        number - width.modulus()
-    }
-}
-
-/// Whether the number is one of `width` bits without a sign.
-#[tactic(auto, unfolding(crate::specs::Instruction::fits_unsigned))]
-fn fits_unsigned(width: Width, number: i128) -> bool
-    ensures { result ≡ fits_unsigned width number }
-{
-    0 <= number && number < width.modulus()
-}
-
-/// Whether the number is one of `width` bits in two's complement.
-#[tactic(auto, unfolding(crate::specs::Instruction::fits_signed))]
-fn fits_signed(width: Width, number: i128) -> bool
-    ensures { result ≡ fits_signed width number }
-{
-    -width.half_modulus() <= number && number < width.half_modulus()
-}
-
-/// The number modulo 2 to the power of `width`.
-#[tactic(auto, unfolding(crate::specs::Instruction::residue))]
-fn residue(width: Width, number: i128) -> u64
-    ensures residue { result ≡ residue width number }
-    ensures fits { result < 2 ^ width }
-{
-    number.rem_euclid(width.modulus()) as u64
 }

@@ -1,37 +1,35 @@
 //! The laws of values and instructions, each the contract of a function that does nothing.
-ghost use Rattle.ops.specs.Laws.{ValuesAllowThemselves, ValuesAllowAlong, EffectsAllowThemselves, EffectsAllowAlong, InstructionsAreMonotone, InstructionsKeepWidths, InstructionsWithoutDivisionAreDefined};
+ghost use Rattle.ops.specs.Laws.{AllowsValueIsReflexive, AllowsEffectIsReflexive, AllowsValueIsTransitive, AllowsEffectIsTransitive, InstructionIsMonotone, ComparisonIsMonotone, ConversionIsMonotone, SelectionIsMonotone, InstructionKeepsWidth, ComparisonIsOneBit, ConversionHasWidth, SelectionKeepsWidth, UndefinedIsOfDivisions};
 
-/// Each value allows itself.
-pub fn every_value_allows_itself()
-    ensures { ValuesAllowThemselves }
+/// Each value, and each effect, allows itself.
+pub fn allowing_is_reflexive()
+    ensures values { AllowsValueIsReflexive }
+    ensures effects { AllowsEffectIsReflexive }
 {}
 
-/// A value allows what the values that it allows do.
-pub fn values_allow_along()
-    ensures { ValuesAllowAlong }
+/// A value allows what the values that it allows do, and so does an effect.
+pub fn allowing_is_transitive()
+    ensures values { AllowsValueIsTransitive }
+    ensures effects { AllowsEffectIsTransitive }
 {}
 
-/// Each effect allows itself.
-pub fn every_effect_allows_itself()
-    ensures { EffectsAllowThemselves }
-{}
-
-/// An effect allows what the effects that it allows do.
-pub fn effects_allow_along()
-    ensures { EffectsAllowAlong }
-{}
-
-/// Operands that allow others give an effect that allows theirs.
+/// Operands that allow others give an effect, or a value, that allows theirs.
 pub fn instructions_are_monotone()
-    ensures { InstructionsAreMonotone }
+    ensures evaluate { InstructionIsMonotone }
+    ensures compare { ComparisonIsMonotone }
+    ensures convert { ConversionIsMonotone }
+    ensures choose { SelectionIsMonotone }
 {}
 
-/// Operands that are values of `iN` give a value of `iN`, unless the effect is undefined behaviour.
+/// Operands of their widths give a value of the result's width, unless the effect is undefined behaviour.
 pub fn instructions_keep_widths()
-    ensures { InstructionsKeepWidths }
+    ensures evaluate { InstructionKeepsWidth }
+    ensures compare { ComparisonIsOneBit }
+    ensures convert { ConversionHasWidth }
+    ensures choose { SelectionKeepsWidth }
 {}
 
-/// Undefined behaviour is the effect of no instruction without a division.
-pub fn instructions_without_division_are_defined()
-    ensures { InstructionsWithoutDivisionAreDefined }
+/// Undefined behaviour is the effect of a division by poison or by 0, and of a signed one of poison or of the least number by -1.
+pub fn undefined_is_of_divisions()
+    ensures { UndefinedIsOfDivisions }
 {}

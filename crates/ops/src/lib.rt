@@ -1,18 +1,26 @@
 //! The values of LLVM IR over registers, and what one instruction makes of them.
 #![tactic(auto)]
 
+mod arithmetic;
+mod bitwise;
+mod comparison;
+mod conversion;
+mod division;
 mod instruction;
+mod integer;
 mod laws;
 mod opcode;
+mod shift;
 mod value;
 mod width;
 mod word;
 
+pub use comparison::{Pred, choose, compare};
+pub use conversion::{Cast, convert};
 pub use instruction::evaluate;
 pub use laws::{
-    effects_allow_along, every_effect_allows_itself, every_value_allows_itself,
-    instructions_are_monotone, instructions_keep_widths, instructions_without_division_are_defined,
-    values_allow_along,
+    allowing_is_reflexive, allowing_is_transitive, instructions_are_monotone,
+    instructions_keep_widths, undefined_is_of_divisions,
 };
 pub use opcode::{Flags, Opcode};
 pub use value::{Effect, Value};

@@ -1,7 +1,7 @@
-//! Which instructions there are, and what they may promise.
+//! Which instructions with two operands of one type there are, and what they may promise.
 
-ghost use Rattle.std.specs.Prelude.{◌↔◌, IsTrue};
-ghost use Rattle.ops.specs.Instruction.{FlagsFit};
+ghost use Rattle.std.specs.Prelude.{◌≡◌, ◌↔◌, IsTrue};
+ghost use Rattle.ops.specs.Flags.{AreWithin, FlagsFit, flags_of};
 
 /// The instructions with two operands of one type, and a result of that type.
 /// (LLVM Language Reference, "Binary Operations" and "Bitwise Binary Operations".)
@@ -9,20 +9,36 @@ ghost use Rattle.ops.specs.Instruction.{FlagsFit};
 pub enum Opcode {
     Add,
     Sub,
+    Mul,
+    UDiv,
+    SDiv,
+    URem,
+    SRem,
+    Shl,
+    LShr,
+    AShr,
     And,
     Or,
     Xor,
 }
 
 impl Opcode {
+    /// The flags that the instruction may be written with.
+    pub fn flags(self) -> Flags
+        ensures { result ≡ flags_of self }
+    {
+        match self {
+            Opcode::Add | Opcode::Sub | Opcode::Mul | Opcode::Shl => Flags::WRAP,
+            Opcode::UDiv | Opcode::SDiv | Opcode::LShr | Opcode::AShr => Flags::EXACT,
+            Opcode::URem | Opcode::SRem | Opcode::And | Opcode::Or | Opcode::Xor => Flags::NONE,
+        }
+    }
+
     /// Whether the instruction may be written with these flags.
     pub fn takes(self, flags: Flags) -> bool
         ensures { IsTrue result ↔ FlagsFit self flags }
     {
-        match self {
-            Opcode::Add | Opcode::Sub => !flags.exact,
-            Opcode::And | Opcode::Or | Opcode::Xor => flags == Flags::NONE,
-        }
+        flags.are_within(self.flags())
     }
 }
 
@@ -33,7 +49,7 @@ pub struct Flags {
     pub nuw: bool,
     /// No signed wrap: the result over signed numbers fits the type.
     pub nsw: bool,
-    /// No remainder, or no bit that is set, is lost. None of the instructions above takes it.
+    /// No remainder is left by a division, and no bit that is set is lost by a shift to the right.
     pub exact: bool,
 }
 
@@ -44,4 +60,30 @@ impl Flags {
         nsw: false,
         exact: false,
     };
+
+    /// The promises that rule out a wrap.
+    pub const WRAP: Flags = Flags {
+        nuw: true,
+        nsw: true,
+        exact: false,
+    };
+
+    /// The promise that rules out a remainder.
+    pub const EXACT: Flags = Flags {
+        nuw: false,
+        nsw: false,
+        exact: true,
+    };
+
+    /// Whether each of these flags stands in `others` too.
+    pub fn are_within(self, others: Flags) -> bool
+        ensures { IsTrue result ↔ AreWithin self others }
+    {
+        let common = Flags {
+            nuw: self.nuw && others.nuw,
+            nsw: self.nsw && others.nsw,
+            exact: self.exact && others.exact,
+        };
+        common == self
+    }
 }

@@ -25,6 +25,9 @@ impl Model for Width {
 }
 
 impl Width {
+    /// One bit.
+    pub(crate) const ONE: Width = Width { bits: 1 };
+
     /// The width of `n` bits, or `None` where `n` is not from 1 to 64.
     pub fn new(n: u32) -> Option<Width>
         ensures range { IsSome result ↔ ((1 ≤ n) × (n ≤ 64)) }

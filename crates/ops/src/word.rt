@@ -1,6 +1,6 @@
 //! Numbers of integer types.
 
-ghost use Rattle.std.specs.Prelude.{◌≡◌, ◌<◌, ◌%◌, ◌^◌, ◌↔◌, IsSome, IfSome};
+ghost use Rattle.std.specs.Prelude.{◌≡◌, ◌<◌, ◌%◌, ◌^◌, ◌↔◌, IsSome, IfSome, if◌then◌else◌};
 
 use crate::width::Width;
 use std::marker::Model;
@@ -56,6 +56,16 @@ impl Word {
         ensures { result ≡ record { width = width; number = number } }
     {
         Word { width, number }
+    }
+
+    /// The number 1 of `i1` for true, and 0 for false.
+    pub(crate) fn truth(holds: bool) -> Word
+        ensures { result ≡ record { width = 1; number = (if holds then 1 else 0) } }
+    {
+        Word {
+            width: Width::ONE,
+            number: u64::from(holds),
+        }
     }
 
     /// The number of bits of its type.

@@ -2,7 +2,7 @@
 
 ghost use Rattle.std.specs.Prelude.{◌≡◌, ◌<◌, [], map, ℕ, IfOk, OnErr, IsTrue, IsErrOf, ◌↔◌};
 ghost use Rattle.ir_core.specs.declared.module.Module.{Module};
-ghost use Rattle.alive_top.specs.Grammar.{Register_named};
+ghost use Rattle.alive_top.specs.Grammar.{NamedRegister};
 ghost use Rattle.alive_top.specs.RawViews.{seen_value, seen_parameter, seen_inst, seen_function, seen_functions};
 ghost use Rattle.alive_top.specs.Meaning.{AreDistinct, IsType, IsLiteral, ModuleMeans};
 ghost use Rattle.alive_top.specs.Giving.{Gives};
@@ -10,7 +10,7 @@ ghost use Rattle.alive_top.specs.Resolving.{fold_in, width_in, seen_entries, num
 
 use crate::reader::bytes::is_digit;
 use crate::reader::error::ModuleError;
-use crate::reader::names::{Entity, Scope, define, enter_block, find, register_at};
+use crate::reader::names::{Entity, Scope, define, enter_block, find, register_at_place};
 use crate::reader::number::{literal, width_of};
 use crate::reader::raw::{RawFunction, RawInst, RawParameter, RawValue};
 use indexmap::{IndexMap, IndexSet};
@@ -66,11 +66,11 @@ fn register(
     text: &[u8],
 ) -> Result<Operand, ModuleError>
     ensures { Gives (λ x. x) result
-        (operand_in parameters (seen_entries scope.now.entries) width (Register_named text.now)) }
+        (operand_in parameters (seen_entries scope.now.entries) width (NamedRegister text.now)) }
 {
     match find(scope, text) {
         Some((place, Entity::Register(bits))) if bits == width.bits() => {
-            match register_at(parameters, place) {
+            match register_at_place(parameters, place) {
                 Some(register) => Ok(Operand::Register(register)),
                 None => Err(ModuleError::NoMemory),
             }
@@ -153,7 +153,7 @@ fn inst<'a>(
     let left = operand(scope, parameters, width, raw.left)?;
     let right = operand(scope, parameters, width, raw.right)?;
     let (name, next_number) = define(alloc, scope, next_number, raw.name, width)?;
-    let op = Op::Binary(raw.opcode, Flags::NONE, left, right);
+    let op = Op::Binary(raw.operation.opcode(), Flags::NONE, left, right);
     Ok((Inst { name, width, op }, next_number))
 }
 

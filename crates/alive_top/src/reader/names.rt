@@ -6,7 +6,7 @@ ghost use Rattle.alive_top.specs.Bytes.{is_digit, begins_with};
 ghost use Rattle.alive_top.specs.Meaning.{decimal_value, called};
 ghost use Rattle.alive_top.specs.Identifiers.{seen};
 ghost use Rattle.alive_top.specs.Giving.{Gives};
-ghost use Rattle.alive_top.specs.Resolving.{seen_entries, lookup_in, find_in, add_in, define_in, enter_in, register_at};
+ghost use Rattle.alive_top.specs.Resolving.{seen_entries, lookup_in, find_in, add_in, define_in, enter_in, register_at_place};
 
 use crate::identifier::Identifier;
 use crate::reader::bytes::is_digit;
@@ -148,9 +148,9 @@ pub(crate) fn find(scope: &Scope<'_>, text: &[u8]) -> Option<(usize, Entity)>
 /// The register at a place in text order, where the first `parameters` places are parameters and the next is the block.
 ///
 /// `None` where its place among the parameters, or among the results, is 2 ^ 32 or more.
-#[tactic(auto, unfolding(crate::specs::Resolving::register_at))]
-pub(crate) fn register_at(parameters: usize, place: usize) -> Option<Register>
-    ensures register { IfSome result (λ r. r ≡ register_at parameters place) }
+#[tactic(auto, unfolding(crate::specs::Resolving::register_at_place))]
+pub(crate) fn register_at_place(parameters: usize, place: usize) -> Option<Register>
+    ensures register { IfSome result (λ r. r ≡ register_at_place parameters place) }
     ensures given { place < 2 ^ 32 → IsSome result }
 {
     if place < parameters {

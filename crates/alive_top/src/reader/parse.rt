@@ -3,13 +3,12 @@
 ghost use Rattle.std.specs.Prelude.{[], ◌∷◌, suc, length};
 ghost use Rattle.alive_top.specs.Giving.{Gives};
 ghost use Rattle.alive_top.specs.RawViews.{seen_value, seen_inst, seen_parameter, seen_function, seen_insts, seen_parameters, seen_functions};
-ghost use Rattle.alive_top.specs.Parsing.{word_at, mark_at, keyword_at, register_at, function_name_at, opcode_in, value_in, opcode_at, value_at, inst_at, insts_at, parameter_at, more_parameters_at, parameters_at, function_at, functions_at, with_front};
+ghost use Rattle.alive_top.specs.Parsing.{word_at, mark_at, keyword_at, register_at, function_name_at, operation_in, value_in, operation_at, value_at, inst_at, insts_at, parameter_at, more_parameters_at, parameters_at, function_at, functions_at, with_front};
 
 use crate::reader::error::ModuleError;
-use crate::reader::raw::{RawFunction, RawInst, RawParameter, RawValue};
+use crate::reader::raw::{Operation, RawFunction, RawInst, RawParameter, RawValue};
 use crate::reader::scan::next;
 use crate::reader::token::{Mark, Token, is};
-use ops::Opcode;
 use std::alloc::Global;
 
 #[tactic(auto, unfolding(crate::specs::Parsing::word_at))]
@@ -68,21 +67,21 @@ fn function_name(text: &[u8]) -> Result<(&[u8], &[u8]), ModuleError>
     }
 }
 
-/// The opcode that a word is.
-#[tactic(auto, unfolding(crate::specs::Parsing::opcode_in))]
-fn opcode_of(word: &[u8]) -> Result<Opcode, ModuleError>
-    ensures { Gives (λ x. x) result (opcode_in word.now) }
+/// The operation that a word is.
+#[tactic(auto, unfolding(crate::specs::Parsing::operation_in))]
+fn operation_of(word: &[u8]) -> Result<Operation, ModuleError>
+    ensures { Gives (λ x. x) result (operation_in word.now) }
 {
     if is(word, "add") {
-        Ok(Opcode::Add)
+        Ok(Operation::Add)
     } else if is(word, "sub") {
-        Ok(Opcode::Sub)
+        Ok(Operation::Sub)
     } else if is(word, "and") {
-        Ok(Opcode::And)
+        Ok(Operation::And)
     } else if is(word, "or") {
-        Ok(Opcode::Or)
+        Ok(Operation::Or)
     } else if is(word, "xor") {
-        Ok(Opcode::Xor)
+        Ok(Operation::Xor)
     } else {
         Err(ModuleError::Refused)
     }
@@ -106,13 +105,13 @@ fn value_of(word: &[u8]) -> Result<RawValue<'_>, ModuleError>
     }
 }
 
-#[tactic(auto, unfolding(crate::specs::Parsing::opcode_at))]
-fn opcode(text: &[u8]) -> Result<(Opcode, &[u8]), ModuleError>
-    ensures { Gives (λ x. (x.0, x.1.now)) result (opcode_at text.now) }
+#[tactic(auto, unfolding(crate::specs::Parsing::operation_at))]
+fn operation(text: &[u8]) -> Result<(Operation, &[u8]), ModuleError>
+    ensures { Gives (λ x. (x.0, x.1.now)) result (operation_at text.now) }
 {
     let (word, rest) = word(text)?;
-    let opcode = opcode_of(word)?;
-    Ok((opcode, rest))
+    let operation = operation_of(word)?;
+    Ok((operation, rest))
 }
 
 #[tactic(auto, unfolding(crate::specs::Parsing::value_at))]
@@ -135,14 +134,14 @@ fn inst<'a>(name: &'a [u8], text: &'a [u8]) -> Result<(RawInst<'a>, &'a [u8]), M
     ensures { Gives (λ x. (seen_inst x.0, x.1.now)) result (inst_at name.now text.now) }
 {
     let rest = mark(text, Mark::Equals)?;
-    let (opcode, rest) = opcode(rest)?;
+    let (operation, rest) = operation(rest)?;
     let (width, rest) = word(rest)?;
     let (left, rest) = value(rest)?;
     let rest = mark(rest, Mark::Comma)?;
     let (right, rest) = value(rest)?;
     let inst = RawInst {
         name,
-        opcode,
+        operation,
         width,
         left,
         right,

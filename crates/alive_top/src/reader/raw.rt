@@ -2,6 +2,34 @@
 
 use ops::Opcode;
 
+/// A binary operation that a module of this form may have.
+#[derive(Clone, Copy, Debug, PartialEq, Eq)]
+pub(crate) enum Operation {
+    Add,
+    Sub,
+    And,
+    Or,
+    Xor,
+}
+
+impl Operation {
+    ghost use Rattle.std.specs.Prelude.{◌≡◌};
+    ghost use Rattle.alive_top.specs.Operations.{opcode_of};
+
+    /// Its opcode.
+    pub(crate) fn opcode(self) -> Opcode
+        ensures { result ≡ opcode_of self }
+    {
+        match self {
+            Operation::Add => Opcode::Add,
+            Operation::Sub => Opcode::Sub,
+            Operation::And => Opcode::And,
+            Operation::Or => Opcode::Or,
+            Operation::Xor => Opcode::Xor,
+        }
+    }
+}
+
 /// A function as written.
 #[derive(Drop)]
 pub(crate) struct RawFunction<'a> {
@@ -22,7 +50,7 @@ pub(crate) struct RawParameter<'a> {
 #[derive(Clone, Copy)]
 pub(crate) struct RawInst<'a> {
     pub(crate) name: &'a [u8],
-    pub(crate) opcode: Opcode,
+    pub(crate) operation: Operation,
     pub(crate) width: &'a [u8],
     pub(crate) left: RawValue<'a>,
     pub(crate) right: RawValue<'a>,

@@ -2,30 +2,25 @@
 
 use super::*;
 
-/// A command over files in memory, and what it is to leave.
+/// A command over files in memory, what fails, and what is left.
 #[derive(Drop)]
 struct Row {
     words: &'static [&'static str],
     rules: &'static str,
     source: &'static str,
+    faults: Faults,
     status: u8,
     out: &'static str,
     err: &'static str,
 }
 
-const WORDS: [Row; 6] = [
+const ROWS: [Row; 17] = [
+    // words
     Row {
         words: &[],
         rules: "; none",
         source: IDENTITY,
-        status: 2,
-        out: "",
-        err: "error: words\n",
-    },
-    Row {
-        words: &["alive"],
-        rules: "; none",
-        source: IDENTITY,
+        faults: NO_FAULTS,
         status: 2,
         out: "",
         err: "error: words\n",
@@ -34,6 +29,7 @@ const WORDS: [Row; 6] = [
         words: &["alive", "optimise", "r"],
         rules: "; none",
         source: IDENTITY,
+        faults: NO_FAULTS,
         status: 2,
         out: "",
         err: "error: words\n",
@@ -42,6 +38,7 @@ const WORDS: [Row; 6] = [
         words: &["alive", "optimise", "r", "m", "m"],
         rules: "; none",
         source: IDENTITY,
+        faults: NO_FAULTS,
         status: 2,
         out: "",
         err: "error: words\n",
@@ -50,25 +47,27 @@ const WORDS: [Row; 6] = [
         words: &["alive", "verify", "r", "m"],
         rules: "; none",
         source: IDENTITY,
+        faults: NO_FAULTS,
         status: 2,
         out: "",
         err: "error: words\n",
     },
+    // rules
     Row {
-        words: &["alive", "optimise", "r", "m.ll"],
-        rules: "; none",
+        words: OPTIMISE,
+        rules: "Name: x",
         source: IDENTITY,
-        status: 5,
+        faults: NO_FAULTS,
+        status: 3,
         out: "",
-        err: "read fault: m.ll\n",
+        err: "rules refused\n",
     },
-];
-
-const MODULES: [Row; 5] = [
+    // modules
     Row {
         words: OPTIMISE,
         rules: "; none\n",
         source: IDENTITY,
+        faults: NO_FAULTS,
         status: 0,
         out: IDENTITY,
         err: "@f: 0 rewrites\n",
@@ -76,15 +75,17 @@ const MODULES: [Row; 5] = [
     Row {
         words: OPTIMISE,
         rules: "\t; none\n\r\n",
-        source: "define i8 @f() { ret i8 255 } ; -1\ndefine i1 @g() {\n  ret i1 1 }",
+        source: "define i8 @f() { ret i8 255 } ; -1\ndefine i1 @g() {\n  ret i1 1 }define i64 @h() { ret i64 9223372036854775808 }",
+        faults: NO_FAULTS,
         status: 0,
-        out: "define i8 @f() {\n  ret i8 -1\n}\n\ndefine i1 @g() {\n  ret i1 true\n}\n",
-        err: "@f: 0 rewrites\n@g: 0 rewrites\n",
+        out: "define i8 @f() {\n  ret i8 -1\n}\n\ndefine i1 @g() {\n  ret i1 true\n}\n\ndefine i64 @h() {\n  ret i64 -9223372036854775808\n}\n",
+        err: "@f: 0 rewrites\n@g: 0 rewrites\n@h: 0 rewrites\n",
     },
     Row {
         words: OPTIMISE,
         rules: "",
         source: "define i8 @f(i8 %0, i8 %x) {\n%2 = add i8 %0, 200\n%y = sub i8 %2,%x\nret i8 %y }",
+        faults: NO_FAULTS,
         status: 0,
         out: "define i8 @f(i8 %0, i8 %x) {\n  %2 = add i8 %0, -56\n  %y = sub i8 %2, %x\n  ret i8 %y\n}\n",
         err: "@f: 0 rewrites\n",
@@ -92,49 +93,130 @@ const MODULES: [Row; 5] = [
     Row {
         words: OPTIMISE,
         rules: "",
-        source: "define i8 @f(i8 %a) {\n  %1 = add i8 %a, 1\n  %2 = sub i8 %a, 2\n  ret i8 %2\n}\n",
+        source: "define i8 @f(i8 %a) {\n  %1 = add i8 %a, 1\n  %2 = sub i8 undef, 2\n  ret i8 %2\n}\n",
+        faults: NO_FAULTS,
         status: 0,
-        out: "define i8 @f(i8 %a) {\n  %1 = sub i8 %a, 2\n  ret i8 %1\n}\n",
+        out: "define i8 @f(i8 %a) {\n  %1 = sub i8 undef, 2\n  ret i8 %1\n}\n",
         err: "@f: 0 rewrites\n",
     },
     Row {
         words: OPTIMISE,
-        rules: "Name: x",
+        rules: "",
+        source: "define i8 @f(i8 %a) {\n  %x = add i8 %a, 1\n  %y = xor i8 %a, 3\n  %z = and i8 7, %x\n  %w = sub i8 %y, 1\n  %v = sub i8 %z, %a\n  ret i8 %v\n}\n",
+        faults: NO_FAULTS,
+        status: 0,
+        out: "define i8 @f(i8 %a) {\n  %x = add i8 %a, 1\n  %z = and i8 7, %x\n  %v = sub i8 %z, %a\n  ret i8 %v\n}\n",
+        err: "@f: 0 rewrites\n",
+    },
+    // faults
+    Row {
+        words: &["alive", "optimise", "r", "m.ll"],
+        rules: "",
         source: IDENTITY,
-        status: 3,
+        faults: NO_FAULTS,
+        status: 5,
         out: "",
-        err: "rules refused\n",
+        err: "read fault: m.ll\n",
+    },
+    Row {
+        words: OPTIMISE,
+        rules: "",
+        source: IDENTITY,
+        faults: Faults {
+            read: Some(0),
+            out: None,
+            err: Some(FailingPut { number: 0, most: 3 }),
+        },
+        status: 5,
+        out: "",
+        err: "rea",
+    },
+    Row {
+        words: OPTIMISE,
+        rules: "",
+        source: IDENTITY,
+        faults: Faults {
+            read: None,
+            out: Some(FailingPut { number: 0, most: 7 }),
+            err: None,
+        },
+        status: 6,
+        out: "define ",
+        err: "",
+    },
+    Row {
+        words: OPTIMISE,
+        rules: "",
+        source: IDENTITY,
+        faults: Faults {
+            read: None,
+            out: None,
+            err: Some(FailingPut { number: 0, most: 4 }),
+        },
+        status: 6,
+        out: IDENTITY,
+        err: "@f: ",
+    },
+    // each sink is put to once
+    Row {
+        words: OPTIMISE,
+        rules: "",
+        source: IDENTITY,
+        faults: Faults {
+            read: None,
+            out: Some(FailingPut { number: 1, most: 0 }),
+            err: None,
+        },
+        status: 0,
+        out: IDENTITY,
+        err: "@f: 0 rewrites\n",
+    },
+    Row {
+        words: OPTIMISE,
+        rules: "",
+        source: IDENTITY,
+        faults: Faults {
+            read: None,
+            out: None,
+            err: Some(FailingPut { number: 1, most: 0 }),
+        },
+        status: 0,
+        out: IDENTITY,
+        err: "@f: 0 rewrites\n",
+    },
+    Row {
+        words: OPTIMISE,
+        rules: "",
+        source: "",
+        faults: Faults {
+            read: Some(2),
+            out: None,
+            err: None,
+        },
+        status: 0,
+        out: "",
+        err: "",
     },
 ];
 
-fn check<R: Abort + AllocGlobal>(rt: &R, row: &Row) -> Result<(), Fail> {
-    let alloc = rt.alloc();
-    let words = strings(alloc, row.words)?;
-    let mut files = MemoryFiles::new(alloc);
-    files.add(alloc, "r", row.rules.as_bytes())?;
-    files.add(alloc, "m", row.source.as_bytes())?;
-    let mut out = MemorySink::with_room(alloc, 1000)?;
-    let mut err = MemorySink::with_room(alloc, 1000)?;
-    let ended = alive(alloc, &words, &mut files, &mut out, &mut err);
-    let source = row.source;
-    assert_eq!(rt; ended.status.code(), row.status, "the status of {source}");
-    assert_eq!(rt;
-        out.contents(),
-        row.out.as_bytes(),
-        "the output of {source}"
-    );
-    assert_eq!(rt;
-        err.contents(),
-        row.err.as_bytes(),
-        "the report of {source}"
-    );
-    Ok(())
+/// Whether that is what the row says.
+fn is_left(left: &Left, row: &Row) -> bool {
+    left.status == row.status
+        && left.out.contents() == row.out.as_bytes()
+        && left.err.contents() == row.err.as_bytes()
 }
 
 #[test]
 fn commands_leave_what_they_say(rt: HostRuntime) -> Result<(), Fail> {
-    for row in WORDS.iter().chain(MODULES.iter()) {
-        check(&rt, row)?;
+    for row in &ROWS {
+        let left = what_is_left(
+            rt.alloc(),
+            row.words,
+            row.rules.as_bytes(),
+            row.source.as_bytes(),
+            row.faults,
+        )?;
+        assert!(rt; is_left(&left, row), "what {} leaves", row.source);
     }
     Ok(())
 }

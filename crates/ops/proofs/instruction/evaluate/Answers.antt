@@ -1,14 +1,14 @@
-use Rattle.ops.proofs.Instructions.{IsEffectOf-on_numbers, IsEffectOf-on_poison}
+use Rattle.ops.proofs.Widths.{IsEffectOf-on_numbers, IsEffectOf-on_poison}
 use Rattle.ops.proofs.instruction.evaluate.Goals as goal
 
 pub returns-in_default-clause-width : goal.returns-in_default-clause-width
 returns-in_default-clause-width c =
-    rw (c.on_poison.ensures c.args.width c.args.b)
+    rw c.on_poison.ensures
     (IsEffectOf-on_poison c.args.op c.args.width c.args.b)
 
 pub returns-in_default-b-clause-width : goal.returns-in_default-b-clause-width
 returns-in_default-b-clause-width c =
-    rw (c.on_poison-in_default-b.ensures c.args.width c.args.b)
+    rw c.on_poison-in_default-b.ensures
     (IsEffectOf-on_poison c.args.op c.args.width c.args.b)
 
 pub returns-clause-width : goal.returns-clause-width

@@ -1,5 +1,10 @@
-use Rattle.ops.proofs.Instructions.{instruction-monotone}
+use Rattle.ops.proofs.Monotone.{instruction-monotone, comparison-monotone, conversion-monotone, selection-monotone}
 use Rattle.ops.proofs.laws.instructions_are_monotone.Goals as goal
 
 pub returns : goal.returns
-returns c = instruction-monotone
+returns c = record {
+  evaluate = instruction-monotone;
+  compare = comparison-monotone;
+  convert = conversion-monotone;
+  choose = selection-monotone;
+}

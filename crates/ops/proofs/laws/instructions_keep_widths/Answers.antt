@@ -1,5 +1,10 @@
-use Rattle.ops.proofs.Instructions.{IsEffectOf-instruction}
+use Rattle.ops.proofs.Widths.{IsEffectOf-instruction, IsValueOf-comparison, IsValueOf-conversion, IsValueOf-selection}
 use Rattle.ops.proofs.laws.instructions_keep_widths.Goals as goal
 
 pub returns : goal.returns
-returns c = IsEffectOf-instruction
+returns c = record {
+  evaluate = IsEffectOf-instruction;
+  compare = IsValueOf-comparison;
+  convert = IsValueOf-conversion;
+  choose = IsValueOf-selection;
+}

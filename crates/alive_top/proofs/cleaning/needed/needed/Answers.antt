@@ -5,7 +5,7 @@ use Rattle.std.proofs.lemmas.Option.{slice_get_read}
 use Rattle.ir_core.specs.declared.module.Inst.{Inst}
 use Rattle.alive_top.specs.Straight.{OpStands, EndStands}
 use Rattle.alive_top.specs.Marking.{marked_end, marked_op}
-use Rattle.alive_top.proofs.MarkLemmas.{Walked, walk_starts, walk_over_marked, walk_over_other, walk_ends, stands_at, length-marked_op, length-marked_end, not_marked, is_marked}
+use Rattle.alive_top.proofs.MarkLemmas.{Walked, walk_starts, walk_over_marked, walk_over_other, walk_ends, stands_at, length-marked_op, length-marked_end, not_marked, IsMarked-read}
 use Rattle.alive_top.proofs.KeptLemmas.{stands_later}
 use Rattle.alive_top.proofs.cleaning.needed.needed.Goals as goal
 
@@ -56,7 +56,7 @@ loop-place-preserved-then-index c =
     let count = w.count in
     let all = ap length c.as_slice-insts.ensures in
     let within : p < length ms = omega arith in
-    let marked = is_marked ms p c.index.result.now within c.index.ensures c.if-index.true in
+    let marked = IsMarked-read ms p c.index.result.now within c.index.ensures c.if-index.true in
     let value : c.as_mut_slice-then-index.result.now ≡ ms = c.as_mut_slice-then-index.ensures.value in
     let now : c.mark_op.new.marks ≡ marked_op inst.op ms = c.mark_op.ensures ∙ ap (λ (i : Inst). marked_op i.op c.as_mut_slice-then-index.result.now) (sym c.index-insts-place.is) ∙ ap (marked_op inst.op) value in
     let len : length ms ≡ c.loop-place.marks.len = ap length (sym value) ∙ c.as_mut_slice-then-index.ensures.len in

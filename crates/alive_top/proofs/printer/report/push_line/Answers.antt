@@ -1,4 +1,4 @@
-use Rattle.std.proofs.Common.{List, ℕ, ◌∷◌, [], ◌++◌, codes, ap, sym, ◌∙◌, append_assoc}
+use Rattle.std.proofs.Common.{List, ℕ, ◌++◌, codes, ap, sym, ◌∙◌, append_assoc}
 use Rattle.alive_top.proofs.Reports.{line_is}
 use Rattle.alive_top.proofs.printer.report.push_line.Goals as goal
 

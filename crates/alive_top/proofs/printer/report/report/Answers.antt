@@ -1,4 +1,4 @@
-use Rattle.std.proofs.Common.{ap, take, sym, ◌∙◌, List, ℕ}
+use Rattle.std.proofs.Common.{ap, ◌∙◌, List}
 use Rattle.std.proofs.lemmas.List.{take_all}
 use Rattle.std.specs.List.{flat_map}
 use Rattle.ir_core.specs.declared.module.Entry.{Entry}

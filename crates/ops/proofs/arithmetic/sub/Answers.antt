@@ -1,0 +1,14 @@
+use Rattle.std.proofs.Common.{ℕ, arith, ◌≡◌, ◌∙◌}
+use Rattle.std.proofs.lemmas.Int.{ints}
+use Rattle.std.specs.Prelude.{ℤ}
+use Rattle.ops.specs.declared.opcode.Flags.{Flags}
+use Rattle.ops.specs.Arithmetic.{arithmetic}
+use Rattle.ops.proofs.arithmetic.sub.Goals as goal
+
+-- equal results of the subtraction give equal values
+same_results : (flags : Flags) (N : ℕ) (u u' s s' : ℤ) → u ≡ u' → s ≡ s' → arithmetic flags N u s ≡ arithmetic flags N u' s'
+same_results flags N u u' s s' e f = cc
+
+pub returns : goal.returns
+returns c =
+    c.reduce.ensures ∙ same_results _ _ _ _ _ _ (omega (arith, ints)) (omega (arith, ints))

@@ -1,0 +1,5 @@
+use Rattle.std.proofs.lemmas.Nat.{xor_lt}
+use Rattle.ops.proofs.bitwise.xor.Goals as goal
+
+pub fitting-requires : goal.fitting-requires
+fitting-requires c = xor_lt _ _ _ c.requires.left c.requires.right

@@ -1,0 +1,6 @@
+use Rattle.std.proofs.Common.{arith}
+use Rattle.std.proofs.lemmas.Nat.{pow_below}
+use Rattle.ops.proofs.conversion.converted.Goals as goal
+
+pub fitting-requires : goal.fitting-requires
+fitting-requires c = omega (arith, c.requires.number, pow_below c.args.from c.args.to (rw c.in-ZExt.is at c.requires.widths))

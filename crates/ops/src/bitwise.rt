@@ -1,0 +1,35 @@
+//! Bit by bit. (LLVM Language Reference, "Bitwise Binary Operations".)
+
+ghost use Rattle.std.specs.Prelude.{◌≡◌, ◌<◌, ◌^◌, bit_and, bit_or, bit_xor};
+ghost use Rattle.ops.specs.Integer.{bits};
+
+use crate::value::Value;
+use crate::width::Width;
+use crate::word::Word;
+
+/// `and` of two numbers.
+pub(crate) fn and(width: Width, a: u64, b: u64) -> Value
+    requires left { a < 2 ^ width }
+    requires right { b < 2 ^ width }
+    ensures { result ≡ bits width (bit_and a b) }
+{
+    Value::Bits(Word::fitting(width, a & b))
+}
+
+/// `or` of two numbers.
+pub(crate) fn or(width: Width, a: u64, b: u64) -> Value
+    requires left { a < 2 ^ width }
+    requires right { b < 2 ^ width }
+    ensures { result ≡ bits width (bit_or a b) }
+{
+    Value::Bits(Word::fitting(width, a | b))
+}
+
+/// `xor` of two numbers.
+pub(crate) fn xor(width: Width, a: u64, b: u64) -> Value
+    requires left { a < 2 ^ width }
+    requires right { b < 2 ^ width }
+    ensures { result ≡ bits width (bit_xor a b) }
+{
+    Value::Bits(Word::fitting(width, a ^ b))
+}

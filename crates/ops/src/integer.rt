@@ -1,0 +1,47 @@
+//! Numbers of an integer type, without a sign and in two's complement. (LLVM Language Reference, "Integer Type".)
+
+ghost use Rattle.std.specs.Prelude.{◌≡◌, ◌<◌, ◌≤ℤ◌, ◌<ℤ◌, ◌-◌, ◌^◌, pos, neg_ℤ};
+ghost use Rattle.ops.specs.Integer.{signed, fits_signed, fits_unsigned, residue};
+
+use crate::width::Width;
+
+/// The number of `width` bits, read in two's complement.
+#[tactic(auto, unfolding(crate::specs::Integer::signed))]
+pub(crate) fn signed(width: Width, number: u64) -> i128
+    requires { number < 2 ^ width }
+    ensures number { result ≡ signed width number }
+    ensures least { neg_ℤ (pos (2 ^ 63)) ≤ℤ result }
+    ensures most { result <ℤ pos (2 ^ 63) }
+{
+    let number = i128::from(number);
+    if number < width.half_modulus() {
+        number
+    } else {
+        number - width.modulus()
+    }
+}
+
+/// Whether the number is one of `width` bits without a sign.
+#[tactic(auto, unfolding(crate::specs::Integer::fits_unsigned))]
+pub(crate) fn fits_unsigned(width: Width, number: i128) -> bool
+    ensures { result ≡ fits_unsigned width number }
+{
+    0 <= number && number < width.modulus()
+}
+
+/// Whether the number is one of `width` bits in two's complement.
+#[tactic(auto, unfolding(crate::specs::Integer::fits_signed))]
+pub(crate) fn fits_signed(width: Width, number: i128) -> bool
+    ensures { result ≡ fits_signed width number }
+{
+    -width.half_modulus() <= number && number < width.half_modulus()
+}
+
+/// The number modulo 2 to the power of `width`.
+#[tactic(auto, unfolding(crate::specs::Integer::residue))]
+pub(crate) fn residue(width: Width, number: i128) -> u64
+    ensures residue { result ≡ residue width number }
+    ensures fits { result < 2 ^ width }
+{
+    number.rem_euclid(width.modulus()) as u64
+}
