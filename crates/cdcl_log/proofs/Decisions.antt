@@ -11,7 +11,7 @@ use Rattle.std.proofs.lemmas.Option.{slice_get-get_or}
 use Rattle.std.proofs.lemmas.List.Elements.{filter-append, filter_map-append}
 use Rattle.cdcl_log.specs.declared.trail.Entry.{Entry}
 use Rattle.cdcl_log.specs.declared.trail.Cause.{Cause}
-use Rattle.cdcl_log.specs.declared.trail.Cause.TheVariants.{Input, Other, Reason}
+use Rattle.cdcl_log.specs.declared.trail.Cause.TheVariants.{InputDecision, NonInputDecision, Reason}
 use Rattle.cdcl_log.specs.TrailEntries.{literals, decisions, reasons, is_decision, reason_of}
 use Rattle.cdcl_log.proofs.Lists.{take_next}
 use Rattle.cdcl_log.proofs.HeldLists.{literals-append}
@@ -67,13 +67,13 @@ LastBefore-step entries items k d last next false same within is h e =
     (LastBefore-other entries k (get_or items k d) last (read_at entries items k d same within) (sym is) h)
 
 decided_without_reason : (cause : Cause) → reason_of cause ≡ None → is_decision cause ≡ true
-decided_without_reason Input none = refl
-decided_without_reason Other none = refl
+decided_without_reason InputDecision none = refl
+decided_without_reason NonInputDecision none = refl
 decided_without_reason (Reason number) none = cc
 
 not_decided : (cause : Cause) (n : ℕ) → reason_of cause ≡ Some n → is_decision cause ≡ false
-not_decided Input n some = cc
-not_decided Other n some = cc
+not_decided InputDecision n some = cc
+not_decided NonInputDecision n some = cc
 not_decided (Reason number) n some = refl
 
 reasons_next : (entries : List Entry) (k : ℕ) (e : Entry) (o : Option ℕ) → slice_get entries k ≡ Some e → reason_of e.cause ≡ o → reasons (take (k + 1) entries) ≡ reasons (take k entries) ++ option_to_list o

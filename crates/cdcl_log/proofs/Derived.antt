@@ -13,7 +13,7 @@ use Rattle.clauses.proofs.Closed.{HeldWithin, HeldWithin-cons, not_held}
 use Rattle.clauses.proofs.Derivations.{Derives-push}
 use Rattle.cdcl_log.specs.declared.trail.Entry.{Entry}
 use Rattle.cdcl_log.specs.declared.trail.Cause.{Cause}
-use Rattle.cdcl_log.specs.declared.trail.Cause.TheVariants.{Input, Other, Reason}
+use Rattle.cdcl_log.specs.declared.trail.Cause.TheVariants.{InputDecision, NonInputDecision, Reason}
 use Rattle.cdcl_log.specs.TrailEntries.{literals, decisions, reasons, is_decision, reason_of}
 use Rattle.cdcl_log.specs.Learned.{is_marked, marked_entries, IsInvolved}
 use Rattle.cdcl_log.proofs.Lists.{take_next, element_at, slice_get_take, some_same}
@@ -180,8 +180,8 @@ module _ (clauses : List (List Lit)) (entries : List Entry) (marks : List Bool) 
       (λ marked. so_far.decided.each e.literal (decision_at entries n e at (ap is_decision is ∙ decided)))
 
   derives_next : (n : ℕ) (e : Entry) (cause : Cause) → slice_get entries n ≡ Some e → e.cause ≡ cause → DerivesFirst clauses entries marks n → DerivesFirst clauses entries marks (suc n)
-  derives_next n e Input at is so_far = derives_decision n e Input at is refl refl so_far
-  derives_next n e Other at is so_far = derives_decision n e Other at is refl refl so_far
+  derives_next n e InputDecision at is so_far = derives_decision n e InputDecision at is refl refl so_far
+  derives_next n e NonInputDecision at is so_far = derives_decision n e NonInputDecision at is refl refl so_far
   derives_next n e (Reason number) at is so_far =
       elim (cases_Bool (is_marked marks e.literal.variable)) [
         | inl marked ↦ derives_forced n e number at is marked so_far

@@ -15,16 +15,16 @@ use Rattle.clauses.proofs.Held.{is_same-true}
 use Rattle.clauses.proofs.Closed.{HeldWithin, HeldWithin-nil, HeldWithin-cons, IsClosed, Derives-within, not_SomeFalsified, not_UnitsRefute}
 use Rattle.cdcl_log.specs.declared.trail.Entry.{Entry}
 use Rattle.cdcl_log.specs.declared.trail.Cause.{Cause}
-use Rattle.cdcl_log.specs.declared.trail.Cause.TheVariants.{Other}
+use Rattle.cdcl_log.specs.declared.trail.Cause.TheVariants.{NonInputDecision}
 use Rattle.cdcl_log.specs.Found.{IsModel, IsHonestLimit, NoneEmpty}
 use Rattle.cdcl_log.specs.TrailEntries.{literals, is_decision, IsOpen, IsSet, IsTableOf, value_makes, value_or_false}
-use Rattle.cdcl_log.specs.Settled.{AllSettled}
+use Rattle.cdcl_log.specs.Propagated.{AllPropagated}
 use Rattle.cdcl_log.specs.DepthFirst.{InputsSet, IsCaused, IsLearned, IsDecided}
 use Rattle.cdcl_log.proofs.Lists.{slice_get_left, slice_get_take, take_in_take}
 use Rattle.cdcl_log.proofs.HeldLists.{not_held_nil, both_held, held_one}
 use Rattle.cdcl_log.proofs.Open.{open_inside, variable_within}
 use Rattle.cdcl_log.proofs.Sets.{clause_within}
-use Rattle.cdcl_log.proofs.States.{AllSettled-left, closed_from_settled, decided_from}
+use Rattle.cdcl_log.proofs.States.{AllPropagated-left, closed_from_propagated, decided_from}
 
 -- a clause that isn't false has a literal that isn't
 kept_literal : (held clause : List Lit) (ls : List Lit) → open_literals held clause ≡ ls → ¬ (IsFalsified held clause) → (l : Lit) × (is_held clause l ≡ true) × (is_false held l ≡ false)
@@ -61,9 +61,9 @@ any_true v (m ∷ ms) l h is =
       | inr rest ↦ or_right (literal_true v m) (clause_true v ms) (any_true v ms l rest is)
     ]
 
--- where each variable is set and all clauses are settled, the values are a model
-pub IsModel-from_settled : (set : Cnf) (values : List (Option Bool)) (entries : List Entry) → IsTableOf values entries → length values ≡ set.count + 1 → AllSettled (all_clauses set) (literals entries) → ((n : ℕ) → IsVariable set.count n → IsSet (literals entries) n) → IsModel set (map value_or_false (drop 1 values))
-IsModel-from_settled set values entries table room settled all =
+-- where each variable is set and all clauses are propagated, the values are a model
+pub IsModel-from_propagated : (set : Cnf) (values : List (Option Bool)) (entries : List Entry) → IsTableOf values entries → length values ≡ set.count + 1 → AllPropagated (all_clauses set) (literals entries) → ((n : ℕ) → IsVariable set.count n → IsSet (literals entries) n) → IsModel set (map value_or_false (drop 1 values))
+IsModel-from_propagated set values entries table room propagated all =
     let held = literals entries in
     let found = map value_or_false (drop 1 values) in
     let v = assignment_of found in
@@ -84,7 +84,7 @@ IsModel-from_settled set values entries table room settled all =
       meets = λ k d within.
           let clause = get_or (all_clauses set) k d in
           let at : slice_get (all_clauses set) k ≡ Some clause = slice_get-get_or (all_clauses set) k d within in
-          let (l, stands, kept) = kept_literal held clause (open_literals held clause) refl (settled k clause at).not_false in
+          let (l, stands, kept) = kept_literal held clause (open_literals held clause) refl (propagated k clause at).not_false in
           any_true v clause l stands (literal_is_true l (variable_within set.count clause l (clause_within set k clause at) stands) kept);
     }
 
@@ -104,13 +104,13 @@ module _ (set : Cnf) (log : List Step) (n : ℕ) where
   NoneEmpty-take : NoneEmpty log → NoneEmpty (take n log)
   NoneEmpty-take none place s at = none place s (slice_get_take n log place s at).0
 
-  AllSettled-take : (held : List Lit) → AllSettled (clauses_with set log) held → AllSettled (clauses_with set (take n log)) held
-  AllSettled-take held settled number clause at =
+  AllPropagated-take : (held : List Lit) → AllPropagated (clauses_with set log) held → AllPropagated (clauses_with set (take n log)) held
+  AllPropagated-take held propagated number clause at =
       let parts : clauses_with set log ≡ clauses_with set (take n log) ++ clauses_of_steps (drop n log) =
       sym (ap (λ ss. all_clauses set ++ clauses_of_steps ss) (take-append-drop n log))
       ∙ ap (λ cs. all_clauses set ++ cs) (map-append (λ (s : Step). s.clause) (take n log) (drop n log))
       ∙ sym (append_assoc (all_clauses set) (clauses_of_steps (take n log)) (clauses_of_steps (drop n log))) in
-      settled number clause
+      propagated number clause
       (ap (λ cs. slice_get cs number) parts ∙ slice_get_left (clauses_with set (take n log)) (clauses_of_steps (drop n log)) number clause at)
 
 -- the inputs' values as they are held
@@ -133,11 +133,11 @@ setting_held held (n ∷ ns) all =
     HeldWithin-cons (literal_of n (held_setting held n)) (map (λ m. literal_of m (held_setting held m)) ns) held here
     (setting_held held ns (All-tail (IsSet held) n ns all))
 
--- where all inputs are set and all clauses are settled, but a variable is open, units don't determine the rest
-not_determined : (set : Cnf) (held : List Lit) (n : ℕ) → AllSettled (all_clauses set) held → InputsSet set held → IsVariable set.count n → IsOpen held n → ¬ (UnitsDetermine set)
-not_determined set held n settled inputs variable o determine =
+-- where all inputs are set and all clauses are propagated, but a variable is open, units don't determine the rest
+not_determined : (set : Cnf) (held : List Lit) (n : ℕ) → AllPropagated (all_clauses set) held → InputsSet set held → IsVariable set.count n → IsOpen held n → ¬ (UnitsDetermine set)
+not_determined set held n propagated inputs variable o determine =
     let cs = all_clauses set in
-    let closed : IsClosed cs held = closed_from_settled cs held settled in
+    let closed : IsClosed cs held = closed_from_propagated cs held propagated in
     let (moves, after, derives, ends) = determine (held_setting held) in
     let within : HeldWithin after held = Derives-within cs held closed (setting_literals set (held_setting held)) moves after (setting_held held set.inputs inputs) derives in
     elim ends [
@@ -147,12 +147,12 @@ not_determined set held n settled inputs variable o determine =
       | inr some ↦ not_SomeFalsified cs held after closed within some
     ]
 
-inputs_set : (set : Cnf) (log : List Step) (held : List Lit) (l : Lit) (cause : Cause) → cause ≡ Other → IsCaused set log held l cause → InputsSet set held
+inputs_set : (set : Cnf) (log : List Step) (held : List Lit) (l : Lit) (cause : Cause) → cause ≡ NonInputDecision → IsCaused set log held l cause → InputsSet set held
 inputs_set set log held l cause is caused =
-    let other : IsCaused set log held l Other = subst (IsCaused set log held l) is caused in other.1
+    let other : IsCaused set log held l NonInputDecision = subst (IsCaused set log held l) is caused in other.1
 
 -- a conflict below a decision shows that units alone don't refute
-pub IsHonestLimit-from_conflict : (set : Cnf) (log : List Step) (limit : ℕ) (held : List Lit) (l : Lit) (cause : Cause) → limit ≤ length log → IsLearned set log → is_decision cause ≡ true → IsCaused set log held l cause → IsVariable set.count l.variable → IsOpen held l.variable → (cause ≡ Other) ⊎ (12 < length set.inputs) → IsHonestLimit set limit (take limit log)
+pub IsHonestLimit-from_conflict : (set : Cnf) (log : List Step) (limit : ℕ) (held : List Lit) (l : Lit) (cause : Cause) → limit ≤ length log → IsLearned set log → is_decision cause ≡ true → IsCaused set log held l cause → IsVariable set.count l.variable → IsOpen held l.variable → (cause ≡ NonInputDecision) ⊎ (12 < length set.inputs) → IsHonestLimit set limit (take limit log)
 IsHonestLimit-from_conflict set log limit held l cause enough learned decides caused variable o may =
     let decided : IsDecided set log held l = decided_from set log held l cause decides caused in
     let first = take limit log in
@@ -163,11 +163,11 @@ IsHonestLimit-from_conflict set log limit held l cause enough learned decides ca
       new = LogIsNew-take set log limit learned.new;
       units_fail =
           not_UnitsRefute (clauses_with set first) held
-          (closed_from_settled (clauses_with set first) held (AllSettled-take set log limit held decided.settled));
+          (closed_from_propagated (clauses_with set first) held (AllPropagated-take set log limit held decided.propagated));
       not_few = λ few.
           elim may [
             | inl other ↦
-                not_determined set held l.variable (AllSettled-left (all_clauses set) (clauses_of_steps log) held decided.settled)
+                not_determined set held l.variable (AllPropagated-left (all_clauses set) (clauses_of_steps log) held decided.propagated)
                 (inputs_set set log held l cause other caused) variable o few.1
             | inr many ↦ omega (arith, few.0)
           ];

@@ -7,7 +7,7 @@ use Rattle.clauses.specs.Literal.{is_same}
 use Rattle.clauses.specs.Propagation.{is_held}
 use Rattle.clauses.proofs.Held.{is_same-true}
 use Rattle.cdcl_log.specs.declared.occurrences.Occurrences.{Occurrences}
-use Rattle.cdcl_log.specs.Settled.{StandsFrom}
+use Rattle.cdcl_log.specs.Propagated.{StandsFrom}
 use Rattle.cdcl_log.specs.OccurrenceLists.{numbers_of, AddsNumber, AddsClause, FindsBelow}
 use Rattle.cdcl_log.proofs.Lists.{some_same, slice_get_left, slice_get_last, slice_get_push_cases, take_next}
 use Rattle.cdcl_log.proofs.HeldLists.{held_cases, held_one_same, not_held_nil}

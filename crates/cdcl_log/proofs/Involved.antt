@@ -11,7 +11,7 @@ use Rattle.clauses.specs.Propagation.{is_held, is_false}
 use Rattle.clauses.specs.ClauseSet.{all_clauses, clauses_of_steps, LogFollows, clauses_with}
 use Rattle.cdcl_log.specs.declared.trail.Entry.{Entry}
 use Rattle.cdcl_log.specs.declared.trail.Cause.{Cause}
-use Rattle.cdcl_log.specs.declared.trail.Cause.TheVariants.{Input, Other, Reason}
+use Rattle.cdcl_log.specs.declared.trail.Cause.TheVariants.{InputDecision, NonInputDecision, Reason}
 use Rattle.cdcl_log.specs.TrailEntries.{literals, EachFresh, IsOpen, reasons, reason_of}
 use Rattle.cdcl_log.specs.Learned.{is_marked, AllMarked, Marks, NamesMarked, IsInvolved, marked_entries}
 use Rattle.cdcl_log.proofs.Lists.{some_same, take_next, slice_get_cases, slice_get_in_take, take_take_below}
@@ -164,8 +164,8 @@ with_within set log number clause follows at =
     ]
 
 pub cause_of_reason : (cause : Cause) (n : ℕ) → reason_of cause ≡ Some n → cause ≡ Reason n
-cause_of_reason Input n some = cc
-cause_of_reason Other n some = cc
+cause_of_reason InputDecision n some = cc
+cause_of_reason NonInputDecision n some = cc
 cause_of_reason (Reason number) n some = let e : number ≡ n = cc in ap Reason e
 
 pub no_reason : (cause : Cause) (n : ℕ) → reason_of cause ≡ None → cause ≡ Reason n → ⊥

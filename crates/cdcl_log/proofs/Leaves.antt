@@ -6,7 +6,7 @@ use Rattle.std.specs.List.{list_any}
 use Rattle.std.proofs.lemmas.Bool.{cases_Bool, eq-eqb, eqb-true, or_left, or_right}
 use Rattle.cdcl_log.specs.declared.trail.Entry.{Entry}
 use Rattle.cdcl_log.specs.declared.trail.Cause.{Cause}
-use Rattle.cdcl_log.specs.declared.trail.Cause.TheVariants.{Input, Other, Reason}
+use Rattle.cdcl_log.specs.declared.trail.Cause.TheVariants.{InputDecision, NonInputDecision, Reason}
 use Rattle.std.specs.Prelude.{Option}
 use Rattle.cdcl_log.specs.TrailEntries.{literals, is_decision, EachFresh, IsOpen}
 use Rattle.cdcl_log.proofs.Lists.{slice_get_in_take}
@@ -17,8 +17,8 @@ halves zero = 1
 halves (suc n) = halves n + halves n
 
 abbrev pub pending : Cause → ℕ → ℕ
-pending Input half = half
-pending Other half = half
+pending InputDecision half = half
+pending NonInputDecision half = half
 pending (Reason number) half = 0
 
 -- how many settings are left under a trail, where this many inputs were left before it
@@ -43,13 +43,13 @@ halves_mono (suc m) zero h = absurd (omega arith)
 halves_mono (suc m) (suc n) h = omega (arith, halves_mono m n (omega arith))
 
 pending_le : (cause : Cause) (half : ℕ) → pending cause half ≤ half
-pending_le Input half = omega arith
-pending_le Other half = omega arith
+pending_le InputDecision half = omega arith
+pending_le NonInputDecision half = omega arith
 pending_le (Reason number) half = omega arith
 
 pending_decision : (cause : Cause) (half : ℕ) → is_decision cause ≡ true → pending cause half ≡ half
-pending_decision Input half is = refl
-pending_decision Other half is = refl
+pending_decision InputDecision half is = refl
+pending_decision NonInputDecision half is = refl
 pending_decision (Reason number) half is = cc
 
 either : (b : Bool) (x y z : ℕ) → x ≤ z → y ≤ z → cond b x y ≤ z
@@ -98,15 +98,15 @@ module _ (input : ℕ → Bool) (e f : Entry) (number : ℕ) (is_input : input e
   some_input (g ∷ gs) (suc place) at =
       either_above (input g.literal.variable) (suc (input_count input gs)) (input_count input gs) 1 (omega (arith, some_input gs place at)) (some_input gs place at)
 
-  turn_step : (b : Bool) (p x y v w c left : ℕ) → cond b (suc c) c ≤ suc left → (c ≤ left → x + 1 ≤ v) → (c ≤ suc left → y + 1 ≤ w) → cond b (p + x) y + 1 ≤ cond b (p + v) w
-  turn_step true p x y v w c left h k m = omega (arith, k (omega arith))
-  turn_step false p x y v w c left h k m = m h
+  flip_step : (b : Bool) (p x y v w c left : ℕ) → cond b (suc c) c ≤ suc left → (c ≤ left → x + 1 ≤ v) → (c ≤ suc left → y + 1 ≤ w) → cond b (p + x) y + 1 ≤ cond b (p + v) w
+  flip_step true p x y v w c left h k m = omega (arith, k (omega arith))
+  flip_step false p x y v w c left h k m = m h
 
-  -- where a decision of an input is turned round, some are left no longer
-  pub leaves_turn : (entries : List Entry) (place left : ℕ) → slice_get entries place ≡ Some e → input_count input entries ≤ left → leaves input (take place entries ++ f ∷ []) left + 1 ≤ leaves input entries left
-  leaves_turn [] place left at room = cc
-  leaves_turn (g ∷ gs) place zero at room = absurd (omega (arith, some_input (g ∷ gs) place at))
-  leaves_turn (g ∷ gs) zero (suc left) at room =
+  -- where a decision of an input is flipped, some are left no longer
+  pub leaves_flip : (entries : List Entry) (place left : ℕ) → slice_get entries place ≡ Some e → input_count input entries ≤ left → leaves input (take place entries ++ f ∷ []) left + 1 ≤ leaves input entries left
+  leaves_flip [] place left at room = cc
+  leaves_flip (g ∷ gs) place zero at room = absurd (omega (arith, some_input (g ∷ gs) place at))
+  leaves_flip (g ∷ gs) zero (suc left) at room =
       let is : g ≡ e = cc in
       let first : input g.literal.variable ≡ true = ap (λ (h : Entry). input h.literal.variable) is ∙ is_input in
       let new : input f.literal.variable ≡ true = ap input same ∙ is_input in
@@ -115,9 +115,9 @@ module _ (input : ℕ → Bool) (e f : Entry) (number : ℕ) (is_input : input e
       subst (λ b. cond b (pending f.cause (halves left) + halves left) (halves (suc left)) + 1 ≤ leaves input (g ∷ gs) (suc left)) (sym new)
       (subst (λ b. pending f.cause (halves left) + halves left + 1 ≤ cond b (pending g.cause (halves left) + leaves input gs left) (leaves input gs (suc left))) (sym first)
       (omega (arith, half, none, leaves_pos input gs left)))
-  leaves_turn (g ∷ gs) (suc place) (suc left) at room =
-      turn_step (input g.literal.variable) (pending g.cause (halves left)) (leaves input (take place gs ++ f ∷ []) left) (leaves input (take place gs ++ f ∷ []) (suc left)) (leaves input gs left) (leaves input gs (suc left)) (input_count input gs) left room
-      (leaves_turn gs place left at) (leaves_turn gs place (suc left) at)
+  leaves_flip (g ∷ gs) (suc place) (suc left) at room =
+      flip_step (input g.literal.variable) (pending g.cause (halves left)) (leaves input (take place gs ++ f ∷ []) left) (leaves input (take place gs ++ f ∷ []) (suc left)) (leaves input gs left) (leaves input gs (suc left)) (input_count input gs) left room
+      (leaves_flip gs place left at) (leaves_flip gs place (suc left) at)
 
 -- the entries are of different variables
 pub record Different (entries : List Entry) : Type 0 where

@@ -6,13 +6,14 @@ pub mod Decisions
 pub mod Open
 pub mod Sets
 pub mod Index
-pub mod Attended
+pub mod PropagationLemmas
 pub mod StatusLemmas
 pub mod Derived
 pub mod Involved
 pub mod Weight
 pub mod States
-pub mod Turned
+pub mod LearnedStep
+pub mod Flipped
 pub mod FoundLemmas
 pub mod Leaves
 pub mod SearchSteps

@@ -1,4 +1,4 @@
--- The open literals of a clause, and clauses that are settled.
+-- The open literals of a clause, and clauses that are propagated.
 use Rattle.std.proofs.Common.{◌≡◌, ℕ, Bool, true, false, not, cond, List, [], ◌∷◌, ◌++◌, refl, sym, ap, ◌∙◌, inl, inr, subst}
 use Rattle.std.proofs.lemmas.Bool.{or_cases, or_left, or_right, or_parts, cases_Bool, true≢false, false_from_ne_true}
 use Rattle.std.proofs.lemmas.List.Elements.{All-head, All-tail}
@@ -6,7 +6,7 @@ use Rattle.clauses.specs.declared.literal.Lit.{Lit}
 use Rattle.clauses.specs.Literal.{negation_of, is_same, IsVariable, IsWithin}
 use Rattle.clauses.specs.Propagation.{is_held, is_false, open_literals, IsFalsified, IsUnit}
 use Rattle.clauses.proofs.Held.{is_same-true, is_same-self, negation-negation}
-use Rattle.cdcl_log.specs.Settled.{IsSettled}
+use Rattle.cdcl_log.specs.Propagated.{IsPropagated}
 use Rattle.cdcl_log.proofs.HeldLists.{Consistent, held_left, held_last, held_cases, held_one_same, held_one, not_held_nil, both_held}
 
 pub open_at : (held : List Lit) (l : Lit) (ls : List Lit) (b : Bool) → is_false held l ≡ b → open_literals held (l ∷ ls) ≡ cond (not b) (l ∷ open_literals held ls) (open_literals held ls)
@@ -61,25 +61,25 @@ pub not_falsified_by : (held clause : List Lit) (m : Lit) → is_held clause m �
 not_falsified_by held clause m within kept none =
     not_held_nil m (sym (ap (λ c. is_held c m) none) ∙ open_member held clause m within kept)
 
--- a clause with a literal that is held is settled
-pub IsSettled-from_held : (held clause : List Lit) (m : Lit) → Consistent held → is_held clause m ≡ true → is_held held m ≡ true → IsSettled held clause
-IsSettled-from_held held clause m ok within is =
+-- a clause with a literal that is held is propagated
+pub IsPropagated-from_held : (held clause : List Lit) (m : Lit) → Consistent held → is_held clause m ≡ true → is_held held m ≡ true → IsPropagated held clause
+IsPropagated-from_held held clause m ok within is =
     record {
       not_false = not_falsified_by held clause m within (ok.each m is);
       forced_held = λ l unit. subst (λ k. is_held held k ≡ true) (unit_only held clause l m unit within (ok.each m is)) is;
     }
 
--- a clause with two literals open is settled
-pub IsSettled-from_two : (held clause rest : List Lit) (a b : Lit) → open_literals held clause ≡ a ∷ b ∷ rest → IsSettled held clause
-IsSettled-from_two held clause rest a b two =
+-- a clause with two literals open is propagated
+pub IsPropagated-from_two : (held clause rest : List Lit) (a b : Lit) → open_literals held clause ≡ a ∷ b ∷ rest → IsPropagated held clause
+IsPropagated-from_two held clause rest a b two =
     record {
       not_false = λ none. let e : a ∷ b ∷ rest ≡ [] = sym two ∙ none in cc;
       forced_held = λ l unit. let e : a ∷ b ∷ rest ≡ l ∷ [] = sym two ∙ unit in cc;
     }
 
 -- two literals that differ, stand in the clause and aren't false settle it
-pub IsSettled-from_different : (held clause : List Lit) (a b : Lit) → is_held clause a ≡ true → is_false held a ≡ false → is_held clause b ≡ true → is_false held b ≡ false → (a ≡ b → ⊥) → IsSettled held clause
-IsSettled-from_different held clause a b in_a kept_a in_b kept_b differ =
+pub IsPropagated-from_different : (held clause : List Lit) (a b : Lit) → is_held clause a ≡ true → is_false held a ≡ false → is_held clause b ≡ true → is_false held b ≡ false → (a ≡ b → ⊥) → IsPropagated held clause
+IsPropagated-from_different held clause a b in_a kept_a in_b kept_b differ =
     record {
       not_false = not_falsified_by held clause a in_a kept_a;
       forced_held = λ l unit. absurd (differ (unit_only held clause l a unit in_a kept_a ∙ sym (unit_only held clause l b unit in_b kept_b)));
@@ -109,17 +109,17 @@ open_literals-push held (m ∷ ms) x none =
     ap (λ c. cond (not c) (m ∷ open_literals (held ++ x ∷ []) ms) (open_literals (held ++ x ∷ []) ms)) (is_false-push held x m parts.0)
     ∙ ap (λ ls. cond (not (is_false held m)) (m ∷ ls) ls) (open_literals-push held ms x parts.1)
 
-pub IsSettled-push : (held clause : List Lit) (x : Lit) → is_held clause (negation_of x) ≡ false → IsSettled held clause → IsSettled (held ++ x ∷ []) clause
-IsSettled-push held clause x none settled =
+pub IsPropagated-push : (held clause : List Lit) (x : Lit) → is_held clause (negation_of x) ≡ false → IsPropagated held clause → IsPropagated (held ++ x ∷ []) clause
+IsPropagated-push held clause x none propagated =
     let same = open_literals-push held clause x none in
     record {
-      not_false = λ falsified. settled.not_false (sym same ∙ falsified);
-      forced_held = λ l unit. held_left held (x ∷ []) l (settled.forced_held l (sym same ∙ unit));
+      not_false = λ falsified. propagated.not_false (sym same ∙ falsified);
+      forced_held = λ l unit. held_left held (x ∷ []) l (propagated.forced_held l (sym same ∙ unit));
     }
 
--- a clause that forced the new literal is settled
-pub IsSettled-forced : (held clause : List Lit) (x : Lit) → is_held clause (negation_of x) ≡ false → IsUnit held clause x → IsSettled (held ++ x ∷ []) clause
-IsSettled-forced held clause x none unit =
+-- a clause that forced the new literal is propagated
+pub IsPropagated-forced : (held clause : List Lit) (x : Lit) → is_held clause (negation_of x) ≡ false → IsUnit held clause x → IsPropagated (held ++ x ∷ []) clause
+IsPropagated-forced held clause x none unit =
     let now : open_literals (held ++ x ∷ []) clause ≡ x ∷ [] = open_literals-push held clause x none ∙ unit in
     record {
       not_false = λ falsified. let e : x ∷ [] ≡ [] = sym now ∙ falsified in cc;

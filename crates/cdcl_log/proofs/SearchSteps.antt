@@ -10,15 +10,15 @@ use Rattle.clauses.specs.Propagation.{NamesFalse}
 use Rattle.clauses.specs.ClauseSet.{all_clauses, clauses_of_steps, clauses_with}
 use Rattle.cdcl_log.specs.declared.trail.Entry.{Entry}
 use Rattle.cdcl_log.specs.declared.trail.Cause.{Cause}
-use Rattle.cdcl_log.specs.declared.trail.Cause.TheVariants.{Input, Other, Reason}
+use Rattle.cdcl_log.specs.declared.trail.Cause.TheVariants.{InputDecision, NonInputDecision, Reason}
 use Rattle.cdcl_log.specs.TrailEntries.{literals, decisions, is_decision, IsOpen, IsTableOf, EachFresh, Grows, open_count}
-use Rattle.cdcl_log.specs.Settled.{IsAttended}
+use Rattle.cdcl_log.specs.Propagated.{IsPropagatedUpTo}
 use Rattle.cdcl_log.specs.DepthFirst.{IsCaused, EachCaused, IsLearned, IsState}
 use Rattle.cdcl_log.proofs.Lists.{slice_get_left, slice_get_below}
 use Rattle.cdcl_log.proofs.TrailTable.{open_count-push}
 use Rattle.cdcl_log.proofs.States.{EachCaused-grown}
-use Rattle.cdcl_log.proofs.Weight.{weight, weight_push, weight_grow, weight_turn}
-use Rattle.cdcl_log.proofs.Leaves.{leaves, halves, halves_mono, leaves_le, leaves_grow, leaves_turn, input_count_le, is_among, is_among-from_contains, Different-from_fresh}
+use Rattle.cdcl_log.proofs.Weight.{weight, weight_push, weight_grow, weight_flip}
+use Rattle.cdcl_log.proofs.Leaves.{leaves, halves, halves_mono, leaves_le, leaves_grow, leaves_flip, input_count_le, is_among, is_among-from_contains, Different-from_fresh}
 
 -- the log that has no step
 nothing_learned : (set : Cnf) → IsLearned set []
@@ -41,13 +41,13 @@ EachCaused-start set log old new no_log no_entries g =
     (EachCaused-grown set [] [] new (subst (λ es. Grows (all_clauses set) es new) no_entries g) (nothing_caused set))
 
 -- the state after all clauses were looked at once
-pub IsState-start : (set : Cnf) (log : List Step) (old new : List Entry) → log ≡ [] → old ≡ [] → Grows (all_clauses set) old new → IsAttended (all_clauses set) new 0 → IsState set log new 0
-IsState-start set log old new no_log no_entries g attended =
+pub IsState-start : (set : Cnf) (log : List Step) (old new : List Entry) → log ≡ [] → old ≡ [] → Grows (all_clauses set) old new → IsPropagatedUpTo (all_clauses set) new 0 → IsState set log new 0
+IsState-start set log old new no_log no_entries g up_to_head =
     subst (λ steps. IsState set steps new 0) (sym no_log)
     (record {
       caused = EachCaused-grown set [] [] new (subst (λ es. Grows (all_clauses set) es new) no_entries g) (nothing_caused set);
       satisfied = λ number clause at. let none : slice_get [] number ≡ Some clause = at in cc;
-      attended = attended;
+      up_to_head = up_to_head;
       log_learned = nothing_learned set;
     })
 
@@ -80,11 +80,11 @@ pub decided_smaller : (clauses : List (List Lit)) (n m : ℕ) (old new last : Li
 decided_smaller clauses n m old new last e same g is room =
     omega (arith, ap (λ k. weight k last) same, ap (weight n) is, weight_push n new e room, ap (weight n) g.is, weight_grow n old g.more)
 
--- and where a decision is turned round
-pub turned_smaller : (clauses : List (List Lit)) (n m : ℕ) (old new last : List Entry) (place number : ℕ) (e f : Entry) → m ≡ n → Grows clauses old new → last ≡ take place new ++ f ∷ [] → length new ≤ n → slice_get new place ≡ Some e → is_decision e.cause ≡ true → f.cause ≡ Reason number → weight m last < weight n old
-turned_smaller clauses n m old new last place number e f same g is room at decides cause =
+-- and where a decision is flipped
+pub flipped_smaller : (clauses : List (List Lit)) (n m : ℕ) (old new last : List Entry) (place number : ℕ) (e f : Entry) → m ≡ n → Grows clauses old new → last ≡ take place new ++ f ∷ [] → length new ≤ n → slice_get new place ≡ Some e → is_decision e.cause ≡ true → f.cause ≡ Reason number → weight m last < weight n old
+flipped_smaller clauses n m old new last place number e f same g is room at decides cause =
     let below : place < length new = slice_get_below new place e at in
-    omega (arith, ap (λ k. weight k last) same, ap (weight n) is, weight_turn n new place e f number (omega arith) at decides cause, ap (weight n) g.is, weight_grow n old g.more)
+    omega (arith, ap (λ k. weight k last) same, ap (weight n) is, weight_flip n new place e f number (omega arith) at decides cause, ap (weight n) g.is, weight_grow n old g.more)
 
 -- The log keeps to the limit, or few inputs are named, and then what it has learned and the settings of the inputs that
 -- are left are bounded together.
@@ -109,32 +109,32 @@ bounded_grow set limit log old new g bounded = bounded_more set limit log old g.
 few_leaves : (n : ℕ) → n ≤ 12 → halves n ≤ 4096
 few_leaves n few = halves_mono n 12 few
 
-contained : (set : Cnf) (log : List Step) (held : List Lit) (l : Lit) (cause : Cause) → cause ≡ Input → IsCaused set log held l cause → Contains set.inputs l.variable
+contained : (set : Cnf) (log : List Step) (held : List Lit) (l : Lit) (cause : Cause) → cause ≡ InputDecision → IsCaused set log held l cause → Contains set.inputs l.variable
 contained set log held l cause is caused =
-    let input : IsCaused set log held l Input = subst (IsCaused set log held l) is caused in input.1
+    let input : IsCaused set log held l InputDecision = subst (IsCaused set log held l) is caused in input.1
 
-input_or_other : (cause : Cause) → is_decision cause ≡ true → (cause ≡ Input) ⊎ (cause ≡ Other)
-input_or_other Input is = inl refl
-input_or_other Other is = inr refl
-input_or_other (Reason number) is = cc
+input_or_not : (cause : Cause) → is_decision cause ≡ true → (cause ≡ InputDecision) ⊎ (cause ≡ NonInputDecision)
+input_or_not InputDecision is = inl refl
+input_or_not NonInputDecision is = inr refl
+input_or_not (Reason number) is = cc
 
 few_or_many : (n : ℕ) → ((12 < n) → ⊥) → n ≤ 12
 few_or_many n h = omega (arith, h)
 
 -- where the search doesn't give up at a conflict
-pub bounded_turn : (set : Cnf) (limit : ℕ) (values : List (Option Bool)) (log : List Step) (entries : List Entry) (place number : ℕ) (e : Entry) (step : Step) → EachFresh values entries → EachCaused set log entries → slice_get entries place ≡ Some e → is_decision e.cause ≡ true → (length log < limit) ⊎ (((e.cause ≡ Other) ⊎ (12 < length set.inputs)) → ⊥) → IsBounded set limit log entries → IsBounded set limit (log ++ step ∷ []) (take place entries ++ (record { literal = negation_of e.literal; cause = Reason number }) ∷ [])
-bounded_turn set limit values log entries place number e step fresh caused at decides (inl room) bounded =
+pub bounded_flip : (set : Cnf) (limit : ℕ) (values : List (Option Bool)) (log : List Step) (entries : List Entry) (place number : ℕ) (e : Entry) (step : Step) → EachFresh values entries → EachCaused set log entries → slice_get entries place ≡ Some e → is_decision e.cause ≡ true → (length log < limit) ⊎ (((e.cause ≡ NonInputDecision) ⊎ (12 < length set.inputs)) → ⊥) → IsBounded set limit log entries → IsBounded set limit (log ++ step ∷ []) (take place entries ++ (record { literal = negation_of e.literal; cause = Reason number }) ∷ [])
+bounded_flip set limit values log entries place number e step fresh caused at decides (inl room) bounded =
     inl (omega (arith, length_push log step))
-bounded_turn set limit values log entries place number e step fresh caused at decides (inr goes_on) bounded =
+bounded_flip set limit values log entries place number e step fresh caused at decides (inr goes_on) bounded =
     let input = is_among set.inputs in
     let left = length set.inputs in
     let f : Entry = record { literal = negation_of e.literal; cause = Reason number } in
     let few : left ≤ 12 = few_or_many left (λ many. goes_on (inr many)) in
-    let is : e.cause ≡ Input = elim (input_or_other e.cause decides) [ inl is ↦ is | inr other ↦ absurd (goes_on (inl other)) ] in
+    let is : e.cause ≡ InputDecision = elim (input_or_not e.cause decides) [ inl is ↦ is | inr other ↦ absurd (goes_on (inl other)) ] in
     let among : input e.literal.variable ≡ true =
     is_among-from_contains set.inputs e.literal.variable (contained set log (literals (take place entries)) e.literal e.cause is (caused place e at)) in
     let room = input_count_le set.inputs entries (Different-from_fresh values entries fresh) in
-    let falls = leaves_turn input e f number among decides refl refl entries place left at room in
+    let falls = leaves_flip input e f number among decides refl refl entries place left at room in
     elim bounded [
       | inl within ↦ inr (few, omega (arith, within, falls, length_push log step, leaves_le input entries left, few_leaves left few))
       | inr both ↦ inr (few, omega (arith, both.1, falls, length_push log step))

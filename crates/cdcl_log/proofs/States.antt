@@ -14,16 +14,16 @@ use Rattle.clauses.proofs.Held.{negation-negation, is_same-true, is_same-self}
 use Rattle.clauses.proofs.Closed.{HeldWithin, IsClosed}
 use Rattle.cdcl_log.specs.declared.trail.Entry.{Entry}
 use Rattle.cdcl_log.specs.declared.trail.Cause.{Cause}
-use Rattle.cdcl_log.specs.declared.trail.Cause.TheVariants.{Input, Other, Reason}
+use Rattle.cdcl_log.specs.declared.trail.Cause.TheVariants.{InputDecision, NonInputDecision, Reason}
 use Rattle.cdcl_log.specs.Found.{NoneEmpty}
 use Rattle.cdcl_log.specs.TrailEntries.{literals, decisions, is_decision, Grows}
-use Rattle.cdcl_log.specs.Settled.{IsSettled, AllSettled, IsAttended}
+use Rattle.cdcl_log.specs.Propagated.{IsPropagated, AllPropagated, IsPropagatedUpTo}
 use Rattle.cdcl_log.specs.DepthFirst.{AllSatisfied, IsDecided, IsCaused, EachCaused, IsState, IsNext, IsAllowed}
 use Rattle.cdcl_log.proofs.Lists.{slice_get_left, slice_get_cases, slice_get_push_cases, take_left, take_right, take_whole}
 use Rattle.cdcl_log.proofs.HeldLists.{Consistent, literals_left}
-use Rattle.cdcl_log.proofs.Open.{open_at, IsSettled-from_held}
+use Rattle.cdcl_log.proofs.Open.{open_at, IsPropagated-from_held}
 use Rattle.cdcl_log.proofs.Derived.{EachForced}
-use Rattle.cdcl_log.proofs.Attended.{IsAttended-push, IsAttended-settled}
+use Rattle.cdcl_log.proofs.PropagationLemmas.{IsPropagatedUpTo-push, IsPropagatedUpTo-propagated}
 
 -- the clauses of a set and a log with one step more
 pub clauses_with-push : (set : Cnf) (log : List Step) (step : Step) → clauses_with set (log ++ step ∷ []) ≡ clauses_with set log ++ step.clause ∷ []
@@ -42,20 +42,20 @@ length-clauses_with set log =
 pub NamesUnit-more : (clauses more : List (List Lit)) (held : List Lit) (number : ℕ) (l : Lit) → NamesUnit clauses held number l → NamesUnit (clauses ++ more) held number l
 NamesUnit-more clauses more held number l (clause, at, unit) = (clause, slice_get_left clauses more number clause at, unit)
 
-pub AllSettled-left : (clauses more : List (List Lit)) (held : List Lit) → AllSettled (clauses ++ more) held → AllSettled clauses held
-AllSettled-left clauses more held settled number clause at = settled number clause (slice_get_left clauses more number clause at)
+pub AllPropagated-left : (clauses more : List (List Lit)) (held : List Lit) → AllPropagated (clauses ++ more) held → AllPropagated clauses held
+AllPropagated-left clauses more held propagated number clause at = propagated number clause (slice_get_left clauses more number clause at)
 
-pub AllSettled-push : (clauses : List (List Lit)) (clause held : List Lit) → AllSettled clauses held → IsSettled held clause → AllSettled (clauses ++ clause ∷ []) held
-AllSettled-push clauses clause held settled new number d at =
+pub AllPropagated-push : (clauses : List (List Lit)) (clause held : List Lit) → AllPropagated clauses held → IsPropagated held clause → AllPropagated (clauses ++ clause ∷ []) held
+AllPropagated-push clauses clause held propagated new number d at =
     elim (slice_get_push_cases clauses clause number d at) [
-      | inl before ↦ settled number d before
-      | inr here ↦ subst (IsSettled held) here.1 new
+      | inl before ↦ propagated number d before
+      | inr here ↦ subst (IsPropagated held) here.1 new
     ]
 
--- what was decided was decided with all settled
+-- what was decided was decided with all propagated
 pub decided_from : (set : Cnf) (log : List Step) (held : List Lit) (l : Lit) (cause : Cause) → is_decision cause ≡ true → IsCaused set log held l cause → IsDecided set log held l
-decided_from set log held l Input is caused = caused.0
-decided_from set log held l Other is caused = caused.0
+decided_from set log held l InputDecision is caused = caused.0
+decided_from set log held l NonInputDecision is caused = caused.0
 decided_from set log held l (Reason number) is caused = cc
 
 -- causes give the reasons that clauses force
@@ -85,37 +85,37 @@ pub AllSatisfied-left : (old more : List Entry) (log : List Step) → AllSatisfi
 AllSatisfied-left old more log satisfied number clause at =
     let (l, within, is) = satisfied number clause at in (l, within, literals_left old more l is)
 
-pub IsState-grown : (set : Cnf) (log : List Step) (old new : List Entry) (head next : ℕ) → Grows (all_clauses set) old new → IsAttended (all_clauses set) new next → IsState set log old head → IsState set log new next
-IsState-grown set log old new head next g attended state =
+pub IsState-grown : (set : Cnf) (log : List Step) (old new : List Entry) (head next : ℕ) → Grows (all_clauses set) old new → IsPropagatedUpTo (all_clauses set) new next → IsState set log old head → IsState set log new next
+IsState-grown set log old new head next g up_to_head state =
     record {
       caused = EachCaused-grown set log old new g state.caused;
       satisfied = subst (λ es. AllSatisfied (literals es) log) (sym g.is) (AllSatisfied-left old g.more log state.satisfied);
-      attended = attended;
+      up_to_head = up_to_head;
       log_learned = state.log_learned;
     }
 
--- where nothing is left to propagate, the clauses of the set and of the log are settled
-pub AllSettled-with : (set : Cnf) (log : List Step) (held : List Lit) → Consistent held → AllSettled (all_clauses set) held → AllSatisfied held log → AllSettled (clauses_with set log) held
-AllSettled-with set log held ok settled satisfied number clause at =
+-- where nothing is left to propagate, the clauses of the set and of the log are propagated
+pub AllPropagated-with : (set : Cnf) (log : List Step) (held : List Lit) → Consistent held → AllPropagated (all_clauses set) held → AllSatisfied held log → AllPropagated (clauses_with set log) held
+AllPropagated-with set log held ok propagated satisfied number clause at =
     elim (slice_get_cases (all_clauses set) (clauses_of_steps log) number clause at) [
-      | inl left ↦ settled number clause left
+      | inl left ↦ propagated number clause left
       | inr (j, is, right) ↦
           let (l, within, holds) = satisfied j clause right in
-          IsSettled-from_held held clause l ok within holds
+          IsPropagated-from_held held clause l ok within holds
     ]
 
 caused_by_next : (set : Cnf) (log : List Step) (held : List Lit) (l : Lit) (cause : Cause) → IsDecided set log held l → IsAllowed set held l.variable cause → IsCaused set log held l cause
-caused_by_next set log held l Input decided allowed = (decided, allowed)
-caused_by_next set log held l Other decided allowed = (decided, allowed)
+caused_by_next set log held l InputDecision decided allowed = (decided, allowed)
+caused_by_next set log held l NonInputDecision decided allowed = (decided, allowed)
 caused_by_next set log held l (Reason number) decided allowed = absurd allowed
 
 -- the state after a decision
-pub IsState-decided : (set : Cnf) (log : List Step) (entries : List Entry) (head : ℕ) (e : Entry) → Consistent (literals entries) → IsState set log entries head → AllSettled (all_clauses set) (literals entries) → IsNext set (literals entries) e → IsState set log (entries ++ e ∷ []) (length entries)
-IsState-decided set log entries head e ok state settled next =
+pub IsState-decided : (set : Cnf) (log : List Step) (entries : List Entry) (head : ℕ) (e : Entry) → Consistent (literals entries) → IsState set log entries head → AllPropagated (all_clauses set) (literals entries) → IsNext set (literals entries) e → IsState set log (entries ++ e ∷ []) (length entries)
+IsState-decided set log entries head e ok state propagated next =
     let held = literals entries in
     let decided : IsDecided set log held e.literal =
     record {
-      settled = AllSettled-with set log held ok settled state.satisfied;
+      propagated = AllPropagated-with set log held ok propagated state.satisfied;
       learned = λ number clause at. inl (state.satisfied number clause at);
     } in
     record {
@@ -129,7 +129,7 @@ IsState-decided set log entries head e ok state settled next =
                 (subst (λ (g : Entry). IsCaused set log held g.literal g.cause) here.1 (caused_by_next set log held e.literal e.cause decided next.allowed))
           ];
       satisfied = AllSatisfied-left entries (e ∷ []) log state.satisfied;
-      attended = IsAttended-push (all_clauses set) entries e (length entries) (omega arith) (IsAttended-settled (all_clauses set) entries (length entries) settled);
+      up_to_head = IsPropagatedUpTo-push (all_clauses set) entries e (length entries) (omega arith) (IsPropagatedUpTo-propagated (all_clauses set) entries (length entries) propagated);
       log_learned = state.log_learned;
     }
 
@@ -207,9 +207,9 @@ remove_last xs x =
     ∙ append-nil (take (length xs) (xs ++ x ∷ []))
     ∙ take_whole xs (x ∷ [])
 
-pub closed_from_settled : (clauses : List (List Lit)) (held : List Lit) → AllSettled clauses held → IsClosed clauses held
-closed_from_settled clauses held settled =
+pub closed_from_propagated : (clauses : List (List Lit)) (held : List Lit) → AllPropagated clauses held → IsClosed clauses held
+closed_from_propagated clauses held propagated =
     record {
-      none_false = λ number clause at. (settled number clause at).not_false;
-      units_held = λ number clause l at unit. (settled number clause at).forced_held l unit;
+      none_false = λ number clause at. (propagated number clause at).not_false;
+      units_held = λ number clause l at unit. (propagated number clause at).forced_held l unit;
     }

@@ -4,7 +4,7 @@ use Rattle.std.proofs.Common.{◌≡◌, ℕ, zero, suc, ◌+◌, ◌<◌, ◌�
 use Rattle.std.specs.Prelude.{slice_get}
 use Rattle.cdcl_log.specs.declared.trail.Entry.{Entry}
 use Rattle.cdcl_log.specs.declared.trail.Cause.{Cause}
-use Rattle.cdcl_log.specs.declared.trail.Cause.TheVariants.{Input, Other, Reason}
+use Rattle.cdcl_log.specs.declared.trail.Cause.TheVariants.{InputDecision, NonInputDecision, Reason}
 use Rattle.cdcl_log.specs.TrailEntries.{is_decision}
 
 abbrev pub power : ℕ → ℕ
@@ -12,8 +12,8 @@ power zero = 1
 power (suc n) = power n + power n + power n
 
 abbrev pub digit : Cause → ℕ → ℕ
-digit Input unit = unit
-digit Other unit = unit
+digit InputDecision unit = unit
+digit NonInputDecision unit = unit
 digit (Reason number) unit = 0
 
 abbrev pub weight : ℕ → List Entry → ℕ
@@ -22,13 +22,13 @@ weight (suc n) [] = power n + power n + weight n []
 weight (suc n) (e ∷ es) = digit e.cause (power n) + weight n es
 
 digit_le : (cause : Cause) (unit : ℕ) → digit cause unit ≤ unit
-digit_le Input unit = omega arith
-digit_le Other unit = omega arith
+digit_le InputDecision unit = omega arith
+digit_le NonInputDecision unit = omega arith
 digit_le (Reason number) unit = omega arith
 
 digit_decision : (cause : Cause) (unit : ℕ) → is_decision cause ≡ true → digit cause unit ≡ unit
-digit_decision Input unit is = refl
-digit_decision Other unit is = refl
+digit_decision InputDecision unit is = refl
+digit_decision NonInputDecision unit is = refl
 digit_decision (Reason number) unit is = cc
 
 weight_lt : (n : ℕ) (entries : List Entry) → weight n entries < power n
@@ -57,14 +57,14 @@ weight_push zero entries e within = absurd (omega arith)
 weight_push (suc n) [] e within = omega (arith, power_pos n, digit_le e.cause (power n))
 weight_push (suc n) (f ∷ fs) e within = omega (arith, weight_push n fs e (omega arith))
 
--- a decision that is turned round weighs less
-pub weight_turn : (n : ℕ) (entries : List Entry) (place : ℕ) (e f : Entry) (number : ℕ) → place < n → slice_get entries place ≡ Some e → is_decision e.cause ≡ true → f.cause ≡ Reason number → weight n (take place entries ++ f ∷ []) < weight n entries
-weight_turn zero entries place e f number within at is cause = absurd (omega arith)
-weight_turn (suc n) [] place e f number within at is cause = cc
-weight_turn (suc n) (g ∷ gs) zero e f number within at is cause =
+-- a decision that is flipped weighs less
+pub weight_flip : (n : ℕ) (entries : List Entry) (place : ℕ) (e f : Entry) (number : ℕ) → place < n → slice_get entries place ≡ Some e → is_decision e.cause ≡ true → f.cause ≡ Reason number → weight n (take place entries ++ f ∷ []) < weight n entries
+weight_flip zero entries place e f number within at is cause = absurd (omega arith)
+weight_flip (suc n) [] place e f number within at is cause = cc
+weight_flip (suc n) (g ∷ gs) zero e f number within at is cause =
     let same : g ≡ e = cc in
     let one : digit g.cause (power n) ≡ power n = digit_decision g.cause (power n) (ap (λ (h : Entry). is_decision h.cause) same ∙ is) in
     let none : digit f.cause (power n) ≡ 0 = ap (λ c. digit c (power n)) cause in
     omega (arith, one, none, weight_lt n [])
-weight_turn (suc n) (g ∷ gs) (suc place) e f number within at is cause =
-    omega (arith, weight_turn n gs place e f number (omega arith) at is cause)
+weight_flip (suc n) (g ∷ gs) (suc place) e f number within at is cause =
+    omega (arith, weight_flip n gs place e f number (omega arith) at is cause)

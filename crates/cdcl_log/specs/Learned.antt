@@ -42,9 +42,3 @@ pub record IsLearnedStep (clauses : List (List Lit)) (entries : List Entry) (con
   pub involved : IsInvolved clauses entries conflict 0 marks
   pub clause_is : step.clause ≡ negations_of (decisions entries)
   pub hints_are : step.hints ≡ reasons (marked_entries marks entries) ++ conflict ∷ []
-
--- the log with a step more, which the conflict shows
-pub record EndsLearned (clauses : List (List Lit)) (entries : List Entry) (conflict : ℕ) (log whole : List Step) : Type 0 where
-  pub step : Step
-  pub shown : IsLearnedStep clauses entries conflict step
-  pub is : whole ≡ log ++ step ∷ []

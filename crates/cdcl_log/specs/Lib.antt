@@ -1,6 +1,6 @@
 pub mod Found
 pub mod TrailEntries
-pub mod Settled
+pub mod Propagated
 pub mod OccurrenceLists
 pub mod DepthFirst
 pub mod Learned

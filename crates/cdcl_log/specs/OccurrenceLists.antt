@@ -6,7 +6,7 @@ use Rattle.clauses.specs.Literal.{is_same}
 use Rattle.clauses.specs.Propagation.{is_held}
 use Rattle.clauses.specs.ClauseSet.{all_clauses}
 use Rattle.cdcl_log.specs.declared.occurrences.Occurrences.{Occurrences}
-use Rattle.cdcl_log.specs.Settled.{StandsFrom}
+use Rattle.cdcl_log.specs.Propagated.{StandsFrom}
 
 -- the numbers that the lists keep for a literal
 abbrev pub numbers_of : Occurrences → Lit → List ℕ

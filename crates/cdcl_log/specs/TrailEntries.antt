@@ -7,20 +7,20 @@ use Rattle.clauses.specs.Literal.{negation_of, literal_of}
 use Rattle.clauses.specs.Propagation.{NamesUnit, is_held}
 use Rattle.cdcl_log.specs.declared.trail.Entry.{Entry}
 use Rattle.cdcl_log.specs.declared.trail.Cause.{Cause}
-use Rattle.cdcl_log.specs.declared.trail.Cause.TheVariants.{Input, Other, Reason}
+use Rattle.cdcl_log.specs.declared.trail.Cause.TheVariants.{InputDecision, NonInputDecision, Reason}
 
 -- the literals of the entries, which are held
 abbrev pub literals : List Entry → List Lit
 literals entries = map (λ (e : Entry). e.literal) entries
 
 abbrev pub is_decision : Cause → Bool
-is_decision Input = true
-is_decision Other = true
+is_decision InputDecision = true
+is_decision NonInputDecision = true
 is_decision (Reason number) = false
 
 abbrev pub reason_of : Cause → Option ℕ
-reason_of Input = None
-reason_of Other = None
+reason_of InputDecision = None
+reason_of NonInputDecision = None
 reason_of (Reason number) = Some number
 
 -- the literals that were decided, in order
@@ -81,9 +81,10 @@ IsLastDecision entries place =
     (e : Entry) × (slice_get entries place ≡ Some e) × (is_decision e.cause ≡ true)
     × (decisions entries ≡ decisions (take place entries) ++ e.literal ∷ [])
 
--- the entries after the one at this place is turned round for the reason of this number
-abbrev pub IsTurned : List Entry → ℕ → ℕ → List Entry → Type 0
-IsTurned old place number new =
+-- The entries after the decision at this place is flipped: those before it, and then the decision's negation, for the
+-- reason of this number (chronological backtracking).
+abbrev pub IsFlipped : List Entry → ℕ → ℕ → List Entry → Type 0
+IsFlipped old place number new =
     (e : Entry) → slice_get old place ≡ Some e →
     new ≡ take place old ++ (record { literal = negation_of e.literal; cause = Reason number }) ∷ []
 

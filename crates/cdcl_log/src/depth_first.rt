@@ -6,13 +6,13 @@ ghost use Rattle.clauses.specs.Propagation.{NamesFalse};
 ghost use Rattle.clauses.specs.ClauseSet.{all_clauses};
 ghost use Rattle.cdcl_log.specs.Found.{IsFound};
 ghost use Rattle.cdcl_log.specs.TrailEntries.{literals, Grows, IsOpen, IsSet};
-ghost use Rattle.cdcl_log.specs.Settled.{IsAttended};
+ghost use Rattle.cdcl_log.specs.Propagated.{IsPropagatedUpTo};
 ghost use Rattle.cdcl_log.specs.DepthFirst.{InputsSet, IsNext};
 
 use crate::Found;
-use crate::learned::{ended, learned};
+use crate::learned::{learned, refutation};
 use crate::occurrences::Occurrences;
-use crate::propagation::{propagate, visit};
+use crate::propagation::{propagate, propagate_clauses};
 use crate::trail::{Cause, Entry, Trail};
 use clauses::{Cnf, Lit};
 use lists::List;
@@ -21,19 +21,23 @@ use std::alloc::{AllocError, Global};
 /// Up to this many inputs the search goes through all their settings, whatever its limit.
 const FEW_INPUTS: usize = 12;
 
-/// Looks at all clauses of the set once.
-fn visit_all(alloc: Global, cnf: &Cnf, trail: &mut Trail) -> Result<Option<u32>, AllocError>
+/// Propagates each clause of the set once, by what is held at the start.
+fn propagate_all_clauses(
+    alloc: Global,
+    cnf: &Cnf,
+    trail: &mut Trail,
+) -> Result<Option<u32>, AllocError>
     requires variables { length trail.old.values.items ≡ cnf.now.count + 1 }
     ensures grows { Grows (all_clauses cnf.now) trail.old.entries.items trail.new.entries.items }
     ensures same_variables { length trail.new.values.items ≡ length trail.old.values.items }
-    ensures attended { IfOk result (λ conflict. IfNone conflict (IsAttended (all_clauses cnf.now) trail.new.entries.items 0)) }
+    ensures up_to_head { IfOk result (λ conflict. IfNone conflict (IsPropagatedUpTo (all_clauses cnf.now) trail.new.entries.items 0)) }
     ensures falsified { IfOk result (λ conflict. IfSome conflict (NamesFalse (all_clauses cnf.now) (literals trail.new.entries.items))) }
 {
     let mut numbers = Vec::new(alloc);
     for number in 0..cnf.clause_count() {
         numbers.push(number)?;
     }
-    visit(cnf, &numbers, trail)
+    propagate_clauses(cnf, &numbers, trail)
 }
 
 /// The first input that isn't set.
@@ -71,10 +75,10 @@ fn next_decision(cnf: &Cnf, trail: &Trail) -> Option<Entry>
     ensures none { IfNone result ((n : ℕ) → IsVariable cnf.now.count n → IsSet (literals trail.now.entries.items) n) }
 {
     if let Some(variable) = open_input(cnf, trail) {
-        return Some(decision(variable, Cause::Input));
+        return Some(decision(variable, Cause::InputDecision));
     }
     if let Some(variable) = open_variable(cnf, trail) {
-        return Some(decision(variable, Cause::Other));
+        return Some(decision(variable, Cause::NonInputDecision));
     }
     None
 }
@@ -94,11 +98,11 @@ fn decision(variable: u32, cause: Cause) -> Entry
 /// Whether the search may give up at a conflict under this last decision: there are many inputs, or units didn't
 /// determine the rest.
 fn may_give_up(cnf: &Cnf, last: Entry) -> bool
-    ensures { IsTrue result ↔ ((last.cause ≡ Cause.Other) ⊎ (12 < length cnf.now.inputs)) }
+    ensures { IsTrue result ↔ ((last.cause ≡ Cause.NonInputDecision) ⊎ (12 < length cnf.now.inputs)) }
 {
     match last.cause {
-        Cause::Other => true,
-        Cause::Input | Cause::Reason(_) => cnf.inputs.len() > FEW_INPUTS,
+        Cause::NonInputDecision => true,
+        Cause::InputDecision | Cause::Reason(_) => cnf.inputs.len() > FEW_INPUTS,
     }
 }
 
@@ -119,8 +123,8 @@ pub fn search(alloc: Global, cnf: &Cnf, limit: u32) -> Result<Found, AllocError>
     let occurrences = Occurrences::new(alloc, cnf)?;
     let mut trail = Trail::new(alloc, cnf.count)?;
     let mut log = Vec::new(alloc);
-    if let Some(conflict) = visit_all(alloc, cnf, &mut trail)? {
-        return Ok(Found::Unsat(ended(alloc, cnf, &trail, log, conflict)?));
+    if let Some(conflict) = propagate_all_clauses(alloc, cnf, &mut trail)? {
+        return Ok(Found::Unsat(refutation(alloc, cnf, &trail, log, conflict)?));
     }
     let mut head = 0;
     loop {
@@ -133,7 +137,8 @@ pub fn search(alloc: Global, cnf: &Cnf, limit: u32) -> Result<Found, AllocError>
             continue;
         };
         let Some(place) = trail.last_decision() else {
-            return Ok(Found::Unsat(ended(alloc, cnf, &trail, log, conflict)?));
+            let refutation = refutation(alloc, cnf, &trail, log, conflict)?;
+            return Ok(Found::Unsat(refutation));
         };
         if log.len() >= limit as usize && may_give_up(cnf, trail.entries[place]) {
             log.truncate(limit as usize);
@@ -141,7 +146,7 @@ pub fn search(alloc: Global, cnf: &Cnf, limit: u32) -> Result<Found, AllocError>
         }
         let number = cnf.clause_count() + log.len() as u32;
         log.push(learned(alloc, cnf, &log, &trail, conflict)?)?;
-        trail.turn(place, number)?;
+        trail.flip_decision(place, number)?;
         head = place;
     }
 }

@@ -1,11 +1,11 @@
 //! The clause that a conflict shows.
 
-ghost use Rattle.std.specs.Prelude.{◌≡◌, ◌+◌, ◌<◌, length, All, Some, slice_get, IfOk};
+ghost use Rattle.std.specs.Prelude.{◌≡◌, ◌+◌, ◌<◌, [], length, All, Some, slice_get, IfOk};
 ghost use Rattle.clauses.specs.Propagation.{NamesFalse};
-ghost use Rattle.clauses.specs.ClauseSet.{LogFollows, clauses_with};
-ghost use Rattle.cdcl_log.specs.TrailEntries.{literals};
+ghost use Rattle.clauses.specs.ClauseSet.{LogFollows, StepFollows, IsRefutation, clauses_with};
+ghost use Rattle.cdcl_log.specs.TrailEntries.{literals, decisions};
 ghost use Rattle.cdcl_log.specs.DepthFirst.{EachCaused};
-ghost use Rattle.cdcl_log.specs.Learned.{Marks, IsInvolved, IsLearnedStep, EndsLearned};
+ghost use Rattle.cdcl_log.specs.Learned.{Marks, IsInvolved, IsLearnedStep};
 
 use crate::trail::Trail;
 use clauses::{Clause, Cnf, Lit, Log, Step, clause_in};
@@ -25,7 +25,8 @@ pub(crate) fn learned(
     requires follows { LogFollows cnf.now log.now }
     requires caused { EachCaused cnf.now log.now trail.now.entries.items }
     requires falsified { NamesFalse (clauses_with cnf.now log.now) (literals trail.now.entries.items) conflict }
-    ensures { IfOk result (IsLearnedStep (clauses_with cnf.now log.now) trail.now.entries.items conflict) }
+    ensures shown { IfOk result (IsLearnedStep (clauses_with cnf.now log.now) trail.now.entries.items conflict) }
+    ensures follows { IfOk result (StepFollows cnf.now (clauses_with cnf.now log.now)) }
 {
     let involved = involved(alloc, cnf, log, trail, conflict)?;
     let mut clause = Clause::new(alloc);
@@ -44,8 +45,8 @@ pub(crate) fn learned(
     Ok(Step { clause, hints })
 }
 
-/// The log that ends with what a last conflict shows.
-pub(crate) fn ended(
+/// The refutation that a conflict without decisions shows: the log, ended by the empty clause.
+pub(crate) fn refutation(
     alloc: Global,
     cnf: &Cnf,
     trail: &Trail,
@@ -56,7 +57,8 @@ pub(crate) fn ended(
     requires follows { LogFollows cnf.now log.items }
     requires caused { EachCaused cnf.now log.items trail.now.entries.items }
     requires falsified { NamesFalse (clauses_with cnf.now log.items) (literals trail.now.entries.items) conflict }
-    ensures { IfOk result (EndsLearned (clauses_with cnf.now log.items) trail.now.entries.items conflict log.items) }
+    requires no_decisions { decisions trail.now.entries.items ≡ [] }
+    ensures { IfOk result (IsRefutation cnf.now) }
 {
     let step = learned(alloc, cnf, &log, trail, conflict)?;
     log.push(step)?;

@@ -1,12 +1,15 @@
 //! A search for a model of a clause set that logs what it learns.
 //!
-//! The search goes down decision by decision, inputs first (Davis, Putnam, Logemann, Loveland). After each
-//! decision units are propagated. At a conflict it learns the clause of the negated decisions, whose hints are
-//! the reasons that the conflict rests on, in order, and then the conflict (reverse unit propagation), and turns
-//! the last decision round. So the log is a refutation where the search ends without a model.
+//! It is the search of Davis, Putnam, Logemann and Loveland (DPLL) with chronological backtracking. A decision
+//! makes the first variable without a value false, inputs before the others, and units are propagated, by lists
+//! of all clauses in which each literal stands. A conflict flips the last decision and keeps those before it.
 //!
-//! Learned clauses aren't propagated: the turned decision already holds what each would force. This is the
-//! simplest scheme of conflict-driven clause learning (CDCL), which learns the negated decisions.
+//! Of conflict-driven clause learning (CDCL) it has the simplest scheme: at each conflict it learns the clause of
+//! the negated decisions. The log keeps that clause with its hints (reverse unit propagation): the reasons, in
+//! order, of what the conflict rests on, and then the clause that is false. So the log is a refutation where the
+//! search ends without a model. The learned clause is the reason of the flipped decision, and is never propagated:
+//! the flipped decision satisfies it, and once that is taken back, an earlier decision that was flipped. There are
+//! no clauses of implication points, no jumps over decisions and no restarts.
 #![tactic(auto)]
 
 mod depth_first;

@@ -6,7 +6,7 @@ ghost use Rattle.clauses.specs.Literal.{IsWithin};
 ghost use Rattle.clauses.specs.Propagation.{NamesFalse};
 ghost use Rattle.clauses.specs.ClauseSet.{all_clauses};
 ghost use Rattle.cdcl_log.specs.TrailEntries.{literals, Grows};
-ghost use Rattle.cdcl_log.specs.Settled.{IsStatus, AllSettled, IsAttended, AttendsTo, AttendsAll};
+ghost use Rattle.cdcl_log.specs.Propagated.{IsStatus, AllPropagated, IsPropagatedUpTo, PropagatesClause, PropagatesClauses};
 ghost use Rattle.cdcl_log.specs.OccurrenceLists.{IsIndexOf};
 
 use crate::occurrences::Occurrences;
@@ -14,17 +14,18 @@ use crate::trail::{Cause, Entry, Trail};
 use clauses::{Cnf, Lit};
 use std::alloc::AllocError;
 
-/// What a clause asks for, by what is held.
+/// What unit propagation has to do at a clause, by what is held.
 enum Status {
-    /// Nothing: a literal of it is held, or two of them aren't false.
-    Settled,
-    /// This literal is to be held: all others are false, and it isn't set.
+    /// Nothing: the clause is satisfied, by a literal that is held, or unresolved, with two literals
+    /// that aren't false.
+    Propagated,
+    /// The clause is unit: this literal isn't set, all others are false, and so it is to be held.
     Forces(Lit),
     /// All literals are false.
     Falsified,
 }
 
-/// What the clause asks for.
+/// What unit propagation has to do at the clause.
 fn status_of(trail: &Trail, clause: &[Lit]) -> Status
     requires { IsWithin (length trail.now.values.items - 1) clause.now }
     ensures { IsStatus (literals trail.now.entries.items) clause.now result }
@@ -32,11 +33,11 @@ fn status_of(trail: &Trail, clause: &[Lit]) -> Status
     let mut open = None;
     for &literal in clause {
         if trail.holds(literal) {
-            return Status::Settled;
+            return Status::Propagated;
         }
         if !trail.holds(literal.negation()) {
             if open.is_some() {
-                return Status::Settled;
+                return Status::Propagated;
             }
             open = Some(literal);
         }
@@ -47,18 +48,18 @@ fn status_of(trail: &Trail, clause: &[Lit]) -> Status
     }
 }
 
-/// Looks at the clause of a number: what it forces is held. The answer is false where all its
-/// literals are.
-fn examine(cnf: &Cnf, number: u32, trail: &mut Trail) -> Result<bool, AllocError>
+/// Propagates the clause of a number: where it is unit, its literal is held. The answer is false
+/// where all its literals are.
+fn propagate_clause(cnf: &Cnf, number: u32, trail: &mut Trail) -> Result<bool, AllocError>
     requires known { number < length (all_clauses cnf.now) }
     requires variables { length trail.old.values.items ≡ cnf.now.count + 1 }
     ensures grows { Grows (all_clauses cnf.now) trail.old.entries.items trail.new.entries.items }
     ensures same_variables { length trail.new.values.items ≡ length trail.old.values.items }
-    ensures attended { IfOk result (λ good. OnTrue good (AttendsTo (all_clauses cnf.now) number trail.old.entries.items trail.new.entries.items)) }
+    ensures propagates { IfOk result (λ good. OnTrue good (PropagatesClause (all_clauses cnf.now) number trail.old.entries.items trail.new.entries.items)) }
     ensures falsified { IfOk result (λ good. OnFalse good (NamesFalse (all_clauses cnf.now) (literals trail.new.entries.items) number)) }
 {
     match status_of(trail, cnf.clause(number).as_slice()) {
-        Status::Settled => Ok(true),
+        Status::Propagated => Ok(true),
         Status::Forces(literal) => {
             trail.push(Entry {
                 literal,
@@ -70,8 +71,8 @@ fn examine(cnf: &Cnf, number: u32, trail: &mut Trail) -> Result<bool, AllocError
     }
 }
 
-/// Looks at the clauses of these numbers in order, up to the first that is false.
-pub(crate) fn visit(
+/// Propagates the clauses of these numbers in order, up to the first that is false.
+pub(crate) fn propagate_clauses(
     cnf: &Cnf,
     numbers: &[u32],
     trail: &mut Trail,
@@ -80,18 +81,19 @@ pub(crate) fn visit(
     requires variables { length trail.old.values.items ≡ cnf.now.count + 1 }
     ensures grows { Grows (all_clauses cnf.now) trail.old.entries.items trail.new.entries.items }
     ensures same_variables { length trail.new.values.items ≡ length trail.old.values.items }
-    ensures attended { IfOk result (λ conflict. IfNone conflict (AttendsAll (all_clauses cnf.now) numbers.now trail.old.entries.items trail.new.entries.items)) }
+    ensures propagates { IfOk result (λ conflict. IfNone conflict (PropagatesClauses (all_clauses cnf.now) numbers.now trail.old.entries.items trail.new.entries.items)) }
     ensures falsified { IfOk result (λ conflict. IfSome conflict (NamesFalse (all_clauses cnf.now) (literals trail.new.entries.items))) }
 {
     for &number in numbers {
-        if !examine(cnf, number, trail)? {
+        if !propagate_clause(cnf, number, trail)? {
             return Ok(Some(number));
         }
     }
     Ok(None)
 }
 
-/// Propagates the entries from `head` on, and those that come of it, up to the first clause that is false.
+/// Propagates the entries from `head` on, which are the propagation queue, and those that come of it, up
+/// to the first clause that is false.
 pub(crate) fn propagate(
     cnf: &Cnf,
     occurrences: &Occurrences,
@@ -100,16 +102,16 @@ pub(crate) fn propagate(
 ) -> Result<Option<u32>, AllocError>
     requires index { IsIndexOf cnf.now occurrences.now }
     requires variables { length trail.old.values.items ≡ cnf.now.count + 1 }
-    requires attended { IsAttended (all_clauses cnf.now) trail.old.entries.items head }
+    requires up_to_head { IsPropagatedUpTo (all_clauses cnf.now) trail.old.entries.items head }
     ensures grows { Grows (all_clauses cnf.now) trail.old.entries.items trail.new.entries.items }
     ensures same_variables { length trail.new.values.items ≡ length trail.old.values.items }
-    ensures settled { IfOk result (λ conflict. IfNone conflict (AllSettled (all_clauses cnf.now) (literals trail.new.entries.items))) }
+    ensures propagated { IfOk result (λ conflict. IfNone conflict (AllPropagated (all_clauses cnf.now) (literals trail.new.entries.items))) }
     ensures falsified { IfOk result (λ conflict. IfSome conflict (NamesFalse (all_clauses cnf.now) (literals trail.new.entries.items))) }
 {
     while head < trail.entries.len() {
         let falsified = trail.entries[head].literal.negation();
         head += 1;
-        let conflict = visit(cnf, occurrences.of(falsified), trail)?;
+        let conflict = propagate_clauses(cnf, occurrences.of(falsified), trail)?;
         if conflict.is_some() {
             return Ok(conflict);
         }

@@ -11,10 +11,10 @@ use std::alloc::{AllocError, Global};
 /// Why a literal is held.
 #[derive(Clone, Copy, Debug)]
 pub(crate) enum Cause {
-    /// The value of an input was decided.
-    Input,
-    /// The value of another variable was decided, once all inputs were set.
-    Other,
+    /// A decision on an input.
+    InputDecision,
+    /// A decision on a variable that is no input, once all inputs were set.
+    NonInputDecision,
     /// All other literals of the clause of this number were false.
     Reason(u32),
 }
@@ -46,7 +46,7 @@ impl Cause {
         ensures { result ≡ reason_of self }
     {
         match self {
-            Cause::Input | Cause::Other => None,
+            Cause::InputDecision | Cause::NonInputDecision => None,
             Cause::Reason(number) => Some(number),
         }
     }
@@ -56,7 +56,7 @@ impl Cause {
         ensures { result ≡ is_decision self }
     {
         match self {
-            Cause::Input | Cause::Other => true,
+            Cause::InputDecision | Cause::NonInputDecision => true,
             Cause::Reason(_) => false,
         }
     }
@@ -66,7 +66,7 @@ impl Trail {
     ghost use Rattle.std.specs.Prelude.{◌≡◌, ◌+◌, ◌-◌, ◌<◌, ◌≤◌, true, [], ◌∷◌, ◌++◌, map, drop, length, take, OnOk, OnErr, IfOk, IfSome, IfNone};
     ghost use Rattle.clauses.specs.Literal.{literal_of};
     ghost use Rattle.clauses.specs.Propagation.{is_held};
-    ghost use Rattle.cdcl_log.specs.TrailEntries.{literals, decisions, IsOpen, value_or_false, IsLastDecision, IsTurned};
+    ghost use Rattle.cdcl_log.specs.TrailEntries.{literals, decisions, IsOpen, value_or_false, IsLastDecision, IsFlipped};
 
     /// The empty trail over the variables from 1 to `count`.
     pub(crate) fn new(alloc: Global, count: u32) -> Result<Trail, AllocError>
@@ -158,11 +158,11 @@ impl Trail {
         last
     }
 
-    /// Turns the decision at a place round: all from there on is taken back, and the decision's
-    /// negation is held, for the reason of this number.
-    pub(crate) fn turn(&mut self, place: usize, reason: u32) -> Result<(), AllocError>
+    /// Flips the decision at a place: all from there on is taken back, and the decision's negation is
+    /// held, for the reason of this number.
+    pub(crate) fn flip_decision(&mut self, place: usize, reason: u32) -> Result<(), AllocError>
         requires { place < length self.old.entries.items }
-        ensures ok { OnOk result (IsTurned self.old.entries.items place reason self.new.entries.items) }
+        ensures ok { OnOk result (IsFlipped self.old.entries.items place reason self.new.entries.items) }
         ensures variables { length self.new.values.items ≡ length self.old.values.items }
     {
         let literal = self.entries[place].literal.negation();

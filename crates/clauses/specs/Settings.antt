@@ -52,16 +52,16 @@ StandsIn n clause = Any (λ l. l.variable ≡ n) clause
 abbrev pub IsGreatest : ℕ → List Lit → Type 0
 IsGreatest n clause = StandsIn n clause × All (λ l. l.variable ≤ n) clause
 
--- the assignment meets the clauses in which the variable is the greatest
-abbrev pub MeetsBelow : ℕ → (ℕ → Bool) → List (List Lit) → Type 0
-MeetsBelow n v clauses = All (λ clause. IsGreatest n clause → clause_true v clause ≡ true) clauses
+-- the assignment meets the clauses that define the variable: those in which it is the greatest
+abbrev pub MeetsDefinition : ℕ → (ℕ → Bool) → List (List Lit) → Type 0
+MeetsDefinition n v clauses = All (λ clause. IsGreatest n clause → clause_true v clause ≡ true) clauses
 
 -- Whatever the smaller variables hold, exactly one value of this one meets the gate clauses in which it is the
 -- greatest.
 abbrev pub IsDefined : Cnf → ℕ → Type 0
 IsDefined set n =
     (v : ℕ → Bool) → (value : Bool) ×
-    ((w : ℕ → Bool) → ((m : ℕ) → m < n → w m ≡ v m) → (MeetsBelow n w set.gates ↔ (w n ≡ value)))
+    ((w : ℕ → Bool) → ((m : ℕ) → m < n → w m ≡ v m) → (MeetsDefinition n w set.gates ↔ (w n ≡ value)))
 
 -- The variable stands in a root clause, or in a gate clause with a greater variable; so each leads to a root clause.
 abbrev pub IsUsed : Cnf → ℕ → Type 0

@@ -1,4 +1,4 @@
-//! Numbers of clauses, and what a set may be made of.
+//! Numbers of clauses.
 
 use super::*;
 use lists::List;
@@ -51,40 +51,5 @@ fn clauses_have_numbers(rt: HostRuntime) -> Result<(), Fail> {
         assert_eq!(rt; clause.as_slice(), literals);
     }
     assert!(rt; clause_in(&set, &steps, 3).is_none());
-    Ok(())
-}
-
-#[test]
-fn negations_differ_in_sign(rt: HostRuntime) -> Result<(), Fail> {
-    assert_eq!(rt; literal(1, true).negation(), literal(1, false));
-    assert_eq!(rt; literal(2, false).negation(), literal(2, true));
-    Ok(())
-}
-
-/// Each row has the variable of a gate clause, of a root clause and of an input, the count of
-/// variables, and whether these make a set.
-#[test]
-fn sets_are_over_their_variables(rt: HostRuntime) -> Result<(), Fail> {
-    let alloc = rt.alloc();
-    let rows = [
-        (1, 2, 2, 2, true),
-        (0, 2, 2, 2, false),
-        (3, 2, 2, 2, false),
-        (1, 0, 2, 2, false),
-        (1, 3, 2, 2, false),
-        (1, 2, 0, 2, false),
-        (1, 2, 3, 2, false),
-        (1, 2, 2, (1 << 31) - 1, true),
-        (1, 2, 2, 1 << 31, false),
-    ];
-    for (gate, root, input, count, made) in rows {
-        let set = Cnf::new(
-            one_clause(alloc, &[literal(gate, false)])?,
-            one_clause(alloc, &[literal(root, true)])?,
-            one_input(alloc, input)?,
-            count,
-        );
-        assert_eq!(rt; set.is_some(), made, "{gate} {root} {input} {count}");
-    }
     Ok(())
 }

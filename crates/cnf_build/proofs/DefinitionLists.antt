@@ -11,7 +11,7 @@ use Rattle.std.proofs.lemmas.List.Folds.{Any-from_list_any, list_any_at}
 use Rattle.clauses.specs.declared.literal.Lit.{Lit}
 use Rattle.clauses.specs.Literal.{Meets, literal_of, negation_of, is_same, literal_true, clause_true}
 use Rattle.clauses.specs.Propagation.{is_held, is_false, Derives, NamesUnit}
-use Rattle.clauses.specs.Settings.{StandsIn, IsGreatest, MeetsBelow}
+use Rattle.clauses.specs.Settings.{StandsIn, IsGreatest, MeetsDefinition}
 use Rattle.clauses.proofs.Held.{is_same-true, is_same-self, literal_true-negation}
 use Rattle.clauses.proofs.LogSoundness.{All-left, All-right}
 use Rattle.cnf_build.specs.declared.definition.Definition.{Definition}
@@ -182,8 +182,8 @@ greatest_same p q clause g h =
     omega arith
 
 -- The clauses in which a defined variable is the greatest fix it to the value over the smaller ones.
-pub value_from_MeetsBelow : (n : ℕ) (ds : List Definition) → AreOverSmaller n ds → (j : ℕ) (d : Definition) → slice_get ds j ≡ Some d → (w : ℕ → Bool) → MeetsBelow (n + j) w (clauses_from n ds) → w (n + j) ≡ definition_value w d
-value_from_MeetsBelow n ds over j d at w meets =
+pub value_from_MeetsDefinition : (n : ℕ) (ds : List Definition) → AreOverSmaller n ds → (j : ℕ) (d : Definition) → slice_get ds j ≡ Some d → (w : ℕ → Bool) → MeetsDefinition (n + j) w (clauses_from n ds) → w (n + j) ≡ definition_value w d
+value_from_MeetsDefinition n ds over j d at w meets =
     value_from_Meets w (n + j) d (λ k c within.
     let own = clauses_of_definition (n + j) d in
     let clause = get_or own k c in
@@ -195,8 +195,8 @@ value_from_MeetsBelow n ds over j d at w meets =
     subst (λ x. IsGreatest (n + j) x → clause_true w x ≡ true) same (meets all.0 [] inside) in
     told greatest)
 
-pub MeetsBelow-from_value : (n : ℕ) (ds : List Definition) → AreOverSmaller n ds → (j : ℕ) (d : Definition) → slice_get ds j ≡ Some d → (w : ℕ → Bool) → w (n + j) ≡ definition_value w d → MeetsBelow (n + j) w (clauses_from n ds)
-MeetsBelow-from_value n ds over j d at w value =
+pub MeetsDefinition-from_value : (n : ℕ) (ds : List Definition) → AreOverSmaller n ds → (j : ℕ) (d : Definition) → slice_get ds j ≡ Some d → (w : ℕ → Bool) → w (n + j) ≡ definition_value w d → MeetsDefinition (n + j) w (clauses_from n ds)
+MeetsDefinition-from_value n ds over j d at w value =
     All-clauses_from (λ clause. IsGreatest (n + j) clause → clause_true w clause ≡ true) n ds (λ i e at'. λ k c within greatest.
     let clause = get_or (clauses_of_definition (n + i) e) k c in
     let other = greatest_from_head (n + i) clause (all_heads (n + i) e (over i e at') k c within) in

@@ -19,7 +19,7 @@ use Rattle.cnf_build.specs.declared.definition.Definition.{Definition}
 use Rattle.cnf_build.specs.declared.definition.Definition.TheVariants as definitions
 use Rattle.cnf_build.specs.Definitions.{definition_value, IsSmaller, IsOverSmaller}
 use Rattle.cnf_build.specs.Marks.{Marks, IsMarked, IsCovered, IsOperand, IsClosed, AreNeeded}
-use Rattle.cnf_build.specs.Names.{Names, number_of, lit_of, definition_of, with_constant, with_gate, HasDefinition, NamesFirst}
+use Rattle.cnf_build.specs.Names.{Names, variable_of, lit_of, definition_of, with_constant, with_gate, HasDefinition, NamesFirst}
 use Rattle.cnf_build.proofs.OneDefinition.{IsOperandOf}
 use Rattle.cnf_build.proofs.DefinitionLists.{Solves, Solves-at}
 use Rattle.cnf_build.proofs.Standing.{IsAsked, IsSound}
@@ -52,15 +52,15 @@ IsAmong-later inputs k n le (Output i) own = omega arith
 abbrev grown : Names → List ℕ → List Definition → Names
 grown names more ds = record { inputs = names.inputs; numbers = names.numbers ++ more; definitions = ds }
 
-number_of-grown : (names : Names) (more : List ℕ) (ds : List Definition) (inputs k : ℕ) → k ≤ length names.numbers → (node : Node) → IsAmong inputs k node → number_of (grown names more ds) node ≡ number_of names node
-number_of-grown names more ds inputs k le One own = refl
-number_of-grown names more ds inputs k le (Input i) own = refl
-number_of-grown names more ds inputs k le (Output i) own = get_or_append_left names.numbers more 0 i (omega arith)
+variable_of-grown : (names : Names) (more : List ℕ) (ds : List Definition) (inputs k : ℕ) → k ≤ length names.numbers → (node : Node) → IsAmong inputs k node → variable_of (grown names more ds) node ≡ variable_of names node
+variable_of-grown names more ds inputs k le One own = refl
+variable_of-grown names more ds inputs k le (Input i) own = refl
+variable_of-grown names more ds inputs k le (Output i) own = get_or_append_left names.numbers more 0 i (omega arith)
 
 lit_of-grown : (names : Names) (more : List ℕ) (ds : List Definition) (inputs k : ℕ) → k ≤ length names.numbers → (l : Literal) → IsAmong inputs k l.node → lit_of (grown names more ds) l ≡ lit_of names l
 lit_of-grown names more ds inputs k le l own =
     let made : ℕ → Lit = λ n. record { variable = n; negated = l.negated } in
-    ap made (number_of-grown names more ds inputs k le l.node own)
+    ap made (variable_of-grown names more ds inputs k le l.node own)
 
 definition_of-grown : (names : Names) (more : List ℕ) (ds : List Definition) (inputs k : ℕ) → k ≤ length names.numbers → (gate : Gate) → OperandsAmong inputs k gate → definition_of (grown names more ds) gate ≡ definition_of names gate
 definition_of-grown names more ds inputs k le (And a b) own =
@@ -99,7 +99,7 @@ NamesFirst-start inputs all marks false is =
     }
 
 -- a covered node's variable is smaller than the next
-pub IsSmaller-next : (all : List Gate) (marks : Marks) (count : ℕ) (names : Names) → count ≤ length all → NamesFirst all marks count names → (node : Node) (negated : Bool) → IsAmong names.inputs count node → IsCovered marks node → IsSmaller (names.inputs + 1 + length names.definitions) (record { variable = number_of names node; negated = negated })
+pub IsSmaller-next : (all : List Gate) (marks : Marks) (count : ℕ) (names : Names) → count ≤ length all → NamesFirst all marks count names → (node : Node) (negated : Bool) → IsAmong names.inputs count node → IsCovered marks node → IsSmaller (names.inputs + 1 + length names.definitions) (record { variable = variable_of names node; negated = negated })
 IsSmaller-next all marks count names le f One negated own is =
     let at = f.one_defined is in
     let within = slice_get_within names.definitions at.0 definitions.One at.2 in
@@ -136,7 +136,7 @@ module _ (all : List Gate) (marks : Marks) (k : ℕ) (names : Names) (gate : Gat
   older_defined : (more : List ℕ) (ds : List Definition) → ((j : ℕ) (d : Definition) → slice_get names.definitions j ≡ Some d → slice_get ds j ≡ Some d) → (node : Node) (d : Definition) → IsAmong names.inputs k node → HasDefinition names node d → HasDefinition (grown names more ds) node d
   older_defined more ds kept node d own has =
       let enough : k ≤ length names.numbers = let n = f.length_numbers in omega arith in
-      (has.0, number_of-grown names more ds names.inputs k enough node own ∙ has.1, kept has.0 d has.2)
+      (has.0, variable_of-grown names more ds names.inputs k enough node own ∙ has.1, kept has.0 d has.2)
 
   older_gates : (more : List ℕ) (ds : List Definition) → ((j : ℕ) (d : Definition) → slice_get names.definitions j ≡ Some d → slice_get ds j ≡ Some d) → (i : ℕ) (g : Gate) → i < k → slice_get all i ≡ Some g → IsMarked marks (Output i) → HasDefinition (grown names more ds) (Output i) (definition_of (grown names more ds) g)
   older_gates more ds kept i g below at' is =
@@ -175,7 +175,7 @@ module _ (all : List Gate) (marks : Marks) (k : ℕ) (names : Names) (gate : Gat
             let w = f.only_marked j below in (
               w.0,
               w.1,
-              number_of-grown names more ds names.inputs k (omega arith) w.0 w.3 ∙ w.2,
+              variable_of-grown names more ds names.inputs k (omega arith) w.0 w.3 ∙ w.2,
               IsAmong-later names.inputs k (k + 1) (omega arith) w.0 w.3,
             );
         over_smaller = f.over_smaller;
@@ -194,7 +194,7 @@ module _ (all : List Gate) (marks : Marks) (k : ℕ) (names : Names) (gate : Gat
       let count' : length ds ≡ length names.definitions + 1 = length_push names.definitions own in
       let n = f.length_numbers in
       let m = f.length_definitions in
-      let number : number_of new (Output k) ≡ names.inputs + 1 + length names.definitions =
+      let number : variable_of new (Output k) ≡ names.inputs + 1 + length names.definitions =
       get_or_push names.numbers next_number 0 k n in
       let among = order k gate at in
       record {
@@ -222,7 +222,7 @@ module _ (all : List Gate) (marks : Marks) (k : ℕ) (names : Names) (gate : Gat
                   let w = f.only_marked j less in (
                     w.0,
                     w.1,
-                    number_of-grown names more ds names.inputs k (omega arith) w.0 w.3 ∙ w.2,
+                    variable_of-grown names more ds names.inputs k (omega arith) w.0 w.3 ∙ w.2,
                     IsAmong-later names.inputs k (k + 1) (omega arith) w.0 w.3,
                   )
               | inr most ↦ (Output k, is, (let e : j ≡ length names.definitions = omega arith in number ∙ ap (λ i. names.inputs + 1 + i) (sym e)), omega arith)
@@ -258,9 +258,9 @@ module _ (graph : Graph) (root : Literal) (marks : Marks) (names : Names) (order
 
     -- the marked gates before this place have their values
     abbrev HasValues : ℕ → Type 0
-    HasValues n = (k : ℕ) → k < n → k < length graph.gates → IsMarked marks (Output k) → u (number_of names (Output k)) ≡ get_or outputs k false
+    HasValues n = (k : ℕ) → k < n → k < length graph.gates → IsMarked marks (Output k) → u (variable_of names (Output k)) ≡ get_or outputs k false
 
-    node_same : (n : ℕ) → n ≤ length graph.gates → HasValues n → (node : Node) → IsAmong graph.inputs n node → IsCovered marks node → u (number_of names node) ≡ node_value values outputs node
+    node_same : (n : ℕ) → n ≤ length graph.gates → HasValues n → (node : Node) → IsAmong graph.inputs n node → IsCovered marks node → u (variable_of names node) ≡ node_value values outputs node
     unfolding values
     node_same n le has One among is =
         let at = f.one_defined is in ap u at.1 ∙ Solves-at u (names.inputs + 1) names.definitions at.0 definitions.One s at.2
@@ -310,22 +310,22 @@ module _ (graph : Graph) (root : Literal) (marks : Marks) (names : Names) (order
     root_same =
         literal_same (length graph.gates) (omega arith) (has_values (length graph.gates)) root own needed.root_covered
 
-  operand_number : (node : Node) (gate : Gate) → IsOperand node gate → IsOperandOf (number_of names node) (definition_of names gate)
+  operand_number : (node : Node) (gate : Gate) → IsOperand node gate → IsOperandOf (variable_of names node) (definition_of names gate)
   operand_number node (And a b) is =
-      elim is [ inl e ↦ inl (ap (number_of names) e) | inr e ↦ inr (ap (number_of names) e) ]
+      elim is [ inl e ↦ inl (ap (variable_of names) e) | inr e ↦ inr (ap (variable_of names) e) ]
   operand_number node (Xor a b) is =
-      elim is [ inl e ↦ inl (ap (number_of names) e) | inr e ↦ inr (ap (number_of names) e) ]
+      elim is [ inl e ↦ inl (ap (variable_of names) e) | inr e ↦ inr (ap (variable_of names) e) ]
   operand_number node (Mux c a b) is =
       elim is [
-        | inl e ↦ inl (ap (number_of names) e)
-        | inr rest ↦ inr (elim rest [ inl e ↦ inl (ap (number_of names) e) | inr e ↦ inr (ap (number_of names) e) ])
+        | inl e ↦ inl (ap (variable_of names) e)
+        | inr rest ↦ inr (elim rest [ inl e ↦ inl (ap (variable_of names) e) | inr e ↦ inr (ap (variable_of names) e) ])
       ]
 
   asked_number : (j : ℕ) → j < length names.definitions → IsAsked names.inputs names.definitions (lit_of names root) j
   asked_number j below =
       let w = f.only_marked j below in
       elim (needed.asked_for w.0 w.1) [
-        | inl e ↦ inl (ap (number_of names) e ∙ w.2)
+        | inl e ↦ inl (ap (variable_of names) e ∙ w.2)
         | inr (k, gate, at, is, operand) ↦
             let here = f.gates_defined k gate (slice_get_within graph.gates k gate at) at is in
             inr (here.0, definition_of names gate, here.2, subst (λ n. IsOperandOf n (definition_of names gate)) w.2 (operand_number w.0 gate operand))
@@ -342,7 +342,7 @@ module _ (graph : Graph) (root : Literal) (marks : Marks) (names : Names) (order
         used = asked_number;
       }
 
-  pub root_within : IsVariable (names.inputs + length names.definitions) (number_of names root.node)
+  pub root_within : IsVariable (names.inputs + length names.definitions) (variable_of names root.node)
   root_within =
       let among : IsAmong names.inputs (length graph.gates) root.node =
       subst (λ n. IsAmong n (length graph.gates) root.node) (sym same_inputs) own in

@@ -9,12 +9,12 @@ use Rattle.clauses.specs.declared.literal.Lit.{Lit}
 use Rattle.clauses.specs.declared.cnf.Cnf.{Cnf}
 use Rattle.clauses.specs.Literal.{Meets, literal_of, literal_true, clause_true}
 use Rattle.clauses.specs.ClauseSet.{all_clauses, setting_literals}
-use Rattle.clauses.specs.Settings.{StandsAt, StandsFor, StandsIn, IsInner, IsDefined, IsUsed, AgreeOn, UnitsDerive, MeetsBelow, input_values}
+use Rattle.clauses.specs.Settings.{StandsAt, StandsFor, StandsIn, IsInner, IsDefined, IsUsed, AgreeOn, UnitsDerive, MeetsDefinition, input_values}
 use Rattle.cnf_build.specs.declared.definition.Definition.{Definition}
 use Rattle.cnf_build.specs.declared.definition.Definition.TheVariants.{One}
 use Rattle.cnf_build.specs.Definitions.{definition_value, clauses_of_definition, clauses_from, AreOverSmaller}
 use Rattle.cnf_build.proofs.OneDefinition.{IsOperandOf, UsesBelow, operand_used}
-use Rattle.cnf_build.proofs.DefinitionLists.{AgreeBelow, Solves, Meets-from_Solves, Solves-from_Meets, extend, extend-below, extend-solves, solutions-agree, definition_value-agree, Has, Has-append_left, Has-from_definition, Has-from_place, Any-from_Has, value_from_MeetsBelow, MeetsBelow-from_value, HoldsBelow, HoldsBelow-inputs, derive_all, literal_of-true}
+use Rattle.cnf_build.proofs.DefinitionLists.{AgreeBelow, Solves, Meets-from_Solves, Solves-from_Meets, extend, extend-below, extend-solves, solutions-agree, definition_value-agree, Has, Has-append_left, Has-from_definition, Has-from_place, Any-from_Has, value_from_MeetsDefinition, MeetsDefinition-from_value, HoldsBelow, HoldsBelow-inputs, derive_all, literal_of-true}
 
 -- the variable after the inputs and so many others is the root's, or an operand of a definition
 abbrev pub IsAsked : ℕ → List Definition → Lit → ℕ → Type 0
@@ -125,12 +125,12 @@ module _ (inputs : ℕ) (ds : List Definition) (root : Lit) (test : List Bool �
         λ w agree.
             let same = definition_value-agree (inputs + 1 + j) v w (λ m from below. agree m below) d (sound.over_smaller j d at) in (
               (λ meets.
-                  value_from_MeetsBelow (inputs + 1) ds sound.over_smaller j d at w
-                  (subst (λ cs. MeetsBelow (inputs + 1 + j) w cs) e.gates meets)
+                  value_from_MeetsDefinition (inputs + 1) ds sound.over_smaller j d at w
+                  (subst (λ cs. MeetsDefinition (inputs + 1 + j) w cs) e.gates meets)
                   ∙ same),
               (λ value.
-                  subst (λ cs. MeetsBelow (inputs + 1 + j) w cs) (sym e.gates)
-                  (MeetsBelow-from_value (inputs + 1) ds sound.over_smaller j d at w (value ∙ sym same))),
+                  subst (λ cs. MeetsDefinition (inputs + 1 + j) w cs) (sym e.gates)
+                  (MeetsDefinition-from_value (inputs + 1) ds sound.over_smaller j d at w (value ∙ sym same))),
             ),
       )
 

@@ -19,14 +19,14 @@ pub record Names : Type 0 where
   pub definitions : List Definition
 
 -- the inputs have the first variables, and the constant the next
-abbrev pub number_of : Names → Node → ℕ
-number_of names One = names.inputs + 1
-number_of names (Input k) = k + 1
-number_of names (Output k) = slice_index names.numbers k
+abbrev pub variable_of : Names → Node → ℕ
+variable_of names One = names.inputs + 1
+variable_of names (Input k) = k + 1
+variable_of names (Output k) = slice_index names.numbers k
 
 -- a literal of the graph as a literal of its node's variable
 abbrev pub lit_of : Names → Literal → Lit
-lit_of names l = record { variable = number_of names l.node; negated = l.negated }
+lit_of names l = record { variable = variable_of names l.node; negated = l.negated }
 
 -- a gate's definition over its operands' variables
 abbrev pub definition_of : Names → Gate → Definition
@@ -53,7 +53,7 @@ with_gate names gate false =
 -- this definition is at the place of the node's variable
 abbrev pub HasDefinition : Names → Node → Definition → Type 0
 HasDefinition names node d =
-    (j : ℕ) × (number_of names node ≡ names.inputs + 1 + j) × (slice_get names.definitions j ≡ Some d)
+    (j : ℕ) × (variable_of names node ≡ names.inputs + 1 + j) × (slice_get names.definitions j ≡ Some d)
 
 -- the constant and the first gates, so many, are named where they are marked, and nothing else is
 pub record NamesFirst (all : List Gate) (marks : Marks) (count : ℕ) (names : Names) : Type 0 where
@@ -65,5 +65,5 @@ pub record NamesFirst (all : List Gate) (marks : Marks) (count : ℕ) (names : N
       HasDefinition names (Output k) (definition_of names gate)
   pub only_marked :
       (j : ℕ) → j < length names.definitions →
-      (node : Node) × IsMarked marks node × (number_of names node ≡ names.inputs + 1 + j) × IsAmong names.inputs count node
+      (node : Node) × IsMarked marks node × (variable_of names node ≡ names.inputs + 1 + j) × IsAmong names.inputs count node
   pub over_smaller : AreOverSmaller (names.inputs + 1) names.definitions

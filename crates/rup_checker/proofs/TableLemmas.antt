@@ -10,18 +10,18 @@ use Rattle.clauses.specs.declared.literal.Lit.{Lit}
 use Rattle.clauses.specs.Literal.{is_same, negation_of}
 use Rattle.clauses.specs.Propagation.{is_false, is_held, negations_of, open_literals}
 use Rattle.rup_checker.specs.declared.table.Held.{Held}
-use Rattle.rup_checker.specs.Table.{Represents, is_marked, stands_in, stands_in_some}
+use Rattle.rup_checker.specs.Table.{Represents, table_holds, stands_in, stands_in_some}
 
 -- the literals of a clause that the table says aren't false
 abbrev pub unmarked : List Held → List Lit → List Lit
-unmarked table clause = filter (λ l. not (is_marked table (negation_of l))) clause
+unmarked table clause = filter (λ l. not (table_holds table (negation_of l))) clause
 
 pub unmarked-open : (table : List Held) (held clause : List Lit) → Represents table held → unmarked table clause ≡ open_literals held clause
 unmarked-open table held clause r =
-    filter_agree (λ l. not (is_marked table (negation_of l))) (λ l. not (is_false held l)) (λ l. ap not (r.each (negation_of l))) clause
+    filter_agree (λ l. not (table_holds table (negation_of l))) (λ l. not (is_false held l)) (λ l. ap not (r.each (negation_of l))) clause
 
 -- a second open literal of a clause
-pub two_open : (table : List Held) (held clause : List Lit) (found : Option Lit) (place : ℕ) (d : Lit) → is_some found ≡ true → place < length clause → is_marked table (negation_of (get_or clause place d)) ≡ false → option_to_list found ++ unmarked table (drop place clause) ≡ unmarked table clause → Represents table held → 2 ≤ length (open_literals held clause)
+pub two_open : (table : List Held) (held clause : List Lit) (found : Option Lit) (place : ℕ) (d : Lit) → is_some found ≡ true → place < length clause → table_holds table (negation_of (get_or clause place d)) ≡ false → option_to_list found ++ unmarked table (drop place clause) ≡ unmarked table clause → Represents table held → 2 ≤ length (open_literals held clause)
 two_open table held clause None place d some within free count r = absurd (false≢true some)
 two_open table held clause (Some first) place d some within free count r =
     let rest : List Lit = unmarked table (drop (place + 1) clause) in
@@ -33,7 +33,7 @@ two_open table held clause (Some first) place d some within free count r =
     omega (arith, ap length whole)
 
 -- where one more literal is held
-pub Represents-hold : (old new : List Held) (held : List Lit) (l : Lit) → ((m : Lit) → is_marked new m ≡ (is_same m l || is_marked old m)) → Represents old held → Represents new (l ∷ held)
+pub Represents-hold : (old new : List Held) (held : List Lit) (l : Lit) → ((m : Lit) → table_holds new m ≡ (is_same m l || table_holds old m)) → Represents old held → Represents new (l ∷ held)
 Represents-hold old new held l step r = record { each = λ m. step m ∙ ap (λ b. is_same m l || b) (r.each m) }
 
 -- a variable that doesn't stand in a clause isn't held by its negation
@@ -47,20 +47,20 @@ negations_elsewhere (l ∷ ls) m none =
 
 -- Where what a step held is released, nothing is held. The tables are those after its clause was negated, after its
 -- hints, and after the hints' clauses and the clause were released.
-pub Represents-released : (clauses : List (List Lit)) (clause : List Lit) (hints : List ℕ) (negated moved freed blank : List Held) → Represents negated (negations_of clause) → ((m : Lit) → stands_in_some clauses hints m.variable ≡ false → is_marked moved m ≡ is_marked negated m) → ((m : Lit) → is_marked freed m ≡ (is_marked moved m && not (stands_in_some clauses hints m.variable))) → ((m : Lit) → is_marked blank m ≡ (is_marked freed m && not (stands_in m.variable clause))) → Represents blank []
+pub Represents-released : (clauses : List (List Lit)) (clause : List Lit) (hints : List ℕ) (negated moved freed blank : List Held) → Represents negated (negations_of clause) → ((m : Lit) → stands_in_some clauses hints m.variable ≡ false → table_holds moved m ≡ table_holds negated m) → ((m : Lit) → table_holds freed m ≡ (table_holds moved m && not (stands_in_some clauses hints m.variable))) → ((m : Lit) → table_holds blank m ≡ (table_holds freed m && not (stands_in m.variable clause))) → Represents blank []
 Represents-released clauses clause hints negated moved freed blank r kept hinted released =
     record {
       each = λ m.
           elim (cases_Bool (stands_in m.variable clause)) [
-            | inl stands ↦ released m ∙ and_right (is_marked freed m) (not (stands_in m.variable clause)) (ap not stands)
+            | inl stands ↦ released m ∙ and_right (table_holds freed m) (not (stands_in m.variable clause)) (ap not stands)
             | inr none ↦
                 released m
-                ∙ and_left (is_marked freed m) (not (stands_in m.variable clause))
+                ∙ and_left (table_holds freed m) (not (stands_in m.variable clause))
                 (elim (cases_Bool (stands_in_some clauses hints m.variable)) [
-                  | inl stands ↦ hinted m ∙ and_right (is_marked moved m) (not (stands_in_some clauses hints m.variable)) (ap not stands)
+                  | inl stands ↦ hinted m ∙ and_right (table_holds moved m) (not (stands_in_some clauses hints m.variable)) (ap not stands)
                   | inr neither ↦
                       hinted m
-                      ∙ and_left (is_marked moved m) (not (stands_in_some clauses hints m.variable)) (kept m neither ∙ r.each m ∙ negations_elsewhere clause m none)
+                      ∙ and_left (table_holds moved m) (not (stands_in_some clauses hints m.variable)) (kept m neither ∙ r.each m ∙ negations_elsewhere clause m none)
                 ])
           ];
     }

@@ -10,14 +10,14 @@ abbrev pub nothing : Held
 nothing = record { positive = false; negative = false }
 
 -- whether the table says that the literal is held
-abbrev pub is_marked : List Held → Lit → Bool
-is_marked table l =
+abbrev pub table_holds : List Held → Lit → Bool
+table_holds table l =
     if l.negated then (slice_index_or table l.variable nothing).negative
     else (slice_index_or table l.variable nothing).positive
 
 -- The table represents the state: it says so of exactly the literals that are held.
 pub record Represents (table : List Held) (held : List Lit) : Type 0 where
-  pub each : (l : Lit) → is_marked table l ≡ is_held held l
+  pub each : (l : Lit) → table_holds table l ≡ is_held held l
 
 -- whether the variable stands in the clause
 abbrev pub stands_in : ℕ → List Lit → Bool

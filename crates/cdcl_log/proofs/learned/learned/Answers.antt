@@ -1,8 +1,14 @@
-use Rattle.std.proofs.Common.{◌≡◌, ◌∷◌, [], length, refl, sym, ap, ◌∙◌, arith, true, false}
+use Rattle.std.proofs.Common.{◌≡◌, ◌++◌, ◌∷◌, [], length, take, refl, sym, ap, ◌∙◌, arith, true, false}
 use Rattle.std.specs.Option.{option_to_list}
-use Rattle.std.proofs.lemmas.List.{append-nil}
+use Rattle.std.proofs.lemmas.List.{append-nil, take_all}
 use Rattle.cdcl_log.proofs.Decisions.{clause_at_decision, clause_at_reason}
 use Rattle.cdcl_log.proofs.Involved.{hints_next, none_added, mark_read}
+use Rattle.clauses.specs.ClauseSet.{clauses_with}
+use Rattle.clauses.specs.declared.step.Step.{Step}
+use Rattle.clauses.specs.Propagation.{negations_of}
+use Rattle.cdcl_log.specs.TrailEntries.{decisions, reasons}
+use Rattle.cdcl_log.specs.Learned.{IsLearnedStep, marked_entries}
+use Rattle.cdcl_log.proofs.LearnedStep.{learned_follows}
 use Rattle.cdcl_log.proofs.learned.learned.Goals as goal
 use Rattle.cdcl_log.proofs.learned.learned.Goals.{in-Some+then-index+in_ok-push-in-Some, in-Some+else-index, in-None+in_ok-push-in-None}
 
@@ -44,3 +50,22 @@ loop-entry-preserved c =
                 (none_added _ c.reason.result w.in-None.is) inv.hints_so_far (w.hints-is ∙ sym (append-nil c.loop-entry.hints));
           }
     ]
+
+pub returns-clause-follows : goal.returns-clause-follows
+returns-clause-follows c =
+    let set = c.args.cnf.now in
+    let log = c.args.log.now in
+    let trail = c.args.trail.now in
+    let entries = trail.entries.items in
+    let inv = c.loop-entry.invariant in
+    let step : Step = record { clause = c.loop-entry.clause; hints = c.push-2.new.self } in
+    let whole : take c.loop-entry.entry-index entries ≡ entries =
+    take_all c.loop-entry.entry-index entries (omega (arith, c.loop-entry-test.false, ap length c.deref-entry-items.ensures.value)) in
+    let shown : IsLearnedStep (clauses_with set log) entries c.args.conflict step =
+    record {
+      marks = c.in_ok-involved.involved.items;
+      involved = c.in_ok-involved.ensures.marks;
+      clause_is = inv.clause_so_far ∙ ap (λ es. negations_of (decisions es)) whole;
+      hints_are = c.in_ok-push.ensures.ok ∙ ap (λ ns. ns ++ c.args.conflict ∷ []) (inv.hints_so_far ∙ ap (λ es. reasons (marked_entries c.in_ok-involved.involved.items es)) whole);
+    } in
+    learned_follows set trail.values.items log entries c.args.conflict step trail.table trail.fresh c.requires.variables c.requires.caused c.requires.falsified shown

@@ -5,9 +5,9 @@ use Rattle.clauses.specs.Literal.{negation_of}
 use Rattle.clauses.specs.ClauseSet.{all_clauses}
 use Rattle.cdcl_log.specs.declared.trail.Entry.{Entry}
 use Rattle.cdcl_log.specs.OccurrenceLists.{numbers_of}
-use Rattle.cdcl_log.specs.Settled.{AttendsAll}
+use Rattle.cdcl_log.specs.Propagated.{PropagatesClauses}
 use Rattle.cdcl_log.proofs.Options.{IfNone_at}
-use Rattle.cdcl_log.proofs.Attended.{Grows-then, IsAttended-next, AllSettled-end}
+use Rattle.cdcl_log.proofs.PropagationLemmas.{Grows-then, IsPropagatedUpTo-next, AllPropagated-end}
 use Rattle.cdcl_log.proofs.propagation.propagate.Goals as goal
 
 pub returns-in_err-conflict-clause-grows : goal.returns-in_err-conflict-clause-grows
@@ -31,13 +31,13 @@ loop-head-preserved c =
     record {
       grows = Grows-then _ _ _ _ c.loop-head.invariant.grows c.in_ok-conflict.ensures.grows;
       same_variables = c.in_ok-conflict.ensures.same_variables ∙ c.loop-head.invariant.same_variables;
-      attended =
-          IfNone_at c.in_ok-conflict.conflict (AttendsAll cs c.of.result.now entries c.visit.new.trail.entries.items) none c.in_ok-conflict.ensures.attended
+      up_to_head =
+          IfNone_at c.in_ok-conflict.conflict (PropagatesClauses cs c.of.result.now entries c.propagate_clauses.new.trail.entries.items) none c.in_ok-conflict.ensures.propagates
           (c.loop-head.head + 1) (omega (arith, within))
-          (IsAttended-next cs lists entries c.loop-head.head e c.of.result.now c.requires.index.all here numbers c.loop-head.invariant.attended);
+          (IsPropagatedUpTo-next cs lists entries c.loop-head.head e c.of.result.now c.requires.index.all here numbers c.loop-head.invariant.up_to_head);
     }
 
-pub returns-clause-settled : goal.returns-clause-settled
-returns-clause-settled c =
-    AllSettled-end (all_clauses c.args.cnf.now) c.loop-head.trail.entries.items c.loop-head.head
-    (omega (arith, c.loop-head-test.false, c.len.ensures)) c.loop-head.invariant.attended
+pub returns-clause-propagated : goal.returns-clause-propagated
+returns-clause-propagated c =
+    AllPropagated-end (all_clauses c.args.cnf.now) c.loop-head.trail.entries.items c.loop-head.head
+    (omega (arith, c.loop-head-test.false, c.len.ensures)) c.loop-head.invariant.up_to_head

@@ -1,7 +1,7 @@
 use Rattle.std.proofs.Common.{◌≡◌, ◌-◌, length}
 use Rattle.clauses.specs.ClauseSet.{all_clauses}
 use Rattle.cdcl_log.specs.TrailEntries.{Grows}
-use Rattle.cdcl_log.specs.Settled.{IsAttended}
+use Rattle.cdcl_log.specs.Propagated.{IsPropagatedUpTo}
 use Rattle.cdcl_log.proofs.propagation.propagate.Given as goal
 
 abbrev pub invariant-loop-head : goal.invariant-loop-head
@@ -9,7 +9,7 @@ invariant-loop-head l =
     record {
       grows : Grows (all_clauses l.cnf) l.initial.trail.entries.items l.trail.entries.items;
       same_variables : length l.trail.values.items ≡ length l.initial.trail.values.items;
-      attended : IsAttended (all_clauses l.cnf) l.trail.entries.items l.head;
+      up_to_head : IsPropagatedUpTo (all_clauses l.cnf) l.trail.entries.items l.head;
     }
 
 abbrev pub decreases-loop-head : goal.decreases-loop-head

@@ -1,7 +1,15 @@
 use Rattle.std.proofs.Common.{subst}
 use Rattle.std.specs.Prelude.{◌↔◌, IsTrue}
 use Rattle.clauses.specs.ClauseSet.{LogFollows}
+use Rattle.clauses.proofs.LogSoundness.{Meets-log}
 use Rattle.rup_checker.proofs.checker.check.Goals as goal
 
 pub returns : goal.returns
-returns c = subst (λ log. IsTrue c.log_follows.result ↔ LogFollows c.args.cnf.now log) c.as_slice.ensures c.log_follows.ensures
+returns c =
+    let set = c.args.cnf.now in
+    let log = c.args.log.now in
+    let exact = subst (λ steps. IsTrue c.log_follows.result ↔ LogFollows set steps) c.as_slice.ensures c.log_follows.ensures in
+    record {
+      follows = exact;
+      model_meets_log = λ yes v meets. Meets-log set log v (exact.0 yes) meets;
+    }

@@ -1,7 +1,7 @@
 use Rattle.std.proofs.Common.{not, ◌&&◌, ap, ◌∙◌, subst}
 use Rattle.clauses.specs.Propagation.{negations_of}
 use Rattle.clauses.specs.ClauseSet.{clauses_with}
-use Rattle.rup_checker.specs.Table.{Represents, is_marked, stands_in, stands_in_some}
+use Rattle.rup_checker.specs.Table.{Represents, table_holds, stands_in, stands_in_some}
 use Rattle.rup_checker.proofs.TableLemmas.{Represents-released}
 use Rattle.rup_checker.proofs.checker.step_follows.Goals as goal
 
@@ -15,5 +15,5 @@ returns-clause-blank c =
     Represents-released clauses step.clause step.hints negated moved freed c.release.new.table
     (subst (λ ls. Represents negated (negations_of ls)) c.as_slice-clause.ensures c.hold_negations.ensures)
     c.hints_refute.ensures.kept
-    (λ m. c.release_named.ensures m ∙ ap (λ ns. is_marked moved m && not (stands_in_some clauses ns m.variable)) c.as_slice.ensures)
-    (λ m. c.release.ensures m ∙ ap (λ ls. is_marked freed m && not (stands_in m.variable ls)) c.as_slice-clause.ensures)
+    (λ m. c.release_named.ensures m ∙ ap (λ ns. table_holds moved m && not (stands_in_some clauses ns m.variable)) c.as_slice.ensures)
+    (λ m. c.release.ensures m ∙ ap (λ ls. table_holds freed m && not (stands_in m.variable ls)) c.as_slice-clause.ensures)

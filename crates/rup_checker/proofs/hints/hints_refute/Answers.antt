@@ -4,7 +4,7 @@ use Rattle.std.proofs.lemmas.List.{at_drop_more}
 use Rattle.clauses.specs.Propagation.{HintsRefute}
 use Rattle.clauses.proofs.Derivations.{HintsRefute-cons}
 use Rattle.clauses.specs.ClauseSet.{clauses_with}
-use Rattle.rup_checker.specs.Table.{is_marked}
+use Rattle.rup_checker.specs.Table.{table_holds}
 use Rattle.rup_checker.proofs.TableLemmas.{Represents-hold}
 use Rattle.rup_checker.proofs.HintLemmas.{no_move, after_move, move_elsewhere, unit_within}
 use Rattle.rup_checker.proofs.hints.hints_refute.Goals as goal
@@ -56,6 +56,6 @@ loop-number-preserved c =
       );
       kept = λ m none.
           c.hold.ensures m
-          ∙ ap (λ b. b || is_marked c.loop-number.table m) (move_elsewhere clauses held c.args.step.now.hints moves last place literal m (sym c.as_slice.ensures ∙ c.in-Some.ensures.cases.0) c.loop-number-test.true unit none)
+          ∙ ap (λ b. b || table_holds c.loop-number.table m) (move_elsewhere clauses held c.args.step.now.hints moves last place literal m (sym c.as_slice.ensures ∙ c.in-Some.ensures.cases.0) c.loop-number-test.true unit none)
           ∙ c.loop-number.invariant.kept m none;
     }

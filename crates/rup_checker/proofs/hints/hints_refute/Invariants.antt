@@ -2,7 +2,7 @@ use Rattle.std.proofs.Common.{◌≡◌, false, List, [], ◌∷◌, ◌++◌, d
 use Rattle.std.specs.Prelude.{◌↔◌}
 use Rattle.clauses.specs.declared.literal.Lit.{Lit}
 use Rattle.clauses.specs.Propagation.{HintsRefute, negations_of}
-use Rattle.rup_checker.specs.Table.{Represents, is_marked, stands_in_some}
+use Rattle.rup_checker.specs.Table.{Represents, table_holds, stands_in_some}
 use Rattle.clauses.specs.ClauseSet.{clauses_with}
 use Rattle.rup_checker.proofs.hints.hints_refute.Given as goal
 
@@ -13,5 +13,5 @@ invariant-loop-number l =
     record {
       state : (held : List Lit) × Represents l.table held
           × (HintsRefute (clauses_with l.cnf l.earlier) (negations_of l.step.clause) l.step.hints ↔ HintsRefute (clauses_with l.cnf l.earlier) held (drop l.number-index l.moves ++ l.last ∷ []));
-      kept : (m : Lit) → stands_in_some (clauses_with l.cnf l.earlier) l.step.hints m.variable ≡ false → is_marked l.table m ≡ is_marked l.initial.table m;
+      kept : (m : Lit) → stands_in_some (clauses_with l.cnf l.earlier) l.step.hints m.variable ≡ false → table_holds l.table m ≡ table_holds l.initial.table m;
     }

@@ -1,10 +1,10 @@
 use Rattle.std.proofs.Common.{◌≡◌, ◌||◌, drop}
 use Rattle.clauses.specs.declared.literal.Lit.{Lit}
 use Rattle.clauses.specs.Propagation.{is_held, negations_of}
-use Rattle.rup_checker.specs.Table.{is_marked}
+use Rattle.rup_checker.specs.Table.{table_holds}
 use Rattle.rup_checker.proofs.table.hold_negations.Given as goal
 
 -- what is held now and by the literals to come is what is held in the end
 abbrev pub invariant-loop-literal : goal.invariant-loop-literal
 invariant-loop-literal l =
-    (m : Lit) → (is_held (negations_of (drop l.literal-index l.clause)) m || is_marked l.table m) ≡ (is_held (negations_of l.clause) m || is_marked l.initial.table m)
+    (m : Lit) → (is_held (negations_of (drop l.literal-index l.clause)) m || table_holds l.table m) ≡ (is_held (negations_of l.clause) m || table_holds l.initial.table m)

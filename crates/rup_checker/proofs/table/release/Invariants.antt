@@ -1,9 +1,9 @@
 use Rattle.std.proofs.Common.{◌≡◌, ◌&&◌, not, drop}
 use Rattle.clauses.specs.declared.literal.Lit.{Lit}
-use Rattle.rup_checker.specs.Table.{is_marked, stands_in}
+use Rattle.rup_checker.specs.Table.{table_holds, stands_in}
 use Rattle.rup_checker.proofs.table.release.Given as goal
 
 -- what is held but for the literals to come is what is held in the end
 abbrev pub invariant-loop-literal : goal.invariant-loop-literal
 invariant-loop-literal l =
-    (m : Lit) → (is_marked l.table m && not (stands_in m.variable (drop l.literal-index l.clause))) ≡ (is_marked l.initial.table m && not (stands_in m.variable l.clause))
+    (m : Lit) → (table_holds l.table m && not (stands_in m.variable (drop l.literal-index l.clause))) ≡ (table_holds l.initial.table m && not (stands_in m.variable l.clause))

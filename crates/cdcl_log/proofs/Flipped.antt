@@ -1,68 +1,44 @@
--- What is learned of a conflict, and the state after the last decision is turned round.
-use Rattle.std.proofs.Common.{◌≡◌, ℕ, ◌+◌, ◌-◌, ◌<◌, Bool, Option, true, false, List, [], ◌∷◌, ◌++◌, Some, length, take, refl, sym, ap, ◌∙◌, arith, inl, inr, subst, length-append}
-use Rattle.std.specs.Prelude.{slice_get, remove, IsSomeAnd}
+-- The state after the last decision is flipped.
+use Rattle.std.proofs.Common.{◌≡◌, ℕ, ◌<◌, Bool, Option, true, false, List, [], ◌∷◌, ◌++◌, Some, length, take, refl, sym, ap, ◌∙◌, arith, inl, inr, subst}
+use Rattle.std.specs.Prelude.{slice_get, remove}
 use Rattle.std.proofs.lemmas.List.{map-append, length-take-le}
 use Rattle.std.proofs.lemmas.List.Elements.{filter-append}
 use Rattle.clauses.specs.declared.cnf.Cnf.{Cnf}
 use Rattle.clauses.specs.declared.step.Step.{Step}
-use Rattle.clauses.specs.Literal.{negation_of, IsWithin}
-use Rattle.clauses.specs.Propagation.{HintsRefute, NamesFalse, NamesUnit, IsUnit, is_held, open_literals, negations_of}
-use Rattle.clauses.specs.ClauseSet.{all_clauses, clauses_of_steps, StepFollows, IsNew, IsRefutation, clauses_with}
+use Rattle.clauses.specs.Literal.{negation_of}
+use Rattle.clauses.specs.Propagation.{NamesUnit, IsUnit, is_held, open_literals, negations_of}
+use Rattle.clauses.specs.ClauseSet.{all_clauses, clauses_of_steps, StepFollows, IsNew, clauses_with}
 use Rattle.clauses.proofs.Held.{negation-negation}
 use Rattle.clauses.proofs.Closed.{HeldWithin, IsNew-from_closed}
 use Rattle.cdcl_log.specs.declared.trail.Entry.{Entry}
 use Rattle.cdcl_log.specs.declared.trail.Cause.{Cause}
-use Rattle.cdcl_log.specs.declared.trail.Cause.TheVariants.{Input, Other, Reason}
+use Rattle.cdcl_log.specs.declared.trail.Cause.TheVariants.{InputDecision, NonInputDecision, Reason}
 use Rattle.cdcl_log.specs.TrailEntries.{literals, decisions, is_decision, IsOpen, EachFresh}
-use Rattle.cdcl_log.specs.Settled.{IsSettled, AllSettled}
+use Rattle.cdcl_log.specs.Propagated.{IsPropagated, AllPropagated}
 use Rattle.cdcl_log.specs.DepthFirst.{IsDecided, IsCaused, EachCaused, IsLearned, IsState}
-use Rattle.cdcl_log.specs.Learned.{IsLearnedStep}
 use Rattle.cdcl_log.proofs.Lists.{slice_get_push_cases, slice_get_last, slice_get_below, slice_get_take, take_in_take, slice_get_in_take, take_left, take_whole}
-use Rattle.cdcl_log.proofs.HeldLists.{Consistent, held_last, both_held, not_held_nil, open_not_held, open_not_false, open_within, literals-append, literals_left, literal_at, HeldWithin-take}
-use Rattle.cdcl_log.proofs.Open.{open_at, IsSettled-from_different}
-use Rattle.cdcl_log.proofs.Derived.{decisions_refuted, decision_at, HeldWithin-decisions}
-use Rattle.cdcl_log.proofs.Attended.{IsAttended-push, IsAttended-settled}
-use Rattle.cdcl_log.proofs.States.{clauses_with-push, clauses_of_steps-push, NamesUnit-more, AllSettled-left, AllSettled-push, decided_from, EachForced-from_caused, LogFollows-push, LogIsNew-push, NoneEmpty-push, decisions_within, negations_twice, negated_in, all_false, remove_last, closed_from_settled}
+use Rattle.cdcl_log.proofs.HeldLists.{held_last, both_held, not_held_nil, open_not_held, open_not_false, open_within, literals-append, literals_left, literal_at, HeldWithin-take}
+use Rattle.cdcl_log.proofs.Open.{open_at, IsPropagated-from_different}
+use Rattle.cdcl_log.proofs.Derived.{decision_at, HeldWithin-decisions}
+use Rattle.cdcl_log.proofs.PropagationLemmas.{IsPropagatedUpTo-push, IsPropagatedUpTo-propagated}
+use Rattle.cdcl_log.proofs.States.{clauses_with-push, clauses_of_steps-push, NamesUnit-more, AllPropagated-left, AllPropagated-push, decided_from, LogFollows-push, LogIsNew-push, NoneEmpty-push, negations_twice, negated_in, all_false, remove_last, closed_from_propagated}
 
--- What a conflict below decisions shows: the trail and the log before, the last decision, and the false clause.
-module _ (set : Cnf) (values : List (Option Bool)) (log : List Step) (entries : List Entry) (conflict : ℕ) (step : Step) (ok : Consistent (literals entries)) (fresh : EachFresh values entries) (room : length values ≡ set.count + 1) (caused : EachCaused set log entries) (log_learned : IsLearned set log) (conflicts : NamesFalse (clauses_with set log) (literals entries) conflict) (shown : IsLearnedStep (clauses_with set log) entries conflict step) where
-  -- the learned step follows
-  learned_follows : StepFollows set (clauses_with set log) step
-  learned_follows =
-      let ds = decisions entries in
-      let cs = clauses_with set log in
-      let same : negations_of step.clause ≡ ds = ap negations_of shown.clause_is ∙ negations_twice ds in (
-        subst (IsWithin set.count) (sym shown.clause_is)
-            (decisions_within set.count entries (λ k f at. let h = fresh k f at in (h.0, omega (arith, h.1, room)))),
-        subst (λ held. HintsRefute cs held step.hints) (sym same)
-            (subst (HintsRefute cs ds) (sym shown.hints_are)
-            (decisions_refuted cs entries shown.marks conflict (EachForced-from_caused set log entries caused) ok shown.involved conflicts)),
-      )
-
-  -- where nothing was decided, it ends a refutation
-  pub refutation : decisions entries ≡ [] → IsRefutation set (log ++ step ∷ [])
-  refutation none =
-      let last : length (log ++ step ∷ []) - 1 ≡ length log = omega (arith, length-append log (step ∷ [])) in
-      let at : slice_get (log ++ step ∷ []) (length (log ++ step ∷ []) - 1) ≡ Some step =
-      ap (slice_get (log ++ step ∷ [])) last ∙ slice_get_last log step in (
-        LogFollows-push set log step log_learned.follows learned_follows,
-        subst (λ o. IsSomeAnd o (λ (s : Step). s.clause ≡ [])) (sym at) (shown.clause_is ∙ ap negations_of none),
-      )
-
+-- What is learned of a conflict below decisions: the trail and the log before, and the step.
+module _ (set : Cnf) (values : List (Option Bool)) (log : List Step) (entries : List Entry) (step : Step) (fresh : EachFresh values entries) (caused : EachCaused set log entries) (log_learned : IsLearned set log) (clause_is : step.clause ≡ negations_of (decisions entries)) (learned_follows : StepFollows set (clauses_with set log) step) where
   -- below a last decision
   module _ (place : ℕ) (e : Entry) (at : slice_get entries place ≡ Some e) (decides : is_decision e.cause ≡ true) (last : decisions entries ≡ decisions (take place entries) ++ e.literal ∷ []) where
     open_there : IsOpen (literals (take place entries)) e.literal.variable
     open_there = (fresh place e at).2
 
     clause_ends : step.clause ≡ negations_of (decisions (take place entries)) ++ negation_of e.literal ∷ []
-    clause_ends = shown.clause_is ∙ ap negations_of last ∙ map-append negation_of (decisions (take place entries)) (e.literal ∷ [])
+    clause_ends = clause_is ∙ ap negations_of last ∙ map-append negation_of (decisions (take place entries)) (e.literal ∷ [])
 
     decided_there : IsDecided set log (literals (take place entries)) e.literal
     decided_there = decided_from set log (literals (take place entries)) e.literal e.cause decides (caused place e at)
 
     has_negation : (k : ℕ) (f : Entry) → slice_get entries k ≡ Some f → is_decision f.cause ≡ true → is_held (step.clause) (negation_of f.literal) ≡ true
     has_negation k f there is =
-        ap (λ c. is_held c (negation_of f.literal)) shown.clause_is ∙ negated_in (decisions entries) f.literal (decision_at entries k f there is)
+        ap (λ c. is_held c (negation_of f.literal)) clause_is ∙ negated_in (decisions entries) f.literal (decision_at entries k f there is)
 
     -- the clause is new
     learned_is_new : IsNew (clauses_with set log) (step.clause)
@@ -73,7 +49,7 @@ module _ (set : Cnf) (values : List (Option Bool)) (log : List Step) (entries : 
         let l = negation_of e.literal in
         let rest : negations_of (remove (xs ++ l ∷ []) (length xs)) ≡ ds = ap negations_of (remove_last xs l) ∙ negations_twice ds in
         subst (IsNew (clauses_with set log)) (sym clause_ends)
-        (IsNew-from_closed (clauses_with set log) held (xs ++ l ∷ []) (length xs) l (closed_from_settled (clauses_with set log) held decided_there.settled)
+        (IsNew-from_closed (clauses_with set log) held (xs ++ l ∷ []) (length xs) l (closed_from_propagated (clauses_with set log) held decided_there.propagated)
         (slice_get_last xs l)
         (subst (λ ls. HeldWithin ls held) (sym rest) (HeldWithin-decisions (take place entries)))
         (open_not_held held l open_there))
@@ -82,7 +58,7 @@ module _ (set : Cnf) (values : List (Option Bool)) (log : List Step) (entries : 
     learned_not_empty empty =
         not_held_nil (negation_of e.literal) (sym (ap (λ c. is_held c (negation_of e.literal)) empty) ∙ has_negation place e at decides)
 
-    -- an earlier decision's state: within the last's, and the clause is settled there
+    -- an earlier decision's state: within the last's, and the clause is propagated there
     module _ (k : ℕ) (f : Entry) (there : slice_get entries k ≡ Some f) (earlier : k < place) where
       in_prefix : slice_get (take place entries) k ≡ Some f
       in_prefix = slice_get_in_take place entries k f there earlier
@@ -93,11 +69,11 @@ module _ (set : Cnf) (values : List (Option Bool)) (log : List Step) (entries : 
       within_last : HeldWithin (literals (take k entries)) (literals (take place entries))
       within_last = subst (λ es. HeldWithin (literals es) (literals (take place entries))) same_prefix (HeldWithin-take k (take place entries))
 
-      learned_settled : is_decision f.cause ≡ true → IsSettled (literals (take k entries)) (step.clause)
-      learned_settled is =
+      learned_propagated : is_decision f.cause ≡ true → IsPropagated (literals (take k entries)) (step.clause)
+      learned_propagated is =
           let held = literals (take k entries) in
           let last_held = literals (take place entries) in
-          IsSettled-from_different held (step.clause) (negation_of f.literal) (negation_of e.literal)
+          IsPropagated-from_different held (step.clause) (negation_of f.literal) (negation_of e.literal)
           (has_negation k f there is)
           (open_not_false held (negation_of f.literal) (fresh k f there).2)
           (has_negation place e at decides)
@@ -110,9 +86,9 @@ module _ (set : Cnf) (values : List (Option Bool)) (log : List Step) (entries : 
       decided_more is d =
           let held = literals (take k entries) in
           record {
-            settled =
-                subst (λ cs. AllSettled cs held) (sym (clauses_with-push set log step))
-                (AllSettled-push (clauses_with set log) (step.clause) held d.settled (learned_settled is));
+            propagated =
+                subst (λ cs. AllPropagated cs held) (sym (clauses_with-push set log step))
+                (AllPropagated-push (clauses_with set log) (step.clause) held d.propagated (learned_propagated is));
             learned = λ number c named.
                 elim (slice_get_push_cases (clauses_of_steps log) step.clause number c (sym (ap (λ cs. slice_get cs number) (clauses_of_steps-push log step)) ∙ named)) [
                   | inl before ↦ d.learned number c before
@@ -121,8 +97,8 @@ module _ (set : Cnf) (values : List (Option Bool)) (log : List Step) (entries : 
           }
 
       caused_more : (cause : Cause) → f.cause ≡ cause → IsCaused set log (literals (take k entries)) f.literal cause → IsCaused set (log ++ step ∷ []) (literals (take k entries)) f.literal cause
-      caused_more Input is h = (decided_more (ap is_decision is) h.0, h.1)
-      caused_more Other is h = (decided_more (ap is_decision is) h.0, h.1)
+      caused_more InputDecision is h = (decided_more (ap is_decision is) h.0, h.1)
+      caused_more NonInputDecision is h = (decided_more (ap is_decision is) h.0, h.1)
       caused_more (Reason number) is h =
           subst (λ cs. NamesUnit cs (literals (take k entries)) number f.literal) (sym (clauses_with-push set log (step)))
           (NamesUnit-more (clauses_with set log) (step.clause ∷ []) (literals (take k entries)) number f.literal h)
@@ -138,9 +114,9 @@ module _ (set : Cnf) (values : List (Option Bool)) (log : List Step) (entries : 
         ∙ ap (λ ls. ls ++ open_literals held (l ∷ [])) (all_false ds held (HeldWithin-decisions (take place entries)))
         ∙ open_at held l [] false (open_not_false held l open_there)
 
-    -- the state after the last decision is turned round
-    pub IsState-turned : (number : ℕ) → number ≡ length (clauses_with set log) → IsState set (log ++ step ∷ []) (take place entries ++ (record { literal = negation_of e.literal; cause = Reason number }) ∷ []) place
-    IsState-turned number is =
+    -- the state after the last decision is flipped
+    pub IsState-flipped : (number : ℕ) → number ≡ length (clauses_with set log) → IsState set (log ++ step ∷ []) (take place entries ++ (record { literal = negation_of e.literal; cause = Reason number }) ∷ []) place
+    IsState-flipped number is =
         let prefix = take place entries in
         let held = literals prefix in
         let l = negation_of e.literal in
@@ -175,9 +151,9 @@ module _ (set : Cnf) (values : List (Option Bool)) (log : List Step) (entries : 
                     ]
                 | inr here ↦ (l, subst (λ ls. is_held ls l ≡ true) here.1 (has_negation place e at decides), now)
               ];
-          attended =
-              IsAttended-push (all_clauses set) prefix t place (omega (arith, lengths))
-              (IsAttended-settled (all_clauses set) prefix place (AllSettled-left (all_clauses set) (clauses_of_steps log) held decided_there.settled));
+          up_to_head =
+              IsPropagatedUpTo-push (all_clauses set) prefix t place (omega (arith, lengths))
+              (IsPropagatedUpTo-propagated (all_clauses set) prefix place (AllPropagated-left (all_clauses set) (clauses_of_steps log) held decided_there.propagated));
           log_learned =
               record {
                 follows = LogFollows-push set log step log_learned.follows learned_follows;

@@ -9,16 +9,16 @@ use Rattle.clauses.specs.Propagation.{IsUnit, NamesUnit, is_held}
 use Rattle.cdcl_log.specs.declared.trail.Entry.{Entry}
 use Rattle.cdcl_log.specs.declared.trail.Cause.TheVariants.{Reason}
 use Rattle.cdcl_log.specs.TrailEntries.{literals, Grows, IsForced}
-use Rattle.cdcl_log.specs.Settled.{IsSettled, AllSettled, IsTouched, StandsFrom, IsAttended, IsAttendedBut, AttendsTo}
+use Rattle.cdcl_log.specs.Propagated.{IsPropagated, AllPropagated, IsTouched, StandsFrom, IsPropagatedUpTo, IsPropagatedBut, PropagatesClause}
 use Rattle.cdcl_log.specs.OccurrenceLists.{numbers_of, FindsBelow}
 use Rattle.cdcl_log.specs.declared.occurrences.Occurrences.{Occurrences}
 use Rattle.cdcl_log.proofs.Lists.{some_same, slice_get_left, slice_get_last, slice_get_below, slice_get_cases, slice_get_one, take_left, take_right}
 use Rattle.cdcl_log.proofs.HeldLists.{literals-append}
-use Rattle.cdcl_log.proofs.Open.{IsSettled-push, IsSettled-forced}
+use Rattle.cdcl_log.proofs.Open.{IsPropagated-push, IsPropagated-forced}
 
--- settled, or touched from the head on
-abbrev pub IsFine : List Entry → ℕ → List Lit → Type 0
-IsFine entries head clause = IsSettled (literals entries) clause ⊎ IsTouched entries head clause
+-- propagated, or touched from the head on
+abbrev pub IsPropagatedOrTouched : List Entry → ℕ → List Lit → Type 0
+IsPropagatedOrTouched entries head clause = IsPropagated (literals entries) clause ⊎ IsTouched entries head clause
 
 touched_left : (entries more : List Entry) (head : ℕ) (clause : List Lit) → IsTouched entries head clause → IsTouched (entries ++ more) head clause
 touched_left entries more head clause t = (t.0, t.1, t.2, slice_get_left entries more t.0 t.1 t.3, t.4)
@@ -26,29 +26,29 @@ touched_left entries more head clause t = (t.0, t.1, t.2, slice_get_left entries
 touched_last : (entries : List Entry) (e : Entry) (head : ℕ) (clause : List Lit) → head ≤ length entries → is_held clause (negation_of e.literal) ≡ true → IsTouched (entries ++ e ∷ []) head clause
 touched_last entries e head clause within h = (length entries, e, within, slice_get_last entries e, h)
 
-settled_at : (entries : List Entry) (e : Entry) (clause : List Lit) → IsSettled (literals entries ++ e.literal ∷ []) clause → IsSettled (literals (entries ++ e ∷ [])) clause
-settled_at entries e clause s = subst (λ held. IsSettled held clause) (sym (literals-append entries (e ∷ []))) s
+propagated_at : (entries : List Entry) (e : Entry) (clause : List Lit) → IsPropagated (literals entries ++ e.literal ∷ []) clause → IsPropagated (literals (entries ++ e ∷ [])) clause
+propagated_at entries e clause s = subst (λ held. IsPropagated held clause) (sym (literals-append entries (e ∷ []))) s
 
--- a clause that is fine stays so after one entry more
-pub IsFine-push : (entries : List Entry) (e : Entry) (head : ℕ) (clause : List Lit) → head ≤ length entries → IsFine entries head clause → IsFine (entries ++ e ∷ []) head clause
-IsFine-push entries e head clause within (inl settled) =
+-- a clause that is propagated or touched stays so after one entry more
+pub IsPropagatedOrTouched-push : (entries : List Entry) (e : Entry) (head : ℕ) (clause : List Lit) → head ≤ length entries → IsPropagatedOrTouched entries head clause → IsPropagatedOrTouched (entries ++ e ∷ []) head clause
+IsPropagatedOrTouched-push entries e head clause within (inl propagated) =
     elim (cases_Bool (is_held clause (negation_of e.literal))) [
       | inl touches ↦ inr (touched_last entries e head clause within touches)
-      | inr none ↦ inl (settled_at entries e clause (IsSettled-push (literals entries) clause e.literal none settled))
+      | inr none ↦ inl (propagated_at entries e clause (IsPropagated-push (literals entries) clause e.literal none propagated))
     ]
-IsFine-push entries e head clause within (inr touched) = inr (touched_left entries (e ∷ []) head clause touched)
+IsPropagatedOrTouched-push entries e head clause within (inr touched) = inr (touched_left entries (e ∷ []) head clause touched)
 
--- a clause that forced the new entry is fine
-IsFine-forced : (entries : List Entry) (e : Entry) (head : ℕ) (clause : List Lit) → head ≤ length entries → IsUnit (literals entries) clause e.literal → IsFine (entries ++ e ∷ []) head clause
-IsFine-forced entries e head clause within unit =
+-- a clause that forced the new entry is propagated or touched
+IsPropagatedOrTouched-forced : (entries : List Entry) (e : Entry) (head : ℕ) (clause : List Lit) → head ≤ length entries → IsUnit (literals entries) clause e.literal → IsPropagatedOrTouched (entries ++ e ∷ []) head clause
+IsPropagatedOrTouched-forced entries e head clause within unit =
     elim (cases_Bool (is_held clause (negation_of e.literal))) [
       | inl touches ↦ inr (touched_last entries e head clause within touches)
-      | inr none ↦ inl (settled_at entries e clause (IsSettled-forced (literals entries) clause e.literal none unit))
+      | inr none ↦ inl (propagated_at entries e clause (IsPropagated-forced (literals entries) clause e.literal none unit))
     ]
 
-pub IsAttended-push : (clauses : List (List Lit)) (entries : List Entry) (e : Entry) (head : ℕ) → head ≤ length entries → IsAttended clauses entries head → IsAttended clauses (entries ++ e ∷ []) head
-IsAttended-push clauses entries e head within attended number clause at =
-    IsFine-push entries e head clause within (attended number clause at)
+pub IsPropagatedUpTo-push : (clauses : List (List Lit)) (entries : List Entry) (e : Entry) (head : ℕ) → head ≤ length entries → IsPropagatedUpTo clauses entries head → IsPropagatedUpTo clauses (entries ++ e ∷ []) head
+IsPropagatedUpTo-push clauses entries e head within up_to_head number clause at =
+    IsPropagatedOrTouched-push entries e head clause within (up_to_head number clause at)
 
 -- a number from this place on is the one there or from the next on
 stands_cases : (numbers : List ℕ) (from number n : ℕ) → slice_get numbers from ≡ Some number → StandsFrom numbers from n → (n ≡ number) ⊎ StandsFrom numbers (from + 1) n
@@ -59,31 +59,31 @@ stands_cases numbers from number n at s =
       | inr (inr more) ↦ inr (s.0, omega arith, s.2)
     ]
 
--- a settled clause needs no entry
-pub AttendsTo-settled : (clauses : List (List Lit)) (number : ℕ) (entries : List Entry) (clause : List Lit) → slice_get clauses number ≡ Some clause → IsSettled (literals entries) clause → AttendsTo clauses number entries entries
-AttendsTo-settled clauses number entries clause at settled numbers from head next within attended n d there =
-    elim (attended n d there) [
+-- a propagated clause needs no entry
+pub PropagatesClause-propagated : (clauses : List (List Lit)) (number : ℕ) (entries : List Entry) (clause : List Lit) → slice_get clauses number ≡ Some clause → IsPropagated (literals entries) clause → PropagatesClause clauses number entries entries
+PropagatesClause-propagated clauses number entries clause at propagated numbers from head next within up_to_head n d there =
+    elim (up_to_head n d there) [
       | inl stands ↦
           elim (stands_cases numbers from number n next stands) [
             | inl same ↦
                 let e : clause ≡ d = some_same clause d (sym at ∙ ap (slice_get clauses) (sym same) ∙ there) in
-                inr (inl (subst (IsSettled (literals entries)) e settled))
+                inr (inl (subst (IsPropagated (literals entries)) e propagated))
             | inr later ↦ inl later
           ]
       | inr fine ↦ inr fine
     ]
 
-pub AttendsTo-forced : (clauses : List (List Lit)) (number : ℕ) (entries : List Entry) (e : Entry) (clause : List Lit) → slice_get clauses number ≡ Some clause → IsUnit (literals entries) clause e.literal → AttendsTo clauses number entries (entries ++ e ∷ [])
-AttendsTo-forced clauses number entries e clause at unit numbers from head next within attended n d there =
-    elim (attended n d there) [
+pub PropagatesClause-forced : (clauses : List (List Lit)) (number : ℕ) (entries : List Entry) (e : Entry) (clause : List Lit) → slice_get clauses number ≡ Some clause → IsUnit (literals entries) clause e.literal → PropagatesClause clauses number entries (entries ++ e ∷ [])
+PropagatesClause-forced clauses number entries e clause at unit numbers from head next within up_to_head n d there =
+    elim (up_to_head n d there) [
       | inl stands ↦
           elim (stands_cases numbers from number n next stands) [
             | inl same ↦
                 let is : clause ≡ d = some_same clause d (sym at ∙ ap (slice_get clauses) (sym same) ∙ there) in
-                inr (IsFine-forced entries e head d within (subst (λ c. IsUnit (literals entries) c e.literal) is unit))
+                inr (IsPropagatedOrTouched-forced entries e head d within (subst (λ c. IsUnit (literals entries) c e.literal) is unit))
             | inr later ↦ inl later
           ]
-      | inr fine ↦ inr (IsFine-push entries e head d within fine)
+      | inr fine ↦ inr (IsPropagatedOrTouched-push entries e head d within fine)
     ]
 
 -- trails that grew
@@ -132,19 +132,19 @@ Grows-then clauses old mid new g h =
 pub Grows-length : (clauses : List (List Lit)) (old new : List Entry) → Grows clauses old new → length old ≤ length new
 Grows-length clauses old new g = omega (arith, ap length g.is, length-append old g.more)
 
--- where no numbers are left, each clause is attended to
-pub IsAttended-end : (clauses : List (List Lit)) (numbers : List ℕ) (from : ℕ) (entries : List Entry) (head : ℕ) → length numbers ≤ from → IsAttendedBut clauses numbers from entries head → IsAttended clauses entries head
-IsAttended-end clauses numbers from entries head past attended number clause at =
-    elim (attended number clause at) [
+-- where no numbers are left, propagation has come to the head
+pub IsPropagatedUpTo-end : (clauses : List (List Lit)) (numbers : List ℕ) (from : ℕ) (entries : List Entry) (head : ℕ) → length numbers ≤ from → IsPropagatedBut clauses numbers from entries head → IsPropagatedUpTo clauses entries head
+IsPropagatedUpTo-end clauses numbers from entries head past up_to_head number clause at =
+    elim (up_to_head number clause at) [
       | inl stands ↦ let h : stands.0 < length numbers = slice_get_below numbers stands.0 number stands.2 in absurd (omega (arith, stands.1))
       | inr fine ↦ fine
     ]
 
 -- the clauses that the entry at the head touches are those of its negation's numbers
-pub IsAttended-next : (clauses : List (List Lit)) (lists : Occurrences) (entries : List Entry) (head : ℕ) (e : Entry) (number_list : List ℕ) → FindsBelow clauses (length clauses) lists → slice_get entries head ≡ Some e → number_list ≡ numbers_of lists (negation_of e.literal) → IsAttended clauses entries head → IsAttendedBut clauses number_list 0 entries (head + 1)
-IsAttended-next clauses lists entries head e number_list finds here is attended number clause at =
-    elim (attended number clause at) [
-      | inl settled ↦ inr (inl settled)
+pub IsPropagatedUpTo-next : (clauses : List (List Lit)) (lists : Occurrences) (entries : List Entry) (head : ℕ) (e : Entry) (number_list : List ℕ) → FindsBelow clauses (length clauses) lists → slice_get entries head ≡ Some e → number_list ≡ numbers_of lists (negation_of e.literal) → IsPropagatedUpTo clauses entries head → IsPropagatedBut clauses number_list 0 entries (head + 1)
+IsPropagatedUpTo-next clauses lists entries head e number_list finds here is up_to_head number clause at =
+    elim (up_to_head number clause at) [
+      | inl propagated ↦ inr (inl propagated)
       | inr (place, f, from, there, touches) ↦
           elim (cases_order place head) [
             | inl same ↦
@@ -158,13 +158,13 @@ IsAttended-next clauses lists entries head e number_list finds here is attended 
     ]
 
 -- past the last entry nothing touches
-pub AllSettled-end : (clauses : List (List Lit)) (entries : List Entry) (head : ℕ) → length entries ≤ head → IsAttended clauses entries head → AllSettled clauses (literals entries)
-AllSettled-end clauses entries head past attended number clause at =
-    elim (attended number clause at) [
-      | inl settled ↦ settled
+pub AllPropagated-end : (clauses : List (List Lit)) (entries : List Entry) (head : ℕ) → length entries ≤ head → IsPropagatedUpTo clauses entries head → AllPropagated clauses (literals entries)
+AllPropagated-end clauses entries head past up_to_head number clause at =
+    elim (up_to_head number clause at) [
+      | inl propagated ↦ propagated
       | inr (place, e, from, there, touches) ↦ let h : place < length entries = slice_get_below entries place e there in absurd (omega arith)
     ]
 
--- a settled set is attended to from any head
-pub IsAttended-settled : (clauses : List (List Lit)) (entries : List Entry) (head : ℕ) → AllSettled clauses (literals entries) → IsAttended clauses entries head
-IsAttended-settled clauses entries head settled number clause at = inl (settled number clause at)
+-- where all clauses are propagated, propagation has come to any head
+pub IsPropagatedUpTo-propagated : (clauses : List (List Lit)) (entries : List Entry) (head : ℕ) → AllPropagated clauses (literals entries) → IsPropagatedUpTo clauses entries head
+IsPropagatedUpTo-propagated clauses entries head propagated number clause at = inl (propagated number clause at)

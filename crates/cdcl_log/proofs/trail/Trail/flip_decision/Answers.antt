@@ -7,7 +7,7 @@ use Rattle.cdcl_log.specs.declared.trail.Entry.{Entry}
 use Rattle.cdcl_log.specs.declared.trail.Cause.TheVariants.{Reason}
 use Rattle.cdcl_log.specs.TrailEntries.{IsOpen, literals}
 use Rattle.cdcl_log.proofs.Lists.{some_same}
-use Rattle.cdcl_log.proofs.trail.Trail.turn.Goals as goal
+use Rattle.cdcl_log.proofs.trail.Trail.flip_decision.Goals as goal
 
 pub push-requires-clause-open : goal.push-requires-clause-open
 push-requires-clause-open c =
@@ -26,7 +26,7 @@ returns-clause-ok c =
     let same : here ≡ e = some_same here e (sym read ∙ at) in
     let literal : c.negation-literal.result ≡ negation_of e.literal =
     c.negation-literal.ensures ∙ ap (λ (y : Entry). negation_of y.literal) same in
-    let turned : Lit → List Entry = λ l. take c.args.place entries ++ record { literal = l; cause = Reason c.args.reason } ∷ [] in
+    let flipped : Lit → List Entry = λ l. take c.args.place entries ++ record { literal = l; cause = Reason c.args.reason } ∷ [] in
     c.in_ok-push.ensures.ok
     ∙ ap (λ es. es ++ record { literal = c.negation-literal.result; cause = Reason c.args.reason } ∷ []) c.cut.ensures.entries
-    ∙ ap turned literal
+    ∙ ap flipped literal

@@ -2,17 +2,17 @@ use Rattle.std.proofs.Common.{◌<◌, length, ap, ◌∙◌, inl, arith}
 use Rattle.std.specs.Prelude.{slice_get, IfNone}
 use Rattle.std.proofs.lemmas.Result.{IfOk-weaker}
 use Rattle.clauses.specs.ClauseSet.{all_clauses}
-use Rattle.cdcl_log.specs.Settled.{IsAttended, AttendsAll}
+use Rattle.cdcl_log.specs.Propagated.{IsPropagatedUpTo, PropagatesClauses}
 use Rattle.cdcl_log.proofs.Lists.{slice_get_below}
 use Rattle.cdcl_log.proofs.Options.{IfNone_then}
-use Rattle.cdcl_log.proofs.depth_first.visit_all.Goals as goal
+use Rattle.cdcl_log.proofs.depth_first.propagate_all_clauses.Goals as goal
 
-pub returns-clause-attended : goal.returns-clause-attended
-returns-clause-attended c =
+pub returns-clause-up_to_head : goal.returns-clause-up_to_head
+returns-clause-up_to_head c =
     let cs = all_clauses c.args.cnf.now in
     let old = c.args.trail.now.entries.items in
-    let new = c.visit.new.trail.entries.items in
-    let settles : AttendsAll cs c.deref.result.now old new → IsAttended cs new 0 = λ attends.
+    let new = c.propagate_clauses.new.trail.entries.items in
+    let settles : PropagatesClauses cs c.deref.result.now old new → IsPropagatedUpTo cs new 0 = λ attends.
     attends 0 (omega arith) (λ number clause at.
     let below : number < length cs = slice_get_below cs number clause at in
     inl (
@@ -21,6 +21,6 @@ returns-clause-attended c =
       ap (λ ns. slice_get ns number) c.deref.ensures.value
           ∙ c.loop-number.invariant.each number (omega (arith, below, c.loop-number-test.false, c.clause_count-number-end.ensures)),
     )) in
-    IfOk-weaker c.visit.result (λ conflict. IfNone conflict (AttendsAll cs c.deref.result.now old new)) (λ conflict. IfNone conflict (IsAttended cs new 0))
-    (λ conflict attends. IfNone_then conflict (AttendsAll cs c.deref.result.now old new) (IsAttended cs new 0) attends settles)
-    c.visit.ensures.attended
+    IfOk-weaker c.propagate_clauses.result (λ conflict. IfNone conflict (PropagatesClauses cs c.deref.result.now old new)) (λ conflict. IfNone conflict (IsPropagatedUpTo cs new 0))
+    (λ conflict attends. IfNone_then conflict (PropagatesClauses cs c.deref.result.now old new) (IsPropagatedUpTo cs new 0) attends settles)
+    c.propagate_clauses.ensures.propagates

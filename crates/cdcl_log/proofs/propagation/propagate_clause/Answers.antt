@@ -4,11 +4,11 @@ use Rattle.clauses.specs.ClauseSet.{all_clauses}
 use Rattle.cdcl_log.specs.declared.trail.Entry.{Entry}
 use Rattle.cdcl_log.specs.declared.trail.Cause.TheVariants.{Reason}
 use Rattle.cdcl_log.specs.TrailEntries.{literals}
-use Rattle.cdcl_log.specs.Settled.{AttendsTo}
+use Rattle.cdcl_log.specs.Propagated.{PropagatesClause}
 use Rattle.cdcl_log.proofs.Sets.{clause_within}
 use Rattle.cdcl_log.proofs.StatusLemmas.{forced_variable}
-use Rattle.cdcl_log.proofs.Attended.{AttendsTo-forced}
-use Rattle.cdcl_log.proofs.propagation.examine.Goals as goal
+use Rattle.cdcl_log.proofs.PropagationLemmas.{PropagatesClause-forced}
+use Rattle.cdcl_log.proofs.propagation.propagate_clause.Goals as goal
 
 pub push-requires-clause-first : goal.push-requires-clause-first
 push-requires-clause-first c =
@@ -27,13 +27,13 @@ push-requires-clause-last c =
     let within = forced_variable set.count _ clause c.in-Forces.literal (clause_within set c.args.number clause c.clause.ensures) unit in
     omega (arith, within.1, c.requires.variables)
 
-pub returns-in_ok-push-in-Forces-clause-attended : goal.returns-in_ok-push-in-Forces-clause-attended
-returns-in_ok-push-in-Forces-clause-attended c =
+pub returns-in_ok-push-in-Forces-clause-propagates : goal.returns-in_ok-push-in-Forces-clause-propagates
+returns-in_ok-push-in-Forces-clause-propagates c =
     let cs = all_clauses c.args.cnf.now in
     let entries = c.args.trail.now.entries.items in
     let clause = c.clause.result.now in
     let e : Entry = record { literal = c.in-Forces.literal; cause = Reason c.args.number } in
     let unit : IsUnit (literals entries) clause c.in-Forces.literal =
     subst (λ ls. IsUnit (literals entries) ls c.in-Forces.literal) c.as_slice.ensures c.in-Forces.ensures.0 in
-    subst (λ es. AttendsTo cs c.args.number entries es) (sym c.in_ok-push-in-Forces.ensures.ok)
-    (AttendsTo-forced cs c.args.number entries e clause c.clause.ensures unit)
+    subst (λ es. PropagatesClause cs c.args.number entries es) (sym c.in_ok-push-in-Forces.ensures.ok)
+    (PropagatesClause-forced cs c.args.number entries e clause c.clause.ensures unit)
