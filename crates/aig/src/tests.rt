@@ -6,6 +6,9 @@ use circuits::Circuit;
 use std::alloc::{AllocError, Global};
 use std::test::Fail;
 
+mod tables;
+mod words;
+
 /// A gate of each kind over three inputs: `a` and `b`; not `a` or `b`, and not both; `c`, or zero.
 fn build<C: Circuit>(alloc: Global, circuit: &mut C) -> Result<(), AllocError> {
     let a = circuit.input(alloc)?;

@@ -5,15 +5,15 @@ use Rattle.std.specs.List.{All}
 use Rattle.std.proofs.lemmas.List.{map-append, length-map, length_push, take_all}
 use Rattle.std.proofs.lemmas.List.Elements.{All-push}
 use Rattle.std.proofs.Math.Nat.{pow-succ'}
-use Rattle.circuits.specs.Circuit.{Keeps}
+use Rattle.circuits.specs.Circuit.{Adds}
 use Rattle.circuits.specs.Word.{bit, number}
 use Rattle.circuits.proofs.Truth.{adder_total}
 use Rattle.circuits.proofs.Words.{number-push, number-take_more, number-below, remainder}
-use Rattle.circuits.proofs.Kept.{own_at, All-kept, map-kept, Keeps-trans}
+use Rattle.circuits.proofs.Kept.{own_at, All-kept, map-kept, Adds-trans, Adds-weaken}
 
 -- after i full adders: the sum so far and 2 ^ i times the carry are the sum of the lowest i bits and the first carry
-pub record Chained {C L : Type 0} (has_literal : C → L → Type 0) (admits : C → List Bool → Type 0) (value : C → List Bool → L → Bool) (start now : C) (a b : List L) (first : L) (i : ℕ) (sum : List L) (carry : L) : Type 0 where
-  pub keeps : Keeps has_literal admits value start now
+pub record Chained {C L : Type 0} (has_literal : C → L → Type 0) (admits : C → List Bool → Type 0) (value : C → List Bool → L → Bool) (inputs_made gates_made : C → ℕ) (start now : C) (a b : List L) (first : L) (i : ℕ) (sum : List L) (carry : L) : Type 0 where
+  pub adds : Adds has_literal admits value inputs_made gates_made start now (5 * i)
   pub own_sum : All (has_literal now) sum
   pub own_carry : has_literal now carry
   pub width : length sum ≡ i
@@ -24,19 +24,19 @@ step_total : (s p k na nb f ds k' da db : ℕ) → s + p * k ≡ na + nb + f →
 step_total s p k na nb f ds k' da db before digit = omega (arith, ap (λ t. p * t) digit)
 
 -- one full adder more
-pub chain_step : {C L : Type 0} {has_literal : C → L → Type 0} {admits : C → List Bool → Type 0} {value : C → List Bool → L → Bool} {start now next : C} {a b : List L} {first : L} {i : ℕ} {sum : List L} {carry : L} → Chained has_literal admits value start now a b first i sum carry → Keeps has_literal admits value now next → All (has_literal start) a → All (has_literal start) b → i < length a → i < length b → (x y digit further : L) → x ≡ get_or a i x → y ≡ get_or b i y → has_literal next digit → has_literal next further → ((inputs : List Bool) → admits now inputs → value next inputs digit ≡ xor (xor (value now inputs x) (value now inputs y)) (value now inputs carry)) → ((inputs : List Bool) → admits now inputs → value next inputs further ≡ ((value now inputs x && value now inputs y) || (value now inputs carry && xor (value now inputs x) (value now inputs y)))) → Chained has_literal admits value start next a b first (i + 1) (sum ++ digit ∷ []) further
-chain_step {has_literal = has_literal} {value = value} {start = start} {now = now} {next = next} {a = a} {b = b} {i = i} {sum = sum} {carry = carry} before keeps own_a own_b in_a in_b x y digit further at_x at_y own_digit own_further digit_is further_is = record {
-  keeps = Keeps-trans before.keeps keeps;
-  own_sum = All-push (has_literal next) sum digit (All-kept keeps sum before.own_sum) own_digit;
+pub chain_step : {C L : Type 0} {has_literal : C → L → Type 0} {admits : C → List Bool → Type 0} {value : C → List Bool → L → Bool} {inputs_made gates_made : C → ℕ} {start now next : C} {a b : List L} {first : L} {i : ℕ} {sum : List L} {carry : L} → Chained has_literal admits value inputs_made gates_made start now a b first i sum carry → Adds has_literal admits value inputs_made gates_made now next 5 → All (has_literal start) a → All (has_literal start) b → i < length a → i < length b → (x y digit further : L) → x ≡ get_or a i x → y ≡ get_or b i y → has_literal next digit → has_literal next further → ((inputs : List Bool) → admits now inputs → value next inputs digit ≡ xor (xor (value now inputs x) (value now inputs y)) (value now inputs carry)) → ((inputs : List Bool) → admits now inputs → value next inputs further ≡ ((value now inputs x && value now inputs y) || (value now inputs carry && xor (value now inputs x) (value now inputs y)))) → Chained has_literal admits value inputs_made gates_made start next a b first (i + 1) (sum ++ digit ∷ []) further
+chain_step {has_literal = has_literal} {value = value} {start = start} {now = now} {next = next} {a = a} {b = b} {i = i} {sum = sum} {carry = carry} before adds own_a own_b in_a in_b x y digit further at_x at_y own_digit own_further digit_is further_is = record {
+  adds = Adds-weaken (Adds-trans before.adds adds) (omega arith);
+  own_sum = All-push (has_literal next) sum digit (All-kept adds.keeps sum before.own_sum) own_digit;
   own_carry = own_further;
   width = length_push sum digit ∙ ap (λ n. n + 1) before.width;
   total = λ inputs admitted.
-      let now_admitted = before.keeps.admitted inputs admitted in
-      let x_kept = before.keeps.values inputs x admitted (own_at (has_literal start) a i x own_a in_a at_x) in
-      let y_kept = before.keeps.values inputs y admitted (own_at (has_literal start) b i y own_b in_b at_y) in
+      let now_admitted = before.adds.keeps.admitted inputs admitted in
+      let x_kept = before.adds.keeps.values inputs x admitted (own_at (has_literal start) a i x own_a in_a at_x) in
+      let y_kept = before.adds.keeps.values inputs y admitted (own_at (has_literal start) b i y own_b in_b at_y) in
       let digits : bit (value next inputs digit) + 2 * bit (value next inputs further) ≡ bit (value start inputs x) + bit (value start inputs y) + bit (value now inputs carry) =
       rw (digit_is inputs now_admitted, further_is inputs now_admitted, x_kept, y_kept) (adder_total (value start inputs x) (value start inputs y) (value now inputs carry)) in
-      let sum_kept = map-kept keeps inputs now_admitted sum before.own_sum in
+      let sum_kept = map-kept adds.keeps inputs now_admitted sum before.own_sum in
       let sum_width : length (map (value now inputs) sum) ≡ i = length-map sum (value now inputs) ∙ before.width in
       let longer : number (map (value next inputs) (sum ++ digit ∷ [])) ≡ number (map (value now inputs) sum) + 2 ^ i * bit (value next inputs digit) =
       rw (map-append (value next inputs) sum (digit ∷ []), sum_kept, number-push (map (value now inputs) sum) (value next inputs digit), sum_width) refl in
@@ -45,13 +45,9 @@ chain_step {has_literal = has_literal} {value = value} {start = start} {now = no
       (step_total _ (2 ^ i) (bit (value now inputs carry)) _ _ _ _ _ _ _ (before.total inputs admitted) digits);
 }
 
--- all full adders: the sum is the whole sum's remainder
-pub chain_end : {C L : Type 0} {has_literal : C → L → Type 0} {admits : C → List Bool → Type 0} {value : C → List Bool → L → Bool} {start now : C} {a b : List L} {first : L} {i : ℕ} {sum : List L} {carry : L} → Chained has_literal admits value start now a b first i sum carry → i ≡ length a → i ≡ length b → (inputs : List Bool) → admits start inputs → number (map (value now inputs) sum) ≡ (number (map (value start inputs) a) + number (map (value start inputs) b) + bit (value start inputs first)) % 2 ^ length a
+-- all full adders: the sum and the last carry are the whole sum
+pub chain_end : {C L : Type 0} {has_literal : C → L → Type 0} {admits : C → List Bool → Type 0} {value : C → List Bool → L → Bool} {inputs_made gates_made : C → ℕ} {start now : C} {a b : List L} {first : L} {i : ℕ} {sum : List L} {carry : L} → Chained has_literal admits value inputs_made gates_made start now a b first i sum carry → i ≡ length a → i ≡ length b → (inputs : List Bool) → admits start inputs → number (map (value now inputs) sum) + 2 ^ length a * bit (value now inputs carry) ≡ number (map (value start inputs) a) + number (map (value start inputs) b) + bit (value start inputs first)
 chain_end {value = value} {start = start} {now = now} {a = a} {b = b} {first = first} {i = i} {sum = sum} {carry = carry} done width_a width_b inputs admitted =
     let whole_a : take i a ≡ a = take_all i a (omega arith) in
     let whole_b : take i b ≡ b = take_all i b (omega arith) in
-    let sum_width : length (map (value now inputs) sum) ≡ i = length-map sum (value now inputs) ∙ done.width in
-    let below : number (map (value now inputs) sum) < 2 ^ i = subst (λ n. number (map (value now inputs) sum) < 2 ^ n) sum_width (number-below (map (value now inputs) sum)) in
-    let total : number (map (value now inputs) sum) + 2 ^ i * bit (value now inputs carry) ≡ number (map (value start inputs) a) + number (map (value start inputs) b) + bit (value start inputs first) =
-    done.total inputs admitted ∙ ap (λ y. number (map (value start inputs) y) + number (map (value start inputs) (take i b)) + bit (value start inputs first)) whole_a ∙ ap (λ y. number (map (value start inputs) a) + number (map (value start inputs) y) + bit (value start inputs first)) whole_b in
-    remainder _ (2 ^ i) (bit (value now inputs carry)) _ below total ∙ ap (λ n. (number (map (value start inputs) a) + number (map (value start inputs) b) + bit (value start inputs first)) % 2 ^ n) width_a
+    rw (← width_a) (rw (whole_a, whole_b) at (done.total inputs admitted))

@@ -1,7 +1,7 @@
 -- What a circuit that keeps its older literals keeps of a word of them.
-use Rattle.std.proofs.Common.{ℕ, get_or, subst, sym, ◌≡◌, suc, ◌<◌, Bool, List, [], ◌∷◌, map, length, refl, ◌∙◌, arith}
+use Rattle.std.proofs.Common.{ℕ, ◌+◌, ◌≤◌, get_or, subst, sym, ◌≡◌, suc, ◌<◌, Bool, List, [], ◌∷◌, map, length, refl, ◌∙◌, arith}
 use Rattle.std.specs.List.{All}
-use Rattle.circuits.specs.Circuit.{Keeps}
+use Rattle.circuits.specs.Circuit.{Keeps, Adds}
 
 pub All-kept : {C L : Type 0} {has_literal : C → L → Type 0} {admits : C → List Bool → Type 0} {value : C → List Bool → L → Bool} {old new : C} → Keeps has_literal admits value old new → (word : List L) → All (has_literal old) word → All (has_literal new) word
 All-kept keeps word own k d below = keeps.literals _ (own k d below)
@@ -20,6 +20,26 @@ Keeps-trans {old = old} {mid = mid} {new = new} k h = record {
   admits_no_more = λ inputs p. k.admits_no_more inputs (h.admits_no_more inputs p);
   values = λ inputs l p own. h.values inputs l (k.admitted inputs p) (k.literals l own) ∙ k.values inputs l p own;
 }
+
+pub Keeps-refl : {C L : Type 0} {has_literal : C → L → Type 0} {admits : C → List Bool → Type 0} {value : C → List Bool → L → Bool} {now : C} → Keeps has_literal admits value now now
+Keeps-refl = record {
+  literals = λ l own. own;
+  admitted = λ inputs p. p;
+  admits_no_more = λ inputs p. p;
+  values = λ inputs l p own. refl;
+}
+
+-- where nothing was added
+pub Adds-refl : {C L : Type 0} {has_literal : C → L → Type 0} {admits : C → List Bool → Type 0} {value : C → List Bool → L → Bool} {inputs_made gates_made : C → ℕ} {now : C} → Adds has_literal admits value inputs_made gates_made now now 0
+Adds-refl = record { inputs = refl; gates = omega arith; keeps = Keeps-refl }
+
+-- one after the other, the gates add up
+pub Adds-trans : {C L : Type 0} {has_literal : C → L → Type 0} {admits : C → List Bool → Type 0} {value : C → List Bool → L → Bool} {inputs_made gates_made : C → ℕ} {old mid new : C} {m n : ℕ} → Adds has_literal admits value inputs_made gates_made old mid m → Adds has_literal admits value inputs_made gates_made mid new n → Adds has_literal admits value inputs_made gates_made old new (m + n)
+Adds-trans first then = record { inputs = then.inputs ∙ first.inputs; gates = omega arith; keeps = Keeps-trans first.keeps then.keeps }
+
+-- what adds no more than so many gates adds no more than some more
+pub Adds-weaken : {C L : Type 0} {has_literal : C → L → Type 0} {admits : C → List Bool → Type 0} {value : C → List Bool → L → Bool} {inputs_made gates_made : C → ℕ} {old new : C} {m n : ℕ} → Adds has_literal admits value inputs_made gates_made old new m → m ≤ n → Adds has_literal admits value inputs_made gates_made old new n
+Adds-weaken adds fewer = record { inputs = adds.inputs; gates = omega arith; keeps = adds.keeps }
 
 -- an element of a word that is the circuit's
 pub own_at : {L : Type 0} (P : L → Type 0) (a : List L) (i : ℕ) (x : L) → All P a → i < length a → x ≡ get_or a i x → P x

@@ -1,5 +1,6 @@
 pub mod Truth
 pub mod Words
+pub mod Stages
 pub mod Kept
 pub mod Chain
 pub mod Compared

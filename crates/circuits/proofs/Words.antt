@@ -1,8 +1,10 @@
 -- Lemmas on the number of a word.
-use Rattle.std.proofs.Common.{if◌then◌else◌, add-one, subst, zero, ◌≡◌, ℕ, suc, ◌+◌, ◌-◌, ◌*◌, ◌%◌, ◌^◌, ◌<◌, ◌≤◌, Bool, true, false, not, List, [], ◌∷◌, ◌++◌, map, length, take, drop, get_or, replicate, refl, sym, ap, ◌∙◌, arith}
+use Rattle.std.proofs.Common.{nat_lt, ◌||◌, if◌then◌else◌, add-one, subst, zero, ◌≡◌, ℕ, suc, ◌+◌, ◌-◌, ◌*◌, ◌%◌, ◌^◌, ◌<◌, ◌≤◌, Bool, true, false, not, List, [], ◌∷◌, ◌++◌, map, length, take, drop, get_or, replicate, refl, sym, ap, ◌∙◌, arith}
 use Rattle.std.proofs.lemmas.List.{take_more, map-append, length-map, length-take-le, take-append-drop, take-map, take_all, length-replicate}
+use Rattle.std.proofs.lemmas.Bool.Decides.{nat_tests}
 use Rattle.std.proofs.lemmas.Nat.{pow-add}
 use Rattle.std.proofs.Math.Nat.{pow-succ', mod-eq_of_lt, add-mul-mod_self_left}
+use Rattle.std.specs.List.{list_any}
 use Rattle.circuits.specs.Word.{bit, number}
 
 pub bit-le_one : (b : Bool) → bit b ≤ 1
@@ -115,3 +117,38 @@ map_take_more value a i x in_range e =
 pub take_select : {L : Type 0} (value : L → Bool) (b : Bool) (on off : List L) (i : ℕ) (x y : L) → i < length on → i < length off → x ≡ get_or on i x → y ≡ get_or off i y → take (i + 1) (if b then map value on else map value off) ≡ take i (if b then map value on else map value off) ++ (if b then value x else value y) ∷ []
 take_select value true on off i x y in_on in_off at_x at_y = map_take_more value on i x in_on at_x
 take_select value false on off i x y in_on in_off at_x at_y = map_take_more value off i y in_off at_y
+
+any_step : (b : Bool) (n : ℕ) → (b || nat_lt 0 n) ≡ nat_lt 0 (bit b + 2 * n)
+any_step true n = grind (arith, nat_tests)
+any_step false n = grind (arith, nat_tests)
+
+or_false : (b : Bool) → (b || false) ≡ (false || b)
+or_false true = refl
+or_false false = refl
+
+or_assoc : (a b c : Bool) → (a || (b || c)) ≡ ((a || b) || c)
+or_assoc true b c = refl
+or_assoc false b c = refl
+
+-- some bit of a word is true exactly where its number isn't 0
+pub any-number : {L : Type 0} (value : L → Bool) (a : List L) → list_any value a ≡ nat_lt 0 (number (map value a))
+any-number value [] = refl
+any-number value (l ∷ a) = ap (λ b. value l || b) (any-number value a) ∙ any_step (value l) (number (map value a))
+
+list_any-push : {L : Type 0} (p : L → Bool) (xs : List L) (x : L) → list_any p (xs ++ x ∷ []) ≡ (list_any p xs || p x)
+list_any-push p [] x = or_false (p x)
+list_any-push p (y ∷ xs) x = ap (λ b. p y || b) (list_any-push p xs x) ∙ or_assoc (p y) (list_any p xs) (p x)
+
+pub list_any-take_more : {L : Type 0} (p : L → Bool) (a : List L) (i : ℕ) (x : L) → i < length a → x ≡ get_or a i x → list_any p (take (i + 1) a) ≡ (list_any p (take i a) || p x)
+list_any-take_more p a i x in_range e =
+    let one_more : take (i + 1) a ≡ take i a ++ x ∷ [] = take_more a i x in_range ∙ ap (λ y. take i a ++ y ∷ []) (sym e) in
+    ap (λ w. list_any p w) one_more ∙ list_any-push p (take i a) x
+
+-- the lowest bits of a sum
+pub sum_remainder : (bits : List Bool) (n k total : ℕ) → length bits ≡ n → number bits + 2 ^ n * k ≡ total → number bits ≡ total % 2 ^ n
+sum_remainder bits n k total width e =
+    let below : number bits < 2 ^ n = subst (λ k. number bits < 2 ^ k) width (number-below bits) in
+    remainder (number bits) (2 ^ n) k total below e
+
+pub nothing_carried : (sum m : ℕ) (first : Bool) → first ≡ false → (sum + bit first) % m ≡ sum % m
+nothing_carried sum m first e = rw e (ap (λ k. k % m) (omega arith))

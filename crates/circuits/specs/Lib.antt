@@ -1,3 +1,4 @@
 pub mod Circuit
 pub mod Evaluation
+pub mod Gates
 pub mod Word

@@ -2,33 +2,15 @@
 ghost use Rattle.std.specs.Prelude.{◌≡◌, ◌+◌, ◌*◌, ◌%◌, ◌^◌, ◌≤◌, Bool, ◌||◌, ◌&&◌, List as Seq, length, IfOk};
 ghost use Rattle.std.specs.Bool.{xor};
 ghost use Rattle.std.specs.List.{All};
-ghost use Rattle.circuits.specs.Circuit.{Keeps};
+ghost use Rattle.circuits.specs.Circuit.{Adds};
+ghost use Rattle.circuits.specs.Gates.{adder_gates};
 ghost use Rattle.circuits.specs.Word.{bit, number_of};
 
 use crate::circuit::Circuit;
+use crate::disjunction::or;
 use crate::word::Bits;
 use lists::List;
 use std::alloc::{AllocError, Global};
-
-/// Either of two literals, or both.
-fn or<C: Circuit>(
-    alloc: Global,
-    c: &mut C,
-    a: C::Literal,
-    b: C::Literal,
-) -> Result<C::Literal, AllocError>
-    requires own_a { C.has_literal c.old a }
-    requires own_b { C.has_literal c.old b }
-    ensures own { IfOk result (λ made. C.has_literal c.new made) }
-    ensures value { IfOk result (λ made. (inputs : Seq Bool) → C.admits c.old inputs →
-        C.value c.new inputs made ≡ (C.value c.old inputs a || C.value c.old inputs b)) }
-    ensures inputs { C.inputs_made c.new ≡ C.inputs_made c.old }
-    ensures gates { C.gates_made c.new ≤ C.gates_made c.old + 1 }
-    ensures keeps { Keeps C.has_literal C.admits C.value c.old c.new }
-{
-    let neither = c.and(alloc, c.not(a), c.not(b))?;
-    Ok(c.not(neither))
-}
 
 /// What a full adder gives: the number of true ones of three bits is `sum + 2 * carry`.
 struct Added<L> {
@@ -56,9 +38,7 @@ fn full_adder<C: Circuit>(
         C.value c.new inputs made.carry
         ≡ ((C.value c.old inputs a && C.value c.old inputs b)
         || (C.value c.old inputs carry && xor (C.value c.old inputs a) (C.value c.old inputs b)))) }
-    ensures inputs { C.inputs_made c.new ≡ C.inputs_made c.old }
-    ensures gates { C.gates_made c.new ≤ C.gates_made c.old + 5 }
-    ensures keeps { Keeps C.has_literal C.admits C.value c.old c.new }
+    ensures adds { Adds C.has_literal C.admits C.value C.inputs_made C.gates_made c.old c.new 5 }
 {
     let differ = c.xor(alloc, a, b)?;
     let sum = c.xor(alloc, differ, carry)?;
@@ -68,37 +48,42 @@ fn full_adder<C: Circuit>(
     Ok(Added { sum, carry })
 }
 
-/// The sum of two words and a first carry, by a chain of full adders. It adds at most five gates a bit.
-pub(crate) fn add_with_carry<C: Circuit>(
+/// What adding two words of one width N gives: their whole sum is the number of the bits, and 2^N more where the carry is true.
+#[derive(Drop)]
+pub struct Sum<L> {
+    /// The lowest N bits of the sum.
+    pub bits: Bits<L>,
+    /// The bit that is worth 2^N.
+    pub carry: L,
+}
+
+/// The sum of two words of one width N and a first carry, by a chain of full adders. It adds at most 5 N gates.
+pub fn add_with_carry<C: Circuit>(
     alloc: Global,
     c: &mut C,
     a: &[C::Literal],
     b: &[C::Literal],
     first: C::Literal,
-) -> Result<Bits<C::Literal>, AllocError>
+) -> Result<Sum<C::Literal>, AllocError>
     requires same_width { length b.now ≡ length a.now }
     requires own_a { All (C.has_literal c.old) a.now }
     requires own_b { All (C.has_literal c.old) b.now }
     requires own_first { C.has_literal c.old first }
-    ensures own { IfOk result (All (C.has_literal c.new)) }
-    ensures width { IfOk result (λ sum. length sum ≡ length a.now) }
+    ensures own_bits { IfOk result (λ sum. All (C.has_literal c.new) sum.bits) }
+    ensures own_carry { IfOk result (λ sum. C.has_literal c.new sum.carry) }
+    ensures width { IfOk result (λ sum. length sum.bits ≡ length a.now) }
     ensures number { IfOk result (λ sum. (inputs : Seq Bool) → C.admits c.old inputs →
-        number_of (C.value c.new inputs) sum
-        ≡ (number_of (C.value c.old inputs) a.now + number_of (C.value c.old inputs) b.now
-        + bit (C.value c.old inputs first)) % 2 ^ length a.now) }
-    ensures inputs { C.inputs_made c.new ≡ C.inputs_made c.old }
-    ensures gates { C.gates_made c.new ≤ C.gates_made c.old + 5 * length a.now }
-    ensures keeps { Keeps C.has_literal C.admits C.value c.old c.new }
+        number_of (C.value c.new inputs) sum.bits + 2 ^ length a.now * bit (C.value c.new inputs sum.carry)
+        ≡ number_of (C.value c.old inputs) a.now + number_of (C.value c.old inputs) b.now
+        + bit (C.value c.old inputs first)) }
+    ensures adds { Adds C.has_literal C.admits C.value C.inputs_made C.gates_made c.old c.new (adder_gates (length a.now)) }
 {
-    let mut sum = List::new(alloc);
+    let mut bits = List::new(alloc);
     let mut carry = first;
     for i in 0..a.len() {
-        let Added {
-            sum: digit,
-            carry: next,
-        } = full_adder(alloc, c, a[i], b[i], carry)?;
-        sum.push(digit)?;
+        let Added { sum, carry: next } = full_adder(alloc, c, a[i], b[i], carry)?;
+        bits.push(sum)?;
         carry = next;
     }
-    Ok(sum)
+    Ok(Sum { bits, carry })
 }

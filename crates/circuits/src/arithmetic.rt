@@ -1,7 +1,8 @@
 //! Addition, subtraction and negation of words, modulo a power of two.
 ghost use Rattle.std.specs.Prelude.{◌≡◌, ◌+◌, ◌-◌, ◌*◌, ◌%◌, ◌^◌, ◌≤◌, Bool, List as Seq, length, IfOk};
 ghost use Rattle.std.specs.List.{All};
-ghost use Rattle.circuits.specs.Circuit.{Keeps};
+ghost use Rattle.circuits.specs.Circuit.{Adds};
+ghost use Rattle.circuits.specs.Gates.{adder_gates};
 ghost use Rattle.circuits.specs.Word.{number_of};
 
 use crate::adder::add_with_carry;
@@ -25,12 +26,11 @@ pub fn add<C: Circuit>(
         number_of (C.value c.new inputs) sum
         ≡ (number_of (C.value c.old inputs) a.now + number_of (C.value c.old inputs) b.now)
         % 2 ^ length a.now) }
-    ensures inputs { C.inputs_made c.new ≡ C.inputs_made c.old }
-    ensures gates { C.gates_made c.new ≤ C.gates_made c.old + 5 * length a.now }
-    ensures keeps { Keeps C.has_literal C.admits C.value c.old c.new }
+    ensures adds { Adds C.has_literal C.admits C.value C.inputs_made C.gates_made c.old c.new (adder_gates (length a.now)) }
 {
     let first = c.zero();
-    add_with_carry(alloc, c, a.as_slice(), b.as_slice(), first)
+    let sum = add_with_carry(alloc, c, a.as_slice(), b.as_slice(), first)?;
+    Ok(sum.bits)
 }
 
 /// The difference of two words of one width N, modulo 2^N: `a + not b + 1`. It adds at most 5 N gates.
@@ -49,13 +49,12 @@ pub fn sub<C: Circuit>(
         number_of (C.value c.new inputs) difference
         ≡ (number_of (C.value c.old inputs) a.now
         + (2 ^ length a.now - number_of (C.value c.old inputs) b.now)) % 2 ^ length a.now) }
-    ensures inputs { C.inputs_made c.new ≡ C.inputs_made c.old }
-    ensures gates { C.gates_made c.new ≤ C.gates_made c.old + 5 * length a.now }
-    ensures keeps { Keeps C.has_literal C.admits C.value c.old c.new }
+    ensures adds { Adds C.has_literal C.admits C.value C.inputs_made C.gates_made c.old c.new (adder_gates (length a.now)) }
 {
     let complement = inverted(alloc, c, b.as_slice())?;
     let first = c.one();
-    add_with_carry(alloc, c, a.as_slice(), complement.as_slice(), first)
+    let sum = add_with_carry(alloc, c, a.as_slice(), complement.as_slice(), first)?;
+    Ok(sum.bits)
 }
 
 /// The negation of a word of width N, modulo 2^N: `0 + not a + 1`. It adds at most 5 N gates.
@@ -70,9 +69,7 @@ pub fn neg<C: Circuit>(
     ensures number { IfOk result (λ negation. (inputs : Seq Bool) → C.admits c.old inputs →
         number_of (C.value c.new inputs) negation
         ≡ (2 ^ length a.now - number_of (C.value c.old inputs) a.now) % 2 ^ length a.now) }
-    ensures inputs { C.inputs_made c.new ≡ C.inputs_made c.old }
-    ensures gates { C.gates_made c.new ≤ C.gates_made c.old + 5 * length a.now }
-    ensures keeps { Keeps C.has_literal C.admits C.value c.old c.new }
+    ensures adds { Adds C.has_literal C.admits C.value C.inputs_made C.gates_made c.old c.new (adder_gates (length a.now)) }
 {
     let zeros = repeated(alloc, c.zero(), a.len())?;
     sub(alloc, c, &zeros, a)

@@ -1,7 +1,7 @@
 //! The trait of circuits, whose clauses are the laws.
 ghost use Rattle.std.specs.Prelude.{◌≡◌, ℕ, ◌+◌, ◌≤◌, Bool, true, false, not, ◌&&◌, if◌then◌else◌, List as Seq, drop, slice_index_or, IfOk, OnOk, OnErr};
 ghost use Rattle.std.specs.Bool.{xor};
-ghost use Rattle.circuits.specs.Circuit.{Keeps};
+ghost use Rattle.circuits.specs.Circuit.{Adds, Keeps};
 
 use std::alloc::{AllocError, Global};
 
@@ -71,9 +71,7 @@ pub trait Circuit {
         ensures own { IfOk result (λ made. has_literal self.new made) }
         ensures value { IfOk result (λ made. (inputs : Seq Bool) → admits self.old inputs →
             value self.new inputs made ≡ (value self.old inputs a && value self.old inputs b)) }
-        ensures inputs { inputs_made self.new ≡ inputs_made self.old }
-        ensures gates { gates_made self.new ≤ gates_made self.old + 1 }
-        ensures keeps { Keeps has_literal admits value self.old self.new }
+        ensures adds { Adds has_literal admits value inputs_made gates_made self.old self.new 1 }
         ensures err { OnErr result (self.new ≡ self.old) };
 
     /// One of two literals, and not both. It makes at most one gate.
@@ -88,9 +86,7 @@ pub trait Circuit {
         ensures own { IfOk result (λ made. has_literal self.new made) }
         ensures value { IfOk result (λ made. (inputs : Seq Bool) → admits self.old inputs →
             value self.new inputs made ≡ xor (value self.old inputs a) (value self.old inputs b)) }
-        ensures inputs { inputs_made self.new ≡ inputs_made self.old }
-        ensures gates { gates_made self.new ≤ gates_made self.old + 1 }
-        ensures keeps { Keeps has_literal admits value self.old self.new }
+        ensures adds { Adds has_literal admits value inputs_made gates_made self.old self.new 1 }
         ensures err { OnErr result (self.new ≡ self.old) };
 
     /// The literal `yes` where `condition` is true, and else `no`. It makes at most one gate.
@@ -108,8 +104,6 @@ pub trait Circuit {
         ensures value { IfOk result (λ made. (inputs : Seq Bool) → admits self.old inputs →
             value self.new inputs made
             ≡ (if value self.old inputs condition then value self.old inputs yes else value self.old inputs no)) }
-        ensures inputs { inputs_made self.new ≡ inputs_made self.old }
-        ensures gates { gates_made self.new ≤ gates_made self.old + 1 }
-        ensures keeps { Keeps has_literal admits value self.old self.new }
+        ensures adds { Adds has_literal admits value inputs_made gates_made self.old self.new 1 }
         ensures err { OnErr result (self.new ≡ self.old) };
 }

@@ -2,7 +2,8 @@
 ghost use Rattle.std.specs.Prelude.{◌≡◌, ◌==◌, nat_lt, int_lt, ◌+◌, ◌-◌, ◌*◌, ◌^◌, ◌<◌, ◌≤◌, ◌%◌, Bool, not, ◌&&◌, if◌then◌else◌, List as Seq, length, IfOk};
 ghost use Rattle.std.specs.Bool.{xor};
 ghost use Rattle.std.specs.List.{All};
-ghost use Rattle.circuits.specs.Circuit.{Keeps};
+ghost use Rattle.circuits.specs.Circuit.{Adds};
+ghost use Rattle.circuits.specs.Gates.{comparison_gates, equality_gates};
 ghost use Rattle.circuits.specs.Word.{number_of, signed};
 
 use crate::circuit::Circuit;
@@ -24,9 +25,7 @@ pub fn less_unsigned<C: Circuit>(
     ensures value { IfOk result (λ less. (inputs : Seq Bool) → C.admits c.old inputs →
         C.value c.new inputs less
         ≡ nat_lt (number_of (C.value c.old inputs) a.now) (number_of (C.value c.old inputs) b.now)) }
-    ensures inputs { C.inputs_made c.new ≡ C.inputs_made c.old }
-    ensures gates { C.gates_made c.new ≤ C.gates_made c.old + 2 * length a.now }
-    ensures keeps { Keeps C.has_literal C.admits C.value c.old c.new }
+    ensures adds { Adds C.has_literal C.admits C.value C.inputs_made C.gates_made c.old c.new (comparison_gates (length a.now)) }
 {
     let a = a.as_slice();
     let b = b.as_slice();
@@ -54,9 +53,7 @@ fn less_above<C: Circuit>(
         C.value c.new inputs made
         ≡ (if xor (C.value c.old inputs x) (C.value c.old inputs y)
         then C.value c.old inputs y else C.value c.old inputs less)) }
-    ensures inputs { C.inputs_made c.new ≡ C.inputs_made c.old }
-    ensures gates { C.gates_made c.new ≤ C.gates_made c.old + 2 }
-    ensures keeps { Keeps C.has_literal C.admits C.value c.old c.new }
+    ensures adds { Adds C.has_literal C.admits C.value C.inputs_made C.gates_made c.old c.new 2 }
 {
     let differ = c.xor(alloc, x, y)?;
     c.mux(alloc, differ, y, less)
@@ -76,9 +73,7 @@ pub fn equal<C: Circuit>(
     ensures value { IfOk result (λ equal. (inputs : Seq Bool) → C.admits c.old inputs →
         C.value c.new inputs equal
         ≡ (number_of (C.value c.old inputs) a.now == number_of (C.value c.old inputs) b.now)) }
-    ensures inputs { C.inputs_made c.new ≡ C.inputs_made c.old }
-    ensures gates { C.gates_made c.new ≤ C.gates_made c.old + 2 * length a.now }
-    ensures keeps { Keeps C.has_literal C.admits C.value c.old c.new }
+    ensures adds { Adds C.has_literal C.admits C.value C.inputs_made C.gates_made c.old c.new (equality_gates (length a.now)) }
 {
     let a = a.as_slice();
     let b = b.as_slice();
@@ -104,9 +99,7 @@ fn equal_above<C: Circuit>(
     ensures value { IfOk result (λ made. (inputs : Seq Bool) → C.admits c.old inputs →
         C.value c.new inputs made
         ≡ (C.value c.old inputs same && not (xor (C.value c.old inputs x) (C.value c.old inputs y)))) }
-    ensures inputs { C.inputs_made c.new ≡ C.inputs_made c.old }
-    ensures gates { C.gates_made c.new ≤ C.gates_made c.old + 2 }
-    ensures keeps { Keeps C.has_literal C.admits C.value c.old c.new }
+    ensures adds { Adds C.has_literal C.admits C.value C.inputs_made C.gates_made c.old c.new 2 }
 {
     let differ = c.xor(alloc, x, y)?;
     c.and(alloc, same, c.not(differ))
@@ -129,9 +122,7 @@ pub fn less_signed<C: Circuit>(
         C.value c.new inputs less
         ≡ int_lt (signed (length a.now) (number_of (C.value c.old inputs) a.now))
         (signed (length a.now) (number_of (C.value c.old inputs) b.now))) }
-    ensures inputs { C.inputs_made c.new ≡ C.inputs_made c.old }
-    ensures gates { C.gates_made c.new ≤ C.gates_made c.old + 2 * length a.now }
-    ensures keeps { Keeps C.has_literal C.admits C.value c.old c.new }
+    ensures adds { Adds C.has_literal C.admits C.value C.inputs_made C.gates_made c.old c.new (comparison_gates (length a.now)) }
 {
     let raised_a = raised(alloc, c, a.as_slice())?;
     let raised_b = raised(alloc, c, b.as_slice())?;

@@ -8,18 +8,21 @@ mod adder;
 mod arithmetic;
 mod circuit;
 mod compare;
+mod disjunction;
 mod eval;
 mod resize;
 mod shift;
 mod word;
 
+pub use adder::{Sum, add_with_carry};
 pub use arithmetic::{add, neg, sub};
 pub use circuit::Circuit;
 pub use compare::{equal, less_signed, less_unsigned};
+pub use disjunction::{any, or};
 pub use eval::EvalCircuit;
 pub use resize::{cut, extend};
 pub use shift::{shift_left, shift_right};
-pub use word::Bits;
+pub use word::{Bits, inverted, repeated, select};
 
 #[cfg(test)]
 mod tests;

@@ -1,7 +1,8 @@
 //! Words of literals, and the plain ways to make one.
 ghost use Rattle.std.specs.Prelude.{◌≡◌, ◌+◌, ◌≤◌, Bool, not, if◌then◌else◌, List as Seq, map, replicate, length, IfOk};
 ghost use Rattle.std.specs.List.{All};
-ghost use Rattle.circuits.specs.Circuit.{Keeps};
+ghost use Rattle.circuits.specs.Circuit.{Adds};
+ghost use Rattle.circuits.specs.Gates.{select_gates};
 
 use crate::circuit::Circuit;
 use lists::List;
@@ -11,7 +12,7 @@ use std::alloc::{AllocError, Global};
 pub type Bits<L> = List<L>;
 
 /// The word of the negations of a word's bits. It makes no gate.
-pub(crate) fn inverted<C: Circuit>(
+pub fn inverted<C: Circuit>(
     alloc: Global,
     c: &C,
     a: &[C::Literal],
@@ -30,11 +31,7 @@ pub(crate) fn inverted<C: Circuit>(
 }
 
 /// The word of a literal a number of times. It makes no gate.
-pub(crate) fn repeated<L: Copy>(
-    alloc: Global,
-    literal: L,
-    width: usize,
-) -> Result<Bits<L>, AllocError>
+pub fn repeated<L: Copy>(alloc: Global, literal: L, width: usize) -> Result<Bits<L>, AllocError>
     ensures { IfOk result (λ word. word ≡ replicate width literal) }
 {
     let mut word = Vec::new(alloc);
@@ -43,7 +40,7 @@ pub(crate) fn repeated<L: Copy>(
 }
 
 /// Bit by bit the word `yes` where `condition` is true, and else the word `no`. It adds at most a gate a bit.
-pub(crate) fn select<C: Circuit>(
+pub fn select<C: Circuit>(
     alloc: Global,
     c: &mut C,
     condition: C::Literal,
@@ -60,9 +57,7 @@ pub(crate) fn select<C: Circuit>(
         map (C.value c.new inputs) word
         ≡ (if C.value c.old inputs condition
         then map (C.value c.old inputs) yes.now else map (C.value c.old inputs) no.now)) }
-    ensures inputs { C.inputs_made c.new ≡ C.inputs_made c.old }
-    ensures gates { C.gates_made c.new ≤ C.gates_made c.old + length yes.now }
-    ensures keeps { Keeps C.has_literal C.admits C.value c.old c.new }
+    ensures adds { Adds C.has_literal C.admits C.value C.inputs_made C.gates_made c.old c.new (select_gates (length yes.now)) }
 {
     let mut word = List::new(alloc);
     for i in 0..yes.len() {

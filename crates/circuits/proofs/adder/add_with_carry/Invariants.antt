@@ -1,8 +1,7 @@
-use Rattle.std.proofs.Common.{◌≡◌, ◌+◌, ◌*◌, ◌≤◌}
 use Rattle.circuits.proofs.Chain.{Chained}
 use Rattle.circuits.proofs.adder.add_with_carry.Given as goal
 
 abbrev pub invariant-loop-i : goal.invariant-loop-i
 invariant-loop-i g l =
     let m = g.C.Circuit in
-    Chained m.has_literal m.admits m.value l.initial.c l.c l.a l.b l.fn.first l.i l.sum l.carry × (m.inputs_made l.c ≡ m.inputs_made l.initial.c) × (m.gates_made l.c ≤ m.gates_made l.initial.c + 5 * l.i)
+    Chained m.has_literal m.admits m.value m.inputs_made m.gates_made l.initial.c l.c l.a l.b l.fn.first l.i l.bits l.carry

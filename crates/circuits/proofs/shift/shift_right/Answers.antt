@@ -1,34 +1,26 @@
-use Rattle.std.proofs.Common.{rules, ◌<◌, ◌≤◌, length, ◌∙◌, ap, arith}
-use Rattle.circuits.proofs.Kept.{Keeps-trans, own_at}
-use Rattle.circuits.proofs.Shifts.{double_capped, down_width, down_more, down_end}
+use Rattle.std.proofs.Common.{◌≡◌, ◌-◌, min, length, take, drop, length-drop, ◌∙◌, arith}
+use Rattle.std.proofs.lemmas.List.{take_all}
+use Rattle.std.proofs.lemmas.List.Elements.{All-drop}
+use Rattle.std.proofs.lemmas.Result.{IfOk-weaker}
+use Rattle.circuits.specs.Gates.{stages}
+use Rattle.circuits.proofs.Kept.{map-kept}
+use Rattle.circuits.proofs.Stages.{stage_reach}
+use Rattle.circuits.proofs.Words.{any-number}
+use Rattle.circuits.proofs.Shifts.{down_end}
 use Rattle.circuits.proofs.shift.shift_right.Goals as goal
 
-pub loop-bit-preserved : goal.loop-bit-preserved
-loop-bit-preserved g c =
-    let m = g.C.Circuit in
-    let before = c.loop-bit.invariant in
-    let i = c.loop-bit.bit-index in
-    let items = c.as_slice-bit-items.ensures in
-    let in_amount : i < length c.args.amount.now = omega (arith, ap length items) in
-    let at_bit = rw items at c.bit-item.is in
-    let moved_is = rw c.as_slice-in-loop-bit.ensures at c.in_ok-moved.ensures in
-    let inside : c.loop-bit.distance ≤ length c.loop-bit.word = omega arith in
-    let moved_width = down_width c.loop-bit.word c.in_ok-moved.moved c.loop-bit.distance c.args.top inside moved_is in
-    let slice_width = ap length c.as_slice-in-loop-bit-2.ensures ∙ moved_width ∙ before.2 in (
-      Keeps-trans before.0 c.select.ensures.keeps,
-      c.in_ok-word.ensures.own,
-      c.in_ok-word.ensures.width ∙ slice_width,
-      double_capped i (length c.args.a.now) c.loop-bit.distance c.doubled-distance.result before.3 (rw c.len-in-loop-bit.ensures at c.doubled-distance.ensures),
-      λ inputs admitted.
-          let now_admitted = before.0.admitted inputs admitted in
-          let bit_kept = before.0.values inputs c.bit-item.result admitted (own_at (m.has_literal c.args.c.now) c.args.amount.now i c.bit-item.result c.requires.own_amount in_amount at_bit) in
-          let top_kept = before.0.values inputs c.args.top admitted c.requires.own_top in
-          down_more (m.value c.args.c.now inputs) (m.value c.loop-bit.c inputs) (m.value c.select.new.c inputs) c.args.a.now c.args.amount.now c.loop-bit.word c.in_ok-moved.moved c.in_ok-word.word i c.loop-bit.distance c.bit-item.result c.args.top in_amount at_bit bit_kept top_kept before.2 before.3 moved_is (rw (c.as_slice-in-loop-bit-2.ensures, c.as_slice-in-loop-bit-3.ensures) at (c.in_ok-word.ensures.values inputs now_admitted)) (before.4 inputs admitted),
-      search rules,
-      omega (arith, slice_width),
-    )
-
 pub returns-clause-number : goal.returns-clause-number
-returns-clause-number g c inputs admitted =
+returns-clause-number g c =
     let m = g.C.Circuit in
-    down_end (m.value c.args.c.now inputs) (m.value c.loop-bit.c inputs) c.args.a.now c.args.amount.now c.loop-bit.word c.args.top c.loop-bit.bit-index (omega (arith, ap length c.as_slice-bit-items.ensures)) (c.loop-bit.invariant.4 inputs admitted)
+    let keeps = c.right_by_stages.ensures.adds.keeps in
+    let amount = c.args.amount.now in
+    let low = c.min-low.result in
+    let low_is : low ≡ min (stages (length c.args.a.now)) (length amount) = rw (c.stage_count.ensures, c.len.ensures, c.as_slice-amount.ensures) at c.min-low.ensures in
+    IfOk-weaker c.filled_where_any.result _ _ (λ shifted known inputs admitted.
+    let top_kept = keeps.values inputs c.args.top admitted c.requires.own_top in
+    let far_kept = map-kept keeps inputs admitted (drop low amount) (All-drop (m.has_literal c.args.c.now) low amount c.requires.own_amount) in
+    let far_is : take (length amount - low) (drop low amount) ≡ drop low amount = take_all (length amount - low) (drop low amount) (omega (arith, length-drop low amount)) in
+    let moved_is = rw (c.as_slice.ensures, c.as_slice-amount.ensures) at (c.in_ok-moved.ensures.values inputs admitted) in
+    let bits = rw (c.as_slice-amount.ensures, far_is, c.as_slice-2.ensures, any-number (m.value c.right_by_stages.new.c inputs) (drop low amount), far_kept, top_kept, moved_is, c.in_ok-moved.ensures.width, c.as_slice.ensures) at (known inputs (keeps.admitted inputs admitted)) in
+    down_end (m.value c.args.c.now inputs) c.args.a.now amount c.args.top low _ (stage_reach (length c.args.a.now) low amount low_is) bits)
+    c.filled_where_any.ensures.values

@@ -1,7 +1,7 @@
-use Rattle.std.proofs.Common.{rules, ◌<◌, length, ◌∷◌, [], ◌+◌, ◌∙◌, ap, sym, arith}
+use Rattle.std.proofs.Common.{◌<◌, length, ◌∷◌, [], ◌+◌, ◌∙◌, ap, sym, arith}
 use Rattle.std.proofs.lemmas.List.{map-append, length_push}
 use Rattle.std.proofs.lemmas.List.Elements.{All-push}
-use Rattle.circuits.proofs.Kept.{Keeps-trans, All-kept, map-kept, own_at}
+use Rattle.circuits.proofs.Kept.{Adds-trans, All-kept, map-kept, own_at}
 use Rattle.circuits.proofs.Words.{take_select}
 use Rattle.circuits.proofs.word.select.Goals as goal
 
@@ -11,18 +11,16 @@ loop-i-preserved g c =
     let before = c.loop-i.invariant in
     let in_yes : c.loop-i.i < length c.args.yes.now = omega arith in
     let in_no : c.loop-i.i < length c.args.no.now = omega arith in
-    let own = All-push (m.has_literal c.mux.new.self) c.loop-i.word c.in_ok-bit.bit (All-kept c.mux.ensures.keeps c.loop-i.word before.1) c.in_ok-bit.ensures.own in (
-      Keeps-trans before.0 c.mux.ensures.keeps,
+    let own = All-push (m.has_literal c.mux.new.self) c.loop-i.word c.in_ok-bit.bit (All-kept c.mux.ensures.adds.keeps c.loop-i.word before.1) c.in_ok-bit.ensures.own in (
+      Adds-trans before.0 c.mux.ensures.adds,
       rw c.in_ok-push.ensures.ok own,
       ap length c.in_ok-push.ensures.ok ∙ length_push c.loop-i.word c.in_ok-bit.bit ∙ ap (λ n. n + 1) before.2,
       λ inputs admitted.
-          let now_admitted = before.0.admitted inputs admitted in
-          let condition_kept = before.0.values inputs c.args.condition admitted c.requires.own_condition in
-          let yes_kept = before.0.values inputs c.index-yes-i.result admitted (own_at (m.has_literal c.args.c.now) c.args.yes.now c.loop-i.i c.index-yes-i.result c.requires.own_yes in_yes c.index-yes-i.is) in
-          let no_kept = before.0.values inputs c.index-no-i.result admitted (own_at (m.has_literal c.args.c.now) c.args.no.now c.loop-i.i c.index-no-i.result c.requires.own_no in_no c.index-no-i.is) in
-          let word_kept = map-kept c.mux.ensures.keeps inputs now_admitted c.loop-i.word before.1 in
+          let now_admitted = before.0.keeps.admitted inputs admitted in
+          let condition_kept = before.0.keeps.values inputs c.args.condition admitted c.requires.own_condition in
+          let yes_kept = before.0.keeps.values inputs c.index-yes-i.result admitted (own_at (m.has_literal c.args.c.now) c.args.yes.now c.loop-i.i c.index-yes-i.result c.requires.own_yes in_yes c.index-yes-i.is) in
+          let no_kept = before.0.keeps.values inputs c.index-no-i.result admitted (own_at (m.has_literal c.args.c.now) c.args.no.now c.loop-i.i c.index-no-i.result c.requires.own_no in_no c.index-no-i.is) in
+          let word_kept = map-kept c.mux.ensures.adds.keeps inputs now_admitted c.loop-i.word before.1 in
           rw (c.in_ok-push.ensures.ok, map-append (m.value c.mux.new.self inputs) c.loop-i.word (c.in_ok-bit.bit ∷ []), word_kept, before.3 inputs admitted, c.in_ok-bit.ensures.value inputs now_admitted, condition_kept, yes_kept, no_kept)
           (sym (take_select (m.value c.args.c.now inputs) (m.value c.args.c.now inputs c.args.condition) c.args.yes.now c.args.no.now c.loop-i.i c.index-yes-i.result c.index-no-i.result in_yes in_no c.index-yes-i.is c.index-no-i.is)),
-      search rules,
-      omega arith,
     )

@@ -1,7 +1,7 @@
 use Rattle.std.proofs.Common.{◌≡◌, length}
 use Rattle.std.specs.List.{All}
 use Rattle.circuits.specs.Circuit.{Keeps}
-use Rattle.circuits.proofs.tests.word.Given as goal
+use Rattle.aig.proofs.tests.words.word.Given as goal
 
 abbrev pub invariant-loop-i : goal.invariant-loop-i
 invariant-loop-i g l =
