@@ -1,0 +1,5 @@
+pub mod Masks
+pub mod Rows
+pub mod OverflowTests
+pub mod Quotients
+pub mod SignedQuotients

@@ -1,0 +1,167 @@
+-- A quotient and a remainder after some steps of a division.
+use Rattle.std.proofs.Common.{◌≡◌, ◌≢◌, ℕ, suc, ◌+◌, ◌-◌, ◌*◌, ◌/◌, ◌%◌, ◌^◌, ◌<◌, ◌≤◌, Bool, true, false, not, nat_le, if◌then◌else◌, List, [], ◌∷◌, ◌++◌, map, reverse, length, take, drop, get_or, replicate, refl, sym, ap, subst, ◌∙◌, arith}
+use Rattle.std.specs.List.{All}
+use Rattle.std.proofs.lemmas.Bool.Decides.{nat_tests}
+use Rattle.std.proofs.lemmas.Grind.{reverse_onto}
+use Rattle.std.proofs.lemmas.List.{map-append, length-map, length_push, length-replicate, length-reverse, reverse-append, drop_more, drop_all}
+use Rattle.std.proofs.lemmas.List.Elements.{All-push, All-replicate}
+use Rattle.std.proofs.lemmas.List.Sorted.{All-permutation, IsPermutation-reverse}
+use Rattle.std.proofs.lemmas.Nat.{div-mul-add, mod-mul-add}
+use Rattle.std.proofs.Math.Nat.{pow-succ', mod-eq_of_lt}
+use Rattle.circuits.specs.Circuit.{Adds}
+use Rattle.circuits.specs.Word.{bit, number}
+use Rattle.circuits.proofs.Kept.{own_at, All-kept, map-kept, Adds-refl, Adds-trans, Adds-weaken}
+use Rattle.circuits.proofs.Words.{bit-le_one, number-below, number-all_zero, number-cut, number-map_not, number-push}
+use Rattle.circ_muldiv.specs.Gates.{division_step_gates, division_gates}
+use Rattle.circ_muldiv.proofs.OverflowTests.{number_below}
+
+-- a sum with the complement carries exactly where the divisor fits
+step_number : (s p longer negated b : ℕ) (carry : Bool) → s < 2 * p → negated + b + 1 ≡ 2 * p → s + (2 * p) * bit carry ≡ longer + negated + 1 → (carry ≡ nat_le b longer) × ((if carry then s else longer) ≡ (if nat_le b longer then longer - b else longer))
+step_number s p longer negated b true below complement total =
+    let fits : nat_le b longer ≡ true = grind (arith, nat_tests) in
+    rw fits (refl, omega arith)
+step_number s p longer negated b false below complement total =
+    let exceeds : nat_le b longer ≡ false = grind (arith, nat_tests) in
+    rw exceeds (refl, refl)
+
+cut_choice : {L : Type 0} (value : L → Bool) (n : ℕ) (condition : Bool) (yes no : List L) → n ≤ length yes → n ≤ length no → number (if condition then map value (take n yes) else map value (take n no)) ≡ (if condition then number (map value yes) else number (map value no)) % 2 ^ n
+cut_choice value n true on off in_on in_off = number-cut value on n in_on
+cut_choice value n false on off in_on in_off = number-cut value off n in_off
+
+-- one step, over words: the remainder with the next digit below it, and the divisor's complement, have one bit more
+module _ {L : Type 0} (old mid new : L → Bool) (divisor remainder negated bits word : List L) (digit top carry first : L) (same_width : length remainder ≡ length divisor) (negated_width : length negated ≡ length divisor) (width : length bits ≡ suc (length divisor)) (negated_is : map old negated ≡ map not (map old divisor)) (top_is : old top ≡ true) (first_is : old first ≡ true) (total : number (map mid bits) + 2 ^ suc (length divisor) * bit (mid carry) ≡ number (map old (digit ∷ remainder)) + number (map old (negated ++ top ∷ [])) + bit (old first)) where
+  complement : number (map old (negated ++ top ∷ [])) + number (map old divisor) + 1 ≡ 2 * 2 ^ length divisor
+  complement =
+      let places : length (map not (map old divisor)) ≡ length divisor = length-map (map old divisor) not ∙ length-map divisor old in
+      let table : number (map not (map old divisor)) + number (map old divisor) + 1 ≡ 2 ^ length divisor = number-map_not (map old divisor) ∙ ap (λ n. 2 ^ n) (length-map divisor old) in
+      rw (map-append old negated (top ∷ []), negated_is, top_is, number-push (map not (map old divisor)) true, places) (omega (arith, table))
+
+  parts : (mid carry ≡ nat_le (number (map old divisor)) (number (map old (digit ∷ remainder)))) × ((if mid carry then number (map mid bits) else number (map old (digit ∷ remainder))) ≡ (if nat_le (number (map old divisor)) (number (map old (digit ∷ remainder))) then number (map old (digit ∷ remainder)) - number (map old divisor) else number (map old (digit ∷ remainder))))
+  parts =
+      let doubled : 2 ^ suc (length divisor) ≡ 2 * 2 ^ length divisor = pow-succ' 2 (length divisor) in
+      let bits_width : length (map mid bits) ≡ suc (length divisor) = length-map bits mid ∙ width in
+      let below : number (map mid bits) < 2 * 2 ^ length divisor = rw (bits_width, doubled) at (number-below (map mid bits)) in
+      step_number (number (map mid bits)) (2 ^ length divisor) (number (map old (digit ∷ remainder))) (number (map old (negated ++ top ∷ []))) (number (map old divisor)) (mid carry) below complement
+      (rw (doubled, first_is) at total)
+
+  pub step_fits : mid carry ≡ nat_le (number (map old divisor)) (bit (old digit) + 2 * number (map old remainder))
+  step_fits = parts.0
+
+  pub step_left : mid digit ≡ old digit → map mid remainder ≡ map old remainder → map new word ≡ (if mid carry then map mid (take (length divisor) bits) else map mid (take (length divisor) (digit ∷ remainder))) → let longer = bit (old digit) + 2 * number (map old remainder) in let taken = number (map old divisor) in number (map new word) ≡ (if nat_le taken longer then longer - taken else longer) % 2 ^ length divisor
+  step_left digit_kept remainder_kept word_is =
+      rw word_is
+      (cut_choice mid (length divisor) (mid carry) bits (digit ∷ remainder) (omega arith) (omega arith) ∙ ap (λ n. n % 2 ^ length divisor) (rw (digit_kept, remainder_kept) parts.1))
+
+reverse_push : {X : Type 0} (xs : List X) (x : X) → reverse (xs ++ x ∷ []) ≡ x ∷ reverse xs
+reverse_push xs x = reverse-append xs (x ∷ [])
+
+map-reverse : {X Y : Type 0} (f : X → Y) (xs : List X) → map f (reverse xs) ≡ reverse (map f xs)
+map-reverse f [] = refl
+map-reverse f (x ∷ xs) = rw (reverse_onto xs x [], reverse_onto (map f xs) (f x) [], map-append f (reverse xs) (x ∷ []), map-reverse f xs) refl
+
+-- one step, over numbers
+step_more : (higher b q r left p : ℕ) (digit fits : Bool) → r < b → b < p → fits ≡ nat_le b (bit digit + 2 * r) → left ≡ (if nat_le b (bit digit + 2 * r) then bit digit + 2 * r - b else bit digit + 2 * r) % p → higher ≡ b * q + r → (bit digit + 2 * higher ≡ b * (bit fits + 2 * q) + left) × (left < b)
+step_more higher b q r left p digit true below range fits_is left_is before =
+    let fits : b ≤ bit digit + 2 * r = grind (arith, nat_tests) in
+    let small : bit digit + 2 * r - b < b = omega (arith, bit-le_one digit) in
+    let whole : left ≡ bit digit + 2 * r - b = rw (← fits_is) at left_is ∙ mod-eq_of_lt (omega arith) in
+    (omega arith, omega arith)
+step_more higher b q r left p digit false below range fits_is left_is before =
+    let small : bit digit + 2 * r < b = grind (arith, nat_tests) in
+    let whole : left ≡ bit digit + 2 * r = rw (← fits_is) at left_is ∙ mod-eq_of_lt (omega arith) in
+    (omega arith, omega arith)
+
+-- after the steps of the bits of a from its highest down to place i: the quotient, highest bit first, and the remainder of the
+-- number of those bits
+pub record Stepped {C L : Type 0} (has_literal : C → L → Type 0) (admits : C → List Bool → Type 0) (value : C → List Bool → L → Bool) (inputs_made gates_made : C → ℕ) (start now : C) (a b quotient remainder : List L) (i : ℕ) : Type 0 where
+  pub adds : Adds has_literal admits value inputs_made gates_made start now (division_step_gates (length b) * (length a - i))
+  pub own_quotient : All (has_literal now) quotient
+  pub own_remainder : All (has_literal now) remainder
+  pub quotient_width : length quotient ≡ length a - i
+  pub remainder_width : length remainder ≡ length b
+  pub divided : (inputs : List Bool) → admits start inputs → number (map (value start inputs) b) ≢ 0 → (number (map (value start inputs) (drop i a)) ≡ number (map (value start inputs) b) * number (reverse (map (value now inputs) quotient)) + number (map (value now inputs) remainder)) × (number (map (value now inputs) remainder) < number (map (value start inputs) b))
+
+gates_more : (gates n i : ℕ) → 0 < i → i ≤ n → gates * (n - i) + gates ≤ gates * (n - (i - 1))
+gates_more gates n i some within =
+    let more : n - (i - 1) ≡ n - i + 1 = omega arith in
+    rw more (omega arith)
+
+gates_in_all : (gates done left : ℕ) → gates * done + gates ≤ (done + 1 + left) * gates
+gates_in_all gates done left = omega arith
+
+gates_within : (gates n i : ℕ) → 0 < i → i ≤ n → gates * (n - i) + gates ≤ n * gates
+gates_within gates n i some within =
+    let whole : n - i + 1 + (i - 1) ≡ n = omega arith in
+    subst (λ m. gates * (n - i) + gates ≤ m * gates) whole (gates_in_all gates (n - i) (i - 1))
+
+gates_end : (gates n i : ℕ) → i ≡ 0 → gates * (n - i) ≤ n * gates
+gates_end gates n i none =
+    let whole : n - i ≡ n = omega arith in
+    rw whole (omega arith)
+
+module _ {C L : Type 0} {has_literal : C → L → Type 0} {admits : C → List Bool → Type 0} {value : C → List Bool → L → Bool} {inputs_made gates_made : C → ℕ} {start : C} {a b : List L} where
+  pub stepped_init : (quotient remainder : List L) (zero_literal : L) (i : ℕ) → quotient ≡ [] → remainder ≡ replicate i zero_literal → i ≡ length a → length b ≡ length a → has_literal start zero_literal → ((inputs : List Bool) → admits start inputs → value start inputs zero_literal ≡ false) → Stepped has_literal admits value inputs_made gates_made start start a b quotient remainder i
+  stepped_init quotient remainder zero_literal i none zeros all same_width own_zero zero_is = record {
+    adds = Adds-weaken Adds-refl (omega arith);
+    own_quotient = rw none (λ k d below. absurd (omega arith));
+    own_remainder = rw zeros (All-replicate (has_literal start) i zero_literal own_zero);
+    quotient_width = rw none (omega arith);
+    remainder_width = ap length zeros ∙ length-replicate i zero_literal ∙ all ∙ sym same_width;
+    divided = λ inputs admitted some.
+        let nothing_left : drop i a ≡ [] = drop_all i a (omega arith) in
+        let no_remainder : number (map (value start inputs) remainder) ≡ 0 = rw zeros (number-all_zero (value start inputs) i zero_literal (zero_is inputs admitted)) in
+        rw (none, nothing_left, no_remainder) (omega arith, omega arith);
+  }
+
+  -- one step more
+  pub stepped_more : {now next : C} {quotient remainder : List L} {i : ℕ} (left : List L) (digit fits : L) → Stepped has_literal admits value inputs_made gates_made start now a b quotient remainder i → 0 < i → i ≤ length a → All (has_literal start) a → All (has_literal start) b → digit ≡ get_or a (i - 1) digit → Adds has_literal admits value inputs_made gates_made now next (division_step_gates (length b)) → has_literal next fits → All (has_literal next) left → length left ≡ length b → ((inputs : List Bool) → admits now inputs → value next inputs fits ≡ nat_le (number (map (value now inputs) b)) (bit (value now inputs digit) + 2 * number (map (value now inputs) remainder))) → ((inputs : List Bool) → admits now inputs → let longer = bit (value now inputs digit) + 2 * number (map (value now inputs) remainder) in let taken = number (map (value now inputs) b) in number (map (value next inputs) left) ≡ (if nat_le taken longer then longer - taken else longer) % 2 ^ length b) → Stepped has_literal admits value inputs_made gates_made start next a b (quotient ++ fits ∷ []) left (i - 1)
+  stepped_more {now = now} {next = next} {quotient = quotient} {remainder = remainder} {i = i} left digit fits before some within own_a own_b at_digit adds own_fits own_left width fits_is left_is = record {
+    adds = Adds-weaken (Adds-trans before.adds adds) (gates_more (division_step_gates (length b)) (length a) i some within);
+    own_quotient = All-push (has_literal next) quotient fits (All-kept adds.keeps quotient before.own_quotient) own_fits;
+    own_remainder = own_left;
+    quotient_width = let width : length quotient ≡ length a - i = before.quotient_width in length_push quotient fits ∙ omega arith;
+    remainder_width = width;
+    divided = λ inputs admitted divisor_some.
+        let now_admitted = before.adds.keeps.admitted inputs admitted in
+        let earlier = before.divided inputs admitted divisor_some in
+        let digit_kept = before.adds.keeps.values inputs digit admitted (own_at (has_literal start) a (i - 1) digit own_a (omega arith) at_digit) in
+        let b_kept = map-kept before.adds.keeps inputs admitted b own_b in
+        let quotient_kept = map-kept adds.keeps inputs now_admitted quotient before.own_quotient in
+        let place : i - 1 + 1 ≡ i = omega arith in
+        let opened : drop (i - 1) a ≡ digit ∷ drop i a = drop_more a (i - 1) digit (omega arith) ∙ ap (λ d. d ∷ drop (i - 1 + 1) a) (sym at_digit) ∙ ap (λ k. digit ∷ drop k a) place in
+        let reversed : reverse (map (value next inputs) (quotient ++ fits ∷ [])) ≡ value next inputs fits ∷ reverse (map (value now inputs) quotient) =
+        rw (map-append (value next inputs) quotient (fits ∷ []), quotient_kept) (reverse_push (map (value now inputs) quotient) (value next inputs fits)) in
+        rw (opened, reversed)
+        (step_more (number (map (value start inputs) (drop i a))) (number (map (value start inputs) b)) (number (reverse (map (value now inputs) quotient))) (number (map (value now inputs) remainder)) (number (map (value next inputs) left)) (2 ^ length b) (value start inputs digit) (value next inputs fits) earlier.1 (number_below (value start inputs) b)
+        (rw (b_kept, digit_kept) at (fits_is inputs now_admitted)) (rw (b_kept, digit_kept) at (left_is inputs now_admitted)) earlier.0);
+  }
+
+  -- what a step that isn't finished adds
+  pub stepped_within : {now next : C} {quotient remainder : List L} {i : ℕ} → Stepped has_literal admits value inputs_made gates_made start now a b quotient remainder i → 0 < i → i ≤ length a → length b ≡ length a → Adds has_literal admits value inputs_made gates_made now next (division_step_gates (length b)) → Adds has_literal admits value inputs_made gates_made start next (division_gates (length a))
+  stepped_within {i = i} before some within same_width adds =
+      Adds-weaken (Adds-trans before.adds adds) (rw same_width (gates_within (division_step_gates (length a)) (length a) i some within))
+
+  -- after the steps of all bits
+  pub stepped_adds : {now : C} {quotient remainder : List L} {i : ℕ} → Stepped has_literal admits value inputs_made gates_made start now a b quotient remainder i → i ≡ 0 → length b ≡ length a → Adds has_literal admits value inputs_made gates_made start now (division_gates (length a))
+  stepped_adds {i = i} done none same_width = Adds-weaken done.adds (rw same_width (gates_end (division_step_gates (length a)) (length a) i none))
+
+  pub stepped_own : {now : C} {quotient remainder : List L} {i : ℕ} (turned : List L) → Stepped has_literal admits value inputs_made gates_made start now a b quotient remainder i → turned ≡ reverse quotient → All (has_literal now) turned
+  stepped_own {now = now} {quotient = quotient} turned done is = rw is (All-permutation (has_literal now) quotient (reverse quotient) (IsPermutation-reverse quotient) done.own_quotient)
+
+  pub stepped_width : {now : C} {quotient remainder : List L} {i : ℕ} (turned : List L) → Stepped has_literal admits value inputs_made gates_made start now a b quotient remainder i → i ≡ 0 → turned ≡ reverse quotient → length turned ≡ length a
+  stepped_width {quotient = quotient} {i = i} turned done none is =
+      let width : length quotient ≡ length a - i = done.quotient_width in
+      ap length is ∙ length-reverse quotient ∙ omega arith
+
+  whole_parts : {now : C} {quotient remainder : List L} {i : ℕ} (turned : List L) → Stepped has_literal admits value inputs_made gates_made start now a b quotient remainder i → i ≡ 0 → turned ≡ reverse quotient → (inputs : List Bool) → admits start inputs → number (map (value start inputs) b) ≢ 0 → number (map (value start inputs) a) ≡ number (map (value now inputs) turned) * number (map (value start inputs) b) + number (map (value now inputs) remainder)
+  whole_parts {now = now} {quotient = quotient} {i = i} turned done none is inputs admitted some =
+      let whole : number (map (value start inputs) (drop i a)) ≡ number (map (value start inputs) a) = ap (λ k. number (map (value start inputs) (drop k a))) none in
+      rw (is, map-reverse (value now inputs) quotient) (omega (arith, whole, (done.divided inputs admitted some).0))
+
+  pub stepped_quotient : {now : C} {quotient remainder : List L} {i : ℕ} (turned : List L) → Stepped has_literal admits value inputs_made gates_made start now a b quotient remainder i → i ≡ 0 → turned ≡ reverse quotient → (inputs : List Bool) → admits start inputs → number (map (value start inputs) b) ≢ 0 → number (map (value now inputs) turned) ≡ number (map (value start inputs) a) / number (map (value start inputs) b)
+  stepped_quotient {now = now} {remainder = remainder} turned done none is inputs admitted some =
+      rw (whole_parts turned done none is inputs admitted some) (sym (div-mul-add (number (map (value now inputs) turned)) (number (map (value start inputs) b)) (number (map (value now inputs) remainder)) (done.divided inputs admitted some).1))
+
+  pub stepped_remainder : {now : C} {quotient remainder : List L} {i : ℕ} (turned : List L) → Stepped has_literal admits value inputs_made gates_made start now a b quotient remainder i → i ≡ 0 → turned ≡ reverse quotient → (inputs : List Bool) → admits start inputs → number (map (value start inputs) b) ≢ 0 → number (map (value now inputs) remainder) ≡ number (map (value start inputs) a) % number (map (value start inputs) b)
+  stepped_remainder {now = now} {remainder = remainder} turned done none is inputs admitted some =
+      rw (whole_parts turned done none is inputs admitted some) (sym (mod-mul-add (number (map (value now inputs) turned)) (number (map (value start inputs) b)) (number (map (value now inputs) remainder)) (done.divided inputs admitted some).1))

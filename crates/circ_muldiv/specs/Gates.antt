@@ -1,0 +1,37 @@
+-- How many gates the circuits of products, quotients and overflows add at most, for words of `width` bits.
+use Rattle.std.specs.Prelude.{ℕ, ◌+◌, ◌-◌, ◌*◌}
+use Rattle.circuits.specs.Gates.{adder_gates, comparison_gates, select_gates}
+
+-- A row of a product: a conjunction and a full adder a bit.
+abbrev pub row_gates : ℕ → ℕ
+row_gates width = width + adder_gates width
+
+-- A product and whether it overflows: a conjunction a bit for the first row, then rows of each width below, and four gates a row
+-- for what it loses.
+abbrev pub product_gates : ℕ → ℕ
+product_gates width = width + 3 * width * (width - 1) + 4 * (width - 1)
+
+-- An absolute value: a negation, and a choice by the sign.
+abbrev pub magnitude_gates : ℕ → ℕ
+magnitude_gates width = adder_gates width + select_gates width
+
+-- Whether a sum or a difference overflows: the sum, and three gates for the signs.
+abbrev pub overflow_add_gates : ℕ → ℕ
+overflow_add_gates width = adder_gates width + 3
+
+-- Whether a product overflows: the product of two absolute values, and whether it is above the greatest.
+abbrev pub overflow_mul_gates : ℕ → ℕ
+overflow_mul_gates width = 2 * magnitude_gates width + product_gates width + comparison_gates width + 2
+
+-- One step of a division: a difference of one bit more, and a choice by it.
+abbrev pub division_step_gates : ℕ → ℕ
+division_step_gates width = adder_gates (width + 1) + select_gates width
+
+-- A quotient and a remainder: a step for each bit of the dividend.
+abbrev pub division_gates : ℕ → ℕ
+division_gates width = width * division_step_gates width
+
+-- A signed quotient and remainder: two absolute values, their quotient and remainder, whether the signs differ, and for each of
+-- the two a negation and a choice.
+abbrev pub signed_division_gates : ℕ → ℕ
+signed_division_gates width = 4 * magnitude_gates width + division_gates width + 1

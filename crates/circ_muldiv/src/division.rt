@@ -1,0 +1,121 @@
+//! Quotients and remainders of words, by restoring division.
+ghost use Rattle.std.specs.Prelude.{◌≡◌, ◌≢◌, ◌+◌, ◌-◌, ◌*◌, ◌/◌, ◌%◌, ◌^◌, ◌<◌, nat_le, Bool, if◌then◌else◌, List as Seq, length, IfOk};
+ghost use Rattle.std.specs.List.{All};
+ghost use Rattle.circuits.specs.Circuit.{Adds};
+ghost use Rattle.circuits.specs.Word.{bit, number_of};
+ghost use Rattle.circ_muldiv.specs.Gates.{division_gates, division_step_gates};
+
+use circuits::{Bits, Circuit, add_with_carry, inverted, repeated, select};
+use lists::List;
+use std::alloc::{AllocError, Global};
+
+/// What dividing two words of one width N gives: two words of that width.
+#[derive(Drop)]
+pub struct Divided<L> {
+    /// How often the divisor fits, rounded towards zero.
+    pub quotient: Bits<L>,
+    /// The dividend less quotient times divisor.
+    pub remainder: Bits<L>,
+}
+
+/// The quotient and the remainder of two words of one width N, at least 1, read as unsigned. By 0 the two words are free. It
+/// adds at most 6 N^2 + 5 N gates.
+pub fn divide_unsigned<C: Circuit>(
+    alloc: Global,
+    c: &mut C,
+    a: &Bits<C::Literal>,
+    b: &Bits<C::Literal>,
+) -> Result<Divided<C::Literal>, AllocError>
+    requires width { 0 < length a.now }
+    requires same_width { length b.now ≡ length a.now }
+    requires own_a { All (C.has_literal c.old) a.now }
+    requires own_b { All (C.has_literal c.old) b.now }
+    ensures own_quotient { IfOk result (λ divided. All (C.has_literal c.new) divided.quotient) }
+    ensures own_remainder { IfOk result (λ divided. All (C.has_literal c.new) divided.remainder) }
+    ensures quotient_width { IfOk result (λ divided. length divided.quotient ≡ length a.now) }
+    ensures remainder_width { IfOk result (λ divided. length divided.remainder ≡ length a.now) }
+    ensures quotient { IfOk result (λ divided. (inputs : Seq Bool) → C.admits c.old inputs →
+        number_of (C.value c.old inputs) b.now ≢ 0 →
+        number_of (C.value c.new inputs) divided.quotient
+        ≡ number_of (C.value c.old inputs) a.now / number_of (C.value c.old inputs) b.now) }
+    ensures remainder { IfOk result (λ divided. (inputs : Seq Bool) → C.admits c.old inputs →
+        number_of (C.value c.old inputs) b.now ≢ 0 →
+        number_of (C.value c.new inputs) divided.remainder
+        ≡ number_of (C.value c.old inputs) a.now % number_of (C.value c.old inputs) b.now) }
+    ensures adds { Adds C.has_literal C.admits C.value C.inputs_made C.gates_made c.old c.new
+        (division_gates (length a.now)) }
+{
+    let dividend = a.as_slice();
+    let mut quotient = Vec::new(alloc);
+    let mut remainder = repeated(alloc, c.zero(), dividend.len())?;
+    for i in (0..dividend.len()).rev() {
+        let step = divide_step(alloc, c, dividend[i], remainder.as_slice(), b.as_slice())?;
+        quotient.push(step.fits)?;
+        remainder = step.remainder;
+    }
+    // the quotient's bits were found from the highest down
+    quotient.reverse();
+    Ok(Divided {
+        quotient: List::from_vec(quotient),
+        remainder,
+    })
+}
+
+/// What one step of a division gives.
+#[derive(Drop)]
+struct Step<L> {
+    /// The bit of the quotient: whether the divisor fits into the remainder.
+    fits: L,
+    /// What is left.
+    remainder: Bits<L>,
+}
+
+/// One step of a restoring division by a word of width N: the next bit of the dividend goes below the remainder so far, and the
+/// divisor is taken off where it fits. Both stand in N + 1 bits, since the longer remainder may be 2^N or more, and the
+/// divisor is taken off by adding its complement: it fits exactly where that sum carries.
+fn divide_step<C: Circuit>(
+    alloc: Global,
+    c: &mut C,
+    digit: C::Literal,
+    remainder: &[C::Literal],
+    divisor: &[C::Literal],
+) -> Result<Step<C::Literal>, AllocError>
+    requires same_width { length remainder.now ≡ length divisor.now }
+    requires own_digit { C.has_literal c.old digit }
+    requires own_remainder { All (C.has_literal c.old) remainder.now }
+    requires own_divisor { All (C.has_literal c.old) divisor.now }
+    ensures own_fits { IfOk result (λ step. C.has_literal c.new step.fits) }
+    ensures own_remainder { IfOk result (λ step. All (C.has_literal c.new) step.remainder) }
+    ensures width { IfOk result (λ step. length step.remainder ≡ length divisor.now) }
+    ensures fits { IfOk result (λ step. (inputs : Seq Bool) → C.admits c.old inputs →
+        C.value c.new inputs step.fits
+        ≡ nat_le (number_of (C.value c.old inputs) divisor.now)
+        (bit (C.value c.old inputs digit) + 2 * number_of (C.value c.old inputs) remainder.now)) }
+    ensures left { IfOk result (λ step. (inputs : Seq Bool) → C.admits c.old inputs →
+        let longer = bit (C.value c.old inputs digit) + 2 * number_of (C.value c.old inputs) remainder.now in
+        let taken = number_of (C.value c.old inputs) divisor.now in
+        number_of (C.value c.new inputs) step.remainder
+        ≡ (if nat_le taken longer then longer - taken else longer) % 2 ^ length divisor.now) }
+    ensures adds { Adds C.has_literal C.admits C.value C.inputs_made C.gates_made c.old c.new
+        (division_step_gates (length divisor.now)) }
+{
+    let mut complement = inverted(alloc, c, divisor)?;
+    complement.push(c.one())?;
+    let mut longer = Vec::new(alloc);
+    longer.push(digit)?;
+    longer.extend_from_slice(remainder)?;
+    let first = c.one();
+    let less = add_with_carry(alloc, c, longer.as_slice(), complement.as_slice(), first)?;
+    let width = divisor.len();
+    let remainder = select(
+        alloc,
+        c,
+        less.carry,
+        &less.bits.as_slice()[..width],
+        &longer[..width],
+    )?;
+    Ok(Step {
+        fits: less.carry,
+        remainder,
+    })
+}

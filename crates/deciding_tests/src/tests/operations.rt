@@ -1,0 +1,105 @@
+//! Operations on two words, and the circuits that answer them.
+ghost use Rattle.std.specs.Prelude.{◌≡◌, ◌<◌, ◌≤◌, [], ◌∷◌, length, IfOk};
+ghost use Rattle.std.specs.List.{All};
+ghost use Rattle.circuits.specs.Circuit.{Keeps};
+
+use circ_muldiv::{
+    divide_signed, divide_unsigned, multiply, overflow_add, overflow_mul, overflow_sub,
+};
+use circuits::{Bits, Circuit};
+use lists::List;
+use std::alloc::{AllocError, Global};
+
+/// What is asked of two words of one width, a and b.
+#[derive(Clone, Copy, Debug)]
+pub(crate) enum Operation {
+    Product,
+    /// Whether the exact sum of unsigned numbers does not fit the width; and so on.
+    SumOverflows,
+    SignedSumOverflows,
+    DifferenceOverflows,
+    SignedDifferenceOverflows,
+    ProductOverflows,
+    SignedProductOverflows,
+    Quotient,
+    Remainder,
+    SignedQuotient,
+    SignedRemainder,
+}
+
+pub(crate) const OPERATIONS: [Operation; 11] = [
+    Operation::Product,
+    Operation::SumOverflows,
+    Operation::SignedSumOverflows,
+    Operation::DifferenceOverflows,
+    Operation::SignedDifferenceOverflows,
+    Operation::ProductOverflows,
+    Operation::SignedProductOverflows,
+    Operation::Quotient,
+    Operation::Remainder,
+    Operation::SignedQuotient,
+    Operation::SignedRemainder,
+];
+
+/// The word of a single bit.
+fn single<L: Copy>(alloc: Global, literal: L) -> Result<Bits<L>, AllocError>
+    ensures { IfOk result (λ word. word ≡ literal ∷ []) }
+{
+    let mut word = List::new(alloc);
+    word.push(literal)?;
+    Ok(word)
+}
+
+/// The answer of the circuits: a word of the width, or a single bit.
+pub(crate) fn answer<C: Circuit>(
+    alloc: Global,
+    c: &mut C,
+    operation: Operation,
+    a: &Bits<C::Literal>,
+    b: &Bits<C::Literal>,
+) -> Result<Bits<C::Literal>, AllocError>
+    requires some { 0 < length a.now }
+    requires same_width { length b.now ≡ length a.now }
+    requires own_a { All (C.has_literal c.old) a.now }
+    requires own_b { All (C.has_literal c.old) b.now }
+    ensures own { IfOk result (All (C.has_literal c.new)) }
+    ensures width { IfOk result (λ word. length word ≤ length a.now) }
+    ensures keeps { Keeps C.has_literal C.admits C.value c.old c.new }
+{
+    match operation {
+        Operation::Product => multiply(alloc, c, a, b),
+        Operation::Quotient => Ok(divide_unsigned(alloc, c, a, b)?.quotient),
+        Operation::Remainder => Ok(divide_unsigned(alloc, c, a, b)?.remainder),
+        Operation::SignedQuotient => Ok(divide_signed(alloc, c, a, b)?.quotient),
+        Operation::SignedRemainder => Ok(divide_signed(alloc, c, a, b)?.remainder),
+        _ => {
+            let overflows = overflow(alloc, c, operation, a, b)?;
+            single(alloc, overflows)
+        }
+    }
+}
+
+/// Whether an operation overflows, where the question is that.
+fn overflow<C: Circuit>(
+    alloc: Global,
+    c: &mut C,
+    operation: Operation,
+    a: &Bits<C::Literal>,
+    b: &Bits<C::Literal>,
+) -> Result<C::Literal, AllocError>
+    requires some { 0 < length a.now }
+    requires same_width { length b.now ≡ length a.now }
+    requires own_a { All (C.has_literal c.old) a.now }
+    requires own_b { All (C.has_literal c.old) b.now }
+    ensures own { IfOk result (λ made. C.has_literal c.new made) }
+    ensures keeps { Keeps C.has_literal C.admits C.value c.old c.new }
+{
+    match operation {
+        Operation::SumOverflows => overflow_add(alloc, c, a, b, false),
+        Operation::SignedSumOverflows => overflow_add(alloc, c, a, b, true),
+        Operation::DifferenceOverflows => overflow_sub(alloc, c, a, b, false),
+        Operation::SignedDifferenceOverflows => overflow_sub(alloc, c, a, b, true),
+        Operation::ProductOverflows => overflow_mul(alloc, c, a, b, false),
+        _ => overflow_mul(alloc, c, a, b, true),
+    }
+}
