@@ -1,0 +1,159 @@
+-- What is skipped before a token is a gap.
+use Rattle.std.proofs.Common.{◌≡◌, ◌≢◌, ℕ, ◌+◌, ◌-◌, ◌<◌, ◌≤◌, Bool, true, false, eqb, List, [], ◌∷◌, ◌++◌, length, take, drop, refl, sym, ap, subst, ◌∙◌, ⊎_elim, ◌⊎◌, inl, inr, append_assoc, arith}
+use Rattle.std.proofs.lemmas.Bool.{eqb-true, false≢true}
+use Rattle.std.proofs.lemmas.List.{append-nil, length-append, length-drop, take_at, drop_at, drop-drop}
+use Rattle.scan.specs.Bytes.{is_blank, is_space, begins_with}
+use Rattle.scan.specs.Gaps.{IsInLine, IsGap, nothing, space, comment, IsLastGap}
+use Rattle.scan.specs.Lines.{between}
+use Rattle.scan.specs.Scanning.{in_gap, behind_gap}
+use Rattle.scan.proofs.Fronts.{which}
+
+not_ten : (b : ℕ) → eqb b 10 ≡ false → b ≢ 10
+not_ten b e h = false≢true (sym e ∙ ap (λ c. eqb c 10) h)
+
+-- what is skipped where a comment is open or not
+abbrev SkipsGap : Bool → List ℕ → List ℕ → Type 0
+SkipsGap false text rest = (gap : List ℕ) × IsGap gap × (text ≡ gap ++ rest)
+SkipsGap true text rest = (line : List ℕ) × (gap : List ℕ) × IsInLine line × IsGap gap × (text ≡ (line ++ 10 ∷ gap) ++ rest)
+
+skips : (in_comment : Bool) (text : List ℕ) (c : ℕ) (rest : List ℕ) → behind_gap in_comment text ≡ c ∷ rest → SkipsGap in_comment text (c ∷ rest)
+skips in_comment [] c rest e = absurd cc
+skips true (b ∷ text) c rest e = ⊎_elim
+    (λ (h : eqb b 10 ≡ true).
+    let g = skips false text c rest (rw h at e) in
+    ([], g.0, tt, g.1, ap (λ (bs : List ℕ). b ∷ bs) g.2 ∙ ap (λ (n : ℕ). n ∷ (g.0 ++ c ∷ rest)) (eqb-true b 10 h)))
+    (λ (h : eqb b 10 ≡ false).
+    let g = skips true text c rest (rw h at e) in
+    (b ∷ g.0, g.1, (not_ten b h, g.2), g.3, ap (λ (bs : List ℕ). b ∷ bs) g.4))
+    (which (eqb b 10))
+skips false (b ∷ text) c rest e = ⊎_elim
+    (λ (h : eqb b 59 ≡ true).
+    let g = skips true text c rest (rw h at e) in
+    (59 ∷ (g.0 ++ 10 ∷ g.1), comment g.0 g.1 refl g.2 g.3, ap (λ (bs : List ℕ). b ∷ bs) g.4 ∙ ap (λ (n : ℕ). n ∷ ((g.0 ++ 10 ∷ g.1) ++ c ∷ rest)) (eqb-true b 59 h)))
+    (λ (h : eqb b 59 ≡ false). ⊎_elim
+    (λ (k : is_space b ≡ true).
+    let g = skips false text c rest (rw (h, k) at e) in
+    (b ∷ g.0, space k g.1, ap (λ (bs : List ℕ). b ∷ bs) g.2))
+    (λ (k : is_space b ≡ false). let e' : b ∷ text ≡ c ∷ rest = rw (h, k) at e in ([], nothing, e'))
+    (which (is_space b)))
+    (which (eqb b 59))
+
+-- what is skipped up to the end
+abbrev SkipsAll : Bool → List ℕ → Type 0
+SkipsAll false text = IsLastGap text
+SkipsAll true text = IsInLine text ⊎ ((line : List ℕ) × (gap : List ℕ) × IsInLine line × IsLastGap gap × (text ≡ line ++ 10 ∷ gap))
+
+IsLastGap-space : (b : ℕ) (text : List ℕ) → is_space b ≡ true → IsLastGap text → IsLastGap (b ∷ text)
+IsLastGap-space b text h (inl g) = inl (space h g)
+IsLastGap-space b text h (inr p) = inr (b ∷ p.0, p.1, space h p.2, p.3, ap (λ (bs : List ℕ). b ∷ bs) p.4)
+
+IsLastGap-comment : (line gap : List ℕ) → IsInLine line → IsLastGap gap → IsLastGap (59 ∷ (line ++ 10 ∷ gap))
+IsLastGap-comment line gap h (inl g) = inl (comment line gap refl h g)
+IsLastGap-comment line gap h (inr p) = inr (59 ∷ (line ++ 10 ∷ p.0), p.1, comment line p.0 refl h p.2, p.3, ap (λ (bs : List ℕ). 59 ∷ (line ++ 10 ∷ bs)) p.4 ∙ ap (λ (bs : List ℕ). 59 ∷ bs) (sym (append_assoc line (10 ∷ p.0) (59 ∷ p.1))))
+
+skips_all : (in_comment : Bool) (text : List ℕ) → behind_gap in_comment text ≡ [] → SkipsAll in_comment text
+skips_all true [] e = inl tt
+skips_all false [] e = inl nothing
+skips_all true (b ∷ text) e = ⊎_elim
+    (λ (h : eqb b 10 ≡ true). inr ([], text, tt, skips_all false text (rw h at e), ap (λ (n : ℕ). n ∷ text) (eqb-true b 10 h)))
+    (λ (h : eqb b 10 ≡ false). ⊎_elim
+    (λ (g : IsInLine text). inl (not_ten b h, g))
+    (λ (g : (line : List ℕ) × (gap : List ℕ) × IsInLine line × IsLastGap gap × (text ≡ line ++ 10 ∷ gap)). inr (b ∷ g.0, g.1, (not_ten b h, g.2), g.3, ap (λ (bs : List ℕ). b ∷ bs) g.4))
+    (skips_all true text (rw h at e)))
+    (which (eqb b 10))
+skips_all false (b ∷ text) e = ⊎_elim
+    (λ (h : eqb b 59 ≡ true). subst (λ (n : ℕ). IsLastGap (n ∷ text)) (sym (eqb-true b 59 h)) (⊎_elim
+    (λ (g : IsInLine text). inr ([], text, nothing, g, refl))
+    (λ (g : (line : List ℕ) × (gap : List ℕ) × IsInLine line × IsLastGap gap × (text ≡ line ++ 10 ∷ gap)). subst (λ (bs : List ℕ). IsLastGap (59 ∷ bs)) (sym g.4) (IsLastGap-comment g.0 g.1 g.2 g.3))
+    (skips_all true text (rw h at e))))
+    (λ (h : eqb b 59 ≡ false). ⊎_elim
+    (λ (k : is_space b ≡ true). IsLastGap-space b text k (skips_all false text (rw (h, k) at e)))
+    (λ (k : is_space b ≡ false). absurd (let e' : b ∷ text ≡ [] = rw (h, k) at e in cc))
+    (which (is_space b)))
+    (which (eqb b 59))
+
+-- ---- gaps are skipped
+
+is_ten : (b : ℕ) → b ≢ 10 → eqb b 10 ≡ false
+is_ten b h = ⊎_elim (λ (e : eqb b 10 ≡ true). absurd (h (eqb-true b 10 e))) (λ (e : eqb b 10 ≡ false). e) (which (eqb b 10))
+
+comment_skipped : (line rest : List ℕ) → IsInLine line → behind_gap true (line ++ 10 ∷ rest) ≡ behind_gap false rest
+comment_skipped [] rest h = refl
+comment_skipped (b ∷ line) rest h = rw (is_ten b h.0) (comment_skipped line rest h.1)
+
+comment_ends : (line : List ℕ) → IsInLine line → behind_gap true line ≡ []
+comment_ends [] h = refl
+comment_ends (b ∷ line) h = rw (is_ten b h.0) (comment_ends line h.1)
+
+space_no_comment : (b : ℕ) → is_space b ≡ true → eqb b 59 ≡ false
+unfolding is_space is_blank
+space_no_comment b h = ⊎_elim (λ (e : eqb b 59 ≡ true). absurd (false≢true (subst (λ (n : ℕ). is_space n ≡ true) (eqb-true b 59 e) h))) (λ (e : eqb b 59 ≡ false). e) (which (eqb b 59))
+
+pub gap_skipped : {gap : List ℕ} → IsGap gap → (rest : List ℕ) → behind_gap false (gap ++ rest) ≡ behind_gap false rest
+gap_skipped nothing rest = refl
+gap_skipped (space {b} h g) rest = rw (space_no_comment b h, h) (gap_skipped g rest)
+gap_skipped (comment line behind e h g) rest = rw e (ap (behind_gap true) (append_assoc line (10 ∷ behind) rest) ∙ comment_skipped line (behind ++ rest) h ∙ gap_skipped g rest)
+
+pub last_gap_skipped : (text : List ℕ) → IsLastGap text → behind_gap false text ≡ []
+last_gap_skipped text (inl g) = ap (behind_gap false) (sym (append-nil text)) ∙ gap_skipped g []
+last_gap_skipped text (inr p) = ap (behind_gap false) p.4 ∙ gap_skipped p.2 (59 ∷ p.1) ∙ comment_ends p.1 p.3
+
+-- a gap that is skipped goes on no further
+pub behind_gap-visible : (in_comment : Bool) (text : List ℕ) → begins_with in_gap (behind_gap in_comment text) ≡ false
+behind_gap-visible true [] = refl
+behind_gap-visible false [] = refl
+behind_gap-visible true (b ∷ text) = ⊎_elim
+    (λ (h : eqb b 10 ≡ true). rw h (behind_gap-visible false text))
+    (λ (h : eqb b 10 ≡ false). rw h (behind_gap-visible true text))
+    (which (eqb b 10))
+behind_gap-visible false (b ∷ text) = ⊎_elim
+    (λ (h : eqb b 59 ≡ true). rw h (behind_gap-visible true text))
+    (λ (h : eqb b 59 ≡ false). ⊎_elim
+    (λ (k : is_space b ≡ true). rw (h, k) (behind_gap-visible false text))
+    (λ (k : is_space b ≡ false). rw (h, k) (rw (k, h) refl))
+    (which (is_space b)))
+    (which (eqb b 59))
+
+-- what stands before what is left
+pub record Skipped (ahead rest : List ℕ) : Type 0 where
+  pub gap : List ℕ
+  pub is_gap : length rest ≢ 0 → IsGap gap
+  pub is_last : length rest ≡ 0 → IsLastGap gap
+  pub text_is : ahead ≡ gap ++ rest
+
+pub skipped : (ahead : List ℕ) → Skipped ahead (behind_gap false ahead)
+skipped ahead = from (behind_gap false ahead) refl
+  where
+    from : (rest : List ℕ) → behind_gap false ahead ≡ rest → Skipped ahead rest
+    from [] e = record { gap = ahead; is_gap = λ some. absurd (some refl); is_last = λ none. skips_all false ahead e; text_is = sym (append-nil ahead) }
+    from (c ∷ rest) e = let g = skips false ahead c rest e in record { gap = g.0; is_gap = λ some. g.1; is_last = λ none. inl g.1; text_is = g.2 }
+
+-- the same by places in the text
+pub record GapTo (text : List ℕ) (place start : ℕ) : Type 0 where
+  pub order : (place ≤ start) × (start ≤ length text)
+  pub gap : start < length text → IsGap (between text place start)
+  pub last : start ≡ length text → IsLastGap (between text place start)
+  pub whole : begins_with in_gap (drop start text) ≡ false
+
+pub gap_to : (text : List ℕ) (place : ℕ) (rest : List ℕ) → place ≤ length text → rest ≡ behind_gap false (drop place text) → GapTo text place (length text - length rest)
+gap_to text place rest h e = found (subst (Skipped (drop place text)) (sym e) (skipped (drop place text)))
+  where
+    found : Skipped (drop place text) rest → GapTo text place (length text - length rest)
+    found s =
+        let total : length text - place ≡ length s.gap + length rest = sym (length-drop place text) ∙ ap length s.text_is ∙ length-append s.gap rest in
+        let far : length text - length rest - place ≡ length s.gap = omega arith in
+        let gap_is : between text place (length text - length rest) ≡ s.gap = ap (λ (n : ℕ). take n (drop place text)) far ∙ ap (take (length s.gap)) s.text_is ∙ take_at s.gap rest (length s.gap) refl in
+        let there : place + length s.gap ≡ length text - length rest = omega arith in
+        let rest_is : drop (length text - length rest) text ≡ rest = ap (λ (n : ℕ). drop n text) (sym there) ∙ sym (drop-drop (length s.gap) place text) ∙ ap (drop (length s.gap)) s.text_is ∙ drop_at s.gap rest (length s.gap) refl in
+        record {
+          order = (omega arith, omega arith);
+          gap = λ k. subst IsGap (sym gap_is) (s.is_gap (omega arith));
+          last = λ k. subst IsLastGap (sym gap_is) (s.is_last (omega arith));
+          whole = ap (begins_with in_gap) (rest_is ∙ e) ∙ behind_gap-visible false (drop place text);
+        }
+
+pub rest_fits : (text : List ℕ) (place : ℕ) (rest : List ℕ) → rest ≡ behind_gap false (drop place text) → length rest ≤ length text
+rest_fits text place rest e =
+    let s : Skipped (drop place text) (behind_gap false (drop place text)) = skipped (drop place text) in
+    let total : length text - place ≡ length s.gap + length (behind_gap false (drop place text)) = sym (length-drop place text) ∙ ap length s.text_is ∙ length-append s.gap (behind_gap false (drop place text)) in
+    omega (arith, ap length e)

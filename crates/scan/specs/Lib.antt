@@ -1,0 +1,9 @@
+pub mod Bytes
+pub mod Gaps
+pub mod Laws
+pub mod Lines
+pub mod Longest
+pub mod Names
+pub mod Places
+pub mod RuleTokens
+pub mod Scanning

@@ -1,0 +1,15 @@
+-- The longest front of a text that passes a test.
+use Rattle.std.specs.Prelude.{◌≡◌, ◌≢◌, ℕ, ◌≤◌, ◌<◌, Bool, true, List, length, take, drop, Option, Some, None}
+use Rattle.scan.specs.declared.rule_token.RuleKind.{RuleKind}
+
+-- The first n bytes pass before the rest, and no more first bytes do; n is 0 where none pass.
+pub record IsLongest (passes : List ℕ → List ℕ → Bool) (text : List ℕ) (n : ℕ) : Type 0 where
+  pub within : n ≤ length text
+  pub found : 0 < n → passes (take n text) (drop n text) ≡ true
+  pub longest : (m : ℕ) → m ≤ length text → passes (take m text) (drop m text) ≡ true → m ≤ n
+
+-- The same where each front that passes is of a kind.
+pub record IsLongestOf (kind_of : List ℕ → List ℕ → Option RuleKind) (text : List ℕ) (kind : RuleKind) (n : ℕ) : Type 0 where
+  pub within : n ≤ length text
+  pub found : 0 < n → kind_of (take n text) (drop n text) ≡ Some kind
+  pub longest : (m : ℕ) → m ≤ length text → kind_of (take m text) (drop m text) ≢ None → m ≤ n

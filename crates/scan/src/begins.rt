@@ -1,0 +1,69 @@
+//! What a text begins with.
+
+ghost use Rattle.std.specs.Prelude.{◌≡◌, ◌==◌, ◌∷◌, false, IfSome, IfNone};
+ghost use Rattle.scan.specs.Bytes as bytes;
+ghost use Rattle.scan.specs.Bytes.{begins_with};
+ghost use Rattle.scan.specs.RuleTokens as tokens;
+
+use crate::bytes::{is_bad, is_blank, is_digit, is_letter, is_name_byte};
+
+/// What follows the byte, where the text begins with it.
+pub(crate) fn behind(text: &[u8], byte: u8) -> Option<&[u8]>
+    ensures some { IfSome result (λ rest. text.now ≡ byte ∷ rest.now) }
+    ensures none { IfNone result (begins_with (λ b. b == byte) text.now ≡ false) }
+{
+    match text {
+        [first, rest @ ..] if *first == byte => Some(rest),
+        _ => None,
+    }
+}
+
+/// Whether the text begins with a byte that may not stand there.
+pub(crate) fn begins_bad(text: &[u8]) -> bool
+    ensures { result ≡ begins_with bytes.is_bad text.now }
+{
+    match text {
+        [] => false,
+        [first, ..] => is_bad(*first),
+    }
+}
+
+/// Whether the text begins as a word of a rule does.
+pub(crate) fn begins_word(text: &[u8]) -> bool
+    ensures { result ≡ begins_with bytes.is_letter text.now }
+{
+    match text {
+        [] => false,
+        [first, ..] => is_letter(*first),
+    }
+}
+
+/// Whether the text begins with a digit.
+pub(crate) fn begins_digit(text: &[u8]) -> bool
+    ensures { result ≡ begins_with bytes.is_digit text.now }
+{
+    match text {
+        [] => false,
+        [first, ..] => is_digit(*first),
+    }
+}
+
+/// Whether the text begins with a byte that may stand in a name.
+pub(crate) fn begins_name_byte(text: &[u8]) -> bool
+    ensures { result ≡ begins_with bytes.is_name_byte text.now }
+{
+    match text {
+        [] => false,
+        [first, ..] => is_name_byte(*first),
+    }
+}
+
+/// Whether the text begins with a blank or `(`.
+pub(crate) fn begins_argument(text: &[u8]) -> bool
+    ensures { result ≡ begins_with tokens.begins_argument text.now }
+{
+    match text {
+        [] => false,
+        [first, ..] => is_blank(*first) || *first == b'(',
+    }
+}

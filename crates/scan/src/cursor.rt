@@ -1,0 +1,103 @@
+//! A place in a text that goes forward token by token.
+
+ghost use Rattle.std.specs.Prelude.{◌≡◌, ◌+◌, ◌≤◌, length, take, IfOk, IfErr, OnErr};
+ghost use Rattle.scan.specs.RuleTokens.{IsNextRuleToken, IsBadNext};
+ghost use Rattle.scan.specs.Names.{IsNameNext, IsBadInRest, rest_of_line};
+
+use crate::bad_byte::BadByte;
+use crate::front::front;
+use crate::gap::gap_end;
+use crate::line::{feeds, token_line};
+use crate::name::{blanks_before, blanks_behind, has_bad, rest_of_line};
+use crate::rule_token::RuleToken;
+use crate::span::Span;
+use std::marker::Model;
+
+/// A text, and a place in it: the number of bytes before it, at most all.
+#[derive(Drop)]
+pub struct Cursor<'a> {
+    text: &'a [u8],
+    at: usize,
+    /// How many line feeds stand before the place.
+    feeds: usize,
+}
+
+impl<'a> Model for Cursor<'a> {
+    ghost use Rattle.std.specs.Prelude.{◌≡◌, ◌≤◌, length, take};
+    ghost use Rattle.scan.specs.Lines as lines;
+    ghost use Rattle.scan.specs.Places.{Place};
+
+    ghost Value = { Place };
+
+    ghost view = { λ c. record { text = c.text.now; at = c.at } };
+
+    ghost invariant = { λ c. (c.at ≤ length c.text.now) × (c.feeds ≡ lines.feeds (take c.at c.text.now)) };
+}
+
+impl<'a> Cursor<'a> {
+    /// The place before the first byte.
+    pub fn new(text: &'a [u8]) -> Cursor<'a>
+        ensures { result ≡ record { text = text.now; at = 0 } }
+    {
+        Cursor {
+            text,
+            at: 0,
+            feeds: 0,
+        }
+    }
+
+    /// The next token of a rule file, behind blanks, line feeds and comments, and goes behind it. It is the longest that
+    /// begins where it does. `operator` says whether the token before it ends a primary (`ends_primary`); where this one
+    /// stands on the same line it is then in an operator's place.
+    ///
+    /// The error is a byte there that may not stand outside comments; the place stays.
+    pub fn next_rule_token(&mut self, operator: bool) -> Result<RuleToken, BadByte>
+        ensures text { self.new.text ≡ self.old.text }
+        ensures token { IfOk result (IsNextRuleToken operator self.old.text self.old.at) }
+        ensures goes { IfOk result (λ t. self.new.at ≡ t.span.end) }
+        ensures bad { IfErr result (λ e. IsBadNext self.old.text self.old.at e.line) }
+        ensures stays { OnErr result (self.new.at ≡ self.old.at) }
+    {
+        let start = gap_end(self.text, self.at);
+        let passed = feeds(&self.text[self.at..start]);
+        let before = self.feeds + passed;
+        let Some((kind, length)) = front(&self.text[start..], operator && passed == 0) else {
+            return Err(BadByte { line: before + 1 });
+        };
+        let end = start + length;
+        let line = token_line(kind, self.text, start, before);
+        self.feeds = before + feeds(&self.text[start..end]);
+        self.at = end;
+        Ok(RuleToken {
+            kind,
+            line,
+            span: Span { start, end },
+        })
+    }
+
+    /// The rest of the line up to a comment, without the blanks at its ends, and goes behind it: the name of a rule, where
+    /// its head was taken. Where nothing is there the span is empty.
+    ///
+    /// The error is a byte of it that may not stand there; the place stays.
+    pub fn take_name(&mut self) -> Result<Span, BadByte>
+        ensures text { self.new.text ≡ self.old.text }
+        ensures name { IfOk result (IsNameNext self.old.text self.old.at) }
+        ensures goes { IfOk result (λ _. self.new.at ≡ self.old.at + length (rest_of_line self.old.text self.old.at)) }
+        ensures bad { IfErr result (λ e. IsBadInRest self.old.text self.old.at e.line) }
+        ensures stays { OnErr result (self.new.at ≡ self.old.at) }
+    {
+        let rest = rest_of_line(self.text, self.at);
+        if has_bad(rest) {
+            return Err(BadByte {
+                line: self.feeds + 1,
+            });
+        }
+        let start = self.at + blanks_before(rest);
+        let end = self.at + (rest.len() - blanks_behind(rest));
+        self.at += rest.len();
+        Ok(Span {
+            start,
+            end: start.max(end),
+        })
+    }
+}

@@ -1,0 +1,27 @@
+//! Runs: how many of the first bytes of a text are of one sort.
+
+ghost use Rattle.std.specs.Prelude.{◌≡◌};
+ghost use Rattle.std.specs.List.{prefix_len};
+ghost use Rattle.scan.specs.Bytes as bytes;
+
+use crate::bytes::{is_digit, is_register_byte, is_word_byte};
+
+pub(crate) fn digit_run(text: &[u8]) -> usize
+    ensures { result ≡ prefix_len bytes.is_digit text.now }
+{
+    text.iter().take_while(|byte| is_digit(**byte)).count()
+}
+
+pub(crate) fn word_run(text: &[u8]) -> usize
+    ensures { result ≡ prefix_len bytes.is_word_byte text.now }
+{
+    text.iter().take_while(|byte| is_word_byte(**byte)).count()
+}
+
+pub(crate) fn register_run(text: &[u8]) -> usize
+    ensures { result ≡ prefix_len bytes.is_register_byte text.now }
+{
+    text.iter()
+        .take_while(|byte| is_register_byte(**byte))
+        .count()
+}
