@@ -1,0 +1,5 @@
+pub mod Members
+pub mod Outcomes
+pub mod Ready
+pub mod Runs
+pub mod Sample

@@ -1,0 +1,52 @@
+-- What stands in a rule: its statements, their operands, and the classes of both.
+use Rattle.std.proofs.Common.{◌≡◌, ℕ, zero, suc, ◌+◌, ◌<◌, List, [], ◌∷◌, ◌++◌, length, take, length-append, add_assoc, zero-add, suc-add, Some, refl, sym, ◌∙◌, arith, get_or}
+use Rattle.std.specs.Prelude.{slice_get, Contains, flat_map}
+use Rattle.std.proofs.lemmas.Option.{slice_get_within, get_or_from_slice_get}
+use Rattle.std.proofs.lemmas.List.Elements.{Contains-append_left, Contains-append_right}
+use Rattle.rule_core.specs.declared.rule.Rule.{Rule}
+use Rattle.rule_core.specs.declared.rule.Statement.{Statement}
+use Rattle.rule_core.specs.declared.rule.Operand.{Operand}
+use Rattle.rule_core.specs.Positions.{operands_of, operands_in, classes_of_statement, classes_of, IsStatementOf}
+
+-- what stands at a place is an element
+pub Contains-from_get : {X : Type 0} (xs : List X) (k : ℕ) (x : X) → slice_get xs k ≡ Some x → Contains xs x
+Contains-from_get xs k x at = (k, slice_get_within xs k x at, get_or_from_slice_get xs k x x at)
+
+-- an element of what an element is mapped to is one of all that the elements are mapped to
+pub Contains-flat_map : {X Y : Type 0} (f : X → List Y) (xs : List X) (x : X) (y : Y) → Contains xs x → Contains (f x) y → Contains (flat_map f xs) y
+Contains-flat_map f [] x y (k, lt, e) h = absurd (omega arith)
+Contains-flat_map f (a ∷ xs) x y (zero, lt, e) h = Contains-append_left (f a) (flat_map f xs) y (rw (sym e) at h)
+Contains-flat_map f (a ∷ xs) x y (suc k, lt, e) h =
+    Contains-append_right (f a) (flat_map f xs) y (Contains-flat_map f xs x y (k, omega arith, e) h)
+
+pub source_statement : (rule : Rule) (k : ℕ) (s : Statement) → slice_get rule.source k ≡ Some s → IsStatementOf rule s
+source_statement rule k s at = Contains-append_left rule.source rule.target s (Contains-from_get rule.source k s at)
+
+pub target_statement : (rule : Rule) (k : ℕ) (s : Statement) → slice_get rule.target k ≡ Some s → IsStatementOf rule s
+target_statement rule k s at = Contains-append_right rule.source rule.target s (Contains-from_get rule.target k s at)
+
+-- the operands of a statement of the rule are the rule's, and so are the classes
+pub operand_stands : (rule : Rule) (s : Statement) (o : Operand) → IsStatementOf rule s → Contains (operands_of s.op) o → Contains (operands_in rule) o
+operand_stands rule s o stands among = Contains-flat_map (λ (t : Statement). operands_of t.op) (rule.source ++ rule.target) s o stands among
+
+pub class_stands : (rule : Rule) (s : Statement) → IsStatementOf rule s → Contains (classes_of rule) s.class
+class_stands rule s stands =
+    Contains-flat_map classes_of_statement (rule.source ++ rule.target) s s.class stands (Contains-from_get (classes_of_statement s) 0 s.class refl)
+
+-- what stands at a place of the first list stands there in both, and what stands in the second one stands behind the first
+pub get-append_left : {X : Type 0} (xs ys : List X) (k : ℕ) (x : X) → slice_get xs k ≡ Some x → slice_get (xs ++ ys) k ≡ Some x
+get-append_left [] ys k x at = elim k as (λ j. slice_get [] j ≡ Some x → slice_get ys j ≡ Some x) [ zero ↦ λ h. cc | suc j ↦ λ h. cc ] at
+get-append_left (a ∷ xs) ys zero x at = at
+get-append_left (a ∷ xs) ys (suc k) x at = get-append_left xs ys k x at
+
+pub get-append_right : {X : Type 0} (xs ys : List X) (k : ℕ) → slice_get (xs ++ ys) (length xs + k) ≡ slice_get ys k
+get-append_right [] ys k = rw zero-add refl
+get-append_right (a ∷ xs) ys k = rw (suc-add (length xs) k) (get-append_right xs ys k)
+
+-- what stands at a place of what an element is mapped to, counted from what those before it are mapped to
+pub get-flat_map : {X Y : Type 0} (f : X → List Y) (xs : List X) (i : ℕ) (x : X) (k : ℕ) (y : Y) → i < length xs → x ≡ get_or xs i x → slice_get (f x) k ≡ Some y → slice_get (flat_map f xs) (length (flat_map f (take i xs)) + k) ≡ Some y
+get-flat_map f [] i x k y within is at = absurd (omega arith)
+get-flat_map f (a ∷ xs) zero x k y within is at = rw zero-add (get-append_left (f a) (flat_map f xs) k y (rw is at at))
+get-flat_map f (a ∷ xs) (suc i) x k y within is at =
+    rw (length-append (f a) (flat_map f (take i xs)), add_assoc (length (f a)) (length (flat_map f (take i xs))) k)
+    (get-append_right (f a) (flat_map f xs) (length (flat_map f (take i xs)) + k) ∙ get-flat_map f xs i x k y (omega arith) is at)

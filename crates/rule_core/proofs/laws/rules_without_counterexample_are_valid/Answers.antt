@@ -1,0 +1,37 @@
+use Rattle.std.proofs.Common.{◌≡◌, ℕ, ◌⊎◌, inl, inr, ap, sym, ◌∙◌}
+use Rattle.std.proofs.lemmas.Bool.{cases_eq}
+use Rattle.ops.specs.Number.{Number}
+use Rattle.ops.specs.Value.{AllowsValue, AllowsEffect}
+use Rattle.ops.specs.declared.value.Value.{Value}
+use Rattle.ops.specs.declared.value.Value.TheVariants.{Poison, Bits}
+use Rattle.ops.specs.declared.value.Effect.{Effect}
+use Rattle.ops.specs.declared.value.Effect.TheVariants.{Undefined, Gives}
+use Rattle.rule_core.proofs.laws.rules_without_counterexample_are_valid.Goals as goal
+
+same_number : (a b : Number) → a.width ≡ b.width → a.number ≡ b.number → Bits b ≡ Bits a
+same_number a b e f =
+    let made : ℕ → ℕ → Value = λ N n. Bits (record { width = N; number = n }) in
+    ap (λ N. made N b.number) (sym e) ∙ ap (λ n. made a.width n) (sym f)
+
+-- a value allows another, or does not
+allows_value : (v w : Value) → AllowsValue v w ⊎ (AllowsValue v w → ⊥)
+allows_value Poison w = inl tt
+allows_value (Bits a) Poison = inr (λ h. cc)
+allows_value (Bits a) (Bits b) =
+    elim (cases_eq a.width b.width) [
+      | inr other ↦ inr (λ h. other cc)
+      | inl width ↦ elim (cases_eq a.number b.number) [ inr other ↦ inr (λ h. other cc) | inl number ↦ inl (same_number a b width number) ]
+    ]
+
+-- and so it is with effects
+allows_effect : (d e : Effect) → AllowsEffect d e ⊎ (AllowsEffect d e → ⊥)
+allows_effect Undefined e = inl tt
+allows_effect (Gives v) Undefined = inr (λ h. h)
+allows_effect (Gives v) (Gives w) = allows_value v w
+
+pub returns : goal.returns
+returns c = λ rule typing none setting source target fits have.
+    elim (allows_effect source target) [
+      | inl allowed ↦ allowed
+      | inr refused ↦ absurd (none setting source target (record { fits = fits; effects = have; refused = refused }))
+    ]

@@ -1,0 +1,106 @@
+-- What the halves of a rule do on inputs, constants and one number for each `undef` of the half. As relations; registers are
+-- known by place.
+use Rattle.std.specs.Prelude.{◌≡◌, ℕ, ◌-◌, if◌then◌else◌, List, [], ◌∷◌, ◌++◌, length, take, Option, Some, slice_get}
+use Rattle.ops.specs.Number.{Number}
+use Rattle.ops.specs.Instruction.{instruction}
+use Rattle.ops.specs.Integer.{residue, bits}
+use Rattle.ops.specs.declared.value.Value.{Value}
+use Rattle.ops.specs.declared.value.Effect.{Effect}
+use Rattle.ops.specs.declared.value.Effect.TheVariants as effects
+use Rattle.rule_core.specs.declared.rule.Rule.{Rule}
+use Rattle.rule_core.specs.declared.rule.Statement.{Statement}
+use Rattle.rule_core.specs.declared.rule.Op.{Op}
+use Rattle.rule_core.specs.declared.rule.Op.TheVariants.{Binary, Copy}
+use Rattle.rule_core.specs.declared.rule.Operand.{Operand}
+use Rattle.rule_core.specs.declared.rule.Argument.{Argument}
+use Rattle.rule_core.specs.declared.rule.Argument.TheVariants as arguments
+use Rattle.rule_core.specs.declared.rule.Register.{Register}
+use Rattle.rule_core.specs.declared.rule.Register.TheVariants as registers
+
+-- what registers hold: the inputs, and what the statements so far have assigned, in order
+pub record Held : Type 0 where
+  pub inputs : List Value
+  pub source : List Value
+  pub target : List Value
+
+abbrev pub value_of : Held → Register → Option Value
+value_of held (registers.Input k) = slice_get held.inputs k
+value_of held (registers.Source k) = slice_get held.source k
+value_of held (registers.Target k) = slice_get held.target k
+
+-- once the next source statement, or the next target statement, has assigned v
+abbrev pub holding_source : Held → Value → Held
+holding_source held v = record held { source = held.source ++ v ∷ [] }
+
+abbrev pub holding_target : Held → Value → Held
+holding_target held v = record held { target = held.target ++ v ∷ [] }
+
+-- how statements end: in undefined behaviour, or with what the registers hold then
+pub data Ending : Type 0 where
+  Undefines : Ending
+  Holds : (held : Held) → Ending
+
+-- after a statement: undefined behaviour ends them, a value is held and the next one follows
+abbrev pub GoesOn : (Value → Type 0) → Effect → Ending → Type 0
+GoesOn next effects.Undefined end = end ≡ Undefines
+GoesOn next (effects.Gives v) end = next v
+
+-- after statements: undefined behaviour is the effect, else what comes next
+abbrev pub Leads : (Held → Effect → Type 0) → Ending → Effect → Type 0
+Leads next Undefines e = e ≡ effects.Undefined
+Leads next (Holds held) e = next held e
+
+-- what is held before the first statement
+abbrev pub at_start : List Value → Held
+at_start inputs = record { inputs = inputs; source = []; target = [] }
+
+-- the effect is to give the last of these values
+abbrev pub GivesLast : List Value → Effect → Type 0
+GivesLast values e = (v : Value) × (slice_get values (length values - 1) ≡ Some v) × (e ≡ effects.Gives v)
+
+-- the source without the root's statement
+abbrev pub temporaries_of : Rule → List Statement
+temporaries_of rule = take (length rule.source - 1) rule.source
+
+-- A width for each class, a number for each constant, and one for each `undef` of the half that runs. No operand here is a
+-- constant or an `undef`.
+module _ (typing : List ℕ) (constants choices : List Number) where
+  -- a register gives what it holds, and a literal itself modulo 2^N
+  abbrev pub ArgumentGives : Held → ℕ → Argument → Value → Type 0
+  ArgumentGives held N (arguments.Register r) v = value_of held r ≡ Some v
+  ArgumentGives held N (arguments.Literal z) v = v ≡ bits N (residue N z)
+  ArgumentGives held N (arguments.Truth b) v = v ≡ bits N (if b then 1 else 0)
+
+  abbrev pub OperandGives : Held → Operand → Value → Type 0
+  OperandGives held o v = (N : ℕ) × (slice_get typing o.class ≡ Some N) × ArgumentGives held N o.value v
+
+  -- an instruction has its effect on what its operands give, over the result's width N; a copy gives its operand
+  abbrev pub OpGives : Held → ℕ → Op → Effect → Type 0
+  OpGives held N (Binary op flags a b) e = (x : Value) × (y : Value) × OperandGives held a x × OperandGives held b y × (e ≡ instruction op flags N x y)
+  OpGives held N (Copy a) e = (x : Value) × OperandGives held a x × (e ≡ effects.Gives x)
+
+  abbrev pub StatementGives : Held → Statement → Effect → Type 0
+  StatementGives held s e = (N : ℕ) × (slice_get typing s.class ≡ Some N) × OpGives held N s.op e
+
+  -- statements follow in order, each result held
+  abbrev pub Follows : (Held → Value → Held) → List Statement → Held → Ending → Type 0
+  Follows holding [] held end = end ≡ Holds held
+  Follows holding (s ∷ statements) held end = (e : Effect) × StatementGives held s e × GoesOn (λ v. Follows holding statements (holding held v) end) e end
+
+  -- the source: its statements in order, and then the root
+  abbrev pub SourceGives : Rule → List Value → Effect → Type 0
+  SourceGives rule inputs e =
+      (end : Ending)
+      × Follows holding_source rule.source (at_start inputs) end
+      × Leads (λ held. GivesLast held.source) end e
+
+  -- the target's statements in order from what is held, and then the root
+  abbrev pub TargetGoesOn : Rule → Held → Effect → Type 0
+  TargetGoesOn rule held e = (end : Ending) × Follows holding_target rule.target held end × Leads (λ after. GivesLast after.target) end e
+
+  -- the target: first the source's temporaries in order
+  abbrev pub TargetGives : Rule → List Value → Effect → Type 0
+  TargetGives rule inputs e =
+      (end : Ending)
+      × Follows holding_source (temporaries_of rule) (at_start inputs) end
+      × Leads (TargetGoesOn rule) end e

@@ -1,0 +1,21 @@
+//! Settings of a rule at which its halves are compared.
+
+use lists::List;
+use ops::{Effect, Value, Word};
+
+/// What a rule is run on, and what its halves do there.
+#[derive(Debug, Drop)]
+pub struct Example {
+    /// A value for each input.
+    pub inputs: List<Value>,
+    /// A number for each abstract constant.
+    pub constants: List<Word>,
+    /// A number for each `undef` of the target.
+    pub target_undefs: List<Word>,
+    /// A number for each `undef` of the source: what it is chosen to be.
+    pub source_undefs: List<Word>,
+    /// What the source does.
+    pub source: Effect,
+    /// What the target does.
+    pub target: Effect,
+}

@@ -1,0 +1,23 @@
+//! Rules of the Alive language as plain values, their runs, and when one is valid.
+//!
+//! The meaning stands in `specs/`: `Checks` says what a rule meets, `Typing` what widths its classes may have, `Run` what its two
+//! halves do, and `Valid` when the rule is right.
+#![tactic(auto)]
+
+mod example;
+mod laws;
+mod rule;
+mod run;
+mod typing;
+
+pub use example::Example;
+pub use laws::{
+    every_rule_has_one_outcome, rules_without_counterexample_are_valid,
+    valid_rules_have_no_counterexample,
+};
+pub use rule::{Argument, Op, Operand, Register, Rule, Statement, Typing};
+pub use run::{run_source, run_target};
+pub use typing::{class_at, positions, width_at};
+
+#[cfg(test)]
+mod tests;

@@ -1,0 +1,223 @@
+//! Runs of the two halves of a rule.
+
+ghost use Rattle.std.specs.Prelude.{◌≡◌, ◌+◌, ◌≤◌, ◌<◌, ◌-◌, ◌^◌, ℕ, length, slice_get, IsSome, IfOk, option_map, Some};
+ghost use Rattle.ops.specs.Value.{IsValueOf, IsEffectOf};
+ghost use Rattle.ops.specs.Integer.{bits, residue};
+ghost use Rattle.rule_core.specs.Checks.{IsRule};
+ghost use Rattle.rule_core.specs.Typing.{IsTyping};
+ghost use Rattle.rule_core.specs.Run.{value_of, ArgumentGives, OperandGives, StatementGives, SourceGives, TargetGives};
+ghost use Rattle.rule_core.specs.Valid.{InputsFit, ConstantsFit, SourceChoicesFit, TargetChoicesFit};
+ghost use Rattle.rule_core.specs.Readiness.{seen, ArgumentIsReady, OperandIsReady, StatementIsReady, ValuesFit, SourceRan, TargetRan};
+
+use crate::rule::{Argument, Op, Operand, Register, Rule, Statement, Typing};
+use lists::List;
+use ops::{Effect, Value, Width, Word, evaluate};
+use std::alloc::{AllocError, Global};
+
+/// What the registers hold: the inputs, and what the statements so far have assigned.
+#[derive(Clone, Copy)]
+pub(crate) struct Held<'a> {
+    inputs: &'a [Value],
+    source: &'a [Value],
+    target: &'a [Value],
+}
+
+/// What a half is run on beside the inputs.
+#[derive(Clone, Copy)]
+struct Given<'a> {
+    typing: &'a [Width],
+    constants: &'a [Word],
+    choices: &'a [Word],
+}
+
+/// What the source does on these inputs, constants and one number for each of its `undef`s: its statements in order, and then the
+/// root. Undefined behaviour of one is its effect. It takes as many steps as there are statements.
+pub fn run_source(
+    alloc: Global,
+    rule: &Rule,
+    typing: &Typing,
+    inputs: &List<Value>,
+    constants: &List<Word>,
+    choices: &List<Word>,
+) -> Result<Effect, AllocError>
+    requires rule { IsRule rule.now }
+    requires typing { IsTyping rule.now typing.now }
+    requires inputs { InputsFit rule.now typing.now inputs.now }
+    requires constants { ConstantsFit rule.now typing.now constants.now }
+    requires choices { SourceChoicesFit rule.now typing.now choices.now }
+    ensures { IfOk result (λ effect. SourceGives typing.now constants.now choices.now rule.now inputs.now effect) }
+{
+    let given = Given {
+        typing: typing.as_slice(),
+        constants: constants.as_slice(),
+        choices: choices.as_slice(),
+    };
+    let count = rule.source.len();
+    let Some(values) = source_values(alloc, rule, given, inputs.as_slice(), count)? else {
+        return Ok(Effect::Undefined);
+    };
+    Ok(Effect::Gives(values[count - 1]))
+}
+
+/// What the target does on these inputs, constants and one number for each of its `undef`s: the statements of the source but the
+/// root's, then its own in order, and then the root. Undefined behaviour of one is its effect. It takes as many steps as there are
+/// statements.
+pub fn run_target(
+    alloc: Global,
+    rule: &Rule,
+    typing: &Typing,
+    inputs: &List<Value>,
+    constants: &List<Word>,
+    choices: &List<Word>,
+) -> Result<Effect, AllocError>
+    requires rule { IsRule rule.now }
+    requires typing { IsTyping rule.now typing.now }
+    requires inputs { InputsFit rule.now typing.now inputs.now }
+    requires constants { ConstantsFit rule.now typing.now constants.now }
+    requires choices { TargetChoicesFit rule.now typing.now choices.now }
+    ensures { IfOk result (λ effect. TargetGives typing.now constants.now choices.now rule.now inputs.now effect) }
+{
+    let given = Given {
+        typing: typing.as_slice(),
+        constants: constants.as_slice(),
+        choices: choices.as_slice(),
+    };
+    let inputs = inputs.as_slice();
+    let count = rule.source.len() - 1;
+    let Some(source) = source_values(alloc, rule, given, inputs, count)? else {
+        return Ok(Effect::Undefined);
+    };
+    let Some(values) = target_values(alloc, rule, given, inputs, &source)? else {
+        return Ok(Effect::Undefined);
+    };
+    Ok(Effect::Gives(values[values.len() - 1]))
+}
+
+/// What the first statements of the source, so many, assign, or `None` where one is undefined behaviour.
+fn source_values(
+    alloc: Global,
+    rule: &Rule,
+    given: Given,
+    inputs: &[Value],
+    count: usize,
+) -> Result<Option<Vec<Value>>, AllocError>
+    requires rule { IsRule rule.now }
+    requires typing { IsTyping rule.now given.typing.now }
+    requires inputs { InputsFit rule.now given.typing.now inputs.now }
+    requires count { count ≤ length rule.now.source }
+    ensures { IfOk result (λ values. SourceRan given.entry.typing.now given.entry.constants.now given.entry.choices.now rule.now inputs.now count (option_map (λ v. v.items) values)) }
+{
+    let mut values = Vec::new(alloc);
+    for place in 0..count {
+        let held = Held {
+            inputs,
+            source: &values,
+            target: &[],
+        };
+        match effect_of(given, held, &rule.source.as_slice()[place]) {
+            Effect::Undefined => return Ok(None),
+            Effect::Gives(value) => values.push(value)?,
+        }
+    }
+    Ok(Some(values))
+}
+
+/// What the statements of the target assign after the source's temporaries, or `None` where one is undefined behaviour.
+fn target_values(
+    alloc: Global,
+    rule: &Rule,
+    given: Given,
+    inputs: &[Value],
+    source: &[Value],
+) -> Result<Option<Vec<Value>>, AllocError>
+    requires rule { IsRule rule.now }
+    requires typing { IsTyping rule.now given.typing.now }
+    requires inputs { InputsFit rule.now given.typing.now inputs.now }
+    requires count { length source.now + 1 ≡ length rule.now.source }
+    requires source { ValuesFit given.typing.now rule.now.source source.now }
+    ensures { IfOk result (λ values. TargetRan given.entry.typing.now given.entry.constants.now given.entry.choices.now rule.now inputs.now source.now (option_map (λ v. v.items) values)) }
+{
+    let mut values = Vec::new(alloc);
+    for statement in rule.target.as_slice() {
+        let held = Held {
+            inputs,
+            source,
+            target: &values,
+        };
+        match effect_of(given, held, statement) {
+            Effect::Undefined => return Ok(None),
+            Effect::Gives(value) => values.push(value)?,
+        }
+    }
+    Ok(Some(values))
+}
+
+/// What a statement does, given what the registers hold.
+fn effect_of(given: Given, held: Held, statement: &Statement) -> Effect
+    requires { StatementIsReady given.typing.now (seen held) statement.now }
+    ensures gives { StatementGives given.entry.typing.now given.entry.constants.now given.entry.choices.now (seen held.entry) statement.now result }
+    ensures width { (N : ℕ) → slice_get given.entry.typing.now statement.now.class ≡ Some N → IsEffectOf N result }
+{
+    match statement.op {
+        Op::Binary(opcode, flags, left, right) => evaluate(
+            opcode,
+            flags,
+            width_of(given, statement.class),
+            operand_value(given, held, left),
+            operand_value(given, held, right),
+        ),
+        Op::Copy(operand) => Effect::Gives(operand_value(given, held, operand)),
+    }
+}
+
+/// What an operand gives.
+fn operand_value(given: Given, held: Held, operand: Operand) -> Value
+    requires { (N : ℕ) × OperandIsReady given.typing.now (seen held) N operand }
+    ensures gives { OperandGives given.entry.typing.now given.entry.constants.now given.entry.choices.now (seen held.entry) operand result }
+    ensures width { (N : ℕ) → slice_get given.entry.typing.now operand.class ≡ Some N → IsValueOf N result }
+{
+    let width = width_of(given, operand.class);
+    match operand.value {
+        Argument::Register(register) => register_value(held, register),
+        Argument::Literal(literal) => Value::Bits(fitting(width, residue(width, literal))),
+        Argument::Truth(truth) => Value::Bits(fitting(width, if truth { 1 } else { 0 })),
+    }
+}
+
+/// What a register holds.
+fn register_value(held: Held, register: Register) -> Value
+    requires { IsSome (value_of (seen held) register) }
+    ensures { value_of (seen held.entry) register ≡ Some result }
+{
+    match register {
+        Register::Input(k) => held.inputs[k as usize],
+        Register::Source(k) => held.source[k as usize],
+        Register::Target(k) => held.target[k as usize],
+    }
+}
+
+/// The width of a class.
+fn width_of(given: Given, class: u32) -> Width
+    requires { IsSome (slice_get given.typing.now class) }
+    ensures { slice_get given.entry.typing.now class ≡ Some result }
+{
+    given.typing[class as usize]
+}
+
+/// The literal modulo 2^N.
+#[tactic(auto, unfolding(ops::specs::Integer::residue))]
+fn residue(width: Width, literal: i128) -> u64
+    ensures residue { result ≡ residue width literal }
+    ensures fits { result < 2 ^ width }
+{
+    let modulus = (1u128 << width.bits()) as i128;
+    literal.rem_euclid(modulus) as u64
+}
+
+/// The number as one of `iN`, in which it fits.
+fn fitting(width: Width, number: u64) -> Word
+    requires { number < 2 ^ width }
+    ensures { result ≡ record { width = width; number = number } }
+{
+    Word::wrapped(width, number)
+}

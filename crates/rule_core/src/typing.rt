@@ -1,0 +1,85 @@
+//! The width of a position under a typing.
+
+ghost use Rattle.std.specs.Prelude.{◌≡◌, ◌+◌, ◌<◌, ◌≤◌, length, Some, slice_get, flat_map, MatchResult};
+ghost use Rattle.rule_core.specs.Checks.{IsRule};
+ghost use Rattle.rule_core.specs.Positions.{classes_of, classes_of_statement};
+ghost use Rattle.rule_core.specs.Typing.{IsTyping, width_at};
+
+use crate::rule::{Op, Rule, Statement, Typing};
+use ops::Width;
+
+/// The width of a position of the rule. Positions count results and operands from 0: statement by statement, the source's before
+/// the target's, and of each the result and then the operands from left to right. It takes as many steps as there are statements.
+pub fn width_at(rule: &Rule, typing: &Typing, position: u32) -> Width
+    requires typing { IsTyping rule.now typing.now }
+    requires position { position < length (classes_of rule.now) }
+    ensures { width_at rule.now typing.now position ≡ Some result }
+{
+    typing.as_slice()[class_at(rule, position) as usize]
+}
+
+/// How many positions the rule has.
+pub fn positions(rule: &Rule) -> u32
+    requires { IsRule rule.now }
+    ensures { result ≡ length (classes_of rule.now) }
+{
+    positions_of(rule.source.as_slice()) + positions_of(rule.target.as_slice())
+}
+
+/// How many positions some statements have.
+fn positions_of(statements: &[Statement]) -> u32
+    requires { length statements.now ≤ 32 }
+    ensures count { result ≡ length (flat_map classes_of_statement statements.now) }
+    ensures few { result ≤ 128 }
+{
+    let mut count = 0;
+    for statement in statements {
+        count += match statement.op {
+            Op::Binary(_, _, _, _) => 3,
+            Op::Copy(_) => 2,
+        };
+    }
+    count
+}
+
+/// The class that a position of the rule keeps.
+pub fn class_at(rule: &Rule, position: u32) -> u32
+    requires { position < length (classes_of rule.now) }
+    ensures { slice_get (classes_of rule.now) position ≡ Some result }
+{
+    match class_among(rule.source.as_slice(), position as usize) {
+        Ok(class) => class,
+        Err(rest) => match class_among(rule.target.as_slice(), rest) {
+            Ok(class) => class,
+            Err(_) => unreachable!(),
+        },
+    }
+}
+
+/// The class of a position among those of some statements, or the place that it has behind them.
+fn class_among(statements: &[Statement], position: usize) -> Result<u32, usize>
+    ensures { MatchResult result (λ class. slice_get (flat_map classes_of_statement statements.now) position ≡ Some class) (λ rest. position ≡ length (flat_map classes_of_statement statements.now) + rest) }
+{
+    let mut rest = position;
+    for statement in statements {
+        rest = match class_in(statement, rest) {
+            Ok(class) => return Ok(class),
+            Err(rest) => rest,
+        };
+    }
+    Err(rest)
+}
+
+/// The same among the positions of one statement.
+fn class_in(statement: &Statement, position: usize) -> Result<u32, usize>
+    ensures { MatchResult result (λ class. slice_get (classes_of_statement statement.now) position ≡ Some class) (λ rest. position ≡ length (classes_of_statement statement.now) + rest) }
+{
+    match (position, statement.op) {
+        (0, _) => Ok(statement.class),
+        (1, Op::Binary(_, _, left, _)) => Ok(left.class),
+        (2, Op::Binary(_, _, _, right)) => Ok(right.class),
+        (_, Op::Binary(_, _, _, _)) => Err(position - 3),
+        (1, Op::Copy(operand)) => Ok(operand.class),
+        (_, Op::Copy(_)) => Err(position - 2),
+    }
+}
