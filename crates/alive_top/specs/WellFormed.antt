@@ -20,7 +20,7 @@ OperandFits f k width (operands.Number n) = (n.width ≡ width) × (n.number < 2
 OperandFits f k width operands.Undef = Unit {0}
 OperandFits f k width operands.Poison = Unit {0}
 
--- the instruction divides by nothing, and both operands are of the result's width
+-- the instruction is no division, and both operands are of the result's width
 abbrev pub OpFits : Function → ℕ → ℕ → Op → Type 0
 OpFits f k width (Binary op flags a b) = OperandFits f k width a × OperandFits f k width b × ¬ IsDivision op
 
