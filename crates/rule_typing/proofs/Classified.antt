@@ -1,0 +1,56 @@
+-- Positions that are numbered, merged along lines and renumbered in order are classified.
+use Rattle.std.proofs.Common.{◌≡◌, ℕ, ◌+◌, ◌^◌, ◌<◌, List, [], ◌∷◌, ◌++◌, length, Some, refl, sym, ap, subst, ◌∙◌, arith, length-append}
+use Rattle.std.specs.Prelude.{slice_get, flat_map}
+use Rattle.std.proofs.lemmas.List.{length-map}
+use Rattle.rule_core.specs.declared.rule.Rule.{Rule}
+use Rattle.rule_core.specs.declared.rule.Statement.{Statement}
+use Rattle.rule_core.specs.Positions.{Line, operands_of, classes_of, classes_of_statement}
+use Rattle.rule_core.specs.Checks.{IsRule}
+use Rattle.rule_typing.specs.Relabelling.{mapped, numbered, IsRenumbered}
+use Rattle.rule_typing.specs.Classes.{Joined, line, itself, turned, along, IsInOrder, IsClassified}
+use Rattle.rule_typing.specs.Splits.{IsMerged}
+use Rattle.rule_typing.proofs.Images.{get_from_map}
+use Rattle.rule_typing.proofs.Relabelled.{class_is_position, classes_of-mapped, numbered-mapped, numbered_alike, alike_numbered}
+use Rattle.rule_typing.proofs.MappedLines.{line_map}
+
+-- a rule has fewer than 2^32 positions
+count_classes : (xs : List Statement) → length (flat_map classes_of_statement xs) ≡ length xs + length (flat_map (λ s. operands_of s.op) xs)
+count_classes [] = refl
+count_classes (s ∷ xs) =
+    omega (arith, count_classes xs, length-append (classes_of_statement s) (flat_map classes_of_statement xs), length-append (operands_of s.op) (flat_map (λ (t : Statement). operands_of t.op) xs), length-map (operands_of s.op) (λ o. o.class))
+
+pub few_positions : (rule : Rule) → IsRule rule → length (classes_of rule) < 2 ^ 32
+few_positions rule checked = omega (arith, count_classes (rule.source ++ rule.target), length-append rule.source rule.target, checked.few_in_source, checked.few_in_target, checked.few_operands)
+
+-- classes that are joined have one number once each line's are one
+one_number : (rule : Rule) (f : ℕ → ℕ) → ((c d : ℕ) → Line (mapped f rule) c d → c ≡ d) → (p q : ℕ) → Joined rule p q → f p ≡ f q
+one_number rule f closed p q (line {c} {d} on) = closed (f c) (f d) (line_map f rule c d on)
+one_number rule f closed p q (itself {c}) = refl
+one_number rule f closed p q (turned {c} {d} h) = sym (one_number rule f closed c d h)
+one_number rule f closed p q (along {c} {d} {e} h i) = one_number rule f closed c d h ∙ one_number rule f closed d e i
+
+module _ (old base joined new : Rule) (is_base : base ≡ numbered old) (merged : IsMerged base joined) (renumbered : IsRenumbered joined new) where
+  pub rest : numbered new ≡ numbered old
+  rest =
+      ap numbered renumbered.is ∙ numbered-mapped renumbered.to joined ∙ ap numbered merged.is ∙ numbered-mapped merged.to base ∙ ap numbered is_base ∙ numbered_alike (numbered old) old (alike_numbered old)
+
+  -- the number of a position
+  number_of : (p c : ℕ) → slice_get (classes_of new) p ≡ Some c → c ≡ renumbered.to (merged.to p)
+  number_of p c at =
+      let (b, at_b, is_c) = get_from_map renumbered.to (classes_of joined) p c (sym (ap (λ l. slice_get l p) (ap classes_of renumbered.is ∙ classes_of-mapped renumbered.to joined)) ∙ at) in
+      let (a, at_a, is_b) = get_from_map merged.to (classes_of base) p b (sym (ap (λ l. slice_get l p) (ap classes_of merged.is ∙ classes_of-mapped merged.to base)) ∙ at_b) in
+      let same : a ≡ p = class_is_position old p a (ap (λ (r : Rule). slice_get (classes_of r) p) (sym is_base) ∙ at_a) in
+      sym is_c ∙ ap renumbered.to (sym is_b ∙ ap merged.to same)
+
+  pub classified : ((c d : ℕ) → Line joined c d → c ≡ d) → IsInOrder (classes_of new) → IsClassified new
+  classified closed order =
+      let same : base ≡ numbered new = is_base ∙ sym rest in
+      record {
+        classes = λ p q c d at_p at_q. (
+          λ e. subst (λ r. Joined r p q) same (merged.joined p q (renumbered.apart (merged.to p) (merged.to q) (sym (number_of p c at_p) ∙ e ∙ number_of q d at_q))),
+          λ h. number_of p c at_p
+              ∙ ap renumbered.to (one_number base merged.to (subst (λ r. (a b : ℕ) → Line r a b → a ≡ b) merged.is closed) p q (subst (λ r. Joined r p q) (sym same) h))
+              ∙ sym (number_of q d at_q),
+        );
+        numbers = order;
+      }

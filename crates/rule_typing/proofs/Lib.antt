@@ -1,0 +1,17 @@
+pub mod Agreeing
+pub mod AlikeRules
+pub mod Among
+pub mod Choices
+pub mod Classified
+pub mod Combined
+pub mod Images
+pub mod Larger
+pub mod MappedLines
+pub mod Merging
+pub mod NameLines
+pub mod Numbering
+pub mod Past
+pub mod Relabelled
+pub mod Sample
+pub mod Seams
+pub mod Typed

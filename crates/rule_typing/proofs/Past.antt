@@ -1,0 +1,73 @@
+-- The least number past those of lists, one after the other.
+use Rattle.std.proofs.Common.{◌≡◌, inl, inr, ℕ, ◌+◌, ◌<◌, ◌≤◌, max, List, [], ◌∷◌, ◌++◌, length, get_or, take, refl, sym, ap, subst, ◌∙◌, arith, append-nil}
+use Rattle.std.specs.Prelude.{Contains, flat_map, Some}
+use Rattle.std.specs.Ordering.{nat_cmp, ord_max}
+use Rattle.std.proofs.lemmas.Bool.{cases_eq, cases_lt}
+use Rattle.std.proofs.lemmas.Bool.Decides.{nat_tests}
+use Rattle.std.proofs.lemmas.List.{take_more}
+use Rattle.std.proofs.lemmas.Grind.{flat_map-append}
+use Rattle.std.proofs.lemmas.Option.{slice_get-get_or}
+use Rattle.std.proofs.lemmas.List.Elements.{Contains-append_left, Contains-append_right, Contains-append_cases}
+use Rattle.rule_core.specs.declared.rule.Rule.{Rule}
+use Rattle.rule_core.specs.declared.rule.Statement.{Statement}
+use Rattle.rule_core.specs.Positions.{classes_of_statement, classes_of}
+use Rattle.rule_core.proofs.Members.{Contains-from_get}
+use Rattle.rule_typing.specs.Classes.{IsClassified, HasClasses}
+use Rattle.rule_typing.specs.Fitting.{IsPast}
+
+past_none : IsPast [] 0
+past_none = record { past = λ c (k, within, is). absurd (omega arith); least = λ c less. absurd (omega arith) }
+
+pub past_one : (a n : ℕ) → n ≡ a + 1 → IsPast (a ∷ []) n
+past_one a n is = record {
+  past = λ c (k, within, e). let h : k ≡ 0 = omega arith in let same : a ≡ c = subst (λ j. get_or (a ∷ []) j c ≡ c) h e in omega arith;
+  least = λ c less. (a, (0, omega arith, refl), omega arith);
+}
+
+pub past_both : (xs ys : List ℕ) (m n k : ℕ) → IsPast xs m → IsPast ys n → k ≡ max m n → IsPast (xs ++ ys) k
+past_both xs ys m n k p q is = record {
+  past = λ c among. elim (Contains-append_cases xs ys c among) [ inl left ↦ let h = p.past c left in omega arith | inr right ↦ let h = q.past c right in omega arith ];
+  least = λ c less. elim (cases_lt c m) [
+    | inl within ↦ let (d, among, at_most) = p.least c within in (d, Contains-append_left xs ys d among, at_most)
+    | inr past ↦ let (d, among, at_most) = q.least c (omega arith) in (d, Contains-append_right xs ys d among, at_most)
+  ];
+}
+
+pub past_next : (xs : List Statement) (i : ℕ) (s : Statement) (m n k : ℕ) → i < length xs → s ≡ get_or xs i s → IsPast (flat_map classes_of_statement (take i xs)) m → IsPast (classes_of_statement s) n → k ≡ max m n
+    → IsPast (flat_map classes_of_statement (take (i + 1) xs)) k
+past_next xs i s m n k within is p q most =
+    rw (take_more xs i s within, ← is, flat_map-append classes_of_statement (take i xs) (s ∷ []), append-nil (classes_of_statement s))
+    (past_both (flat_map classes_of_statement (take i xs)) (classes_of_statement s) m n k p q most)
+
+-- the classes of a rule that keeps its classes are all numbers below the least one past them
+pub all_below : (rule : Rule) (n : ℕ) → IsClassified rule → IsPast (classes_of rule) n → HasClasses rule n
+all_below rule n classified p c = (
+  p.past c,
+  λ less.
+      let (d, (k, within, is), at_most) = p.least c less in
+      elim (cases_eq c d) [
+        | inl same ↦ subst (Contains (classes_of rule)) (sym same) (k, within, is)
+        | inr other ↦
+            let (q, before, there) = classified.numbers k d c (slice_get-get_or (classes_of rule) k d within ∙ ap (λ x. Some x) is) (omega arith) in
+            Contains-from_get (classes_of rule) q c there
+      ],
+)
+
+pub past_two : (r x n : ℕ) → n ≡ max r x + 1 → IsPast (r ∷ x ∷ []) n
+past_two r x n is = past_both (r ∷ []) (x ∷ []) (r + 1) (x + 1) n (past_one r (r + 1) refl) (past_one x (x + 1) refl) (omega arith)
+
+pub past_three : (r x y n : ℕ) → n ≡ max (max r x) y + 1 → IsPast (r ∷ x ∷ y ∷ []) n
+past_three r x y n is = past_both (r ∷ x ∷ []) (y ∷ []) (max r x + 1) (y + 1) n (past_two r x (max r x + 1) refl) (past_one y (y + 1) refl) (omega arith)
+
+other_greater : (a b : ℕ) → a < b → ord_max nat_cmp a b ≡ b
+other_greater a b less = grind (arith, nat_tests)
+
+first_greater : (a b : ℕ) → b ≤ a → ord_max nat_cmp a b ≡ max a b
+first_greater a b most = grind (arith, nat_tests)
+
+-- what `max` answers at numbers of 64 bits
+pub greater : (a b : ℕ) → ord_max nat_cmp a b ≡ max a b
+greater a b = elim (cases_lt a b) [
+  | inl less ↦ let e : max a b ≡ b = omega arith in other_greater a b less ∙ sym e
+  | inr most ↦ first_greater a b most
+]

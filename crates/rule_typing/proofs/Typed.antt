@@ -1,0 +1,102 @@
+-- Where a rule keeps its classes, widths are a typing exactly where there is one for each class, and each class may have its own.
+use Rattle.std.proofs.Common.{◌≡◌, ◌↔◌, inl, inr, ℕ, suc, ◌+◌, List, [], ◌∷◌, ◌++◌, length, map, get_or, Some, refl, sym, ap, subst, ◌∙◌, arith, add-zero, add_assoc}
+use Rattle.std.specs.Prelude.{slice_get, Contains, flat_map}
+use Rattle.std.proofs.lemmas.Bool.{cases_lt}
+use Rattle.std.proofs.lemmas.Grind.{flat_map-append}
+use Rattle.std.proofs.lemmas.Option.{slice_get-get_or, get_or_from_slice_get}
+use Rattle.rule_core.specs.declared.rule.Rule.{Rule}
+use Rattle.rule_core.specs.declared.rule.Statement.{Statement}
+use Rattle.rule_core.specs.declared.rule.Op.{Op}
+use Rattle.rule_core.specs.declared.rule.Op.TheVariants.{Binary, Copy}
+use Rattle.rule_core.specs.Positions.{operands_of, classes_of_statement, classes_of, Line}
+use Rattle.rule_core.specs.Typing.{IsTyping}
+use Rattle.rule_core.proofs.Members.{Contains-from_get, get-append_left, get-append_right}
+use Rattle.rule_typing.specs.Relabelling.{mapped_op, mapped_statement, mapped, numbered_op, numbered_statement, numbered_statements, numbered}
+use Rattle.rule_typing.specs.Classes.{IsClassified, HasClasses, line}
+use Rattle.rule_typing.specs.Fitting.{MayHaveWidth}
+use Rattle.rule_typing.proofs.Relabelled.{class_is_position, count_positions}
+use Rattle.rule_typing.proofs.MappedLines.{from_line_map, line_classes}
+
+-- a map that gives each position its class makes the rule of the numbered one
+restored_op : (f : ℕ → ℕ) (n : ℕ) (op : Op) → ((k c : ℕ) → slice_get (map (λ o. o.class) (operands_of op)) k ≡ Some c → f (n + k) ≡ c) → mapped_op f (numbered_op n op) ≡ op
+restored_op f n (Binary op flags a b) gives =
+    let left : f n ≡ a.class = ap f (sym (add-zero n)) ∙ gives 0 a.class refl in
+    let right : f (n + 1) ≡ b.class = gives 1 b.class refl in
+    rw (left, right) refl
+restored_op f n (Copy a) gives = let left : f n ≡ a.class = ap f (sym (add-zero n)) ∙ gives 0 a.class refl in rw left refl
+
+restored_statement : (f : ℕ → ℕ) (n : ℕ) (s : Statement) → ((k c : ℕ) → slice_get (classes_of_statement s) k ≡ Some c → f (n + k) ≡ c) → mapped_statement f (numbered_statement n s) ≡ s
+restored_statement f n s gives =
+    let result : f n ≡ s.class = ap f (sym (add-zero n)) ∙ gives 0 s.class refl in
+    let op : mapped_op f (numbered_op (n + 1) s.op) ≡ s.op
+    = restored_op f (n + 1) s.op (λ k c at. let same : n + 1 + k ≡ n + suc k = omega arith in ap f same ∙ gives (suc k) c at) in
+    rw (result, op) refl
+
+restored_statements : (f : ℕ → ℕ) (n : ℕ) (xs : List Statement) → ((k c : ℕ) → slice_get (flat_map classes_of_statement xs) k ≡ Some c → f (n + k) ≡ c) → map (mapped_statement f) (numbered_statements n xs) ≡ xs
+restored_statements f n [] gives = refl
+restored_statements f n (s ∷ xs) gives =
+    let rest = flat_map classes_of_statement xs in
+    let count = length (classes_of_statement s) in
+    let here : mapped_statement f (numbered_statement n s) ≡ s
+    = restored_statement f n s (λ k c at. gives k c (get-append_left (classes_of_statement s) rest k c at)) in
+    let later : map (mapped_statement f) (numbered_statements (n + count) xs) ≡ xs
+    = restored_statements f (n + count) xs (λ k c at. ap f (add_assoc n count k) ∙ gives (count + k) c (get-append_right (classes_of_statement s) rest k ∙ at)) in
+    rw (here, later) refl
+
+class_at : Rule → ℕ → ℕ
+class_at rule k = get_or (classes_of rule) k 0
+
+restored : (rule : Rule) → mapped (class_at rule) (numbered rule) ≡ rule
+unfolding class_at
+restored rule =
+    let source = flat_map classes_of_statement rule.source in
+    let target = flat_map classes_of_statement rule.target in
+    let parts : classes_of rule ≡ source ++ target = flat_map-append classes_of_statement rule.source rule.target in
+    let first : map (mapped_statement (class_at rule)) (numbered_statements 0 rule.source) ≡ rule.source
+    = restored_statements (class_at rule) 0 rule.source (λ k c at. let same : 0 + k ≡ k = omega arith in ap (class_at rule) same ∙ get_or_from_slice_get (classes_of rule) k c 0 (ap (λ l. slice_get l k) parts ∙ get-append_left source target k c at)) in
+    let second : map (mapped_statement (class_at rule)) (numbered_statements (length source) rule.target) ≡ rule.target
+    = restored_statements (class_at rule) (length source) rule.target (λ k c at. get_or_from_slice_get (classes_of rule) (length source + k) c 0 (ap (λ l. slice_get l (length source + k)) parts ∙ get-append_right source target k ∙ at)) in
+    rw (first, second) refl
+
+-- a class of the numbered rule is a position, where the rule keeps its class
+kept_at : (rule : Rule) (p : ℕ) → Contains (classes_of (numbered rule)) p → slice_get (classes_of rule) p ≡ Some (class_at rule p)
+unfolding class_at
+kept_at rule p (k, within, is) =
+    let same : p ≡ k = class_is_position rule k p (slice_get-get_or (classes_of (numbered rule)) k p within ∙ ap (λ x. Some x) is) in
+    slice_get-get_or (classes_of rule) p 0 (omega (arith, count_positions rule))
+
+pub on_one_line : (rule : Rule) → IsClassified rule → (c d : ℕ) → Line rule c d → c ≡ d
+on_one_line rule classified c d on =
+    let (p, q, before, c_is, d_is) = from_line_map (class_at rule) (numbered rule) c d (subst (λ r. Line r c d) (sym (restored rule)) on) in
+    let ends = line_classes (numbered rule) p q before in
+    c_is ∙ (classified.classes p q (class_at rule p) (class_at rule q) (kept_at rule p ends.0) (kept_at rule q ends.1)).1 (line before) ∙ sym d_is
+
+pub typed : (rule : Rule) (widths : List ℕ) (n : ℕ) → IsClassified rule → HasClasses rule n → length widths ≡ n → ((c N : ℕ) → slice_get widths c ≡ Some N → MayHaveWidth rule c N) → IsTyping rule widths
+typed rule widths n classified counted same may =
+    record {
+      widths = λ N (c, within, is). let h = may c N (slice_get-get_or widths c N within ∙ ap (λ x. Some x) is) in (h.0, h.1);
+      classes = λ c among. let less = (counted c).0 among in omega arith;
+      no_more = λ c less. (counted c).1 (omega arith);
+      same = λ c d on. ap (slice_get widths) (on_one_line rule classified c d on);
+      operands = λ o among N at. (may o.class N at).2 o among refl;
+    }
+
+pub count_widths : (rule : Rule) (widths : List ℕ) (n : ℕ) → HasClasses rule n → IsTyping rule widths → length widths ≡ n
+count_widths rule widths n counted typing =
+    elim (cases_lt (length widths) n) [
+      | inl less ↦ let h = typing.classes (length widths) ((counted (length widths)).1 less) in omega arith
+      | inr most ↦ elim (cases_lt n (length widths)) [
+        | inl less ↦ let h = (counted n).0 (typing.no_more n less) in omega arith
+        | inr most' ↦ omega arith
+      ]
+    ]
+
+pub may_have : (rule : Rule) (widths : List ℕ) → IsTyping rule widths → (c N : ℕ) → slice_get widths c ≡ Some N → MayHaveWidth rule c N
+may_have rule widths typing c N at =
+    let range = typing.widths N (Contains-from_get widths c N at) in
+    (range.0, range.1, λ o among is. typing.operands o among N (subst (λ k. slice_get widths k ≡ Some N) (sym is) at))
+
+-- the two tests: as many widths as classes, and each class may have its own
+pub both_tests : (rule : Rule) (widths : List ℕ) (n : ℕ) → IsClassified rule → HasClasses rule n → ((length widths ≡ n) × ((c N : ℕ) → slice_get widths c ≡ Some N → MayHaveWidth rule c N)) ↔ IsTyping rule widths
+both_tests rule widths n classified counted =
+    (λ h. typed rule widths n classified counted h.0 h.1, λ typing. (count_widths rule widths n counted typing, may_have rule widths typing))

@@ -1,0 +1,11 @@
+use Rattle.rule_core.specs.Positions.{classes_of}
+use Rattle.rule_typing.specs.Splits.{IsMerged}
+use Rattle.rule_typing.proofs.Merging.{total}
+use Rattle.rule_typing.proofs.classes.join_lines.Given as goal
+
+abbrev pub invariant-loop-a : goal.invariant-loop-a
+invariant-loop-a l = IsMerged l.initial.rule l.rule
+
+-- each merge gives a smaller number to a position
+abbrev pub decreases-loop-a : goal.decreases-loop-a
+decreases-loop-a l = total (classes_of l.rule)

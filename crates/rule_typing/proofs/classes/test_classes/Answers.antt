@@ -1,0 +1,38 @@
+use Rattle.std.proofs.Common.{◌≤◌, ℕ, arith}
+use Rattle.rule_core.specs.declared.rule.Rule.{Rule}
+use Rattle.rule_typing.specs.Classes.{HasClasses}
+use Rattle.rule_typing.specs.Faults.{HasTooManyClasses}
+use Rattle.rule_typing.proofs.Among.{holds, fails}
+use Rattle.rule_typing.proofs.classes.test_classes.Goals as goal
+
+few : (rule : Rule) (count : ℕ) → HasClasses rule count → count ≤ 8 → HasTooManyClasses rule → ⊥
+few rule count counted at_most (c, among, most) = let less = (counted c).0 among in omega arith
+
+pub returns-then-count-gt-MOST_CLASSES : goal.returns-then-count-gt-MOST_CLASSES
+returns-then-count-gt-MOST_CLASSES c = record { ok = tt; fault = (8, (c.requires.count 8).1 c.if-count-gt-MOST_CLASSES.true, omega arith) }
+
+pub returns-then-not-has_typing : goal.returns-then-not-has_typing
+returns-then-not-has_typing c =
+    record { ok = tt; fault = (few c.args.rule.now c.args.count c.requires.count c.if-count-gt-MOST_CLASSES.false, c.if-not-has_typing.ensures.none) }
+
+pub returns-then-has_open_class : goal.returns-then-has_open_class
+returns-then-has_open_class c =
+    record {
+      ok = tt;
+      fault = (
+        few c.args.rule.now c.args.count c.requires.count c.if-count-gt-MOST_CLASSES.false,
+        λ none. let (widths, typing) = c.if-not-has_typing.ensures.some in none widths typing,
+        holds c.has_open_class.result c.has_open_class.ensures c.if-has_open_class.true,
+      );
+    }
+
+pub returns : goal.returns
+returns c =
+    record {
+      ok = record {
+        few = few c.args.rule.now c.args.count c.requires.count c.if-count-gt-MOST_CLASSES.false;
+        typed = λ none. let (widths, typing) = c.if-not-has_typing.ensures.some in none widths typing;
+        closed = fails c.has_open_class.result c.has_open_class.ensures c.if-has_open_class.false;
+      };
+      fault = tt;
+    }

@@ -1,0 +1,6 @@
+use Rattle.std.proofs.Common.{◌≡◌, ◌++◌, map, take, drop}
+use Rattle.rule_typing.specs.Relabelling.{mapped_statement, renamed}
+use Rattle.rule_typing.proofs.relabelling.Renaming.statements.Given as goal
+
+abbrev pub invariant-loop-place : goal.invariant-loop-place
+invariant-loop-place l = l.statements ≡ take l.place (map (mapped_statement (renamed l.self)) l.initial.statements) ++ drop l.place l.initial.statements

@@ -1,0 +1,60 @@
+-- The type classes of a rule: which positions are of one class, and how the classes are numbered.
+use Rattle.std.specs.Prelude.{◌≡◌, ◌↔◌, ℕ, ◌<◌, ◌⊎◌, Bool, List, Some, Contains, slice_get}
+use Rattle.rule_core.specs.declared.rule.Rule.{Rule}
+use Rattle.rule_core.specs.declared.rule.Statement.{Statement}
+use Rattle.rule_core.specs.declared.rule.Operand.{Operand}
+use Rattle.rule_core.specs.declared.rule.Argument.TheVariants as arguments
+use Rattle.rule_core.specs.declared.rule.Register.{Register}
+use Rattle.rule_core.specs.Positions.{operands_of, operands_in, classes_of, Line}
+use Rattle.rule_typing.specs.Relabelling.{numbered}
+
+-- Two classes are joined where lines of the table lead from one to the other: the least equivalence that joins what one line joins.
+pub data Joined (rule : Rule) : ℕ → ℕ → Type 0 where
+  line : {c d : ℕ} → Line rule c d → Joined rule c d
+  itself : {c : ℕ} → Joined rule c c
+  turned : {c d : ℕ} → Joined rule c d → Joined rule d c
+  along : {c d e : ℕ} → Joined rule c d → Joined rule d e → Joined rule c e
+
+-- Two positions are of one class where they are joined in the numbered rule, in which each position is a class of its own.
+abbrev pub SameClass : Rule → ℕ → ℕ → Type 0
+SameClass rule p q = Joined (numbered rule) p q
+
+-- numbers are given from 0 in the order in which they first stand: all smaller ones stand before a number
+abbrev pub IsInOrder : List ℕ → Type 0
+IsInOrder numbers = (p c d : ℕ) → slice_get numbers p ≡ Some c → d < c → (q : ℕ) × (q < p) × (slice_get numbers q ≡ Some d)
+
+-- the rule keeps its classes, numbered from 0 in the order in which they first appear
+pub record IsClassified (rule : Rule) : Type 0 where
+  -- two positions keep one number exactly where they are of one class
+  pub classes : (p q c d : ℕ) → slice_get (classes_of rule) p ≡ Some c → slice_get (classes_of rule) q ≡ Some d → (c ≡ d) ↔ SameClass rule p q
+  pub numbers : IsInOrder (classes_of rule)
+
+-- the numbers of the rule's classes are those below n
+abbrev pub HasClasses : Rule → ℕ → Type 0
+HasClasses rule n = (c : ℕ) → Contains (classes_of rule) c ↔ (c < n)
+
+-- the operand, of class c, has the width N in each typing: its type is written, or it is `true` or `false`
+abbrev pub FixesWidth : ℕ → ℕ → Operand → Type 0
+FixesWidth c N o = (o.class ≡ c) × ((o.written ≡ Some N) ⊎ (((b : Bool) × (o.value ≡ arguments.Truth b)) × (N ≡ 1)))
+
+-- one of these operands does
+abbrev pub Fixes : List Operand → ℕ → ℕ → Type 0
+Fixes operands c N = (o : Operand) × Contains operands o × FixesWidth c N o
+
+abbrev pub FixesClass : Rule → ℕ → ℕ → Type 0
+FixesClass rule c N = Fixes (operands_in rule) c N
+
+-- the operand is a register, of class c
+abbrev pub IsRegisterOf : ℕ → Operand → Type 0
+IsRegisterOf c o = (o.class ≡ c) × ((r : Register) × (o.value ≡ arguments.Register r))
+
+-- one of these operands is
+abbrev pub ReadsClass : List Operand → ℕ → Type 0
+ReadsClass operands c = (o : Operand) × Contains operands o × IsRegisterOf c o
+
+-- a register that the statement assigns or reads has the class c
+abbrev pub NamesClass : ℕ → Statement → Type 0
+NamesClass c s = (s.class ≡ c) ⊎ ReadsClass (operands_of s.op) c
+
+abbrev pub IsNamedInSource : Rule → ℕ → Type 0
+IsNamedInSource rule c = (s : Statement) × Contains rule.source s × NamesClass c s

@@ -1,0 +1,13 @@
+//! What is answered where typings are asked for.
+
+use lists::List;
+use rule_core::Typing;
+
+/// The typings of a rule.
+#[derive(Debug, Drop)]
+pub enum Typings {
+    /// All of them, in lexicographic order.
+    All(List<Typing>),
+    /// There are more than were asked for.
+    TooMany,
+}

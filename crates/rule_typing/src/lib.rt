@@ -1,0 +1,22 @@
+//! The type classes of rules, and their typings.
+//!
+//! The definitions stand in `specs/`: `Classes` says which positions are of one class and how the classes are numbered, `Faults` why
+//! a rule has no typing worth a trial, and `Enumeration` which typings there are over a list of widths.
+#![tactic(auto)]
+
+mod answer;
+mod classes;
+mod combinations;
+mod enumeration;
+mod fits;
+mod fixed;
+mod lines;
+mod relabelling;
+
+pub use answer::Typings;
+pub use classes::{ClassFault, MOST_CLASSES, classify};
+pub use enumeration::typings;
+pub use fits::is_typing;
+
+#[cfg(test)]
+mod tests;
