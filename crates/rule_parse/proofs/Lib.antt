@@ -1,0 +1,10 @@
+pub mod Decimals
+pub mod Loops
+pub mod Nexts
+pub mod Pieces
+pub mod Readers
+pub mod Readings
+pub mod Spellings
+pub mod Steps
+pub mod Tokenising
+pub mod Verdicts

@@ -1,0 +1,33 @@
+-- Steps that may fail, and tests.
+use Rattle.std.proofs.Common.{◌≡◌, Bool, true, false, cond, Some, None, Ok, Err, Result, refl, inl, inr, ◌⊎◌, subst}
+use Rattle.rule_parse.specs.declared.fault.TextFault.{TextFault}
+use Rattle.rule_parse.specs.Giving.{◌>>=◌}
+
+abbrev pub done : {A : Type 0} → A → Result A TextFault
+done x = Ok x
+
+-- what a step that did not fail read
+pub bind_ok : {A B : Type 0} (r : Result A TextFault) (f : A → Result B TextFault) (y : B) → (r >>= f) ≡ Ok y → (x : A) × (r ≡ Ok x) × (f x ≡ Ok y)
+bind_ok (Ok x) f y e = (x, refl, e)
+bind_ok (Err d) f y e = absurd cc
+
+pub ok_is : {A : Type 0} (x y : A) → done x ≡ done y → x ≡ y
+ok_is x y e = cc
+
+-- what holds of the value that is made holds of the one that is read
+pub read_as : {A : Type 0} (P : A → Type 0) (x y : A) → done x ≡ done y → P x → P y
+read_as P x y e h = subst P (ok_is x y e) h
+
+-- a test that did not fail
+pub tested : {A : Type 0} (b : Bool) (x y : A) (d : TextFault) → cond b (done x) (Err d) ≡ Ok y → (b ≡ true) × (x ≡ y)
+tested true x y d e = (refl, cc)
+tested false x y d e = absurd cc
+
+pub guarded : {A : Type 0} (b : Bool) (x y : A) → cond b (Some x) None ≡ Some y → (b ≡ true) × (x ≡ y)
+guarded true x y e = (refl, cc)
+guarded false x y e = absurd cc
+
+-- which way a test went
+pub chosen : {A : Type 0} (b : Bool) (x y z : A) → cond b x y ≡ z → ((b ≡ true) × (x ≡ z)) ⊎ ((b ≡ false) × (y ≡ z))
+chosen true x y z e = inl (refl, e)
+chosen false x y z e = inr (refl, e)

@@ -1,0 +1,59 @@
+-- A text has one list of rules or one fault.
+use Rattle.std.proofs.Common.{◌≡◌, ℕ, List, Result, Ok, Err, length, refl, sym, ap, ◌∙◌, ◌⊎◌, inl, inr, arith}
+use Rattle.std.specs.Prelude.{IfOk, IfErr}
+use Rattle.std.proofs.Math.Nat.{le_refl}
+use Rattle.scan.specs.Laws.{OneTokenAtAPlace}
+use Rattle.rule_parse.specs.declared.fault.ParseError.{ParseError}
+use Rattle.rule_parse.specs.declared.fault.ParseError.TheVariants.{Refused, NoMemory}
+use Rattle.rule_parse.specs.declared.fault.TextFault.{TextFault}
+use Rattle.rule_parse.specs.declared.raw.RawRule.{RawRule}
+use Rattle.rule_parse.specs.Giving.{Gives}
+use Rattle.rule_parse.specs.Laws.{TextsHaveOneReadingOrFault}
+use Rattle.rule_parse.specs.Parsing.{all_rules}
+use Rattle.rule_parse.specs.Refusing.{IfRefused}
+use Rattle.rule_parse.specs.Text.{IsWritten, IsTextFault}
+use Rattle.rule_parse.specs.Tokens.{Token, AreTokens}
+use Rattle.rule_parse.proofs.Readers.{one_reading, has_tokens}
+use Rattle.rule_parse.proofs.Readings.{rules_at-is}
+use Rattle.rule_parse.proofs.Spellings.{rules_at-of}
+use Rattle.rule_parse.proofs.Steps.{ok_is}
+
+-- what is read of a text's tokens
+abbrev IsRead : List ℕ → Result (List RawRule) TextFault → Type 0
+IsRead text r = (tokens : List Token) × (last : ℕ) × AreTokens text tokens last × (all_rules last tokens ≡ r)
+
+one_read : OneTokenAtAPlace → (text : List ℕ) (r s : Result (List RawRule) TextFault) → IsRead text r → IsRead text s → r ≡ s
+one_read one text r s (tokens, last, are, is) (tokens', last', are', is') =
+    let same = one_reading one text are (omega arith) tokens' last' are' in
+    sym is ∙ ap (λ (ts : List Token). all_rules last ts) same.0 ∙ ap (λ (l : ℕ). all_rules l tokens') same.1 ∙ is'
+
+written_read : (text : List ℕ) (raws : List RawRule) → IsWritten text raws → IsRead text (Ok raws)
+written_read text raws w = (w.tokens, w.last, w.are_tokens, rules_at-of (length w.tokens) w.last raws w.tokens w.spelled (le_refl _))
+
+fault_read : (text : List ℕ) (fault : TextFault) → IsTextFault text fault → IsRead text (Err fault)
+fault_read text fault f = (f.tokens, f.last, f.are_tokens, f.found)
+
+abbrev err_of : TextFault → Result (List RawRule) TextFault
+err_of fault = Err fault
+
+abbrev ok_of : List RawRule → Result (List RawRule) TextFault
+ok_of raws = Ok raws
+
+pub texts : OneTokenAtAPlace → TextsHaveOneReadingOrFault
+texts one = record {
+  some = λ text. let t = has_tokens text in found text t.0 t.1 t.2 (all_rules t.1 t.0) refl;
+  one_reading = λ text a b h k. ok_is a b (one_read one text (Ok a) (Ok b) (written_read text a h) (written_read text b k));
+  one_fault = λ text a b h k. let e : err_of a ≡ err_of b = one_read one text (Err a) (Err b) (fault_read text a h) (fault_read text b k) in cc;
+  not_both = λ text raws fault h k. let e : ok_of raws ≡ err_of fault = one_read one text (Ok raws) (Err fault) (written_read text raws h) (fault_read text fault k) in cc;
+}
+  where
+    found : (text : List ℕ) (tokens : List Token) (last : ℕ) → AreTokens text tokens last → (r : Result (List RawRule) TextFault) → all_rules last tokens ≡ r → ((raws : List RawRule) × IsWritten text raws) ⊎ ((fault : TextFault) × IsTextFault text fault)
+    found text tokens last are (Ok raws) e = inl (raws, record { tokens = tokens; last = last; are_tokens = are; spelled = rules_at-is (length tokens) last tokens raws e })
+    found text tokens last are (Err fault) e = inr (fault, record { tokens = tokens; last = last; are_tokens = are; found = e })
+
+-- ---- what the code answers
+
+pub answers : {X : Type 0} (items : X → List RawRule) (text : List ℕ) (tokens : List Token) (last : ℕ) (r : Result X ParseError) → AreTokens text tokens last → Gives items r (all_rules last tokens) → IfOk r (λ x. IsWritten text (items x)) × IfErr r (λ e. IfRefused e (IsTextFault text))
+answers items text tokens last (Ok x) are e = (record { tokens = tokens; last = last; are_tokens = are; spelled = rules_at-is (length tokens) last tokens (items x) e }, tt)
+answers items text tokens last (Err (Refused fault)) are e = (tt, record { tokens = tokens; last = last; are_tokens = are; found = e })
+answers items text tokens last (Err NoMemory) are e = (tt, tt)

@@ -1,0 +1,11 @@
+use Rattle.std.proofs.Common.{◌≡◌, length}
+use Rattle.rule_parse.specs.Parsing.{all_rules}
+use Rattle.rule_parse.specs.Seen.{seen}
+use Rattle.rule_parse.proofs.Loops.{with_rules}
+use Rattle.rule_parse.proofs.rule.rules.Given as goal
+
+abbrev pub invariant-loop-rest : goal.invariant-loop-rest
+invariant-loop-rest l = with_rules l.rules.items (all_rules l.last (seen l.rest)) ≡ all_rules l.last (seen l.tokens)
+
+abbrev pub decreases-loop-rest : goal.decreases-loop-rest
+decreases-loop-rest l = length (seen l.rest)

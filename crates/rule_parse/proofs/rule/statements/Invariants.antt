@@ -1,0 +1,12 @@
+use Rattle.std.proofs.Common.{◌≡◌, ◌-◌, ◌≤◌, length}
+use Rattle.rule_parse.specs.Parsing.{statements_at}
+use Rattle.rule_parse.specs.Seen.{seen}
+use Rattle.rule_parse.proofs.Loops.{with_front}
+use Rattle.rule_parse.proofs.rule.statements.Given as goal
+
+abbrev pub invariant-loop-line : goal.invariant-loop-line
+invariant-loop-line l =
+    (length l.statements ≤ 32) × (with_front l.statements (statements_at (32 - length l.statements) l.half (seen l.tokens.now)) ≡ statements_at 32 l.half (seen l.fn.tokens.now))
+
+abbrev pub decreases-loop-line : goal.decreases-loop-line
+decreases-loop-line l = 32 - length l.statements

@@ -1,0 +1,19 @@
+-- What holds of every text.
+use Rattle.std.specs.Prelude.{◌≡◌, ◌↔◌, ◌⊎◌, ℕ, List, Ok}
+use Rattle.rule_parse.specs.declared.fault.TextFault.{TextFault}
+use Rattle.rule_parse.specs.declared.raw.RawRule.{RawRule}
+use Rattle.rule_parse.specs.Grammar.{SpellsRules}
+use Rattle.rule_parse.specs.Parsing.{all_rules}
+use Rattle.rule_parse.specs.Text.{IsWritten, IsTextFault}
+use Rattle.rule_parse.specs.Tokens.{Token}
+
+-- reading from left to right answers rules exactly where the grammar spells them
+abbrev pub RulesAreReadAsSpelled : Type 0
+RulesAreReadAsSpelled = (last : ℕ) (tokens : List Token) (raws : List RawRule) → (all_rules last tokens ≡ Ok raws) ↔ SpellsRules raws tokens
+
+-- a text has one list of rules or one fault, and never both
+pub record TextsHaveOneReadingOrFault : Type 0 where
+  pub some : (text : List ℕ) → ((raws : List RawRule) × IsWritten text raws) ⊎ ((fault : TextFault) × IsTextFault text fault)
+  pub one_reading : (text : List ℕ) (a b : List RawRule) → IsWritten text a → IsWritten text b → a ≡ b
+  pub one_fault : (text : List ℕ) (a b : TextFault) → IsTextFault text a → IsTextFault text b → a ≡ b
+  pub not_both : (text : List ℕ) (raws : List RawRule) (fault : TextFault) → IsWritten text raws → IsTextFault text fault → ⊥

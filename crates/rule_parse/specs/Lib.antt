@@ -1,0 +1,11 @@
+pub mod Giving
+pub mod Grammar
+pub mod Laws
+pub mod Limits
+pub mod Numbers
+pub mod Parsing
+pub mod Refusing
+pub mod Seen
+pub mod Text
+pub mod Tokens
+pub mod Words

@@ -1,0 +1,21 @@
+-- Rule files as written: their rules, or their first fault.
+use Rattle.std.specs.Prelude.{◌≡◌, ℕ, List, Err}
+use Rattle.rule_parse.specs.declared.fault.TextFault.{TextFault}
+use Rattle.rule_parse.specs.declared.raw.RawRule.{RawRule}
+use Rattle.rule_parse.specs.Grammar.{SpellsRules}
+use Rattle.rule_parse.specs.Parsing.{all_rules}
+use Rattle.rule_parse.specs.Tokens.{Token, AreTokens}
+
+-- the text is that of these rules
+pub record IsWritten (text : List ℕ) (raws : List RawRule) : Type 0 where
+  pub tokens : List Token
+  pub last : ℕ
+  pub are_tokens : AreTokens text tokens last
+  pub spelled : SpellsRules raws tokens
+
+-- the first token that does not fit: its line, and why it does not
+pub record IsTextFault (text : List ℕ) (fault : TextFault) : Type 0 where
+  pub tokens : List Token
+  pub last : ℕ
+  pub are_tokens : AreTokens text tokens last
+  pub found : all_rules last tokens ≡ Err fault

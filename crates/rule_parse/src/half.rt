@@ -1,0 +1,8 @@
+//! The halves of a rule.
+
+/// Which half of a rule a statement stands in.
+#[derive(Clone, Copy, Debug, PartialEq, Eq)]
+pub(crate) enum Half {
+    Source,
+    Target,
+}

@@ -1,0 +1,14 @@
+//! The laws of rule files, each the contract of a function that does nothing.
+ghost use Rattle.rule_parse.specs.Laws.{RulesAreReadAsSpelled, TextsHaveOneReadingOrFault};
+
+/// Reading from left to right answers rules exactly where the grammar spells them.
+pub fn rules_are_read_as_they_are_spelled()
+    ensures { RulesAreReadAsSpelled }
+{}
+
+/// A text has one list of rules as written, or one fault, and never both.
+pub fn every_text_has_one_reading_or_one_fault()
+    ensures { TextsHaveOneReadingOrFault }
+{
+    scan::every_place_has_one_rule_token();
+}

@@ -1,0 +1,20 @@
+//! The rules of a text as written.
+
+ghost use Rattle.std.specs.Prelude.{IfOk, IfErr};
+ghost use Rattle.rule_parse.specs.Text.{IsWritten, IsTextFault};
+ghost use Rattle.rule_parse.specs.Refusing.{IfRefused};
+
+use crate::fault::ParseError;
+use crate::raw::RawRule;
+use crate::rule::rules;
+use crate::tokens::tokens_of;
+use std::alloc::Global;
+
+/// The rules of a text as they are written, in order, or its first fault. It takes as many steps as the text has bytes.
+pub fn parse_rules(alloc: Global, bytes: &[u8]) -> Result<Vec<RawRule>, ParseError>
+    ensures ok { IfOk result (λ raws. IsWritten bytes.now raws.items) }
+    ensures refused { IfErr result (λ e. IfRefused e (IsTextFault bytes.now)) }
+{
+    let text = tokens_of(alloc, bytes)?;
+    rules(alloc, text.last_line, text.tokens.as_slice())
+}

@@ -1,0 +1,189 @@
+//! Rules from the tokens of a text: each part of a rule stands on a line of its own.
+
+ghost use Rattle.std.specs.Prelude.{◌≡◌, ◌∷◌, IfSome, IfNone};
+ghost use Rattle.rule_parse.specs.Giving.{Gives, Refuses};
+ghost use Rattle.rule_parse.specs.Parsing as parsing;
+ghost use Rattle.rule_parse.specs.Parsing.{IsNoStatement};
+ghost use Rattle.rule_parse.specs.Seen.{seen};
+ghost use Rattle.rule_parse.specs.Tokens.{Line, Register};
+
+use crate::fault::{Misfit, ParseError};
+use crate::half::Half;
+use crate::raw::{RawRule, RawStatement};
+use crate::statement::{left_out, name_within, refused, statement, unexpected};
+use crate::token::Token;
+use crate::word::is;
+use lists::{List, Text};
+use std::alloc::Global;
+
+/// The most statements of a half.
+const MOST_STATEMENTS: usize = 32;
+
+/// The fault of the first token, where another line should begin; at the end of the text the one of the last line.
+fn unexpected_line(last: usize, tokens: &[Token<'_>]) -> ParseError
+    ensures { Refuses result (parsing.unexpected_line last (seen tokens.now)) }
+{
+    match tokens {
+        [Token::Line(line), rest @ ..] => unexpected(*line, rest),
+        _ => unexpected(last, tokens),
+    }
+}
+
+/// The name of a rule, behind its head.
+fn name_text(alloc: Global, line: usize, tokens: &mut &[Token<'_>]) -> Result<Text, ParseError>
+    ensures { Gives (λ x. (x, seen tokens.new.now)) result (parsing.name_text line (seen tokens.old.now)) }
+{
+    match *tokens {
+        [Token::Name([]), ..] => Err(refused(line, Misfit::Syntax)),
+        [Token::Name(name), rest @ ..] => {
+            *tokens = rest;
+            name_within(alloc, line, name)
+        }
+        _ => Err(unexpected(line, *tokens)),
+    }
+}
+
+/// The line of a rule's name, and the name.
+#[tactic(auto, unfolding(crate::specs::Parsing::name_at))]
+fn name(alloc: Global, last: usize, tokens: &mut &[Token<'_>]) -> Result<(usize, Text), ParseError>
+    ensures { Gives (λ x. (x, seen tokens.new.now)) result (parsing.name_at last (seen tokens.old.now)) }
+{
+    match *tokens {
+        [Token::Line(line), Token::Head(head), rest @ ..] => {
+            if is(head, "Name:") {
+                *tokens = rest;
+                Ok((*line, name_text(alloc, *line, tokens)?))
+            } else {
+                Err(refused(*line, Misfit::Syntax))
+            }
+        }
+        _ => Err(unexpected_line(last, *tokens)),
+    }
+}
+
+/// The line and the register that begin a statement, where one begins here; goes behind them.
+fn register<'a>(tokens: &mut &[Token<'a>]) -> Option<(usize, &'a [u8])>
+    ensures some { IfSome result (λ x. seen tokens.old.now ≡ Line x.0 ∷ Register x.1.now ∷ seen tokens.new.now) }
+    ensures none { IfNone result (IsNoStatement (seen tokens.old.now)) }
+    ensures stays { IfNone result (seen tokens.new.now ≡ seen tokens.old.now) }
+{
+    match *tokens {
+        [Token::Line(line), Token::Register(name), rest @ ..] => {
+            *tokens = rest;
+            Some((*line, *name))
+        }
+        _ => None,
+    }
+}
+
+/// Statements as long as a line begins with a register.
+fn statements(
+    alloc: Global,
+    half: Half,
+    tokens: &mut &[Token<'_>],
+) -> Result<List<RawStatement>, ParseError>
+    ensures { Gives (λ x. (x, seen tokens.new.now)) result (parsing.statements_at 32 half (seen tokens.old.now)) }
+{
+    let mut statements = List::new(alloc);
+    while let Some((line, name)) = register(tokens) {
+        if statements.len() == MOST_STATEMENTS {
+            return Err(refused(line, Misfit::TooMany));
+        }
+        statements.push(statement(alloc, half, line, name, tokens)?)?;
+    }
+    Ok(statements)
+}
+
+/// The source: one statement or more. A precondition and a witness before them are left out.
+#[tactic(auto, unfolding(crate::specs::Parsing::source_at))]
+fn source(
+    alloc: Global,
+    last: usize,
+    tokens: &mut &[Token<'_>],
+) -> Result<List<RawStatement>, ParseError>
+    ensures { Gives (λ x. (x, seen tokens.new.now)) result (parsing.source_at last (seen tokens.old.now)) }
+{
+    match *tokens {
+        [Token::Line(line), Token::Head(head), ..] => {
+            if is(head, "Name:") {
+                Err(refused(*line, Misfit::Syntax))
+            } else {
+                Err(left_out(alloc, *line, head))
+            }
+        }
+        [Token::Line(_), Token::Register(_), ..] => statements(alloc, Half::Source, tokens),
+        _ => Err(unexpected_line(last, *tokens)),
+    }
+}
+
+/// That nothing more stands on a line.
+fn line_end(line: usize, tokens: &[Token<'_>]) -> Result<(), ParseError>
+    ensures { Gives (λ _. seen tokens.now) result (parsing.line_end line (seen tokens.now)) }
+{
+    match tokens {
+        [] | [Token::Line(_), ..] => Ok(()),
+        _ => Err(unexpected(line, tokens)),
+    }
+}
+
+/// The line of the `=>`.
+#[tactic(auto, unfolding(crate::specs::Parsing::arrow_at))]
+fn arrow(last: usize, tokens: &mut &[Token<'_>]) -> Result<(), ParseError>
+    ensures { Gives (λ _. seen tokens.new.now) result (parsing.arrow_at last (seen tokens.old.now)) }
+{
+    match *tokens {
+        [Token::Line(line), Token::Arrow, rest @ ..] => {
+            *tokens = rest;
+            line_end(*line, rest)
+        }
+        _ => Err(unexpected_line(last, *tokens)),
+    }
+}
+
+/// The target: one statement or more.
+#[tactic(auto, unfolding(crate::specs::Parsing::target_at))]
+fn target(
+    alloc: Global,
+    last: usize,
+    tokens: &mut &[Token<'_>],
+) -> Result<List<RawStatement>, ParseError>
+    ensures { Gives (λ x. (x, seen tokens.new.now)) result (parsing.target_at last (seen tokens.old.now)) }
+{
+    match *tokens {
+        [Token::Line(_), Token::Register(_), ..] => statements(alloc, Half::Target, tokens),
+        _ => Err(unexpected_line(last, *tokens)),
+    }
+}
+
+/// The first rule of a text.
+#[tactic(auto, unfolding(crate::specs::Parsing::rule_at))]
+fn rule(alloc: Global, last: usize, tokens: &mut &[Token<'_>]) -> Result<RawRule, ParseError>
+    ensures { Gives (λ x. (x, seen tokens.new.now)) result (parsing.rule_at last (seen tokens.old.now)) }
+{
+    let (line, name) = name(alloc, last, tokens)?;
+    let source = source(alloc, last, tokens)?;
+    arrow(last, tokens)?;
+    let target = target(alloc, last, tokens)?;
+    Ok(RawRule {
+        line,
+        name,
+        source,
+        target,
+    })
+}
+
+/// The rules of a text, of which this is the last line, or the first fault.
+pub(crate) fn rules(
+    alloc: Global,
+    last: usize,
+    tokens: &[Token<'_>],
+) -> Result<Vec<RawRule>, ParseError>
+    ensures { Gives (λ x. x.items) result (parsing.all_rules last (seen tokens.now)) }
+{
+    let mut rules = Vec::new(alloc);
+    let mut rest = tokens;
+    while !rest.is_empty() {
+        rules.push(rule(alloc, last, &mut rest)?)?;
+    }
+    Ok(rules)
+}
