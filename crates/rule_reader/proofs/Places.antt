@@ -1,0 +1,108 @@
+-- What stands at a place of a list.
+use Rattle.std.proofs.Common.{◌≡◌, ◌⊎◌, inl, inr, ℕ, zero, suc, ◌+◌, ◌-◌, ◌<◌, List, [], ◌∷◌, ◌++◌, length, take, Some, refl, sym, ap, subst, ◌∙◌, arith, get_or}
+use Rattle.std.specs.Prelude.{slice_get, Contains, map, flat_map}
+use Rattle.std.specs.List.{AllZip}
+use Rattle.std.proofs.lemmas.Bool.{cases_lt}
+use Rattle.std.proofs.lemmas.List.{take_more}
+use Rattle.std.proofs.lemmas.Option.{slice_get-get_or, same_Some}
+
+-- two numbers in their order
+pub order : (m n : ℕ) → (m < n) ⊎ ((m ≡ n) ⊎ (n < m))
+order m n = elim (cases_lt m n) [ inl lt ↦ inl lt | inr ge ↦ elim (cases_lt n m) [ inl gt ↦ inr (inr gt) | inr le ↦ inr (inl (omega arith)) ] ]
+
+pub same_at : {X : Type 0} (xs : List X) (k : ℕ) (x y : X) → slice_get xs k ≡ Some x → slice_get xs k ≡ Some y → x ≡ y
+same_at xs k x y p q = same_Some x y (sym p ∙ q)
+
+-- the item of a loop stands at its index
+pub read_at : {X : Type 0} (xs : List X) (k : ℕ) (x : X) → k < length xs → x ≡ get_or xs k x → slice_get xs k ≡ Some x
+read_at xs k x within is = slice_get-get_or xs k x within ∙ ap (λ y. Some y) (sym is)
+
+-- and so does the last element, where the code sees the list as ys
+pub read_last : {X : Type 0} (xs ys : List X) (n : ℕ) (x : X) → ys ≡ xs → n ≡ length xs → 0 < length xs → x ≡ get_or ys (n - 1) x → slice_get xs (length xs - 1) ≡ Some x
+read_last xs ys n x is len some read = read_at xs (length xs - 1) x (omega arith) (read ∙ ap (λ l. get_or l (n - 1) x) is ∙ ap (λ m. get_or xs (m - 1) x) len)
+
+-- an element stands at each place within
+pub there : {X : Type 0} (xs : List X) (k : ℕ) → k < length xs → (x : X) × (slice_get xs k ≡ Some x)
+there [] k within = absurd (omega arith)
+there (x ∷ xs) zero within = (x, refl)
+there (x ∷ xs) (suc k) within = there xs k (omega arith)
+
+-- an element stands somewhere
+pub somewhere : {X : Type 0} (xs : List X) (x : X) → Contains xs x → (k : ℕ) × (slice_get xs k ≡ Some x)
+somewhere xs x (k, within, is) = (k, slice_get-get_or xs k x within ∙ ap (λ y. Some y) is)
+
+-- the first elements of a list
+pub at_take : {X : Type 0} (n : ℕ) (xs : List X) (k : ℕ) (x : X) → slice_get (take n xs) k ≡ Some x → (k < n) × (slice_get xs k ≡ Some x)
+at_take zero xs k x at = elim k as (λ j. slice_get [] j ≡ Some x → (j < 0) × (slice_get xs j ≡ Some x)) [ zero ↦ λ h. cc | suc j ↦ λ h. cc ] at
+at_take (suc n) [] k x at = elim k as (λ j. slice_get [] j ≡ Some x → (j < suc n) × (slice_get [] j ≡ Some x)) [ zero ↦ λ h. cc | suc j ↦ λ h. cc ] at
+at_take (suc n) (y ∷ xs) zero x at = (omega arith, at)
+at_take (suc n) (y ∷ xs) (suc k) x at = let rest = at_take n xs k x at in (omega (arith, rest.0), rest.1)
+
+pub take_at : {X : Type 0} (n : ℕ) (xs : List X) (k : ℕ) (x : X) → k < n → slice_get xs k ≡ Some x → slice_get (take n xs) k ≡ Some x
+take_at zero xs k x lt at = absurd (omega arith)
+take_at (suc n) [] k x lt at = at
+take_at (suc n) (y ∷ xs) zero x lt at = at
+take_at (suc n) (y ∷ xs) (suc k) x lt at = take_at n xs k x (omega arith) at
+
+-- what stands in two lists one behind the other stands in one of them
+pub at_append : {X : Type 0} (xs ys : List X) (k : ℕ) (x : X) → slice_get (xs ++ ys) k ≡ Some x → (slice_get xs k ≡ Some x) ⊎ ((j : ℕ) × (k ≡ length xs + j) × (slice_get ys j ≡ Some x))
+at_append [] ys k x at = inr (k, omega arith, at)
+at_append (a ∷ xs) ys zero x at = inl at
+at_append (a ∷ xs) ys (suc k) x at = elim (at_append xs ys k x at) [ inl here ↦ inl here | inr (j, is, there) ↦ inr (j, omega arith, there) ]
+
+-- what stands at a place of a list whose elements are mapped
+pub at_map : {X Y : Type 0} (f : X → Y) (xs : List X) (k : ℕ) (y : Y) → slice_get (map f xs) k ≡ Some y → (x : X) × (slice_get xs k ≡ Some x) × (f x ≡ y)
+at_map f [] k y at = elim k as (λ j. slice_get [] j ≡ Some y → (x : _) × (slice_get [] j ≡ Some x) × (f x ≡ y)) [ zero ↦ λ h. cc | suc j ↦ λ h. cc ] at
+at_map f (x ∷ xs) zero y at = (x, refl, same_Some (f x) y at)
+at_map f (x ∷ xs) (suc k) y at = at_map f xs k y at
+
+pub map_at : {X Y : Type 0} (f : X → Y) (xs : List X) (k : ℕ) (x : X) → slice_get xs k ≡ Some x → slice_get (map f xs) k ≡ Some (f x)
+map_at f [] k x at = elim k as (λ j. slice_get [] j ≡ Some x → slice_get [] j ≡ Some (f x)) [ zero ↦ λ h. cc | suc j ↦ λ h. cc ] at
+map_at f (a ∷ xs) zero x at = ap (λ y. Some (f y)) (same_Some a x at)
+map_at f (a ∷ xs) (suc k) x at = map_at f xs k x at
+
+-- Of two lists whose elements go together one by one, an element of either has one of the other at its place.
+pub zip_right : {X Y : Type 0} (R : X → Y → Type 0) (xs : List X) (ys : List Y) (k : ℕ) (y : Y) → AllZip R xs ys → slice_get ys k ≡ Some y → (x : X) × (slice_get xs k ≡ Some x) × R x y
+zip_right R [] [] k y all at = elim k as (λ j. slice_get [] j ≡ Some y → (x : _) × (slice_get [] j ≡ Some x) × R x y) [ zero ↦ λ h. cc | suc j ↦ λ h. cc ] at
+zip_right R [] (b ∷ ys) k y all at = absurd all
+zip_right R (a ∷ xs) [] k y all at = absurd all
+zip_right R (a ∷ xs) (b ∷ ys) zero y all at = (a, refl, subst (R a) (same_Some b y at) all.0)
+zip_right R (a ∷ xs) (b ∷ ys) (suc k) y all at = zip_right R xs ys k y all.1 at
+
+pub zip_left : {X Y : Type 0} (R : X → Y → Type 0) (xs : List X) (ys : List Y) (k : ℕ) (x : X) → AllZip R xs ys → slice_get xs k ≡ Some x → (y : Y) × (slice_get ys k ≡ Some y) × R x y
+zip_left R [] [] k x all at = elim k as (λ j. slice_get [] j ≡ Some x → (y : _) × (slice_get [] j ≡ Some y) × R x y) [ zero ↦ λ h. cc | suc j ↦ λ h. cc ] at
+zip_left R [] (b ∷ ys) k x all at = absurd all
+zip_left R (a ∷ xs) [] k x all at = absurd all
+zip_left R (a ∷ xs) (b ∷ ys) zero x all at = (b, refl, subst (λ z. R z b) (same_Some a x at) all.0)
+zip_left R (a ∷ xs) (b ∷ ys) (suc k) x all at = zip_left R xs ys k x all.1 at
+
+pub zip_push : {X Y : Type 0} (R : X → Y → Type 0) (xs : List X) (ys : List Y) (x : X) (y : Y) → AllZip R xs ys → R x y → AllZip R (xs ++ x ∷ []) (ys ++ y ∷ [])
+zip_push R [] [] x y all r = (r, tt)
+zip_push R [] (b ∷ ys) x y all r = absurd all
+zip_push R (a ∷ xs) [] x y all r = absurd all
+zip_push R (a ∷ xs) (b ∷ ys) x y all r = (all.0, zip_push R xs ys x y all.1 r)
+
+-- one more pair
+pub zip_more : {X Y : Type 0} (R : X → Y → Type 0) (xs : List X) (ys zs : List Y) (i : ℕ) (x : X) (y : Y) → i < length xs → x ≡ get_or xs i x → AllZip R (take i xs) ys → zs ≡ ys ++ y ∷ [] → R x y → AllZip R (take (i + 1) xs) zs
+zip_more R xs ys zs i x y within is all more r =
+    subst (λ l. AllZip R l zs) (sym (take_more xs i x within ∙ ap (λ z. take i xs ++ z ∷ []) (sym is)))
+    (subst (AllZip R (take i xs ++ x ∷ [])) (sym more) (zip_push R (take i xs) ys x y all r))
+
+pub zip_length : {X Y : Type 0} (R : X → Y → Type 0) (xs : List X) (ys : List Y) → AllZip R xs ys → length ys ≡ length xs
+zip_length R [] [] all = refl
+zip_length R [] (b ∷ ys) all = absurd all
+zip_length R (a ∷ xs) [] all = absurd all
+zip_length R (a ∷ xs) (b ∷ ys) all = ap suc (zip_length R xs ys all.1)
+
+zip_append : {X Y : Type 0} (R : X → Y → Type 0) (ws : List X) (ys : List Y) (xs : List X) (zs : List Y) → AllZip R ws ys → AllZip R xs zs → AllZip R (ws ++ xs) (ys ++ zs)
+zip_append R [] [] xs zs p q = q
+zip_append R [] (b ∷ ys) xs zs p q = absurd p
+zip_append R (a ∷ ws) [] xs zs p q = absurd p
+zip_append R (a ∷ ws) (b ∷ ys) xs zs p q = (p.0, zip_append R ws ys xs zs p.1 q)
+
+-- elements that go together are mapped to lists that go together
+pub zip_flat_map : {X Y A B : Type 0} (R : X → Y → Type 0) (S : A → B → Type 0) (f : X → List A) (g : Y → List B) → ((x : X) (y : Y) → R x y → AllZip S (f x) (g y)) → (xs : List X) (ys : List Y) → AllZip R xs ys → AllZip S (flat_map f xs) (flat_map g ys)
+zip_flat_map R S f g go [] [] all = tt
+zip_flat_map R S f g go [] (b ∷ ys) all = absurd all
+zip_flat_map R S f g go (a ∷ xs) [] all = absurd all
+zip_flat_map R S f g go (a ∷ xs) (b ∷ ys) all = zip_append S (f a) (g b) (flat_map f xs) (flat_map g ys) (go a b all.0) (zip_flat_map R S f g go xs ys all.1)

@@ -1,0 +1,249 @@
+-- Rules as written are well formed.
+use Rattle.std.proofs.Common.{◌≡◌, ℕ, zero, suc, ◌+◌, ◌<◌, ◌≤◌, Bool, true, false, cond, eqb, List, [], ◌∷◌, ◌++◌, length, append_assoc, take, Option, None, Some, refl, sym, ap, subst, ◌∙◌, arith}
+use Rattle.std.specs.Prelude.{slice_get, Contains}
+use Rattle.std.specs.Prelude.{codes}
+use Rattle.std.specs.List.{sum_by}
+use Rattle.std.proofs.lemmas.Option.{same_Some}
+use Rattle.std.proofs.lemmas.List.{take-take}
+use Rattle.std.proofs.lemmas.List.Sums.{sum_by-take-drop}
+use Rattle.scan.specs.declared.rule_token.RuleKind.{RuleKind}
+use Rattle.scan.specs.declared.rule_token.RuleKind.TheVariants as kinds
+use Rattle.scan.specs.Lines.{line_of}
+use Rattle.scan.specs.Names.{rest_of_line}
+use Rattle.scan.specs.RuleTokens.{line_at}
+use Rattle.rule_parse.specs.declared.raw.RawRule.{RawRule}
+use Rattle.rule_parse.specs.declared.raw.RawStatement.{RawStatement}
+use Rattle.rule_parse.specs.declared.raw.RawOp.{RawOp}
+use Rattle.rule_parse.specs.declared.raw.RawOp.TheVariants as raw_ops
+use Rattle.rule_parse.specs.declared.raw.RawOperand.{RawOperand}
+use Rattle.rule_parse.specs.declared.raw.RawOperand.TheVariants as raw_operands
+use Rattle.rule_parse.specs.Tokens.{Token, Line, Head, Name, Register, Word, Number, Arrow, Mark, Other, Bad, token_of, Place, AtToken, TokensFrom, ends, token, name as at_name, bad_token, bad_name}
+use Rattle.rule_parse.specs.Grammar.{SpellsOperand, SpellsCopy, SpellsOp, SpellsStatement, SpellsStatements, SpellsHalf, SpellsRule, SpellsRules}
+use Rattle.rule_parse.specs.Text.{IsWritten}
+use Rattle.rule_reader.specs.Naming.{Uses}
+use Rattle.rule_reader.specs.WellFormed.{AreInLineOrder, MayStandInSource, IsHalf, IsWellFormed}
+
+-- a line of these tokens begins
+abbrev Begins : List Token → ℕ → Type 0
+Begins tokens n = Contains tokens (Line n)
+
+-- the lines begin in their order, none before a line
+unfoldable pub Ascend : ℕ → List Token → Type 0
+Ascend low [] = Unit {0}
+Ascend low (Line n ∷ tokens) = (low ≤ n) × Ascend n tokens
+Ascend low (Head text ∷ tokens) = Ascend low tokens
+Ascend low (Name text ∷ tokens) = Ascend low tokens
+Ascend low (Register text ∷ tokens) = Ascend low tokens
+Ascend low (Word text ∷ tokens) = Ascend low tokens
+Ascend low (Number text ∷ tokens) = Ascend low tokens
+Ascend low (Arrow ∷ tokens) = Ascend low tokens
+Ascend low (Mark text ∷ tokens) = Ascend low tokens
+Ascend low (Other ∷ tokens) = Ascend low tokens
+Ascend low (Bad ∷ tokens) = Ascend low tokens
+
+lower : (low high : ℕ) (tokens : List Token) → low ≤ high → Ascend high tokens → Ascend low tokens
+unfolding Ascend
+lower low high [] le up = tt
+lower low high (Line n ∷ tokens) le up = (omega (arith, up.0), up.1)
+lower low high (Head text ∷ tokens) le up = lower low high tokens le up
+lower low high (Name text ∷ tokens) le up = lower low high tokens le up
+lower low high (Register text ∷ tokens) le up = lower low high tokens le up
+lower low high (Word text ∷ tokens) le up = lower low high tokens le up
+lower low high (Number text ∷ tokens) le up = lower low high tokens le up
+lower low high (Arrow ∷ tokens) le up = lower low high tokens le up
+lower low high (Mark text ∷ tokens) le up = lower low high tokens le up
+lower low high (Other ∷ tokens) le up = lower low high tokens le up
+lower low high (Bad ∷ tokens) le up = lower low high tokens le up
+
+-- behind some tokens the lines go on in their order
+skip : (low : ℕ) (xs ys : List Token) → Ascend low (xs ++ ys) → (m : ℕ) × (low ≤ m) × Ascend m ys
+unfolding Ascend
+skip low [] ys up = (low, (omega arith), up)
+skip low (Line n ∷ xs) ys up = let (m, le, rest) = skip n xs ys up.1 in (m, (omega (arith, up.0)), rest)
+skip low (Head text ∷ xs) ys up = skip low xs ys up
+skip low (Name text ∷ xs) ys up = skip low xs ys up
+skip low (Register text ∷ xs) ys up = skip low xs ys up
+skip low (Word text ∷ xs) ys up = skip low xs ys up
+skip low (Number text ∷ xs) ys up = skip low xs ys up
+skip low (Arrow ∷ xs) ys up = skip low xs ys up
+skip low (Mark text ∷ xs) ys up = skip low xs ys up
+skip low (Other ∷ xs) ys up = skip low xs ys up
+skip low (Bad ∷ xs) ys up = skip low xs ys up
+
+-- a later place stands on no earlier line
+line_more : (text : List ℕ) (m n : ℕ) → m ≤ n → line_of text m ≤ line_of text n
+line_more text m n le =
+    let f : ℕ → ℕ = λ b. cond (eqb b 10) 1 0 in
+    let parts = sum_by-take-drop f (take n text) m in
+    let same : sum_by f (take m (take n text)) ≡ sum_by f (take m text) = ap (sum_by f) (take-take m n text le) in
+    omega (arith, parts, same)
+
+-- a token of a kind begins no line
+no_line : (kind : RuleKind) (bytes : List ℕ) (low : ℕ) (tokens : List Token) → Ascend low tokens → Ascend low (token_of kind bytes ∷ tokens)
+unfolding Ascend
+no_line kinds.End bytes low tokens up = up
+no_line kinds.Other bytes low tokens up = up
+no_line kinds.Head bytes low tokens up = up
+no_line kinds.Register bytes low tokens up = up
+no_line kinds.Word bytes low tokens up = up
+no_line kinds.Number bytes low tokens up = up
+no_line kinds.Arrow bytes low tokens up = up
+no_line kinds.Mark bytes low tokens up = up
+
+on_line : (b : Bool) (low at : ℕ) (t : Token) (tokens : List Token) → low ≤ at → Ascend at (t ∷ tokens) → Ascend low (cond b (t ∷ tokens) (Line at ∷ t ∷ tokens))
+unfolding Ascend
+on_line true low at t tokens le up = lower low at (t ∷ tokens) le up
+on_line false low at t tokens le up = (le, up)
+
+kind_line : (kind : RuleKind) (text : List ℕ) (start : ℕ) → ¬ (kind ≡ kinds.End) → line_at kind text start ≡ line_of text start
+kind_line kinds.End text start not = absurd (not refl)
+kind_line kinds.Other text start not = refl
+kind_line kinds.Head text start not = refl
+kind_line kinds.Register text start not = refl
+kind_line kinds.Word text start not = refl
+kind_line kinds.Number text start not = refl
+kind_line kinds.Arrow text start not = refl
+kind_line kinds.Mark text start not = refl
+
+up_from : (text : List ℕ) (place : Place) (at before last : ℕ) (tokens : List Token) → TokensFrom text place at before tokens last → Ascend (line_of text at) tokens
+unfolding Ascend
+up_from text _ at before last _ (ends t next end is) = tt
+up_from text _ at before last _ (token {tokens} t next not rest) =
+    let on : t.line ≡ line_of text t.span.start = next.line ∙ kind_line t.kind text t.span.start not in
+    let le : line_of text at ≤ line_of text t.span.start = line_more text at t.span.start (next.order.0) in
+    let le' : line_of text t.span.start ≤ line_of text t.span.end = line_more text t.span.start t.span.end (next.order.1) in
+    let later = up_from text _ t.span.end t.line last tokens rest in
+    on_line (eqb t.line before) (line_of text at) t.line (token_of t.kind _) tokens (omega arith) (no_line t.kind _ t.line tokens (lower t.line (line_of text t.span.end) tokens (omega arith) later))
+up_from text _ at before last _ (at_name {found} {tokens} named rest) =
+    subst (λ t. Ascend (line_of text at) (t ∷ tokens)) (sym named.2)
+    (lower (line_of text at) (line_of text (at + length (rest_of_line text at))) tokens (line_more text at (at + length (rest_of_line text at)) (omega arith)) (up_from text _ (at + length (rest_of_line text at)) before last tokens rest))
+up_from text _ at before last _ (bad_token next) =
+    let le : line_of text at ≤ line_of text next.start = line_more text at next.start next.order in
+    on_line (eqb last before) (line_of text at) last Bad [] (omega (arith, next.line_is)) tt
+up_from text _ at before last _ (bad_name next) = tt
+
+-- statements of a half, behind which more tokens follow
+pub record Ordered (low : ℕ) (ss : List RawStatement) (behind : List Token) : Type 0 where
+  pub not_before : (k : ℕ) (s : RawStatement) → slice_get ss k ≡ Some s → low ≤ s.line
+  pub in_order : AreInLineOrder ss
+  pub last : ℕ
+  pub not_behind : (k : ℕ) (s : RawStatement) → slice_get ss k ≡ Some s → s.line ≤ last
+  pub reaches : low ≤ last
+  pub goes_on : Ascend last behind
+
+none_at : {X : Type 0} (k : ℕ) (x : X) → slice_get [] k ≡ Some x → ⊥
+none_at zero x at = cc
+none_at (suc k) x at = cc
+
+ordered : (half : _) (low : ℕ) (ss : List RawStatement) (tokens behind : List Token) → SpellsStatements half ss tokens → Ascend low (tokens ++ behind) → Ordered low ss behind
+unfolding Ascend
+ordered half low [] tokens behind is up =
+    record {
+      not_before = λ k s at. absurd (none_at k s at);
+      in_order = λ j k s t lt at at'. absurd (none_at j s at);
+      last = low;
+      not_behind = λ k s at. absurd (none_at k s at);
+      reaches = omega arith;
+      goes_on = subst (λ l. Ascend low (l ++ behind)) is up;
+    }
+ordered half low (s ∷ ss) tokens behind (own, rest, spelled, others, is) up =
+    let whole : tokens ++ behind ≡ Line s.line ∷ (Register s.name ∷ Mark (codes "=") ∷ spelled.op) ++ (rest ++ behind) =
+    ap (λ l. l ++ behind) is ∙ append_assoc own rest behind ∙ ap (λ l. l ++ (rest ++ behind)) spelled.spelled in
+    let start = subst (λ l. Ascend low l) whole up in
+    let (m, le, later) = skip s.line (Register s.name ∷ Mark (codes "=") ∷ spelled.op) (rest ++ behind) start.1 in
+    let next = ordered half m ss rest behind others later in
+    record {
+      not_before = λ k t at. elim k as (λ i. slice_get (s ∷ ss) i ≡ Some t → low ≤ t.line) [
+        | zero ↦ λ e. let same : s ≡ t = same_Some s t e in let line : s.line ≡ t.line = ap (λ (z : RawStatement). z.line) same in omega (arith, start.0)
+        | suc i ↦ λ e. let below : m ≤ t.line = next.not_before i t e in omega (arith, start.0)
+      ] at;
+      in_order = λ j k t v lt at at'. elim j as (λ i. i < k → slice_get (s ∷ ss) i ≡ Some t → t.line ≤ v.line) [
+        | zero ↦ λ lt' e. elim k as (λ i. 0 < i → slice_get (s ∷ ss) i ≡ Some v → t.line ≤ v.line) [
+          | zero ↦ λ lt'' e'. absurd (omega arith)
+          | suc i ↦ λ lt'' e'. let same : s ≡ t = same_Some s t e in let line : s.line ≡ t.line = ap (λ (z : RawStatement). z.line) same in let below : m ≤ v.line = next.not_before i v e' in omega arith
+        ] lt' at'
+        | suc i ↦ λ lt' e. elim k as (λ n. suc i < n → slice_get (s ∷ ss) n ≡ Some v → t.line ≤ v.line) [
+          | zero ↦ λ lt'' e'. absurd (omega arith)
+          | suc n ↦ λ lt'' e'. next.in_order i n t v (omega arith) e e'
+        ] lt' at'
+      ] lt at;
+      last = next.last;
+      not_behind = λ k t at. elim k as (λ i. slice_get (s ∷ ss) i ≡ Some t → t.line ≤ next.last) [
+        | zero ↦ λ e. let same : s ≡ t = same_Some s t e in let line : s.line ≡ t.line = ap (λ (z : RawStatement). z.line) same in omega (arith, next.reaches)
+        | suc i ↦ λ e. next.not_behind i t e
+      ] at;
+      reaches = omega (arith, start.0, next.reaches);
+      goes_on = next.goes_on;
+    }
+
+-- a statement of a half is spelled
+spelled_at : (half : _) (ss : List RawStatement) (tokens : List Token) (k : ℕ) (s : RawStatement) → SpellsStatements half ss tokens → slice_get ss k ≡ Some s → (own : List Token) × SpellsStatement half s own
+spelled_at half [] tokens k s is at = absurd (none_at k s at)
+spelled_at half (s ∷ ss) tokens zero t (own, rest, spelled, others, is) at = (own, subst (λ x. SpellsStatement half x own) (same_Some s t at) spelled)
+spelled_at half (s ∷ ss) tokens (suc k) t (own, rest, spelled, others, is) at = spelled_at half ss rest k t others at
+
+short_operand : (o : RawOperand) (t : Token) (name : List ℕ) → SpellsOperand o t → o ≡ raw_operands.Register name → length name ≤ 200
+short_operand (raw_operands.Register other) t name spelled is = let same : other ≡ name = cc in subst (λ n. length n ≤ 200) same spelled.0
+short_operand (raw_operands.Literal z) t name spelled is = absurd (cc)
+
+-- a copy with short names, as a half may spell one
+abbrev CopiesShort : (RawOp → List Token → Type 0) → Type 0
+CopiesShort Spells = (written : Option ℕ) (a : RawOperand) (tokens : List Token) (name : List ℕ) → Spells (raw_ops.Copy written a) tokens → Uses (raw_ops.Copy written a) name → length name ≤ 200
+
+copy_short : (written : Option ℕ) (a : RawOperand) (tokens : List Token) (name : List ℕ) → SpellsCopy written a tokens → Uses (raw_ops.Copy written a) name → length name ≤ 200
+copy_short None a tokens name spelled (zero, within, is) = short_operand a spelled.0 name spelled.1 is
+copy_short (Some width) a tokens name spelled (zero, within, is) = short_operand a spelled.1 name spelled.3 is
+copy_short written a tokens name spelled (suc k, within, is) = absurd (omega arith)
+
+short_use : (half : _) → CopiesShort (SpellsOp half) → (op : RawOp) (tokens : List Token) (name : List ℕ) → SpellsOp half op tokens → Uses op name → length name ≤ 200
+short_use half copies (raw_ops.Binary op width a b) tokens name spelled (zero, within, is) = short_operand a spelled.left name spelled.is_left is
+short_use half copies (raw_ops.Binary op width a b) tokens name spelled (suc zero, within, is) = short_operand b spelled.right name spelled.is_right is
+short_use half copies (raw_ops.Binary op width a b) tokens name spelled (suc (suc k), within, is) = absurd (omega arith)
+short_use half copies (raw_ops.Copy written a) tokens name spelled used = copies written a tokens name spelled used
+
+no_copies : (half : _) → ((written : Option ℕ) (a : RawOperand) (tokens : List Token) → ¬ SpellsOp half (raw_ops.Copy written a) tokens) → (op : RawOp) (tokens : List Token) → SpellsOp half op tokens → MayStandInSource op
+no_copies half none (raw_ops.Binary op width a b) tokens spelled = tt
+no_copies half none (raw_ops.Copy written a) tokens spelled = absurd (none written a tokens spelled)
+
+source_ops : (half : _) → ((written : Option ℕ) (a : RawOperand) (tokens : List Token) → ¬ SpellsOp half (raw_ops.Copy written a) tokens) → (ss : List RawStatement) (tokens : List Token) → SpellsHalf half ss tokens → (k : ℕ) (s : RawStatement) → slice_get ss k ≡ Some s → MayStandInSource s.op
+source_ops half none ss tokens spelled k s at = let own = (spelled_at half ss tokens k s spelled.spelled at).1 in no_copies half none s.op own.op own.is_op
+
+is_half : (half : _) → CopiesShort (SpellsOp half) → (ss : List RawStatement) (tokens : List Token) → SpellsHalf half ss tokens → AreInLineOrder ss → IsHalf ss
+is_half half copies ss tokens spelled in_order =
+    record {
+      some = spelled.some;
+      few = spelled.most;
+      in_order = in_order;
+      short_names = λ k s at. (spelled_at half ss tokens k s spelled.spelled at).1.name;
+      short_uses = λ k s name at uses. let own = (spelled_at half ss tokens k s spelled.spelled at).1 in short_use half copies s.op own.op name own.is_op uses;
+    }
+
+well_formed : (low : ℕ) (raw : RawRule) (tokens behind : List Token) → SpellsRule raw tokens → Ascend low (tokens ++ behind) → IsWellFormed raw
+unfolding Ascend
+well_formed low raw tokens behind spelled up =
+    let whole : tokens ++ behind ≡ Line raw.line ∷ Head (codes "Name:") ∷ Name raw.name ∷ (spelled.source ++ (Line spelled.arrow_line ∷ Arrow ∷ (spelled.target ++ behind))) =
+    ap (λ l. l ++ behind) spelled.spelled ∙ ap (λ l. Line raw.line ∷ Head (codes "Name:") ∷ Name raw.name ∷ l) (append_assoc spelled.source (Line spelled.arrow_line ∷ Arrow ∷ spelled.target) behind) in
+    let start = subst (λ l. Ascend low l) whole up in
+    let source = ordered _ raw.line raw.source spelled.source (Line spelled.arrow_line ∷ Arrow ∷ (spelled.target ++ behind)) spelled.is_source.spelled start.1 in
+    let target = ordered _ spelled.arrow_line raw.target spelled.target behind spelled.is_target.spelled source.goes_on.1 in
+    record {
+      short_name = spelled.name.1;
+      source = is_half _ (λ written a tokens name never. absurd never) raw.source spelled.source spelled.is_source source.in_order;
+      target = is_half _ copy_short raw.target spelled.target spelled.is_target target.in_order;
+      name_first = source.not_before;
+      source_first = λ j k s t at at'. let le : s.line ≤ source.last = source.not_behind j s at in let le' : spelled.arrow_line ≤ t.line = target.not_before k t at' in omega (arith, source.goes_on.0);
+      source_ops = source_ops _ (λ written a tokens never. never) raw.source spelled.source spelled.is_source;
+    }
+
+rules_well_formed : (low : ℕ) (raws : List RawRule) (tokens : List Token) → SpellsRules raws tokens → Ascend low tokens → (k : ℕ) (raw : RawRule) → slice_get raws k ≡ Some raw → IsWellFormed raw
+rules_well_formed low [] tokens spelled up k raw at = absurd (none_at k raw at)
+rules_well_formed low (rule ∷ rules) tokens (own, rest, spelled, others, is) up zero raw at =
+    subst IsWellFormed (same_Some rule raw at) (well_formed low rule own rest spelled (subst (Ascend low) is up))
+rules_well_formed low (rule ∷ rules) tokens (own, rest, spelled, others, is) up (suc k) raw at =
+    let (m, le, later) = skip low own rest (subst (Ascend low) is up) in
+    rules_well_formed m rules rest others later k raw at
+
+-- each rule of a text as written is well formed
+pub written_well_formed : (text : List ℕ) (raws : List RawRule) → IsWritten text raws → (k : ℕ) (raw : RawRule) → slice_get raws k ≡ Some raw → IsWellFormed raw
+written_well_formed text raws written k raw at =
+    rules_well_formed (line_of text 0) raws written.tokens written.spelled (up_from text (AtToken false) 0 0 written.last written.tokens written.are_tokens) k raw at

@@ -1,0 +1,7 @@
+-- no statement so far is one
+use Rattle.rule_reader.specs.Kinds.{AssignsAgain}
+use Rattle.rule_reader.proofs.Firsts.{NoneBefore}
+use Rattle.rule_reader.proofs.checks.assigned_again.Given as goal
+
+abbrev pub invariant-loop-place : goal.invariant-loop-place
+invariant-loop-place l = NoneBefore l.statements (AssignsAgain l.statements) l.place

@@ -1,0 +1,11 @@
+pub mod Naming
+pub mod Inputs
+pub mod WellFormed
+pub mod Refusing
+pub mod Kinds
+pub mod Resolving
+pub mod Ready
+pub mod Faults
+pub mod Laws
+pub mod ClassFaults
+pub mod Marks

@@ -1,0 +1,90 @@
+//! The rules of a text.
+
+ghost use Rattle.std.specs.Prelude.{◌≤◌, ◌<◌, List as Seq, length, map, IfOk, IfErr, OnOk, All, Some};
+ghost use Rattle.rule_parse.specs.declared.raw.RawRule.{RawRule as written_rule};
+ghost use Rattle.rule_core.specs.Checks.{IsRule, AreDistinct};
+ghost use Rattle.rule_typing.specs.Classes.{IsClassified};
+ghost use Rattle.rule_typing.specs.Faults.{HasNoFault};
+ghost use Rattle.rule_reader.specs.WellFormed.{IsWellFormed};
+ghost use Rattle.rule_reader.specs.Marks.{Marks};
+ghost use Rattle.rule_reader.specs.ClassFaults.{IsClassifiedAs, IsClassFault};
+ghost use Rattle.rule_reader.specs.Ready.{HasFixedClasses};
+ghost use Rattle.rule_reader.specs.Refusing.{IfRefused};
+ghost use Rattle.rule_reader.specs.Faults.{IsRuleOf, IsFirstFault, IsRuleFile, IsFault};
+
+use crate::checks::{duplicate, redefined, root_missing, unused};
+use crate::fault::{RuleError, RuleFaultKind, refused};
+use crate::inputs::inputs;
+use crate::repeated::repeated_names;
+use crate::resolve::resolved;
+use rule_core::Rule;
+use rule_parse::{RawRule, parse_rules};
+use rule_typing::classify;
+use std::alloc::Global;
+
+/// The most bytes of a rule file.
+const MOST_BYTES: usize = 1_048_576;
+
+/// The rules of a text, in order, or its first fault: its length, then the first token that does not fit, and then rule by rule the
+/// first kind of [`RuleFaultKind`] in their order, at its first line.
+///
+/// It takes as many steps as the text has bytes, and for each rule as many more as the squares of its statements and operands,
+/// which are at most 64 and 128.
+pub fn read_rules(alloc: Global, bytes: &[u8]) -> Result<Vec<Rule>, RuleError>
+    ensures ok { IfOk result (λ rules. IsRuleFile bytes.now rules.items) }
+    ensures limit { OnOk result (length bytes.now ≤ 1048576) }
+    ensures refused { IfErr result (λ e. IfRefused e (IsFault bytes.now)) }
+
+    // What a rule that is read meets.
+    ensures rules { IfOk result (λ rules. All IsRule rules.items) }
+    ensures classes { IfOk result (λ rules. All IsClassified rules.items) }
+    ensures typed { IfOk result (λ rules. All HasNoFault rules.items) }
+    ensures fixed { IfOk result (λ rules. All HasFixedClasses rules.items) }
+    ensures names { IfOk result (λ rules. AreDistinct (map (λ rule. rule.name) rules.items)) }
+{
+    if bytes.len() > MOST_BYTES {
+        return Err(refused(1, RuleFaultKind::TooLong));
+    }
+    let raws = parse_rules(alloc, bytes)?;
+    let repeated = repeated_names(alloc, &raws)?;
+    let mut rules = Vec::new(alloc);
+    for place in 0..raws.len() {
+        rules.push(checked(alloc, &raws[place], repeated[place])?)?;
+    }
+    Ok(rules)
+}
+
+/// The rule that is meant, or its first fault.
+fn checked(alloc: Global, raw: &RawRule, is_repeated: bool) -> Result<Rule, RuleError>
+    requires { IsWellFormed raw.now }
+    ensures ok { IfOk result (λ rule. (earlier : Seq written_rule) → Marks is_repeated earlier raw.now → IsRuleOf earlier raw.now rule) }
+    ensures refused { IfErr result (λ e. IfRefused e (λ fault. (earlier : Seq written_rule) → Marks is_repeated earlier raw.now → IsFirstFault earlier raw.now fault)) }
+{
+    if let Some(line) = duplicate(raw, is_repeated) {
+        return Err(refused(line, RuleFaultKind::Duplicate));
+    }
+    let inputs = inputs(alloc, raw.source.as_slice())?;
+    let rule = resolved(alloc, raw, inputs)?;
+    if let Some(line) = root_missing(raw) {
+        return Err(refused(line, RuleFaultKind::RootMissing));
+    }
+    if let Some(line) = redefined(raw, rule.inputs.as_slice()) {
+        return Err(refused(line, RuleFaultKind::Redefines));
+    }
+    if let Some(line) = unused(raw.source.as_slice()) {
+        return Err(refused(line, RuleFaultKind::UnusedTemp));
+    }
+    classified(rule, raw.line)
+}
+
+/// The rule with its classes, or the fault of these.
+fn classified(mut rule: Rule, line: usize) -> Result<Rule, RuleError>
+    requires { IsRule rule }
+    ensures ok { IfOk result (IsClassifiedAs rule) }
+    ensures refused { IfErr result (λ e. IfRefused e (IsClassFault rule line)) }
+{
+    match classify(&mut rule) {
+        Ok(()) => Ok(rule),
+        Err(fault) => Err(refused(line, fault.into())),
+    }
+}

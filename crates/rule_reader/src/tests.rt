@@ -1,0 +1,180 @@
+//! Rule files at a table that was worked out by hand.
+
+use super::*;
+use std::alloc::{AllocError, Global};
+use std::test::Fail;
+
+/// How a kind is called.
+fn name(kind: &RuleFaultKind) -> &'static str {
+    match kind {
+        RuleFaultKind::TooLong => "TooLong",
+        RuleFaultKind::BadByte => "BadByte",
+        RuleFaultKind::Syntax => "Syntax",
+        RuleFaultKind::LeftOut(_) => "LeftOut",
+        RuleFaultKind::TooMany => "TooMany",
+        RuleFaultKind::Duplicate => "Duplicate",
+        RuleFaultKind::Unbound => "Unbound",
+        RuleFaultKind::RootMissing => "RootMissing",
+        RuleFaultKind::Redefines => "Redefines",
+        RuleFaultKind::UnusedTemp => "UnusedTemp",
+        RuleFaultKind::UndefInside => "UndefInside",
+        RuleFaultKind::WitnessCount => "WitnessCount",
+        RuleFaultKind::NoType => "NoType",
+        RuleFaultKind::OpenType => "OpenType",
+    }
+}
+
+/// The kind and line of a text's fault, or `rules` and how many it has.
+fn outcome(alloc: Global, text: &[u8]) -> (&'static str, usize) {
+    match read_rules(alloc, text) {
+        Ok(rules) => ("rules", rules.len()),
+        Err(RuleError::Refused(fault)) => (name(&fault.kind), fault.line),
+        Err(RuleError::NoMemory) => ("NoMemory", 0),
+    }
+}
+
+const ROWS: [(&[u8], &str, usize); 24] = [
+    (b"Name: x", "Syntax", 1),
+    (b"Name: a\n%r = or i8 \x80%x, 1\n", "BadByte", 2),
+    (
+        b"Name: a\nPre: C == 1\n%r = or i1 %x, 0\n=>\n%r = %x\n",
+        "LeftOut",
+        2,
+    ),
+    (
+        b"Name: xor-self\n%r = xor i4 %x, %x\n=>\n%r = and i4 %x, 0\n",
+        "rules",
+        1,
+    ),
+    (
+        b"Name: a\n%r = or i1 %x, 0\n=>\n%r = %x\nName: b\n%r = or i1 %x, 0\n=>\n%r = %x",
+        "rules",
+        2,
+    ),
+    (
+        b"Name: a\n%r = or i1 %x, 0\n=>\n%r = %x\nName: a\n%r = or i1 %x, 0\n=>\n%r = %x",
+        "Duplicate",
+        5,
+    ),
+    (
+        b"Name: a\n%r = or i8 %x, 1\n%r = or i8 %x, 1\n=>\n%r = 1\n",
+        "Duplicate",
+        3,
+    ),
+    (
+        b"Name: a\n%r = or i8 %x, 1\n=>\n%t = or i8 %x, 1\n%t = or i8 %x, 2\n%r = %t\n",
+        "Duplicate",
+        5,
+    ),
+    (b"Name: a\n%r = or i8 %r, 1\n=>\n%r = %x\n", "Unbound", 2),
+    (
+        b"Name: a\n%t = or i8 %s, 1\n%s = or i8 %t, 1\n=>\n%s = %t\n",
+        "Unbound",
+        2,
+    ),
+    (
+        b"Name: a\n%r = or i8 %x, 1\n=>\n%t = or i8 %r, 1\n%r = %t\n",
+        "Unbound",
+        4,
+    ),
+    (b"Name: a\n%r = or i8 %x, 1\n=>\n%r = %y\n", "Unbound", 4),
+    (
+        b"Name: a\n%r = or i8 %x, 1\n=>\n%s = or i8 %x, 1\n",
+        "RootMissing",
+        4,
+    ),
+    (
+        b"Name: a\n%r = or i8 %x, 1\n=>\n%x = or i8 1, 1\n%r = 1\n",
+        "Redefines",
+        4,
+    ),
+    (
+        b"Name: a\n%t = or i8 %x, 1\n%r = or i8 %t, 1\n=>\n%t = or i8 1, 1\n%r = 1\n",
+        "Redefines",
+        5,
+    ),
+    (
+        b"Name: a\n%t = or i8 %x, 1\n%r = or i8 %x, 1\n=>\n%r = 1\n",
+        "UnusedTemp",
+        2,
+    ),
+    (b"Name: a\n%r = or i1 %x, 2\n=>\n%r = %x\n", "NoType", 1),
+    (
+        b"Name: a\n%r = or i8 %x, 1\n=>\n%t = 5\n%r = %x\n",
+        "OpenType",
+        1,
+    ),
+    // Two faults in one rule: the first kind, though it stands on a later line.
+    (
+        b"Name: a\n%r = or i8 %x, 1\n=>\n%x = or i8 1, 1\n%s = %y\n",
+        "Unbound",
+        5,
+    ),
+    (
+        b"Name: a\n%r = or i8 %x, 1\n=>\n%x = or i8 1, 1\n%s = 1\n",
+        "RootMissing",
+        5,
+    ),
+    (
+        b"Name: a\n%t = or i8 %x, 1\n%r = or i8 %x, 1\n=>\n%x = or i8 1, 1\n%r = 1\n",
+        "Redefines",
+        5,
+    ),
+    (
+        b"Name: a\n%r = or i1 %x, 2\n=>\n%t = 5\n%r = %x\n",
+        "NoType",
+        1,
+    ),
+    // Two faulty rules: all kinds of the first one come first.
+    (
+        b"Name: a\n%t = or i8 %x, 1\n%r = or i8 %x, 1\n=>\n%r = 1\nName: a\n%r = or i1 %x, 0\n=>\n%r = %x",
+        "UnusedTemp",
+        2,
+    ),
+    // One fault at two places: the first line.
+    (
+        b"Name: a\n%r = or i8 %x, 1\n=>\n%x = or i8 %y, 1\n%r = %z\n",
+        "Unbound",
+        4,
+    ),
+];
+
+/// A rule of which the name has so many bytes, and the target so many temporaries that nothing uses.
+fn long_rule(alloc: Global, name_bytes: usize, temporaries: usize) -> Result<Vec<u8>, AllocError> {
+    let mut text = Vec::from_slice(alloc, b"Name: ")?;
+    for _ in 0..name_bytes {
+        text.push(b'n')?;
+    }
+    text.extend_from_slice(b"\n%r = or i8 %x, 1\n=>\n")?;
+    for place in 0..temporaries {
+        text.extend_from_slice(b"%t")?;
+        text.push(b'0' + (place % 10) as u8)?;
+        text.extend_from_slice(b" = or i8 1, 1\n")?;
+    }
+    text.extend_from_slice(b"%r = %x\n")?;
+    Ok(text)
+}
+
+#[test]
+fn texts_have_their_rules_or_faults(rt: HostRuntime) -> Result<(), Fail> {
+    let alloc = rt.alloc();
+    for (text, kind, line) in &ROWS {
+        assert_eq!(rt; outcome(alloc, text), (*kind, *line), "in {text:?}");
+    }
+    for (name_bytes, temporaries, kind) in [
+        (200, 7, "rules"),
+        (201, 7, "TooMany"),
+        (200, 8, "TooMany"),
+    ] {
+        let text = long_rule(alloc, name_bytes, temporaries)?;
+        assert_eq!(rt;
+            outcome(alloc, &text),
+            (kind, 1),
+            "{name_bytes} bytes, {temporaries} temporaries"
+        );
+    }
+    let comment = vec![in alloc; b';'; 1_048_577]?;
+    assert_eq!(rt; outcome(alloc, &comment), ("TooLong", 1));
+    assert_eq!(rt; outcome(alloc, &comment[1..]), ("rules", 0));
+    Ok(())
+}
