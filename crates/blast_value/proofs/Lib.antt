@@ -1,0 +1,6 @@
+pub mod Counts
+pub mod Digits
+pub mod Effects
+pub mod Numbers
+pub mod Moves
+pub mod Operands

@@ -1,0 +1,41 @@
+-- The operands that an instruction takes, from their widths.
+use Rattle.std.proofs.Common.{◌≡◌, ℕ, Bool, true, false, if◌then◌else◌, List, [], ◌∷◌, get_or, refl}
+use Rattle.ops.specs.declared.value.Value.TheVariants.{Poison}
+use Rattle.ops.specs.declared.comparison.Pred.{Pred}
+use Rattle.ops.specs.declared.conversion.Cast.{Cast}
+use Rattle.ops.specs.Value.{HasWidth}
+use Rattle.ops.specs.Integer.{bits}
+use Rattle.ops.specs.Comparison.{comparison}
+use Rattle.ops.specs.Conversion.{conversion}
+use Rattle.blast_value.specs.declared.held.Held.{Held}
+use Rattle.blast_value.specs.Effect.{widths_of}
+
+pub one_operand : {L : Type 0} (operands : List (Held L)) (k : ℕ) (x : Held L) → widths_of operands ≡ k ∷ [] → x ≡ get_or operands 0 x → operands ≡ x ∷ []
+one_operand [] k x widths at_x = cc
+one_operand (a ∷ []) k x widths at_x = rw at_x refl
+one_operand (a ∷ b ∷ operands) k x widths at_x = cc
+
+pub two_operands : {L : Type 0} (operands : List (Held L)) (k l : ℕ) (x y : Held L) → widths_of operands ≡ k ∷ l ∷ [] → x ≡ get_or operands 0 x → y ≡ get_or operands 1 y → operands ≡ x ∷ y ∷ []
+two_operands [] k l x y widths at_x at_y = cc
+two_operands (a ∷ []) k l x y widths at_x at_y = cc
+two_operands (a ∷ b ∷ []) k l x y widths at_x at_y = cc
+two_operands (a ∷ b ∷ d ∷ operands) k l x y widths at_x at_y = cc
+
+pub three_operands : {L : Type 0} (operands : List (Held L)) (k l m : ℕ) (x y z : Held L) → widths_of operands ≡ k ∷ l ∷ m ∷ [] → x ≡ get_or operands 0 x → y ≡ get_or operands 1 y → z ≡ get_or operands 2 z → operands ≡ x ∷ y ∷ z ∷ []
+three_operands [] k l m x y z widths at_x at_y at_z = cc
+three_operands (a ∷ []) k l m x y z widths at_x at_y at_z = cc
+three_operands (a ∷ b ∷ []) k l m x y z widths at_x at_y at_z = cc
+three_operands (a ∷ b ∷ d ∷ []) k l m x y z widths at_x at_y at_z = cc
+three_operands (a ∷ b ∷ d ∷ e ∷ operands) k l m x y z widths at_x at_y at_z = cc
+
+-- whatever width the values have, the effect is the one over that of the words
+pub comparison_width : (x y : Bool) (pred : Pred) (l k a b m : ℕ) → HasWidth (if x then Poison else bits l a) m → comparison pred l (if x then Poison else bits l a) (if y then Poison else bits k b) ≡ comparison pred m (if x then Poison else bits l a) (if y then Poison else bits k b)
+unfolding comparison
+comparison_width true y pred l k a b m width = refl
+comparison_width false true pred l k a b m width = refl
+comparison_width false false pred l k a b m width = rw (← width) refl
+
+pub conversion_width : (x : Bool) (cast : Cast) (l to a m : ℕ) → HasWidth (if x then Poison else bits l a) m → conversion cast l to (if x then Poison else bits l a) ≡ conversion cast m to (if x then Poison else bits l a)
+unfolding conversion
+conversion_width true cast l to a m width = refl
+conversion_width false cast l to a m width = rw (← width) refl

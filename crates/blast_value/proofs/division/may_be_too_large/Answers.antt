@@ -1,0 +1,17 @@
+use Rattle.std.proofs.lemmas.Result.{IfOk-weaker}
+use Rattle.circuits.proofs.Kept.{map-kept, Keeps-trans}
+use Rattle.blast_value.proofs.division.may_be_too_large.Goals as goal
+
+pub returns-clause-value : goal.returns-clause-value
+returns-clause-value g c =
+    let k1 = c.equals.ensures.adds.keeps in
+    let k2 = c.equals-2.ensures.adds.keeps in
+    let k3 = c.or.ensures.adds.keeps in
+    IfOk-weaker c.and.result _ _ (λ made known inputs admitted.
+    let at_1 = k1.admitted inputs admitted in
+    let at_2 = k2.admitted inputs at_1 in
+    let minus_one_kept = (Keeps-trans k2 k3).values inputs c.in_ok-by_minus_one.by_minus_one at_1 c.in_ok-by_minus_one.ensures.own in
+    let poison_kept = (Keeps-trans k1 k2).values inputs c.args.a.now.poison admitted c.requires.own_a.poison in
+    let a_kept = map-kept k1 inputs admitted c.args.a.now.bits c.requires.own_a.bits in
+    rw (minus_one_kept, c.in_ok-by_minus_one.ensures.value inputs admitted, c.in_ok-dividend.ensures.value inputs at_2, poison_kept, c.in_ok-of_least.ensures.value inputs at_1, a_kept, c.minus_one.ensures.value, c.least.ensures.value) at (known inputs (k3.admitted inputs at_2)))
+    c.and.ensures.value

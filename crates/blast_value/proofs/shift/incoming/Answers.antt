@@ -1,0 +1,6 @@
+use Rattle.circ_muldiv.proofs.Rows.{highest_bit}
+use Rattle.blast_value.proofs.shift.incoming.Goals as goal
+
+pub returns-then-signed-clause-value : goal.returns-then-signed-clause-value
+returns-then-signed-clause-value g c inputs admitted =
+    rw c.if-signed.true (highest_bit (g.C.Circuit.value c.args.c.now inputs) c.args.word.now c.sign.result c.requires.width c.sign.ensures)

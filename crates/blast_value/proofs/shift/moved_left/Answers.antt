@@ -1,0 +1,50 @@
+use Rattle.std.proofs.Common.{◌<◌, ◌≤◌, ◌+◌, ◌^◌, subst, ◌∙◌, length, arith}
+use Rattle.circuits.specs.Word.{number_of}
+use Rattle.circuits.specs.Gates.{comparison_gates, equality_gates, shift_gates}
+use Rattle.circuits.proofs.Kept.{map-kept, Keeps-trans, Adds-trans, Adds-weaken}
+use Rattle.circ_muldiv.proofs.OverflowTests.{number_below}
+use Rattle.blast_value.specs.Gates.{left_gates}
+use Rattle.blast_value.proofs.Moves.{left_value}
+use Rattle.blast_value.proofs.shift.moved_left.Goals as goal
+
+pub returns-clause-value : goal.returns-clause-value
+returns-clause-value g c inputs admitted =
+    let m = g.C.Circuit in
+    let k1 = c.is_too_far.ensures.adds.keeps in
+    let k2 = c.shift_left.ensures.adds.keeps in
+    let k3 = c.loses.ensures.adds.keeps in
+    let k4 = c.loses-2.ensures.adds.keeps in
+    let k5 = c.or.ensures.adds.keeps in
+    let k6 = c.or-2.ensures.adds.keeps in
+    let to_2 = Keeps-trans k1 k2 in
+    let to_3 = Keeps-trans to_2 k3 in
+    let at_1 = k1.admitted inputs admitted in
+    let at_2 = k2.admitted inputs at_1 in
+    let at_3 = k3.admitted inputs at_2 in
+    let at_4 = k4.admitted inputs at_3 in
+    let at_5 = k5.admitted inputs at_4 in
+    let width = c.in_ok-bits.ensures.width ∙ c.requires.width_a in
+    let a_1 = map-kept k1 inputs admitted c.args.a.now c.requires.own_a in
+    let b_1 = map-kept k1 inputs admitted c.args.b.now c.requires.own_b in
+    let a_2 = map-kept to_2 inputs admitted c.args.a.now c.requires.own_a in
+    let b_2 = map-kept to_2 inputs admitted c.args.b.now c.requires.own_b in
+    let a_3 = map-kept to_3 inputs admitted c.args.a.now c.requires.own_a in
+    let b_3 = map-kept to_3 inputs admitted c.args.b.now c.requires.own_b in
+    let bits = c.in_ok-bits.bits in
+    let bits_3 = map-kept k3 inputs at_2 bits c.in_ok-bits.ensures.own in
+    let bits_6 = map-kept (Keeps-trans (Keeps-trans (Keeps-trans k3 k4) k5) k6) inputs at_2 bits c.in_ok-bits.ensures.own in
+    let below : number_of (m.value c.args.c.now inputs) c.args.a.now < 2 ^ c.args.width = subst (λ n. number_of (m.value c.args.c.now inputs) c.args.a.now < 2 ^ n) c.requires.width_a (number_below (m.value c.args.c.now inputs) c.args.a.now) in
+    let number_2 = rw (a_1, b_1, c.requires.width_a) at (c.in_ok-bits.ensures.number inputs at_1) in
+    let far_kept = (Keeps-trans (Keeps-trans (Keeps-trans k2 k3) k4) k5).values inputs c.in_ok-is_far.is_far at_1 c.in_ok-is_far.ensures.own in
+    let wraps_kept = k4.values inputs c.in_ok-wraps.wraps at_3 c.in_ok-wraps.ensures.own in
+    rw bits_6
+    (left_value c.args.flags c.args.width (number_of (m.value c.args.c.now inputs) c.args.a.now) (number_of (m.value c.args.c.now inputs) c.args.b.now) _ _ _ _ _ _ below width number_2
+    (far_kept ∙ c.in_ok-is_far.ensures.value inputs admitted)
+    (wraps_kept ∙ rw (a_2, b_2, c.requires.width_a) at (c.in_ok-wraps.ensures.value inputs at_2))
+    (rw (a_3, b_3, bits_3, c.requires.width_a) at (c.in_ok-wraps_signed.ensures.value inputs at_3))
+    (rw (c.in_ok-breaks.ensures.value inputs at_4) at (c.in_ok-poison.ensures.value inputs at_5)))
+
+pub returns-clause-adds : goal.returns-clause-adds
+returns-clause-adds g c =
+    let few : comparison_gates c.args.width + shift_gates (length c.args.a.now) (length c.args.b.now) + (shift_gates (length c.args.a.now) (length c.args.a.now) + equality_gates (length c.args.a.now)) + (shift_gates (length c.args.a.now) (length c.args.a.now) + equality_gates (length c.args.a.now)) + 1 + 1 ≤ left_gates c.args.width = rw (c.requires.width_a, c.requires.width_b) (omega arith) in
+    Adds-weaken (Adds-trans (Adds-trans (Adds-trans (Adds-trans (Adds-trans c.is_too_far.ensures.adds c.shift_left.ensures.adds) c.loses.ensures.adds) c.loses-2.ensures.adds) c.or.ensures.adds) c.or-2.ensures.adds) few

@@ -1,0 +1,34 @@
+use Rattle.std.proofs.Common.{◌<◌, ◌^◌, subst, ◌∙◌}
+use Rattle.circuits.specs.Word.{number_of}
+use Rattle.circuits.proofs.Kept.{map-kept, Keeps-trans}
+use Rattle.circ_muldiv.proofs.OverflowTests.{number_below}
+use Rattle.blast_value.proofs.Moves.{right_value}
+use Rattle.blast_value.proofs.shift.moved_right.Goals as goal
+
+pub returns-clause-value : goal.returns-clause-value
+returns-clause-value g c inputs admitted =
+    let m = g.C.Circuit in
+    let k1 = c.is_too_far.ensures.adds.keeps in
+    let k2 = c.shift_right.ensures.adds.keeps in
+    let k3 = c.cuts.ensures.adds.keeps in
+    let k4 = c.or.ensures.adds.keeps in
+    let to_2 = Keeps-trans k1 k2 in
+    let at_1 = k1.admitted inputs admitted in
+    let at_2 = k2.admitted inputs at_1 in
+    let at_3 = k3.admitted inputs at_2 in
+    let width = c.in_ok-bits.ensures.width ∙ c.requires.width_a in
+    let a_1 = map-kept k1 inputs admitted c.args.a.now c.requires.own_a in
+    let b_1 = map-kept k1 inputs admitted c.args.b.now c.requires.own_b in
+    let a_2 = map-kept to_2 inputs admitted c.args.a.now c.requires.own_a in
+    let b_2 = map-kept to_2 inputs admitted c.args.b.now c.requires.own_b in
+    let bits = c.in_ok-bits.bits in
+    let bits_4 = map-kept (Keeps-trans k3 k4) inputs at_2 bits c.in_ok-bits.ensures.own in
+    let below : number_of (m.value c.args.c.now inputs) c.args.a.now < 2 ^ c.args.width = subst (λ n. number_of (m.value c.args.c.now inputs) c.args.a.now < 2 ^ n) c.requires.width_a (number_below (m.value c.args.c.now inputs) c.args.a.now) in
+    let top = rw (a_1, c.requires.width_a) at (c.incoming-top.ensures.value inputs at_1) in
+    let number_2 = rw (a_1, b_1, c.requires.width_a) at (c.in_ok-bits.ensures.number inputs at_1) in
+    let far_kept = (Keeps-trans k2 k3).values inputs c.in_ok-is_far.is_far at_1 c.in_ok-is_far.ensures.own in
+    rw bits_4
+    (right_value c.args.exact c.args.signed c.args.width (number_of (m.value c.args.c.now inputs) c.args.a.now) (number_of (m.value c.args.c.now inputs) c.args.b.now) _ _ _ _ _ (m.value c.is_too_far.new.c inputs c.incoming-top.result) below width top number_2
+    (far_kept ∙ c.in_ok-is_far.ensures.value inputs admitted)
+    (rw (a_2, b_2, c.requires.width_a) at (c.in_ok-lost.ensures.value inputs at_2))
+    (c.in_ok-poison.ensures.value inputs at_3))

@@ -1,0 +1,98 @@
+-- The families of the instructions with two operands, as the Language Reference groups them, and their results at numbers.
+use Rattle.std.specs.Prelude.{ℕ, ◌+◌, ◌-◌, ◌*◌, ◌^◌, ◌/◌, ◌%◌, nat_le, ◌&&◌, Bool, true, false, ℤ, ◌+ℤ◌, ◌-ℤ◌, ◌*ℤ◌, unsigned_abs, bit_and, bit_or, bit_xor}
+use Rattle.ops.specs.declared.value.Value.{Value}
+use Rattle.ops.specs.declared.opcode.Opcode.{Opcode}
+use Rattle.ops.specs.declared.opcode.Opcode.TheVariants as opcodes
+use Rattle.ops.specs.declared.opcode.Flags.{Flags}
+use Rattle.ops.specs.declared.comparison.Pred.{Pred}
+use Rattle.ops.specs.declared.comparison.Pred.TheVariants.{Eq, Ne, Ugt, Uge, Ult, Ule, Sgt, Sge, Slt, Sle}
+use Rattle.ops.specs.Flags.{no_flags}
+use Rattle.ops.specs.Integer.{bits, signed, residue}
+use Rattle.ops.specs.Division.{divides, quotient, remainder, exactly}
+use Rattle.ops.specs.Shifts as shifts
+use Rattle.circuits.specs.Word.{bit}
+use Rattle.blast_value.specs.declared.arithmetic.Arithmetic.{Arithmetic}
+use Rattle.blast_value.specs.declared.arithmetic.Arithmetic.TheVariants.{Add, Sub, Mul}
+use Rattle.blast_value.specs.declared.bitwise.Bitwise.{Bitwise}
+use Rattle.blast_value.specs.declared.bitwise.Bitwise.TheVariants.{And, Or, Xor}
+use Rattle.blast_value.specs.declared.division.Division.{Division}
+use Rattle.blast_value.specs.declared.division.Division.TheVariants.{UDiv, SDiv, URem, SRem}
+use Rattle.blast_value.specs.declared.shift.Shift.{Shift}
+use Rattle.blast_value.specs.declared.shift.Shift.TheVariants.{Shl, LShr, AShr}
+
+abbrev pub arithmetic_opcode : Arithmetic → Opcode
+arithmetic_opcode Add = opcodes.Add
+arithmetic_opcode Sub = opcodes.Sub
+arithmetic_opcode Mul = opcodes.Mul
+
+abbrev pub division_opcode : Division → Opcode
+division_opcode UDiv = opcodes.UDiv
+division_opcode SDiv = opcodes.SDiv
+division_opcode URem = opcodes.URem
+division_opcode SRem = opcodes.SRem
+
+abbrev pub shift_opcode : Shift → Opcode
+shift_opcode Shl = opcodes.Shl
+shift_opcode LShr = opcodes.LShr
+shift_opcode AShr = opcodes.AShr
+
+abbrev pub bitwise_opcode : Bitwise → Opcode
+bitwise_opcode And = opcodes.And
+bitwise_opcode Or = opcodes.Or
+bitwise_opcode Xor = opcodes.Xor
+
+-- the whole number that a sum, a difference or a product is
+abbrev pub exact : Arithmetic → ℤ → ℤ → ℤ
+exact Add y z = y +ℤ z
+exact Sub y z = y -ℤ z
+exact Mul y z = y *ℤ z
+
+-- the operands are read as signed numbers
+abbrev pub is_signed : Division → Bool
+is_signed UDiv = false
+is_signed SDiv = true
+is_signed URem = false
+is_signed SRem = true
+
+-- a quotient or a remainder, where there is one
+abbrev pub divided : Division → Flags → ℕ → ℕ → ℕ → Value
+divided UDiv flags N a b = exactly flags (divides b a) (bits N (a / b))
+divided SDiv flags N a b =
+    let y = signed N a in
+    let z = signed N b in
+    exactly flags (divides (unsigned_abs z) (unsigned_abs y)) (bits N (residue N (quotient y z)))
+divided URem flags N a b = bits N (a % b)
+divided SRem flags N a b = bits N (residue N (remainder (signed N a) (signed N b)))
+
+abbrev pub shifted : Shift → Flags → ℕ → ℕ → ℕ → Value
+shifted Shl flags N a b = shifts.shl flags N a b
+shifted LShr flags N a b = shifts.lshr flags N a b
+shifted AShr flags N a b = shifts.ashr flags N a b
+
+-- the floor of a number, or of a signed one, by 2 ^ b; poison where b is not below N, and where 2 ^ b was to divide it and doesn't
+abbrev pub floor : Bool → Bool → ℕ → ℕ → ℕ → Value
+floor exact false N a b = shifts.lshr (record no_flags { exact = exact }) N a b
+floor exact true N a b = shifts.ashr (record no_flags { exact = exact }) N a b
+
+-- the number n of N bits shifted to the right, its highest bit coming in where it is read as signed
+abbrev pub moved_back : Bool → ℕ → ℕ → ℕ → ℕ
+moved_back is_signed N n b =
+    (n + bit (is_signed && nat_le (2 ^ (N - 1)) n) * (2 ^ (N + b) - 2 ^ N)) / 2 ^ b
+
+abbrev pub bitwise : Bitwise → ℕ → ℕ → ℕ
+bitwise And a b = bit_and a b
+bitwise Or a b = bit_or a b
+bitwise Xor a b = bit_xor a b
+
+-- the predicate is the negation of one by which numbers are equal or one of them is below the other
+abbrev pub is_negation : Pred → Bool
+is_negation Eq = false
+is_negation Ne = true
+is_negation Ugt = false
+is_negation Uge = true
+is_negation Ult = false
+is_negation Ule = true
+is_negation Sgt = false
+is_negation Sge = true
+is_negation Slt = false
+is_negation Sle = true

@@ -1,0 +1,85 @@
+-- How many gates the circuit of an instruction adds at most.
+use Rattle.std.specs.Prelude.{ℕ, ◌+◌, ◌*◌, max, fold, Bool, true, false, List}
+use Rattle.ops.specs.declared.opcode.Opcode.{Opcode}
+use Rattle.ops.specs.declared.opcode.Opcode.TheVariants.{Add, Sub, Mul, UDiv, SDiv, URem, SRem, Shl, LShr, AShr, And, Or, Xor}
+use Rattle.circuits.specs.Gates.{adder_gates, comparison_gates, equality_gates, select_gates, shift_gates}
+use Rattle.circ_muldiv.specs.Gates.{product_gates, overflow_add_gates, overflow_mul_gates, division_gates, signed_division_gates}
+use Rattle.blast_value.specs.declared.arithmetic.Arithmetic.{Arithmetic}
+use Rattle.blast_value.specs.declared.arithmetic.Arithmetic.TheVariants as arithmetic
+use Rattle.blast_value.specs.declared.shift.Shift.{Shift}
+use Rattle.blast_value.specs.declared.shift.Shift.TheVariants as shift
+use Rattle.blast_value.specs.declared.instruction.Instruction.{Instruction}
+use Rattle.blast_value.specs.declared.instruction.Instruction.TheVariants.{Binary, Compare, Select, Convert}
+
+-- The poison of two operands and of what is made of their numbers.
+abbrev pub poison_gates : ℕ
+poison_gates = 2
+
+-- A sum, a difference or a product, and whether one overflows.
+abbrev pub result_gates : Arithmetic → ℕ → ℕ
+result_gates arithmetic.Add width = adder_gates width
+result_gates arithmetic.Sub width = adder_gates width
+result_gates arithmetic.Mul width = product_gates width
+
+abbrev pub overflow_gates : Arithmetic → ℕ → ℕ
+overflow_gates arithmetic.Add width = overflow_add_gates width
+overflow_gates arithmetic.Sub width = overflow_add_gates width
+overflow_gates arithmetic.Mul width = overflow_mul_gates width
+
+-- The two together, overflow unsigned and signed.
+abbrev pub checked_gates : Arithmetic → ℕ → ℕ
+checked_gates op width = result_gates op width + 2 * overflow_gates op width + 1
+
+-- A shift to the left, whether the amount is too large, and whether shifting back unsigned or signed gives another number.
+abbrev pub left_gates : ℕ → ℕ
+left_gates width = comparison_gates width + 3 * shift_gates width width + 2 * equality_gates width + 2
+
+-- A shift to the right, whether the amount is too large, and whether shifting back gives another number.
+abbrev pub right_gates : ℕ → ℕ
+right_gates width = comparison_gates width + 2 * shift_gates width width + equality_gates width + 1
+
+-- A shift, and whether it gives poison.
+abbrev pub moved_gates : Shift → ℕ → ℕ
+moved_gates shift.Shl width = left_gates width
+moved_gates shift.LShr width = right_gates width
+moved_gates shift.AShr width = right_gates width
+
+-- A quotient and a remainder, unsigned or signed.
+abbrev pub quotient_gates : Bool → ℕ → ℕ
+quotient_gates false width = division_gates width
+quotient_gates true width = signed_division_gates width
+
+-- The same, whether the divisor is poison or 0, and whether the dividend is poison or a remainder is left.
+abbrev pub unsigned_gates : ℕ → ℕ
+unsigned_gates width = quotient_gates false width + 2 * equality_gates width + 2
+
+-- Of signed numbers also whether the divisor is -1 and the dividend poison or the least number.
+abbrev pub signed_gates : ℕ → ℕ
+signed_gates width = quotient_gates true width + 4 * equality_gates width + 5
+
+-- An instruction with two operands of one width.
+abbrev pub opcode_gates : Opcode → ℕ → ℕ
+opcode_gates Add width = checked_gates arithmetic.Add width + poison_gates
+opcode_gates Sub width = checked_gates arithmetic.Sub width + poison_gates
+opcode_gates Mul width = checked_gates arithmetic.Mul width + poison_gates
+opcode_gates UDiv width = unsigned_gates width
+opcode_gates URem width = unsigned_gates width
+opcode_gates SDiv width = signed_gates width
+opcode_gates SRem width = signed_gates width
+opcode_gates Shl width = left_gates width + poison_gates
+opcode_gates LShr width = right_gates width + poison_gates
+opcode_gates AShr width = right_gates width + poison_gates
+opcode_gates And width = width + poison_gates
+opcode_gates Or width = width + poison_gates
+opcode_gates Xor width = width + poison_gates
+
+-- An instruction whose result has `width` bits, and whose widest operand has `operand_width`.
+abbrev pub gates_of : Instruction → ℕ → ℕ → ℕ
+gates_of (Binary op flags) width operand_width = opcode_gates op width
+gates_of (Compare pred) width operand_width = comparison_gates operand_width + 1
+gates_of Select width operand_width = select_gates width + 2
+gates_of (Convert cast) width operand_width = 0
+
+-- The greatest of widths.
+abbrev pub greatest : List ℕ → ℕ
+greatest widths = fold max 0 widths

@@ -1,0 +1,71 @@
+//! How many gates the circuit of an instruction has at most.
+ghost use Rattle.std.specs.Prelude.{◌≡◌, ◌≤◌, ◌*◌};
+ghost use Rattle.circuits.specs.Gates.{shift_gates, stages};
+ghost use Rattle.blast_value.specs.Gates.{gates_of, opcode_gates};
+ghost use Rattle.blast_value.specs.Laws.{GatesAreFew};
+
+use crate::instruction::Instruction;
+use ops::{Opcode, Width};
+
+/// The most gates that [`blast_value`](crate::blast_value) adds for an instruction whose result has `width` bits, and whose widest
+/// operand has `operand_width`. It takes no memory.
+pub fn gates_of(what: Instruction, width: Width, operand_width: Width) -> u32
+    ensures { result ≡ gates_of what width operand_width }
+{
+    let width = width.bits();
+    match what {
+        Instruction::Binary(op, _) => opcode_gates(op, width),
+        Instruction::Compare(_) => 2 * operand_width.bits() + 1,
+        Instruction::Select => width + 2,
+        Instruction::Convert(_) => 0,
+    }
+}
+
+/// The circuit of an instruction has at most 64 gates a bit of the greatest width among its operands and result, and 64 more for
+/// each pair of bits of a product, a quotient or a remainder.
+pub fn gates_are_few()
+    ensures { GatesAreFew }
+{}
+
+/// The same of an instruction with two operands of its own width.
+fn opcode_gates(op: Opcode, width: u32) -> u32
+    requires least { 1 ≤ width }
+    requires most { width ≤ 64 }
+    ensures { result ≡ opcode_gates op width }
+{
+    let square = width * width;
+    match op {
+        Opcode::Add | Opcode::Sub => 15 * width + 9,
+        Opcode::Mul => 9 * square + 34 * width - 5,
+        Opcode::UDiv | Opcode::URem => 6 * square + 9 * width + 2,
+        Opcode::SDiv | Opcode::SRem => 6 * square + 37 * width + 6,
+        Opcode::Shl => 3 * shift_gates(width) + 6 * width + 4,
+        Opcode::LShr | Opcode::AShr => 2 * shift_gates(width) + 4 * width + 3,
+        Opcode::And | Opcode::Or | Opcode::Xor => width + 2,
+    }
+}
+
+/// The same of a shift by a word of the same width: a choice of two words for each bit that an amount below the width may need,
+/// one more such choice, and a gate for each higher bit.
+fn shift_gates(width: u32) -> u32
+    requires least { 1 ≤ width }
+    requires most { width ≤ 64 }
+    ensures value { result ≡ shift_gates width width }
+    ensures few { result ≤ 8 * width }
+{
+    let stages = stage_count(width);
+    width * stages + (width - stages) + width
+}
+
+/// The least k with `width` ≤ 2^k.
+fn stage_count(width: u32) -> u32
+    requires { width ≤ 64 }
+    ensures stages { result ≡ stages width }
+    ensures few { result ≤ 6 }
+{
+    if width <= 1 {
+        0
+    } else {
+        (width - 1).ilog2() + 1
+    }
+}

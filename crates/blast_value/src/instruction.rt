@@ -1,0 +1,16 @@
+//! Which instructions there are.
+
+use ops::{Cast, Flags, Opcode, Pred};
+
+/// An instruction, without its operands.
+#[derive(Clone, Copy, PartialEq, Eq, Debug)]
+pub enum Instruction {
+    /// An instruction with two operands of the result's width.
+    Binary(Opcode, Flags),
+    /// `icmp`: two operands of one width, and a result of one bit.
+    Compare(Pred),
+    /// `select`: a condition of one bit, and two operands of the result's width.
+    Select,
+    /// A cast: one operand of another width.
+    Convert(Cast),
+}

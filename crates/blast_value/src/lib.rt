@@ -1,0 +1,27 @@
+//! One instruction of LLVM IR in circuits: its bits, its poison bit and its undefined bit, written once for every lawful circuit.
+//!
+//! The only error of a call is want of memory. A call that is refused may leave gates, no more than it may add; the older
+//! literals keep their values, and it makes no input.
+#![tactic(auto)]
+
+mod arithmetic;
+mod bitwise;
+mod blast;
+mod comparison;
+mod constant;
+mod conversion;
+mod division;
+mod gates;
+mod held;
+mod instruction;
+mod shift;
+mod sign;
+mod strict;
+
+pub use blast::blast_value;
+pub use gates::{gates_are_few, gates_of};
+pub use held::{Blasted, Held};
+pub use instruction::Instruction;
+
+#[cfg(test)]
+mod tests;
