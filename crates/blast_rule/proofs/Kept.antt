@@ -1,0 +1,33 @@
+-- What a circuit that keeps its older literals keeps of operands.
+use Rattle.std.proofs.Common.{◌≡◌, ℕ, suc, ◌<◌, Bool, List, [], ◌∷◌, map, length, refl, arith, get_or}
+use Rattle.std.specs.List.{All}
+use Rattle.circuits.specs.Circuit.{Keeps}
+use Rattle.circuits.proofs.Kept.{All-kept, map-kept}
+use Rattle.blast_value.specs.declared.held.Held.{Held}
+use Rattle.blast_value.specs.declared.held.Blasted.{Blasted}
+use Rattle.blast_value.specs.Effect.{held_value, effect_of, IsOwn, IsOwnEffect}
+
+module _ {C L : Type 0} {has_literal : C → L → Type 0} {admits : C → List Bool → Type 0} {value : C → List Bool → L → Bool} {old new : C} (keeps : Keeps has_literal admits value old new) where
+  pub IsOwn-kept : (held : Held L) → IsOwn (has_literal old) held → IsOwn (has_literal new) held
+  IsOwn-kept held own = record { bits = All-kept keeps held.bits own.bits; poison = keeps.literals held.poison own.poison }
+
+  pub AllOwn-kept : (held : List (Held L)) → All (IsOwn (has_literal old)) held → All (IsOwn (has_literal new)) held
+  AllOwn-kept held own k d below = IsOwn-kept (get_or held k d) (own k d below)
+
+  pub held_value-kept : (inputs : List Bool) → admits old inputs → (held : Held L) → IsOwn (has_literal old) held → held_value (value new inputs) held ≡ held_value (value old inputs) held
+  held_value-kept inputs admitted held own = rw (keeps.values inputs held.poison admitted own.poison, map-kept keeps inputs admitted held.bits own.bits) refl
+
+  pub values-kept : (inputs : List Bool) → admits old inputs → (held : List (Held L)) → All (IsOwn (has_literal old)) held → map (held_value (value new inputs)) held ≡ map (held_value (value old inputs)) held
+  values-kept inputs admitted [] own = refl
+  values-kept inputs admitted (h ∷ held) own =
+      let first = held_value-kept inputs admitted h (own 0 h (omega arith)) in
+      let rest = values-kept inputs admitted held (λ k d below. own (suc k) d (omega arith)) in
+      cc
+
+  pub effect_of-kept : (inputs : List Bool) → admits old inputs → (made : Blasted L) → IsOwnEffect (has_literal old) made → effect_of (value new inputs) made ≡ effect_of (value old inputs) made
+  effect_of-kept inputs admitted made own =
+      let held : Held L = record { bits = made.bits; poison = made.poison } in
+      rw (keeps.values inputs made.undefined admitted own.undefined, held_value-kept inputs admitted held (record { bits = own.bits; poison = own.poison })) refl
+
+  pub IsOwnEffect-kept : (made : Blasted L) → IsOwnEffect (has_literal old) made → IsOwnEffect (has_literal new) made
+  IsOwnEffect-kept made own = record { bits = All-kept keeps made.bits own.bits; poison = keeps.literals made.poison own.poison; undefined = keeps.literals made.undefined own.undefined }

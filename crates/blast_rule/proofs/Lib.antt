@@ -1,0 +1,14 @@
+pub mod Widths
+pub mod Written
+pub mod Settings
+pub mod Counts
+pub mod Words
+pub mod Making
+pub mod Kept
+pub mod Steps
+pub mod Reading
+pub mod Statements
+pub mod Runs
+pub mod Effects
+pub mod Whole
+pub mod Sample

@@ -1,0 +1,95 @@
+-- A run of statements in literals, one statement more.
+use Rattle.std.proofs.Common.{◌≡◌, ℕ, zero, suc, ◌+◌, ◌-◌, ◌<◌, ◌≤◌, ◌^◌, Bool, true, false, List, [], ◌∷◌, ◌++◌, length, map, take, Some, refl, sym, ap, subst, ◌∙◌, arith, get_or}
+use Rattle.std.specs.Prelude.{slice_get, sum_by}
+use Rattle.std.specs.List.{All}
+use Rattle.std.proofs.lemmas.List.{map-append, length-map, take_more, take_all}
+use Rattle.std.proofs.lemmas.List.Sums.{sum_by_push, sum_by-cons}
+use Rattle.std.proofs.lemmas.Nat.{pow_pos}
+use Rattle.std.proofs.lemmas.Option.{same_Some, slice_get-get_or, slice_get_within, get_or_from_slice_get}
+use Rattle.ops.specs.Number.{Number}
+use Rattle.ops.specs.Value.{IsValueOf}
+use Rattle.circuits.specs.Circuit.{Keeps}
+use Rattle.rule_core.specs.declared.rule.Statement.{Statement}
+use Rattle.rule_core.specs.Run.{Held as Registry, StatementGives, Follows, holding_source, holding_target}
+use Rattle.rule_core.specs.Readiness.{ValuesFit}
+use Rattle.rule_core.proofs.Ready.{ValuesFit-push}
+use Rattle.blast_value.specs.declared.held.Held.{Held}
+use Rattle.blast_value.specs.declared.held.Blasted.{Blasted}
+use Rattle.blast_value.specs.Effect.{held_value, effect_of, IsOwn}
+use Rattle.blast_rule.specs.Gates.{run_gates, statement_gates}
+use Rattle.blast_rule.specs.Running.{shape, holds, ending}
+use Rattle.blast_rule.proofs.Kept.{values-kept}
+use Rattle.blast_rule.proofs.Steps.{follows-push}
+
+-- what the register of a statement holds
+abbrev pub held_after : {L : Type 0} → Blasted L → Held L
+held_after made = record { bits = made.bits; poison = made.poison }
+
+-- the gates of one statement more, and of fewer statements
+pub run_gates-more : (typing : List ℕ) (statements : List Statement) (i : ℕ) (s : Statement) → i < length statements → s ≡ get_or statements i s → run_gates typing (take (i + 1) statements) ≡ run_gates typing (take i statements) + statement_gates typing s
+run_gates-more typing statements i s within is =
+    ap (λ xs. run_gates typing xs) (take_more statements i s within ∙ ap (λ x. take i statements ++ x ∷ []) (sym is)) ∙ sum_by_push (statement_gates typing) (take i statements) s
+
+pub run_gates-fewer : (typing : List ℕ) (statements : List Statement) (i n : ℕ) → i ≤ n → run_gates typing (take i statements) ≤ run_gates typing (take n statements)
+run_gates-fewer typing statements zero n fewer = omega arith
+run_gates-fewer typing statements (suc i) zero fewer = absurd (omega arith)
+run_gates-fewer typing [] (suc i) (suc n) fewer = omega arith
+run_gates-fewer typing (s ∷ statements) (suc i) (suc n) fewer =
+    omega (arith, sum_by-cons (statement_gates typing) s (take i statements), sum_by-cons (statement_gates typing) s (take n statements), run_gates-fewer typing statements i n (omega arith))
+
+pub run_gates-within : (typing : List ℕ) (statements : List Statement) (i : ℕ) → i ≤ length statements → run_gates typing (take i statements) ≤ run_gates typing statements
+run_gates-within typing statements i within =
+    let whole = ap (λ xs. run_gates typing xs) (take_all (length statements) statements (omega arith)) in
+    omega (arith, whole, run_gates-fewer typing statements i (length statements) within)
+
+-- the shapes of what statements have assigned fit, with one more
+pub shapes_fit-push : {L : Type 0} (typing : List ℕ) (statements : List Statement) (items : List (Held L)) (i : ℕ) (s : Statement) (held : Held L)
+    → ValuesFit typing statements (map shape items) → length items ≡ i → slice_get statements i ≡ Some s → slice_get typing s.class ≡ Some (length held.bits) → ValuesFit typing statements (map shape (items ++ held ∷ []))
+shapes_fit-push typing statements items i s held fit count at width =
+    let place : length (map shape items) ≡ i = length-map items shape ∙ count in
+    let of_width : (N : ℕ) → slice_get typing s.class ≡ Some N → IsValueOf N (shape held) = λ N there. (same_Some (length held.bits) N (sym width ∙ there), pow_pos N) in
+    rw (map-append shape items (held ∷ [])) (ValuesFit-push typing statements (map shape items) s (shape held) fit (ap (slice_get statements) place ∙ at) of_width)
+
+pub stands : (statements slice : List Statement) (i : ℕ) (s : Statement) → slice ≡ statements → i < length statements → s ≡ get_or slice i s → slice_get statements i ≡ Some s
+stands statements slice i s same within is = slice_get-get_or statements i s within ∙ ap (λ x. Some x) (sym (rw same at is))
+
+module _ {C L : Type 0} {has_literal : C → L → Type 0} {admits : C → List Bool → Type 0} {value : C → List Bool → L → Bool} {now next : C} (keeps : Keeps has_literal admits value now next) (given : List Bool) (admitted : admits now given)
+    (inputs source : List (Held L)) (own_inputs : All (IsOwn (has_literal now)) inputs) (own_source : All (IsOwn (has_literal now)) source) where
+  pub holds-kept : (target : List (Held L)) → All (IsOwn (has_literal now)) target → holds (value next given) inputs source target ≡ holds (value now given) inputs source target
+  holds-kept target own = rw (values-kept keeps given admitted inputs own_inputs, values-kept keeps given admitted source own_source, values-kept keeps given admitted target own) refl
+
+-- registers that hold nothing are a circuit's
+pub own_none : {L : Type 0} (P : L → Type 0) → All P []
+own_none P k d within = absurd (omega arith)
+
+pub own_last : {X : Type 0} (P : X → Type 0) (xs : List X) (x : X) → All P xs → slice_get xs (length xs - 1) ≡ Some x → P x
+own_last P xs x all at = subst P (get_or_from_slice_get xs (length xs - 1) x x at) (all (length xs - 1) x (slice_get_within xs (length xs - 1) x at))
+
+-- a statement after those that have run
+module _ {C L : Type 0} {has_literal : C → L → Type 0} {admits : C → List Bool → Type 0} {value : C → List Bool → L → Bool} {now next : C} (keeps : Keeps has_literal admits value now next) (given : List Bool) (admitted : admits now given)
+    (typing : List ℕ) (constants choices : List Number) (statements : List Statement) (i : ℕ) (s : Statement) (within : i < length statements) (is : s ≡ get_or statements i s) (inputs items : List (Held L)) (before : L) (made : Blasted L)
+    (own_inputs : All (IsOwn (has_literal now)) inputs) (own_items : All (IsOwn (has_literal now)) items)
+    (stays : value now given before ≡ true → value next given made.undefined ≡ true) where
+  more : take (i + 1) statements ≡ take i statements ++ s ∷ []
+  more = take_more statements i s within ∙ ap (λ x. take i statements ++ x ∷ []) (sym is)
+
+  pub source_more : Follows typing constants choices holding_source (take i statements) (holds (value now given) inputs [] []) (ending (value now given before) (holds (value now given) inputs items []))
+      → (value now given before ≡ false → StatementGives typing constants choices (holds (value next given) inputs items []) s (effect_of (value next given) made))
+      → Follows typing constants choices holding_source (take (i + 1) statements) (holds (value next given) inputs [] []) (ending (value next given made.undefined) (holds (value next given) inputs (items ++ held_after made ∷ []) []))
+  source_more ran gives =
+      let ran' = rw (← holds-kept keeps given admitted inputs [] own_inputs (own_none (IsOwn (has_literal now))) [] (own_none (IsOwn (has_literal now))), ← holds-kept keeps given admitted inputs items own_inputs own_items [] (own_none (IsOwn (has_literal now)))) at ran in
+      rw more
+      (follows-push typing constants choices holding_source (take i statements) s (holds (value next given) inputs [] []) (holds (value next given) inputs items []) (holds (value next given) inputs (items ++ held_after made ∷ []) [])
+      (value now given before) (value next given made.undefined) (held_value (value next given) (held_after made)) ran' stays gives
+      (rw (map-append (held_value (value next given)) items (held_after made ∷ [])) refl))
+
+  pub target_more : (source : List (Held L)) → All (IsOwn (has_literal now)) source
+      → Follows typing constants choices holding_target (take i statements) (holds (value now given) inputs source []) (ending (value now given before) (holds (value now given) inputs source items))
+      → (value now given before ≡ false → StatementGives typing constants choices (holds (value next given) inputs source items) s (effect_of (value next given) made))
+      → Follows typing constants choices holding_target (take (i + 1) statements) (holds (value next given) inputs source []) (ending (value next given made.undefined) (holds (value next given) inputs source (items ++ held_after made ∷ [])))
+  target_more source own_source ran gives =
+      let ran' = rw (← holds-kept keeps given admitted inputs source own_inputs own_source [] (own_none (IsOwn (has_literal now))), ← holds-kept keeps given admitted inputs source own_inputs own_source items own_items) at ran in
+      rw more
+      (follows-push typing constants choices holding_target (take i statements) s (holds (value next given) inputs source []) (holds (value next given) inputs source items) (holds (value next given) inputs source (items ++ held_after made ∷ []))
+      (value now given before) (value next given made.undefined) (held_value (value next given) (held_after made)) ran' stays gives
+      (rw (map-append (held_value (value next given)) items (held_after made ∷ [])) refl))

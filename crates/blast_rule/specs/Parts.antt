@@ -1,0 +1,30 @@
+-- What the literals of a rule's circuit are and stand for.
+use Rattle.std.specs.Prelude.{◌≡◌, ℕ, Bool, List, length}
+use Rattle.std.specs.List.{All}
+use Rattle.ops.specs.Number.{Number}
+use Rattle.ops.specs.declared.value.Effect.{Effect}
+use Rattle.circuits.specs.Word.{number_of}
+use Rattle.rule_core.specs.declared.rule.Rule.{Rule}
+use Rattle.rule_core.specs.Valid.{Setting, IsCounterexample}
+use Rattle.blast_value.specs.Effect.{IsOwnEffect}
+use Rattle.blast_rule.specs.declared.rule_bits.RuleBits.{RuleBits}
+
+-- the setting is a counterexample, for some effects of the two halves
+abbrev pub Refutes : Rule → List ℕ → Setting → Type 0
+Refutes rule typing setting = (source : Effect) × (target : Effect) × IsCounterexample rule typing setting source target
+
+-- the number that a word of literals stands for, of the word's width
+abbrev pub number_held : {L : Type 0} → (L → Bool) → List L → Number
+number_held value word = record { width = length word; number = number_of value word }
+
+-- all the literals are a circuit's
+pub record AreOwn {L : Type 0} (has_literal : L → Type 0) (made : RuleBits L) : Type 0 where
+  pub bad : has_literal made.bad
+  pub choices : All (All has_literal) made.choices
+  pub source : IsOwnEffect has_literal made.source
+  pub target : IsOwnEffect has_literal made.target
+
+-- both effects' numbers have this width
+pub record HaveWidth {L : Type 0} (N : ℕ) (made : RuleBits L) : Type 0 where
+  pub source : length made.source.bits ≡ N
+  pub target : length made.target.bits ≡ N

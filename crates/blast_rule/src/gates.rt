@@ -1,0 +1,62 @@
+//! How many gates a rule's circuit has at most.
+ghost use Rattle.std.specs.Prelude.{◌≡◌, ◌≤◌, ◌<◌, ◌*◌, length};
+ghost use Rattle.std.specs.List.{All};
+ghost use Rattle.rule_core.specs.Checks.{IsRule};
+ghost use Rattle.rule_core.specs.Typing.{IsTyping};
+ghost use Rattle.blast_rule.specs.Gates.{most_gates, run_gates, op_gates, root_width};
+
+use crate::width::width_of;
+use blast_value::Instruction;
+use ops::Width;
+use rule_core::{Op, Rule, Statement, Typing};
+
+/// The most gates that [`blast_rule`](crate::blast_rule) adds for the rule at the typing. It takes no memory, and as many steps as there
+/// are statements.
+pub fn most_gates(rule: &Rule, typing: &Typing) -> u32
+    requires rule { IsRule rule.now }
+    requires typing { IsTyping rule.now typing.now }
+    ensures { result ≡ most_gates rule.now typing.now }
+{
+    let widths = typing.as_slice();
+    let halves = run_gates(widths, rule.source.as_slice())
+        + run_gates(widths, rule.target.as_slice());
+    halves + 1 + 2 * root_width(rule, widths).bits() + 4
+}
+
+/// The width of the root.
+fn root_width(rule: &Rule, typing: &[Width]) -> Width
+    requires rule { IsRule rule.now }
+    requires typing { IsTyping rule.now typing.now }
+    ensures { result ≡ root_width rule.now typing.now }
+{
+    let source = rule.source.as_slice();
+    width_of(typing, source[source.len() - 1].class)
+}
+
+/// The same of statements one after the other.
+fn run_gates(typing: &[Width], statements: &[Statement]) -> u32
+    requires few { length statements.now ≤ 32 }
+    requires classes { All (λ s. s.class < length typing.now) statements.now }
+    ensures value { result ≡ run_gates typing.now statements.now }
+    ensures few { result ≤ 32 * 266241 }
+{
+    let mut gates = 0;
+    for statement in statements {
+        gates += op_gates(width_of(typing, statement.class), &statement.op) + 1;
+    }
+    gates
+}
+
+/// The same of an operation, whose result has this width.
+fn op_gates(width: Width, op: &Op) -> u32
+    ensures value { result ≡ op_gates width op.now }
+    ensures few { result ≤ 266240 }
+{
+    match *op {
+        Op::Binary(opcode, flags, _, _) => {
+            blast_value::gates_are_few();
+            blast_value::gates_of(Instruction::Binary(opcode, flags), width, width)
+        }
+        Op::Copy(_) => 0,
+    }
+}

@@ -1,0 +1,26 @@
+//! The laws of settings that are read and of gates, each the contract of a function that does nothing.
+ghost use Rattle.blast_rule.specs.Laws.{ReadSettingsFit, FittingSettingsAreRead, RulesWithoutCounterexampleReadAreValid, GatesAreFew, GatesAreBelow};
+
+/// Whatever is read as a setting of a rule fits the rule and its typing.
+pub fn read_settings_fit()
+    ensures { ReadSettingsFit }
+{}
+
+/// Each setting that fits is read from some list of as many truth values as there are inputs of the circuit.
+pub fn fitting_settings_are_read()
+    ensures { FittingSettingsAreRead }
+{}
+
+/// A rule is valid where no list of as many truth values as there are inputs of its circuit is read as a counterexample.
+pub fn rules_without_counterexample_read_are_valid()
+    ensures { RulesWithoutCounterexampleReadAreValid }
+{
+    rule_core::rules_without_counterexample_are_valid();
+}
+
+/// The circuit of a rule has at most 64 gates for each statement and bit of its width, and 64 more for each pair of bits of a product,
+/// a quotient or a remainder; so they are fewer than 2^27.
+pub fn gates_are_few()
+    ensures few { GatesAreFew }
+    ensures below { GatesAreBelow }
+{}

@@ -1,0 +1,29 @@
+//! A rule of the Alive language at a typing in circuits: the literal that is true exactly at its counterexamples, written once for
+//! every lawful circuit.
+//!
+//! The only error of a call is want of memory. A call that is refused may leave inputs and gates, no more gates than it may add; the
+//! older literals keep their values.
+#![tactic(auto)]
+
+mod gates;
+mod halves;
+mod inputs;
+mod laws;
+mod refusal;
+mod registers;
+mod rule_bits;
+mod setting;
+mod statement;
+mod width;
+
+pub use gates::most_gates;
+pub use inputs::input_bits;
+pub use laws::{
+    fitting_settings_are_read, gates_are_few, read_settings_fit,
+    rules_without_counterexample_read_are_valid,
+};
+pub use rule_bits::{RuleBits, blast_rule};
+pub use setting::{Setting, setting_of};
+
+#[cfg(test)]
+mod tests;

@@ -1,0 +1,76 @@
+//! The circuit of a rule.
+ghost use Rattle.std.specs.Prelude.{◌≡◌, ◌+◌, ◌≤◌, ◌↔◌, Bool, List as Seq, IsTrue, map, drop, IfOk, OnOk};
+ghost use Rattle.circuits.specs.Circuit.{Keeps};
+ghost use Rattle.rule_core.specs.Checks.{IsRule};
+ghost use Rattle.rule_core.specs.Typing.{IsTyping};
+ghost use Rattle.rule_core.specs.Valid.{HaveEffects, chosen};
+ghost use Rattle.blast_value.specs.Effect.{effect_of};
+ghost use Rattle.blast_rule.specs.Inputs.{input_bits};
+ghost use Rattle.blast_rule.specs.Settings.{setting_of};
+ghost use Rattle.blast_rule.specs.Gates.{most_gates, root_width};
+ghost use Rattle.blast_rule.specs.Parts.{Refutes, AreOwn, HaveWidth, number_held};
+
+use crate::halves::blast_halves;
+use crate::inputs::make_inputs;
+use crate::refusal::refusal;
+use blast_value::Blasted;
+use circuits::{Bits, Circuit};
+use lists::List;
+use rule_core::{Rule, Typing};
+use std::alloc::{AllocError, Global};
+
+/// A rule in literals of a circuit.
+#[derive(Drop)]
+pub struct RuleBits<L> {
+    /// Whether the setting is a counterexample.
+    pub bad: L,
+    /// The number that each `undef` of the source is chosen to be. There are none yet.
+    pub choices: List<Bits<L>>,
+    /// What the source does.
+    pub source: Blasted<L>,
+    /// What the target does.
+    pub target: Blasted<L>,
+}
+
+/// The circuit of a rule at a typing, over inputs that stand for a setting: for each input of the rule its bits, the lowest first,
+/// and then its poison bit. It makes [`input_bits`](crate::input_bits) inputs and at most [`most_gates`](crate::most_gates) gates. The
+/// circuit has no inputs before.
+pub fn blast_rule<C: Circuit>(
+    alloc: Global,
+    c: &mut C,
+    rule: &Rule,
+    typing: &Typing,
+) -> Result<RuleBits<C::Literal>, AllocError>
+    requires rule { IsRule rule.now }
+    requires typing { IsTyping rule.now typing.now }
+    requires no_inputs { C.inputs_made c.old ≡ 0 }
+
+    // The literal is true exactly where the inputs are read as a counterexample.
+    ensures bad { IfOk result (λ made. (inputs : Seq Bool) → C.admits c.old inputs →
+        IsTrue (C.value c.new inputs made.bad) ↔ Refutes rule.now typing.now (setting_of rule.now typing.now inputs)) }
+    ensures effects { IfOk result (λ made. (inputs : Seq Bool) → C.admits c.old inputs →
+        HaveEffects rule.now typing.now (setting_of rule.now typing.now inputs)
+        (effect_of (C.value c.new inputs) made.source) (effect_of (C.value c.new inputs) made.target)) }
+    ensures choices { IfOk result (λ made. (inputs : Seq Bool) → C.admits c.old inputs →
+        map (number_held (C.value c.new inputs)) made.choices
+        ≡ chosen rule.now typing.now (setting_of rule.now typing.now inputs)) }
+    ensures width { IfOk result (HaveWidth (root_width rule.now typing.now)) }
+    ensures own { IfOk result (AreOwn (C.has_literal c.new)) }
+
+    // As far as any list of inputs reaches, so many were made.
+    ensures inputs { OnOk result ((inputs : Seq Bool) → C.admits c.old inputs →
+        drop (C.inputs_made c.new) inputs ≡ drop (input_bits rule.now typing.now) inputs) }
+    ensures gates { C.gates_made c.new ≤ C.gates_made c.old + most_gates rule.now typing.now }
+    ensures keeps { Keeps C.has_literal C.admits C.value c.old c.new }
+{
+    rule_core::every_rule_has_one_outcome();
+    let inputs = make_inputs(alloc, c, rule, typing.as_slice())?;
+    let halves = blast_halves(alloc, c, rule, typing.as_slice(), &inputs)?;
+    let bad = refusal(alloc, c, &halves.source, &halves.target)?;
+    Ok(RuleBits {
+        bad,
+        choices: List::new(alloc),
+        source: halves.source,
+        target: halves.target,
+    })
+}
