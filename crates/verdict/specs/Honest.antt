@@ -1,0 +1,48 @@
+-- When a verdict on a rule at a typing is honest under a limit on learned clauses.
+use Rattle.std.specs.Prelude.{◌≡◌, ℕ, ◌+◌, ◌<◌, ◌≤◌, List, length}
+use Rattle.clauses.specs.declared.cnf.Cnf.{Cnf}
+use Rattle.clauses.specs.Settings.{StandsFor}
+use Rattle.cdcl_log.specs.Found.{IsHonestLimit}
+use Rattle.rule_core.specs.declared.rule.Rule.{Rule}
+use Rattle.rule_core.specs.declared.example.Example.{Example}
+use Rattle.rule_core.specs.Valid.{Setting, IsValid, IsCounterexample, chosen}
+use Rattle.blast_rule.specs.Inputs.{input_bits}
+use Rattle.blast_rule.specs.Settings.{setting_of}
+use Rattle.blast_rule.specs.Gates.{most_gates}
+use Rattle.blast_rule.specs.Parts.{Refutes}
+use Rattle.verdict.specs.declared.verdict.Verdict.{Verdict}
+use Rattle.verdict.specs.declared.verdict.Verdict.TheVariants.{Admitted, Refuted, WitnessFails, Budget}
+use Rattle.verdict.specs.declared.verdict.Tried.{Tried}
+
+-- what an example runs the halves on
+abbrev pub setting_in : Example → Setting
+setting_in example = record { inputs = example.inputs; constants = example.constants; target_undefs = example.target_undefs }
+
+-- The example is a counterexample with its two effects, and keeps what the source's `undef`s are chosen to be.
+pub record IsRefutedBy (rule : Rule) (typing : List ℕ) (example : Example) : Type 0 where
+  pub counterexample : IsCounterexample rule typing (setting_in example) example.source example.target
+  pub source_undefs : example.source_undefs ≡ chosen rule typing (setting_in example)
+
+-- the source of the rule has an `undef`; none has yet
+abbrev pub HasSourceUndef : Rule → Type 0
+HasSourceUndef rule = ⊥
+
+-- The set stands for the counterexamples of the rule at the typing: its inputs are the bits of a setting, it stands for the
+-- test that these are read as a counterexample, and beside them it has at most a variable for each gate and one more.
+pub record StandsForRule (rule : Rule) (typing : List ℕ) (set : Cnf) : Type 0 where
+  pub inputs : length set.inputs ≡ input_bits rule typing
+  pub test : StandsFor set (λ values. Refutes rule typing (setting_of rule typing values))
+  pub variables : set.count ≤ input_bits rule typing + most_gates rule typing + 1
+
+-- A setting has too many bits to try all; what was tried stands for the rule, and the search for a model of it learned so many
+-- clauses, each new, and came to no end.
+pub record IsHonestBudget (rule : Rule) (typing : List ℕ) (limit : ℕ) (tried : Tried) : Type 0 where
+  pub many_bits : 12 < input_bits rule typing
+  pub stands : StandsForRule rule typing tried.set
+  pub reached : IsHonestLimit tried.set limit tried.log
+
+abbrev pub IsHonest : Rule → List ℕ → ℕ → Verdict → Type 0
+IsHonest rule typing limit Admitted = IsValid rule typing
+IsHonest rule typing limit (Refuted example) = IsRefutedBy rule typing example × ¬ (HasSourceUndef rule)
+IsHonest rule typing limit (WitnessFails example) = IsRefutedBy rule typing example × HasSourceUndef rule
+IsHonest rule typing limit (Budget tried) = IsHonestBudget rule typing limit tried

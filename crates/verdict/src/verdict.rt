@@ -1,0 +1,41 @@
+//! Verdicts on rules at typings, and tables of them.
+
+use clauses::{Cnf, Log};
+use lists::List;
+use rule_core::{Example, Typing};
+
+/// What is said of a rule at a typing.
+#[derive(Debug, Drop)]
+pub enum Verdict {
+    /// The rule is valid.
+    Admitted,
+    /// The example is a counterexample, and the source has no `undef`.
+    Refuted(Example),
+    /// The example is a counterexample by what the rule chooses for the `undef`s of its source. Another choice might do.
+    WitnessFails(Example),
+    /// The search gave up at its limit, over a setting of more than 12 bits.
+    Budget(Tried),
+}
+
+/// What was tried in vain.
+#[derive(Debug, Drop)]
+pub struct Tried {
+    /// The clauses that stand for the counterexamples of the rule.
+    pub set: Cnf,
+    /// The clauses that the search learned.
+    pub log: Log,
+}
+
+/// The verdict on one rule at one typing.
+#[derive(Debug, Drop)]
+pub struct Row {
+    /// The place of the rule in its file, from 0.
+    pub rule: u32,
+    /// The width of each class of the rule.
+    pub typing: Typing,
+    /// What is said of the rule at the typing.
+    pub verdict: Verdict,
+}
+
+/// Verdicts, in the order in which they are given.
+pub type Table = List<Row>;
