@@ -1,0 +1,4 @@
+pub mod Texts
+pub mod Findings
+pub mod Additions
+pub mod Verified
