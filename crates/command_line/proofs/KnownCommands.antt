@@ -1,0 +1,95 @@
+-- Where `clap` takes the words, they name one of the two commands, and each of its arguments has its value.
+use Rattle.std.proofs.Common.{◌≡◌, Bool, true, false, ◌||◌, List, [], Option, Some, None, ap, refl, inl, inr, subst}
+use Rattle.std.specs.Prelude.{not, is_some, if◌then◌else◌, IsSomeAnd}
+use Rattle.std.specs.List.{list_all, list_any}
+use Rattle.std.specs.Option.{option_map, option_map_or}
+use Rattle.clap.specs.declared.builder.value_parser.ValueParser.TheVariants.{Unsigned}
+use Rattle.clap.specs.Facts.{explicit_source}
+use Rattle.clap.specs.Walk.{Row, Text, answers_to, finished, nothing_held, rows_after, stop_after, walk, walk_from}
+use Rattle.clap.specs.Simple.{Shape, argument_words, built, built_leaf, entered, inherited, is_simple, label_of, names_of, rows_at}
+use Rattle.clap.specs.Takes as pass
+use Rattle.clap.proofs.OnLiterals.{clap_on_literals}
+use Rattle.clap.proofs.ValueTestLemmas.{accepts-Accepts}
+use Rattle.clap.proofs.WalkLemmas.{both}
+use Rattle.command_line.specs.Definition.{program, verify_shape, optimise_shape}
+use Rattle.command_line.specs.Reading.{HasVerify, HasOptimise, IsKnown}
+use Rattle.command_line.specs.Words.{are_taken, command_and_rows}
+use Rattle.command_line.proofs.RowsFit.{ArePlain, leaf_values}
+
+-- the two commands as `clap` has built them
+abbrev verify_leaf : Shape
+verify_leaf = built_leaf (inherited program.top verify_shape)
+
+abbrev optimise_leaf : Shape
+optimise_leaf = built_leaf (inherited program.top optimise_shape)
+
+verify_plain : ArePlain verify_leaf.rules
+unfolding clap_on_literals
+verify_plain = (record { first = refl; plain = refl }, (record { first = refl; plain = refl }, (record { first = refl; plain = refl }, (record { first = refl; plain = refl }, tt))))
+
+optimise_plain : ArePlain optimise_leaf.rules
+unfolding clap_on_literals
+optimise_plain = (record { first = refl; plain = refl }, (record { first = refl; plain = refl }, (record { first = refl; plain = refl }, (record { first = refl; plain = refl }, (record { first = refl; plain = refl }, tt)))))
+
+verify_values : (words : List Text) → pass.level_passes verify_leaf [] nothing_held words false ≡ true → HasVerify (rows_after verify_leaf.rules [] words)
+verify_values words ok =
+    let values = leaf_values verify_leaf words verify_plain ok in
+    let rules = values.0 refl in
+    let widths = values.1.0 refl in
+    let conflicts = values.1.1.0 refl in
+    record {
+      rules_file = ap is_some rules.first;
+      width_list = ap is_some widths.first;
+      most_conflicts = (conflicts.text, conflicts.first, conflicts.one, accepts-Accepts false (Unsigned 0 1000000) conflicts.text conflicts.pass);
+    }
+
+optimise_values : (words : List Text) → pass.level_passes optimise_leaf [] nothing_held words false ≡ true → HasOptimise (rows_after optimise_leaf.rules [] words)
+optimise_values words ok =
+    let values = leaf_values optimise_leaf words optimise_plain ok in
+    let rules = values.0 refl in
+    let module_file = values.1.0 refl in
+    let conflicts = values.1.1.0 refl in
+    let steps = values.1.1.1.0 refl in
+    record {
+      rules_file = ap is_some rules.first;
+      module_file = ap is_some module_file.first;
+      most_conflicts = (conflicts.text, conflicts.first, conflicts.one, accepts-Accepts false (Unsigned 0 1000000) conflicts.text conflicts.pass);
+      most_steps = (steps.text, steps.first, steps.one, accepts-Accepts false (Unsigned 0 100000) steps.text steps.pass);
+    }
+
+-- a command is named, and it is known
+abbrev pub IsKnownIn : Option (Text × List Row) → Type 0
+IsKnownIn said = IsSomeAnd said IsKnown
+
+entered_known : (stop : Option (Text × List Text)) → pass.entered_passes (built program) stop ≡ true → is_some (entered (built program) stop) ≡ true → IsKnownIn (entered (built program) stop)
+entered_known None ok some = cc
+entered_known (Some p) ok some = go (answers_to p.0 (label_of verify_leaf)) (answers_to p.0 (label_of optimise_leaf)) ok some
+  where
+    go : (v o : Bool) → option_map_or (λ s. pass.level_passes s [] nothing_held p.1 false) (if v then Some verify_leaf else (if o then Some optimise_leaf else None)) true ≡ true
+        → is_some (option_map (λ s. rows_at s p.1) (if v then Some verify_leaf else (if o then Some optimise_leaf else None))) ≡ true
+        → IsKnownIn (option_map (λ s. rows_at s p.1) (if v then Some verify_leaf else (if o then Some optimise_leaf else None)))
+    go true o ok some = inl (refl, verify_values p.1 ok)
+    go false true ok some = inr (refl, optimise_values p.1 ok)
+    go false false ok some = cc
+
+pub taken_known : (words : List Text) → are_taken words ≡ true → IsKnownIn (command_and_rows words)
+unfolding are_taken command_and_rows
+taken_known words ok =
+    let b = built program in
+    let rest = argument_words program words in
+    let stop = stop_after b.top.rules (names_of b) rest in
+    let parts = both (pass.entered_passes b stop) _ (both (is_simple program) _ ok).1 in
+    let first = both (pass.walk_passes b.top (names_of b) (walk_from nothing_held) rest) _ parts.1 in
+    let end = (walk b.top.rules (names_of b) nothing_held rest).held in
+    let second = both (pass.settle_passes b.top.rules b.top.args_override_self end) _ first.1 in
+    let third = both (list_all pass.default_passes b.top.rules) _ second.1 in
+    let valid = both (not b.top.arg_required_else_help || (is_some (entered b stop) || list_any (λ r. explicit_source r.source) (finished b.top.rules end))) _ third.1 in
+    let wanted = both (not b.top.subcommand_required || is_some (entered b stop)) _ valid.1 in
+    entered_known stop parts.0 wanted.0
+
+pub some_known : (o : Option (Text × List Row)) → IsKnownIn o → is_some o ≡ true
+some_known None h = absurd h
+some_known (Some said) h = refl
+
+pub known_at : (o : Option (Text × List Row)) (said : Text × List Row) → IsKnownIn o → o ≡ Some said → IsKnown said
+known_at o said h e = subst IsKnownIn e h

@@ -1,0 +1,6 @@
+mod FaultFree
+mod KnownCommands
+mod RowsFit
+mod NumberLemmas
+mod Parses
+mod WidthLemmas

@@ -1,0 +1,8 @@
+use Rattle.std.proofs.Common.{◌≡◌, true, map, take}
+use Rattle.std.specs.List.{list_all}
+use Rattle.command_line.specs.Widths.{is_item}
+use Rattle.command_line.specs.Parsing.{span_in}
+use Rattle.command_line.proofs.widths.read_items.Given as goal
+
+abbrev pub invariant-loop-item : goal.invariant-loop-item
+invariant-loop-item l = (list_all (λ item. is_item item.now) (take l.item-index l.items) ≡ true) × (l.spans.items ≡ map (λ item. span_in item.now) (take l.item-index l.items))

@@ -1,0 +1,60 @@
+-- The command line as `clap` sees its definition.
+use Rattle.std.specs.Prelude.{ℕ, true, false, [], ◌∷◌, Some, codes}
+use Rattle.clap.specs.Words.{App, Rule, Shape, Text, new_rule}
+use Rattle.clap.specs.Simple.{new_shape}
+use Rattle.clap.specs.declared.builder.value_parser.ValueParser.TheVariants.{Unsigned}
+
+-- a file, which has to be named: by its place, and not by an option
+abbrev pub file_argument : Text → Rule
+file_argument name = record (new_rule name) { value_names = 1; required = true }
+
+-- an option `--NAME` with a value, and the value that stands for it where it is left out
+abbrev pub option_argument : Text → Text → Rule
+option_argument name default = record (new_rule name) {
+  long = Some name;
+  value_names = 1;
+  defaults = default ∷ [];
+}
+
+-- the same where the value is a number from 0 to `most`
+abbrev pub number_argument : Text → ℕ → Text → Rule
+number_argument name most default = record (option_argument name default) { parser = Some (Unsigned 0 most) }
+
+abbrev pub rules_argument : Rule
+rules_argument = file_argument (codes "rules")
+
+abbrev pub module_argument : Rule
+module_argument = file_argument (codes "module")
+
+abbrev pub widths_argument : Rule
+widths_argument = option_argument (codes "widths") (codes "1-8,16,32,64")
+
+abbrev pub conflicts_argument : Rule
+conflicts_argument = number_argument (codes "conflicts") 1000000 (codes "20000")
+
+abbrev pub steps_argument : Rule
+steps_argument = number_argument (codes "steps") 100000 (codes "10000")
+
+-- `verify RULES [--widths LIST] [--conflicts N]`
+abbrev pub verify_shape : Shape
+verify_shape = record (new_shape (codes "verify")) {
+  rules = rules_argument ∷ widths_argument ∷ conflicts_argument ∷ [];
+}
+
+-- `optimise RULES MODULE [--conflicts N] [--steps N]`
+abbrev pub optimise_shape : Shape
+optimise_shape = record (new_shape (codes "optimise")) {
+  rules = rules_argument ∷ module_argument ∷ conflicts_argument ∷ steps_argument ∷ [];
+}
+
+-- the program, which has to be given one of these commands
+abbrev pub program : App
+program = record {
+  top = record (new_shape (codes "faeldmoy")) {
+    is_leaf = false;
+    has_version = true;
+    disable_help_subcommand = true;
+    subcommand_required = true;
+  };
+  subs = verify_shape ∷ optimise_shape ∷ [];
+}

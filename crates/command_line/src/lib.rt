@@ -1,0 +1,15 @@
+//! The words of a command line, read as a command.
+#![tactic(auto)]
+
+mod command;
+mod definition;
+mod laws;
+mod read;
+mod widths;
+
+pub use command::{Command, CommandError};
+pub use laws::words_say_one_command;
+pub use read::read_command;
+
+#[cfg(test)]
+mod tests;

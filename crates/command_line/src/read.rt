@@ -1,0 +1,142 @@
+//! Reads the words of a command line.
+
+ghost use Rattle.std.specs.Prelude.{◌≡◌, ◌⊎◌, ◌≤◌, ℕ, List, Some, true, false, map, codes, string_bytes, IfOk, OnOk, IfErr, IsErrAnd, is_some};
+ghost use Rattle.clap.specs.Words.{first_of, rows_of, found_of, kind_of, subcommand_rows_of};
+ghost use Rattle.clap.specs.declared.error.kind.ErrorKind.TheVariants.{OutOfMemory};
+ghost use Rattle.command_line.specs.Words.{are_taken, command_and_rows, Says, SaysOf, IsWithinLimits, HasNumber, HasBadList, IsUsageOf, IsRefusalOf, refusal_of_list};
+ghost use Rattle.command_line.specs.Reading.{HasValue, HasNumberUpTo, HasVerify, HasOptimise, IsKnown, IsUntaken, RefusesGiven, RefusesList};
+
+use crate::command::{Command, CommandError};
+use crate::definition::definition;
+use crate::widths::read_widths;
+use clap::error::ErrorKind;
+use clap::{ArgMatches, Error};
+use std::alloc::{AllocError, Global};
+
+/// The text of an argument that has one.
+fn text_of<'a>(found: &ArgMatches<'a>, argument: &str) -> &'a str
+    requires { HasValue (rows_of (found_of found.now)) argument.now }
+    ensures { first_of argument.now (rows_of (found_of found.now)) ≡ Some result.now }
+{
+    found.get_str(argument).unwrap()
+}
+
+/// The number of an argument that has one.
+fn number_of(found: &ArgMatches<'_>, argument: &str) -> u32
+    requires { HasNumberUpTo 4294967295 (rows_of (found_of found.now)) argument.now }
+    ensures { HasNumber (rows_of (found_of found.now)) argument.now result }
+{
+    found.get_one::<u32>(argument).unwrap()
+}
+
+/// `clap`'s text on words that it doesn't take.
+fn usage(alloc: Global, error: Error) -> CommandError
+    ensures { kind_of error ≡ OutOfMemory → result ≡ CommandError.NoMemory }
+{
+    if error.kind() == ErrorKind::OutOfMemory {
+        return CommandError::NoMemory;
+    }
+    match error.to_string(alloc) {
+        Ok(text) => CommandError::Usage(text.into_bytes()),
+        Err(_) => CommandError::NoMemory,
+    }
+}
+
+/// What `clap` finds in the words.
+fn parse<'a>(alloc: Global, words: &'a [String]) -> Result<ArgMatches<'a>, CommandError>
+    ensures taken { OnOk result (are_taken (map string_bytes words.entry.now) ≡ true) }
+    ensures rows { IfOk result (λ found. subcommand_rows_of found ≡ command_and_rows (map string_bytes words.entry.now)) }
+    ensures usage { IfErr result (IsUntaken (map string_bytes words.entry.now)) }
+{
+    let definition = definition(alloc)?;
+    match definition.try_get_matches_from(words) {
+        Ok(matches) => Ok(matches),
+        Err(error) => Err(usage(alloc, error)),
+    }
+}
+
+/// The text on a list of widths that is outside its form.
+fn refusal_text(alloc: Global, list: &str) -> Result<Vec<u8>, AllocError>
+    ensures { IfOk result (λ text. text.items ≡ refusal_of_list list.now) }
+{
+    let mut text = Vec::new(alloc);
+    text.extend_from_slice(b"error: widths ")?;
+    text.extend_from_slice(list.as_bytes())?;
+    text.push(b'\n')?;
+    Ok(text)
+}
+
+/// The command `verify`.
+fn read_verify<'a>(alloc: Global, found: &ArgMatches<'a>) -> Result<Command<'a>, CommandError>
+    requires { HasVerify (rows_of (found_of found.now)) }
+    ensures says { IfOk result (SaysOf (Some (codes "verify", rows_of (found_of found.now)))) }
+    ensures limits { IfOk result IsWithinLimits }
+    ensures refusal { IfErr result (RefusesList (rows_of (found_of found.now))) }
+{
+    let list = text_of(found, "widths");
+    let Some(widths) = read_widths(alloc, list)? else {
+        return Err(CommandError::Usage(refusal_text(alloc, list)?));
+    };
+    Ok(Command::Verify {
+        rules: text_of(found, "rules"),
+        widths,
+        conflicts: number_of(found, "conflicts"),
+    })
+}
+
+/// The command `optimise`.
+fn read_optimise<'a>(found: &ArgMatches<'a>) -> Command<'a>
+    requires { HasOptimise (rows_of (found_of found.now)) }
+    ensures says { SaysOf (Some (codes "optimise", rows_of (found_of found.now))) result }
+    ensures limits { IsWithinLimits result }
+{
+    Command::Optimise {
+        rules: text_of(found, "rules"),
+        module: text_of(found, "module"),
+        conflicts: number_of(found, "conflicts"),
+        steps: number_of(found, "steps"),
+    }
+}
+
+/// The command that the words name, and what `clap` found for its arguments.
+fn named<'a, 'm>(matches: &'m ArgMatches<'a>) -> (&'a str, &'m ArgMatches<'a>)
+    requires { is_some (subcommand_rows_of matches.now) ≡ true }
+    ensures { subcommand_rows_of matches.now ≡ Some (result.0.now, rows_of (found_of result.1.now)) }
+{
+    matches.subcommand().unwrap()
+}
+
+/// The command of this name.
+fn read_named<'a>(
+    alloc: Global,
+    name: &str,
+    found: &ArgMatches<'a>,
+) -> Result<Command<'a>, CommandError>
+    requires { IsKnown (name.now, rows_of (found_of found.now)) }
+    ensures says { IfOk result (SaysOf (Some (name.now, rows_of (found_of found.now)))) }
+    ensures limits { IfOk result IsWithinLimits }
+    ensures refusal { IfErr result (RefusesGiven (name.now, rows_of (found_of found.now))) }
+{
+    if name == "verify" {
+        read_verify(alloc, found)
+    } else {
+        Ok(read_optimise(found))
+    }
+}
+
+/// Reads the command that the words say, of which the first is the program's own name.
+///
+/// `Usage` has `clap`'s text where it doesn't take the words, and else names the list of widths that is outside its form.
+pub fn read_command<'a>(alloc: Global, words: &'a [String]) -> Result<Command<'a>, CommandError>
+    ensures taken { OnOk result (are_taken (map string_bytes words.entry.now) ≡ true) }
+    ensures says { IfOk result (Says (map string_bytes words.entry.now)) }
+    ensures limits { IfOk result IsWithinLimits }
+    ensures usage { IfErr result (IsUsageOf (map string_bytes words.entry.now)) }
+    ensures refusal { (list : List ℕ) → are_taken (map string_bytes words.entry.now) ≡ true
+        → HasBadList (map string_bytes words.entry.now) list
+        → IsErrAnd result (IsRefusalOf list) }
+{
+    let matches = parse(alloc, words)?;
+    let (name, found) = named(&matches);
+    read_named(alloc, name, found)
+}
