@@ -1,0 +1,10 @@
+use Rattle.straight_line.proofs.KeptLemmas.{counted_marked, counted_other}
+use Rattle.straight_line.proofs.cleaning.kept.places.Goals.{then-mark, else-mark}
+use Rattle.straight_line.proofs.cleaning.kept.places.Goals as goal
+
+pub loop-mark-preserved : goal.loop-mark-preserved
+loop-mark-preserved c =
+    rw c.in_ok-push.ensures.items (elim c.if-mark.branch [
+      | then-mark w ↦ rw w.count-is (counted_marked c.args.marks.now c.loop-mark.mark-index c.loop-mark.places.items c.loop-mark.count _ c.loop-mark.invariant c.loop-mark-test.true w.if-mark.true)
+      | else-mark w ↦ rw w.count-is (counted_other c.args.marks.now c.loop-mark.mark-index c.loop-mark.places.items c.loop-mark.count _ c.loop-mark.invariant c.loop-mark-test.true w.if-mark.false)
+    ])
