@@ -1,15 +1,23 @@
 -- How each status comes: what was read, what was written and which counts of faults rose.
-use Rattle.std.specs.Prelude.{◌≡◌, ℕ, ◌⊎◌, List, ◌++◌, Option, Some, None, IfSome, IsSomeAnd, codes}
+use Rattle.std.specs.Prelude.{◌≡◌, ◌↔◌, ℕ, IsTrue, false, ◌⊎◌, List, [], Option, IsSomeAnd, length, slice_get, Some}
 use Rattle.outside.specs.Faults.{Rose}
 use Rattle.outside.specs.Sink.{Appends, AppendsPrefix}
+use Rattle.command_line.specs.Words.{are_taken, HasBadList, refusal_of_list}
 use Rattle.ir_core.specs.declared.module.Module.{Module}
+use Rattle.rule_core.specs.declared.rule.Rule.{Rule}
+use Rattle.alive_top.specs.Tasks.{IsRuleText}
+use Rattle.straight_line.specs.Optimised.{IsOptimised}
+use Rattle.straight_line.specs.Printing.{text_of, report_of}
+use Rattle.straight_line.specs.Strategy.{Tally}
+use Rattle.verifier.specs.declared.verification.Verified.{Verified}
+use Rattle.verifier.specs.Verified.{IsVerified}
+use Rattle.alive_top.specs.declared.status.Ended.{Ended}
 use Rattle.alive_top.specs.declared.status.Status.{Status}
-use Rattle.alive_top.specs.declared.status.Status.TheVariants as statuses
-use Rattle.alive_top.specs.declared.top.Refusal.{Refusal}
-use Rattle.alive_top.specs.declared.top.Refusal.TheVariants as refusals
-use Rattle.alive_top.specs.declared.top.Texts.{Texts}
-use Rattle.alive_top.specs.Commands.{Optimise, IsRuleText, IsModuleText, Prints}
-use Rattle.alive_top.specs.Working.{Asked, AsksNone, AsksOne, AsksTwo, ReadFails, MemoryIsRefused, IsNoRuleText, IsNoModuleText}
+use Rattle.alive_top.specs.declared.status.Status.TheVariants.{Done, NotAll, Usage, RuleRefused, ModuleRefused, ReadFault, WriteFault, NoMemory}
+use Rattle.alive_top.specs.Lines.{read_fault_line, memory_line}
+use Rattle.alive_top.specs.Tasks.{Task, File, Asks, files_of, Takes}
+use Rattle.alive_top.specs.Asking.{Asked, AsksFirst, TakesAll, TextIsRefused, ReadFails, MemoryIsRefused}
+use Rattle.alive_top.specs.Working.{Work, IsWorkOf}
 
 -- what is told of a sink before and after: the bytes written, and the count of faults
 pub record Fed : Type 0 where
@@ -42,81 +50,86 @@ Took s line = Gained s line ⊎ Failed s line
 abbrev pub WroteSome : Fed → Fed → List ℕ → List ℕ → Type 0
 WroteSome out err text report = (Failed out text × GainedNothing err) ⊎ (Gained out text × Failed err report)
 
--- the line that names a file that could not be read
-abbrev pub read_fault_line : List ℕ → List ℕ
-read_fault_line name = codes "read fault: " ++ name ++ codes "\n"
+-- The work of the task was done: all its files were read and hold what they are read for, the table is the work's, and its text and
+-- report were written so.
+pub record Worked (a : Asked) (task : Task) (ended : Ended) (Wrote : Work → Type 0) : Type 0 where
+  pub asks : AsksFirst a (files_of task) (length (files_of task))
+  pub takes : TakesAll a (files_of task)
+  pub work : Work
+  pub is_work : IsWorkOf a.told task work
+  pub table : ended.table ≡ work.table
+  pub wrote : Wrote work
 
--- how a refusal ends
-abbrev pub RefusedAs : Refusal → Fed → Status → Type 0
-RefusedAs refusals.Usage err status = (status ≡ statuses.Usage) × Took err (codes "error: words\n")
-RefusedAs refusals.Rules err status = (status ≡ statuses.RuleRefused) × Took err (codes "rules refused\n")
-RefusedAs refusals.Source err status = (status ≡ statuses.ModuleRefused) × Took err (codes "module refused\n")
-RefusedAs refusals.Memory err status = (status ≡ statuses.NoMemory) × Took err (codes "want of memory\n")
-RefusedAs (refusals.Read name) err status =
-    ((status ≡ statuses.ReadFault) × Took err (read_fault_line name.now))
-    ⊎ ((status ≡ statuses.NoMemory) × Took err (codes "want of memory\n"))
+-- nothing was written but a line on the error stream, and no verdict is handed back
+pub record Refused (out err : Fed) (ended : Ended) (line : List ℕ) : Type 0 where
+  pub out_stays : GainedNothing out
+  pub takes_line : Took err line
+  pub no_verdicts : ended.table ≡ []
 
--- how writing ends
-abbrev pub WrittenAs : Texts → Fed → Fed → Status → Type 0
-WrittenAs texts out err statuses.Done = Gained out texts.out.items × Gained err texts.err.items
-WrittenAs texts out err statuses.WriteFault = WroteSome out err texts.out.items texts.err.items
-WrittenAs texts out err statuses.Usage = ⊥
-WrittenAs texts out err statuses.RuleRefused = ⊥
-WrittenAs texts out err statuses.ModuleRefused = ⊥
-WrittenAs texts out err statuses.ReadFault = ⊥
-WrittenAs texts out err statuses.NoMemory = ⊥
+-- how each status comes under a task
+abbrev pub EndsWith : Asked → Task → Fed → Fed → Ended → Status → Type 0
+EndsWith a task out err ended Done = Worked a task ended (λ work. (work.status ≡ Done) × Gained out work.text × Gained err work.report)
+EndsWith a task out err ended NotAll = Worked a task ended (λ work. (work.status ≡ NotAll) × Gained out work.text × Gained err work.report)
+EndsWith a task out err ended WriteFault = Worked a task ended (λ work. WroteSome out err work.text work.report)
+EndsWith a task out err ended Usage = ⊥
+EndsWith a task out err ended RuleRefused = (line : List ℕ) × TextIsRefused a (files_of task) RuleRefused line × Refused out err ended line
+EndsWith a task out err ended ModuleRefused = (line : List ℕ) × TextIsRefused a (files_of task) ModuleRefused line × Refused out err ended line
+EndsWith a task out err ended ReadFault = (name : List ℕ) × ReadFails a (files_of task) name × Refused out err ended (read_fault_line name)
+EndsWith a task out err ended NoMemory = MemoryIsRefused a (files_of task) × Refused out err ended memory_line
 
--- The work was done: both files were read; where the rule file's bytes are told it is one without rules; this was written of a text
--- and a report; and where the module's bytes are told these are of the module that may stand in its place.
-abbrev pub Worked : Asked → Optimise → (List ℕ → List ℕ → Type 0) → Type 0
-Worked a named Wrote = AsksTwo a named.rules named.source
-    × IfSome (a.told named.rules) IsRuleText
-    × (text : List ℕ) × (report : List ℕ) × Wrote text report
-    × IfSome (a.told named.source) (λ bytes. Prints bytes text report)
+-- the words are no command: `clap` does not take them, or the list of widths is outside its form
+abbrev pub IsNoCommand : List (List ℕ) → Type 0
+IsNoCommand words = (are_taken words ≡ false) ⊎ ((list : List ℕ) × HasBadList words list)
 
--- how each status comes under `optimise`
-abbrev pub Ends : Asked → Optimise → Fed → Fed → Status → Type 0
-Ends a named out err statuses.Done = Worked a named (λ text report. Gained out text × Gained err report)
-Ends a named out err statuses.WriteFault = Worked a named (WroteSome out err)
-Ends a named out err statuses.Usage = ⊥
-Ends a named out err statuses.RuleRefused = IfSome (a.told named.rules) IsNoRuleText
-    × AsksOne a named.rules × GainedNothing out × Took err (codes "rules refused\n")
-Ends a named out err statuses.ModuleRefused = IfSome (a.told named.rules) IsRuleText
-    × IfSome (a.told named.source) IsNoModuleText
-    × AsksTwo a named.rules named.source × GainedNothing out × Took err (codes "module refused\n")
-Ends a named out err statuses.ReadFault = (name : List ℕ) × ReadFails a named name
-    × GainedNothing out × Took err (read_fault_line name)
--- memory was refused in the work, or for the line of a read fault
-Ends a named out err statuses.NoMemory = (MemoryIsRefused a named ⊎ ((name : List ℕ) × ReadFails a named name))
-    × GainedNothing out × Took err (codes "want of memory\n")
+-- and this text says so: `clap`'s where it does not take them, and else one that names the list
+abbrev pub IsUsage : List (List ℕ) → List ℕ → Type 0
+IsUsage words text = (are_taken words ≡ false) ⊎ ((list : List ℕ) × HasBadList words list × (text ≡ refusal_of_list list))
 
--- how each status comes, for the words of a command or for others
-abbrev pub EndsFor : Option Optimise → Asked → Fed → Fed → Status → Type 0
-EndsFor (Some named) a out err status = Ends a named out err status
-EndsFor None a out err statuses.Usage = AsksNone a × GainedNothing out × Took err (codes "error: words\n")
-EndsFor None a out err status = ⊥
+-- how each status comes where no command was read from the words, or memory was refused for it
+abbrev pub EndsAtWords : List (List ℕ) → Fed → Fed → Ended → Status → Type 0
+EndsAtWords words out err ended Usage = (text : List ℕ) × IsUsage words text × Refused out err ended text
+EndsAtWords words out err ended NoMemory = Refused out err ended memory_line
+EndsAtWords words out err ended status = ⊥
 
--- the statuses that may come where the rule file is none
-abbrev pub StopsAtRules : Status → Type 0
-StopsAtRules statuses.RuleRefused = Unit {0}
-StopsAtRules statuses.ReadFault = Unit {0}
-StopsAtRules statuses.NoMemory = Unit {0}
-StopsAtRules status = ⊥
+-- how a call ends
+abbrev pub Ends : List (List ℕ) → Asked → Fed → Fed → Ended → Type 0
+Ends words a out err ended =
+    ((task : Task) × Asks words task × EndsWith a task out err ended ended.status)
+    ⊎ ((a.names_after ≡ a.names_before) × EndsAtWords words out err ended ended.status)
 
--- the statuses that may come where the module's bytes are the text of none
-abbrev pub StopsAtSource : Status → Type 0
-StopsAtSource statuses.RuleRefused = Unit {0}
-StopsAtSource statuses.ModuleRefused = Unit {0}
-StopsAtSource statuses.ReadFault = Unit {0}
-StopsAtSource statuses.NoMemory = Unit {0}
-StopsAtSource status = ⊥
+-- the statuses with which nothing is refused
+abbrev pub IsWorked : Status → Type 0
+IsWorked Done = Unit {0}
+IsWorked NotAll = Unit {0}
+IsWorked WriteFault = Unit {0}
+IsWorked status = ⊥
 
 -- the statuses that may come where nothing is wrong
-abbrev pub IsDoneOrNoMemory : Status → Type 0
-IsDoneOrNoMemory statuses.Done = Unit {0}
-IsDoneOrNoMemory statuses.NoMemory = Unit {0}
-IsDoneOrNoMemory status = ⊥
+abbrev pub IsWorkOrNoMemory : Status → Type 0
+IsWorkOrNoMemory Done = Unit {0}
+IsWorkOrNoMemory NotAll = Unit {0}
+IsWorkOrNoMemory NoMemory = Unit {0}
+IsWorkOrNoMemory status = ⊥
 
--- The bytes of both files are told, and are a rule file without rules and the text of a module.
-abbrev pub AreGood : (List ℕ → Option (List ℕ)) → Optimise → Type 0
-AreGood told named = IsSomeAnd (told named.rules) IsRuleText × IsSomeAnd (told named.source) (λ bytes. (m : Module) × IsModuleText bytes m)
+-- the bytes of each file are told, and are what the file is read for
+abbrev pub AreGood : (List ℕ → Option (List ℕ)) → List File → Type 0
+AreGood told files = (k : ℕ) (file : File) → slice_get files k ≡ Some file → IsSomeAnd (told file.name) (Takes file.kind)
+
+-- What `verify` has done for the bytes of a rule file: it decided these rules, handed back their verdicts and wrote the texts of
+-- them. All are admitted exactly with status 0.
+pub record HasVerified (bytes : List ℕ) (widths : List ℕ) (conflicts : ℕ) (out : Fed) (ended : Ended) : Type 0 where
+  pub rules : List Rule
+  pub file : IsRuleText bytes rules
+  pub verified : Verified
+  pub right : IsVerified rules widths conflicts verified
+  pub table : ended.table ≡ verified.table
+  pub text : Gained out verified.text.items
+  pub all : (ended.status ≡ Done) ↔ IsTrue verified.all_admitted
+
+-- What `optimise` has done for the bytes of a module: it wrote the module that may stand in its place, and a report.
+pub record HasOptimised (bytes : List ℕ) (out err : Fed) : Type 0 where
+  pub new : Module
+  pub tallies : List Tally
+  pub optimised : IsOptimised bytes new tallies
+  pub text : Gained out (text_of new)
+  pub report : Gained err (report_of new tallies)

@@ -3,14 +3,18 @@
 ghost use Rattle.std.specs.Prelude.{◌≡◌};
 ghost use Rattle.alive_top.specs.Statuses.{code_of};
 
+use verdict::Table;
+
 /// The status of a command.
 #[derive(Clone, Copy, Debug, PartialEq, Eq)]
 pub enum Status {
     /// The work was done and written.
     Done,
+    /// The work was done and written, and a verdict that was printed isn't admitted, or a rule has too many typings.
+    NotAll,
     /// The words are not those of a command.
     Usage,
-    /// The rule file was read, and holds more than blanks and comments, or more than 1 MiB.
+    /// The rule file was read, and its bytes are no rule file, or more than 1 MiB.
     RuleRefused,
     /// The module was read, and isn't of the form, or has more than 16 MiB.
     ModuleRefused,
@@ -29,6 +33,7 @@ impl Status {
     {
         match self {
             Status::Done => 0,
+            Status::NotAll => 1,
             Status::Usage => 2,
             Status::RuleRefused => 3,
             Status::ModuleRefused => 4,
@@ -40,7 +45,9 @@ impl Status {
 }
 
 /// What a command leaves beside what it wrote.
-#[derive(Clone, Copy, Debug, PartialEq, Eq)]
+#[derive(Debug, Drop)]
 pub struct Ended {
     pub status: Status,
+    /// The verdicts that were decided, where the work was done: under `verify` those of its lines, in order.
+    pub table: Table,
 }

@@ -10,6 +10,12 @@ mod texts;
 
 const OPTIMISE: &[&str] = &["alive", "optimise", "r", "m"];
 
+const VERIFY: &[&str] = &["alive", "verify", "r"];
+
+const XOR_SELF: &str = "Name: xor-self\n%r = xor i4 %x, %x\n=>\n%r = and i4 %x, 0\n";
+
+const OR_ZERO: &str = "Name: or-zero\n%r = or i1 %x, 0\n=>\n%r = 0\n";
+
 const IDENTITY: &str = "define i8 @f(i8 %a) {\n  ret i8 %a\n}\n";
 
 /// The read and the puts that fail.

@@ -1,9 +1,26 @@
-use Rattle.std.proofs.Common.{List, ℕ, refl, subst, ◌∙◌, inl}
-use Rattle.alive_top.specs.Endings.{fed, Took}
+use Rattle.std.proofs.Common.{◌≡◌, ◌⊎◌, ℕ, List, Result, Ok, Err, subst, inl, inr}
+use Rattle.std.specs.Prelude.{MatchResult, IfOk}
+use Rattle.alive_top.specs.declared.status.Status.{Status}
+use Rattle.alive_top.specs.declared.status.Status.TheVariants.{RuleRefused, ReadFault}
+use Rattle.alive_top.specs.Lines.{rules_line, read_fault_line}
+use Rattle.alive_top.specs.Endings.{Fed, fed, Took}
+use Rattle.alive_top.specs.Writing.{Says, SaysMemory}
 use Rattle.alive_top.proofs.top.refuse.Goals as goal
 
-pub returns-in-Ok-clause-answer : goal.returns-in-Ok-clause-answer
-returns-in-Ok-clause-answer g c =
+-- a line that was made is the wanted one
+made : {A B : Type 0} (r : Result A B) (items : A → List ℕ) (wanted : List ℕ) (err : Fed) (status given : Status)
+    → MatchResult r (λ m. Says err status (items m) given) (λ _. SaysMemory err given) → IfOk r (λ m. items m ≡ wanted) → Says err status wanted given ⊎ SaysMemory err given
+made (Ok m) items wanted err status given h e = inl (h.0, subst (λ (line : List ℕ). Took err line) e h.1)
+made (Err x) items wanted err status given h e = inr h
+
+pub returns-in-Rules-clause-answer : goal.returns-in-Rules-clause-answer
+returns-in-Rules-clause-answer g c =
     let err = g.E.Sink in
-    let sink = fed (err.written c.args.err.now) (err.written c.put_line-in-Ok.new.err) (err.faults c.args.err.now) (err.faults c.put_line-in-Ok.new.err) in
-    rw c.in-Read.is (inl (refl, subst (λ (line : List ℕ). Took sink line) (c.as_slice.ensures.value ∙ c.in-Ok.ensures) c.put_line-in-Ok.ensures.took))
+    let sink = fed (err.written c.args.err.now) (err.written c.put_made.new.err) (err.faults c.args.err.now) (err.faults c.put_made.new.err) in
+    rw c.in-Rules.is (made c.rules_line.result (λ m. m.items) (rules_line c.in-Rules.fault) sink RuleRefused c.put_made.result c.put_made.ensures.answer c.rules_line.ensures)
+
+pub returns-in-Read-clause-answer : goal.returns-in-Read-clause-answer
+returns-in-Read-clause-answer g c =
+    let err = g.E.Sink in
+    let sink = fed (err.written c.args.err.now) (err.written c.put_made-in-Read.new.err) (err.faults c.args.err.now) (err.faults c.put_made-in-Read.new.err) in
+    rw c.in-Read.is (made c.read_fault_line.result (λ m. m.items) (read_fault_line c.in-Read.name.now) sink ReadFault c.put_made-in-Read.result c.put_made-in-Read.ensures.answer c.read_fault_line.ensures)

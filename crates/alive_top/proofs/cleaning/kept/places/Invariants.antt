@@ -1,5 +1,0 @@
-use Rattle.alive_top.proofs.KeptLemmas.{Counted}
-use Rattle.alive_top.proofs.cleaning.kept.places.Given as goal
-
-abbrev pub invariant-loop-mark : goal.invariant-loop-mark
-invariant-loop-mark l = Counted l.marks l.mark-index l.places.items l.count

@@ -1,0 +1,266 @@
+//! The work of each command, before anything is written.
+
+ghost use Rattle.std.specs.Prelude.{◌≡◌, ◌≤◌, ◌<◌, ◌+◌, ◌^◌, length, take, IfSome, [], IfOk, All, if◌then◌else◌};
+ghost use Rattle.std.specs.List.Sorted.{IsStrictlyIncreasing};
+ghost use Rattle.verifier.specs.Findings.{IsReadRule};
+ghost use Rattle.straight_line.specs.Optimised.{Prints};
+ghost use Rattle.alive_top.specs.Asking.{asked};
+ghost use Rattle.alive_top.specs.Tasks.{Rules, NoRules, Source, Verify, Optimise, task_of, IsReady, IsRuleText, HasRules, IsFirstName};
+ghost use Rattle.alive_top.specs.Working.{IsVerifyWork};
+ghost use Rattle.alive_top.specs.Results.{ReadOf, TextOf, FileOf, TaskOf, seen_work};
+
+use crate::refusal::Refusal;
+use crate::status::Status;
+use command_line::Command;
+use lists::{List, Text};
+use ops::Width;
+use outside::{Files, ReadError};
+use rule_core::Rule;
+use rule_reader::{RuleError, RuleFault, RuleFaultKind, read_rules};
+use scan::Cursor;
+use std::alloc::{AllocError, Global};
+use straight_line::{ModuleError, SOURCE_LIMIT, Texts};
+use verdict::Table;
+
+/// The most bytes of a rule file.
+const RULES_LIMIT: usize = 1_048_576;
+
+/// What a command writes: a text for the output, and a report. Beside them the verdicts, and the status once both are written.
+#[derive(Drop)]
+pub(crate) struct Work {
+    pub(crate) text: Vec<u8>,
+    pub(crate) report: Vec<u8>,
+    pub(crate) table: Table,
+    pub(crate) status: Status,
+}
+
+/// The bytes of a file, or its first `most`.
+fn read<'a, F: Files>(
+    alloc: Global,
+    files: &mut F,
+    name: &'a str,
+    most: usize,
+) -> Result<Vec<u8>, Refusal<'a>>
+    ensures answer { ReadOf
+        (asked (F.bytes_under files.old) (F.names_asked files.old) (F.names_asked files.new) (F.faults files.old) (F.faults files.new))
+        name.now
+        (λ read. IfSome (F.bytes_under files.old name.now) (λ told. read.items ≡ take most told)) result }
+    ensures told_stay { F.bytes_under files.new ≡ F.bytes_under files.old }
+    ensures faults_grow { F.faults files.old ≤ F.faults files.new }
+{
+    match files.read(alloc, name, most) {
+        Ok(bytes) => Ok(bytes),
+        Err(ReadError::Failed) => Err(Refusal::Read(name)),
+        Err(ReadError::NoMemory) => Err(Refusal::Memory),
+    }
+}
+
+/// The rules of a text.
+fn rules_of<'a>(alloc: Global, bytes: &[u8]) -> Result<Vec<Rule>, Refusal<'a>>
+    ensures text { TextOf Rules bytes.now (λ rules. IsRuleText bytes.now rules.items) result }
+    ensures read { IfOk result (λ rules. All IsReadRule rules.items) }
+{
+    match read_rules(alloc, bytes) {
+        Ok(rules) => Ok(rules),
+        Err(RuleError::Refused(fault)) => Err(Refusal::Rules(fault)),
+        Err(RuleError::NoMemory) => Err(Refusal::Memory),
+    }
+}
+
+/// The fault of a rule file that has rules, where none may stand yet: `Name:` of the first is left out.
+fn first_name(alloc: Global, bytes: &[u8]) -> Result<RuleFault, AllocError>
+    requires { HasRules bytes.now }
+    ensures { IfOk result (IsFirstName bytes.now) }
+{
+    // A text that has rules begins with a token, so this answers no want of memory.
+    let Ok(token) = Cursor::new(bytes).next_rule_token(false) else {
+        return Err(AllocError);
+    };
+    let word = Text::from_vec(Vec::from_slice(alloc, b"Name:")?);
+    Ok(RuleFault {
+        line: token.line,
+        kind: RuleFaultKind::LeftOut(word),
+    })
+}
+
+/// That a text is a rule file without rules.
+fn no_rules_of<'a>(alloc: Global, bytes: &[u8]) -> Result<(), Refusal<'a>>
+    ensures { TextOf NoRules bytes.now (λ none. IsRuleText bytes.now []) result }
+{
+    let rules = rules_of(alloc, bytes)?;
+    if rules.is_empty() {
+        Ok(())
+    } else {
+        Err(Refusal::Rules(first_name(alloc, bytes)?))
+    }
+}
+
+/// What is written for the text of a module.
+fn texts_of<'a>(alloc: Global, source: &[u8]) -> Result<Texts, Refusal<'a>>
+    ensures { TextOf Source source.now (λ texts. Prints source.now texts.out.items texts.report.items) result }
+{
+    match straight_line::optimise(alloc, source) {
+        Ok(texts) => Ok(texts),
+        Err(ModuleError::Refused) => Err(Refusal::Source),
+        Err(ModuleError::NoMemory) => Err(Refusal::Memory),
+    }
+}
+
+/// Reads a rule file.
+fn read_rule_file<'a, F: Files>(
+    alloc: Global,
+    files: &mut F,
+    name: &'a str,
+) -> Result<Vec<Rule>, Refusal<'a>>
+    ensures answer { FileOf
+        (asked (F.bytes_under files.old) (F.names_asked files.old) (F.names_asked files.new) (F.faults files.old) (F.faults files.new))
+        (record { name = name.now; kind = Rules }) (λ bytes rules. IsRuleText bytes rules.items) result }
+    ensures read { IfOk result (λ rules. All IsReadRule rules.items) }
+    ensures told_stay { F.bytes_under files.new ≡ F.bytes_under files.old }
+    ensures faults_grow { F.faults files.old ≤ F.faults files.new }
+{
+    let bytes = read(alloc, files, name, RULES_LIMIT + 1)?;
+    rules_of(alloc, bytes.as_slice())
+}
+
+/// Reads a rule file that has no rules.
+fn read_no_rules<'a, F: Files>(
+    alloc: Global,
+    files: &mut F,
+    name: &'a str,
+) -> Result<(), Refusal<'a>>
+    ensures answer { FileOf
+        (asked (F.bytes_under files.old) (F.names_asked files.old) (F.names_asked files.new) (F.faults files.old) (F.faults files.new))
+        (record { name = name.now; kind = NoRules }) (λ bytes none. IsRuleText bytes []) result }
+    ensures told_stay { F.bytes_under files.new ≡ F.bytes_under files.old }
+    ensures faults_grow { F.faults files.old ≤ F.faults files.new }
+{
+    let bytes = read(alloc, files, name, RULES_LIMIT + 1)?;
+    no_rules_of(alloc, bytes.as_slice())
+}
+
+/// Reads a module, and gives what is written for it.
+fn read_source<'a, F: Files>(
+    alloc: Global,
+    files: &mut F,
+    name: &'a str,
+) -> Result<Texts, Refusal<'a>>
+    ensures answer { FileOf
+        (asked (F.bytes_under files.old) (F.names_asked files.old) (F.names_asked files.new) (F.faults files.old) (F.faults files.new))
+        (record { name = name.now; kind = Source }) (λ bytes texts. Prints bytes texts.out.items texts.report.items) result }
+    ensures told_stay { F.bytes_under files.new ≡ F.bytes_under files.old }
+    ensures faults_grow { F.faults files.old ≤ F.faults files.new }
+{
+    let bytes = read(alloc, files, name, SOURCE_LIMIT + 1)?;
+    texts_of(alloc, bytes.as_slice())
+}
+
+/// What is written for a list of rules. As many as no `u32` counts are refused as for want of memory; no text within 1 MiB has so
+/// many.
+fn verified(
+    alloc: Global,
+    rules: &[Rule],
+    widths: &List<Width>,
+    conflicts: u32,
+) -> Result<Work, AllocError>
+    requires rules { All IsReadRule rules.now }
+    requires widths { IsStrictlyIncreasing widths.now }
+    requires conflicts { conflicts ≤ 1000000 }
+    ensures { IfOk result (λ work. IsVerifyWork rules.now widths.now conflicts (seen_work work)) }
+{
+    if rules.len() > u32::MAX as usize {
+        return Err(AllocError);
+    }
+    let verified = verifier::verify(alloc, rules, widths, conflicts)?;
+    Ok(Work {
+        text: verified.text,
+        report: Vec::new(alloc),
+        table: verified.table,
+        status: status_of(verified.all_admitted),
+    })
+}
+
+/// The status of `verify` once its text is written.
+fn status_of(all_admitted: bool) -> Status
+    ensures { result ≡ (if all_admitted then Status.Done else Status.NotAll) }
+{
+    if all_admitted {
+        Status::Done
+    } else {
+        Status::NotAll
+    }
+}
+
+/// The work of `verify`.
+fn verify<'a, F: Files>(
+    alloc: Global,
+    files: &mut F,
+    rules: &'a str,
+    widths: &List<Width>,
+    conflicts: u32,
+) -> Result<Work, Refusal<'a>>
+    requires widths { IsStrictlyIncreasing widths.now }
+    requires conflicts { conflicts ≤ 1000000 }
+    ensures answer { TaskOf
+        (asked (F.bytes_under files.old) (F.names_asked files.old) (F.names_asked files.new) (F.faults files.old) (F.faults files.new))
+        (Verify rules.now widths.now conflicts) result }
+    ensures told_stay { F.bytes_under files.new ≡ F.bytes_under files.old }
+    ensures faults_grow { F.faults files.old ≤ F.faults files.new }
+{
+    let list = read_rule_file(alloc, files, rules)?;
+    let work = verified(alloc, list.as_slice(), widths, conflicts)?;
+    Ok(work)
+}
+
+/// The work of `optimise`.
+fn optimise<'a, F: Files>(
+    alloc: Global,
+    files: &mut F,
+    rules: &'a str,
+    source: &'a str,
+    conflicts: u32,
+    steps: u32,
+) -> Result<Work, Refusal<'a>>
+    ensures answer { TaskOf
+        (asked (F.bytes_under files.old) (F.names_asked files.old) (F.names_asked files.new) (F.faults files.old) (F.faults files.new))
+        (Optimise rules.now source.now conflicts steps) result }
+    ensures told_stay { F.bytes_under files.new ≡ F.bytes_under files.old }
+    ensures faults_grow { F.faults files.old ≤ F.faults files.new }
+{
+    read_no_rules(alloc, files, rules)?;
+    let texts = read_source(alloc, files, source)?;
+    Ok(Work {
+        text: texts.out,
+        report: texts.report,
+        table: List::new(alloc),
+        status: Status::Done,
+    })
+}
+
+/// The work of a command, before anything is written.
+pub(crate) fn perform<'a, F: Files>(
+    alloc: Global,
+    command: Command<'a>,
+    files: &mut F,
+) -> Result<Work, Refusal<'a>>
+    requires { IsReady command }
+    ensures answer { TaskOf
+        (asked (F.bytes_under files.old) (F.names_asked files.old) (F.names_asked files.new) (F.faults files.old) (F.faults files.new))
+        (task_of command.entry) result }
+    ensures told_stay { F.bytes_under files.new ≡ F.bytes_under files.old }
+    ensures faults_grow { F.faults files.old ≤ F.faults files.new }
+{
+    match command {
+        Command::Verify {
+            rules,
+            widths,
+            conflicts,
+        } => verify(alloc, files, rules, &widths, conflicts),
+        Command::Optimise {
+            rules,
+            module,
+            conflicts,
+            steps,
+        } => optimise(alloc, files, rules, module, conflicts, steps),
+    }
+}
