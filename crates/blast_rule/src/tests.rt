@@ -1,5 +1,5 @@
 //! Rules of two statements and one over i2, at each setting.
-ghost use Rattle.std.specs.Prelude.{◌≡◌, [], ◌∷◌, IfOk, IfSome};
+ghost use Rattle.std.specs.Prelude.{◌≡◌, [], ◌∷◌, IfOk};
 ghost use Rattle.rule_core.specs.Sample.{plain, assigns};
 ghost use Rattle.blast_rule.specs.Sample.{sample};
 
@@ -63,15 +63,15 @@ fn sample(alloc: Global, first: Opcode, second: Opcode, third: Opcode) -> Result
 }
 
 // The class 0 has the width 2.
-fn typing(alloc: Global) -> Result<Option<Typing>, AllocError>
-    ensures { IfOk result (λ made. IfSome made (λ typing. typing ≡ 2 ∷ [])) }
+fn typing(alloc: Global) -> Result<Typing, AllocError>
+    ensures { IfOk result (λ typing. typing ≡ 2 ∷ []) }
 {
     let Some(width) = Width::new(2) else {
-        return Ok(None);
+        unreachable!()
     };
     let mut typing = List::new(alloc);
     typing.push(width)?;
-    Ok(Some(typing))
+    Ok(typing)
 }
 
 /// An effect: undefined behaviour, poison or a number of i2.
@@ -102,36 +102,29 @@ fn seen_at(
     first: Opcode,
     third: Opcode,
     x: u8,
-) -> Result<Option<(Does, Does, bool)>, AllocError> {
+) -> Result<(Does, Does, bool), AllocError> {
     let rule = sample(alloc, first, Opcode::Add, third)?;
-    let Some(typing) = typing(alloc)? else {
-        return Ok(None);
-    };
+    let typing = typing(alloc)?;
     let bits = vec![in alloc; x % 2 == 1, x / 2 % 2 == 1, x == 4]?;
     let mut circuit = EvalCircuit::new(List::from_vec(bits));
     let made = blast_rule(alloc, &mut circuit, &rule, &typing)?;
-    Ok(Some((
+    Ok((
         effect_seen(&made.source),
         effect_seen(&made.target),
         made.bad,
-    )))
+    ))
 }
 
 // How many inputs and gates the circuit has, and the setting of these bits.
-fn counts_and_setting(
-    alloc: Global,
-    bits: &[bool],
-) -> Result<Option<(u32, u32, Setting)>, AllocError> {
+fn counts_and_setting(alloc: Global, bits: &[bool]) -> Result<(u32, u32, Setting), AllocError> {
     let rule = sample(alloc, Opcode::Xor, Opcode::Add, Opcode::Sub)?;
-    let Some(typing) = typing(alloc)? else {
-        return Ok(None);
-    };
+    let typing = typing(alloc)?;
     let setting = setting_of(alloc, &rule, &typing, bits)?;
-    Ok(Some((
+    Ok((
         input_bits(&rule, &typing),
         most_gates(&rule, &typing),
         setting,
-    )))
+    ))
 }
 
 // For x of 0, 1, 2, 3 and poison what the source does, what the target does, and whether that refutes the rule.
@@ -192,7 +185,7 @@ fn rules_are_refuted_at_their_counterexamples(rt: HostRuntime) -> Result<(), Fai
             let seen = seen_at(rt.alloc(), first, third, x)?;
             assert_eq!(rt;
                 seen,
-                Some(expected[usize::from(x)]),
+                expected[usize::from(x)],
                 "{first:?} {third:?} at {x}"
             );
         }
@@ -203,9 +196,7 @@ fn rules_are_refuted_at_their_counterexamples(rt: HostRuntime) -> Result<(), Fai
 #[test]
 fn a_rule_has_its_inputs_and_gates(rt: HostRuntime) -> Result<(), Fail> {
     for (bits, poison) in [([false, true, false], false), ([false, true, true], true)] {
-        let Some((inputs, gates, setting)) = counts_and_setting(rt.alloc(), &bits)? else {
-            return Ok(());
-        };
+        let (inputs, gates, setting) = counts_and_setting(rt.alloc(), &bits)?;
         assert_eq!(rt; inputs, 3);
         // 4 + 1 for xor, 39 + 1 each for add and sub, 1 for both halves, 2 * 2 + 4 at the end
         assert_eq!(rt; gates, 94);

@@ -1,7 +1,4 @@
-use Rattle.std.proofs.Common.{◌≡◌, ◌∷◌, [], List, ℕ}
-use Rattle.ops.specs.declared.opcode.Opcode.TheVariants.{Xor, Add, Sub}
-use Rattle.rule_core.specs.declared.rule.Rule.{Rule}
-use Rattle.rule_core.specs.Typing.{IsTyping}
+use Rattle.ops.specs.declared.opcode.Opcode.TheVariants.{Add}
 use Rattle.blast_rule.proofs.Sample.{is_rule, is_typing}
 use Rattle.blast_rule.proofs.tests.seen_at.Goals as goal
 
@@ -9,4 +6,4 @@ pub blast_rule-requires-clause-rule : goal.blast_rule-requires-clause-rule
 blast_rule-requires-clause-rule c = rw c.in_ok-rule.ensures (is_rule c.args.first Add c.args.third)
 
 pub blast_rule-requires-clause-typing : goal.blast_rule-requires-clause-typing
-blast_rule-requires-clause-typing c = rw (c.in_ok-rule.ensures, ?) (is_typing c.args.first Add c.args.third)
+blast_rule-requires-clause-typing c = rw (c.in_ok-rule.ensures, c.in_ok-typing.ensures) (is_typing c.args.first Add c.args.third)
