@@ -33,7 +33,7 @@ negation_times_negative zero b = omega (arith, ints)
 negation_times_negative (suc q) b = refl
 
 -- the remainder is that of the absolute values, with the sign of the dividend
-remainder_of : (y z : ℤ) → division.remainder y z ≡ (if int_lt y (pos 0) then neg_ℤ (pos (unsigned_abs y % unsigned_abs z)) else pos (unsigned_abs y % unsigned_abs z))
+pub remainder_of : (y z : ℤ) → division.remainder y z ≡ (if int_lt y (pos 0) then neg_ℤ (pos (unsigned_abs y % unsigned_abs z)) else pos (unsigned_abs y % unsigned_abs z))
 unfolding mathlib.Core.Bool.xor
 remainder_of (pos a) (pos b) = rw (nothing_below a, nothing_below b) (omega (arith, ints, mod-add-div a b))
 remainder_of (pos a) (negsuc b) = rw (nothing_below a, negation_times_negative (a / suc b) b) (omega (arith, ints, mod-add-div a (suc b)))
