@@ -3,7 +3,7 @@ use Rattle.std.specs.Prelude.{◌≡◌, ◌↔◌, ℕ, IsTrue, false, ◌⊎�
 use Rattle.outside.specs.Faults.{Rose}
 use Rattle.outside.specs.Sink.{Appends, AppendsPrefix}
 use Rattle.command_line.specs.Words.{are_taken, HasBadList, refusal_of_list}
-use Rattle.ir_core.specs.declared.module.Module.{Module}
+use Rattle.straight_core.specs.declared.module.Module.{Module}
 use Rattle.rule_core.specs.declared.rule.Rule.{Rule}
 use Rattle.alive_top.specs.Tasks.{IsRuleText}
 use Rattle.straight_line.specs.Optimised.{IsOptimised}

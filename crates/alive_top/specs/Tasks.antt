@@ -6,7 +6,7 @@ use Rattle.scan.specs.RuleTokens.{IsNextRuleToken}
 use Rattle.command_line.specs.declared.command.Command.{Command}
 use Rattle.command_line.specs.declared.command.Command.TheVariants as commands
 use Rattle.command_line.specs.Words.{are_taken, Says}
-use Rattle.ir_core.specs.declared.module.Module.{Module}
+use Rattle.straight_core.specs.declared.module.Module.{Module}
 use Rattle.rule_core.specs.declared.rule.Rule.{Rule}
 use Rattle.rule_reader.specs.declared.fault.RuleFault.{RuleFault}
 use Rattle.rule_reader.specs.declared.fault.RuleFaultKind.TheVariants.{LeftOut}

@@ -1,55 +1,35 @@
 -- Where a register has a value on every way there (LangRef, "Well-Formedness", which says it by dominance).
-use Rattle.std.specs.Prelude.{◌≡◌, ℕ, ◌<◌, ◌⊎◌, List, [], ◌∷◌, length, Some, All, Contains, slice_get}
-use Rattle.ir_core.specs.declared.module.Function.{Function}
-use Rattle.ir_core.specs.declared.module.Block.{Block}
-use Rattle.ir_core.specs.declared.module.Inst.{Inst}
-use Rattle.ir_core.specs.declared.module.Op.{Op}
-use Rattle.ir_core.specs.declared.module.Op.TheVariants.{Binary}
-use Rattle.ir_core.specs.declared.module.Operand.{Operand}
-use Rattle.ir_core.specs.declared.module.Operand.TheVariants as operands
-use Rattle.ir_core.specs.declared.module.Register.{Register}
-use Rattle.ir_core.specs.declared.module.Register.TheVariants as registers
-use Rattle.ir_core.specs.declared.module.Terminator.{Terminator}
-use Rattle.ir_core.specs.declared.module.Terminator.TheVariants as terminators
-
--- the blocks that a terminator names
-abbrev pub targets_of : Terminator → List ℕ
-targets_of (terminators.Return a) = []
-
--- the terminator of block b names block c
-abbrev pub Names : Function → ℕ → ℕ → Type 0
-Names f b c = (block : Block) × (slice_get f.blocks b ≡ Some block) × Contains (targets_of block.end) c
-
--- a walk from the first block, the last block first
-abbrev pub IsWalk : Function → List ℕ → Type 0
-IsWalk f [] = ⊥
-IsWalk f (b ∷ []) = b ≡ 0
-IsWalk f (c ∷ b ∷ before) = Names f b c × IsWalk f (b ∷ before)
-
--- the function has an instruction at place j of block d
-abbrev pub HasInst : Function → ℕ → ℕ → Type 0
-HasInst f d j = (block : Block) × (slice_get f.blocks d ≡ Some block) × (j < length block.insts)
+use Rattle.std.specs.Prelude.{◌≡◌, ℕ, ◌<◌, ◌⊎◌, List, ◌∷◌, length, Contains}
+use Rattle.ir_core.specs.declared.function.Function.{Function}
+use Rattle.ir_core.specs.declared.operand.Operand.TheVariants as operands
+use Rattle.ir_core.specs.declared.operand.Register.{Register}
+use Rattle.ir_core.specs.declared.operand.Register.TheVariants as registers
+use Rattle.ir_core.specs.Blocks.{HasInst}
+use Rattle.ir_core.specs.Reads.{Read, IsRead}
+use Rattle.ir_core.specs.Walks.{IsWalk}
 
 -- A register is assigned at place k of block b if the function has it and every walk there has passed its definition, in an
--- earlier block or in this one before the place. Parameters are assigned everywhere.
+-- earlier block of the walk or in this one before the place. Parameters are assigned everywhere.
 abbrev pub IsAssigned : Function → Register → ℕ → ℕ → Type 0
 IsAssigned f (registers.Parameter p) b k = p < length f.parameters
 IsAssigned f (registers.Result d j) b k = HasInst f d j × ((before : List ℕ) → IsWalk f (b ∷ before) → Contains before d ⊎ ((d ≡ b) × (j < k)))
 
--- an operand that is a register is assigned where it is used
-abbrev pub OperandIsAssigned : Function → ℕ → ℕ → Operand → Type 0
-OperandIsAssigned f b k (operands.Register r) = IsAssigned f r b k
-OperandIsAssigned f b k (operands.Number n) = Unit {0}
-OperandIsAssigned f b k operands.Undef = Unit {0}
-OperandIsAssigned f b k operands.Poison = Unit {0}
+-- what is read is assigned where it is read, if it is a register
+abbrev pub ReadIsAssigned : Function → Read → Type 0
+ReadIsAssigned f r = (register : Register) → r.operand ≡ operands.Register register → IsAssigned f register r.block r.place
 
-abbrev pub operands_of : Op → List Operand
-operands_of (Binary op flags a b) = a ∷ b ∷ []
+-- every register is assigned wherever it is read
+abbrev pub ReadsAreAssigned : Function → Type 0
+ReadsAreAssigned f = (b k i : ℕ) (r : Read) → IsRead f b k i r → ReadIsAssigned f r
 
-abbrev pub operands_at_end : Terminator → List Operand
-operands_at_end (terminators.Return a) = a ∷ []
+-- what is written at one place stands before what is written at another: block, place and operand in this order
+abbrev pub IsBefore : ℕ → ℕ → ℕ → ℕ → ℕ → ℕ → Type 0
+IsBefore b k i c l j = (b < c) ⊎ ((b ≡ c) × ((k < l) ⊎ ((k ≡ l) × (i < j))))
 
--- every register is assigned wherever it is used
-pub record UsesAreAssigned (f : Function) : Type 0 where
-  pub insts : (b k : ℕ) (block : Block) (inst : Inst) → slice_get f.blocks b ≡ Some block → slice_get block.insts k ≡ Some inst → All (OperandIsAssigned f b k) (operands_of inst.op)
-  pub ends : (b : ℕ) (block : Block) → slice_get f.blocks b ≡ Some block → All (OperandIsAssigned f b (length block.insts)) (operands_at_end block.end)
+-- operand i that is written at place k of block b reads the register, is not assigned, and is the first that is not
+pub record IsFirstUnassigned (f : Function) (register : Register) (b k i : ℕ) : Type 0 where
+  pub read : Read
+  pub is_read : IsRead f b k i read
+  pub reads : read.operand ≡ operands.Register register
+  pub unassigned : ¬ IsAssigned f register read.block read.place
+  pub first : (c l j : ℕ) (earlier : Read) → IsRead f c l j earlier → IsBefore c l j b k i → ReadIsAssigned f earlier

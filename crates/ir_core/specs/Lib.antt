@@ -1,5 +1,6 @@
+pub mod Blocks
+pub mod Walks
+pub mod Reads
 pub mod Names
-pub mod Run
-pub mod Refines
 pub mod Assigned
-pub mod Laws
+pub mod Checks

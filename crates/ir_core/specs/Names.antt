@@ -2,10 +2,10 @@
 -- without a name take one series of numbers from 0, in text order (LangRef, "Identifiers").
 use Rattle.std.specs.Prelude.{ℕ, suc, ◌+◌, [], ◌∷◌, List, ◌++◌, length, map, take, slice_get, Option, None, Some, option_map, option_and_then}
 use Rattle.std.specs.List.{flat_map}
-use Rattle.ir_core.specs.declared.module.Function.{Function}
-use Rattle.ir_core.specs.declared.module.Block.{Block}
-use Rattle.ir_core.specs.declared.module.Register.{Register}
-use Rattle.ir_core.specs.declared.module.Register.TheVariants as registers
+use Rattle.ir_core.specs.declared.function.Function.{Function}
+use Rattle.ir_core.specs.declared.function.Block.{Block}
+use Rattle.ir_core.specs.declared.operand.Register.{Register}
+use Rattle.ir_core.specs.declared.operand.Register.TheVariants as registers
 
 -- a name, if there is one
 abbrev pub Name : Type 0

@@ -1,15 +1,18 @@
-//! Modules of LLVM IR as plain values, and what they mean.
+//! Modules of LLVM IR over integer registers, as plain values, and what a module has to meet.
 //!
-//! The meaning stands in `specs/`: `Run` has operands, instructions, blocks and outcomes, `Refines` has refinement,
-//! `Assigned` says where a register has a value, and `Names` says what a register without a name is called.
+//! The definitions stand in `specs/`: `Reads` says what an instruction reads and where, `Blocks` which blocks a terminator
+//! names, `Walks` which blocks a run may go through, `Assigned` where a register has a value on every way there, `Names` what a
+//! register or a block without a name is called, and `Checks` what every function and module that is read meets.
 #![tactic(auto)]
 
-mod laws;
+mod function;
+mod instruction;
 mod module;
-mod outcome;
+mod operand;
+mod terminator;
 
-pub use laws::every_zero_outcome_is_an_outcome;
-pub use module::{
-    Block, Entry, Function, Inst, Module, Op, Operand, Parameter, Register, Terminator,
-};
-pub use outcome::Outcome;
+pub use function::{Block, Function, Parameter};
+pub use instruction::{Inst, Op};
+pub use module::{Entry, Module};
+pub use operand::{Operand, Register};
+pub use terminator::Terminator;

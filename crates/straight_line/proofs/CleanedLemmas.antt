@@ -3,8 +3,8 @@ use Rattle.std.proofs.Common.{◌≡◌, ℕ, suc, ◌+◌, ◌<◌, ◌≤◌, 
 use Rattle.std.proofs.Math.ListN.{set, length-set}
 use Rattle.std.proofs.Math.Seq.{drop-cons}
 use Rattle.std.proofs.lemmas.List.{take_more, take_more_set, drop-set-lt, take_all, drop_all}
-use Rattle.ir_core.specs.declared.module.Entry.{Entry}
-use Rattle.ir_core.specs.declared.module.Entry.TheVariants as entries
+use Rattle.straight_core.specs.declared.module.Entry.{Entry}
+use Rattle.straight_core.specs.declared.module.Entry.TheVariants as entries
 use Rattle.straight_line.specs.Cleaning.{EntriesCleaned}
 use Rattle.straight_line.specs.Straight.{AllStraight}
 

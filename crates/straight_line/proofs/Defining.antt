@@ -4,7 +4,7 @@ use Rattle.std.specs.Option.{is_none}
 use Rattle.std.specs.List.{list_any}
 use Rattle.std.proofs.lemmas.Bool.{false≢true, eqb-true, eq-eqb}
 use Rattle.std.proofs.lemmas.Option.{same_Some}
-use Rattle.ir_core.specs.Names.{Name, Identifier, Named, Numbered}
+use Rattle.straight_core.specs.Names.{Name, Identifier, Named, Numbered}
 use Rattle.straight_line.specs.declared.reader.names.Entity.{Entity}
 use Rattle.straight_line.specs.declared.reader.names.Entity.TheVariants as entities
 use Rattle.straight_line.specs.Bytes.{is_digit, begins_with}

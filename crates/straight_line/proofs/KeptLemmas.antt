@@ -4,15 +4,15 @@ use Rattle.std.proofs.lemmas.Option.{get_or_from_slice_get}
 use Rattle.std.proofs.lemmas.List.{length_push, drop_all}
 use Rattle.std.proofs.Math.Seq.{drop-cons}
 use Rattle.std.proofs.lemmas.List.Sums.{count_by-le-length, count_by_more_yes, count_by_more_no}
-use Rattle.ir_core.specs.declared.module.Block.{Block}
-use Rattle.ir_core.specs.declared.module.Inst.{Inst}
-use Rattle.ir_core.specs.declared.module.Op.{Op}
-use Rattle.ir_core.specs.declared.module.Op.TheVariants.{Binary}
-use Rattle.ir_core.specs.declared.module.Operand.{Operand}
-use Rattle.ir_core.specs.declared.module.Operand.TheVariants as operands
-use Rattle.ir_core.specs.declared.module.Register.{Register}
-use Rattle.ir_core.specs.declared.module.Register.TheVariants as registers
-use Rattle.ir_core.specs.declared.module.Terminator.{Terminator}
+use Rattle.straight_core.specs.declared.module.Block.{Block}
+use Rattle.straight_core.specs.declared.module.Inst.{Inst}
+use Rattle.straight_core.specs.declared.module.Op.{Op}
+use Rattle.straight_core.specs.declared.module.Op.TheVariants.{Binary}
+use Rattle.straight_core.specs.declared.module.Operand.{Operand}
+use Rattle.straight_core.specs.declared.module.Operand.TheVariants as operands
+use Rattle.straight_core.specs.declared.module.Register.{Register}
+use Rattle.straight_core.specs.declared.module.Register.TheVariants as registers
+use Rattle.straight_core.specs.declared.module.Terminator.{Terminator}
 use Rattle.straight_line.specs.Cleaning.{Marks, marks_at, moved_register, moved_end, kept_insts}
 use Rattle.straight_line.specs.Meaning.{StandsBefore}
 use Rattle.straight_line.specs.Straight.{OperandStands, OpStands, InstsStand}

@@ -5,8 +5,8 @@ use Rattle.std.specs.Option.{ok_or}
 use Rattle.std.proofs.lemmas.Bool.{false≢true, eqb-true, eq-eqb, leb-true, le-leb, ltb-true, lt-ltb}
 use Rattle.std.proofs.lemmas.Option.{same_Some, none-some}
 use Rattle.ops.specs.Number.{Number}
-use Rattle.ir_core.specs.declared.module.Operand.{Operand}
-use Rattle.ir_core.specs.declared.module.Operand.TheVariants as operands
+use Rattle.straight_core.specs.declared.module.Operand.{Operand}
+use Rattle.straight_core.specs.declared.module.Operand.TheVariants as operands
 use Rattle.straight_line.specs.declared.reader.error.ModuleError.{ModuleError}
 use Rattle.straight_line.specs.declared.reader.error.ModuleError.TheVariants as errors
 use Rattle.straight_line.specs.Bytes.{is_digit, begins_with}

@@ -4,9 +4,9 @@ use Rattle.std.specs.Prelude.{slice_get}
 use Rattle.std.proofs.lemmas.Option.{same_Some}
 use Rattle.std.proofs.lemmas.List.{append-nil}
 use Rattle.std.specs.List.{AllByRecursion}
-use Rattle.ir_core.specs.Names.{Name, Identifier, identifiers_of}
-use Rattle.ir_core.specs.declared.module.Function.{Function}
-use Rattle.ir_core.specs.declared.module.Parameter.{Parameter}
+use Rattle.straight_core.specs.Names.{Name, Identifier, identifiers_of}
+use Rattle.straight_core.specs.declared.module.Function.{Function}
+use Rattle.straight_core.specs.declared.module.Parameter.{Parameter}
 use Rattle.straight_line.specs.declared.reader.names.Entity.{Entity}
 use Rattle.straight_line.specs.declared.reader.names.Entity.TheVariants as entities
 use Rattle.straight_line.specs.Grammar.{RawParameter}

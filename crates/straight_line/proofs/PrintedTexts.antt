@@ -1,8 +1,8 @@
 -- The text of a list, as a loop prints it: one item after the other.
 use Rattle.std.proofs.Common.{◌≡◌, ℕ, suc, ◌+◌, ◌<◌, ◌≤◌, false, cond, eqb, List, [], ◌∷◌, ◌++◌, length, drop, get_or, codes, refl, sym, ap, ◌∙◌, append_assoc, add-one, rules, tests}
 use Rattle.std.proofs.lemmas.List.{append-nil, drop_more, drop_all}
-use Rattle.ir_core.specs.declared.module.Entry.{Entry}
-use Rattle.ir_core.specs.declared.module.Function.{Function}
+use Rattle.straight_core.specs.declared.module.Entry.{Entry}
+use Rattle.straight_core.specs.declared.module.Function.{Function}
 use Rattle.straight_line.specs.Printing.{inst_text, insts_text, block_text, blocks_text, parameter_text, parameters_text, entry_text, entries_text}
 
 -- the text of a list from an index on is that of its first item, and then that of the others

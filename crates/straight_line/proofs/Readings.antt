@@ -1,10 +1,10 @@
 -- Texts have one reading; what is written for one has outcomes; what is read and written uses what is assigned.
 use Rattle.std.proofs.Common.{◌≡◌, ℕ, zero, suc, ◌<◌, List, [], ◌∷◌, length, refl, sym, ap, subst, ◌∙◌, arith, Contains}
 use Rattle.std.specs.Prelude.{slice_index_or}
-use Rattle.ir_core.specs.declared.module.Module.{Module}
-use Rattle.ir_core.specs.declared.module.Entry.{Entry}
-use Rattle.ir_core.specs.declared.module.Entry.TheVariants as entries
-use Rattle.ir_core.specs.declared.module.Function.{Function}
+use Rattle.straight_core.specs.declared.module.Module.{Module}
+use Rattle.straight_core.specs.declared.module.Entry.{Entry}
+use Rattle.straight_core.specs.declared.module.Entry.TheVariants as entries
+use Rattle.straight_core.specs.declared.module.Function.{Function}
 use Rattle.straight_line.specs.Grammar.{RawFunction}
 use Rattle.straight_line.specs.Meaning.{EntriesMean}
 use Rattle.straight_line.specs.Cleaning.{EntriesCleaned}

@@ -7,29 +7,29 @@ use Rattle.ops.proofs.Values.{AllowsValue-refl}
 use Rattle.ops.specs.declared.value.Value.{Value}
 use Rattle.ops.specs.declared.value.Effect.{Effect}
 use Rattle.ops.specs.declared.value.Effect.TheVariants as effects
-use Rattle.ir_core.specs.Assigned.{operands_of, operands_at_end}
-use Rattle.ir_core.specs.Names.{width_of}
-use Rattle.ir_core.specs.Refines.{AreArguments, AllowsOutcome, Refines}
-use Rattle.ir_core.specs.Run.{Registers, arguments, holding, Ending, Undefines, Returns, Goes, GoesOn, Leads, OperandGives, OpGives, EndGives, Follows, Passes, RunsFrom, AnyNumber, OnlyZero, HasOutcome}
-use Rattle.ir_core.specs.declared.module.Function.{Function}
-use Rattle.ir_core.specs.declared.module.Block.{Block}
-use Rattle.ir_core.specs.declared.module.Inst.{Inst}
-use Rattle.ir_core.specs.declared.module.Op.{Op}
-use Rattle.ir_core.specs.declared.module.Op.TheVariants.{Binary}
-use Rattle.ir_core.specs.declared.module.Operand.{Operand}
-use Rattle.ir_core.specs.declared.module.Operand.TheVariants as operands
-use Rattle.ir_core.specs.declared.module.Register.{Register}
-use Rattle.ir_core.specs.declared.module.Register.TheVariants as registers
-use Rattle.ir_core.specs.declared.module.Terminator.{Terminator}
-use Rattle.ir_core.specs.declared.module.Terminator.TheVariants as terminators
-use Rattle.ir_core.specs.declared.outcome.Outcome.{Outcome}
-use Rattle.ir_core.specs.declared.outcome.Outcome.TheVariants as outcomes
+use Rattle.straight_core.specs.Assigned.{operands_of, operands_at_end}
+use Rattle.straight_core.specs.Names.{width_of}
+use Rattle.straight_core.specs.Refines.{AreArguments, AllowsOutcome, Refines}
+use Rattle.straight_core.specs.Run.{Registers, arguments, holding, Ending, Undefines, Returns, Goes, GoesOn, Leads, OperandGives, OpGives, EndGives, Follows, Passes, RunsFrom, AnyNumber, OnlyZero, HasOutcome}
+use Rattle.straight_core.specs.declared.module.Function.{Function}
+use Rattle.straight_core.specs.declared.module.Block.{Block}
+use Rattle.straight_core.specs.declared.module.Inst.{Inst}
+use Rattle.straight_core.specs.declared.module.Op.{Op}
+use Rattle.straight_core.specs.declared.module.Op.TheVariants.{Binary}
+use Rattle.straight_core.specs.declared.module.Operand.{Operand}
+use Rattle.straight_core.specs.declared.module.Operand.TheVariants as operands
+use Rattle.straight_core.specs.declared.module.Register.{Register}
+use Rattle.straight_core.specs.declared.module.Register.TheVariants as registers
+use Rattle.straight_core.specs.declared.module.Terminator.{Terminator}
+use Rattle.straight_core.specs.declared.module.Terminator.TheVariants as terminators
+use Rattle.straight_core.specs.declared.outcome.Outcome.{Outcome}
+use Rattle.straight_core.specs.declared.outcome.Outcome.TheVariants as outcomes
 use Rattle.straight_line.specs.Meaning.{StandsBefore}
 use Rattle.straight_line.specs.Cleaning.{IsNeeded, Marks, marks_at, moved_register, moved_operand, moved_op, moved_end, kept_insts, kept_function, AreNeeded, IsCleaned}
 use Rattle.straight_line.specs.WellFormed.{OperandFits, OpFits, EndFits, CodeFits, IsWellFormed}
 use Rattle.straight_line.proofs.RefinementPieces.{marked_before, count-kept, count-dropped, count-below, contains_first, contains_second, mapped, chained, one, is_one}
 use Rattle.straight_line.proofs.RefinementHeld.{held-new, held-other, AreHeld, held_next, held_first, op_gives}
-use Rattle.ir_core.proofs.ZeroOutcomes.{op_any, goes_on}
+use Rattle.straight_core.proofs.ZeroOutcomes.{op_any, goes_on}
 
 -- ---- marks of registers
 

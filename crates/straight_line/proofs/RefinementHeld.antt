@@ -11,24 +11,24 @@ use Rattle.ops.specs.declared.opcode.Opcode.{Opcode}
 use Rattle.ops.specs.declared.opcode.Flags.{Flags}
 use Rattle.ops.specs.declared.opcode.Opcode.TheVariants.{Add, Sub, Mul, UDiv, SDiv, URem, SRem, Shl, LShr, AShr, And, Or, Xor}
 use Rattle.ops.specs.Laws.{IsDivision}
-use Rattle.ir_core.specs.Names.{width_of}
-use Rattle.ir_core.specs.Refines.{AreArguments}
-use Rattle.ir_core.specs.Run.{Registers, arguments, holding, Returns, OperandGives, OpGives, Follows, OnlyZero, HasOutcome, HasZeroOutcome}
-use Rattle.ir_core.proofs.ZeroOutcomes.{zero_is_outcome}
-use Rattle.ir_core.specs.declared.module.Function.{Function}
-use Rattle.ir_core.specs.declared.module.Parameter.{Parameter}
-use Rattle.ir_core.specs.declared.module.Block.{Block}
-use Rattle.ir_core.specs.declared.module.Inst.{Inst}
-use Rattle.ir_core.specs.declared.module.Op.{Op}
-use Rattle.ir_core.specs.declared.module.Op.TheVariants.{Binary}
-use Rattle.ir_core.specs.declared.module.Operand.{Operand}
-use Rattle.ir_core.specs.declared.module.Operand.TheVariants as operands
-use Rattle.ir_core.specs.declared.module.Register.{Register}
-use Rattle.ir_core.specs.declared.module.Register.TheVariants as registers
-use Rattle.ir_core.specs.declared.module.Terminator.{Terminator}
-use Rattle.ir_core.specs.declared.module.Terminator.TheVariants as terminators
-use Rattle.ir_core.specs.declared.outcome.Outcome.{Outcome}
-use Rattle.ir_core.specs.declared.outcome.Outcome.TheVariants as outcomes
+use Rattle.straight_core.specs.Names.{width_of}
+use Rattle.straight_core.specs.Refines.{AreArguments}
+use Rattle.straight_core.specs.Run.{Registers, arguments, holding, Returns, OperandGives, OpGives, Follows, OnlyZero, HasOutcome, HasZeroOutcome}
+use Rattle.straight_core.proofs.ZeroOutcomes.{zero_is_outcome}
+use Rattle.straight_core.specs.declared.module.Function.{Function}
+use Rattle.straight_core.specs.declared.module.Parameter.{Parameter}
+use Rattle.straight_core.specs.declared.module.Block.{Block}
+use Rattle.straight_core.specs.declared.module.Inst.{Inst}
+use Rattle.straight_core.specs.declared.module.Op.{Op}
+use Rattle.straight_core.specs.declared.module.Op.TheVariants.{Binary}
+use Rattle.straight_core.specs.declared.module.Operand.{Operand}
+use Rattle.straight_core.specs.declared.module.Operand.TheVariants as operands
+use Rattle.straight_core.specs.declared.module.Register.{Register}
+use Rattle.straight_core.specs.declared.module.Register.TheVariants as registers
+use Rattle.straight_core.specs.declared.module.Terminator.{Terminator}
+use Rattle.straight_core.specs.declared.module.Terminator.TheVariants as terminators
+use Rattle.straight_core.specs.declared.outcome.Outcome.{Outcome}
+use Rattle.straight_core.specs.declared.outcome.Outcome.TheVariants as outcomes
 use Rattle.straight_line.specs.Meaning.{StandsBefore}
 use Rattle.straight_line.specs.WellFormed.{OperandFits, OpFits, CodeFits, IsWellFormed}
 use Rattle.straight_line.proofs.RefinementPieces.{one, is_one}

@@ -3,18 +3,18 @@ use Rattle.std.proofs.Common.{◌≡◌, ℕ, zero, suc, ◌+◌, ◌<◌, Bool,
 use Rattle.std.specs.Prelude.{slice_get, option_map}
 use Rattle.std.proofs.lemmas.Option.{same_Some}
 use Rattle.std.proofs.lemmas.Bool.{false≢true}
-use Rattle.ir_core.specs.Names.{width_of}
-use Rattle.ir_core.specs.declared.module.Function.{Function}
-use Rattle.ir_core.specs.declared.module.Block.{Block}
-use Rattle.ir_core.specs.declared.module.Inst.{Inst}
-use Rattle.ir_core.specs.declared.module.Op.{Op}
-use Rattle.ir_core.specs.declared.module.Op.TheVariants.{Binary}
-use Rattle.ir_core.specs.declared.module.Operand.{Operand}
-use Rattle.ir_core.specs.declared.module.Operand.TheVariants as operands
-use Rattle.ir_core.specs.declared.module.Register.{Register}
-use Rattle.ir_core.specs.declared.module.Register.TheVariants as registers
-use Rattle.ir_core.specs.declared.module.Terminator.{Terminator}
-use Rattle.ir_core.specs.declared.module.Terminator.TheVariants as terminators
+use Rattle.straight_core.specs.Names.{width_of}
+use Rattle.straight_core.specs.declared.module.Function.{Function}
+use Rattle.straight_core.specs.declared.module.Block.{Block}
+use Rattle.straight_core.specs.declared.module.Inst.{Inst}
+use Rattle.straight_core.specs.declared.module.Op.{Op}
+use Rattle.straight_core.specs.declared.module.Op.TheVariants.{Binary}
+use Rattle.straight_core.specs.declared.module.Operand.{Operand}
+use Rattle.straight_core.specs.declared.module.Operand.TheVariants as operands
+use Rattle.straight_core.specs.declared.module.Register.{Register}
+use Rattle.straight_core.specs.declared.module.Register.TheVariants as registers
+use Rattle.straight_core.specs.declared.module.Terminator.{Terminator}
+use Rattle.straight_core.specs.declared.module.Terminator.TheVariants as terminators
 use Rattle.straight_line.specs.Meaning.{StandsBefore}
 use Rattle.straight_line.specs.Cleaning.{Marks, moved_register, moved_operand, moved_op, moved_inst, moved_end, kept_insts, kept_function, AreNeeded, IsCleaned}
 use Rattle.straight_line.specs.WellFormed.{OperandFits, OpFits, EndFits, CodeFits, IsWellFormed}

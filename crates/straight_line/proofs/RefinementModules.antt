@@ -1,11 +1,11 @@
 -- The laws of straight-line functions for the modules that are read.
 use Rattle.std.proofs.Common.{map, refl, ℕ, zero, suc, ◌<◌, List, [], ◌∷◌, length, subst, arith, Contains}
 use Rattle.std.specs.Prelude.{◌≤◌, slice_index_or}
-use Rattle.ir_core.specs.Refines.{EntriesRefine}
-use Rattle.ir_core.specs.declared.module.Module.{Module}
-use Rattle.ir_core.specs.declared.module.Entry.{Entry}
-use Rattle.ir_core.specs.declared.module.Entry.TheVariants as entries
-use Rattle.ir_core.specs.declared.module.Function.{Function}
+use Rattle.straight_core.specs.Refines.{EntriesRefine}
+use Rattle.straight_core.specs.declared.module.Module.{Module}
+use Rattle.straight_core.specs.declared.module.Entry.{Entry}
+use Rattle.straight_core.specs.declared.module.Entry.TheVariants as entries
+use Rattle.straight_core.specs.declared.module.Function.{Function}
 use Rattle.straight_line.specs.Grammar.{RawFunction}
 use Rattle.straight_line.specs.Meaning.{EntriesMean, ModuleMeans, Reads}
 use Rattle.straight_line.specs.Cleaning.{EntriesCleaned, ModuleCleaned}

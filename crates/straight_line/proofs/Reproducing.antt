@@ -1,7 +1,7 @@
 -- A text that productions spell is read as these productions.
 use Rattle.std.proofs.Common.{◌≡◌, ℕ, zero, suc, ◌<◌, true, List, [], ◌∷◌, ◌++◌, Option, Some, None, Result, Err, length, refl, sym, ap, subst, ◌∙◌, arith}
 use Rattle.std.specs.Prelude.{codes, IsErrOf}
-use Rattle.ir_core.specs.declared.module.Module.{Module}
+use Rattle.straight_core.specs.declared.module.Module.{Module}
 use Rattle.straight_line.specs.declared.reader.error.ModuleError.{ModuleError}
 use Rattle.straight_line.specs.declared.reader.error.ModuleError.TheVariants.{Refused, NoMemory}
 use Rattle.straight_line.specs.Meaning.{Reads, ModuleMeans}

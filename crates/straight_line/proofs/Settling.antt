@@ -3,7 +3,7 @@ use Rattle.std.proofs.Common.{◌≡◌, ℕ, zero, suc, ◌+◌, ◌<◌, ◌�
 use Rattle.std.proofs.Math.ListN.{set, length-set}
 use Rattle.std.proofs.Math.Seq.{drop-cons}
 use Rattle.std.proofs.lemmas.List.{drop-set-lt, get_or-set_same}
-use Rattle.ir_core.specs.declared.module.Inst.{Inst}
+use Rattle.straight_core.specs.declared.module.Inst.{Inst}
 use Rattle.straight_line.specs.Cleaning.{Marks, kept_insts, moved_inst}
 use Rattle.straight_line.specs.Straight.{OpStands, InstsStand}
 use Rattle.straight_line.proofs.KeptLemmas.{kept_step, kept_all, stand_rest, stands_later}

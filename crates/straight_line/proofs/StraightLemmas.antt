@@ -1,13 +1,13 @@
 -- What the reader gives is straight.
 use Rattle.std.proofs.Common.{ℕ, suc, List, [], ◌∷◌, length}
-use Rattle.ir_core.specs.declared.module.Module.{Module}
-use Rattle.ir_core.specs.declared.module.Entry.{Entry}
-use Rattle.ir_core.specs.declared.module.Entry.TheVariants as entries
-use Rattle.ir_core.specs.declared.module.Function.{Function}
-use Rattle.ir_core.specs.declared.module.Inst.{Inst}
-use Rattle.ir_core.specs.declared.module.Op.TheVariants.{Binary}
-use Rattle.ir_core.specs.declared.module.Operand.{Operand}
-use Rattle.ir_core.specs.declared.module.Operand.TheVariants as operands
+use Rattle.straight_core.specs.declared.module.Module.{Module}
+use Rattle.straight_core.specs.declared.module.Entry.{Entry}
+use Rattle.straight_core.specs.declared.module.Entry.TheVariants as entries
+use Rattle.straight_core.specs.declared.module.Function.{Function}
+use Rattle.straight_core.specs.declared.module.Inst.{Inst}
+use Rattle.straight_core.specs.declared.module.Op.TheVariants.{Binary}
+use Rattle.straight_core.specs.declared.module.Operand.{Operand}
+use Rattle.straight_core.specs.declared.module.Operand.TheVariants as operands
 use Rattle.straight_line.specs.Operations.{opcode_of}
 use Rattle.straight_line.specs.Grammar.{RawValue, NamedRegister, WrittenNumber, True, False, Undef, Poison, RawInst, RawFunction}
 use Rattle.straight_line.specs.Meaning.{ValueMeans, InstsMean, FunctionMeans, EntriesMean, ModuleMeans, Reads, no_flags}

@@ -7,7 +7,7 @@ use Rattle.std.specs.Cmp.Lexicographic.{bytes_decides}
 use Rattle.std.proofs.lemmas.Bool.{false≢true}
 use Rattle.std.proofs.lemmas.Bool.Decides.{Decides-eqb}
 use Rattle.std.proofs.lemmas.Option.{same_Some}
-use Rattle.ir_core.specs.Names.{Name, Identifier, Named, Numbered, identifiers_from}
+use Rattle.straight_core.specs.Names.{Name, Identifier, Named, Numbered, identifiers_from}
 use Rattle.straight_line.specs.declared.reader.names.Entity.{Entity}
 use Rattle.straight_line.specs.Meaning.{AreDistinct}
 use Rattle.straight_line.specs.Resolving.{Known, same, lookup_in}

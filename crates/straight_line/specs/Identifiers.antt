@@ -1,5 +1,5 @@
 -- Identifiers of the program, as the identifiers of a function that they are.
-use Rattle.ir_core.specs.Names.{Identifier, Named, Numbered}
+use Rattle.straight_core.specs.Names.{Identifier, Named, Numbered}
 use Rattle.straight_line.specs.declared.identifier.Identifier.{Identifier as Stored}
 use Rattle.straight_line.specs.declared.identifier.Identifier.TheVariants as stored
 

@@ -3,13 +3,13 @@ use Rattle.std.specs.Prelude.{◌≡◌, ℕ, List, Contains}
 use Rattle.straight_line.specs.Optimised.{IsOptimised}
 use Rattle.straight_line.specs.Strategy.{Tally}
 use Rattle.ops.specs.declared.value.Value.{Value}
-use Rattle.ir_core.specs.Assigned.{UsesAreAssigned}
-use Rattle.ir_core.specs.Refines.{AreArguments, Refines, ModuleRefines}
-use Rattle.ir_core.specs.Run.{HasOutcome, HasZeroOutcome}
-use Rattle.ir_core.specs.declared.module.Module.{Module}
-use Rattle.ir_core.specs.declared.module.Entry.TheVariants as entries
-use Rattle.ir_core.specs.declared.module.Function.{Function}
-use Rattle.ir_core.specs.declared.outcome.Outcome.{Outcome}
+use Rattle.straight_core.specs.Assigned.{UsesAreAssigned}
+use Rattle.straight_core.specs.Refines.{AreArguments, Refines, ModuleRefines}
+use Rattle.straight_core.specs.Run.{HasOutcome, HasZeroOutcome}
+use Rattle.straight_core.specs.declared.module.Module.{Module}
+use Rattle.straight_core.specs.declared.module.Entry.TheVariants as entries
+use Rattle.straight_core.specs.declared.module.Function.{Function}
+use Rattle.straight_core.specs.declared.outcome.Outcome.{Outcome}
 use Rattle.straight_line.specs.Grammar.{RawFunction}
 use Rattle.straight_line.specs.Meaning.{FunctionMeans, ModuleMeans, Reads}
 use Rattle.straight_line.specs.Cleaning.{IsCleaned, ModuleCleaned}

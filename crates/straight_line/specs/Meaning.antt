@@ -2,19 +2,19 @@
 use Rattle.std.specs.Prelude.{◌≡◌, ◌≢◌, ℕ, suc, ◌+◌, ◌-◌, ◌*◌, ◌%◌, ◌^◌, ◌<◌, ◌≤◌, true, false, if◌then◌else◌, List, [], ◌∷◌, length, map, fold, None, Some}
 use Rattle.std.specs.List.{AllByRecursion}
 use Rattle.ops.specs.declared.opcode.Flags.{Flags}
-use Rattle.ir_core.specs.Names.{Name, Identifier, Named, Numbered, identifiers_of, identifier_of, width_of}
-use Rattle.ir_core.specs.declared.module.Module.{Module}
-use Rattle.ir_core.specs.declared.module.Entry.{Entry}
-use Rattle.ir_core.specs.declared.module.Entry.TheVariants as entries
-use Rattle.ir_core.specs.declared.module.Function.{Function}
-use Rattle.ir_core.specs.declared.module.Parameter.{Parameter}
-use Rattle.ir_core.specs.declared.module.Inst.{Inst}
-use Rattle.ir_core.specs.declared.module.Op.TheVariants.{Binary}
-use Rattle.ir_core.specs.declared.module.Operand.{Operand}
-use Rattle.ir_core.specs.declared.module.Operand.TheVariants as operands
-use Rattle.ir_core.specs.declared.module.Register.{Register}
-use Rattle.ir_core.specs.declared.module.Register.TheVariants as registers
-use Rattle.ir_core.specs.declared.module.Terminator.TheVariants as terminators
+use Rattle.straight_core.specs.Names.{Name, Identifier, Named, Numbered, identifiers_of, identifier_of, width_of}
+use Rattle.straight_core.specs.declared.module.Module.{Module}
+use Rattle.straight_core.specs.declared.module.Entry.{Entry}
+use Rattle.straight_core.specs.declared.module.Entry.TheVariants as entries
+use Rattle.straight_core.specs.declared.module.Function.{Function}
+use Rattle.straight_core.specs.declared.module.Parameter.{Parameter}
+use Rattle.straight_core.specs.declared.module.Inst.{Inst}
+use Rattle.straight_core.specs.declared.module.Op.TheVariants.{Binary}
+use Rattle.straight_core.specs.declared.module.Operand.{Operand}
+use Rattle.straight_core.specs.declared.module.Operand.TheVariants as operands
+use Rattle.straight_core.specs.declared.module.Register.{Register}
+use Rattle.straight_core.specs.declared.module.Register.TheVariants as registers
+use Rattle.straight_core.specs.declared.module.Terminator.TheVariants as terminators
 use Rattle.straight_line.specs.Bytes.{is_digit, begins_with}
 use Rattle.straight_line.specs.Operations.{opcode_of}
 use Rattle.straight_line.specs.Tokens.{are_digits, Spells}

@@ -1,7 +1,7 @@
 -- What `optimise` writes of the text of a module.
 use Rattle.std.specs.Prelude.{◌≡◌, ℕ, ◌≤◌, List, length, Result, Ok, Err}
-use Rattle.ir_core.specs.Refines.{ModuleRefines}
-use Rattle.ir_core.specs.declared.module.Module.{Module}
+use Rattle.straight_core.specs.Refines.{ModuleRefines}
+use Rattle.straight_core.specs.declared.module.Module.{Module}
 use Rattle.straight_line.specs.declared.reader.error.ModuleError.{ModuleError}
 use Rattle.straight_line.specs.declared.reader.error.ModuleError.TheVariants.{Refused, NoMemory}
 use Rattle.straight_line.specs.declared.optimised.Texts.{Texts}

@@ -4,21 +4,21 @@ use Rattle.ops.specs.Number.{Number}
 use Rattle.ops.specs.declared.opcode.Opcode.{Opcode}
 use Rattle.ops.specs.declared.opcode.Opcode.TheVariants.{Add, Sub, Mul, UDiv, SDiv, URem, SRem, Shl, LShr, AShr, And, Or, Xor}
 use Rattle.ops.specs.declared.opcode.Flags.{Flags}
-use Rattle.ir_core.specs.Names.{Identifier, Named, Numbered, identifier_of}
-use Rattle.ir_core.specs.declared.module.Module.{Module}
-use Rattle.ir_core.specs.declared.module.Entry.{Entry}
-use Rattle.ir_core.specs.declared.module.Entry.TheVariants as entries
-use Rattle.ir_core.specs.declared.module.Function.{Function}
-use Rattle.ir_core.specs.declared.module.Parameter.{Parameter}
-use Rattle.ir_core.specs.declared.module.Block.{Block}
-use Rattle.ir_core.specs.declared.module.Inst.{Inst}
-use Rattle.ir_core.specs.declared.module.Op.{Op}
-use Rattle.ir_core.specs.declared.module.Op.TheVariants.{Binary}
-use Rattle.ir_core.specs.declared.module.Operand.{Operand}
-use Rattle.ir_core.specs.declared.module.Operand.TheVariants as operands
-use Rattle.ir_core.specs.declared.module.Register.TheVariants as registers
-use Rattle.ir_core.specs.declared.module.Terminator.{Terminator}
-use Rattle.ir_core.specs.declared.module.Terminator.TheVariants as terminators
+use Rattle.straight_core.specs.Names.{Identifier, Named, Numbered, identifier_of}
+use Rattle.straight_core.specs.declared.module.Module.{Module}
+use Rattle.straight_core.specs.declared.module.Entry.{Entry}
+use Rattle.straight_core.specs.declared.module.Entry.TheVariants as entries
+use Rattle.straight_core.specs.declared.module.Function.{Function}
+use Rattle.straight_core.specs.declared.module.Parameter.{Parameter}
+use Rattle.straight_core.specs.declared.module.Block.{Block}
+use Rattle.straight_core.specs.declared.module.Inst.{Inst}
+use Rattle.straight_core.specs.declared.module.Op.{Op}
+use Rattle.straight_core.specs.declared.module.Op.TheVariants.{Binary}
+use Rattle.straight_core.specs.declared.module.Operand.{Operand}
+use Rattle.straight_core.specs.declared.module.Operand.TheVariants as operands
+use Rattle.straight_core.specs.declared.module.Register.TheVariants as registers
+use Rattle.straight_core.specs.declared.module.Terminator.{Terminator}
+use Rattle.straight_core.specs.declared.module.Terminator.TheVariants as terminators
 use Rattle.straight_line.specs.Strategy.{Tally}
 
 -- a register: its name, or its number in the series

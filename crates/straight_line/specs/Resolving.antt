@@ -2,19 +2,19 @@
 use Rattle.std.specs.Prelude.{ℕ, suc, ◌-◌, ◌%◌, ◌^◌, ◌==◌, nat_lt, nat_le, Bool, false, ◌&&◌, if◌then◌else◌, List, [], ◌∷◌, ◌++◌, length, map, Option, None, Some, option_map}
 use Rattle.std.specs.Option.{is_none}
 use Rattle.std.specs.Cmp.Lexicographic.{pointwise}
-use Rattle.ir_core.specs.Names.{Name, Identifier, Named, Numbered}
-use Rattle.ir_core.specs.declared.module.Entry.{Entry}
-use Rattle.ir_core.specs.declared.module.Entry.TheVariants as entries
-use Rattle.ir_core.specs.declared.module.Function.{Function}
-use Rattle.ir_core.specs.declared.module.Block.{Block}
-use Rattle.ir_core.specs.declared.module.Parameter.{Parameter}
-use Rattle.ir_core.specs.declared.module.Inst.{Inst}
-use Rattle.ir_core.specs.declared.module.Op.TheVariants.{Binary}
-use Rattle.ir_core.specs.declared.module.Operand.{Operand}
-use Rattle.ir_core.specs.declared.module.Operand.TheVariants as operands
-use Rattle.ir_core.specs.declared.module.Register.{Register}
-use Rattle.ir_core.specs.declared.module.Register.TheVariants as registers
-use Rattle.ir_core.specs.declared.module.Terminator.TheVariants as terminators
+use Rattle.straight_core.specs.Names.{Name, Identifier, Named, Numbered}
+use Rattle.straight_core.specs.declared.module.Entry.{Entry}
+use Rattle.straight_core.specs.declared.module.Entry.TheVariants as entries
+use Rattle.straight_core.specs.declared.module.Function.{Function}
+use Rattle.straight_core.specs.declared.module.Block.{Block}
+use Rattle.straight_core.specs.declared.module.Parameter.{Parameter}
+use Rattle.straight_core.specs.declared.module.Inst.{Inst}
+use Rattle.straight_core.specs.declared.module.Op.TheVariants.{Binary}
+use Rattle.straight_core.specs.declared.module.Operand.{Operand}
+use Rattle.straight_core.specs.declared.module.Operand.TheVariants as operands
+use Rattle.straight_core.specs.declared.module.Register.{Register}
+use Rattle.straight_core.specs.declared.module.Register.TheVariants as registers
+use Rattle.straight_core.specs.declared.module.Terminator.TheVariants as terminators
 use Rattle.straight_line.specs.declared.reader.names.Entity.{Entity}
 use Rattle.straight_line.specs.declared.reader.names.Entity.TheVariants as entities
 use Rattle.straight_line.specs.declared.identifier.Identifier.{Identifier as Written}

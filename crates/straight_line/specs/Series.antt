@@ -1,8 +1,8 @@
 -- The series of numbers for what has no name, and where the blocks of a function stand in text order.
 use Rattle.std.specs.Prelude.{◌≡◌, ℕ, suc, ◌+◌, ◌<◌, [], ◌∷◌, List, ◌++◌, length, map, take, slice_index, None, Some}
 use Rattle.std.specs.List.{flat_map}
-use Rattle.ir_core.specs.Names.{Name, identifiers_from, block_names}
-use Rattle.ir_core.specs.declared.module.Block.{Block}
+use Rattle.straight_core.specs.Names.{Name, identifiers_from, block_names}
+use Rattle.straight_core.specs.declared.module.Block.{Block}
 use Rattle.straight_line.specs.declared.identifier.Identifier.{Identifier as Stored}
 use Rattle.straight_line.specs.Identifiers.{seen}
 

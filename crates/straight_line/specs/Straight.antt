@@ -1,16 +1,16 @@
 -- Straight functions: of one block, in which each register that is used stands before its use.
 use Rattle.std.specs.Prelude.{◌≡◌, ℕ, suc, List, [], ◌∷◌, length}
-use Rattle.ir_core.specs.declared.module.Entry.{Entry}
-use Rattle.ir_core.specs.declared.module.Entry.TheVariants as entries
-use Rattle.ir_core.specs.declared.module.Function.{Function}
-use Rattle.ir_core.specs.declared.module.Block.{Block}
-use Rattle.ir_core.specs.declared.module.Inst.{Inst}
-use Rattle.ir_core.specs.declared.module.Op.{Op}
-use Rattle.ir_core.specs.declared.module.Op.TheVariants.{Binary}
-use Rattle.ir_core.specs.declared.module.Operand.{Operand}
-use Rattle.ir_core.specs.declared.module.Operand.TheVariants as operands
-use Rattle.ir_core.specs.declared.module.Terminator.{Terminator}
-use Rattle.ir_core.specs.declared.module.Terminator.TheVariants as terminators
+use Rattle.straight_core.specs.declared.module.Entry.{Entry}
+use Rattle.straight_core.specs.declared.module.Entry.TheVariants as entries
+use Rattle.straight_core.specs.declared.module.Function.{Function}
+use Rattle.straight_core.specs.declared.module.Block.{Block}
+use Rattle.straight_core.specs.declared.module.Inst.{Inst}
+use Rattle.straight_core.specs.declared.module.Op.{Op}
+use Rattle.straight_core.specs.declared.module.Op.TheVariants.{Binary}
+use Rattle.straight_core.specs.declared.module.Operand.{Operand}
+use Rattle.straight_core.specs.declared.module.Operand.TheVariants as operands
+use Rattle.straight_core.specs.declared.module.Terminator.{Terminator}
+use Rattle.straight_core.specs.declared.module.Terminator.TheVariants as terminators
 use Rattle.straight_line.specs.Meaning.{StandsBefore}
 
 -- an operand that is a register stands before place k of the one block

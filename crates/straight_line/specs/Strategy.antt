@@ -1,6 +1,6 @@
 -- What the plain strategy makes of a module where there are no rules.
 use Rattle.std.specs.Prelude.{◌≡◌, ℕ, Bool, false, List, map}
-use Rattle.ir_core.specs.declared.module.Module.{Module}
+use Rattle.straight_core.specs.declared.module.Module.{Module}
 use Rattle.straight_line.specs.Cleaning.{ModuleCleaned}
 
 -- what became of a function: how often it was rewritten, and whether its steps were spent while a match was left

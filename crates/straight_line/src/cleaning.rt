@@ -8,12 +8,12 @@ ghost use Rattle.straight_line.specs.Marking.{AreNeededIn, kept_block};
 mod kept;
 mod needed;
 
-use ir_core::{Block, Entry, Function, Module};
 use kept::{Kept, kept_insts, moved_end};
 use lists::List;
 use needed::needed;
 use std::alloc::{AllocError, Global};
 use std::mem;
+use straight_core::{Block, Entry, Function, Module};
 
 /// Keeps the needed instructions of a block alone. It takes its memory before it changes the block.
 fn clean_block(alloc: Global, block: &mut Block) -> Result<(), AllocError>

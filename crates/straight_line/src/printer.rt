@@ -9,9 +9,9 @@ mod report;
 mod words;
 
 use function::push_function;
-use ir_core::{Entry, Module};
 pub(crate) use report::report;
 use std::alloc::{AllocError, Global};
+use straight_core::{Entry, Module};
 
 /// An entry, behind an empty line if it is not the first.
 #[tactic(auto, unfolding(crate::specs::Printing::entry_text))]

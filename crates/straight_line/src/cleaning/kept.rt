@@ -7,9 +7,9 @@ ghost use Rattle.straight_line.specs.Meaning.{StandsBefore};
 ghost use Rattle.straight_line.specs.Straight.{OperandStands, OpStands, EndStands, InstsStand};
 ghost use Rattle.straight_line.specs.Marking.{AreKeptPlaces};
 
-use ir_core::{Inst, Op, Operand, Register, Terminator};
 use lists::List;
 use std::alloc::{AllocError, Global};
+use straight_core::{Inst, Op, Operand, Register, Terminator};
 
 /// Which instructions of a block are kept.
 #[derive(Drop)]

@@ -4,8 +4,8 @@ ghost use Rattle.std.specs.Prelude.{◌≡◌, length, IfOk};
 ghost use Rattle.straight_line.specs.Straight.{OperandStands, OpStands, EndStands, IsStraightBlock};
 ghost use Rattle.straight_line.specs.Marking.{marked, marked_op, marked_end, AreNeededIn};
 
-use ir_core::{Block, Op, Operand, Register, Terminator};
 use std::alloc::{AllocError, Global};
+use straight_core::{Block, Op, Operand, Register, Terminator};
 
 /// Marks the instruction whose result the operand is.
 fn mark(marks: &mut [bool], operand: Operand)

@@ -6,9 +6,9 @@ ghost use Rattle.straight_line.specs.Printing.{type_text, operand_text, op_text,
 use crate::identifier::Identifier;
 use crate::printer::names::{Names, names_of};
 use crate::printer::words::{push_flags, push_number, push_opcode, push_register, push_type};
-use ir_core::{Block, Function, Inst, Op, Operand, Parameter, Terminator};
 use ops::Width;
 use std::alloc::{AllocError, Global};
+use straight_core::{Block, Function, Inst, Op, Operand, Parameter, Terminator};
 
 #[tactic(auto, unfolding(crate::specs::Printing::operand_text))]
 fn push_operand(out: &mut Vec<u8>, names: &Names<'_>, operand: Operand) -> Result<(), AllocError>

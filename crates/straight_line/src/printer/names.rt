@@ -2,14 +2,14 @@
 
 ghost use Rattle.std.specs.Prelude.{◌≡◌, ◌≤◌, ◌∷◌, [], ◌++◌, length, map, slice_get, option_map, IfOk, OnOk};
 ghost use Rattle.std.specs.List.{flat_map};
-ghost use Rattle.ir_core.specs.Names.{identifiers_from, identifiers_of, identifier_of, block_names};
+ghost use Rattle.straight_core.specs.Names.{identifiers_from, identifiers_of, identifier_of, block_names};
 ghost use Rattle.straight_line.specs.Identifiers.{seen};
 ghost use Rattle.straight_line.specs.Series.{Adds, AreBlockStarts};
 
 use crate::identifier::Identifier;
-use ir_core::{Block, Function, Inst, Parameter, Register};
 use lists::Text;
 use std::alloc::{AllocError, Global};
+use straight_core::{Block, Function, Inst, Parameter, Register};
 
 /// A function with its identifiers in text order, and where those of each block begin.
 #[derive(Drop)]

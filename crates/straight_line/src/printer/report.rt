@@ -4,8 +4,8 @@ ghost use Rattle.std.specs.Prelude.{◌≡◌, ◌++◌, map, IfOk, OnOk};
 ghost use Rattle.straight_line.specs.Printing.{entry_report, function_report, report_of};
 ghost use Rattle.straight_line.specs.Strategy.{no_step};
 
-use ir_core::{Entry, Function, Module};
 use std::alloc::{AllocError, Global};
+use straight_core::{Entry, Function, Module};
 
 /// Adds the line of a function.
 fn push_line(out: &mut Vec<u8>, function: &Function) -> Result<(), AllocError>

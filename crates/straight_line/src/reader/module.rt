@@ -1,7 +1,7 @@
 //! Gives productions their meaning: types, literals, and registers by place.
 
 ghost use Rattle.std.specs.Prelude.{◌≡◌, ◌<◌, [], map, ℕ, IfOk, OnErr, IsTrue, IsErrOf, ◌↔◌};
-ghost use Rattle.ir_core.specs.declared.module.Module.{Module};
+ghost use Rattle.straight_core.specs.declared.module.Module.{Module};
 ghost use Rattle.straight_line.specs.Grammar.{NamedRegister};
 ghost use Rattle.straight_line.specs.RawViews.{seen_value, seen_parameter, seen_inst, seen_function, seen_functions};
 ghost use Rattle.straight_line.specs.Meaning.{AreDistinct, IsType, IsLiteral, ModuleMeans};
@@ -14,10 +14,10 @@ use crate::reader::names::{Entity, Scope, define, enter_block, find, register_at
 use crate::reader::number::{literal, width_of};
 use crate::reader::raw::{RawFunction, RawInst, RawParameter, RawValue};
 use indexmap::{IndexMap, IndexSet};
-use ir_core::{Block, Entry, Function, Inst, Op, Operand, Parameter, Terminator};
 use lists::{List, Text};
 use ops::{Flags, Width, Word};
 use std::alloc::{AllocError, Global};
+use straight_core::{Block, Entry, Function, Inst, Op, Operand, Parameter, Terminator};
 
 /// The width of a type.
 fn width(word: &[u8]) -> Result<Width, ModuleError>

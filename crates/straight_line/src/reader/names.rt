@@ -13,10 +13,10 @@ use crate::reader::bytes::is_digit;
 use crate::reader::error::ModuleError;
 use crate::reader::number::decimal_number;
 use indexmap::IndexMap;
-use ir_core::Register;
 use lists::Text;
 use ops::Width;
 use std::alloc::{AllocError, Global};
+use straight_core::Register;
 
 /// What an identifier calls.
 #[derive(Clone, Copy)]

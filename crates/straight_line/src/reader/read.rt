@@ -1,15 +1,15 @@
 //! From bytes to a module.
 
 ghost use Rattle.std.specs.Prelude.{IfOk, IsErrOf};
-ghost use Rattle.ir_core.specs.declared.module.Module.{Module};
+ghost use Rattle.straight_core.specs.declared.module.Module.{Module};
 ghost use Rattle.straight_line.specs.Meaning.{Reads};
 
 use crate::reader::error::ModuleError;
 use crate::reader::module::entries;
 use crate::reader::parse::functions;
-use ir_core::Module;
 use lists::List;
 use std::alloc::Global;
+use straight_core::Module;
 
 /// Reads a module of straight-line functions.
 pub(crate) fn read_module(alloc: Global, text: &[u8]) -> Result<Module, ModuleError>

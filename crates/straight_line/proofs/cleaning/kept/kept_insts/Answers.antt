@@ -1,5 +1,5 @@
 use Rattle.std.proofs.Common.{◌∷◌, [], ℕ, ◌+◌, ◌<◌, length, refl, sym, ap, subst, ◌∙◌, arith, Vec, Global}
-use Rattle.ir_core.specs.declared.module.Inst.{Inst}
+use Rattle.straight_core.specs.declared.module.Inst.{Inst}
 use Rattle.straight_line.proofs.Settling.{Settled, none_settled, settled_more, settled_other, settled_all, next_stands}
 use Rattle.straight_line.proofs.cleaning.kept.kept_insts.Goals.{then-index, else-index}
 use Rattle.straight_line.proofs.cleaning.kept.kept_insts.Goals as goal

@@ -2,7 +2,7 @@ use Rattle.std.proofs.Common.{◌≡◌, ℕ, ◌-◌, ◌<◌, ◌≤◌, List,
 use Rattle.std.specs.Vec.{with_items}
 use Rattle.std.proofs.lemmas.List.{with_items_is}
 use Rattle.std.proofs.lemmas.Option.{slice_get_read}
-use Rattle.ir_core.specs.declared.module.Inst.{Inst}
+use Rattle.straight_core.specs.declared.module.Inst.{Inst}
 use Rattle.straight_line.specs.Straight.{OpStands, EndStands}
 use Rattle.straight_line.specs.Marking.{marked_end, marked_op}
 use Rattle.straight_line.proofs.MarkLemmas.{Walked, walk_starts, walk_over_marked, walk_over_other, walk_ends, stands_at, length-marked_op, length-marked_end, not_marked, IsMarked-read}

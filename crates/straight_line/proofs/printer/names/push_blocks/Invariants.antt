@@ -1,6 +1,6 @@
 use Rattle.std.proofs.Common.{◌≤◌, length, take}
 use Rattle.std.specs.List.{flat_map}
-use Rattle.ir_core.specs.Names.{block_names}
+use Rattle.straight_core.specs.Names.{block_names}
 use Rattle.straight_line.specs.Series.{Adds, AreBlockStarts}
 use Rattle.straight_line.proofs.printer.names.push_blocks.Given as goal
 

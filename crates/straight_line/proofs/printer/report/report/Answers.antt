@@ -1,7 +1,7 @@
 use Rattle.std.proofs.Common.{ap, ◌∙◌, List}
 use Rattle.std.proofs.lemmas.List.{take_all}
 use Rattle.std.specs.List.{flat_map}
-use Rattle.ir_core.specs.declared.module.Entry.{Entry}
+use Rattle.straight_core.specs.declared.module.Entry.{Entry}
 use Rattle.straight_line.specs.Printing.{entry_report}
 use Rattle.straight_line.specs.Strategy.{no_step}
 use Rattle.straight_line.proofs.Reports.{lines_are}

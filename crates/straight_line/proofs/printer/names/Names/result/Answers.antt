@@ -1,7 +1,7 @@
 use Rattle.std.proofs.Common.{◌∙◌, sym, arith, ap, ℕ}
 use Rattle.std.specs.Prelude.{slice_get}
-use Rattle.ir_core.specs.Names.{identifiers_of}
-use Rattle.ir_core.specs.declared.module.Register.TheVariants as registers
+use Rattle.straight_core.specs.Names.{identifiers_of}
+use Rattle.straight_core.specs.declared.module.Register.TheVariants as registers
 use Rattle.straight_line.proofs.PrintedNames.{no_block, start_is, too_far}
 use Rattle.straight_line.proofs.printer.names.Names.result.Goals as goal
 

@@ -1,9 +1,9 @@
 -- Laws of runs.
 use Rattle.std.specs.Prelude.{ℕ, List}
 use Rattle.ops.specs.declared.value.Value.{Value}
-use Rattle.ir_core.specs.Run.{HasOutcome, HasZeroOutcome}
-use Rattle.ir_core.specs.declared.module.Function.{Function}
-use Rattle.ir_core.specs.declared.outcome.Outcome.{Outcome}
+use Rattle.straight_core.specs.Run.{HasOutcome, HasZeroOutcome}
+use Rattle.straight_core.specs.declared.module.Function.{Function}
+use Rattle.straight_core.specs.declared.outcome.Outcome.{Outcome}
 
 -- An outcome with each number that is left open being 0 is an outcome.
 abbrev pub ZeroOutcomesAreOutcomes : Type 0

@@ -2,14 +2,14 @@
 use Rattle.std.specs.Prelude.{◌≡◌, ℕ, List, [], ◌∷◌, map}
 use Rattle.ops.specs.Value.{AllowsValue, IsValueOf}
 use Rattle.ops.specs.declared.value.Value.{Value}
-use Rattle.ir_core.specs.declared.module.Module.{Module}
-use Rattle.ir_core.specs.declared.module.Entry.{Entry}
-use Rattle.ir_core.specs.declared.module.Entry.TheVariants as entries
-use Rattle.ir_core.specs.declared.module.Function.{Function}
-use Rattle.ir_core.specs.declared.module.Parameter.{Parameter}
-use Rattle.ir_core.specs.declared.outcome.Outcome.{Outcome}
-use Rattle.ir_core.specs.declared.outcome.Outcome.TheVariants as outcomes
-use Rattle.ir_core.specs.Run.{HasOutcome}
+use Rattle.straight_core.specs.declared.module.Module.{Module}
+use Rattle.straight_core.specs.declared.module.Entry.{Entry}
+use Rattle.straight_core.specs.declared.module.Entry.TheVariants as entries
+use Rattle.straight_core.specs.declared.module.Function.{Function}
+use Rattle.straight_core.specs.declared.module.Parameter.{Parameter}
+use Rattle.straight_core.specs.declared.outcome.Outcome.{Outcome}
+use Rattle.straight_core.specs.declared.outcome.Outcome.TheVariants as outcomes
+use Rattle.straight_core.specs.Run.{HasOutcome}
 
 -- Undefined behaviour allows everything, a return allows the returns that its value allows, and a run that goes on
 -- allows only one that is as far.

@@ -4,17 +4,17 @@ use Rattle.std.proofs.lemmas.Nat.{pow_pos}
 use Rattle.ops.specs.declared.value.Value.{Value}
 use Rattle.ops.specs.declared.value.Effect.{Effect}
 use Rattle.ops.specs.declared.value.Effect.TheVariants as effects
-use Rattle.ir_core.specs.Run.{Registers, arguments, holding, Ending, Undefines, Returns, Goes, GoesOn, Leads, OperandGives, OpGives, Follows, RunsFrom, AnyNumber, OnlyZero, HasOutcome, HasZeroOutcome}
-use Rattle.ir_core.specs.Laws.{ZeroOutcomesAreOutcomes}
-use Rattle.ir_core.specs.declared.module.Function.{Function}
-use Rattle.ir_core.specs.declared.module.Inst.{Inst}
-use Rattle.ir_core.specs.declared.module.Op.{Op}
-use Rattle.ir_core.specs.declared.module.Op.TheVariants.{Binary}
-use Rattle.ir_core.specs.declared.module.Operand.{Operand}
-use Rattle.ir_core.specs.declared.module.Operand.TheVariants as operands
-use Rattle.ir_core.specs.declared.module.Terminator.{Terminator}
-use Rattle.ir_core.specs.declared.module.Terminator.TheVariants as terminators
-use Rattle.ir_core.specs.declared.outcome.Outcome.{Outcome}
+use Rattle.straight_core.specs.Run.{Registers, arguments, holding, Ending, Undefines, Returns, Goes, GoesOn, Leads, OperandGives, OpGives, Follows, RunsFrom, AnyNumber, OnlyZero, HasOutcome, HasZeroOutcome}
+use Rattle.straight_core.specs.Laws.{ZeroOutcomesAreOutcomes}
+use Rattle.straight_core.specs.declared.module.Function.{Function}
+use Rattle.straight_core.specs.declared.module.Inst.{Inst}
+use Rattle.straight_core.specs.declared.module.Op.{Op}
+use Rattle.straight_core.specs.declared.module.Op.TheVariants.{Binary}
+use Rattle.straight_core.specs.declared.module.Operand.{Operand}
+use Rattle.straight_core.specs.declared.module.Operand.TheVariants as operands
+use Rattle.straight_core.specs.declared.module.Terminator.{Terminator}
+use Rattle.straight_core.specs.declared.module.Terminator.TheVariants as terminators
+use Rattle.straight_core.specs.declared.outcome.Outcome.{Outcome}
 
 pub operand_any : (held : Registers) (w : ℕ) (a : Operand) (v : Value) → OperandGives OnlyZero held w a v → OperandGives AnyNumber held w a v
 operand_any held w (operands.Register r) v h = h

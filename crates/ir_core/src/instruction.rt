@@ -1,0 +1,32 @@
+//! Instructions that are no terminators.
+
+use crate::operand::Operand;
+use lists::{List, Text};
+use ops::{Cast, Flags, Opcode, Pred, Width};
+
+/// An instruction, whose result is a register.
+#[derive(Debug, Drop)]
+pub struct Inst {
+    /// The name of the result, without the `%`; a result without one is numbered when it is printed.
+    pub name: Option<Text>,
+    /// The width of the result.
+    pub width: Width,
+    pub op: Op,
+}
+
+/// What an instruction computes (LangRef, "Instruction Reference"). A block is known by its place in the function.
+#[derive(Debug, Drop)]
+pub enum Op {
+    /// A binary operation on two operands of the result's width.
+    Binary(Opcode, Flags, Operand, Operand),
+    /// `icmp`: a comparison of two operands of the width; the result is an i1.
+    Compare(Pred, Width, Operand, Operand),
+    /// `select`: an i1, what it gives where that is 1, and what it gives where that is 0.
+    Select(Operand, Operand, Operand),
+    /// `trunc`, `zext` or `sext` of an operand of the width.
+    Convert(Cast, Width, Operand),
+    /// `freeze`: the operand, or some number where that is poison.
+    Freeze(Operand),
+    /// `phi`: for each block from which this one may be entered, what it gives then.
+    Phi(List<(Operand, u32)>),
+}
