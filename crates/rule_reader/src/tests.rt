@@ -178,3 +178,116 @@ fn texts_have_their_rules_or_faults(rt: HostRuntime) -> Result<(), Fail> {
     assert_eq!(rt; outcome(alloc, &comment[1..]), ("rules", 0));
     Ok(())
 }
+
+/// Twelve rules, with an empty line, comments, a tab and a carriage return, and no line feed at the end.
+const TWELVE: &str = "; twelve rules
+Name: xor-self
+%r = xor i4 %x, %x
+=>
+%r = and i4 %x, 0
+
+Name: or-zero
+%r = or i1 %x, 0
+=>
+%r = 0
+Name: and-same ; its name ends before this
+%r = and i8 %x, %x
+=>
+%r = %x
+Name: add-zero\r
+%r = add i16 %x, 0
+=>
+%r = i16 %x
+Name: sub-self
+\t%r = sub i64 %x, %x
+=>
+%r = and i64 %x, 0
+Name: not-add
+%n = xor i8 %x, -1
+%r = add i8 %n, 5
+=>
+%r = sub i8 4, %x
+Name: sub-add
+%d = sub i8 %x, %y
+%r = add i8 %d, %y
+=>
+%r = %x
+Name: add-swap
+%r = add i32 %x, %y
+=>
+%r = add i32 %y, %x
+Name: or-as-add
+%a = and i8 %x, %y
+%o = or i8 %x, %y
+%r = add i8 %a, %o
+=>
+%r = add i8 %x, %y
+Name: xor-as-sub
+%a = and i8 %x, %y
+%o = or i8 %x, %y
+%r = sub i8 %o, %a
+=>
+%r = xor i8 %x, %y
+Name: add-associates
+%s = add i8 %x, %y
+%r = add i8 %s, %z
+=>
+%t = add i8 %y, %z
+%r = add i8 %x, %t
+Name: absorb
+%o = or i8 %x, %y
+%r = and i8 %x, %o
+=>
+%r = %x";
+
+/// Of which lengths, from the first to the last one, the front of `TWELVE` is a rule file, and of how many rules.
+const FRONTS: [(usize, usize, usize); 13] = [
+    (0, 15, 0),
+    (69, 71, 1),
+    (111, 112, 2),
+    (184, 185, 3),
+    (234, 235, 4),
+    (292, 293, 5),
+    (364, 365, 6),
+    (427, 428, 7),
+    (485, 486, 8),
+    (579, 580, 9),
+    (674, 675, 10),
+    (774, 775, 11),
+    (835, 835, 12),
+];
+
+/// The last line of a text.
+fn last_line(text: &[u8]) -> usize {
+    let mut line = 1;
+    for byte in &text[..text.len().saturating_sub(1)] {
+        if *byte == b'\n' {
+            line += 1;
+        }
+    }
+    line
+}
+
+/// Whether the front of a file is read as its rules, or refused for what is missing at its end.
+fn is_read_or_refused(kind: &str, line: usize, front: &[u8]) -> bool {
+    for (first, last, rules) in &FRONTS {
+        if *first <= front.len() && front.len() <= *last {
+            return kind == "rules" && line == *rules;
+        }
+    }
+    ["Syntax", "LeftOut", "RootMissing"].contains(&kind) && line == last_line(front)
+}
+
+#[test]
+fn each_front_of_a_file_is_read_or_refused(rt: HostRuntime) -> Result<(), Fail> {
+    let file = TWELVE.as_bytes();
+    for length in 0..=file.len() {
+        let front = &file[..length];
+        let (kind, line) = outcome(rt.alloc(), front);
+        assert!(rt;
+            is_read_or_refused(kind, line, front),
+            "the first {length} bytes: {kind} {line}"
+        );
+    }
+    Ok(())
+}
