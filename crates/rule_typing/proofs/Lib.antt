@@ -4,7 +4,11 @@ pub mod Among
 pub mod Choices
 pub mod Classified
 pub mod Combined
+pub mod Deciding
+pub mod Existing
+pub mod FaultDecisions
 pub mod Images
+pub mod Joining
 pub mod Larger
 pub mod MappedLines
 pub mod Merging
@@ -14,4 +18,5 @@ pub mod Past
 pub mod Relabelled
 pub mod Sample
 pub mod Seams
+pub mod Splitting
 pub mod Typed

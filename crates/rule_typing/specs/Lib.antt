@@ -3,6 +3,7 @@ pub mod Combinations
 pub mod Enumeration
 pub mod Faults
 pub mod Fitting
+pub mod Laws
 pub mod Relabelling
 pub mod Sample
 pub mod Splits

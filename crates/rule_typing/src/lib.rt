@@ -10,6 +10,7 @@ mod combinations;
 mod enumeration;
 mod fits;
 mod fixed;
+mod laws;
 mod lines;
 mod relabelling;
 
@@ -17,6 +18,7 @@ pub use answer::Typings;
 pub use classes::{ClassFault, MOST_CLASSES, classify};
 pub use enumeration::typings;
 pub use fits::is_typing;
+pub use laws::every_rule_has_classes;
 
 #[cfg(test)]
 mod tests;
