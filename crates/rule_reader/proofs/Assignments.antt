@@ -15,10 +15,10 @@ abbrev pub AssignedBefore : List RawStatement → ℕ → List ℕ → Type 0
 AssignedBefore statements k name = (j : ℕ) × (j < k) × AssignsAt statements j name
 
 module _ (earlier : List RawRule) (raw : RawRule) (well : IsWellFormed raw) where
-  abbrev Again : ℕ → Type 0
+  abbrev pub Again : ℕ → Type 0
   Again line = StandsAt raw.source (AssignsAgain raw.source) line ⊎ StandsAt raw.target (AssignsAgain raw.target) line
 
-  name_line_first : (l m : ℕ) → HasNameOf earlier raw.name × (raw.line ≡ l) → Again m → l ≤ m
+  pub name_line_first : (l m : ℕ) → HasNameOf earlier raw.name × (raw.line ≡ l) → Again m → l ≤ m
   name_line_first l m (named, is) (inl (k, s, at, again, is')) = let le : raw.line ≤ s.line = well.name_first k s at in omega arith
   name_line_first l m (named, is) (inr (k, t, at, again, is')) =
       let (s, at') = there raw.source 0 well.source.some in

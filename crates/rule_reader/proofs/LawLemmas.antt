@@ -6,6 +6,7 @@ use Rattle.rule_parse.specs.declared.raw.RawRule.{RawRule}
 use Rattle.rule_parse.specs.declared.fault.TextFault.{TextFault}
 use Rattle.rule_parse.specs.Laws.{TextsHaveOneReadingOrFault}
 use Rattle.rule_core.specs.declared.rule.Rule.{Rule}
+use Rattle.rule_typing.specs.Laws.{RulesHaveClasses}
 use Rattle.rule_reader.specs.declared.fault.RuleFault.{RuleFault}
 use Rattle.rule_reader.specs.Refusing.{kind_of_misfit}
 use Rattle.rule_reader.specs.Faults.{rank, kind_of, FailsAt, Passes, IsFirstFault, AreRulesOf, IsRuleFile, IsFault, too_long, of_text, of_rule}
@@ -13,6 +14,7 @@ use Rattle.rule_reader.specs.Laws.{TextsHaveOneListOrFault}
 use Rattle.rule_reader.proofs.Places.{order, same_at, there}
 use Rattle.rule_reader.proofs.Checking.{same_check, bound_of}
 use Rattle.rule_reader.proofs.Once.{one_rule}
+use Rattle.rule_reader.proofs.Existence.{some_list_or_fault}
 
 same_lists : (xs ys : List Rule) → length xs ≡ length ys → ((k : ℕ) (x y : Rule) → slice_get xs k ≡ Some x → slice_get ys k ≡ Some y → x ≡ y) → xs ≡ ys
 same_lists [] [] long same = refl
@@ -93,5 +95,5 @@ module _ (law : TextsHaveOneReadingOrFault) where
       let (rule, at') = there rules k (let within : k < length file.raws = slice_get_within file.raws k raw here in omega (arith, file.read.count)) in
       not_passed (take k raws) raw f first (subst (λ l. Passes (take k l) raw) (sym same) (file.read.each k raw rule here at').passes)
 
-pub one_list_or_fault : TextsHaveOneReadingOrFault → TextsHaveOneListOrFault
-one_list_or_fault law = record { one_list = one_list law; one_fault = one_fault law; not_both = not_both law }
+pub one_list_or_fault : TextsHaveOneReadingOrFault → RulesHaveClasses → TextsHaveOneListOrFault
+one_list_or_fault law classes = record { some = some_list_or_fault law classes; one_list = one_list law; one_fault = one_fault law; not_both = not_both law }

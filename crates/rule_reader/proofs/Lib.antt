@@ -16,3 +16,7 @@ pub mod Checking
 pub mod Reading
 pub mod LawLemmas
 pub mod Written
+pub mod NameDecisions
+pub mod FirstLines
+pub mod Meant
+pub mod Existence

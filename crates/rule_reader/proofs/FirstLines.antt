@@ -1,0 +1,75 @@
+-- The first line on which a check of a rule as written fails, or none.
+use Rattle.std.proofs.Common.{◌≡◌, ◌⊎◌, inl, inr, ℕ, zero, suc, ◌+◌, ◌≤◌, List, length, Option, None, Some, refl, arith}
+use Rattle.std.proofs.lemmas.Bool.{cases_lt}
+use Rattle.rule_parse.specs.declared.raw.RawRule.{RawRule}
+use Rattle.rule_parse.specs.declared.raw.RawStatement.{RawStatement}
+use Rattle.rule_typing.proofs.Deciding.{dec_both, dec_either, dec_not, dec_number, dec_place}
+use Rattle.rule_reader.specs.declared.resolve.Half.TheVariants as halves
+use Rattle.rule_reader.specs.WellFormed.{AreInLineOrder, IsWellFormed}
+use Rattle.rule_reader.specs.Kinds.{StandsAt, HasNameOf, AssignsAgain, DuplicateAt, UsesUnbound, UnboundAt, MissesRoot, RootMissingAt, Redefines, RedefinesAt, IsUnused, UnusedTempAt}
+use Rattle.rule_reader.specs.Faults.{IsFirst}
+use Rattle.rule_reader.proofs.Places.{there}
+use Rattle.rule_reader.proofs.Firsts.{NoneBefore, first_here, first_none, none_more, first_left, first_right, first_none_of, lines_before}
+use Rattle.rule_reader.proofs.Assignments.{Again, name_line_first}
+use Rattle.rule_reader.proofs.NameDecisions.{dec_name, dec_assigned_before, dec_temporary, dec_root, dec_input, dec_unbound, dec_unused}
+
+-- the first line, or none
+abbrev pub FirstOf : (ℕ → Type 0) → Type 0
+FirstOf Holds = (found : Option ℕ) × IsFirst Holds found
+
+module _ (statements : List RawStatement) (Q : ℕ → RawStatement → Type 0) (ordered : AreInLineOrder statements) (each : (k : ℕ) (s : RawStatement) → Dec (Q k s)) where
+  from : (left place : ℕ) → NoneBefore statements Q place → length statements ≤ place + left → FirstOf (StandsAt statements Q)
+  from zero place none past = (None, first_none statements Q (λ k s lt at. none k s (omega arith) at))
+  from (suc left) place none past = elim (cases_lt place (length statements)) [
+    | inr behind ↦ (None, first_none statements Q (λ k s lt at. none k s (omega arith) at))
+    | inl within ↦
+        let (s, at) = there statements place within in
+        elim (each place s) [
+          | yes here ↦ (Some s.line, first_here statements Q place s ordered none at here)
+          | no not_here ↦ from left (place + 1) (none_more statements Q place s none at not_here) (omega arith)
+        ]
+  ]
+
+  first_of : FirstOf (StandsAt statements Q)
+  first_of = from (length statements) 0 (λ k s lt at. absurd (omega arith)) (omega arith)
+
+-- of two, the first comes before the second
+first_of_two : (P R : ℕ → Type 0) → FirstOf P → FirstOf R → ((l m : ℕ) → P l → R m → l ≤ m) → FirstOf (λ l. P l ⊎ R l)
+first_of_two P R (Some line, first) second before = (Some line, first_left P R line first before)
+first_of_two P R (None, none) (Some line, first) before = (Some line, first_right P R line none first)
+first_of_two P R (None, none) (None, none') before = (None, first_none_of P R none none')
+
+-- ---- checks
+
+module _ (raw : RawRule) (well : IsWellFormed raw) where
+  dec_named : (earlier : List RawRule) → FirstOf (λ l. HasNameOf earlier raw.name × (raw.line ≡ l))
+  dec_named earlier = elim (dec_place (λ k other. other.name ≡ raw.name) earlier (λ k other. dec_name other.name raw.name)) [
+    | yes named ↦ (Some raw.line, ((named, refl), λ other h. omega (arith, h.1)))
+    | no unnamed ↦ (None, λ line h. unnamed h.0)
+  ]
+
+  pub first_duplicate : (earlier : List RawRule) → FirstOf (DuplicateAt earlier raw)
+  first_duplicate earlier =
+      let again : (statements : List RawStatement) → AreInLineOrder statements → FirstOf (StandsAt statements (AssignsAgain statements)) =
+      λ statements ordered. first_of statements (AssignsAgain statements) ordered (λ k s. dec_assigned_before statements k s.name) in
+      first_of_two (λ l. HasNameOf earlier raw.name × (raw.line ≡ l)) (Again earlier raw well) (dec_named earlier)
+      (first_of_two (StandsAt raw.source (AssignsAgain raw.source)) (StandsAt raw.target (AssignsAgain raw.target)) (again raw.source well.source.in_order) (again raw.target well.target.in_order)
+      (lines_before raw.source raw.target (AssignsAgain raw.source) (AssignsAgain raw.target) well.source_first))
+      (name_line_first earlier raw well)
+
+  pub first_unbound : FirstOf (UnboundAt raw)
+  first_unbound =
+      first_of_two (StandsAt raw.source (UsesUnbound raw halves.Source)) (StandsAt raw.target (UsesUnbound raw halves.Target))
+      (first_of raw.source (UsesUnbound raw halves.Source) well.source.in_order (dec_unbound raw halves.Source))
+      (first_of raw.target (UsesUnbound raw halves.Target) well.target.in_order (dec_unbound raw halves.Target))
+      (lines_before raw.source raw.target (UsesUnbound raw halves.Source) (UsesUnbound raw halves.Target) well.source_first)
+
+  pub first_missing_root : FirstOf (RootMissingAt raw)
+  first_missing_root =
+      first_of raw.target (MissesRoot raw) well.target.in_order (λ k s. dec_both (dec_number (suc k) (length raw.target)) (dec_not (dec_root raw.source s.name)))
+
+  pub first_redefined : FirstOf (RedefinesAt raw)
+  first_redefined = first_of raw.target (Redefines raw.source) well.target.in_order (λ k s. dec_either (dec_input raw.source s.name) (dec_temporary raw.source s.name))
+
+  pub first_unused : FirstOf (UnusedTempAt raw.source)
+  first_unused = first_of raw.source (IsUnused raw.source) well.source.in_order (dec_unused raw.source)
