@@ -22,10 +22,10 @@ use Rattle.scan.proofs.PlaceLemmas.{end_or_not}
 
 -- ---- a token begins with a byte that may stand and is in no gap
 
-unfoldable is_good : ℕ → Bool
+unfoldable pub is_good : ℕ → Bool
 is_good b = not (is_bad b || in_gap b)
 
-among_begins : (p : ℕ → Bool) (words : List (List ℕ)) (bytes : List ℕ) → list_all (begins_with p) words ≡ true → is_among words bytes ≡ true → begins_with p bytes ≡ true
+pub among_begins : (p : ℕ → Bool) (words : List (List ℕ)) (bytes : List ℕ) → list_all (begins_with p) words ≡ true → is_among words bytes ≡ true → begins_with p bytes ≡ true
 among_begins p [] bytes all e = absurd (false≢true e)
 among_begins p (word ∷ words) bytes all e = ⊎_elim
     (λ (h : bytes_eq bytes word ≡ true). ap (begins_with p) ((bytes_eq-Decides bytes word).0 h) ∙ and_left (begins_with p word) (list_all (begins_with p) words) all)
@@ -49,7 +49,7 @@ good_from b low high e =
     let a6 : eqb b 10 ≡ false = eqb-from b 10 (omega arith) in
     rw (a1, a2, a3, a4, a5, a6, e) refl
 
-letter_good : (b : ℕ) → is_letter b ≡ true → is_good b ≡ true
+pub letter_good : (b : ℕ) → is_letter b ≡ true → is_good b ≡ true
 unfolding is_letter
 letter_good b e = ⊎_elim
     (λ (h : (leb 65 b && leb b 90) ≡ true).
@@ -62,18 +62,18 @@ letter_good b e = ⊎_elim
     good_from b (omega arith) (omega arith) (eqb-from b 59 (omega arith)))
     (or_true (leb 65 b && leb b 90) (leb 97 b && leb b 122) e)
 
-digit_good : (b : ℕ) → is_digit b ≡ true → is_good b ≡ true
+pub digit_good : (b : ℕ) → is_digit b ≡ true → is_good b ≡ true
 unfolding is_digit
 digit_good b e =
     let low : 48 ≤ b = leb-true 48 b (and_left (leb 48 b) (leb b 57) e) in
     let high : b ≤ 57 = leb-true b 57 (and_right (leb 48 b) (leb b 57) e) in
     good_from b (omega arith) (omega arith) (eqb-from b 59 (omega arith))
 
-run_good : (p : ℕ → Bool) (text : List ℕ) → ((b : ℕ) → p b ≡ true → is_good b ≡ true) → begins_with p text ≡ true → begins_with is_good text ≡ true
+pub run_good : (p : ℕ → Bool) (text : List ℕ) → ((b : ℕ) → p b ≡ true → is_good b ≡ true) → begins_with p text ≡ true → begins_with is_good text ≡ true
 run_good p [] good e = absurd (false≢true e)
 run_good p (b ∷ text) good e = good b e
 
-marked_good : (c : ℕ) (p : ℕ → Bool) (text : List ℕ) → is_good c ≡ true → is_run_behind c p text ≡ true → begins_with is_good text ≡ true
+pub marked_good : (c : ℕ) (p : ℕ → Bool) (text : List ℕ) → is_good c ≡ true → is_run_behind c p text ≡ true → begins_with is_good text ≡ true
 marked_good c p [] good e = absurd (false≢true e)
 marked_good c p (b ∷ text) good e = ap is_good (eqb-true b c (and_left (eqb b c) (is_run p text) e)) ∙ good
 
@@ -110,7 +110,7 @@ token_good operator bytes rest =
 
 -- ---- what stands behind the gap
 
-good_front : (p : ℕ → Bool) (text : List ℕ) (n : ℕ) → begins_with p (take n text) ≡ true → begins_with p text ≡ true
+pub good_front : (p : ℕ → Bool) (text : List ℕ) (n : ℕ) → begins_with p (take n text) ≡ true → begins_with p text ≡ true
 good_front p text zero e = absurd (false≢true e)
 good_front p [] (suc n) e = absurd (false≢true e)
 good_front p (b ∷ text) (suc n) e = e
@@ -137,7 +137,7 @@ longest_good : (operator : Bool) (text : List ℕ) (kind : RuleKind) (n : ℕ) �
 longest_good operator text kind n h = good_front is_good text n (token_good operator (take n text) (drop n text) (some_kind (kind_of operator (take n text) (drop n text)) kind h.of_kind))
 
 -- a start behind the gap is the one that the text has there
-starts : (text : List ℕ) (place start : ℕ) → place ≤ start → start ≤ length text → begins_with in_gap (drop start text) ≡ false → (IsGap (between text place start) ⊎ (IsLastGap (between text place start) × (drop start text ≡ []))) → behind_gap false (drop place text) ≡ drop start text
+pub starts : (text : List ℕ) (place start : ℕ) → place ≤ start → start ≤ length text → begins_with in_gap (drop start text) ≡ false → (IsGap (between text place start) ⊎ (IsLastGap (between text place start) × (drop start text ≡ []))) → behind_gap false (drop place text) ≡ drop start text
 starts text place start order within whole gap =
     let there : start ≡ place + (start - place) = omega arith in
     let split : drop place text ≡ between text place start ++ drop start text =
@@ -163,14 +163,14 @@ same_place : (text : List ℕ) (a b : ℕ) → a ≤ length text → b ≤ lengt
 same_place text a b h k e = omega (arith, ap length e, length-drop a text, length-drop b text)
 
 -- a text has what stands behind its gap from one place on
-record Stood (text : List ℕ) (place start : ℕ) : Type 0 where
+pub record Stood (text : List ℕ) (place start : ℕ) : Type 0 where
   pub within : start ≤ length text
   pub behind : behind_gap false (drop place text) ≡ drop start text
 
-one_start : (text : List ℕ) (place a b : ℕ) → Stood text place a → Stood text place b → a ≡ b
+pub one_start : (text : List ℕ) (place a b : ℕ) → Stood text place a → Stood text place b → a ≡ b
 one_start text place a b h k = same_place text a b h.within k.within (sym h.behind ∙ k.behind)
 
-good_is : (text : List ℕ) → begins_with is_good text ≡ true → (begins_with in_gap text ≡ false) × (begins_with is_bad text ≡ false)
+pub good_is : (text : List ℕ) → begins_with is_good text ≡ true → (begins_with in_gap text ≡ false) × (begins_with is_bad text ≡ false)
 unfolding is_good
 good_is [] e = absurd (false≢true e)
 good_is (b ∷ text) e = (no_gap (is_bad b) (in_gap b) e, not_bad (is_bad b) (in_gap b) e)
@@ -239,7 +239,7 @@ bad_of_space b s = ap (λ (x : Bool). not (is_printable b || x)) s ∙ always (i
     always true = refl
     always false = refl
 
-bad_no_gap : (text : List ℕ) → begins_with is_bad text ≡ true → begins_with in_gap text ≡ false
+pub bad_no_gap : (text : List ℕ) → begins_with is_bad text ≡ true → begins_with in_gap text ≡ false
 unfolding is_bad is_printable is_space is_blank
 bad_no_gap [] e = refl
 bad_no_gap (b ∷ text) e = ⊎_elim
@@ -293,7 +293,7 @@ begins_one operator text a b n m h k = ⊎_elim
 abbrev token_of : RuleKind → ℕ → ℕ → ℕ → RuleToken
 token_of kind line start end = record { kind = kind; line = line; span = record { start = start; end = end } }
 
-abbrev bad_on : ℕ → BadByte
+abbrev pub bad_on : ℕ → BadByte
 bad_on line = record { line = line }
 
 same_token : (t u : RuleToken) → t.kind ≡ u.kind → t.line ≡ u.line → t.span.start ≡ u.span.start → t.span.end ≡ u.span.end → t ≡ u

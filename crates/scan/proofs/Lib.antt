@@ -1,5 +1,13 @@
 pub mod Fronts
 pub mod GapLemmas
+pub mod KeptLemmas
 pub mod KindLemmas
 pub mod LawLemmas
+pub mod ModuleFronts
+pub mod ModuleKinds
+pub mod ModuleLaws
+pub mod ModulePlaces
+pub mod ModuleTokens
+pub mod NameLemmas
 pub mod PlaceLemmas
+pub mod QuotedLemmas

@@ -1,10 +1,10 @@
 -- Places in a text, and what stands behind the gap there.
 use Rattle.std.proofs.Common.{◌≡◌, ◌≢◌, ℕ, zero, suc, cond, ◌+◌, ◌-◌, ◌<◌, ◌≤◌, Bool, true, false, eqb, List, [], ◌∷◌, ◌++◌, Some, None, length, take, drop, refl, sym, ap, subst, ◌∙◌, ⊎_elim, ◌⊎◌, inl, inr, arith}
-use Rattle.std.specs.List.{list_all, prefix_len}
-use Rattle.std.proofs.lemmas.Bool.{false≢true}
+use Rattle.std.specs.List.{list_all, prefix_len, take_while}
+use Rattle.std.proofs.lemmas.Bool.{eqb-true, false≢true}
 use Rattle.std.proofs.lemmas.List.Sums.{sum_by-append, prefix_len-le-length}
 use Rattle.scan.specs.Names.{is_in_rest, rest_of_line}
-use Rattle.scan.proofs.Fronts.{which, run_passes}
+use Rattle.scan.proofs.Fronts.{which, and_left, and_right, run_passes}
 use Rattle.std.proofs.lemmas.List.{take-append-drop, take-take, drop-take, length-drop, length-take-le}
 use Rattle.scan.specs.declared.rule_token.RuleKind.{RuleKind}
 use Rattle.scan.specs.declared.rule_token.RuleKind.TheVariants.{End, Other, Head, Register, Word, Number, Arrow, Mark}
@@ -14,7 +14,7 @@ use Rattle.scan.specs.Lines.{between, feeds}
 use Rattle.scan.specs.RuleTokens.{kind_of, IsLongestToken, Begins, IsGapBefore, line_at, in_operator_place, IsNextRuleToken, IsBadNext}
 use Rattle.scan.proofs.KindLemmas.{kind_of-empty}
 
-feeds_append : (xs ys : List ℕ) → feeds (xs ++ ys) ≡ feeds xs + feeds ys
+pub feeds_append : (xs ys : List ℕ) → feeds (xs ++ ys) ≡ feeds xs + feeds ys
 feeds_append xs ys = sum_by-append (λ (b : ℕ). cond (eqb b 10) 1 0) xs ys
 
 pub take_between : (text : List ℕ) (a b : ℕ) → a ≤ b → take b text ≡ take a text ++ between text a b
@@ -121,25 +121,25 @@ in_place operator front gap passed o p f = rw o (f ∙ ap (λ (n : ℕ). eqb n 0
 pub in_no_place : (operator front : Bool) (gap : List ℕ) → operator ≡ false → front ≡ operator → front ≡ in_operator_place operator gap
 in_no_place operator front gap o f = rw o (f ∙ o)
 
--- ---- the rest of a line
+-- ---- a part of a line, as far as bytes pass a test that a line feed doesn't pass
 
-no_feeds : (xs : List ℕ) → list_all is_in_rest xs ≡ true → feeds xs ≡ 0
-unfolding is_in_rest
-no_feeds [] e = refl
-no_feeds (x ∷ xs) e = feeds_append (x ∷ []) xs ∙ ⊎_elim
-    (λ (h : eqb x 10 ≡ true). absurd (false≢true (rw h at e)))
-    (λ (h : eqb x 10 ≡ false). rw h (⊎_elim
-    (λ (k : eqb x 59 ≡ true). absurd (false≢true (rw (h, k) at e)))
-    (λ (k : eqb x 59 ≡ false). let none : feeds xs ≡ 0 = no_feeds xs (rw (h, k) at e) in omega arith)
-    (which (eqb x 59))))
+pub no_feeds : (p : ℕ → Bool) (xs : List ℕ) → p 10 ≡ false → list_all p xs ≡ true → feeds xs ≡ 0
+no_feeds p [] fails e = refl
+no_feeds p (x ∷ xs) fails e = feeds_append (x ∷ []) xs ∙ ⊎_elim
+    (λ (h : eqb x 10 ≡ true). absurd (false≢true (sym fails ∙ ap p (sym (eqb-true x 10 h)) ∙ and_left (p x) (list_all p xs) e)))
+    (λ (h : eqb x 10 ≡ false). let none : feeds xs ≡ 0 = no_feeds p xs fails (and_right (p x) (list_all p xs) e) in rw h (omega arith))
     (which (eqb x 10))
 
-pub rest_within : (text : List ℕ) (place : ℕ) → place ≤ length text → place + length (rest_of_line text place) ≤ length text
-rest_within text place h = omega (arith, length-take-le (prefix_len is_in_rest (drop place text)) (drop place text) (prefix_len-le-length is_in_rest (drop place text)), prefix_len-le-length is_in_rest (drop place text), length-drop place text)
+pub run_within : (p : ℕ → Bool) (text : List ℕ) (place : ℕ) → place ≤ length text → place + length (take_while p (drop place text)) ≤ length text
+run_within p text place h = omega (arith, length-take-le (prefix_len p (drop place text)) (drop place text) (prefix_len-le-length p (drop place text)), prefix_len-le-length p (drop place text), length-drop place text)
 
-pub rest_feeds : (text : List ℕ) (place : ℕ) → place ≤ length text → feeds (take (place + length (rest_of_line text place)) text) ≡ feeds (take place text)
-rest_feeds text place h =
-    let long : length (rest_of_line text place) ≡ prefix_len is_in_rest (drop place text) = length-take-le (prefix_len is_in_rest (drop place text)) (drop place text) (prefix_len-le-length is_in_rest (drop place text)) in
-    let far : place + length (rest_of_line text place) - place ≡ prefix_len is_in_rest (drop place text) = omega arith in
-    let none : feeds (between text place (place + length (rest_of_line text place))) ≡ 0 = ap (λ (n : ℕ). feeds (take n (drop place text))) far ∙ no_feeds (rest_of_line text place) (run_passes is_in_rest (drop place text)) in
-    omega (arith, feeds_between text place (place + length (rest_of_line text place)) (omega arith))
+pub run_feeds : (p : ℕ → Bool) (text : List ℕ) (place : ℕ) → p 10 ≡ false → feeds (take (place + length (take_while p (drop place text))) text) ≡ feeds (take place text)
+run_feeds p text place fails =
+    let long : length (take_while p (drop place text)) ≡ prefix_len p (drop place text) = length-take-le (prefix_len p (drop place text)) (drop place text) (prefix_len-le-length p (drop place text)) in
+    let far : place + length (take_while p (drop place text)) - place ≡ prefix_len p (drop place text) = omega arith in
+    let none : feeds (between text place (place + length (take_while p (drop place text)))) ≡ 0 = ap (λ (n : ℕ). feeds (take n (drop place text))) far ∙ no_feeds p (take_while p (drop place text)) fails (run_passes p (drop place text)) in
+    omega (arith, feeds_between text place (place + length (take_while p (drop place text))) (omega arith))
+
+-- the rest of a line without its comment
+pub rest_within : (text : List ℕ) (place : ℕ) → place ≤ length text → place + length (rest_of_line text place) ≤ length text
+rest_within text place h = run_within is_in_rest text place h

@@ -30,6 +30,10 @@ is_letter b = (nat_le 65 b && nat_le b 90) || (nat_le 97 b && nat_le b 122)
 unfoldable pub begins_name : ℕ → Bool
 begins_name b = is_letter b || (b == 45) || (b == 36) || (b == 46) || (b == 95)
 
+-- a word of a module may begin so: as a plain name, but for `-`
+unfoldable pub begins_word : ℕ → Bool
+begins_word b = begins_name b && not (b == 45)
+
 -- a plain name may hold it
 unfoldable pub is_name_byte : ℕ → Bool
 is_name_byte b = begins_name b || is_digit b

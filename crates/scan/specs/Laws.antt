@@ -2,6 +2,10 @@
 use Rattle.std.specs.Prelude.{◌≡◌, ℕ, ◌≤◌, Bool, List, length, Result, Ok, Err}
 use Rattle.scan.specs.declared.rule_token.RuleToken.{RuleToken}
 use Rattle.scan.specs.declared.bad_byte.BadByte.{BadByte}
+use Rattle.scan.specs.declared.ir.token.Token.{Token}
+use Rattle.scan.specs.declared.span.Span.{Span}
+use Rattle.scan.specs.IrTokens.{IsNextToken, IsBadToken}
+use Rattle.scan.specs.Kept.{IsGroup}
 use Rattle.scan.specs.RuleTokens.{IsNextRuleToken, IsBadNext}
 
 -- what stands behind a gap at the place: a token, or a byte that may not stand
@@ -12,3 +16,16 @@ IsNext operator text place (Err e) = IsBadNext text place e.line
 -- only one thing does
 abbrev pub OneTokenAtAPlace : Type 0
 OneTokenAtAPlace = (operator : Bool) (text : List ℕ) (place : ℕ) (a b : Result RuleToken BadByte) → place ≤ length text → IsNext operator text place a → IsNext operator text place b → a ≡ b
+
+-- what stands behind a gap at the place of a module: a token, or a byte or a token that may not stand
+abbrev pub IsNextOfModule : List ℕ → ℕ → Result Token BadByte → Type 0
+IsNextOfModule text place (Ok t) = IsNextToken text place t
+IsNextOfModule text place (Err e) = IsBadToken text place e.line
+
+-- only one thing does
+abbrev pub OneModuleTokenAtAPlace : Type 0
+OneModuleTokenAtAPlace = (text : List ℕ) (place : ℕ) (a b : Result Token BadByte) → place ≤ length text → IsNextOfModule text place a → IsNextOfModule text place b → a ≡ b
+
+-- a bracket before a place is closed at one place at most
+abbrev pub OneGroupAtAPlace : Type 0
+OneGroupAtAPlace = (text : List ℕ) (place : ℕ) (a b : Span) → place ≤ length text → IsGroup text place a → IsGroup text place b → a ≡ b

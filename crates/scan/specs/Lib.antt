@@ -1,9 +1,12 @@
 pub mod Bytes
 pub mod Gaps
+pub mod IrTokens
+pub mod Kept
 pub mod Laws
 pub mod Lines
 pub mod Longest
 pub mod Names
 pub mod Places
+pub mod Quoted
 pub mod RuleTokens
 pub mod Scanning

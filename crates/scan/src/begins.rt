@@ -5,7 +5,9 @@ ghost use Rattle.scan.specs.Bytes as bytes;
 ghost use Rattle.scan.specs.Bytes.{begins_with};
 ghost use Rattle.scan.specs.RuleTokens as tokens;
 
-use crate::bytes::{is_bad, is_blank, is_digit, is_letter, is_name_byte};
+use crate::bytes::{
+    begins_name, is_bad, is_blank, is_digit, is_letter, is_name_byte, is_word_start,
+};
 
 /// What follows the byte, where the text begins with it.
 pub(crate) fn behind(text: &[u8], byte: u8) -> Option<&[u8]>
@@ -15,6 +17,16 @@ pub(crate) fn behind(text: &[u8], byte: u8) -> Option<&[u8]>
     match text {
         [first, rest @ ..] if *first == byte => Some(rest),
         _ => None,
+    }
+}
+
+/// Whether the text begins with the byte.
+pub(crate) fn begins_byte(text: &[u8], byte: u8) -> bool
+    ensures { result ≡ begins_with (λ b. b == byte) text.now }
+{
+    match text {
+        [] => false,
+        [first, ..] => *first == byte,
     }
 }
 
@@ -55,6 +67,26 @@ pub(crate) fn begins_name_byte(text: &[u8]) -> bool
     match text {
         [] => false,
         [first, ..] => is_name_byte(*first),
+    }
+}
+
+/// Whether the text begins as a plain name does.
+pub(crate) fn begins_plain_name(text: &[u8]) -> bool
+    ensures { result ≡ begins_with bytes.begins_name text.now }
+{
+    match text {
+        [] => false,
+        [first, ..] => begins_name(*first),
+    }
+}
+
+/// Whether the text begins as a word of a module does.
+pub(crate) fn begins_module_word(text: &[u8]) -> bool
+    ensures { result ≡ begins_with bytes.begins_word text.now }
+{
+    match text {
+        [] => false,
+        [first, ..] => is_word_start(*first),
     }
 }
 

@@ -2,6 +2,7 @@
 
 ghost use Rattle.std.specs.Prelude.{◌≡◌};
 ghost use Rattle.scan.specs.Bytes as bytes;
+ghost use Rattle.scan.specs.Quoted.{is_quotable};
 
 /// Whether a byte is a space, a tab or a carriage return.
 #[tactic(auto, unfolding(crate::specs::Bytes::is_blank))]
@@ -50,10 +51,18 @@ pub(crate) fn is_letter(byte: u8) -> bool
 
 /// Whether a name may begin with the byte and be written plainly.
 #[tactic(auto, unfolding(crate::specs::Bytes::begins_name))]
-fn begins_name(byte: u8) -> bool
+pub(crate) fn begins_name(byte: u8) -> bool
     ensures { result ≡ bytes.begins_name byte }
 {
     is_letter(byte) || matches!(byte, b'-' | b'$' | b'.' | b'_')
+}
+
+/// Whether a word of a module may begin with the byte.
+#[tactic(auto, unfolding(crate::specs::Bytes::begins_word))]
+pub(crate) fn is_word_start(byte: u8) -> bool
+    ensures { result ≡ bytes.begins_word byte }
+{
+    begins_name(byte) && byte != b'-'
 }
 
 /// Whether a byte may stand in a name.
@@ -78,4 +87,12 @@ pub(crate) fn is_register_byte(byte: u8) -> bool
     ensures { result ≡ bytes.is_register_byte byte }
 {
     is_word_byte(byte) || byte == b'.'
+}
+
+/// Whether a byte may stand between quotes.
+#[tactic(auto, unfolding(crate::specs::Quoted::is_quotable))]
+pub(crate) fn is_quotable(byte: u8) -> bool
+    ensures { result ≡ is_quotable byte }
+{
+    !matches!(byte, b'"' | b'\n')
 }

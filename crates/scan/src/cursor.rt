@@ -4,6 +4,8 @@ ghost use Rattle.std.specs.Prelude.{◌≡◌, ◌+◌, ◌≤◌, length, take,
 ghost use Rattle.scan.specs.RuleTokens.{IsNextRuleToken, IsBadNext};
 ghost use Rattle.scan.specs.Names.{IsNameNext, IsBadInRest, rest_of_line};
 
+mod ir;
+
 use crate::bad_byte::BadByte;
 use crate::front::front;
 use crate::gap::gap_end;

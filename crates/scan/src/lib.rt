@@ -1,4 +1,4 @@
-//! The tokens of texts: of rule files, from left to right, with their lines.
+//! The tokens of texts, from left to right, with their lines: of rule files, and of modules of LLVM IR.
 #![tactic(auto)]
 
 mod bad_byte;
@@ -7,6 +7,8 @@ mod bytes;
 mod cursor;
 mod front;
 mod gap;
+mod ir;
+mod kept;
 mod laws;
 mod length;
 mod line;
@@ -18,7 +20,11 @@ mod span;
 
 pub use bad_byte::BadByte;
 pub use cursor::Cursor;
-pub use laws::every_place_has_one_rule_token;
+pub use ir::token::{Kind, Token};
+pub use laws::{
+    every_bracket_is_closed_once, every_place_has_one_rule_token,
+    every_place_of_a_module_has_one_token,
+};
 pub use primary::ends_primary;
 pub use rule_token::{RuleKind, RuleToken};
 pub use span::Span;

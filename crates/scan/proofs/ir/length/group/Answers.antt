@@ -1,0 +1,23 @@
+use Rattle.std.proofs.Common.{◌<◌, length, arith, sym, ◌∙◌}
+use Rattle.std.specs.List.{prefix_len}
+use Rattle.scan.specs.Bytes.{is_digit}
+use Rattle.scan.specs.IrTokens.{is_group}
+use Rattle.scan.proofs.Fronts.{marked_none, marked_empty, marked_some, marked_fits}
+use Rattle.scan.proofs.ir.length.group.Goals as goal
+
+pub returns-in_default : goal.returns-in_default
+unfolding is_group
+returns-in_default c = marked_none 35 is_digit c.args.text.now c.in_default.ensures.none
+
+pub overflow_add-result : goal.overflow_add-result
+overflow_add-result c =
+    let fits : prefix_len is_digit c.in-Some.digits.now < length c.args.text.now = marked_fits 35 is_digit c.args.text.now c.in-Some.digits.now c.in-Some.ensures.some in
+    omega arith
+
+pub returns-then-run-eq0 : goal.returns-then-run-eq0
+unfolding is_group
+returns-then-run-eq0 c = marked_empty 35 is_digit c.args.text.now c.in-Some.digits.now c.in-Some.ensures.some (sym c.digit_run-run.ensures ∙ c.if-run-eq0.true)
+
+pub returns-else-run-eq0 : goal.returns-else-run-eq0
+unfolding is_group
+returns-else-run-eq0 c = marked_some 35 is_digit c.args.text.now c.in-Some.digits.now c.digit_run-run.result c.in-Some.ensures.some c.digit_run-run.ensures c.if-run-eq0.false

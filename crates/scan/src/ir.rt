@@ -1,0 +1,9 @@
+//! The tokens of modules of LLVM IR.
+
+pub(crate) mod front;
+mod length;
+mod name;
+mod quoted;
+#[cfg(test)]
+mod tests;
+pub(crate) mod token;

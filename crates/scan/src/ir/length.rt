@@ -1,0 +1,96 @@
+//! How many of the first bytes of a text are the longest token of each kind: 0 where none begins there.
+
+ghost use Rattle.std.specs.Prelude.{◌≡◌};
+ghost use Rattle.scan.specs.IrTokens as tokens;
+ghost use Rattle.scan.specs.Longest.{IsLongest};
+ghost use Rattle.scan.specs.RuleTokens.{is_among};
+
+use crate::begins::{begins_byte, begins_module_word, behind};
+use crate::ir::name::name;
+use crate::length::{longest_among, number as literal};
+use crate::run::{digit_run, name_run};
+
+/// The marks; a `#` before digits is longer.
+const MARKS: [&str; 10] = ["=", ",", "(", ")", "{", "}", "[", "]", "<", "#"];
+
+/// A name, and `:` behind it.
+pub(crate) fn label(text: &[u8]) -> usize
+    ensures { IsLongest (λ bytes _. tokens.is_label bytes) text.now result }
+{
+    let name = name(text);
+    if name > 0 && begins_byte(&text[name..], b':') {
+        name + 1
+    } else {
+        0
+    }
+}
+
+pub(crate) fn word(text: &[u8]) -> usize
+    ensures { IsLongest (λ bytes _. tokens.is_word bytes) text.now result }
+{
+    if begins_module_word(text) {
+        name_run(text)
+    } else {
+        0
+    }
+}
+
+/// Digits, maybe behind a `-`, where no byte of a name follows.
+pub(crate) fn number(text: &[u8]) -> usize
+    ensures { IsLongest tokens.is_number text.now result }
+{
+    let run = name_run(text);
+    if literal(text, false) == run { run } else { 0 }
+}
+
+#[tactic(auto, unfolding(crate::specs::IrTokens::is_register))]
+pub(crate) fn register(text: &[u8]) -> usize
+    ensures { IsLongest (λ bytes _. tokens.is_register bytes) text.now result }
+{
+    named(text, b'%')
+}
+
+#[tactic(auto, unfolding(crate::specs::IrTokens::is_function))]
+pub(crate) fn function(text: &[u8]) -> usize
+    ensures { IsLongest (λ bytes _. tokens.is_function bytes) text.now result }
+{
+    named(text, b'@')
+}
+
+/// The mark, and a name behind it.
+fn named(text: &[u8], mark: u8) -> usize
+    ensures { IsLongest (λ bytes _. tokens.is_behind mark tokens.is_name bytes) text.now result }
+{
+    let Some(behind) = behind(text, mark) else {
+        return 0;
+    };
+    let name = name(behind);
+    if name == 0 { 0 } else { name + 1 }
+}
+
+/// `#` and digits.
+pub(crate) fn group(text: &[u8]) -> usize
+    ensures { IsLongest (λ bytes _. tokens.is_group bytes) text.now result }
+{
+    let Some(digits) = behind(text, b'#') else {
+        return 0;
+    };
+    let run = digit_run(digits);
+    if run == 0 { 0 } else { run + 1 }
+}
+
+/// `!`, and bytes of names or none.
+pub(crate) fn metadata(text: &[u8]) -> usize
+    ensures { IsLongest (λ bytes _. tokens.is_metadata bytes) text.now result }
+{
+    match behind(text, b'!') {
+        Some(name) => name_run(name) + 1,
+        None => 0,
+    }
+}
+
+pub(crate) fn mark(text: &[u8]) -> usize
+    ensures { IsLongest (λ bytes _. is_among tokens.marks bytes) text.now result }
+{
+    longest_among(text, &MARKS)
+}

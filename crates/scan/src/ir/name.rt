@@ -1,0 +1,42 @@
+//! How many of the first bytes of a text are the longest name: 0 where none begins there.
+
+ghost use Rattle.std.specs.Prelude.{◌≡◌};
+ghost use Rattle.scan.specs.IrTokens as tokens;
+ghost use Rattle.scan.specs.Longest.{IsLongest};
+ghost use Rattle.scan.specs.Quoted as quoted;
+
+use crate::begins::{begins_byte, begins_plain_name, behind};
+use crate::run::{digit_run, name_run, quotable_run};
+
+/// Bytes of names of which the first is no digit.
+fn plain_name(text: &[u8]) -> usize
+    ensures { IsLongest (λ bytes _. tokens.is_plain_name bytes) text.now result }
+{
+    if begins_plain_name(text) {
+        name_run(text)
+    } else {
+        0
+    }
+}
+
+/// A quoted text, with its quotes.
+pub(crate) fn quoted(text: &[u8]) -> usize
+    ensures { IsLongest (λ bytes _. quoted.is_quoted bytes) text.now result }
+{
+    let Some(inner) = behind(text, b'"') else {
+        return 0;
+    };
+    let run = quotable_run(inner);
+    if begins_byte(&inner[run..], b'"') {
+        run + 2
+    } else {
+        0
+    }
+}
+
+/// A name as labels, registers and functions have it: plain, digits or quoted.
+pub(crate) fn name(text: &[u8]) -> usize
+    ensures { IsLongest (λ bytes _. tokens.is_name bytes) text.now result }
+{
+    plain_name(text).max(digit_run(text)).max(quoted(text))
+}
