@@ -3,7 +3,7 @@
 pub(crate) mod front;
 mod length;
 mod name;
-mod quoted;
+pub(crate) mod quoted;
 #[cfg(test)]
 mod tests;
 pub(crate) mod token;

@@ -20,6 +20,7 @@ mod span;
 
 pub use bad_byte::BadByte;
 pub use cursor::Cursor;
+pub use ir::quoted::unescaped;
 pub use ir::token::{Kind, Token};
 pub use laws::{
     every_bracket_is_closed_once, every_place_has_one_rule_token,

@@ -56,7 +56,7 @@ fn hex_byte(text: &[u8]) -> Option<(u8, &[u8])>
 }
 
 /// The first byte that the bytes between quotes stand for, and those behind it; none where there are none.
-fn unescaped(text: &[u8]) -> Option<(u8, &[u8])>
+pub fn unescaped(text: &[u8]) -> Option<(u8, &[u8])>
     ensures some { IfSome result (λ x. (quoted.unquoted text.now ≡ x.0 ∷ quoted.unquoted x.1.now) × (length x.1.now < length text.now)) }
     ensures none { IfNone result (text.now ≡ []) }
 {

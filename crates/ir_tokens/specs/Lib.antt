@@ -1,0 +1,7 @@
+pub mod Identifiers
+pub mod Laws
+pub mod Numbers
+pub mod Order
+pub mod Places
+pub mod Seen
+pub mod Tokens

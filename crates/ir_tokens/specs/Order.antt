@@ -1,0 +1,44 @@
+-- The tokens of a text in order.
+use Rattle.std.specs.Prelude.{◌≡◌, ℕ, ◌+◌, true, false, List, [], ◌∷◌, length, None}
+use Rattle.scan.specs.declared.ir.token.Token.{Token as Scanned}
+use Rattle.scan.specs.declared.span.Span.{Span}
+use Rattle.scan.specs.IrTokens.{IsNextToken, IsBadToken}
+use Rattle.scan.specs.Kept.{IsKeptLine, IsGroup, HasNoGroup, rest_to_feed}
+use Rattle.scan.specs.Lines.{between}
+use Rattle.ir_tokens.specs.declared.place.Place.{Place}
+use Rattle.ir_tokens.specs.declared.place.Place.TheVariants.{AtEntry}
+use Rattle.ir_tokens.specs.declared.place.Extent.{Extent}
+use Rattle.ir_tokens.specs.declared.place.Extent.TheVariants as extents
+use Rattle.ir_tokens.specs.Places.{extent_of, place_behind}
+use Rattle.ir_tokens.specs.Tokens.{Placed, Kept, KeptGroup, Other, Bad, token_of, is_last}
+
+-- the token that the scan finds next in the text goes on so far
+abbrev pub HasExtent : List ℕ → Place → Scanned → Extent → Type 0
+HasExtent text place t extent = extent_of place t.line (between text t.span.start t.span.end) ≡ extent
+
+-- A token of a text, where `at` bytes stand before it or before the gap in front of it, and where it ends.
+pub data IsTokenAt (text : List ℕ) (place : Place) (at : ℕ) : Placed → ℕ → Type 0 where
+  -- a token by itself
+  itself : (t : Scanned) → IsNextToken text at t → HasExtent text place t extents.Itself
+      → IsTokenAt text place at (t.line, token_of t.kind (between text t.span.start t.span.end)) t.span.end
+  -- a kept line
+  kept_line : (t : Scanned) (rest : Span) → IsNextToken text at t → HasExtent text place t extents.Line → IsKeptLine text t.span.end rest
+      → IsTokenAt text place at (t.line, Kept (between text t.span.start rest.end)) (t.span.end + length (rest_to_feed text t.span.end))
+  -- a kept group
+  kept_group : (t : Scanned) (rest : Span) → IsNextToken text at t → HasExtent text place t extents.Group → IsGroup text t.span.end rest
+      → IsTokenAt text place at (t.line, KeptGroup (between text t.span.start rest.end)) rest.end
+  -- the `(` of a kept group that isn't closed on its line
+  unclosed : (t : Scanned) → IsNextToken text at t → HasExtent text place t extents.Group → HasNoGroup text t.span.end
+      → IsTokenAt text place at (t.line, Other) t.span.end
+  -- a byte that may not stand
+  bad_byte : (line : ℕ) → IsBadToken text at line → IsTokenAt text place at (line, Bad) at
+
+-- the tokens of a text from a place in it on
+pub data TokensFrom (text : List ℕ) : Place → ℕ → List Placed → Type 0 where
+  last : {place : Place} {at end : ℕ} {t : Placed} → IsTokenAt text place at t end → is_last t.1 ≡ true → TokensFrom text place at (t ∷ [])
+  token : {place : Place} {at end : ℕ} {t : Placed} {tokens : List Placed} → IsTokenAt text place at t end → is_last t.1 ≡ false
+      → TokensFrom text (place_behind place t) end tokens → TokensFrom text place at (t ∷ tokens)
+
+-- the tokens of a text, up to its end or to the first that stands in no module
+abbrev pub AreTokens : List ℕ → List Placed → Type 0
+AreTokens text tokens = TokensFrom text (AtEntry None) 0 tokens

@@ -1,0 +1,22 @@
+//! The tokens of a module's text in order, each with its line, and what names and numbers mean as they are written.
+#![tactic(auto)]
+
+mod bytes;
+mod called;
+mod laws;
+mod naming;
+mod number;
+mod place;
+mod token;
+mod tokens;
+
+pub use bytes::{is_number, is_plain_name};
+pub use called::Identifier;
+pub use laws::every_text_has_one_list_of_tokens;
+pub use naming::identifier;
+pub use number::constant;
+pub use token::{Placed, Token};
+pub use tokens::tokens_of;
+
+#[cfg(test)]
+mod tests;

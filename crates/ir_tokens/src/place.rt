@@ -1,0 +1,70 @@
+//! Tokens that depend on where they stand.
+
+ghost use Rattle.std.specs.Prelude.{◌≡◌};
+ghost use Rattle.ir_tokens.specs.Places as places;
+ghost use Rattle.ir_tokens.specs.Seen.{seen_placed};
+
+use crate::bytes::{is, is_among};
+use crate::token::{Placed, Token};
+
+/// Where in a module the next token stands.
+#[derive(Clone, Copy, Debug, PartialEq, Eq)]
+pub(crate) enum Place {
+    /// Between the entries of the module; with the line of the token before, where there is one.
+    AtEntry(Option<usize>),
+    /// In the header of a function, from the word `define` to the body; with the line of the token before, where that is
+    /// a word.
+    InHeader(Option<usize>),
+    /// In the body of a function.
+    InBody,
+}
+
+/// How far a token goes on.
+#[derive(Clone, Copy, Debug, PartialEq, Eq)]
+pub(crate) enum Extent {
+    /// It is a token by itself.
+    Itself,
+    /// It begins a kept line.
+    Line,
+    /// It is the `(` of a kept group.
+    Group,
+}
+
+/// Whether a token of these bytes begins a kept line, where it is the first on its line.
+#[tactic(auto, unfolding(crate::specs::Places::begins_kept))]
+fn begins_kept(bytes: &[u8]) -> bool
+    ensures { result ≡ places.begins_kept bytes.now }
+{
+    is_among(
+        bytes,
+        &["source_filename", "target", "attributes", "declare"],
+    ) || matches!(bytes, [b'!' | b'$', ..])
+}
+
+/// How far the token on a line goes on that has these bytes by itself.
+#[tactic(auto, unfolding(crate::specs::Places::extent_of))]
+pub(crate) fn extent_of(place: Place, line: usize, bytes: &[u8]) -> Extent
+    ensures { result ≡ places.extent_of place line bytes.now }
+{
+    match place {
+        Place::AtEntry(before) if begins_kept(bytes) && before != Some(line) => Extent::Line,
+        Place::InHeader(word) if is(bytes, "(") && word == Some(line) => Extent::Group,
+        Place::AtEntry(_) | Place::InHeader(_) | Place::InBody => Extent::Itself,
+    }
+}
+
+/// The place behind a token.
+pub(crate) fn place_behind(place: Place, placed: Placed<'_>) -> Place
+    ensures { result ≡ places.place_behind place (seen_placed placed.entry) }
+{
+    let line = placed.line;
+    match (place, placed.token) {
+        (Place::AtEntry(_), Token::Word(word)) if is(word, "define") => Place::InHeader(Some(line)),
+        (Place::AtEntry(_), _) => Place::AtEntry(Some(line)),
+        (Place::InHeader(_), Token::Word(_)) => Place::InHeader(Some(line)),
+        (Place::InHeader(_), Token::Mark(b'{')) => Place::InBody,
+        (Place::InHeader(_), _) => Place::InHeader(None),
+        (Place::InBody, Token::Mark(b'}')) => Place::AtEntry(Some(line)),
+        (Place::InBody, _) => Place::InBody,
+    }
+}
