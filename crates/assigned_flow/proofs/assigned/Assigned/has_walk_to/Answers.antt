@@ -1,0 +1,8 @@
+use Rattle.std.proofs.Common.{arith}
+use Rattle.std.proofs.lemmas.Grind.{common_steps}
+use Rattle.assigned_flow.proofs.Passing.{reached_within}
+use Rattle.assigned_flow.proofs.assigned.Assigned.has_walk_to.Goals as goal
+
+pub returns-else-block-self : goal.returns-else-block-self
+returns-else-block-self c =
+    grind (arith, common_steps, reached_within c.self.inside.dominators c.args.block c.self.invariant.1)

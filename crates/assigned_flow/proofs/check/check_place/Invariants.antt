@@ -1,0 +1,10 @@
+use Rattle.std.proofs.Common.{◌-◌, length}
+use Rattle.ir_core.specs.Reads.{reads_at}
+use Rattle.assigned_flow.specs.Checked.{AssignedBefore}
+use Rattle.assigned_flow.proofs.check.check_place.Given as goal
+
+abbrev pub invariant-loop-read : goal.invariant-loop-read
+invariant-loop-read l = AssignedBefore l.f l.block l.place l.operand
+
+abbrev pub decreases-loop-read : goal.decreases-loop-read
+decreases-loop-read l = length (reads_at l.f l.block l.place) - l.operand
