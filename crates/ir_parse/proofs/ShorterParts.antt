@@ -1,0 +1,71 @@
+-- Behind a part fewer tokens are left, or no more.
+use Rattle.std.proofs.Common.{ℕ, List, [], ◌∷◌, Option, Some, None}
+use Rattle.std.specs.Prelude.{IsSome}
+use Rattle.ir_raw.specs.declared.raw.RawEntry.{RawEntry}
+use Rattle.ir_raw.specs.declared.raw.RawEntry.TheVariants as entries
+use Rattle.ir_raw.specs.declared.raw.RawFunction.{RawFunction}
+use Rattle.ir_raw.specs.declared.raw.RawParameter.{RawParameter}
+use Rattle.ir_raw.specs.declared.raw.RawIdentifier.{RawIdentifier}
+use Rattle.ir_raw.specs.declared.raw.RawBlock.{RawBlock}
+use Rattle.ir_statements.specs.Grammar.{SpellsRegister, Attachment}
+use Rattle.ir_statements.specs.Parts.{◌⨾◌, Maybe, Each, Comma}
+use Rattle.ir_parse.specs.Grammar.{SpellsLabel, SpellsItem, of_word, of_word_and_group, of_number, of_group, of_quoted, of_key_and_value, SpellsBlock, SpellsLabelledBlock, SpellsBlocks, SpellsParameter, SpellsParameterList, SpellsParameters, SpellsBody, SpellsName, SpellsFunction, SpellsEntry}
+use Rattle.ir_statements.proofs.Shorter.{Shorter, NoLonger, weaker, begins, both, on_line, token, a_token, no_part, maybe, each, repeated, a_register, a_type, attachment-shorter, tail, separated, terminator, insts}
+
+label : (l : RawIdentifier) → Shorter (SpellsLabel l)
+label l tokens rest (written, same, is) = on_line l.line _ tokens rest is
+
+pub item-shorter : (item : List ℕ) → Shorter (SpellsItem item)
+item-shorter item tokens rest (of_word is one) = token _ tokens rest one
+item-shorter item tokens rest (of_word_and_group name group is same two) = begins _ _ (token _) (a_token _) tokens rest two
+item-shorter item tokens rest (of_number one) = token _ tokens rest one
+item-shorter item tokens rest (of_group one) = token _ tokens rest one
+item-shorter item tokens rest (of_quoted one) = token _ tokens rest one
+item-shorter item tokens rest (of_key_and_value key value same three) = begins _ _ (token _) (both _ _ (a_token _) (a_token _)) tokens rest three
+
+items : (xs : List (List ℕ)) → NoLonger (Each SpellsItem xs)
+items xs = each SpellsItem (λ item. weaker (SpellsItem item) (item-shorter item)) xs
+
+-- ---- blocks, functions and entries
+
+block : (b : RawBlock) → NoLonger (SpellsBlock b)
+block b = both _ _ (maybe SpellsLabel (λ l. weaker (SpellsLabel l) (label l)) b.label) (both _ _ (insts b.insts) (both _ _ (terminator b.end_line b.end) tail))
+
+some_label : (l : Option RawIdentifier) → IsSome l → Shorter (Maybe SpellsLabel l)
+some_label (Some l) some = label l
+some_label None some = absurd cc
+
+pub block-shorter : (b : RawBlock) → Shorter (SpellsLabelledBlock b)
+block-shorter b tokens rest (some, h) = begins _ _ (some_label b.label some) (both _ _ (insts b.insts) (both _ _ (terminator b.end_line b.end) tail)) tokens rest h
+
+blocks : (bs : List RawBlock) → NoLonger (SpellsBlocks bs)
+blocks [] tokens rest h = absurd h
+blocks (b ∷ bs) tokens rest h = both (SpellsBlock b) (Each SpellsLabelledBlock bs) (block b) (each SpellsLabelledBlock (λ c. weaker (SpellsLabelledBlock c) (block-shorter c)) bs) tokens rest h
+
+parameter : (p : RawParameter) → NoLonger (SpellsParameter p)
+parameter p = both _ _ (a_type p.width) (both _ _ (items p.items) (maybe SpellsRegister a_register p.name))
+
+pub further_parameter-shorter : (p : RawParameter) → Shorter (Comma ⨾ SpellsParameter p)
+further_parameter-shorter p = begins Comma (SpellsParameter p) (token _) (parameter p)
+
+parameter_list : (ps : List RawParameter) → NoLonger (SpellsParameterList ps)
+parameter_list [] = no_part
+parameter_list (p ∷ ps) = separated SpellsParameter parameter (p ∷ ps)
+
+parameters : (ps : List RawParameter) → NoLonger (SpellsParameters ps)
+parameters ps = both _ _ (a_token _) (both _ _ (parameter_list ps) (a_token _))
+
+name : (line : ℕ) (n : List ℕ) → NoLonger (SpellsName line n)
+name line n = weaker (SpellsName line n) (λ tokens rest (written, is, one). on_line line _ tokens rest one)
+
+body : (bs : List RawBlock) → NoLonger (SpellsBody bs)
+body bs = both _ _ (repeated Attachment (weaker Attachment attachment-shorter)) (both _ _ (a_token _) (both _ _ (blocks bs) (a_token _)))
+
+function : (f : RawFunction) → Shorter (SpellsFunction f)
+function f =
+    begins _ _ (token _) (both _ _ (items f.before) (both _ _ (a_type f.width) (both _ _ (name f.line f.name)
+    (both _ _ (parameters f.parameters) (both _ _ (items f.after) (body f.blocks))))))
+
+pub entry-shorter : (e : RawEntry) → Shorter (SpellsEntry e)
+entry-shorter (entries.Kept text) = token _
+entry-shorter (entries.Function f) = function f

@@ -1,0 +1,20 @@
+-- Each part that may stand any number of times takes a token at least.
+use Rattle.ir_statements.specs.Parsing.{is_mark}
+use Rattle.ir_statements.specs.Readers.{TakesSome}
+use Rattle.ir_statements.specs.Marks as marks
+use Rattle.ir_parse.specs.Parsing.{is_label, begins_item, item_at, block_at, further_parameter_at, begins_entry, entry_at}
+use Rattle.ir_parse.proofs.FunctionReadings.{block_is_labelled, further_parameter_at-is, entry_at-is}
+use Rattle.ir_parse.proofs.ItemReadings.{item_at-is}
+use Rattle.ir_parse.proofs.ShorterParts.{item-shorter, block-shorter, further_parameter-shorter, entry-shorter}
+
+pub item-takes : TakesSome begins_item item_at
+item-takes tokens x next e = item-shorter x.0 tokens x.1 (item_at-is tokens x next e)
+
+pub block-takes : TakesSome is_label block_at
+block-takes tokens x next e = block-shorter x.0 tokens x.1 (block_is_labelled tokens x next e)
+
+pub parameter-takes : TakesSome (is_mark marks.comma) further_parameter_at
+parameter-takes tokens x next e = further_parameter-shorter x.0 tokens x.1 (further_parameter_at-is tokens x e)
+
+pub entry-takes : TakesSome begins_entry entry_at
+entry-takes tokens x next e = entry-shorter x.0 tokens x.1 (entry_at-is tokens x e)

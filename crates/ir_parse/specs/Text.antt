@@ -1,0 +1,26 @@
+-- Texts of modules: the module as it is written, or the first fault.
+use Rattle.std.specs.Prelude.{◌≡◌, ℕ, ◌<◌, ◌≤◌, ◌^◌, List, length, Err}
+use Rattle.ir_tokens.specs.Order.{AreTokens}
+use Rattle.ir_tokens.specs.Tokens.{Placed}
+use Rattle.ir_statements.specs.declared.fault.Misfit.TheVariants.{TooLong}
+use Rattle.ir_statements.specs.declared.fault.TextFault.{TextFault}
+use Rattle.ir_raw.specs.declared.raw.RawModule.{RawModule}
+use Rattle.ir_statements.specs.Readers.{fault}
+use Rattle.ir_parse.specs.Grammar.{SpellsModule}
+use Rattle.ir_parse.specs.Parsing.{module_of}
+
+-- the most bytes of a text
+abbrev pub most_bytes : ℕ
+most_bytes = 2 ^ 24
+
+-- the text is that of this module
+pub record IsRaw (text : List ℕ) (module_read : RawModule) : Type 0 where
+  pub within : length text ≤ most_bytes
+  pub tokens : List Placed
+  pub are_tokens : AreTokens text tokens
+  pub spelled : SpellsModule module_read tokens
+
+-- The first fault: the text is too long, or else the first token that does not fit, by its line and why it does not.
+pub data IsTextFault (text : List ℕ) (found : TextFault) : Type 0 where
+  too_long : most_bytes < length text → found ≡ fault 1 TooLong → IsTextFault text found
+  misfit : length text ≤ most_bytes → (tokens : List Placed) → AreTokens text tokens → module_of tokens ≡ Err found → IsTextFault text found

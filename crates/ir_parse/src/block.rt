@@ -1,0 +1,79 @@
+//! Blocks from tokens.
+
+ghost use Rattle.std.specs.Prelude.{◌≡◌};
+ghost use Rattle.ir_tokens.specs.Seen.{seen};
+ghost use Rattle.ir_statements.specs.Giving.{Gives};
+ghost use Rattle.ir_parse.specs.Parsing as parsing;
+
+use ir_raw::{RawBlock, RawIdentifier};
+use ir_statements::{ParseError, Part, each, insts, tail, terminator};
+use ir_tokens::{Placed, Token, identifier};
+use lists::List;
+use std::alloc::Global;
+
+/// A label, if there is one.
+#[tactic(auto, unfolding(crate::specs::Parsing::label_at))]
+fn label(alloc: Global, tokens: &mut &[Placed<'_>]) -> Result<Option<RawIdentifier>, ParseError>
+    ensures { Gives (λ x. (x, seen tokens.new.now)) result (parsing.label_at (seen tokens.old.now)) }
+{
+    match *tokens {
+        [Placed { line, token }, rest @ ..] => match *token {
+            Token::Label(written) => {
+                *tokens = rest;
+                Ok(Some(RawIdentifier {
+                    line: *line,
+                    identifier: identifier(alloc, written)?,
+                }))
+            }
+            _ => Ok(None),
+        },
+        [] => Ok(None),
+    }
+}
+
+/// A block, of which the label may be missing; another one is next where a label is.
+enum Block {}
+
+impl Part for Block {
+    ghost use Rattle.ir_parse.specs.Parsing.{is_label, block_at};
+
+    ghost begins = { is_label };
+
+    ghost reader = { block_at };
+
+    type Value = RawBlock;
+
+    fn is_next(tokens: &[Placed<'_>]) -> bool {
+        match tokens {
+            [Placed { token, .. }, ..] => matches!(*token, Token::Label(_)),
+            [] => false,
+        }
+    }
+
+    #[tactic(auto, unfolding(crate::specs::Parsing::block_at))]
+    fn read(alloc: Global, tokens: &mut &[Placed<'_>]) -> Result<RawBlock, ParseError> {
+        let label = label(alloc, tokens)?;
+        let insts = insts(alloc, tokens)?;
+        let (end_line, end) = terminator(alloc, tokens)?;
+        tail(tokens)?;
+        Ok(RawBlock {
+            label,
+            insts,
+            end,
+            end_line,
+        })
+    }
+}
+
+/// The blocks of a function: one or more.
+#[tactic(auto, unfolding(crate::specs::Parsing::blocks_at))]
+pub(crate) fn blocks(
+    alloc: Global,
+    tokens: &mut &[Placed<'_>],
+) -> Result<List<RawBlock>, ParseError>
+    ensures { Gives (λ x. (x, seen tokens.new.now)) result (parsing.blocks_at (seen tokens.old.now)) }
+{
+    let mut blocks = List::new(alloc);
+    blocks.push(Block::read(alloc, tokens)?)?;
+    each::<Block>(alloc, blocks, tokens)
+}

@@ -1,0 +1,72 @@
+//! The entries of a module from tokens.
+
+ghost use Rattle.std.specs.Prelude.{◌≡◌};
+ghost use Rattle.ir_tokens.specs.Seen.{seen};
+ghost use Rattle.ir_statements.specs.Giving.{Gives};
+ghost use Rattle.ir_parse.specs.Parsing as parsing;
+
+use crate::function::function;
+use ir_raw::{RawEntry, RawModule};
+use ir_statements::{ParseError, Part, Place, copied, each, is, left_out, unexpected};
+use ir_tokens::{Placed, Token};
+use lists::List;
+use std::alloc::Global;
+
+/// An entry; another one is next before the end of the text.
+enum Entry {}
+
+impl Part for Entry {
+    ghost use Rattle.ir_parse.specs.Parsing.{begins_entry, entry_at};
+
+    ghost begins = { begins_entry };
+
+    ghost reader = { entry_at };
+
+    type Value = RawEntry;
+
+    fn is_next(tokens: &[Placed<'_>]) -> bool {
+        match tokens {
+            [Placed { token, .. }, ..] => !matches!(*token, Token::End),
+            [] => true,
+        }
+    }
+
+    #[tactic(auto, unfolding(crate::specs::Parsing::entry_at))]
+    fn read(alloc: Global, tokens: &mut &[Placed<'_>]) -> Result<RawEntry, ParseError> {
+        match *tokens {
+            [Placed { line, token }, rest @ ..] => match *token {
+                Token::Kept(text) => {
+                    *tokens = rest;
+                    Ok(RawEntry::Kept(copied(alloc, text)?))
+                }
+                Token::Word(word) => {
+                    if is(word, "define") {
+                        *tokens = rest;
+                        Ok(RawEntry::Function(function(alloc, tokens)?))
+                    } else {
+                        Err(left_out(alloc, *line, word))
+                    }
+                }
+                _ => Err(unexpected(alloc, Place::Entry, *tokens)),
+            },
+            [] => Err(unexpected(alloc, Place::Entry, *tokens)),
+        }
+    }
+}
+
+/// The entries of a module.
+#[tactic(auto, unfolding(crate::specs::Parsing::entries_at))]
+fn entries(alloc: Global, tokens: &mut &[Placed<'_>]) -> Result<List<RawEntry>, ParseError>
+    ensures { Gives (λ x. (x, seen tokens.new.now)) result (parsing.entries_at (seen tokens.old.now)) }
+{
+    each::<Entry>(alloc, List::new(alloc), tokens)
+}
+
+/// The module of a text's tokens, or the first fault.
+pub(crate) fn raw_module(alloc: Global, tokens: &[Placed<'_>]) -> Result<RawModule, ParseError>
+    ensures { Gives (λ x. x) result (parsing.module_of (seen tokens.now)) }
+{
+    let mut rest = tokens;
+    let entries = entries(alloc, &mut rest)?;
+    Ok(RawModule { entries })
+}

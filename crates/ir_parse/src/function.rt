@@ -1,0 +1,70 @@
+//! Functions from tokens. (LLVM Language Reference, "Functions".)
+
+ghost use Rattle.std.specs.Prelude.{◌≡◌};
+ghost use Rattle.ir_tokens.specs.Identifiers.{identifier_of};
+ghost use Rattle.ir_tokens.specs.Seen.{seen};
+ghost use Rattle.ir_statements.specs.Giving.{Gives};
+ghost use Rattle.ir_parse.specs.Parsing as parsing;
+
+use crate::block::blocks;
+use crate::item::{items, last_items};
+use crate::parameter::parameters;
+use ir_raw::{RawBlock, RawFunction};
+use ir_statements::{ParseError, attachments, integer_type, left_out, mark, misplaced};
+use ir_tokens::{Identifier, Placed, Token, identifier};
+use lists::{List, Text};
+use std::alloc::Global;
+
+/// The name of a function, with its line; a number is left out.
+#[tactic(auto, unfolding(crate::specs::Parsing::function_name_at))]
+fn function_name(alloc: Global, tokens: &mut &[Placed<'_>]) -> Result<(usize, Text), ParseError>
+    ensures { Gives (λ x. (x, seen tokens.new.now)) result (parsing.function_name_at (seen tokens.old.now)) }
+{
+    match *tokens {
+        [Placed { line, token }, rest @ ..] => match *token {
+            Token::Function(written) => match identifier(alloc, written)? {
+                Identifier::Named(name) => {
+                    *tokens = rest;
+                    Ok((*line, name))
+                }
+                Identifier::Numbered(_) => Err(left_out(alloc, *line, b"@")),
+            },
+            _ => Err(misplaced(*tokens)),
+        },
+        [] => Err(misplaced(*tokens)),
+    }
+}
+
+/// The body of a function in its braces, and the attachments before it.
+#[tactic(auto, unfolding(crate::specs::Parsing::body_at))]
+fn body(alloc: Global, tokens: &mut &[Placed<'_>]) -> Result<List<RawBlock>, ParseError>
+    ensures { Gives (λ x. (x, seen tokens.new.now)) result (parsing.body_at (seen tokens.old.now)) }
+{
+    attachments(tokens)?;
+    mark(b'{', tokens)?;
+    let blocks = blocks(alloc, tokens)?;
+    mark(b'}', tokens)?;
+    Ok(blocks)
+}
+
+/// A function, behind its `define`.
+#[tactic(auto, unfolding(crate::specs::Parsing::function_at))]
+pub(crate) fn function(alloc: Global, tokens: &mut &[Placed<'_>]) -> Result<RawFunction, ParseError>
+    ensures { Gives (λ x. (x, seen tokens.new.now)) result (parsing.function_at (seen tokens.old.now)) }
+{
+    let before = items(alloc, tokens)?;
+    let width = integer_type(alloc, tokens)?;
+    let (line, name) = function_name(alloc, tokens)?;
+    let parameters = parameters(alloc, tokens)?;
+    let after = last_items(alloc, tokens)?;
+    let blocks = body(alloc, tokens)?;
+    Ok(RawFunction {
+        line,
+        name,
+        before,
+        width,
+        parameters,
+        after,
+        blocks,
+    })
+}

@@ -1,0 +1,162 @@
+//! Items of headers from tokens.
+
+ghost use Rattle.std.specs.Prelude.{◌≡◌, ◌∷◌, ◌++◌, IfOk};
+ghost use Rattle.ir_tokens.specs.Seen.{seen};
+ghost use Rattle.ir_statements.specs.Giving.{Gives};
+ghost use Rattle.ir_statements.specs.Marks as marks;
+ghost use Rattle.ir_parse.specs.Parsing as parsing;
+
+use crate::word::is_item_word;
+use ir_statements::{
+    ParseError, Part, Place, copied, each, is_mark, left_out, mark, misplaced, unexpected,
+};
+use ir_tokens::{Placed, Token};
+use lists::{List, Text};
+use std::alloc::{AllocError, Global};
+
+/// A part of the text and another behind it.
+fn joined(alloc: Global, first: &[u8], second: &[u8]) -> Result<Text, AllocError>
+    ensures { IfOk result (λ text. text ≡ first.now ++ second.now) }
+{
+    let mut bytes = Vec::from_slice(alloc, first)?;
+    bytes.extend_from_slice(second)?;
+    Ok(Text::from_vec(bytes))
+}
+
+/// A key, `=` and its value.
+fn pair(alloc: Global, key: &[u8], value: &[u8]) -> Result<Text, AllocError>
+    ensures { IfOk result (λ text. text ≡ key.now ++ marks.equals ∷ value.now) }
+{
+    let mut bytes = Vec::from_slice(alloc, key)?;
+    bytes.push(b'=')?;
+    bytes.extend_from_slice(value)?;
+    Ok(Text::from_vec(bytes))
+}
+
+/// The value of a key, behind the `=`.
+#[tactic(auto, unfolding(crate::specs::Parsing::quoted_value_at))]
+fn quoted_value(alloc: Global, key: &[u8], tokens: &mut &[Placed<'_>]) -> Result<Text, ParseError>
+    ensures { Gives (λ x. (x, seen tokens.new.now)) result (parsing.quoted_value_at key.now (seen tokens.old.now)) }
+{
+    match *tokens {
+        [Placed { token, .. }, rest @ ..] => match *token {
+            Token::Quoted(value) => {
+                *tokens = rest;
+                Ok(pair(alloc, key, value)?)
+            }
+            _ => Err(misplaced(*tokens)),
+        },
+        [] => Err(misplaced(*tokens)),
+    }
+}
+
+/// The group that is kept behind a word, with the word before it, or the word alone.
+#[tactic(auto, unfolding(crate::specs::Parsing::word_item_at))]
+fn word_item(alloc: Global, word: &[u8], tokens: &mut &[Placed<'_>]) -> Result<Text, ParseError>
+    ensures { Gives (λ x. (x, seen tokens.new.now)) result (parsing.word_item_at word.now (seen tokens.old.now)) }
+{
+    match *tokens {
+        [Placed { token, .. }, rest @ ..] => match *token {
+            Token::KeptGroup(group) => {
+                *tokens = rest;
+                Ok(joined(alloc, word, group)?)
+            }
+            _ => Ok(copied(alloc, word)?),
+        },
+        [] => Ok(copied(alloc, word)?),
+    }
+}
+
+/// A quoted text, and its value where a `=` is behind it.
+#[tactic(auto, unfolding(crate::specs::Parsing::quoted_item_at))]
+fn quoted_item(alloc: Global, key: &[u8], tokens: &mut &[Placed<'_>]) -> Result<Text, ParseError>
+    ensures { Gives (λ x. (x, seen tokens.new.now)) result (parsing.quoted_item_at key.now (seen tokens.old.now)) }
+{
+    if is_mark(b'=', *tokens) {
+        mark(b'=', tokens)?;
+        quoted_value(alloc, key, tokens)
+    } else {
+        Ok(copied(alloc, key)?)
+    }
+}
+
+/// An item; it is read as it is printed.
+enum Item {}
+
+impl Part for Item {
+    ghost use Rattle.ir_parse.specs.Parsing.{begins_item, item_at};
+
+    ghost begins = { begins_item };
+
+    ghost reader = { item_at };
+
+    type Value = Text;
+
+    fn is_next(tokens: &[Placed<'_>]) -> bool {
+        match tokens {
+            [Placed { token, .. }, ..] => match *token {
+                Token::Word(word) => is_item_word(word),
+                Token::Number(_) | Token::Group(_) | Token::Quoted(_) => true,
+                _ => false,
+            },
+            [] => false,
+        }
+    }
+
+    #[tactic(auto, unfolding(crate::specs::Parsing::item_at))]
+    fn read(alloc: Global, tokens: &mut &[Placed<'_>]) -> Result<Text, ParseError> {
+        match *tokens {
+            [Placed { token, .. }, rest @ ..] => match *token {
+                Token::Word(word) => {
+                    *tokens = rest;
+                    word_item(alloc, word, tokens)
+                }
+                Token::Number(text) | Token::Group(text) => {
+                    *tokens = rest;
+                    Ok(copied(alloc, text)?)
+                }
+                Token::Quoted(key) => {
+                    *tokens = rest;
+                    quoted_item(alloc, key, tokens)
+                }
+                _ => Err(unexpected(alloc, Place::Choice, *tokens)),
+            },
+            [] => Err(unexpected(alloc, Place::Choice, *tokens)),
+        }
+    }
+}
+
+/// Items.
+#[tactic(auto, unfolding(crate::specs::Parsing::items_at))]
+pub(crate) fn items(alloc: Global, tokens: &mut &[Placed<'_>]) -> Result<List<Text>, ParseError>
+    ensures { Gives (λ x. (x, seen tokens.new.now)) result (parsing.items_at (seen tokens.old.now)) }
+{
+    each::<Item>(alloc, List::new(alloc), tokens)
+}
+
+/// That no word is next. One that is no item is left out.
+#[tactic(auto, unfolding(crate::specs::Parsing::no_word_at))]
+fn no_word(alloc: Global, tokens: &[Placed<'_>]) -> Result<(), ParseError>
+    ensures { Gives (λ x. (x, seen tokens.now)) result (parsing.no_word_at (seen tokens.now)) }
+{
+    match tokens {
+        [Placed { line, token }, ..] => match *token {
+            Token::Word(word) => Err(left_out(alloc, *line, word)),
+            _ => Ok(()),
+        },
+        [] => Ok(()),
+    }
+}
+
+/// Items that no word follows.
+#[tactic(auto, unfolding(crate::specs::Parsing::last_items_at))]
+pub(crate) fn last_items(
+    alloc: Global,
+    tokens: &mut &[Placed<'_>],
+) -> Result<List<Text>, ParseError>
+    ensures { Gives (λ x. (x, seen tokens.new.now)) result (parsing.last_items_at (seen tokens.old.now)) }
+{
+    let items = items(alloc, tokens)?;
+    no_word(alloc, *tokens)?;
+    Ok(items)
+}

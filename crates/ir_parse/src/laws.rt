@@ -1,0 +1,14 @@
+//! The laws of texts of modules, each the contract of a function that does nothing.
+ghost use Rattle.ir_parse.specs.Laws.{ModulesAreReadAsSpelled, TextsHaveOneReadingOrFault};
+
+/// Reading from left to right answers a module exactly where the grammar spells it.
+pub fn modules_are_read_as_they_are_spelled()
+    ensures { ModulesAreReadAsSpelled }
+{}
+
+/// A text has one module as written, or one fault, and never both.
+pub fn every_text_has_one_reading_or_one_fault()
+    ensures { TextsHaveOneReadingOrFault }
+{
+    ir_tokens::every_text_has_one_list_of_tokens();
+}

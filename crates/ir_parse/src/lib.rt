@@ -1,0 +1,20 @@
+//! Modules of LLVM IR as they are written in a text, or the first fault of the text, with its line.
+//!
+//! Tokens are read from left to right, and each function reads one part of the grammar: items, blocks, parameters, functions and entries.
+#![tactic(auto)]
+
+mod block;
+mod entry;
+mod function;
+mod item;
+mod laws;
+mod parameter;
+mod reader;
+mod word;
+
+pub use ir_statements::{Misfit, ParseError, TextFault};
+pub use laws::{every_text_has_one_reading_or_one_fault, modules_are_read_as_they_are_spelled};
+pub use reader::parse;
+
+#[cfg(test)]
+mod tests;

@@ -1,0 +1,114 @@
+//! Parameters from tokens.
+
+ghost use Rattle.std.specs.Prelude.{◌≡◌};
+ghost use Rattle.ir_tokens.specs.Seen.{seen};
+ghost use Rattle.ir_statements.specs.Giving.{Gives};
+ghost use Rattle.ir_parse.specs.Parsing as parsing;
+
+use crate::item::last_items;
+use ir_raw::{RawIdentifier, RawParameter};
+use ir_statements::{ParseError, Part, each, integer_type, is_mark, mark};
+use ir_tokens::{Placed, Token, identifier};
+use lists::List;
+use std::alloc::Global;
+
+/// The name of a parameter, if it has one.
+#[tactic(auto, unfolding(crate::specs::Parsing::parameter_name_at))]
+fn parameter_name(
+    alloc: Global,
+    tokens: &mut &[Placed<'_>],
+) -> Result<Option<RawIdentifier>, ParseError>
+    ensures { Gives (λ x. (x, seen tokens.new.now)) result (parsing.parameter_name_at (seen tokens.old.now)) }
+{
+    match *tokens {
+        [Placed { line, token }, rest @ ..] => match *token {
+            Token::Register(written) => {
+                *tokens = rest;
+                Ok(Some(RawIdentifier {
+                    line: *line,
+                    identifier: identifier(alloc, written)?,
+                }))
+            }
+            _ => Ok(None),
+        },
+        [] => Ok(None),
+    }
+}
+
+/// A parameter.
+#[tactic(auto, unfolding(crate::specs::Parsing::parameter_at))]
+fn parameter(alloc: Global, tokens: &mut &[Placed<'_>]) -> Result<RawParameter, ParseError>
+    ensures { Gives (λ x. (x, seen tokens.new.now)) result (parsing.parameter_at (seen tokens.old.now)) }
+{
+    let width = integer_type(alloc, tokens)?;
+    let items = last_items(alloc, tokens)?;
+    let name = parameter_name(alloc, tokens)?;
+    Ok(RawParameter { width, items, name })
+}
+
+/// Another parameter, behind a `,`.
+enum FurtherParameter {}
+
+impl Part for FurtherParameter {
+    ghost use Rattle.ir_statements.specs.Marks as marks;
+    ghost use Rattle.ir_statements.specs.Parsing.{is_mark};
+    ghost use Rattle.ir_parse.specs.Parsing.{further_parameter_at};
+
+    ghost begins = { is_mark marks.comma };
+
+    ghost reader = { further_parameter_at };
+
+    type Value = RawParameter;
+
+    fn is_next(tokens: &[Placed<'_>]) -> bool {
+        is_mark(b',', tokens)
+    }
+
+    #[tactic(auto, unfolding(crate::specs::Parsing::further_parameter_at))]
+    fn read(alloc: Global, tokens: &mut &[Placed<'_>]) -> Result<RawParameter, ParseError> {
+        mark(b',', tokens)?;
+        parameter(alloc, tokens)
+    }
+}
+
+/// Parameters: one or more.
+#[tactic(auto, unfolding(crate::specs::Parsing::some_parameters_at))]
+fn some_parameters(
+    alloc: Global,
+    tokens: &mut &[Placed<'_>],
+) -> Result<List<RawParameter>, ParseError>
+    ensures { Gives (λ x. (x, seen tokens.new.now)) result (parsing.some_parameters_at (seen tokens.old.now)) }
+{
+    let mut parameters = List::new(alloc);
+    parameters.push(parameter(alloc, tokens)?)?;
+    each::<FurtherParameter>(alloc, parameters, tokens)
+}
+
+/// Parameters, before the `)`: any number.
+#[tactic(auto, unfolding(crate::specs::Parsing::parameter_list_at))]
+fn parameter_list(
+    alloc: Global,
+    tokens: &mut &[Placed<'_>],
+) -> Result<List<RawParameter>, ParseError>
+    ensures { Gives (λ x. (x, seen tokens.new.now)) result (parsing.parameter_list_at (seen tokens.old.now)) }
+{
+    if is_mark(b')', *tokens) {
+        Ok(List::new(alloc))
+    } else {
+        some_parameters(alloc, tokens)
+    }
+}
+
+/// The parameters of a function, in their brackets.
+#[tactic(auto, unfolding(crate::specs::Parsing::parameters_at))]
+pub(crate) fn parameters(
+    alloc: Global,
+    tokens: &mut &[Placed<'_>],
+) -> Result<List<RawParameter>, ParseError>
+    ensures { Gives (λ x. (x, seen tokens.new.now)) result (parsing.parameters_at (seen tokens.old.now)) }
+{
+    mark(b'(', tokens)?;
+    let parameters = parameter_list(alloc, tokens)?;
+    mark(b')', tokens)?;
+    Ok(parameters)
+}

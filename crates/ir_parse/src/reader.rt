@@ -1,0 +1,26 @@
+//! The module of a text as written.
+
+ghost use Rattle.std.specs.Prelude.{IfOk, IfErr};
+ghost use Rattle.ir_parse.specs.Refusing.{IfRefused};
+ghost use Rattle.ir_parse.specs.Text.{IsRaw, IsTextFault};
+
+use crate::entry::raw_module;
+use ir_raw::RawModule;
+use ir_statements::{Misfit, ParseError, refused};
+use ir_tokens::tokens_of;
+use std::alloc::Global;
+
+/// The most bytes of a text.
+const MOST_BYTES: usize = 1 << 24;
+
+/// The module of a text as it is written, or the text's first fault. It takes as many steps as the text has bytes.
+pub fn parse(alloc: Global, bytes: &[u8]) -> Result<RawModule, ParseError>
+    ensures ok { IfOk result (λ m. IsRaw bytes.now m) }
+    ensures refused { IfErr result (λ e. IfRefused e (IsTextFault bytes.now)) }
+{
+    if bytes.len() > MOST_BYTES {
+        return Err(refused(1, Misfit::TooLong));
+    }
+    let tokens = tokens_of(alloc, bytes)?;
+    raw_module(alloc, tokens.as_slice())
+}

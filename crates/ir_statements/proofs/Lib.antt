@@ -1,0 +1,10 @@
+pub mod Loops
+pub mod OpReadings
+pub mod OpSpellings
+pub mod Readings
+pub mod Shorter
+pub mod Spellings
+pub mod Steps
+pub mod Takings
+pub mod TerminatorReadings
+pub mod WordLemmas

@@ -1,0 +1,137 @@
+-- The words of a module's text (LLVM Language Reference, "Instruction Reference", "Type System").
+use Rattle.std.specs.Prelude.{◌≡◌, ℕ, ◌≤◌, nat_le, ◌==◌, Bool, true, ◌&&◌, if◌then◌else◌, IsTrue, List, [], ◌∷◌, find, Option, Some, None, codes}
+use Rattle.std.specs.Str.{bytes_eq}
+use Rattle.ops.specs.declared.opcode.Opcode.{Opcode}
+use Rattle.ops.specs.declared.opcode.Opcode.TheVariants.{Add, Sub, Mul, UDiv, SDiv, URem, SRem, Shl, LShr, AShr, And, Or, Xor}
+use Rattle.ops.specs.declared.opcode.Flags.{Flags}
+use Rattle.ops.specs.declared.comparison.Pred.{Pred}
+use Rattle.ops.specs.declared.comparison.Pred.TheVariants.{Eq, Ne, Ugt, Uge, Ult, Ule, Sgt, Sge, Slt, Sle}
+use Rattle.ops.specs.declared.conversion.Cast.{Cast}
+use Rattle.ops.specs.declared.conversion.Cast.TheVariants.{Trunc, ZExt, SExt}
+use Rattle.ops.specs.Flags.{flags_of}
+use Rattle.scan.specs.Bytes.{are_digits}
+use Rattle.ir_tokens.specs.Numbers.{decimal_value}
+use Rattle.ir_raw.specs.declared.raw.RawValue.{RawValue}
+use Rattle.ir_raw.specs.declared.raw.RawValue.TheVariants.{True, False, Undef, Poison}
+use Rattle.ir_statements.specs.declared.word.TypeWord.{TypeWord}
+use Rattle.ir_statements.specs.declared.word.TypeWord.TheVariants as types
+use Rattle.ir_statements.specs.declared.word.Operation.{Operation}
+use Rattle.ir_statements.specs.declared.word.Operation.TheVariants.{Binary, Compare, Select, Convert, Freeze, Phi}
+use Rattle.ir_statements.specs.declared.word.Ending.{Ending}
+use Rattle.ir_statements.specs.declared.word.Ending.TheVariants.{Return, Unreachable, Branch, Switch}
+use Rattle.ir_statements.specs.declared.word.Flag.{Flag}
+use Rattle.ir_statements.specs.declared.word.Flag.TheVariants.{Nuw, Nsw, Exact}
+
+-- ---- types
+
+-- the word is `i` and digits, which spell a number from 1 to 64
+abbrev pub IsTypeWord : List ℕ → ℕ → Type 0
+IsTypeWord word width = (digits : List ℕ) × (word ≡ 105 ∷ digits) × IsTrue (are_digits digits) × (decimal_value digits ≡ width) × (1 ≤ width) × (width ≤ 64)
+
+-- a type of so many bits
+abbrev pub type_of_bits : ℕ → TypeWord
+type_of_bits n = if nat_le 1 n && nat_le n 64 then types.Integer n else types.OutOfRange
+
+-- what a word is as a type
+unfoldable pub type_in : List ℕ → TypeWord
+type_in [] = types.Other
+type_in (b ∷ digits) = if (b == 105) && are_digits digits then type_of_bits (decimal_value digits) else types.Other
+
+-- ---- opcodes, predicates and flags
+
+abbrev pub opcode_word : Opcode → List ℕ
+opcode_word Add = codes "add"
+opcode_word Sub = codes "sub"
+opcode_word Mul = codes "mul"
+opcode_word UDiv = codes "udiv"
+opcode_word SDiv = codes "sdiv"
+opcode_word URem = codes "urem"
+opcode_word SRem = codes "srem"
+opcode_word Shl = codes "shl"
+opcode_word LShr = codes "lshr"
+opcode_word AShr = codes "ashr"
+opcode_word And = codes "and"
+opcode_word Or = codes "or"
+opcode_word Xor = codes "xor"
+
+abbrev pub cast_word : Cast → List ℕ
+cast_word Trunc = codes "trunc"
+cast_word ZExt = codes "zext"
+cast_word SExt = codes "sext"
+
+abbrev pub operation_word : Operation → List ℕ
+operation_word (Binary op) = opcode_word op
+operation_word Compare = codes "icmp"
+operation_word Select = codes "select"
+operation_word (Convert cast) = cast_word cast
+operation_word Freeze = codes "freeze"
+operation_word Phi = codes "phi"
+
+abbrev pub operations : List Operation
+operations =
+    Binary Add ∷ Binary Sub ∷ Binary Mul ∷ Binary UDiv ∷ Binary SDiv ∷ Binary URem ∷ Binary SRem ∷ Binary Shl ∷ Binary LShr ∷ Binary AShr
+    ∷ Binary And ∷ Binary Or ∷ Binary Xor ∷ Compare ∷ Select ∷ Convert Trunc ∷ Convert ZExt ∷ Convert SExt ∷ Freeze ∷ Phi ∷ []
+
+-- the operation whose opcode a word is
+unfoldable pub operation_in : List ℕ → Option Operation
+operation_in word = find (λ operation. bytes_eq word (operation_word operation)) operations
+
+abbrev pub pred_word : Pred → List ℕ
+pred_word Eq = codes "eq"
+pred_word Ne = codes "ne"
+pred_word Ugt = codes "ugt"
+pred_word Uge = codes "uge"
+pred_word Ult = codes "ult"
+pred_word Ule = codes "ule"
+pred_word Sgt = codes "sgt"
+pred_word Sge = codes "sge"
+pred_word Slt = codes "slt"
+pred_word Sle = codes "sle"
+
+abbrev pub predicates : List Pred
+predicates = Eq ∷ Ne ∷ Ugt ∷ Uge ∷ Ult ∷ Ule ∷ Sgt ∷ Sge ∷ Slt ∷ Sle ∷ []
+
+-- the predicate that a word is
+unfoldable pub pred_in : List ℕ → Option Pred
+pred_in word = find (λ pred. bytes_eq word (pred_word pred)) predicates
+
+abbrev pub flag_word : Flag → List ℕ
+flag_word Nuw = codes "nuw"
+flag_word Nsw = codes "nsw"
+flag_word Exact = codes "exact"
+
+-- the flag stands among flags
+abbrev pub has_flag : Flags → Flag → Bool
+has_flag flags Nuw = flags.nuw
+has_flag flags Nsw = flags.nsw
+has_flag flags Exact = flags.exact
+
+-- the flags, and this one
+abbrev pub with_flag : Flags → Flag → Flags
+with_flag flags Nuw = record flags { nuw = true }
+with_flag flags Nsw = record flags { nsw = true }
+with_flag flags Exact = record flags { exact = true }
+
+-- the flag of an instruction that a word is
+unfoldable pub flag_in : Opcode → List ℕ → Option Flag
+flag_in op word = find (λ flag. bytes_eq word (flag_word flag) && has_flag (flags_of op) flag) (Nuw ∷ Nsw ∷ Exact ∷ [])
+
+-- ---- values and terminators
+
+-- the value that a word is, or in a case of a `switch`
+unfoldable pub truth_in : List ℕ → Option RawValue
+truth_in word = if bytes_eq word (codes "true") then Some True else (if bytes_eq word (codes "false") then Some False else None)
+
+unfoldable pub value_in : List ℕ → Option RawValue
+value_in word =
+    if bytes_eq word (codes "undef") then Some Undef else (if bytes_eq word (codes "poison") then Some Poison else truth_in word)
+
+abbrev pub ending_word : Ending → List ℕ
+ending_word Return = codes "ret"
+ending_word Unreachable = codes "unreachable"
+ending_word Branch = codes "br"
+ending_word Switch = codes "switch"
+
+-- the terminator that a word begins
+unfoldable pub ending_in : List ℕ → Option Ending
+ending_in word = find (λ ending. bytes_eq word (ending_word ending)) (Return ∷ Unreachable ∷ Branch ∷ Switch ∷ [])

@@ -1,0 +1,25 @@
+//! Instructions and terminators of LLVM IR as they are written in a text, or the first token that does not fit, with its line.
+//!
+//! Tokens are read from left to right, and each function reads one part of the grammar and goes behind it. `place` says which tokens are
+//! left out of the language where, and `part` reads what stands any number of times.
+#![tactic(auto)]
+
+mod attachment;
+mod fault;
+mod op;
+mod operand;
+mod part;
+mod place;
+mod terminators;
+mod token;
+mod word;
+
+pub use attachment::{attachments, tail};
+pub use fault::{Misfit, ParseError, TextFault};
+pub use op::insts;
+pub use operand::integer_type;
+pub use part::{Part, each};
+pub use place::{Place, copied, left_out, misplaced, refused, unexpected};
+pub use terminators::terminator;
+pub use token::{is_mark, mark};
+pub use word::{TypeWord, is, type_of};
