@@ -1,6 +1,5 @@
 //! The entries of a module from tokens.
 
-ghost use Rattle.std.specs.Prelude.{◌≡◌};
 ghost use Rattle.ir_tokens.specs.Seen.{seen};
 ghost use Rattle.ir_statements.specs.Giving.{Gives};
 ghost use Rattle.ir_parse.specs.Parsing as parsing;

@@ -1,7 +1,5 @@
 //! Functions from tokens. (LLVM Language Reference, "Functions".)
 
-ghost use Rattle.std.specs.Prelude.{◌≡◌};
-ghost use Rattle.ir_tokens.specs.Identifiers.{identifier_of};
 ghost use Rattle.ir_tokens.specs.Seen.{seen};
 ghost use Rattle.ir_statements.specs.Giving.{Gives};
 ghost use Rattle.ir_parse.specs.Parsing as parsing;

@@ -1,7 +1,10 @@
 //! Modules at tables that were worked out by hand.
 
 use super::*;
-use std::alloc::Global;
+use ir_raw::{RawEntry, RawFunction, RawIdentifier, RawInst, RawOp, RawTerminator, RawValue};
+use ir_tokens::Identifier;
+use lists::{List, Text};
+use ops::Opcode;
 use std::test::Fail;
 
 /// How a misfit is called, and what was left out.
@@ -267,6 +270,97 @@ fn texts_have_their_entries_or_their_fault(rt: HostRuntime) -> Result<(), Fail> 
             }
             Err(ParseError::NoMemory) => assert!(rt; false),
         }
+    }
+    Ok(())
+}
+
+/// Whether the name is this one, on this line.
+fn is_named(written: &RawIdentifier, line: usize, wanted: &str) -> bool {
+    match &written.identifier {
+        Identifier::Named(name) => { written.line == line && name.as_slice() == wanted.as_bytes() }
+        Identifier::Numbered(_) => false,
+    }
+}
+
+/// Whether the texts are these.
+fn are(texts: &List<Text>, wanted: &[&str]) -> bool {
+    texts.len() == wanted.len()
+        && texts
+            .as_slice()
+            .iter()
+            .zip(wanted.iter())
+            .all(|(text, bytes)| text.as_slice() == bytes.as_bytes())
+}
+
+/// Whether the function is that of `WRITTEN`, but for its blocks.
+fn has_header(function: &RawFunction) -> bool {
+    match function.parameters.as_slice() {
+        [first, second] => {
+            function.line == 4
+                && function.name.as_slice() == b"Ab".as_slice()
+                && function.width.bits() == 8
+                && are(
+                    &function.before,
+                    &["dso_local", "range(i8 0, 9)", "\"k\"=\"v\""],
+                )
+                && are(&function.after, &["#0"])
+                && first.width.bits() == 16
+                && are(&first.items, &["noundef"])
+                && matches!(&first.name, Some(name) if is_named(name, 4, "x"))
+                && second.name.is_none()
+        }
+        _ => false,
+    }
+}
+
+/// Whether the instruction is that of `WRITTEN`.
+fn is_subtraction(inst: &RawInst) -> bool {
+    match &inst.op {
+        RawOp::Binary(Opcode::Sub, flags, width, left, right) => {
+            is_named(&inst.result, 5, "y")
+                && flags.nsw
+                && !flags.nuw
+                && width.bits() == 16
+                && matches!(&left.value, RawValue::Register(Identifier::Named(_)))
+                && matches!(&right.value, RawValue::Number(word) if word.number() == 65535)
+                && right.line == 5
+        }
+        _ => false,
+    }
+}
+
+/// Whether the blocks are those of `WRITTEN`.
+fn has_blocks(function: &RawFunction) -> bool {
+    match function.blocks.as_slice() {
+        [first, second] => {
+            first.label.is_none()
+                && matches!(first.insts.as_slice(), [inst] if is_subtraction(inst))
+                && first.end_line == 6
+                && matches!(&first.end, RawTerminator::Branch(_, condition, _, other)
+                    if matches!(&condition.value, RawValue::True) && is_named(other, 6, "z"))
+                && matches!(&second.label, Some(label)
+                    if label.line == 7 && matches!(&label.identifier, Identifier::Numbered(7)))
+                && matches!(&second.end, RawTerminator::Return(width, _) if width.bits() == 8)
+        }
+        _ => false,
+    }
+}
+
+const WRITTEN: &str =
+    "target x ; y\n\ndefine dso_local range(i8 0, 9) \"k\"=\"v\" i8\n@\"\\41b\"(i16 noundef %x, i1) #0 {\n%y = sub nsw i16 %x, -1\nbr i1 true, label %7, label %z\n7: ret i8 5 }";
+
+#[test]
+fn parts_are_read_as_they_are_written(rt: HostRuntime) -> Result<(), Fail> {
+    match parse(rt.alloc(), WRITTEN.as_bytes()) {
+        Ok(raw) => match raw.entries.as_slice() {
+            [RawEntry::Kept(line), RawEntry::Function(function)] => {
+                assert_eq!(rt; line.as_slice(), b"target x ; y".as_slice());
+                assert!(rt; has_header(function));
+                assert!(rt; has_blocks(function));
+            }
+            _ => assert!(rt; false),
+        },
+        Err(_) => assert!(rt; false),
     }
     Ok(())
 }

@@ -7,7 +7,7 @@ use Rattle.ir_statements.specs.declared.place.Place.TheVariants as places
 use Rattle.ir_statements.specs.Marks as marks
 use Rattle.ir_tokens.specs.Tokens.{Token, End, Other, Bad, Kept, KeptGroup, Label, Word, Number, Register, Function, Group, Metadata, Quoted, Mark}
 
--- a token is a word, and it is a mark of these
+-- it is a word
 abbrev pub is_word : Token → Bool
 is_word (Word word) = true
 is_word token = false

@@ -1,6 +1,5 @@
 //! Types and values from tokens.
 
-ghost use Rattle.std.specs.Prelude.{◌≡◌};
 ghost use Rattle.ir_tokens.specs.Numbers.{constant_of};
 ghost use Rattle.ir_tokens.specs.Seen.{seen};
 ghost use Rattle.ir_statements.specs.Giving.{Gives};

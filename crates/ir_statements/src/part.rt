@@ -19,8 +19,10 @@ pub trait Part {
     /// What it is read as.
     type Value: Drop;
 
+    /// Whether another such part begins with the first token.
     ghost begins: { Seq PlacedToken → Bool };
 
+    /// What is read from the first token on.
     ghost reader: { Reader Self.Value };
 
     /// Whether another such part is next.

@@ -1,7 +1,5 @@
 //! Terminators from tokens. (LLVM Language Reference, "Terminator Instructions".)
 
-ghost use Rattle.std.specs.Prelude.{◌≡◌};
-ghost use Rattle.std.specs.Str.{bytes_eq};
 ghost use Rattle.ir_tokens.specs.Seen.{seen};
 ghost use Rattle.ir_statements.specs.Giving.{Gives};
 ghost use Rattle.ir_statements.specs.Parsing as parsing;

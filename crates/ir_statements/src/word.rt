@@ -1,7 +1,7 @@
 //! Words of a module's text. (LLVM Language Reference, "Type System", "Instruction Reference".)
 
 ghost use Rattle.std.specs.Prelude.{◌≡◌, ◌^◌, ◌-◌, min};
-ghost use Rattle.std.specs.List.{list_all, list_any};
+ghost use Rattle.std.specs.List.{list_all};
 ghost use Rattle.std.specs.Str.{bytes_eq};
 ghost use Rattle.scan.specs.Bytes as bytes;
 ghost use Rattle.ir_tokens.specs.Numbers.{decimal_value};

@@ -262,7 +262,7 @@ fn last_line(text: &[u8]) -> usize {
     let mut line = 1;
     for byte in &text[..text.len().saturating_sub(1)] {
         if *byte == b'\n' {
-            line += 1;
+            line = usize::saturating_add(line, 1);
         }
     }
     line
