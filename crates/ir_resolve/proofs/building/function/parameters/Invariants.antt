@@ -1,0 +1,7 @@
+use Rattle.std.proofs.Common.{take}
+use Rattle.std.specs.List.{AllZip}
+use Rattle.ir_resolve.specs.Means.{ParameterMeans}
+use Rattle.ir_resolve.proofs.building.function.parameters.Given as goal
+
+abbrev pub invariant-loop-written : goal.invariant-loop-written
+invariant-loop-written l = AllZip ParameterMeans (take l.written-index l.written) l.parameters

@@ -1,0 +1,8 @@
+use Rattle.std.proofs.Common.{take}
+use Rattle.ir_resolve.specs.Firsts.{IsFirst, SomeAt}
+use Rattle.ir_resolve.specs.Reading.{cases_of}
+use Rattle.ir_resolve.specs.Kinds.{Repeats, HasNumber, IsCaseOn}
+use Rattle.ir_resolve.proofs.cases.repeated_case.Given as goal
+
+abbrev pub invariant-loop-block : goal.invariant-loop-block
+invariant-loop-block l = IsFirst (SomeAt (take l.block-index l.blocks) (λ block. Repeats HasNumber IsCaseOn (cases_of block.end))) l.found

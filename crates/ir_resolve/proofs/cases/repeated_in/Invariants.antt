@@ -1,0 +1,13 @@
+-- the numbers so far, and the first line of a case that has an earlier one's
+use Rattle.std.proofs.Common.{◌↔◌, ℕ, take, nat_eq, IsTrue}
+use Rattle.indexmap.specs.IndexSet.{contains}
+use Rattle.ir_resolve.specs.Firsts.{IsFirst}
+use Rattle.ir_resolve.specs.Kinds.{SomeHas, RepeatsHere, HasNumber, IsCaseOn}
+use Rattle.ir_resolve.proofs.Firsts.{Before}
+use Rattle.ir_resolve.proofs.cases.repeated_in.Given as goal
+
+abbrev pub invariant-loop-case : goal.invariant-loop-case
+invariant-loop-case l = record {
+  numbers : (k : ℕ) → IsTrue (contains nat_eq l.numbers k) ↔ SomeHas HasNumber (take l.case-index l.cases) k;
+  first : IsFirst (Before (RepeatsHere HasNumber IsCaseOn l.cases) l.case-index) l.found;
+}

@@ -1,0 +1,7 @@
+use Rattle.std.proofs.Common.{◌≡◌, ◌++◌, map, take}
+use Rattle.ir_resolve.specs.Views.{seen_definition}
+use Rattle.ir_resolve.specs.Definitions.{results_defined}
+use Rattle.ir_resolve.proofs.names.definition.add_results.Given as goal
+
+abbrev pub invariant-loop-index : goal.invariant-loop-index
+invariant-loop-index l = map seen_definition l.definitions.items ≡ map seen_definition l.initial.definitions.items ++ results_defined l.block (take l.index l.insts)

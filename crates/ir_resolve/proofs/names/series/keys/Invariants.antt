@@ -1,0 +1,13 @@
+-- the keys so far, and the next number
+use Rattle.std.proofs.Common.{◌≡◌, map, take}
+use Rattle.ir_core.specs.Names.{identifiers_from}
+use Rattle.ir_resolve.specs.Written.{given}
+use Rattle.ir_resolve.specs.Views.{seen, seen_written}
+use Rattle.ir_resolve.proofs.Series.{number_after}
+use Rattle.ir_resolve.proofs.names.series.keys.Given as goal
+
+abbrev pub invariant-loop-definition : goal.invariant-loop-definition
+invariant-loop-definition l = record {
+  keys : map seen l.keys.items ≡ identifiers_from 0 (map given (map seen_written (take l.definition-index l.definitions)));
+  next : l.next_number ≡ number_after 0 (map given (map seen_written (take l.definition-index l.definitions)));
+}

@@ -1,0 +1,16 @@
+-- what is known so far, the first line of a name that is there again, and the table where there is none
+use Rattle.std.proofs.Common.{◌≡◌, ◌↔◌, map, take, None, IsTrue}
+use Rattle.std.specs.List.{zip}
+use Rattle.ir_core.specs.Names.{Identifier}
+use Rattle.ir_resolve.specs.Firsts.{IsFirst}
+use Rattle.ir_resolve.specs.Kinds.{SomeHas, RepeatsHere, HasName, IsWrittenOn}
+use Rattle.ir_resolve.specs.Views.{seen, seen_written, known_by, knows, Is}
+use Rattle.ir_resolve.proofs.Firsts.{Before}
+use Rattle.ir_resolve.proofs.names.table.names.Given as goal
+
+abbrev pub invariant-loop-place : goal.invariant-loop-place
+invariant-loop-place l = record {
+  known : (x : Identifier) → IsTrue (knows (known_by l.names) x) ↔ SomeHas Is (take l.place (map seen l.keys)) x;
+  first : IsFirst (Before (RepeatsHere HasName IsWrittenOn (map seen_written l.definitions)) l.place) l.found;
+  table : l.found ≡ None → known_by l.names ≡ zip (take l.place (map seen l.keys)) (take l.place (map (λ d. d.entity) l.definitions));
+}

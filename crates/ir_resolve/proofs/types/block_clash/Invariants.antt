@@ -1,0 +1,7 @@
+use Rattle.std.proofs.Common.{take}
+use Rattle.ir_resolve.specs.Firsts.{IsFirst, SomeAt}
+use Rattle.ir_resolve.specs.Kinds.{BlockClashesAt}
+use Rattle.ir_resolve.proofs.types.block_clash.Given as goal
+
+abbrev pub invariant-loop-block : goal.invariant-loop-block
+invariant-loop-block l = IsFirst (SomeAt (take l.block-index l.blocks) (BlockClashesAt l.returned)) l.found

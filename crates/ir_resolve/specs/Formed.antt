@@ -1,0 +1,40 @@
+-- What a function that is read meets, as far as names, types and cases go (`IsFormed` in `ir_core`), where it is written as the grammar
+-- has it.
+use Rattle.std.specs.Prelude.{ℕ, ◌<◌, length, Contains}
+use Rattle.ops.specs.Flags.{FlagsFit}
+use Rattle.ir_core.specs.declared.function.Function.{Function}
+use Rattle.ir_core.specs.declared.function.Block.{Block}
+use Rattle.ir_core.specs.declared.instruction.Inst.{Inst}
+use Rattle.ir_core.specs.Blocks.{IsBlock, Names}
+use Rattle.ir_core.specs.Checks.{NamesDiffer, IsKnown, HasWidth, IsInst, IsTyped, CasesFit}
+use Rattle.ir_core.specs.Names.{names_of}
+use Rattle.ir_core.specs.Reads.{Read, IsRead}
+use Rattle.ir_raw.specs.declared.raw.RawFunction.{RawFunction}
+use Rattle.ir_raw.specs.declared.raw.RawBlock.{RawBlock}
+use Rattle.ir_raw.specs.declared.raw.RawInst.{RawInst}
+use Rattle.ir_raw.specs.declared.raw.RawOp.{RawOp}
+use Rattle.ir_raw.specs.declared.raw.RawOp.TheVariants.{Binary, Compare, Select, Convert, Freeze, Phi}
+
+-- the flags of an operation are its own
+abbrev pub HasOwnFlags : RawOp → Type 0
+HasOwnFlags (Binary op flags width a b) = FlagsFit op flags
+HasOwnFlags (Compare pred width a b) = Unit {0}
+HasOwnFlags (Select c a b) = Unit {0}
+HasOwnFlags (Convert cast from a to) = Unit {0}
+HasOwnFlags (Freeze width a) = Unit {0}
+HasOwnFlags (Phi width incoming) = Unit {0}
+
+-- the function has a block, and each operation has flags of its own alone
+pub record IsWellWritten (raw : RawFunction) : Type 0 where
+  pub some_block : 0 < length raw.blocks
+  pub flags : (block : RawBlock) (inst : RawInst) → Contains raw.blocks block → Contains block.insts inst → HasOwnFlags inst.op
+
+-- the checks of a function by names, widths and cases
+pub record IsResolved (f : Function) : Type 0 where
+  pub some_block : 0 < length f.blocks
+  pub names : NamesDiffer (names_of f)
+  pub registers : (b k i : ℕ) (r : Read) → IsRead f b k i r → IsKnown f r.operand
+  pub blocks : (b c : ℕ) → Names f b c → c < length f.blocks
+  pub operands : (b k i : ℕ) (r : Read) → IsRead f b k i r → HasWidth f r.width r.operand
+  pub insts : (b k : ℕ) (inst : Inst) → IsInst f b k inst → IsTyped inst.width inst.op
+  pub cases : (b : ℕ) (block : Block) → IsBlock f b block → CasesFit block.end

@@ -1,0 +1,17 @@
+-- What holds of every function as written.
+use Rattle.std.specs.Prelude.{◌≡◌, List}
+use Rattle.ir_core.specs.declared.function.Function.{Function}
+use Rattle.ir_raw.specs.declared.raw.RawFunction.{RawFunction}
+use Rattle.ir_resolve.specs.declared.fault.Fault.{Fault}
+use Rattle.ir_resolve.specs.Means.{Means}
+use Rattle.ir_resolve.specs.Faults.{HasNoFault, IsFirstFault}
+
+-- Where these functions stand before it, a function as written has one first fault at most, and none where it has no fault; then it
+-- means one function at most.
+pub record FunctionsHaveOneMeaningOrFault : Type 0 where
+  pub one_meaning : (earlier : List RawFunction) (raw : RawFunction) (f g : Function)
+      → HasNoFault earlier raw → Means raw f → Means raw g → f ≡ g
+  pub one_fault : (earlier : List RawFunction) (raw : RawFunction) (a b : Fault)
+      → IsFirstFault earlier raw a → IsFirstFault earlier raw b → a ≡ b
+  pub not_both : (earlier : List RawFunction) (raw : RawFunction) (fault : Fault)
+      → HasNoFault earlier raw → ¬ IsFirstFault earlier raw fault

@@ -1,0 +1,13 @@
+pub mod Firsts
+pub mod Written
+pub mod Reading
+pub mod Kinds
+pub mod Means
+pub mod Faults
+pub mod Views
+pub mod Definitions
+pub mod Uses
+pub mod Known
+pub mod Tabulating
+pub mod Formed
+pub mod Laws

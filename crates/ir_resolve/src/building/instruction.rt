@@ -1,0 +1,92 @@
+//! Instructions.
+
+ghost use Rattle.std.specs.Prelude.{map, IfOk};
+ghost use Rattle.std.specs.List.{AllZip, AllByRecursion};
+ghost use Rattle.ir_resolve.specs.Reading.{read_by, named_by};
+ghost use Rattle.ir_resolve.specs.Kinds.{IsUnknownValue};
+ghost use Rattle.ir_resolve.specs.Means.{IncomingMeans, OpMeans, InstMeans};
+ghost use Rattle.ir_resolve.specs.Views.{known_by, CallsIn};
+ghost use Rattle.ir_resolve.specs.Known.{ReadsAreKnown, TargetsAreKnown, IsReadyInst};
+
+use crate::building::operand::{operand, target};
+use crate::building::text::name;
+use crate::names::{Names, result_width};
+use ir_core::{Inst, Op, Operand};
+use ir_raw::{RawIncoming, RawInst, RawOp};
+use lists::List;
+use std::alloc::{AllocError, Global};
+
+/// The entries of a `phi`.
+fn entries(
+    alloc: Global,
+    names: &Names<'_>,
+    incoming: &[RawIncoming],
+) -> Result<List<(Operand, u32)>, AllocError>
+    requires values { AllByRecursion
+        (λ i. ¬ IsUnknownValue (CallsIn (known_by names.now)) i.value.value) incoming.now }
+    requires blocks { TargetsAreKnown (known_by names.now) (map (λ i. i.block) incoming.now) }
+    ensures { IfOk result (AllZip (IncomingMeans (CallsIn (known_by names.now))) incoming.now) }
+{
+    let mut entries = List::new(alloc);
+    for written in incoming {
+        entries.push((
+            operand(names, &written.value.value),
+            target(names, &written.block.identifier),
+        ))?;
+    }
+    Ok(entries)
+}
+
+/// What an instruction computes.
+fn op(alloc: Global, names: &Names<'_>, written: &RawOp) -> Result<Op, AllocError>
+    requires reads { ReadsAreKnown (known_by names.now) (read_by written.now) }
+    requires targets { TargetsAreKnown (known_by names.now) (named_by written.now) }
+    ensures { IfOk result (OpMeans (CallsIn (known_by names.now)) written.now) }
+{
+    match written {
+        RawOp::Binary(opcode, flags, _, left, right) => Ok(Op::Binary(
+            *opcode,
+            *flags,
+            operand(names, &left.value),
+            operand(names, &right.value),
+        )),
+        RawOp::Compare(pred, width, left, right) => Ok(Op::Compare(
+            *pred,
+            *width,
+            operand(names, &left.value),
+            operand(names, &right.value),
+        )),
+        RawOp::Select(condition, first, second) => Ok(Op::Select(
+            operand(names, &condition.operand.value),
+            operand(names, &first.operand.value),
+            operand(names, &second.operand.value),
+        )),
+        RawOp::Convert(cast, from, converted, _) => Ok(Op::Convert(
+            *cast,
+            *from,
+            operand(names, &converted.value),
+        )),
+        RawOp::Freeze(_, frozen) => Ok(Op::Freeze(operand(names, &frozen.value))),
+        RawOp::Phi(_, incoming) => Ok(Op::Phi(entries(alloc, names, incoming.as_slice())?)),
+    }
+}
+
+/// The instructions of a block.
+pub(crate) fn insts(
+    alloc: Global,
+    names: &Names<'_>,
+    written: &[RawInst],
+) -> Result<List<Inst>, AllocError>
+    requires { AllByRecursion (IsReadyInst (known_by names.now)) written.now }
+    ensures { IfOk result (AllZip (InstMeans (CallsIn (known_by names.now))) written.now) }
+{
+    let mut insts = List::new(alloc);
+    for written in written {
+        insts.push(Inst {
+            name: name(alloc, &written.result.identifier)?,
+            width: result_width(&written.op),
+            op: op(alloc, names, &written.op)?,
+        })?;
+    }
+    Ok(insts)
+}

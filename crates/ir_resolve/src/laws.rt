@@ -1,0 +1,8 @@
+//! The laws of functions as written, each the contract of a function that does nothing.
+
+ghost use Rattle.ir_resolve.specs.Laws.{FunctionsHaveOneMeaningOrFault};
+
+/// A function as written has a first fault, or means one function.
+pub fn every_function_has_one_meaning_or_one_fault()
+    ensures { FunctionsHaveOneMeaningOrFault }
+{}

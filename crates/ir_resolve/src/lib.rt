@@ -1,0 +1,25 @@
+//! Functions whose registers and blocks are known by place, from functions as written, or the first fault of one.
+//!
+//! The definitions stand in `specs/`: `Written` says what names and numbers call, `Reading` what is read and which blocks are
+//! named, `Means` which function is meant, `Kinds` where a function as written has a fault of which kind, and `Faults` which of
+//! these is its first.
+#![tactic(auto)]
+
+mod building;
+mod cases;
+mod fault;
+mod laws;
+mod least;
+mod literal;
+mod names;
+mod resolution;
+mod types;
+mod unknown;
+mod uses;
+
+pub use fault::{Fault, FaultKind, ResolveError};
+pub use laws::every_function_has_one_meaning_or_one_fault;
+pub use resolution::resolve;
+
+#[cfg(test)]
+mod tests;

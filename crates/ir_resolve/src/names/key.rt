@@ -1,0 +1,26 @@
+//! What parameters, blocks and results are called.
+
+ghost use Rattle.std.specs.Prelude.{◌≡◌};
+ghost use Rattle.ir_resolve.specs.Written.{identifier as named_so};
+ghost use Rattle.ir_resolve.specs.Views.{seen};
+
+use ir_tokens::Identifier;
+
+/// How a parameter, a block or a result is called: by its name, or by its number in the series of those without a name.
+#[derive(Clone, Copy, Debug, PartialEq, Eq, Hash)]
+pub(crate) enum Key<'a> {
+    Named(&'a [u8]),
+    Numbered(u64),
+}
+
+impl<'a> Key<'a> {
+    /// The key of a name or a number.
+    pub(crate) fn of(identifier: &'a Identifier) -> Self
+        ensures { seen result ≡ named_so identifier.now }
+    {
+        match identifier {
+            Identifier::Named(name) => Key::Named(name.as_slice()),
+            Identifier::Numbered(number) => Key::Numbered(*number),
+        }
+    }
+}

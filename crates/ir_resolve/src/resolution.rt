@@ -1,0 +1,108 @@
+//! Functions by places, from functions as written.
+
+ghost use Rattle.std.specs.Prelude.{◌≡◌, ℕ, None, List as Seq, IfOk, OnOk, IfErr};
+ghost use Rattle.ir_raw.specs.declared.raw.RawFunction.{RawFunction as written_function};
+ghost use Rattle.ir_resolve.specs.Firsts.{IsFirst};
+ghost use Rattle.ir_resolve.specs.Written.{written_names};
+ghost use Rattle.ir_resolve.specs.Means.{Means};
+ghost use Rattle.ir_resolve.specs.Kinds.{Repeats, HasName, IsWrittenOn, NumberingAt, DuplicateAt, UnknownAt, TypeClashAt};
+ghost use Rattle.ir_resolve.specs.Views.{known_by};
+ghost use Rattle.ir_resolve.specs.Tabulating.{Tabulates, IsFaultOfUses};
+ghost use Rattle.ir_resolve.specs.Formed.{IsWellWritten, IsResolved};
+ghost use Rattle.ir_resolve.specs.Faults.{HasNoFault, IsFirstFault, Marks, IfRefused};
+
+use crate::building::build;
+use crate::cases::repeated_case;
+use crate::fault::{FaultKind, ResolveError, refused};
+use crate::least::lesser;
+use crate::names::{Names, definitions, keys, misnumbered, names};
+use crate::types::{block_clash, read_clash};
+use crate::unknown::unknown;
+use crate::uses::Uses;
+use ir_core::Function;
+use ir_raw::RawFunction;
+use std::alloc::{AllocError, Global};
+
+/// The first line of a duplicate: a name of a function, of a register or a block, or a number of a case that is there again. Of
+/// registers and blocks the first line is known.
+fn duplicate(
+    alloc: Global,
+    raw: &RawFunction,
+    is_repeated: bool,
+    repeated_name: Option<usize>,
+) -> Result<Option<usize>, AllocError>
+    requires { IsFirst (Repeats HasName IsWrittenOn (written_names raw.now)) repeated_name }
+    ensures first { IfOk result (λ found. (earlier : Seq written_function) →
+        Marks is_repeated earlier raw.now → IsFirst (DuplicateAt earlier raw.now) found) }
+    ensures none { IfOk result (λ found. found ≡ None → repeated_name ≡ None) }
+{
+    let repeated_function = is_repeated.then_some(raw.line);
+    let repeated_case = repeated_case(alloc, raw.blocks.as_slice())?;
+    Ok(lesser(repeated_function, lesser(repeated_name, repeated_case)))
+}
+
+/// What each name and number calls, where numbers are those of the series and nothing is given twice.
+fn named(alloc: Global, raw: &RawFunction, is_repeated: bool) -> Result<Names<'_>, ResolveError>
+    ensures table { IfOk result (λ names. Tabulates raw.now (known_by names)) }
+    ensures numbered { OnOk result ((line : ℕ) → ¬ NumberingAt raw.now line) }
+    ensures once { OnOk result ((earlier : Seq written_function) →
+        Marks is_repeated earlier raw.now → (line : ℕ) → ¬ DuplicateAt earlier raw.now line) }
+    ensures refused { IfErr result (λ e. IfRefused e (λ fault. (earlier : Seq written_function) →
+        Marks is_repeated earlier raw.now → IsFirstFault earlier raw.now fault)) }
+{
+    let definitions = definitions(alloc, raw)?;
+    let keys = keys(alloc, definitions.as_slice())?;
+    if let Some(line) = misnumbered(definitions.as_slice(), keys.as_slice()) {
+        return Err(refused(line, FaultKind::Numbering));
+    }
+    let (names, repeated_name) = names(alloc, definitions.as_slice(), keys.as_slice())?;
+    match duplicate(alloc, raw, is_repeated, repeated_name)? {
+        Some(line) => Err(refused(line, FaultKind::Duplicate)),
+        None => Ok(names),
+    }
+}
+
+/// Whether what is read and named is there, and has the types that are written.
+fn check_uses(alloc: Global, names: &Names<'_>, raw: &RawFunction) -> Result<(), ResolveError>
+    requires { Tabulates raw.now (known_by names.now) }
+    ensures known { OnOk result ((line : ℕ) → ¬ UnknownAt raw.now line) }
+    ensures typed { OnOk result ((line : ℕ) → ¬ TypeClashAt raw.now line) }
+    ensures refused { IfErr result (λ e. IfRefused e (IsFaultOfUses raw.now)) }
+{
+    let uses = Uses::of(alloc, raw)?;
+    if let Some(line) = unknown(names, &uses) {
+        return Err(refused(line, FaultKind::Unknown));
+    }
+    let clash = lesser(
+        read_clash(names, uses.reads.as_slice()),
+        block_clash(raw.width, raw.blocks.as_slice()),
+    );
+    match clash {
+        Some(line) => Err(refused(line, FaultKind::TypeClash)),
+        None => Ok(()),
+    }
+}
+
+/// The function that is meant, whose registers and blocks are known by place, or the first fault: of the first kind in the order
+/// of [`FaultKind`] that the function has, at the least line (LLVM Language Reference, "Identifiers", and the types that each
+/// instruction asks for). The caller says whether an earlier function of the module has the function's name.
+///
+/// It takes steps and memory in proportion to what the function has, but for look-ups in hash tables.
+pub fn resolve(
+    alloc: Global,
+    raw: &RawFunction,
+    is_repeated: bool,
+) -> Result<Function, ResolveError>
+    ensures means { IfOk result (Means raw.now) }
+    ensures faultless { OnOk result ((earlier : Seq written_function) →
+        Marks is_repeated earlier raw.now → HasNoFault earlier raw.now) }
+    ensures refused { IfErr result (λ e. IfRefused e (λ fault. (earlier : Seq written_function) →
+        Marks is_repeated earlier raw.now → IsFirstFault earlier raw.now fault)) }
+
+    // What is read meets these checks, where it is written as the grammar has it.
+    ensures formed { IfOk result (λ f. IsWellWritten raw.now → IsResolved f) }
+{
+    let names = named(alloc, raw, is_repeated)?;
+    check_uses(alloc, &names, raw)?;
+    Ok(build(alloc, &names, raw)?)
+}

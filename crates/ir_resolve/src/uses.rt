@@ -1,0 +1,134 @@
+//! What a function as written reads, and which blocks it names.
+
+ghost use Rattle.std.specs.Prelude.{◌≡◌, [], ◌∷◌, map, OnOk, IfOk};
+ghost use Rattle.ir_resolve.specs.Reading.{typed, read_by, named_by, read_at_end, named_at_end, read_in, named_in, reads_of, targets_of};
+ghost use Rattle.ir_resolve.specs.Uses.{seen_reads, seen_targets, Adds};
+
+use ir_raw::{
+    RawBlock, RawCase, RawFunction, RawIdentifier, RawIncoming, RawOp, RawOperand, RawTerminator,
+};
+use ops::Width;
+use std::alloc::{AllocError, Global};
+
+/// An operand, and the width that is written for it, in bits.
+#[derive(Clone, Copy, Debug)]
+pub(crate) struct Read<'a> {
+    pub(crate) width: u32,
+    pub(crate) operand: &'a RawOperand,
+}
+
+/// What is read, and the names of blocks, both in text order.
+#[derive(Debug, Drop)]
+pub(crate) struct Uses<'a> {
+    pub(crate) reads: Vec<Read<'a>>,
+    pub(crate) targets: Vec<&'a RawIdentifier>,
+}
+
+impl<'a> Uses<'a> {
+    /// Adds an operand.
+    fn add_read(&mut self, width: Width, operand: &'a RawOperand) -> Result<(), AllocError>
+        ensures { OnOk result (Adds self.old self.new (typed width operand.now ∷ []) []) }
+    {
+        self.reads.push(Read {
+            width: width.bits(),
+            operand,
+        })?;
+        Ok(())
+    }
+
+    /// Adds the name of a block.
+    fn add_target(&mut self, target: &'a RawIdentifier) -> Result<(), AllocError>
+        ensures { OnOk result (Adds self.old self.new [] (target.now ∷ [])) }
+    {
+        self.targets.push(target)?;
+        Ok(())
+    }
+
+    /// Adds what stands in a `phi`.
+    fn add_incoming(&mut self, width: Width, incoming: &'a [RawIncoming]) -> Result<(), AllocError>
+        ensures { OnOk result (Adds self.old self.new
+            (map (λ i. typed width i.value) incoming.now) (map (λ i. i.block) incoming.now)) }
+    {
+        for entry in incoming {
+            self.add_read(width, &entry.value)?;
+            self.add_target(&entry.block)?;
+        }
+        Ok(())
+    }
+
+    /// Adds what an instruction reads and names.
+    fn add_op(&mut self, op: &'a RawOp) -> Result<(), AllocError>
+        ensures { OnOk result (Adds self.old self.new (read_by op.now) (named_by op.now)) }
+    {
+        match op {
+            RawOp::Binary(_, _, width, left, right) | RawOp::Compare(_, width, left, right) => {
+                self.add_read(*width, left)?;
+                self.add_read(*width, right)
+            }
+            RawOp::Select(condition, first, second) => {
+                self.add_read(condition.width, &condition.operand)?;
+                self.add_read(first.width, &first.operand)?;
+                self.add_read(second.width, &second.operand)
+            }
+            RawOp::Convert(_, from, operand, _) => self.add_read(*from, operand),
+            RawOp::Freeze(width, operand) => self.add_read(*width, operand),
+            RawOp::Phi(width, incoming) => self.add_incoming(*width, incoming.as_slice()),
+        }
+    }
+
+    /// Adds the blocks of the cases of a switch.
+    fn add_cases(&mut self, cases: &'a [RawCase]) -> Result<(), AllocError>
+        ensures { OnOk result (Adds self.old self.new [] (map (λ c. c.target) cases.now)) }
+    {
+        for case in cases {
+            self.add_target(&case.target)?;
+        }
+        Ok(())
+    }
+
+    /// Adds what a terminator reads and names.
+    fn add_end(&mut self, end: &'a RawTerminator) -> Result<(), AllocError>
+        ensures { OnOk result (Adds self.old self.new (read_at_end end.now) (named_at_end end.now)) }
+    {
+        match end {
+            RawTerminator::Return(width, operand) => self.add_read(*width, operand),
+            RawTerminator::Unreachable => Ok(()),
+            RawTerminator::Jump(target) => self.add_target(target),
+            RawTerminator::Branch(width, condition, target, other) => {
+                self.add_read(*width, condition)?;
+                self.add_target(target)?;
+                self.add_target(other)
+            }
+            RawTerminator::Switch(width, operand, other, cases) => {
+                self.add_read(*width, operand)?;
+                self.add_target(other)?;
+                self.add_cases(cases.as_slice())
+            }
+        }
+    }
+
+    /// Adds what a block reads and names.
+    fn add_block(&mut self, block: &'a RawBlock) -> Result<(), AllocError>
+        ensures { OnOk result (Adds self.old self.new (read_in block.now) (named_in block.now)) }
+    {
+        for inst in block.insts.as_slice() {
+            self.add_op(&inst.op)?;
+        }
+        self.add_end(&block.end)
+    }
+
+    /// What a function reads and names.
+    pub(crate) fn of(alloc: Global, raw: &'a RawFunction) -> Result<Self, AllocError>
+        ensures reads { IfOk result (λ uses. seen_reads uses ≡ reads_of raw.now) }
+        ensures targets { IfOk result (λ uses. seen_targets uses ≡ targets_of raw.now) }
+    {
+        let mut uses = Uses {
+            reads: Vec::new(alloc),
+            targets: Vec::new(alloc),
+        };
+        for block in raw.blocks.as_slice() {
+            uses.add_block(block)?;
+        }
+        Ok(uses)
+    }
+}

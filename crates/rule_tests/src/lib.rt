@@ -1,0 +1,5 @@
+//! Tests of rules that are read and then decided.
+#![tactic(auto)]
+
+#[cfg(test)]
+mod tests;
