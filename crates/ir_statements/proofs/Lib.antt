@@ -1,4 +1,5 @@
 pub mod Loops
+pub mod OwnFlags
 pub mod OpReadings
 pub mod OpSpellings
 pub mod Readings

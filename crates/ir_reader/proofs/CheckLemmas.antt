@@ -1,0 +1,135 @@
+-- What is read meets the checks of functions and of modules.
+use Rattle.std.proofs.Common.{◌≡◌, inl, inr, ℕ, zero, suc, ◌<◌, List, [], ◌∷◌, length, take, Some, refl, sym, ap, subst, ◌∙◌, arith}
+use Rattle.std.specs.Prelude.{slice_get}
+use Rattle.std.proofs.lemmas.Option.{slice_get_within}
+use Rattle.ir_core.specs.declared.module.Module.{Module}
+use Rattle.ir_core.specs.declared.module.Entry.TheVariants as entries
+use Rattle.ir_core.specs.declared.function.Function.{Function}
+use Rattle.ir_core.specs.declared.instruction.Op.{Op}
+use Rattle.ir_core.specs.declared.instruction.Op.TheVariants as core
+use Rattle.ir_core.specs.declared.operand.Operand.{Operand}
+use Rattle.ir_core.specs.Checks.{IsPhi, EntriesFit, MeetsChecks, ModuleMeetsChecks}
+use Rattle.ir_tokens.specs.Tokens.{Placed}
+use Rattle.ir_raw.specs.declared.raw.RawModule.{RawModule}
+use Rattle.ir_raw.specs.declared.raw.RawEntry.{RawEntry}
+use Rattle.ir_raw.specs.declared.raw.RawEntry.TheVariants as raw_entries
+use Rattle.ir_raw.specs.declared.raw.RawFunction.{RawFunction}
+use Rattle.ir_raw.specs.declared.raw.RawBlock.{RawBlock}
+use Rattle.ir_raw.specs.declared.raw.RawOp.{RawOp}
+use Rattle.ir_raw.specs.declared.raw.RawOp.TheVariants as ops
+use Rattle.ir_statements.specs.Grammar.{SpellsOp, SpellsInst}
+use Rattle.ir_parse.specs.Grammar.{SpellsBlock, SpellsBlocks, SpellsLabelledBlock, SpellsEntry}
+use Rattle.ir_parse.specs.Text.{IsRaw}
+use Rattle.ir_statements.proofs.OwnFlags.{own_flags as flags_spelled}
+use Rattle.ir_resolve.specs.declared.fault.FaultKind.TheVariants.{Duplicate, TypeClash}
+use Rattle.ir_resolve.specs.Faults.{HasNoFault}
+use Rattle.ir_resolve.specs.Means.{Means}
+use Rattle.ir_resolve.specs.Formed.{HasOwnFlags, IsWellWritten, IsResolved as IsNamed}
+use Rattle.ir_resolve.proofs.Resolved.{resolved}
+use Rattle.ir_reader.specs.Phis.{OnlyPhisBefore, OpFits}
+use Rattle.ir_reader.specs.Faults.{IsFunctionOf, functions_of, IsEntryOf, IsModuleText}
+use Rattle.ir_reader.proofs.Places.{order, there, somewhere, take_at}
+use Rattle.ir_reader.proofs.Reading.{each_spelled, some_block}
+
+-- ---- functions as the grammar has them
+
+own_flags : (op : RawOp) (tokens rest : List Placed) → SpellsOp op tokens rest → HasOwnFlags op
+own_flags (ops.Binary op flags width a b) tokens rest spelled = flags_spelled op flags _ _ spelled.2.1
+own_flags (ops.Compare pred width a b) tokens rest spelled = tt
+own_flags (ops.Select c a b) tokens rest spelled = tt
+own_flags (ops.Convert cast from a to) tokens rest spelled = tt
+own_flags (ops.Freeze width a) tokens rest spelled = tt
+own_flags (ops.Phi width incoming) tokens rest spelled = tt
+
+block_spelled : (blocks : List RawBlock) (k : ℕ) (block : RawBlock) (tokens rest : List Placed) → SpellsBlocks blocks tokens rest → slice_get blocks k ≡ Some block → (t : List Placed) × ((r : List Placed) × SpellsBlock block t r)
+block_spelled [] k block tokens rest spelled at = cc
+block_spelled (first ∷ others) zero block tokens rest spelled at = let same : first ≡ block = cc in (tokens, (spelled.0, subst (λ b. SpellsBlock b tokens spelled.0) same spelled.1))
+block_spelled (first ∷ others) (suc k) block tokens rest spelled at = let (t, (r, is)) = each_spelled SpellsLabelledBlock others k block spelled.0 rest spelled.2 at in (t, (r, is.1))
+
+well_written : (f : RawFunction) (tokens rest : List Placed) → SpellsBlocks f.blocks tokens rest → IsWellWritten f
+well_written f tokens rest spelled = record {
+  some_block = some_block f.blocks tokens rest spelled;
+  flags = λ block inst in_blocks in_insts.
+      let (k, at) = somewhere f.blocks block in_blocks in
+      let (j, at') = somewhere block.insts inst in_insts in
+      let (t, (r, is)) = block_spelled f.blocks k block tokens rest spelled at in
+      let (t', (r', is')) = each_spelled SpellsInst block.insts j inst is.0 is.2.0 is.2.1 at' in
+      own_flags inst.op is'.2.0 is'.2.2.0 is'.2.2.1;
+}
+
+pub all_well_written : (text : List ℕ) (m : RawModule) → IsRaw text m → (k : ℕ) (f : RawFunction) → slice_get m.entries k ≡ Some (raw_entries.Function f) → IsWellWritten f
+all_well_written text m raw k f at =
+    let (t, (r, spelled)) = each_spelled SpellsEntry m.entries k (raw_entries.Function f) raw.tokens raw.spelled.1.0 raw.spelled.1.1 at in
+    well_written f _ _ spelled.2.2.2.2.2.2.2.2.1
+
+-- ---- functions
+
+phi_first : (f : Function) (b k : ℕ) (op : Op) → IsPhi op → OpFits f b k op → OnlyPhisBefore f b k
+phi_first f b k (core.Phi es) phi fits = fits.only_phis
+phi_first f b k op phi fits = absurd phi
+
+phi_entries : (f : Function) (b k : ℕ) (op : Op) (es : List (Operand × ℕ)) → op ≡ core.Phi es → OpFits f b k op → EntriesFit f b es
+phi_entries f b k op es is fits = let here = rw is at fits in here.entries_fit
+
+named : (earlier : List RawFunction) (raw : RawFunction) (f : Function) → HasNoFault earlier raw → Means raw f → IsWellWritten raw → IsNamed f
+named earlier raw f none means well =
+    resolved raw f means (λ line h. none Duplicate line (inr (inl h))) (λ line h. none Duplicate line (inr (inr h))) (λ line h. none TypeClash line h) well
+
+meets : (earlier : List RawFunction) (raw : RawFunction) (f : Function) → IsWellWritten raw → IsFunctionOf earlier raw f → MeetsChecks f
+meets earlier raw f well is =
+    let names = named earlier raw f is.resolved.0 is.resolved.1 well in
+    record {
+      formed = record {
+        some_block = names.some_block;
+        names = names.names;
+        registers = names.registers;
+        blocks = names.blocks;
+        operands = names.operands;
+        insts = names.insts;
+        cases = names.cases;
+        phis_first = λ b j k earlier later early late lt phi. phi_first f b k later.op phi (is.phis b k later late) j earlier lt early;
+        phis = λ b k inst es inst_is e. phi_entries f b k inst.op es e (is.phis b k inst inst_is);
+        entry = is.entry;
+      };
+      assigned = is.assigned;
+    }
+
+-- ---- modules
+
+-- an entry that is read as a function is written as one
+written_function : (earlier : List RawFunction) (raw : RawEntry) (f : Function) → IsEntryOf earlier raw (entries.Function f) → (g : RawFunction) × (raw ≡ raw_entries.Function g) × IsFunctionOf earlier g f
+written_function earlier (raw_entries.Kept text) f is = absurd is
+written_function earlier (raw_entries.Function g) f is = (g, refl, is)
+
+-- a function among entries is among their functions
+among_functions : (xs : List RawEntry) (j : ℕ) (g : RawFunction) → slice_get xs j ≡ Some (raw_entries.Function g) → (i : ℕ) × (slice_get (functions_of xs) i ≡ Some g)
+among_functions [] j g at = cc
+among_functions (raw_entries.Kept text ∷ xs) zero g at = cc
+among_functions (raw_entries.Function h ∷ xs) zero g at = let same : h ≡ g = cc in (0, ap (λ x. Some x) same)
+among_functions (raw_entries.Kept text ∷ xs) (suc j) g at = among_functions xs j g at
+among_functions (raw_entries.Function h ∷ xs) (suc j) g at = let (i, at') = among_functions xs j g at in (suc i, at')
+
+module _ (text : List ℕ) (m : Module) (is : IsModuleText text m) where
+  written_at : (k : ℕ) (f : Function) → slice_get m.entries k ≡ Some (entries.Function f) → (g : RawFunction) × (slice_get is.raw.entries k ≡ Some (raw_entries.Function g)) × IsFunctionOf (functions_of (take k is.raw.entries)) g f
+  written_at k f at =
+      let within : k < length m.entries = slice_get_within m.entries k (entries.Function f) at in
+      let (raw, here) = there is.raw.entries k (omega (arith, is.entries.count)) in
+      let (g, e, own) = written_function (functions_of (take k is.raw.entries)) raw f (is.entries.each k raw (entries.Function f) here at) in
+      (g, here ∙ ap (λ x. Some x) e, own)
+
+  other_name : (j k : ℕ) (f g : Function) → slice_get m.entries j ≡ Some (entries.Function f) → slice_get m.entries k ≡ Some (entries.Function g) → f.name ≡ g.name → ¬ (j < k)
+  other_name j k f g at at' same lt =
+      let (r, r_at, first) = written_at j f at in
+      let (s, s_at, second) = written_at k g at' in
+      let (i, among) = among_functions (take k is.raw.entries) j r (take_at k is.raw.entries j (raw_entries.Function r) lt r_at) in
+      second.resolved.0 Duplicate s.line (inl ((i, r, among, sym first.resolved.1.name ∙ same ∙ second.resolved.1.name), refl))
+
+  pub module_meets : ModuleMeetsChecks m
+  module_meets = record {
+    functions = λ k f at. let (g, here, own) = written_at k f at in meets (functions_of (take k is.raw.entries)) g f (all_well_written text is.raw is.is_raw k g here) own;
+    names = λ j k f g at at' same. elim (order j k) [
+      | inl lt ↦ absurd (other_name j k f g at at' same lt)
+      | inr (inl e) ↦ e
+      | inr (inr gt) ↦ absurd (other_name k j g f at' at (sym same) gt)
+    ];
+  }

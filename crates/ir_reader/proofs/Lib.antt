@@ -1,0 +1,11 @@
+pub mod Places
+pub mod Repeats
+pub mod Meaning
+pub mod Sets
+pub mod PhiLemmas
+pub mod EntryLemmas
+pub mod Stable
+pub mod Checking
+pub mod Reading
+pub mod LawLemmas
+pub mod CheckLemmas

@@ -1,0 +1,100 @@
+-- Entry by entry through a module.
+use Rattle.std.proofs.Common.{◌≡◌, inl, inr, ℕ, zero, suc, ◌+◌, ◌<◌, Bool, List, [], ◌∷◌, ◌++◌, length, length-append, take, Some, refl, sym, ap, subst, ◌∙◌, arith}
+use Rattle.std.specs.Prelude.{slice_get}
+use Rattle.ir_core.specs.declared.module.Entry.{Entry}
+use Rattle.ir_core.specs.declared.module.Entry.TheVariants as entries
+use Rattle.ir_core.specs.declared.function.Function.{Function}
+use Rattle.ir_tokens.specs.Tokens.{Placed}
+use Rattle.ir_raw.specs.declared.raw.RawModule.{RawModule}
+use Rattle.ir_raw.specs.declared.raw.RawEntry.{RawEntry}
+use Rattle.ir_raw.specs.declared.raw.RawEntry.TheVariants as raw_entries
+use Rattle.ir_raw.specs.declared.raw.RawFunction.{RawFunction}
+use Rattle.ir_raw.specs.declared.raw.RawBlock.{RawBlock}
+use Rattle.ir_statements.specs.declared.fault.ParseError.{ParseError}
+use Rattle.ir_statements.specs.declared.fault.ParseError.TheVariants as parse_errors
+use Rattle.ir_parse.specs.Grammar.{SpellsEntry, SpellsBlocks}
+use Rattle.ir_statements.specs.Parts.{Part, Each}
+use Rattle.ir_parse.specs.Refusing.{IfRefused as IfMisread}
+use Rattle.ir_parse.specs.Text.{IsRaw, IsTextFault}
+use Rattle.ir_reader.specs.declared.fault.IrError.{IrError}
+use Rattle.ir_reader.specs.declared.fault.IrError.TheVariants as errors
+use Rattle.ir_reader.specs.Refusing.{IfRefused, of_parse_error}
+use Rattle.ir_reader.specs.Faults.{functions_of, IsEntryOf, AreEntriesOf, IsFunctionOf, IsFaultOfEntry, IsFaultOfEntries, IsFault, of_text, of_entries}
+use Rattle.ir_reader.specs.Marks.{MarksEntry, HasBlock, HaveBlocks}
+use Rattle.ir_reader.proofs.Places.{same_at, at_push, there}
+
+-- ---- each function has a block
+
+pub each_spelled : {X : Type 0} (P : X → Part) (xs : List X) (k : ℕ) (x : X) (tokens rest : List Placed) → Each P xs tokens rest → slice_get xs k ≡ Some x → (t : List Placed) × ((r : List Placed) × P x t r)
+each_spelled P [] k x tokens rest each at = cc
+each_spelled P (y ∷ xs) zero x tokens rest each at = let same : y ≡ x = cc in (tokens, (each.0, subst (λ z. P z tokens each.0) same each.1))
+each_spelled P (y ∷ xs) (suc k) x tokens rest each at = each_spelled P xs k x each.0 rest each.2 at
+
+pub some_block : (blocks : List RawBlock) (tokens rest : List Placed) → SpellsBlocks blocks tokens rest → 0 < length blocks
+some_block [] tokens rest spelled = absurd spelled
+some_block (first ∷ others) tokens rest spelled = omega arith
+
+has_block : (entry : RawEntry) (tokens rest : List Placed) → SpellsEntry entry tokens rest → HasBlock entry
+has_block (raw_entries.Kept text) tokens rest spelled = tt
+has_block (raw_entries.Function f) tokens rest spelled = some_block f.blocks _ _ spelled.2.2.2.2.2.2.2.2.1
+
+pub have_blocks : (text : List ℕ) (m : RawModule) → IsRaw text m → HaveBlocks m.entries
+have_blocks text m raw k entry at =
+    let (t, (r, spelled)) = each_spelled SpellsEntry m.entries k entry raw.tokens _ raw.spelled.1.1 at in
+    has_block entry t r spelled
+
+-- ---- the first entries
+
+-- entries are those of the first entries as written, so many
+pub record AreFirstEntries (written : List RawEntry) (place : ℕ) (read : List Entry) : Type 0 where
+  pub count : length read ≡ place
+  pub each : (k : ℕ) (raw : RawEntry) (entry : Entry) → slice_get written k ≡ Some raw → slice_get read k ≡ Some entry → IsEntryOf (functions_of (take k written)) raw entry
+
+pub first_entries_none : (written : List RawEntry) → AreFirstEntries written 0 []
+first_entries_none written = record { count = refl; each = λ k raw entry at at'. cc }
+
+pub first_entries_more : (written : List RawEntry) (place : ℕ) (raw : RawEntry) (entry : Entry) (read new : List Entry) → AreFirstEntries written place read → slice_get written place ≡ Some raw → new ≡ read ++ entry ∷ []
+    → IsEntryOf (functions_of (take place written)) raw entry → AreFirstEntries written (place + 1) new
+first_entries_more written place raw entry read new first here more own =
+    record {
+      count = ap length more ∙ length-append read (entry ∷ []) ∙ omega (arith, first.count);
+      each = λ k raw' entry' at at'. elim (at_push read entry k entry' (subst (λ l. slice_get l k ≡ Some entry') more at')) [
+        | inl old ↦ first.each k raw' entry' at old
+        | inr (e, same) ↦
+            let k_is : place ≡ k = sym first.count ∙ sym e in
+            let one : raw ≡ raw' = same_at written place raw raw' here (subst (λ n. slice_get written n ≡ Some raw') (sym k_is) at) in
+            subst (λ n. IsEntryOf (functions_of (take n written)) raw' entry') k_is
+            (subst (λ r. IsEntryOf (functions_of (take place written)) r entry') one (subst (IsEntryOf (functions_of (take place written)) raw) same own))
+      ];
+    }
+
+pub all_entries : (written : List RawEntry) (place : ℕ) (read : List Entry) → place ≡ length written → AreFirstEntries written place read → AreEntriesOf written read
+all_entries written place read end first = record { count = first.count ∙ end; each = first.each }
+
+-- the first one that has a fault
+pub fault_of_entries : (written : List RawEntry) (place : ℕ) (raw : RawEntry) (read : List Entry) (mark : Bool) (e : IrError) → AreFirstEntries written place read → slice_get written place ≡ Some raw
+    → MarksEntry mark (functions_of (take place written)) raw → IfRefused e (λ fault. (earlier : List RawFunction) → MarksEntry mark earlier raw → IsFaultOfEntry earlier raw fault) → IfRefused e (IsFaultOfEntries written)
+fault_of_entries written place raw read mark (errors.Refused fault) first here marks h =
+    record {
+      k = place;
+      raw = raw;
+      is_raw = here;
+      before = λ j other lt at. let (entry, at') = there read j (omega (arith, first.count)) in (entry, first.each j other entry at at');
+      fault_there = h (functions_of (take place written)) marks;
+    }
+fault_of_entries written place raw read mark errors.NoMemory first here marks h = tt
+
+-- ---- the text
+
+pub text_fault : (text : List ℕ) (e : ParseError) (e' : IrError) → e' ≡ of_parse_error e → IfMisread e (IsTextFault text) → IfRefused e' (IsFault text)
+text_fault text (parse_errors.Refused fault) e' is h = rw is (of_text h)
+text_fault text parse_errors.NoMemory e' is h = rw is tt
+
+pub entries_fault : (text : List ℕ) (m : RawModule) (e : IrError) → IsRaw text m → IfRefused e (IsFaultOfEntries m.entries) → IfRefused e (IsFault text)
+entries_fault text m (errors.Refused fault) raw h = of_entries m raw h
+entries_fault text m errors.NoMemory raw h = tt
+
+-- an entry that is a function
+pub function_entry : (raw : RawEntry) (f : RawFunction) (entry : Entry) (g : Function) (mark : Bool) → raw ≡ raw_entries.Function f → entry ≡ entries.Function g
+    → ((earlier : List RawFunction) → MarksEntry mark earlier (raw_entries.Function f) → IsFunctionOf earlier f g) → (earlier : List RawFunction) → MarksEntry mark earlier raw → IsEntryOf earlier raw entry
+function_entry raw f entry g mark is entry_is h = rw (is, entry_is) h

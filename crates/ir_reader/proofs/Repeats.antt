@@ -1,0 +1,160 @@
+-- Names of functions among entries.
+use Rattle.std.proofs.Common.{◌≡◌, ◌⊎◌, ◌↔◌, inl, inr, ℕ, ◌+◌, ◌<◌, Bool, true, false, not, cond, List, [], ◌∷◌, ◌++◌, take, length, length-append, get_or, Some, IsTrue, Bor, refl, ap, sym, subst, ◌∙◌, arith}
+use Rattle.std.specs.Prelude.{slice_get, ◌||◌}
+use Rattle.std.specs.List.{list_any}
+use Rattle.std.specs.Str.{bytes_eq}
+use Rattle.std.proofs.lemmas.Bool.{false≢true}
+use Rattle.std.proofs.lemmas.List.{take_more}
+use Rattle.std.proofs.lemmas.List.Folds.{list_any-append}
+use Rattle.std.proofs.lemmas.Slice.Eq.{bytes_eq-Decides}
+use Rattle.indexmap.specs.IndexSet.{insert_key}
+use Rattle.ir_raw.specs.declared.raw.RawEntry.{RawEntry}
+use Rattle.ir_raw.specs.declared.raw.RawEntry.TheVariants as raw_entries
+use Rattle.ir_raw.specs.declared.raw.RawFunction.{RawFunction}
+use Rattle.ir_resolve.specs.Kinds.{HasNameOf}
+use Rattle.ir_reader.specs.Faults.{functions_of}
+use Rattle.ir_reader.specs.Marks.{MarksEntry, MarksRepeated, IsNameOf}
+use Rattle.ir_reader.proofs.Places.{same_at, at_append, at_push, append_left, append_right}
+
+functions_of-append : (xs ys : List RawEntry) → functions_of (xs ++ ys) ≡ functions_of xs ++ functions_of ys
+functions_of-append [] ys = refl
+functions_of-append (raw_entries.Kept text ∷ xs) ys = functions_of-append xs ys
+functions_of-append (raw_entries.Function raw ∷ xs) ys = ap (λ l. raw ∷ l) (functions_of-append xs ys)
+
+-- ---- names of entries
+
+name_push : (entries : List RawEntry) (entry : RawEntry) (name : List ℕ) → HasNameOf (functions_of (entries ++ entry ∷ [])) name ↔ (HasNameOf (functions_of entries) name ⊎ IsNameOf entry name)
+name_push entries (raw_entries.Kept text) name =
+    let same : functions_of (entries ++ raw_entries.Kept text ∷ []) ≡ functions_of entries ++ [] = functions_of-append entries (raw_entries.Kept text ∷ []) in (
+      λ (k, other, at, is). elim (at_append (functions_of entries) [] k other (subst (λ l. slice_get l k ≡ Some other) same at)) [ inl old ↦ inl (k, other, old, is) | inr (j, e, none) ↦ cc ],
+      λ h. elim h [ inl (k, other, at, is) ↦ (k, other, subst (λ l. slice_get l k ≡ Some other) (sym same) (append_left (functions_of entries) [] k other at), is) | inr no_name ↦ absurd no_name ],
+    )
+name_push entries (raw_entries.Function raw) name =
+    let same : functions_of (entries ++ raw_entries.Function raw ∷ []) ≡ functions_of entries ++ raw ∷ [] = functions_of-append entries (raw_entries.Function raw ∷ []) in (
+      λ (k, other, at, is). elim (at_push (functions_of entries) raw k other (subst (λ l. slice_get l k ≡ Some other) same at)) [
+        | inl old ↦ inl (k, other, old, is)
+        | inr (e, last) ↦ inr (ap (λ (f : RawFunction). f.name) last ∙ is)
+      ],
+      λ h. elim h [
+        | inl (k, other, at, is) ↦ (k, other, subst (λ l. slice_get l k ≡ Some other) (sym same) (append_left (functions_of entries) (raw ∷ []) k other at), is)
+        | inr is ↦ (length (functions_of entries), raw, subst (λ l. slice_get l (length (functions_of entries)) ≡ Some raw) (sym same) (append_right (functions_of entries) (raw ∷ []) (length (functions_of entries)) 0 raw (omega arith) refl), is)
+      ],
+    )
+
+pub name_more : (entries : List RawEntry) (i : ℕ) (entry : RawEntry) (name : List ℕ) → i < length entries → entry ≡ get_or entries i entry
+    → HasNameOf (functions_of (take (i + 1) entries)) name ↔ (HasNameOf (functions_of (take i entries)) name ⊎ IsNameOf entry name)
+name_more entries i entry name within is =
+    let more : take (i + 1) entries ≡ take i entries ++ entry ∷ [] = take_more entries i entry within ∙ ap (λ e. take i entries ++ e ∷ []) (sym is) in
+    rw more (name_push (take i entries) entry name)
+
+pub name_none : (name : List ℕ) → ¬ HasNameOf [] name
+name_none name (k, other, at, is) = cc
+
+-- ---- texts in a set
+
+or_true : (a b : Bool) → IsTrue (a || b) ↔ (IsTrue a ⊎ IsTrue b)
+or_true true b = (λ t. inl t, λ h. refl)
+or_true false b = (λ t. inr t, λ h. elim h [ inl t ↦ absurd (false≢true t) | inr t ↦ t ])
+
+-- one of the texts is this one
+abbrev HasTextIn : List (Bor (List ℕ)) → List ℕ → Type 0
+HasTextIn texts text = IsTrue (list_any (λ t. bytes_eq text t.now) texts)
+
+decided : (a b : List ℕ) → IsTrue (bytes_eq a b) ↔ (b ≡ a)
+decided a b = (λ t. sym ((bytes_eq-Decides a b).0 t), λ e. (bytes_eq-Decides a b).1 (sym e))
+
+text_push : (texts : List (Bor (List ℕ))) (t : Bor (List ℕ)) (text : List ℕ) → HasTextIn (texts ++ t ∷ []) text ↔ (HasTextIn texts text ⊎ (t.now ≡ text))
+text_push texts t text =
+    let same : list_any (λ u. bytes_eq text u.now) (texts ++ t ∷ []) ≡ (list_any (λ u. bytes_eq text u.now) texts || (bytes_eq text t.now || false)) = list_any-append (λ (u : Bor (List ℕ)). bytes_eq text u.now) texts (t ∷ []) in
+    let either = or_true (list_any (λ u. bytes_eq text u.now) texts) (bytes_eq text t.now || false) in
+    let last = or_true (bytes_eq text t.now) false in (
+      λ h. elim (either.0 (subst (λ b. IsTrue b) same h)) [ inl old ↦ inl old | inr new ↦ elim (last.0 new) [ inl is ↦ inr ((decided text t.now).0 is) | inr no_text ↦ absurd (false≢true no_text) ] ],
+      λ h. subst (λ b. IsTrue b) (sym same) (either.1 (elim h [ inl old ↦ inl old | inr is ↦ inr (last.1 (inl ((decided text t.now).1 is))) ])),
+    )
+
+any_same : (texts : List (Bor (List ℕ))) (a b : List ℕ) → a ≡ b → HasTextIn texts a → HasTextIn texts b
+any_same texts a b e h = subst (HasTextIn texts) e h
+
+-- the set after one text more
+pub text_more : (texts new : List (Bor (List ℕ))) (t : Bor (List ℕ)) (text : List ℕ) → new ≡ insert_key (λ x y. bytes_eq x.now y.now) texts t → HasTextIn new text ↔ (HasTextIn texts text ⊎ (t.now ≡ text))
+text_more texts new t text is = rw is (by (list_any (λ y. bytes_eq t.now y.now) texts) refl)
+  where
+    by : (b : Bool) → list_any (λ y. bytes_eq t.now y.now) texts ≡ b → HasTextIn (insert_key (λ x y. bytes_eq x.now y.now) texts t) text ↔ (HasTextIn texts text ⊎ (t.now ≡ text))
+    by true e =
+        let same : insert_key (λ x y. bytes_eq x.now y.now) texts t ≡ texts = ap (λ c. cond c texts (texts ++ t ∷ [])) e in
+        (λ h. inl (subst (λ l. HasTextIn l text) same h), λ h. subst (λ l. HasTextIn l text) (sym same) (elim h [ inl old ↦ old | inr is ↦ any_same texts t.now text is e ]))
+    by false e =
+        let same : insert_key (λ x y. bytes_eq x.now y.now) texts t ≡ texts ++ t ∷ [] = ap (λ c. cond c texts (texts ++ t ∷ [])) e in
+        let pushed = text_push texts t text in
+        (λ h. pushed.0 (subst (λ l. HasTextIn l text) same h), λ h. subst (λ l. HasTextIn l text) (sym same) (pushed.1 h))
+
+not_not : (b : Bool) → IsTrue (not (not b)) ↔ IsTrue b
+not_not true = (λ h. h, λ h. h)
+not_not false = (λ h. h, λ h. h)
+
+-- of an entry that is a function: whether its name was there, and what is there with it
+module _ (entry : RawEntry) (raw : RawFunction) (texts new : List (Bor (List ℕ))) (key : Bor (List ℕ)) (is_function : entry ≡ raw_entries.Function raw) (key_is : key.now ≡ raw.name) where
+  pub function_mark : (added : Bool) → added ≡ not (list_any (λ y. bytes_eq key.now y.now) texts) → IsTrue (not added) ↔ ((name : List ℕ) × IsNameOf entry name × HasTextIn texts name)
+  function_mark added is =
+      let iff = not_not (list_any (λ y. bytes_eq key.now y.now) texts) in
+      rw (is, is_function) (
+        λ h. (raw.name, refl, any_same texts key.now raw.name key_is (iff.0 h)),
+        λ (name, e, has). iff.1 (any_same texts name key.now (sym e ∙ sym key_is) has),
+      )
+
+  pub function_names : new ≡ insert_key (λ x y. bytes_eq x.now y.now) texts key → (name : List ℕ) → HasTextIn new name ↔ (HasTextIn texts name ⊎ IsNameOf entry name)
+  function_names is name =
+      let more = text_more texts new key name is in
+      rw is_function (
+        λ h. elim (more.0 h) [ inl old ↦ inl old | inr e ↦ inr (sym key_is ∙ e) ],
+        λ h. more.1 (elim h [ inl old ↦ inl old | inr e ↦ inr (key_is ∙ e) ]),
+      )
+
+-- what is known of the functions so far, and of one entry more
+module _ (entries : List RawEntry) (i : ℕ) (entry : RawEntry) (within : i < length entries) (is : entry ≡ get_or entries i entry) (Old New : List ℕ → Type 0) (known : (name : List ℕ) → Old name ↔ HasNameOf (functions_of (take i entries)) name) where
+  pub mark_known : (mark : Bool) → (IsTrue mark ↔ ((name : List ℕ) × IsNameOf entry name × Old name)) → IsTrue mark ↔ ((name : List ℕ) × IsNameOf entry name × HasNameOf (functions_of (take i entries)) name)
+  mark_known mark iff = (
+    λ h. let (name, e, old) = iff.0 h in (name, e, (known name).0 old),
+    λ (name, e, has). iff.1 (name, e, (known name).1 has),
+  )
+
+  pub known_more : ((name : List ℕ) → New name ↔ (Old name ⊎ IsNameOf entry name)) → (name : List ℕ) → New name ↔ HasNameOf (functions_of (take (i + 1) entries)) name
+  known_more more name =
+      let names = name_more entries i entry name within is in (
+        λ h. names.1 (elim ((more name).0 h) [ inl old ↦ inl ((known name).0 old) | inr e ↦ inr e ]),
+        λ h. (more name).1 (elim (names.0 h) [ inl has ↦ inl ((known name).1 has) | inr e ↦ inr e ]),
+      )
+
+-- ---- marks
+
+-- the first entries, so many, have their marks
+pub record MarksFirst (entries : List RawEntry) (i : ℕ) (marks : List Bool) : Type 0 where
+  pub count : length marks ≡ i
+  pub each : (k : ℕ) (raw : RawEntry) (mark : Bool) → slice_get entries k ≡ Some raw → slice_get marks k ≡ Some mark → MarksEntry mark (functions_of (take k entries)) raw
+
+pub marks_none : (entries : List RawEntry) → MarksFirst entries 0 []
+marks_none entries = record { count = refl; each = λ k raw mark at at'. cc }
+
+own_mark : (mark : Bool) (earlier : List RawFunction) (entry : RawEntry) → (IsTrue mark ↔ ((name : List ℕ) × IsNameOf entry name × HasNameOf earlier name)) → MarksEntry mark earlier entry
+own_mark mark earlier (raw_entries.Kept text) is = tt
+own_mark mark earlier (raw_entries.Function raw) is =
+    (λ t. let (name, e, has) = is.0 t in subst (HasNameOf earlier) (sym e) has, λ has. is.1 (raw.name, refl, has))
+
+pub marks_more : (entries : List RawEntry) (i : ℕ) (entry : RawEntry) (marks marks' : List Bool) (mark : Bool) → slice_get entries i ≡ Some entry → MarksFirst entries i marks → marks' ≡ marks ++ mark ∷ []
+    → (IsTrue mark ↔ ((name : List ℕ) × IsNameOf entry name × HasNameOf (functions_of (take i entries)) name)) → MarksFirst entries (i + 1) marks'
+marks_more entries i entry marks marks' mark here first more is =
+    record {
+      count = ap length more ∙ length-append marks (mark ∷ []) ∙ omega (arith, first.count);
+      each = λ k raw m at at'. elim (at_push marks mark k m (subst (λ l. slice_get l k ≡ Some m) more at')) [
+        | inl old ↦ first.each k raw m at old
+        | inr (e, same) ↦
+            let k_is : i ≡ k = sym first.count ∙ sym e in
+            let one : entry ≡ raw = same_at entries i entry raw here (subst (λ n. slice_get entries n ≡ Some raw) (sym k_is) at) in
+            let own = own_mark mark (functions_of (take i entries)) entry is in
+            subst (λ n. MarksEntry m (functions_of (take n entries)) raw) k_is
+            (subst (λ r. MarksEntry m (functions_of (take i entries)) r) one (subst (λ b. MarksEntry b (functions_of (take i entries)) entry) same own))
+      ];
+    }
+
+pub marks_all : (entries : List RawEntry) (i : ℕ) (marks : List Bool) → i ≡ length entries → MarksFirst entries i marks → MarksRepeated entries marks
+marks_all entries i marks end first = record { count = first.count ∙ end; each = first.each }

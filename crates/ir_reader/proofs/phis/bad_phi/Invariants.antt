@@ -1,0 +1,9 @@
+-- the first line of a phi of the blocks so far
+use Rattle.std.proofs.Common.{ℕ}
+use Rattle.ir_resolve.specs.Firsts.{IsFirst}
+use Rattle.ir_resolve.proofs.Firsts.{Before}
+use Rattle.ir_reader.specs.Kinds.{BadPhiHere}
+use Rattle.ir_reader.proofs.phis.bad_phi.Given as goal
+
+abbrev pub invariant-loop-place : goal.invariant-loop-place
+invariant-loop-place l = IsFirst (Before (λ b line. (k : ℕ) × BadPhiHere l.raw l.f b k line) l.place) l.found

@@ -1,0 +1,12 @@
+-- the first line of a phi so far, and whether the instructions so far are phis
+use Rattle.std.proofs.Common.{◌↔◌, IsTrue}
+use Rattle.ir_resolve.specs.Firsts.{IsFirst}
+use Rattle.ir_resolve.proofs.Firsts.{Before}
+use Rattle.ir_reader.specs.Predecessors.{BadPhiIn, FirstArePhis}
+use Rattle.ir_reader.proofs.phis.bad_phi_in.Given as goal
+
+abbrev pub invariant-loop-place : goal.invariant-loop-place
+invariant-loop-place l = record {
+  first : IsFirst (Before (BadPhiIn l.predecessors l.written l.insts) l.place) l.found;
+  phis : IsTrue l.only_phis ↔ FirstArePhis l.insts l.place;
+}

@@ -1,0 +1,94 @@
+-- Which texts are modules, and of which, and which is the first fault of one that is none.
+use Rattle.std.specs.Prelude.{◌≡◌, ℕ, ◌<◌, List, [], ◌∷◌, length, take, Some, slice_get}
+use Rattle.ir_core.specs.declared.module.Module.{Module}
+use Rattle.ir_core.specs.declared.module.Entry.{Entry}
+use Rattle.ir_core.specs.declared.module.Entry.TheVariants as entries
+use Rattle.ir_core.specs.declared.function.Function.{Function}
+use Rattle.ir_core.specs.Assigned.{ReadsAreAssigned}
+use Rattle.ir_core.specs.Blocks.{Names}
+use Rattle.ir_raw.specs.declared.raw.RawModule.{RawModule}
+use Rattle.ir_raw.specs.declared.raw.RawEntry.{RawEntry}
+use Rattle.ir_raw.specs.declared.raw.RawEntry.TheVariants as raw_entries
+use Rattle.ir_raw.specs.declared.raw.RawFunction.{RawFunction}
+use Rattle.ir_statements.specs.declared.fault.TextFault.{TextFault}
+use Rattle.ir_parse.specs.Text.{IsRaw, IsTextFault}
+use Rattle.ir_resolve.specs.declared.fault.Fault.{Fault}
+use Rattle.ir_resolve.specs.Faults.{HasNoFault, IsFirstFault as IsFirstNameFault}
+use Rattle.ir_resolve.specs.Firsts.{IsFirstLine}
+use Rattle.ir_resolve.specs.Means.{Means}
+use Rattle.ir_reader.specs.declared.fault.IrFaultKind.TheVariants as kinds
+use Rattle.ir_reader.specs.declared.fault.IrFault.{IrFault}
+use Rattle.ir_reader.specs.Refusing.{of_text_fault, of_name_fault}
+use Rattle.ir_reader.specs.Phis.{PhisFit}
+use Rattle.ir_reader.specs.Kinds.{BadPhiAt, EntryPredAt, IsUnassignedFault}
+
+-- ---- functions
+
+-- a function as written, these being the earlier ones, has no fault of names or types, and means the function
+abbrev pub IsResolved : List RawFunction → RawFunction → Function → Type 0
+IsResolved earlier raw f = HasNoFault earlier raw × Means raw f
+
+-- no terminator names the first block
+abbrev pub EntryIsFree : Function → Type 0
+EntryIsFree f = (b : ℕ) → ¬ Names f b 0
+
+-- it passes each check, and is the function
+pub record IsFunctionOf (earlier : List RawFunction) (raw : RawFunction) (f : Function) : Type 0 where
+  pub resolved : IsResolved earlier raw f
+  pub phis : PhisFit f
+  pub entry : EntryIsFree f
+  pub assigned : ReadsAreAssigned f
+
+-- The first fault of a function as written: of names or types; else, of the function that is meant, a phi that doesn't fit; else a
+-- terminator that names the first block; else the first register that isn't assigned where it is read, as it is written there.
+pub data IsFirstFault (earlier : List RawFunction) (raw : RawFunction) : IrFault → Type 0 where
+  of_names : {fault : Fault} → IsFirstNameFault earlier raw fault → IsFirstFault earlier raw (of_name_fault fault)
+  bad_phi : {line : ℕ} (f : Function) → IsResolved earlier raw f
+      → IsFirstLine (BadPhiAt raw f) line → IsFirstFault earlier raw (record { line = line; kind = kinds.BadPhi })
+  entry_pred : {line : ℕ} (f : Function) → IsResolved earlier raw f → PhisFit f
+      → IsFirstLine (EntryPredAt raw f) line → IsFirstFault earlier raw (record { line = line; kind = kinds.EntryPred })
+  unassigned : {fault : IrFault} (f : Function) → IsResolved earlier raw f → PhisFit f → EntryIsFree f → IsUnassignedFault raw f fault → IsFirstFault earlier raw fault
+
+-- ---- modules
+
+-- the functions among entries
+abbrev pub functions_of : List RawEntry → List RawFunction
+functions_of [] = []
+functions_of (raw_entries.Kept text ∷ others) = functions_of others
+functions_of (raw_entries.Function raw ∷ others) = raw ∷ functions_of others
+
+-- an entry as written, these being the functions before it, is this one
+abbrev pub IsEntryOf : List RawFunction → RawEntry → Entry → Type 0
+IsEntryOf earlier (raw_entries.Kept written) (entries.Kept text) = text ≡ written
+IsEntryOf earlier (raw_entries.Function raw) (entries.Function f) = IsFunctionOf earlier raw f
+IsEntryOf earlier (raw_entries.Kept written) (entries.Function f) = ⊥
+IsEntryOf earlier (raw_entries.Function raw) (entries.Kept text) = ⊥
+
+-- entries as written are the entries, in order
+pub record AreEntriesOf (written : List RawEntry) (read : List Entry) : Type 0 where
+  pub count : length read ≡ length written
+  pub each : (k : ℕ) (raw : RawEntry) (entry : Entry) → slice_get written k ≡ Some raw → slice_get read k ≡ Some entry → IsEntryOf (functions_of (take k written)) raw entry
+
+-- the text is that of this module
+pub record IsModuleText (text : List ℕ) (m : Module) : Type 0 where
+  pub raw : RawModule
+  pub is_raw : IsRaw text raw
+  pub entries : AreEntriesOf raw.entries m.entries
+
+-- an entry as written, these being the functions before it, has this as its first fault
+abbrev pub IsFaultOfEntry : List RawFunction → RawEntry → IrFault → Type 0
+IsFaultOfEntry earlier (raw_entries.Kept written) fault = ⊥
+IsFaultOfEntry earlier (raw_entries.Function raw) fault = IsFirstFault earlier raw fault
+
+-- the first fault of entries: that of the first one that has one
+pub record IsFaultOfEntries (written : List RawEntry) (fault : IrFault) : Type 0 where
+  pub k : ℕ
+  pub raw : RawEntry
+  pub is_raw : slice_get written k ≡ Some raw
+  pub before : (j : ℕ) (other : RawEntry) → j < k → slice_get written j ≡ Some other → (entry : Entry) × IsEntryOf (functions_of (take j written)) other entry
+  pub fault_there : IsFaultOfEntry (functions_of (take k written)) raw fault
+
+-- The first fault of a text: that of the text as it is written, or else that of its entries.
+pub data IsFault (text : List ℕ) : IrFault → Type 0 where
+  of_text : {fault : TextFault} → IsTextFault text fault → IsFault text (of_text_fault fault)
+  of_entries : {fault : IrFault} (m : RawModule) → IsRaw text m → IsFaultOfEntries m.entries fault → IsFault text fault

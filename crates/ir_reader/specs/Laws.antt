@@ -1,0 +1,11 @@
+-- What holds of every text.
+use Rattle.std.specs.Prelude.{◌≡◌, ℕ, List}
+use Rattle.ir_core.specs.declared.module.Module.{Module}
+use Rattle.ir_reader.specs.declared.fault.IrFault.{IrFault}
+use Rattle.ir_reader.specs.Faults.{IsModuleText, IsFault}
+
+-- a text is that of one module at most, or has one fault at most, and never both
+pub record TextsHaveOneModuleOrFault : Type 0 where
+  pub one_module : (text : List ℕ) (a b : Module) → IsModuleText text a → IsModuleText text b → a ≡ b
+  pub one_fault : (text : List ℕ) (a b : IrFault) → IsFault text a → IsFault text b → a ≡ b
+  pub not_both : (text : List ℕ) (m : Module) (fault : IrFault) → IsModuleText text m → IsFault text fault → ⊥

@@ -1,0 +1,9 @@
+pub mod Refusing
+pub mod Phis
+pub mod Operands
+pub mod Kinds
+pub mod Faults
+pub mod Marks
+pub mod Counts
+pub mod Predecessors
+pub mod Laws

@@ -1,0 +1,37 @@
+-- Marks on the functions whose names an earlier one has, and what the grammar says of a function.
+use Rattle.std.specs.Prelude.{◌≡◌, ℕ, ◌<◌, Bool, List, length, take, IsTrue, Some, slice_get}
+use Rattle.std.specs.Str.{bytes_eq}
+use Rattle.std.specs.Borrow.{Bor}
+use Rattle.indexmap.specs.IndexSet.{IndexSet, contains_by}
+use Rattle.ir_raw.specs.declared.raw.RawEntry.{RawEntry}
+use Rattle.ir_raw.specs.declared.raw.RawEntry.TheVariants as raw_entries
+use Rattle.ir_raw.specs.declared.raw.RawFunction.{RawFunction}
+use Rattle.ir_resolve.specs.Faults.{Marks}
+use Rattle.ir_reader.specs.Faults.{functions_of}
+
+-- if the entry is a function, the mark says whether one of the earlier ones has its name
+abbrev pub MarksEntry : Bool → List RawFunction → RawEntry → Type 0
+MarksEntry is_repeated earlier (raw_entries.Kept text) = Unit {0}
+MarksEntry is_repeated earlier (raw_entries.Function raw) = Marks is_repeated earlier raw
+
+-- each entry has its mark
+pub record MarksRepeated (written : List RawEntry) (repeated : List Bool) : Type 0 where
+  pub count : length repeated ≡ length written
+  pub each : (k : ℕ) (raw : RawEntry) (is_repeated : Bool) → slice_get written k ≡ Some raw → slice_get repeated k ≡ Some is_repeated → MarksEntry is_repeated (functions_of (take k written)) raw
+
+-- if the entry is a function, it has a block
+abbrev pub HasBlock : RawEntry → Type 0
+HasBlock (raw_entries.Kept text) = Unit {0}
+HasBlock (raw_entries.Function raw) = 0 < length raw.blocks
+
+abbrev pub HaveBlocks : List RawEntry → Type 0
+HaveBlocks written = (k : ℕ) (raw : RawEntry) → slice_get written k ≡ Some raw → HasBlock raw
+
+-- the name is that of the entry, which is a function
+abbrev pub IsNameOf : RawEntry → List ℕ → Type 0
+IsNameOf (raw_entries.Kept text) name = ⊥
+IsNameOf (raw_entries.Function raw) name = raw.name ≡ name
+
+-- the text is among these
+abbrev pub HasText : {S : Type 0} → IndexSet (Bor (List ℕ)) S → List ℕ → Type 0
+HasText texts text = IsTrue (contains_by (λ t. bytes_eq text t.now) texts)

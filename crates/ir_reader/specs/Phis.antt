@@ -1,0 +1,31 @@
+-- What phis have to meet (LangRef, "phi", "Well-Formedness").
+use Rattle.std.specs.Prelude.{ℕ, ◌<◌, List}
+use Rattle.ir_core.specs.declared.function.Function.{Function}
+use Rattle.ir_core.specs.declared.instruction.Inst.{Inst}
+use Rattle.ir_core.specs.declared.instruction.Op.{Op}
+use Rattle.ir_core.specs.declared.instruction.Op.TheVariants.{Binary, Compare, Select, Convert, Freeze, Phi}
+use Rattle.ir_core.specs.declared.operand.Operand.{Operand}
+use Rattle.ir_core.specs.Checks.{IsInst, IsPhi, EntriesFit}
+
+-- only phis stand before place k of block b
+abbrev pub OnlyPhisBefore : Function → ℕ → ℕ → Type 0
+OnlyPhisBefore f b k = (j : ℕ) (earlier : Inst) → j < k → IsInst f b j earlier → IsPhi earlier.op
+
+-- A phi of these entries fits at place k of block b: only phis stand before it, and it has one operand for each block whose terminator
+-- names this one, reached or not, and none for another block.
+pub record PhiFits (f : Function) (b k : ℕ) (entries : List (Operand × ℕ)) : Type 0 where
+  pub only_phis : OnlyPhisBefore f b k
+  pub entries_fit : EntriesFit f b entries
+
+-- an instruction at this place is no phi, or it fits
+abbrev pub OpFits : Function → ℕ → ℕ → Op → Type 0
+OpFits f b k (Phi entries) = PhiFits f b k entries
+OpFits f b k (Binary op flags x y) = Unit {0}
+OpFits f b k (Compare pred width x y) = Unit {0}
+OpFits f b k (Select c x y) = Unit {0}
+OpFits f b k (Convert cast from x) = Unit {0}
+OpFits f b k (Freeze x) = Unit {0}
+
+-- all phis fit
+abbrev pub PhisFit : Function → Type 0
+PhisFit f = (b k : ℕ) (inst : Inst) → IsInst f b k inst → OpFits f b k inst.op

@@ -1,0 +1,43 @@
+//! A function of a module, check by check.
+
+ghost use Rattle.std.specs.Prelude.{◌<◌, List as Seq, length, IfOk, IfErr};
+ghost use Rattle.ir_raw.specs.declared.raw.RawFunction.{RawFunction as written_function};
+ghost use Rattle.ir_resolve.specs.Faults.{Marks};
+ghost use Rattle.ir_reader.specs.Refusing.{IfRefused};
+ghost use Rattle.ir_reader.specs.Faults.{IsFunctionOf, IsFirstFault};
+
+use crate::assigned::check_reads;
+use crate::count::is_countable;
+use crate::entry::named_entry;
+use crate::fault::{IrError, IrFaultKind, refused};
+use crate::phis::bad_phi;
+use crate::predecessors::predecessors;
+use ir_core::Function;
+use ir_raw::RawFunction;
+use ir_resolve::resolve;
+use std::alloc::Global;
+
+/// The function that is meant, or the first fault.
+pub(crate) fn function(
+    alloc: Global,
+    raw: &RawFunction,
+    is_repeated: bool,
+) -> Result<Function, IrError>
+    requires { 0 < length raw.now.blocks }
+    ensures ok { IfOk result (λ f. (earlier : Seq written_function) → Marks is_repeated earlier raw.now → IsFunctionOf earlier raw.now f) }
+    ensures refused { IfErr result (λ e. IfRefused e (λ fault. (earlier : Seq written_function) → Marks is_repeated earlier raw.now → IsFirstFault earlier raw.now fault)) }
+{
+    let f = resolve(alloc, raw, is_repeated)?;
+    if !is_countable(&f) {
+        return Err(IrError::NoMemory);
+    }
+    let predecessors = predecessors(alloc, &f)?;
+    if let Some(line) = bad_phi(alloc, predecessors.as_slice(), raw, &f)? {
+        return Err(refused(line, IrFaultKind::BadPhi));
+    }
+    if let Some(line) = named_entry(predecessors.as_slice(), raw) {
+        return Err(refused(line, IrFaultKind::EntryPred));
+    }
+    check_reads(alloc, raw, &f)?;
+    Ok(f)
+}

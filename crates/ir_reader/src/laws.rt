@@ -1,0 +1,10 @@
+//! The law of texts of modules, as the contract of a function that does nothing.
+ghost use Rattle.ir_reader.specs.Laws.{TextsHaveOneModuleOrFault};
+
+/// A text is that of one module at most, or has one fault at most, and never both.
+pub fn every_text_has_one_module_or_one_fault()
+    ensures { TextsHaveOneModuleOrFault }
+{
+    ir_parse::every_text_has_one_reading_or_one_fault();
+    ir_resolve::every_function_has_one_meaning_or_one_fault();
+}

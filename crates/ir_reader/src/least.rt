@@ -1,0 +1,15 @@
+//! The least of lines.
+
+ghost use Rattle.std.specs.Prelude.{◌≡◌};
+ghost use Rattle.ir_resolve.specs.Firsts.{lesser};
+
+/// The lesser of two lines, where both are there, and else the one that is.
+pub(crate) fn lesser(one: Option<usize>, other: Option<usize>) -> Option<usize>
+    ensures { result ≡ lesser one other }
+{
+    match (one, other) {
+        (Some(line), Some(other)) => Some(if line <= other { line } else { other }),
+        (found, None) => found,
+        (None, found) => found,
+    }
+}

@@ -1,0 +1,181 @@
+//! The check of phis.
+
+ghost use Rattle.std.specs.Prelude.{◌≡◌, ◌≢◌, ◌↔◌, ℕ, nat_eq, length, All, IsSome, Some, IfOk, OnOk, IfSome, IfNone, IsTrue, Contains};
+ghost use Rattle.indexmap.specs.IndexMap.{get};
+ghost use Rattle.indexmap.specs.IndexSet.{contains};
+ghost use Rattle.ir_core.specs.declared.operand.Operand.{Operand as operand_read};
+ghost use Rattle.ir_core.specs.Checks.{IsPhi};
+ghost use Rattle.ir_resolve.specs.Firsts.{IsFirst};
+ghost use Rattle.ir_resolve.specs.Means.{Means};
+ghost use Rattle.ir_reader.specs.Kinds.{BadPhiAt};
+ghost use Rattle.ir_reader.specs.Predecessors.{ArePredecessors, EntriesFitIn, OpFitsIn, BadPhiIn};
+
+use crate::least::lesser;
+use indexmap::{IndexMap, IndexSet};
+use ir_core::{Function, Inst, Op, Operand};
+use ir_raw::{RawFunction, RawInst};
+use ops::Word;
+use std::alloc::{AllocError, Global};
+
+/// Whether two numbers are the same one of the same width.
+fn is_same_number(one: Word, other: Word) -> bool
+    ensures { IsTrue result ↔ (one ≡ other) }
+{
+    one.width().bits() == other.width().bits() && one.number() == other.number()
+}
+
+/// Whether two operands are the same one.
+fn is_same(one: &Operand, other: &Operand) -> bool
+    ensures { IsTrue result ↔ (one.now ≡ other.now) }
+{
+    match one {
+        Operand::Register(one) => matches!(other, Operand::Register(other) if one == other),
+        Operand::Number(one) => match other {
+            Operand::Number(other) => is_same_number(*one, *other),
+            _ => false,
+        },
+        Operand::Undef => matches!(other, Operand::Undef),
+        Operand::Poison => matches!(other, Operand::Poison),
+    }
+}
+
+/// Whether the block has no other operand than this one, which it has from now on.
+fn keeps(
+    operands: &mut IndexMap<u32, Operand>,
+    block: u32,
+    operand: Operand,
+) -> Result<bool, AllocError>
+    ensures keeps { IfOk result (λ keeps. IsTrue keeps ↔ ((other : operand_read) → get nat_eq operands.old block ≡ Some other → other ≡ operand)) }
+    ensures has { OnOk result (get nat_eq operands.new block ≡ Some operand) }
+    ensures others { OnOk result ((c : ℕ) → c ≢ block → get nat_eq operands.new c ≡ get nat_eq operands.old c) }
+{
+    match operands.insert(block, operand)? {
+        Some(other) => Ok(is_same(&other, &operand)),
+        None => Ok(true),
+    }
+}
+
+/// The operand for each block, unless an entry is for a block that is none of these, or a block has two operands.
+fn operands(
+    alloc: Global,
+    predecessors: &IndexSet<u32>,
+    entries: &[(Operand, u32)],
+) -> Result<Option<IndexMap<u32, Operand>>, AllocError>
+    ensures some { IfOk result (λ found. IfSome found (λ operands. (c : ℕ) (a : operand_read) →
+        (get nat_eq operands c ≡ Some a) ↔ Contains entries.now (a, c))) }
+    ensures among { IfOk result (λ found. IfSome found (λ operands. (c : ℕ) (a : operand_read) →
+        Contains entries.now (a, c) → IsTrue (contains nat_eq predecessors.now c))) }
+    ensures none { IfOk result (λ found. IfNone found (¬ EntriesFitIn predecessors.now entries.now)) }
+{
+    let mut operands = IndexMap::new(alloc);
+    for (operand, block) in entries {
+        if !predecessors.contains(block) {
+            return Ok(None);
+        }
+        if !keeps(&mut operands, *block, *operand)? {
+            return Ok(None);
+        }
+    }
+    Ok(Some(operands))
+}
+
+/// Whether each block has an operand. It looks up to the first that has none, which is at most as often as there are operands, and
+/// once more.
+fn have_all(operands: &IndexMap<u32, Operand>, blocks: &[u32]) -> bool
+    ensures { IsTrue result ↔ All (λ c. IsSome (get nat_eq operands.now c)) blocks.now }
+{
+    blocks.iter().all(|block| operands.contains_key(block))
+}
+
+/// Whether a phi has one operand for each of these blocks and none for another.
+fn entries_fit(
+    alloc: Global,
+    predecessors: &IndexSet<u32>,
+    entries: &[(Operand, u32)],
+) -> Result<bool, AllocError>
+    ensures { IfOk result (λ fit. IsTrue fit ↔ EntriesFitIn predecessors.now entries.now) }
+{
+    match operands(alloc, predecessors, entries)? {
+        Some(operands) => Ok(have_all(&operands, predecessors.as_slice())),
+        None => Ok(false),
+    }
+}
+
+/// Whether an instruction is no phi, or fits where these are the predecessors and it is told whether only phis stand before it.
+fn op_fits(
+    alloc: Global,
+    predecessors: &IndexSet<u32>,
+    only_phis: bool,
+    op: &Op,
+) -> Result<bool, AllocError>
+    ensures { IfOk result (λ fits. IsTrue fits ↔ OpFitsIn predecessors.now (IsTrue only_phis) op.now) }
+{
+    match op {
+        Op::Phi(entries) => Ok(only_phis && entries_fit(alloc, predecessors, entries.as_slice())?),
+        Op::Binary(_, _, _, _)
+        | Op::Compare(_, _, _, _)
+        | Op::Select(_, _, _)
+        | Op::Convert(_, _, _)
+        | Op::Freeze(_) => Ok(true),
+    }
+}
+
+fn is_phi(op: &Op) -> bool
+    ensures { IsTrue result ↔ IsPhi op.now }
+{
+    match op {
+        Op::Phi(_) => true,
+        Op::Binary(_, _, _, _)
+        | Op::Compare(_, _, _, _)
+        | Op::Select(_, _, _)
+        | Op::Convert(_, _, _)
+        | Op::Freeze(_) => false,
+    }
+}
+
+/// The first line of a phi among a block's instructions that does not fit.
+fn bad_phi_in(
+    alloc: Global,
+    predecessors: &IndexSet<u32>,
+    written: &[RawInst],
+    insts: &[Inst],
+) -> Result<Option<usize>, AllocError>
+    requires { length written.now ≡ length insts.now }
+    ensures { IfOk result (IsFirst (λ line. (k : ℕ) × BadPhiIn predecessors.now written.now insts.now k line)) }
+{
+    let mut found = None;
+    let mut only_phis = true;
+    for place in 0..insts.len() {
+        let op = &insts[place].op;
+        let fits = op_fits(alloc, predecessors, only_phis, op)?;
+        found = lesser(found, (!fits).then_some(written[place].result.line));
+        only_phis &= is_phi(op);
+    }
+    Ok(found)
+}
+
+/// The first line of a phi that does not fit.
+pub(crate) fn bad_phi(
+    alloc: Global,
+    predecessors: &[IndexSet<u32>],
+    raw: &RawFunction,
+    f: &Function,
+) -> Result<Option<usize>, AllocError>
+    requires means { Means raw.now f.now }
+    requires predecessors { ArePredecessors f.now predecessors.now }
+    ensures { IfOk result (IsFirst (BadPhiAt raw.now f.now)) }
+{
+    let written = raw.blocks.as_slice();
+    let blocks = f.blocks.as_slice();
+    let mut found = None;
+    for place in 0..blocks.len() {
+        let here = bad_phi_in(
+            alloc,
+            &predecessors[place],
+            written[place].insts.as_slice(),
+            blocks[place].insts.as_slice(),
+        )?;
+        found = lesser(found, here);
+    }
+    Ok(found)
+}

@@ -1,0 +1,60 @@
+//! The module of a text.
+
+ghost use Rattle.std.specs.Prelude.{List as Seq, IfOk, IfErr};
+ghost use Rattle.ir_core.specs.Checks.{ModuleMeetsChecks};
+ghost use Rattle.ir_raw.specs.declared.raw.RawFunction.{RawFunction as written_function};
+ghost use Rattle.ir_reader.specs.Refusing.{IfRefused};
+ghost use Rattle.ir_reader.specs.Marks.{MarksEntry, HasBlock, HaveBlocks};
+ghost use Rattle.ir_reader.specs.Faults.{IsEntryOf, AreEntriesOf, IsFaultOfEntry, IsFaultOfEntries, IsModuleText, IsFault};
+
+use crate::fault::IrError;
+use crate::function::function;
+use crate::repeated::repeated_names;
+use crate::text::text;
+use ir_core::{Entry, Module};
+use ir_parse::parse;
+use ir_raw::RawEntry;
+use lists::List;
+use std::alloc::Global;
+
+/// The module of a text, or the text's first fault: its length, then the first token that does not fit, and then function by function
+/// the first kind of [`IrFaultKind`](crate::IrFaultKind) in their order that the function has, at its first line.
+///
+/// It takes as many steps as the text has bytes, but for the search in tables of names, numbers and blocks, and but for
+/// [`check_assigned`](assigned_flow::check_assigned), whose worst case is told there.
+pub fn read_module(alloc: Global, bytes: &[u8]) -> Result<Module, IrError>
+    ensures ok { IfOk result (IsModuleText bytes.now) }
+    ensures refused { IfErr result (λ e. IfRefused e (IsFault bytes.now)) }
+    ensures checks { IfOk result ModuleMeetsChecks }
+{
+    let raw = parse(alloc, bytes)?;
+    Ok(Module {
+        entries: entries(alloc, raw.entries.as_slice())?,
+    })
+}
+
+/// The entries, or the fault of the first one that has one.
+fn entries(alloc: Global, written: &[RawEntry]) -> Result<List<Entry>, IrError>
+    requires { HaveBlocks written.now }
+    ensures ok { IfOk result (AreEntriesOf written.now) }
+    ensures refused { IfErr result (λ e. IfRefused e (IsFaultOfEntries written.now)) }
+{
+    let repeated = repeated_names(alloc, written)?;
+    let mut entries = List::new(alloc);
+    for place in 0..written.len() {
+        entries.push(entry(alloc, &written[place], repeated[place])?)?;
+    }
+    Ok(entries)
+}
+
+/// An entry, or its first fault.
+fn entry(alloc: Global, written: &RawEntry, is_repeated: bool) -> Result<Entry, IrError>
+    requires { HasBlock written.now }
+    ensures ok { IfOk result (λ entry. (earlier : Seq written_function) → MarksEntry is_repeated earlier written.now → IsEntryOf earlier written.now entry) }
+    ensures refused { IfErr result (λ e. IfRefused e (λ fault. (earlier : Seq written_function) → MarksEntry is_repeated earlier written.now → IsFaultOfEntry earlier written.now fault)) }
+{
+    match written {
+        RawEntry::Kept(kept) => Ok(Entry::Kept(text(alloc, kept)?)),
+        RawEntry::Function(raw) => Ok(Entry::Function(function(alloc, raw, is_repeated)?)),
+    }
+}

@@ -1,0 +1,31 @@
+//! Names of functions that an earlier one has.
+
+ghost use Rattle.std.specs.Prelude.{◌↔◌, ◌⊎◌, ℕ, List as Seq, IfOk, OnOk, IsTrue};
+ghost use Rattle.ir_reader.specs.Marks.{MarksRepeated, IsNameOf, HasText};
+
+use indexmap::IndexSet;
+use ir_raw::RawEntry;
+use std::alloc::{AllocError, Global};
+
+/// For each entry, whether it is a function whose name an earlier one has.
+pub(crate) fn repeated_names(alloc: Global, entries: &[RawEntry]) -> Result<Vec<bool>, AllocError>
+    ensures { IfOk result (λ repeated. MarksRepeated entries.now repeated.items) }
+{
+    let mut names = IndexSet::new(alloc);
+    let mut repeated = Vec::new(alloc);
+    for entry in entries {
+        repeated.push(is_repeated(&mut names, entry)?)?;
+    }
+    Ok(repeated)
+}
+
+/// Whether the entry is a function whose name is among these; from now on it is.
+fn is_repeated<'a>(names: &mut IndexSet<&'a [u8]>, entry: &'a RawEntry) -> Result<bool, AllocError>
+    ensures mark { IfOk result (λ is_repeated. IsTrue is_repeated ↔ ((name : Seq ℕ) × IsNameOf entry.now name × HasText names.old name)) }
+    ensures names { OnOk result ((name : Seq ℕ) → HasText names.new name ↔ (HasText names.old name ⊎ IsNameOf entry.now name)) }
+{
+    match entry {
+        RawEntry::Kept(_) => Ok(false),
+        RawEntry::Function(raw) => Ok(!names.insert(raw.name.as_slice())?),
+    }
+}

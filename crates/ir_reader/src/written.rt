@@ -1,0 +1,60 @@
+//! What is written at a place of a function.
+
+ghost use Rattle.std.specs.Prelude.{◌≡◌, ℕ, [], ◌∷◌, option_map, slice_get};
+ghost use Rattle.std.specs.Option.{option_copied};
+ghost use Rattle.ir_resolve.specs.Reading.{typed, read_by, read_at_end};
+ghost use Rattle.ir_reader.specs.Operands.{written_at};
+
+use ir_raw::{RawFunction, RawOp, RawOperand, RawTerminator};
+
+/// One of the operands that are written at a place of a block; the terminator's place is the number of instructions.
+pub(crate) fn operand(raw: &RawFunction, block: u32, place: u32, index: u32) -> Option<&RawOperand>
+    ensures { option_copied result ≡ option_map (λ t. t.operand) (slice_get (written_at raw.now block place) index) }
+{
+    let block = raw.blocks.as_slice().get(block as usize)?;
+    match block.insts.as_slice().get(place as usize) {
+        Some(inst) => operand_of(&inst.op, index),
+        None if place as usize == block.insts.len() => operand_of_end(&block.end, index),
+        None => None,
+    }
+}
+
+/// One of the operands of an instruction.
+fn operand_of(op: &RawOp, index: u32) -> Option<&RawOperand>
+    ensures { option_copied result ≡ option_map (λ t. t.operand) (slice_get (read_by op.now) index) }
+{
+    match op {
+        RawOp::Binary(_, _, _, left, right) | RawOp::Compare(_, _, left, right) => match index {
+            0 => Some(left),
+            1 => Some(right),
+            _ => None,
+        },
+        RawOp::Select(condition, first, second) => match index {
+            0 => Some(&condition.operand),
+            1 => Some(&first.operand),
+            2 => Some(&second.operand),
+            _ => None,
+        },
+        RawOp::Convert(_, _, operand, _) | RawOp::Freeze(_, operand) => only(operand, index),
+        RawOp::Phi(_, incoming) => Some(&incoming.as_slice().get(index as usize)?.value),
+    }
+}
+
+/// One of the operands of a terminator.
+fn operand_of_end(end: &RawTerminator, index: u32) -> Option<&RawOperand>
+    ensures { option_copied result ≡ option_map (λ t. t.operand) (slice_get (read_at_end end.now) index) }
+{
+    match end {
+        RawTerminator::Return(_, operand)
+        | RawTerminator::Branch(_, operand, _, _)
+        | RawTerminator::Switch(_, operand, _, _) => only(operand, index),
+        RawTerminator::Unreachable | RawTerminator::Jump(_) => None,
+    }
+}
+
+/// The only operand.
+fn only(operand: &RawOperand, index: u32) -> Option<&RawOperand>
+    ensures { (width : ℕ) → option_copied result ≡ option_map (λ t. t.operand) (slice_get (typed width operand.now ∷ []) index) }
+{
+    if index == 0 { Some(operand) } else { None }
+}
