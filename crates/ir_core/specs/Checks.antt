@@ -80,9 +80,10 @@ IsPhi (Select c x y) = ⊥
 IsPhi (Convert cast from x) = ⊥
 IsPhi (Freeze x) = ⊥
 
--- An entry of a phi for each block that names this one and for no other block, and one operand only for each; a block may have several
--- entries of one operand.
+-- A phi has an entry, one for each block that names this one and for no other block, and one operand only for each; a block may have
+-- several entries of one operand.
 pub record EntriesFit (f : Function) (b : ℕ) (entries : List (Operand × ℕ)) : Type 0 where
+  pub some : 0 < length entries
   pub from : (c : ℕ) → ((a : Operand) × Contains entries (a, c)) ↔ Names f c b
   pub one : (x y : Operand) (c : ℕ) → Contains entries (x, c) → Contains entries (y, c) → x ≡ y
 

@@ -4,3 +4,5 @@ pub mod Reads
 pub mod Names
 pub mod Assigned
 pub mod Checks
+pub mod Run
+pub mod Refines

@@ -2,17 +2,20 @@
 //!
 //! The definitions stand in `specs/`: `Reads` says what an instruction reads and where, `Blocks` which blocks a terminator
 //! names, `Walks` which blocks a run may go through, `Assigned` where a register has a value on every way there, `Names` what a
-//! register or a block without a name is called, and `Checks` what every function and module that is read meets.
+//! register or a block without a name is called, `Checks` what every function and module that is read meets, `Run` what a run may
+//! do, and `Refines` what may stand in whose place.
 #![tactic(auto)]
 
 mod function;
 mod instruction;
 mod module;
 mod operand;
+mod outcome;
 mod terminator;
 
 pub use function::{Block, Function, Parameter};
 pub use instruction::{Inst, Op};
 pub use module::{Entry, Module};
 pub use operand::{Operand, Register};
+pub use outcome::Outcome;
 pub use terminator::Terminator;
