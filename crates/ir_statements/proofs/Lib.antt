@@ -9,3 +9,4 @@ pub mod Steps
 pub mod Takings
 pub mod TerminatorReadings
 pub mod WordLemmas
+pub mod WrittenFlags

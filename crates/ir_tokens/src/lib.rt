@@ -15,6 +15,7 @@ pub use called::Identifier;
 pub use laws::every_text_has_one_list_of_tokens;
 pub use naming::identifier;
 pub use number::constant;
+pub use place::{Extent, Place};
 pub use token::{Placed, Token};
 pub use tokens::tokens_of;
 

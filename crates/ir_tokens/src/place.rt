@@ -9,7 +9,7 @@ use crate::token::{Placed, Token};
 
 /// Where in a module the next token stands.
 #[derive(Clone, Copy, Debug, PartialEq, Eq)]
-pub(crate) enum Place {
+pub enum Place {
     /// Between the entries of the module; with the line of the token before, where there is one.
     AtEntry(Option<usize>),
     /// In the header of a function, from the word `define` to the body; with the line of the token before, where that is
@@ -21,7 +21,7 @@ pub(crate) enum Place {
 
 /// How far a token goes on.
 #[derive(Clone, Copy, Debug, PartialEq, Eq)]
-pub(crate) enum Extent {
+pub enum Extent {
     /// It is a token by itself.
     Itself,
     /// It begins a kept line.
