@@ -1,6 +1,6 @@
 -- A text has one module or one fault.
 use Rattle.std.proofs.Common.{◌≡◌, ◌<◌, ◌≤◌, ℕ, Bool, true, false, leb, List, Result, Ok, Err, length, refl, sym, ap, ◌∙◌, ◌⊎◌, inl, inr, arith}
-use Rattle.std.specs.Prelude.{IfOk, IfErr}
+use Rattle.std.specs.Prelude.{IfOk, OnOk, IfErr}
 use Rattle.std.proofs.lemmas.Bool.{leb-true, leb-false}
 use Rattle.ir_tokens.specs.Laws.{TextsHaveOneListOfTokens}
 use Rattle.ir_tokens.specs.Order.{AreTokens}
@@ -31,8 +31,11 @@ one_read law text r s (of_long more same) (of_tokens within tokens are is) = abs
 one_read law text r s (of_tokens within tokens are is) (of_long more same) = absurd (omega arith)
 one_read law text r s (of_tokens within tokens are is) (of_tokens within' tokens' are' is') = sym is ∙ ap module_of (law.one text tokens tokens' are are') ∙ is'
 
-raw_read : (text : List ℕ) (m : RawModule) → IsRaw text m → IsRead text (Ok m)
-raw_read text m w = of_tokens w.within w.tokens w.are_tokens (module_of-of m w.tokens w.spelled)
+raw_read : (text : List ℕ) (m : RawModule) → length text ≤ most_bytes → IsRaw text m → IsRead text (Ok m)
+raw_read text m within w = of_tokens within w.tokens w.are_tokens (module_of-of m w.tokens w.spelled)
+
+one_raw : TextsHaveOneListOfTokens → (text : List ℕ) (a b : RawModule) → IsRaw text a → IsRaw text b → a ≡ b
+one_raw law text a b h k = ok_is a b (sym (module_of-of a h.tokens h.spelled) ∙ ap module_of (law.one text h.tokens k.tokens h.are_tokens k.are_tokens) ∙ module_of-of b k.tokens k.spelled)
 
 fault_read : (text : List ℕ) (f : TextFault) → IsTextFault text f → IsRead text (Err f)
 fault_read text f (too_long more same) = of_long more (ap Err (sym same))
@@ -48,7 +51,7 @@ abbrev ReadingOrFault : List ℕ → Type 0
 ReadingOrFault text = ((m : RawModule) × IsRaw text m) ⊎ ((f : TextFault) × IsTextFault text f)
 
 some_read : (text : List ℕ) (tokens : List Placed) (r : Result RawModule TextFault) → length text ≤ most_bytes → AreTokens text tokens → module_of tokens ≡ r → ReadingOrFault text
-some_read text tokens (Ok m) within are e = inl (m, record { within = within; tokens = tokens; are_tokens = are; spelled = module_of-is tokens m e })
+some_read text tokens (Ok m) within are e = inl (m, record { tokens = tokens; are_tokens = are; spelled = module_of-is tokens m e })
 some_read text tokens (Err f) within are e = inr (f, misfit within tokens are e)
 
 some : TextsHaveOneListOfTokens → (text : List ℕ) (b : Bool) → leb (length text) most_bytes ≡ b → ReadingOrFault text
@@ -58,15 +61,15 @@ some law text false h = inr (fault 1 TooLong, too_long (leb-false (length text) 
 pub texts : TextsHaveOneListOfTokens → TextsHaveOneReadingOrFault
 texts law = record {
   some = λ text. some law text (leb (length text) most_bytes) refl;
-  one_reading = λ text a b h k. ok_is a b (one_read law text (Ok a) (Ok b) (raw_read text a h) (raw_read text b k));
+  one_reading = one_raw law;
   one_fault = λ text a b h k. let e : err_of a ≡ err_of b = one_read law text (Err a) (Err b) (fault_read text a h) (fault_read text b k) in cc;
-  not_both = λ text m f h k. let e : ok_of m ≡ err_of f = one_read law text (Ok m) (Err f) (raw_read text m h) (fault_read text f k) in cc;
+  not_both = λ text m f within h k. let e : ok_of m ≡ err_of f = one_read law text (Ok m) (Err f) (raw_read text m within h) (fault_read text f k) in cc;
 }
 
 -- ---- what the code answers
 
 pub answers : (text : List ℕ) (tokens : List Placed) (r : Result RawModule ParseError) → length text ≤ most_bytes → AreTokens text tokens → Gives (λ m. m) r (module_of tokens)
-    → IfOk r (λ m. IsRaw text m) × IfErr r (λ e. IfRefused e (IsTextFault text))
-answers text tokens (Ok m) within are e = (record { within = within; tokens = tokens; are_tokens = are; spelled = module_of-is tokens m e }, tt)
-answers text tokens (Err (Refused f)) within are e = (tt, misfit within tokens are e)
-answers text tokens (Err NoMemory) within are e = (tt, tt)
+    → IfOk r (λ m. IsRaw text m) × OnOk r (length text ≤ most_bytes) × IfErr r (λ e. IfRefused e (IsTextFault text))
+answers text tokens (Ok m) within are e = (record { tokens = tokens; are_tokens = are; spelled = module_of-is tokens m e }, within, tt)
+answers text tokens (Err (Refused f)) within are e = (tt, tt, misfit within tokens are e)
+answers text tokens (Err NoMemory) within are e = (tt, tt, tt)

@@ -1,19 +1,19 @@
 -- What holds of every text.
-use Rattle.std.specs.Prelude.{◌≡◌, ◌↔◌, ◌⊎◌, ℕ, List, Ok}
+use Rattle.std.specs.Prelude.{◌≡◌, ◌↔◌, ◌⊎◌, ℕ, ◌≤◌, List, length, Ok}
 use Rattle.ir_tokens.specs.Tokens.{Placed}
 use Rattle.ir_statements.specs.declared.fault.TextFault.{TextFault}
 use Rattle.ir_raw.specs.declared.raw.RawModule.{RawModule}
 use Rattle.ir_parse.specs.Grammar.{SpellsModule}
 use Rattle.ir_parse.specs.Parsing.{module_of}
-use Rattle.ir_parse.specs.Text.{IsRaw, IsTextFault}
+use Rattle.ir_parse.specs.Text.{most_bytes, IsRaw, IsTextFault}
 
 -- reading from left to right answers a module exactly where the grammar spells it
 abbrev pub ModulesAreReadAsSpelled : Type 0
 ModulesAreReadAsSpelled = (tokens : List Placed) (m : RawModule) → (module_of tokens ≡ Ok m) ↔ SpellsModule m tokens
 
--- a text has one module or one fault, and never both
+-- a text has one module or one fault, and within the limit never both
 pub record TextsHaveOneReadingOrFault : Type 0 where
   pub some : (text : List ℕ) → ((m : RawModule) × IsRaw text m) ⊎ ((fault : TextFault) × IsTextFault text fault)
   pub one_reading : (text : List ℕ) (a b : RawModule) → IsRaw text a → IsRaw text b → a ≡ b
   pub one_fault : (text : List ℕ) (a b : TextFault) → IsTextFault text a → IsTextFault text b → a ≡ b
-  pub not_both : (text : List ℕ) (m : RawModule) (fault : TextFault) → IsRaw text m → IsTextFault text fault → ⊥
+  pub not_both : (text : List ℕ) (m : RawModule) (fault : TextFault) → length text ≤ most_bytes → IsRaw text m → IsTextFault text fault → ⊥

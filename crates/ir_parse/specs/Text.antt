@@ -9,13 +9,12 @@ use Rattle.ir_statements.specs.Readers.{fault}
 use Rattle.ir_parse.specs.Grammar.{SpellsModule}
 use Rattle.ir_parse.specs.Parsing.{module_of}
 
--- the most bytes of a text
+-- the most bytes of a text that is read
 abbrev pub most_bytes : ℕ
 most_bytes = 2 ^ 24
 
--- the text is that of this module
+-- the text, however long, is that of this module
 pub record IsRaw (text : List ℕ) (module_read : RawModule) : Type 0 where
-  pub within : length text ≤ most_bytes
   pub tokens : List Placed
   pub are_tokens : AreTokens text tokens
   pub spelled : SpellsModule module_read tokens

@@ -6,7 +6,7 @@ pub fn modules_are_read_as_they_are_spelled()
     ensures { ModulesAreReadAsSpelled }
 {}
 
-/// A text has one module as written, or one fault, and never both.
+/// A text has one module as written, or one fault, and one within the limit never has both.
 pub fn every_text_has_one_reading_or_one_fault()
     ensures { TextsHaveOneReadingOrFault }
 {

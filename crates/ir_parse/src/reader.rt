@@ -1,8 +1,8 @@
 //! The module of a text as written.
 
-ghost use Rattle.std.specs.Prelude.{IfOk, IfErr};
+ghost use Rattle.std.specs.Prelude.{◌≤◌, length, IfOk, OnOk, IfErr};
 ghost use Rattle.ir_parse.specs.Refusing.{IfRefused};
-ghost use Rattle.ir_parse.specs.Text.{IsRaw, IsTextFault};
+ghost use Rattle.ir_parse.specs.Text.{most_bytes, IsRaw, IsTextFault};
 
 use crate::entry::raw_module;
 use ir_raw::RawModule;
@@ -10,12 +10,13 @@ use ir_statements::{Misfit, ParseError, refused};
 use ir_tokens::tokens_of;
 use std::alloc::Global;
 
-/// The most bytes of a text.
+/// The most bytes of a text that is read.
 const MOST_BYTES: usize = 1 << 24;
 
 /// The module of a text as it is written, or the text's first fault. It takes as many steps as the text has bytes.
 pub fn parse(alloc: Global, bytes: &[u8]) -> Result<RawModule, ParseError>
     ensures ok { IfOk result (λ m. IsRaw bytes.now m) }
+    ensures limit { OnOk result (length bytes.now ≤ most_bytes) }
     ensures refused { IfErr result (λ e. IfRefused e (IsTextFault bytes.now)) }
 {
     if bytes.len() > MOST_BYTES {

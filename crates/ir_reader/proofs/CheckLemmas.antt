@@ -5,10 +5,12 @@ use Rattle.std.proofs.lemmas.Option.{slice_get_within}
 use Rattle.ir_core.specs.declared.module.Module.{Module}
 use Rattle.ir_core.specs.declared.module.Entry.TheVariants as entries
 use Rattle.ir_core.specs.declared.function.Function.{Function}
+use Rattle.ir_core.specs.declared.instruction.Inst.{Inst}
 use Rattle.ir_core.specs.declared.instruction.Op.{Op}
 use Rattle.ir_core.specs.declared.instruction.Op.TheVariants as core
 use Rattle.ir_core.specs.declared.operand.Operand.{Operand}
-use Rattle.ir_core.specs.Checks.{IsPhi, EntriesFit, MeetsChecks, ModuleMeetsChecks}
+use Rattle.ir_core.specs.Checks.{IsInst, IsPhi, EntriesFit, MeetsChecks, ModuleMeetsChecks}
+use Rattle.ir_tokens.specs.declared.called.Identifier.{Identifier as Called}
 use Rattle.ir_tokens.specs.Tokens.{Placed}
 use Rattle.ir_raw.specs.declared.raw.RawModule.{RawModule}
 use Rattle.ir_raw.specs.declared.raw.RawEntry.{RawEntry}
@@ -17,29 +19,36 @@ use Rattle.ir_raw.specs.declared.raw.RawFunction.{RawFunction}
 use Rattle.ir_raw.specs.declared.raw.RawBlock.{RawBlock}
 use Rattle.ir_raw.specs.declared.raw.RawOp.{RawOp}
 use Rattle.ir_raw.specs.declared.raw.RawOp.TheVariants as ops
-use Rattle.ir_statements.specs.Grammar.{SpellsOp, SpellsInst}
+use Rattle.ir_statements.specs.Grammar.{SpellsIncoming, SpellsOp, SpellsInst}
+use Rattle.ir_statements.specs.Parts.{Part, Separated}
 use Rattle.ir_parse.specs.Grammar.{SpellsBlock, SpellsBlocks, SpellsLabelledBlock, SpellsEntry}
 use Rattle.ir_parse.specs.Text.{IsRaw}
-use Rattle.ir_statements.proofs.OwnFlags.{own_flags as flags_spelled}
+use Rattle.ir_statements.proofs.OwnFlags.{own_flags}
 use Rattle.ir_resolve.specs.declared.fault.FaultKind.TheVariants.{Duplicate, TypeClash}
 use Rattle.ir_resolve.specs.Faults.{HasNoFault}
-use Rattle.ir_resolve.specs.Means.{Means}
-use Rattle.ir_resolve.specs.Formed.{HasOwnFlags, IsWellWritten, IsResolved as IsNamed}
+use Rattle.ir_resolve.specs.Means.{Means, IncomingMeans, OpMeans, InstMeans}
+use Rattle.ir_resolve.specs.Written.{Thing, Calls}
+use Rattle.ir_resolve.specs.Formed.{IsWellWrittenOp, IsWellWritten, IsResolved as IsNamed}
 use Rattle.ir_resolve.proofs.Resolved.{resolved}
 use Rattle.ir_reader.specs.Phis.{OnlyPhisBefore, OpFits}
 use Rattle.ir_reader.specs.Faults.{IsFunctionOf, functions_of, IsEntryOf, IsModuleText}
-use Rattle.ir_reader.proofs.Places.{order, there, somewhere, take_at}
+use Rattle.ir_reader.proofs.Meaning.{block_written}
+use Rattle.ir_reader.proofs.Places.{order, there, somewhere, contained, take_at, zip_right, zip_length}
 use Rattle.ir_reader.proofs.Reading.{each_spelled, some_block}
 
 -- ---- functions as the grammar has them
 
-own_flags : (op : RawOp) (tokens rest : List Placed) → SpellsOp op tokens rest → HasOwnFlags op
-own_flags (ops.Binary op flags width a b) tokens rest spelled = flags_spelled op flags _ _ spelled.2.1
-own_flags (ops.Compare pred width a b) tokens rest spelled = tt
-own_flags (ops.Select c a b) tokens rest spelled = tt
-own_flags (ops.Convert cast from a to) tokens rest spelled = tt
-own_flags (ops.Freeze width a) tokens rest spelled = tt
-own_flags (ops.Phi width incoming) tokens rest spelled = tt
+some_separated : {X : Type 0} (P : X → Part) (xs : List X) (tokens rest : List Placed) → Separated P xs tokens rest → 0 < length xs
+some_separated P [] tokens rest spelled = absurd spelled
+some_separated P (x ∷ xs) tokens rest spelled = omega arith
+
+op_written : (op : RawOp) (tokens rest : List Placed) → SpellsOp op tokens rest → IsWellWrittenOp op
+op_written (ops.Binary op flags width a b) tokens rest spelled = own_flags op flags _ _ spelled.2.1
+op_written (ops.Compare pred width a b) tokens rest spelled = tt
+op_written (ops.Select c a b) tokens rest spelled = tt
+op_written (ops.Convert cast from a to) tokens rest spelled = tt
+op_written (ops.Freeze width a) tokens rest spelled = tt
+op_written (ops.Phi width incoming) tokens rest spelled = some_separated (SpellsIncoming width) incoming _ _ spelled.2.2
 
 block_spelled : (blocks : List RawBlock) (k : ℕ) (block : RawBlock) (tokens rest : List Placed) → SpellsBlocks blocks tokens rest → slice_get blocks k ≡ Some block → (t : List Placed) × ((r : List Placed) × SpellsBlock block t r)
 block_spelled [] k block tokens rest spelled at = cc
@@ -49,12 +58,12 @@ block_spelled (first ∷ others) (suc k) block tokens rest spelled at = let (t, 
 well_written : (f : RawFunction) (tokens rest : List Placed) → SpellsBlocks f.blocks tokens rest → IsWellWritten f
 well_written f tokens rest spelled = record {
   some_block = some_block f.blocks tokens rest spelled;
-  flags = λ block inst in_blocks in_insts.
+  insts = λ block inst in_blocks in_insts.
       let (k, at) = somewhere f.blocks block in_blocks in
       let (j, at') = somewhere block.insts inst in_insts in
       let (t, (r, is)) = block_spelled f.blocks k block tokens rest spelled at in
       let (t', (r', is')) = each_spelled SpellsInst block.insts j inst is.0 is.2.0 is.2.1 at' in
-      own_flags inst.op is'.2.0 is'.2.2.0 is'.2.2.1;
+      op_written inst.op is'.2.0 is'.2.2.0 is'.2.2.1;
 }
 
 pub all_well_written : (text : List ℕ) (m : RawModule) → IsRaw text m → (k : ℕ) (f : RawFunction) → slice_get m.entries k ≡ Some (raw_entries.Function f) → IsWellWritten f
@@ -68,8 +77,19 @@ phi_first : (f : Function) (b k : ℕ) (op : Op) → IsPhi op → OpFits f b k o
 phi_first f b k (core.Phi es) phi fits = fits.only_phis
 phi_first f b k op phi fits = absurd phi
 
-phi_entries : (f : Function) (b k : ℕ) (op : Op) (es : List (Operand × ℕ)) → op ≡ core.Phi es → OpFits f b k op → EntriesFit f b es
-phi_entries f b k op es is fits = let here = rw is at fits in here.entries_fit
+-- a phi as the grammar has it has an entry, and so has the phi that is meant
+some_entry : (CallsThing : Called → Thing → Type 0) (w : RawOp) (es : List (Operand × ℕ)) → OpMeans CallsThing w (core.Phi es) → IsWellWrittenOp w → 0 < length es
+some_entry CallsThing (ops.Phi width incoming) es means some = let long = zip_length (IncomingMeans CallsThing) incoming es means in omega arith
+some_entry CallsThing w es means some = absurd means
+
+phi_has_entry : (raw : RawFunction) (f : Function) (b k : ℕ) (inst : Inst) (es : List (Operand × ℕ)) → Means raw f → IsWellWritten raw → IsInst f b k inst → inst.op ≡ core.Phi es → 0 < length es
+phi_has_entry raw f b k inst es means well is phi =
+    let (w, w_at, block_is) = block_written raw f means b is.block is.is_block in
+    let (v, v_at, v_means) = zip_right (InstMeans (Calls raw)) w.insts is.block.insts k inst block_is.1 is.is_inst in
+    some_entry (Calls raw) v.op es (subst (OpMeans (Calls raw) v.op) phi v_means.2) (well.insts w v (contained raw.blocks b w w_at) (contained w.insts k v v_at))
+
+phi_entries : (f : Function) (b k : ℕ) (op : Op) (es : List (Operand × ℕ)) → op ≡ core.Phi es → OpFits f b k op → 0 < length es → EntriesFit f b es
+phi_entries f b k op es is fits some = let here = rw is at fits in record { some = some; from = here.from; one = here.one }
 
 named : (earlier : List RawFunction) (raw : RawFunction) (f : Function) → HasNoFault earlier raw → Means raw f → IsWellWritten raw → IsNamed f
 named earlier raw f none means well =
@@ -88,7 +108,7 @@ meets earlier raw f well is =
         insts = names.insts;
         cases = names.cases;
         phis_first = λ b j k earlier later early late lt phi. phi_first f b k later.op phi (is.phis b k later late) j earlier lt early;
-        phis = λ b k inst es inst_is e. phi_entries f b k inst.op es e (is.phis b k inst inst_is);
+        phis = λ b k inst es inst_is e. phi_entries f b k inst.op es e (is.phis b k inst inst_is) (phi_has_entry raw f b k inst es is.resolved.1 well inst_is e);
         entry = is.entry;
       };
       assigned = is.assigned;

@@ -18,7 +18,8 @@ use Rattle.ir_reader.specs.Kinds.{BadPhiAt, EntryPredAt, IsUnassignedFault}
 use Rattle.ir_reader.specs.Faults.{EntryIsFree, IsFunctionOf, IsFirstFault, of_names, bad_phi, entry_pred, unassigned}
 use Rattle.ir_reader.proofs.Meaning.{block_written}
 use Rattle.ir_reader.proofs.Places.{zip_right}
-use Rattle.ir_reader.proofs.Stable.{op_fits_stable}
+use Rattle.ir_resolve.proofs.Deciding.{stable}
+use Rattle.ir_reader.proofs.Fitting.{dec_fits}
 
 -- what is said of all earlier functions for which the mark is right
 abbrev pub ForEarlier : Bool → RawFunction → (List RawFunction → Type 0) → Type 0
@@ -29,28 +30,29 @@ module _ (is_repeated : Bool) (raw : RawFunction) where
   names_fault (resolve_errors.Refused fault) e' is first = rw is (λ earlier marks. of_names (first earlier marks))
   names_fault resolve_errors.NoMemory e' is first = rw is tt
 
-module _ (is_repeated : Bool) (raw : RawFunction) (f : Function) (means : Means raw f) (faultless : ForEarlier is_repeated raw (λ earlier. HasNoFault earlier raw)) where
+module _ (raw : RawFunction) (f : Function) (means : Means raw f) where
   pub phis_fit : ((line : ℕ) → ¬ BadPhiAt raw f line) → PhisFit f
   phis_fit none b k inst is =
       let (w, w_at, block_is) = block_written raw f means b is.block is.is_block in
       let (written, there, all) = zip_right (InstMeans (Calls raw)) w.insts is.block.insts k inst block_is.1 is.is_inst in
-      op_fits_stable f b k inst.op (λ bad. none written.result.line (b, k, ((inst, is, bad), (written, (w, w_at, there), refl))))
+      stable (dec_fits f b k inst.op) (λ bad. none written.result.line (b, k, ((inst, is, bad), (written, (w, w_at, there), refl))))
 
   pub entry_free : ((line : ℕ) → ¬ EntryPredAt raw f line) → EntryIsFree f
   entry_free none b names =
       let (w, w_at, block_is) = block_written raw f means b names.0 names.1 in
       none w.end_line (b, (names, (w, w_at, refl)))
 
+module _ (is_repeated : Bool) (raw : RawFunction) (f : Function) (means : Means raw f) (faultless : ForEarlier is_repeated raw (λ earlier. HasNoFault earlier raw)) where
   pub bad_phi_fault : (line : ℕ) (e : IrError) → e ≡ errors.Refused (record { line = line; kind = kinds.BadPhi }) → IsFirstLine (BadPhiAt raw f) line → IfRefused e (λ fault. ForEarlier is_repeated raw (λ earlier. IsFirstFault earlier raw fault))
   bad_phi_fault line e is first = rw is (λ earlier marks. bad_phi f (faultless earlier marks, means) first)
 
   pub entry_fault : (line : ℕ) (e : IrError) → e ≡ errors.Refused (record { line = line; kind = kinds.EntryPred }) → ((at : ℕ) → ¬ BadPhiAt raw f at) → IsFirstLine (EntryPredAt raw f) line
       → IfRefused e (λ fault. ForEarlier is_repeated raw (λ earlier. IsFirstFault earlier raw fault))
-  entry_fault line e is no_phi first = rw is (λ earlier marks. entry_pred f (faultless earlier marks, means) (phis_fit no_phi) first)
+  entry_fault line e is no_phi first = rw is (λ earlier marks. entry_pred f (faultless earlier marks, means) (phis_fit raw f means no_phi) first)
 
   pub reads_fault : (e : IrError) → ((at : ℕ) → ¬ BadPhiAt raw f at) → ((at : ℕ) → ¬ EntryPredAt raw f at) → IfRefused e (IsUnassignedFault raw f) → IfRefused e (λ fault. ForEarlier is_repeated raw (λ earlier. IsFirstFault earlier raw fault))
-  reads_fault (errors.Refused fault) no_phi no_entry first = λ earlier marks. unassigned f (faultless earlier marks, means) (phis_fit no_phi) (entry_free no_entry) first
+  reads_fault (errors.Refused fault) no_phi no_entry first = λ earlier marks. unassigned f (faultless earlier marks, means) (phis_fit raw f means no_phi) (entry_free raw f means no_entry) first
   reads_fault errors.NoMemory no_phi no_entry first = tt
 
   pub function_of : ((at : ℕ) → ¬ BadPhiAt raw f at) → ((at : ℕ) → ¬ EntryPredAt raw f at) → ReadsAreAssigned f → ForEarlier is_repeated raw (λ earlier. IsFunctionOf earlier raw f)
-  function_of no_phi no_entry assigned earlier marks = record { resolved = (faultless earlier marks, means); phis = phis_fit no_phi; entry = entry_free no_entry; assigned = assigned }
+  function_of no_phi no_entry assigned earlier marks = record { resolved = (faultless earlier marks, means); phis = phis_fit raw f means no_phi; entry = entry_free raw f means no_entry; assigned = assigned }

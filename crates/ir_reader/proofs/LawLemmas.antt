@@ -1,4 +1,4 @@
--- A text is that of one module at most, or has one fault at most, and never both.
+-- A text is that of one module or has one fault, and within the limit never both.
 use Rattle.std.proofs.Common.{◌≡◌, ◌⊎◌, inl, inr, ℕ, suc, ◌<◌, ◌≤◌, List, [], ◌∷◌, length, take, Some, refl, sym, ap, subst, ◌∙◌, arith}
 use Rattle.std.specs.Prelude.{slice_get}
 use Rattle.std.proofs.lemmas.Option.{slice_get_within}
@@ -14,6 +14,7 @@ use Rattle.ir_raw.specs.declared.raw.RawEntry.TheVariants as raw_entries
 use Rattle.ir_raw.specs.declared.raw.RawFunction.{RawFunction}
 use Rattle.ir_raw.specs.declared.raw.RawValue.TheVariants as values
 use Rattle.ir_parse.specs.Laws.{TextsHaveOneReadingOrFault}
+use Rattle.ir_parse.specs.Text.{most_bytes}
 use Rattle.ir_resolve.specs.Laws.{FunctionsHaveOneMeaningOrFault}
 use Rattle.ir_resolve.specs.Firsts.{IsFirstLine}
 use Rattle.ir_resolve.specs.Reading.{Typed}
@@ -26,6 +27,7 @@ use Rattle.ir_reader.specs.Kinds.{BadPhiAt, EntryPredAt, IsUnassignedFault}
 use Rattle.ir_reader.specs.Faults.{IsResolved, EntryIsFree, IsFunctionOf, IsFirstFault, of_names, bad_phi, entry_pred, unassigned, functions_of, IsEntryOf, AreEntriesOf, IsFaultOfEntry, IsFaultOfEntries, IsModuleText, IsFault, of_text, of_entries}
 use Rattle.ir_reader.specs.Laws.{TextsHaveOneModuleOrFault}
 use Rattle.ir_reader.proofs.Places.{order, same_at, there}
+use Rattle.ir_reader.proofs.Existence.{module_or_fault}
 
 -- ---- faults of a function that is meant
 
@@ -185,15 +187,15 @@ module _ (reading : TextsHaveOneReadingOrFault) (law : FunctionsHaveOneMeaningOr
 
   one_fault : (text : List ℕ) (a b : IrFault) → IsFault text a → IsFault text b → a ≡ b
   one_fault text a b (of_text {fault = m} p) (of_text {fault = n} q) = ap of_text_fault (reading.one_fault text m n p q)
-  one_fault text a b (of_text {fault = m} p) (of_entries n raw q) = absurd (reading.not_both text n m raw p)
-  one_fault text a b (of_entries m raw p) (of_text {fault = n} q) = absurd (reading.not_both text m n raw q)
-  one_fault text a b (of_entries m raw p) (of_entries n raw' q) =
+  one_fault text a b (of_text {fault = m} p) (of_entries n within raw q) = absurd (reading.not_both text n m within raw p)
+  one_fault text a b (of_entries m within raw p) (of_text {fault = n} q) = absurd (reading.not_both text m n within raw q)
+  one_fault text a b (of_entries m within raw p) (of_entries n within' raw' q) =
       one_fault_of_entries law n.entries a b (subst (λ (w : RawModule). IsFaultOfEntries w.entries a) (reading.one_reading text m n raw raw') p) q
 
-  not_both : (text : List ℕ) (m : Module) (fault : IrFault) → IsModuleText text m → IsFault text fault → ⊥
-  not_both text m fault p (of_text {fault = n} q) = reading.not_both text p.raw n p.is_raw q
-  not_both text m fault p (of_entries n raw q) =
+  not_both : (text : List ℕ) (m : Module) (fault : IrFault) → length text ≤ most_bytes → IsModuleText text m → IsFault text fault → ⊥
+  not_both text m fault within p (of_text {fault = n} q) = reading.not_both text p.raw n within p.is_raw q
+  not_both text m fault within p (of_entries n within' raw q) =
       not_both_of_entries law n.entries m.entries fault (subst (λ (w : RawModule). AreEntriesOf w.entries m.entries) (reading.one_reading text p.raw n p.is_raw raw) p.entries) q
 
   pub one_module_or_fault : TextsHaveOneModuleOrFault
-  one_module_or_fault = record { one_module = one_module; one_fault = one_fault; not_both = not_both }
+  one_module_or_fault = record { some = module_or_fault reading law; one_module = one_module; one_fault = one_fault; not_both = not_both }

@@ -4,8 +4,12 @@ pub mod Meaning
 pub mod Sets
 pub mod PhiLemmas
 pub mod EntryLemmas
-pub mod Stable
+pub mod Searching
+pub mod Avoiding
+pub mod Unassigned
+pub mod Fitting
 pub mod Checking
 pub mod Reading
+pub mod Existence
 pub mod LawLemmas
 pub mod CheckLemmas

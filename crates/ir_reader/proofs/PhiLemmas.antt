@@ -191,11 +191,12 @@ module _ {R : Type 0} (raw : RawFunction) (f : Function) (sets : List (IndexSet 
   op_fits k (Phi entries) = (
     λ h. record {
       only_phis = λ j earlier lt inst. h.0 j earlier lt (subst (λ (x : Block). slice_get x.insts j ≡ Some earlier) (same_at f.blocks b inst.block block inst.is_block at) inst.is_inst);
-      entries_fit = record { from = λ c. (λ some. (named c).0 ((h.1.from c).0 some), λ names. (h.1.from c).1 ((named c).1 names)); one = h.1.one };
+      from = λ c. (λ some. (named c).0 ((h.1.from c).0 some), λ names. (h.1.from c).1 ((named c).1 names));
+      one = h.1.one;
     },
     λ h. (
       λ j earlier lt here. h.only_phis j earlier lt (record { block = block; is_block = at; is_inst = here }),
-      record { from = λ c. (λ some. (named c).1 ((h.entries_fit.from c).0 some), λ has. (h.entries_fit.from c).1 ((named c).0 has)); one = h.entries_fit.one },
+      record { from = λ c. (λ some. (named c).1 ((h.from c).0 some), λ has. (h.from c).1 ((named c).0 has)); one = h.one },
     ),
   )
   op_fits k (Binary op flags x y) = (λ h. tt, λ h. tt)

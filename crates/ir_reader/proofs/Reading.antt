@@ -1,5 +1,5 @@
 -- Entry by entry through a module.
-use Rattle.std.proofs.Common.{◌≡◌, inl, inr, ℕ, zero, suc, ◌+◌, ◌<◌, Bool, List, [], ◌∷◌, ◌++◌, length, length-append, take, Some, refl, sym, ap, subst, ◌∙◌, arith}
+use Rattle.std.proofs.Common.{◌≡◌, inl, inr, ℕ, zero, suc, ◌+◌, ◌<◌, ◌≤◌, Bool, List, [], ◌∷◌, ◌++◌, length, length-append, take, Some, refl, sym, ap, subst, ◌∙◌, arith}
 use Rattle.std.specs.Prelude.{slice_get}
 use Rattle.ir_core.specs.declared.module.Entry.{Entry}
 use Rattle.ir_core.specs.declared.module.Entry.TheVariants as entries
@@ -15,7 +15,7 @@ use Rattle.ir_statements.specs.declared.fault.ParseError.TheVariants as parse_er
 use Rattle.ir_parse.specs.Grammar.{SpellsEntry, SpellsBlocks}
 use Rattle.ir_statements.specs.Parts.{Part, Each}
 use Rattle.ir_parse.specs.Refusing.{IfRefused as IfMisread}
-use Rattle.ir_parse.specs.Text.{IsRaw, IsTextFault}
+use Rattle.ir_parse.specs.Text.{most_bytes, IsRaw, IsTextFault}
 use Rattle.ir_reader.specs.declared.fault.IrError.{IrError}
 use Rattle.ir_reader.specs.declared.fault.IrError.TheVariants as errors
 use Rattle.ir_reader.specs.Refusing.{IfRefused, of_parse_error}
@@ -90,9 +90,9 @@ pub text_fault : (text : List ℕ) (e : ParseError) (e' : IrError) → e' ≡ of
 text_fault text (parse_errors.Refused fault) e' is h = rw is (of_text h)
 text_fault text parse_errors.NoMemory e' is h = rw is tt
 
-pub entries_fault : (text : List ℕ) (m : RawModule) (e : IrError) → IsRaw text m → IfRefused e (IsFaultOfEntries m.entries) → IfRefused e (IsFault text)
-entries_fault text m (errors.Refused fault) raw h = of_entries m raw h
-entries_fault text m errors.NoMemory raw h = tt
+pub entries_fault : (text : List ℕ) (m : RawModule) (e : IrError) → length text ≤ most_bytes → IsRaw text m → IfRefused e (IsFaultOfEntries m.entries) → IfRefused e (IsFault text)
+entries_fault text m (errors.Refused fault) within raw h = of_entries m within raw h
+entries_fault text m errors.NoMemory within raw h = tt
 
 -- an entry that is a function
 pub function_entry : (raw : RawEntry) (f : RawFunction) (entry : Entry) (g : Function) (mark : Bool) → raw ≡ raw_entries.Function f → entry ≡ entries.Function g

@@ -1,5 +1,5 @@
 -- Which texts are modules, and of which, and which is the first fault of one that is none.
-use Rattle.std.specs.Prelude.{◌≡◌, ℕ, ◌<◌, List, [], ◌∷◌, length, take, Some, slice_get}
+use Rattle.std.specs.Prelude.{◌≡◌, ℕ, ◌<◌, ◌≤◌, List, [], ◌∷◌, length, take, Some, slice_get}
 use Rattle.ir_core.specs.declared.module.Module.{Module}
 use Rattle.ir_core.specs.declared.module.Entry.{Entry}
 use Rattle.ir_core.specs.declared.module.Entry.TheVariants as entries
@@ -11,7 +11,7 @@ use Rattle.ir_raw.specs.declared.raw.RawEntry.{RawEntry}
 use Rattle.ir_raw.specs.declared.raw.RawEntry.TheVariants as raw_entries
 use Rattle.ir_raw.specs.declared.raw.RawFunction.{RawFunction}
 use Rattle.ir_statements.specs.declared.fault.TextFault.{TextFault}
-use Rattle.ir_parse.specs.Text.{IsRaw, IsTextFault}
+use Rattle.ir_parse.specs.Text.{most_bytes, IsRaw, IsTextFault}
 use Rattle.ir_resolve.specs.declared.fault.Fault.{Fault}
 use Rattle.ir_resolve.specs.Faults.{HasNoFault, IsFirstFault as IsFirstNameFault}
 use Rattle.ir_resolve.specs.Firsts.{IsFirstLine}
@@ -69,7 +69,7 @@ pub record AreEntriesOf (written : List RawEntry) (read : List Entry) : Type 0 w
   pub count : length read ≡ length written
   pub each : (k : ℕ) (raw : RawEntry) (entry : Entry) → slice_get written k ≡ Some raw → slice_get read k ≡ Some entry → IsEntryOf (functions_of (take k written)) raw entry
 
--- the text is that of this module
+-- the text, however long, is that of this module
 pub record IsModuleText (text : List ℕ) (m : Module) : Type 0 where
   pub raw : RawModule
   pub is_raw : IsRaw text raw
@@ -88,7 +88,7 @@ pub record IsFaultOfEntries (written : List RawEntry) (fault : IrFault) : Type 0
   pub before : (j : ℕ) (other : RawEntry) → j < k → slice_get written j ≡ Some other → (entry : Entry) × IsEntryOf (functions_of (take j written)) other entry
   pub fault_there : IsFaultOfEntry (functions_of (take k written)) raw fault
 
--- The first fault of a text: that of the text as it is written, or else that of its entries.
+-- The first fault of a text: that of the text as it is written, which may be its length, or else that of its entries.
 pub data IsFault (text : List ℕ) : IrFault → Type 0 where
   of_text : {fault : TextFault} → IsTextFault text fault → IsFault text (of_text_fault fault)
-  of_entries : {fault : IrFault} (m : RawModule) → IsRaw text m → IsFaultOfEntries m.entries fault → IsFault text fault
+  of_entries : {fault : IrFault} (m : RawModule) → length text ≤ most_bytes → IsRaw text m → IsFaultOfEntries m.entries fault → IsFault text fault

@@ -1,21 +1,23 @@
 -- What phis have to meet (LangRef, "phi", "Well-Formedness").
-use Rattle.std.specs.Prelude.{ℕ, ◌<◌, List}
+use Rattle.std.specs.Prelude.{◌≡◌, ◌↔◌, ℕ, ◌<◌, List, Contains}
 use Rattle.ir_core.specs.declared.function.Function.{Function}
 use Rattle.ir_core.specs.declared.instruction.Inst.{Inst}
 use Rattle.ir_core.specs.declared.instruction.Op.{Op}
 use Rattle.ir_core.specs.declared.instruction.Op.TheVariants.{Binary, Compare, Select, Convert, Freeze, Phi}
 use Rattle.ir_core.specs.declared.operand.Operand.{Operand}
-use Rattle.ir_core.specs.Checks.{IsInst, IsPhi, EntriesFit}
+use Rattle.ir_core.specs.Blocks.{Names}
+use Rattle.ir_core.specs.Checks.{IsInst, IsPhi}
 
 -- only phis stand before place k of block b
 abbrev pub OnlyPhisBefore : Function → ℕ → ℕ → Type 0
 OnlyPhisBefore f b k = (j : ℕ) (earlier : Inst) → j < k → IsInst f b j earlier → IsPhi earlier.op
 
 -- A phi of these entries fits at place k of block b: only phis stand before it, and it has one operand for each block whose terminator
--- names this one, reached or not, and none for another block.
+-- names this one, reached or not, and none for another block. That it has an entry is not asked here, since the grammar has one.
 pub record PhiFits (f : Function) (b k : ℕ) (entries : List (Operand × ℕ)) : Type 0 where
   pub only_phis : OnlyPhisBefore f b k
-  pub entries_fit : EntriesFit f b entries
+  pub from : (c : ℕ) → ((a : Operand) × Contains entries (a, c)) ↔ Names f c b
+  pub one : (x y : Operand) (c : ℕ) → Contains entries (x, c) → Contains entries (y, c) → x ≡ y
 
 -- an instruction at this place is no phi, or it fits
 abbrev pub OpFits : Function → ℕ → ℕ → Op → Type 0

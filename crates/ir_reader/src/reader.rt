@@ -1,7 +1,8 @@
 //! The module of a text.
 
-ghost use Rattle.std.specs.Prelude.{List as Seq, IfOk, IfErr};
+ghost use Rattle.std.specs.Prelude.{◌≤◌, List as Seq, length, IfOk, OnOk, IfErr};
 ghost use Rattle.ir_core.specs.Checks.{ModuleMeetsChecks};
+ghost use Rattle.ir_parse.specs.Text.{most_bytes};
 ghost use Rattle.ir_raw.specs.declared.raw.RawFunction.{RawFunction as written_function};
 ghost use Rattle.ir_reader.specs.Refusing.{IfRefused};
 ghost use Rattle.ir_reader.specs.Marks.{MarksEntry, HasBlock, HaveBlocks};
@@ -24,6 +25,7 @@ use std::alloc::Global;
 /// [`check_assigned`](assigned_flow::check_assigned), whose worst case is told there.
 pub fn read_module(alloc: Global, bytes: &[u8]) -> Result<Module, IrError>
     ensures ok { IfOk result (IsModuleText bytes.now) }
+    ensures limit { OnOk result (length bytes.now ≤ most_bytes) }
     ensures refused { IfErr result (λ e. IfRefused e (IsFault bytes.now)) }
     ensures checks { IfOk result ModuleMeetsChecks }
 {

@@ -78,7 +78,7 @@ module _ (raw : RawFunction) (known : List Known) (table : Tabulates raw known) 
 each_contained : {X : Type 0} (P : X → Type 0) (xs : List X) → ((x : X) → Contains xs x → P x) → AllByRecursion P xs
 each_contained P xs f = recursion_from_All P xs (λ k d lt. f (get_or xs k d) (Contains-get_or xs k d lt))
 
-contained_behind : {X : Type 0} (y : X) (xs : List X) (x : X) → Contains (y ∷ xs) x → (y ≡ x) ⊎ Contains xs x
+pub contained_behind : {X : Type 0} (y : X) (xs : List X) (x : X) → Contains (y ∷ xs) x → (y ≡ x) ⊎ Contains xs x
 contained_behind y xs x (zero, lt, is) = inl is
 contained_behind y xs x (suc k, lt, is) = inr (k, omega arith, is)
 

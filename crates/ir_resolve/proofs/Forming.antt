@@ -39,7 +39,7 @@ use Rattle.ir_resolve.specs.Written.{Thing, given, written_in}
 use Rattle.ir_resolve.specs.Reading.{Typed, read_by, read_at_end, named_at_end, cases_of}
 use Rattle.ir_resolve.specs.Kinds.{literal_of, result_width, Repeats, HasNumber, IsCaseOn, OpClashesAt, EndClashesAt}
 use Rattle.ir_resolve.specs.Means.{ValueMeans, BlockMeans, IncomingMeans, OpMeans, InstMeans, CaseMeans, EndMeans, BlockIsOf, ParameterMeans}
-use Rattle.ir_resolve.specs.Formed.{HasOwnFlags}
+use Rattle.ir_resolve.specs.Formed.{IsWellWrittenOp}
 use Rattle.ir_resolve.proofs.Places.{contained_at, before_place}
 use Rattle.ir_resolve.proofs.Tabling.{once}
 use Rattle.ir_resolve.proofs.Pairs.{pair_of_second, made_pairs}
@@ -131,7 +131,7 @@ targets_meant C w t h = absurd h
 
 -- ---- types and cases
 
-pub op_typed : (C : Called → Thing → Type 0) (w : RawOp) (width : ℕ) (o : Op) → OpMeans C w o → width ≡ result_width w → ((line : ℕ) → ¬ OpClashesAt w line) → HasOwnFlags w → IsTyped width o
+pub op_typed : (C : Called → Thing → Type 0) (w : RawOp) (width : ℕ) (o : Op) → OpMeans C w o → width ≡ result_width w → ((line : ℕ) → ¬ OpClashesAt w line) → IsWellWrittenOp w → IsTyped width o
 op_typed C (ops.Binary op flags n a c) width (core.Binary op' flags' x y) h wide typed own = rw (h.0, h.1) own
 op_typed C (ops.Compare pred n a c) width (core.Compare pred' m x y) h wide typed own = wide
 op_typed C (ops.Select z a c) width (core.Select z' x y) h wide typed own = tt

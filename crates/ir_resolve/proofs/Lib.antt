@@ -19,3 +19,7 @@ pub mod Pairs
 pub mod Forming
 pub mod Resolved
 pub mod Once
+pub mod Deciding
+pub mod FirstLines
+pub mod Meant
+pub mod Existence

@@ -202,10 +202,10 @@ module _ (C : Called → Thing → Type 0) (one_register : (x : Called) (r s : R
 
 -- what a name calls is the one that the table of all identifiers gives
 module _ (raw : RawFunction) (no_repeat : (line : ℕ) → ¬ Repeats HasName IsWrittenOn (written_names raw) line) where
-  abbrev known : List Known
+  abbrev pub known : List Known
   known = zip (identifiers_of raw) (map (λ (d : Defined). d.1) (definitions_of raw))
 
-  table : Tabulates raw known
+  pub table : Tabulates raw known
   table = tabulates raw known no_repeat refl
 
   one_register_of : (x : Called) (r s : Register) → Calls raw x (Value r) → Calls raw x (Value s) → r ≡ s

@@ -91,14 +91,14 @@ module _ (earlier : List RawFunction) (raw : RawFunction) (no_numbering : (line 
   clear_1 TypeClash l lt = absurd (omega arith)
 
   module _ (no_duplicate : (line : ℕ) → ¬ DuplicateAt earlier raw line) where
-    clear_2 : (kind : FaultKind) (l : ℕ) → rank kind < 2 → ¬ HasFaultAt earlier raw kind l
+    pub clear_2 : (kind : FaultKind) (l : ℕ) → rank kind < 2 → ¬ HasFaultAt earlier raw kind l
     clear_2 Numbering l lt = no_numbering l
     clear_2 Duplicate l lt = no_duplicate l
     clear_2 Unknown l lt = absurd (omega arith)
     clear_2 TypeClash l lt = absurd (omega arith)
 
     module _ (no_unknown : (line : ℕ) → ¬ UnknownAt raw line) where
-      clear_3 : (kind : FaultKind) (l : ℕ) → rank kind < 3 → ¬ HasFaultAt earlier raw kind l
+      pub clear_3 : (kind : FaultKind) (l : ℕ) → rank kind < 3 → ¬ HasFaultAt earlier raw kind l
       clear_3 Numbering l lt = no_numbering l
       clear_3 Duplicate l lt = no_duplicate l
       clear_3 Unknown l lt = no_unknown l

@@ -28,7 +28,7 @@ use Rattle.ir_resolve.specs.Written.{Calls, given, written_in, written_names}
 use Rattle.ir_resolve.specs.Reading.{Typed, read_by, read_at_end, named_at_end, cases_of, read_in, reads_of as all_reads}
 use Rattle.ir_resolve.specs.Kinds.{literal_of, Repeats, HasName, IsWrittenOn, HasNumber, IsCaseOn, RegisterHasWidth, CallsRegister, TypeClashAt}
 use Rattle.ir_resolve.specs.Means.{ValueMeans, BlockMeans, InstMeans, BlockIsOf, ParameterMeans, Means}
-use Rattle.ir_resolve.specs.Formed.{HasOwnFlags, IsWellWritten, IsResolved}
+use Rattle.ir_resolve.specs.Formed.{IsWellWrittenOp, IsWellWritten, IsResolved}
 use Rattle.ir_resolve.proofs.Places.{place_of_contained, contained_at}
 use Rattle.ir_resolve.proofs.Series.{named_from}
 use Rattle.ir_resolve.proofs.Tabling.{width_of_register, once}
@@ -39,7 +39,7 @@ use Rattle.ir_resolve.proofs.Forming.{same_unless, parameter_names, names_in_blo
 module _ (raw : RawFunction) (f : Function) (m : Means raw f) where
   -- ---- names
 
-  names_are : names_of f ≡ map given (written_names raw)
+  pub names_are : names_of f ≡ map given (written_names raw)
   names_are =
       ap (λ ns. ns ++ flat_map block_names f.blocks) (parameter_names raw.parameters f.parameters m.parameters)
       ∙ ap (λ ns. map given (map (λ p. p.name) raw.parameters) ++ ns) (names_in_blocks (Calls raw) raw.blocks f.blocks m.blocks)
@@ -117,7 +117,7 @@ module _ (raw : RawFunction) (f : Function) (m : Means raw f) where
         (λ n is. same_unless n.width t.width (λ apart. no_clash line (inl (t, there, (inl (n, is, apart), refl)))))
         (λ x register other is calls. same_unless other t.width (λ apart. no_clash line (inl (t, there, (inr (x, register, other, is, calls, apart), refl))))))
 
-    insts_typed : ((block : RawBlock) (inst : RawInst) → Contains raw.blocks block → Contains block.insts inst → HasOwnFlags inst.op) → (b k : ℕ) (inst : Inst) → IsInst f b k inst → IsTyped inst.width inst.op
+    insts_typed : ((block : RawBlock) (inst : RawInst) → Contains raw.blocks block → Contains block.insts inst → IsWellWrittenOp inst.op) → (b k : ℕ) (inst : Inst) → IsInst f b k inst → IsTyped inst.width inst.op
     insts_typed flags b k inst is =
         let (w, w_at, means) = pair_of_second (BlockIsOf (Calls raw)) raw.blocks f.blocks b is.block m.blocks is.is_block in
         let (v, v_at, v_means) = pair_of_second (InstMeans (Calls raw)) w.insts is.block.insts k inst means.1 is.is_inst in
@@ -147,6 +147,6 @@ resolved raw f m no_repeat no_case no_clash w = record {
   registers = λ b k i r at. (read_fits raw f m no_clash b k i r at).0;
   blocks = names_within raw f m;
   operands = λ b k i r at. (read_fits raw f m no_clash b k i r at).1;
-  insts = insts_typed raw f m no_clash w.flags;
+  insts = insts_typed raw f m no_clash w.insts;
   cases = all_cases_fit raw f m no_clash no_case;
 }

@@ -15,19 +15,19 @@ use Rattle.ir_raw.specs.declared.raw.RawInst.{RawInst}
 use Rattle.ir_raw.specs.declared.raw.RawOp.{RawOp}
 use Rattle.ir_raw.specs.declared.raw.RawOp.TheVariants.{Binary, Compare, Select, Convert, Freeze, Phi}
 
--- the flags of an operation are its own
-abbrev pub HasOwnFlags : RawOp → Type 0
-HasOwnFlags (Binary op flags width a b) = FlagsFit op flags
-HasOwnFlags (Compare pred width a b) = Unit {0}
-HasOwnFlags (Select c a b) = Unit {0}
-HasOwnFlags (Convert cast from a to) = Unit {0}
-HasOwnFlags (Freeze width a) = Unit {0}
-HasOwnFlags (Phi width incoming) = Unit {0}
+-- the flags of an operation are its own, and a phi has an entry
+abbrev pub IsWellWrittenOp : RawOp → Type 0
+IsWellWrittenOp (Binary op flags width a b) = FlagsFit op flags
+IsWellWrittenOp (Compare pred width a b) = Unit {0}
+IsWellWrittenOp (Select c a b) = Unit {0}
+IsWellWrittenOp (Convert cast from a to) = Unit {0}
+IsWellWrittenOp (Freeze width a) = Unit {0}
+IsWellWrittenOp (Phi width incoming) = 0 < length incoming
 
--- the function has a block, and each operation has flags of its own alone
+-- the function has a block, each operation has flags of its own alone, and each phi has an entry
 pub record IsWellWritten (raw : RawFunction) : Type 0 where
   pub some_block : 0 < length raw.blocks
-  pub flags : (block : RawBlock) (inst : RawInst) → Contains raw.blocks block → Contains block.insts inst → HasOwnFlags inst.op
+  pub insts : (block : RawBlock) (inst : RawInst) → Contains raw.blocks block → Contains block.insts inst → IsWellWrittenOp inst.op
 
 -- the checks of a function by names, widths and cases
 pub record IsResolved (f : Function) : Type 0 where

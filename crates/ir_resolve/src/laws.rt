@@ -2,7 +2,7 @@
 
 ghost use Rattle.ir_resolve.specs.Laws.{FunctionsHaveOneMeaningOrFault};
 
-/// A function as written has a first fault, or means one function.
+/// A function as written has one first fault, or has none and means one function.
 pub fn every_function_has_one_meaning_or_one_fault()
     ensures { FunctionsHaveOneMeaningOrFault }
 {}

@@ -15,7 +15,7 @@ pub returns-in_err-entries-clause-refused : goal.returns-in_err-entries-clause-r
 returns-in_err-entries-clause-refused c =
     let p = err_from_is_err_and c.from_residual-in_err-entries.result c.from_residual-in_err-entries.ensures.1 in
     let fault = rw c.as_slice.ensures at c.in_err-entries.ensures.refused in
-    rw (p.1, p.2) (entries_fault c.args.bytes.now c.in_ok-raw.raw c.in_err-entries.field-0.0 c.in_ok-raw.ensures.ok fault)
+    rw (p.1, p.2) (entries_fault c.args.bytes.now c.in_ok-raw.raw c.in_err-entries.field-0.0 c.in_ok-raw.ensures.limit c.in_ok-raw.ensures.ok fault)
 
 pub returns-clause-checks : goal.returns-clause-checks
 returns-clause-checks c =

@@ -1,0 +1,44 @@
+-- A function as written has a first fault, or none and means a function.
+use Rattle.std.proofs.Common.{◌⊎◌, inl, inr, ℕ, ◌<◌, List, None, Some}
+use Rattle.ir_core.specs.declared.function.Function.{Function}
+use Rattle.ir_raw.specs.declared.raw.RawFunction.{RawFunction}
+use Rattle.ir_resolve.specs.declared.fault.Fault.{Fault}
+use Rattle.ir_resolve.specs.declared.fault.FaultKind.{FaultKind}
+use Rattle.ir_resolve.specs.declared.fault.FaultKind.TheVariants.{Numbering, Duplicate, Unknown, TypeClash}
+use Rattle.ir_resolve.specs.Written.{written_names}
+use Rattle.ir_resolve.specs.Kinds.{Repeats, HasName, IsWrittenOn}
+use Rattle.ir_resolve.specs.Means.{Means}
+use Rattle.ir_resolve.specs.Faults.{rank, HasFaultAt, HasNoFault, IsFirstFault}
+use Rattle.ir_resolve.specs.Views.{Known}
+use Rattle.ir_resolve.specs.Tabulating.{Tabulates}
+use Rattle.ir_resolve.proofs.Meaning.{means}
+use Rattle.ir_resolve.proofs.Checked.{ready}
+use Rattle.ir_resolve.proofs.Refusals.{clear_none, clear_1, clear_2, clear_3, clear_all}
+use Rattle.ir_resolve.proofs.Once.{known, table}
+use Rattle.ir_resolve.proofs.Deciding.{FirstOf}
+use Rattle.ir_resolve.proofs.FirstLines.{first_numbering, first_duplicate, first_unknown, first_type_clash}
+use Rattle.ir_resolve.proofs.Meant.{some_function}
+
+module _ (earlier : List RawFunction) (raw : RawFunction) where
+  abbrev HasMeaningOrFault : Type 0
+  HasMeaningOrFault = (HasNoFault earlier raw × ((f : Function) × Means raw f)) ⊎ ((fault : Fault) × IsFirstFault earlier raw fault)
+
+  -- a kind of faults, where those before it are none: its first line is that of the first fault, or what follows where it is none
+  checked : (kind : FaultKind) → FirstOf (HasFaultAt earlier raw kind) → ((other : FaultKind) (line : ℕ) → rank other < rank kind → ¬ HasFaultAt earlier raw other line)
+      → (((line : ℕ) → ¬ HasFaultAt earlier raw kind line) → HasMeaningOrFault) → HasMeaningOrFault
+  checked kind (Some line, first) clear next = inr (record { line = line; kind = kind }, record { line = first; first = clear })
+  checked kind (None, none) clear next = next none
+
+  pub meaning_or_fault : HasMeaningOrFault
+  meaning_or_fault =
+      checked Numbering (first_numbering raw) (clear_none earlier raw)
+      (λ no_numbering. checked Duplicate (first_duplicate earlier raw) (clear_1 earlier raw no_numbering)
+      (λ no_duplicate.
+      let no_repeat = λ (line : ℕ) (again : Repeats HasName IsWrittenOn (written_names raw) line). no_duplicate line (inr (inl again)) in
+      let names : List Known = known raw no_repeat in
+      let is_table : Tabulates raw names = table raw no_repeat in
+      checked Unknown (first_unknown raw names is_table) (clear_2 earlier raw no_numbering no_duplicate)
+      (λ no_unknown. checked TypeClash (first_type_clash raw names is_table) (clear_3 earlier raw no_numbering no_duplicate no_unknown)
+      (λ no_clash.
+      let (f, by_table) = some_function names raw (ready raw names is_table no_unknown no_clash) in
+      inl (clear_all earlier raw no_numbering no_duplicate no_unknown no_clash, (f, means raw names f is_table by_table))))))
