@@ -1,0 +1,4 @@
+pub mod Laws
+pub mod Lexemes
+pub mod Names
+pub mod Numbers

@@ -1,0 +1,10 @@
+pub mod Every
+pub mod TokenForms
+pub mod NameForms
+pub mod KeptForms
+pub mod TextForms
+pub mod StatementForms
+pub mod ItemForms
+pub mod ModuleForms
+pub mod MeantForms
+pub mod ReadForms
