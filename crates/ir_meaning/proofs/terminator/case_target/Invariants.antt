@@ -1,0 +1,6 @@
+use Rattle.std.proofs.Common.{◌≡◌, drop}
+use Rattle.ir_core.specs.Run.{switch_target}
+use Rattle.ir_meaning.proofs.terminator.case_target.Given as goal
+
+abbrev pub invariant-loop-case : goal.invariant-loop-case
+invariant-loop-case l = switch_target (drop l.case-index l.cases) l.other l.n ≡ switch_target l.cases l.other l.n

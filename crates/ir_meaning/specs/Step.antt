@@ -1,0 +1,64 @@
+-- How a pass through a block ends, as the code has it.
+use Rattle.std.specs.Prelude.{◌≡◌, ℕ, List, Contains, Option, None, Some}
+use Rattle.ops.specs.Flags.{FlagsFit}
+use Rattle.ops.specs.declared.value.Value.{Value}
+use Rattle.ir_core.specs.Blocks.{Names}
+use Rattle.ir_core.specs.Checks.{CastFits, HasWidth}
+use Rattle.ir_core.specs.Run.{Registers, Ending, Undefines, Returns, Goes, OnlyZero, OperandGives, going_by}
+use Rattle.ir_core.specs.declared.function.Function.{Function}
+use Rattle.ir_core.specs.declared.instruction.Op.{Op}
+use Rattle.ir_core.specs.declared.instruction.Op.TheVariants.{Binary, Compare, Select, Convert, Freeze, Phi}
+use Rattle.ir_core.specs.declared.operand.Operand.{Operand}
+use Rattle.ir_core.specs.declared.terminator.Terminator.{Terminator}
+use Rattle.ir_core.specs.declared.terminator.Terminator.TheVariants as terminators
+use Rattle.ir_meaning.specs.declared.terminator.Step.{Step}
+use Rattle.ir_meaning.specs.declared.terminator.Step.TheVariants as steps
+
+-- the ending that a step is, with what is held then
+abbrev pub ending_of : Registers → Step → Ending
+ending_of held steps.Undefined = Undefines
+ending_of held (steps.Return v) = Returns v
+ending_of held (steps.Goes to) = Goes to held
+
+-- the run goes on at a block that block b names, if it goes on
+abbrev pub GoesFrom : Function → ℕ → Step → Type 0
+GoesFrom f b steps.Undefined = Unit {0}
+GoesFrom f b (steps.Return v) = Unit {0}
+GoesFrom f b (steps.Goes to) = Names f b to
+
+-- control may come to block b from there: from a block that names it, or from nowhere where it is the first
+abbrev pub IsEntered : Function → Option ℕ → ℕ → Type 0
+IsEntered f None b = b ≡ 0
+IsEntered f (Some c) b = Names f c b
+
+-- the operation is no phi, and its operands, flags and types fit a result of the width
+abbrev pub OpFits : Function → ℕ → Op → Type 0
+OpFits f width (Binary op flags x y) = FlagsFit op flags × HasWidth f width x × HasWidth f width y
+OpFits f width (Compare pred compared x y) = (width ≡ 1) × HasWidth f compared x × HasWidth f compared y
+OpFits f width (Select c x y) = HasWidth f 1 c × HasWidth f width x × HasWidth f width y
+OpFits f width (Convert cast from x) = CastFits cast from width × HasWidth f from x
+OpFits f width (Freeze x) = HasWidth f width x
+OpFits f width (Phi entries) = ⊥
+
+-- the terminator's operand fits
+abbrev pub EndFits : Function → Terminator → Type 0
+EndFits f (terminators.Return a) = HasWidth f f.width a
+EndFits f (terminators.Jump to) = Unit {0}
+EndFits f (terminators.Branch c to other) = HasWidth f 1 c
+EndFits f (terminators.Switch a width other cases) = HasWidth f width a
+EndFits f terminators.Unreachable = Unit {0}
+
+-- the run goes on at one of these blocks, if it goes on
+abbrev pub GoesTo : List ℕ → Step → Type 0
+GoesTo targets steps.Undefined = Unit {0}
+GoesTo targets (steps.Return v) = Unit {0}
+GoesTo targets (steps.Goes to) = Contains targets to
+
+-- where the run goes on by a number, and undefined behaviour without one
+abbrev pub going_of : (ℕ → ℕ) → Registers → Option ℕ → Ending
+going_of to held None = Undefines
+going_of to held (Some n) = Goes (to n) held
+
+-- the operand gives something by which the run goes on as by this number
+abbrev pub GoesBy : Registers → ℕ → Operand → Option ℕ → Type 0
+GoesBy held width a number = (v : Value) × OperandGives OnlyZero held width a v × ((to : ℕ → ℕ) → going_of to held number ≡ going_by to held a v)
