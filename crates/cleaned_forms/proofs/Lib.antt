@@ -1,0 +1,4 @@
+mod KeptNames
+mod KeptReads
+mod Functions
+mod Modules

@@ -1,0 +1,12 @@
+pub mod Counting
+pub mod Reading
+pub mod Holding
+pub mod Matching
+pub mod Checking
+pub mod Modules
+pub mod NumberLemmas
+pub mod MarkLemmas
+pub mod SearchLemmas
+pub mod KeptLemmas
+pub mod Settling
+pub mod Instructions

@@ -1,0 +1,9 @@
+use Rattle.std.proofs.Common.{map}
+use Rattle.needed.specs.Cleaning.{moved_operand}
+use Rattle.needed.specs.Numbering.{marks_by}
+use Rattle.needed.proofs.KeptLemmas.{Written}
+use Rattle.needed.proofs.moving.moved_entries.Given as goal
+
+-- the operands of the entries before the index are moved
+abbrev pub invariant-loop-entry : goal.invariant-loop-entry
+invariant-loop-entry l = Written (λ i entries. map (λ e. (moved_operand (marks_by l.kept.firsts.items l.kept.marks.items) e.0, e.1)) entries) l.fn.entries l.entry-index l.entry-items

@@ -1,0 +1,22 @@
+-- Laws of cleaning.
+use Rattle.ir_core.specs.declared.module.Module.{Module}
+use Rattle.ir_core.specs.declared.function.Function.{Function}
+use Rattle.ir_core.specs.Checks.{MeetsChecks, ModuleMeetsChecks}
+use Rattle.ir_core.specs.Refines.{Refines, ModuleRefines}
+use Rattle.needed.specs.Cleaning.{IsCleaned, ModuleCleaned}
+
+-- a cleaned function may stand in the place of the old one
+abbrev pub CleanedFunctionsRefine : Type 0
+CleanedFunctionsRefine = (f g : Function) → MeetsChecks f → IsCleaned f g → Refines f g
+
+-- and meets all checks of a function too
+abbrev pub CleanedFunctionsMeetChecks : Type 0
+CleanedFunctionsMeetChecks = (f g : Function) → MeetsChecks f → IsCleaned f g → MeetsChecks g
+
+-- a cleaned module may stand in the place of the old one
+abbrev pub CleanedModulesRefine : Type 0
+CleanedModulesRefine = (m n : Module) → ModuleMeetsChecks m → ModuleCleaned m n → ModuleRefines m n
+
+-- and meets all checks of a module too
+abbrev pub CleanedModulesMeetChecks : Type 0
+CleanedModulesMeetChecks = (m n : Module) → ModuleMeetsChecks m → ModuleCleaned m n → ModuleMeetsChecks n

@@ -1,0 +1,158 @@
+//! Which instructions are needed: a walk from the terminators.
+
+ghost use Rattle.std.specs.Prelude.{◌≡◌, [], ◌∷◌, ℕ, length, All, IfOk, OnOk, map};
+ghost use Rattle.ir_core.specs.Checks.{IsKnown};
+ghost use Rattle.ir_core.specs.Reads.{Read, IsRead};
+ghost use Rattle.needed.specs.Cleaning.{KeepsNeeded};
+ghost use Rattle.needed.specs.Marking.{Marked, IsSearched};
+ghost use Rattle.needed.specs.Numbering.{AreNumbers, IsNumbered, marks_by};
+ghost use Rattle.needed.specs.Operands.{operands_of, operands_at_end};
+
+use crate::numbers::Numbers;
+use ir_core::{Function, Op, Operand, Register, Terminator};
+use std::alloc::{AllocError, Global};
+
+/// How far the walk has come.
+#[derive(Drop)]
+pub(crate) struct Search {
+    /// For each instruction by its number, whether it is known to be needed.
+    marks: Vec<bool>,
+    /// The marked instructions, by block and place, whose operands are still to be marked.
+    work: Vec<(u32, u32)>,
+}
+
+impl Search {
+    /// Marks the instruction whose result the register is.
+    fn mark_register(&mut self, numbers: &Numbers, register: Register) -> Result<(), AllocError>
+        requires { IsNumbered numbers.now.firsts.items (length self.old.marks.items) (Operand.Register register) }
+        ensures { OnOk result (
+            Marked numbers.now.firsts.items (Operand.Register register ∷ []) self.old self.new) }
+    {
+        if let Register::Result(block, place) = register {
+            let number = numbers.firsts[block as usize] + place as usize;
+            if !self.marks[number] {
+                self.work.push((block, place))?;
+                self.marks[number] = true;
+            }
+        }
+        Ok(())
+    }
+
+    /// Marks the instruction whose result an operand reads.
+    fn mark(&mut self, numbers: &Numbers, operand: Operand) -> Result<(), AllocError>
+        requires { IsNumbered numbers.now.firsts.items (length self.old.marks.items) operand }
+        ensures { OnOk result (Marked numbers.now.firsts.items (operand ∷ []) self.old self.new) }
+    {
+        match operand {
+            Operand::Register(register) => self.mark_register(numbers, register),
+            _ => Ok(()),
+        }
+    }
+
+    /// Marks the instructions whose results these operands read.
+    fn mark_all(&mut self, numbers: &Numbers, operands: &[Operand]) -> Result<(), AllocError>
+        requires { All (IsNumbered numbers.now.firsts.items (length self.old.marks.items)) operands.now }
+        ensures { OnOk result (Marked numbers.now.firsts.items operands.now self.old self.new) }
+    {
+        for operand in operands {
+            self.mark(numbers, *operand)?;
+        }
+        Ok(())
+    }
+
+    /// Marks the instructions whose results the operands of these entries read.
+    fn mark_entries(
+        &mut self,
+        numbers: &Numbers,
+        entries: &[(Operand, u32)],
+    ) -> Result<(), AllocError>
+        requires { All (IsNumbered numbers.now.firsts.items (length self.old.marks.items)) (map (λ e. e.0) entries.now) }
+        ensures { OnOk result (
+            Marked numbers.now.firsts.items (map (λ e. e.0) entries.now) self.old self.new) }
+    {
+        for entry in entries {
+            self.mark(numbers, entry.0)?;
+        }
+        Ok(())
+    }
+
+    /// Marks the instructions whose results an instruction reads.
+    fn mark_op(&mut self, numbers: &Numbers, op: &Op) -> Result<(), AllocError>
+        requires { All (IsNumbered numbers.now.firsts.items (length self.old.marks.items)) (operands_of op.now) }
+        ensures { OnOk result (
+            Marked numbers.now.firsts.items (operands_of op.now) self.old self.new) }
+    {
+        match op {
+            Op::Binary(_, _, x, y) | Op::Compare(_, _, x, y) => self.mark_all(numbers, &[*x, *y]),
+            Op::Select(condition, x, y) => self.mark_all(numbers, &[*condition, *x, *y]),
+            Op::Convert(_, _, x) | Op::Freeze(x) => self.mark_all(numbers, &[*x]),
+            Op::Phi(entries) => self.mark_entries(numbers, entries.as_slice()),
+        }
+    }
+
+    /// Marks the instructions whose results a terminator reads.
+    fn mark_end(&mut self, numbers: &Numbers, end: &Terminator) -> Result<(), AllocError>
+        requires { All (IsNumbered numbers.now.firsts.items (length self.old.marks.items)) (operands_at_end end.now) }
+        ensures { OnOk result (
+            Marked numbers.now.firsts.items (operands_at_end end.now) self.old self.new) }
+    {
+        match end {
+            Terminator::Return(x) | Terminator::Branch(x, _, _) | Terminator::Switch(x, _, _, _) =>
+                self.mark_all(numbers, &[*x]),
+            Terminator::Jump(_) | Terminator::Unreachable => self.mark_all(numbers, &[]),
+        }
+    }
+
+    /// The start of the walk: what the terminators read is marked.
+    fn from_ends(alloc: Global, f: &Function, numbers: &Numbers) -> Result<Search, AllocError>
+        requires numbers { AreNumbers f.now.blocks numbers.now.firsts.items numbers.now.count }
+        requires registers { (b k i : ℕ) (r : Read) →
+            IsRead f.now b k i r → IsKnown f.now r.operand }
+        ensures { IfOk result (
+            IsSearched f.now numbers.now.firsts.items numbers.now.count (length f.now.blocks)) }
+    {
+        let mut search = Search {
+            marks: vec![in alloc; false; numbers.count]?,
+            work: Vec::new(alloc),
+        };
+        for block in f.blocks.as_slice() {
+            search.mark_end(numbers, &block.end)?;
+        }
+        Ok(search)
+    }
+
+    /// The rest of the walk: what a marked instruction reads is marked, until no work is left.
+    fn follow(&mut self, f: &Function, numbers: &Numbers) -> Result<(), AllocError>
+        requires numbers { AreNumbers f.now.blocks numbers.now.firsts.items numbers.now.count }
+        requires registers { (b k i : ℕ) (r : Read) →
+            IsRead f.now b k i r → IsKnown f.now r.operand }
+        requires searched { IsSearched f.now numbers.now.firsts.items numbers.now.count (length f.now.blocks) self.old }
+        ensures searched { OnOk result (
+            IsSearched f.now numbers.now.firsts.items numbers.now.count (length f.now.blocks) self.new) }
+        ensures done { OnOk result (self.new.work.items ≡ []) }
+    {
+        while let Some((block, place)) = self.work.pop() {
+            let block = &f.blocks.as_slice()[block as usize];
+            let inst = &block.insts.as_slice()[place as usize];
+            self.mark_op(numbers, &inst.op)?;
+        }
+        Ok(())
+    }
+}
+
+/// For each instruction by its number, whether it is needed.
+pub(crate) fn needed(
+    alloc: Global,
+    f: &Function,
+    numbers: &Numbers,
+) -> Result<Vec<bool>, AllocError>
+    requires numbers { AreNumbers f.now.blocks numbers.now.firsts.items numbers.now.count }
+    requires registers { (b k i : ℕ) (r : Read) → IsRead f.now b k i r → IsKnown f.now r.operand }
+    ensures count { IfOk result (λ marks. length marks.items ≡ numbers.now.count) }
+    ensures exact { IfOk result (λ marks.
+        KeepsNeeded f.now (marks_by numbers.now.firsts.items marks.items)) }
+{
+    let mut search = Search::from_ends(alloc, f, numbers)?;
+    search.follow(f, numbers)?;
+    Ok(search.marks)
+}
