@@ -1,0 +1,8 @@
+mod Naming
+mod Known
+mod Canonical
+mod Places
+mod Fitting
+mod Faultless
+mod Functions
+mod Modules

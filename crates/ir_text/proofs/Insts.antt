@@ -1,0 +1,236 @@
+-- Instructions as they are printed and read.
+use Rattle.std.proofs.Common.{◌≡◌, ℕ, suc, ◌<◌, Bool, true, false, cond, List, [], ◌∷◌, ◌++◌, Some, codes, length, refl, ap, ◌∙◌, arith}
+use Rattle.std.specs.Prelude.{slice_get, option_map}
+use Rattle.std.specs.List.{flat_map, join_by, AllZip, AllByRecursion}
+use Rattle.std.proofs.lemmas.Option.{slice_get-map}
+use Rattle.scan.specs.Bytes.{begins_name, begins_word, is_letter, is_name_byte}
+use Rattle.scan.specs.IrTokens.{is_word}
+use Rattle.ops.specs.declared.opcode.Opcode.{Opcode}
+use Rattle.ops.specs.declared.opcode.Opcode.TheVariants.{Add, Sub, Mul, UDiv, SDiv, URem, SRem, Shl, LShr, AShr, And, Or, Xor}
+use Rattle.ops.specs.declared.opcode.Flags.{Flags}
+use Rattle.ops.specs.declared.comparison.Pred.{Pred}
+use Rattle.ops.specs.declared.comparison.Pred.TheVariants.{Eq, Ne, Ugt, Uge, Ult, Ule, Sgt, Sge, Slt, Sle}
+use Rattle.ops.specs.declared.conversion.Cast.{Cast}
+use Rattle.ops.specs.declared.conversion.Cast.TheVariants.{Trunc, ZExt, SExt}
+use Rattle.ops.specs.Flags.{FlagsFit}
+use Rattle.ir_tokens.specs.Tokens.{Word}
+use Rattle.ir_core.specs.declared.function.Function.{Function}
+use Rattle.ir_core.specs.declared.function.Block.{Block as CoreBlock}
+use Rattle.ir_core.specs.declared.instruction.Inst.{Inst}
+use Rattle.ir_core.specs.declared.instruction.Op.{Op}
+use Rattle.ir_core.specs.declared.instruction.Op.TheVariants as core
+use Rattle.ir_core.specs.declared.operand.Operand.{Operand}
+use Rattle.ir_core.specs.declared.operand.Register.TheVariants as registers
+use Rattle.ir_core.specs.Blocks.{IsBlock}
+use Rattle.ir_core.specs.Checks.{HasWidth, IsTyped}
+use Rattle.ir_core.specs.Names.{place_of}
+use Rattle.ir_core.specs.Reads.{Read, read, reads_of, end_of}
+use Rattle.ir_raw.specs.declared.raw.RawInst.{RawInst}
+use Rattle.ir_raw.specs.declared.raw.RawOp.{RawOp}
+use Rattle.ir_raw.specs.declared.raw.RawOp.TheVariants as ops
+use Rattle.ir_raw.specs.declared.raw.RawIncoming.{RawIncoming}
+use Rattle.ir_statements.specs.Grammar.{SpellsType, SpellsOperand, SpellsFlags, SpellsIncoming, SpellsOp, SpellsInst}
+use Rattle.ir_statements.specs.Parts.{Is, ◌⨾◌, Each, Comma, Separated}
+use Rattle.ir_statements.specs.Words.{opcode_word, cast_word, pred_word}
+use Rattle.ir_statements.proofs.WrittenFlags.{words_of_flags, spells_flags}
+use Rattle.ir_resolve.specs.Kinds.{result_width}
+use Rattle.ir_resolve.specs.Means.{IncomingMeans, OpMeans, InstMeans}
+use Rattle.ir_resolve.specs.Written.{Value}
+use Rattle.ir_forms.specs.Forms.{IsWidth, ReadHasForms}
+use Rattle.ir_lexemes.proofs.Placing.{space_stops, comma_stops}
+use Rattle.ir_text.specs.Printing.{operand_text, typed_text, flags_text, incoming_text, op_text, inst_text}
+use Rattle.ir_text.specs.Writes.{Identifies, TypesFit}
+use Rattle.ir_text.proofs.Prints.{Body, Prints, Reads, prints_map, prints_weak, prints_nothing, prints_then, prints_next, prints_lines, behind_space, Opens, opens_with, opens_none, opens_first, opens_each}
+use Rattle.ir_text.proofs.Tokens.{in_body, word_in_body, equals_in_body, open_in_body, close_in_body, blank, indent, spaced, mark_spaced, line_ends, comma_space}
+use Rattle.ir_text.proofs.Calling.{IsPrintable, is_called, result_named}
+use Rattle.ir_text.proofs.Operands.{type_prints, register_called, block_name_prints, MeansOperand, operand_prints, typed_prints}
+
+-- ---- words
+
+opcode_is_word : (op : Opcode) → is_word (opcode_word op) ≡ true
+unfolding is_word begins_word begins_name is_letter is_name_byte
+opcode_is_word Add = refl
+opcode_is_word Sub = refl
+opcode_is_word Mul = refl
+opcode_is_word UDiv = refl
+opcode_is_word SDiv = refl
+opcode_is_word URem = refl
+opcode_is_word SRem = refl
+opcode_is_word Shl = refl
+opcode_is_word LShr = refl
+opcode_is_word AShr = refl
+opcode_is_word And = refl
+opcode_is_word Or = refl
+opcode_is_word Xor = refl
+
+pred_is_word : (pred : Pred) → is_word (pred_word pred) ≡ true
+unfolding is_word begins_word begins_name is_letter is_name_byte
+pred_is_word Eq = refl
+pred_is_word Ne = refl
+pred_is_word Ugt = refl
+pred_is_word Uge = refl
+pred_is_word Ult = refl
+pred_is_word Ule = refl
+pred_is_word Sgt = refl
+pred_is_word Sge = refl
+pred_is_word Slt = refl
+pred_is_word Sle = refl
+
+cast_is_word : (cast : Cast) → is_word (cast_word cast) ≡ true
+unfolding is_word begins_word begins_name is_letter is_name_byte
+cast_is_word Trunc = refl
+cast_is_word ZExt = refl
+cast_is_word SExt = refl
+
+-- a word of the language and a space
+pub word_spaced : (word : List ℕ) → is_word word ≡ true → Prints Body Body true (Is (Word word)) (word ++ codes " ")
+word_spaced word form = spaced tt (word_in_body word form)
+
+pub opens_comma : {lone : Bool} → Opens lone (codes ", ")
+opens_comma = opens_with 44 (codes " ") comma_stops
+
+-- ---- flags
+
+words_print : (words : List (List ℕ)) → AllByRecursion (λ word. is_word word ≡ true) words → Prints Body Body false (Each (λ word. Is (Word word)) words) (flat_map (λ word. 32 ∷ word) words)
+words_print [] all = prints_nothing Body false
+words_print (word ∷ words) (is, all) =
+    prints_then (behind_space (codes " ") blank tt (word_in_body word is)) (words_print words all) (opens_each (λ w. 32 ∷ w) (λ w. opens_with 32 w space_stops) words)
+
+flags_are : (nuw nsw exact : Bool) → (flags : Flags) → flags ≡ record { nuw = nuw; nsw = nsw; exact = exact } → Prints Body Body false (Each (λ word. Is (Word word)) (words_of_flags flags)) (flags_text flags)
+unfolding flags_text is_word begins_word begins_name is_letter is_name_byte
+flags_are false false false flags is = rw is (words_print [] tt)
+flags_are true false false flags is = rw is (words_print (codes "nuw" ∷ []) (refl, tt))
+flags_are false true false flags is = rw is (words_print (codes "nsw" ∷ []) (refl, tt))
+flags_are false false true flags is = rw is (words_print (codes "exact" ∷ []) (refl, tt))
+flags_are true true false flags is = rw is (words_print (codes "nuw" ∷ codes "nsw" ∷ []) (refl, (refl, tt)))
+flags_are true false true flags is = rw is (words_print (codes "nuw" ∷ codes "exact" ∷ []) (refl, (refl, tt)))
+flags_are false true true flags is = rw is (words_print (codes "nsw" ∷ codes "exact" ∷ []) (refl, (refl, tt)))
+flags_are true true true flags is = rw is (words_print (codes "nuw" ∷ codes "nsw" ∷ codes "exact" ∷ []) (refl, (refl, (refl, tt))))
+
+flags_print : (op : Opcode) (flags : Flags) → FlagsFit op flags → Prints Body Body false (SpellsFlags op flags) (flags_text flags)
+flags_print op flags fit = prints_map (SpellsFlags op flags) (spells_flags op flags fit) (flags_are flags.nuw flags.nsw flags.exact flags refl)
+
+flag_opens : (on : Bool) (word : List ℕ) → Opens false (cond on (32 ∷ word) [])
+flag_opens true word = opens_with 32 word space_stops
+flag_opens false word = opens_none
+
+flags_open : (flags : Flags) → Opens false (flags_text flags)
+unfolding flags_text
+flags_open flags = opens_first _ _ (opens_first _ _ (flag_opens flags.nuw (codes "nuw")) (flag_opens flags.nsw (codes "nsw"))) (flag_opens flags.exact (codes "exact"))
+
+-- ---- operations
+
+-- what is read has its width, and its form
+pub record ReadFits (f : Function) (r : Read) : Type 0 where
+  pub has : HasWidth f r.width r.operand
+  pub form : ReadHasForms r
+
+read_prints : (f : Function) → IsPrintable f → (r : Read) → ReadFits f r → Prints Body Body false (Reads (SpellsOperand r.width) (MeansOperand f) r.operand) (operand_text f r.operand)
+read_prints f fits r ok = operand_prints f fits r.width r.operand ok.has ok.form.width ok.form.operand
+
+pub read_typed : (f : Function) → IsPrintable f → (r : Read) → ReadFits f r → Prints Body Body false (SpellsType r.width ⨾ Reads (SpellsOperand r.width) (MeansOperand f) r.operand) (typed_text f r.width r.operand)
+read_typed f fits r ok = typed_prints f fits r.width r.operand ok.has ok.form.width ok.form.operand
+
+-- what is written for an operation of this width
+abbrev pub MeansOp : Function → ℕ → RawOp → Op → Type 0
+MeansOp f width raw op = OpMeans (Identifies f) raw op × (width ≡ result_width raw) × TypesFit raw
+
+-- one entry of a phi
+incoming_prints : (f : Function) → IsPrintable f → (b k width : ℕ) (entry : Operand × ℕ) (block : CoreBlock) → ReadFits f (read entry.1 (end_of f entry.1) width entry.0) → IsBlock f entry.1 block
+    → Prints Body Body true (Reads (SpellsIncoming width) (IncomingMeans (Identifies f)) entry) (incoming_text f entry)
+unfolding incoming_text
+incoming_prints f fits b k width entry block ok at =
+    let r = read entry.1 (end_of f entry.1) width entry.0 in
+    prints_map _ (λ tokens rest (m1, (m2, (m3, (m4, open_is, (a, spells, means)), comma), (w, spell, is)), close). (record { value = a; block = w }, (m4, open_is, (m3, spells, (m2, comma, (m1, spell, close)))), (means, is)))
+    (prints_then
+    (prints_next (prints_then (prints_next (mark_spaced tt open_in_body) (read_prints f fits r ok)) comma_space opens_comma) (block_name_prints f fits entry.1 block at))
+    (behind_space (codes " ") blank tt close_in_body)
+    (opens_with 32 (codes "]") space_stops))
+
+-- the entries behind the first
+incomings_print : (f : Function) → IsPrintable f → (b k width : ℕ) (entries : List (Operand × ℕ))
+    → ((i : ℕ) (entry : Operand × ℕ) → slice_get entries i ≡ Some entry → ReadFits f (read entry.1 (end_of f entry.1) width entry.0) × ((block : CoreBlock) × IsBlock f entry.1 block))
+    → 0 < length entries
+    → Prints Body Body true (Reads (Separated (SpellsIncoming width)) (AllZip (IncomingMeans (Identifies f))) entries) (join_by (incoming_text f) (codes ", ") entries)
+incomings_print f fits b k width [] each some = absurd (omega arith)
+incomings_print f fits b k width (first ∷ entries) each some =
+    let here = each 0 first refl in
+    prints_map _ (λ tokens rest (m1, (a, spells, means), (others, spell, mean)). (a ∷ others, (m1, spells, spell), (means, mean)))
+    (prints_next (incoming_prints f fits b k width first here.1.0 here.0 here.1.1)
+    (prints_lines (λ (a : RawIncoming). Comma ⨾ SpellsIncoming width a) (IncomingMeans (Identifies f)) Body (λ (y : Operand × ℕ). codes ", " ++ incoming_text f y) entries (λ i entry at.
+    let there = each (suc i) entry at in
+    prints_map _ (λ tokens rest (m2, comma, (a, spells, means)). (a, (m2, comma, spells), means)) (prints_next comma_space (incoming_prints f fits b k width entry there.1.0 there.0 there.1.1)))))
+
+-- an operation, where its operands fit, its flags are its own, and the blocks of a phi are there
+pub op_prints : (f : Function) → IsPrintable f → (b k width : ℕ) (op : Op) → IsWidth width → ((i : ℕ) (r : Read) → slice_get (reads_of f b k width op) i ≡ Some r → ReadFits f r) → IsTyped width op
+    → ((entries : List (Operand × ℕ)) → op ≡ core.Phi entries → (0 < length entries) × ((i : ℕ) (entry : Operand × ℕ) → slice_get entries i ≡ Some entry → (block : CoreBlock) × IsBlock f entry.1 block))
+    → Prints Body Body false (Reads SpellsOp (MeansOp f width) op) (op_text f width op)
+unfolding op_text is_word begins_word begins_name is_letter is_name_byte
+op_prints f fits b k width (core.Binary op flags x y) ok reads typed phi =
+    prints_map _ (λ tokens rest (m1, (m2, (m3, (m4, word, flag), (m5, type, (a, spell, mean))), comma), (c, spells, means)).
+    (ops.Binary op flags width a c, (m4, word, (m3, flag, (m5, type, (m2, spell, (m1, comma, spells))))), ((refl, refl, mean, means), refl, tt)))
+    (prints_next
+    (prints_then
+    (prints_next (spaced tt (prints_then (word_in_body (opcode_word op) (opcode_is_word op)) (flags_print op flags typed) (flags_open flags))) (read_typed f fits (read b k width x) (reads 0 (read b k width x) refl)))
+    comma_space opens_comma)
+    (read_prints f fits (read b k width y) (reads 1 (read b k width y) refl)))
+op_prints f fits b k width (core.Compare pred compared x y) ok reads typed phi =
+    prints_map _ (λ tokens rest (m1, (m2, (m3, (m4, word, is), (m5, type, (a, spell, mean))), comma), (c, spells, means)).
+    (ops.Compare pred compared a c, (m4, word, (m3, is, (m5, type, (m2, spell, (m1, comma, spells))))), ((refl, refl, mean, means), typed, tt)))
+    (prints_next
+    (prints_then
+    (prints_next (spaced tt (prints_next (word_spaced (codes "icmp") refl) (word_in_body (pred_word pred) (pred_is_word pred)))) (read_typed f fits (read b k compared x) (reads 0 (read b k compared x) refl)))
+    comma_space opens_comma)
+    (read_prints f fits (read b k compared y) (reads 1 (read b k compared y) refl)))
+op_prints f fits b k width (core.Select c x y) ok reads typed phi =
+    prints_map _ (λ tokens rest (m1, (m2, (m3, (m4, (m5, word, (m6, type, (z, spell, mean))), comma), (m7, type_x, (u, spell_x, mean_x))), comma_y), (m8, type_y, (v, spell_y, mean_y))). (
+      ops.Select (record { width = 1; operand = z }) (record { width = width; operand = u }) (record { width = width; operand = v }),
+      (m5, word, (m4, (m6, type, spell), (m3, comma, (m2, (m7, type_x, spell_x), (m1, comma_y, (m8, type_y, spell_y)))))),
+      ((mean, mean_x, mean_y), refl, (refl, refl)),
+    ))
+    (prints_next
+    (prints_then
+    (prints_next
+    (prints_then (prints_next (word_spaced (codes "select") refl) (read_typed f fits (read b k 1 c) (reads 0 (read b k 1 c) refl))) comma_space opens_comma)
+    (read_typed f fits (read b k width x) (reads 1 (read b k width x) refl)))
+    comma_space opens_comma)
+    (read_typed f fits (read b k width y) (reads 2 (read b k width y) refl)))
+op_prints f fits b k width (core.Convert cast from x) ok reads typed phi =
+    prints_map _ (λ tokens rest (m1, (m2, (m3, word, (m4, type, (a, spell, mean))), to), type_to). (ops.Convert cast from a width, (m3, word, (m4, type, (m2, spell, (m1, to, type_to)))), ((refl, refl, mean), refl, tt)))
+    (prints_next
+    (prints_then
+    (prints_next (word_spaced (cast_word cast) (cast_is_word cast)) (read_typed f fits (read b k from x) (reads 0 (read b k from x) refl)))
+    (behind_space (codes " ") blank tt (word_spaced (codes "to") refl)) (opens_with 32 (codes "to ") space_stops))
+    (type_prints in_body width ok))
+op_prints f fits b k width (core.Freeze x) ok reads typed phi =
+    prints_map _ (λ tokens rest (m1, word, (m2, type, (a, spell, mean))). (ops.Freeze width a, (m1, word, (m2, type, spell)), (mean, refl, tt)))
+    (prints_next (word_spaced (codes "freeze") refl) (read_typed f fits (read b k width x) (reads 0 (read b k width x) refl)))
+op_prints f fits b k width (core.Phi entries) ok reads typed phi =
+    let (some, blocks) = phi entries refl in
+    prints_map _ (λ tokens rest (m1, (m2, word, type), (incoming, spell, mean)). (ops.Phi width incoming, (m2, word, (m1, type, spell)), (mean, refl, tt)))
+    (prints_weak
+    (prints_next (spaced tt (prints_next (word_spaced (codes "phi") refl) (type_prints in_body width ok)))
+    (incomings_print f fits b k width entries (λ i entry at. (
+      reads i (read entry.1 (end_of f entry.1) width entry.0) (slice_get-map (λ (e : Operand × ℕ). read e.1 (end_of f e.1) width e.0) entries i ∙ ap (option_map (λ (e : Operand × ℕ). read e.1 (end_of f e.1) width e.0)) at),
+      blocks i entry at,
+    )) some)))
+
+-- ---- instructions
+
+-- what is written for instruction i.0 of block b
+abbrev pub MeansInst : Function → ℕ → RawInst → ℕ × Inst → Type 0
+MeansInst f b raw i = InstMeans (Identifies f) raw i.1 × Identifies f raw.result.identifier (Value (registers.Result b i.0)) × TypesFit raw.op
+
+pub inst_prints : (f : Function) → IsPrintable f → (b k : ℕ) (block : CoreBlock) (inst : Inst) → IsBlock f b block → slice_get block.insts k ≡ Some inst
+    → Prints Body Body false (Reads SpellsOp (MeansOp f inst.width) inst.op) (op_text f inst.width inst.op)
+    → Prints Body Body true (Reads SpellsInst (MeansInst f b) (k, inst)) (inst_text f b (k, inst))
+unfolding inst_text
+inst_prints f fits b k block inst at here op =
+    let r = registers.Result b k in
+    prints_map _ (λ tokens rest (m1, (m2, (w, spell, (is, name)), equals), (raw, spells, (means, width, types))). (record { result = w; op = raw }, (m2, spell, (m1, equals, (rest, spells, ([], refl)))), ((name, width, means), is, types)))
+    (line_ends tt
+    (prints_next
+    (prints_then
+    (behind_space (codes "  ") indent tt (register_called in_body f r inst.name (is_called f fits (place_of f r) inst.name (result_named f b k block inst at here))))
+    (behind_space (codes " ") blank tt (mark_spaced tt equals_in_body)) (opens_with 32 (codes "= ") space_stops))
+    op))
