@@ -1,0 +1,3 @@
+pub mod Entries
+pub mod Identified
+pub mod Printed

@@ -1,0 +1,7 @@
+use Rattle.std.proofs.Common.{◌≡◌, ◌++◌, take}
+use Rattle.std.specs.List.{flat_map, enumerate_from}
+use Rattle.ir_text.specs.Printing.{inst_text}
+use Rattle.ir_printer.proofs.block.push_insts.Given as goal
+
+abbrev pub invariant-loop-place : goal.invariant-loop-place
+invariant-loop-place l = l.out.items ≡ l.fn.out.items ++ flat_map (inst_text l.called.function.now l.block) (take l.place (enumerate_from 0 l.insts))

@@ -1,0 +1,7 @@
+use Rattle.std.proofs.Common.{◌≡◌, ◌++◌, take, codes}
+use Rattle.std.specs.List.{join_by, enumerate_from}
+use Rattle.ir_text.specs.Printing.{parameter_text}
+use Rattle.ir_printer.proofs.header.push_parameters.Given as goal
+
+abbrev pub invariant-loop-place : goal.invariant-loop-place
+invariant-loop-place l = l.out.items ≡ l.fn.out.items ++ join_by (parameter_text l.called.function.now) (codes ", ") (take l.place (enumerate_from 0 l.parameters))

@@ -1,0 +1,16 @@
+use Rattle.std.proofs.Common.{◌≡◌, ◌+◌, length, take, arith}
+use Rattle.std.specs.List.{flat_map}
+use Rattle.ir_core.specs.Names.{block_names}
+use Rattle.ir_printer.proofs.Identified.{Adds-all_more, Adds-length, AreBlockStarts-more}
+use Rattle.ir_printer.proofs.identifiers.add_blocks.Goals as goal
+
+pub loop-block-preserved : goal.loop-block-preserved
+loop-block-preserved c =
+    let i = c.loop-block.block-index in
+    let blocks = c.args.blocks.now in
+    let place : c.len.result ≡ length c.args.in_order.now.items + length (flat_map block_names (take i blocks)) = omega (arith, c.len.ensures, Adds-length c.args.next_number (flat_map block_names (take i blocks)) c.args.in_order.now.items c.loop-block.in_order.items c.loop-block.next_number c.loop-block.invariant.adds) in
+    record {
+      adds = Adds-all_more block_names c.args.next_number blocks i c.block-item.result _ _ _ _ _ c.loop-block-test.true c.block-item.is c.loop-block.invariant.adds c.in_ok-next_number.ensures.adds;
+      counted = c.in_ok-next_number.ensures.counted;
+      starts = rw c.in_ok-push.ensures.items (AreBlockStarts-more _ blocks i c.loop-block.starts.items c.len.result c.loop-block-test.true c.loop-block.invariant.starts place);
+    }

@@ -1,0 +1,9 @@
+use Rattle.std.proofs.Common.{◌≤◌, length, map, take}
+use Rattle.ir_printer.specs.Series.{Adds}
+use Rattle.ir_printer.proofs.identifiers.add_results.Given as goal
+
+abbrev pub invariant-loop-inst : goal.invariant-loop-inst
+invariant-loop-inst l = record {
+  adds : Adds l.fn.next_number (map (λ i. i.name) (take l.inst-index l.insts)) l.fn.in_order.items l.in_order.items l.next_number;
+  counted : l.next_number ≤ length l.in_order.items;
+}

@@ -1,0 +1,11 @@
+use Rattle.std.proofs.Common.{◌≡◌, take}
+use Rattle.std.specs.Prelude.{All}
+use Rattle.ir_text.specs.Printing.{entries_text}
+use Rattle.ir_printer.specs.Few.{EntryHasFewNames}
+use Rattle.ir_printer.proofs.module.print_module.Given as goal
+
+abbrev pub invariant-loop-place : goal.invariant-loop-place
+invariant-loop-place l = record {
+  text : l.out.items ≡ entries_text (take l.place l.entries);
+  few : All EntryHasFewNames (take l.place l.entries);
+}

@@ -1,0 +1,4 @@
+pub mod Few
+pub mod Gaps
+pub mod Series
+pub mod Tallies

@@ -1,0 +1,92 @@
+//! Prints blocks.
+
+ghost use Rattle.std.specs.Prelude.{◌≡◌, ◌++◌, OnOk};
+ghost use Rattle.std.specs.List.{flat_map, enumerate_from};
+ghost use Rattle.ir_text.specs.Printing.{first_head_text, head_text, inst_text, block_text};
+
+use crate::identifier::Identifier;
+use crate::identifiers::Identifiers;
+use crate::instruction::push_inst;
+use crate::name::push_label;
+use crate::terminator::push_end;
+use ir_core::{Block, Inst};
+use lists::Text;
+use std::alloc::AllocError;
+
+/// Adds what stands before the first block: its label, if it has a name.
+#[tactic(auto, unfolding(ir_text::specs::Printing::first_head_text))]
+fn push_first_head(out: &mut Vec<u8>, name: &Option<Text>) -> Result<(), AllocError>
+    ensures { OnOk result (out.new.items ≡ out.old.items ++ first_head_text name.now) }
+{
+    match name {
+        Some(name) => push_label(out, Some(Identifier::Named(name.as_slice()))),
+        None => Ok(()),
+    }
+}
+
+/// Adds what stands before the block at a place.
+#[tactic(auto, unfolding(ir_text::specs::Printing::head_text))]
+fn push_head(
+    out: &mut Vec<u8>,
+    called: &Identifiers<'_>,
+    place: usize,
+    name: &Option<Text>,
+) -> Result<(), AllocError>
+    ensures { OnOk result (out.new.items
+        ≡ out.old.items ++ head_text called.now.function.now place name.now) }
+{
+    if place == 0 {
+        return push_first_head(out, name);
+    }
+    out.push(b'\n')?;
+    push_label(out, called.block(place))
+}
+
+/// Adds the lines of a block's instructions.
+fn push_insts(
+    out: &mut Vec<u8>,
+    called: &Identifiers<'_>,
+    block: usize,
+    insts: &[Inst],
+) -> Result<(), AllocError>
+    ensures { OnOk result (out.new.items ≡ out.old.items
+        ++ flat_map (inst_text called.now.function.now block) (enumerate_from 0 insts.now)) }
+{
+    for (place, inst) in insts.iter().enumerate() {
+        push_inst(out, called, block, place, inst)?;
+    }
+    Ok(())
+}
+
+/// Adds the lines of the block at a place.
+#[tactic(auto, unfolding(ir_text::specs::Printing::block_text))]
+fn push_block(
+    out: &mut Vec<u8>,
+    called: &Identifiers<'_>,
+    place: usize,
+    block: &Block,
+) -> Result<(), AllocError>
+    ensures { OnOk result (out.new.items
+        ≡ out.old.items ++ block_text called.now.function.now (place, block.now)) }
+{
+    push_head(out, called, place, &block.name)?;
+    push_insts(out, called, place, block.insts.as_slice())?;
+    out.extend_from_slice(b"  ")?;
+    push_end(out, called, &block.end)?;
+    out.extend_from_slice(b"\n")
+}
+
+/// Adds the lines of all blocks.
+pub(crate) fn push_blocks(
+    out: &mut Vec<u8>,
+    called: &Identifiers<'_>,
+    blocks: &[Block],
+) -> Result<(), AllocError>
+    ensures { OnOk result (out.new.items ≡ out.old.items
+        ++ flat_map (block_text called.now.function.now) (enumerate_from 0 blocks.now)) }
+{
+    for (place, block) in blocks.iter().enumerate() {
+        push_block(out, called, place, block)?;
+    }
+    Ok(())
+}

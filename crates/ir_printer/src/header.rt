@@ -1,0 +1,94 @@
+//! Prints the headers of functions (LangRef, "Functions").
+
+ghost use Rattle.std.specs.Prelude.{◌≡◌, ◌==◌, if◌then◌else◌, [], ◌++◌, codes, OnOk};
+ghost use Rattle.std.specs.List.{flat_map, join_by, enumerate_from};
+ghost use Rattle.ir_text.specs.Printing.{type_text, function_name_text, item_text, parameter_text, header_text};
+
+use crate::identifiers::Identifiers;
+use crate::name::{push_function_name, push_parameter_name};
+use crate::number::push_type;
+use ir_core::{Function, Parameter};
+use lists::Text;
+use std::alloc::AllocError;
+
+/// Adds an item of a header, behind a space.
+#[tactic(auto, unfolding(ir_text::specs::Printing::item_text))]
+fn push_item(out: &mut Vec<u8>, item: &Text) -> Result<(), AllocError>
+    ensures { OnOk result (out.new.items ≡ out.old.items ++ item_text item.now) }
+{
+    out.push(b' ')?;
+    out.extend_from_slice(item.as_slice())
+}
+
+fn push_items(out: &mut Vec<u8>, items: &[Text]) -> Result<(), AllocError>
+    ensures { OnOk result (out.new.items ≡ out.old.items ++ flat_map item_text items.now) }
+{
+    for item in items {
+        push_item(out, item)?;
+    }
+    Ok(())
+}
+
+/// Adds the parameter at a place, behind a comma where it is not the first.
+#[tactic(auto, unfolding(ir_text::specs::Printing::parameter_text))]
+fn push_parameter(
+    out: &mut Vec<u8>,
+    called: &Identifiers<'_>,
+    place: usize,
+    parameter: &Parameter,
+) -> Result<(), AllocError>
+    ensures { OnOk result (out.new.items
+        ≡ out.old.items ++ ((if place == 0 then [] else codes ", ")
+        ++ parameter_text called.now.function.now (place, parameter.now))) }
+{
+    if place != 0 {
+        out.extend_from_slice(b", ")?;
+    }
+    push_type(out, parameter.width)?;
+    push_items(out, parameter.items.as_slice())?;
+    out.push(b' ')?;
+    push_parameter_name(out, called, place)
+}
+
+/// Adds the parameters between the parentheses.
+fn push_parameters(
+    out: &mut Vec<u8>,
+    called: &Identifiers<'_>,
+    parameters: &[Parameter],
+) -> Result<(), AllocError>
+    ensures { OnOk result (out.new.items ≡ out.old.items
+        ++ join_by (parameter_text called.now.function.now) (codes ", ")
+        (enumerate_from 0 parameters.now)) }
+{
+    for (place, parameter) in parameters.iter().enumerate() {
+        push_parameter(out, called, place, parameter)?;
+    }
+    Ok(())
+}
+
+/// Adds what stands before the parameters.
+fn push_start(out: &mut Vec<u8>, function: &Function) -> Result<(), AllocError>
+    ensures { OnOk result (out.new.items ≡ out.old.items ++ (codes "define"
+        ++ flat_map item_text function.now.before ++ codes " " ++ type_text function.now.width
+        ++ codes " " ++ function_name_text function.now.name)) }
+{
+    out.extend_from_slice(b"define")?;
+    push_items(out, function.before.as_slice())?;
+    out.push(b' ')?;
+    push_type(out, function.width)?;
+    out.push(b' ')?;
+    push_function_name(out, function.name.as_slice())
+}
+
+/// Adds the first line of a function.
+#[tactic(auto, unfolding(ir_text::specs::Printing::header_text))]
+pub(crate) fn push_header(out: &mut Vec<u8>, called: &Identifiers<'_>) -> Result<(), AllocError>
+    ensures { OnOk result (out.new.items ≡ out.old.items ++ header_text called.now.function.now) }
+{
+    push_start(out, called.function)?;
+    out.push(b'(')?;
+    push_parameters(out, called, called.function.parameters.as_slice())?;
+    out.push(b')')?;
+    push_items(out, called.function.after.as_slice())?;
+    out.extend_from_slice(b" {\n")
+}

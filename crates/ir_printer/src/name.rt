@@ -1,0 +1,170 @@
+//! Prints names (LangRef, "Identifiers").
+
+ghost use Rattle.std.specs.Prelude.{◌≡◌, ◌<◌, ◌==◌, ◌++◌, ◌||◌, ◌&&◌, not, option_map, OnOk};
+ghost use Rattle.scan.specs.Bytes.{is_printable};
+ghost use Rattle.ir_lexemes.specs.Names.{hex_digit, escaped, quoted_text, name_text};
+ghost use Rattle.ir_text.specs.Printing.{identifier_text, register_text, block_name_text, function_name_text, label_text};
+ghost use Rattle.ir_printer.specs.Series.{seen};
+
+use crate::identifier::Identifier;
+use crate::identifiers::Identifiers;
+use crate::number::push_decimal;
+use ir_core::Register;
+use ir_tokens::is_plain_name;
+use std::alloc::AllocError;
+
+/// Adds a name of a register, a block or a function as it is printed, without the mark before it: a plain one as it is,
+/// and every other between quotes.
+///
+/// The only error is want of memory.
+#[tactic(auto, unfolding(ir_lexemes::specs::Names::name_text))]
+pub fn push_name(out: &mut Vec<u8>, name: &[u8]) -> Result<(), AllocError>
+    ensures { OnOk result (out.new.items ≡ out.old.items ++ name_text name.now) }
+{
+    if is_plain_name(name) {
+        out.extend_from_slice(name)
+    } else {
+        push_quoted(out, name)
+    }
+}
+
+/// Adds a name between quotes.
+#[tactic(auto, unfolding(ir_lexemes::specs::Names::quoted_text))]
+fn push_quoted(out: &mut Vec<u8>, name: &[u8]) -> Result<(), AllocError>
+    ensures { OnOk result (out.new.items ≡ out.old.items ++ quoted_text name.now) }
+{
+    out.push(b'"')?;
+    for byte in name {
+        push_escaped(out, *byte)?;
+    }
+    out.push(b'"')?;
+    Ok(())
+}
+
+/// Adds a byte of a name as it stands between quotes.
+#[tactic(auto, unfolding(ir_lexemes::specs::Names::escaped))]
+fn push_escaped(out: &mut Vec<u8>, byte: u8) -> Result<(), AllocError>
+    ensures { OnOk result (out.new.items ≡ out.old.items ++ escaped byte) }
+{
+    if stands_for_itself(byte) {
+        out.push(byte)?;
+    } else {
+        out.push(b'\\')?;
+        out.push(hex_digit(byte / 16))?;
+        out.push(hex_digit(byte % 16))?;
+    }
+    Ok(())
+}
+
+/// Whether a byte stands for itself between quotes.
+#[tactic(auto, unfolding(scan::specs::Bytes::is_printable))]
+fn stands_for_itself(byte: u8) -> bool
+    ensures { result ≡ (is_printable byte && not ((byte == 34) || (byte == 92))) }
+{
+    (b' ' <= byte && byte <= b'~') && !(byte == b'"' || byte == b'\\')
+}
+
+/// The hexadecimal digit of a number below 16.
+#[tactic(auto, unfolding(ir_lexemes::specs::Names::hex_digit))]
+fn hex_digit(number: u8) -> u8
+    requires { number < 16 }
+    ensures { result ≡ hex_digit number }
+{
+    if number < 10 {
+        b'0' + number
+    } else {
+        b'A' + (number - 10)
+    }
+}
+
+/// Adds what a register or a block is called, without the `%`.
+#[tactic(auto, unfolding(ir_text::specs::Printing::identifier_text))]
+fn push_identifier(out: &mut Vec<u8>, identifier: Option<Identifier<'_>>) -> Result<(), AllocError>
+    ensures { OnOk result (out.new.items
+        ≡ out.old.items ++ identifier_text (option_map seen identifier.entry)) }
+{
+    match identifier {
+        Some(Identifier::Named(name)) => push_name(out, name),
+        Some(Identifier::Numbered(number)) => push_decimal(out, number),
+        None => Ok(()),
+    }
+}
+
+/// Adds a register.
+#[tactic(auto, unfolding(ir_text::specs::Printing::register_text))]
+pub(crate) fn push_register(
+    out: &mut Vec<u8>,
+    called: &Identifiers<'_>,
+    register: Register,
+) -> Result<(), AllocError>
+    ensures { OnOk result (out.new.items
+        ≡ out.old.items ++ register_text called.now.function.now register) }
+{
+    out.push(b'%')?;
+    push_identifier(out, called.register(register))
+}
+
+/// Adds the register of a result, by its block and its place there.
+#[tactic(auto, unfolding(ir_text::specs::Printing::register_text))]
+pub(crate) fn push_result(
+    out: &mut Vec<u8>,
+    called: &Identifiers<'_>,
+    block: usize,
+    inst: usize,
+) -> Result<(), AllocError>
+    ensures { OnOk result (out.new.items
+        ≡ out.old.items ++ register_text called.now.function.now (Register.Result block inst)) }
+{
+    out.push(b'%')?;
+    push_identifier(out, called.result(block, inst))
+}
+
+/// Adds the register of a parameter, by its place.
+#[tactic(auto, unfolding(ir_text::specs::Printing::register_text))]
+pub(crate) fn push_parameter_name(
+    out: &mut Vec<u8>,
+    called: &Identifiers<'_>,
+    parameter: usize,
+) -> Result<(), AllocError>
+    ensures { OnOk result (out.new.items
+        ≡ out.old.items ++ register_text called.now.function.now (Register.Parameter parameter)) }
+{
+    out.push(b'%')?;
+    push_identifier(out, called.parameter(parameter))
+}
+
+/// Adds a block where it is named.
+#[tactic(auto, unfolding(ir_text::specs::Printing::block_name_text))]
+pub(crate) fn push_block_name(
+    out: &mut Vec<u8>,
+    called: &Identifiers<'_>,
+    block: u32,
+) -> Result<(), AllocError>
+    ensures { OnOk result (out.new.items
+        ≡ out.old.items ++ block_name_text called.now.function.now block) }
+{
+    out.push(b'%')?;
+    push_identifier(out, called.block(block as usize))
+}
+
+/// Adds the line of a label.
+#[tactic(auto, unfolding(ir_text::specs::Printing::label_text))]
+pub(crate) fn push_label(
+    out: &mut Vec<u8>,
+    identifier: Option<Identifier<'_>>,
+) -> Result<(), AllocError>
+    ensures { OnOk result (out.new.items
+        ≡ out.old.items ++ label_text (option_map seen identifier.entry)) }
+{
+    push_identifier(out, identifier)?;
+    out.extend_from_slice(b":\n")
+}
+
+/// Adds the name of a function, behind its `@`.
+#[tactic(auto, unfolding(ir_text::specs::Printing::function_name_text))]
+pub(crate) fn push_function_name(out: &mut Vec<u8>, name: &[u8]) -> Result<(), AllocError>
+    ensures { OnOk result (out.new.items ≡ out.old.items ++ function_name_text name.now) }
+{
+    out.push(b'@')?;
+    push_name(out, name)
+}

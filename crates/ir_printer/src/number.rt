@@ -1,0 +1,46 @@
+//! Prints numbers and types (LangRef, "Simple Constants", "Integer Type").
+
+ghost use Rattle.std.specs.Prelude.{◌≡◌, ◌++◌, OnOk, decimal};
+ghost use Rattle.ir_lexemes.specs.Numbers.{number_text};
+ghost use Rattle.ir_text.specs.Printing.{type_text};
+
+use itoa::Buffer;
+use ops::{Width, Word};
+use std::alloc::AllocError;
+
+/// Adds a number in decimal.
+pub(crate) fn push_decimal(out: &mut Vec<u8>, number: u64) -> Result<(), AllocError>
+    ensures { OnOk result (out.new.items ≡ out.old.items ++ decimal number) }
+{
+    let mut buffer = Buffer::new();
+    out.extend_from_slice(buffer.format(number).as_bytes())
+}
+
+/// Adds a type.
+#[tactic(auto, unfolding(ir_text::specs::Printing::type_text))]
+pub(crate) fn push_type(out: &mut Vec<u8>, width: Width) -> Result<(), AllocError>
+    ensures { OnOk result (out.new.items ≡ out.old.items ++ type_text width) }
+{
+    out.push(b'i')?;
+    push_decimal(out, u64::from(width.bits()))
+}
+
+/// Adds a number of an integer type as it is printed: read in two's complement, and one bit as `true` or `false`.
+///
+/// The only error is want of memory.
+#[tactic(auto, unfolding(ir_lexemes::specs::Numbers::number_text))]
+pub fn push_number(out: &mut Vec<u8>, number: Word) -> Result<(), AllocError>
+    ensures { OnOk result (out.new.items ≡ out.old.items ++ number_text number) }
+{
+    let value = number.number();
+    if number.width().bits() == 1 {
+        let text: &[u8] = if value == 0 { b"false" } else { b"true" };
+        return out.extend_from_slice(text);
+    }
+    let half = 1u64 << (number.width().bits() - 1);
+    if value < half {
+        return push_decimal(out, value);
+    }
+    out.push(b'-')?;
+    push_decimal(out, half - (value - half))
+}

@@ -1,0 +1,59 @@
+//! Prints operands.
+
+ghost use Rattle.std.specs.Prelude.{◌≡◌, ◌++◌, OnOk};
+ghost use Rattle.ir_text.specs.Printing.{operand_text, typed_text};
+
+use crate::identifiers::Identifiers;
+use crate::name::push_register;
+use crate::number::{push_number, push_type};
+use ir_core::Operand;
+use ops::Width;
+use std::alloc::AllocError;
+
+/// Adds an operand.
+#[tactic(auto, unfolding(ir_text::specs::Printing::operand_text))]
+pub(crate) fn push_operand(
+    out: &mut Vec<u8>,
+    called: &Identifiers<'_>,
+    operand: Operand,
+) -> Result<(), AllocError>
+    ensures { OnOk result (out.new.items
+        ≡ out.old.items ++ operand_text called.now.function.now operand) }
+{
+    match operand {
+        Operand::Register(register) => push_register(out, called, register),
+        Operand::Number(number) => push_number(out, number),
+        Operand::Undef => out.extend_from_slice(b"undef"),
+        Operand::Poison => out.extend_from_slice(b"poison"),
+    }
+}
+
+/// Adds an operand behind its type.
+#[tactic(auto, unfolding(ir_text::specs::Printing::typed_text))]
+pub(crate) fn push_typed(
+    out: &mut Vec<u8>,
+    called: &Identifiers<'_>,
+    width: Width,
+    operand: Operand,
+) -> Result<(), AllocError>
+    ensures { OnOk result (out.new.items
+        ≡ out.old.items ++ typed_text called.now.function.now width operand) }
+{
+    push_type(out, width)?;
+    out.push(b' ')?;
+    push_operand(out, called, operand)
+}
+
+/// Adds an operand of one bit behind its type.
+#[tactic(auto, using(std::proofs::lemmas::Grind::common_steps, crate::proofs::Printed::condition_is))]
+pub(crate) fn push_condition(
+    out: &mut Vec<u8>,
+    called: &Identifiers<'_>,
+    operand: Operand,
+) -> Result<(), AllocError>
+    ensures { OnOk result (out.new.items
+        ≡ out.old.items ++ typed_text called.now.function.now 1 operand) }
+{
+    out.extend_from_slice(b"i1 ")?;
+    push_operand(out, called, operand)
+}

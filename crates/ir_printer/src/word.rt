@@ -1,0 +1,78 @@
+//! Prints the words of instructions (LangRef, "Instruction Reference").
+
+ghost use Rattle.std.specs.Prelude.{◌≡◌, ◌++◌, OnOk};
+ghost use Rattle.ir_statements.specs.Words.{opcode_word, pred_word, cast_word};
+ghost use Rattle.ir_text.specs.Printing.{flags_text};
+
+use ops::{Cast, Flags, Opcode, Pred};
+use std::alloc::AllocError;
+
+/// Adds the word of a binary operation.
+pub(crate) fn push_opcode(out: &mut Vec<u8>, opcode: Opcode) -> Result<(), AllocError>
+    ensures { OnOk result (out.new.items ≡ out.old.items ++ opcode_word opcode) }
+{
+    let word: &[u8] = match opcode {
+        Opcode::Add => b"add",
+        Opcode::Sub => b"sub",
+        Opcode::Mul => b"mul",
+        Opcode::UDiv => b"udiv",
+        Opcode::SDiv => b"sdiv",
+        Opcode::URem => b"urem",
+        Opcode::SRem => b"srem",
+        Opcode::Shl => b"shl",
+        Opcode::LShr => b"lshr",
+        Opcode::AShr => b"ashr",
+        Opcode::And => b"and",
+        Opcode::Or => b"or",
+        Opcode::Xor => b"xor",
+    };
+    out.extend_from_slice(word)
+}
+
+/// Adds the word of a predicate.
+pub(crate) fn push_pred(out: &mut Vec<u8>, pred: Pred) -> Result<(), AllocError>
+    ensures { OnOk result (out.new.items ≡ out.old.items ++ pred_word pred) }
+{
+    let word: &[u8] = match pred {
+        Pred::Eq => b"eq",
+        Pred::Ne => b"ne",
+        Pred::Ugt => b"ugt",
+        Pred::Uge => b"uge",
+        Pred::Ult => b"ult",
+        Pred::Ule => b"ule",
+        Pred::Sgt => b"sgt",
+        Pred::Sge => b"sge",
+        Pred::Slt => b"slt",
+        Pred::Sle => b"sle",
+    };
+    out.extend_from_slice(word)
+}
+
+/// Adds the word of a conversion.
+pub(crate) fn push_cast(out: &mut Vec<u8>, cast: Cast) -> Result<(), AllocError>
+    ensures { OnOk result (out.new.items ≡ out.old.items ++ cast_word cast) }
+{
+    let word: &[u8] = match cast {
+        Cast::Trunc => b"trunc",
+        Cast::ZExt => b"zext",
+        Cast::SExt => b"sext",
+    };
+    out.extend_from_slice(word)
+}
+
+/// Adds flags, each behind a space.
+#[tactic(auto, unfolding(ir_text::specs::Printing::flags_text))]
+pub(crate) fn push_flags(out: &mut Vec<u8>, flags: Flags) -> Result<(), AllocError>
+    ensures { OnOk result (out.new.items ≡ out.old.items ++ flags_text flags) }
+{
+    if flags.nuw {
+        out.extend_from_slice(b" nuw")?;
+    }
+    if flags.nsw {
+        out.extend_from_slice(b" nsw")?;
+    }
+    if flags.exact {
+        out.extend_from_slice(b" exact")?;
+    }
+    Ok(())
+}
