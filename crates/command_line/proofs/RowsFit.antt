@@ -57,6 +57,7 @@ at_row_all P id change missing absent each (r ∷ rs) h = go (bytes_eq r.id id) 
 -- what is asked of an argument: it is the first of its name, and takes one value or more where it is used
 abbrev takes_some : ArgAction → Rule → Bool
 takes_some Set a = nat_le 1 (unwrap_or_range a.range).start_inclusive
+takes_some Append a = nat_le 1 (unwrap_or_range a.range).start_inclusive
 takes_some x a = is_request x
 
 abbrev pub is_plain_rule : Rule → Bool
@@ -119,7 +120,11 @@ module _ (c : List Rule) where
           let none = leb-true _ _ least in
           absurd (omega arith)
       go Set t (v ∷ vs) least ok = values_fit a CommandLine v vs (without a.id rows) is.first (both (not (has_row a.id rows) || again) _ ok).1 (without_fit a.id rows fit)
-      go Append t vs least ok = cc
+      go Append t [] least ok =
+          let one = leb-true _ _ t in
+          let none = leb-true _ _ least in
+          absurd (omega arith)
+      go Append t (v ∷ vs) least ok = values_fit a CommandLine v vs rows is.first ok fit
       go SetTrue t vs least ok = cc
       go SetFalse t vs least ok = cc
       go Count t vs least ok = cc

@@ -2,11 +2,16 @@
 use Rattle.std.specs.Prelude.{ℕ, true, false, [], ◌∷◌, Some, codes}
 use Rattle.clap.specs.Words.{App, Rule, Shape, Text, new_rule}
 use Rattle.clap.specs.Simple.{new_shape}
+use Rattle.clap.specs.declared.builder.action.ArgAction.TheVariants.{Append}
 use Rattle.clap.specs.declared.builder.value_parser.ValueParser.TheVariants.{Unsigned}
 
--- a file, which has to be named: by its place, and not by an option
-abbrev pub file_argument : Text → Rule
-file_argument name = record (new_rule name) { value_names = 1; required = true }
+-- an argument that has to be given: by its place, and not by an option
+abbrev pub required_argument : Text → Rule
+required_argument name = record (new_rule name) { value_names = 1; required = true }
+
+-- the words that follow in their places, of which there may be none
+abbrev pub repeated_argument : Text → Rule
+repeated_argument name = record (new_rule name) { value_names = 1; action = Some Append }
 
 -- an option `--NAME` with a value, and the value that stands for it where it is left out
 abbrev pub option_argument : Text → Text → Rule
@@ -21,10 +26,10 @@ abbrev pub number_argument : Text → ℕ → Text → Rule
 number_argument name most default = record (option_argument name default) { parser = Some (Unsigned 0 most) }
 
 abbrev pub rules_argument : Rule
-rules_argument = file_argument (codes "rules")
+rules_argument = required_argument (codes "rules")
 
 abbrev pub module_argument : Rule
-module_argument = file_argument (codes "module")
+module_argument = required_argument (codes "module")
 
 abbrev pub widths_argument : Rule
 widths_argument = option_argument (codes "widths") (codes "1-8,16,32,64")
@@ -34,6 +39,15 @@ conflicts_argument = number_argument (codes "conflicts") 1000000 (codes "20000")
 
 abbrev pub steps_argument : Rule
 steps_argument = number_argument (codes "steps") 100000 (codes "10000")
+
+abbrev pub name_argument : Rule
+name_argument = required_argument (codes "name")
+
+abbrev pub arguments_argument : Rule
+arguments_argument = repeated_argument (codes "arguments")
+
+abbrev pub blocks_argument : Rule
+blocks_argument = number_argument (codes "blocks") 100000000 (codes "1000000")
 
 -- `verify RULES [--widths LIST] [--conflicts N]`
 abbrev pub verify_shape : Shape
@@ -47,6 +61,12 @@ optimise_shape = record (new_shape (codes "optimise")) {
   rules = rules_argument ∷ module_argument ∷ conflicts_argument ∷ steps_argument ∷ [];
 }
 
+-- `run [--blocks N] MODULE NAME [ARG..]`
+abbrev pub run_shape : Shape
+run_shape = record (new_shape (codes "run")) {
+  rules = module_argument ∷ name_argument ∷ arguments_argument ∷ blocks_argument ∷ [];
+}
+
 -- the program, which has to be given one of these commands
 abbrev pub program : App
 program = record {
@@ -56,5 +76,5 @@ program = record {
     disable_help_subcommand = true;
     subcommand_required = true;
   };
-  subs = verify_shape ∷ optimise_shape ∷ [];
+  subs = verify_shape ∷ optimise_shape ∷ run_shape ∷ [];
 }

@@ -14,7 +14,7 @@ HasValue rows argument = is_some (first_of argument rows) ≡ true
 abbrev pub HasNumberUpTo : ℕ → List Row → Text → Type 0
 HasNumberUpTo most rows argument = (text : Text) × (first_of argument rows ≡ Some text) × (one_of argument rows ≡ Some text) × IsUnsignedIn 0 most text
 
--- each argument of `verify` has its value, and so of `optimise`
+-- each argument of `verify` has its value, and so of `optimise` and of `run`, whose ARGs may be none
 pub record HasVerify (rows : List Row) : Type 0 where
   pub rules_file : HasValue rows (codes "rules")
   pub width_list : HasValue rows (codes "widths")
@@ -26,6 +26,11 @@ pub record HasOptimise (rows : List Row) : Type 0 where
   pub most_conflicts : HasNumberUpTo 1000000 rows (codes "conflicts")
   pub most_steps : HasNumberUpTo 100000 rows (codes "steps")
 
+pub record HasRun (rows : List Row) : Type 0 where
+  pub module_file : HasValue rows (codes "module")
+  pub function_name : HasValue rows (codes "name")
+  pub most_blocks : HasNumberUpTo 100000000 rows (codes "blocks")
+
 -- usage comes only with a list of widths outside its form, and names it
 abbrev pub RefusesList : List Row → CommandError → Type 0
 RefusesList rows NoMemory = Unit {0}
@@ -36,9 +41,9 @@ abbrev pub IsUntaken : List Text → CommandError → Type 0
 IsUntaken words NoMemory = Unit {0}
 IsUntaken words (Usage text) = are_taken words ≡ false
 
--- the command is one of the two, and each of its arguments has its value
+-- the command is one of the three, and each of its arguments has its value
 abbrev pub IsKnown : Text × List Row → Type 0
-IsKnown said = ((said.0 ≡ codes "verify") × HasVerify said.1) ⊎ ((said.0 ≡ codes "optimise") × HasOptimise said.1)
+IsKnown said = ((said.0 ≡ codes "verify") × HasVerify said.1) ⊎ (((said.0 ≡ codes "optimise") × HasOptimise said.1) ⊎ ((said.0 ≡ codes "run") × HasRun said.1))
 
 -- usage comes only with LIST outside its form, and names it
 abbrev pub RefusesGiven : Text × List Row → CommandError → Type 0

@@ -1,12 +1,12 @@
 -- What the words of a command line say.
-use Rattle.std.specs.Prelude.{◌≡◌, ℕ, ◌≤◌, ◌⊎◌, Bool, false, List, ◌++◌, Option, Some, None, option_map, if◌then◌else◌, codes}
+use Rattle.std.specs.Prelude.{◌≡◌, ℕ, ◌≤◌, ◌⊎◌, Bool, false, List, [], ◌++◌, map, Option, Some, None, option_map, unwrap_or, if◌then◌else◌, codes}
 use Rattle.std.specs.Str.{bytes_eq}
 use Rattle.std.specs.Str.Parse.{digits_value, without_leading_plus}
-use Rattle.clap.specs.Words.{Row, Text, first_of, subcommand_of, takes}
+use Rattle.clap.specs.Words.{Row, Text, all_of, first_of, subcommand_of, takes}
 use Rattle.command_line.specs.Definition.{program}
 use Rattle.command_line.specs.Widths.{IsWidthList, is_width_list}
 use Rattle.command_line.specs.declared.command.Command.{Command}
-use Rattle.command_line.specs.declared.command.Command.TheVariants.{Verify, Optimise}
+use Rattle.command_line.specs.declared.command.Command.TheVariants.{Verify, Optimise, Run}
 use Rattle.command_line.specs.declared.command.CommandError.{CommandError}
 use Rattle.command_line.specs.declared.command.CommandError.TheVariants.{Usage, NoMemory}
 
@@ -22,10 +22,15 @@ command_and_rows words = subcommand_of program words
 abbrev pub number_said : Text → ℕ
 number_said word = digits_value 10 (without_leading_plus word)
 
--- the text and the number of an argument
+-- the text of an argument
 abbrev pub HasText : List Row → Text → Text → Type 0
 HasText rows argument text = first_of argument rows ≡ Some text
 
+-- all the texts of an argument, in order, of which there may be none
+abbrev pub HasTexts : List Row → Text → List Text → Type 0
+HasTexts rows argument texts = unwrap_or (all_of argument rows) [] ≡ texts
+
+-- the number of an argument
 abbrev pub HasNumber : List Row → Text → ℕ → Type 0
 HasNumber rows argument number = option_map number_said (first_of argument rows) ≡ Some number
 
@@ -42,10 +47,18 @@ pub record SaysOptimise (rows : List Row) (rules source : Text) (conflicts steps
   pub most_conflicts : HasNumber rows (codes "conflicts") conflicts
   pub most_steps : HasNumber rows (codes "steps") steps
 
+-- the words say `run`, with these arguments
+pub record SaysRun (rows : List Row) (source name : Text) (arguments : List Text) (blocks : ℕ) : Type 0 where
+  pub module_file : HasText rows (codes "module") source
+  pub function_name : HasText rows (codes "name") name
+  pub function_arguments : HasTexts rows (codes "arguments") arguments
+  pub most_blocks : HasNumber rows (codes "blocks") blocks
+
 abbrev pub SaysOf : Option (Text × List Row) → Command → Type 0
 SaysOf None command = ⊥
 SaysOf (Some said) (Verify rules widths conflicts) = (said.0 ≡ codes "verify") × SaysVerify said.1 rules.now widths conflicts
 SaysOf (Some said) (Optimise rules source conflicts steps) = (said.0 ≡ codes "optimise") × SaysOptimise said.1 rules.now source.now conflicts steps
+SaysOf (Some said) (Run source name arguments blocks) = (said.0 ≡ codes "run") × SaysRun said.1 source.now name.now (map (λ argument. argument.now) arguments) blocks
 
 -- the words say this command
 abbrev pub Says : List Text → Command → Type 0
@@ -55,6 +68,7 @@ Says words command = SaysOf (command_and_rows words) command
 abbrev pub IsWithinLimits : Command → Type 0
 IsWithinLimits (Verify rules widths conflicts) = conflicts ≤ 1000000
 IsWithinLimits (Optimise rules source conflicts steps) = (conflicts ≤ 1000000) × (steps ≤ 100000)
+IsWithinLimits (Run source name arguments blocks) = blocks ≤ 100000000
 
 -- LIST of `verify`, as it was given, or its default
 abbrev pub list_of : Option (Text × List Row) → Option Text

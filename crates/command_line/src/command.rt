@@ -20,6 +20,15 @@ pub enum Command<'a> {
         conflicts: u32,
         steps: u32,
     },
+    /// Runs the function of this name, which stands without its `@`, on these arguments.
+    Run {
+        module: &'a str,
+        name: &'a str,
+        /// The words that follow the name, in order and as they stand.
+        arguments: List<&'a str>,
+        /// The most blocks that a run may enter, up to 100,000,000.
+        blocks: u32,
+    },
 }
 
 /// Why words are no command.

@@ -2,22 +2,33 @@
 
 ghost use Rattle.std.specs.Prelude.{◌≡◌, false, IfOk, codes};
 ghost use Rattle.clap.specs.Words.{app_of, rule_of};
-ghost use Rattle.command_line.specs.Definition.{file_argument, option_argument, number_argument, verify_shape, optimise_shape, program};
+ghost use Rattle.command_line.specs.Definition.{required_argument, repeated_argument, option_argument, number_argument, verify_shape, optimise_shape, run_shape, program};
 ghost use Rattle.command_line.specs.Building.{IsLeaf};
 
 use clap::builder::ValueParser;
-use clap::{Arg, Command};
+use clap::{Arg, ArgAction, Command};
 use std::alloc::{AllocError, Global};
 
-/// A file that has to be named.
-fn file_argument<'a>(alloc: Global, name: &'a str, shown: &'a str, help: &'a str) -> Arg<'a>
-    ensures rule { rule_of result ≡ file_argument name.entry.now }
+/// An argument that has to be given, by its place.
+fn required_argument<'a>(alloc: Global, name: &'a str, shown: &'a str, help: &'a str) -> Arg<'a>
+    ensures rule { rule_of result ≡ required_argument name.entry.now }
     ensures local { result.global ≡ false }
 {
     Arg::new(alloc, name)
         .value_name(shown)
         .help(help)
         .required(true)
+}
+
+/// The words that follow in their places, of which there may be none.
+fn repeated_argument<'a>(alloc: Global, name: &'a str, shown: &'a str, help: &'a str) -> Arg<'a>
+    ensures rule { rule_of result ≡ repeated_argument name.entry.now }
+    ensures local { result.global ≡ false }
+{
+    Arg::new(alloc, name)
+        .value_name(shown)
+        .help(help)
+        .action(ArgAction::Append)
 }
 
 /// An option with a value, and its default.
@@ -53,10 +64,17 @@ fn number_argument<'a>(
 }
 
 fn rules_argument<'a>(alloc: Global) -> Arg<'a>
-    ensures rule { rule_of result ≡ file_argument (codes "rules") }
+    ensures rule { rule_of result ≡ required_argument (codes "rules") }
     ensures local { result.global ≡ false }
 {
-    file_argument(alloc, "rules", "RULES", "The file of rules")
+    required_argument(alloc, "rules", "RULES", "The file of rules")
+}
+
+fn module_argument<'a>(alloc: Global) -> Arg<'a>
+    ensures rule { rule_of result ≡ required_argument (codes "module") }
+    ensures local { result.global ≡ false }
+{
+    required_argument(alloc, "module", "MODULE", "The file of the module")
 }
 
 fn conflicts_argument<'a>(alloc: Global) -> Arg<'a>
@@ -94,7 +112,6 @@ fn verify<'a>(alloc: Global) -> Result<Command<'a>, AllocError>
 fn optimise<'a>(alloc: Global) -> Result<Command<'a>, AllocError>
     ensures { IfOk result (IsLeaf optimise_shape) }
 {
-    let module = file_argument(alloc, "module", "MODULE", "The file of the module");
     let steps = number_argument(
         alloc,
         "steps",
@@ -105,9 +122,35 @@ fn optimise<'a>(alloc: Global) -> Result<Command<'a>, AllocError>
     Command::new(alloc, "optimise")
         .about("Rewrites a module by the rules of a file")
         .arg(rules_argument(alloc))?
-        .arg(module)?
+        .arg(module_argument(alloc))?
         .arg(conflicts_argument(alloc))?
         .arg(steps)
+}
+
+/// `run [--blocks N] MODULE NAME [ARG..]`.
+fn run<'a>(alloc: Global) -> Result<Command<'a>, AllocError>
+    ensures { IfOk result (IsLeaf run_shape) }
+{
+    let name = required_argument(
+        alloc,
+        "name",
+        "NAME",
+        "The name of the function, without its @",
+    );
+    let arguments = repeated_argument(alloc, "arguments", "ARG", "The function's arguments");
+    let blocks = number_argument(
+        alloc,
+        "blocks",
+        100_000_000,
+        "1000000",
+        "The most blocks that are entered",
+    );
+    Command::new(alloc, "run")
+        .about("Runs a function of a module")
+        .arg(module_argument(alloc))?
+        .arg(name)?
+        .arg(arguments)?
+        .arg(blocks)
 }
 
 /// The program with its commands.
@@ -116,10 +159,14 @@ pub(crate) fn definition<'a>(alloc: Global) -> Result<Command<'a>, AllocError>
 {
     let verify = verify(alloc)?;
     let optimise = optimise(alloc)?;
+    let run = run(alloc)?;
     let command = Command::new(alloc, "faeldmoy")
-        .about("Verifies rewrite rules, and optimises LLVM IR by them")
+        .about("Verifies rewrite rules, optimises LLVM IR by them, and runs it")
         .version("0.1.0")
         .subcommand_required(true)
         .disable_help_subcommand(true);
-    command.subcommand(verify)?.subcommand(optimise)
+    command
+        .subcommand(verify)?
+        .subcommand(optimise)?
+        .subcommand(run)
 }

@@ -3,14 +3,15 @@
 ghost use Rattle.std.specs.Prelude.{◌≡◌, ◌⊎◌, ◌≤◌, ℕ, List, Some, true, false, map, codes, string_bytes, IfOk, OnOk, IfErr, IsErrAnd, is_some};
 ghost use Rattle.clap.specs.Words.{first_of, rows_of, found_of, kind_of, subcommand_rows_of};
 ghost use Rattle.clap.specs.declared.error.kind.ErrorKind.TheVariants.{OutOfMemory};
-ghost use Rattle.command_line.specs.Words.{are_taken, command_and_rows, Says, SaysOf, IsWithinLimits, HasNumber, HasBadList, IsUsageOf, IsRefusalOf, refusal_of_list};
-ghost use Rattle.command_line.specs.Reading.{HasValue, HasNumberUpTo, HasVerify, HasOptimise, IsKnown, IsUntaken, RefusesGiven, RefusesList};
+ghost use Rattle.command_line.specs.Words.{are_taken, command_and_rows, Says, SaysOf, IsWithinLimits, HasNumber, HasTexts, HasBadList, IsUsageOf, IsRefusalOf, refusal_of_list};
+ghost use Rattle.command_line.specs.Reading.{HasValue, HasNumberUpTo, HasVerify, HasOptimise, HasRun, IsKnown, IsUntaken, RefusesGiven, RefusesList};
 
 use crate::command::{Command, CommandError};
 use crate::definition::definition;
 use crate::widths::read_widths;
 use clap::error::ErrorKind;
 use clap::{ArgMatches, Error};
+use lists::List;
 use std::alloc::{AllocError, Global};
 
 /// The text of an argument that has one.
@@ -19,6 +20,20 @@ fn text_of<'a>(found: &ArgMatches<'a>, argument: &str) -> &'a str
     ensures { first_of argument.now (rows_of (found_of found.now)) ≡ Some result.now }
 {
     found.get_str(argument).unwrap()
+}
+
+/// The texts of an argument, in order, of which there may be none.
+fn texts_of<'a>(
+    alloc: Global,
+    found: &ArgMatches<'a>,
+    argument: &str,
+) -> Result<List<&'a str>, AllocError>
+    ensures { IfOk result (λ texts. HasTexts (rows_of (found_of found.now)) argument.now (map (λ text. text.now) texts)) }
+{
+    match found.get_raw(argument) {
+        Some(texts) => Ok(List::from_vec(texts.to_vec(alloc)?)),
+        None => Ok(List::new(alloc)),
+    }
 }
 
 /// The number of an argument that has one.
@@ -98,6 +113,20 @@ fn read_optimise<'a>(found: &ArgMatches<'a>) -> Command<'a>
     }
 }
 
+/// The command `run`.
+fn read_run<'a>(alloc: Global, found: &ArgMatches<'a>) -> Result<Command<'a>, AllocError>
+    requires { HasRun (rows_of (found_of found.now)) }
+    ensures says { IfOk result (SaysOf (Some (codes "run", rows_of (found_of found.now)))) }
+    ensures limits { IfOk result IsWithinLimits }
+{
+    Ok(Command::Run {
+        module: text_of(found, "module"),
+        name: text_of(found, "name"),
+        arguments: texts_of(alloc, found, "arguments")?,
+        blocks: number_of(found, "blocks"),
+    })
+}
+
 /// The command that the words name, and what `clap` found for its arguments.
 fn named<'a, 'm>(matches: &'m ArgMatches<'a>) -> (&'a str, &'m ArgMatches<'a>)
     requires { is_some (subcommand_rows_of matches.now) ≡ true }
@@ -119,8 +148,10 @@ fn read_named<'a>(
 {
     if name == "verify" {
         read_verify(alloc, found)
-    } else {
+    } else if name == "optimise" {
         Ok(read_optimise(found))
+    } else {
+        Ok(read_run(alloc, found)?)
     }
 }
 

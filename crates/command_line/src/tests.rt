@@ -1,8 +1,56 @@
 //! Command lines, and what they say.
 
 use super::*;
+use ops::Width;
 use std::alloc::Global;
 use std::test::Fail;
+
+/// A text with widths behind it.
+fn with_widths(alloc: Global, mut text: String, widths: &[Width]) -> Result<String, Fail> {
+    for width in widths {
+        text.push_str(format!(in alloc; " {}", width.bits())?.as_str())?;
+    }
+    Ok(text)
+}
+
+/// A text with words behind it.
+fn with_words(alloc: Global, mut text: String, words: &[&str]) -> Result<String, Fail> {
+    for word in words {
+        text.push_str(format!(in alloc; " {word}")?.as_str())?;
+    }
+    Ok(text)
+}
+
+/// A command as a text.
+fn shown(alloc: Global, command: &Command<'_>) -> Result<String, Fail> {
+    match command {
+        Command::Verify {
+            rules,
+            widths,
+            conflicts,
+        } => with_widths(
+            alloc,
+            format!(in alloc; "verify {rules} {conflicts}:")?,
+            widths.as_slice(),
+        ),
+        Command::Optimise {
+            rules,
+            module,
+            conflicts,
+            steps,
+        } => Ok(format!(in alloc; "optimise {rules} {module} {conflicts} {steps}")?),
+        Command::Run {
+            module,
+            name,
+            arguments,
+            blocks,
+        } => with_words(
+            alloc,
+            format!(in alloc; "run {module} {name} {blocks}:")?,
+            arguments.as_slice(),
+        ),
+    }
+}
 
 /// What the words behind the program's name say, as a text: `clap`'s texts are `usage` alone.
 fn said(alloc: Global, words: &[&str]) -> Result<String, Fail> {
@@ -12,27 +60,7 @@ fn said(alloc: Global, words: &[&str]) -> Result<String, Fail> {
         all.push(String::from_str(alloc, word)?)?;
     }
     match read_command(alloc, all.as_slice()) {
-        Ok(
-            Command::Verify {
-                rules,
-                widths,
-                conflicts,
-            },
-        ) => {
-            let mut text = format!(in alloc; "verify {rules} {conflicts}:")?;
-            for width in widths.as_slice() {
-                text.push_str(format!(in alloc; " {}", width.bits())?.as_str())?;
-            }
-            Ok(text)
-        }
-        Ok(
-            Command::Optimise {
-                rules,
-                module,
-                conflicts,
-                steps,
-            },
-        ) => Ok(format!(in alloc; "optimise {rules} {module} {conflicts} {steps}")?),
+        Ok(command) => shown(alloc, &command),
         Err(CommandError::Usage(text)) => {
             if text.as_slice().starts_with(b"error: widths ") {
                 Ok(String::from_utf8(text).ok().ok_or("a text")?)
@@ -86,10 +114,33 @@ const TABLE: &[(&[&str], &str)] = &[
     (&["optimise", "r"], "usage"),
     (&["optimise", "r", "m", "--widths", "1"], "usage"),
     (&["optimise", "r", "m", "n"], "usage"),
+    (&["run", "m", "f"], "run m f 1000000:"),
+    (
+        &["run", "--blocks", "10", "m", "swap", "2"],
+        "run m swap 10: 2",
+    ),
+    (
+        &["run", "--blocks=4", "m", "f", "1", "poison"],
+        "run m f 4: 1 poison",
+    ),
+    (
+        &["run", "m", "f", "3", "--blocks", "0", "1", "3"],
+        "run m f 0: 3 1 3",
+    ),
+    (
+        &["run", "--blocks=100000000", "m", "f", "-", "--", "-1"],
+        "run m f 100000000: - -1",
+    ),
+    (
+        &["run", "verify", "help", "run"],
+        "run verify help 1000000: run",
+    ),
+    (&["run", "m"], "usage"),
+    (&["run", "m", "f", "-1"], "usage"),
+    (&["run", "m", "f", "--blocks", "100000001"], "usage"),
     (&["--help"], "usage"),
     (&["--version"], "usage"),
     (&["help"], "usage"),
-    (&["run", "m", "f"], "usage"),
     (&[], "usage"),
 ];
 

@@ -1,20 +1,31 @@
-use Rattle.std.proofs.Common.{◌≡◌, ◌∙◌, ℕ, List, Option, Some, None, ap, sym, slice_index, codes, refl, arith}
+use Rattle.std.proofs.Common.{◌≡◌, ◌∙◌, ◌==◌, ℕ, false, List, Option, Some, None, ap, sym, slice_index, codes, refl, arith}
+use Rattle.std.proofs.lemmas.Bool.Decides.{nat_tests}
 use Rattle.command_line.specs.Widths.{widths_named}
 use Rattle.clap.specs.Words.{Row, Text}
 use Rattle.command_line.specs.Words.{SaysOf, command_and_rows}
 use Rattle.command_line.specs.Laws.{SameCommand}
 use Rattle.command_line.specs.declared.command.Command.{Command}
-use Rattle.command_line.specs.declared.command.Command.TheVariants.{Verify, Optimise}
+use Rattle.command_line.specs.declared.command.Command.TheVariants.{Verify, Optimise, Run}
 use Rattle.command_line.proofs.laws.words_say_one_command.Goals as goal
 
 same : {A : Type 0} {o : Option A} {x y : A} → o ≡ Some x → o ≡ Some y → x ≡ y
 same e h = let both : Some _ ≡ Some _ = sym e ∙ h in cc
 
-names_differ : {A : Type 0} → codes "verify" ≡ codes "optimise" → A
-names_differ e = absurd (differ (slice_index (codes "verify") 0) (slice_index (codes "optimise") 0) refl refl (ap (λ (t : List ℕ). slice_index t 0) e))
+-- the texts begin with bytes that differ
+names_differ : {A : Type 0} (x y : List ℕ) (m n : ℕ) → slice_index x 0 ≡ m → slice_index y 0 ≡ n → (m == n) ≡ false → x ≡ y → A
+names_differ x y m n first second other e = absurd (differ (sym first ∙ (ap (λ (t : List ℕ). slice_index t 0) e ∙ second)))
   where
-    differ : (v o : ℕ) → v ≡ 118 → o ≡ 111 → v ≡ o → ⊥
-    differ v o a b same = omega arith
+    differ : m ≡ n → ⊥
+    differ same = grind (arith, nat_tests)
+
+verify_optimise : {A : Type 0} → codes "verify" ≡ codes "optimise" → A
+verify_optimise e = names_differ (codes "verify") (codes "optimise") 118 111 refl refl refl e
+
+verify_run : {A : Type 0} → codes "verify" ≡ codes "run" → A
+verify_run e = names_differ (codes "verify") (codes "run") 118 114 refl refl refl e
+
+optimise_run : {A : Type 0} → codes "optimise" ≡ codes "run" → A
+optimise_run e = names_differ (codes "optimise") (codes "run") 111 114 refl refl refl e
 
 one : (said : Option (Text × List Row)) (a b : Command) → SaysOf said a → SaysOf said b → SameCommand a b
 one None a b h k = absurd h
@@ -27,8 +38,14 @@ one (Some said) (Verify rules widths conflicts) (Verify rules' widths' conflicts
     )
 one (Some said) (Optimise rules source conflicts steps) (Optimise rules' source' conflicts' steps') h k =
     (same h.1.rules_file k.1.rules_file, same h.1.module_file k.1.module_file, same h.1.most_conflicts k.1.most_conflicts, same h.1.most_steps k.1.most_steps)
-one (Some said) (Verify rules widths conflicts) (Optimise rules' source' conflicts' steps') h k = names_differ (sym h.0 ∙ k.0)
-one (Some said) (Optimise rules source conflicts steps) (Verify rules' widths' conflicts') h k = names_differ (sym k.0 ∙ h.0)
+one (Some said) (Run source name arguments blocks) (Run source' name' arguments' blocks') h k =
+    (same h.1.module_file k.1.module_file, same h.1.function_name k.1.function_name, sym h.1.function_arguments ∙ k.1.function_arguments, same h.1.most_blocks k.1.most_blocks)
+one (Some said) (Verify rules widths conflicts) (Optimise rules' source' conflicts' steps') h k = verify_optimise (sym h.0 ∙ k.0)
+one (Some said) (Optimise rules source conflicts steps) (Verify rules' widths' conflicts') h k = verify_optimise (sym k.0 ∙ h.0)
+one (Some said) (Verify rules widths conflicts) (Run source name arguments blocks) h k = verify_run (sym h.0 ∙ k.0)
+one (Some said) (Run source name arguments blocks) (Verify rules widths conflicts) h k = verify_run (sym k.0 ∙ h.0)
+one (Some said) (Optimise rules source conflicts steps) (Run source' name arguments blocks) h k = optimise_run (sym h.0 ∙ k.0)
+one (Some said) (Run source name arguments blocks) (Optimise rules source' conflicts steps) h k = optimise_run (sym k.0 ∙ h.0)
 
 pub returns : goal.returns
 returns c = record { one = λ words a b h k. one (command_and_rows words) a b h k }
