@@ -1,0 +1,34 @@
+-- The laws of modules that are read and of those that are written.
+use Rattle.std.proofs.Common.{ℕ, List, Some, Contains, refl, ap, ◌∙◌}
+use Rattle.std.proofs.lemmas.Option.{slice_get-get_or}
+use Rattle.ir_core.specs.declared.module.Module.{Module}
+use Rattle.ir_core.specs.declared.module.Entry.{Entry}
+use Rattle.ir_core.specs.declared.module.Entry.TheVariants as entries
+use Rattle.ir_core.specs.declared.function.Function.{Function}
+use Rattle.ir_core.specs.Checks.{MeetsChecks, ModuleMeetsChecks}
+use Rattle.ir_meaning.specs.Laws.{FunctionsHaveOutcomes}
+use Rattle.ir_reader.specs.Faults.{IsModuleText}
+use Rattle.ir_text.specs.Printing.{text_of}
+use Rattle.ir_printer.specs.Tallies.{unchanged}
+use Rattle.needed.specs.Cleaning.{ModuleCleaned}
+use Rattle.needed.proofs.Modules.{modules_refine, modules_meet}
+use Rattle.module_work.specs.Optimised.{IsOptimised}
+use Rattle.module_work.specs.Laws.{ModuleHasOutcomes}
+
+-- a function of a module that meets its checks does so
+pub function_meets : (m : Module) (f : Function) → ModuleMeetsChecks m → Contains m.entries (entries.Function f) → MeetsChecks f
+function_meets m f meets at = meets.functions at.0 f (slice_get-get_or m.entries at.0 (entries.Function f) at.1 ∙ ap (λ (e : Entry). Some e) at.2)
+
+pub module_has_outcomes : FunctionsHaveOutcomes → (m : Module) → ModuleMeetsChecks m → ModuleHasOutcomes m
+module_has_outcomes all m meets f at = all f (function_meets m f meets at)
+
+-- a module that was read, and cleaned then
+pub optimised : (bytes : List ℕ) (read new : Module) → IsModuleText bytes read → ModuleMeetsChecks read → ModuleCleaned read new → (ModuleMeetsChecks new → IsModuleText (text_of new) new) → IsOptimised bytes new (unchanged new.entries)
+optimised bytes read new source checks cleaned reads = record {
+  read = read;
+  source = source;
+  strategy = record { cleaned = cleaned; tallies_are = refl };
+  refines = modules_refine read new checks cleaned;
+  checks = modules_meet read new checks cleaned;
+  reads = reads (modules_meet read new checks cleaned);
+}
