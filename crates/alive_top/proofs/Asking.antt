@@ -1,52 +1,28 @@
 -- Words ask for one task.
-use Rattle.std.proofs.Common.{◌≡◌, ℕ, zero, suc, ◌+◌, ◌-◌, ◌<◌, ◌≤◌, ◌⊎◌, inl, inr, List, [], ◌∷◌, ◌++◌, length, Option, Some, None, refl, sym, subst, ◌∙◌, ap, arith, length-append}
+use Rattle.std.proofs.Common.{◌≡◌, ℕ, zero, suc, ◌+◌, ◌-◌, ◌<◌, ◌≤◌, ◌⊎◌, inl, inr, List, [], ◌∷◌, ◌++◌, length, Option, Some, None, refl, sym, subst, ◌∙◌, arith, length-append}
 use Rattle.std.specs.List.{list_any}
 use Rattle.std.specs.List.Sorted.{IsStrictlyIncreasing}
 use Rattle.std.proofs.lemmas.Bool.{cases_lt}
 use Rattle.std.proofs.lemmas.List.{get_or_append_left, get_or-append_right}
 use Rattle.std.proofs.lemmas.List.Kept.{IsStrictlyIncreasing-filter}
-use Rattle.std.specs.Prelude.{slice_index, codes}
+use Rattle.std.specs.Prelude.{slice_index}
 use Rattle.clap.specs.Words.{Row, Text}
-use Rattle.command_line.specs.Words.{SaysOf, HasText, HasNumber, SaysVerify, IsWithinLimits, command_and_rows}
+use Rattle.command_line.specs.Laws.{SameCommand, WordsSayOneCommand}
+use Rattle.command_line.specs.Words.{SaysOf, IsWithinLimits}
 use Rattle.command_line.specs.Widths.{up_to, names, items, widths_named}
 use Rattle.command_line.specs.declared.command.Command.{Command}
 use Rattle.command_line.specs.declared.command.Command.TheVariants as commands
-use Rattle.alive_top.specs.Tasks.{Task, Verify, Optimise, Asks, IsReady, task_of}
+use Rattle.alive_top.specs.Tasks.{Task, Asks, IsReady, task_of}
 
-one_text : (rows : List Row) (argument a b : Text) → HasText rows argument a → HasText rows argument b → a ≡ b
-one_text rows argument a b h k = cc
+-- a task is the same for all commands that say the same
+same_task : (x y : Command) → SameCommand x y → task_of x ≡ task_of y
+same_task (commands.Verify r v m) (commands.Verify s w n) h = let rules = h.0 in let widths = h.1 in let conflicts = h.2 in cc
+same_task (commands.Optimise r v m n) (commands.Optimise s w k l) h = let rules = h.0 in let source = h.1 in let conflicts = h.2 in let steps = h.3 in cc
+same_task (commands.Run s n a b) (commands.Run t m c d) h = let source = h.0 in let name = h.1 in let arguments = h.2 in let blocks = h.3 in cc
+same_task x y h = absurd h
 
-one_number : (rows : List Row) (argument : Text) (m n : ℕ) → HasNumber rows argument m → HasNumber rows argument n → m ≡ n
-one_number rows argument m n h k = cc
-
-names_differ : (name : Text) → name ≡ codes "verify" → name ≡ codes "optimise" → ⊥
-names_differ name v o = let e : slice_index (codes "verify") 0 ≡ slice_index (codes "optimise") 0 = ap (λ t. slice_index t 0) (sym v ∙ o) in omega (arith, e)
-
-same_verify : (r s v w : List ℕ) (m n : ℕ) → r ≡ s → v ≡ w → m ≡ n → Verify r v m ≡ Verify s w n
-same_verify r s v w m n e f g = cc
-
-same_optimise : (r s v w : List ℕ) (k l m n : ℕ) → r ≡ s → v ≡ w → k ≡ l → m ≡ n → Optimise r v k m ≡ Optimise s w l n
-same_optimise r s v w k l m n e f g h = cc
-
-one_widths : (rows : List Row) (rules r : Text) (v w : List ℕ) (m n : ℕ) → SaysVerify rows rules v m → SaysVerify rows r w n → v ≡ w
-one_widths rows rules r v w m n h k =
-    let e : h.width_list.0 ≡ k.width_list.0 = one_text rows (codes "widths") h.width_list.0 k.width_list.0 h.width_list.1 k.width_list.1 in
-    let f = h.width_list.2.1 in
-    let g = k.width_list.2.1 in
-    cc
-
-says_one : (said : Option (Text × List Row)) (x y : Command) → SaysOf said x → SaysOf said y → task_of x ≡ task_of y
-says_one None x y h k = absurd h
-says_one (Some said) (commands.Verify r v m) (commands.Verify s w n) h k =
-    same_verify r.now s.now v w m n (one_text said.1 (codes "rules") r.now s.now h.1.rules_file k.1.rules_file) (one_widths said.1 r.now s.now v w m n h.1 k.1) (one_number said.1 (codes "conflicts") m n h.1.most_conflicts k.1.most_conflicts)
-says_one (Some said) (commands.Verify r v m) (commands.Optimise s w n l) h k = absurd (names_differ said.0 h.0 k.0)
-says_one (Some said) (commands.Optimise r v m n) (commands.Verify s w l) h k = absurd (names_differ said.0 k.0 h.0)
-says_one (Some said) (commands.Optimise r v m n) (commands.Optimise s w k l) h i =
-    same_optimise r.now s.now v.now w.now m k n l (one_text said.1 (codes "rules") r.now s.now h.1.rules_file i.1.rules_file) (one_text said.1 (codes "module") v.now w.now h.1.module_file i.1.module_file)
-    (one_number said.1 (codes "conflicts") m k h.1.most_conflicts i.1.most_conflicts) (one_number said.1 (codes "steps") n l h.1.most_steps i.1.most_steps)
-
-pub asks_one : (words : List (List ℕ)) (t u : Task) → Asks words t → Asks words u → t ≡ u
-asks_one words t u h k = sym h.is ∙ (says_one (command_and_rows words) h.command k.command h.says k.says ∙ k.is)
+pub asks_one : WordsSayOneCommand → (words : List (List ℕ)) (t u : Task) → Asks words t → Asks words u → t ≡ u
+asks_one law words t u h k = sym h.is ∙ (same_task h.command k.command (law words h.command k.command h.says k.says) ∙ k.is)
 
 -- ---- the widths that are named stand in order
 
@@ -76,3 +52,4 @@ pub ready : (said : Option (Text × List Row)) (command : Command) → SaysOf sa
 ready None command h l = absurd h
 ready (Some said) (commands.Verify rules widths conflicts) h l = (subst IsStrictlyIncreasing (sym h.1.width_list.2.1) (widths_increase h.1.width_list.0), l)
 ready (Some said) (commands.Optimise rules source conflicts steps) h l = tt
+ready (Some said) (commands.Run source name arguments blocks) h l = tt

@@ -3,11 +3,11 @@ use Rattle.std.proofs.Common.{◌≡◌, ℕ, ◌⊎◌, Bool, true, false, List
 use Rattle.std.specs.Prelude.{cond}
 use Rattle.command_line.specs.Words.{are_taken, HasBadList, refusal_of_list}
 use Rattle.alive_top.specs.declared.refusal.Refusal.{Refusal}
-use Rattle.alive_top.specs.declared.refusal.Refusal.TheVariants.{Rules, Source, Read, Memory}
+use Rattle.alive_top.specs.declared.refusal.Refusal.TheVariants.{Rules, Module, Argument, Read, Memory}
 use Rattle.alive_top.specs.declared.status.Ended.{Ended}
 use Rattle.alive_top.specs.declared.status.Status.{Status}
 use Rattle.alive_top.specs.declared.status.Status.TheVariants.{Done, NotAll, Usage, WriteFault, NoMemory}
-use Rattle.alive_top.specs.Tasks.{Task, Verify, Optimise, files_of}
+use Rattle.alive_top.specs.Tasks.{Task, Verify, Optimise, Run, files_of}
 use Rattle.alive_top.specs.Asking.{Asked, TextIsRefused, MemoryIsRefused}
 use Rattle.alive_top.specs.Results.{RefusedFor, IsDoneFor}
 use Rattle.alive_top.specs.Working.{Work, IsWorkOf}
@@ -20,14 +20,17 @@ use Rattle.alive_top.specs.Lines.{memory_line}
 refused_with : (out err : Fed) (ended : Ended) (line : List ℕ) → GainedNothing out → ended.table ≡ [] → Took err line → Refused out err ended line
 refused_with out err ended line stays none took = record { out_stays = stays; takes_line = took; no_verdicts = none }
 
+-- there was no memory for the line on a text
+memory_for_line : (a : Asked) (task : Task) {status : Status} {line : List ℕ} → TextIsRefused a (files_of task) status line → MemoryIsRefused a (files_of task)
+memory_for_line a task r = record { count = r.comes.place; before = r.comes.before; asks = inr r.comes.asks }
+
 pub refused_ends : (a : Asked) (task : Task) (out err : Fed) (ended : Ended) (refusal : Refusal) (status : Status)
-    → RefusedFor a (files_of task) refusal → GainedNothing out → ended.table ≡ [] → RefusedAs refusal err status → EndsWith a task out err ended status
+    → RefusedFor a task refusal → GainedNothing out → ended.table ≡ [] → RefusedAs refusal err status → EndsWith a task out err ended status
 refused_ends a task out err ended (Rules fault) status r stays none (inl s) = subst (EndsWith a task out err ended) (sym s.0) (_, r, refused_with out err ended _ stays none s.1)
 refused_ends a task out err ended (Rules fault) status r stays none (inr s) = subst (EndsWith a task out err ended) (sym s.0) (memory_for_line a task r, refused_with out err ended _ stays none s.1)
-  where
-    memory_for_line : (a : Asked) (task : Task) {status : Status} {line : List ℕ} → TextIsRefused a (files_of task) status line → MemoryIsRefused a (files_of task)
-    memory_for_line a task r = record { count = r.comes.place; before = r.comes.before; asks = inr r.comes.asks }
-refused_ends a task out err ended Source status r stays none s = subst (EndsWith a task out err ended) (sym s.0) (_, r, refused_with out err ended _ stays none s.1)
+refused_ends a task out err ended (Module fault) status r stays none (inl s) = subst (EndsWith a task out err ended) (sym s.0) (_, r, refused_with out err ended _ stays none s.1)
+refused_ends a task out err ended (Module fault) status r stays none (inr s) = subst (EndsWith a task out err ended) (sym s.0) (memory_for_line a task r, refused_with out err ended _ stays none s.1)
+refused_ends a task out err ended Argument status r stays none s = subst (EndsWith a task out err ended) (sym s.0) (r, refused_with out err ended _ stays none s.1)
 refused_ends a task out err ended (Read name) status r stays none (inl s) = subst (EndsWith a task out err ended) (sym s.0) (name.now, r, refused_with out err ended _ stays none s.1)
 refused_ends a task out err ended (Read name) status r stays none (inr s) = subst (EndsWith a task out err ended) (sym s.0) (record { count = r.comes.place; before = r.comes.before; asks = inr r.comes.asks }, refused_with out err ended _ stays none s.1)
 refused_ends a task out err ended Memory status r stays none s = subst (EndsWith a task out err ended) (sym s.0) (r, refused_with out err ended _ stays none s.1)
@@ -40,6 +43,7 @@ done_or_not_all told (Verify rules widths conflicts) work is = by is.2.verified.
     by true e = inl e
     by false e = inr e
 done_or_not_all told (Optimise rules source conflicts steps) work is = inl is.1.status
+done_or_not_all told (Run source name arguments blocks) work is = inl is.status
 
 worked_with : (a : Asked) (task : Task) (ended : Ended) (work : Work) (Wrote : Work → Type 0) → IsDoneFor a task work → ended.table ≡ work.table → Wrote work → Worked a task ended Wrote
 worked_with a task ended work Wrote is table wrote = record { asks = is.asks; takes = is.takes; work = work; is_work = is.is_work; table = table; wrote = wrote }

@@ -2,13 +2,18 @@
 use Rattle.std.proofs.Common.{◌≡◌, ℕ, ◌<◌, ◌≤◌, ◌⊎◌, List, [], ◌∷◌, length, take, Some, None, refl, subst, inl, inr, arith, get_or}
 use Rattle.std.specs.Prelude.{slice_get}
 use Rattle.std.proofs.lemmas.Option.{slice_get_cases, slice_get_within}
+use Rattle.ir_reader.specs.Laws.{TextsHaveOneModuleOrFault}
 use Rattle.rule_core.specs.declared.rule.Rule.{Rule}
 use Rattle.rule_parse.specs.declared.raw.RawRule.{RawRule}
 use Rattle.rule_parse.specs.Laws.{TextsHaveOneReadingOrFault}
 use Rattle.rule_reader.specs.declared.fault.RuleFault.{RuleFault}
 use Rattle.rule_reader.specs.Faults.{IsFault, AreRulesOf, IsFirstFault, too_long, of_text, of_rule}
-use Rattle.alive_top.specs.Tasks.{IsRuleText, HasRules, IsFirstName, Rules as RuleFile, NoRules, Source as ModuleFile}
-use Rattle.alive_top.proofs.Following.{TakenAreNotRefused}
+use Rattle.alive_top.specs.declared.status.Status.{Status}
+use Rattle.alive_top.specs.Tasks.{Kind, Takes, Refuses, IsRuleText, HasRules, IsFirstName, Rules as RuleFile, NoRules, Source as ModuleFile}
+
+-- it is so for each kind of file
+abbrev pub TakenAreNotRefused : Type 0
+TakenAreNotRefused = (kind : Kind) (bytes : List ℕ) (s : Status) (line : List ℕ) → Takes kind bytes → Refuses kind bytes s line → ⊥
 
 -- rules that were read pass each check
 passes : (raws : List RawRule) (rules : List Rule) (k : ℕ) (raw : RawRule) (fault : RuleFault) → AreRulesOf raws rules → slice_get raws k ≡ Some raw → IsFirstFault (take k raws) raw fault → ⊥
@@ -38,7 +43,7 @@ refused_no_rules : TextsHaveOneReadingOrFault → (bytes : List ℕ) (fault : Ru
 refused_no_rules law bytes fault is (inl f) = no_fault law bytes [] fault is f
 refused_no_rules law bytes fault is (inr first) = one_list law bytes is first.has
 
-pub taken_not_refused : TextsHaveOneReadingOrFault → TakenAreNotRefused
-taken_not_refused law RuleFile bytes s line takes r = no_fault law bytes takes.0 r.0 takes.1 r.1
-taken_not_refused law NoRules bytes s line takes r = refused_no_rules law bytes r.0 takes r.1
-taken_not_refused law ModuleFile bytes s line takes r = r.0 takes.0 takes.1
+pub taken_not_refused : TextsHaveOneReadingOrFault → TextsHaveOneModuleOrFault → TakenAreNotRefused
+taken_not_refused rules modules RuleFile bytes s line takes r = no_fault rules bytes takes.0 r.0 takes.1 r.1
+taken_not_refused rules modules NoRules bytes s line takes r = refused_no_rules rules bytes r.0 takes r.1
+taken_not_refused rules modules ModuleFile bytes s line takes r = modules.not_both bytes takes.0 r.0 takes.1.limit takes.1.source r.1

@@ -1,9 +1,10 @@
 -- Which files were asked for, and how far a command came with them.
-use Rattle.std.specs.Prelude.{◌≡◌, ℕ, ◌+◌, ◌<◌, ◌⊎◌, List, [], ◌∷◌, take, Option, Some, IfSome, slice_get}
+use Rattle.std.specs.Prelude.{◌≡◌, ℕ, ◌+◌, ◌<◌, ◌⊎◌, List, [], ◌∷◌, length, take, Option, Some, IfSome, slice_get}
 use Rattle.outside.specs.Faults.{Rose}
 use Rattle.outside.specs.Files.{with_name}
 use Rattle.alive_top.specs.declared.status.Status.{Status}
-use Rattle.alive_top.specs.Tasks.{File, Takes, Refuses}
+use Rattle.module_work.specs.Running.{IsMisnamed}
+use Rattle.alive_top.specs.Tasks.{Task, Verify, Optimise, Run, File, Takes, Refuses, files_of}
 
 -- what is told of the files: the bytes under each name, which stay; the names asked for and the count of faults, before and after
 pub record Asked : Type 0 where
@@ -65,3 +66,15 @@ pub record MemoryIsRefused (a : Asked) (files : List File) : Type 0 where
   pub count : ℕ
   pub before : TakesFirst a files count
   pub asks : AsksFirst a files count ⊎ AsksFirst a files (count + 1)
+
+-- the module of a run, where its bytes are told, has no function of the name, or the arguments do not fit it
+abbrev pub NamesNoRun : (List ℕ → Option (List ℕ)) → Task → Type 0
+NamesNoRun told (Verify rules widths conflicts) = ⊥
+NamesNoRun told (Optimise rules source conflicts steps) = ⊥
+NamesNoRun told (Run source name arguments blocks) = IfSome (told source) (λ bytes. IsMisnamed bytes name arguments)
+
+-- all files were read, and the arguments were refused
+pub record ArgumentIsRefused (a : Asked) (task : Task) : Type 0 where
+  pub asks : AsksFirst a (files_of task) (length (files_of task))
+  pub takes : TakesAll a (files_of task)
+  pub names_none : NamesNoRun a.told task

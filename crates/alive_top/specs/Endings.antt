@@ -1,22 +1,24 @@
 -- How each status comes: what was read, what was written and which counts of faults rose.
-use Rattle.std.specs.Prelude.{◌≡◌, ◌↔◌, ℕ, IsTrue, false, ◌⊎◌, List, [], Option, IsSomeAnd, length, slice_get, Some}
+use Rattle.std.specs.Prelude.{◌≡◌, ◌≤◌, ◌↔◌, ℕ, IsTrue, false, ◌⊎◌, List, [], Option, IsSomeAnd, length, slice_get, Some}
 use Rattle.outside.specs.Faults.{Rose}
 use Rattle.outside.specs.Sink.{Appends, AppendsPrefix}
 use Rattle.command_line.specs.Words.{are_taken, HasBadList, refusal_of_list}
-use Rattle.straight_core.specs.declared.module.Module.{Module}
+use Rattle.ir_core.specs.declared.module.Module.{Module}
+use Rattle.ir_parse.specs.Text.{most_bytes}
+use Rattle.ir_text.specs.Printing.{text_of}
+use Rattle.ir_text.specs.Report.{Tally, report_of}
+use Rattle.module_work.specs.Optimised.{IsOptimised}
+use Rattle.module_work.specs.Running.{IsRun}
 use Rattle.rule_core.specs.declared.rule.Rule.{Rule}
 use Rattle.alive_top.specs.Tasks.{IsRuleText}
-use Rattle.straight_line.specs.Optimised.{IsOptimised}
-use Rattle.straight_line.specs.Printing.{text_of, report_of}
-use Rattle.straight_line.specs.Strategy.{Tally}
 use Rattle.verifier.specs.declared.verification.Verified.{Verified}
 use Rattle.verifier.specs.Verified.{IsVerified}
 use Rattle.alive_top.specs.declared.status.Ended.{Ended}
 use Rattle.alive_top.specs.declared.status.Status.{Status}
-use Rattle.alive_top.specs.declared.status.Status.TheVariants.{Done, NotAll, Usage, RuleRefused, ModuleRefused, ReadFault, WriteFault, NoMemory}
-use Rattle.alive_top.specs.Lines.{read_fault_line, memory_line}
+use Rattle.alive_top.specs.declared.status.Status.TheVariants.{Done, NotAll, Usage, RuleRefused, ModuleRefused, ReadFault, WriteFault, NoMemory, Argument}
+use Rattle.alive_top.specs.Lines.{read_fault_line, argument_line, memory_line}
 use Rattle.alive_top.specs.Tasks.{Task, File, Asks, files_of, Takes}
-use Rattle.alive_top.specs.Asking.{Asked, AsksFirst, TakesAll, TextIsRefused, ReadFails, MemoryIsRefused}
+use Rattle.alive_top.specs.Asking.{Asked, AsksFirst, TakesAll, TextIsRefused, ReadFails, MemoryIsRefused, ArgumentIsRefused, NamesNoRun}
 use Rattle.alive_top.specs.Working.{Work, IsWorkOf}
 
 -- what is told of a sink before and after: the bytes written, and the count of faults
@@ -76,6 +78,7 @@ EndsWith a task out err ended RuleRefused = (line : List ℕ) × TextIsRefused a
 EndsWith a task out err ended ModuleRefused = (line : List ℕ) × TextIsRefused a (files_of task) ModuleRefused line × Refused out err ended line
 EndsWith a task out err ended ReadFault = (name : List ℕ) × ReadFails a (files_of task) name × Refused out err ended (read_fault_line name)
 EndsWith a task out err ended NoMemory = MemoryIsRefused a (files_of task) × Refused out err ended memory_line
+EndsWith a task out err ended Argument = ArgumentIsRefused a task × Refused out err ended argument_line
 
 -- the words are no command: `clap` does not take them, or the list of widths is outside its form
 abbrev pub IsNoCommand : List (List ℕ) → Type 0
@@ -104,6 +107,13 @@ IsWorked NotAll = Unit {0}
 IsWorked WriteFault = Unit {0}
 IsWorked status = ⊥
 
+-- the statuses that may come where a module has no function of a run's name, or the arguments do not fit it
+abbrev pub IsNoRun : Status → Type 0
+IsNoRun Argument = Unit {0}
+IsNoRun ReadFault = Unit {0}
+IsNoRun NoMemory = Unit {0}
+IsNoRun status = ⊥
+
 -- the statuses that may come where nothing is wrong
 abbrev pub IsWorkOrNoMemory : Status → Type 0
 IsWorkOrNoMemory Done = Unit {0}
@@ -114,6 +124,10 @@ IsWorkOrNoMemory status = ⊥
 -- the bytes of each file are told, and are what the file is read for
 abbrev pub AreGood : (List ℕ → Option (List ℕ)) → List File → Type 0
 AreGood told files = (k : ℕ) (file : File) → slice_get files k ≡ Some file → IsSomeAnd (told file.name) (Takes file.kind)
+
+-- a run, where the bytes of its module are told, names a function of it and arguments that fit
+abbrev pub HasItsRun : (List ℕ → Option (List ℕ)) → Task → Type 0
+HasItsRun told task = ¬ NamesNoRun told task
 
 -- What `verify` has done for the bytes of a rule file: it decided these rules, handed back their verdicts and wrote the texts of
 -- them. All are admitted exactly with status 0.
@@ -128,8 +142,16 @@ pub record HasVerified (bytes : List ℕ) (widths : List ℕ) (conflicts : ℕ) 
 
 -- What `optimise` has done for the bytes of a module: it wrote the module that may stand in its place, and a report.
 pub record HasOptimised (bytes : List ℕ) (out err : Fed) : Type 0 where
+  pub limit : length bytes ≤ most_bytes
   pub new : Module
   pub tallies : List Tally
   pub optimised : IsOptimised bytes new tallies
   pub text : Gained out (text_of new)
   pub report : Gained err (report_of new tallies)
+
+-- What `run` has done for the bytes of a module: it wrote how far the run of the named function came, or what it returned.
+pub record HasRun (bytes name : List ℕ) (arguments : List (List ℕ)) (blocks : ℕ) (out err : Fed) : Type 0 where
+  pub text : List ℕ
+  pub is_run : IsRun bytes name arguments blocks text
+  pub wrote : Gained out text
+  pub silent : GainedNothing err

@@ -1,5 +1,11 @@
 -- The lines that say why a command's work was not done.
 use Rattle.std.specs.Prelude.{ℕ, List, ◌++◌, codes, decimal}
+use Rattle.ir_tokens.specs.declared.called.Identifier.{Identifier}
+use Rattle.ir_tokens.specs.declared.called.Identifier.TheVariants.{Named, Numbered}
+use Rattle.ir_lexemes.specs.Names.{name_text}
+use Rattle.ir_reader.specs.declared.fault.IrFault.{IrFault}
+use Rattle.ir_reader.specs.declared.fault.IrFaultKind.{IrFaultKind}
+use Rattle.ir_reader.specs.declared.fault.IrFaultKind.TheVariants as ir
 use Rattle.rule_reader.specs.declared.fault.RuleFault.{RuleFault}
 use Rattle.rule_reader.specs.declared.fault.RuleFaultKind.{RuleFaultKind}
 use Rattle.rule_reader.specs.declared.fault.RuleFaultKind.TheVariants.{TooLong, BadByte, Syntax, LeftOut, TooMany, Duplicate, Unbound, RootMissing, Redefines, UnusedTemp, UndefInside, WitnessCount, NoType, OpenType}
@@ -25,13 +31,38 @@ kind_text OpenType = codes "OpenType"
 abbrev pub rules_line : RuleFault → List ℕ
 rules_line fault = codes "rules: line " ++ decimal fault.line ++ codes ": " ++ kind_text fault.kind ++ codes "\n"
 
--- the line on a module
-abbrev pub module_line : List ℕ
-module_line = codes "module refused\n"
+-- a register as it is printed, by its name or its number
+unfoldable pub register_text : Identifier → List ℕ
+register_text (Named name) = codes "%" ++ name_text name
+register_text (Numbered n) = codes "%" ++ decimal n
+
+-- the same of a module; of a register that isn't assigned, which and in which block
+unfoldable pub ir_kind_text : IrFaultKind → List ℕ
+ir_kind_text ir.TooLong = codes "TooLong"
+ir_kind_text ir.BadByte = codes "BadByte"
+ir_kind_text ir.Syntax = codes "Syntax"
+ir_kind_text (ir.LeftOut word) = codes "LeftOut " ++ word
+ir_kind_text ir.Width = codes "Width"
+ir_kind_text ir.ConstRange = codes "ConstRange"
+ir_kind_text ir.Numbering = codes "Numbering"
+ir_kind_text ir.Duplicate = codes "Duplicate"
+ir_kind_text ir.Unknown = codes "Unknown"
+ir_kind_text ir.TypeClash = codes "TypeClash"
+ir_kind_text ir.BadPhi = codes "BadPhi"
+ir_kind_text ir.EntryPred = codes "EntryPred"
+ir_kind_text (ir.Unassigned register block) = codes "Unassigned " ++ register_text register ++ codes " in block " ++ decimal block
+
+-- the line on a module: where its first fault is, and of which kind
+abbrev pub module_line : IrFault → List ℕ
+module_line fault = codes "module: line " ++ decimal fault.line ++ codes ": " ++ ir_kind_text fault.kind ++ codes "\n"
 
 -- the line that names a file that could not be read
 abbrev pub read_fault_line : List ℕ → List ℕ
 read_fault_line name = codes "read fault: " ++ name ++ codes "\n"
+
+-- the line on a function that the module does not have, or on arguments that do not fit it
+abbrev pub argument_line : List ℕ
+argument_line = codes "argument refused\n"
 
 -- the line on memory
 abbrev pub memory_line : List ℕ

@@ -1,7 +1,7 @@
 -- The exit status of each way to end.
 use Rattle.std.specs.Prelude.{ℕ}
 use Rattle.alive_top.specs.declared.status.Status.{Status}
-use Rattle.alive_top.specs.declared.status.Status.TheVariants.{Done, NotAll, Usage, RuleRefused, ModuleRefused, ReadFault, WriteFault, NoMemory}
+use Rattle.alive_top.specs.declared.status.Status.TheVariants.{Done, NotAll, Usage, RuleRefused, ModuleRefused, ReadFault, WriteFault, NoMemory, Argument}
 
 -- the exit status of the program
 abbrev pub code_of : Status → ℕ
@@ -13,3 +13,4 @@ code_of ModuleRefused = 4
 code_of ReadFault = 5
 code_of WriteFault = 6
 code_of NoMemory = 7
+code_of Argument = 8

@@ -1,17 +1,19 @@
 -- What the words of a command line ask for: a task, the files that it reads, and what it takes in them.
-use Rattle.std.specs.Prelude.{◌≡◌, ◌≢◌, ◌≤◌, ℕ, true, false, length, List, [], ◌∷◌, ◌⊎◌, codes}
+use Rattle.std.specs.Prelude.{◌≡◌, ◌≢◌, ◌≤◌, ℕ, true, false, length, List, [], ◌∷◌, map, ◌⊎◌, codes}
 use Rattle.std.specs.List.Sorted.{IsStrictlyIncreasing}
 use Rattle.scan.specs.declared.rule_token.RuleToken.{RuleToken}
 use Rattle.scan.specs.RuleTokens.{IsNextRuleToken}
 use Rattle.command_line.specs.declared.command.Command.{Command}
 use Rattle.command_line.specs.declared.command.Command.TheVariants as commands
 use Rattle.command_line.specs.Words.{are_taken, Says}
-use Rattle.straight_core.specs.declared.module.Module.{Module}
+use Rattle.ir_core.specs.declared.module.Module.{Module}
+use Rattle.ir_reader.specs.declared.fault.IrFault.{IrFault}
+use Rattle.ir_reader.specs.Faults.{IsFault as IsModuleFault}
+use Rattle.module_work.specs.Running.{IsReadAs}
 use Rattle.rule_core.specs.declared.rule.Rule.{Rule}
 use Rattle.rule_reader.specs.declared.fault.RuleFault.{RuleFault}
 use Rattle.rule_reader.specs.declared.fault.RuleFaultKind.TheVariants.{LeftOut}
 use Rattle.rule_reader.specs.Faults.{IsRuleFile, IsFault}
-use Rattle.straight_line.specs.Optimised.{IsModuleText, IsNoModuleText}
 use Rattle.alive_top.specs.declared.status.Status.{Status}
 use Rattle.alive_top.specs.declared.status.Status.TheVariants.{RuleRefused, ModuleRefused}
 use Rattle.alive_top.specs.Lines.{rules_line, module_line}
@@ -20,16 +22,19 @@ use Rattle.alive_top.specs.Lines.{rules_line, module_line}
 pub data Task : Type 0 where
   Verify : (rules : List ℕ) → (widths : List ℕ) → (conflicts : ℕ) → Task
   Optimise : (rules source : List ℕ) → (conflicts steps : ℕ) → Task
+  Run : (source name : List ℕ) → (arguments : List (List ℕ)) → (blocks : ℕ) → Task
 
 -- the task of a command, without where its names lie in memory
 abbrev pub task_of : Command → Task
 task_of (commands.Verify rules widths conflicts) = Verify rules.now widths conflicts
 task_of (commands.Optimise rules source conflicts steps) = Optimise rules.now source.now conflicts steps
+task_of (commands.Run source name arguments blocks) = Run source.now name.now (map (λ a. a.now) arguments) blocks
 
 -- what the work of a command asks of it: widths in order, each once, and a limit within that of a search
 abbrev pub IsReady : Command → Type 0
 IsReady (commands.Verify rules widths conflicts) = IsStrictlyIncreasing widths × (conflicts ≤ 1000000)
 IsReady (commands.Optimise rules source conflicts steps) = Unit {0}
+IsReady (commands.Run source name arguments blocks) = Unit {0}
 
 -- the words ask for this task
 pub record Asks (words : List (List ℕ)) (task : Task) : Type 0 where
@@ -53,6 +58,7 @@ pub record File : Type 0 where
 abbrev pub files_of : Task → List File
 files_of (Verify rules widths conflicts) = record { name = rules; kind = Rules } ∷ []
 files_of (Optimise rules source conflicts steps) = record { name = rules; kind = NoRules } ∷ record { name = source; kind = Source } ∷ []
+files_of (Run source name arguments blocks) = record { name = source; kind = Source } ∷ []
 
 -- the most bytes of a rule file: 1 MiB
 abbrev pub rules_limit : ℕ
@@ -67,7 +73,7 @@ pub record IsRuleText (bytes : List ℕ) (rules : List Rule) : Type 0 where
 abbrev pub Takes : Kind → List ℕ → Type 0
 Takes Rules bytes = (rules : List Rule) × IsRuleText bytes rules
 Takes NoRules bytes = IsRuleText bytes []
-Takes Source bytes = (m : Module) × IsModuleText bytes m
+Takes Source bytes = (m : Module) × IsReadAs bytes m
 
 -- the bytes are a rule file that has rules
 abbrev pub HasRules : List ℕ → Type 0
@@ -85,4 +91,4 @@ pub record IsFirstName (bytes : List ℕ) (fault : RuleFault) : Type 0 where
 abbrev pub Refuses : Kind → List ℕ → Status → List ℕ → Type 0
 Refuses Rules bytes status line = (fault : RuleFault) × IsFault bytes fault × (status ≡ RuleRefused) × (line ≡ rules_line fault)
 Refuses NoRules bytes status line = (fault : RuleFault) × (IsFault bytes fault ⊎ IsFirstName bytes fault) × (status ≡ RuleRefused) × (line ≡ rules_line fault)
-Refuses Source bytes status line = IsNoModuleText bytes × (status ≡ ModuleRefused) × (line ≡ module_line)
+Refuses Source bytes status line = (fault : IrFault) × IsModuleFault bytes fault × (status ≡ ModuleRefused) × (line ≡ module_line fault)

@@ -16,7 +16,7 @@ pub enum Status {
     Usage,
     /// The rule file was read, and its bytes are no rule file, or more than 1 MiB.
     RuleRefused,
-    /// The module was read, and isn't of the form, or has more than 16 MiB.
+    /// The module was read, and its bytes are no module, or more than 16 MiB.
     ModuleRefused,
     /// A file could not be read.
     ReadFault,
@@ -24,6 +24,8 @@ pub enum Status {
     WriteFault,
     /// There was no memory for the work.
     NoMemory,
+    /// The module has no function of the name, or the arguments do not fit its parameters.
+    Argument,
 }
 
 impl Status {
@@ -40,6 +42,7 @@ impl Status {
             Status::ReadFault => 5,
             Status::WriteFault => 6,
             Status::NoMemory => 7,
+            Status::Argument => 8,
         }
     }
 }

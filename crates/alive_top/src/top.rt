@@ -3,13 +3,14 @@
 ghost use Rattle.std.specs.Prelude.{◌≡◌, ◌≢◌, ◌≤◌, ◌⊎◌, ℕ, List as Seq, map, string_bytes, IfSome, [], slice_get, Some, MatchResult};
 ghost use Rattle.outside.specs.Faults.{Rose};
 ghost use Rattle.alive_top.specs.Tasks.{IsRuleText};
-ghost use Rattle.alive_top.specs.Asking.{asked};
-ghost use Rattle.alive_top.specs.Tasks.{Task, Verify, Optimise, File, Asks, Takes, IsReady, files_of, task_of};
+ghost use Rattle.module_work.specs.Running.{IsMisnamed};
+ghost use Rattle.alive_top.specs.Asking.{asked, NamesNoRun};
+ghost use Rattle.alive_top.specs.Tasks.{Task, Verify, Optimise, Run, File, Asks, Takes, IsReady, files_of, task_of};
 ghost use Rattle.alive_top.specs.Results.{seen_work};
-ghost use Rattle.alive_top.specs.Endings.{fed, Took, EndsWith, Ends, IsNoCommand, HasVerified, HasOptimised, IsWorked, IsWorkOrNoMemory, AreGood};
+ghost use Rattle.alive_top.specs.Endings.{fed, Took, EndsWith, Ends, IsNoCommand, HasVerified, HasOptimised, HasRun, IsWorked, IsNoRun, IsWorkOrNoMemory, AreGood, HasItsRun};
 ghost use Rattle.alive_top.specs.Writing.{Says, SaysMemory, RefusedAs, WrittenAs};
 
-use crate::refusal::{Refusal, read_fault_line, rules_line};
+use crate::refusal::{Refusal, module_line, read_fault_line, rules_line};
 use crate::status::{Ended, Status};
 use crate::work::{Work, perform};
 use command_line::{Command, CommandError, read_command};
@@ -51,9 +52,12 @@ fn refuse<E: Sink>(alloc: Global, refusal: Refusal<'_>, err: &mut E) -> Status
 {
     match refusal {
         Refusal::Rules(fault) => put_made(rules_line(alloc, &fault), Status::RuleRefused, err),
-        Refusal::Source => {
-            put_line(b"module refused\n", err);
-            Status::ModuleRefused
+        Refusal::Module(fault) => {
+            put_made(module_line(alloc, &fault), Status::ModuleRefused, err)
+        }
+        Refusal::Argument => {
+            put_line(b"argument refused\n", err);
+            Status::Argument
         }
         Refusal::Read(name) => put_made(read_fault_line(alloc, name), Status::ReadFault, err),
         Refusal::Memory => {
@@ -163,6 +167,9 @@ fn run_words<F: Files, O: Sink, E: Sink>(
 /// instructions alone, to `out` and a report to `err`. What it writes may stand in the place of what it read. The rule file may
 /// hold no rules yet, and the options have no effect.
 ///
+/// `run [--blocks N] MODULE NAME [ARG..]` runs a function of a module and writes what it returned, that its behaviour is undefined, or
+/// where it was after so many blocks.
+///
 /// A rule file of more than 1 MiB and a module of more than 16 MiB are refused. The status says how it ended.
 pub fn alive<F: Files, O: Sink, E: Sink>(
     alloc: Global,
@@ -195,6 +202,19 @@ pub fn alive<F: Files, O: Sink, E: Sink>(
         (fed (O.written out.old) (O.written out.new) (O.faults out.old) (O.faults out.new))
         (fed (E.written err.old) (E.written err.new) (E.faults err.old) (E.faults err.new))) }
 
+    // With status 0 of `run` the module's bytes, where they are told, are the text of a module that has the function; and what was written
+    // is the outcome at these arguments, after at most so many blocks entered, where each number that is left open is 0.
+    ensures ran { (source name : Seq ℕ) (arguments : Seq (Seq ℕ)) (blocks : ℕ) → Asks (map string_bytes words.now.items) (Run source name arguments blocks)
+        → result.status ≡ Status.Done → IfSome (F.bytes_under files.old source) (λ bytes. HasRun bytes name arguments blocks
+        (fed (O.written out.old) (O.written out.new) (O.faults out.old) (O.faults out.new))
+        (fed (E.written err.old) (E.written err.new) (E.faults err.old) (E.faults err.new))) }
+
+    // Status 8 comes only where the module of a run, where its bytes are told, has no function of the name or the arguments do not fit it;
+    // and there nothing else comes, but a read fault or want of memory.
+    ensures argument { (task : Task) → Asks (map string_bytes words.now.items) task → result.status ≡ Status.Argument → NamesNoRun (F.bytes_under files.old) task }
+    ensures no_run { (source name : Seq ℕ) (arguments : Seq (Seq ℕ)) (blocks : ℕ) → Asks (map string_bytes words.now.items) (Run source name arguments blocks)
+        → IfSome (F.bytes_under files.old source) (λ bytes. IsMisnamed bytes name arguments → IsNoRun result.status) }
+
     // With the other statuses, but that of a write fault, the output is as it was.
     ensures untouched { result.status ≢ Status.Done → result.status ≢ Status.NotAll → result.status ≢ Status.WriteFault → out.new ≡ out.old }
 
@@ -214,9 +234,10 @@ pub fn alive<F: Files, O: Sink, E: Sink>(
     // A write fault comes only where the count of a sink rose.
     ensures write_fault { result.status ≡ Status.WriteFault → Rose (O.faults out.old) (O.faults out.new) ⊎ Rose (E.faults err.old) (E.faults err.new) }
 
-    // The words of a command, good files and no faults leave nothing but the whole work, or want of memory.
+    // The words of a command, good files, of a run its function and arguments that fit, and no faults leave nothing but the whole work, or
+    // want of memory.
     ensures complete { ¬ IsNoCommand (map string_bytes words.now.items)
-        → ((task : Task) → Asks (map string_bytes words.now.items) task → AreGood (F.bytes_under files.old) (files_of task))
+        → ((task : Task) → Asks (map string_bytes words.now.items) task → AreGood (F.bytes_under files.old) (files_of task) × HasItsRun (F.bytes_under files.old) task)
         → ¬ (Rose (F.faults files.old) (F.faults files.new))
         → ¬ (Rose (O.faults out.old) (O.faults out.new))
         → ¬ (Rose (E.faults err.old) (E.faults err.new))
@@ -228,7 +249,10 @@ pub fn alive<F: Files, O: Sink, E: Sink>(
     ensures out_grows { O.faults out.old ≤ O.faults out.new }
     ensures err_grows { E.faults err.old ≤ E.faults err.new }
 {
-    // what a text is read as is not refused
+    // words ask for one task, and what a text is read as is not refused
+    command_line::words_say_one_command();
     rule_parse::every_text_has_one_reading_or_one_fault();
+    ir_reader::every_text_has_one_module_or_one_fault();
+    module_work::every_run_has_its_function_and_arguments();
     run_words(alloc, words.as_slice(), files, out, err)
 }

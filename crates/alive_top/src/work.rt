@@ -1,29 +1,33 @@
 //! The work of each command, before anything is written.
 
-ghost use Rattle.std.specs.Prelude.{◌≡◌, ◌≤◌, ◌<◌, ◌+◌, ◌^◌, length, take, IfSome, [], IfOk, All, if◌then◌else◌};
+ghost use Rattle.std.specs.Prelude.{◌≡◌, ◌≤◌, ◌<◌, ◌+◌, ◌^◌, length, map, take, IfSome, [], IfOk, All, if◌then◌else◌};
 ghost use Rattle.std.specs.List.Sorted.{IsStrictlyIncreasing};
 ghost use Rattle.verifier.specs.Findings.{IsReadRule};
-ghost use Rattle.straight_line.specs.Optimised.{Prints};
+ghost use Rattle.module_work.specs.Running.{IsRun};
 ghost use Rattle.alive_top.specs.Asking.{asked};
-ghost use Rattle.alive_top.specs.Tasks.{Rules, NoRules, Source, Verify, Optimise, task_of, IsReady, IsRuleText, HasRules, IsFirstName};
-ghost use Rattle.alive_top.specs.Working.{IsVerifyWork};
-ghost use Rattle.alive_top.specs.Results.{ReadOf, TextOf, FileOf, TaskOf, seen_work};
+ghost use Rattle.alive_top.specs.Tasks.{Rules, NoRules, Source, Verify, Optimise, Run, task_of, IsReady, IsRuleText, HasRules, IsFirstName};
+ghost use Rattle.alive_top.specs.Working.{IsVerifyWork, IsPrinted};
+ghost use Rattle.alive_top.specs.Results.{ReadOf, TextOf, FileOf, RunOf, RunOfFile, TaskOf, seen_work};
 
 use crate::refusal::Refusal;
 use crate::status::Status;
 use command_line::Command;
+use ir_reader::IrError;
 use lists::{List, Text};
+use module_work::{RunError, Texts};
 use ops::Width;
 use outside::{Files, ReadError};
 use rule_core::Rule;
 use rule_reader::{RuleError, RuleFault, RuleFaultKind, read_rules};
 use scan::Cursor;
 use std::alloc::{AllocError, Global};
-use straight_line::{ModuleError, SOURCE_LIMIT, Texts};
 use verdict::Table;
 
 /// The most bytes of a rule file.
 const RULES_LIMIT: usize = 1_048_576;
+
+/// The most bytes of a module.
+const SOURCE_LIMIT: usize = 1 << 24;
 
 /// What a command writes: a text for the output, and a report. Beside them the verdicts, and the status once both are written.
 #[derive(Drop)]
@@ -97,12 +101,12 @@ fn no_rules_of<'a>(alloc: Global, bytes: &[u8]) -> Result<(), Refusal<'a>>
 
 /// What is written for the text of a module.
 fn texts_of<'a>(alloc: Global, source: &[u8]) -> Result<Texts, Refusal<'a>>
-    ensures { TextOf Source source.now (λ texts. Prints source.now texts.out.items texts.report.items) result }
+    ensures { TextOf Source source.now (λ texts. IsPrinted source.now texts.out.items texts.report.items) result }
 {
-    match straight_line::optimise(alloc, source) {
+    match module_work::optimise(alloc, source) {
         Ok(texts) => Ok(texts),
-        Err(ModuleError::Refused) => Err(Refusal::Source),
-        Err(ModuleError::NoMemory) => Err(Refusal::Memory),
+        Err(IrError::Refused(fault)) => Err(Refusal::Module(fault)),
+        Err(IrError::NoMemory) => Err(Refusal::Memory),
     }
 }
 
@@ -147,7 +151,7 @@ fn read_source<'a, F: Files>(
 ) -> Result<Texts, Refusal<'a>>
     ensures answer { FileOf
         (asked (F.bytes_under files.old) (F.names_asked files.old) (F.names_asked files.new) (F.faults files.old) (F.faults files.new))
-        (record { name = name.now; kind = Source }) (λ bytes texts. Prints bytes texts.out.items texts.report.items) result }
+        (record { name = name.now; kind = Source }) (λ bytes texts. IsPrinted bytes texts.out.items texts.report.items) result }
     ensures told_stay { F.bytes_under files.new ≡ F.bytes_under files.old }
     ensures faults_grow { F.faults files.old ≤ F.faults files.new }
 {
@@ -237,6 +241,67 @@ fn optimise<'a, F: Files>(
     })
 }
 
+/// What is written of a run of a function of the text of a module.
+fn run_of<'a>(
+    alloc: Global,
+    source: &[u8],
+    name: &str,
+    arguments: &[&str],
+    blocks: u32,
+) -> Result<Vec<u8>, Refusal<'a>>
+    ensures { RunOf source.now name.now (map (λ a. a.now) arguments.now) (λ text. IsRun source.now name.now (map (λ a. a.now) arguments.now) blocks text.items) result }
+{
+    match module_work::run(alloc, source, name.as_bytes(), arguments, blocks) {
+        Ok(text) => Ok(text),
+        Err(RunError::Refused(fault)) => Err(Refusal::Module(fault)),
+        Err(RunError::Argument) => Err(Refusal::Argument),
+        Err(RunError::NoMemory) => Err(Refusal::Memory),
+    }
+}
+
+/// Reads a module, and gives what is written of a run of one of its functions.
+fn read_and_run<'a, F: Files>(
+    alloc: Global,
+    files: &mut F,
+    source: &'a str,
+    name: &str,
+    arguments: &[&str],
+    blocks: u32,
+) -> Result<Vec<u8>, Refusal<'a>>
+    ensures answer { RunOfFile
+        (asked (F.bytes_under files.old) (F.names_asked files.old) (F.names_asked files.new) (F.faults files.old) (F.faults files.new))
+        source.now name.now (map (λ a. a.now) arguments.now) (λ bytes text. IsRun bytes name.now (map (λ a. a.now) arguments.now) blocks text.items) result }
+    ensures told_stay { F.bytes_under files.new ≡ F.bytes_under files.old }
+    ensures faults_grow { F.faults files.old ≤ F.faults files.new }
+{
+    let bytes = read(alloc, files, source, SOURCE_LIMIT + 1)?;
+    run_of(alloc, bytes.as_slice(), name, arguments, blocks)
+}
+
+/// The work of `run`.
+fn run<'a, F: Files>(
+    alloc: Global,
+    files: &mut F,
+    source: &'a str,
+    name: &str,
+    arguments: &[&str],
+    blocks: u32,
+) -> Result<Work, Refusal<'a>>
+    ensures answer { TaskOf
+        (asked (F.bytes_under files.old) (F.names_asked files.old) (F.names_asked files.new) (F.faults files.old) (F.faults files.new))
+        (Run source.now name.now (map (λ a. a.now) arguments.now) blocks) result }
+    ensures told_stay { F.bytes_under files.new ≡ F.bytes_under files.old }
+    ensures faults_grow { F.faults files.old ≤ F.faults files.new }
+{
+    let text = read_and_run(alloc, files, source, name, arguments, blocks)?;
+    Ok(Work {
+        text,
+        report: Vec::new(alloc),
+        table: List::new(alloc),
+        status: Status::Done,
+    })
+}
+
 /// The work of a command, before anything is written.
 pub(crate) fn perform<'a, F: Files>(
     alloc: Global,
@@ -262,5 +327,11 @@ pub(crate) fn perform<'a, F: Files>(
             conflicts,
             steps,
         } => optimise(alloc, files, rules, module, conflicts, steps),
+        Command::Run {
+            module,
+            name,
+            arguments,
+            blocks,
+        } => run(alloc, files, module, name, arguments.as_slice(), blocks),
     }
 }

@@ -1,8 +1,8 @@
 use Rattle.std.proofs.Common.{◌≡◌, ◌⊎◌, ℕ, List, Result, Ok, Err, subst, inl, inr}
 use Rattle.std.specs.Prelude.{MatchResult, IfOk}
 use Rattle.alive_top.specs.declared.status.Status.{Status}
-use Rattle.alive_top.specs.declared.status.Status.TheVariants.{RuleRefused, ReadFault}
-use Rattle.alive_top.specs.Lines.{rules_line, read_fault_line}
+use Rattle.alive_top.specs.declared.status.Status.TheVariants.{RuleRefused, ModuleRefused, ReadFault}
+use Rattle.alive_top.specs.Lines.{rules_line, module_line, read_fault_line}
 use Rattle.alive_top.specs.Endings.{Fed, fed, Took}
 use Rattle.alive_top.specs.Writing.{Says, SaysMemory}
 use Rattle.alive_top.proofs.top.refuse.Goals as goal
@@ -18,6 +18,12 @@ returns-in-Rules-clause-answer g c =
     let err = g.E.Sink in
     let sink = fed (err.written c.args.err.now) (err.written c.put_made.new.err) (err.faults c.args.err.now) (err.faults c.put_made.new.err) in
     rw c.in-Rules.is (made c.rules_line.result (λ m. m.items) (rules_line c.in-Rules.fault) sink RuleRefused c.put_made.result c.put_made.ensures.answer c.rules_line.ensures)
+
+pub returns-in-Module-clause-answer : goal.returns-in-Module-clause-answer
+returns-in-Module-clause-answer g c =
+    let err = g.E.Sink in
+    let sink = fed (err.written c.args.err.now) (err.written c.put_made-in-Module.new.err) (err.faults c.args.err.now) (err.faults c.put_made-in-Module.new.err) in
+    rw c.in-Module.is (made c.module_line.result (λ m. m.items) (module_line c.in-Module.fault) sink ModuleRefused c.put_made-in-Module.result c.put_made-in-Module.ensures.answer c.module_line.ensures)
 
 pub returns-in-Read-clause-answer : goal.returns-in-Read-clause-answer
 returns-in-Read-clause-answer g c =

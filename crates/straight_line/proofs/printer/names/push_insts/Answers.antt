@@ -1,8 +1,0 @@
-use Rattle.straight_line.proofs.PrintedNames.{Adds-more}
-use Rattle.straight_line.proofs.printer.names.push_insts.Goals as goal
-
-pub loop-inst-preserved : goal.loop-inst-preserved
-loop-inst-preserved c = record {
-  adds = Adds-more (λ i. i.name) c.args.next_number c.args.insts.now c.loop-inst.inst-index c.inst-item.result _ _ _ _ _ c.loop-inst-test.true c.inst-item.is c.loop-inst.invariant.adds c.in_ok-next_number.ensures.adds;
-  counted = c.in_ok-next_number.ensures.counted;
-}
