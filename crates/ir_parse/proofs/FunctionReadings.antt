@@ -2,6 +2,7 @@
 use Rattle.std.proofs.Common.{◌≡◌, ℕ, Bool, true, false, cond, List, [], ◌∷◌, Option, Some, None, Ok, Err, refl, sym, subst}
 use Rattle.std.specs.Prelude.{codes, IsSome}
 use Rattle.std.specs.Str.{bytes_eq}
+use Rattle.words.proofs.WordLemmas.{same_word}
 use Rattle.ir_tokens.specs.declared.called.Identifier.{Identifier}
 use Rattle.ir_tokens.specs.declared.called.Identifier.TheVariants.{Named, Numbered}
 use Rattle.ir_tokens.specs.Identifiers.{identifier_of}
@@ -25,7 +26,6 @@ use Rattle.ir_statements.proofs.Loops.{each-is, all_read}
 use Rattle.ir_statements.proofs.OpReadings.{insts_at-is, separated}
 use Rattle.ir_statements.proofs.Readings.{mark_at-is, type_at-is, tail_at-is, attachments_at-is}
 use Rattle.ir_statements.proofs.Steps.{Reads, bind_ok, read_as}
-use Rattle.ir_statements.proofs.WordLemmas.{same_word}
 use Rattle.ir_parse.proofs.ItemReadings.{items_at-is, last_items_at-is}
 use Rattle.ir_statements.proofs.TerminatorReadings.{terminator_at-is}
 

@@ -6,10 +6,11 @@ ghost use Rattle.ir_parse.specs.Parsing as parsing;
 
 use crate::function::function;
 use ir_raw::{RawEntry, RawModule};
-use ir_statements::{ParseError, Part, Place, copied, each, is, left_out, unexpected};
+use ir_statements::{ParseError, Part, Place, copied, each, left_out, unexpected};
 use ir_tokens::{Placed, Token};
 use lists::List;
 use std::alloc::Global;
+use words::is;
 
 /// An entry; another one is next before the end of the text.
 enum Entry {}

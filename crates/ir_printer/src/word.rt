@@ -1,7 +1,7 @@
 //! Prints the words of instructions (LangRef, "Instruction Reference").
 
 ghost use Rattle.std.specs.Prelude.{◌≡◌, ◌++◌, OnOk};
-ghost use Rattle.ir_statements.specs.Words.{opcode_word, pred_word, cast_word};
+ghost use Rattle.words.specs.Words.{opcode_word, pred_word, cast_word};
 ghost use Rattle.ir_text.specs.Printing.{flags_text};
 
 use ops::{Cast, Flags, Opcode, Pred};

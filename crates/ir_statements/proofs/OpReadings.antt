@@ -5,22 +5,26 @@ use Rattle.ops.specs.declared.opcode.Opcode.{Opcode}
 use Rattle.ops.specs.declared.opcode.Flags.{Flags}
 use Rattle.ops.specs.declared.conversion.Cast.{Cast}
 use Rattle.ops.specs.Flags.{no_flags}
+use Rattle.words.specs.declared.flag.Flag.{Flag}
+use Rattle.words.specs.Words.{pred_word, pred_in}
+use Rattle.words.specs.Flags.{AddsFlags, flag_word, has_flag, with_flag, flag_in}
+use Rattle.words.proofs.WordLemmas.{pred_in-is}
+use Rattle.words.proofs.FlagLemmas.{flag_in-is}
 use Rattle.ir_tokens.specs.Tokens.{Placed, Word}
 use Rattle.ir_statements.specs.declared.fault.Misfit.TheVariants.{Syntax}
 use Rattle.ir_raw.specs.declared.raw.RawOp.{RawOp}
 use Rattle.ir_raw.specs.declared.raw.RawOp.TheVariants.{Binary, Compare, Select, Convert, Freeze, Phi}
 use Rattle.ir_statements.specs.declared.word.Operation.{Operation}
 use Rattle.ir_statements.specs.declared.word.Operation.TheVariants as operations
-use Rattle.ir_statements.specs.declared.word.Flag.{Flag}
-use Rattle.ir_statements.specs.Grammar.{AddsFlags, SpellsFlags, SpellsIncoming, SpellsOp, SpellsInst}
+use Rattle.ir_statements.specs.Grammar.{SpellsFlags, SpellsIncoming, SpellsOp, SpellsInst}
 use Rattle.ir_statements.specs.Parsing.{is_register, mark_at, keyword_at, register_at, type_at, operand_at, typed_at, tail_at, is_flag, add_flag, flag_at, flags_at, binary_at, pred_at, compare_at, select_at, convert_at, freeze_at, incoming_at, begins_incoming, further_incoming_at, incomings_at, phi_at, operation_at, op_at, inst_at, insts_at}
 use Rattle.ir_statements.specs.Parts.{Part, Is, ◌⨾◌, Each, Comma, Separated}
 use Rattle.ir_statements.specs.Readers.{or_left_out, fault}
-use Rattle.ir_statements.specs.Words.{pred_word, operation_word, operation_in, pred_in, flag_word, has_flag, with_flag, flag_in}
+use Rattle.ir_statements.specs.Words.{operation_word, operation_in}
 use Rattle.ir_statements.proofs.Loops.{Adds, repeat-is, each-is, all_read}
 use Rattle.ir_statements.proofs.Readings.{mark_at-is, keyword_at-is, register_at-is, type_at-is, operand_at-is, typed_at-is, tail_at-is}
 use Rattle.ir_statements.proofs.Steps.{Reads, bind_ok, read_as, not_left_out, same_front}
-use Rattle.ir_statements.proofs.WordLemmas.{operation_in-is, pred_in-is, flag_in-is}
+use Rattle.ir_statements.proofs.WordLemmas.{operation_in-is}
 use Rattle.ir_statements.specs.Marks as marks
 
 -- ---- flags

@@ -5,6 +5,11 @@ use Rattle.ops.specs.declared.opcode.Opcode.{Opcode}
 use Rattle.ops.specs.declared.opcode.Flags.{Flags}
 use Rattle.ops.specs.declared.comparison.Pred.{Pred}
 use Rattle.ops.specs.Flags.{no_flags}
+use Rattle.words.specs.declared.flag.Flag.{Flag}
+use Rattle.words.specs.Words.{pred_word}
+use Rattle.words.specs.Flags.{AddsFlags, flag_word, with_flag}
+use Rattle.words.proofs.WordLemmas.{pred_in-of}
+use Rattle.words.proofs.FlagLemmas.{flag_in-of}
 use Rattle.ir_tokens.specs.Tokens.{Placed, Word, Mark}
 use Rattle.ir_raw.specs.declared.raw.RawIncoming.{RawIncoming}
 use Rattle.ir_raw.specs.declared.raw.RawInst.{RawInst}
@@ -15,17 +20,15 @@ use Rattle.ir_raw.specs.declared.raw.RawTerminator.TheVariants.{Return, Unreacha
 use Rattle.ir_raw.specs.declared.raw.RawCase.{RawCase}
 use Rattle.ir_statements.specs.declared.word.Operation.TheVariants as operations
 use Rattle.ir_statements.specs.declared.word.Ending.TheVariants as endings
-use Rattle.ir_statements.specs.declared.word.Flag.{Flag}
-use Rattle.ir_statements.specs.Grammar.{Tail, SpellsType, AddsFlags, SpellsFlags, SpellsIncoming, SpellsOp, SpellsInst, SpellsCase, SpellsCases, SpellsTerminator}
+use Rattle.ir_statements.specs.Grammar.{Tail, SpellsType, SpellsFlags, SpellsIncoming, SpellsOp, SpellsInst, SpellsCase, SpellsCases, SpellsTerminator}
 use Rattle.ir_statements.specs.Parsing.{is_mark, is_register, is_flag, flag_at, flags_at, binary_at, pred_at, compare_at, select_at, convert_at, freeze_at, incoming_at, begins_incoming, further_incoming_at, incomings_at, phi_at, op_at, inst_at, insts_at, return_at, jump_at, conditional_at, branch_at, begins_case, case_at, cases_at, switch_at, terminator_at}
 use Rattle.ir_statements.specs.Parts.{Part, Is, ◌⨾◌, Each, Comma, Separated}
 use Rattle.ir_statements.specs.Readers.{repeat_at}
-use Rattle.ir_statements.specs.Words.{pred_word, flag_word, with_flag}
 use Rattle.ir_statements.specs.Marks as marks
 use Rattle.ir_statements.proofs.Loops.{ReadsEach, each-of, repeat-more, repeat-done}
 use Rattle.ir_statements.proofs.Spellings.{mark_at-of, keyword_at-of, register_at-of, target_at-of, type_at-of, type_begins_no_flag, type_is_no_keyword, operand_at-of, case_value_at-of, typed_at-of, tail_at-of}
 use Rattle.ir_statements.proofs.Takings.{flag-takes, incoming-takes, inst-takes, case-takes}
-use Rattle.ir_statements.proofs.WordLemmas.{operation_in-of, pred_in-of, flag_in-of, ending_in-of}
+use Rattle.ir_statements.proofs.WordLemmas.{operation_in-of, ending_in-of}
 
 -- ---- flags
 

@@ -8,6 +8,7 @@ use Rattle.ir_tokens.specs.Identifiers.{identifier_of}
 use Rattle.ir_tokens.specs.Numbers.{constant_of, is_number}
 use Rattle.ir_tokens.specs.Tokens.{Placed, Word, Number, Register, Metadata, Mark}
 use Rattle.ops.specs.Number.{Number as Numeral}
+use Rattle.words.proofs.WordLemmas.{same_word}
 use Rattle.ir_statements.specs.declared.fault.Misfit.TheVariants.{Syntax}
 use Rattle.ir_raw.specs.declared.raw.RawOperand.{RawOperand}
 use Rattle.ir_raw.specs.declared.raw.RawValue.{RawValue}
@@ -22,7 +23,7 @@ use Rattle.ir_statements.specs.Words.{type_in, value_in, truth_in}
 use Rattle.ir_statements.specs.Marks as marks
 use Rattle.ir_statements.proofs.Loops.{repeat-is}
 use Rattle.ir_statements.proofs.Steps.{Reads, bind_ok, read_as, tested, not_left_out}
-use Rattle.ir_statements.proofs.WordLemmas.{same_word, type_in-is}
+use Rattle.ir_statements.proofs.WordLemmas.{type_in-is}
 
 -- ---- one token
 

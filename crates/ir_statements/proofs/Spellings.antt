@@ -2,6 +2,7 @@
 use Rattle.std.proofs.Common.{◌≡◌, ℕ, true, false, eq-eqb, List, ◌∷◌, Ok, refl}
 use Rattle.std.specs.Prelude.{codes}
 use Rattle.ops.specs.declared.opcode.Opcode.{Opcode}
+use Rattle.words.proofs.WordLemmas.{word_is}
 use Rattle.ir_tokens.specs.Tokens.{Token, Placed, Word, Mark}
 use Rattle.ir_raw.specs.declared.raw.RawIdentifier.{RawIdentifier}
 use Rattle.ir_raw.specs.declared.raw.TypedOperand.{TypedOperand}
@@ -15,7 +16,7 @@ use Rattle.ir_statements.specs.Words.{value_in, truth_in}
 use Rattle.ir_statements.specs.Marks as marks
 use Rattle.ir_statements.proofs.Loops.{repeat-of}
 use Rattle.ir_statements.proofs.Takings.{attachment-takes, tail-takes}
-use Rattle.ir_statements.proofs.WordLemmas.{word_is, type_in-of, type_is_no_flag, type_is_no_label}
+use Rattle.ir_statements.proofs.WordLemmas.{type_in-of, type_is_no_flag, type_is_no_label}
 
 -- ---- one token
 

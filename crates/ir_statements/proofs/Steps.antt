@@ -1,6 +1,5 @@
 -- Readers one behind the other, and tests.
-use Rattle.std.proofs.Common.{ℕ, ◌≡◌, Bool, true, false, cond, List, [], ◌∷◌, Option, Some, None, ap, ◌∙◌, Ok, Err, Result, refl, subst}
-use Rattle.std.specs.Prelude.{find}
+use Rattle.std.proofs.Common.{ℕ, ◌≡◌, Bool, true, false, cond, List, ◌∷◌, Option, Some, None, ap, ◌∙◌, Ok, Err, Result, refl, subst}
 use Rattle.ir_tokens.specs.Tokens.{Placed, Word}
 use Rattle.ir_statements.specs.declared.fault.TextFault.{TextFault}
 use Rattle.ir_statements.specs.Parts.{Part}
@@ -37,12 +36,3 @@ not_left_out line word None rest x e = absurd cc
 
 pub same_front : (line : ℕ) (word wanted : List ℕ) (rest behind : List Placed) → word ≡ wanted → rest ≡ behind → (line, Word word) ∷ rest ≡ (line, Word wanted) ∷ behind
 same_front line word wanted rest behind same others = ap (λ (w : List ℕ). (line, Word w) ∷ rest) same ∙ ap (λ (ts : List Placed). (line, Word wanted) ∷ ts) others
-
--- what is found passes the test
-first_passes : {A : Type 0} (p : A → Bool) (x y : A) (rest : Option A) (b : Bool) → p x ≡ b → (rest ≡ Some y → p y ≡ true) → cond b (Some x) rest ≡ Some y → p y ≡ true
-first_passes p x y rest true h others e = let same : x ≡ y = cc in subst (λ z. p z ≡ true) same h
-first_passes p x y rest false h others e = others e
-
-pub found-passes : {A : Type 0} (p : A → Bool) (xs : List A) (y : A) → find p xs ≡ Some y → p y ≡ true
-found-passes p [] y e = absurd cc
-found-passes p (x ∷ xs) y e = first_passes p x y (find p xs) (p x) refl (found-passes p xs y) e

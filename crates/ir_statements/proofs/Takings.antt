@@ -2,12 +2,12 @@
 use Rattle.std.proofs.Common.{◌≡◌, ℕ, Bool, true, false, cond, List, ◌∷◌, Option, Some, None, Ok, Err, refl, arith}
 use Rattle.ops.specs.declared.opcode.Opcode.{Opcode}
 use Rattle.ops.specs.declared.opcode.Flags.{Flags}
+use Rattle.words.specs.declared.flag.Flag.{Flag}
+use Rattle.words.specs.Flags.{has_flag, with_flag, flag_in}
 use Rattle.ir_tokens.specs.Tokens.{Placed, Word}
 use Rattle.ir_statements.specs.declared.fault.Misfit.TheVariants.{Syntax}
-use Rattle.ir_statements.specs.declared.word.Flag.{Flag}
 use Rattle.ir_statements.specs.Parsing.{is_mark, is_register, is_metadata, attachment_at, tail_attachment_at, is_flag, add_flag, flag_at, begins_incoming, further_incoming_at, inst_at, begins_case, case_at}
 use Rattle.ir_statements.specs.Readers.{TakesSome, fault}
-use Rattle.ir_statements.specs.Words.{has_flag, with_flag, flag_in}
 use Rattle.ir_statements.specs.Marks as marks
 use Rattle.ir_statements.proofs.OpReadings.{further_incoming_at-is, inst_at-is}
 use Rattle.ir_statements.proofs.Readings.{attachment_at-is, tail_attachment_at-is}

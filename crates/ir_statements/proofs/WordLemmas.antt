@@ -3,31 +3,19 @@ use Rattle.std.proofs.Common.{◌≡◌, ℕ, ◌≤◌, Bool, true, false, cond
 use Rattle.std.specs.Prelude.{codes}
 use Rattle.std.specs.Str.{bytes_eq}
 use Rattle.std.proofs.lemmas.Bool.{eqb-true, leb-true, le-leb}
-use Rattle.std.proofs.lemmas.Slice.Eq.{bytes_eq-Decides}
 use Rattle.ops.specs.declared.opcode.Opcode.{Opcode}
 use Rattle.ops.specs.declared.opcode.Opcode.TheVariants.{Add, Sub, Mul, UDiv, SDiv, URem, SRem, Shl, LShr, AShr, And, Or, Xor}
-use Rattle.ops.specs.declared.comparison.Pred.{Pred}
-use Rattle.ops.specs.declared.comparison.Pred.TheVariants.{Eq, Ne, Ugt, Uge, Ult, Ule, Sgt, Sge, Slt, Sle}
 use Rattle.ops.specs.declared.conversion.Cast.TheVariants.{Trunc, ZExt, SExt}
-use Rattle.ops.specs.Flags.{flags_of}
+use Rattle.words.specs.Flags.{flag_in}
+use Rattle.words.proofs.WordLemmas.{same_word, found-passes}
 use Rattle.scan.specs.Bytes.{are_digits}
-use Rattle.scan.proofs.Fronts.{and_left, and_right}
 use Rattle.ir_tokens.specs.Numbers.{decimal_value}
 use Rattle.ir_statements.specs.declared.word.TypeWord.TheVariants as types
 use Rattle.ir_statements.specs.declared.word.Operation.{Operation}
 use Rattle.ir_statements.specs.declared.word.Operation.TheVariants.{Binary, Compare, Select, Convert, Freeze, Phi}
 use Rattle.ir_statements.specs.declared.word.Ending.{Ending}
 use Rattle.ir_statements.specs.declared.word.Ending.TheVariants.{Return, Unreachable, Branch, Switch}
-use Rattle.ir_statements.specs.declared.word.Flag.{Flag}
-use Rattle.ir_statements.specs.declared.word.Flag.TheVariants.{Nuw, Nsw, Exact}
-use Rattle.ir_statements.specs.Words.{IsTypeWord, type_of_bits, type_in, operation_word, operations, operation_in, pred_word, predicates, pred_in, flag_word, has_flag, flag_in, ending_word, ending_in}
-use Rattle.ir_statements.proofs.Steps.{found-passes}
-
-pub same_word : (word wanted : List ℕ) → bytes_eq word wanted ≡ true → word ≡ wanted
-same_word word wanted e = (bytes_eq-Decides word wanted).0 e
-
-pub word_is : (word : List ℕ) → bytes_eq word word ≡ true
-word_is word = (bytes_eq-Decides word word).1 refl
+use Rattle.ir_statements.specs.Words.{IsTypeWord, type_of_bits, type_in, operation_word, operations, operation_in, ending_word, ending_in}
 
 -- ---- types
 
@@ -91,35 +79,6 @@ operation_in-of (Convert ZExt) = refl
 operation_in-of (Convert SExt) = refl
 operation_in-of Freeze = refl
 operation_in-of Phi = refl
-
-pub pred_in-is : (word : List ℕ) (pred : Pred) → pred_in word ≡ Some pred → word ≡ pred_word pred
-unfolding pred_in
-pred_in-is word pred e = same_word word (pred_word pred) (found-passes (λ (p : Pred). bytes_eq word (pred_word p)) predicates pred e)
-
-pub pred_in-of : (pred : Pred) → pred_in (pred_word pred) ≡ Some pred
-unfolding pred_in
-pred_in-of Eq = refl
-pred_in-of Ne = refl
-pred_in-of Ugt = refl
-pred_in-of Uge = refl
-pred_in-of Ult = refl
-pred_in-of Ule = refl
-pred_in-of Sgt = refl
-pred_in-of Sge = refl
-pred_in-of Slt = refl
-pred_in-of Sle = refl
-
-pub flag_in-is : (op : Opcode) (word : List ℕ) (flag : Flag) → flag_in op word ≡ Some flag → (word ≡ flag_word flag) × (has_flag (flags_of op) flag ≡ true)
-unfolding flag_in
-flag_in-is op word flag e =
-    let passes = found-passes (λ (f : Flag). bytes_eq word (flag_word f) && has_flag (flags_of op) f) (Nuw ∷ Nsw ∷ Exact ∷ []) flag e in
-    (same_word word (flag_word flag) (and_left (bytes_eq word (flag_word flag)) (has_flag (flags_of op) flag) passes), and_right (bytes_eq word (flag_word flag)) (has_flag (flags_of op) flag) passes)
-
-pub flag_in-of : (op : Opcode) (flag : Flag) → has_flag (flags_of op) flag ≡ true → flag_in op (flag_word flag) ≡ Some flag
-unfolding flag_in
-flag_in-of op Nuw h = rw h refl
-flag_in-of op Nsw h = rw h refl
-flag_in-of op Exact h = rw h refl
 
 pub ending_in-is : (word : List ℕ) (ending : Ending) → ending_in word ≡ Some ending → word ≡ ending_word ending
 unfolding ending_in

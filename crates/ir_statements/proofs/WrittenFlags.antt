@@ -3,8 +3,8 @@ use Rattle.std.proofs.Common.{◌≡◌, ℕ, Bool, true, false, cond, List, [],
 use Rattle.ops.specs.declared.opcode.Opcode.{Opcode}
 use Rattle.ops.specs.declared.opcode.Flags.{Flags}
 use Rattle.ops.specs.Flags.{FlagsFit}
+use Rattle.words.specs.declared.flag.Flag.TheVariants.{Nuw, Nsw, Exact}
 use Rattle.ir_tokens.specs.Tokens.{Placed, Word}
-use Rattle.ir_statements.specs.declared.word.Flag.TheVariants.{Nuw, Nsw, Exact}
 use Rattle.ir_statements.specs.Grammar.{SpellsFlags}
 use Rattle.ir_statements.specs.Parts.{Is, Each}
 

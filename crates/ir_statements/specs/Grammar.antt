@@ -1,9 +1,12 @@
 -- What instructions and terminators are in a text: each part as it is written, and the tokens that spell it (LLVM Language Reference,
 -- "Instruction Reference", "Metadata"). Attachments of metadata are dropped.
-use Rattle.std.specs.Prelude.{◌≡◌, ℕ, false, List, [], ◌∷◌, Some, IsTrue, codes}
+use Rattle.std.specs.Prelude.{◌≡◌, ℕ, List, Some, IsTrue, codes}
 use Rattle.ops.specs.declared.opcode.Opcode.{Opcode}
 use Rattle.ops.specs.declared.opcode.Flags.{Flags}
-use Rattle.ops.specs.Flags.{no_flags, flags_of}
+use Rattle.ops.specs.Flags.{no_flags}
+use Rattle.words.specs.declared.flag.Flag.{Flag}
+use Rattle.words.specs.Words.{opcode_word, cast_word, pred_word}
+use Rattle.words.specs.Flags.{AddsFlags, flag_word}
 use Rattle.scan.specs.IrTokens.{is_plain_name}
 use Rattle.ir_tokens.specs.Identifiers.{identifier_of}
 use Rattle.ir_tokens.specs.Numbers.{constant_of, is_number}
@@ -20,9 +23,8 @@ use Rattle.ir_raw.specs.declared.raw.RawIncoming.{RawIncoming}
 use Rattle.ir_raw.specs.declared.raw.RawTerminator.{RawTerminator}
 use Rattle.ir_raw.specs.declared.raw.RawTerminator.TheVariants.{Return, Unreachable, Jump, Branch, Switch}
 use Rattle.ir_raw.specs.declared.raw.RawCase.{RawCase}
-use Rattle.ir_statements.specs.declared.word.Flag.{Flag}
 use Rattle.ir_statements.specs.Parts.{Part, IsOn, Is, ◌⨾◌, Each, Comma, Separated, Repeated}
-use Rattle.ir_statements.specs.Words.{IsTypeWord, opcode_word, cast_word, pred_word, flag_word, has_flag, with_flag}
+use Rattle.ir_statements.specs.Words.{IsTypeWord}
 use Rattle.ir_statements.specs.Marks as marks
 
 -- ---- names, types and values
@@ -66,12 +68,6 @@ abbrev pub Tail : Part
 Tail = Repeated (Comma ⨾ Attachment)
 
 -- ---- instructions
-
--- Flags before and after these: each is one of the instruction's, and is new.
-abbrev pub AddsFlags : Opcode → Flags → List Flag → Flags → Type 0
-AddsFlags op before [] after = before ≡ after
-AddsFlags op before (flag ∷ flags) after =
-    IsTrue (has_flag (flags_of op) flag) × (has_flag before flag ≡ false) × AddsFlags op (with_flag before flag) flags after
 
 -- flag*, each once, in any order
 abbrev pub SpellsFlags : Opcode → Flags → Part

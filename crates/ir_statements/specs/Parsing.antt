@@ -8,6 +8,9 @@ use Rattle.ops.specs.declared.comparison.Pred.{Pred}
 use Rattle.ops.specs.declared.conversion.Cast.{Cast}
 use Rattle.ops.specs.Flags.{no_flags}
 use Rattle.ops.specs.Number.{Number as Numeral}
+use Rattle.words.specs.declared.flag.Flag.{Flag}
+use Rattle.words.specs.Words.{pred_in}
+use Rattle.words.specs.Flags.{flag_in, has_flag, with_flag}
 use Rattle.scan.specs.IrTokens.{is_plain_name}
 use Rattle.ir_tokens.specs.Identifiers.{identifier_of}
 use Rattle.ir_tokens.specs.Numbers.{constant_of, is_number}
@@ -33,9 +36,8 @@ use Rattle.ir_statements.specs.declared.word.Operation.{Operation}
 use Rattle.ir_statements.specs.declared.word.Operation.TheVariants as operations
 use Rattle.ir_statements.specs.declared.word.Ending.{Ending}
 use Rattle.ir_statements.specs.declared.word.Ending.TheVariants as endings
-use Rattle.ir_statements.specs.declared.word.Flag.{Flag}
 use Rattle.ir_statements.specs.Readers.{Reader, fault, unexpected, ◌>>=◌, done, given, or_left_out, repeat_at, each_at}
-use Rattle.ir_statements.specs.Words.{type_in, operation_in, pred_in, flag_in, has_flag, with_flag, truth_in, value_in, ending_in}
+use Rattle.ir_statements.specs.Words.{type_in, operation_in, truth_in, value_in, ending_in}
 use Rattle.ir_statements.specs.Marks as marks
 
 -- ---- what stands next

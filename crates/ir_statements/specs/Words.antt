@@ -1,14 +1,9 @@
 -- The words of a module's text (LLVM Language Reference, "Instruction Reference", "Type System").
-use Rattle.std.specs.Prelude.{◌≡◌, ℕ, ◌≤◌, nat_le, ◌==◌, Bool, true, ◌&&◌, if◌then◌else◌, IsTrue, List, [], ◌∷◌, find, Option, Some, None, codes}
+use Rattle.std.specs.Prelude.{◌≡◌, ℕ, ◌≤◌, nat_le, ◌==◌, ◌&&◌, if◌then◌else◌, IsTrue, List, [], ◌∷◌, find, Option, Some, None, codes}
 use Rattle.std.specs.Str.{bytes_eq}
-use Rattle.ops.specs.declared.opcode.Opcode.{Opcode}
 use Rattle.ops.specs.declared.opcode.Opcode.TheVariants.{Add, Sub, Mul, UDiv, SDiv, URem, SRem, Shl, LShr, AShr, And, Or, Xor}
-use Rattle.ops.specs.declared.opcode.Flags.{Flags}
-use Rattle.ops.specs.declared.comparison.Pred.{Pred}
-use Rattle.ops.specs.declared.comparison.Pred.TheVariants.{Eq, Ne, Ugt, Uge, Ult, Ule, Sgt, Sge, Slt, Sle}
-use Rattle.ops.specs.declared.conversion.Cast.{Cast}
 use Rattle.ops.specs.declared.conversion.Cast.TheVariants.{Trunc, ZExt, SExt}
-use Rattle.ops.specs.Flags.{flags_of}
+use Rattle.words.specs.Words.{opcode_word, cast_word}
 use Rattle.scan.specs.Bytes.{are_digits}
 use Rattle.ir_tokens.specs.Numbers.{decimal_value}
 use Rattle.ir_raw.specs.declared.raw.RawValue.{RawValue}
@@ -19,8 +14,6 @@ use Rattle.ir_statements.specs.declared.word.Operation.{Operation}
 use Rattle.ir_statements.specs.declared.word.Operation.TheVariants.{Binary, Compare, Select, Convert, Freeze, Phi}
 use Rattle.ir_statements.specs.declared.word.Ending.{Ending}
 use Rattle.ir_statements.specs.declared.word.Ending.TheVariants.{Return, Unreachable, Branch, Switch}
-use Rattle.ir_statements.specs.declared.word.Flag.{Flag}
-use Rattle.ir_statements.specs.declared.word.Flag.TheVariants.{Nuw, Nsw, Exact}
 
 -- ---- types
 
@@ -37,27 +30,7 @@ unfoldable pub type_in : List ℕ → TypeWord
 type_in [] = types.Other
 type_in (b ∷ digits) = if (b == 105) && are_digits digits then type_of_bits (decimal_value digits) else types.Other
 
--- ---- opcodes, predicates and flags
-
-abbrev pub opcode_word : Opcode → List ℕ
-opcode_word Add = codes "add"
-opcode_word Sub = codes "sub"
-opcode_word Mul = codes "mul"
-opcode_word UDiv = codes "udiv"
-opcode_word SDiv = codes "sdiv"
-opcode_word URem = codes "urem"
-opcode_word SRem = codes "srem"
-opcode_word Shl = codes "shl"
-opcode_word LShr = codes "lshr"
-opcode_word AShr = codes "ashr"
-opcode_word And = codes "and"
-opcode_word Or = codes "or"
-opcode_word Xor = codes "xor"
-
-abbrev pub cast_word : Cast → List ℕ
-cast_word Trunc = codes "trunc"
-cast_word ZExt = codes "zext"
-cast_word SExt = codes "sext"
+-- ---- opcodes
 
 abbrev pub operation_word : Operation → List ℕ
 operation_word (Binary op) = opcode_word op
@@ -75,46 +48,6 @@ operations =
 -- the operation whose opcode a word is
 unfoldable pub operation_in : List ℕ → Option Operation
 operation_in word = find (λ operation. bytes_eq word (operation_word operation)) operations
-
-abbrev pub pred_word : Pred → List ℕ
-pred_word Eq = codes "eq"
-pred_word Ne = codes "ne"
-pred_word Ugt = codes "ugt"
-pred_word Uge = codes "uge"
-pred_word Ult = codes "ult"
-pred_word Ule = codes "ule"
-pred_word Sgt = codes "sgt"
-pred_word Sge = codes "sge"
-pred_word Slt = codes "slt"
-pred_word Sle = codes "sle"
-
-abbrev pub predicates : List Pred
-predicates = Eq ∷ Ne ∷ Ugt ∷ Uge ∷ Ult ∷ Ule ∷ Sgt ∷ Sge ∷ Slt ∷ Sle ∷ []
-
--- the predicate that a word is
-unfoldable pub pred_in : List ℕ → Option Pred
-pred_in word = find (λ pred. bytes_eq word (pred_word pred)) predicates
-
-abbrev pub flag_word : Flag → List ℕ
-flag_word Nuw = codes "nuw"
-flag_word Nsw = codes "nsw"
-flag_word Exact = codes "exact"
-
--- the flag stands among flags
-abbrev pub has_flag : Flags → Flag → Bool
-has_flag flags Nuw = flags.nuw
-has_flag flags Nsw = flags.nsw
-has_flag flags Exact = flags.exact
-
--- the flags, and this one
-abbrev pub with_flag : Flags → Flag → Flags
-with_flag flags Nuw = record flags { nuw = true }
-with_flag flags Nsw = record flags { nsw = true }
-with_flag flags Exact = record flags { exact = true }
-
--- the flag of an instruction that a word is
-unfoldable pub flag_in : Opcode → List ℕ → Option Flag
-flag_in op word = find (λ flag. bytes_eq word (flag_word flag) && has_flag (flags_of op) flag) (Nuw ∷ Nsw ∷ Exact ∷ [])
 
 -- ---- values and terminators
 

@@ -22,4 +22,4 @@ pub use part::{Part, each};
 pub use place::{Place, copied, left_out, misplaced, refused, unexpected};
 pub use terminators::terminator;
 pub use token::{is_mark, mark};
-pub use word::{TypeWord, is, type_of};
+pub use word::{Ending, Operation, TypeWord, type_of};

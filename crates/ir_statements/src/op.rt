@@ -11,12 +11,13 @@ use crate::operand::{integer_type, operand, typed};
 use crate::part::{Part, each};
 use crate::place::{Place, left_out, misplaced, refused, unexpected};
 use crate::token::{keyword, mark, register};
-use crate::word::{Operation, flag_of, has_flag, operation_of, predicate_of, with_flag};
+use crate::word::{Operation, operation_of};
 use ir_raw::{RawIncoming, RawInst, RawOp};
 use ir_tokens::{Placed, Token};
 use lists::List;
 use ops::{Cast, Flags, Opcode, Pred, Width};
 use std::alloc::Global;
+use words::{flag_of, has_flag, predicate_of, with_flag};
 
 /// Whether a flag of the instruction is next.
 fn is_flag(opcode: Opcode, tokens: &[Placed<'_>]) -> bool

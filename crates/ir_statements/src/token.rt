@@ -7,10 +7,10 @@ ghost use Rattle.ir_statements.specs.Parsing as parsing;
 
 use crate::fault::{Misfit, ParseError};
 use crate::place::{misplaced, refused};
-use crate::word::is;
 use ir_raw::RawIdentifier;
 use ir_tokens::{Placed, Token, identifier};
 use std::alloc::Global;
+use words::is;
 
 /// Whether this mark is next.
 pub fn is_mark(wanted: u8, tokens: &[Placed<'_>]) -> bool

@@ -2,13 +2,13 @@
 
 ghost use Rattle.std.specs.Prelude.{◌≡◌, ◌^◌, ◌-◌, min};
 ghost use Rattle.std.specs.List.{list_all};
-ghost use Rattle.std.specs.Str.{bytes_eq};
 ghost use Rattle.scan.specs.Bytes as bytes;
 ghost use Rattle.ir_tokens.specs.Numbers.{decimal_value};
-ghost use Rattle.ir_statements.specs.Words as words;
+ghost use Rattle.ir_statements.specs.Words as spelled;
 
 use ir_raw::RawValue;
-use ops::{Cast, Flags, Opcode, Pred, Width};
+use ops::{Cast, Opcode, Width};
+use words::{cast_name, is, opcode_name};
 
 /// What a word is as a type.
 #[derive(Clone, Copy, Debug)]
@@ -22,7 +22,7 @@ pub enum TypeWord {
 
 /// What an instruction does.
 #[derive(Clone, Copy, Debug)]
-pub(crate) enum Operation {
+pub enum Operation {
     Binary(Opcode),
     Compare,
     Select,
@@ -33,26 +33,11 @@ pub(crate) enum Operation {
 
 /// How a block ends.
 #[derive(Clone, Copy, Debug)]
-pub(crate) enum Ending {
+pub enum Ending {
     Return,
     Unreachable,
     Branch,
     Switch,
-}
-
-/// A flag of a binary operation.
-#[derive(Clone, Copy, Debug)]
-pub(crate) enum Flag {
-    Nuw,
-    Nsw,
-    Exact,
-}
-
-/// Whether a word is the wanted one.
-pub fn is(word: &[u8], wanted: &str) -> bool
-    ensures { result ≡ bytes_eq word.now wanted.now }
-{
-    word == wanted.as_bytes()
 }
 
 #[tactic(auto, unfolding(scan::specs::Bytes::is_digit))]
@@ -94,7 +79,7 @@ fn magnitude(digits: &[u8]) -> u32
 /// What a word is as a type.
 #[tactic(auto, unfolding(crate::specs::Words::type_in))]
 pub fn type_of(word: &[u8]) -> TypeWord
-    ensures { result ≡ words.type_in word.now }
+    ensures { result ≡ spelled.type_in word.now }
 {
     match word {
         [b'i', digits @ ..] if are_digits(digits) => match Width::new(magnitude(digits)) {
@@ -105,38 +90,8 @@ pub fn type_of(word: &[u8]) -> TypeWord
     }
 }
 
-fn opcode_name(opcode: Opcode) -> &'static str
-    ensures { result.now ≡ words.opcode_word opcode }
-{
-    match opcode {
-        Opcode::Add => "add",
-        Opcode::Sub => "sub",
-        Opcode::Mul => "mul",
-        Opcode::UDiv => "udiv",
-        Opcode::SDiv => "sdiv",
-        Opcode::URem => "urem",
-        Opcode::SRem => "srem",
-        Opcode::Shl => "shl",
-        Opcode::LShr => "lshr",
-        Opcode::AShr => "ashr",
-        Opcode::And => "and",
-        Opcode::Or => "or",
-        Opcode::Xor => "xor",
-    }
-}
-
-fn cast_name(cast: Cast) -> &'static str
-    ensures { result.now ≡ words.cast_word cast }
-{
-    match cast {
-        Cast::Trunc => "trunc",
-        Cast::ZExt => "zext",
-        Cast::SExt => "sext",
-    }
-}
-
 fn operation_name(operation: Operation) -> &'static str
-    ensures { result.now ≡ words.operation_word operation }
+    ensures { result.now ≡ spelled.operation_word operation }
 {
     match operation {
         Operation::Binary(opcode) => opcode_name(opcode),
@@ -174,7 +129,7 @@ const OPERATIONS: [Operation; 20] = [
 /// The operation whose opcode a word is.
 #[tactic(auto, unfolding(crate::specs::Words::operation_in))]
 pub(crate) fn operation_of(word: &[u8]) -> Option<Operation>
-    ensures { result ≡ words.operation_in word.now }
+    ensures { result ≡ spelled.operation_in word.now }
 {
     OPERATIONS
         .iter()
@@ -182,97 +137,10 @@ pub(crate) fn operation_of(word: &[u8]) -> Option<Operation>
         .find(|operation| is(word, operation_name(*operation)))
 }
 
-fn predicate_name(pred: Pred) -> &'static str
-    ensures { result.now ≡ words.pred_word pred }
-{
-    match pred {
-        Pred::Eq => "eq",
-        Pred::Ne => "ne",
-        Pred::Ugt => "ugt",
-        Pred::Uge => "uge",
-        Pred::Ult => "ult",
-        Pred::Ule => "ule",
-        Pred::Sgt => "sgt",
-        Pred::Sge => "sge",
-        Pred::Slt => "slt",
-        Pred::Sle => "sle",
-    }
-}
-
-const PREDICATES: [Pred; 10] = [
-    Pred::Eq,
-    Pred::Ne,
-    Pred::Ugt,
-    Pred::Uge,
-    Pred::Ult,
-    Pred::Ule,
-    Pred::Sgt,
-    Pred::Sge,
-    Pred::Slt,
-    Pred::Sle,
-];
-
-/// The predicate that a word is.
-#[tactic(auto, unfolding(crate::specs::Words::pred_in))]
-pub(crate) fn predicate_of(word: &[u8]) -> Option<Pred>
-    ensures { result ≡ words.pred_in word.now }
-{
-    PREDICATES
-        .iter()
-        .copied()
-        .find(|pred| is(word, predicate_name(*pred)))
-}
-
-fn flag_name(flag: Flag) -> &'static str
-    ensures { result.now ≡ words.flag_word flag }
-{
-    match flag {
-        Flag::Nuw => "nuw",
-        Flag::Nsw => "nsw",
-        Flag::Exact => "exact",
-    }
-}
-
-/// Whether a flag stands among these.
-pub(crate) fn has_flag(flags: Flags, flag: Flag) -> bool
-    ensures { result ≡ words.has_flag flags flag }
-{
-    match flag {
-        Flag::Nuw => flags.nuw,
-        Flag::Nsw => flags.nsw,
-        Flag::Exact => flags.exact,
-    }
-}
-
-/// The flags, and this one.
-pub(crate) fn with_flag(flags: Flags, flag: Flag) -> Flags
-    ensures { result ≡ words.with_flag flags flag }
-{
-    match flag {
-        Flag::Nuw => Flags { nuw: true, ..flags },
-        Flag::Nsw => Flags { nsw: true, ..flags },
-        Flag::Exact => Flags {
-            exact: true,
-            ..flags
-        },
-    }
-}
-
-const FLAGS: [Flag; 3] = [Flag::Nuw, Flag::Nsw, Flag::Exact];
-
-/// The flag of the instruction that a word is.
-#[tactic(auto, unfolding(crate::specs::Words::flag_in))]
-pub(crate) fn flag_of(opcode: Opcode, word: &[u8]) -> Option<Flag>
-    ensures { result ≡ words.flag_in opcode word.now }
-{
-    let allowed = opcode.flags();
-    FLAGS.iter().copied().find(|flag| is(word, flag_name(*flag)) && has_flag(allowed, *flag))
-}
-
 /// The value of one bit that a word is.
 #[tactic(auto, unfolding(crate::specs::Words::truth_in))]
 pub(crate) fn truth_of(word: &[u8]) -> Option<RawValue>
-    ensures { result ≡ words.truth_in word.now }
+    ensures { result ≡ spelled.truth_in word.now }
 {
     if is(word, "true") {
         Some(RawValue::True)
@@ -286,7 +154,7 @@ pub(crate) fn truth_of(word: &[u8]) -> Option<RawValue>
 /// The value that a word is.
 #[tactic(auto, unfolding(crate::specs::Words::value_in))]
 pub(crate) fn value_of(word: &[u8]) -> Option<RawValue>
-    ensures { result ≡ words.value_in word.now }
+    ensures { result ≡ spelled.value_in word.now }
 {
     if is(word, "undef") {
         Some(RawValue::Undef)
@@ -298,7 +166,7 @@ pub(crate) fn value_of(word: &[u8]) -> Option<RawValue>
 }
 
 fn ending_name(ending: Ending) -> &'static str
-    ensures { result.now ≡ words.ending_word ending }
+    ensures { result.now ≡ spelled.ending_word ending }
 {
     match ending {
         Ending::Return => "ret",
@@ -318,7 +186,7 @@ const ENDINGS: [Ending; 4] = [
 /// The terminator that a word begins.
 #[tactic(auto, unfolding(crate::specs::Words::ending_in))]
 pub(crate) fn ending_of(word: &[u8]) -> Option<Ending>
-    ensures { result ≡ words.ending_in word.now }
+    ensures { result ≡ spelled.ending_in word.now }
 {
     ENDINGS
         .iter()

@@ -13,6 +13,7 @@ use Rattle.ops.specs.declared.comparison.Pred.TheVariants.{Eq, Ne, Ugt, Uge, Ult
 use Rattle.ops.specs.declared.conversion.Cast.{Cast}
 use Rattle.ops.specs.declared.conversion.Cast.TheVariants.{Trunc, ZExt, SExt}
 use Rattle.ops.specs.Flags.{FlagsFit}
+use Rattle.words.specs.Words.{opcode_word, cast_word, pred_word}
 use Rattle.ir_tokens.specs.Tokens.{Word}
 use Rattle.ir_core.specs.declared.function.Function.{Function}
 use Rattle.ir_core.specs.declared.function.Block.{Block as CoreBlock}
@@ -31,7 +32,6 @@ use Rattle.ir_raw.specs.declared.raw.RawOp.TheVariants as ops
 use Rattle.ir_raw.specs.declared.raw.RawIncoming.{RawIncoming}
 use Rattle.ir_statements.specs.Grammar.{SpellsType, SpellsOperand, SpellsFlags, SpellsIncoming, SpellsOp, SpellsInst}
 use Rattle.ir_statements.specs.Parts.{Is, ◌⨾◌, Each, Comma, Separated}
-use Rattle.ir_statements.specs.Words.{opcode_word, cast_word, pred_word}
 use Rattle.ir_statements.proofs.WrittenFlags.{words_of_flags, spells_flags}
 use Rattle.ir_resolve.specs.Kinds.{result_width}
 use Rattle.ir_resolve.specs.Means.{IncomingMeans, OpMeans, InstMeans}

@@ -4,9 +4,9 @@ use Rattle.std.specs.Prelude.{ℕ, ◌==◌, if◌then◌else◌, List, [], ◌�
 use Rattle.std.specs.List.{flat_map, enumerate_from, join_by}
 use Rattle.ops.specs.Number.{Number}
 use Rattle.ops.specs.declared.opcode.Flags.{Flags}
+use Rattle.words.specs.Words.{opcode_word, pred_word, cast_word}
 use Rattle.ir_lexemes.specs.Names.{name_text}
 use Rattle.ir_lexemes.specs.Numbers.{number_text}
-use Rattle.ir_statements.specs.Words.{opcode_word, pred_word, cast_word}
 use Rattle.ir_core.specs.Names.{Name, Identifier, Named, Numbered, identifiers_of, identifier_of, block_place}
 use Rattle.ir_core.specs.declared.module.Module.{Module}
 use Rattle.ir_core.specs.declared.module.Entry.{Entry}

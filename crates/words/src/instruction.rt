@@ -1,0 +1,38 @@
+//! The words of binary operations and of casts.
+
+ghost use Rattle.std.specs.Prelude.{◌≡◌};
+ghost use Rattle.words.specs.Words.{opcode_word, cast_word};
+
+use ops::{Cast, Opcode};
+
+/// The word of a binary operation.
+pub fn opcode_name(opcode: Opcode) -> &'static str
+    ensures { result.now ≡ opcode_word opcode }
+{
+    match opcode {
+        Opcode::Add => "add",
+        Opcode::Sub => "sub",
+        Opcode::Mul => "mul",
+        Opcode::UDiv => "udiv",
+        Opcode::SDiv => "sdiv",
+        Opcode::URem => "urem",
+        Opcode::SRem => "srem",
+        Opcode::Shl => "shl",
+        Opcode::LShr => "lshr",
+        Opcode::AShr => "ashr",
+        Opcode::And => "and",
+        Opcode::Or => "or",
+        Opcode::Xor => "xor",
+    }
+}
+
+/// The word of a cast.
+pub fn cast_name(cast: Cast) -> &'static str
+    ensures { result.now ≡ cast_word cast }
+{
+    match cast {
+        Cast::Trunc => "trunc",
+        Cast::ZExt => "zext",
+        Cast::SExt => "sext",
+    }
+}
