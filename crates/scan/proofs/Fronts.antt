@@ -129,10 +129,10 @@ behind_more f g b text n same some h = rw add-one (record {
 
 -- ---- one form or another
 
-or_left : (a b : Bool) → a ≡ true → (a || b) ≡ true
+pub or_left : (a b : Bool) → a ≡ true → (a || b) ≡ true
 or_left a b p = rw p refl
 
-or_right : (a b : Bool) → b ≡ true → (a || b) ≡ true
+pub or_right : (a b : Bool) → b ≡ true → (a || b) ≡ true
 or_right true b q = refl
 or_right false b q = q
 

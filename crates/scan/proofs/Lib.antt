@@ -1,3 +1,4 @@
+pub mod FirstBytes
 pub mod Fronts
 pub mod GapLemmas
 pub mod KeptLemmas
@@ -11,3 +12,4 @@ pub mod ModuleTokens
 pub mod NameLemmas
 pub mod PlaceLemmas
 pub mod QuotedLemmas
+pub mod TokenLines

@@ -134,7 +134,7 @@ whole_run p [] (suc m) h all e = absurd (omega arith)
 whole_run p (b ∷ text) zero h all e = rw e refl
 whole_run p (b ∷ text) (suc m) h all e = rw (and_left (p b) (list_all p (take m text)) all) (let same : prefix_len p text ≡ m = whole_run p text m (omega arith) (and_right (p b) (list_all p (take m text)) all) e in omega arith)
 
-number_run : (text : List ℕ) (m : ℕ) → m ≤ length text → is_number (take m text) (drop m text) ≡ true → (prefix_len is_name_byte text ≡ m) × (is_literal false (take m text) ≡ true)
+pub number_run : (text : List ℕ) (m : ℕ) → m ≤ length text → is_number (take m text) (drop m text) ≡ true → (prefix_len is_name_byte text ≡ m) × (is_literal false (take m text) ≡ true)
 unfolding is_number is_literal
 number_run text m h e =
     let literal : is_literal false (take m text) ≡ true = and_left (is_literal false (take m text)) (not (begins_with is_name_byte (drop m text))) e in

@@ -15,7 +15,7 @@ use Rattle.scan.proofs.NameLemmas.{quoted_is, name_cases}
 use Rattle.scan.proofs.ModuleFronts.{literal_names}
 use Rattle.scan.proofs.LawLemmas.{is_good, among_begins, letter_good, digit_good, run_good, marked_good, good_front}
 
-other_than : (p : ℕ → Bool) (b c : ℕ) → p c ≡ false → p b ≡ true → eqb b c ≡ false
+pub other_than : (p : ℕ → Bool) (b c : ℕ) → p c ≡ false → p b ≡ true → eqb b c ≡ false
 other_than p b c fails e = ⊎_elim
     (λ (h : eqb b c ≡ true). absurd (false≢true (sym fails ∙ ap p (sym (eqb-true b c h)) ∙ e)))
     (λ (h : eqb b c ≡ false). h)
@@ -210,7 +210,7 @@ one_kind a b bytes rest h k = sym (kind_is a bytes rest h) ∙ kind_is b bytes r
 
 -- ---- a token begins with a byte that may stand and is in no gap
 
-name_byte_good : (b : ℕ) → begins_name b ≡ true → is_good b ≡ true
+pub name_byte_good : (b : ℕ) → begins_name b ≡ true → is_good b ≡ true
 unfolding begins_name is_good is_bad is_printable is_space is_blank
 name_byte_good b e = ⊎_elim
     (λ (i : (is_letter b || eqb b 45 || eqb b 36 || eqb b 46) ≡ true). ⊎_elim

@@ -19,7 +19,7 @@ prefix_end p [] b rest all fails = rw fails refl
 prefix_end p (c ∷ front) b rest all fails = rw (and_left (p c) (list_all p front) all) (let more : prefix_len p (front ++ b ∷ rest) ≡ length front = prefix_end p front b rest (and_right (p c) (list_all p front) all) fails in omega arith)
 
 -- a quotable byte is no quote
-no_quotes : (text : List ℕ) → list_all is_quotable text ≡ true → list_all (λ b. not (eqb b 34)) text ≡ true
+pub no_quotes : (text : List ℕ) → list_all is_quotable text ≡ true → list_all (λ b. not (eqb b 34)) text ≡ true
 unfolding is_quotable
 no_quotes [] all = refl
 no_quotes (b ∷ text) all = ⊎_elim
@@ -149,12 +149,13 @@ inside p [] (suc n) m h k all = absurd (omega arith)
 inside p (b ∷ text) (suc n) zero h k all = and_left (p b) (list_all p (take n text)) all
 inside p (b ∷ text) (suc n) (suc m) h k all = inside p text n m (omega arith) (omega arith) (and_right (p b) (list_all p (take n text)) all)
 
-no_colon : (p : ℕ → Bool) (text : List ℕ) → p 58 ≡ false → begins_with p text ≡ true → begins_with (λ b. eqb b 58) text ≡ false
-no_colon p [] fails e = refl
-no_colon p (b ∷ text) fails e = ⊎_elim
-    (λ (h : eqb b 58 ≡ true). absurd (false≢true (sym fails ∙ ap p (sym (eqb-true b 58 h)) ∙ e)))
-    (λ (h : eqb b 58 ≡ false). h)
-    (which (eqb b 58))
+-- a byte that passes isn't one that doesn't
+pub begins_other : (p : ℕ → Bool) (c : ℕ) (text : List ℕ) → p c ≡ false → begins_with p text ≡ true → begins_with (λ b. eqb b c) text ≡ false
+begins_other p c [] fails e = refl
+begins_other p c (b ∷ text) fails e = ⊎_elim
+    (λ (h : eqb b c ≡ true). absurd (false≢true (sym fails ∙ ap p (sym (eqb-true b c h)) ∙ e)))
+    (λ (h : eqb b c ≡ false). h)
+    (which (eqb b c))
 
 -- a quoted text has no shorter name at its front
 no_shorter : (text : List ℕ) (n m : ℕ) → n ≤ length text → m < n → is_quoted (take n text) ≡ true → is_name (take m text) ≡ true → ⊥
@@ -180,9 +181,9 @@ no_shorter (b ∷ text) n (suc m) h k q e = ⊎_elim
 pub shorter_name : (text : List ℕ) (n m : ℕ) → n ≤ length text → m < n → is_name (take n text) ≡ true → is_name (take m text) ≡ true → begins_with (λ b. eqb b 58) (drop m text) ≡ false
 unfolding is_name_byte begins_name is_letter is_digit
 shorter_name text n m h k e f = ⊎_elim
-    (λ (i : (begins_with begins_name (take n text) && list_all is_name_byte (take n text)) ≡ true). no_colon is_name_byte (drop m text) refl (inside is_name_byte text n m h k (and_right (begins_with begins_name (take n text)) _ i)))
+    (λ (i : (begins_with begins_name (take n text) && list_all is_name_byte (take n text)) ≡ true). begins_other is_name_byte 58 (drop m text) refl (inside is_name_byte text n m h k (and_right (begins_with begins_name (take n text)) _ i)))
     (λ (o : (is_run is_digit (take n text) ≡ true) ⊎ (is_quoted (take n text) ≡ true)). ⊎_elim
-    (λ (i : is_run is_digit (take n text) ≡ true). no_colon is_digit (drop m text) refl (inside is_digit text n m h k (and_right (begins_with is_digit (take n text)) _ i)))
+    (λ (i : is_run is_digit (take n text) ≡ true). begins_other is_digit 58 (drop m text) refl (inside is_digit text n m h k (and_right (begins_with is_digit (take n text)) _ i)))
     (λ (i : is_quoted (take n text) ≡ true). absurd (no_shorter text n m h k i f))
     o)
     (name_cases (take n text) e)

@@ -29,7 +29,7 @@ fn with_word(text: &[u8], word: &str, longest: usize) -> usize
 }
 
 /// The length of the longest of the words that the text begins with.
-pub(crate) fn longest_among(text: &[u8], words: &[&str]) -> usize
+fn longest_among(text: &[u8], words: &[&str]) -> usize
     ensures { IsLongest (λ bytes _. tokens.is_among (map (λ w. w.now) words.now) bytes) text.now result }
 {
     let mut longest = 0;

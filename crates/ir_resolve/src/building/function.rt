@@ -35,7 +35,7 @@ fn blocks(alloc: Global, names: &Names<'_>, written: &[RawBlock]) -> Result<List
     requires { AllByRecursion (IsReadyBlock (known_by names.now)) written.now }
     ensures { IfOk result (AllZip (BlockIsOf (CallsIn (known_by names.now))) written.now) }
 {
-    let mut blocks = List::new(alloc);
+    let mut blocks = List::from_vec(Vec::with_capacity(alloc, written.len())?);
     for written in written {
         blocks.push(Block {
             name: name_given(alloc, written.label.as_ref())?,

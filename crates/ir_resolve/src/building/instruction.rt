@@ -27,7 +27,7 @@ fn entries(
     requires blocks { TargetsAreKnown (known_by names.now) (map (λ i. i.block) incoming.now) }
     ensures { IfOk result (AllZip (IncomingMeans (CallsIn (known_by names.now))) incoming.now) }
 {
-    let mut entries = List::new(alloc);
+    let mut entries = List::from_vec(Vec::with_capacity(alloc, incoming.len())?);
     for written in incoming {
         entries.push((
             operand(names, &written.value.value),
@@ -80,7 +80,7 @@ pub(crate) fn insts(
     requires { AllByRecursion (IsReadyInst (known_by names.now)) written.now }
     ensures { IfOk result (AllZip (InstMeans (CallsIn (known_by names.now))) written.now) }
 {
-    let mut insts = List::new(alloc);
+    let mut insts = List::from_vec(Vec::with_capacity(alloc, written.len())?);
     for written in written {
         insts.push(Inst {
             name: name(alloc, &written.result.identifier)?,

@@ -38,7 +38,7 @@ pub(crate) fn keys<'a>(
 ) -> Result<Vec<Key<'a>>, AllocError>
     ensures { IfOk result (λ keys. AreKeysOf definitions.now keys.items) }
 {
-    let mut keys = Vec::new(alloc);
+    let mut keys = Vec::with_capacity(alloc, definitions.len())?;
     let mut next_number = 0;
     for definition in definitions {
         let key = key_of(definition.written, next_number);

@@ -52,7 +52,7 @@ pub(crate) fn names<'a>(
     ensures names { IfOk result (λ found. found.1 ≡ None →
         known_by found.0 ≡ zip (map seen keys.now) (map (λ d. d.entity) definitions.now)) }
 {
-    let mut names = IndexMap::new(alloc);
+    let mut names = IndexMap::with_capacity(alloc, definitions.len())?;
     let mut found = None;
     for place in 0..definitions.len() {
         let was_there = define(&mut names, keys[place], definitions[place].entity)?;

@@ -38,7 +38,8 @@ impl<'a> Cursor<'a> {
         };
         let end = start + length;
         let line = ir_token_line(kind, self.text, start, before);
-        self.feeds = before + feeds(&self.text[start..end]);
+        // no token has a line feed
+        self.feeds = before;
         self.at = end;
         Ok(Token {
             kind,

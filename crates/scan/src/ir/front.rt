@@ -1,13 +1,16 @@
 //! What a module begins with, where it begins with no gap.
 
-ghost use Rattle.std.specs.Prelude.{◌≡◌, ◌⊎◌, ◌≤◌, false, take, IfSome, IfNone};
+ghost use Rattle.std.specs.Prelude.{◌≡◌, ◌⊎◌, ◌≤◌, true, false, take, IfSome, IfNone, OnSome};
+ghost use Rattle.std.specs.List.{list_all};
+ghost use Rattle.scan.specs.Bytes as bytes;
 ghost use Rattle.scan.specs.Bytes.{begins_with};
 ghost use Rattle.scan.specs.IrTokens.{IsLongestFront, Begins, BeginsBadly, HoldsZero};
+ghost use Rattle.scan.specs.Quoted.{is_quotable};
 ghost use Rattle.scan.specs.Scanning.{in_gap};
 
-use crate::begins::begins_bad;
-use crate::ir::length::{function, group, label, mark, metadata, number, register, word};
-use crate::ir::name::quoted;
+use crate::begins::{begins_bad, begins_byte, begins_module_word, begins_name_byte};
+use crate::ir::length::{function, group, label, mark, metadata, number, register};
+use crate::ir::name::{name, quoted};
 use crate::ir::quoted::holds_zero;
 use crate::ir::token::Kind;
 
@@ -20,19 +23,57 @@ fn longer(first: (Kind, usize), second: (Kind, usize)) -> (Kind, usize)
     if first.1 < second.1 { second } else { first }
 }
 
-/// The longest token that the text begins with, of 0 bytes where it begins with none.
-fn longest_token(text: &[u8]) -> (Kind, usize)
+/// The longest label, word or number that a text begins with whose first byte is one of names, of 0 bytes where it begins with
+/// none. It is as long as the longest name, but for the `:` of a label.
+fn plain_token(text: &[u8]) -> (Kind, usize)
+    requires { begins_with bytes.is_name_byte text.now ≡ true }
+    ensures longest { IsLongestFront text.now result.0 result.1 }
+    ensures plain { list_all is_quotable (take result.1 text.now) ≡ true }
+{
+    let name = name(text);
+    if name > 0 && begins_byte(&text[name..], b':') {
+        (Kind::Label, name + 1)
+    } else if begins_module_word(text) {
+        (Kind::Word, name)
+    } else {
+        (Kind::Number, number(text))
+    }
+}
+
+/// The longest token that a text begins with whose first byte is none of names, of 0 bytes where it begins with none.
+fn marked_token(text: &[u8]) -> (Kind, usize)
+    requires { begins_with bytes.is_name_byte text.now ≡ false }
     ensures { IsLongestFront text.now result.0 result.1 }
 {
-    let found = (Kind::Label, label(text));
-    let found = longer(found, (Kind::Word, word(text)));
-    let found = longer(found, (Kind::Number, number(text)));
-    let found = longer(found, (Kind::Register, register(text)));
+    let found = (Kind::Register, register(text));
     let found = longer(found, (Kind::Function, function(text)));
     let found = longer(found, (Kind::Group, group(text)));
     let found = longer(found, (Kind::Metadata, metadata(text)));
+    let found = longer(found, (Kind::Label, label(text)));
     let found = longer(found, (Kind::Quoted, quoted(text)));
     longer(found, (Kind::Mark, mark(text)))
+}
+
+/// The longest token that the text begins with, of 0 bytes where it begins with none; none where the first byte may not stand,
+/// or quotes of the token hold a byte 0.
+fn longest_token(text: &[u8]) -> Option<(Kind, usize)>
+    ensures bad { IfNone result (BeginsBadly text.now) }
+    ensures good { OnSome result (begins_with bytes.is_bad text.now ≡ false) }
+    ensures token { IfSome result (λ t. IsLongestFront text.now t.0 t.1) }
+    ensures no_zero { IfSome result (λ t. ¬ HoldsZero (take t.1 text.now)) }
+{
+    if begins_name_byte(text) {
+        return Some(plain_token(text));
+    }
+    if begins_bad(text) {
+        return None;
+    }
+    let found = marked_token(text);
+    if holds_zero(&text[..found.1]) {
+        None
+    } else {
+        Some(found)
+    }
 }
 
 /// What the text begins with, and how many bytes it has; none where the first byte may not stand, or quotes of the token hold
@@ -46,14 +87,9 @@ pub(crate) fn front(text: &[u8]) -> Option<(Kind, usize)>
     if text.is_empty() {
         return Some((Kind::End, 0));
     }
-    if begins_bad(text) {
-        return None;
-    }
-    let found = longest_token(text);
+    let found = longest_token(text)?;
     if found.1 == 0 {
         Some((Kind::Other, 1))
-    } else if holds_zero(&text[..found.1]) {
-        None
     } else {
         Some(found)
     }

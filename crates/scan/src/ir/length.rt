@@ -1,17 +1,14 @@
 //! How many of the first bytes of a text are the longest token of each kind: 0 where none begins there.
 
-ghost use Rattle.std.specs.Prelude.{◌≡◌};
+ghost use Rattle.std.specs.Prelude.{◌≡◌, [], ◌∷◌};
 ghost use Rattle.scan.specs.IrTokens as tokens;
 ghost use Rattle.scan.specs.Longest.{IsLongest};
 ghost use Rattle.scan.specs.RuleTokens.{is_among};
 
-use crate::begins::{begins_byte, begins_module_word, behind};
+use crate::begins::{begins_byte, behind};
 use crate::ir::name::name;
-use crate::length::{longest_among, number as literal};
+use crate::length::number as literal;
 use crate::run::{digit_run, name_run};
-
-/// The marks; a `#` before digits is longer.
-const MARKS: [&str; 10] = ["=", ",", "(", ")", "{", "}", "[", "]", "<", "#"];
 
 /// A name, and `:` behind it.
 pub(crate) fn label(text: &[u8]) -> usize
@@ -20,16 +17,6 @@ pub(crate) fn label(text: &[u8]) -> usize
     let name = name(text);
     if name > 0 && begins_byte(&text[name..], b':') {
         name + 1
-    } else {
-        0
-    }
-}
-
-pub(crate) fn word(text: &[u8]) -> usize
-    ensures { IsLongest (λ bytes _. tokens.is_word bytes) text.now result }
-{
-    if begins_module_word(text) {
-        name_run(text)
     } else {
         0
     }
@@ -89,8 +76,22 @@ pub(crate) fn metadata(text: &[u8]) -> usize
     }
 }
 
+/// Whether the byte by itself is a mark.
+fn is_mark(byte: u8) -> bool
+    ensures { result ≡ is_among tokens.marks (byte ∷ []) }
+{
+    matches!(
+        byte,
+        b'=' | b',' | b'(' | b')' | b'{' | b'}' | b'[' | b']' | b'<' | b'#'
+    )
+}
+
+/// A mark; a `#` before digits is longer.
 pub(crate) fn mark(text: &[u8]) -> usize
     ensures { IsLongest (λ bytes _. is_among tokens.marks bytes) text.now result }
 {
-    longest_among(text, &MARKS)
+    match text {
+        [first, ..] if is_mark(*first) => 1,
+        _ => 0,
+    }
 }

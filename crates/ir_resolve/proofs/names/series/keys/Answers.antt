@@ -7,7 +7,7 @@ use Rattle.ir_resolve.proofs.names.series.keys.Goals as goal
 use Rattle.ir_resolve.proofs.names.series.keys.Goals.{in-Numbered, in_default}
 
 pub loop-definition-init : goal.loop-definition-init
-loop-definition-init c = record { keys = ap (map seen) c.new-keys.ensures.items; next = refl }
+loop-definition-init c = record { keys = ap (map seen) c.in_ok-keys.ensures.items; next = refl }
 
 pub loop-definition-preserved : goal.loop-definition-preserved
 loop-definition-preserved c =

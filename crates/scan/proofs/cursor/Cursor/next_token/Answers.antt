@@ -5,6 +5,7 @@ use Rattle.scan.specs.Places.{Place}
 use Rattle.scan.specs.IrTokens.{IsNextToken, IsBadToken}
 use Rattle.scan.proofs.PlaceLemmas.{Behind, feeds_between}
 use Rattle.scan.proofs.ModulePlaces.{ends_or_not, next_bad, next_token}
+use Rattle.scan.proofs.TokenLines.{token_feeds}
 use Rattle.scan.proofs.cursor.Cursor.next_token.Goals as goal
 
 pub returns-in_default-clause-bad : goal.returns-in_default-clause-bad
@@ -27,7 +28,7 @@ invariant_of-self c = (
     arith,
     c.self.invariant.1,
     c.feeds.ensures,
-    c.feeds-2.ensures,
+    token_feeds c.self.inside.text.now c.gap_end-start.result c.in-Some.kind c.in-Some.length (rw take_rest at c.in-Some.ensures.token),
     feeds_between c.self.inside.text.now c.self.inside.at c.gap_end-start.result c.gap_end-start.ensures.order.0,
     feeds_between c.self.inside.text.now c.gap_end-start.result (c.gap_end-start.result + c.in-Some.length) (omega arith),
   ),

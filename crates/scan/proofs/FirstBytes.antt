@@ -1,0 +1,192 @@
+-- Which tokens of a module a first byte leaves.
+use Rattle.std.proofs.Common.{◌≡◌, ℕ, zero, suc, ◌+◌, ◌<◌, ◌≤◌, Bool, true, false, eqb, not, ◌&&◌, ◌||◌, List, [], ◌∷◌, length, take, drop, get_or, refl, sym, ap, subst, ◌∙◌, ⊎_elim, ◌⊎◌, inr, arith}
+use Rattle.std.specs.List.{list_all, prefix_len, Contains}
+use Rattle.std.proofs.lemmas.List.{length-drop, drop_all, at_drop_more}
+use Rattle.std.proofs.lemmas.List.Folds.{list_all_more}
+use Rattle.std.proofs.lemmas.Bool.{false≢true, eqb-true}
+use Rattle.scan.specs.declared.ir.token.Kind.{Kind}
+use Rattle.scan.specs.declared.ir.token.Kind.TheVariants.{End, Other, Label, Word, Number, Register, Function, Group, Metadata, Quoted, Mark}
+use Rattle.scan.specs.Bytes.{is_bad, is_digit, is_letter, begins_name, begins_word, is_name_byte, begins_with, is_run}
+use Rattle.scan.specs.Longest.{IsLongest}
+use Rattle.scan.specs.Quoted.{is_quotable, is_quoted, in_quotes, unquoted}
+use Rattle.scan.specs.RuleTokens.{is_among, is_negative, is_literal}
+use Rattle.scan.specs.IrTokens.{is_plain_name, is_name, is_word, is_number, is_register, is_function, is_group, is_metadata, marks, spells, IsLongestFront, BeginsBadly, HoldsZero}
+use Rattle.scan.proofs.Fronts.{which, and_left, and_right, and_both, or_left, or_right, or_true, front_begins, marked_none, begun_none}
+use Rattle.scan.proofs.LawLemmas.{is_good, digit_good, among_begins}
+use Rattle.scan.proofs.PlaceLemmas.{begins_some}
+use Rattle.scan.proofs.NameLemmas.{begins_other, name_cases, quoted_none, quoted_is, no_quotes}
+use Rattle.scan.proofs.ModuleFronts.{behind_fails, digit_name, list_all-along, literal_names, number_run}
+use Rattle.scan.proofs.ModuleTokens.{IsFound, found_as, longest_token, short_holds_none}
+use Rattle.scan.proofs.ModuleKinds.{other_than, name_byte_good}
+
+-- ---- names, and the words and numbers among them
+
+plain_is_name : (bytes : List ℕ) → is_plain_name bytes ≡ true → is_name bytes ≡ true
+unfolding is_name
+plain_is_name bytes e = or_left (is_plain_name bytes || is_run is_digit bytes) (is_quoted bytes) (or_left (is_plain_name bytes) (is_run is_digit bytes) e)
+
+word_is_name : (bytes : List ℕ) → is_word bytes ≡ true → is_name bytes ≡ true
+unfolding is_word is_plain_name begins_word
+word_is_name [] e = absurd (false≢true e)
+word_is_name (b ∷ bytes) e = plain_is_name (b ∷ bytes) (and_both (begins_name b) (list_all is_name_byte (b ∷ bytes))
+    (and_left (begins_name b) (not (eqb b 45)) (and_left (begins_word b) (list_all is_name_byte (b ∷ bytes)) e))
+    (and_right (begins_word b) (list_all is_name_byte (b ∷ bytes)) e))
+
+digits_are_name : (bytes : List ℕ) → is_run is_digit bytes ≡ true → is_name bytes ≡ true
+unfolding is_name
+digits_are_name bytes e = or_left (is_plain_name bytes || is_run is_digit bytes) (is_quoted bytes) (or_right (is_plain_name bytes) (is_run is_digit bytes) e)
+
+number_is_name : (bytes rest : List ℕ) → is_number bytes rest ≡ true → is_name bytes ≡ true
+unfolding is_number is_literal is_negative is_plain_name begins_name is_letter
+number_is_name bytes rest e =
+    let literal : is_literal false bytes ≡ true = and_left (is_literal false bytes) (not (begins_with is_name_byte rest)) e in
+    ⊎_elim
+    (λ (h : is_run is_digit bytes ≡ true). digits_are_name bytes h)
+    (λ (h : is_negative bytes ≡ true). plain_is_name bytes (negative_is_plain bytes h (literal_names bytes literal)))
+    (or_true (is_run is_digit bytes) (is_negative bytes) literal)
+  where
+    negative_is_plain : (bytes : List ℕ) → is_negative bytes ≡ true → list_all is_name_byte bytes ≡ true → is_plain_name bytes ≡ true
+    negative_is_plain [] h all = absurd (false≢true h)
+    negative_is_plain (b ∷ digits) h all = and_both (begins_name b) (list_all is_name_byte (b ∷ digits)) (ap begins_name (eqb-true b 45 (and_left (eqb b 45) (is_run is_digit digits) h))) all
+
+-- a name that begins with a byte of names has no others
+name_bytes : (bytes : List ℕ) → begins_with is_name_byte bytes ≡ true → is_name bytes ≡ true → list_all is_name_byte bytes ≡ true
+unfolding is_name_byte begins_name is_letter is_digit
+name_bytes bytes first e = ⊎_elim
+    (λ (i : (begins_with begins_name bytes && list_all is_name_byte bytes) ≡ true). and_right (begins_with begins_name bytes) (list_all is_name_byte bytes) i)
+    (λ (o : (is_run is_digit bytes ≡ true) ⊎ (is_quoted bytes ≡ true)). ⊎_elim
+    (λ (i : is_run is_digit bytes ≡ true). list_all-along is_digit is_name_byte bytes digit_name (and_right (begins_with is_digit bytes) (list_all is_digit bytes) i))
+    (λ (i : is_quoted bytes ≡ true). absurd (false≢true (ap (begins_with is_name_byte) (sym (quoted_is bytes i).0) ∙ first)))
+    o)
+    (name_cases bytes e)
+
+-- ---- a text whose first byte is one of names
+
+-- no front of the kind is longer
+abbrev pub NoLonger : Kind → List ℕ → ℕ → Type 0
+NoLonger kind text most = (m : ℕ) → m ≤ length text → spells kind (take m text) (drop m text) ≡ true → m ≤ most
+
+plain_front : (text : List ℕ) (t : Kind × ℕ) → begins_with is_name_byte text ≡ true → IsFound text t → NoLonger Label text t.1 → NoLonger Word text t.1 → NoLonger Number text t.1 → IsLongestFront text t.0 t.1
+unfolding is_register is_function is_group is_metadata is_name_byte begins_name is_letter is_digit
+plain_front text t first h label word number = record { within = h.within; found = h.found; longest = longest }
+  where
+    other : (c : ℕ) → is_name_byte c ≡ false → begins_with (λ b. eqb b c) text ≡ false
+    other c fails = begins_other is_name_byte c text fails first
+
+    differ : (text : List ℕ) → begins_with is_name_byte text ≡ true → begins_with (λ b. not (is_name_byte b)) text ≡ true → ⊥
+    differ [] e f = false≢true e
+    differ (b ∷ text) e f = false≢true (rw e at f)
+
+    none : (passes : List ℕ → List ℕ → Bool) → IsLongest passes text 0 → (m : ℕ) → m ≤ length text → passes (take m text) (drop m text) ≡ true → m ≤ t.1
+    none passes k m l e = omega (arith, k.longest m l e)
+
+    no_mark : (m : ℕ) → m ≤ length text → is_among marks (take m text) ≡ true → m ≤ t.1
+    no_mark zero l e = omega arith
+    no_mark (suc m) l e = absurd (differ text first (sym (front_begins (λ b. not (is_name_byte b)) text (suc m) (omega arith)) ∙ among_begins (λ b. not (is_name_byte b)) marks (take (suc m) text) refl e))
+
+    longest : (kind : Kind) (m : ℕ) → m ≤ length text → spells kind (take m text) (drop m text) ≡ true → m ≤ t.1
+    longest End m l e = absurd (false≢true e)
+    longest Other m l e = absurd (false≢true e)
+    longest Label m l e = label m l e
+    longest Word m l e = word m l e
+    longest Number m l e = number m l e
+    longest Register m l e = none (spells Register) (behind_fails 37 is_name text (other 37 refl)) m l e
+    longest Function m l e = none (spells Function) (behind_fails 64 is_name text (other 64 refl)) m l e
+    longest Group m l e = none (spells Group) (marked_none 35 is_digit text (other 35 refl)) m l e
+    longest Metadata m l e = none (spells Metadata) (behind_fails 33 (list_all is_name_byte) text (other 33 refl)) m l e
+    longest Quoted m l e = none (spells Quoted) (quoted_none text (other 34 refl)) m l e
+    longest Mark m l e = no_mark m l e
+
+pub label_front : (text : List ℕ) (n : ℕ) → begins_with is_name_byte text ≡ true → IsLongest (λ bytes _. is_name bytes) text n → IsLongest (spells Label) text (n + 1) → IsLongestFront text Label (n + 1)
+label_front text n first h k = plain_front text (Label, n + 1) first (found_as Label text (n + 1) k) k.longest
+    (λ m l e. omega (arith, h.longest m l (word_is_name (take m text) e)))
+    (λ m l e. omega (arith, h.longest m l (number_is_name (take m text) (drop m text) e)))
+
+pub word_front : (text : List ℕ) (n : ℕ) → begins_with is_name_byte text ≡ true → begins_with begins_word text ≡ true → IsLongest (λ bytes _. is_name bytes) text n → IsLongest (spells Label) text 0 → IsLongestFront text Word n
+unfolding is_word
+word_front text n first begins h k = plain_front text (Word, n) first (record { within = h.within; found = found })
+    (λ m l e. omega (arith, k.longest m l e))
+    (λ m l e. h.longest m l (word_is_name (take m text) e))
+    (λ m l e. h.longest m l (number_is_name (take m text) (drop m text) e))
+  where
+    found : 0 < n → is_word (take n text) ≡ true
+    found some = and_both (begins_with begins_word (take n text)) (list_all is_name_byte (take n text))
+        (front_begins begins_word text n some ∙ begins)
+        (name_bytes (take n text) (front_begins is_name_byte text n some ∙ first) (h.found some))
+
+pub number_front : (text : List ℕ) (n : ℕ) → begins_with is_name_byte text ≡ true → begins_with begins_word text ≡ false → IsLongest (spells Number) text n → IsLongest (spells Label) text 0 → IsLongestFront text Number n
+unfolding is_word
+number_front text n first begins h k = plain_front text (Number, n) first (found_as Number text n h)
+    (λ m l e. omega (arith, k.longest m l e))
+    (λ m l e. omega (arith, (begun_none begins_word is_name_byte text begins).longest m l e))
+    h.longest
+
+-- bytes of names may stand between quotes
+name_quotable : (b : ℕ) → is_name_byte b ≡ true → is_quotable b ≡ true
+unfolding is_quotable is_name_byte begins_name is_letter is_digit
+name_quotable b e = rw (other_than is_name_byte b 34 refl e, other_than is_name_byte b 10 refl e) refl
+
+pub plain_quotable : (text : List ℕ) (n : ℕ) → begins_with is_name_byte text ≡ true → (0 < n → is_name (take n text) ≡ true) → list_all is_quotable (take n text) ≡ true
+plain_quotable text zero first name = refl
+plain_quotable text (suc n) first name = list_all-along is_name_byte is_quotable (take (suc n) text) name_quotable
+    (name_bytes (take (suc n) text) (front_begins is_name_byte text (suc n) (omega arith) ∙ first) (name (omega arith)))
+
+pub label_quotable : (text : List ℕ) (n : ℕ) → begins_with is_name_byte text ≡ true → IsLongest (λ bytes _. is_name bytes) text n → begins_with (λ b. eqb b 58) (drop n text) ≡ true → list_all is_quotable (take (n + 1) text) ≡ true
+unfolding is_quotable
+label_quotable text n first h colon =
+    let more : n < length text = omega (arith, begins_some (λ b. eqb b 58) (drop n text) colon, length-drop n text) in
+    let byte : get_or text n 0 ≡ 58 = eqb-true (get_or text n 0) 58 (sym (at_drop_more (begins_with (λ b. eqb b 58)) text n 0 more) ∙ colon) in
+    list_all_more is_quotable text n 0 more ∙ and_both (list_all is_quotable (take n text)) (is_quotable (get_or text n 0)) (plain_quotable text n first h.found) (ap is_quotable byte)
+
+pub number_quotable : (text : List ℕ) (n : ℕ) → begins_with is_name_byte text ≡ true → IsLongest (spells Number) text n → list_all is_quotable (take n text) ≡ true
+number_quotable text n first h = plain_quotable text n first (λ some. number_is_name (take n text) (drop n text) (h.found some))
+
+-- such bytes have no quotes, and may stand
+pub quotable_holds_none : (bytes : List ℕ) → list_all is_quotable bytes ≡ true → HoldsZero bytes → ⊥
+quotable_holds_none bytes all holds = short_holds_none [] (omega arith) (subst (λ (inner : List ℕ). Contains (unquoted inner) 0) (nothing bytes (no_quotes bytes all)) holds)
+  where
+    whole : (bytes : List ℕ) → list_all (λ b. not (eqb b 34)) bytes ≡ true → prefix_len (λ b. not (eqb b 34)) bytes ≡ length bytes
+    whole [] all = refl
+    whole (b ∷ bytes) all = rw (and_left (not (eqb b 34)) (list_all (λ b. not (eqb b 34)) bytes) all) (let more : prefix_len (λ b. not (eqb b 34)) bytes ≡ length bytes = whole bytes (and_right (not (eqb b 34)) (list_all (λ b. not (eqb b 34)) bytes) all) in omega arith)
+
+    nothing : (bytes : List ℕ) → list_all (λ b. not (eqb b 34)) bytes ≡ true → in_quotes bytes ≡ in_quotes []
+    nothing bytes all = ap (λ (inner : List ℕ). take (prefix_len (λ b. not (eqb b 34)) inner) inner) (drop_all (prefix_len (λ b. not (eqb b 34)) bytes + 1) bytes (omega (arith, whole bytes all)))
+
+pub names_stand : (text : List ℕ) → begins_with is_name_byte text ≡ true → begins_with is_bad text ≡ false
+unfolding is_name_byte is_good
+names_stand [] e = refl
+names_stand (b ∷ text) e = ⊎_elim
+    (λ (h : is_bad b ≡ true). absurd (false≢true (rw h at (good b e))))
+    (λ (h : is_bad b ≡ false). h)
+    (which (is_bad b))
+  where
+    good : (b : ℕ) → is_name_byte b ≡ true → is_good b ≡ true
+    good b e = ⊎_elim (name_byte_good b) (digit_good b) (or_true (begins_name b) (is_digit b) e)
+
+pub zero_badly : (text : List ℕ) (kind : Kind) (n : ℕ) → IsLongestFront text kind n → HoldsZero (take n text) → BeginsBadly text
+zero_badly text kind zero h holds = absurd (short_holds_none [] (omega arith) holds)
+zero_badly text kind (suc n) h holds = inr (kind, suc n, longest_token text kind (suc n) h (omega arith), holds)
+
+-- ---- a text whose first byte is none of names
+
+pub no_word : (text : List ℕ) → begins_with is_name_byte text ≡ false → IsLongest (spells Word) text 0
+unfolding is_word is_name_byte begins_word
+no_word text fails = begun_none begins_word is_name_byte text (no_begin text fails)
+  where
+    no_begin : (text : List ℕ) → begins_with is_name_byte text ≡ false → begins_with begins_word text ≡ false
+    no_begin [] fails = refl
+    no_begin (b ∷ text) fails = ⊎_elim
+        (λ (h : begins_name b ≡ true). absurd (false≢true (sym fails ∙ or_left (begins_name b) (is_digit b) h)))
+        (λ (h : begins_name b ≡ false). rw h refl)
+        (which (begins_name b))
+
+pub no_number : (text : List ℕ) → begins_with is_name_byte text ≡ false → IsLongest (spells Number) text 0
+no_number text fails = record {
+  within = omega arith;
+  found = λ none. absurd (omega arith);
+  longest = λ m l e. omega (arith, (number_run text m l e).0, no_run text fails);
+}
+  where
+    no_run : (text : List ℕ) → begins_with is_name_byte text ≡ false → prefix_len is_name_byte text ≡ 0
+    no_run [] fails = refl
+    no_run (b ∷ text) fails = rw fails refl
