@@ -9,6 +9,7 @@ ghost use Rattle.module_work.specs.Optimised.{Prints};
 use crate::cleaning::cleaned_module;
 use ir_printer::{print_module, print_report};
 use ir_reader::{IrError, read_module};
+use needed::every_cleaned_module_refines_the_old;
 use std::alloc::Global;
 
 /// The text of a module, and the report on what became of its functions.
@@ -28,8 +29,7 @@ pub fn optimise(alloc: Global, bytes: &[u8]) -> Result<Texts, IrError>
     ensures limit { OnOk result (length bytes.now ≤ most_bytes) }
     ensures refused { IfErr result (λ e. IfRefused e (IsFault bytes.now)) }
 {
-    reader_forms::modules_that_are_read_have_forms();
-    cleaned_forms::cleaned_modules_have_forms();
+    every_cleaned_module_refines_the_old();
     let module = read_module(alloc, bytes)?;
     let module = cleaned_module(alloc, module)?;
     let out = print_module(alloc, &module)?;

@@ -10,3 +10,7 @@ pub mod SearchLemmas
 pub mod KeptLemmas
 pub mod Settling
 pub mod Instructions
+pub mod KeptNames
+pub mod KeptReads
+pub mod FormedFunctions
+pub mod FormedModules

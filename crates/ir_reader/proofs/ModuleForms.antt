@@ -13,9 +13,9 @@ use Rattle.ir_statements.specs.Parts.{Part, Maybe, Each}
 use Rattle.ir_parse.specs.Grammar.{SpellsLabel, SpellsItem, SpellsBlock, SpellsLabelledBlock, SpellsBlocks, SpellsParameter, SpellsParameterList, SpellsParameters, SpellsBody, SpellsName, SpellsFunction, SpellsEntry}
 use Rattle.ir_lexemes.specs.Laws.{LexemesAreTokens}
 use Rattle.ir_forms.specs.Forms.{IsItem, IsKeptText, IsName, IsWidth}
-use Rattle.reader_forms.proofs.TokenForms.{CalledFormed, Formed}
-use Rattle.reader_forms.proofs.StatementForms.{Yields, after, before, both, on_line, token, each, separated, repeated, register, type, attachment, tail, InstFormed, insts, EndFormed, terminator}
-use Rattle.reader_forms.proofs.ItemForms.{item}
+use Rattle.ir_reader.proofs.TokenForms.{CalledFormed, Formed}
+use Rattle.ir_reader.proofs.StatementForms.{Yields, after, before, both, on_line, token, each, separated, repeated, register, type, attachment, tail, InstFormed, insts, EndFormed, terminator}
+use Rattle.ir_reader.proofs.ItemForms.{item}
 
 -- ---- blocks
 

@@ -13,8 +13,8 @@ use Rattle.scan.proofs.NameLemmas.{name_cases, quoted_is}
 use Rattle.ir_tokens.specs.Identifiers.{identifier_of, name_of}
 use Rattle.ir_lexemes.specs.Lexemes.{IsNameText}
 use Rattle.ir_forms.specs.Forms.{IsName}
-use Rattle.reader_forms.proofs.Every.{every_all, every_left}
-use Rattle.reader_forms.proofs.TokenForms.{CalledFormed}
+use Rattle.ir_reader.proofs.Every.{every_all, every_left}
+use Rattle.ir_reader.proofs.TokenForms.{CalledFormed}
 
 -- bytes
 abbrev pub AreBytes : List ℕ → Type 0

@@ -38,10 +38,10 @@ use Rattle.ir_resolve.proofs.Resolved.{names_are}
 use Rattle.ir_reader.proofs.Meaning.{block_written}
 use Rattle.ir_reader.proofs.Places.{somewhere, zip_right}
 use Rattle.ir_forms.specs.Forms.{IsItem, IsName, IsWidth, NumberFits, OperandFits, ReadHasForms, CasesHaveForms, ParameterHasForms, FunctionHasForms}
-use Rattle.reader_forms.proofs.Every.{every_all, every_append, every_at, every_map, every_zip}
-use Rattle.reader_forms.proofs.TokenForms.{CalledFormed}
-use Rattle.reader_forms.proofs.StatementForms.{ValueFormed, OpFormed, InstFormed, CaseFormed, EndFormed}
-use Rattle.reader_forms.proofs.ModuleForms.{WrittenFormed, BlockFormed, ParameterFormed, FunctionFormed}
+use Rattle.ir_reader.proofs.Every.{every_all, every_append, every_at, every_map, every_zip}
+use Rattle.ir_reader.proofs.TokenForms.{CalledFormed}
+use Rattle.ir_reader.proofs.StatementForms.{ValueFormed, OpFormed, InstFormed, CaseFormed, EndFormed}
+use Rattle.ir_reader.proofs.ModuleForms.{WrittenFormed, BlockFormed, ParameterFormed, FunctionFormed}
 
 -- ---- numbers and widths
 

@@ -23,7 +23,7 @@ use Rattle.ir_raw.specs.declared.raw.RawCase.{RawCase}
 use Rattle.ir_statements.specs.Grammar.{SpellsRegister, SpellsTarget, SpellsType, IsValueToken, SpellsOperand, SpellsTyped, Attachment, Tail, SpellsFlags, SpellsIncoming, SpellsOp, SpellsInst, SpellsCase, SpellsCases, SpellsTerminator}
 use Rattle.ir_statements.specs.Parts.{Part, IsOn, Is, ◌⨾◌, Each, Comma, Separated, Repeated}
 use Rattle.ir_forms.specs.Forms.{IsWidth, NumberFits}
-use Rattle.reader_forms.proofs.TokenForms.{CalledFormed, TokenFormed, Formed}
+use Rattle.ir_reader.proofs.TokenForms.{CalledFormed, TokenFormed, Formed}
 
 -- behind a part the tokens have their forms, and what is read has such a form
 abbrev pub Keeps : Part → Type 0

@@ -8,9 +8,9 @@ use Rattle.ir_core.specs.declared.terminator.Terminator.TheVariants as terminato
 use Rattle.ir_forms.specs.Forms.{IsWidth, CasesHaveForms, FunctionHasForms}
 use Rattle.needed.specs.Cleaning.{Marks, KeepsNeeded, moved_end, kept_function, IsCleaned}
 use Rattle.needed.proofs.Instructions.{block_of_old, IsOld, inst_of_old}
-use Rattle.cleaned_forms.specs.Laws.{CleanedFunctionsHaveForms}
-use Rattle.cleaned_forms.proofs.KeptNames.{kept_names}
-use Rattle.cleaned_forms.proofs.KeptReads.{kept_reads}
+use Rattle.needed.specs.Laws.{CleanedFunctionsHaveForms}
+use Rattle.needed.proofs.KeptNames.{kept_names}
+use Rattle.needed.proofs.KeptReads.{kept_reads}
 
 cases_stay : (kept : Marks) (t : Terminator) → CasesHaveForms t → CasesHaveForms (moved_end kept t)
 cases_stay kept (terminators.Return a) h = h
@@ -19,7 +19,7 @@ cases_stay kept (terminators.Branch c to other) h = h
 cases_stay kept (terminators.Switch a width other cases) h = h
 cases_stay kept terminators.Unreachable h = h
 
-kept_forms : (f : Function) (kept : Marks) → KeepsNeeded f kept → FunctionHasForms f → FunctionHasForms (kept_function kept f)
+pub kept_forms : (f : Function) (kept : Marks) → KeepsNeeded f kept → FunctionHasForms f → FunctionHasForms (kept_function kept f)
 kept_forms f kept needed forms =
     let cleaned : IsCleaned f (kept_function kept f) = (kept, needed, refl) in
     record {

@@ -19,7 +19,7 @@ use Rattle.ir_lexemes.specs.Lexemes.{Lexeme, HasForm, IsGroupText, AreLexemes, b
 use Rattle.ir_parse.specs.Items.{is_item_word}
 use Rattle.ir_parse.specs.Grammar.{SpellsItem, of_word, of_word_and_group, of_number, of_group, of_quoted, of_key_and_value}
 use Rattle.ir_forms.specs.Forms.{IsItem}
-use Rattle.reader_forms.proofs.StatementForms.{Yields, on_line}
+use Rattle.ir_reader.proofs.StatementForms.{Yields, on_line}
 
 -- a token with nothing before it
 abbrev alone : Token → Lexeme

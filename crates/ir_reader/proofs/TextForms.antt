@@ -11,10 +11,10 @@ use Rattle.ir_tokens.specs.Tokens.{Placed, Token, End, Other, Bad, Kept, KeptGro
 use Rattle.ir_lexemes.specs.Lexemes.{bytes_of}
 use Rattle.ir_lexemes.proofs.Forms.{HasItsForm, token_form}
 use Rattle.ir_lexemes.proofs.KeptLines.{is_kept, none_kept}
-use Rattle.reader_forms.proofs.Every.{every_append, every_left, every_right}
-use Rattle.reader_forms.proofs.KeptForms.{kept_alone, kept_text}
-use Rattle.reader_forms.proofs.NameForms.{AreBytes, called_formed}
-use Rattle.reader_forms.proofs.TokenForms.{Formed, TokenFormed}
+use Rattle.ir_reader.proofs.Every.{every_append, every_left, every_right}
+use Rattle.ir_reader.proofs.KeptForms.{kept_alone, kept_text}
+use Rattle.ir_reader.proofs.NameForms.{AreBytes, called_formed}
+use Rattle.ir_reader.proofs.TokenForms.{Formed, TokenFormed}
 
 -- ---- their bytes are among the text's
 

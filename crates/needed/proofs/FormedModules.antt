@@ -5,8 +5,8 @@ use Rattle.ir_core.specs.declared.module.Entry.{Entry}
 use Rattle.ir_core.specs.declared.module.Entry.TheVariants as entries
 use Rattle.ir_forms.specs.Forms.{EntryHasForms, IsKeptText}
 use Rattle.needed.specs.Cleaning.{EntryCleaned, EntriesCleaned}
-use Rattle.cleaned_forms.specs.Laws.{CleanedModulesHaveForms}
-use Rattle.cleaned_forms.proofs.Functions.{cleaned_have_forms}
+use Rattle.needed.specs.Laws.{CleanedModulesHaveForms}
+use Rattle.needed.proofs.FormedFunctions.{cleaned_have_forms}
 
 entry_forms : (d e : Entry) → EntryHasForms d → EntryCleaned d e → EntryHasForms e
 entry_forms (entries.Kept old) (entries.Kept new) forms same = subst IsKeptText (sym same) forms

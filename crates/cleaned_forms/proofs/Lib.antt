@@ -1,4 +1,0 @@
-mod KeptNames
-mod KeptReads
-mod Functions
-mod Modules
