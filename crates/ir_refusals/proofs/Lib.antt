@@ -1,0 +1,12 @@
+pub mod Choices
+pub mod Entries
+pub mod FlagReaders
+pub mod Functions
+pub mod Instructions
+pub mod Items
+pub mod Outcomes
+pub mod Reasons
+pub mod Refusals
+pub mod Repeats
+pub mod Statements
+pub mod TokenReaders

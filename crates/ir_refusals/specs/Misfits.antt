@@ -1,0 +1,67 @@
+-- Why a token does not fit behind tokens that do, said by which other tokens fit there.
+use Rattle.std.specs.Prelude.{◌≡◌, ℕ, false, true, List, [], ◌∷◌, ◌++◌}
+use Rattle.ops.specs.declared.comparison.Pred.{Pred}
+use Rattle.ir_tokens.specs.Tokens.{Token, Placed, End, Bad, Word, Number, Function, is_last}
+use Rattle.ir_raw.specs.declared.raw.RawValue.{RawValue}
+use Rattle.ir_statements.specs.declared.fault.Misfit.{Misfit}
+use Rattle.ir_statements.specs.declared.fault.Misfit.TheVariants.{TooLong, BadByte, Syntax, LeftOut, Width, ConstRange}
+use Rattle.ir_statements.specs.declared.word.Ending.{Ending}
+use Rattle.words.specs.declared.flag.Flag.{Flag}
+use Rattle.ir_statements.specs.declared.word.Operation.{Operation}
+use Rattle.ir_statements.specs.declared.word.TypeWord.TheVariants.{OutOfRange}
+use Rattle.ir_statements.specs.Grammar.{IsValueToken}
+use Rattle.ir_statements.specs.Parts.{Is, Each}
+use Rattle.ir_statements.specs.Places.{begins_record, begins_type, shown}
+use Rattle.ir_statements.specs.Words.{IsTypeWord, ending_word, operation_word, type_in}
+use Rattle.words.specs.Words.{pred_word}
+use Rattle.words.specs.Flags.{flag_word}
+use Rattle.ir_refusals.specs.Fits.{FitsBehind}
+
+-- a type, an opcode, a predicate, a flag, a value, or the first word of a terminator
+pub data IsNoun (word : List ℕ) : Type 0 where
+  type : (width : ℕ) → IsTypeWord word width → IsNoun word
+  opcode : (operation : Operation) → word ≡ operation_word operation → IsNoun word
+  predicate : (pred : Pred) → word ≡ pred_word pred → IsNoun word
+  flag : (flag : Flag) → word ≡ flag_word flag → IsNoun word
+  value : (width : ℕ) (value : RawValue) → IsValueToken width value (Word word) → IsNoun word
+  terminator : (ending : Ending) → word ≡ ending_word ending → IsNoun word
+
+abbrev pub NounFits : List Placed → Type 0
+NounFits front = (word : List ℕ) × IsNoun word × FitsBehind front (Word word)
+
+abbrev pub TypeFits : List Placed → Type 0
+TypeFits front = (word : List ℕ) × (width : ℕ) × IsTypeWord word width × FitsBehind front (Word word)
+
+abbrev pub TerminatorFits : List Placed → Type 0
+TerminatorFits front = (ending : Ending) × FitsBehind front (Word (ending_word ending))
+
+-- Another token of its sort fits: a noun in place of a word, a type in place of a mark that begins a type, or another function.
+pub data AnotherFits (front : List Placed) : Token → Type 0 where
+  of_word : (word : List ℕ) → NounFits front → AnotherFits front (Word word)
+  of_mark : (token : Token) → begins_type token ≡ true → TypeFits front → AnotherFits front token
+  of_function : (written other : List ℕ) → FitsBehind front (Function other) → AnotherFits front (Function written)
+
+-- A token is left out where another of its sort fits; the mark of a record of debug information where a terminator fits; and every
+-- token where the text may end, since an entry may begin there.
+pub data IsLeftOut (front : List Placed) (token : Token) : Type 0 where
+  another : AnotherFits front token → IsLeftOut front token
+  mark_of_record : begins_record token ≡ true → TerminatorFits front → IsLeftOut front token
+  entry : is_last token ≡ false → FitsBehind front End → IsLeftOut front token
+
+-- Flags stand last, of which the first is this word: an instruction has a flag once, though a type or another flag fits there.
+abbrev pub RepeatsFlag : List Placed → List ℕ → Type 0
+RepeatsFlag front word =
+    (before behind : List Placed) × (flag : Flag) × (flags : List Flag) × (front ≡ before ++ behind) × (word ≡ flag_word flag)
+    × Each (λ f. Is (Word (flag_word f))) (flag ∷ flags) behind []
+
+abbrev pub IsRepeated : List Placed → Token → Type 0
+IsRepeated front token = (word : List ℕ) × (token ≡ Word word) × RepeatsFlag front word
+
+-- What a kind of fault says of the token, which does not fit behind the others.
+abbrev pub IsMisfit : List Placed → Token → Misfit → Type 0
+IsMisfit front token TooLong = ⊥
+IsMisfit front token BadByte = token ≡ Bad
+IsMisfit front token Width = (word : List ℕ) × (token ≡ Word word) × (type_in word ≡ OutOfRange) × TypeFits front
+IsMisfit front token ConstRange = (digits : List ℕ) × (token ≡ Number digits)
+IsMisfit front token (LeftOut text) = (text ≡ shown token) × IsLeftOut front token
+IsMisfit front token Syntax = AnotherFits front token → IsRepeated front token
