@@ -3,3 +3,4 @@ pub mod Outcomes
 pub mod Ready
 pub mod Runs
 pub mod Sample
+pub mod Typed

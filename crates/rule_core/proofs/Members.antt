@@ -1,6 +1,6 @@
 -- What stands in a rule: its statements, their operands, and the classes of both.
-use Rattle.std.proofs.Common.{◌≡◌, ℕ, zero, suc, ◌+◌, ◌<◌, List, [], ◌∷◌, ◌++◌, length, take, length-append, add_assoc, zero-add, suc-add, Some, refl, sym, ◌∙◌, arith, get_or}
-use Rattle.std.specs.Prelude.{slice_get, Contains, flat_map}
+use Rattle.std.proofs.Common.{◌≡◌, ℕ, zero, suc, ◌+◌, ◌<◌, List, [], ◌∷◌, ◌++◌, length, take, length-append, add_assoc, zero-add, suc-add, Some, refl, sym, ap, ◌∙◌, arith, get_or}
+use Rattle.std.specs.Prelude.{slice_get, Contains, map, flat_map}
 use Rattle.std.proofs.lemmas.Option.{slice_get_within, get_or_from_slice_get}
 use Rattle.std.proofs.lemmas.List.Elements.{Contains-append_left, Contains-append_right}
 use Rattle.rule_core.specs.declared.rule.Rule.{Rule}
@@ -19,6 +19,12 @@ Contains-flat_map f (a ∷ xs) x y (zero, lt, e) h = Contains-append_left (f a) 
 Contains-flat_map f (a ∷ xs) x y (suc k, lt, e) h =
     Contains-append_right (f a) (flat_map f xs) y (Contains-flat_map f xs x y (k, omega arith, e) h)
 
+-- what an element is mapped to is an element
+Contains-map : {X Y : Type 0} (f : X → Y) (xs : List X) (x : X) → Contains xs x → Contains (map f xs) (f x)
+Contains-map f [] x (k, lt, e) = absurd (omega arith)
+Contains-map f (a ∷ xs) x (zero, lt, e) = (0, omega arith, ap f e)
+Contains-map f (a ∷ xs) x (suc k, lt, e) = let rest = Contains-map f xs x (k, omega arith, e) in (suc rest.0, omega arith, rest.2)
+
 pub source_statement : (rule : Rule) (k : ℕ) (s : Statement) → slice_get rule.source k ≡ Some s → IsStatementOf rule s
 source_statement rule k s at = Contains-append_left rule.source rule.target s (Contains-from_get rule.source k s at)
 
@@ -32,6 +38,11 @@ operand_stands rule s o stands among = Contains-flat_map (λ (t : Statement). op
 pub class_stands : (rule : Rule) (s : Statement) → IsStatementOf rule s → Contains (classes_of rule) s.class
 class_stands rule s stands =
     Contains-flat_map classes_of_statement (rule.source ++ rule.target) s s.class stands (Contains-from_get (classes_of_statement s) 0 s.class refl)
+
+pub operand_class_stands : (rule : Rule) (s : Statement) (o : Operand) → IsStatementOf rule s → Contains (operands_of s.op) o → Contains (classes_of rule) o.class
+operand_class_stands rule s o stands among =
+    let at : Contains (classes_of_statement s) o.class = Contains-append_right (s.class ∷ []) (map (λ (p : Operand). p.class) (operands_of s.op)) o.class (Contains-map (λ (p : Operand). p.class) (operands_of s.op) o among) in
+    Contains-flat_map classes_of_statement (rule.source ++ rule.target) s o.class stands at
 
 -- what stands at a place of the first list stands there in both, and what stands in the second one stands behind the first
 pub get-append_left : {X : Type 0} (xs ys : List X) (k : ℕ) (x : X) → slice_get xs k ≡ Some x → slice_get (xs ++ ys) k ≡ Some x

@@ -7,8 +7,10 @@ use Rattle.std.proofs.lemmas.List.{take_all}
 use Rattle.std.proofs.lemmas.Option.{slice_get-get_or, same_Some}
 use Rattle.ops.specs.Number.{Number}
 use Rattle.ops.specs.Value.{IsValueOf, IsEffectOf}
-use Rattle.ops.specs.Laws.{InstructionKeepsWidth}
+use Rattle.ops.specs.Laws.{InstructionKeepsWidth, ComparisonIsOneBit, ConversionHasWidth, SelectionKeepsWidth}
 use Rattle.ops.specs.Instruction.{instruction}
+use Rattle.ops.specs.Comparison.{comparison, selection}
+use Rattle.ops.specs.Conversion.{conversion}
 use Rattle.ops.specs.Integer.{residue, bits}
 use Rattle.ops.specs.declared.value.Value.{Value}
 use Rattle.ops.specs.declared.value.Value.TheVariants.{Poison}
@@ -17,7 +19,7 @@ use Rattle.ops.specs.declared.value.Effect.TheVariants as effects
 use Rattle.rule_core.specs.declared.rule.Rule.{Rule}
 use Rattle.rule_core.specs.declared.rule.Statement.{Statement}
 use Rattle.rule_core.specs.declared.rule.Op.{Op}
-use Rattle.rule_core.specs.declared.rule.Op.TheVariants.{Binary, Copy}
+use Rattle.rule_core.specs.declared.rule.Op.TheVariants.{Binary, Compare, Select, Convert, Copy}
 use Rattle.rule_core.specs.declared.rule.Operand.{Operand}
 use Rattle.rule_core.specs.declared.rule.Argument.{Argument}
 use Rattle.rule_core.specs.declared.rule.Argument.TheVariants as arguments
@@ -34,6 +36,13 @@ unfolding residue
 residue_lt N (pos n) = mod-lt n (pow_pos N)
 residue_lt N (negsuc n) = omega (arith, pow_pos N)
 
+-- instructions give values of their results' widths
+pub record KeepWidths : Type 0 where
+  pub evaluate : InstructionKeepsWidth
+  pub compare : ComparisonIsOneBit
+  pub convert : ConversionHasWidth
+  pub choose : SelectionKeepsWidth
+
 -- what is ready gives a value of its width
 module _ (typing : List ℕ) (constants choices : List Number) (held : Held) where
   argument_gives : (N : ℕ) (x : Argument) → ArgumentIsReady held N x → (v : Value) × ArgumentGives typing constants choices held N x v × IsValueOf N v
@@ -42,16 +51,31 @@ module _ (typing : List ℕ) (constants choices : List Number) (held : Held) whe
   argument_gives N (arguments.Truth true) ready = (bits N 1, refl, (refl, rw ready (omega arith)))
   argument_gives N (arguments.Truth false) ready = (bits N 0, refl, (refl, rw ready (omega arith)))
 
-  op_gives : InstructionKeepsWidth → (N : ℕ) (op : Op) → OpIsReady typing held N op → (e : Effect) × OpGives typing constants choices held N op e × IsEffectOf N e
+  op_gives : KeepWidths → (N : ℕ) (op : Op) → OpIsReady typing held N op → (e : Effect) × OpGives typing constants choices held N op e × IsEffectOf N e
   op_gives keeps N (Binary op flags a b) (fit, (a_width, a_ready), (b_width, b_ready)) =
       let x = argument_gives N a.value a_ready in
       let y = argument_gives N b.value b_ready in
-      (instruction op flags N x.0 y.0, (x.0, y.0, (N, a_width, x.1), (N, b_width, y.1), refl), keeps op flags N x.0 y.0 x.2 y.2)
+      (instruction op flags N x.0 y.0, (x.0, y.0, (N, a_width, x.1), (N, b_width, y.1), refl), keeps.evaluate op flags N x.0 y.0 x.2 y.2)
+  op_gives keeps N (Compare pred a b) (M, (a_width, a_ready), (b_width, b_ready), one) =
+      let x = argument_gives M a.value a_ready in
+      let y = argument_gives M b.value b_ready in
+      let value = comparison pred M x.0 y.0 in
+      (effects.Gives value, (M, x.0, y.0, a_width, (M, a_width, x.1), (M, b_width, y.1), refl), rw one (keeps.compare pred M x.0 y.0))
+  op_gives keeps N (Select c a b) ((c_width, c_ready), (a_width, a_ready), (b_width, b_ready)) =
+      let z = argument_gives 1 c.value c_ready in
+      let x = argument_gives N a.value a_ready in
+      let y = argument_gives N b.value b_ready in
+      let value = selection z.0 x.0 y.0 in
+      (effects.Gives value, (z.0, x.0, y.0, (1, c_width, z.1), (N, a_width, x.1), (N, b_width, y.1), refl), keeps.choose N z.0 x.0 y.0 x.2 y.2)
+  op_gives keeps N (Convert cast a to) (M, (a_width, a_ready), fit) =
+      let x = argument_gives M a.value a_ready in
+      let value = conversion cast M N x.0 in
+      (effects.Gives value, (M, x.0, a_width, (M, a_width, x.1), refl), keeps.convert cast M N x.0 fit x.2)
   op_gives keeps N (Copy a) (a_width, a_ready) =
       let x = argument_gives N a.value a_ready in
       (effects.Gives x.0, (x.0, (N, a_width, x.1), refl), x.2)
 
-  statement_gives : InstructionKeepsWidth → (s : Statement) → StatementIsReady typing held s → (e : Effect) × StatementGives typing constants choices held s e × ((N : ℕ) → slice_get typing s.class ≡ Some N → IsEffectOf N e)
+  statement_gives : KeepWidths → (s : Statement) → StatementIsReady typing held s → (e : Effect) × StatementGives typing constants choices held s e × ((N : ℕ) → slice_get typing s.class ≡ Some N → IsEffectOf N e)
   statement_gives keeps s (N, width, ready) =
       let given = op_gives keeps N s.op ready in
       (given.0, (N, width, given.1), λ M width'. let same : N ≡ M = same_Some N M (sym width ∙ width') in rw (← same) given.2)
@@ -68,7 +92,7 @@ GoodEnd : (ℕ → Held → Type 0) → ℕ → Ending → Type 0
 GoodEnd Good n Undefines = Unit {0}
 GoodEnd Good n (Holds held) = Good n held
 
-module _ (keeps : InstructionKeepsWidth) (typing : List ℕ) (constants choices : List Number) (holding : Held → Value → Held) (statements : List Statement) (Good : ℕ → Held → Type 0)
+module _ (keeps : KeepWidths) (typing : List ℕ) (constants choices : List Number) (holding : Held → Value → Held) (statements : List Statement) (Good : ℕ → Held → Type 0)
     (ready : (k : ℕ) (s : Statement) (held : Held) → Good k held → slice_get statements k ≡ Some s → StatementIsReady typing held s)
     (more : (k : ℕ) (s : Statement) (held : Held) (v : Value) → Good k held → slice_get statements k ≡ Some s → ((N : ℕ) → slice_get typing s.class ≡ Some N → IsValueOf N v) → Good (suc k) (holding held v)) where
   follows_on : (rest : List Statement) (k : ℕ) (held : Held) → ((j : ℕ) (s : Statement) → slice_get rest j ≡ Some s → slice_get statements (k + j) ≡ Some s) → Good k held
@@ -101,7 +125,7 @@ record TargetHeld (rule : Rule) (typing : List ℕ) (k : ℕ) (held : Held) : Ty
   before : length held.source + 1 ≡ length rule.source
   count : length held.target ≡ k
 
-module _ (keeps : InstructionKeepsWidth) (rule : Rule) (typing : List ℕ) (checked : IsRule rule) (typed : IsTyping rule typing) (constants choices : List Number) where
+module _ (keeps : KeepWidths) (rule : Rule) (typing : List ℕ) (checked : IsRule rule) (typed : IsTyping rule typing) (constants choices : List Number) where
   -- the first statements of the source come to an end
   source_ends : (count : ℕ) → count ≤ length rule.source → (inputs : List Value) → InputsFit rule typing inputs
       → (end : Ending) × Follows typing constants choices holding_source (take count rule.source) (at_start inputs) end × GoodEnd (SourceHeld rule typing) count end
@@ -197,6 +221,20 @@ module _ (typing : List ℕ) (constants choices : List Number) where
       let left : x ≡ x' = operand_once held a x x' px qx in
       let right : y ≡ y' = operand_once held b y y' py qy in
       cc
+  op_once held N (Compare pred a b) d e (M, x, y, at, px, py, is) (M', x', y', at', qx, qy, is') =
+      let from : M ≡ M' = same_Some M M' (sym at ∙ at') in
+      let left : x ≡ x' = operand_once held a x x' px qx in
+      let right : y ≡ y' = operand_once held b y y' py qy in
+      cc
+  op_once held N (Select c a b) d e (z, x, y, pz, px, py, is) (z', x', y', qz, qx, qy, is') =
+      let condition : z ≡ z' = operand_once held c z z' pz qz in
+      let yes : x ≡ x' = operand_once held a x x' px qx in
+      let no : y ≡ y' = operand_once held b y y' py qy in
+      cc
+  op_once held N (Convert cast a to) d e (M, x, at, px, is) (M', x', at', qx, is') =
+      let from : M ≡ M' = same_Some M M' (sym at ∙ at') in
+      let operand : x ≡ x' = operand_once held a x x' px qx in
+      cc
   op_once held N (Copy a) d e (x, px, is) (x', qx, is') = let same : x ≡ x' = operand_once held a x x' px qx in cc
 
   statement_once : (held : Held) (s : Statement) (d e : Effect) → StatementGives typing constants choices held s d → StatementGives typing constants choices held s e → d ≡ e
@@ -239,7 +277,7 @@ module _ (typing : List ℕ) (constants choices : List Number) where
       leads_once (TargetGoesOn typing constants choices rule) (target_goes_once rule) a b (follows_once holding_source (temporaries_of rule) (at_start inputs) a b follows follows') d e leads leads'
 
 -- a rule has one outcome at each setting that fits
-pub one_outcome : InstructionKeepsWidth → RulesHaveOneOutcome
+pub one_outcome : KeepWidths → RulesHaveOneOutcome
 one_outcome keeps rule typing setting checked typed fits =
     let source = source_gives keeps rule typing checked typed setting.constants (chosen rule typing setting) setting.inputs fits.inputs in
     let target = target_gives keeps rule typing checked typed setting.constants setting.target_undefs setting.inputs fits.inputs in (

@@ -1,25 +1,28 @@
 -- Each statement of a rule can run once those before it have.
-use Rattle.std.proofs.Common.{◌≡◌, ℕ, zero, suc, ◌⊎◌, inl, inr, ◌+◌, ◌<◌, List, [], ◌∷◌, ◌++◌, length, Some, Bool, subst, refl, sym, ap, ◌∙◌, arith, get_or}
+use Rattle.std.proofs.Common.{◌≡◌, ℕ, zero, suc, ◌⊎◌, inl, inr, ◌+◌, ◌<◌, List, [], ◌∷◌, ◌++◌, length, Option, Some, Bool, subst, refl, sym, ap, ◌∙◌, arith, get_or}
 use Rattle.std.specs.Prelude.{slice_get, Contains}
 use Rattle.std.proofs.lemmas.Option.{slice_get-get_or, slice_get_within, same_Some}
 use Rattle.ops.specs.Value.{IsValueOf}
+use Rattle.ops.specs.Conversion.{CastFits}
+use Rattle.ops.specs.declared.conversion.Cast.{Cast}
+use Rattle.ops.specs.declared.conversion.Cast.TheVariants.{Trunc, ZExt, SExt}
 use Rattle.ops.specs.declared.value.Value.{Value}
 use Rattle.ops.specs.declared.value.Value.TheVariants.{Poison}
 use Rattle.rule_core.specs.declared.rule.Rule.{Rule}
 use Rattle.rule_core.specs.declared.rule.Statement.{Statement}
 use Rattle.rule_core.specs.declared.rule.Op.{Op}
-use Rattle.rule_core.specs.declared.rule.Op.TheVariants.{Binary, Copy}
+use Rattle.rule_core.specs.declared.rule.Op.TheVariants.{Binary, Compare, Select, Convert, Copy}
 use Rattle.rule_core.specs.declared.rule.Operand.{Operand}
 use Rattle.rule_core.specs.declared.rule.Argument.{Argument}
 use Rattle.rule_core.specs.declared.rule.Argument.TheVariants as arguments
 use Rattle.rule_core.specs.declared.rule.Register.TheVariants as registers
-use Rattle.rule_core.specs.Positions.{operands_of, operands_in, classes_of, IsStatementOf, reads, source_assigns, target_assigns, binary_left, binary_right, copy, register}
-use Rattle.rule_core.specs.Typing.{IsTyping, FitsArgument}
+use Rattle.rule_core.specs.Positions.{operands_of, operands_in, classes_of, IsStatementOf, reads, source_assigns, target_assigns, binary_left, binary_right, compared, select_true, select_false, copy, register, comparison, condition, truth, truncated, zero_extended, sign_extended}
+use Rattle.rule_core.specs.Typing.{IsTyping}
 use Rattle.rule_core.specs.Checks.{IsRule, SourceMayRead, TargetMayRead, FlagsFitOp}
 use Rattle.rule_core.specs.Run.{Held}
 use Rattle.rule_core.specs.Valid.{InputsFit}
 use Rattle.rule_core.specs.Readiness.{ArgumentIsReady, OpIsReady, StatementIsReady, ValuesFit, HeldFits}
-use Rattle.rule_core.proofs.Members.{Contains-from_get, source_statement, target_statement, operand_stands, class_stands}
+use Rattle.rule_core.proofs.Members.{Contains-from_get, source_statement, target_statement, operand_stands, class_stands, operand_class_stands}
 
 -- each class has a width
 pub class_width : (rule : Rule) (typing : List ℕ) (c : ℕ) → IsTyping rule typing → Contains (classes_of rule) c → (N : ℕ) × (slice_get typing c ≡ Some N)
@@ -49,7 +52,7 @@ module _ (rule : Rule) (typing : List ℕ) (held : Held) (typed : IsTyping rule 
 
 -- `true` and `false` have the width 1
 truth_width : (rule : Rule) (typing : List ℕ) (o : Operand) (N : ℕ) (b : Bool) → IsTyping rule typing → Contains (operands_in rule) o → slice_get typing o.class ≡ Some N → o.value ≡ arguments.Truth b → N ≡ 1
-truth_width rule typing o N b typed stands width is = subst (FitsArgument N) is (typed.operands o stands N width).1
+truth_width rule typing o N b typed stands width is = same_Some N 1 (sym width ∙ typed.fixed o.class 1 (truth stands is))
 
 -- what a statement may read is there: of the source, once those before it have run
 source_argument : (rule : Rule) (typing : List ℕ) (held : Held) (k : ℕ) (s : Statement) (o : Operand) (N : ℕ) (x : Argument)
@@ -80,12 +83,34 @@ target_argument rule typing held k s o N (arguments.Truth b) typed fits within b
 AllReady : List ℕ → Held → Op → Type 0
 AllReady typing held op = (o : Operand) (N : ℕ) → Contains (operands_of op) o → slice_get typing o.class ≡ Some N → ArgumentIsReady held N o.value
 
+cast_fits : (rule : Rule) (typing : List ℕ) (s : Statement) (a : Operand) (to : Option ℕ) (cast : Cast) (M N : ℕ) → IsTyping rule typing → IsStatementOf rule s → s.op ≡ Convert cast a to → slice_get typing a.class ≡ Some M → slice_get typing s.class ≡ Some N → CastFits cast M N
+cast_fits rule typing s a to Trunc M N typed stands is from width = typed.smaller s.class a.class N M (truncated stands is) width from
+cast_fits rule typing s a to ZExt M N typed stands is from width = typed.smaller a.class s.class M N (zero_extended stands is) from width
+cast_fits rule typing s a to SExt M N typed stands is from width = typed.smaller a.class s.class M N (sign_extended stands is) from width
+
 op_ready : (rule : Rule) (typing : List ℕ) (held : Held) (s : Statement) (N : ℕ) (op : Op) → IsTyping rule typing → IsStatementOf rule s → slice_get typing s.class ≡ Some N → s.op ≡ op → FlagsFitOp op → AllReady typing held op → OpIsReady typing held N op
 unfolding AllReady
 op_ready rule typing held s N (Binary op flags a b) typed stands width is fit ready =
     let left : slice_get typing a.class ≡ Some N = sym (typed.same s.class a.class (binary_left stands is)) ∙ width in
     let right : slice_get typing b.class ≡ Some N = sym (typed.same s.class b.class (binary_right stands is)) ∙ width in
     (fit, (left, ready a N (Contains-from_get (a ∷ b ∷ []) 0 a refl) left), (right, ready b N (Contains-from_get (a ∷ b ∷ []) 1 b refl) right))
+op_ready rule typing held s N (Compare pred a b) typed stands width is fit ready =
+    let M = class_width rule typing a.class typed (operand_class_stands rule s a stands (subst (λ op. Contains (operands_of op) a) (sym is) (Contains-from_get (a ∷ b ∷ []) 0 a refl))) in
+    let right : slice_get typing b.class ≡ Some M.0 = sym (typed.same a.class b.class (compared stands is)) ∙ M.1 in
+    let one : N ≡ 1 = same_Some N 1 (sym width ∙ typed.fixed s.class 1 (comparison stands is)) in
+    (M.0, (M.1, ready a M.0 (Contains-from_get (a ∷ b ∷ []) 0 a refl) M.1), (right, ready b M.0 (Contains-from_get (a ∷ b ∷ []) 1 b refl) right), one)
+op_ready rule typing held s N (Select c a b) typed stands width is fit ready =
+    let one : slice_get typing c.class ≡ Some 1 = typed.fixed c.class 1 (condition stands is) in
+    let yes : slice_get typing a.class ≡ Some N = sym (typed.same s.class a.class (select_true stands is)) ∙ width in
+    let no : slice_get typing b.class ≡ Some N = sym (typed.same s.class b.class (select_false stands is)) ∙ width in
+    let among = c ∷ a ∷ b ∷ [] in (
+      (one, ready c 1 (Contains-from_get among 0 c refl) one),
+      (yes, ready a N (Contains-from_get among 1 a refl) yes),
+      (no, ready b N (Contains-from_get among 2 b refl) no),
+    )
+op_ready rule typing held s N (Convert cast a to) typed stands width is fit ready =
+    let M = class_width rule typing a.class typed (operand_class_stands rule s a stands (subst (λ op. Contains (operands_of op) a) (sym is) (Contains-from_get (a ∷ []) 0 a refl))) in
+    (M.0, (M.1, ready a M.0 (Contains-from_get (a ∷ []) 0 a refl) M.1), cast_fits rule typing s a to cast M.0 N typed stands is M.1 width)
 op_ready rule typing held s N (Copy a) typed stands width is fit ready =
     let same : slice_get typing a.class ≡ Some N = sym (typed.same s.class a.class (copy stands is)) ∙ width in
     (same, ready a N (Contains-from_get (a ∷ []) 0 a refl) same)

@@ -1,25 +1,23 @@
--- The rule of the tests meets the checks, and 4 is a typing of it.
-use Rattle.std.proofs.Common.{◌≡◌, ◌≢◌, ℕ, zero, suc, ◌+◌, ◌<◌, ◌≤◌, List, [], ◌∷◌, ◌++◌, length, add-zero, zero-add, add-suc, suc-add, Some, refl, sym, ap, subst, ◌∙◌, arith, get_or}
-use Rattle.std.specs.Prelude.{slice_get, Contains, pos, negsuc}
+-- The rules of the tests meet the checks, and have their typings.
+use Rattle.std.proofs.Common.{◌≡◌, ℕ, zero, suc, ◌+◌, ◌<◌, ◌≤◌, ◌^◌, List, [], ◌∷◌, ◌++◌, length, add-zero, zero-add, add-suc, suc-add, Some, refl, sym, ap, subst, ◌∙◌, arith, rules}
+use Rattle.std.specs.Prelude.{slice_get, Contains, flat_map, pos, negsuc}
+use Rattle.std.proofs.Math.Pow.{pow-lt}
 use Rattle.std.proofs.lemmas.Int.{ints}
 use Rattle.std.proofs.lemmas.Option.{same_Some, slice_get-get_or}
 use Rattle.ops.specs.Value.{IsValueOf}
 use Rattle.ops.specs.declared.value.Value.{Value}
+use Rattle.rule_core.specs.declared.rule.Rule.{Rule}
 use Rattle.rule_core.specs.declared.rule.Statement.{Statement}
 use Rattle.rule_core.specs.declared.rule.Operand.{Operand}
-use Rattle.rule_core.specs.declared.rule.Op.TheVariants.{Binary, Copy}
-use Rattle.ops.specs.declared.opcode.Opcode.{Opcode}
-use Rattle.ops.specs.declared.opcode.Flags.{Flags}
-use Rattle.rule_core.specs.declared.rule.Argument.{Argument}
-use Rattle.rule_core.proofs.Members.{operand_stands}
 use Rattle.rule_core.specs.declared.rule.Argument.TheVariants as arguments
 use Rattle.rule_core.specs.declared.rule.Register.{Register}
 use Rattle.rule_core.specs.declared.rule.Register.TheVariants as registers
-use Rattle.rule_core.specs.Positions.{operands_of, operands_in, classes_of, IsStatementOf, Names, reads, source_assigns, target_assigns, assigns_root, Line, binary_left, binary_right, copy, register}
-use Rattle.rule_core.specs.Typing.{IsTyping, FitsOperand, FitsArgument}
-use Rattle.rule_core.specs.Checks.{IsRule, SourceMayRead, TargetMayRead, ReadsAt, MayStandInSource, FlagsFitOp}
+use Rattle.rule_core.specs.Positions.{operands_of, operands_in, classes_of, IsStatementOf, Names}
+use Rattle.rule_core.specs.Typing.{IsTyping, FitsLiteral}
+use Rattle.rule_core.specs.Checks.{IsRule, AreDistinct, SourceMayRead, TargetMayRead, ReadsAt, MayStandInSource, FlagsFitOp, names_of}
 use Rattle.rule_core.specs.Valid.{InputsFit}
-use Rattle.rule_core.specs.Sample.{negation, plain}
+use Rattle.rule_core.specs.Sample.{doubling, choice, of_class, plain, x, y, c}
+use Rattle.rule_core.proofs.Typed.{OpMeets, OperandMeets, named, typed}
 
 -- a fact of each element, with its place, one by one
 AllAt : {X : Type 0} → (ℕ → X → Type 0) → ℕ → List X → Type 0
@@ -39,151 +37,207 @@ at P xs all k x there = subst (λ i. P i x) (zero-add k) (all_at P 0 xs all k x 
 each : {X : Type 0} (P : X → Type 0) (xs : List X) → AllAt (λ k. P) 0 xs → (x : X) → Contains xs x → P x
 each P xs all x (k, lt, e) = at (λ j. P) xs all k x (slice_get-get_or xs k x lt ∙ ap (λ y. Some y) e)
 
--- of two places one stands before the other, so a single one is 0
-only : (P : ℕ → Type 0) → P 0 → (i : ℕ) → i < 1 → P i
-only P h i lt = let none : 0 ≡ i = omega arith in subst P none h
+-- what a half's statements read, one by one
+reads_only : (P : ℕ → Operand → Type 0) (statements : List Statement) → AllAt (λ k s. AllAt (λ j. P k) 0 (operands_of s.op)) 0 statements
+    → (k : ℕ) (s : Statement) (o : Operand) → slice_get statements k ≡ Some s → Contains (operands_of s.op) o → P k o
+reads_only P statements all k s o there among = each (P k) (operands_of s.op) (at (λ k s. AllAt (λ j. P k) 0 (operands_of s.op)) statements all k s there) o among
 
-abbrev source_names : List (List ℕ)
-source_names = (116 ∷ []) ∷ (114 ∷ []) ∷ []
+-- no two of the names are equal, and none of them is one of the others
+distinct : (names : List (List ℕ)) → AllAt (λ j a. AllAt (λ k b. a ≡ b → j ≡ k) 0 names) 0 names → AreDistinct names
+distinct names all j k name p q = at (λ k b. name ≡ b → j ≡ k) names (at (λ j a. AllAt (λ k b. a ≡ b → j ≡ k) 0 names) names all j name p) k name q refl
 
-abbrev target_names : List (List ℕ)
-target_names = (114 ∷ []) ∷ []
+disjoint : (names others : List (List ℕ)) → AllAt (λ j a. AllAt (λ k b. a ≡ b → ⊥) 0 others) 0 names → (name : List ℕ) → Contains names name → Contains others name → ⊥
+disjoint names others all name p q = each (λ b. name ≡ b → ⊥) others (each (λ a. AllAt (λ k b. a ≡ b → ⊥) 0 others) names all name p) name q refl
 
--- two names of one byte differ
-differ : {P : Type 0} (a b : ℕ) → a ≢ b → a ∷ [] ≡ b ∷ [] → P
-differ a b apart e = absurd (apart (ap (λ (l : List ℕ). get_or l 0 0) e))
+temporaries_apart : (rule : Rule) → AllAt (λ j s. suc j < length rule.source → AllAt (λ k b. s.name ≡ b → ⊥) 0 (names_of rule.target)) 0 rule.source
+    → (j : ℕ) (s : Statement) → suc j < length rule.source → slice_get rule.source j ≡ Some s → Contains (names_of rule.target) s.name → ⊥
+temporaries_apart rule all j s less there among =
+    each (λ b. s.name ≡ b → ⊥) (names_of rule.target)
+    (at (λ j s. suc j < length rule.source → AllAt (λ k b. s.name ≡ b → ⊥) 0 (names_of rule.target)) rule.source all j s there less) s.name among refl
 
--- no name of these is another one
-none_is : (names : List (List ℕ)) (other : List ℕ) → AllAt (λ k name. name ≡ other → ⊥) 0 names → Contains names other → ⊥
-none_is names other all among = each (λ name. name ≡ other → ⊥) names all other among refl
+-- the root's name, in both halves
+one_root : (rule : Rule) → AllAt (λ j s. suc j ≡ length rule.source → AllAt (λ k t. t.name ≡ s.name) 0 rule.target) 0 rule.source
+    → (j k : ℕ) (s t : Statement) → suc j ≡ length rule.source → slice_get rule.source j ≡ Some s → suc k ≡ length rule.target → slice_get rule.target k ≡ Some t → t.name ≡ s.name
+one_root rule all j k s t last there last' there' =
+    at (λ k t. t.name ≡ s.name) rule.target (at (λ j s. suc j ≡ length rule.source → AllAt (λ k t. t.name ≡ s.name) 0 rule.target) rule.source all j s there last) k t there'
 
-stands_once : (names : List (List ℕ)) (j : ℕ) (name : List ℕ) → AllAt (λ k n. n ≡ name → j ≡ k) 0 names → (k : ℕ) → slice_get names k ≡ Some name → j ≡ k
-stands_once names j name all k there = at (λ i n. n ≡ name → j ≡ i) names all k name there refl
+-- at most two inputs, of which the first operand reads the first
+in_order : (rule : Rule) → ReadsAt rule 0 (registers.Input 0)
+    → AllAt (λ q (o : Operand). (i : ℕ) → o.value ≡ arguments.Register (registers.Input i) → (i < 2) × (i ≤ q)) 0 (flat_map (λ (s : Statement). operands_of s.op) rule.source)
+    → (h i q : ℕ) → h < i → ReadsAt rule q (registers.Input i) → (p : ℕ) × (p < q) × ReadsAt rule p (registers.Input h)
+in_order rule first all h i q less (o, there, is) =
+    let bounds = at (λ q (o : Operand). (i : ℕ) → o.value ≡ arguments.Register (registers.Input i) → (i < 2) × (i ≤ q)) (flat_map (λ (s : Statement). operands_of s.op) rule.source) all q o there i is in
+    let none : 0 ≡ h = omega arith in
+    (0, omega arith, subst (λ h. ReadsAt rule 0 (registers.Input h)) none first)
 
-reads_one : (i q : ℕ) → ReadsAt negation q (registers.Input i) → i ≡ 0
+pub doubling_is_rule : IsRule doubling
 unfolding AllAt
-reads_one i q (o, there, is) =
-    at (λ k (o : Operand). o.value ≡ arguments.Register (registers.Input i) → i ≡ 0)
-    (plain (arguments.Register (registers.Input 0)) ∷ plain (arguments.Literal (negsuc 0)) ∷ plain (arguments.Register (registers.Source 0)) ∷ plain (arguments.Literal (pos 1)) ∷ [])
-    ((λ e. cc), ((λ e. cc), ((λ e. cc), ((λ e. cc), tt)))) q o there is
-
-pub is_rule : IsRule negation
-unfolding AllAt
-is_rule =
+doubling_is_rule =
     record {
       few_in_source = omega arith;
       few_in_target = omega arith;
       few_operands = omega arith;
       short_name = omega arith;
-      short_inputs = each (λ (name : List ℕ). length name ≤ 200) ((120 ∷ []) ∷ []) (omega arith, tt);
+      short_inputs = each (λ (name : List ℕ). length name ≤ 200) doubling.inputs (search rules);
       short_constants = each (λ (name : List ℕ). length name ≤ 200) [] tt;
-      short_in_source = each (λ (name : List ℕ). length name ≤ 200) source_names (omega arith, (omega arith, tt));
-      short_in_target = each (λ (name : List ℕ). length name ≤ 200) target_names (omega arith, tt);
-      source_names = λ j k name hj hk.
-          at (λ j (name : List ℕ). (k : ℕ) → slice_get source_names k ≡ Some name → j ≡ k) source_names
-          (stands_once source_names 0 (116 ∷ []) ((λ e. refl), (differ 114 116 (λ h. omega arith), tt)), (stands_once source_names 1 (114 ∷ []) (differ 116 114 (λ h. omega arith), ((λ e. refl), tt)), tt)) j name hj k hk;
-      target_names = λ j k name hj hk.
-          at (λ j (name : List ℕ). (k : ℕ) → slice_get target_names k ≡ Some name → j ≡ k) target_names
-          (stands_once target_names 0 (114 ∷ []) ((λ e. refl), tt), tt) j name hj k hk;
-      source_reads = λ k s o there among.
-          at (λ k (s : Statement). (o : Operand) → Contains (operands_of s.op) o → SourceMayRead negation k o.value) negation.source (
-            each (λ (o : Operand). SourceMayRead negation 0 o.value) (plain (arguments.Register (registers.Input 0)) ∷ plain (arguments.Literal (negsuc 0)) ∷ []) (omega arith, (tt, tt)),
-            (each (λ (o : Operand). SourceMayRead negation 1 o.value) (plain (arguments.Register (registers.Source 0)) ∷ plain (arguments.Literal (pos 1)) ∷ []) (omega arith, (tt, tt)), tt),
-          ) k s there o among;
-      target_reads = λ k s o there among.
-          at (λ k (s : Statement). (o : Operand) → Contains (operands_of s.op) o → TargetMayRead negation k o.value) negation.target
-          (each (λ (o : Operand). TargetMayRead negation 0 o.value) (plain (arguments.Literal (pos 0)) ∷ plain (arguments.Register (registers.Input 0)) ∷ []) (tt, (omega arith, tt)), tt) k s there o among;
-      inputs_distinct = λ j k name hj hk.
-          at (λ j (name : List ℕ). (k : ℕ) → slice_get ((120 ∷ []) ∷ []) k ≡ Some name → j ≡ k) ((120 ∷ []) ∷ [])
-          (stands_once ((120 ∷ []) ∷ []) 0 (120 ∷ []) ((λ e. refl), tt), tt) j name hj k hk;
-      inputs_not_assigned = each (λ (name : List ℕ). Contains source_names name → ⊥) ((120 ∷ []) ∷ []) (none_is source_names (120 ∷ []) (differ 116 120 (λ h. omega arith), (differ 114 120 (λ h. omega arith), tt)), tt);
-      inputs_read = only (λ i. (q : ℕ) × ReadsAt negation q (registers.Input i)) (0, (plain (arguments.Register (registers.Input 0)), refl, refl));
-      inputs_in_order = λ h i q lt there. let none = reads_one i q there in absurd (omega arith);
+      short_in_source = each (λ (name : List ℕ). length name ≤ 200) (names_of doubling.source) (search rules);
+      short_in_target = each (λ (name : List ℕ). length name ≤ 200) (names_of doubling.target) (search rules);
+      source_names = distinct (names_of doubling.source) (search rules);
+      target_names = distinct (names_of doubling.target) (search rules);
+      source_reads = reads_only (λ k o. SourceMayRead doubling k o.value) doubling.source (search rules);
+      target_reads = reads_only (λ k o. TargetMayRead doubling k o.value) doubling.target (search rules);
+      inputs_distinct = distinct doubling.inputs (search rules);
+      inputs_not_assigned = disjoint doubling.inputs (names_of doubling.source) (search rules);
+      inputs_read = λ i lt. let first : 0 ≡ i = omega arith in subst (λ i. (q : ℕ) × ReadsAt doubling q (registers.Input i)) first (0, (plain x, refl, refl));
+      inputs_in_order = in_order doubling (plain x, refl, refl) (search rules);
       source_root = omega arith;
       target_root = omega arith;
-      root = λ j k s t last there last' there'.
-          let s_name : s.name ≡ 114 ∷ [] = at (λ j (s : Statement). suc j ≡ 2 → s.name ≡ 114 ∷ []) negation.source ((λ e. absurd (omega arith)), ((λ e. refl), tt)) j s there last in
-          let t_name : t.name ≡ 114 ∷ [] = at (λ j (t : Statement). t.name ≡ 114 ∷ []) negation.target (refl, tt) k t there' in
-          t_name ∙ sym s_name;
-      inputs_stay = each (λ (name : List ℕ). Contains target_names name → ⊥) ((120 ∷ []) ∷ []) (none_is target_names (120 ∷ []) (differ 114 120 (λ h. omega arith), tt), tt);
-      temporaries_stay = λ j s less there.
-          at (λ j (s : Statement). suc j < 2 → Contains target_names s.name → ⊥) negation.source
-          ((λ l. none_is target_names (116 ∷ []) (differ 114 116 (λ h. omega arith), tt)), ((λ l h. absurd (omega arith)), tt)) j s there less;
-      temporaries_read = λ j less. only (λ i. (q : ℕ) × ReadsAt negation q (registers.Source i)) (2, (plain (arguments.Register (registers.Source 0)), refl, refl)) j (omega arith);
-      source_ops = at (λ k (s : Statement). MayStandInSource s.op) negation.source (tt, (tt, tt));
-      source_flags = at (λ k (s : Statement). FlagsFitOp s.op) negation.source (refl, (refl, tt));
-      target_flags = at (λ k (s : Statement). FlagsFitOp s.op) negation.target (refl, tt);
+      root = one_root doubling (search rules);
+      inputs_stay = disjoint doubling.inputs (names_of doubling.target) (search rules);
+      temporaries_stay = temporaries_apart doubling (search rules);
+      temporaries_read = λ j less. absurd (omega arith);
+      source_ops = at (λ k (s : Statement). MayStandInSource s.op) doubling.source (search rules);
+      source_flags = at (λ k (s : Statement). FlagsFitOp s.op) doubling.source (search rules);
+      target_flags = at (λ k (s : Statement). FlagsFitOp s.op) doubling.target (search rules);
     }
 
--- all its positions are of the class 0
-operand_zero : (o : Operand) → Contains (operands_in negation) o → o.class ≡ 0
+choice_inputs_read : (i : ℕ) → i < 2 → (q : ℕ) × ReadsAt choice q (registers.Input i)
+choice_inputs_read zero lt = (0, (of_class 1 x, refl, refl))
+choice_inputs_read (suc zero) lt = (3, (of_class 1 y, refl, refl))
+choice_inputs_read (suc (suc i)) lt = absurd (omega arith)
+
+pub choice_is_rule : IsRule choice
 unfolding AllAt
-operand_zero = each (λ (o : Operand). o.class ≡ 0) (operands_in negation) (refl, (refl, (refl, (refl, (refl, (refl, tt))))))
-
-names_zero : (r : Register) (c : ℕ) → Names negation r c → c ≡ 0
-unfolding AllAt
-names_zero r c (reads {o} among is) = operand_zero o among
-names_zero r c (source_assigns {k} {s} there) = at (λ j (t : Statement). t.class ≡ 0) negation.source (refl, (refl, tt)) k s there
-names_zero r c (target_assigns {k} {s} there) = at (λ j (t : Statement). t.class ≡ 0) negation.target (refl, tt) k s there
-names_zero r c (assigns_root {j} {k} {s} last last' there) = at (λ j (t : Statement). t.class ≡ 0) negation.target (refl, tt) k s there
-
-statement_zero : (s : Statement) → IsStatementOf negation s → s.class ≡ 0
-unfolding AllAt
-statement_zero = each (λ (s : Statement). s.class ≡ 0) (negation.source ++ negation.target) (refl, (refl, (refl, tt)))
-
-of_binary : (s : Statement) (op : Opcode) (flags : Flags) (a b : Operand) → IsStatementOf negation s → s.op ≡ Binary op flags a b → (a.class ≡ 0) × (b.class ≡ 0)
-of_binary s op flags a b stands is =
-    let among : Contains (operands_of (Binary op flags a b)) a = (0, omega arith, refl) in
-    let among' : Contains (operands_of (Binary op flags a b)) b = (1, omega arith, refl) in (
-      operand_zero a (operand_stands negation s a stands (subst (λ o. Contains (operands_of o) a) (sym is) among)),
-      operand_zero b (operand_stands negation s b stands (subst (λ o. Contains (operands_of o) b) (sym is) among')),
-    )
-
-line_zero : (c d : ℕ) → Line negation c d → (c ≡ 0) × (d ≡ 0)
-line_zero c d (binary_left {s} {op} {flags} {a} {b} stands is) = (statement_zero s stands, (of_binary s op flags a b stands is).0)
-line_zero c d (binary_right {s} {op} {flags} {a} {b} stands is) = (statement_zero s stands, (of_binary s op flags a b stands is).1)
-line_zero c d (copy {s} {a} stands is) =
-    let among : Contains (operands_of (Copy a)) a = (0, omega arith, refl) in
-    (statement_zero s stands, operand_zero a (operand_stands negation s a stands (subst (λ o. Contains (operands_of o) a) (sym is) among)))
-line_zero c d (register {r} p q) = (names_zero r c p, names_zero r d q)
-
--- the width of class 0 is 4
-width_four : (c N : ℕ) → c ≡ 0 → slice_get (4 ∷ []) c ≡ Some N → N ≡ 4
-width_four c N zero_is width = let h = rw zero_is at width in sym (same_Some 4 N h)
-
-fits_four : (x : Argument) → FitsArgument 4 x → (N : ℕ) → slice_get (4 ∷ []) 0 ≡ Some N → FitsOperand N (plain x)
-fits_four x fit N width = let four : N ≡ 4 = width_four 0 N refl width in (tt, rw four fit)
-
-pub is_typing : IsTyping negation (4 ∷ [])
-unfolding AllAt
-is_typing =
+choice_is_rule =
     record {
-      widths = each (λ N. (1 ≤ N) × (N ≤ 64)) (4 ∷ []) ((omega arith, omega arith), tt);
-      classes = each (λ c. c < 1) (classes_of negation) (omega arith, (omega arith, (omega arith, (omega arith, (omega arith, (omega arith, (omega arith, (omega arith, (omega arith, tt)))))))));
-      no_more = only (λ c. Contains (classes_of negation) c) (0, omega arith, refl);
-      same = λ c d line. let zeros = line_zero c d line in rw (zeros.0, zeros.1) refl;
-      operands = each (λ (o : Operand). (N : ℕ) → slice_get (4 ∷ []) o.class ≡ Some N → FitsOperand N o) (operands_in negation) (
-        fits_four (arguments.Register (registers.Input 0)) tt,
-        (
-          fits_four (arguments.Literal (negsuc 0)) (omega (arith, ints), omega (arith, ints)),
-          (
-            fits_four (arguments.Register (registers.Source 0)) tt,
-            (
-              fits_four (arguments.Literal (pos 1)) (omega (arith, ints), omega (arith, ints)),
-              (fits_four (arguments.Literal (pos 0)) (omega (arith, ints), omega (arith, ints)), (fits_four (arguments.Register (registers.Input 0)) tt, tt)),
-            ),
-          ),
-        ),
-      );
+      few_in_source = omega arith;
+      few_in_target = omega arith;
+      few_operands = omega arith;
+      short_name = omega arith;
+      short_inputs = each (λ (name : List ℕ). length name ≤ 200) choice.inputs (search rules);
+      short_constants = each (λ (name : List ℕ). length name ≤ 200) [] tt;
+      short_in_source = each (λ (name : List ℕ). length name ≤ 200) (names_of choice.source) (search rules);
+      short_in_target = each (λ (name : List ℕ). length name ≤ 200) (names_of choice.target) (search rules);
+      source_names = distinct (names_of choice.source) (search rules);
+      target_names = distinct (names_of choice.target) (search rules);
+      source_reads = reads_only (λ k o. SourceMayRead choice k o.value) choice.source (search rules);
+      target_reads = reads_only (λ k o. TargetMayRead choice k o.value) choice.target (search rules);
+      inputs_distinct = distinct choice.inputs (search rules);
+      inputs_not_assigned = disjoint choice.inputs (names_of choice.source) (search rules);
+      inputs_read = choice_inputs_read;
+      inputs_in_order = in_order choice (of_class 1 x, refl, refl) (search rules);
+      source_root = omega arith;
+      target_root = omega arith;
+      root = one_root choice (search rules);
+      inputs_stay = disjoint choice.inputs (names_of choice.target) (search rules);
+      temporaries_stay = temporaries_apart choice (search rules);
+      temporaries_read = λ j less. let first : 0 ≡ j = omega arith in subst (λ j. (q : ℕ) × ReadsAt choice q (registers.Source j)) first (2, (plain c, refl, refl));
+      source_ops = at (λ k (s : Statement). MayStandInSource s.op) choice.source (search rules);
+      source_flags = at (λ k (s : Statement). FlagsFitOp s.op) choice.source (search rules);
+      target_flags = at (λ k (s : Statement). FlagsFitOp s.op) choice.target (search rules);
     }
 
-pub inputs_fit : (v : Value) → IsValueOf 4 v → InputsFit negation (4 ∷ []) (v ∷ [])
+-- 1 is a number of each width
+one_fits : (N : ℕ) → 1 ≤ N → FitsLiteral N (pos 1)
+one_fits N some = let less : 2 ^ 0 < 2 ^ N = pow-lt some in (omega (arith, ints), omega (arith, ints))
+
+-- all positions of `doubling` are of the class 0, and those of `choice` of the class 1, but for %c
+doubling_operations : (N : ℕ) (s : Statement) → IsStatementOf doubling s → OpMeets (N ∷ []) (λ r. 0) s.class s.op
 unfolding AllAt
-inputs_fit v fit =
+doubling_operations N = each (λ (s : Statement). OpMeets (N ∷ []) (λ r. 0) s.class s.op) (doubling.source ++ doubling.target) ((refl, refl), ((refl, refl), tt))
+
+doubling_operands : (N : ℕ) → 1 ≤ N → (o : Operand) → Contains (operands_in doubling) o → OperandMeets (N ∷ []) (λ r. 0) o
+unfolding AllAt
+doubling_operands N low = each (OperandMeets (N ∷ []) (λ r. 0)) (operands_in doubling) (
+  (tt, refl),
+  ((tt, refl), ((tt, refl), ((tt, λ M width. let same : N ≡ M = same_Some N M width in rw (← same) (one_fits N low)), tt))),
+)
+
+doubling_source : (k : ℕ) (s : Statement) → slice_get doubling.source k ≡ Some s → s.class ≡ 0
+unfolding AllAt
+doubling_source = at (λ k (s : Statement). s.class ≡ 0) doubling.source (search rules)
+
+doubling_target : (k : ℕ) (s : Statement) → slice_get doubling.target k ≡ Some s → s.class ≡ 0
+unfolding AllAt
+doubling_target = at (λ k (s : Statement). s.class ≡ 0) doubling.target (search rules)
+
+pub doubling_is_typed : (N : ℕ) → 1 ≤ N → N ≤ 64 → IsTyping doubling (N ∷ [])
+unfolding AllAt
+doubling_is_typed N low high =
+    typed doubling (N ∷ []) (λ r. 0) (doubling_operations N) (doubling_operands N low) doubling_source doubling_target (λ j k last last'. refl)
+    (each (λ N. (1 ≤ N) × (N ≤ 64)) (N ∷ []) ((low, high), tt))
+    (each (λ c. c < 1) (classes_of doubling) (search rules))
+    (λ c lt. let first : 0 ≡ c = omega arith in subst (λ c. Contains (classes_of doubling) c) first (0, omega arith, refl))
+
+choice_class : Register → ℕ
+choice_class (registers.Source zero) = 0
+choice_class r = 1
+
+abbrev choice_typing : List ℕ
+choice_typing = 1 ∷ 2 ∷ []
+
+choice_operations : (s : Statement) → IsStatementOf choice s → OpMeets choice_typing choice_class s.class s.op
+unfolding AllAt
+choice_operations = each (λ (s : Statement). OpMeets choice_typing choice_class s.class s.op) (choice.source ++ choice.target) (
+  (refl, refl),
+  ((refl, refl, refl), ((tt, λ N M from to. let one : 1 ≡ N = same_Some 1 N from in let two : 2 ≡ M = same_Some 2 M to in omega arith), tt)),
+)
+
+minus_two_fits : (N : ℕ) → slice_get choice_typing 1 ≡ Some N → FitsLiteral N (negsuc 1)
+minus_two_fits N width = let two : 2 ≡ N = same_Some 2 N width in rw (← two) (omega (arith, ints), omega (arith, ints))
+
+choice_operands : (o : Operand) → Contains (operands_in choice) o → OperandMeets choice_typing choice_class o
+unfolding AllAt choice_class
+choice_operands = each (OperandMeets choice_typing choice_class) (operands_in choice) (
+  (tt, refl),
+  ((tt, minus_two_fits), ((tt, refl), ((tt, refl), ((tt, refl), ((tt, refl), tt))))),
+)
+
+choice_source : (k : ℕ) (s : Statement) → slice_get choice.source k ≡ Some s → s.class ≡ choice_class (registers.Source k)
+unfolding AllAt choice_class
+choice_source = at (λ k (s : Statement). s.class ≡ choice_class (registers.Source k)) choice.source (refl, (refl, tt))
+
+choice_target : (k : ℕ) (s : Statement) → slice_get choice.target k ≡ Some s → s.class ≡ choice_class (registers.Target k)
+unfolding AllAt choice_class
+choice_target = at (λ k (s : Statement). s.class ≡ choice_class (registers.Target k)) choice.target (refl, tt)
+
+choice_root : (j k : ℕ) → suc j ≡ 2 → suc k ≡ 1 → choice_class (registers.Target k) ≡ choice_class (registers.Source j)
+unfolding choice_class
+choice_root zero k last last' = absurd (omega arith)
+choice_root (suc j) k last last' = refl
+
+choice_classes : (c : ℕ) → c < 2 → Contains (classes_of choice) c
+choice_classes zero lt = (0, omega arith, refl)
+choice_classes (suc zero) lt = (1, omega arith, refl)
+choice_classes (suc (suc c)) lt = absurd (omega arith)
+
+pub choice_is_typed : IsTyping choice (1 ∷ 2 ∷ [])
+unfolding AllAt
+choice_is_typed =
+    typed choice choice_typing choice_class choice_operations choice_operands choice_source choice_target choice_root
+    (each (λ N. (1 ≤ N) × (N ≤ 64)) choice_typing (search rules))
+    (each (λ c. c < 2) (classes_of choice) (search rules))
+    choice_classes
+
+-- inputs of the width of the class that names them fit
+fit : (rule : Rule) (typing : List ℕ) (class N : ℕ) (inputs : List Value) → ((k c : ℕ) → Names rule (registers.Input k) c → c ≡ class) → slice_get typing class ≡ Some N
+    → length inputs ≡ length rule.inputs → AllAt (λ k. IsValueOf N) 0 inputs → InputsFit rule typing inputs
+fit rule typing class N inputs all_named width count all =
     record {
-      count = refl;
-      widths = λ k c N u names width there.
-          let u_is : u ≡ v = at (λ j (w : Value). w ≡ v) (v ∷ []) (refl, tt) k u there in
-          let four : N ≡ 4 = width_four c N (names_zero (registers.Input k) c names) width in
-          rw (four, u_is) fit;
+      count = count;
+      widths = λ k c M v names width' there.
+          let same : M ≡ N = same_Some M N (sym width' ∙ ap (slice_get typing) (all_named k c names) ∙ width) in
+          rw same (at (λ k. IsValueOf N) inputs all k v there);
     }
+
+pub doubling_inputs : (N : ℕ) (v : Value) → 1 ≤ N → IsValueOf N v → InputsFit doubling (N ∷ []) (v ∷ [])
+unfolding AllAt
+doubling_inputs N v low is =
+    fit doubling (N ∷ []) 0 N (v ∷ []) (λ k c. named doubling (N ∷ []) (λ r. 0) (doubling_operations N) (doubling_operands N low) doubling_source doubling_target (λ j k last last'. refl) (registers.Input k) c)
+    refl refl (is, tt)
+
+pub choice_inputs : (v w : Value) → IsValueOf 2 v → IsValueOf 2 w → InputsFit choice (1 ∷ 2 ∷ []) (v ∷ w ∷ [])
+unfolding AllAt choice_class
+choice_inputs v w is is' =
+    fit choice choice_typing 1 2 (v ∷ w ∷ []) (λ k c. named choice choice_typing choice_class choice_operations choice_operands choice_source choice_target choice_root (registers.Input k) c)
+    refl refl (is, (is', tt))

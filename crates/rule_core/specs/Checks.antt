@@ -31,12 +31,12 @@ TargetMayRead rule k (arguments.Truth b) = Unit {0}
 -- the flags that are written fit the opcode
 abbrev pub FlagsFitOp : Op → Type 0
 FlagsFitOp (Binary op flags a b) = FlagsFit op flags
-FlagsFitOp (Copy a) = Unit {0}
+FlagsFitOp op = Unit {0}
 
 -- an operation that may stand in the source: all but copies
 abbrev pub MayStandInSource : Op → Type 0
-MayStandInSource (Binary op flags a b) = Unit {0}
 MayStandInSource (Copy a) = ⊥
+MayStandInSource op = Unit {0}
 
 -- no two of the names are equal
 abbrev pub AreDistinct : List (List ℕ) → Type 0

@@ -1,13 +1,14 @@
 -- What lets a run go on: each register that the next statement reads holds a value of the right width.
 use Rattle.std.specs.Prelude.{◌≡◌, ℕ, List, [], length, take, Option, None, Some, slice_get}
 use Rattle.ops.specs.Number.{Number}
+use Rattle.ops.specs.Conversion.{CastFits}
 use Rattle.ops.specs.Flags.{FlagsFit}
 use Rattle.ops.specs.Value.{IsValueOf}
 use Rattle.ops.specs.declared.value.Value.{Value}
 use Rattle.rule_core.specs.declared.rule.Rule.{Rule}
 use Rattle.rule_core.specs.declared.rule.Statement.{Statement}
 use Rattle.rule_core.specs.declared.rule.Op.{Op}
-use Rattle.rule_core.specs.declared.rule.Op.TheVariants.{Binary, Copy}
+use Rattle.rule_core.specs.declared.rule.Op.TheVariants.{Binary, Compare, Select, Convert, Copy}
 use Rattle.rule_core.specs.declared.rule.Operand.{Operand}
 use Rattle.rule_core.specs.declared.rule.Argument.{Argument}
 use Rattle.rule_core.specs.declared.rule.Argument.TheVariants as arguments
@@ -30,6 +31,9 @@ OperandIsReady typing held N o = (slice_get typing o.class ≡ Some N) × Argume
 
 abbrev pub OpIsReady : List ℕ → Held → ℕ → Op → Type 0
 OpIsReady typing held N (Binary op flags a b) = FlagsFit op flags × OperandIsReady typing held N a × OperandIsReady typing held N b
+OpIsReady typing held N (Compare pred a b) = (M : ℕ) × OperandIsReady typing held M a × OperandIsReady typing held M b × (N ≡ 1)
+OpIsReady typing held N (Select c a b) = OperandIsReady typing held 1 c × OperandIsReady typing held N a × OperandIsReady typing held N b
+OpIsReady typing held N (Convert cast a to) = (M : ℕ) × OperandIsReady typing held M a × CastFits cast M N
 OpIsReady typing held N (Copy a) = OperandIsReady typing held N a
 
 abbrev pub StatementIsReady : List ℕ → Held → Statement → Type 0

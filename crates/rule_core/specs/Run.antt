@@ -3,6 +3,8 @@
 use Rattle.std.specs.Prelude.{◌≡◌, ℕ, ◌-◌, if◌then◌else◌, List, [], ◌∷◌, ◌++◌, length, take, Option, Some, slice_get}
 use Rattle.ops.specs.Number.{Number}
 use Rattle.ops.specs.Instruction.{instruction}
+use Rattle.ops.specs.Comparison.{comparison, selection}
+use Rattle.ops.specs.Conversion.{conversion}
 use Rattle.ops.specs.Integer.{residue, bits}
 use Rattle.ops.specs.declared.value.Value.{Value}
 use Rattle.ops.specs.declared.value.Effect.{Effect}
@@ -10,7 +12,7 @@ use Rattle.ops.specs.declared.value.Effect.TheVariants as effects
 use Rattle.rule_core.specs.declared.rule.Rule.{Rule}
 use Rattle.rule_core.specs.declared.rule.Statement.{Statement}
 use Rattle.rule_core.specs.declared.rule.Op.{Op}
-use Rattle.rule_core.specs.declared.rule.Op.TheVariants.{Binary, Copy}
+use Rattle.rule_core.specs.declared.rule.Op.TheVariants.{Binary, Compare, Select, Convert, Copy}
 use Rattle.rule_core.specs.declared.rule.Operand.{Operand}
 use Rattle.rule_core.specs.declared.rule.Argument.{Argument}
 use Rattle.rule_core.specs.declared.rule.Argument.TheVariants as arguments
@@ -74,9 +76,18 @@ module _ (typing : List ℕ) (constants choices : List Number) where
   abbrev pub OperandGives : Held → Operand → Value → Type 0
   OperandGives held o v = (N : ℕ) × (slice_get typing o.class ≡ Some N) × ArgumentGives held N o.value v
 
-  -- an instruction has its effect on what its operands give, over the result's width N; a copy gives its operand
+  -- An instruction has its effect on what its operands give. It is one over the result's width N, a comparison one over the width of
+  -- its operands, and a cast one from its operand's width to N. A copy gives its operand.
   abbrev pub OpGives : Held → ℕ → Op → Effect → Type 0
   OpGives held N (Binary op flags a b) e = (x : Value) × (y : Value) × OperandGives held a x × OperandGives held b y × (e ≡ instruction op flags N x y)
+  OpGives held N (Compare pred a b) e =
+      (M : ℕ) × (x : Value) × (y : Value)
+      × (slice_get typing a.class ≡ Some M) × OperandGives held a x × OperandGives held b y × (e ≡ effects.Gives (comparison pred M x y))
+  OpGives held N (Select c a b) e =
+      (z : Value) × (x : Value) × (y : Value)
+      × OperandGives held c z × OperandGives held a x × OperandGives held b y × (e ≡ effects.Gives (selection z x y))
+  OpGives held N (Convert cast a to) e =
+      (M : ℕ) × (x : Value) × (slice_get typing a.class ≡ Some M) × OperandGives held a x × (e ≡ effects.Gives (conversion cast M N x))
   OpGives held N (Copy a) e = (x : Value) × OperandGives held a x × (e ≡ effects.Gives x)
 
   abbrev pub StatementGives : Held → Statement → Effect → Type 0

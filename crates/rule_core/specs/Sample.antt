@@ -1,28 +1,63 @@
--- The rule of the tests: %t = xor %x, -1, %r = add %t, 1 => %r = sub 0, %x, with one class.
-use Rattle.std.specs.Prelude.{ℕ, pos, negsuc, [], ◌∷◌, None, false}
+-- The rules of the tests.
+-- `doubling` is %r = add nsw %x, %x => %r = shl nsw %x, 1, with one class.
+-- `choice` is %c = icmp ult %x, -2, %r = select %c, %y, %x => %r = sext %c, where %c is of class 0 and all else of class 1.
+use Rattle.std.specs.Prelude.{ℕ, pos, negsuc, [], ◌∷◌, None, true}
+use Rattle.ops.specs.Flags.{no_flags}
 use Rattle.ops.specs.declared.opcode.Opcode.{Opcode}
-use Rattle.ops.specs.declared.opcode.Opcode.TheVariants.{Add, Sub, Xor}
+use Rattle.ops.specs.declared.opcode.Opcode.TheVariants.{Add, Shl}
+use Rattle.ops.specs.declared.opcode.Flags.{Flags}
+use Rattle.ops.specs.declared.comparison.Pred.TheVariants.{Ult}
+use Rattle.ops.specs.declared.conversion.Cast.TheVariants.{SExt}
 use Rattle.rule_core.specs.declared.rule.Rule.{Rule}
 use Rattle.rule_core.specs.declared.rule.Statement.{Statement}
-use Rattle.rule_core.specs.declared.rule.Op.TheVariants.{Binary}
+use Rattle.rule_core.specs.declared.rule.Op.{Op}
+use Rattle.rule_core.specs.declared.rule.Op.TheVariants.{Binary, Compare, Select, Convert}
 use Rattle.rule_core.specs.declared.rule.Operand.{Operand}
 use Rattle.rule_core.specs.declared.rule.Argument.{Argument}
 use Rattle.rule_core.specs.declared.rule.Argument.TheVariants as arguments
 use Rattle.rule_core.specs.declared.rule.Register.TheVariants as registers
 
+abbrev pub of_class : ℕ → Argument → Operand
+of_class class value = record { value = value; written = None; class = class }
+
 abbrev pub plain : Argument → Operand
-plain value = record { value = value; written = None; class = 0 }
+plain value = of_class 0 value
+
+abbrev pub statement : ℕ → ℕ → Op → Statement
+statement name class op = record { name = name ∷ []; class = class; op = op }
 
 abbrev pub assigns : ℕ → Opcode → Argument → Argument → Statement
-assigns name op a b = record { name = name ∷ []; class = 0; op = Binary op (record { nuw = false; nsw = false; exact = false }) (plain a) (plain b) }
+assigns name op a b = statement name 0 (Binary op no_flags (plain a) (plain b))
 
-abbrev pub negation : Rule
-negation =
+abbrev pub x : Argument
+x = arguments.Register (registers.Input 0)
+
+abbrev pub y : Argument
+y = arguments.Register (registers.Input 1)
+
+abbrev pub c : Argument
+c = arguments.Register (registers.Source 0)
+
+abbrev pub nsw : Flags
+nsw = record no_flags { nsw = true }
+
+abbrev pub doubling : Rule
+doubling =
     record {
-      name = 110 ∷ [];
+      name = 100 ∷ [];
       inputs = (120 ∷ []) ∷ [];
       constants = [];
-      source = assigns 116 Xor (arguments.Register (registers.Input 0)) (arguments.Literal (negsuc 0))
-          ∷ assigns 114 Add (arguments.Register (registers.Source 0)) (arguments.Literal (pos 1)) ∷ [];
-      target = assigns 114 Sub (arguments.Literal (pos 0)) (arguments.Register (registers.Input 0)) ∷ [];
+      source = statement 114 0 (Binary Add nsw (plain x) (plain x)) ∷ [];
+      target = statement 114 0 (Binary Shl nsw (plain x) (plain (arguments.Literal (pos 1)))) ∷ [];
+    }
+
+abbrev pub choice : Rule
+choice =
+    record {
+      name = 99 ∷ [];
+      inputs = (120 ∷ []) ∷ (121 ∷ []) ∷ [];
+      constants = [];
+      source = statement 99 0 (Compare Ult (of_class 1 x) (of_class 1 (arguments.Literal (negsuc 1))))
+          ∷ statement 114 1 (Select (plain c) (of_class 1 y) (of_class 1 x)) ∷ [];
+      target = statement 114 1 (Convert SExt (plain c) None) ∷ [];
     }

@@ -1,11 +1,11 @@
 //! A rule and its parts. A register is known by its place; the names are kept for printing.
 //!
 //! The positions of a rule are the results and operands of its statements, the source's before the target's, and of each statement
-//! the result and then the operands from left to right. Positions whose widths are always one are of one class, and each position
-//! keeps the number of its class.
+//! the result and then the operands from left to right. Positions that have one width in each typing, by the table of types, are of
+//! one class, and each position keeps the number of its class.
 
 use lists::{List, Text};
-use ops::{Flags, Opcode, Width};
+use ops::{Cast, Flags, Opcode, Pred, Width};
 
 /// A rewrite rule: where the source stands, the target may stand in its place. (Lopes and others, "Provably Correct Peephole
 /// Optimizations with Alive", 2015.)
@@ -39,6 +39,12 @@ pub struct Statement {
 pub enum Op {
     /// A binary operation on two operands of the result's class.
     Binary(Opcode, Flags, Operand, Operand),
+    /// `icmp`: a comparison of two operands of one class. The result has the width 1.
+    Compare(Pred, Operand, Operand),
+    /// `select`: the second operand where the first, of width 1, is 1, and else the third; both are of the result's class.
+    Select(Operand, Operand, Operand),
+    /// A cast of the operand to the result's width, which the last type says, if it is written.
+    Convert(Cast, Operand, Option<Width>),
     /// The operand itself, which has the result's class. It stands in a target alone.
     Copy(Operand),
 }

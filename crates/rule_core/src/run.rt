@@ -11,7 +11,7 @@ ghost use Rattle.rule_core.specs.Readiness.{seen, ArgumentIsReady, OperandIsRead
 
 use crate::rule::{Argument, Op, Operand, Register, Rule, Statement, Typing};
 use lists::List;
-use ops::{Effect, Value, Width, Word, evaluate};
+use ops::{Effect, Value, Width, Word, choose, compare, convert, evaluate};
 use std::alloc::{AllocError, Global};
 
 /// What the registers hold: the inputs, and what the statements so far have assigned.
@@ -166,6 +166,23 @@ fn effect_of(given: Given, held: Held, statement: &Statement) -> Effect
             operand_value(given, held, left),
             operand_value(given, held, right),
         ),
+        Op::Compare(pred, left, right) => Effect::Gives(compare(
+            pred,
+            width_of(given, left.class),
+            operand_value(given, held, left),
+            operand_value(given, held, right),
+        )),
+        Op::Select(condition, yes, no) => Effect::Gives(choose(
+            operand_value(given, held, condition),
+            operand_value(given, held, yes),
+            operand_value(given, held, no),
+        )),
+        Op::Convert(cast, operand, _) => Effect::Gives(convert(
+            cast,
+            width_of(given, operand.class),
+            width_of(given, statement.class),
+            operand_value(given, held, operand),
+        )),
         Op::Copy(operand) => Effect::Gives(operand_value(given, held, operand)),
     }
 }

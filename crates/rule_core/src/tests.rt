@@ -1,59 +1,71 @@
-//! A rule of two statements and one, run on a table of inputs.
-ghost use Rattle.std.specs.Prelude.{◌≡◌, [], ◌∷◌, IfOk};
+//! Two rules, each run on a table of inputs.
+ghost use Rattle.std.specs.Prelude.{◌≡◌, [], ◌∷◌, length, IfOk};
 ghost use Rattle.ops.specs.Value.{IsValueOf};
-ghost use Rattle.ops.specs.declared.opcode.Flags.{Flags};
-ghost use Rattle.rule_core.specs.Sample.{negation, plain, assigns};
+ghost use Rattle.rule_core.specs.Checks.{IsRule};
+ghost use Rattle.rule_core.specs.Typing.{IsTyping};
+ghost use Rattle.rule_core.specs.Valid.{InputsFit};
+ghost use Rattle.rule_core.specs.Sample.{of_class, statement, doubling, choice};
 
 use super::*;
 use lists::{List, Text};
-use ops::{Effect, Flags, Opcode, Value, Width, Word};
+use ops::{Cast, Effect, Flags, Opcode, Pred, Value, Width, Word};
 use std::alloc::{AllocError, Global};
 use std::process::Abort;
 use std::test::Fail;
 
 const X: Argument = Argument::Register(Register::Input(0));
 
-const T: Argument = Argument::Register(Register::Source(0));
+const Y: Argument = Argument::Register(Register::Input(1));
 
-fn plain(value: Argument) -> Operand
-    ensures { result ≡ plain value }
+const C: Argument = Argument::Register(Register::Source(0));
+
+const NSW: Flags = Flags {
+    nuw: false,
+    nsw: true,
+    exact: false,
+};
+
+fn of_class(class: u32, value: Argument) -> Operand
+    ensures { result ≡ of_class class value }
 {
     Operand {
         value,
         written: None,
-        class: 0,
+        class,
     }
 }
 
-fn assigns(
-    alloc: Global,
-    name: u8,
-    opcode: Opcode,
-    left: Argument,
-    right: Argument,
-) -> Result<Statement, AllocError>
-    ensures { IfOk result (λ s. s ≡ assigns name opcode left right) }
+fn named(alloc: Global, byte: u8) -> Result<Text, AllocError>
+    ensures { IfOk result (λ name. name ≡ byte ∷ []) }
+{
+    Ok(Text::from_vec(vec![in alloc; byte]?))
+}
+
+fn statement(alloc: Global, name: u8, class: u32, op: Op) -> Result<Statement, AllocError>
+    ensures { IfOk result (λ s. s ≡ statement name class op) }
 {
     Ok(Statement {
-        name: Text::from_vec(vec![in alloc; name]?),
-        class: 0,
-        op: Op::Binary(opcode, Flags::NONE, plain(left), plain(right)),
+        name: named(alloc, name)?,
+        class,
+        op,
     })
 }
 
-// %t = xor %x, -1, %r = add %t, 1 => %r = sub 0, %x
-fn negation(alloc: Global) -> Result<Rule, AllocError>
-    ensures { IfOk result (λ rule. rule ≡ negation) }
+// %r = add nsw %x, %x => %r = shl nsw %x, 1
+fn doubling(alloc: Global) -> Result<Rule, AllocError>
+    ensures { IfOk result (λ rule. rule ≡ doubling) }
 {
+    let x = of_class(0, X);
     let mut inputs = List::new(alloc);
-    inputs.push(Text::from_vec(vec![in alloc; b'x']?))?;
+    inputs.push(named(alloc, b'x')?)?;
+    let sum = Op::Binary(Opcode::Add, NSW, x, x);
     let mut source = List::new(alloc);
-    source.push(assigns(alloc, b't', Opcode::Xor, X, Argument::Literal(-1))?)?;
-    source.push(assigns(alloc, b'r', Opcode::Add, T, Argument::Literal(1))?)?;
+    source.push(statement(alloc, b'r', 0, sum)?)?;
+    let shifted = Op::Binary(Opcode::Shl, NSW, x, of_class(0, Argument::Literal(1)));
     let mut target = List::new(alloc);
-    target.push(assigns(alloc, b'r', Opcode::Sub, Argument::Literal(0), X)?)?;
+    target.push(statement(alloc, b'r', 0, shifted)?)?;
     Ok(Rule {
-        name: Text::from_vec(vec![in alloc; b'n']?),
+        name: named(alloc, b'd')?,
         inputs,
         constants: List::new(alloc),
         source,
@@ -61,10 +73,37 @@ fn negation(alloc: Global) -> Result<Rule, AllocError>
     })
 }
 
-// The number as one of i4, or poison for `None`.
+// %c = icmp ult %x, -2, %r = select %c, %y, %x => %r = sext %c
+fn choice(alloc: Global) -> Result<Rule, AllocError>
+    ensures { IfOk result (λ rule. rule ≡ choice) }
+{
+    let mut inputs = List::new(alloc);
+    inputs.push(named(alloc, b'x')?)?;
+    inputs.push(named(alloc, b'y')?)?;
+    let less = Op::Compare(
+        Pred::Ult,
+        of_class(1, X),
+        of_class(1, Argument::Literal(-2)),
+    );
+    let chosen = Op::Select(of_class(0, C), of_class(1, Y), of_class(1, X));
+    let mut source = List::new(alloc);
+    source.push(statement(alloc, b'c', 0, less)?)?;
+    source.push(statement(alloc, b'r', 1, chosen)?)?;
+    let extended = Op::Convert(Cast::SExt, of_class(0, C), None);
+    let mut target = List::new(alloc);
+    target.push(statement(alloc, b'r', 1, extended)?)?;
+    Ok(Rule {
+        name: named(alloc, b'c')?,
+        inputs,
+        constants: List::new(alloc),
+        source,
+        target,
+    })
+}
+
+// The number as a value of this width, or poison for `None`.
 fn value(rt: &impl Abort, width: Width, number: Option<u64>) -> Value
-    requires { width ≡ 4 }
-    ensures { IsValueOf 4 result }
+    ensures { IsValueOf width result }
 {
     match number {
         None => Value::Poison,
@@ -72,33 +111,79 @@ fn value(rt: &impl Abort, width: Width, number: Option<u64>) -> Value
     }
 }
 
+// What the source and the target do.
+fn effects(
+    alloc: Global,
+    rule: &Rule,
+    typing: &Typing,
+    inputs: &List<Value>,
+) -> Result<(Effect, Effect), AllocError>
+    requires rule { IsRule rule.now }
+    requires constants { length rule.now.constants ≡ 0 }
+    requires typing { IsTyping rule.now typing.now }
+    requires inputs { InputsFit rule.now typing.now inputs.now }
+{
+    let none = List::new(alloc);
+    let no_choices = List::new(alloc);
+    let source = run_source(alloc, rule, typing, inputs, &none, &no_choices)?;
+    let target = run_target(alloc, rule, typing, inputs, &none, &no_choices)?;
+    Ok((source, target))
+}
+
 #[test]
-fn halves_have_their_effects(rt: HostRuntime) -> Result<(), Fail> {
+fn doubling_has_its_effects(rt: HostRuntime) -> Result<(), Fail> {
     let alloc = rt.alloc();
-    let rule = negation(alloc)?;
-    let Some(width) = Width::new(4) else {
-        return Ok(());
-    };
-    let mut typing = List::new(alloc);
-    typing.push(width)?;
-    assert_eq!(rt; positions(&rule), 9);
-    assert_eq!(rt; class_at(&rule, 8), 0);
-    assert_eq!(rt; width_at(&rule, &typing, 8).bits(), 4);
-    for (x, result) in [
-        (Some(0), Some(0)),
-        (Some(1), Some(15)),
-        (Some(5), Some(11)),
-        (Some(8), Some(8)),
-        (None, None),
+    let rule = doubling(alloc)?;
+    for (bits, x, source, target) in [
+        (1, Some(0), Some(0), None),
+        (1, Some(1), None, None),
+        (2, Some(0), Some(0), Some(0)),
+        (2, Some(1), None, None),
+        (2, Some(2), None, None),
+        (2, Some(3), Some(2), Some(2)),
+        (2, None, None, None),
     ] {
+        let width = Width::new(bits).ok_or("there is no such width")?;
+        let mut typing = List::new(alloc);
+        typing.push(width)?;
         let mut inputs = List::new(alloc);
         inputs.push(value(&rt, width, x))?;
-        let none = List::new(alloc);
-        let expected = Effect::Gives(value(&rt, width, result));
-        let source = run_source(alloc, &rule, &typing, &inputs, &none, &none)?;
-        assert_eq!(rt; source, expected, "the source at {x:?}");
-        let target = run_target(alloc, &rule, &typing, &inputs, &none, &none)?;
-        assert_eq!(rt; target, expected, "the target at {x:?}");
+        let (old, new) = effects(alloc, &rule, &typing, &inputs)?;
+        let source = Effect::Gives(value(&rt, width, source));
+        assert_eq!(rt; old, source, "the source at {x:?} of i{bits}");
+        let target = Effect::Gives(value(&rt, width, target));
+        assert_eq!(rt; new, target, "the target at {x:?} of i{bits}");
+    }
+    Ok(())
+}
+
+#[test]
+fn choice_has_its_effects(rt: HostRuntime) -> Result<(), Fail> {
+    let alloc = rt.alloc();
+    let rule = choice(alloc)?;
+    let one = Width::new(1).ok_or("there is no i1")?;
+    let two = Width::new(2).ok_or("there is no i2")?;
+    let mut typing = List::new(alloc);
+    typing.push(one)?;
+    typing.push(two)?;
+    assert_eq!(rt; positions(&rule), 9);
+    assert_eq!(rt; class_at(&rule, 7), 1);
+    assert_eq!(rt; width_at(&rule, &typing, 8).bits(), 1);
+    for (x, y, source, target) in [
+        (Some(1), Some(3), Some(3), Some(3)),
+        (Some(2), Some(0), Some(2), Some(0)),
+        (Some(3), None, Some(3), Some(0)),
+        (Some(0), None, None, Some(3)),
+        (None, Some(1), None, None),
+    ] {
+        let mut inputs = List::new(alloc);
+        inputs.push(value(&rt, two, x))?;
+        inputs.push(value(&rt, two, y))?;
+        let (old, new) = effects(alloc, &rule, &typing, &inputs)?;
+        let source = Effect::Gives(value(&rt, two, source));
+        assert_eq!(rt; old, source, "the source at {x:?}, {y:?}");
+        let target = Effect::Gives(value(&rt, two, target));
+        assert_eq!(rt; new, target, "the target at {x:?}, {y:?}");
     }
     Ok(())
 }

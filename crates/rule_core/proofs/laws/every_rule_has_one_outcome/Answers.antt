@@ -2,4 +2,6 @@ use Rattle.rule_core.proofs.Outcomes.{one_outcome}
 use Rattle.rule_core.proofs.laws.every_rule_has_one_outcome.Goals as goal
 
 pub returns : goal.returns
-returns c = one_outcome c.instructions_keep_widths.ensures.evaluate
+returns c =
+    let keeps = c.instructions_keep_widths.ensures in
+    one_outcome (record { evaluate = keeps.evaluate; compare = keeps.compare; convert = keeps.convert; choose = keeps.choose })
