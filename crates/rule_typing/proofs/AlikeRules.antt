@@ -5,7 +5,7 @@ use Rattle.std.proofs.lemmas.List.{length-map, map-append}
 use Rattle.rule_core.specs.declared.rule.Rule.{Rule}
 use Rattle.rule_core.specs.declared.rule.Statement.{Statement}
 use Rattle.rule_core.specs.declared.rule.Op.{Op}
-use Rattle.rule_core.specs.declared.rule.Op.TheVariants.{Binary, Copy}
+use Rattle.rule_core.specs.declared.rule.Op.TheVariants.{Binary, Compare, Select, Convert, Copy}
 use Rattle.rule_core.specs.declared.rule.Operand.{Operand}
 use Rattle.rule_core.specs.declared.rule.Argument.{Argument}
 use Rattle.rule_core.specs.declared.rule.Argument.TheVariants as arguments
@@ -45,10 +45,16 @@ same_operands_of s t same = sym (operands-mapped_op (λ c. 0) s.op) ∙ ap (λ (
 
 source_op : (f : ℕ → ℕ) (op : Op) → MayStandInSource (mapped_op f op) ≡ MayStandInSource op
 source_op f (Binary op flags a b) = refl
+source_op f (Compare pred a b) = refl
+source_op f (Select z a b) = refl
+source_op f (Convert cast a to) = refl
 source_op f (Copy a) = refl
 
 flags_op : (f : ℕ → ℕ) (op : Op) → FlagsFitOp (mapped_op f op) ≡ FlagsFitOp op
 flags_op f (Binary op flags a b) = refl
+flags_op f (Compare pred a b) = refl
+flags_op f (Select z a b) = refl
+flags_op f (Convert cast a to) = refl
 flags_op f (Copy a) = refl
 
 -- what is said of the operation alone, without its classes, carries over

@@ -1,29 +1,21 @@
 -- The lines of a rule whose classes are mapped: those of the rule before, under the map.
-use Rattle.std.proofs.Common.{◌≡◌, ℕ, zero, suc, ◌++◌, map, refl, sym, ap, subst, ◌∙◌, arith}
+use Rattle.std.proofs.Common.{◌≡◌, inl, inr, ℕ, ◌++◌, map, sym, ap, subst, ◌∙◌}
 use Rattle.std.specs.Prelude.{Contains}
 use Rattle.std.proofs.lemmas.List.{length-map, map-append}
 use Rattle.rule_core.specs.declared.rule.Rule.{Rule}
 use Rattle.rule_core.specs.declared.rule.Statement.{Statement}
-use Rattle.rule_core.specs.declared.rule.Op.{Op}
-use Rattle.rule_core.specs.declared.rule.Op.TheVariants.{Binary, Copy}
 use Rattle.rule_core.specs.declared.rule.Operand.{Operand}
 use Rattle.rule_core.specs.declared.rule.Register.{Register}
-use Rattle.rule_core.specs.Positions.{operands_of, operands_in, classes_of_statement, classes_of, IsStatementOf, Names, reads, source_assigns, target_assigns, assigns_root, Line, binary_left, binary_right, copy, register}
-use Rattle.rule_core.proofs.Members.{Contains-flat_map, source_statement, target_statement, operand_stands, class_stands}
-use Rattle.rule_typing.specs.Relabelling.{mapped_op, mapped_statement, mapped}
+use Rattle.rule_core.specs.Positions.{operands_of, operands_in, classes_of_statement, classes_of, IsStatementOf, Names, reads, source_assigns, target_assigns, assigns_root, Line, register}
+use Rattle.rule_core.proofs.Members.{Contains-flat_map, source_statement, target_statement, class_stands}
+use Rattle.rule_typing.specs.Relabelling.{mapped_statement, mapped}
+use Rattle.rule_typing.specs.Splits.{OpLine}
 use Rattle.rule_typing.proofs.Images.{Contains-map, Contains-later, from_map, get_from_map, get-map, from_flat_map}
-use Rattle.rule_typing.proofs.Relabelled.{mapped_operand, operands_in-mapped, operands-mapped_op}
+use Rattle.rule_typing.proofs.Relabelled.{mapped_operand, operands_in-mapped}
+use Rattle.rule_typing.proofs.OpLines.{op_line, line_cases, op_classes, op_map, from_op_map}
 
 statements-mapped : (f : ℕ → ℕ) (rule : Rule) → (mapped f rule).source ++ (mapped f rule).target ≡ map (mapped_statement f) (rule.source ++ rule.target)
 statements-mapped f rule = sym (map-append (mapped_statement f) rule.source rule.target)
-
--- an operand stands on a line with the result
-operand_line : (rule : Rule) (s : Statement) (op : Op) (o : Operand) → IsStatementOf rule s → s.op ≡ op → Contains (operands_of op) o → Line rule s.class o.class
-operand_line rule s (Binary op flags a b) o among is (zero, within, e) = subst (λ (x : Operand). Line rule s.class x.class) e (binary_left among is)
-operand_line rule s (Binary op flags a b) o among is (suc zero, within, e) = subst (λ (x : Operand). Line rule s.class x.class) e (binary_right among is)
-operand_line rule s (Binary op flags a b) o among is (suc (suc k), within, e) = absurd (omega arith)
-operand_line rule s (Copy a) o among is (zero, within, e) = subst (λ (x : Operand). Line rule s.class x.class) e (copy among is)
-operand_line rule s (Copy a) o among is (suc k, within, e) = absurd (omega arith)
 
 -- the ends of a line are classes of the rule
 pub operand_class : (rule : Rule) (o : Operand) → Contains (operands_in rule) o → Contains (classes_of rule) o.class
@@ -39,10 +31,12 @@ named_class rule r c (target_assigns {k} {s} at) = class_stands rule s (target_s
 named_class rule r c (assigns_root {j} {k} {s} last last' at) = class_stands rule s (target_statement rule k s at)
 
 pub line_classes : (rule : Rule) (c d : ℕ) → Line rule c d → Contains (classes_of rule) c × Contains (classes_of rule) d
-line_classes rule c d (binary_left {s} {op} {flags} {a} {b} among is) = (class_stands rule s among, operand_class rule a (operand_stands rule s a among (subst (λ x. Contains (operands_of x) a) (sym is) (0, omega arith, refl))))
-line_classes rule c d (binary_right {s} {op} {flags} {a} {b} among is) = (class_stands rule s among, operand_class rule b (operand_stands rule s b among (subst (λ x. Contains (operands_of x) b) (sym is) (1, omega arith, refl))))
-line_classes rule c d (copy {s} {a} among is) = (class_stands rule s among, operand_class rule a (operand_stands rule s a among (subst (λ x. Contains (operands_of x) a) (sym is) (0, omega arith, refl))))
-line_classes rule c d (register {r} p q) = (named_class rule r c p, named_class rule r d q)
+line_classes rule c d on = elim (line_cases rule c d on) [
+  | inl (s, stands, h) ↦
+      let ends = op_classes s.class s.op c d h in
+      (Contains-flat_map classes_of_statement (rule.source ++ rule.target) s c stands ends.0, Contains-flat_map classes_of_statement (rule.source ++ rule.target) s d stands ends.1)
+  | inr (r, p, q) ↦ (named_class rule r c p, named_class rule r d q)
+]
 
 -- forwards
 module _ (f : ℕ → ℕ) (rule : Rule) where
@@ -57,10 +51,10 @@ module _ (f : ℕ → ℕ) (rule : Rule) where
       assigns_root {s = mapped_statement f s} (last ∙ sym (length-map rule.source (mapped_statement f))) (last' ∙ sym (length-map rule.target (mapped_statement f))) (get-map (mapped_statement f) rule.target k s at)
 
   pub line_map : (c d : ℕ) → Line rule c d → Line (mapped f rule) (f c) (f d)
-  line_map c d (binary_left {s} {op} {flags} {a} {b} among is) = binary_left {s = mapped_statement f s} {a = mapped_operand f a} (stands s among) (ap (mapped_op f) is)
-  line_map c d (binary_right {s} {op} {flags} {a} {b} among is) = binary_right {s = mapped_statement f s} {b = mapped_operand f b} (stands s among) (ap (mapped_op f) is)
-  line_map c d (copy {s} {a} among is) = copy {s = mapped_statement f s} {a = mapped_operand f a} (stands s among) (ap (mapped_op f) is)
-  line_map c d (register {r} p q) = register (names_map r c p) (names_map r d q)
+  line_map c d on = elim (line_cases rule c d on) [
+    | inl (s, among, h) ↦ op_line (mapped f rule) (f c) (f d) (mapped_statement f s, stands s among, op_map f s.class s.op c d h)
+    | inr (r, p, q) ↦ register (names_map r c p) (names_map r d q)
+  ]
 
   -- backwards
   from_stands : (s : Statement) → IsStatementOf (mapped f rule) s → (t : Statement) × IsStatementOf rule t × (s ≡ mapped_statement f t)
@@ -82,17 +76,14 @@ module _ (f : ℕ → ℕ) (rule : Rule) where
   abbrev pub ComesFrom : ℕ → ℕ → Type 0
   ComesFrom c d = (p : ℕ) × (q : ℕ) × Line rule p q × (c ≡ f p) × (d ≡ f q)
 
-  from_operand : (s : Statement) (o : Operand) → IsStatementOf (mapped f rule) s → Contains (operands_of s.op) o → ComesFrom s.class o.class
-  from_operand s o among within =
-      let (t, among', e) = from_stands s among in
-      let (o', within', e') = from_map (mapped_operand f) (operands_of t.op) o (subst (λ l. Contains l o) (ap (λ (x : Statement). operands_of x.op) e ∙ operands-mapped_op f t.op) within) in
-      (t.class, o'.class, operand_line rule t t.op o' among' refl within', ap (λ (x : Statement). x.class) e, ap (λ (x : Operand). x.class) e')
-
   pub from_line_map : (c d : ℕ) → Line (mapped f rule) c d → ComesFrom c d
-  from_line_map c d (binary_left {s} {op} {flags} {a} {b} among is) = from_operand s a among (subst (λ x. Contains (operands_of x) a) (sym is) (0, omega arith, refl))
-  from_line_map c d (binary_right {s} {op} {flags} {a} {b} among is) = from_operand s b among (subst (λ x. Contains (operands_of x) b) (sym is) (1, omega arith, refl))
-  from_line_map c d (copy {s} {a} among is) = from_operand s a among (subst (λ x. Contains (operands_of x) a) (sym is) (0, omega arith, refl))
-  from_line_map c d (register {r} p q) =
-      let (x, named, e) = from_names r c p in
-      let (y, named', e') = from_names r d q in
-      (x, y, register named named', e, e')
+  from_line_map c d on = elim (line_cases (mapped f rule) c d on) [
+    | inl (s, among, h) ↦
+        let (t, among', e) = from_stands s among in
+        let (p, q, h', c_is, d_is) = from_op_map f t.class t.op c d (subst (λ (x : Statement). OpLine x.class x.op c d) e h) in
+        (p, q, op_line rule p q (t, among', h'), c_is, d_is)
+    | inr (r, p, q) ↦
+        let (x, named, e) = from_names r c p in
+        let (y, named', e') = from_names r d q in
+        (x, y, register named named', e, e')
+  ]

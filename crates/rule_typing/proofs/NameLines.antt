@@ -6,16 +6,15 @@ use Rattle.std.proofs.lemmas.List.Elements.{Contains-append_left, Contains-appen
 use Rattle.std.proofs.lemmas.Grind.{flat_map-append}
 use Rattle.rule_core.specs.declared.rule.Rule.{Rule}
 use Rattle.rule_core.specs.declared.rule.Statement.{Statement}
-use Rattle.rule_core.specs.declared.rule.Op.{Op}
-use Rattle.rule_core.specs.declared.rule.Op.TheVariants.{Binary, Copy}
 use Rattle.rule_core.specs.declared.rule.Operand.{Operand}
 use Rattle.rule_core.specs.declared.rule.Argument.TheVariants as arguments
 use Rattle.rule_core.specs.declared.rule.Register.{Register}
 use Rattle.rule_core.specs.declared.rule.Register.TheVariants as registers
-use Rattle.rule_core.specs.Positions.{operands_of, operands_in, IsStatementOf, Names, reads, source_assigns, target_assigns, assigns_root, Line, binary_left, binary_right, copy, register}
+use Rattle.rule_core.specs.Positions.{operands_of, operands_in, IsStatementOf, Names, reads, source_assigns, target_assigns, assigns_root, Line}
 use Rattle.rule_core.specs.Checks.{IsRule, SourceMayRead, TargetMayRead, ReadsAt}
 use Rattle.rule_core.proofs.Members.{source_statement, target_statement}
 use Rattle.rule_typing.specs.Splits.{OpLine, StatementsLine, Reads, Agrees, Differ, assigned_class, IsRootClass}
+use Rattle.rule_typing.proofs.OpLines.{NameOne, op_line, line_cases}
 
 all_operands : List Statement → List Operand
 all_operands statements = flat_map (λ s. operands_of s.op) statements
@@ -147,13 +146,6 @@ few_inputs rule i checked within =
     = ap length (flat_map-append (λ (s : Statement). operands_of s.op) rule.source rule.target) ∙ length-append (flat_map (λ (s : Statement). operands_of s.op) rule.source) (flat_map (λ (s : Statement). operands_of s.op) rule.target) in
     omega (arith, checked.few_operands)
 
-op_line : (rule : Rule) (s : Statement) (op : Op) (c d : ℕ) → IsStatementOf rule s → s.op ≡ op → OpLine s.class op c d → Line rule c d
-op_line rule s (Binary op flags a b) c d stands is (left, right) = elim right [
-  | inl e ↦ subst (λ x. Line rule x d) (sym left) (subst (Line rule s.class) (sym e) (binary_left stands is))
-  | inr e ↦ subst (λ x. Line rule x d) (sym left) (subst (Line rule s.class) (sym e) (binary_right stands is))
-]
-op_line rule s (Copy a) c d stands is (left, right) = subst (λ x. Line rule x d) (sym left) (subst (Line rule s.class) (sym right) (copy stands is))
-
 of_statement : (rule : Rule) (s : Statement) (c d : ℕ) → IsStatementOf rule s → OpLine s.class s.op c d → StatementsLine rule.source c d ⊎ StatementsLine rule.target c d
 of_statement rule s c d stands line = elim (Contains-append_cases rule.source rule.target s stands) [
   | inl (k, lt, e) ↦ inl (k, s, slice_get-get_or rule.source k s lt ∙ ap (λ x. Some x) e, line)
@@ -162,11 +154,8 @@ of_statement rule s c d stands line = elim (Contains-append_cases rule.source ru
 
 -- lines are those of statements and those of names
 pub statements_line : (rule : Rule) (c d : ℕ) → StatementsLine rule.source c d ⊎ StatementsLine rule.target c d → Line rule c d
-statements_line rule c d (inl (k, s, at, h)) = op_line rule s s.op c d (source_statement rule k s at) refl h
-statements_line rule c d (inr (k, s, at, h)) = op_line rule s s.op c d (target_statement rule k s at) refl h
+statements_line rule c d (inl (k, s, at, h)) = op_line rule c d (s, source_statement rule k s at, h)
+statements_line rule c d (inr (k, s, at, h)) = op_line rule c d (s, target_statement rule k s at, h)
 
-pub line_cases : (rule : Rule) (c d : ℕ) → Line rule c d → (StatementsLine rule.source c d ⊎ StatementsLine rule.target c d) ⊎ ((r : Register) × Names rule r c × Names rule r d)
-line_cases rule c d (binary_left {s} {op} {flags} {a} {b} stands is) = inl (of_statement rule s s.class a.class stands (subst (λ o. OpLine s.class o s.class a.class) (sym is) (refl, inl refl)))
-line_cases rule c d (binary_right {s} {op} {flags} {a} {b} stands is) = inl (of_statement rule s s.class b.class stands (subst (λ o. OpLine s.class o s.class b.class) (sym is) (refl, inr refl)))
-line_cases rule c d (copy {s} {a} stands is) = inl (of_statement rule s s.class a.class stands (subst (λ o. OpLine s.class o s.class a.class) (sym is) (refl, refl)))
-line_cases rule c d (register {r} p q) = inr (r, p, q)
+pub line_parts : (rule : Rule) (c d : ℕ) → Line rule c d → (StatementsLine rule.source c d ⊎ StatementsLine rule.target c d) ⊎ NameOne rule c d
+line_parts rule c d on = elim (line_cases rule c d on) [ inl (s, stands, h) ↦ inl (of_statement rule s c d stands h) | inr names ↦ inr names ]

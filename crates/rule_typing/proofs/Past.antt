@@ -59,6 +59,10 @@ past_two r x n is = past_both (r ∷ []) (x ∷ []) (r + 1) (x + 1) n (past_one 
 pub past_three : (r x y n : ℕ) → n ≡ max (max r x) y + 1 → IsPast (r ∷ x ∷ y ∷ []) n
 past_three r x y n is = past_both (r ∷ x ∷ []) (y ∷ []) (max r x + 1) (y + 1) n (past_two r x (max r x + 1) refl) (past_one y (y + 1) refl) (omega arith)
 
+pub past_four : (r x y z n : ℕ) → n ≡ max (max (max r x) y) z + 1 → IsPast (r ∷ x ∷ y ∷ z ∷ []) n
+past_four r x y z n is =
+    past_both (r ∷ x ∷ y ∷ []) (z ∷ []) (max (max r x) y + 1) (z + 1) n (past_three r x y (max (max r x) y + 1) refl) (past_one z (z + 1) refl) (omega arith)
+
 other_greater : (a b : ℕ) → a < b → ord_max nat_cmp a b ≡ b
 other_greater a b less = grind (arith, nat_tests)
 

@@ -7,7 +7,7 @@ use Rattle.std.proofs.lemmas.Grind.{flat_map-append}
 use Rattle.rule_core.specs.declared.rule.Rule.{Rule}
 use Rattle.rule_core.specs.declared.rule.Statement.{Statement}
 use Rattle.rule_core.specs.declared.rule.Op.{Op}
-use Rattle.rule_core.specs.declared.rule.Op.TheVariants.{Binary, Copy}
+use Rattle.rule_core.specs.declared.rule.Op.TheVariants.{Binary, Compare, Select, Convert, Copy}
 use Rattle.rule_core.specs.declared.rule.Operand.{Operand}
 use Rattle.rule_core.specs.Positions.{operands_of, operands_in, classes_of_statement, classes_of}
 use Rattle.rule_typing.specs.Relabelling.{mapped_op, mapped_statement, mapped, numbered_op, numbered_statement, numbered_statements, numbered}
@@ -19,10 +19,16 @@ mapped_operand f o = record o { class = f o.class }
 
 pub operands-mapped_op : (f : ℕ → ℕ) (op : Op) → operands_of (mapped_op f op) ≡ map (mapped_operand f) (operands_of op)
 operands-mapped_op f (Binary op flags a b) = refl
+operands-mapped_op f (Compare pred a b) = refl
+operands-mapped_op f (Select z a b) = refl
+operands-mapped_op f (Convert cast a to) = refl
 operands-mapped_op f (Copy a) = refl
 
 op_classes : (f : ℕ → ℕ) (op : Op) → map (λ o. o.class) (operands_of (mapped_op f op)) ≡ map f (map (λ o. o.class) (operands_of op))
 op_classes f (Binary op flags a b) = refl
+op_classes f (Compare pred a b) = refl
+op_classes f (Select z a b) = refl
+op_classes f (Convert cast a to) = refl
 op_classes f (Copy a) = refl
 
 -- the classes of statements, and of the rule, are mapped
@@ -48,6 +54,9 @@ operands_in-mapped f rule =
 -- one map after the other is one map
 mapped_op-mapped_op : (g f : ℕ → ℕ) (op : Op) → mapped_op g (mapped_op f op) ≡ mapped_op (λ c. g (f c)) op
 mapped_op-mapped_op g f (Binary op flags a b) = refl
+mapped_op-mapped_op g f (Compare pred a b) = refl
+mapped_op-mapped_op g f (Select z a b) = refl
+mapped_op-mapped_op g f (Convert cast a to) = refl
 mapped_op-mapped_op g f (Copy a) = refl
 
 statements-mapped : (g f : ℕ → ℕ) (xs : List Statement) → map (mapped_statement g) (map (mapped_statement f) xs) ≡ map (mapped_statement (λ c. g (f c))) xs
@@ -60,6 +69,9 @@ mapped-mapped g f rule = rw (statements-mapped g f rule.source, statements-mappe
 -- a map that changes no class changes nothing
 mapped_op-id : (op : Op) → mapped_op (λ c. c) op ≡ op
 mapped_op-id (Binary op flags a b) = refl
+mapped_op-id (Compare pred a b) = refl
+mapped_op-id (Select z a b) = refl
+mapped_op-id (Convert cast a to) = refl
 mapped_op-id (Copy a) = refl
 
 statements-id : (xs : List Statement) → map (mapped_statement (λ c. c)) xs ≡ xs
@@ -78,6 +90,9 @@ alike_mapped f rule = mapped-mapped (λ c. 0) f rule
 
 numbered_op_bare : (n : ℕ) (op : Op) → mapped_op (λ c. 0) (numbered_op n op) ≡ mapped_op (λ c. 0) op
 numbered_op_bare n (Binary op flags a b) = refl
+numbered_op_bare n (Compare pred a b) = refl
+numbered_op_bare n (Select z a b) = refl
+numbered_op_bare n (Convert cast a to) = refl
 numbered_op_bare n (Copy a) = refl
 
 numbered_bare : (n : ℕ) (xs : List Statement) → map (mapped_statement (λ c. 0)) (numbered_statements n xs) ≡ map (mapped_statement (λ c. 0)) xs
@@ -90,10 +105,16 @@ alike_numbered rule = rw (numbered_bare 0 rule.source, numbered_bare (length (fl
 -- the classes before play no part in the numbering
 numbered_mapped_op : (f : ℕ → ℕ) (n : ℕ) (op : Op) → numbered_op n (mapped_op f op) ≡ numbered_op n op
 numbered_mapped_op f n (Binary op flags a b) = refl
+numbered_mapped_op f n (Compare pred a b) = refl
+numbered_mapped_op f n (Select z a b) = refl
+numbered_mapped_op f n (Convert cast a to) = refl
 numbered_mapped_op f n (Copy a) = refl
 
 count-mapped_op : (f : ℕ → ℕ) (op : Op) → length (map (λ o. o.class) (operands_of (mapped_op f op))) ≡ length (map (λ o. o.class) (operands_of op))
 count-mapped_op f (Binary op flags a b) = refl
+count-mapped_op f (Compare pred a b) = refl
+count-mapped_op f (Select z a b) = refl
+count-mapped_op f (Convert cast a to) = refl
 count-mapped_op f (Copy a) = refl
 
 numbered_mapped : (f : ℕ → ℕ) (n : ℕ) (xs : List Statement) → numbered_statements n (map (mapped_statement f) xs) ≡ numbered_statements n xs
@@ -111,6 +132,9 @@ numbered_alike r s same = sym (numbered-mapped (λ c. 0) r) ∙ ap numbered same
 -- in the numbered rule the class at each position is the position
 count-numbered_op : (n : ℕ) (op : Op) → length (map (λ o. o.class) (operands_of (numbered_op n op))) ≡ length (map (λ o. o.class) (operands_of op))
 count-numbered_op n (Binary op flags a b) = refl
+count-numbered_op n (Compare pred a b) = refl
+count-numbered_op n (Select z a b) = refl
+count-numbered_op n (Convert cast a to) = refl
 count-numbered_op n (Copy a) = refl
 
 classes-numbered_op : (n : ℕ) (op : Op) (k c : ℕ) → slice_get (n ∷ map (λ o. o.class) (operands_of (numbered_op (n + 1) op))) k ≡ Some c → c ≡ n + k
@@ -118,6 +142,18 @@ classes-numbered_op n (Binary op flags a b) zero c at = let h = same_Some n c at
 classes-numbered_op n (Binary op flags a b) (suc zero) c at = let h = same_Some (n + 1) c at in omega arith
 classes-numbered_op n (Binary op flags a b) (suc (suc zero)) c at = let h = same_Some (n + 1 + 1) c at in omega arith
 classes-numbered_op n (Binary op flags a b) (suc (suc (suc k))) c at = cc
+classes-numbered_op n (Compare pred a b) zero c at = let h = same_Some n c at in omega arith
+classes-numbered_op n (Compare pred a b) (suc zero) c at = let h = same_Some (n + 1) c at in omega arith
+classes-numbered_op n (Compare pred a b) (suc (suc zero)) c at = let h = same_Some (n + 1 + 1) c at in omega arith
+classes-numbered_op n (Compare pred a b) (suc (suc (suc k))) c at = cc
+classes-numbered_op n (Select z a b) zero c at = let h = same_Some n c at in omega arith
+classes-numbered_op n (Select z a b) (suc zero) c at = let h = same_Some (n + 1) c at in omega arith
+classes-numbered_op n (Select z a b) (suc (suc zero)) c at = let h = same_Some (n + 1 + 1) c at in omega arith
+classes-numbered_op n (Select z a b) (suc (suc (suc zero))) c at = let h = same_Some (n + 1 + 2) c at in omega arith
+classes-numbered_op n (Select z a b) (suc (suc (suc (suc k)))) c at = cc
+classes-numbered_op n (Convert cast a to) zero c at = let h = same_Some n c at in omega arith
+classes-numbered_op n (Convert cast a to) (suc zero) c at = let h = same_Some (n + 1) c at in omega arith
+classes-numbered_op n (Convert cast a to) (suc (suc k)) c at = cc
 classes-numbered_op n (Copy a) zero c at = let h = same_Some n c at in omega arith
 classes-numbered_op n (Copy a) (suc zero) c at = let h = same_Some (n + 1) c at in omega arith
 classes-numbered_op n (Copy a) (suc (suc k)) c at = cc

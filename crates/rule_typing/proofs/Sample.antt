@@ -1,18 +1,27 @@
 -- The rules of the tests meet the checks.
-use Rattle.std.proofs.Common.{◌≡◌, ◌⊎◌, inl, inr, ℕ, zero, suc, ◌+◌, ◌<◌, ◌≤◌, List, [], ◌∷◌, ◌++◌, length, get_or, Option, None, Some, refl, sym, ap, subst, ◌∙◌, arith, add-zero, length-append}
+use Rattle.std.proofs.Common.{◌≡◌, ◌≢◌, ◌⊎◌, inl, inr, ℕ, zero, suc, ◌+◌, ◌-◌, ◌*◌, ◌<◌, ◌≤◌, List, [], ◌∷◌, ◌++◌, length, map, get_or, Option, None, Some, refl, sym, ap, subst, ◌∙◌, arith, add-zero, zero-add, append-nil, length-append}
 use Rattle.std.specs.Prelude.{slice_get, Contains, flat_map, ℤ}
+use Rattle.std.proofs.lemmas.Bool.{cases_eq}
+use Rattle.std.proofs.lemmas.Bool.Decides.{nat_tests}
 use Rattle.std.proofs.lemmas.Option.{same_Some, slice_get-get_or}
+use Rattle.ops.specs.declared.conversion.Cast.{Cast}
 use Rattle.rule_core.specs.declared.rule.Rule.{Rule}
 use Rattle.rule_core.specs.declared.rule.Statement.{Statement}
+use Rattle.rule_core.specs.declared.rule.Op.{Op}
+use Rattle.rule_core.specs.declared.rule.Op.TheVariants.{Binary, Compare, Select, Convert, Copy}
 use Rattle.rule_core.specs.declared.rule.Operand.{Operand}
+use Rattle.rule_core.specs.declared.rule.Argument.{Argument}
 use Rattle.rule_core.specs.declared.rule.Argument.TheVariants as arguments
 use Rattle.rule_core.specs.declared.rule.Register.TheVariants as registers
 use Rattle.rule_core.specs.Positions.{operands_of}
 use Rattle.rule_core.specs.Checks.{IsRule, SourceMayRead, TargetMayRead, ReadsAt, MayStandInSource, FlagsFitOp, names_of}
-use Rattle.rule_typing.specs.Sample.{input, argument_of, number, copied, copies, sum_with, sample}
-use Rattle.rule_typing.proofs.Images.{get_from_map}
+use Rattle.rule_typing.specs.Sample.{input, literal, source_op, before, settled_value, settled_operand, settled, named, steps, sample}
+use Rattle.rule_typing.proofs.Images.{from_map, get_from_map}
 use Rattle.rule_typing.proofs.Relabelled.{none_there}
-use Rattle.rule_typing.proofs.Choices.{only_one}
+
+only_one : {X : Type 0} (x : X) (j : ℕ) (y : X) → slice_get (x ∷ []) j ≡ Some y → (j ≡ 0) × (x ≡ y)
+only_one x zero y at = (refl, same_Some x y at)
+only_one x (suc j) y at = absurd (none_there j y at)
 
 -- two names of one byte
 byte : (a b : ℕ) → a ∷ [] ≡ b ∷ [] → a ≡ b
@@ -21,42 +30,83 @@ byte a b same = ap (λ (l : List ℕ). get_or l 0 0) same
 get_of : {X : Type 0} (xs : List X) (x : X) → Contains xs x → (k : ℕ) × (slice_get xs k ≡ Some x)
 get_of xs x (k, within, is) = (k, slice_get-get_or xs k x within ∙ ap (λ y. Some y) is)
 
--- a statement of the target copies a number, or is the last one
-abbrev IsCopy : ℕ → List (Option ℤ) → Option ℕ → ℕ → Statement → Type 0
-IsCopy name numbers last k s = ((k < length numbers) × ((n : Option ℤ) × (s ≡ copied (name + k) (number n)))) ⊎ ((k ≡ length numbers) × (s ≡ copied 114 (input last)))
+-- ---- what statements read
 
-at_target : (name : ℕ) (numbers : List (Option ℤ)) (last : Option ℕ) (k : ℕ) (s : Statement) → slice_get (copies name numbers ++ copied 114 (input last) ∷ []) k ≡ Some s → IsCopy name numbers last k s
-at_target name [] last zero s at = inr (refl, sym (same_Some (copied 114 (input last)) s at))
-at_target name [] last (suc k) s at = absurd (none_there k s at)
-at_target name (n ∷ numbers) last zero s at =
-    inl (omega arith, (n, sym (same_Some (copied name (number n)) s at) ∙ ap (λ i. copied i (number n)) (sym (add-zero name))))
-at_target name (n ∷ numbers) last (suc k) s at = elim (at_target (name + 1) numbers last k s at) [
-  | inl (less, (m, is)) ↦ let same : name + 1 + k ≡ name + suc k = omega arith in inl (omega arith, (m, is ∙ ap (λ i. copied i (number m)) same))
+before_first : (k : ℕ) → k ≡ 0 → before k ≡ arguments.Register (registers.Input 0)
+before_first k none = grind (arith, nat_tests)
+
+before_later : (k : ℕ) → k ≢ 0 → before k ≡ arguments.Register (registers.Target (k - 1))
+before_later k some = grind (arith, nat_tests)
+
+operands-settled : (k : ℕ) (op : Op) → operands_of (settled k op) ≡ map (settled_operand k) (operands_of op)
+operands-settled k (Binary op flags a b) = refl
+operands-settled k (Compare pred a b) = refl
+operands-settled k (Select z a b) = refl
+operands-settled k (Convert cast a to) = refl
+operands-settled k (Copy a) = refl
+
+flags-settled : (k : ℕ) (op : Op) → FlagsFitOp (settled k op)
+flags-settled k (Binary op flags a b) = refl
+flags-settled k (Compare pred a b) = tt
+flags-settled k (Select z a b) = tt
+flags-settled k (Convert cast a to) = tt
+flags-settled k (Copy a) = tt
+
+three_operands : (op : Op) → length (operands_of op) ≤ 3
+three_operands (Binary op flags a b) = omega arith
+three_operands (Compare pred a b) = omega arith
+three_operands (Select z a b) = omega arith
+three_operands (Convert cast a to) = omega arith
+three_operands (Copy a) = omega arith
+
+-- ---- the target
+
+-- a statement of the target is a step, or the last one
+abbrev IsStep : ℕ → List Op → Op → ℕ → ℕ → Statement → Type 0
+IsStep from ops last end k s = ((k < length ops) × ((op : Op) × (s ≡ named (97 + (from + k)) (settled (from + k) op)))) ⊎ ((k ≡ length ops) × (s ≡ named 114 (settled end last)))
+
+at_target : (from : ℕ) (ops : List Op) (last : Op) (end k : ℕ) (s : Statement) → slice_get (steps from ops ++ named 114 (settled end last) ∷ []) k ≡ Some s → IsStep from ops last end k s
+at_target from [] last end zero s at = inr (refl, sym (same_Some (named 114 (settled end last)) s at))
+at_target from [] last end (suc k) s at = absurd (none_there k s at)
+at_target from (op ∷ ops) last end zero s at =
+    inl (omega arith, (op, sym (same_Some (named (97 + from) (settled from op)) s at) ∙ ap (λ i. named (97 + i) (settled i op)) (sym (add-zero from))))
+at_target from (op ∷ ops) last end (suc k) s at = elim (at_target (from + 1) ops last end k s at) [
+  | inl (less, (other, is)) ↦ let same : from + 1 + k ≡ from + suc k = omega arith in inl (omega arith, (other, is ∙ ap (λ i. named (97 + i) (settled i other)) same))
   | inr (place, is) ↦ inr (ap suc place, is)
 ]
 
-length-copies : (name : ℕ) (numbers : List (Option ℤ)) → length (copies name numbers) ≡ length numbers
-length-copies name [] = refl
-length-copies name (n ∷ numbers) = ap suc (length-copies (name + 1) numbers)
+length-steps : (from : ℕ) (ops : List Op) → length (steps from ops) ≡ length ops
+length-steps from [] = refl
+length-steps from (op ∷ ops) = ap suc (length-steps (from + 1) ops)
 
-count_operands : (name : ℕ) (numbers : List (Option ℤ)) (last : Option ℕ) → length (flat_map (λ s. operands_of s.op) (copies name numbers ++ copied 114 (input last) ∷ [])) ≡ length numbers + 1
-count_operands name [] last = refl
-count_operands name (n ∷ numbers) last = omega (arith, count_operands (name + 1) numbers last)
+count_operands : (statements : List Statement) → length (flat_map (λ s. operands_of s.op) statements) ≤ 3 * length statements
+count_operands [] = omega arith
+count_operands (s ∷ statements) =
+    omega (arith, count_operands statements, three_operands s.op, length-append (operands_of s.op) (flat_map (λ (t : Statement). operands_of t.op) statements))
 
-module _ (written : Option ℕ) (n : Option ℤ) (numbers : List (Option ℤ)) (last : Option ℕ) (few : length numbers ≤ 8) where
+module _ (cast : Option Cast) (written : Option ℕ) (n : ℤ) (ops : List Op) (last : Op) (few : length ops ≤ 8) where
   abbrev rule : Rule
-  rule = sample written n numbers last
+  rule = sample (source_op cast written n) ops last
 
-  count_target : length rule.target ≡ length numbers + 1
-  count_target = length-append (copies 97 numbers) (copied 114 (input last) ∷ []) ∙ omega (arith, length-copies 97 numbers)
+  count_target : length rule.target ≡ length ops + 1
+  count_target = length-append (steps 0 ops) (named 114 (settled (length ops) last) ∷ []) ∙ omega (arith, length-steps 0 ops)
+
+  -- target statement k
+  step_at : (k : ℕ) (s : Statement) → slice_get rule.target k ≡ Some s → (k ≤ length ops) × ((op : Op) × (s.op ≡ settled k op)) × (((k < length ops) × (s.name ≡ (97 + k) ∷ [])) ⊎ ((k ≡ length ops) × (s.name ≡ 114 ∷ [])))
+  step_at k s at = elim (at_target 0 ops last (length ops) k s at) [
+    | inl (less, (op, is)) ↦
+        let is' : s ≡ named (97 + k) (settled k op) = is ∙ ap (λ i. named (97 + i) (settled i op)) (zero-add k) in
+        (omega arith, (op, ap (λ (t : Statement). t.op) is'), inl (less, ap (λ (t : Statement). t.name) is'))
+    | inr (place, is) ↦ (omega arith, (last, ap (λ (t : Statement). t.op) is ∙ ap (λ i. settled i last) (sym place)), inr (place, ap (λ (t : Statement). t.name) is))
+  ]
 
   -- what a name of the target is
-  name_at : (k : ℕ) (name : List ℕ) → slice_get (names_of rule.target) k ≡ Some name → ((k < length numbers) × (name ≡ (97 + k) ∷ [])) ⊎ ((k ≡ length numbers) × (name ≡ 114 ∷ []))
+  name_at : (k : ℕ) (name : List ℕ) → slice_get (names_of rule.target) k ≡ Some name → ((k < length ops) × (name ≡ (97 + k) ∷ [])) ⊎ ((k ≡ length ops) × (name ≡ 114 ∷ []))
   name_at k name at =
       let (s, there, is) = get_from_map (λ (t : Statement). t.name) rule.target k name at in
-      elim (at_target 97 numbers last k s there) [
-        | inl (less, (m, same)) ↦ inl (less, sym is ∙ ap (λ (t : Statement). t.name) same)
-        | inr (place, same) ↦ inr (place, sym is ∙ ap (λ (t : Statement). t.name) same)
+      elim (step_at k s there).2 [
+        | inl (less, same) ↦ inl (less, sym is ∙ same)
+        | inr (place, same) ↦ inr (place, sym is ∙ same)
       ]
 
   -- it has one byte, which is not that of %x
@@ -80,46 +130,74 @@ module _ (written : Option ℕ) (n : Option ℤ) (numbers : List (Option ℤ)) (
     ]
   ]
 
-  -- numbers may be read anywhere
-  source_number : (k : ℕ) (m : Option ℤ) → SourceMayRead rule k (argument_of m)
-  source_number k None = tt
-  source_number k (Some z) = tt
-
-  target_number : (k : ℕ) (m : Option ℤ) → TargetMayRead rule k (argument_of m)
-  target_number k None = tt
-  target_number k (Some z) = tt
-
-  target_reads : (k : ℕ) (s : Statement) (o : Operand) → slice_get rule.target k ≡ Some s → Contains (operands_of s.op) o → TargetMayRead rule k o.value
-  target_reads k s o at among = elim (at_target 97 numbers last k s at) [
-    | inl (less, (m, is)) ↦
-        let (j, there) = get_of (number m ∷ []) o (subst (λ (t : Statement). Contains (operands_of t.op) o) is among) in
-        subst (λ (p : Operand). TargetMayRead rule k p.value) (only_one (number m) j o there).1 (target_number k m)
-    | inr (place, is) ↦
-        let (j, there) = get_of (input last ∷ []) o (subst (λ (t : Statement). Contains (operands_of t.op) o) is among) in
-        subst (λ (p : Operand). TargetMayRead rule k p.value) (only_one (input last) j o there).1 (omega arith)
+  before_reads : (k : ℕ) → TargetMayRead rule k (before k)
+  before_reads k = elim (cases_eq k 0) [
+    | inl none ↦ subst (TargetMayRead rule k) (sym (before_first k none)) (omega arith)
+    | inr some ↦ subst (TargetMayRead rule k) (sym (before_later k some)) (omega arith)
   ]
 
-  source_reads : (k j : ℕ) (o : Operand) → slice_get (input written ∷ number n ∷ []) j ≡ Some o → SourceMayRead rule k o.value
-  source_reads k zero o at = subst (λ (p : Operand). SourceMayRead rule k p.value) (same_Some (input written) o at) (omega arith)
-  source_reads k (suc j) o at = subst (λ (p : Operand). SourceMayRead rule k p.value) (only_one (number n) j o at).1 (source_number k n)
+  value_reads : (k : ℕ) (value : Argument) → TargetMayRead rule k (settled_value k value)
+  value_reads k (arguments.Register (registers.Input i)) = omega arith
+  value_reads k (arguments.Register (registers.Source j)) = before_reads k
+  value_reads k (arguments.Register (registers.Target j)) = before_reads k
+  value_reads k (arguments.Literal z) = tt
+  value_reads k (arguments.Truth b) = tt
 
-  no_register : (m : Option ℤ) (i : ℕ) → argument_of m ≡ arguments.Register (registers.Input i) → ⊥
-  no_register None i e = cc
-  no_register (Some z) i e = cc
+  target_reads : (k : ℕ) (s : Statement) (o : Operand) → slice_get rule.target k ≡ Some s → Contains (operands_of s.op) o → TargetMayRead rule k o.value
+  target_reads k s o at among =
+      let (op, is) = (step_at k s at).1 in
+      let (raw, there, same) = from_map (settled_operand k) (operands_of op) o (subst (λ l. Contains l o) (ap operands_of is ∙ operands-settled k op) among) in
+      subst (TargetMayRead rule k) (ap (λ (p : Operand). p.value) (sym same)) (value_reads k raw.value)
+
+  -- ---- the source
+
+  -- its first operand is %x, and another one a literal
+  operand_at : (shape : Option Cast) (q : ℕ) (o : Operand) → slice_get (operands_of (source_op shape written n)) q ≡ Some o → ((q ≡ 0) × (o.value ≡ arguments.Register (registers.Input 0))) ⊎ (o.value ≡ arguments.Literal n)
+  operand_at None zero o at = inl (refl, ap (λ (p : Operand). p.value) (sym (same_Some (input written) o at)))
+  operand_at None (suc q) o at = inr (ap (λ (p : Operand). p.value) (sym (only_one (literal n) q o at).1))
+  operand_at (Some c) q o at = let one = only_one (input None) q o at in inl (one.0, ap (λ (p : Operand). p.value) (sym one.1))
+
+  first_operand : (shape : Option Cast) → (o : Operand) × (slice_get (operands_of (source_op shape written n)) 0 ≡ Some o) × (o.value ≡ arguments.Register (registers.Input 0))
+  first_operand None = (input written, refl, refl)
+  first_operand (Some c) = (input None, refl, refl)
+
+  stands : (shape : Option Cast) → MayStandInSource (source_op shape written n)
+  stands None = tt
+  stands (Some c) = tt
+
+  flags : (shape : Option Cast) → FlagsFitOp (source_op shape written n)
+  flags None = refl
+  flags (Some c) = tt
+
+  in_source : (k : ℕ) (s : Statement) → slice_get rule.source k ≡ Some s → (k ≡ 0) × (named 114 (source_op cast written n) ≡ s)
+  in_source k s at = only_one (named 114 (source_op cast written n)) k s at
+
+  source_reads : (k : ℕ) (s : Statement) (o : Operand) → slice_get rule.source k ≡ Some s → Contains (operands_of s.op) o → SourceMayRead rule k o.value
+  source_reads k s o at among =
+      let (q, there) = get_of (operands_of (source_op cast written n)) o (subst (λ (t : Statement). Contains (operands_of t.op) o) (sym (in_source k s at).1) among) in
+      elim (operand_at cast q o there) [
+        | inl (first, is) ↦ subst (SourceMayRead rule k) (sym is) (omega arith)
+        | inr is ↦ subst (SourceMayRead rule k) (sym is) tt
+      ]
+
+  one_op : flat_map (λ s. operands_of s.op) rule.source ≡ operands_of (source_op cast written n)
+  one_op = append-nil (operands_of (source_op cast written n))
 
   reads_first : (q i : ℕ) → ReadsAt rule q (registers.Input i) → i ≡ 0
-  reads_first zero i (o, at, is) = let same : arguments.Register (registers.Input 0) ≡ arguments.Register (registers.Input i) = ap (λ (p : Operand). p.value) (same_Some (input written) o at) ∙ is in cc
-  reads_first (suc q) i (o, at, is) = absurd (no_register n i (ap (λ (p : Operand). p.value) (only_one (number n) q o at).1 ∙ is))
+  reads_first q i (o, at, is) = elim (operand_at cast q o (ap (λ l. slice_get l q) (sym one_op) ∙ at)) [
+    | inl (first, value) ↦ let same : arguments.Register (registers.Input 0) ≡ arguments.Register (registers.Input i) = sym value ∙ is in cc
+    | inr value ↦ let other : arguments.Literal n ≡ arguments.Register (registers.Input i) = sym value ∙ is in cc
+  ]
 
-  in_source : (k : ℕ) (s : Statement) → slice_get rule.source k ≡ Some s → (k ≡ 0) × (sum_with written n ≡ s)
-  in_source k s at = only_one (sum_with written n) k s at
+  first_reads : ReadsAt rule 0 (registers.Input 0)
+  first_reads = let (o, at, is) = first_operand cast in (o, ap (λ l. slice_get l 0) one_op ∙ at, is)
 
   pub is_rule : IsRule rule
   is_rule =
       record {
         few_in_source = omega arith;
         few_in_target = omega (arith, count_target);
-        few_operands = omega (arith, count_operands 97 numbers last);
+        few_operands = omega (arith, count_operands (rule.source ++ rule.target), count_target, length-append rule.source rule.target);
         short_name = omega arith;
         short_inputs = λ name among. let (k, at) = get_of rule.inputs name among in subst (λ (l : List ℕ). length l ≤ 200) (only_one (120 ∷ []) k name at).1 (omega arith);
         short_constants = λ name among. let (k, at) = get_of [] name among in absurd (none_there k name at);
@@ -127,38 +205,34 @@ module _ (written : Option ℕ) (n : Option ℤ) (numbers : List (Option ℤ)) (
         short_in_target = λ name among. omega (arith, (not_input name among).0);
         source_names = λ j k name at at'. (only_one (114 ∷ []) j name at).0 ∙ sym (only_one (114 ∷ []) k name at').0;
         target_names = distinct;
-        source_reads = λ k s o at among.
-            let (j, there) = get_of (input written ∷ number n ∷ []) o (subst (λ (t : Statement). Contains (operands_of t.op) o) (sym (in_source k s at).1) among) in source_reads k j o there;
+        source_reads = source_reads;
         target_reads = target_reads;
         inputs_distinct = λ j k name at at'. (only_one (120 ∷ []) j name at).0 ∙ sym (only_one (120 ∷ []) k name at').0;
         inputs_not_assigned = λ name among among'.
             let (k, at) = get_of rule.inputs name among in
             let (j, at') = get_of (names_of rule.source) name among' in
             let h = byte 120 114 ((only_one (120 ∷ []) k name at).1 ∙ sym (only_one (114 ∷ []) j name at').1) in absurd (omega arith);
-        inputs_read = λ i less. let none : i ≡ 0 = omega arith in (0, (input written, refl, ap (λ j. arguments.Register (registers.Input j)) (sym none)));
+        inputs_read = λ i less. let none : i ≡ 0 = omega arith in (0, subst (λ j. ReadsAt rule 0 (registers.Input j)) (sym none) first_reads);
         inputs_in_order = λ h i q less at. let none = reads_first q i at in absurd (omega arith);
         source_root = omega arith;
         target_root = omega (arith, count_target);
         root = λ j k s t last_j at last_k at'.
             let s_name : s.name ≡ 114 ∷ [] = ap (λ (u : Statement). u.name) (sym (in_source j s at).1) in
-            elim (at_target 97 numbers last k t at') [
-              | inl (less, (m, is)) ↦ absurd (omega (arith, count_target))
-              | inr (place, is) ↦ ap (λ (u : Statement). u.name) is ∙ sym s_name
+            elim (step_at k t at').2 [
+              | inl (less, is) ↦ absurd (omega (arith, count_target))
+              | inr (place, is) ↦ is ∙ sym s_name
             ];
         inputs_stay = λ name among among'. let (k, at) = get_of rule.inputs name among in (not_input name among').1 (sym (only_one (120 ∷ []) k name at).1);
         temporaries_stay = λ j s less at among. absurd (omega arith);
         temporaries_read = λ j less. absurd (omega arith);
-        source_ops = λ k s at. subst (λ (t : Statement). MayStandInSource t.op) (in_source k s at).1 tt;
-        source_flags = λ k s at. subst (λ (t : Statement). FlagsFitOp t.op) (in_source k s at).1 refl;
-        target_flags = λ k s at. elim (at_target 97 numbers last k s at) [
-          | inl (less, (m, is)) ↦ subst (λ (t : Statement). FlagsFitOp t.op) (sym is) tt
-          | inr (place, is) ↦ subst (λ (t : Statement). FlagsFitOp t.op) (sym is) tt
-        ];
+        source_ops = λ k s at. subst (λ (t : Statement). MayStandInSource t.op) (in_source k s at).1 (stands cast);
+        source_flags = λ k s at. subst (λ (t : Statement). FlagsFitOp t.op) (in_source k s at).1 (flags cast);
+        target_flags = λ k s at. let (op, is) = (step_at k s at).1 in subst FlagsFitOp (sym is) (flags-settled k op);
       }
 
--- one more number
-pub copies-push : (name : ℕ) (numbers : List (Option ℤ)) (n : Option ℤ) → copies name (numbers ++ n ∷ []) ≡ copies name numbers ++ copied (name + length numbers) (number n) ∷ []
-copies-push name [] n = ap (λ i. copied i (number n) ∷ []) (sym (add-zero name))
-copies-push name (m ∷ numbers) n =
-    let same : name + 1 + length numbers ≡ name + suc (length numbers) = omega arith in
-    ap (λ l. copied name (number m) ∷ l) (copies-push (name + 1) numbers n ∙ ap (λ i. copies (name + 1) numbers ++ copied i (number n) ∷ []) same)
+-- one more step
+pub steps-push : (from : ℕ) (ops : List Op) (op : Op) → steps from (ops ++ op ∷ []) ≡ steps from ops ++ named (97 + (from + length ops)) (settled (from + length ops) op) ∷ []
+steps-push from [] op = ap (λ i. named (97 + i) (settled i op) ∷ []) (sym (add-zero from))
+steps-push from (first ∷ ops) op =
+    let same : from + 1 + length ops ≡ from + suc (length ops) = omega arith in
+    ap (λ l. named (97 + from) (settled from first) ∷ l) (steps-push (from + 1) ops op ∙ ap (λ i. steps (from + 1) ops ++ named (97 + i) (settled i op) ∷ []) same)

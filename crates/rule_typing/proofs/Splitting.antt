@@ -5,7 +5,7 @@ use Rattle.std.proofs.Math.Decide.{map_dec}
 use Rattle.rule_core.specs.declared.rule.Rule.{Rule}
 use Rattle.rule_core.specs.declared.rule.Statement.{Statement}
 use Rattle.rule_core.specs.declared.rule.Op.{Op}
-use Rattle.rule_core.specs.declared.rule.Op.TheVariants.{Binary, Copy}
+use Rattle.rule_core.specs.declared.rule.Op.TheVariants.{Binary, Compare, Select, Convert, Copy}
 use Rattle.rule_core.specs.declared.rule.Operand.{Operand}
 use Rattle.rule_core.specs.declared.rule.Argument.{Argument}
 use Rattle.rule_core.specs.declared.rule.Argument.TheVariants as arguments
@@ -13,17 +13,27 @@ use Rattle.rule_core.specs.declared.rule.Register.{Register}
 use Rattle.rule_core.specs.declared.rule.Register.TheVariants as registers
 use Rattle.rule_core.specs.Positions.{operands_in, Names, reads, source_assigns, target_assigns, assigns_root, Line, register}
 use Rattle.rule_typing.specs.Splits.{OpLine, StatementsLine}
-use Rattle.rule_typing.proofs.NameLines.{statements_line, line_cases}
+use Rattle.rule_typing.proofs.NameLines.{statements_line, line_parts}
 use Rattle.rule_typing.proofs.Deciding.{dec_both, dec_either, dec_not, stable, dec_number, dec_place, dec_one}
 
 -- ---- lines of statements
 
-dec_op : (r : ℕ) (op : Op) → Dec ((c : ℕ) × (d : ℕ) × OpLine r op c d × (c ≢ d))
-dec_op r (Binary op flags a b) =
-    map_dec (λ one. elim one [ inl apart ↦ (r, a.class, (refl, inl refl), apart) | inr apart ↦ (r, b.class, (refl, inr refl), apart) ])
+-- the first class differs from one of two others, or from one
+dec_two : (r x y : ℕ) → Dec ((c : ℕ) × (d : ℕ) × ((c ≡ r) × ((d ≡ x) ⊎ (d ≡ y))) × (c ≢ d))
+dec_two r x y =
+    map_dec (λ one. elim one [ inl apart ↦ (r, x, (refl, inl refl), apart) | inr apart ↦ (r, y, (refl, inr refl), apart) ])
     (λ (c, d, (is, one), apart). elim one [ inl is' ↦ inl (λ e. apart (is ∙ e ∙ sym is')) | inr is' ↦ inr (λ e. apart (is ∙ e ∙ sym is')) ])
-    (dec_either (dec_not (dec_number r a.class)) (dec_not (dec_number r b.class)))
-dec_op r (Copy a) = map_dec (λ apart. (r, a.class, (refl, refl), apart)) (λ (c, d, (is, is'), apart) e. apart (is ∙ e ∙ sym is')) (dec_not (dec_number r a.class))
+    (dec_either (dec_not (dec_number r x)) (dec_not (dec_number r y)))
+
+dec_pair : (x y : ℕ) → Dec ((c : ℕ) × (d : ℕ) × ((c ≡ x) × (d ≡ y)) × (c ≢ d))
+dec_pair x y = map_dec (λ apart. (x, y, (refl, refl), apart)) (λ (c, d, (is, is'), apart) e. apart (is ∙ e ∙ sym is')) (dec_not (dec_number x y))
+
+dec_op : (r : ℕ) (op : Op) → Dec ((c : ℕ) × (d : ℕ) × OpLine r op c d × (c ≢ d))
+dec_op r (Binary op flags a b) = dec_two r a.class b.class
+dec_op r (Compare pred a b) = dec_pair a.class b.class
+dec_op r (Select z a b) = dec_two r a.class b.class
+dec_op r (Convert cast a to) = no (λ (c, d, h, apart). h)
+dec_op r (Copy a) = dec_pair r a.class
 
 dec_statements : (statements : List Statement) → Dec ((c : ℕ) × (d : ℕ) × StatementsLine statements c d × (c ≢ d))
 dec_statements statements =
@@ -108,7 +118,7 @@ split_or_joined rule = elim (dec_either (dec_either (dec_statements rule.source)
   | yes (inl (inl (c, d, line, apart))) ↦ inl (c, d, statements_line rule c d (inl line), apart)
   | yes (inl (inr (c, d, line, apart))) ↦ inl (c, d, statements_line rule c d (inr line), apart)
   | yes (inr (c, d, (r, p, q), apart)) ↦ inl (c, d, register p q, apart)
-  | no none ↦ inr (λ c d line. stable (dec_number c d) (λ apart. elim (line_cases rule c d line) [
+  | no none ↦ inr (λ c d line. stable (dec_number c d) (λ apart. elim (line_parts rule c d line) [
     | inl (inl at) ↦ none (inl (inl (c, d, at, apart)))
     | inl (inr at) ↦ none (inl (inr (c, d, at, apart)))
     | inr names ↦ none (inr (c, d, names, apart))

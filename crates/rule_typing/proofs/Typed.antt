@@ -1,21 +1,23 @@
 -- Where a rule keeps its classes, widths are a typing exactly where there is one for each class, and each class may have its own.
-use Rattle.std.proofs.Common.{◌≡◌, ◌↔◌, inl, inr, ℕ, suc, ◌+◌, List, [], ◌∷◌, ◌++◌, length, map, get_or, Some, refl, sym, ap, subst, ◌∙◌, arith, add-zero, add_assoc}
+use Rattle.std.proofs.Common.{◌≡◌, ◌↔◌, inl, inr, ℕ, suc, ◌+◌, ◌<◌, List, [], ◌∷◌, ◌++◌, length, map, get_or, Some, refl, sym, ap, subst, ◌∙◌, arith, add-zero, add_assoc}
 use Rattle.std.specs.Prelude.{slice_get, Contains, flat_map}
 use Rattle.std.proofs.lemmas.Bool.{cases_lt}
 use Rattle.std.proofs.lemmas.Grind.{flat_map-append}
-use Rattle.std.proofs.lemmas.Option.{slice_get-get_or, get_or_from_slice_get}
+use Rattle.std.proofs.lemmas.Option.{slice_get-get_or, get_or_from_slice_get, same_Some}
 use Rattle.rule_core.specs.declared.rule.Rule.{Rule}
 use Rattle.rule_core.specs.declared.rule.Statement.{Statement}
 use Rattle.rule_core.specs.declared.rule.Op.{Op}
-use Rattle.rule_core.specs.declared.rule.Op.TheVariants.{Binary, Copy}
-use Rattle.rule_core.specs.Positions.{operands_of, classes_of_statement, classes_of, Line}
+use Rattle.rule_core.specs.declared.rule.Op.TheVariants.{Binary, Compare, Select, Convert, Copy}
+use Rattle.rule_core.specs.Positions.{operands_of, classes_of_statement, classes_of, Line, Fixed, Smaller}
 use Rattle.rule_core.specs.Typing.{IsTyping}
 use Rattle.rule_core.proofs.Members.{Contains-from_get, get-append_left, get-append_right}
 use Rattle.rule_typing.specs.Relabelling.{mapped_op, mapped_statement, mapped, numbered_op, numbered_statement, numbered_statements, numbered}
 use Rattle.rule_typing.specs.Classes.{IsClassified, HasClasses, line}
 use Rattle.rule_typing.specs.Fitting.{MayHaveWidth}
+use Rattle.rule_typing.specs.Solving.{MeetsSmaller}
 use Rattle.rule_typing.proofs.Relabelled.{class_is_position, count_positions}
 use Rattle.rule_typing.proofs.MappedLines.{from_line_map, line_classes}
+use Rattle.rule_typing.proofs.FixedLines.{fixed_class}
 
 -- a map that gives each position its class makes the rule of the numbered one
 restored_op : (f : ℕ → ℕ) (n : ℕ) (op : Op) → ((k c : ℕ) → slice_get (map (λ o. o.class) (operands_of op)) k ≡ Some c → f (n + k) ≡ c) → mapped_op f (numbered_op n op) ≡ op
@@ -23,6 +25,16 @@ restored_op f n (Binary op flags a b) gives =
     let left : f n ≡ a.class = ap f (sym (add-zero n)) ∙ gives 0 a.class refl in
     let right : f (n + 1) ≡ b.class = gives 1 b.class refl in
     rw (left, right) refl
+restored_op f n (Compare pred a b) gives =
+    let left : f n ≡ a.class = ap f (sym (add-zero n)) ∙ gives 0 a.class refl in
+    let right : f (n + 1) ≡ b.class = gives 1 b.class refl in
+    rw (left, right) refl
+restored_op f n (Select z a b) gives =
+    let first : f n ≡ z.class = ap f (sym (add-zero n)) ∙ gives 0 z.class refl in
+    let second : f (n + 1) ≡ a.class = gives 1 a.class refl in
+    let third : f (n + 2) ≡ b.class = gives 2 b.class refl in
+    rw (first, second, third) refl
+restored_op f n (Convert cast a to) gives = let left : f n ≡ a.class = ap f (sym (add-zero n)) ∙ gives 0 a.class refl in rw left refl
 restored_op f n (Copy a) gives = let left : f n ≡ a.class = ap f (sym (add-zero n)) ∙ gives 0 a.class refl in rw left refl
 
 restored_statement : (f : ℕ → ℕ) (n : ℕ) (s : Statement) → ((k c : ℕ) → slice_get (classes_of_statement s) k ≡ Some c → f (n + k) ≡ c) → mapped_statement f (numbered_statement n s) ≡ s
@@ -71,14 +83,24 @@ on_one_line rule classified c d on =
     let ends = line_classes (numbered rule) p q before in
     c_is ∙ (classified.classes p q (class_at rule p) (class_at rule q) (kept_at rule p ends.0) (kept_at rule q ends.1)).1 (line before) ∙ sym d_is
 
-pub typed : (rule : Rule) (widths : List ℕ) (n : ℕ) → IsClassified rule → HasClasses rule n → length widths ≡ n → ((c N : ℕ) → slice_get widths c ≡ Some N → MayHaveWidth rule c N) → IsTyping rule widths
-typed rule widths n classified counted same may =
+-- a width that a line fixes is the one of its class
+fixed_at : (rule : Rule) (widths : List ℕ) (n : ℕ) → HasClasses rule n → length widths ≡ n → ((c N : ℕ) → slice_get widths c ≡ Some N → MayHaveWidth rule c N) → (c N : ℕ) → Fixed rule c N → slice_get widths c ≡ Some N
+fixed_at rule widths n counted same may c N fixed =
+    let less : c < n = (counted c).0 (fixed_class rule c N fixed) in
+    let at : slice_get widths c ≡ Some (get_or widths c 0) = slice_get-get_or widths c 0 (omega arith) in
+    at ∙ ap (λ x. Some x) (sym ((may c (get_or widths c 0) at).fixed N fixed))
+
+pub typed : (rule : Rule) (widths : List ℕ) (n : ℕ) → IsClassified rule → HasClasses rule n → length widths ≡ n → ((c N : ℕ) → slice_get widths c ≡ Some N → MayHaveWidth rule c N)
+    → ((c d N M : ℕ) → Smaller rule c d → slice_get widths c ≡ Some N → slice_get widths d ≡ Some M → N < M) → IsTyping rule widths
+typed rule widths n classified counted same may below =
     record {
-      widths = λ N (c, within, is). let h = may c N (slice_get-get_or widths c N within ∙ ap (λ x. Some x) is) in (h.0, h.1);
+      widths = λ N (c, within, is). (may c N (slice_get-get_or widths c N within ∙ ap (λ x. Some x) is)).within;
       classes = λ c among. let less = (counted c).0 among in omega arith;
       no_more = λ c less. (counted c).1 (omega arith);
       same = λ c d on. ap (slice_get widths) (on_one_line rule classified c d on);
-      operands = λ o among N at. (may o.class N at).2 o among refl;
+      fixed = fixed_at rule widths n counted same may;
+      smaller = below;
+      literals = λ o z N among is at. (may o.class N at).literals o z among refl is;
     }
 
 pub count_widths : (rule : Rule) (widths : List ℕ) (n : ℕ) → HasClasses rule n → IsTyping rule widths → length widths ≡ n
@@ -93,10 +115,12 @@ count_widths rule widths n counted typing =
 
 pub may_have : (rule : Rule) (widths : List ℕ) → IsTyping rule widths → (c N : ℕ) → slice_get widths c ≡ Some N → MayHaveWidth rule c N
 may_have rule widths typing c N at =
-    let range = typing.widths N (Contains-from_get widths c N at) in
-    (range.0, range.1, λ o among is. typing.operands o among N (subst (λ k. slice_get widths k ≡ Some N) (sym is) at))
+    record {
+      within = typing.widths N (Contains-from_get widths c N at);
+      fixed = λ M fixed. same_Some M N (sym (typing.fixed c M fixed) ∙ at);
+      literals = λ o z among class is. typing.literals o z N among is (subst (λ k. slice_get widths k ≡ Some N) (sym class) at);
+    }
 
--- the two tests: as many widths as classes, and each class may have its own
-pub both_tests : (rule : Rule) (widths : List ℕ) (n : ℕ) → IsClassified rule → HasClasses rule n → ((length widths ≡ n) × ((c N : ℕ) → slice_get widths c ≡ Some N → MayHaveWidth rule c N)) ↔ IsTyping rule widths
-both_tests rule widths n classified counted =
-    (λ h. typed rule widths n classified counted h.0 h.1, λ typing. (count_widths rule widths n counted typing, may_have rule widths typing))
+-- where there are as many widths as classes: each class may have its own, and casts keep them in order
+pub both_tests : (rule : Rule) (widths : List ℕ) (n : ℕ) → IsClassified rule → HasClasses rule n → length widths ≡ n → (((c N : ℕ) → slice_get widths c ≡ Some N → MayHaveWidth rule c N) × MeetsSmaller rule widths) ↔ IsTyping rule widths
+both_tests rule widths n classified counted same = (λ h. typed rule widths n classified counted same h.0 h.1, λ typing. (may_have rule widths typing, typing.smaller))

@@ -1,11 +1,11 @@
 -- The type classes of a rule: which positions are of one class, and how the classes are numbered.
-use Rattle.std.specs.Prelude.{◌≡◌, ◌↔◌, ℕ, ◌<◌, ◌⊎◌, Bool, List, Some, Contains, slice_get}
+use Rattle.std.specs.Prelude.{◌≡◌, ◌↔◌, ℕ, ◌<◌, ◌⊎◌, List, Some, Contains, slice_get}
 use Rattle.rule_core.specs.declared.rule.Rule.{Rule}
 use Rattle.rule_core.specs.declared.rule.Statement.{Statement}
 use Rattle.rule_core.specs.declared.rule.Operand.{Operand}
 use Rattle.rule_core.specs.declared.rule.Argument.TheVariants as arguments
 use Rattle.rule_core.specs.declared.rule.Register.{Register}
-use Rattle.rule_core.specs.Positions.{operands_of, operands_in, classes_of, Line}
+use Rattle.rule_core.specs.Positions.{operands_of, classes_of, Line}
 use Rattle.rule_typing.specs.Relabelling.{numbered}
 
 -- Two classes are joined where lines of the table lead from one to the other: the least equivalence that joins what one line joins.
@@ -32,17 +32,6 @@ pub record IsClassified (rule : Rule) : Type 0 where
 -- the numbers of the rule's classes are those below n
 abbrev pub HasClasses : Rule → ℕ → Type 0
 HasClasses rule n = (c : ℕ) → Contains (classes_of rule) c ↔ (c < n)
-
--- the operand, of class c, has the width N in each typing: its type is written, or it is `true` or `false`
-abbrev pub FixesWidth : ℕ → ℕ → Operand → Type 0
-FixesWidth c N o = (o.class ≡ c) × ((o.written ≡ Some N) ⊎ (((b : Bool) × (o.value ≡ arguments.Truth b)) × (N ≡ 1)))
-
--- one of these operands does
-abbrev pub Fixes : List Operand → ℕ → ℕ → Type 0
-Fixes operands c N = (o : Operand) × Contains operands o × FixesWidth c N o
-
-abbrev pub FixesClass : Rule → ℕ → ℕ → Type 0
-FixesClass rule c N = Fixes (operands_in rule) c N
 
 -- the operand is a register, of class c
 abbrev pub IsRegisterOf : ℕ → Operand → Type 0

@@ -1,11 +1,11 @@
 -- Why a rule has no classes that a typing could be given for.
 use Rattle.std.specs.Prelude.{ℕ, ◌≤◌, List, Contains}
 use Rattle.rule_core.specs.declared.rule.Rule.{Rule}
-use Rattle.rule_core.specs.Positions.{classes_of}
+use Rattle.rule_core.specs.Positions.{classes_of, Fixed}
 use Rattle.rule_core.specs.Typing.{IsTyping}
 use Rattle.rule_typing.specs.declared.classes.ClassFault.{ClassFault}
 use Rattle.rule_typing.specs.declared.classes.ClassFault.TheVariants as faults
-use Rattle.rule_typing.specs.Classes.{FixesClass, IsNamedInSource}
+use Rattle.rule_typing.specs.Classes.{IsNamedInSource}
 
 -- there are more than 8 classes, which are numbered from 0
 abbrev pub HasTooManyClasses : Rule → Type 0
@@ -17,7 +17,7 @@ HasNoTyping rule = (typing : List ℕ) → IsTyping rule typing → ⊥
 
 -- a class has neither a name in the source nor a fixed width
 abbrev pub IsOpen : Rule → ℕ → Type 0
-IsOpen rule c = (¬ IsNamedInSource rule c) × ((N : ℕ) → ¬ FixesClass rule c N)
+IsOpen rule c = (¬ IsNamedInSource rule c) × ((N : ℕ) → ¬ Fixed rule c N)
 
 abbrev pub HasOpenClass : Rule → Type 0
 HasOpenClass rule = (c : ℕ) × Contains (classes_of rule) c × IsOpen rule c

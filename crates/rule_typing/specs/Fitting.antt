@@ -1,26 +1,24 @@
--- Which widths a class of a rule may have.
-use Rattle.std.specs.Prelude.{◌≡◌, ◌⊎◌, ℕ, ◌≤◌, ◌<◌, List, Contains}
+-- Which widths a class of a rule may have by itself, whatever those of the other classes are.
+use Rattle.std.specs.Prelude.{◌≡◌, ℕ, ℤ, ◌≤◌, ◌<◌, List, Contains}
 use Rattle.rule_core.specs.declared.rule.Rule.{Rule}
 use Rattle.rule_core.specs.declared.rule.Operand.{Operand}
-use Rattle.rule_core.specs.Positions.{operands_in}
-use Rattle.rule_core.specs.Typing.{FitsOperand}
-use Rattle.rule_typing.specs.Classes.{FixesClass}
+use Rattle.rule_core.specs.declared.rule.Argument.TheVariants as arguments
+use Rattle.rule_core.specs.Positions.{operands_in, Fixed}
+use Rattle.rule_core.specs.Typing.{FitsLiteral}
 
--- the operand fits the width N, if it has the class c
+-- class c of the rule may have the width N: it is from 1 to 64, it is the fixed one if there is one, and literals fit it
+pub record MayHaveWidth (rule : Rule) (c N : ℕ) : Type 0 where
+  pub within : (1 ≤ N) × (N ≤ 64)
+  pub fixed : (M : ℕ) → Fixed rule c M → M ≡ N
+  pub literals : (o : Operand) (z : ℤ) → Contains (operands_in rule) o → o.class ≡ c → o.value ≡ arguments.Literal z → FitsLiteral N z
+
+-- the operand fits the width N, if it is a literal and has the class c
 abbrev pub FitsIn : ℕ → ℕ → Operand → Type 0
-FitsIn c N o = o.class ≡ c → FitsOperand N o
+FitsIn c N o = (z : ℤ) → o.class ≡ c → o.value ≡ arguments.Literal z → FitsLiteral N z
 
 -- each of these operands does
-abbrev pub OperandsFit : List Operand → ℕ → ℕ → Type 0
-OperandsFit operands c N = (o : Operand) → Contains operands o → FitsIn c N o
-
--- class c of the rule may have the width N
-abbrev pub MayHaveWidth : Rule → ℕ → ℕ → Type 0
-MayHaveWidth rule c N = (1 ≤ N) × (N ≤ 64) × OperandsFit (operands_in rule) c N
-
--- the largest width that class c may have, if it may have any: its fixed one, or else 64
-abbrev pub IsLargest : Rule → ℕ → ℕ → Type 0
-IsLargest rule c N = FixesClass rule c N ⊎ (((M : ℕ) → ¬ FixesClass rule c M) × (N ≡ 64))
+abbrev pub LiteralsFit : List Operand → ℕ → ℕ → Type 0
+LiteralsFit operands c N = (o : Operand) → Contains operands o → FitsIn c N o
 
 -- n is the least number past these
 pub record IsPast (numbers : List ℕ) (n : ℕ) : Type 0 where

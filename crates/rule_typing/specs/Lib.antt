@@ -1,9 +1,11 @@
 pub mod Classes
-pub mod Combinations
 pub mod Enumeration
 pub mod Faults
 pub mod Fitting
+pub mod Fixing
 pub mod Laws
+pub mod Operands
 pub mod Relabelling
 pub mod Sample
+pub mod Solving
 pub mod Splits

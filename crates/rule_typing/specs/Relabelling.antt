@@ -3,7 +3,7 @@ use Rattle.std.specs.Prelude.{◌≡◌, ℕ, ◌+◌, ◌==◌, if◌then◌els
 use Rattle.rule_core.specs.declared.rule.Rule.{Rule}
 use Rattle.rule_core.specs.declared.rule.Statement.{Statement}
 use Rattle.rule_core.specs.declared.rule.Op.{Op}
-use Rattle.rule_core.specs.declared.rule.Op.TheVariants.{Binary, Copy}
+use Rattle.rule_core.specs.declared.rule.Op.TheVariants.{Binary, Compare, Select, Convert, Copy}
 use Rattle.rule_typing.specs.declared.relabelling.Renaming.{Renaming}
 use Rattle.rule_typing.specs.declared.relabelling.Renaming.TheVariants.{Merge, Swap}
 use Rattle.rule_core.specs.Positions.{classes_of_statement}
@@ -11,6 +11,9 @@ use Rattle.rule_core.specs.Positions.{classes_of_statement}
 -- each class c is f c
 abbrev pub mapped_op : (ℕ → ℕ) → Op → Op
 mapped_op f (Binary op flags a b) = Binary op flags (record a { class = f a.class }) (record b { class = f b.class })
+mapped_op f (Compare pred a b) = Compare pred (record a { class = f a.class }) (record b { class = f b.class })
+mapped_op f (Select c a b) = Select (record c { class = f c.class }) (record a { class = f a.class }) (record b { class = f b.class })
+mapped_op f (Convert cast a to) = Convert cast (record a { class = f a.class }) to
 mapped_op f (Copy a) = Copy (record a { class = f a.class })
 
 abbrev pub mapped_statement : (ℕ → ℕ) → Statement → Statement
@@ -22,6 +25,9 @@ mapped f rule = record rule { source = map (mapped_statement f) rule.source; tar
 -- the class at each position is the position, from n on
 abbrev pub numbered_op : ℕ → Op → Op
 numbered_op n (Binary op flags a b) = Binary op flags (record a { class = n }) (record b { class = n + 1 })
+numbered_op n (Compare pred a b) = Compare pred (record a { class = n }) (record b { class = n + 1 })
+numbered_op n (Select c a b) = Select (record c { class = n }) (record a { class = n + 1 }) (record b { class = n + 2 })
+numbered_op n (Convert cast a to) = Convert cast (record a { class = n }) to
 numbered_op n (Copy a) = Copy (record a { class = n })
 
 abbrev pub numbered_statement : ℕ → Statement → Statement

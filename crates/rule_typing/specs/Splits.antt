@@ -3,7 +3,7 @@ use Rattle.std.specs.Prelude.{◌≡◌, ◌≢◌, ◌⊎◌, ℕ, suc, List, l
 use Rattle.rule_core.specs.declared.rule.Rule.{Rule}
 use Rattle.rule_core.specs.declared.rule.Statement.{Statement}
 use Rattle.rule_core.specs.declared.rule.Op.{Op}
-use Rattle.rule_core.specs.declared.rule.Op.TheVariants.{Binary, Copy}
+use Rattle.rule_core.specs.declared.rule.Op.TheVariants.{Binary, Compare, Select, Convert, Copy}
 use Rattle.rule_core.specs.declared.rule.Operand.{Operand}
 use Rattle.rule_core.specs.declared.rule.Argument.TheVariants as arguments
 use Rattle.rule_core.specs.declared.rule.Register.{Register}
@@ -14,6 +14,9 @@ use Rattle.rule_typing.specs.Relabelling.{mapped}
 -- the line of an operation whose result has the class r keeps positions of the classes c and d at one width
 abbrev pub OpLine : ℕ → Op → ℕ → ℕ → Type 0
 OpLine r (Binary op flags a b) c d = (c ≡ r) × ((d ≡ a.class) ⊎ (d ≡ b.class))
+OpLine r (Compare pred a b) c d = (c ≡ a.class) × (d ≡ b.class)
+OpLine r (Select z a b) c d = (c ≡ r) × ((d ≡ a.class) ⊎ (d ≡ b.class))
+OpLine r (Convert cast a to) c d = ⊥
 OpLine r (Copy a) c d = (c ≡ r) × (d ≡ a.class)
 
 -- one of the statements does

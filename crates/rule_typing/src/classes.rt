@@ -8,9 +8,10 @@ ghost use Rattle.rule_typing.specs.Splits.{IsMerged};
 ghost use Rattle.rule_typing.specs.Classes.{IsClassified, IsInOrder, HasClasses};
 ghost use Rattle.rule_typing.specs.Faults.{IsFault, HasNoFault};
 
-use crate::fixed::{has_open_class, has_typing};
 use crate::lines::split_line;
+use crate::open_classes::has_open_class;
 use crate::relabelling::{Renaming, number_positions};
+use crate::solving::has_typing;
 use rule_core::{Rule, class_at, positions};
 
 /// The most type classes that a rule may have.

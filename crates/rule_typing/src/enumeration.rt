@@ -1,112 +1,117 @@
 //! The typings of a rule over a list of widths.
 
-ghost use Rattle.std.specs.Prelude.{◌≡◌, ◌<◌, ℕ, List as Seq, length, slice_get, Some, IfOk};
-ghost use Rattle.std.specs.List.Sorted.{IsStrictlyIncreasing};
-ghost use Rattle.rule_typing.specs.Classes.{IsClassified, HasClasses, FixesClass};
-ghost use Rattle.rule_typing.specs.Enumeration.{IsAnswer, AreChoices};
+ghost use Rattle.std.specs.Prelude.{◌≡◌, ◌≤◌, ◌<◌, ℕ, List as Seq, length, slice_get, slice_index, Some, IfOk, option_map};
+ghost use Rattle.rule_core.specs.Positions.{classes_of};
+ghost use Rattle.rule_typing.specs.declared.widths.Widths.{Widths};
+ghost use Rattle.rule_typing.specs.Classes.{IsClassified, HasClasses};
+ghost use Rattle.rule_typing.specs.Enumeration.{IsAnswer, MayChoose, ComesBefore, IsFirstOf};
+ghost use Rattle.rule_typing.specs.Solving.{Has, HasExactly, IsLeast, GoesOn, FindsLeast, Solves, SolvesBehind};
 
 use crate::answer::Typings;
-use crate::combinations::{combine, count_combinations};
-use crate::fits::{class_count, class_fits};
-use crate::fixed::fixed_width;
+use crate::fits::class_count;
+use crate::solving::settle;
+use crate::widths::{Widths, choices_of_class};
 use lists::List;
 use ops::Width;
-use rule_core::Rule;
+use rule_core::{Rule, Typing};
 use std::alloc::{AllocError, Global};
 
 /// The typings of the rule, whose classes are written, over a list of widths: a class with a fixed width has that one, and each
-/// other takes each width of the list. The answer is `TooMany` exactly where there are more than `most`.
+/// other one of the list. The answer is `TooMany` exactly where there are more than `most`.
 ///
-/// Each class is tried by itself with each width, which takes as many steps as there are operands; then the typings are counted, and
-/// only ones that are answered are made.
+/// Each typing is found from the one before it, and after `most` of them at most one more is looked for. To find one, widths are
+/// raised to the least that casts allow, at most once for each class: as `settle` says, in at most 64 steps for each class.
 pub fn typings(
     alloc: Global,
     rule: &Rule,
     widths: &List<Width>,
     most: u32,
 ) -> Result<Typings, AllocError>
-    requires classes { IsClassified rule.now }
-    requires ascending { IsStrictlyIncreasing widths.now }
+    requires { IsClassified rule.now }
     ensures { IfOk result (IsAnswer rule.now widths.now most) }
 {
-    let choices = choices(alloc, rule, widths)?;
-    let count = count_combinations(choices.as_slice());
-    if count > most as u64 {
-        return Ok(Typings::TooMany);
+    let sets = choices(alloc, rule, widths.as_slice())?;
+    let mut found = List::new(alloc);
+    let mut next = least_typing(alloc, rule, &sets, &[], 0)?;
+    while let Some(typing) = next {
+        if found.len() >= most as usize {
+            return Ok(Typings::TooMany);
+        }
+        next = next_typing(alloc, rule, &sets, typing.as_slice())?;
+        found.push(typing)?;
     }
-    if count == 0 {
-        return Ok(Typings::All(List::new(alloc)));
-    }
-    Ok(Typings::All(combine(alloc, choices.as_slice())?))
+    Ok(Typings::All(found))
 }
 
-/// The widths that each class may have, in the order of the classes.
-fn choices(
-    alloc: Global,
-    rule: &Rule,
-    widths: &List<Width>,
-) -> Result<List<List<Width>>, AllocError>
+/// The set of widths that each class may have, in the order of the classes.
+fn choices(alloc: Global, rule: &Rule, widths: &[Width]) -> Result<Vec<Widths>, AllocError>
     requires classes { IsClassified rule.now }
-    requires ascending { IsStrictlyIncreasing widths.now }
-    ensures count { IfOk result (λ all. HasClasses rule.now (length all)) }
-    ensures each { IfOk result (λ all. (c : ℕ) (choices : Seq ℕ) → slice_get all c ≡ Some choices → AreChoices rule.now widths.now c choices) }
+    ensures count { IfOk result (λ sets. HasClasses rule.now (length sets.items)) }
+    ensures each { IfOk result (λ sets. (c : ℕ) (set : Widths) → slice_get sets.items c ≡ Some set → HasExactly set (MayChoose rule.now widths.now c)) }
 {
-    let mut all = List::new(alloc);
+    let mut sets = Vec::new(alloc);
     for class in 0..class_count(rule) {
-        all.push(class_choices(alloc, rule, widths, class)?)?;
+        sets.push(choices_of_class(rule, widths, class))?;
     }
-    Ok(all)
+    Ok(sets)
 }
 
-/// The widths that a class may have.
-fn class_choices(
+/// The first typing behind this one in lexicographic order: with as many of its widths as can be at the beginning, then a larger one.
+fn next_typing(
     alloc: Global,
     rule: &Rule,
-    widths: &List<Width>,
-    class: usize,
-) -> Result<List<Width>, AllocError>
-    requires { IsStrictlyIncreasing widths.now }
-    ensures { IfOk result (AreChoices rule.now widths.now class) }
+    sets: &[Widths],
+    typing: &[Width],
+) -> Result<Option<Typing>, AllocError>
+    requires count { HasClasses rule.now (length sets.now) }
+    requires solves { Solves rule.now sets.now typing.now }
+    ensures { IfOk result (IsFirstOf (λ other. Solves rule.now sets.now other × ComesBefore typing.now other)) }
 {
-    match fixed_width(rule, class) {
-        Some(width) => fixed_choice(alloc, rule, class, width),
-        None => listed_choices(alloc, rule, widths.as_slice(), class),
-    }
-}
-
-/// The fixed width of a class, if the class may have it.
-fn fixed_choice(
-    alloc: Global,
-    rule: &Rule,
-    class: usize,
-    width: Width,
-) -> Result<List<Width>, AllocError>
-    requires { FixesClass rule.now class width }
-    ensures { IfOk result (λ choices. (widths : Seq ℕ) → AreChoices rule.now widths class choices) }
-{
-    let mut choices = List::new(alloc);
-    if class_fits(rule, class, width) {
-        choices.push(width)?;
-    }
-    Ok(choices)
-}
-
-/// The widths of the list that the class may have.
-fn listed_choices(
-    alloc: Global,
-    rule: &Rule,
-    widths: &[Width],
-    class: usize,
-) -> Result<List<Width>, AllocError>
-    requires ascending { IsStrictlyIncreasing widths.now }
-    requires open { (N : ℕ) → ¬ FixesClass rule.now class N }
-    ensures { IfOk result (AreChoices rule.now widths.now class) }
-{
-    let mut choices = List::new(alloc);
-    for width in widths {
-        if class_fits(rule, class, *width) {
-            choices.push(*width)?;
+    for place in (0..typing.len()).rev() {
+        let (beginning, bound) = (&typing[..place], typing[place].bits());
+        if let Some(next) = least_typing(alloc, rule, sets, beginning, bound)? {
+            return Ok(Some(next));
         }
     }
-    Ok(choices)
+    Ok(None)
+}
+
+/// The least typing that begins with these widths and goes on with one above the bound.
+fn least_typing(
+    alloc: Global,
+    rule: &Rule,
+    sets: &[Widths],
+    beginning: &[Width],
+    bound: u32,
+) -> Result<Option<Typing>, AllocError>
+    requires count { HasClasses rule.now (length sets.now) }
+    requires beginning { (c : ℕ) (set : Widths) → c < length beginning.now → slice_get sets.now c ≡ Some set → Has set (slice_index beginning.now c) }
+    ensures { IfOk result (FindsLeast (SolvesBehind rule.now sets.now beginning.now bound)) }
+{
+    let mut widths = Vec::new(alloc);
+    for (class, set) in sets.iter().enumerate() {
+        match least_width(set, beginning, bound, class) {
+            None => return Ok(None),
+            Some(width) => widths.push(width)?,
+        }
+    }
+    if settle(rule, sets, beginning.len(), &mut widths) {
+        Ok(Some(List::from_vec(widths)))
+    } else {
+        Ok(None)
+    }
+}
+
+/// The least width of a set that may stand there.
+fn least_width(set: &Widths, beginning: &[Width], bound: u32, class: usize) -> Option<Width>
+    requires { class < length beginning.now → Has set.now (slice_index beginning.now class) }
+    ensures { IsLeast (λ N. Has set.now N × GoesOn beginning.now bound class N) result }
+{
+    if class < beginning.len() {
+        Some(beginning[class])
+    } else if class == beginning.len() {
+        set.above(bound)
+    } else {
+        set.above(0)
+    }
 }

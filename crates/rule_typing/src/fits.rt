@@ -1,11 +1,14 @@
 //! Which widths the classes of a rule may have.
 
-ghost use Rattle.std.specs.Prelude.{◌≡◌, ◌≤◌, ◌<◌, ◌↔◌, ℕ, length, IsTrue, Contains, slice_get, flat_map, Some};
-ghost use Rattle.rule_core.specs.Positions.{operands_of, classes_of_statement};
-ghost use Rattle.rule_core.specs.Typing.{IsTyping, FitsOperand, FitsLiteral};
+ghost use Rattle.std.specs.Prelude.{◌≡◌, ◌≤◌, ◌↔◌, ℕ, IsTrue, slice_get, flat_map, Some};
+ghost use Rattle.rule_core.specs.Positions.{operands_of, operands_in, classes_of_statement};
+ghost use Rattle.rule_core.specs.Typing.{IsTyping, FitsLiteral};
 ghost use Rattle.rule_typing.specs.Classes.{IsClassified, HasClasses};
-ghost use Rattle.rule_typing.specs.Fitting.{FitsIn, OperandsFit, MayHaveWidth, IsPast};
+ghost use Rattle.rule_typing.specs.Fitting.{FitsIn, LiteralsFit, MayHaveWidth, IsPast};
 
+use crate::casts::casts_fit;
+use crate::fixed::other_fixed_width;
+use crate::operands::Operands;
 use lists::List;
 use ops::Width;
 use rule_core::{Argument, Op, Operand, Rule, Statement};
@@ -16,7 +19,11 @@ pub fn is_typing(rule: &Rule, widths: &List<Width>) -> bool
     requires { IsClassified rule.now }
     ensures { IsTrue result ↔ IsTyping rule.now widths.now }
 {
-    widths.len() == class_count(rule) && classes_fit(rule, widths.as_slice())
+    let widths = widths.as_slice();
+    if widths.len() != class_count(rule) {
+        return false;
+    }
+    classes_fit(rule, widths) && casts_fit(rule, widths)
 }
 
 /// Whether each class may have the width at its number.
@@ -31,62 +38,61 @@ fn classes_fit(rule: &Rule, widths: &[Width]) -> bool
     true
 }
 
-/// Whether a class may have the width.
+/// Whether a class may have the width by itself.
 pub(crate) fn class_fits(rule: &Rule, class: usize, width: Width) -> bool
     ensures { IsTrue result ↔ MayHaveWidth rule.now class width }
 {
-    let bits = width.bits();
+    match other_fixed_width(rule, class, &Some(width)) {
+        Some(_) => false,
+        None => literals_fit(rule, class, width.bits()),
+    }
+}
+
+/// Whether the literals of the class fit a width of so many bits.
+fn literals_fit(rule: &Rule, class: usize, bits: u32) -> bool
+    requires { (1 ≤ bits) × (bits ≤ 64) }
+    ensures { IsTrue result ↔ LiteralsFit (operands_in rule.now) class bits }
+{
     statements_fit(rule.source.as_slice(), class, bits)
         && statements_fit(rule.target.as_slice(), class, bits)
 }
 
-/// Whether the operands of the class among those of statements fit a width of so many bits.
+/// The same among the operands of statements.
 fn statements_fit(statements: &[Statement], class: usize, bits: u32) -> bool
     requires { (1 ≤ bits) × (bits ≤ 64) }
-    ensures { IsTrue result ↔ OperandsFit (flat_map (λ s. operands_of s.op) statements.now) class bits }
+    ensures { IsTrue result ↔ LiteralsFit (flat_map (λ s. operands_of s.op) statements.now) class bits }
 {
     for statement in statements {
-        if !op_fits(statement.op, class, bits) {
+        let operands = Operands::of(statement.op);
+        if !operands_fit(operands.as_slice(), class, bits) {
             return false;
         }
     }
     true
 }
 
-/// The same among those of one operation.
-fn op_fits(op: Op, class: usize, bits: u32) -> bool
+/// The same among operands.
+fn operands_fit(operands: &[Operand], class: usize, bits: u32) -> bool
     requires { (1 ≤ bits) × (bits ≤ 64) }
-    ensures { IsTrue result ↔ OperandsFit (operands_of op) class bits }
+    ensures { IsTrue result ↔ LiteralsFit operands.now class bits }
 {
-    match op {
-        Op::Binary(_, _, left, right) => fits(left, class, bits) && fits(right, class, bits),
-        Op::Copy(operand) => fits(operand, class, bits),
+    for operand in operands {
+        if !fits(*operand, class, bits) {
+            return false;
+        }
     }
+    true
 }
 
-/// Whether an operand fits the width, if it has the class.
+/// Whether an operand fits the width, if it is a literal of the class.
 fn fits(operand: Operand, class: usize, bits: u32) -> bool
     requires { (1 ≤ bits) × (bits ≤ 64) }
     ensures { IsTrue result ↔ FitsIn class bits operand }
 {
-    operand.class as usize != class || has_width(operand, bits)
-}
-
-/// Whether an operand fits the width.
-fn has_width(operand: Operand, bits: u32) -> bool
-    requires { (1 ≤ bits) × (bits ≤ 64) }
-    ensures { IsTrue result ↔ FitsOperand bits operand }
-{
-    let fits_written = match operand.written {
-        None => true,
-        Some(written) => bits == written.bits(),
+    let Argument::Literal(literal) = operand.value else {
+        return true;
     };
-    let fits_value = match operand.value {
-        Argument::Register(_) => true,
-        Argument::Literal(literal) => fits_literal(bits, literal),
-        Argument::Truth(_) => bits == 1,
-    };
-    fits_written && fits_value
+    operand.class as usize != class || fits_literal(bits, literal)
 }
 
 /// Whether the literal is a number of `iN`, without a sign or with one.
@@ -123,9 +129,13 @@ fn past_statements(statements: &[Statement]) -> usize
 fn past_statement(statement: &Statement) -> usize
     ensures { IsPast (classes_of_statement statement.now) result }
 {
+    let first = statement.class;
     let class = match statement.op {
-        Op::Binary(_, _, left, right) => statement.class.max(left.class).max(right.class),
-        Op::Copy(operand) => statement.class.max(operand.class),
+        Op::Binary(_, _, left, right) => first.max(left.class).max(right.class),
+        Op::Compare(_, left, right) => first.max(left.class).max(right.class),
+        Op::Select(condition, yes, no) => first.max(condition.class).max(yes.class).max(no.class),
+        Op::Convert(_, operand, _) => first.max(operand.class),
+        Op::Copy(operand) => first.max(operand.class),
     };
     class as usize + 1
 }

@@ -1,148 +1,135 @@
-//! Classes with a fixed width, and classes with a name in the source.
+//! Widths that lines of the table of types fix.
 
-ghost use Rattle.std.specs.Prelude.{◌≡◌, ◌≤◌, ◌<◌, ◌↔◌, ℕ, List as Seq, IsTrue, IfSome, IfNone, Contains, flat_map};
-ghost use Rattle.std.specs.Bool.{OnTrue, OnFalse};
+ghost use Rattle.std.specs.Prelude.{◌≡◌, ◌≢◌, ◌↔◌, ℕ, Bool, Some, IfSome, IfNone, Contains};
 ghost use Rattle.rule_core.specs.declared.rule.Statement.{Statement};
-ghost use Rattle.rule_core.specs.Positions.{operands_of, operands_in};
-ghost use Rattle.rule_core.specs.Typing.{IsTyping};
-ghost use Rattle.rule_typing.specs.Classes.{IsClassified, HasClasses, FixesWidth, Fixes, FixesClass, IsRegisterOf, ReadsClass, NamesClass, IsNamedInSource};
-ghost use Rattle.rule_typing.specs.Fitting.{IsLargest};
-ghost use Rattle.rule_typing.specs.Faults.{HasNoTyping, IsOpen, HasOpenClass};
+ghost use Rattle.rule_core.specs.declared.rule.Argument.TheVariants as arguments;
+ghost use Rattle.rule_core.specs.Positions.{Fixed};
+ghost use Rattle.rule_typing.specs.Fixing.{fixed_line, FixesWidth, OperandFixes, StatementFixes};
 
-use crate::fits::class_fits;
+use crate::operands::Operands;
 use ops::Width;
 use rule_core::{Argument, Op, Operand, Rule, Statement};
 
-/// Whether some widths are a typing of the rule: each class has its fixed width, or else 64, since a literal that fits a width fits
-/// all larger ones.
-pub(crate) fn has_typing(rule: &Rule, count: usize) -> bool
-    requires classes { IsClassified rule.now }
-    requires count { HasClasses rule.now count }
-    ensures some { OnTrue result ((typing : Seq ℕ) × IsTyping rule.now typing) }
-    ensures none { OnFalse result (HasNoTyping rule.now) }
-{
-    for class in 0..count {
-        if !class_fits(rule, class, largest_width(rule, class)) {
-            return false;
-        }
-    }
-    true
-}
-
-/// The largest width that a class may have: its fixed one, or else 64.
-fn largest_width(rule: &Rule, class: usize) -> Width
-    ensures { IsLargest rule.now class result }
-{
-    match fixed_width(rule, class) {
-        Some(width) => width,
-        None => match Width::new(64) {
-            Some(width) => width,
-            None => unreachable!(),
-        },
-    }
-}
-
-/// Whether some class has neither a name in the source nor a fixed width.
-pub(crate) fn has_open_class(rule: &Rule, count: usize) -> bool
-    requires { HasClasses rule.now count }
-    ensures { IsTrue result ↔ HasOpenClass rule.now }
-{
-    for class in 0..count {
-        if is_open(rule, class) {
-            return true;
-        }
-    }
-    false
-}
-
-/// Whether the class has neither.
-fn is_open(rule: &Rule, class: usize) -> bool
-    ensures { IsTrue result ↔ IsOpen rule.now class }
-{
-    match fixed_width(rule, class) {
-        Some(_) => false,
-        None => !is_named(rule.source.as_slice(), class),
-    }
-}
-
-/// The first width that is fixed for the class: by a type that is written, or by `true` or `false`.
+/// The first width that is fixed for the class, in the order of the rule's text.
 pub(crate) fn fixed_width(rule: &Rule, class: usize) -> Option<Width>
-    ensures some { IfSome result (λ N. FixesClass rule.now class N) }
-    ensures none { IfNone result ((N : ℕ) → ¬ FixesClass rule.now class N) }
+    ensures some { IfSome result (λ N. Fixed rule.now class N) }
+    ensures none { IfNone result ((N : ℕ) → ¬ Fixed rule.now class N) }
 {
-    match fixed_by_statements(rule.source.as_slice(), class) {
+    other_fixed_width(rule, class, &None)
+}
+
+/// The first such width but a certain one, if one is given.
+pub(crate) fn other_fixed_width(rule: &Rule, class: usize, but: &Option<Width>) -> Option<Width>
+    ensures some { IfSome result (λ N. Fixed rule.now class N × (but.now ≢ Some N)) }
+    ensures none { IfNone result ((N : ℕ) → Fixed rule.now class N → but.now ≡ Some N) }
+{
+    match fixed_by_statements(rule.source.as_slice(), class, but) {
         Some(width) => Some(width),
-        None => fixed_by_statements(rule.target.as_slice(), class),
+        None => fixed_by_statements(rule.target.as_slice(), class, but),
     }
 }
 
-/// The same among the operands of statements.
-fn fixed_by_statements(statements: &[Statement], class: usize) -> Option<Width>
-    ensures some { IfSome result (λ N. Fixes (flat_map (λ s. operands_of s.op) statements.now) class N) }
-    ensures none { IfNone result ((N : ℕ) → ¬ Fixes (flat_map (λ s. operands_of s.op) statements.now) class N) }
+/// The same among the lines and the operands of statements.
+fn fixed_by_statements(statements: &[Statement], class: usize, but: &Option<Width>) -> Option<Width>
+    ensures some { IfSome result (λ N. ((s : Statement) × Contains statements.now s × StatementFixes class N s) × (but.now ≢ Some N)) }
+    ensures none { IfNone result ((s : Statement) (N : ℕ) → Contains statements.now s → StatementFixes class N s → but.now ≡ Some N) }
 {
     for statement in statements {
-        if let Some(width) = fixed_by_op(statement.op, class) {
+        if let Some(width) = fixed_by_statement(statement, class, but) {
             return Some(width);
         }
     }
     None
 }
 
-/// The same among the operands of one operation.
-fn fixed_by_op(op: Op, class: usize) -> Option<Width>
-    ensures some { IfSome result (λ N. Fixes (operands_of op) class N) }
-    ensures none { IfNone result ((N : ℕ) → ¬ Fixes (operands_of op) class N) }
+/// The same for one statement.
+fn fixed_by_statement(statement: &Statement, class: usize, but: &Option<Width>) -> Option<Width>
+    ensures some { IfSome result (λ N. StatementFixes class N statement.now × (but.now ≢ Some N)) }
+    ensures none { IfNone result ((N : ℕ) → StatementFixes class N statement.now → but.now ≡ Some N) }
 {
-    match op {
-        Op::Binary(_, _, left, right) => match fixed_by(left, class) {
-            Some(width) => Some(width),
-            None => fixed_by(right, class),
-        },
-        Op::Copy(operand) => fixed_by(operand, class),
+    match unless(fixed_by_line(statement, class), but) {
+        Some(width) => Some(width),
+        None => {
+            let operands = Operands::of(statement.op);
+            fixed_by_operands(operands.as_slice(), class, but)
+        }
     }
 }
 
-/// The same for one operand.
-fn fixed_by(operand: Operand, class: usize) -> Option<Width>
-    ensures some { IfSome result (λ N. FixesWidth class N operand) }
-    ensures none { IfNone result ((N : ℕ) → ¬ FixesWidth class N operand) }
+/// The width that the line of a statement fixes for the class, if it fixes one.
+fn fixed_by_line(statement: &Statement, class: usize) -> Option<Width>
+    ensures { (N : ℕ) → (result ≡ Some N) ↔ (fixed_line statement.now.class statement.now.op ≡ Some (class, N)) }
 {
-    if operand.class as usize != class {
-        return None;
-    }
-    match (operand.written, operand.value) {
-        (Some(width), _) => Some(width),
-        (None, Argument::Truth(_)) => Width::new(1),
+    match fixed_line(statement.class, statement.op) {
+        Some((fixed, width)) if fixed as usize == class => Some(width),
         _ => None,
     }
 }
 
-/// Whether a register that these statements assign or read has the class.
-fn is_named(statements: &[Statement], class: usize) -> bool
-    ensures { IsTrue result ↔ ((s : Statement) × Contains statements.now s × NamesClass class s) }
-{
-    for statement in statements {
-        if statement.class as usize == class || reads_class(statement.op, class) {
-            return true;
-        }
-    }
-    false
-}
-
-/// Whether a register that the operation reads has the class.
-fn reads_class(op: Op, class: usize) -> bool
-    ensures { IsTrue result ↔ ReadsClass (operands_of op) class }
+/// The class for which the line of an operation fixes a width, and that width, if it fixes one. The result has the class given.
+fn fixed_line(result_class: u32, op: Op) -> Option<(u32, Width)>
+    ensures { result ≡ fixed_line result_class op }
 {
     match op {
-        Op::Binary(_, _, left, right) => is_register_of(left, class)
-            || is_register_of(right, class),
-        Op::Copy(operand) => is_register_of(operand, class),
+        Op::Binary(_, _, _, _) => None,
+        Op::Compare(_, _, _) => Some((result_class, one_bit())),
+        Op::Select(condition, _, _) => Some((condition.class, one_bit())),
+        Op::Convert(_, _, None) => None,
+        Op::Convert(_, _, Some(width)) => Some((result_class, width)),
+        Op::Copy(_) => None,
     }
 }
 
-fn is_register_of(operand: Operand, class: usize) -> bool
-    ensures { IsTrue result ↔ IsRegisterOf class operand }
+/// The same among operands.
+fn fixed_by_operands(operands: &[Operand], class: usize, but: &Option<Width>) -> Option<Width>
+    ensures some { IfSome result (λ N. OperandFixes operands.now class N × (but.now ≢ Some N)) }
+    ensures none { IfNone result ((N : ℕ) → OperandFixes operands.now class N → but.now ≡ Some N) }
 {
-    operand.class as usize == class && matches!(operand.value, Argument::Register(_))
+    for operand in operands {
+        if let Some(width) = fixed_by(*operand, class, but) {
+            return Some(width);
+        }
+    }
+    None
+}
+
+/// The same for one operand: by its type, or as `true` or `false`.
+fn fixed_by(operand: Operand, class: usize, but: &Option<Width>) -> Option<Width>
+    ensures some { IfSome result (λ N. FixesWidth class N operand × (but.now ≢ Some N)) }
+    ensures none { IfNone result ((N : ℕ) → FixesWidth class N operand → but.now ≡ Some N) }
+{
+    if operand.class as usize != class {
+        return None;
+    }
+    match unless(operand.written, but) {
+        Some(width) => Some(width),
+        None => unless(fixed_by_value(operand.value), but),
+    }
+}
+
+/// The width of `true` and `false`.
+fn fixed_by_value(value: Argument) -> Option<Width>
+    ensures { (N : ℕ) → (result ≡ Some N) ↔ (((b : Bool) × (value ≡ arguments.Truth b)) × (N ≡ 1)) }
+{
+    match value {
+        Argument::Truth(_) => Some(one_bit()),
+        Argument::Register(_) | Argument::Literal(_) => None,
+    }
+}
+
+/// The width, unless it is that certain one.
+fn unless(width: Option<Width>, but: &Option<Width>) -> Option<Width>
+    ensures some { IfSome result (λ N. (width ≡ Some N) × (but.now ≢ Some N)) }
+    ensures none { IfNone result ((N : ℕ) → width ≡ Some N → but.now ≡ Some N) }
+{
+    if width == *but { None } else { width }
+}
+
+fn one_bit() -> Width
+    ensures { result ≡ 1 }
+{
+    match Width::new(1) {
+        Some(width) => width,
+        None => unreachable!(),
+    }
 }

@@ -5,14 +5,18 @@
 #![tactic(auto)]
 
 mod answer;
+mod casts;
 mod classes;
-mod combinations;
 mod enumeration;
 mod fits;
 mod fixed;
 mod laws;
 mod lines;
+mod open_classes;
+mod operands;
 mod relabelling;
+mod solving;
+mod widths;
 
 pub use answer::Typings;
 pub use classes::{ClassFault, MOST_CLASSES, classify};

@@ -1,11 +1,12 @@
 //! Lines of the table of types that a rule's classes do not meet yet.
 
-ghost use Rattle.std.specs.Prelude.{◌≡◌, ◌≢◌, ℕ, [], ◌∷◌, Some, IfSome, IfNone, MatchResult, slice_get, option_map, flat_map};
+ghost use Rattle.std.specs.Prelude.{◌≡◌, ◌≢◌, ◌⊎◌, ℕ, [], ◌∷◌, Some, IfSome, IfNone, MatchResult, slice_get, option_map, flat_map};
 ghost use Rattle.rule_core.specs.Checks.{IsRule};
 ghost use Rattle.rule_core.specs.declared.rule.Register.{Register};
 ghost use Rattle.rule_core.specs.Positions.{Line, Names, operands_of};
 ghost use Rattle.rule_typing.specs.Splits.{OpLine, StatementsLine, Agrees, Differ, assigned_class, HasRootClass, IsRootClass};
 
+use crate::operands::Operands;
 use rule_core::{Argument, Op, Operand, Register, Rule, Statement};
 
 /// Two classes that one line keeps at one width, or `None` where each line's are one.
@@ -42,22 +43,34 @@ fn split_by_op(class: u32, op: Op) -> Option<(u32, u32)>
     ensures none { IfNone result ((c d : ℕ) → OpLine class op c d → c ≡ d) }
 {
     match op {
-        Op::Binary(_, _, left, right) => {
-            if left.class != class {
-                Some((class, left.class))
-            } else if right.class != class {
-                Some((class, right.class))
-            } else {
-                None
-            }
-        }
-        Op::Copy(operand) => {
-            if operand.class != class {
-                Some((class, operand.class))
-            } else {
-                None
-            }
-        }
+        Op::Binary(_, _, left, right) => split_by_two(class, left.class, right.class),
+        Op::Compare(_, left, right) => split_pair(left.class, right.class),
+        Op::Select(_, yes, no) => split_by_two(class, yes.class, no.class),
+        Op::Convert(_, _, _) => None,
+        Op::Copy(operand) => split_pair(class, operand.class),
+    }
+}
+
+/// The first class and one of the two others, if it differs from one.
+fn split_by_two(class: u32, left: u32, right: u32) -> Option<(u32, u32)>
+    ensures split { IfSome result (λ pair. (pair.0 ≡ class) × ((pair.1 ≡ left) ⊎ (pair.1 ≡ right)) × (pair.0 ≢ pair.1)) }
+    ensures none { IfNone result ((class ≡ left) × (class ≡ right)) }
+{
+    match split_pair(class, left) {
+        Some(pair) => Some(pair),
+        None => split_pair(class, right),
+    }
+}
+
+/// The two classes, if they differ.
+fn split_pair(left: u32, right: u32) -> Option<(u32, u32)>
+    ensures split { IfSome result (λ pair. (pair.0 ≡ left) × (pair.1 ≡ right) × (left ≢ right)) }
+    ensures none { IfNone result (left ≡ right) }
+{
+    if left == right {
+        None
+    } else {
+        Some((left, right))
     }
 }
 
@@ -166,7 +179,8 @@ fn agree_all(
 {
     let mut class = first;
     for statement in statements {
-        match agree(class, register, statement.op) {
+        let operands = Operands::of(statement.op);
+        match agree(class, register, operands.as_slice()) {
             Ok(next) => class = next,
             Err(pair) => return Err(pair),
         }
@@ -174,17 +188,22 @@ fn agree_all(
     Ok(class)
 }
 
-/// The same once the operands of one operation are seen.
-fn agree(first: Option<u32>, register: Register, op: Op) -> Result<Option<u32>, (u32, u32)>
-    ensures { MatchResult result (Agrees (operands_of op) register first) (λ pair. Differ (operands_of op) register first pair.0 pair.1) }
+/// The same once operands are seen.
+fn agree(
+    first: Option<u32>,
+    register: Register,
+    operands: &[Operand],
+) -> Result<Option<u32>, (u32, u32)>
+    ensures { MatchResult result (Agrees operands.now register first) (λ pair. Differ operands.now register first pair.0 pair.1) }
 {
-    match op {
-        Op::Binary(_, _, left, right) => {
-            let class = agree_operand(first, register, left)?;
-            agree_operand(class, register, right)
+    let mut class = first;
+    for operand in operands {
+        match agree_operand(class, register, *operand) {
+            Ok(next) => class = next,
+            Err(pair) => return Err(pair),
         }
-        Op::Copy(operand) => agree_operand(first, register, operand),
     }
+    Ok(class)
 }
 
 /// The same once one operand is seen.

@@ -1,7 +1,7 @@
 //! Other numbers for the classes of a rule.
 
 ghost use Rattle.std.specs.Prelude.{◌≡◌, ◌+◌, ◌<◌, ◌^◌, length, map, flat_map};
-ghost use Rattle.rule_core.specs.Positions.{classes_of_statement, classes_of};
+ghost use Rattle.rule_core.specs.Positions.{operands_of, classes_of_statement, classes_of};
 ghost use Rattle.rule_typing.specs.Relabelling.{mapped_op, mapped_statement, mapped, numbered_op, numbered_statement, numbered_statements, numbered, renamed};
 
 use lists::List;
@@ -35,21 +35,34 @@ impl Renaming {
         }
     }
 
+    fn operand(self, operand: Operand) -> Operand
+        ensures { result ≡ record operand { class = renamed self operand.class } }
+    {
+        with_class(operand, self.of(operand.class))
+    }
+
     fn op(self, op: Op) -> Op
         ensures { result ≡ mapped_op (renamed self) op }
     {
         match op {
-            Op::Binary(opcode, flags, left, right) => {
-                let left_class = self.of(left.class);
-                let right_class = self.of(right.class);
-                Op::Binary(
-                    opcode,
-                    flags,
-                    with_class(left, left_class),
-                    with_class(right, right_class),
-                )
-            }
-            Op::Copy(operand) => Op::Copy(with_class(operand, self.of(operand.class))),
+            Op::Binary(opcode, flags, left, right) => Op::Binary(
+                opcode,
+                flags,
+                self.operand(left),
+                self.operand(right),
+            ),
+            Op::Compare(pred, left, right) => Op::Compare(
+                pred,
+                self.operand(left),
+                self.operand(right),
+            ),
+            Op::Select(condition, yes, no) => Op::Select(
+                self.operand(condition),
+                self.operand(yes),
+                self.operand(no),
+            ),
+            Op::Convert(cast, operand, to) => Op::Convert(cast, self.operand(operand), to),
+            Op::Copy(operand) => Op::Copy(self.operand(operand)),
         }
     }
 
@@ -107,19 +120,44 @@ fn number_statement(statement: &mut Statement, first: u32) -> u32
     ensures behind { result ≡ first + length (classes_of_statement statement.old) }
 {
     statement.class = first;
-    match statement.op {
+    let (op, behind) = numbered_op(statement.op, first + 1);
+    statement.op = op;
+    behind
+}
+
+/// The operation with numbers for the classes of its operands, and the number behind them.
+fn numbered_op(op: Op, first: u32) -> (Op, u32)
+    requires { first + length (operands_of op) < 2 ^ 32 }
+    ensures numbered { result.0 ≡ numbered_op first op }
+    ensures behind { result.1 ≡ first + length (operands_of op) }
+{
+    match op {
         Op::Binary(opcode, flags, left, right) => {
-            statement.op = Op::Binary(
-                opcode,
-                flags,
-                with_class(left, first + 1),
-                with_class(right, first + 2),
-            );
-            first + 3
+            let left = with_class(left, first);
+            (
+                Op::Binary(opcode, flags, left, with_class(right, first + 1)),
+                first + 2,
+            )
         }
-        Op::Copy(operand) => {
-            statement.op = Op::Copy(with_class(operand, first + 1));
-            first + 2
+        Op::Compare(pred, left, right) => {
+            let left = with_class(left, first);
+            (
+                Op::Compare(pred, left, with_class(right, first + 1)),
+                first + 2,
+            )
         }
+        Op::Select(condition, yes, no) => {
+            let condition = with_class(condition, first);
+            let yes = with_class(yes, first + 1);
+            (
+                Op::Select(condition, yes, with_class(no, first + 2)),
+                first + 3,
+            )
+        }
+        Op::Convert(cast, operand, to) => (
+            Op::Convert(cast, with_class(operand, first), to),
+            first + 1,
+        ),
+        Op::Copy(operand) => (Op::Copy(with_class(operand, first)), first + 1),
     }
 }

@@ -13,7 +13,7 @@ returns-then-count-gt-MOST_CLASSES c = record { ok = tt; fault = (8, (c.requires
 
 pub returns-then-not-has_typing : goal.returns-then-not-has_typing
 returns-then-not-has_typing c =
-    record { ok = tt; fault = (few c.args.rule.now c.args.count c.requires.count c.if-count-gt-MOST_CLASSES.false, c.if-not-has_typing.ensures.none) }
+    record { ok = tt; fault = (few c.args.rule.now c.args.count c.requires.count c.if-count-gt-MOST_CLASSES.false, λ typing typed. fails c.has_typing.result c.has_typing.ensures c.if-not-has_typing.true (typing, typed)) }
 
 pub returns-then-has_open_class : goal.returns-then-has_open_class
 returns-then-has_open_class c =
@@ -21,7 +21,7 @@ returns-then-has_open_class c =
       ok = tt;
       fault = (
         few c.args.rule.now c.args.count c.requires.count c.if-count-gt-MOST_CLASSES.false,
-        λ none. let (widths, typing) = c.if-not-has_typing.ensures.some in none widths typing,
+        λ none. let (widths, typing) = holds c.has_typing.result c.has_typing.ensures c.if-not-has_typing.false in none widths typing,
         holds c.has_open_class.result c.has_open_class.ensures c.if-has_open_class.true,
       );
     }
@@ -31,7 +31,7 @@ returns c =
     record {
       ok = record {
         few = few c.args.rule.now c.args.count c.requires.count c.if-count-gt-MOST_CLASSES.false;
-        typed = λ none. let (widths, typing) = c.if-not-has_typing.ensures.some in none widths typing;
+        typed = λ none. let (widths, typing) = holds c.has_typing.result c.has_typing.ensures c.if-not-has_typing.false in none widths typing;
         closed = fails c.has_open_class.result c.has_open_class.ensures c.if-has_open_class.false;
       };
       fault = tt;

@@ -1,10 +1,12 @@
-use Rattle.std.proofs.Common.{◌≡◌, ℕ, List, length, Some}
+use Rattle.std.proofs.Common.{◌≡◌, ℕ, length, Some}
 use Rattle.std.specs.Prelude.{slice_get}
-use Rattle.rule_typing.specs.Enumeration.{AreChoices}
+use Rattle.rule_typing.specs.declared.widths.Widths.{Widths}
+use Rattle.rule_typing.specs.Enumeration.{MayChoose}
+use Rattle.rule_typing.specs.Solving.{HasExactly}
 use Rattle.rule_typing.proofs.enumeration.choices.Given as goal
 
 abbrev pub invariant-loop-class : goal.invariant-loop-class
 invariant-loop-class l = record {
-  count : length l.all ≡ l.class;
-  each : (c : ℕ) (choices : List ℕ) → slice_get l.all c ≡ Some choices → AreChoices l.rule l.widths c choices;
+  count : length l.sets.items ≡ l.class;
+  each : (c : ℕ) (set : Widths) → slice_get l.sets.items c ≡ Some set → HasExactly set (MayChoose l.rule l.widths c);
 }

@@ -1,36 +1,31 @@
-use Rattle.std.proofs.Common.{◌≡◌, ◌∙◌, ◌-◌, ◌^◌, ◌<◌, ◌≤◌, ℕ, min, List, length, sym, ap, arith}
-use Rattle.std.proofs.lemmas.List.{nil_from_length}
-use Rattle.rule_core.specs.declared.rule.Rule.{Rule}
-use Rattle.rule_typing.specs.Combinations.{combinations}
-use Rattle.rule_typing.specs.Enumeration.{AreAllTypings}
-use Rattle.rule_typing.proofs.Choices.{all_typings}
+use Rattle.std.proofs.Common.{arith}
+use Rattle.std.proofs.lemmas.List.{length_push}
+use Rattle.rule_typing.proofs.Answered.{all_found, too_many}
+use Rattle.rule_typing.proofs.Found.{first_found, found_more}
 use Rattle.rule_typing.proofs.enumeration.typings.Goals as goal
 
--- a count that is not capped is the length
-within : (count whole most : ℕ) → count ≡ min whole (2 ^ 64 - 1) → count ≤ most → most < 2 ^ 32 → whole ≤ most
-within count whole most is at_most small = omega arith
+pub least_typing-requires-clause-count : goal.least_typing-requires-clause-count
+least_typing-requires-clause-count c = rw c.deref.ensures.value c.in_ok-sets.ensures.count
 
--- the combinations of the choices, as they were found
-found : (rule : Rule) (widths : List ℕ) (choices list : List (List ℕ)) (most : ℕ) → AreAllTypings rule widths (combinations choices) → list ≡ combinations choices → length (combinations choices) ≤ most → AreAllTypings rule widths list × (length list ≤ most)
-found rule widths choices list most all is at_most = rw is (all, at_most)
+pub loop-next-init : goal.loop-next-init
+loop-next-init c = rw c.new-found.ensures (first_found c.args.rule.now c.in_ok-sets.sets.items c.in_ok-next.next (rw c.deref.ensures.value at c.in_ok-next.ensures), omega arith)
 
-pub returns-then-count-most : goal.returns-then-count-most
-returns-then-count-most c =
-    let choices : List (List ℕ) = c.in_ok-choices.choices in
-    let counted : c.count_combinations-count.result ≡ min (length (combinations choices)) (2 ^ 64 - 1) = c.count_combinations-count.ensures ∙ ap (λ l. min (length (combinations l)) (2 ^ 64 - 1)) c.as_slice.ensures in
-    (combinations choices, all_typings c.args.rule.now c.args.widths.now choices c.requires.classes c.in_ok-choices.ensures.count c.in_ok-choices.ensures.each, omega arith)
+pub returns-then-len-most : goal.returns-then-len-most
+returns-then-len-most c =
+    too_many c.args.rule.now c.args.widths.now c.in_ok-sets.sets.items c.requires c.in_ok-sets.ensures.count (rw c.as_slice.ensures at c.in_ok-sets.ensures.each) c.loop-next.found c.in-Some.typing
+    (rw c.in-Some.is at c.loop-next.invariant.0) c.args.most (omega (arith, c.len.ensures, c.if-len-most.true))
 
-pub returns-then-count-eq0 : goal.returns-then-count-eq0
-returns-then-count-eq0 c =
-    let choices : List (List ℕ) = c.in_ok-choices.choices in
-    let counted : c.count_combinations-count.result ≡ min (length (combinations choices)) (2 ^ 64 - 1) = c.count_combinations-count.ensures ∙ ap (λ l. min (length (combinations l)) (2 ^ 64 - 1)) c.as_slice.ensures in
-    let none : length (combinations choices) ≡ 0 = omega arith in
-    found c.args.rule.now c.args.widths.now choices c.new.result c.args.most (all_typings c.args.rule.now c.args.widths.now choices c.requires.classes c.in_ok-choices.ensures.count c.in_ok-choices.ensures.each)
-    (c.new.ensures ∙ sym (nil_from_length (combinations choices) none)) (omega arith)
+pub next_typing-requires-clause-count : goal.next_typing-requires-clause-count
+next_typing-requires-clause-count c = rw c.deref-in-Some.ensures.value c.in_ok-sets.ensures.count
+
+pub loop-next-preserved : goal.loop-next-preserved
+loop-next-preserved c =
+    rw c.in_ok-push.ensures.ok (
+      found_more c.args.rule.now c.in_ok-sets.sets.items c.loop-next.found c.in-Some.typing (rw c.in-Some.is at c.loop-next.invariant.0) c.in_ok-next-2.next
+          (rw (c.deref-in-Some.ensures.value, c.as_slice-in-Some.ensures) at c.in_ok-next-2.ensures),
+      omega (arith, length_push c.loop-next.found c.in-Some.typing, c.len.ensures, c.if-len-most.false),
+    )
 
 pub returns : goal.returns
 returns c =
-    let choices : List (List ℕ) = c.in_ok-choices.choices in
-    let counted : c.count_combinations-count.result ≡ min (length (combinations choices)) (2 ^ 64 - 1) = c.count_combinations-count.ensures ∙ ap (λ l. min (length (combinations l)) (2 ^ 64 - 1)) c.as_slice.ensures in
-    found c.args.rule.now c.args.widths.now choices c.in_ok-combine.field-0 c.args.most (all_typings c.args.rule.now c.args.widths.now choices c.requires.classes c.in_ok-choices.ensures.count c.in_ok-choices.ensures.each)
-    (c.in_ok-combine.ensures ∙ ap combinations c.as_slice-2.ensures) (within c.count_combinations-count.result (length (combinations choices)) c.args.most counted c.if-count-most.false (omega arith))
+    (all_found c.args.rule.now c.args.widths.now c.in_ok-sets.sets.items c.requires c.in_ok-sets.ensures.count (rw c.as_slice.ensures at c.in_ok-sets.ensures.each) c.loop-next.found (rw c.in_default.is at c.loop-next.invariant.0), c.loop-next.invariant.1)

@@ -1,21 +1,23 @@
-use Rattle.std.proofs.Common.{◌≡◌, ◌↔◌, ◌≤◌, ℕ, sym}
+use Rattle.std.proofs.Common.{◌≡◌, ◌↔◌, ◌≤◌, ℕ, Some, sym, ap, subst}
+use Rattle.std.proofs.lemmas.Option.{same_Some}
 use Rattle.rule_core.specs.declared.rule.Rule.{Rule}
-use Rattle.rule_typing.specs.Fitting.{FitsIn, OperandsFit, MayHaveWidth}
-use Rattle.rule_typing.proofs.Among.{both, not_both, each_rule, all_operands}
+use Rattle.rule_core.specs.Positions.{operands_in, Fixed}
+use Rattle.rule_typing.specs.Fitting.{LiteralsFit, MayHaveWidth}
+use Rattle.rule_typing.proofs.Among.{says}
 use Rattle.rule_typing.proofs.fits.class_fits.Goals as goal
 
--- the operands of both halves fit
-in_halves : (rule : Rule) (class width bits : ℕ) → bits ≡ width → 1 ≤ bits → bits ≤ 64
-    → (OperandsFit (all_operands rule.source) class bits × OperandsFit (all_operands rule.target) class bits) ↔ MayHaveWidth rule class width
-in_halves rule class width bits same low high =
-    rw (sym same) (λ h. (low, high, (each_rule (FitsIn class bits) rule).0 h), λ may. (each_rule (FitsIn class bits) rule).1 may.2)
+-- no other width is fixed, and literals fit
+by_literals : (rule : Rule) (c N bits : ℕ) → bits ≡ N → 1 ≤ bits → bits ≤ 64 → ((M : ℕ) → Fixed rule c M → Some N ≡ Some M) → LiteralsFit (operands_in rule) c bits ↔ MayHaveWidth rule c N
+by_literals rule c N bits same low high only =
+    rw (sym same) (
+      λ fit. record { within = (low, high); fixed = λ M fixed. sym (same_Some bits M (subst (λ n. Some n ≡ Some M) (sym same) (only M fixed))); literals = λ o z among is e. fit o among z is e },
+      λ may o among z is e. may.literals o z among is e,
+    )
 
-pub returns-then-statements_fit : goal.returns-then-statements_fit
-returns-then-statements_fit c =
-    both c.statements_fit.result c.statements_fit-then-statements_fit.result (rw c.as_slice.ensures at c.statements_fit.ensures) (rw c.as_slice-then-statements_fit.ensures at c.statements_fit-then-statements_fit.ensures)
-    (in_halves c.args.rule.now c.args.class c.args.width c.bits-bits.result c.bits-bits.ensures.bits c.bits-bits.ensures.at_least_one c.bits-bits.ensures.at_most_64) c.if-statements_fit.true
+pub returns-in-Some : goal.returns-in-Some
+returns-in-Some c = (λ h. cc, λ may. absurd (c.in-Some.ensures.some.1 (ap (λ n. Some n) (sym (may.fixed c.in-Some.field-0 c.in-Some.ensures.some.0)))))
 
-pub returns-else-statements_fit : goal.returns-else-statements_fit
-returns-else-statements_fit c =
-    not_both c.statements_fit.result (rw c.as_slice.ensures at c.statements_fit.ensures)
-    (in_halves c.args.rule.now c.args.class c.args.width c.bits-bits.result c.bits-bits.ensures.bits c.bits-bits.ensures.at_least_one c.bits-bits.ensures.at_most_64) c.if-statements_fit.false
+pub returns-in-None : goal.returns-in-None
+returns-in-None c =
+    says c.literals_fit.result c.literals_fit.ensures
+    (by_literals c.args.rule.now c.args.class c.args.width c.bits.result c.bits.ensures.bits c.bits.ensures.at_least_one c.bits.ensures.at_most_64 c.in-None.ensures.none)

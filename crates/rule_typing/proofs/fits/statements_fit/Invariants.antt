@@ -1,7 +1,7 @@
 use Rattle.rule_core.specs.Positions.{operands_of}
-use Rattle.rule_typing.specs.Fitting.{OperandsFit}
+use Rattle.rule_typing.specs.Fitting.{LiteralsFit}
 use Rattle.rule_typing.proofs.Among.{SoFar}
 use Rattle.rule_typing.proofs.fits.statements_fit.Given as goal
 
 abbrev pub invariant-loop-statement : goal.invariant-loop-statement
-invariant-loop-statement l = SoFar (λ s. OperandsFit (operands_of s.op) l.class l.bits) l.statements l.statement-index
+invariant-loop-statement l = SoFar (λ s. LiteralsFit (operands_of s.op) l.class l.bits) l.statements l.statement-index

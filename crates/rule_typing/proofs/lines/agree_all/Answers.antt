@@ -36,10 +36,10 @@ pub returns-in-Err : goal.returns-in-Err
 unfolding all_operands
 returns-in-Err c =
     differ_next c.args.statements.now c.loop-statement.statement-index c.statement-item.result c.args.register c.args.first c.loop-statement.class c.in-Err.pair.0 c.in-Err.pair.1
-    c.loop-statement-test.true c.statement-item.is c.loop-statement.invariant c.in-Err.ensures
+    c.loop-statement-test.true c.statement-item.is c.loop-statement.invariant (rw (c.as_slice.ensures, c.of-operands.ensures) at c.in-Err.ensures)
 
 pub loop-statement-preserved : goal.loop-statement-preserved
 unfolding all_operands
 loop-statement-preserved c =
     agrees_next c.args.statements.now c.loop-statement.statement-index c.statement-item.result c.args.register c.args.first c.loop-statement.class c.in-Ok.next
-    c.loop-statement-test.true c.statement-item.is c.loop-statement.invariant c.in-Ok.ensures
+    c.loop-statement-test.true c.statement-item.is c.loop-statement.invariant (rw (c.as_slice.ensures, c.of-operands.ensures) at c.in-Ok.ensures)

@@ -4,7 +4,7 @@ use Rattle.rule_core.specs.declared.rule.Rule.{Rule}
 use Rattle.rule_core.specs.declared.rule.Register.{Register}
 use Rattle.rule_core.specs.Positions.{Names, Line, register}
 use Rattle.rule_typing.specs.Splits.{StatementsLine}
-use Rattle.rule_typing.proofs.NameLines.{statements_line, line_cases}
+use Rattle.rule_typing.proofs.NameLines.{statements_line, line_parts}
 use Rattle.rule_typing.proofs.lines.split_line.Goals as goal
 
 names_split : (rule : Rule) (answer : Option (ℕ × ℕ)) → IfSome answer (λ pair. ((r : Register) × Names rule r pair.0 × Names rule r pair.1) × (pair.0 ≢ pair.1)) → IfSome answer (λ pair. Line rule pair.0 pair.1 × (pair.0 ≢ pair.1))
@@ -14,7 +14,7 @@ names_split rule (Some (c, d)) ((r, p, q), apart) = (register p q, apart)
 none_split : (rule : Rule) (answer : Option (ℕ × ℕ)) → ((c d : ℕ) → StatementsLine rule.source c d → c ≡ d) → ((c d : ℕ) → StatementsLine rule.target c d → c ≡ d)
     → IfNone answer ((r : Register) (c d : ℕ) → Names rule r c → Names rule r d → c ≡ d) → IfNone answer ((c d : ℕ) → Line rule c d → c ≡ d)
 none_split rule (Some pair) source target h = tt
-none_split rule None source target h = λ c d line. elim (line_cases rule c d line) [
+none_split rule None source target h = λ c d line. elim (line_parts rule c d line) [
   | inl statement ↦ elim statement [ inl at ↦ source c d at | inr at ↦ target c d at ]
   | inr (r, p, q) ↦ h r c d p q
 ]

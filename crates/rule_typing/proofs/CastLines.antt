@@ -1,0 +1,91 @@
+-- What it means that the width of one class is below that of another, in numbers; and where the classes of casts stand.
+use Rattle.std.proofs.Common.{◌≡◌, ◌↔◌, Bool, true, false, not, IsTrue, inl, inr, ℕ, ◌<◌, List, ◌++◌, length, Option, None, Some, refl, sym, subst, arith}
+use Rattle.std.specs.Prelude.{slice_index, Contains, IfSome, IfNone, is_some}
+use Rattle.std.proofs.Math.Decide.{map_dec, dec_lt}
+use Rattle.std.proofs.lemmas.Bool.{cases_lt}
+use Rattle.std.proofs.lemmas.List.Elements.{Contains-append_left, Contains-append_right}
+use Rattle.std.proofs.lemmas.Option.{slice_get-get_or, slice_get_within, get_or_from_slice_get, some_pair_parts}
+use Rattle.ops.specs.declared.conversion.Cast.{Cast}
+use Rattle.ops.specs.declared.conversion.Cast.TheVariants.{Trunc, ZExt, SExt}
+use Rattle.rule_core.specs.declared.rule.Rule.{Rule}
+use Rattle.rule_core.specs.declared.rule.Statement.{Statement}
+use Rattle.rule_core.specs.declared.rule.Op.TheVariants.{Convert}
+use Rattle.rule_core.specs.declared.rule.Operand.{Operand}
+use Rattle.rule_core.specs.Positions.{operands_of, classes_of, IsStatementOf, Smaller, truncated, zero_extended, sign_extended}
+use Rattle.rule_core.proofs.Members.{operand_stands, class_stands}
+use Rattle.rule_typing.specs.Fixing.{smaller_line, IsBelow, IsBroken, CastFits}
+use Rattle.rule_typing.specs.Solving.{MeetsSmaller}
+use Rattle.rule_typing.proofs.Among.{each_half}
+use Rattle.rule_typing.proofs.Deciding.{dec_each}
+use Rattle.rule_typing.proofs.FixedLines.{at_cast, each_cast}
+use Rattle.rule_typing.proofs.MappedLines.{operand_class}
+
+pub below_from : (widths : List ℕ) (c d : ℕ) → slice_index widths c < slice_index widths d → IsBelow widths c d
+below_from widths c d less N M at at' =
+    let low : slice_index widths c ≡ N = get_or_from_slice_get widths c N 0 at in
+    let high : slice_index widths d ≡ M = get_or_from_slice_get widths d M 0 at' in
+    omega arith
+
+pub of_below : (widths : List ℕ) (c d : ℕ) → c < length widths → d < length widths → IsBelow widths c d → slice_index widths c < slice_index widths d
+of_below widths c d within within' below = below (slice_index widths c) (slice_index widths d) (slice_get-get_or widths c 0 within) (slice_get-get_or widths d 0 within')
+
+-- classes of which one is missing are in order
+pub broken_from : (widths : List ℕ) (c d : ℕ) → ¬ IsBelow widths c d → IsBroken widths c d
+broken_from widths c d broken = (
+  elim (cases_lt c (length widths)) [ inl within ↦ within | inr past ↦ absurd (broken (λ N M at at'. let h = slice_get_within widths c N at in absurd (omega arith))) ],
+  elim (cases_lt d (length widths)) [ inl within ↦ within | inr past ↦ absurd (broken (λ N M at at'. let h = slice_get_within widths d M at' in absurd (omega arith))) ],
+  elim (cases_lt (slice_index widths c) (slice_index widths d)) [ inl less ↦ absurd (broken (below_from widths c d less)) | inr most ↦ most ],
+)
+
+not_met : (rule : Rule) (widths : List ℕ) (c d : ℕ) → Smaller rule c d → IsBroken widths c d → ¬ MeetsSmaller rule widths
+not_met rule widths c d line (within, within', most) meets = let h = of_below widths c d within within' (λ N M. meets c d N M line) in omega arith
+
+-- lines of the source and of the target
+pub in_source : (rule : Rule) (line : ℕ × ℕ) → (s : Statement) × Contains rule.source s × (smaller_line s.class s.op ≡ Some line) → Smaller rule line.0 line.1
+in_source rule line (s, among, is) = at_cast rule s s.op line.0 line.1 (Contains-append_left rule.source rule.target s among) refl is
+
+pub in_target : (rule : Rule) (line : ℕ × ℕ) → (s : Statement) × Contains rule.target s × (smaller_line s.class s.op ≡ Some line) → Smaller rule line.0 line.1
+in_target rule line (s, among, is) = at_cast rule s s.op line.0 line.1 (Contains-append_right rule.source rule.target s among) refl is
+
+pub none_broken : (rule : Rule) (widths : List ℕ) (answer : Option (ℕ × ℕ)) → ((s : Statement) → Contains rule.source s → CastFits widths s) → IfNone answer ((s : Statement) → Contains rule.target s → CastFits widths s) → IfNone answer (MeetsSmaller rule widths)
+none_broken rule widths (Some line) source target = tt
+none_broken rule widths None source target = (each_cast rule widths).0 ((each_half (CastFits widths) rule).0 (source, target))
+
+-- the classes of a cast stand in the rule
+of_operand : (rule : Rule) (s : Statement) (cast : Cast) (a : Operand) (to : Option ℕ) → IsStatementOf rule s → s.op ≡ Convert cast a to → Contains (classes_of rule) a.class
+of_operand rule s cast a to stands is = operand_class rule a (operand_stands rule s a stands (subst (λ op. Contains (operands_of op) a) (sym is) (0, omega arith, refl)))
+
+pub smaller_stands : (rule : Rule) (c d : ℕ) → Smaller rule c d → Contains (classes_of rule) c × Contains (classes_of rule) d
+smaller_stands rule c d (truncated {s = s} {a = a} {to = to} stands is) = (class_stands rule s stands, of_operand rule s Trunc a to stands is)
+smaller_stands rule c d (zero_extended {s = s} {a = a} {to = to} stands is) = (of_operand rule s ZExt a to stands is, class_stands rule s stands)
+smaller_stands rule c d (sign_extended {s = s} {a = a} {to = to} stands is) = (of_operand rule s SExt a to stands is, class_stands rule s stands)
+
+-- whether casts fit can be decided
+dec_below : (widths : List ℕ) (c d : ℕ) → Dec (IsBelow widths c d)
+dec_below widths c d = elim (dec_lt (slice_index widths c) (slice_index widths d)) [
+  | yes less ↦ yes (below_from widths c d less)
+  | no most ↦ elim (cases_lt c (length widths)) [
+    | inr past ↦ yes (λ N M at at'. let h = slice_get_within widths c N at in absurd (omega arith))
+    | inl within ↦ elim (cases_lt d (length widths)) [
+      | inr past ↦ yes (λ N M at at'. let h = slice_get_within widths d M at' in absurd (omega arith))
+      | inl within' ↦ no (λ below. most (of_below widths c d within within' below))
+    ]
+  ]
+]
+
+dec_line : (widths : List ℕ) (line : Option (ℕ × ℕ)) → Dec ((c d : ℕ) → line ≡ Some (c, d) → IsBelow widths c d)
+dec_line widths None = yes (λ c d e. cc)
+dec_line widths (Some line) = map_dec
+    (λ below c d e. let (first, second) = some_pair_parts line.0 c line.1 d e in subst (IsBelow widths c) second (subst (λ k. IsBelow widths k line.1) first below))
+    (λ all. all line.0 line.1 refl)
+    (dec_below widths line.0 line.1)
+
+pub dec_lines : (rule : Rule) (widths : List ℕ) → Dec (MeetsSmaller rule widths)
+dec_lines rule widths = map_dec (each_cast rule widths).0 (each_cast rule widths).1 (dec_each (CastFits widths) (rule.source ++ rule.target) (λ s. dec_line widths (smaller_line s.class s.op)))
+
+-- whether there is no broken line says whether all are met
+pub all_met : (rule : Rule) (widths : List ℕ) (line : Option (ℕ × ℕ)) (answer : Bool) → is_some line ≡ not answer → IfSome line (λ l. Smaller rule l.0 l.1 × IsBroken widths l.0 l.1) → IfNone line (MeetsSmaller rule widths) → IsTrue answer ↔ MeetsSmaller rule widths
+all_met rule widths None true is some meets = (λ h. meets, λ h. refl)
+all_met rule widths None false is some meets = cc
+all_met rule widths (Some line) true is (stands, broken) none = cc
+all_met rule widths (Some line) false is (stands, broken) none = (λ h. cc, λ meets. absurd (not_met rule widths line.0 line.1 stands broken meets))

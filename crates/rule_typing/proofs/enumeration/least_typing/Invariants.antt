@@ -1,0 +1,11 @@
+use Rattle.std.proofs.Common.{◌≡◌, ℕ, ◌<◌, length}
+use Rattle.std.specs.Prelude.{Some, slice_get, slice_index}
+use Rattle.rule_typing.specs.declared.widths.Widths.{Widths}
+use Rattle.rule_typing.specs.Solving.{Has, IsLeast, GoesOn}
+use Rattle.rule_typing.proofs.enumeration.least_typing.Given as goal
+
+abbrev pub invariant-loop-class : goal.invariant-loop-class
+invariant-loop-class l = record {
+  count : length l.widths.items ≡ l.class;
+  least : (c : ℕ) (set : Widths) → c < l.class → slice_get l.sets c ≡ Some set → IsLeast (λ N. Has set N × GoesOn l.beginning l.bound c N) (Some (slice_index l.widths.items c));
+}

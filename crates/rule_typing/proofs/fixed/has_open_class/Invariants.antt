@@ -1,6 +1,0 @@
-use Rattle.std.proofs.Common.{◌<◌, ℕ}
-use Rattle.rule_typing.specs.Faults.{IsOpen}
-use Rattle.rule_typing.proofs.fixed.has_open_class.Given as goal
-
-abbrev pub invariant-loop-class : goal.invariant-loop-class
-invariant-loop-class l = (c : ℕ) → c < l.class → IsOpen l.rule c → ⊥

@@ -1,6 +1,0 @@
-use Rattle.rule_typing.specs.Classes.{NamesClass}
-use Rattle.rule_typing.proofs.Among.{SoFar}
-use Rattle.rule_typing.proofs.fixed.is_named.Given as goal
-
-abbrev pub invariant-loop-statement : goal.invariant-loop-statement
-invariant-loop-statement l = SoFar (λ s. NamesClass l.class s → ⊥) l.statements l.statement-index

@@ -1,0 +1,6 @@
+use Rattle.std.proofs.Common.{ℕ, ◌<◌}
+use Rattle.rule_typing.specs.Solving.{Has}
+use Rattle.rule_typing.proofs.widths.Widths.above.Given as goal
+
+abbrev pub invariant-loop-bits : goal.invariant-loop-bits
+invariant-loop-bits l = (N : ℕ) → N < l.bits → l.bound < N → ¬ Has l.self N

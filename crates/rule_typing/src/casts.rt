@@ -1,0 +1,84 @@
+//! The lines of casts, which keep the width of one class below that of another.
+
+ghost use Rattle.std.specs.Prelude.{◌≡◌, ◌↔◌, Some, IsTrue, IfSome, IfNone, Contains};
+ghost use Rattle.rule_core.specs.declared.rule.Statement.{Statement};
+ghost use Rattle.rule_core.specs.Positions.{Smaller};
+ghost use Rattle.rule_typing.specs.Fixing.{smaller_line, IsBelow, IsBroken, CastFits};
+ghost use Rattle.rule_typing.specs.Solving.{MeetsSmaller};
+
+use ops::{Cast, Width};
+use rule_core::{Op, Rule, Statement};
+
+/// Whether the widths, of which each class has the one at its number, meet the line of each cast.
+pub(crate) fn casts_fit(rule: &Rule, widths: &[Width]) -> bool
+    ensures { IsTrue result ↔ MeetsSmaller rule.now widths.now }
+{
+    broken_line(rule, widths).is_none()
+}
+
+/// Two classes of which the width of the first has to be below that of the second, and is not; or `None` where each line is met.
+pub(crate) fn broken_line(rule: &Rule, widths: &[Width]) -> Option<(u32, u32)>
+    ensures some { IfSome result (λ line. Smaller rule.now line.0 line.1 × IsBroken widths.now line.0 line.1) }
+    ensures none { IfNone result (MeetsSmaller rule.now widths.now) }
+{
+    match broken_by_statements(rule.source.as_slice(), widths) {
+        Some(line) => Some(line),
+        None => broken_by_statements(rule.target.as_slice(), widths),
+    }
+}
+
+/// The same for the lines of statements.
+fn broken_by_statements(statements: &[Statement], widths: &[Width]) -> Option<(u32, u32)>
+    ensures some { IfSome result (λ line. ((s : Statement) × Contains statements.now s × (smaller_line s.class s.op ≡ Some line)) × IsBroken widths.now line.0 line.1) }
+    ensures none { IfNone result ((s : Statement) → Contains statements.now s → CastFits widths.now s) }
+{
+    for statement in statements {
+        if let Some(line) = broken_by_statement(statement, widths) {
+            return Some(line);
+        }
+    }
+    None
+}
+
+/// The same for the line of one statement, if it is a cast.
+fn broken_by_statement(statement: &Statement, widths: &[Width]) -> Option<(u32, u32)>
+    ensures some { IfSome result (λ line. (smaller_line statement.now.class statement.now.op ≡ Some line) × IsBroken widths.now line.0 line.1) }
+    ensures none { IfNone result (CastFits widths.now statement.now) }
+{
+    let (smaller, greater) = match smaller_line(statement.class, statement.op) {
+        None => return None,
+        Some(line) => line,
+    };
+    if is_below(widths, smaller, greater) {
+        None
+    } else {
+        Some((smaller, greater))
+    }
+}
+
+/// The class that the line of an operation keeps below another, and the other, if it is a cast. The result has the class given.
+fn smaller_line(result_class: u32, op: Op) -> Option<(u32, u32)>
+    ensures { result ≡ smaller_line result_class op }
+{
+    match op {
+        Op::Convert(cast, operand, _) => match cast {
+            Cast::Trunc => Some((result_class, operand.class)),
+            Cast::ZExt => Some((operand.class, result_class)),
+            Cast::SExt => Some((operand.class, result_class)),
+        },
+        Op::Binary(_, _, _, _) => None,
+        Op::Compare(_, _, _) => None,
+        Op::Select(_, _, _) => None,
+        Op::Copy(_) => None,
+    }
+}
+
+/// Whether the width of the one class is below that of the other, if there are both.
+fn is_below(widths: &[Width], smaller: u32, greater: u32) -> bool
+    ensures { IsTrue result ↔ IsBelow widths.now smaller greater }
+{
+    match (widths.get(smaller as usize), widths.get(greater as usize)) {
+        (Some(smaller), Some(greater)) => smaller.bits() < greater.bits(),
+        _ => true,
+    }
+}
