@@ -1,6 +1,8 @@
 pub mod Decimals
 pub mod Loops
 pub mod Nexts
+pub mod OpReadings
+pub mod OpSpellings
 pub mod Pieces
 pub mod Readers
 pub mod Readings

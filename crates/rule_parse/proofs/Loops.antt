@@ -1,15 +1,19 @@
 -- Loops that read one part after another.
-use Rattle.std.proofs.Common.{◌≡◌, ℕ, zero, suc, ◌+◌, ◌-◌, ◌<◌, ◌≤◌, List, [], ◌∷◌, ◌++◌, length, Result, Ok, Err, refl, sym, ap, ◌∙◌, append_assoc, length-append, arith}
+use Rattle.std.proofs.Common.{◌≡◌, ℕ, zero, suc, ◌+◌, ◌-◌, ◌<◌, ◌≤◌, List, [], ◌∷◌, ◌++◌, length, drop, true, false, Some, Result, Ok, Err, refl, sym, ap, ◌∙◌, append_assoc, length-append, arith}
 use Rattle.std.proofs.lemmas.List.{append-nil}
+use Rattle.ops.specs.declared.opcode.Opcode.{Opcode}
+use Rattle.ops.specs.declared.opcode.Flags.{Flags}
+use Rattle.words.specs.declared.flag.Flag.{Flag}
+use Rattle.words.specs.Flags.{has_flag, with_flag}
 use Rattle.rule_parse.specs.declared.fault.ParseError.{ParseError}
 use Rattle.rule_parse.specs.declared.fault.ParseError.TheVariants.{Refused, NoMemory}
-use Rattle.rule_parse.specs.declared.fault.Misfit.TheVariants.{TooMany}
+use Rattle.rule_parse.specs.declared.fault.Misfit.TheVariants.{Syntax, TooMany}
 use Rattle.rule_parse.specs.declared.fault.TextFault.{TextFault}
 use Rattle.rule_parse.specs.declared.half.Half.{Half}
 use Rattle.rule_parse.specs.declared.raw.RawRule.{RawRule}
 use Rattle.rule_parse.specs.declared.raw.RawStatement.{RawStatement}
 use Rattle.rule_parse.specs.Giving.{◌>>=◌, Fails, Refuses}
-use Rattle.rule_parse.specs.Parsing.{Read, fault, IsNoStatement, statement_at, statements_at, rule_at, rules_at, all_rules}
+use Rattle.rule_parse.specs.Parsing.{Read, fault, next_flag, flags_at, IsNoStatement, statement_at, statements_at, rule_at, rules_at, all_rules}
 use Rattle.rule_parse.specs.Tokens.{Token, Line, Register}
 use Rattle.rule_parse.proofs.Readings.{rule_at-shorter}
 
@@ -69,6 +73,18 @@ none_begun (suc room) half tokens none = refl
 pub statements-done : (front : List RawStatement) (room : ℕ) (half : Half) (tokens behind : List Token) (total : Read (List RawStatement)) → IsNoStatement tokens → behind ≡ tokens → with_front front (statements_at room half tokens) ≡ total → total ≡ Ok (front, behind)
 statements-done front room half tokens behind total none same so_far =
     sym so_far ∙ ap (with_front front) (none_begun room half tokens none) ∙ ap (λ (xs : List RawStatement). Ok (xs, tokens)) (append-nil front) ∙ ap (λ (ts : List Token). Ok (front, ts)) (sym same)
+
+-- ---- flags
+
+pub flags-more : (op : Opcode) (line : ℕ) (before : Flags) (flag : Flag) (tokens : List Token) → next_flag op tokens ≡ Some flag → has_flag before flag ≡ false → flags_at op line before tokens ≡ flags_at op line (with_flag before flag) (drop 1 tokens)
+unfolding flags_at
+flags-more op line before flag [] next new = absurd cc
+flags-more op line before flag (token ∷ rest) next new = rw (next, new) refl
+
+pub flags-again : (op : Opcode) (line : ℕ) (before : Flags) (flag : Flag) (tokens : List Token) → next_flag op tokens ≡ Some flag → has_flag before flag ≡ true → flags_at op line before tokens ≡ Err (fault line Syntax)
+unfolding flags_at
+flags-again op line before flag [] next again = absurd cc
+flags-again op line before flag (token ∷ rest) next again = rw (next, again) refl
 
 -- ---- rules
 

@@ -1,80 +1,21 @@
 -- What is spelled is read, where the line of its last token ends behind it.
-use Rattle.std.proofs.Common.{◌≡◌, ℕ, zero, suc, ◌<◌, ◌≤◌, List, [], ◌∷◌, ◌++◌, length, Option, Some, None, Ok, refl, ap, ◌∙◌, append_assoc, length-append, arith}
+use Rattle.std.proofs.Common.{◌≡◌, ℕ, zero, suc, ◌<◌, ◌≤◌, List, [], ◌∷◌, ◌++◌, length, Ok, refl, ap, ◌∙◌, append_assoc, length-append, arith}
 use Rattle.std.specs.Prelude.{codes}
-use Rattle.std.proofs.lemmas.Bool.{le-leb}
-use Rattle.ops.specs.declared.opcode.Opcode.{Opcode}
 use Rattle.rule_parse.specs.declared.half.Half.{Half}
 use Rattle.rule_parse.specs.declared.half.Half.TheVariants.{Source, Target}
 use Rattle.rule_parse.specs.declared.raw.RawRule.{RawRule}
 use Rattle.rule_parse.specs.declared.raw.RawStatement.{RawStatement}
-use Rattle.rule_parse.specs.declared.raw.RawOp.{RawOp}
-use Rattle.rule_parse.specs.declared.raw.RawOp.TheVariants.{Binary, Copy}
-use Rattle.rule_parse.specs.declared.raw.RawOperand.{RawOperand}
-use Rattle.rule_parse.specs.declared.raw.RawOperand.TheVariants as operands
-use Rattle.rule_parse.specs.Grammar.{SpellsOperand, SpellsOp, SpellsStatements, SpellsHalf, SpellsRule, SpellsRules}
+use Rattle.rule_parse.specs.Grammar.{SpellsOp, SpellsStatements, SpellsHalf, SpellsRule, SpellsRules}
 use Rattle.rule_parse.specs.Limits.{most_statements, most_name_bytes}
-use Rattle.rule_parse.specs.Numbers.{IsWrittenType}
-use Rattle.rule_parse.specs.Parsing.{name_within, operand_at, equals_at, comma_at, end_at, type_at, binary_at, copy_at, op_at, statement_at, statements_at, IsNoStatement, name_text, name_at, source_at, arrow_at, target_at, rule_at, rules_at}
-use Rattle.rule_parse.specs.Tokens.{Token, Line, Head, Name, Register, Word, Arrow, Mark}
-use Rattle.rule_parse.proofs.Pieces.{opcode_in-of, opcode_in-type, type_in-of}
+use Rattle.rule_parse.specs.Parsing.{equals_at, statement_at, statements_at, IsNoStatement, name_text, name_at, source_at, arrow_at, target_at, rule_at, rules_at}
+use Rattle.rule_parse.specs.Tokens.{Token, Line, Head, Name, Register, Arrow, Mark}
+use Rattle.rule_parse.proofs.OpSpellings.{EndsLine, name_within-of, line_end-of, op_at-of}
 
--- the line ends here
-abbrev EndsLine : List Token → Type 0
-EndsLine [] = Unit {0}
-EndsLine (Line next ∷ rest) = Unit {0}
-EndsLine tokens = ⊥
-
--- ---- the parts of a statement
-
-name_within-of : (line : ℕ) (name : List ℕ) → length name ≤ most_name_bytes → name_within line name ≡ Ok name
-unfolding name_within
-name_within-of line name le = rw (le-leb (length name) most_name_bytes le) refl
-
-operand_at-of : (half : Half) (line : ℕ) (a : RawOperand) (token : Token) (rest : List Token) → SpellsOperand a token → operand_at half line (token ∷ rest) ≡ Ok (a, rest)
-unfolding operand_at
-operand_at-of half line (operands.Register name) token rest (le, is) = rw (is, name_within-of line name le) refl
-operand_at-of half line (operands.Literal z) token rest (text, value, is) = rw (is, value) refl
-
-end_at-of : (half : Half) (last : RawOperand) (line : ℕ) (rest : List Token) → EndsLine rest → end_at half last line rest ≡ Ok rest
-unfolding end_at
-end_at-of half last line [] ends = refl
-end_at-of half last line (Line next ∷ rest) ends = refl
-end_at-of half last line tokens ends = absurd ends
-
-type_at-of : (half : Half) (line : ℕ) (instruction written : List ℕ) (width : ℕ) (rest : List Token) → IsWrittenType written width → type_at half line instruction (Word written ∷ rest) ≡ Ok (width, rest)
-unfolding type_at
-type_at-of half line instruction written width rest is = rw (type_in-of written width is) refl
-
-binary_at-of : (half : Half) (line : ℕ) (op : Opcode) (word written : List ℕ) (width : ℕ) (a b : RawOperand) (left right : Token) (rest : List Token) → IsWrittenType written width → SpellsOperand a left → SpellsOperand b right → EndsLine rest
-    → binary_at half line op word (Word written ∷ left ∷ Mark (codes ",") ∷ right ∷ rest) ≡ Ok (Binary op width a b, rest)
-unfolding binary_at comma_at
-binary_at-of half line op word written width a b left right rest t l r ends =
-    rw (type_at-of half line word written width (left ∷ Mark (codes ",") ∷ right ∷ rest) t, operand_at-of half line a left (Mark (codes ",") ∷ right ∷ rest) l, operand_at-of half line b right rest r, end_at-of half b line rest ends) refl
-
-copy_at-of : (line : ℕ) (written : Option ℕ) (a : RawOperand) (copied : Token) (rest : List Token) → SpellsOperand a copied → EndsLine rest → copy_at line written (copied ∷ rest) ≡ Ok (Copy written a, rest)
-unfolding copy_at
-copy_at-of line written a copied rest is ends = rw (operand_at-of Target line a copied rest is, end_at-of Target a line rest ends) refl
-
--- an operand is no word
-untyped_copy : (line : ℕ) (a : RawOperand) (copied : Token) (rest : List Token) → SpellsOperand a copied → op_at Target line (copied ∷ rest) ≡ copy_at line None (copied ∷ rest)
-unfolding op_at
-untyped_copy line (operands.Register name) copied rest (le, is) = rw is refl
-untyped_copy line (operands.Literal z) copied rest (text, value, is) = rw is refl
-
-op_at-of : (half : Half) (line : ℕ) (op : RawOp) (own rest : List Token) → SpellsOp half op own → EndsLine rest → op_at half line (own ++ rest) ≡ Ok (op, rest)
-unfolding op_at
-op_at-of half line (Binary op width a b) own rest is ends =
-    rw (is.spelled, opcode_in-of is.word op is.is_opcode) (binary_at-of half line op is.word is.written width a b is.left is.right rest is.is_type is.is_left is.is_right ends)
-op_at-of Source line (Copy written a) own rest is ends = absurd is
-op_at-of Target line (Copy None a) own rest (copied, is, spelled) ends = rw spelled (untyped_copy line a copied rest is ∙ copy_at-of line None a copied rest is ends)
-op_at-of Target line (Copy (Some width) a) own rest (written, copied, t, is, spelled) ends =
-    rw (spelled, opcode_in-type written width t, type_in-of written width t) (copy_at-of line (Some width) a copied rest is ends)
+-- ---- statements
 
 statement_at-of : (half : Half) (s : RawStatement) (op rest : List Token) → length s.name ≤ most_name_bytes → SpellsOp half s.op op → EndsLine rest → statement_at half s.line s.name (Mark (codes "=") ∷ op ++ rest) ≡ Ok (s, rest)
 unfolding statement_at equals_at
 statement_at-of half s op rest le is ends = rw (name_within-of s.line s.name le, op_at-of half s.line s.op op rest is ends) refl
-
--- ---- statements
 
 statements_end : (half : Half) (statements : List RawStatement) (own rest : List Token) → SpellsStatements half statements own → EndsLine rest → EndsLine (own ++ rest)
 statements_end half [] own rest is ends = rw is ends
@@ -138,9 +79,7 @@ half_ends half statements own rest h = let b = half_begins half statements own r
 
 arrow_at-of : (last line : ℕ) (rest : List Token) → EndsLine rest → arrow_at last (Line line ∷ Arrow ∷ rest) ≡ Ok rest
 unfolding arrow_at
-arrow_at-of last line [] ends = refl
-arrow_at-of last line (Line next ∷ rest) ends = refl
-arrow_at-of last line tokens ends = absurd ends
+arrow_at-of last line rest ends = line_end-of line rest ends
 
 rule_at-of : (last : ℕ) (rule : RawRule) (own rest : List Token) → SpellsRule rule own → EndsLine rest → IsNoStatement rest → rule_at last (own ++ rest) ≡ Ok (rule, rest)
 unfolding rule_at

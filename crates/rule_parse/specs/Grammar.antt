@@ -1,51 +1,73 @@
 -- The parts of a rule as written, and which tokens spell them. Each part stands on a line of its own.
 --
--- This is the whole of what is read. Left out of the language of rules, each at its first token, are: `Pre:` and `Wit:`; flags;
--- statements of an instruction without a type; all instructions but add, sub, and, or, xor; `true`, `false`, `undef`; constants;
--- terms that are no literals.
-use Rattle.std.specs.Prelude.{◌≡◌, ℕ, ◌≤◌, List, [], ◌∷◌, ◌++◌, length, Option, None, Some, codes}
+-- This is the whole of what is read. Left out of the language of rules, each at its first token, are: `Pre:` and `Wit:`; `undef`;
+-- constants; terms that are no literals; and in the target `true` and `false`.
+use Rattle.std.specs.Prelude.{◌≡◌, ℕ, ◌≤◌, List, [], ◌∷◌, ◌++◌, length, map, None, codes}
 use Rattle.ops.specs.declared.opcode.Opcode.{Opcode}
+use Rattle.ops.specs.declared.opcode.Flags.{Flags}
+use Rattle.ops.specs.Flags.{no_flags}
+use Rattle.words.specs.declared.flag.Flag.{Flag}
+use Rattle.words.specs.Words.{opcode_word, cast_word, pred_word}
+use Rattle.words.specs.Flags.{AddsFlags, flag_word}
 use Rattle.rule_parse.specs.declared.half.Half.{Half}
 use Rattle.rule_parse.specs.declared.half.Half.TheVariants.{Source, Target}
 use Rattle.rule_parse.specs.declared.raw.RawRule.{RawRule}
 use Rattle.rule_parse.specs.declared.raw.RawStatement.{RawStatement}
 use Rattle.rule_parse.specs.declared.raw.RawOp.{RawOp}
-use Rattle.rule_parse.specs.declared.raw.RawOp.TheVariants.{Binary, Copy}
+use Rattle.rule_parse.specs.declared.raw.RawOp.TheVariants.{Binary, Compare, Select, Convert, Copy}
 use Rattle.rule_parse.specs.declared.raw.RawOperand.{RawOperand}
-use Rattle.rule_parse.specs.declared.raw.RawOperand.TheVariants as operands
+use Rattle.rule_parse.specs.declared.raw.RawArgument.{RawArgument}
+use Rattle.rule_parse.specs.declared.raw.RawArgument.TheVariants as arguments
 use Rattle.rule_parse.specs.Limits.{most_statements, most_name_bytes}
 use Rattle.rule_parse.specs.Numbers.{literal_value, IsWrittenType}
+use Rattle.rule_parse.specs.Parts.{Part, Is, Comma, Never, ◌⨾◌, Maybe}
 use Rattle.rule_parse.specs.Tokens.{Token, Line, Head, Name, Register, Word, Number, Arrow, Mark}
-use Rattle.rule_parse.specs.Words.{IsOpcodeWord}
+use Rattle.rule_parse.specs.Words.{truth_word}
 
--- o := REG | literal
-abbrev pub SpellsOperand : RawOperand → Token → Type 0
-SpellsOperand (operands.Register name) token = (length name ≤ most_name_bytes) × (token ≡ Register name)
-SpellsOperand (operands.Literal z) token = (text : List ℕ) × (z ≡ literal_value text) × (token ≡ Number text)
+-- type
+abbrev pub SpellsType : ℕ → Part
+SpellsType width tokens = (written : List ℕ) × IsWrittenType written width × Is (Word written) tokens
 
--- binop type o ',' o
-pub record SpellsBinary (op : Opcode) (width : ℕ) (a b : RawOperand) (tokens : List Token) : Type 0 where
-  pub word : List ℕ
-  pub is_opcode : IsOpcodeWord op word
-  pub written : List ℕ
-  pub is_type : IsWrittenType written width
-  pub left : Token
-  pub is_left : SpellsOperand a left
-  pub right : Token
-  pub is_right : SpellsOperand b right
-  pub spelled : tokens ≡ Word word ∷ Word written ∷ left ∷ Mark (codes ",") ∷ right ∷ []
+-- o := REG | literal, and in the source 'true' | 'false' too
+abbrev pub SpellsArgument : Half → RawArgument → Part
+SpellsArgument half (arguments.Register name) tokens = (length name ≤ most_name_bytes) × Is (Register name) tokens
+SpellsArgument half (arguments.Literal z) tokens = (text : List ℕ) × (z ≡ literal_value text) × Is (Number text) tokens
+SpellsArgument Source (arguments.Truth truth) tokens = Is (Word (truth_word truth)) tokens
+SpellsArgument Target (arguments.Truth truth) tokens = ⊥
 
--- [type] copy
-abbrev pub SpellsCopy : Option ℕ → RawOperand → List Token → Type 0
-SpellsCopy None a tokens = (copied : Token) × SpellsOperand a copied × (tokens ≡ copied ∷ [])
-SpellsCopy (Some width) a tokens = (written : List ℕ) × (copied : Token)
-    × IsWrittenType written width × SpellsOperand a copied × (tokens ≡ Word written ∷ copied ∷ [])
+-- [type] o
+abbrev pub SpellsOperand : Half → RawOperand → Part
+SpellsOperand half a = Maybe SpellsType a.written ⨾ SpellsArgument half a.value
 
--- what a statement computes; a copy stands in a target alone
-abbrev pub SpellsOp : Half → RawOp → List Token → Type 0
-SpellsOp half (Binary op width a b) tokens = SpellsBinary op width a b tokens
-SpellsOp Source (Copy written a) tokens = ⊥
-SpellsOp Target (Copy written a) tokens = SpellsCopy written a tokens
+-- o, before which no type is written
+abbrev pub SpellsUntyped : Half → RawOperand → Part
+SpellsUntyped half a tokens = (a.written ≡ None) × SpellsArgument half a.value tokens
+
+-- [type] o ',' o
+abbrev pub SpellsPair : Half → RawOperand → RawOperand → Part
+SpellsPair half a b = SpellsOperand half a ⨾ Comma ⨾ SpellsUntyped half b
+
+-- flag*, each once, in any order
+abbrev pub SpellsFlags : Opcode → Flags → Part
+SpellsFlags op flags tokens = (written : List Flag) × AddsFlags op no_flags written flags × (tokens ≡ map (λ flag. Word (flag_word flag)) written)
+
+-- 'to' type
+abbrev pub SpellsTo : ℕ → Part
+SpellsTo width = Is (Word (codes "to")) ⨾ SpellsType width
+
+-- op := binop flag* [type] o ',' o
+--     | 'icmp' pred [type] o ',' o
+--     | 'select' [type] o ',' [type] o ',' [type] o
+--     | ('trunc' | 'zext' | 'sext') [type] o ['to' type]
+-- and in the target a copy: [type] o
+abbrev pub SpellsOp : Half → RawOp → Part
+SpellsOp half (Binary op flags a b) = Is (Word (opcode_word op)) ⨾ SpellsFlags op flags ⨾ SpellsPair half a b
+SpellsOp half (Compare pred a b) = Is (Word (codes "icmp")) ⨾ Is (Word (pred_word pred)) ⨾ SpellsPair half a b
+SpellsOp half (Select condition if_true if_false) =
+    Is (Word (codes "select")) ⨾ SpellsOperand half condition ⨾ Comma ⨾ SpellsOperand half if_true ⨾ Comma ⨾ SpellsOperand half if_false
+SpellsOp half (Convert cast a to) = Is (Word (cast_word cast)) ⨾ SpellsOperand half a ⨾ Maybe SpellsTo to
+SpellsOp Source (Copy a) = Never
+SpellsOp Target (Copy a) = SpellsOperand Target a
 
 -- REG '=' op
 pub record SpellsStatement (half : Half) (s : RawStatement) (tokens : List Token) : Type 0 where

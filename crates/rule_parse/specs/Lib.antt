@@ -4,6 +4,7 @@ pub mod Laws
 pub mod Limits
 pub mod Numbers
 pub mod Parsing
+pub mod Parts
 pub mod Refusing
 pub mod Seen
 pub mod Text

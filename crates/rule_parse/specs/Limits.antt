@@ -1,5 +1,5 @@
--- The limits of a rule as written. Its nodes are at most 256 too: each operand is one, and 64 statements have at most 128, so that
--- no rule that is read passes that limit.
+-- The limits of a rule as written. Its nodes are at most 256 too: each operand is one, and 64 statements have at most three each, so
+-- that no rule that is read passes that limit.
 use Rattle.std.specs.Prelude.{ℕ}
 
 -- the most statements of a half

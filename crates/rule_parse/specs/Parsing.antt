@@ -3,6 +3,13 @@
 use Rattle.std.specs.Prelude.{ℕ, zero, suc, nat_le, if◌then◌else◌, List, [], ◌∷◌, length, take, Option, None, Some, Result, Ok, Err, codes}
 use Rattle.std.specs.Str.{bytes_eq}
 use Rattle.ops.specs.declared.opcode.Opcode.{Opcode}
+use Rattle.ops.specs.declared.opcode.Flags.{Flags}
+use Rattle.ops.specs.declared.comparison.Pred.{Pred}
+use Rattle.ops.specs.declared.conversion.Cast.{Cast}
+use Rattle.ops.specs.Flags.{no_flags}
+use Rattle.words.specs.declared.flag.Flag.{Flag}
+use Rattle.words.specs.Words.{pred_in}
+use Rattle.words.specs.Flags.{flag_in, has_flag, with_flag}
 use Rattle.rule_parse.specs.declared.fault.Misfit.{Misfit}
 use Rattle.rule_parse.specs.declared.fault.Misfit.TheVariants.{BadByte, Syntax, LeftOut, TooMany}
 use Rattle.rule_parse.specs.declared.fault.TextFault.{TextFault}
@@ -11,14 +18,17 @@ use Rattle.rule_parse.specs.declared.half.Half.TheVariants.{Source, Target}
 use Rattle.rule_parse.specs.declared.raw.RawRule.{RawRule}
 use Rattle.rule_parse.specs.declared.raw.RawStatement.{RawStatement}
 use Rattle.rule_parse.specs.declared.raw.RawOp.{RawOp}
-use Rattle.rule_parse.specs.declared.raw.RawOp.TheVariants.{Binary, Copy}
+use Rattle.rule_parse.specs.declared.raw.RawOp.TheVariants.{Binary, Compare, Select, Convert, Copy}
 use Rattle.rule_parse.specs.declared.raw.RawOperand.{RawOperand}
-use Rattle.rule_parse.specs.declared.raw.RawOperand.TheVariants as operands
+use Rattle.rule_parse.specs.declared.raw.RawArgument.{RawArgument}
+use Rattle.rule_parse.specs.declared.raw.RawArgument.TheVariants as arguments
+use Rattle.rule_parse.specs.declared.word.Operation.{Operation}
+use Rattle.rule_parse.specs.declared.word.Operation.TheVariants as operations
 use Rattle.rule_parse.specs.Giving.{◌>>=◌}
 use Rattle.rule_parse.specs.Limits.{most_statements, most_name_bytes}
 use Rattle.rule_parse.specs.Numbers.{literal_value, type_in}
 use Rattle.rule_parse.specs.Tokens.{Token, Line, Head, Name, Register, Word, Number, Arrow, Mark, Bad}
-use Rattle.rule_parse.specs.Words.{opcode_in, begins_operand, begins_term, continues_term}
+use Rattle.rule_parse.specs.Words.{operation_in, truth_in, begins_term, continues_term}
 
 -- what is read, and the tokens behind it
 abbrev pub Read : Type 0 → Type 0
@@ -46,81 +56,172 @@ no_operand half line tokens = left_out line tokens
 
 -- it stands behind an operand, where it may not
 unfoldable pub behind_operand : Half → RawOperand → ℕ → List Token → TextFault
-behind_operand half operand line (Mark mark ∷ tokens) = fault line (if continues_term half operand mark then LeftOut (take 1 mark) else Syntax)
+behind_operand half operand line (Mark mark ∷ tokens) =
+    fault line (if continues_term half operand.value mark then LeftOut (take 1 mark) else Syntax)
 behind_operand half operand line tokens = unexpected line tokens
 
--- ---- the parts of a statement
+-- ---- words, types and operands
+
+-- what a word on a line stands for; a word that stands for nothing is left out
+abbrev pub or_left_out : {A : Type 0} → ℕ → List ℕ → Option A → List Token → Read A
+or_left_out line word (Some x) rest = Ok (x, rest)
+or_left_out line word None rest = Err (fault line (LeftOut word))
 
 -- a name of at most 200 bytes
 unfoldable pub name_within : ℕ → List ℕ → Result (List ℕ) TextFault
 name_within line name = if nat_le (length name) most_name_bytes then Ok name else Err (fault line TooMany)
 
--- a register or a literal
-unfoldable pub operand_at : Half → ℕ → List Token → Read RawOperand
-operand_at half line (Register name ∷ rest) = name_within line name >>= λ held. Ok (operands.Register held, rest)
-operand_at half line (Number text ∷ rest) = Ok (operands.Literal (literal_value text), rest)
-operand_at half line tokens = Err (no_operand half line tokens)
+-- a type
+unfoldable pub type_at : ℕ → List Token → Read ℕ
+type_at line (Word word ∷ rest) = or_left_out line word (type_in word) rest
+type_at line tokens = Err (unexpected line tokens)
 
--- the `=` behind the register
-unfoldable pub equals_at : ℕ → List Token → Result (List Token) TextFault
-equals_at line (Mark mark ∷ rest) = if bytes_eq mark (codes "=") then Ok rest else Err (fault line Syntax)
-equals_at line tokens = Err (unexpected line tokens)
+-- a type, if one is next, and the tokens behind it
+abbrev pub type_or_word : List ℕ → Option ℕ → List Token → Option ℕ × List Token
+type_or_word word (Some width) rest = (Some width, rest)
+type_or_word word None rest = (None, Word word ∷ rest)
 
--- the `,` behind the first operand
+unfoldable pub maybe_type : List Token → Option ℕ × List Token
+maybe_type (Word word ∷ rest) = type_or_word word (type_in word) rest
+maybe_type tokens = (None, tokens)
+
+-- a register, a literal or a truth
+unfoldable pub argument_at : Half → ℕ → List Token → Read RawArgument
+argument_at half line (Register name ∷ rest) = name_within line name >>= λ held. Ok (arguments.Register held, rest)
+argument_at half line (Number text ∷ rest) = Ok (arguments.Literal (literal_value text), rest)
+argument_at half line (Word word ∷ rest) = or_left_out line word (truth_in half word) rest >>= λ truth. Ok (arguments.Truth truth.0, truth.1)
+argument_at half line tokens = Err (no_operand half line tokens)
+
+-- an operand with this type before it
+unfoldable pub typed_at : Half → ℕ → Option ℕ → List Token → Read RawOperand
+typed_at half line written tokens = argument_at half line tokens >>= λ value. Ok (record { written = written; value = value.0 }, value.1)
+
+-- an operand, before which a type may be written
+abbrev pub operand_at : Half → ℕ → List Token → Read RawOperand
+operand_at half line tokens = typed_at half line (maybe_type tokens).0 (maybe_type tokens).1
+
+-- ---- what stands behind an operand
+
+-- a `,`
 unfoldable pub comma_at : Half → RawOperand → ℕ → List Token → Result (List Token) TextFault
 comma_at half left line (Mark mark ∷ rest) = if bytes_eq mark (codes ",") then Ok rest else Err (behind_operand half left line (Mark mark ∷ rest))
 comma_at half left line tokens = Err (behind_operand half left line tokens)
 
--- the end of the line behind the last operand
+-- the end of the line
 unfoldable pub end_at : Half → RawOperand → ℕ → List Token → Result (List Token) TextFault
 end_at half last line [] = Ok []
 end_at half last line (Line next ∷ rest) = Ok (Line next ∷ rest)
 end_at half last line tokens = Err (behind_operand half last line tokens)
 
--- the type in front of an operand, where the word is one; where an operand begins, the instruction has no type and is left out
-abbrev pub type_word : Half → ℕ → List ℕ → List ℕ → Option ℕ → List Token → Read ℕ
-type_word half line instruction word (Some width) rest = Ok (width, rest)
-type_word half line instruction word None rest = Err (fault line (LeftOut (if begins_operand half word then instruction else word)))
+-- the same behind what is no operand
+abbrev pub line_end : ℕ → List Token → Result (List Token) TextFault
+line_end line [] = Ok []
+line_end line (Line next ∷ rest) = Ok (Line next ∷ rest)
+line_end line tokens = Err (unexpected line tokens)
 
-unfoldable pub type_at : Half → ℕ → List ℕ → List Token → Read ℕ
-type_at half line instruction (Word word ∷ rest) = type_word half line instruction word (type_in word) rest
-type_at half line instruction (Register name ∷ rest) = Err (fault line (LeftOut instruction))
-type_at half line instruction (Number text ∷ rest) = Err (fault line (LeftOut instruction))
-type_at half line instruction (Mark mark ∷ rest) = Err (fault line (if begins_term half mark then LeftOut instruction else Syntax))
-type_at half line instruction tokens = Err (unexpected line tokens)
+-- the end of the line, maybe behind `to` and a type
+unfoldable pub to_at : Half → RawOperand → ℕ → List Token → Read (Option ℕ)
+to_at half from line (Word word ∷ rest) =
+    if bytes_eq word (codes "to")
+    then (type_at line rest >>= λ width. line_end line width.1 >>= λ behind. Ok (Some width.0, behind))
+    else Err (fault line Syntax)
+to_at half from line tokens = end_at half from line tokens >>= λ rest. Ok (None, rest)
+
+-- ---- flags
+
+-- the flag of the instruction that is next
+abbrev pub next_flag : Opcode → List Token → Option Flag
+next_flag op (Word word ∷ rest) = flag_in op word
+next_flag op tokens = None
+
+-- the flags before, and those that stand here; one that stands among them is no further one
+abbrev pub flag_or_end : ℕ → Flags → Option Flag → (Flags → Read Flags) → List Token → Read Flags
+flag_or_end line before None others tokens = Ok (before, tokens)
+flag_or_end line before (Some flag) others tokens = if has_flag before flag then Err (fault line Syntax) else others (with_flag before flag)
+
+unfoldable pub flags_at : Opcode → ℕ → Flags → List Token → Read Flags
+flags_at op line before [] = Ok (before, [])
+flags_at op line before (token ∷ rest) = flag_or_end line before (next_flag op (token ∷ rest)) (λ flags. flags_at op line flags rest) (token ∷ rest)
+
+-- ---- what a statement computes
+
+-- two operands of one type, and the end of the line
+unfoldable pub pair_at : Half → ℕ → List Token → Read (RawOperand × RawOperand)
+pair_at half line tokens = do
+  left ← operand_at half line tokens
+  behind ← comma_at half left.0 line left.1
+  right ← typed_at half line None behind
+  rest ← end_at half right.0 line right.1
+  Ok ((left.0, right.0), rest)
 
 -- a binary operation, behind its opcode
-unfoldable pub binary_at : Half → ℕ → Opcode → List ℕ → List Token → Read RawOp
-binary_at half line opcode instruction tokens = do
-  width ← type_at half line instruction tokens
-  left ← operand_at half line width.1
-  behind ← comma_at half left.0 line left.1
-  right ← operand_at half line behind
-  rest ← end_at half right.0 line right.1
-  Ok (Binary opcode width.0 left.0 right.0, rest)
+unfoldable pub binary_at : Half → ℕ → Opcode → List Token → Read RawOp
+binary_at half line op tokens = do
+  flags ← flags_at op line no_flags tokens
+  pair ← pair_at half line flags.1
+  Ok (Binary op flags.0 pair.0.0 pair.0.1, pair.1)
 
--- a copy, behind its type
-unfoldable pub copy_at : ℕ → Option ℕ → List Token → Read RawOp
-copy_at line written tokens = do
+-- a predicate
+unfoldable pub pred_at : ℕ → List Token → Read Pred
+pred_at line (Word word ∷ rest) = or_left_out line word (pred_in word) rest
+pred_at line tokens = Err (unexpected line tokens)
+
+-- a comparison, behind `icmp`
+unfoldable pub compare_at : Half → ℕ → List Token → Read RawOp
+compare_at half line tokens = do
+  pred ← pred_at line tokens
+  pair ← pair_at half line pred.1
+  Ok (Compare pred.0 pair.0.0 pair.0.1, pair.1)
+
+-- a choice, behind `select`
+unfoldable pub select_at : Half → ℕ → List Token → Read RawOp
+select_at half line tokens = do
+  condition ← operand_at half line tokens
+  first ← comma_at half condition.0 line condition.1
+  if_true ← operand_at half line first
+  second ← comma_at half if_true.0 line if_true.1
+  if_false ← operand_at half line second
+  rest ← end_at half if_false.0 line if_false.1
+  Ok (Select condition.0 if_true.0 if_false.0, rest)
+
+-- a cast, behind its opcode
+unfoldable pub convert_at : Half → ℕ → Cast → List Token → Read RawOp
+convert_at half line cast tokens = do
+  from ← operand_at half line tokens
+  to ← to_at half from.0 line from.1
+  Ok (Convert cast from.0 to.0, to.1)
+
+-- a copy
+unfoldable pub copy_at : ℕ → List Token → Read RawOp
+copy_at line tokens = do
   operand ← operand_at Target line tokens
   rest ← end_at Target operand.0 line operand.1
-  Ok (Copy written operand.0, rest)
+  Ok (Copy operand.0, rest)
 
--- what a statement computes, where it begins with a word: an opcode, or in the target the type of a copy
-abbrev pub op_word : Half → ℕ → List ℕ → Option Opcode → Option ℕ → List Token → Read RawOp
-op_word half line word (Some opcode) written rest = binary_at half line opcode word rest
-op_word Target line word None (Some width) rest = copy_at line (Some width) rest
-op_word Target line word None None rest = Err (fault line (LeftOut word))
-op_word Source line word None written rest = Err (fault line (LeftOut word))
+-- behind its opcode
+abbrev pub operation_at : Half → ℕ → Operation → List Token → Read RawOp
+operation_at half line (operations.Binary op) tokens = binary_at half line op tokens
+operation_at half line operations.Compare tokens = compare_at half line tokens
+operation_at half line operations.Select tokens = select_at half line tokens
+operation_at half line (operations.Convert cast) tokens = convert_at half line cast tokens
 
--- where it begins with no word: a copy
-abbrev pub op_other : Half → ℕ → List Token → Read RawOp
-op_other Source line tokens = Err (unexpected line tokens)
-op_other Target line tokens = copy_at line None tokens
+-- where it begins with no opcode: a copy, in the target
+abbrev pub other_at : Half → ℕ → List Token → Read RawOp
+other_at Source line tokens = Err (left_out line tokens)
+other_at Target line tokens = copy_at line tokens
+
+abbrev pub op_word : Half → ℕ → List ℕ → Option Operation → List Token → Read RawOp
+op_word half line word (Some operation) rest = operation_at half line operation rest
+op_word half line word None rest = other_at half line (Word word ∷ rest)
 
 unfoldable pub op_at : Half → ℕ → List Token → Read RawOp
-op_at half line (Word word ∷ rest) = op_word half line word (opcode_in word) (type_in word) rest
-op_at half line tokens = op_other half line tokens
+op_at half line (Word word ∷ rest) = op_word half line word (operation_in word) rest
+op_at half line tokens = other_at half line tokens
+
+-- the `=` behind the register
+unfoldable pub equals_at : ℕ → List Token → Result (List Token) TextFault
+equals_at line (Mark mark ∷ rest) = if bytes_eq mark (codes "=") then Ok rest else Err (fault line Syntax)
+equals_at line tokens = Err (unexpected line tokens)
 
 -- the statement of a register, behind it
 unfoldable pub statement_at : Half → ℕ → List ℕ → List Token → Read RawStatement
@@ -170,11 +271,6 @@ source_at last (Line line ∷ Register name ∷ rest) = statements_at most_state
 source_at last tokens = Err (unexpected_line last tokens)
 
 -- the `=>` on a line of its own
-abbrev pub line_end : ℕ → List Token → Result (List Token) TextFault
-line_end line [] = Ok []
-line_end line (Line next ∷ rest) = Ok (Line next ∷ rest)
-line_end line tokens = Err (unexpected line tokens)
-
 unfoldable pub arrow_at : ℕ → List Token → Result (List Token) TextFault
 arrow_at last (Line line ∷ Arrow ∷ rest) = line_end line rest
 arrow_at last tokens = Err (unexpected_line last tokens)

@@ -1,36 +1,40 @@
 -- Words and marks of rules.
-use Rattle.std.specs.Prelude.{◌≡◌, ℕ, Bool, false, ◌||◌, if◌then◌else◌, List, [], ◌∷◌, Option, None, Some, codes}
+use Rattle.std.specs.Prelude.{ℕ, Bool, true, false, if◌then◌else◌, List, [], ◌∷◌, find, Option, None, Some, codes}
 use Rattle.std.specs.Str.{bytes_eq}
-use Rattle.scan.specs.RuleTokens.{is_among, is_constant}
-use Rattle.ops.specs.declared.opcode.Opcode.{Opcode}
-use Rattle.ops.specs.declared.opcode.Opcode.TheVariants.{Add, Sub, And, Or, Xor}
+use Rattle.scan.specs.RuleTokens.{is_among}
+use Rattle.ops.specs.declared.opcode.Opcode.TheVariants.{Add, Sub, Mul, UDiv, SDiv, URem, SRem, Shl, LShr, AShr, And, Or, Xor}
+use Rattle.ops.specs.declared.conversion.Cast.TheVariants.{Trunc, ZExt, SExt}
+use Rattle.words.specs.Words.{opcode_word, cast_word}
 use Rattle.rule_parse.specs.declared.half.Half.{Half}
 use Rattle.rule_parse.specs.declared.half.Half.TheVariants.{Source, Target}
-use Rattle.rule_parse.specs.declared.raw.RawOperand.{RawOperand}
-use Rattle.rule_parse.specs.declared.raw.RawOperand.TheVariants as operands
+use Rattle.rule_parse.specs.declared.raw.RawArgument.{RawArgument}
+use Rattle.rule_parse.specs.declared.raw.RawArgument.TheVariants as arguments
+use Rattle.rule_parse.specs.declared.word.Operation.{Operation}
+use Rattle.rule_parse.specs.declared.word.Operation.TheVariants.{Binary, Compare, Select, Convert}
 
--- the word of an opcode
-abbrev pub IsOpcodeWord : Opcode → List ℕ → Type 0
-IsOpcodeWord Add word = word ≡ codes "add"
-IsOpcodeWord Sub word = word ≡ codes "sub"
-IsOpcodeWord And word = word ≡ codes "and"
-IsOpcodeWord Or word = word ≡ codes "or"
-IsOpcodeWord Xor word = word ≡ codes "xor"
-IsOpcodeWord op word = ⊥
+abbrev pub operation_word : Operation → List ℕ
+operation_word (Binary op) = opcode_word op
+operation_word Compare = codes "icmp"
+operation_word Select = codes "select"
+operation_word (Convert cast) = cast_word cast
 
--- the opcode that a word is
-unfoldable pub opcode_in : List ℕ → Option Opcode
-opcode_in word =
-    if bytes_eq word (codes "add") then Some Add
-    else (if bytes_eq word (codes "sub") then Some Sub
-    else (if bytes_eq word (codes "and") then Some And
-    else (if bytes_eq word (codes "or") then Some Or
-    else (if bytes_eq word (codes "xor") then Some Xor else None))))
+abbrev pub operations : List Operation
+operations =
+    Binary Add ∷ Binary Sub ∷ Binary Mul ∷ Binary UDiv ∷ Binary SDiv ∷ Binary URem ∷ Binary SRem ∷ Binary Shl ∷ Binary LShr ∷ Binary AShr
+    ∷ Binary And ∷ Binary Or ∷ Binary Xor ∷ Compare ∷ Select ∷ Convert Trunc ∷ Convert ZExt ∷ Convert SExt ∷ []
 
--- a word begins an operand of the language: a constant, `true`, `false` or `undef`, and in the target a function of terms
-unfoldable pub begins_operand : Half → List ℕ → Bool
-begins_operand Source word = is_among (codes "true" ∷ codes "false" ∷ codes "undef" ∷ []) word || is_constant word
-begins_operand Target word = is_among (codes "undef" ∷ codes "log2" ∷ codes "abs" ∷ codes "width" ∷ []) word || is_constant word
+-- the operation whose opcode a word is
+unfoldable pub operation_in : List ℕ → Option Operation
+operation_in word = find (λ operation. bytes_eq word (operation_word operation)) operations
+
+abbrev pub truth_word : Bool → List ℕ
+truth_word true = codes "true"
+truth_word false = codes "false"
+
+-- the truth that a word is, where one may stand: in the source alone
+unfoldable pub truth_in : Half → List ℕ → Option Bool
+truth_in Source word = if bytes_eq word (codes "true") then Some true else (if bytes_eq word (codes "false") then Some false else None)
+truth_in Target word = None
 
 -- a mark begins a term, which stands in the target alone
 unfoldable pub begins_term : Half → List ℕ → Bool
@@ -44,7 +48,7 @@ operators =
     ∷ codes "<<" ∷ codes ">>" ∷ codes "u>>" ∷ codes "&" ∷ codes "^" ∷ codes "|" ∷ []
 
 -- a mark goes on with the term that an operand began: an operator behind a literal of the target
-unfoldable pub continues_term : Half → RawOperand → List ℕ → Bool
-continues_term Target (operands.Literal z) mark = is_among operators mark
-continues_term Target (operands.Register name) mark = false
-continues_term Source operand mark = false
+unfoldable pub continues_term : Half → RawArgument → List ℕ → Bool
+continues_term Target (arguments.Literal z) mark = is_among operators mark
+continues_term Target argument mark = false
+continues_term Source argument mark = false

@@ -45,7 +45,7 @@ fn is_digit(byte: u8) -> bool
 }
 
 /// Whether the text has no byte but digits.
-pub(crate) fn all_digits(text: &[u8]) -> bool
+fn all_digits(text: &[u8]) -> bool
     ensures { result ≡ list_all is_digit text.now }
 {
     text.iter().all(|byte| is_digit(*byte))

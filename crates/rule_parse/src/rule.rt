@@ -9,12 +9,14 @@ ghost use Rattle.rule_parse.specs.Tokens.{Line, Register};
 
 use crate::fault::{Misfit, ParseError};
 use crate::half::Half;
+use crate::operand::{line_end, name_within};
 use crate::raw::{RawRule, RawStatement};
-use crate::statement::{left_out, name_within, refused, statement, unexpected};
+use crate::refusal::{left_out, refused, unexpected};
+use crate::statement::statement;
 use crate::token::Token;
-use crate::word::is;
 use lists::{List, Text};
 use std::alloc::Global;
+use words::is;
 
 /// The most statements of a half.
 const MOST_STATEMENTS: usize = 32;
@@ -113,16 +115,6 @@ fn source(
         }
         [Token::Line(_), Token::Register(_), ..] => statements(alloc, Half::Source, tokens),
         _ => Err(unexpected_line(last, *tokens)),
-    }
-}
-
-/// That nothing more stands on a line.
-fn line_end(line: usize, tokens: &[Token<'_>]) -> Result<(), ParseError>
-    ensures { Gives (λ _. seen tokens.now) result (parsing.line_end line (seen tokens.now)) }
-{
-    match tokens {
-        [] | [Token::Line(_), ..] => Ok(()),
-        _ => Err(unexpected(line, tokens)),
     }
 }
 

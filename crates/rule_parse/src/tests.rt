@@ -15,7 +15,7 @@ fn named(kind: &Misfit) -> (&str, &[u8]) {
 }
 
 /// A text, and its first fault with what was left out and its line; `rules` and how many where it has none.
-const ROWS: [(&str, &str, &str, usize); 20] = [
+const ROWS: [(&str, &str, &str, usize); 34] = [
     ("; none\n\n  \t\r\n", "rules", "", 0),
     ("Name: x", "Syntax", "", 1),
     ("Name: x\n\n; c\n", "Syntax", "", 3),
@@ -26,13 +26,41 @@ const ROWS: [(&str, &str, &str, usize); 20] = [
         "",
         2,
     ),
+    (
+        "Name: a\n%a = sub nsw nuw i8 %x, true\n%b = icmp ult %a, 1\n%c = select %b, i8 %a, false\n%d = zext %c to i9\n=>\n%d = sext i8 %c\n%e = %d\n",
+        "rules",
+        "",
+        1,
+    ),
+    (
+        "Name: a\n%r = ashr exact %x, 0\n=>\n%r = trunc 1 to i64\n%r = select i1 %x, 1, i8 2\n",
+        "rules",
+        "",
+        1,
+    ),
     ("Name: a\nPre: C == 1\n", "LeftOut", "Pre:", 2),
-    ("Name: a\n%r = or %x, 0\n", "LeftOut", "or", 2),
     ("Name: a\n%r = or i1 %x, undef\n", "LeftOut", "undef", 2),
-    ("Name: a\n%r = mul i1 %x, 0\n", "LeftOut", "mul", 2),
-    ("Name: a\n%r = add nuw i1 %x, 0\n", "LeftOut", "nuw", 2),
+    ("Name: a\n%r = fadd i1 %x, 0\n", "LeftOut", "fadd", 2),
+    ("Name: a\n%r = add exact %x, 0\n", "LeftOut", "exact", 2),
+    ("Name: a\n%r = add add %x, 0\n", "LeftOut", "add", 2),
+    ("Name: a\n%r = add nuw nsw nuw %x, 0\n", "Syntax", "", 2),
+    ("Name: a\n%r = add i8 nuw %x, 0\n", "LeftOut", "nuw", 2),
+    ("Name: a\n%r = add i8 %x, i8 1\n", "LeftOut", "i8", 2),
     ("Name: a\n%r = or i65 %x, 0\n", "LeftOut", "i65", 2),
+    ("Name: a\n%r = icmp foo %x, 0\n", "LeftOut", "foo", 2),
+    ("Name: a\n%r = icmp %x, 0\n", "Syntax", "", 2),
+    ("Name: a\n%r = zext %x to C1\n", "LeftOut", "C1", 2),
+    ("Name: a\n%r = zext %x to i8, 1\n", "Syntax", "", 2),
+    ("Name: a\n%r = or %x, 1 to i8\n", "Syntax", "", 2),
+    ("Name: a\n%r = C\n", "LeftOut", "C", 2),
+    ("Name: a\n%r = 1\n", "Syntax", "", 2),
     ("Name: a\n%r = %x\n=>\n%r = %x\n", "Syntax", "", 2),
+    (
+        "Name: a\n%r = or %x, 1\n=>\n%r = true\n",
+        "LeftOut",
+        "true",
+        4,
+    ),
     (
         "Name: a\n%r = or i8 %x, 1\n=>\n%r = 1 << %x\n",
         "LeftOut",
@@ -40,11 +68,12 @@ const ROWS: [(&str, &str, &str, usize); 20] = [
         4,
     ),
     (
-        "Name: a\n%r = or i8 %x, 1\n=>\n%r = (1)\n",
+        "Name: a\n%r = or i8 %x, 1\n=>\n%r = or (1), %x\n",
         "LeftOut",
         "(",
         4,
     ),
+    ("Name: a\n%r = or (1), %x\n", "Syntax", "", 2),
     ("Name: a\n%r = or i8 %x,\n1\n=>\n%r = %x\n", "Syntax", "", 2),
     (
         "Name: a\n%r = or i8 %x, 1 %s = or i8 %x, 1\n",
@@ -55,7 +84,7 @@ const ROWS: [(&str, &str, &str, usize); 20] = [
     ("Name: a\n%r = or i8 %x, 1\n=> %r = %x\n", "Syntax", "", 3),
     ("Name: a\n%r = or i8 %x, 1\n\n%r = %x\n", "Syntax", "", 4),
     (
-        "Name: a\n%r = or i8 \u{1}%x, 1\n%r = mul\n",
+        "Name: a\n%r = or i8 \u{1}%x, 1\n%r = fadd\n",
         "BadByte",
         "",
         2,

@@ -8,9 +8,9 @@ ghost use Rattle.rule_parse.specs.Tokens as relation;
 ghost use Rattle.rule_parse.specs.Tokens.{AreTokens, IsNameToken, token_on};
 
 use crate::token::Token;
-use crate::word::is;
 use scan::{BadByte, Cursor, RuleKind, ends_primary};
 use std::alloc::{AllocError, Global};
+use words::is;
 
 /// The tokens of a text, and its last line.
 #[derive(Debug, Drop)]

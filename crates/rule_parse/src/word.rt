@@ -3,20 +3,12 @@
 ghost use Rattle.std.specs.Prelude.{◌≡◌, take};
 ghost use Rattle.std.specs.List.{list_any};
 ghost use Rattle.std.specs.Str.{bytes_eq};
-ghost use Rattle.scan.specs.RuleTokens as tokens;
-ghost use Rattle.rule_parse.specs.Words as words;
+ghost use Rattle.rule_parse.specs.Words as spelled;
 
 use crate::half::Half;
-use crate::number::all_digits;
-use crate::raw::RawOperand;
-use ops::Opcode;
-
-/// Whether a word is the wanted one.
-pub(crate) fn is(word: &[u8], wanted: &str) -> bool
-    ensures { result ≡ bytes_eq word.now wanted.now }
-{
-    word == wanted.as_bytes()
-}
+use crate::raw::RawArgument;
+use ops::{Cast, Opcode};
+use words::{cast_name, is, opcode_name};
 
 /// Whether a word is one of these.
 fn is_among(word: &[u8], words: &[&str]) -> bool
@@ -35,52 +27,74 @@ pub(crate) fn first_byte(bytes: &[u8]) -> &[u8]
     }
 }
 
-/// The opcode that a word is.
-#[tactic(auto, unfolding(crate::specs::Words::opcode_in))]
-pub(crate) fn opcode(word: &[u8]) -> Option<Opcode>
-    ensures { result ≡ words.opcode_in word.now }
+/// An operation that a statement begins with.
+#[derive(Clone, Copy, Debug)]
+pub(crate) enum Operation {
+    Binary(Opcode),
+    Compare,
+    Select,
+    Convert(Cast),
+}
+
+fn operation_name(operation: Operation) -> &'static str
+    ensures { result.now ≡ spelled.operation_word operation }
 {
-    if is(word, "add") {
-        Some(Opcode::Add)
-    } else if is(word, "sub") {
-        Some(Opcode::Sub)
-    } else if is(word, "and") {
-        Some(Opcode::And)
-    } else if is(word, "or") {
-        Some(Opcode::Or)
-    } else if is(word, "xor") {
-        Some(Opcode::Xor)
-    } else {
-        None
+    match operation {
+        Operation::Binary(opcode) => opcode_name(opcode),
+        Operation::Compare => "icmp",
+        Operation::Select => "select",
+        Operation::Convert(cast) => cast_name(cast),
     }
 }
 
-/// Whether a word is an abstract constant: `C`, and digits or none.
-#[tactic(auto, unfolding(scan::specs::RuleTokens::is_constant))]
-fn is_constant(word: &[u8]) -> bool
-    ensures { result ≡ tokens.is_constant word.now }
+const OPERATIONS: [Operation; 18] = [
+    Operation::Binary(Opcode::Add),
+    Operation::Binary(Opcode::Sub),
+    Operation::Binary(Opcode::Mul),
+    Operation::Binary(Opcode::UDiv),
+    Operation::Binary(Opcode::SDiv),
+    Operation::Binary(Opcode::URem),
+    Operation::Binary(Opcode::SRem),
+    Operation::Binary(Opcode::Shl),
+    Operation::Binary(Opcode::LShr),
+    Operation::Binary(Opcode::AShr),
+    Operation::Binary(Opcode::And),
+    Operation::Binary(Opcode::Or),
+    Operation::Binary(Opcode::Xor),
+    Operation::Compare,
+    Operation::Select,
+    Operation::Convert(Cast::Trunc),
+    Operation::Convert(Cast::ZExt),
+    Operation::Convert(Cast::SExt),
+];
+
+/// The operation whose opcode a word is.
+#[tactic(auto, unfolding(crate::specs::Words::operation_in))]
+pub(crate) fn operation_of(word: &[u8]) -> Option<Operation>
+    ensures { result ≡ spelled.operation_in word.now }
 {
-    match word {
-        [b'C', digits @ ..] => all_digits(digits),
-        _ => false,
-    }
+    OPERATIONS
+        .iter()
+        .copied()
+        .find(|operation| is(word, operation_name(*operation)))
 }
 
-/// Whether a word begins an operand of the language: a constant, `true`, `false` or `undef`, and in the target a function of terms.
-#[tactic(auto, unfolding(crate::specs::Words::begins_operand))]
-pub(crate) fn begins_operand(half: Half, word: &[u8]) -> bool
-    ensures { result ≡ words.begins_operand half word.now }
+/// The truth that a word is, where one may stand: in the source alone.
+#[tactic(auto, unfolding(crate::specs::Words::truth_in))]
+pub(crate) fn truth_of(half: Half, word: &[u8]) -> Option<bool>
+    ensures { result ≡ spelled.truth_in half word.now }
 {
     match half {
-        Half::Source => is_among(word, &["true", "false", "undef"]) || is_constant(word),
-        Half::Target => is_among(word, &["undef", "log2", "abs", "width"]) || is_constant(word),
+        Half::Source if is(word, "true") => Some(true),
+        Half::Source if is(word, "false") => Some(false),
+        Half::Source | Half::Target => None,
     }
 }
 
 /// Whether a mark begins a term, which stands in the target alone.
 #[tactic(auto, unfolding(crate::specs::Words::begins_term))]
 pub(crate) fn begins_term(half: Half, mark: &[u8]) -> bool
-    ensures { result ≡ words.begins_term half mark.now }
+    ensures { result ≡ spelled.begins_term half mark.now }
 {
     match half {
         Half::Source => false,
@@ -95,12 +109,12 @@ const OPERATORS: [&str; 13] = [
 
 /// Whether a mark goes on with the term that an operand began: an operator behind a literal of the target.
 #[tactic(auto, unfolding(crate::specs::Words::continues_term))]
-pub(crate) fn continues_term(half: Half, operand: &RawOperand, mark: &[u8]) -> bool
-    ensures { result ≡ words.continues_term half operand.now mark.now }
+pub(crate) fn continues_term(half: Half, argument: &RawArgument, mark: &[u8]) -> bool
+    ensures { result ≡ spelled.continues_term half argument.now mark.now }
 {
-    match (half, operand) {
-        (Half::Target, RawOperand::Literal(_)) => is_among(mark, &OPERATORS),
-        (Half::Target, RawOperand::Register(_)) => false,
+    match (half, argument) {
+        (Half::Target, RawArgument::Literal(_)) => is_among(mark, &OPERATORS),
+        (Half::Target, RawArgument::Register(_) | RawArgument::Truth(_)) => false,
         (Half::Source, _) => false,
     }
 }

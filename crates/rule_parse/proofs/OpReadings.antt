@@ -1,0 +1,274 @@
+-- What is read of a statement is spelled so, by tokens in front of those that are left.
+use Rattle.std.proofs.Common.{◌≡◌, ℕ, ◌≤◌, true, leb, List, [], ◌∷◌, ◌++◌, length, map, Option, Some, None, Ok, refl, sym, ap, subst, ◌∙◌, append_assoc}
+use Rattle.std.specs.Prelude.{codes}
+use Rattle.std.specs.Str.{bytes_eq}
+use Rattle.std.proofs.lemmas.Bool.{leb-true}
+use Rattle.ops.specs.declared.opcode.Opcode.{Opcode}
+use Rattle.ops.specs.declared.opcode.Flags.{Flags}
+use Rattle.ops.specs.declared.comparison.Pred.{Pred}
+use Rattle.ops.specs.declared.conversion.Cast.{Cast}
+use Rattle.ops.specs.Flags.{no_flags, flags_of}
+use Rattle.words.specs.declared.flag.Flag.{Flag}
+use Rattle.words.specs.Words.{opcode_word, cast_word, pred_word, pred_in}
+use Rattle.words.specs.Flags.{AddsFlags, flag_word, has_flag, with_flag}
+use Rattle.words.proofs.WordLemmas.{same_word, pred_in-is}
+use Rattle.words.proofs.FlagLemmas.{flag_in-is}
+use Rattle.rule_parse.specs.declared.fault.Misfit.TheVariants.{Syntax, TooMany}
+use Rattle.rule_parse.specs.declared.half.Half.{Half}
+use Rattle.rule_parse.specs.declared.half.Half.TheVariants.{Source, Target}
+use Rattle.rule_parse.specs.declared.raw.RawOp.{RawOp}
+use Rattle.rule_parse.specs.declared.raw.RawOp.TheVariants.{Binary, Compare, Select, Convert, Copy}
+use Rattle.rule_parse.specs.declared.raw.RawOperand.{RawOperand}
+use Rattle.rule_parse.specs.declared.raw.RawArgument.{RawArgument}
+use Rattle.rule_parse.specs.declared.raw.RawArgument.TheVariants as arguments
+use Rattle.rule_parse.specs.declared.word.Operation.{Operation}
+use Rattle.rule_parse.specs.declared.word.Operation.TheVariants as operations
+use Rattle.rule_parse.specs.Grammar.{SpellsType, SpellsArgument, SpellsUntyped, SpellsOperand, SpellsPair, SpellsFlags, SpellsTo, SpellsOp}
+use Rattle.rule_parse.specs.Limits.{most_name_bytes}
+use Rattle.rule_parse.specs.Numbers.{literal_value, type_in}
+use Rattle.rule_parse.specs.Parsing.{fault, or_left_out, name_within, type_at, type_or_word, maybe_type, argument_at, typed_at, operand_at, comma_at, end_at, line_end, to_at, next_flag, flag_or_end, flags_at, pair_at, binary_at, pred_at, compare_at, select_at, convert_at, copy_at, operation_at, other_at, op_word, op_at}
+use Rattle.rule_parse.specs.Parts.{Part, Is, Comma, Nothing, ◌⨾◌, Maybe}
+use Rattle.rule_parse.specs.Tokens.{Token, Line, Register, Word, Number, Mark}
+use Rattle.rule_parse.specs.Words.{operation_word, operation_in, truth_in}
+use Rattle.rule_parse.proofs.Steps.{done, bind_ok, bound, ok_is, read_as, tested, passed, refused_not, not_left_out}
+use Rattle.rule_parse.proofs.Pieces.{operation_in-is, truth_in-is, type_in-is}
+
+-- tokens of a part, in front of the rest
+pub record Takes (Spells : Part) (tokens rest : List Token) : Type 0 where
+  pub own : List Token
+  pub is_own : Spells own
+  pub whole : tokens ≡ own ++ rest
+
+pub taken_to : {P : Part} {tokens middle rest : List Token} → Takes P tokens middle → middle ≡ rest → Takes P tokens rest
+taken_to p same = record { own = p.own; is_own = p.is_own; whole = p.whole ∙ ap (λ (ts : List Token). p.own ++ ts) same }
+
+pub both : {P Q : Part} {tokens middle rest : List Token} → Takes P tokens middle → Takes Q middle rest → Takes (P ⨾ Q) tokens rest
+both {rest = rest} p q = record {
+  own = p.own ++ q.own;
+  is_own = (p.own, q.own, p.is_own, q.is_own, refl);
+  whole = p.whole ∙ ap (λ (ts : List Token). p.own ++ ts) q.whole ∙ sym (append_assoc p.own q.own rest);
+}
+
+nothing : (tokens : List Token) → Takes Nothing tokens tokens
+nothing tokens = record { own = []; is_own = refl; whole = refl }
+
+-- a token that spells a part alone
+one : {P : Part} (token : Token) (rest : List Token) → P (token ∷ []) → Takes P (token ∷ rest) rest
+one token rest is = record { own = token ∷ []; is_own = is; whole = refl }
+
+word_as : (word wanted : List ℕ) (rest : List Token) → word ≡ wanted → Takes (Is (Word wanted)) (Word word ∷ rest) rest
+word_as word wanted rest same = one (Word word) rest (ap (λ (w : List ℕ). Word w ∷ []) same)
+
+-- ---- types and operands
+
+pub name_within-is : (line : ℕ) (name held : List ℕ) → name_within line name ≡ Ok held → (length held ≤ most_name_bytes) × (name ≡ held)
+unfolding name_within
+name_within-is line name held e =
+    let t = tested (leb (length name) most_name_bytes) name held (fault line TooMany) e in
+    (subst (λ (n : List ℕ). length n ≤ most_name_bytes) t.1 (leb-true (length name) most_name_bytes t.0), t.1)
+
+type_at-is : (line : ℕ) (tokens : List Token) (x : ℕ × List Token) → type_at line tokens ≡ Ok x → Takes (SpellsType x.0) tokens x.1
+unfolding type_at
+type_at-is line (Word word ∷ rest) x e =
+    let n = not_left_out line word (type_in word) rest x e in
+    taken_to (one (Word word) rest (word, type_in-is word x.0 n.0, refl)) n.1
+type_at-is line tokens x e = absurd cc
+
+type_or_word-is : (word : List ℕ) (found : Option ℕ) (rest : List Token) → type_in word ≡ found → Takes (Maybe SpellsType (type_or_word word found rest).0) (Word word ∷ rest) (type_or_word word found rest).1
+type_or_word-is word (Some width) rest t = one (Word word) rest (word, type_in-is word width t, refl)
+type_or_word-is word None rest t = nothing (Word word ∷ rest)
+
+maybe_type-is : (tokens : List Token) → Takes (Maybe SpellsType (maybe_type tokens).0) tokens (maybe_type tokens).1
+unfolding maybe_type
+maybe_type-is (Word word ∷ rest) = type_or_word-is word (type_in word) rest refl
+maybe_type-is tokens = nothing tokens
+
+argument_at-is : (half : Half) (line : ℕ) (tokens : List Token) (x : RawArgument × List Token) → argument_at half line tokens ≡ Ok x → Takes (SpellsArgument half x.0) tokens x.1
+unfolding argument_at
+argument_at-is half line (Register name ∷ rest) x e =
+    let n = bind_ok (name_within line name) _ _ e in
+    let w = name_within-is line name n.0 n.1 in
+    read_as (λ (y : RawArgument × List Token). Takes (SpellsArgument half y.0) (Register name ∷ rest) y.1) (arguments.Register n.0, rest) x n.2
+    (one (Register name) rest (w.0, ap (λ (r : List ℕ). Register r ∷ []) w.1))
+argument_at-is half line (Number text ∷ rest) x e =
+    read_as (λ (y : RawArgument × List Token). Takes (SpellsArgument half y.0) (Number text ∷ rest) y.1) (arguments.Literal (literal_value text), rest) x e
+    (one (Number text) rest (text, refl, refl))
+argument_at-is half line (Word word ∷ rest) x e =
+    let t = bind_ok (or_left_out line word (truth_in half word) rest) _ _ e in
+    let n = not_left_out line word (truth_in half word) rest t.0 t.1 in
+    read_as (λ (y : RawArgument × List Token). Takes (SpellsArgument half y.0) (Word word ∷ rest) y.1) (arguments.Truth t.0.0, t.0.1) x t.2
+    (taken_to (one (Word word) rest (truth_in-is half word t.0.0 n.0)) n.1)
+argument_at-is half line tokens x e = absurd cc
+
+typed_at-is : (half : Half) (line : ℕ) (written : Option ℕ) (tokens : List Token) (x : RawOperand × List Token) → typed_at half line written tokens ≡ Ok x → (x.0.written ≡ written) × Takes (SpellsArgument half x.0.value) tokens x.1
+unfolding typed_at
+typed_at-is half line written tokens x e =
+    let a = bind_ok (argument_at half line tokens) _ _ e in
+    read_as (λ (y : RawOperand × List Token). (y.0.written ≡ written) × Takes (SpellsArgument half y.0.value) tokens y.1) (record { written = written; value = a.0.0 }, a.0.1) x a.2
+    (refl, argument_at-is half line tokens a.0 a.1)
+
+untyped_at-is : (half : Half) (line : ℕ) (tokens : List Token) (x : RawOperand × List Token) → typed_at half line None tokens ≡ Ok x → Takes (SpellsUntyped half x.0) tokens x.1
+untyped_at-is half line tokens x e =
+    let t = typed_at-is half line None tokens x e in
+    record { own = t.1.own; is_own = (t.0, t.1.is_own); whole = t.1.whole }
+
+operand_at-is : (half : Half) (line : ℕ) (tokens : List Token) (x : RawOperand × List Token) → operand_at half line tokens ≡ Ok x → Takes (SpellsOperand half x.0) tokens x.1
+operand_at-is half line tokens x e =
+    let t = typed_at-is half line (maybe_type tokens).0 (maybe_type tokens).1 x e in
+    subst (λ (written : Option ℕ). Takes (Maybe SpellsType written ⨾ SpellsArgument half x.0.value) tokens x.1) (sym t.0) (both (maybe_type-is tokens) t.1)
+
+-- ---- what stands behind an operand
+
+pub mark_is : (wanted mark : List ℕ) (rest : List Token) → bytes_eq mark wanted ≡ true → Mark mark ∷ rest ≡ Mark wanted ∷ rest
+mark_is wanted mark rest e = ap (λ (m : List ℕ). Mark m ∷ rest) (same_word mark wanted e)
+
+comma_at-is : (half : Half) (left : RawOperand) (line : ℕ) (tokens rest : List Token) → comma_at half left line tokens ≡ Ok rest → Takes Comma tokens rest
+unfolding comma_at
+comma_at-is half left line (Mark mark ∷ behind) rest e =
+    let t = tested (bytes_eq mark (codes ",")) behind rest _ e in
+    taken_to (one (Mark mark) behind (mark_is (codes ",") mark [] t.0)) t.1
+comma_at-is half left line tokens rest e = absurd cc
+
+end_at-is : (half : Half) (last : RawOperand) (line : ℕ) (tokens rest : List Token) → end_at half last line tokens ≡ Ok rest → tokens ≡ rest
+unfolding end_at
+end_at-is half last line [] rest e = ok_is _ _ e
+end_at-is half last line (Line next ∷ behind) rest e = ok_is _ _ e
+end_at-is half last line tokens rest e = absurd cc
+
+pub line_end-is : (line : ℕ) (tokens rest : List Token) → line_end line tokens ≡ Ok rest → tokens ≡ rest
+line_end-is line [] rest e = ok_is _ _ e
+line_end-is line (Line next ∷ behind) rest e = ok_is _ _ e
+line_end-is line tokens rest e = absurd cc
+
+no_to : (half : Half) (from : RawOperand) (line : ℕ) (tokens behind : List Token) (x : Option ℕ × List Token) → end_at half from line tokens ≡ Ok behind → done (None, behind) ≡ done x → Takes (Maybe SpellsTo x.0) tokens x.1
+no_to half from line tokens behind x ends e =
+    read_as (λ (y : Option ℕ × List Token). Takes (Maybe SpellsTo y.0) tokens y.1) (None, behind) x e (taken_to (nothing tokens) (end_at-is half from line tokens behind ends))
+
+to_at-is : (half : Half) (from : RawOperand) (line : ℕ) (tokens : List Token) (x : Option ℕ × List Token) → to_at half from line tokens ≡ Ok x → Takes (Maybe SpellsTo x.0) tokens x.1
+unfolding to_at
+to_at-is half from line (Word word ∷ rest) x e =
+    let p = passed (bytes_eq word (codes "to")) _ x (fault line Syntax) e in
+    bound (type_at line rest) _ _ p.1 (λ width t e1.
+    bound (line_end line width.1) _ _ e1 (λ behind ends e2.
+    read_as (λ (y : Option ℕ × List Token). Takes (Maybe SpellsTo y.0) (Word word ∷ rest) y.1) (Some width.0, behind) x e2
+    (both (word_as word (codes "to") rest (same_word word (codes "to") p.0)) (taken_to (type_at-is line rest width t) (line_end-is line width.1 behind ends)))))
+to_at-is half from line tokens x e = let a = bind_ok (end_at half from line tokens) _ _ e in no_to half from line tokens a.0 x a.1 a.2
+
+-- ---- flags
+
+-- a token that is one of the instruction's flags
+flag_token : (op : Opcode) (token : Token) (rest : List Token) (flag : Flag) → next_flag op (token ∷ rest) ≡ Some flag → (token ≡ Word (flag_word flag)) × (has_flag (flags_of op) flag ≡ true)
+flag_token op (Word word) rest flag e = let is = flag_in-is op word flag e in (ap Word is.0, is.1)
+flag_token op token rest flag e = absurd cc
+
+-- flags before, and flags behind these
+abbrev AddsRead : Opcode → Flags → List Token → Flags × List Token → Type 0
+AddsRead op before tokens x = (written : List Flag) × AddsFlags op before written x.0 × (tokens ≡ map (λ flag. Word (flag_word flag)) written ++ x.1)
+
+flag_or_end-is : (op : Opcode) (line : ℕ) (before : Flags) (token : Token) (rest : List Token) (x : Flags × List Token) (found : Option Flag) → next_flag op (token ∷ rest) ≡ found → flag_or_end line before found (λ flags. flags_at op line flags rest) (token ∷ rest) ≡ Ok x
+    → ((flags : Flags) → flags_at op line flags rest ≡ Ok x → AddsRead op flags rest x) → AddsRead op before (token ∷ rest) x
+flag_or_end-is op line before token rest x None f e others = read_as (AddsRead op before (token ∷ rest)) (before, token ∷ rest) x e ([], refl, refl)
+flag_or_end-is op line before token rest x (Some flag) f e others =
+    let new = refused_not (has_flag before flag) _ x (fault line Syntax) e in
+    let more = others (with_flag before flag) new.1 in
+    let is = flag_token op token rest flag f in
+    (flag ∷ more.0, (is.1, new.0, more.1), ap (λ (t : Token). t ∷ rest) is.0 ∙ ap (λ (ts : List Token). Word (flag_word flag) ∷ ts) more.2)
+
+flags_read : (op : Opcode) (line : ℕ) (before : Flags) (tokens : List Token) (x : Flags × List Token) → flags_at op line before tokens ≡ Ok x → AddsRead op before tokens x
+unfolding flags_at
+flags_read op line before [] x e = read_as (AddsRead op before []) (before, []) x e ([], refl, refl)
+flags_read op line before (token ∷ rest) x e =
+    flag_or_end-is op line before token rest x (next_flag op (token ∷ rest)) refl e (λ flags f. flags_read op line flags rest x f)
+
+flags_at-is : (op : Opcode) (line : ℕ) (tokens : List Token) (x : Flags × List Token) → flags_at op line no_flags tokens ≡ Ok x → Takes (SpellsFlags op x.0) tokens x.1
+flags_at-is op line tokens x e =
+    let f = flags_read op line no_flags tokens x e in
+    record { own = map (λ (flag : Flag). Word (flag_word flag)) f.0; is_own = (f.0, f.1, refl); whole = f.2 }
+
+-- ---- what a statement computes
+
+pair_at-is : (half : Half) (line : ℕ) (tokens : List Token) (x : (RawOperand × RawOperand) × List Token) → pair_at half line tokens ≡ Ok x → Takes (SpellsPair half x.0.0 x.0.1) tokens x.1
+unfolding pair_at
+pair_at-is half line tokens x e =
+    bound (operand_at half line tokens) _ _ e (λ left l e1.
+    bound (comma_at half left.0 line left.1) _ _ e1 (λ behind c e2.
+    bound (typed_at half line None behind) _ _ e2 (λ right r e3.
+    bound (end_at half right.0 line right.1) _ _ e3 (λ rest ends e4.
+    read_as (λ (y : (RawOperand × RawOperand) × List Token). Takes (SpellsPair half y.0.0 y.0.1) tokens y.1) ((left.0, right.0), rest) x e4
+    (both (operand_at-is half line tokens left l) (both (comma_at-is half left.0 line left.1 behind c)
+    (taken_to (untyped_at-is half line behind right r) (end_at-is half right.0 line right.1 rest ends))))))))
+
+-- an operation that is read behind its opcode
+abbrev IsOpBehind : Half → List ℕ → List Token → RawOp × List Token → Type 0
+IsOpBehind half word tokens x = Takes (SpellsOp half x.0) (Word word ∷ tokens) x.1
+
+binary_at-is : (half : Half) (line : ℕ) (op : Opcode) (word : List ℕ) (tokens : List Token) (x : RawOp × List Token) → word ≡ opcode_word op → binary_at half line op tokens ≡ Ok x → IsOpBehind half word tokens x
+unfolding binary_at
+binary_at-is half line op word tokens x is e =
+    bound (flags_at op line no_flags tokens) _ _ e (λ flags f e1.
+    bound (pair_at half line flags.1) _ _ e1 (λ pair p e2.
+    read_as (IsOpBehind half word tokens) (Binary op flags.0 pair.0.0 pair.0.1, pair.1) x e2
+    (both (word_as word (opcode_word op) tokens is) (both (flags_at-is op line tokens flags f) (pair_at-is half line flags.1 pair p)))))
+
+pred_at-is : (line : ℕ) (tokens : List Token) (x : Pred × List Token) → pred_at line tokens ≡ Ok x → Takes (Is (Word (pred_word x.0))) tokens x.1
+unfolding pred_at
+pred_at-is line (Word word ∷ rest) x e =
+    let n = not_left_out line word (pred_in word) rest x e in
+    taken_to (word_as word (pred_word x.0) rest (pred_in-is word x.0 n.0)) n.1
+pred_at-is line tokens x e = absurd cc
+
+compare_at-is : (half : Half) (line : ℕ) (word : List ℕ) (tokens : List Token) (x : RawOp × List Token) → word ≡ codes "icmp" → compare_at half line tokens ≡ Ok x → IsOpBehind half word tokens x
+unfolding compare_at
+compare_at-is half line word tokens x is e =
+    bound (pred_at line tokens) _ _ e (λ pred f e1.
+    bound (pair_at half line pred.1) _ _ e1 (λ pair p e2.
+    read_as (IsOpBehind half word tokens) (Compare pred.0 pair.0.0 pair.0.1, pair.1) x e2
+    (both (word_as word (codes "icmp") tokens is) (both (pred_at-is line tokens pred f) (pair_at-is half line pred.1 pair p)))))
+
+select_at-is : (half : Half) (line : ℕ) (word : List ℕ) (tokens : List Token) (x : RawOp × List Token) → word ≡ codes "select" → select_at half line tokens ≡ Ok x → IsOpBehind half word tokens x
+unfolding select_at
+select_at-is half line word tokens x is e =
+    bound (operand_at half line tokens) _ _ e (λ a p e1.
+    bound (comma_at half a.0 line a.1) _ _ e1 (λ b q e2.
+    bound (operand_at half line b) _ _ e2 (λ c r e3.
+    bound (comma_at half c.0 line c.1) _ _ e3 (λ d s e4.
+    bound (operand_at half line d) _ _ e4 (λ f t e5.
+    bound (end_at half f.0 line f.1) _ _ e5 (λ rest ends e6.
+    read_as (IsOpBehind half word tokens) (Select a.0 c.0 f.0, rest) x e6
+    (both (word_as word (codes "select") tokens is) (both (operand_at-is half line tokens a p) (both (comma_at-is half a.0 line a.1 b q) (both (operand_at-is half line b c r)
+    (both (comma_at-is half c.0 line c.1 d s) (taken_to (operand_at-is half line d f t) (end_at-is half f.0 line f.1 rest ends)))))))))))))
+
+convert_at-is : (half : Half) (line : ℕ) (cast : Cast) (word : List ℕ) (tokens : List Token) (x : RawOp × List Token) → word ≡ cast_word cast → convert_at half line cast tokens ≡ Ok x → IsOpBehind half word tokens x
+unfolding convert_at
+convert_at-is half line cast word tokens x is e =
+    bound (operand_at half line tokens) _ _ e (λ from p e1.
+    bound (to_at half from.0 line from.1) _ _ e1 (λ to q e2.
+    read_as (IsOpBehind half word tokens) (Convert cast from.0 to.0, to.1) x e2
+    (both (word_as word (cast_word cast) tokens is) (both (operand_at-is half line tokens from p) (to_at-is half from.0 line from.1 to q)))))
+
+copy_at-is : (line : ℕ) (tokens : List Token) (x : RawOp × List Token) → copy_at line tokens ≡ Ok x → Takes (SpellsOp Target x.0) tokens x.1
+unfolding copy_at
+copy_at-is line tokens x e =
+    bound (operand_at Target line tokens) _ _ e (λ a p e1.
+    bound (end_at Target a.0 line a.1) _ _ e1 (λ rest ends e2.
+    read_as (λ (y : RawOp × List Token). Takes (SpellsOp Target y.0) tokens y.1) (Copy a.0, rest) x e2
+    (taken_to (operand_at-is Target line tokens a p) (end_at-is Target a.0 line a.1 rest ends))))
+
+operation_at-is : (half : Half) (line : ℕ) (operation : Operation) (word : List ℕ) (tokens : List Token) (x : RawOp × List Token) → word ≡ operation_word operation → operation_at half line operation tokens ≡ Ok x → IsOpBehind half word tokens x
+operation_at-is half line (operations.Binary op) word tokens x is e = binary_at-is half line op word tokens x is e
+operation_at-is half line operations.Compare word tokens x is e = compare_at-is half line word tokens x is e
+operation_at-is half line operations.Select word tokens x is e = select_at-is half line word tokens x is e
+operation_at-is half line (operations.Convert cast) word tokens x is e = convert_at-is half line cast word tokens x is e
+
+other_at-is : (half : Half) (line : ℕ) (tokens : List Token) (x : RawOp × List Token) → other_at half line tokens ≡ Ok x → Takes (SpellsOp half x.0) tokens x.1
+other_at-is Source line tokens x e = absurd cc
+other_at-is Target line tokens x e = copy_at-is line tokens x e
+
+op_word-is : (half : Half) (line : ℕ) (word : List ℕ) (found : Option Operation) (rest : List Token) (x : RawOp × List Token) → operation_in word ≡ found → op_word half line word found rest ≡ Ok x → IsOpBehind half word rest x
+op_word-is half line word (Some operation) rest x f e = operation_at-is half line operation word rest x (operation_in-is word operation f) e
+op_word-is half line word None rest x f e = other_at-is half line (Word word ∷ rest) x e
+
+pub op_at-is : (half : Half) (line : ℕ) (tokens : List Token) (x : RawOp × List Token) → op_at half line tokens ≡ Ok x → Takes (SpellsOp half x.0) tokens x.1
+unfolding op_at
+op_at-is half line (Word word ∷ rest) x e = op_word-is half line word (operation_in word) rest x refl e
+op_at-is half line tokens x e = other_at-is half line tokens x e

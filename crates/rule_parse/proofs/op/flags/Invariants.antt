@@ -1,0 +1,11 @@
+use Rattle.std.proofs.Common.{◌≡◌, length}
+use Rattle.ops.specs.Flags.{no_flags}
+use Rattle.rule_parse.specs.Parsing.{flags_at}
+use Rattle.rule_parse.specs.Seen.{seen}
+use Rattle.rule_parse.proofs.op.flags.Given as goal
+
+abbrev pub invariant-loop-flag : goal.invariant-loop-flag
+invariant-loop-flag l = flags_at l.opcode l.line l.flags (seen l.tokens.now) ≡ flags_at l.opcode l.line no_flags (seen l.fn.tokens.now)
+
+abbrev pub decreases-loop-flag : goal.decreases-loop-flag
+decreases-loop-flag l = length (seen l.tokens.now)

@@ -1,0 +1,211 @@
+//! What a statement computes, from the tokens of its line.
+
+ghost use Rattle.std.specs.Prelude.{◌≡◌, drop, IfSome, IfNone};
+ghost use Rattle.ops.specs.Flags.{no_flags};
+ghost use Rattle.rule_parse.specs.Giving.{Gives};
+ghost use Rattle.rule_parse.specs.Parsing as parsing;
+ghost use Rattle.rule_parse.specs.Seen.{seen};
+
+use crate::fault::{Misfit, ParseError};
+use crate::half::Half;
+use crate::operand::{comma, end, operand, result_type, typed};
+use crate::raw::{RawOp, RawOperand};
+use crate::refusal::{left_out, misplaced, refused, unexpected};
+use crate::token::Token;
+use crate::word::{Operation, operation_of};
+use ops::{Cast, Flags, Opcode, Pred};
+use std::alloc::Global;
+use words::{Flag, flag_of, has_flag, predicate_of, with_flag};
+
+/// The flag of the instruction that is next, if one is; goes behind it.
+fn flag(opcode: Opcode, tokens: &mut &[Token<'_>]) -> Option<Flag>
+    ensures flag { result ≡ parsing.next_flag opcode (seen tokens.old.now) }
+    ensures goes { IfSome result (λ _. seen tokens.new.now ≡ drop 1 (seen tokens.old.now)) }
+    ensures stays { IfNone result (seen tokens.new.now ≡ seen tokens.old.now) }
+{
+    let [Token::Word(word), rest @ ..] = *tokens else {
+        return None;
+    };
+    let flag = flag_of(opcode, word)?;
+    *tokens = rest;
+    Some(flag)
+}
+
+/// The flags of an instruction, in any order.
+fn flags(opcode: Opcode, line: usize, tokens: &mut &[Token<'_>]) -> Result<Flags, ParseError>
+    ensures { Gives (λ x. (x, seen tokens.new.now)) result (parsing.flags_at opcode line no_flags (seen tokens.old.now)) }
+{
+    let mut flags = Flags::NONE;
+    while let Some(flag) = flag(opcode, tokens) {
+        if has_flag(flags, flag) {
+            return Err(refused(line, Misfit::Syntax));
+        }
+        flags = with_flag(flags, flag);
+    }
+    Ok(flags)
+}
+
+/// Two operands of one type, and that the line ends behind them.
+#[tactic(auto, unfolding(crate::specs::Parsing::pair_at))]
+fn pair(
+    alloc: Global,
+    half: Half,
+    line: usize,
+    tokens: &mut &[Token<'_>],
+) -> Result<(RawOperand, RawOperand), ParseError>
+    ensures { Gives (λ x. (x, seen tokens.new.now)) result (parsing.pair_at half line (seen tokens.old.now)) }
+{
+    let left = operand(alloc, half, line, tokens)?;
+    comma(alloc, half, &left, line, tokens)?;
+    let right = typed(alloc, half, line, None, tokens)?;
+    end(alloc, half, &right, line, *tokens)?;
+    Ok((left, right))
+}
+
+/// A binary operation, behind its opcode.
+#[tactic(auto, unfolding(crate::specs::Parsing::binary_at))]
+fn binary(
+    alloc: Global,
+    half: Half,
+    line: usize,
+    opcode: Opcode,
+    tokens: &mut &[Token<'_>],
+) -> Result<RawOp, ParseError>
+    ensures { Gives (λ x. (x, seen tokens.new.now)) result (parsing.binary_at half line opcode (seen tokens.old.now)) }
+{
+    let flags = flags(opcode, line, tokens)?;
+    let (left, right) = pair(alloc, half, line, tokens)?;
+    Ok(RawOp::Binary(opcode, flags, left, right))
+}
+
+/// A predicate.
+#[tactic(auto, unfolding(crate::specs::Parsing::pred_at))]
+fn predicate(alloc: Global, line: usize, tokens: &mut &[Token<'_>]) -> Result<Pred, ParseError>
+    ensures { Gives (λ x. (x, seen tokens.new.now)) result (parsing.pred_at line (seen tokens.old.now)) }
+{
+    match *tokens {
+        [Token::Word(word), rest @ ..] => match predicate_of(word) {
+            Some(pred) => {
+                *tokens = rest;
+                Ok(pred)
+            }
+            None => Err(left_out(alloc, line, word)),
+        },
+        _ => Err(unexpected(line, *tokens)),
+    }
+}
+
+/// A comparison, behind `icmp`.
+#[tactic(auto, unfolding(crate::specs::Parsing::compare_at))]
+fn comparison(
+    alloc: Global,
+    half: Half,
+    line: usize,
+    tokens: &mut &[Token<'_>],
+) -> Result<RawOp, ParseError>
+    ensures { Gives (λ x. (x, seen tokens.new.now)) result (parsing.compare_at half line (seen tokens.old.now)) }
+{
+    let pred = predicate(alloc, line, tokens)?;
+    let (left, right) = pair(alloc, half, line, tokens)?;
+    Ok(RawOp::Compare(pred, left, right))
+}
+
+/// A choice, behind `select`.
+#[tactic(auto, unfolding(crate::specs::Parsing::select_at))]
+fn selection(
+    alloc: Global,
+    half: Half,
+    line: usize,
+    tokens: &mut &[Token<'_>],
+) -> Result<RawOp, ParseError>
+    ensures { Gives (λ x. (x, seen tokens.new.now)) result (parsing.select_at half line (seen tokens.old.now)) }
+{
+    let condition = operand(alloc, half, line, tokens)?;
+    comma(alloc, half, &condition, line, tokens)?;
+    let if_true = operand(alloc, half, line, tokens)?;
+    comma(alloc, half, &if_true, line, tokens)?;
+    let if_false = operand(alloc, half, line, tokens)?;
+    end(alloc, half, &if_false, line, *tokens)?;
+    Ok(RawOp::Select(condition, if_true, if_false))
+}
+
+/// A cast, behind its opcode.
+#[tactic(auto, unfolding(crate::specs::Parsing::convert_at))]
+fn conversion(
+    alloc: Global,
+    half: Half,
+    line: usize,
+    cast: Cast,
+    tokens: &mut &[Token<'_>],
+) -> Result<RawOp, ParseError>
+    ensures { Gives (λ x. (x, seen tokens.new.now)) result (parsing.convert_at half line cast (seen tokens.old.now)) }
+{
+    let from = operand(alloc, half, line, tokens)?;
+    let to = result_type(alloc, half, &from, line, tokens)?;
+    Ok(RawOp::Convert(cast, from, to))
+}
+
+/// A copy.
+#[tactic(auto, unfolding(crate::specs::Parsing::copy_at))]
+fn copy(alloc: Global, line: usize, tokens: &mut &[Token<'_>]) -> Result<RawOp, ParseError>
+    ensures { Gives (λ x. (x, seen tokens.new.now)) result (parsing.copy_at line (seen tokens.old.now)) }
+{
+    let operand = operand(alloc, Half::Target, line, tokens)?;
+    end(alloc, Half::Target, &operand, line, *tokens)?;
+    Ok(RawOp::Copy(operand))
+}
+
+/// What an operation computes, behind its opcode.
+fn behind_opcode(
+    alloc: Global,
+    half: Half,
+    line: usize,
+    operation: Operation,
+    tokens: &mut &[Token<'_>],
+) -> Result<RawOp, ParseError>
+    ensures { Gives (λ x. (x, seen tokens.new.now)) result (parsing.operation_at half line operation (seen tokens.old.now)) }
+{
+    match operation {
+        Operation::Binary(opcode) => binary(alloc, half, line, opcode, tokens),
+        Operation::Compare => comparison(alloc, half, line, tokens),
+        Operation::Select => selection(alloc, half, line, tokens),
+        Operation::Convert(cast) => conversion(alloc, half, line, cast, tokens),
+    }
+}
+
+/// What a statement computes that begins with no opcode.
+fn other(
+    alloc: Global,
+    half: Half,
+    line: usize,
+    tokens: &mut &[Token<'_>],
+) -> Result<RawOp, ParseError>
+    ensures { Gives (λ x. (x, seen tokens.new.now)) result (parsing.other_at half line (seen tokens.old.now)) }
+{
+    match half {
+        Half::Source => Err(misplaced(alloc, line, *tokens)),
+        Half::Target => copy(alloc, line, tokens),
+    }
+}
+
+/// What a statement computes, behind its `=`.
+#[tactic(auto, unfolding(crate::specs::Parsing::op_at))]
+pub(crate) fn op(
+    alloc: Global,
+    half: Half,
+    line: usize,
+    tokens: &mut &[Token<'_>],
+) -> Result<RawOp, ParseError>
+    ensures { Gives (λ x. (x, seen tokens.new.now)) result (parsing.op_at half line (seen tokens.old.now)) }
+{
+    let [Token::Word(word), rest @ ..] = *tokens else {
+        return other(alloc, half, line, tokens);
+    };
+    match operation_of(word) {
+        Some(operation) => {
+            *tokens = rest;
+            behind_opcode(alloc, half, line, operation, tokens)
+        }
+        None => other(alloc, half, line, tokens),
+    }
+}
