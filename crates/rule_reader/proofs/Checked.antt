@@ -3,12 +3,14 @@ use Rattle.std.proofs.Common.{◌≡◌, inl, inr, ℕ, suc, ◌*◌, ◌<◌, �
 use Rattle.std.specs.Prelude.{slice_get, Contains, map, flat_map}
 use Rattle.std.specs.List.{AllZip}
 use Rattle.std.proofs.lemmas.Option.{slice_get_within, slice_get-get_or}
+use Rattle.ops.specs.declared.opcode.Opcode.{Opcode}
+use Rattle.ops.specs.declared.opcode.Flags.{Flags}
 use Rattle.ops.specs.Flags.{FlagsFit}
 use Rattle.rule_parse.specs.declared.raw.RawRule.{RawRule}
 use Rattle.rule_parse.specs.declared.raw.RawStatement.{RawStatement}
 use Rattle.rule_parse.specs.declared.raw.RawOp.{RawOp}
 use Rattle.rule_parse.specs.declared.raw.RawOp.TheVariants as raw_ops
-use Rattle.rule_parse.specs.declared.raw.RawOperand.TheVariants as raw_operands
+use Rattle.rule_parse.specs.declared.raw.RawArgument.TheVariants as raw_arguments
 use Rattle.rule_core.specs.declared.rule.Rule.{Rule}
 use Rattle.rule_core.specs.declared.rule.Statement.{Statement}
 use Rattle.rule_core.specs.declared.rule.Op.{Op}
@@ -22,8 +24,8 @@ use Rattle.rule_core.specs.Checks.{IsRule, names_of, ReadsAt, SourceMayRead, Tar
 use Rattle.rule_core.specs.Positions.{operands_of as operands_meant}
 use Rattle.rule_core.proofs.Members.{Contains-from_get}
 use Rattle.rule_reader.specs.declared.resolve.Half.TheVariants as halves
-use Rattle.rule_reader.specs.Naming.{operands_of, Uses, UsesAt, AssignsAt, IsInput, IsRoot, HasName, ArgumentMeans, OpMeans, StatementMeans, Means}
-use Rattle.rule_reader.specs.WellFormed.{IsHalf, IsWellFormed, MayStandInSource}
+use Rattle.rule_reader.specs.Naming.{arguments_of, Uses, UsesAt, AssignsAt, IsInput, IsRoot, HasName, ArgumentMeans, OpMeans, StatementMeans, Means}
+use Rattle.rule_reader.specs.WellFormed.{IsHalf, IsWellFormed, MayStandInSource, FlagsFitOp as FlagsFitRaw}
 use Rattle.rule_reader.specs.Kinds.{StandsAt, MayUse, UsesUnbound, RootMissingAt, UnusedTempAt}
 use Rattle.rule_reader.proofs.Places.{same_at, there, map_at, zip_right, zip_length, somewhere}
 use Rattle.rule_reader.proofs.Stable.{stable_name, find_use}
@@ -38,23 +40,29 @@ pub record IsBound (raw : RawRule) : Type 0 where
   pub root_there : (line : ℕ) → ¬ RootMissingAt raw line
   pub all_used : (line : ℕ) → ¬ UnusedTempAt raw.source line
 
-few_of_op : (op : Op) → length (operands_meant op) ≤ 2
-few_of_op (ops.Binary opcode flags x y) = omega arith
+few_of_op : (op : Op) → length (operands_meant op) ≤ 3
+few_of_op (ops.Binary op flags x y) = omega arith
+few_of_op (ops.Compare pred x y) = omega arith
+few_of_op (ops.Select z x y) = omega arith
+few_of_op (ops.Convert cast x to) = omega arith
 few_of_op (ops.Copy x) = omega arith
 
-few_of : (ss : List Statement) → length (flat_map (λ s. operands_meant s.op) ss) ≤ 2 * length ss
+few_of : (ss : List Statement) → length (flat_map (λ s. operands_meant s.op) ss) ≤ 3 * length ss
 few_of [] = omega arith
 few_of (s ∷ ss) = let one = few_of_op s.op in let rest = few_of ss in omega (arith, length-append (operands_meant s.op) (flat_map (λ (s : Statement). operands_meant s.op) ss))
 
-flags_fit : (raw : RawRule) (inputs : List (List ℕ)) (w : RawOp) (op : Op) → OpMeans raw inputs w op → FlagsFitOp op
-flags_fit raw inputs (raw_ops.Binary op width a b) (ops.Binary opcode flags x y) (is, none, left, right) = subst (λ f. FlagsFit opcode f) (sym none) refl
-flags_fit raw inputs (raw_ops.Copy written a) (ops.Binary opcode flags x y) means = absurd means
-flags_fit raw inputs w (ops.Copy x) means = tt
+same_fit : (op op' : Opcode) (flags flags' : Flags) → op' ≡ op → flags' ≡ flags → FlagsFit op flags → FlagsFit op' flags'
+same_fit op op' flags flags' same same' fit = subst (λ o. FlagsFit o flags') (sym same) (subst (FlagsFit op) (sym same') fit)
+
+fits : (raw : RawRule) (inputs : List (List ℕ)) (w : RawOp) (op : Op) → OpMeans raw inputs w op → FlagsFitRaw w → FlagsFitOp op
+fits raw inputs (raw_ops.Binary op flags a b) (ops.Binary op' flags' x y) means fit = same_fit op op' flags flags' means.0 means.1 fit
+fits raw inputs w (ops.Binary op flags x y) means fit = absurd means
+fits raw inputs w op means fit = tt
 
 no_copy : (raw : RawRule) (inputs : List (List ℕ)) (w : RawOp) (op : Op) → OpMeans raw inputs w op → MayStandInSource w → MayBeInSource op
-no_copy raw inputs w (ops.Binary opcode flags x y) means stands = tt
-no_copy raw inputs (raw_ops.Binary op width a b) (ops.Copy x) means stands = absurd means
-no_copy raw inputs (raw_ops.Copy written a) (ops.Copy x) means stands = absurd stands
+no_copy raw inputs (raw_ops.Copy a) (ops.Copy x) means stands = absurd stands
+no_copy raw inputs w (ops.Copy x) means stands = absurd means
+no_copy raw inputs w op means stands = tt
 
 -- names that a list of statements as written has
 module _ (raw : RawRule) (rule : Rule) (well : IsWellFormed raw) (bound : IsBound raw) (means : Means raw rule) where
@@ -83,9 +91,9 @@ module _ (raw : RawRule) (rule : Rule) (well : IsWellFormed raw) (bound : IsBoun
   used ws ss k s o r all at among reads =
       let (w, there, goes) = zip_right (StatementMeans raw rule.inputs) ws ss k s all at in
       let (q, place) = somewhere (operands_meant s.op) o among in
-      let (v, spot, goes') = zip_right (Goes raw rule.inputs) (operands_of w.op) (operands_meant s.op) q o (operands_go raw rule.inputs w.op s.op goes.1) place in
+      let (v, spot, goes') = zip_right (Goes raw rule.inputs) (arguments_of w.op) (operands_meant s.op) q o (operands_go raw rule.inputs w.op s.op goes.1) place in
       let (name, is, has) = register_name raw rule.inputs v r (subst (λ a. ArgumentMeans raw rule.inputs v a) reads goes') in
-      (w, there, (name, Contains-from_get (operands_of w.op) q (raw_operands.Register name) (spot ∙ ap (λ x. Some x) is), has))
+      (w, there, (name, Contains-from_get (arguments_of w.op) q (raw_arguments.Register name) (spot ∙ ap (λ x. Some x) is), has))
 
   may_in_source : (k : ℕ) (w : RawStatement) (name : List ℕ) → slice_get raw.source k ≡ Some w → Uses w.op name → ¬ (¬ MayUse raw halves.Source k name)
   may_in_source k w name at uses not = bound.source_bound w.line (k, w, at, (name, uses, not), refl)
@@ -146,7 +154,7 @@ module _ (raw : RawRule) (rule : Rule) (well : IsWellFormed raw) (bound : IsBoun
       let (w, at) = there raw.source j (omega arith) in
       let assigns : AssignsAt raw.source j w.name = statement_assigns raw.source j w at in
       let not_root : ¬ IsRoot raw.source w.name = λ (i, last, assigns'). let e : i ≡ j = one_place raw.source bound.plain.source_once i j w.name assigns' assigns in absurd (omega arith) in
-      elim (find_use (flat_map (λ (s : RawStatement). operands_of s.op) raw.source) w.name) [
+      elim (find_use (flat_map (λ (s : RawStatement). arguments_of s.op) raw.source) w.name) [
         | inl (q, uses) ↦
             let (r, reads, has) = written_reads raw rule q w.name means uses in
             (q, subst (ReadsAt rule q) (one_register raw rule.inputs bound.plain means.inputs r (registers.Source j) w.name not_root has assigns) reads)
@@ -157,7 +165,7 @@ module _ (raw : RawRule) (rule : Rule) (well : IsWellFormed raw) (bound : IsBoun
           (
             inside,
             λ (k, t, le, at', uses).
-                let (q, place) = at_flat (λ (s : RawStatement). operands_of s.op) raw.source k t (raw_operands.Register w.name) at' uses in
+                let (q, place) = at_flat (λ (s : RawStatement). arguments_of s.op) raw.source k t (raw_arguments.Register w.name) at' uses in
                 none q place,
           ),
           refl,
@@ -187,7 +195,7 @@ module _ (raw : RawRule) (rule : Rule) (well : IsWellFormed raw) (bound : IsBoun
 
   short_uses : (name : List ℕ) (q : ℕ) → UsesAt raw.source q name → length name ≤ 200
   short_uses name q uses =
-      let (k, w, at, among) = flat_at (λ (s : RawStatement). operands_of s.op) raw.source q (raw_operands.Register name) uses in
+      let (k, w, at, among) = flat_at (λ (s : RawStatement). arguments_of s.op) raw.source q (raw_arguments.Register name) uses in
       well.source.short_uses k w name at among
 
   short_assigned : (ws : List RawStatement) (ss : List Statement) (name : List ℕ) → IsHalf ws → names_of ss ≡ map (λ s. s.name) ws → Contains (names_of ss) name → length name ≤ 200
@@ -225,6 +233,6 @@ module _ (raw : RawRule) (rule : Rule) (well : IsWellFormed raw) (bound : IsBoun
             not_redefined raw rule.inputs bound.plain means.inputs k s.name (target_at k s.name at') (inr (j, (subst (λ n. suc j < n) source_length before), own));
         temporaries_read = temporaries_read;
         source_ops = λ k s at. let (w, at', goes) = zip_right (StatementMeans raw rule.inputs) raw.source rule.source k s means.source at in no_copy raw rule.inputs w.op s.op goes.1 (well.source_ops k w at');
-        source_flags = λ k s at. let (w, at', goes) = zip_right (StatementMeans raw rule.inputs) raw.source rule.source k s means.source at in flags_fit raw rule.inputs w.op s.op goes.1;
-        target_flags = λ k s at. let (w, at', goes) = zip_right (StatementMeans raw rule.inputs) raw.target rule.target k s means.target at in flags_fit raw rule.inputs w.op s.op goes.1;
+        source_flags = λ k s at. let (w, at', goes) = zip_right (StatementMeans raw rule.inputs) raw.source rule.source k s means.source at in fits raw rule.inputs w.op s.op goes.1 (well.source.flags_fit k w at');
+        target_flags = λ k s at. let (w, at', goes) = zip_right (StatementMeans raw rule.inputs) raw.target rule.target k s means.target at in fits raw rule.inputs w.op s.op goes.1 (well.target.flags_fit k w at');
       }

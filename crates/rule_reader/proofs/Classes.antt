@@ -1,5 +1,5 @@
 -- Rules that differ in their classes alone mean the same, and a rule has its classes in one way.
-use Rattle.std.proofs.Common.{◌≡◌, ℕ, ◌+◌, List, [], ◌∷◌, length, Option, None, Some, sym, ap, subst, ◌∙◌}
+use Rattle.std.proofs.Common.{◌≡◌, ℕ, ◌+◌, List, [], ◌∷◌, length, sym, ap, subst, ◌∙◌}
 use Rattle.std.specs.List.{AllZip}
 use Rattle.rule_parse.specs.declared.raw.RawRule.{RawRule}
 use Rattle.rule_parse.specs.declared.raw.RawStatement.{RawStatement}
@@ -15,32 +15,36 @@ use Rattle.rule_core.specs.Positions.{classes_of_statement}
 use Rattle.rule_typing.specs.Relabelling.{numbered_op, numbered_statement, numbered_statements, numbered}
 use Rattle.rule_reader.specs.Naming.{AreInputs, ArgumentMeans, OperandMeans, OpMeans, StatementMeans, Means}
 
--- operands that differ in their class alone
-same_operand : (raw : RawRule) (inputs : List (List ℕ)) (written : Option ℕ) (w : RawOperand) (a b : Operand) → a.value ≡ b.value → a.written ≡ b.written → OperandMeans raw inputs written w a → OperandMeans raw inputs written w b
-same_operand raw inputs written w a b value type means = (sym type ∙ means.0, subst (ArgumentMeans raw inputs w) value means.1)
-
 -- what a class number stands in place of
 abbrev with_class : Operand → ℕ → Operand
 with_class a n = record a { class = n }
 
+-- operands that differ in their class alone
+same_operand : (raw : RawRule) (inputs : List (List ℕ)) (w : RawOperand) (a b : Operand) (m n : ℕ) → with_class a m ≡ with_class b n → OperandMeans raw inputs w a → OperandMeans raw inputs w b
+same_operand raw inputs w a b m n e means =
+    (sym (ap (λ (z : Operand). z.written) e) ∙ means.0, subst (ArgumentMeans raw inputs w.value) (ap (λ (z : Operand). z.value) e) means.1)
+
 same_op : (raw : RawRule) (inputs : List (List ℕ)) (m n : ℕ) (w : RawOp) (p q : Op) → numbered_op m p ≡ numbered_op n q → OpMeans raw inputs w p → OpMeans raw inputs w q
-same_op raw inputs m n (raw_ops.Binary op width a b) (ops.Binary o f x y) (ops.Binary o' f' x' y') e (is, none, left, right) =
-    let lefts : with_class x m ≡ with_class x' n = cc in
-    let rights : with_class y (m + 1) ≡ with_class y' (n + 1) = cc in
+same_op raw inputs m n (raw_ops.Binary op flags a b) (ops.Binary o f x y) (ops.Binary o' f' x' y') e means =
     let opcodes : o ≡ o' = cc in
-    let flags : f ≡ f' = cc in (
-      sym opcodes ∙ is,
-      sym flags ∙ none,
-      same_operand raw inputs (Some width) a x x' (ap (λ (z : Operand). z.value) lefts) (ap (λ (z : Operand). z.written) lefts) left,
-      same_operand raw inputs None b y y' (ap (λ (z : Operand). z.value) rights) (ap (λ (z : Operand). z.written) rights) right,
-    )
-same_op raw inputs m n (raw_ops.Binary op width a b) (ops.Binary o f x y) (ops.Copy x') e means = absurd (cc)
-same_op raw inputs m n (raw_ops.Binary op width a b) (ops.Copy x) q e means = absurd means
-same_op raw inputs m n (raw_ops.Copy written a) (ops.Binary o f x y) q e means = absurd means
-same_op raw inputs m n (raw_ops.Copy written a) (ops.Copy x) (ops.Binary o f x' y') e means = absurd (cc)
-same_op raw inputs m n (raw_ops.Copy written a) (ops.Copy x) (ops.Copy x') e means =
-    let both : with_class x m ≡ with_class x' n = cc in
-    same_operand raw inputs written a x x' (ap (λ (z : Operand). z.value) both) (ap (λ (z : Operand). z.written) both) means
+    let flags : f ≡ f' = cc in
+    (sym opcodes ∙ means.0, sym flags ∙ means.1, same_operand raw inputs a x x' m n (cc) means.2, same_operand raw inputs b y y' (m + 1) (n + 1) (cc) means.3)
+same_op raw inputs m n (raw_ops.Compare pred a b) (ops.Compare o x y) (ops.Compare o' x' y') e means =
+    let predicates : o ≡ o' = cc in
+    (sym predicates ∙ means.0, same_operand raw inputs a x x' m n (cc) means.1, same_operand raw inputs b y y' (m + 1) (n + 1) (cc) means.2)
+same_op raw inputs m n (raw_ops.Select c a b) (ops.Select z x y) (ops.Select z' x' y') e means =
+    (same_operand raw inputs c z z' m n (cc) means.0, same_operand raw inputs a x x' (m + 1) (n + 1) (cc) means.1, same_operand raw inputs b y y' (m + 2) (n + 2) (cc) means.2)
+same_op raw inputs m n (raw_ops.Convert cast a to) (ops.Convert o x t) (ops.Convert o' x' t') e means =
+    let casts : o ≡ o' = cc in
+    let types : t ≡ t' = cc in
+    (sym casts ∙ means.0, same_operand raw inputs a x x' m n (cc) means.1, sym types ∙ means.2)
+same_op raw inputs m n (raw_ops.Copy a) (ops.Copy x) (ops.Copy x') e means = same_operand raw inputs a x x' m n (cc) means
+same_op raw inputs m n (raw_ops.Binary op flags a b) (ops.Binary o f x y) q e means = absurd (cc)
+same_op raw inputs m n (raw_ops.Compare pred a b) (ops.Compare o x y) q e means = absurd (cc)
+same_op raw inputs m n (raw_ops.Select c a b) (ops.Select z x y) q e means = absurd (cc)
+same_op raw inputs m n (raw_ops.Convert cast a to) (ops.Convert o x t) q e means = absurd (cc)
+same_op raw inputs m n (raw_ops.Copy a) (ops.Copy x) q e means = absurd (cc)
+same_op raw inputs m n w p q e means = absurd means
 
 same_statements : (raw : RawRule) (inputs : List (List ℕ)) (m n : ℕ) (ws : List RawStatement) (ss ts : List Statement) → numbered_statements m ss ≡ numbered_statements n ts → AllZip (StatementMeans raw inputs) ws ss → AllZip (StatementMeans raw inputs) ws ts
 same_statements raw inputs m n [] [] [] e all = tt

@@ -1,20 +1,18 @@
 -- What is found for names and operands.
-use Rattle.std.proofs.Common.{◌≡◌, inl, inr, ℕ, ◌-◌, ◌<◌, List, [], ◌∷◌, length, Option, None, Some, refl, sym, ap, subst, arith}
+use Rattle.std.proofs.Common.{◌≡◌, inl, inr, ℕ, ◌-◌, ◌<◌, List, length, Option, None, Some, refl, sym, ap, subst, ◌∙◌, arith}
 use Rattle.std.specs.Prelude.{slice_get, Contains, MatchOption}
-use Rattle.ops.specs.declared.opcode.Opcode.{Opcode}
 use Rattle.rule_parse.specs.declared.raw.RawRule.{RawRule}
 use Rattle.rule_parse.specs.declared.raw.RawStatement.{RawStatement}
 use Rattle.rule_parse.specs.declared.raw.RawOp.{RawOp}
-use Rattle.rule_parse.specs.declared.raw.RawOp.TheVariants.{Binary}
-use Rattle.rule_parse.specs.declared.raw.RawOperand.{RawOperand}
-use Rattle.rule_parse.specs.declared.raw.RawOperand.TheVariants as raw_operands
+use Rattle.rule_parse.specs.declared.raw.RawArgument.{RawArgument}
+use Rattle.rule_parse.specs.declared.raw.RawArgument.TheVariants as raw_arguments
 use Rattle.rule_core.specs.declared.rule.Register.{Register}
 use Rattle.rule_core.specs.declared.rule.Register.TheVariants as registers
 use Rattle.rule_core.specs.declared.rule.Op.{Op}
 use Rattle.rule_core.proofs.Members.{Contains-from_get}
 use Rattle.rule_reader.specs.declared.resolve.Half.{Half}
 use Rattle.rule_reader.specs.declared.resolve.Half.TheVariants as halves
-use Rattle.rule_reader.specs.Naming.{Uses, AssignsAt, IsInput, IsRoot, AreInputs, HasName, OpMeans}
+use Rattle.rule_reader.specs.Naming.{arguments_of, Uses, AssignsAt, IsInput, IsRoot, AreInputs, HasName, OpMeans}
 use Rattle.rule_reader.specs.declared.fault.RuleError.{RuleError}
 use Rattle.rule_reader.specs.declared.fault.RuleError.TheVariants as errors
 use Rattle.rule_reader.specs.Refusing.{IfRefused}
@@ -61,19 +59,13 @@ module _ (raw : RawRule) (inputs : List (List ℕ)) (ins : AreInputs raw.source 
   found_in_target half other (Some r) is is' not_root free no_temporary (k, e, at) =
       (λ n same. (subst (λ x. ¬ IsRoot raw.source x) (sym same) not_root, inl (input_here k at n same)), subst (λ x. HasName raw inputs x name) (sym e) at)
 
-module _ (raw : RawRule) (inputs : List (List ℕ)) (half : Half) (place : ℕ) (op : Opcode) (width : ℕ) (a b : RawOperand) where
-  -- an operand that may not be used
-  pub unbound_left : (written : RawOp) (found : Option Op) → written ≡ Binary op width a b → found ≡ None → (name : List ℕ) × (a ≡ raw_operands.Register name) × ¬ MayUse raw half place name
-      → Resolves raw half place (Uses written) (OpMeans raw inputs written) found
-  unbound_left written found is none (name, e, not) =
-      subst (Resolves raw half place (Uses written) (OpMeans raw inputs written)) (sym none)
-      (name, subst (λ w. Uses w name) (sym is) (Contains-from_get (a ∷ b ∷ []) 0 (raw_operands.Register name) (ap (λ o. Some o) e)), not)
-
-  pub unbound_right : (written : RawOp) (found : Option Op) → written ≡ Binary op width a b → found ≡ None → (name : List ℕ) × (b ≡ raw_operands.Register name) × ¬ MayUse raw half place name
-      → Resolves raw half place (Uses written) (OpMeans raw inputs written) found
-  unbound_right written found is none (name, e, not) =
-      subst (Resolves raw half place (Uses written) (OpMeans raw inputs written)) (sym none)
-      (name, subst (λ w. Uses w name) (sym is) (Contains-from_get (a ∷ b ∷ []) 1 (raw_operands.Register name) (ap (λ o. Some o) e)), not)
+-- what stands at place q of what the operation reads may not be used
+pub unbound_at : (raw : RawRule) (inputs : List (List ℕ)) (half : Half) (place : ℕ) (written op : RawOp) (q : ℕ) (a : RawArgument) (found : Option Op)
+    → written ≡ op → slice_get (arguments_of op) q ≡ Some a → found ≡ None → (name : List ℕ) × (a ≡ raw_arguments.Register name) × ¬ MayUse raw half place name
+    → Resolves raw half place (Uses written) (OpMeans raw inputs written) found
+unbound_at raw inputs half place written op q a found is at none (name, e, not) =
+    subst (Resolves raw half place (Uses written) (OpMeans raw inputs written)) (sym none)
+    (name, subst (λ w. Uses w name) (sym is) (Contains-from_get (arguments_of op) q (raw_arguments.Register name) (at ∙ ap (λ x. Some x) e)), not)
 
 -- a half is in the order of its lines
 pub half_in_order : (raw : RawRule) (half : Half) → IsWellFormed raw → AreInLineOrder (half_of half raw)

@@ -1,5 +1,5 @@
--- The inputs of a source, operand by operand.
-use Rattle.std.proofs.Common.{◌≡◌, ◌⊎◌, inl, inr, ℕ, zero, suc, ◌+◌, ◌*◌, ◌<◌, ◌≤◌, List, [], ◌∷◌, ◌++◌, length, length-append, Some, refl, sym, ap, subst, ◌∙◌, arith, take, get_or, Option}
+-- The inputs of a source, argument by argument.
+use Rattle.std.proofs.Common.{◌≡◌, ◌⊎◌, inl, inr, ℕ, zero, suc, ◌+◌, ◌*◌, ◌<◌, ◌≤◌, List, [], ◌∷◌, ◌++◌, length, length-append, Some, refl, sym, ap, subst, ◌∙◌, arith, take, get_or}
 use Rattle.std.specs.Prelude.{slice_get, Contains, flat_map}
 use Rattle.std.proofs.Common.{append_assoc}
 use Rattle.std.proofs.lemmas.Bool.{cases_lt}
@@ -7,15 +7,14 @@ use Rattle.std.proofs.lemmas.List.{take_more, take_all, append-nil}
 use Rattle.std.proofs.lemmas.Grind.{flat_map-append}
 use Rattle.std.proofs.lemmas.Option.{slice_get_within}
 use Rattle.std.proofs.lemmas.List.Elements.{Contains-append_left, Contains-push, Contains-push_cases}
-use Rattle.ops.specs.declared.opcode.Opcode.{Opcode}
 use Rattle.rule_parse.specs.declared.raw.RawStatement.{RawStatement}
 use Rattle.rule_parse.specs.declared.raw.RawOp.{RawOp}
-use Rattle.rule_parse.specs.declared.raw.RawOp.TheVariants.{Binary, Copy}
-use Rattle.rule_parse.specs.declared.raw.RawOperand.{RawOperand}
-use Rattle.rule_parse.specs.declared.raw.RawOperand.TheVariants.{Register, Literal}
+use Rattle.rule_parse.specs.declared.raw.RawOp.TheVariants.{Binary, Compare, Select, Convert, Copy}
+use Rattle.rule_parse.specs.declared.raw.RawArgument.{RawArgument}
+use Rattle.rule_parse.specs.declared.raw.RawArgument.TheVariants.{Register, Literal, Truth}
 use Rattle.rule_core.proofs.Members.{Contains-from_get, get-append_left}
-use Rattle.rule_reader.specs.Naming.{operands_of, UsesAt, AssignsAt, AreInputs}
-use Rattle.rule_reader.specs.Inputs.{AreFirstUses, AddsInput}
+use Rattle.rule_reader.specs.Naming.{arguments_of, UsesAt, AssignsAt, AreInputs}
+use Rattle.rule_reader.specs.Inputs.{AreFirstUses, AddsInput, AddsUses}
 use Rattle.rule_reader.proofs.Places.{at_append, there}
 
 pub no_uses : (source : List RawStatement) → AreFirstUses source [] []
@@ -28,7 +27,7 @@ no_uses source =
       in_order = λ h i q m n lt p. absurd (none h p);
     }
   where
-    empty : (q : ℕ) {o : RawOperand} → slice_get [] q ≡ Some o → ⊥
+    empty : (q : ℕ) {o : RawArgument} → slice_get [] q ≡ Some o → ⊥
     empty zero at = cc
     empty (suc q) at = cc
 
@@ -51,12 +50,12 @@ last_at : {X : Type 0} (xs : List X) (y : X) → slice_get (xs ++ y ∷ []) (len
 last_at [] y = refl
 last_at (x ∷ xs) y = last_at xs y
 
-module _ (source : List RawStatement) (os : List RawOperand) (inputs : List (List ℕ)) (uses : AreFirstUses source os inputs) where
-  within_os : (o : RawOperand) (q : ℕ) → slice_get os q ≡ Some o → q < length os
+module _ (source : List RawStatement) (os : List RawArgument) (inputs : List (List ℕ)) (uses : AreFirstUses source os inputs) where
+  within_os : (o : RawArgument) (q : ℕ) → slice_get os q ≡ Some o → q < length os
   within_os o q at = slice_get_within os q o at
 
-  -- an operand that is no new input
-  keeps : (o : RawOperand) → ((name : List ℕ) → o ≡ Register name → ((k : ℕ) → ¬ AssignsAt source k name) → Contains inputs name) → AreFirstUses source (os ++ o ∷ []) inputs
+  -- an argument that is no new input
+  keeps : (o : RawArgument) → ((name : List ℕ) → o ≡ Register name → ((k : ℕ) → ¬ AssignsAt source k name) → Contains inputs name) → AreFirstUses source (os ++ o ∷ []) inputs
   keeps o old =
       record {
         used = λ name among. let (q, at) = uses.used name among in (q, get-append_left os (o ∷ []) q (Register name) at);
@@ -109,8 +108,8 @@ module _ (source : List RawStatement) (os : List RawOperand) (inputs : List (Lis
         ];
       }
 
--- one more operand
-pub more_uses : (source : List RawStatement) (os : List RawOperand) (before after : List (List ℕ)) (o : RawOperand) → AreFirstUses source os before → AddsInput source before o after → AreFirstUses source (os ++ o ∷ []) after
+-- one more argument
+pub more_uses : (source : List RawStatement) (os : List RawArgument) (before after : List (List ℕ)) (o : RawArgument) → AreFirstUses source os before → AddsInput source before o after → AreFirstUses source (os ++ o ∷ []) after
 more_uses source os before after (Register name) uses (inl (free, new, is)) = subst (AreFirstUses source (os ++ Register name ∷ [])) (sym is) (adds source os before uses name free new)
 more_uses source os before after (Register name) uses (inr (old, is)) =
     subst (AreFirstUses source (os ++ Register name ∷ [])) (sym is)
@@ -119,15 +118,10 @@ more_uses source os before after (Register name) uses (inr (old, is)) =
       | inr among ↦ subst (Contains before) same among
     ]))
 more_uses source os before after (Literal z) uses is = subst (AreFirstUses source (os ++ Literal z ∷ [])) (sym is) (keeps source os before uses (Literal z) (λ n e free. cc))
+more_uses source os before after (Truth b) uses is = subst (AreFirstUses source (os ++ Truth b ∷ [])) (sym is) (keeps source os before uses (Truth b) (λ n e free. cc))
 
--- the operands of a statement of two
-pub two_more_uses : (source : List RawStatement) (os : List RawOperand) (before between after : List (List ℕ)) (a b : RawOperand) → AreFirstUses source os before → AddsInput source before a between → AddsInput source between b after → AreFirstUses source (os ++ a ∷ b ∷ []) after
-two_more_uses source os before between after a b uses first second =
-    subst (λ x. AreFirstUses source x after) (append_assoc os (a ∷ []) (b ∷ []))
-    (more_uses source (os ++ a ∷ []) between after b (more_uses source os before between a uses first) second)
-
--- once all operands are seen
-pub first_uses_inputs : (source : List RawStatement) (inputs : List (List ℕ)) → AreFirstUses source (flat_map (λ s. operands_of s.op) source) inputs → AreInputs source inputs
+-- once all arguments are seen
+pub first_uses_inputs : (source : List RawStatement) (inputs : List (List ℕ)) → AreFirstUses source (flat_map (λ s. arguments_of s.op) source) inputs → AreInputs source inputs
 first_uses_inputs source inputs uses =
     record {
       each = λ name. (λ among. (uses.used name among, uses.not_assigned name among), λ input. uses.all name input.0.0 input.0.1 input.1);
@@ -145,46 +139,56 @@ at_most source inputs (suc h) q name ins at uses =
     let rest : h ≤ p = at_most source inputs h p m ins at' earlier in
     omega arith
 
-few_of_op : (op : RawOp) → length (operands_of op) ≤ 2
-few_of_op (Binary op width a b) = omega arith
-few_of_op (Copy written a) = omega arith
+few_of_op : (op : RawOp) → length (arguments_of op) ≤ 3
+few_of_op (Binary op flags a b) = omega arith
+few_of_op (Compare pred a b) = omega arith
+few_of_op (Select c a b) = omega arith
+few_of_op (Convert cast a to) = omega arith
+few_of_op (Copy a) = omega arith
 
-few_of : (ss : List RawStatement) → length (flat_map (λ s. operands_of s.op) ss) ≤ 2 * length ss
+few_of : (ss : List RawStatement) → length (flat_map (λ s. arguments_of s.op) ss) ≤ 3 * length ss
 few_of [] = omega arith
-few_of (s ∷ ss) = let one = few_of_op s.op in let rest = few_of ss in omega (arith, length-append (operands_of s.op) (flat_map (λ (s : RawStatement). operands_of s.op) ss))
+few_of (s ∷ ss) = let one = few_of_op s.op in let rest = few_of ss in omega (arith, length-append (arguments_of s.op) (flat_map (λ (s : RawStatement). arguments_of s.op) ss))
 
 -- a half has few inputs
-pub few_inputs : (source : List RawStatement) (inputs : List (List ℕ)) → AreInputs source inputs → length source ≤ 32 → length inputs ≤ 64
-few_inputs source inputs ins few = elim (cases_lt 64 (length inputs)) [
+pub few_inputs : (source : List RawStatement) (inputs : List (List ℕ)) → AreInputs source inputs → length source ≤ 32 → length inputs ≤ 96
+few_inputs source inputs ins few = elim (cases_lt 96 (length inputs)) [
   | inr le ↦ le
   | inl more ↦
-      let (name, at) = there inputs 64 more in
-      let (q, uses) = ((ins.each name).0 (Contains-from_get inputs 64 name at)).0 in
-      let late : 64 ≤ q = at_most source inputs 64 q name ins at uses in
-      let inside : q < length (flat_map (λ s. operands_of s.op) source) = slice_get_within (flat_map (λ (s : RawStatement). operands_of s.op) source) q (Register name) uses in
+      let (name, at) = there inputs 96 more in
+      let (q, uses) = ((ins.each name).0 (Contains-from_get inputs 96 name at)).0 in
+      let late : 96 ≤ q = at_most source inputs 96 q name ins at uses in
+      let inside : q < length (flat_map (λ s. arguments_of s.op) source) = slice_get_within (flat_map (λ (s : RawStatement). arguments_of s.op) source) q (Register name) uses in
       absurd (omega (arith, few_of source))
 ]
 
--- the operands of a statement
-pub binary_uses : (source : List RawStatement) (op : RawOp) (opcode : Opcode) (width : ℕ) (a b : RawOperand) (before between after : List (List ℕ)) → op ≡ Binary opcode width a b → AddsInput source before a between → AddsInput source between b after
-    → (os : List RawOperand) → AreFirstUses source os before → AreFirstUses source (os ++ operands_of op) after
-binary_uses source op opcode width a b before between after is first second os uses =
-    subst (λ o. AreFirstUses source (os ++ operands_of o) after) (sym is) (two_more_uses source os before between after a b uses first second)
+-- the arguments of a statement
+pub one_use : (source : List RawStatement) (before after : List (List ℕ)) (a : RawArgument) → AddsInput source before a after → AddsUses source before (a ∷ []) after
+one_use source before after a added os uses = more_uses source os before after a uses added
 
-pub copy_uses : (source : List RawStatement) (op : RawOp) (written : Option ℕ) (a : RawOperand) (before after : List (List ℕ)) → op ≡ Copy written a → AddsInput source before a after
-    → (os : List RawOperand) → AreFirstUses source os before → AreFirstUses source (os ++ operands_of op) after
-copy_uses source op written a before after is added os uses = subst (λ o. AreFirstUses source (os ++ operands_of o) after) (sym is) (more_uses source os before after a uses added)
+behind : (source : List RawStatement) (before between after : List (List ℕ)) (a : RawArgument) (more : List RawArgument) → AddsInput source before a between → AddsUses source between more after → AddsUses source before (a ∷ more) after
+behind source before between after a more first rest os uses =
+    subst (λ x. AreFirstUses source x after) (append_assoc os (a ∷ []) more) (rest (os ++ a ∷ []) (more_uses source os before between a uses first))
+
+pub two_uses : (source : List RawStatement) (before between after : List (List ℕ)) (a b : RawArgument) → AddsInput source before a between → AddsInput source between b after → AddsUses source before (a ∷ b ∷ []) after
+two_uses source before between after a b first second = behind source before between after a (b ∷ []) first (one_use source between after b second)
+
+pub three_uses : (source : List RawStatement) (before between later after : List (List ℕ)) (a b c : RawArgument) → AddsInput source before a between → AddsInput source between b later → AddsInput source later c after → AddsUses source before (a ∷ b ∷ c ∷ []) after
+three_uses source before between later after a b c first second third = behind source before between after a (b ∷ c ∷ []) first (two_uses source between later after b c second third)
+
+pub uses_of_op : (source : List RawStatement) (op : RawOp) (before after : List (List ℕ)) (read : List RawArgument) → arguments_of op ≡ read → AddsUses source before read after → AddsUses source before (arguments_of op) after
+uses_of_op source op before after read is uses = subst (λ l. AddsUses source before l after) (sym is) uses
 
 -- one more statement
 pub uses_more : (source : List RawStatement) (i : ℕ) (s : RawStatement) (before after : List (List ℕ)) → i < length source → s ≡ get_or source i s
-    → AreFirstUses source (flat_map (λ s. operands_of s.op) (take i source)) before
-    → ((os : List RawOperand) → AreFirstUses source os before → AreFirstUses source (os ++ operands_of s.op) after)
-    → AreFirstUses source (flat_map (λ s. operands_of s.op) (take (i + 1) source)) after
+    → AreFirstUses source (flat_map (λ s. arguments_of s.op) (take i source)) before
+    → AddsUses source before (arguments_of s.op) after
+    → AreFirstUses source (flat_map (λ s. arguments_of s.op) (take (i + 1) source)) after
 uses_more source i s before after within is uses step =
-    let f : RawStatement → List RawOperand = λ s. operands_of s.op in
-    let parts : flat_map f (take (i + 1) source) ≡ flat_map f (take i source) ++ operands_of s.op =
-    ap (flat_map f) (take_more source i s within ∙ ap (λ x. take i source ++ x ∷ []) (sym is)) ∙ flat_map-append f (take i source) (s ∷ []) ∙ ap (λ l. flat_map f (take i source) ++ l) (append-nil (operands_of s.op)) in
+    let f : RawStatement → List RawArgument = λ s. arguments_of s.op in
+    let parts : flat_map f (take (i + 1) source) ≡ flat_map f (take i source) ++ arguments_of s.op =
+    ap (flat_map f) (take_more source i s within ∙ ap (λ x. take i source ++ x ∷ []) (sym is)) ∙ flat_map-append f (take i source) (s ∷ []) ∙ ap (λ l. flat_map f (take i source) ++ l) (append-nil (arguments_of s.op)) in
     subst (λ os. AreFirstUses source os after) (sym parts) (step (flat_map f (take i source)) uses)
 
-pub all_uses : (source : List RawStatement) (i : ℕ) (inputs : List (List ℕ)) → length source ≤ i → AreFirstUses source (flat_map (λ s. operands_of s.op) (take i source)) inputs → AreInputs source inputs
-all_uses source i inputs past uses = first_uses_inputs source inputs (subst (λ l. AreFirstUses source (flat_map (λ (s : RawStatement). operands_of s.op) l) inputs) (take_all i source past) uses)
+pub all_uses : (source : List RawStatement) (i : ℕ) (inputs : List (List ℕ)) → length source ≤ i → AreFirstUses source (flat_map (λ s. arguments_of s.op) (take i source)) inputs → AreInputs source inputs
+all_uses source i inputs past uses = first_uses_inputs source inputs (subst (λ l. AreFirstUses source (flat_map (λ (s : RawStatement). arguments_of s.op) l) inputs) (take_all i source past) uses)

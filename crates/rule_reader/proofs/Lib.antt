@@ -11,10 +11,10 @@ pub mod Found
 pub mod Repeats
 pub mod Classes
 pub mod Once
-pub mod Fixed
 pub mod Checking
 pub mod Reading
 pub mod LawLemmas
+pub mod Spelled
 pub mod Written
 pub mod NameDecisions
 pub mod FirstLines

@@ -7,8 +7,8 @@ use Rattle.rule_parse.specs.declared.raw.RawRule.{RawRule}
 use Rattle.rule_parse.specs.declared.raw.RawStatement.{RawStatement}
 use Rattle.rule_parse.specs.declared.raw.RawOp.{RawOp}
 use Rattle.rule_parse.specs.declared.raw.RawOp.TheVariants as raw_ops
-use Rattle.rule_parse.specs.declared.raw.RawOperand.{RawOperand}
-use Rattle.rule_parse.specs.declared.raw.RawOperand.TheVariants as raw_operands
+use Rattle.rule_parse.specs.declared.raw.RawArgument.{RawArgument}
+use Rattle.rule_parse.specs.declared.raw.RawArgument.TheVariants as raw_arguments
 use Rattle.rule_core.specs.declared.rule.Rule.{Rule}
 use Rattle.rule_core.specs.declared.rule.Statement.{Statement}
 use Rattle.rule_core.specs.declared.rule.Op.{Op}
@@ -19,7 +19,7 @@ use Rattle.rule_core.specs.declared.rule.Argument.TheVariants as arguments
 use Rattle.rule_core.specs.declared.rule.Register.{Register}
 use Rattle.rule_core.specs.Checks.{names_of, ReadsAt}
 use Rattle.rule_core.specs.Positions.{operands_of as operands_meant}
-use Rattle.rule_reader.specs.Naming.{operands_of, UsesAt, AssignsAt, HasName, ArgumentMeans, OpMeans, StatementMeans, Means}
+use Rattle.rule_reader.specs.Naming.{arguments_of, UsesAt, AssignsAt, HasName, ArgumentMeans, OpMeans, StatementMeans, Means}
 use Rattle.rule_reader.proofs.Places.{at_append, at_map, map_at, somewhere, zip_left, zip_right, zip_flat_map}
 use Rattle.rule_core.proofs.Members.{Contains-from_get, Contains-flat_map}
 
@@ -45,24 +45,27 @@ pub assigns_within : (statements : List RawStatement) (k : ℕ) (name : List ℕ
 assigns_within statements k name at = let found = assigning_statement statements k name at in slice_get_within statements k found.0 found.1
 
 module _ (raw : RawRule) (inputs : List (List ℕ)) where
-  -- an argument of an operand as written
-  abbrev pub Goes : RawOperand → Operand → Type 0
+  -- what an operand reads, as written
+  abbrev pub Goes : RawArgument → Operand → Type 0
   Goes w o = ArgumentMeans raw inputs w o.value
 
-  pub register_name : (w : RawOperand) (r : Register) → ArgumentMeans raw inputs w (arguments.Register r) → (name : List ℕ) × (w ≡ raw_operands.Register name) × HasName raw inputs r name
-  register_name (raw_operands.Register name) r means = (name, refl, means)
-  register_name (raw_operands.Literal z) r means = absurd means
+  pub register_name : (w : RawArgument) (r : Register) → ArgumentMeans raw inputs w (arguments.Register r) → (name : List ℕ) × (w ≡ raw_arguments.Register name) × HasName raw inputs r name
+  register_name (raw_arguments.Register name) r means = (name, refl, means)
+  register_name (raw_arguments.Literal z) r means = absurd means
+  register_name (raw_arguments.Truth b) r means = absurd means
 
-  pub named_register : (name : List ℕ) (a : Argument) → ArgumentMeans raw inputs (raw_operands.Register name) a → (r : Register) × (a ≡ arguments.Register r) × HasName raw inputs r name
+  pub named_register : (name : List ℕ) (a : Argument) → ArgumentMeans raw inputs (raw_arguments.Register name) a → (r : Register) × (a ≡ arguments.Register r) × HasName raw inputs r name
   named_register name (arguments.Register r) means = (r, refl, means)
   named_register name (arguments.Literal z) means = absurd means
   named_register name (arguments.Truth b) means = absurd means
 
-  pub operands_go : (w : RawOp) (op : Op) → OpMeans raw inputs w op → AllZip Goes (operands_of w) (operands_meant op)
-  operands_go (raw_ops.Binary op width a b) (ops.Binary opcode flags x y) (is, none, left, right) = (left.1, (right.1, tt))
-  operands_go (raw_ops.Binary op width a b) (ops.Copy x) means = absurd means
-  operands_go (raw_ops.Copy written a) (ops.Binary opcode flags x y) means = absurd means
-  operands_go (raw_ops.Copy written a) (ops.Copy x) means = (means.1, tt)
+  pub operands_go : (w : RawOp) (op : Op) → OpMeans raw inputs w op → AllZip Goes (arguments_of w) (operands_meant op)
+  operands_go (raw_ops.Binary op flags a b) (ops.Binary op' flags' x y) means = (means.2.1, (means.3.1, tt))
+  operands_go (raw_ops.Compare pred a b) (ops.Compare pred' x y) means = (means.1.1, (means.2.1, tt))
+  operands_go (raw_ops.Select c a b) (ops.Select z x y) means = (means.0.1, (means.1.1, (means.2.1, tt)))
+  operands_go (raw_ops.Convert cast a to) (ops.Convert cast' x to') means = (means.1.1, tt)
+  operands_go (raw_ops.Copy a) (ops.Copy x) means = (means.1, tt)
+  operands_go w op means = absurd means
 
   pub names_go : (ws : List RawStatement) (ss : List Statement) → AllZip (StatementMeans raw inputs) ws ss → names_of ss ≡ map (λ s. s.name) ws
   names_go [] [] all = refl
@@ -70,18 +73,18 @@ module _ (raw : RawRule) (inputs : List (List ℕ)) where
   names_go (w ∷ ws) [] all = absurd all
   names_go (w ∷ ws) (s ∷ ss) all = let e = all.0.0 in let rest = names_go ws ss all.1 in cc
 
-  pub all_go : (ws : List RawStatement) (ss : List Statement) → AllZip (StatementMeans raw inputs) ws ss → AllZip Goes (flat_map (λ s. operands_of s.op) ws) (flat_map (λ s. operands_meant s.op) ss)
-  all_go ws ss all = zip_flat_map (StatementMeans raw inputs) Goes (λ (w : RawStatement). operands_of w.op) (λ (s : Statement). operands_meant s.op) (λ w s means. operands_go w.op s.op means.1) ws ss all
+  pub all_go : (ws : List RawStatement) (ss : List Statement) → AllZip (StatementMeans raw inputs) ws ss → AllZip Goes (flat_map (λ s. arguments_of s.op) ws) (flat_map (λ s. operands_meant s.op) ss)
+  all_go ws ss all = zip_flat_map (StatementMeans raw inputs) Goes (λ (w : RawStatement). arguments_of w.op) (λ (s : Statement). operands_meant s.op) (λ w s means. operands_go w.op s.op means.1) ws ss all
 
 -- operand q of the source that is meant reads the register that is written there, and none other is
 pub reads_written : (raw : RawRule) (rule : Rule) (q : ℕ) (r : Register) → Means raw rule → ReadsAt rule q r → (name : List ℕ) × UsesAt raw.source q name × HasName raw rule.inputs r name
 reads_written raw rule q r means (o, at, reads) =
-    let found = zip_right (Goes raw rule.inputs) (flat_map (λ (s : RawStatement). operands_of s.op) raw.source) (flat_map (λ (s : Statement). operands_meant s.op) rule.source) q o (all_go raw rule.inputs raw.source rule.source means.source) at in
+    let found = zip_right (Goes raw rule.inputs) (flat_map (λ (s : RawStatement). arguments_of s.op) raw.source) (flat_map (λ (s : Statement). operands_meant s.op) rule.source) q o (all_go raw rule.inputs raw.source rule.source means.source) at in
     let named = register_name raw rule.inputs found.0 r (subst (λ a. ArgumentMeans raw rule.inputs found.0 a) reads found.2) in
     (named.0, found.1 ∙ ap (λ w. Some w) named.1, named.2)
 
 pub written_reads : (raw : RawRule) (rule : Rule) (q : ℕ) (name : List ℕ) → Means raw rule → UsesAt raw.source q name → (r : Register) × ReadsAt rule q r × HasName raw rule.inputs r name
 written_reads raw rule q name means at =
-    let found = zip_left (Goes raw rule.inputs) (flat_map (λ (s : RawStatement). operands_of s.op) raw.source) (flat_map (λ (s : Statement). operands_meant s.op) rule.source) q (raw_operands.Register name) (all_go raw rule.inputs raw.source rule.source means.source) at in
+    let found = zip_left (Goes raw rule.inputs) (flat_map (λ (s : RawStatement). arguments_of s.op) raw.source) (flat_map (λ (s : Statement). operands_meant s.op) rule.source) q (raw_arguments.Register name) (all_go raw rule.inputs raw.source rule.source means.source) at in
     let named = named_register raw rule.inputs name found.0.value found.2 in
     (named.0, (found.0, found.1, named.1), named.2)

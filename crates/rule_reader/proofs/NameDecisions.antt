@@ -5,12 +5,12 @@ use Rattle.std.proofs.Math.Decide.{map_dec, dec_le, dec_lt}
 use Rattle.rule_parse.specs.declared.raw.RawRule.{RawRule}
 use Rattle.rule_parse.specs.declared.raw.RawStatement.{RawStatement}
 use Rattle.rule_parse.specs.declared.raw.RawOp.{RawOp}
-use Rattle.rule_parse.specs.declared.raw.RawOperand.{RawOperand}
-use Rattle.rule_parse.specs.declared.raw.RawOperand.TheVariants.{Register, Literal}
+use Rattle.rule_parse.specs.declared.raw.RawArgument.{RawArgument}
+use Rattle.rule_parse.specs.declared.raw.RawArgument.TheVariants.{Register, Literal, Truth}
 use Rattle.rule_typing.proofs.Deciding.{dec_both, dec_either, dec_not, dec_number, dec_place, dec_one}
 use Rattle.rule_reader.specs.declared.resolve.Half.{Half}
 use Rattle.rule_reader.specs.declared.resolve.Half.TheVariants as halves
-use Rattle.rule_reader.specs.Naming.{operands_of, Uses, AssignsAt, IsInput, IsTemporary, IsRoot}
+use Rattle.rule_reader.specs.Naming.{arguments_of, Uses, AssignsAt, IsInput, IsTemporary, IsRoot}
 use Rattle.rule_reader.specs.Kinds.{MayUse, UsesUnbound, IsUnused}
 use Rattle.rule_reader.proofs.Stable.{same_name}
 
@@ -34,19 +34,20 @@ dec_temporary source name = dec_name_at (λ k. suc k < length source) (map (λ s
 pub dec_root : (source : List RawStatement) (name : List ℕ) → Dec (IsRoot source name)
 dec_root source name = dec_name_at (λ k. suc k ≡ length source) (map (λ s. s.name) source) name (λ k. dec_number (suc k) (length source))
 
--- an operand is the register
-dec_operand : (o : RawOperand) (name : List ℕ) → Dec (o ≡ Register name)
-dec_operand (Register other) name = map_dec (λ same. ap (λ n. Register n) same) (λ e. cc) (dec_name other name)
-dec_operand (Literal z) name = no (λ e. cc)
+-- an argument is the register
+dec_argument : (o : RawArgument) (name : List ℕ) → Dec (o ≡ Register name)
+dec_argument (Register other) name = map_dec (λ same. ap (λ n. Register n) same) (λ e. cc) (dec_name other name)
+dec_argument (Literal z) name = no (λ e. cc)
+dec_argument (Truth b) name = no (λ e. cc)
 
 dec_uses : (op : RawOp) (name : List ℕ) → Dec (Uses op name)
 dec_uses op name =
-    map_dec (λ (o, among, is). subst (Contains (operands_of op)) is among) (λ among. (Register name, among, refl)) (dec_one (λ o. o ≡ Register name) (operands_of op) (λ o. dec_operand o name))
+    map_dec (λ (o, among, is). subst (Contains (arguments_of op)) is among) (λ among. (Register name, among, refl)) (dec_one (λ o. o ≡ Register name) (arguments_of op) (λ o. dec_argument o name))
 
 pub dec_input : (source : List RawStatement) (name : List ℕ) → Dec (IsInput source name)
 dec_input source name =
     dec_both
-    (map_dec (λ (q, o, at, is). (q, at ∙ ap (λ x. Some x) is)) (λ (q, at). (q, Register name, at, refl)) (dec_place (λ q o. o ≡ Register name) (flat_map (λ s. operands_of s.op) source) (λ q o. dec_operand o name)))
+    (map_dec (λ (q, o, at, is). (q, at ∙ ap (λ x. Some x) is)) (λ (q, at). (q, Register name, at, refl)) (dec_place (λ q o. o ≡ Register name) (flat_map (λ s. arguments_of s.op) source) (λ q o. dec_argument o name)))
     (map_dec (λ none k at. none (k, at)) (λ none (k, at). none k at) (dec_not (dec_assigned source name)))
 
 pub dec_may_use : (raw : RawRule) (half : Half) (k : ℕ) (name : List ℕ) → Dec (MayUse raw half k name)
@@ -56,12 +57,13 @@ dec_may_use raw halves.Target k name =
 
 pub dec_unbound : (raw : RawRule) (half : Half) (k : ℕ) (s : RawStatement) → Dec (UsesUnbound raw half k s)
 dec_unbound raw half k s =
-    map_dec (λ (o, among, (name, is, not)). (name, subst (Contains (operands_of s.op)) is among, not)) (λ (name, uses, not). (Register name, uses, (name, refl, not)))
-    (dec_one (λ o. (name : List ℕ) × (o ≡ Register name) × ¬ MayUse raw half k name) (operands_of s.op) of_operand)
+    map_dec (λ (o, among, (name, is, not)). (name, subst (Contains (arguments_of s.op)) is among, not)) (λ (name, uses, not). (Register name, uses, (name, refl, not)))
+    (dec_one (λ o. (name : List ℕ) × (o ≡ Register name) × ¬ MayUse raw half k name) (arguments_of s.op) of_argument)
   where
-    of_operand : (o : RawOperand) → Dec ((name : List ℕ) × (o ≡ Register name) × ¬ MayUse raw half k name)
-    of_operand (Register other) = map_dec (λ not. (other, refl, not)) (λ (name, e, not). let same : name ≡ other = cc in subst (λ n. ¬ MayUse raw half k n) same not) (dec_not (dec_may_use raw half k other))
-    of_operand (Literal z) = no (λ (name, e, not). cc)
+    of_argument : (o : RawArgument) → Dec ((name : List ℕ) × (o ≡ Register name) × ¬ MayUse raw half k name)
+    of_argument (Register other) = map_dec (λ not. (other, refl, not)) (λ (name, e, not). let same : name ≡ other = cc in subst (λ n. ¬ MayUse raw half k n) same not) (dec_not (dec_may_use raw half k other))
+    of_argument (Literal z) = no (λ (name, e, not). cc)
+    of_argument (Truth b) = no (λ (name, e, not). cc)
 
 pub dec_unused : (source : List RawStatement) (k : ℕ) (s : RawStatement) → Dec (IsUnused source k s)
 dec_unused source k s =

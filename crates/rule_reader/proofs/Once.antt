@@ -1,5 +1,5 @@
 -- A rule as written has one list of inputs, and means one rule with its classes.
-use Rattle.std.proofs.Common.{◌≡◌, inl, inr, ℕ, zero, suc, ◌+◌, ◌<◌, List, [], ◌∷◌, ◌++◌, length, length-append, append_assoc, Option, None, Some, refl, sym, ap, subst, ◌∙◌, arith}
+use Rattle.std.proofs.Common.{◌≡◌, inl, inr, ℕ, zero, suc, ◌+◌, ◌<◌, List, [], ◌∷◌, ◌++◌, length, length-append, append_assoc, Some, refl, sym, ap, subst, ◌∙◌, arith}
 use Rattle.std.specs.Prelude.{slice_get, Contains, map, flat_map}
 use Rattle.std.specs.List.{AllZip}
 use Rattle.std.proofs.lemmas.Option.{slice_get_within, same_Some}
@@ -10,7 +10,8 @@ use Rattle.rule_parse.specs.declared.raw.RawStatement.{RawStatement}
 use Rattle.rule_parse.specs.declared.raw.RawOp.{RawOp}
 use Rattle.rule_parse.specs.declared.raw.RawOp.TheVariants as raw_ops
 use Rattle.rule_parse.specs.declared.raw.RawOperand.{RawOperand}
-use Rattle.rule_parse.specs.declared.raw.RawOperand.TheVariants as raw_operands
+use Rattle.rule_parse.specs.declared.raw.RawArgument.{RawArgument}
+use Rattle.rule_parse.specs.declared.raw.RawArgument.TheVariants as raw_arguments
 use Rattle.rule_core.specs.declared.rule.Rule.{Rule}
 use Rattle.rule_core.specs.declared.rule.Statement.{Statement}
 use Rattle.rule_core.specs.declared.rule.Op.{Op}
@@ -22,7 +23,7 @@ use Rattle.rule_core.specs.Positions.{operands_of as operands_meant, classes_of_
 use Rattle.rule_core.proofs.Members.{Contains-from_get}
 use Rattle.rule_typing.specs.Classes.{Joined, SameClass, IsClassified}
 use Rattle.rule_typing.specs.Relabelling.{numbered_op, numbered_statement, numbered_statements, numbered}
-use Rattle.rule_reader.specs.Naming.{Uses, UsesAt, IsRoot, AreInputs, ArgumentMeans, OperandMeans, OpMeans, StatementMeans, Means}
+use Rattle.rule_reader.specs.Naming.{arguments_of, Uses, UsesAt, IsRoot, AreInputs, ArgumentMeans, OperandMeans, OpMeans, StatementMeans, Means}
 use Rattle.rule_reader.proofs.Places.{order, somewhere, there}
 use Rattle.rule_reader.proofs.Names.{IsPlain, one_register, not_root_in_source}
 use Rattle.rule_reader.proofs.Checked.{IsBound}
@@ -81,43 +82,60 @@ one_inputs source a b p q =
 
 -- ---- what is meant, but for classes
 
+-- the operand with this class
+abbrev at_class : Operand → ℕ → Operand
+at_class a n = record a { class = n }
+
 -- no statement of these uses the root
 abbrev Rootless : RawRule → List RawStatement → Type 0
 Rootless raw ws = (k : ℕ) (w : RawStatement) (name : List ℕ) → slice_get ws k ≡ Some w → Uses w.op name → ¬ IsRoot raw.source name
 
 module _ (raw : RawRule) (inputs : List (List ℕ)) (plain : IsPlain raw) (ins : AreInputs raw.source inputs) where
-  one_argument : (w : RawOperand) (a b : Argument) → ((name : List ℕ) → w ≡ raw_operands.Register name → ¬ IsRoot raw.source name) → ArgumentMeans raw inputs w a → ArgumentMeans raw inputs w b → a ≡ b
-  one_argument (raw_operands.Register name) (arguments.Register r) (arguments.Register s) free p q = ap (λ x. arguments.Register x) (one_register raw inputs plain ins r s name (free name refl) p q)
-  one_argument (raw_operands.Register name) (arguments.Register r) (arguments.Literal z) free p q = absurd q
-  one_argument (raw_operands.Register name) (arguments.Register r) (arguments.Truth z) free p q = absurd q
-  one_argument (raw_operands.Register name) (arguments.Literal y) b free p q = absurd p
-  one_argument (raw_operands.Register name) (arguments.Truth y) b free p q = absurd p
-  one_argument (raw_operands.Literal z) (arguments.Register r) b free p q = absurd p
-  one_argument (raw_operands.Literal z) (arguments.Truth r) b free p q = absurd p
-  one_argument (raw_operands.Literal z) (arguments.Literal x) (arguments.Register r) free p q = absurd q
-  one_argument (raw_operands.Literal z) (arguments.Literal x) (arguments.Truth r) free p q = absurd q
-  one_argument (raw_operands.Literal z) (arguments.Literal x) (arguments.Literal y) free p q = ap (λ n. arguments.Literal n) (p ∙ sym q)
+  one_argument : (w : RawArgument) (a b : Argument) → ((name : List ℕ) → w ≡ raw_arguments.Register name → ¬ IsRoot raw.source name) → ArgumentMeans raw inputs w a → ArgumentMeans raw inputs w b → a ≡ b
+  one_argument (raw_arguments.Register name) (arguments.Register r) (arguments.Register s) free p q = ap (λ x. arguments.Register x) (one_register raw inputs plain ins r s name (free name refl) p q)
+  one_argument (raw_arguments.Literal z) (arguments.Literal x) (arguments.Literal y) free p q = ap (λ n. arguments.Literal n) (p ∙ sym q)
+  one_argument (raw_arguments.Truth b) (arguments.Truth x) (arguments.Truth y) free p q = ap (λ n. arguments.Truth n) (p ∙ sym q)
+  one_argument (raw_arguments.Register name) (arguments.Register r) b free p q = absurd q
+  one_argument (raw_arguments.Literal z) (arguments.Literal x) b free p q = absurd q
+  one_argument (raw_arguments.Truth b) (arguments.Truth x) c free p q = absurd q
+  one_argument w a b free p q = absurd p
 
-  one_operand : (n : ℕ) (written : Option ℕ) (w : RawOperand) (a b : Operand) → ((name : List ℕ) → w ≡ raw_operands.Register name → ¬ IsRoot raw.source name) → OperandMeans raw inputs written w a → OperandMeans raw inputs written w b
-      → ◌≡◌ {A = Operand} (record a { class = n }) (record b { class = n })
-  one_operand n written w a b free p q =
-      let value : a.value ≡ b.value = one_argument w a.value b.value free p.1 q.1 in
-      let type : a.written ≡ b.written = p.0 ∙ sym q.0 in
+  -- the operand whose argument stands at place q of what the operation reads
+  one_operand : (n : ℕ) (op : RawOp) (q : ℕ) (w : RawOperand) (a b : Operand) → ((name : List ℕ) → Uses op name → ¬ IsRoot raw.source name) → slice_get (arguments_of op) q ≡ Some w.value → OperandMeans raw inputs w a → OperandMeans raw inputs w b → at_class a n ≡ at_class b n
+  one_operand n op q w a b free at means means' =
+      let value : a.value ≡ b.value = one_argument w.value a.value b.value (λ name e. free name (Contains-from_get (arguments_of op) q (raw_arguments.Register name) (at ∙ ap (λ v. Some v) e))) means.1 means'.1 in
+      let type : a.written ≡ b.written = means.0 ∙ sym means'.0 in
       cc
 
   one_op : (n : ℕ) (w : RawOp) (p q : Op) → ((name : List ℕ) → Uses w name → ¬ IsRoot raw.source name) → OpMeans raw inputs w p → OpMeans raw inputs w q → (numbered_op n p ≡ numbered_op n q) × (length (operands_meant p) ≡ length (operands_meant q))
-  one_op n (raw_ops.Binary op width a b) (ops.Binary o f x y) (ops.Binary o' f' x' y') free p q =
-      let lefts = one_operand n (Some width) a x x' (λ name e. free name (Contains-from_get (a ∷ b ∷ []) 0 (raw_operands.Register name) (ap (λ z. Some z) e))) p.2 q.2 in
-      let rights = one_operand (n + 1) None b y y' (λ name e. free name (Contains-from_get (a ∷ b ∷ []) 1 (raw_operands.Register name) (ap (λ z. Some z) e))) p.3 q.3 in
+  one_op n (raw_ops.Binary op flags a b) (ops.Binary o f x y) (ops.Binary o' f' x' y') free p q =
+      let lefts = one_operand n (raw_ops.Binary op flags a b) 0 a x x' free refl p.2 q.2 in
+      let rights = one_operand (n + 1) (raw_ops.Binary op flags a b) 1 b y y' free refl p.3 q.3 in
       let opcodes : o ≡ o' = p.0 ∙ sym q.0 in
-      let flags : f ≡ f' = p.1 ∙ sym q.1 in
+      let same_flags : f ≡ f' = p.1 ∙ sym q.1 in
       (cc, refl)
-  one_op n (raw_ops.Binary op width a b) (ops.Binary o f x y) (ops.Copy x') free p q = absurd q
-  one_op n (raw_ops.Binary op width a b) (ops.Copy x) q' free p q = absurd p
-  one_op n (raw_ops.Copy written a) (ops.Binary o f x y) q' free p q = absurd p
-  one_op n (raw_ops.Copy written a) (ops.Copy x) (ops.Binary o f x' y') free p q = absurd q
-  one_op n (raw_ops.Copy written a) (ops.Copy x) (ops.Copy x') free p q =
-      (ap (λ z. ops.Copy z) (one_operand n written a x x' (λ name e. free name (Contains-from_get (a ∷ []) 0 (raw_operands.Register name) (ap (λ z. Some z) e))) p q), refl)
+  one_op n (raw_ops.Compare pred a b) (ops.Compare o x y) (ops.Compare o' x' y') free p q =
+      let lefts = one_operand n (raw_ops.Compare pred a b) 0 a x x' free refl p.1 q.1 in
+      let rights = one_operand (n + 1) (raw_ops.Compare pred a b) 1 b y y' free refl p.2 q.2 in
+      let predicates : o ≡ o' = p.0 ∙ sym q.0 in
+      (cc, refl)
+  one_op n (raw_ops.Select c a b) (ops.Select z x y) (ops.Select z' x' y') free p q =
+      let conditions = one_operand n (raw_ops.Select c a b) 0 c z z' free refl p.0 q.0 in
+      let arms = one_operand (n + 1) (raw_ops.Select c a b) 1 a x x' free refl p.1 q.1 in
+      let others = one_operand (n + 2) (raw_ops.Select c a b) 2 b y y' free refl p.2 q.2 in
+      (cc, refl)
+  one_op n (raw_ops.Convert cast a to) (ops.Convert o x t) (ops.Convert o' x' t') free p q =
+      let operands = one_operand n (raw_ops.Convert cast a to) 0 a x x' free refl p.1 q.1 in
+      let casts : o ≡ o' = p.0 ∙ sym q.0 in
+      let types : t ≡ t' = p.2 ∙ sym q.2 in
+      (cc, refl)
+  one_op n (raw_ops.Copy a) (ops.Copy x) (ops.Copy x') free p q = (ap (λ z. ops.Copy z) (one_operand n (raw_ops.Copy a) 0 a x x' free refl p q), refl)
+  one_op n (raw_ops.Binary op flags a b) (ops.Binary o f x y) q' free p q = absurd q
+  one_op n (raw_ops.Compare pred a b) (ops.Compare o x y) q' free p q = absurd q
+  one_op n (raw_ops.Select c a b) (ops.Select z x y) q' free p q = absurd q
+  one_op n (raw_ops.Convert cast a to) (ops.Convert o x t) q' free p q = absurd q
+  one_op n (raw_ops.Copy a) (ops.Copy x) q' free p q = absurd q
+  one_op n w p' q' free p q = absurd p
 
   one_list : (n : ℕ) (ws : List RawStatement) (ss ts : List Statement) → Rootless raw ws → AllZip (StatementMeans raw inputs) ws ss → AllZip (StatementMeans raw inputs) ws ts
       → (numbered_statements n ss ≡ numbered_statements n ts) × (length (flat_map classes_of_statement ss) ≡ length (flat_map classes_of_statement ts))
@@ -189,9 +207,12 @@ lists_at (x ∷ xs) (y ∷ ys) long same =
     let rest : xs ≡ ys = lists_at xs ys (omega arith) (λ k c d at at'. same (suc k) c d at at') in
     cc
 
-same_operand : (x y : Operand) → x.value ≡ y.value → x.written ≡ y.written → x.class ≡ y.class → x ≡ y
-same_operand x y p q r =
-    let e : ◌≡◌ {A = Operand} (record { value = x.value; written = x.written; class = x.class }) (record { value = y.value; written = y.written; class = y.class }) = cc in e
+same_operand : (x y : Operand) (m n : ℕ) → at_class x m ≡ at_class y n → x.class ≡ y.class → x ≡ y
+same_operand x y m n e same =
+    let value : x.value ≡ y.value = ap (λ (z : Operand). z.value) e in
+    let type : x.written ≡ y.written = ap (λ (z : Operand). z.written) e in
+    let whole : ◌≡◌ {A = Operand} (record { value = x.value; written = x.written; class = x.class }) (record { value = y.value; written = y.written; class = y.class }) = cc in
+    whole
 
 same_statement : (s t : Statement) → s.name ≡ t.name → s.class ≡ t.class → s.op ≡ t.op → s ≡ t
 same_statement s t p q r =
@@ -200,28 +221,31 @@ same_statement s t p q r =
 abbrev op_classes : Op → List ℕ
 op_classes op = map (λ o. o.class) (operands_meant op)
 
-abbrev at_class : Operand → ℕ → Operand
-at_class a n = record a { class = n }
-
 -- an operation is what it is without its classes, and these
 same_op : (m n : ℕ) (p q : Op) (xs ys : List ℕ) → numbered_op m p ≡ numbered_op n q → op_classes p ++ xs ≡ op_classes q ++ ys → (p ≡ q) × (xs ≡ ys)
 same_op m n (ops.Binary o f x y) (ops.Binary o' f' x' y') xs ys e classes =
-    let lefts : at_class x m ≡ at_class x' n = cc in
-    let rights : at_class y (m + 1) ≡ at_class y' (n + 1) = cc in
-    let first : x.class ≡ x'.class = cc in
-    let second : y.class ≡ y'.class = cc in
-    let left : x ≡ x' = same_operand x x' (ap (λ (z : Operand). z.value) lefts) (ap (λ (z : Operand). z.written) lefts) first in
-    let right : y ≡ y' = same_operand y y' (ap (λ (z : Operand). z.value) rights) (ap (λ (z : Operand). z.written) rights) second in
+    let left : x ≡ x' = same_operand x x' m n (cc) (cc) in
+    let right : y ≡ y' = same_operand y y' (m + 1) (n + 1) (cc) (cc) in
     let opcodes : o ≡ o' = cc in
     let flags : f ≡ f' = cc in
     (cc, cc)
-same_op m n (ops.Binary o f x y) (ops.Copy x') xs ys e classes = absurd (cc)
-same_op m n (ops.Copy x) (ops.Binary o' f' x' y') xs ys e classes = absurd (cc)
-same_op m n (ops.Copy x) (ops.Copy x') xs ys e classes =
-    let both : at_class x m ≡ at_class x' n = cc in
-    let first : x.class ≡ x'.class = cc in
-    let copied : x ≡ x' = same_operand x x' (ap (λ (z : Operand). z.value) both) (ap (λ (z : Operand). z.written) both) first in
+same_op m n (ops.Compare o x y) (ops.Compare o' x' y') xs ys e classes =
+    let left : x ≡ x' = same_operand x x' m n (cc) (cc) in
+    let right : y ≡ y' = same_operand y y' (m + 1) (n + 1) (cc) (cc) in
+    let predicates : o ≡ o' = cc in
     (cc, cc)
+same_op m n (ops.Select z x y) (ops.Select z' x' y') xs ys e classes =
+    let condition : z ≡ z' = same_operand z z' m n (cc) (cc) in
+    let arm : x ≡ x' = same_operand x x' (m + 1) (n + 1) (cc) (cc) in
+    let other : y ≡ y' = same_operand y y' (m + 2) (n + 2) (cc) (cc) in
+    (cc, cc)
+same_op m n (ops.Convert o x t) (ops.Convert o' x' t') xs ys e classes =
+    let converted : x ≡ x' = same_operand x x' m n (cc) (cc) in
+    let casts : o ≡ o' = cc in
+    let types : t ≡ t' = cc in
+    (cc, cc)
+same_op m n (ops.Copy x) (ops.Copy x') xs ys e classes = let copied : x ≡ x' = same_operand x x' m n (cc) (cc) in (cc, cc)
+same_op m n p q xs ys e classes = absurd (cc)
 
 same_statements : (m n : ℕ) (ss ts : List Statement) (xs ys : List ℕ) → numbered_statements m ss ≡ numbered_statements n ts → flat_map classes_of_statement ss ++ xs ≡ flat_map classes_of_statement ts ++ ys → (ss ≡ ts) × (xs ≡ ys)
 same_statements m n [] [] xs ys e classes = (refl, classes)
@@ -242,9 +266,11 @@ same_statements m n (s ∷ ss) (t ∷ ts) xs ys e classes =
 -- rules that differ in their classes alone have as many of them
 as_many_of : (m n : ℕ) (p q : Op) → numbered_op m p ≡ numbered_op n q → length (op_classes p) ≡ length (op_classes q)
 as_many_of m n (ops.Binary o f x y) (ops.Binary o' f' x' y') e = refl
-as_many_of m n (ops.Binary o f x y) (ops.Copy x') e = absurd (cc)
-as_many_of m n (ops.Copy x) (ops.Binary o' f' x' y') e = absurd (cc)
+as_many_of m n (ops.Compare o x y) (ops.Compare o' x' y') e = refl
+as_many_of m n (ops.Select z x y) (ops.Select z' x' y') e = refl
+as_many_of m n (ops.Convert o x t) (ops.Convert o' x' t') e = refl
 as_many_of m n (ops.Copy x) (ops.Copy x') e = refl
+as_many_of m n p q e = absurd (cc)
 
 as_many : (m n : ℕ) (ss ts : List Statement) → numbered_statements m ss ≡ numbered_statements n ts → length (flat_map classes_of_statement ss) ≡ length (flat_map classes_of_statement ts)
 as_many m n [] [] e = refl

@@ -17,12 +17,10 @@ use Rattle.rule_reader.specs.declared.fault.RuleError.TheVariants as errors
 use Rattle.rule_reader.specs.Refusing.{IfRefused, Becomes}
 use Rattle.rule_reader.specs.Marks.{Marks, MarksRepeated}
 use Rattle.rule_reader.specs.WellFormed.{IsWellFormed}
-use Rattle.rule_reader.specs.Ready.{HasFixedClasses}
 use Rattle.rule_reader.specs.Faults.{ManyClasses, NoType, OpenType, Duplicate, Passes, IsRuleOf, IsFirstFault, AreRulesOf, IsFault, of_text, of_rule}
 use Rattle.rule_reader.proofs.Places.{order, same_at, at_append, take_at, at_map, there}
 use Rattle.rule_reader.proofs.Checked.{checked_rule}
 use Rattle.rule_reader.proofs.Checking.{bound_of}
-use Rattle.rule_reader.proofs.Fixed.{fixed_classes}
 
 -- rules are those of the first rules as written, so many
 pub record AreFirstRules (raws : List RawRule) (place : ℕ) (rules : List Rule) : Type 0 where
@@ -82,9 +80,6 @@ module _ (raws : List RawRule) (rules : List Rule) (well : (k : ℕ) (raw : RawR
 
   pub all_have_no_fault : All HasNoFault rules
   all_have_no_fault = each_rule HasNoFault (λ earlier raw rule well is. no_fault earlier raw rule is)
-
-  pub all_have_fixed_classes : All HasFixedClasses rules
-  all_have_fixed_classes = each_rule HasFixedClasses (λ earlier raw rule well is. fixed_classes raw rule well is.means is.classes (no_fault earlier raw rule is))
 
   again : (j k : ℕ) (name : List ℕ) → j < k → slice_get (map (λ rule. rule.name) rules) j ≡ Some name → slice_get (map (λ rule. rule.name) rules) k ≡ Some name → ⊥
   again j k name lt first second =

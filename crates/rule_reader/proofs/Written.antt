@@ -1,5 +1,5 @@
 -- Rules as written are well formed.
-use Rattle.std.proofs.Common.{◌≡◌, ℕ, zero, suc, ◌+◌, ◌<◌, ◌≤◌, Bool, true, false, cond, eqb, List, [], ◌∷◌, ◌++◌, length, append_assoc, take, Option, None, Some, refl, sym, ap, subst, ◌∙◌, arith}
+use Rattle.std.proofs.Common.{◌≡◌, ℕ, zero, suc, ◌+◌, ◌<◌, ◌≤◌, Bool, true, false, cond, eqb, List, [], ◌∷◌, ◌++◌, length, append_assoc, take, Some, refl, sym, ap, subst, ◌∙◌, arith}
 use Rattle.std.specs.Prelude.{slice_get, Contains}
 use Rattle.std.specs.Prelude.{codes}
 use Rattle.std.specs.List.{sum_by}
@@ -13,15 +13,13 @@ use Rattle.scan.specs.Names.{rest_of_line}
 use Rattle.scan.specs.RuleTokens.{line_at}
 use Rattle.rule_parse.specs.declared.raw.RawRule.{RawRule}
 use Rattle.rule_parse.specs.declared.raw.RawStatement.{RawStatement}
-use Rattle.rule_parse.specs.declared.raw.RawOp.{RawOp}
-use Rattle.rule_parse.specs.declared.raw.RawOp.TheVariants as raw_ops
+use Rattle.rule_parse.specs.declared.raw.RawOp.TheVariants.{Copy}
 use Rattle.rule_parse.specs.declared.raw.RawOperand.{RawOperand}
-use Rattle.rule_parse.specs.declared.raw.RawOperand.TheVariants as raw_operands
 use Rattle.rule_parse.specs.Tokens.{Token, Line, Head, Name, Register, Word, Number, Arrow, Mark, Other, Bad, token_of, Place, AtToken, TokensFrom, ends, token, name as at_name, bad_token, bad_name}
-use Rattle.rule_parse.specs.Grammar.{SpellsOperand, SpellsCopy, SpellsOp, SpellsStatement, SpellsStatements, SpellsHalf, SpellsRule, SpellsRules}
+use Rattle.rule_parse.specs.Grammar.{SpellsOperand, SpellsOp, SpellsStatement, SpellsStatements, SpellsHalf, SpellsRule, SpellsRules}
 use Rattle.rule_parse.specs.Text.{IsWritten}
-use Rattle.rule_reader.specs.Naming.{Uses}
 use Rattle.rule_reader.specs.WellFormed.{AreInLineOrder, MayStandInSource, IsHalf, IsWellFormed}
+use Rattle.rule_reader.proofs.Spelled.{short_use, written_flags, no_copies}
 
 -- a line of these tokens begins
 abbrev Begins : List Token → ℕ → Type 0
@@ -182,33 +180,7 @@ spelled_at half [] tokens k s is at = absurd (none_at k s at)
 spelled_at half (s ∷ ss) tokens zero t (own, rest, spelled, others, is) at = (own, subst (λ x. SpellsStatement half x own) (same_Some s t at) spelled)
 spelled_at half (s ∷ ss) tokens (suc k) t (own, rest, spelled, others, is) at = spelled_at half ss rest k t others at
 
-short_operand : (o : RawOperand) (t : Token) (name : List ℕ) → SpellsOperand o t → o ≡ raw_operands.Register name → length name ≤ 200
-short_operand (raw_operands.Register other) t name spelled is = let same : other ≡ name = cc in subst (λ n. length n ≤ 200) same spelled.0
-short_operand (raw_operands.Literal z) t name spelled is = absurd (cc)
-
--- a copy with short names, as a half may spell one
-abbrev CopiesShort : (RawOp → List Token → Type 0) → Type 0
-CopiesShort Spells = (written : Option ℕ) (a : RawOperand) (tokens : List Token) (name : List ℕ) → Spells (raw_ops.Copy written a) tokens → Uses (raw_ops.Copy written a) name → length name ≤ 200
-
-copy_short : (written : Option ℕ) (a : RawOperand) (tokens : List Token) (name : List ℕ) → SpellsCopy written a tokens → Uses (raw_ops.Copy written a) name → length name ≤ 200
-copy_short None a tokens name spelled (zero, within, is) = short_operand a spelled.0 name spelled.1 is
-copy_short (Some width) a tokens name spelled (zero, within, is) = short_operand a spelled.1 name spelled.3 is
-copy_short written a tokens name spelled (suc k, within, is) = absurd (omega arith)
-
-short_use : (half : _) → CopiesShort (SpellsOp half) → (op : RawOp) (tokens : List Token) (name : List ℕ) → SpellsOp half op tokens → Uses op name → length name ≤ 200
-short_use half copies (raw_ops.Binary op width a b) tokens name spelled (zero, within, is) = short_operand a spelled.left name spelled.is_left is
-short_use half copies (raw_ops.Binary op width a b) tokens name spelled (suc zero, within, is) = short_operand b spelled.right name spelled.is_right is
-short_use half copies (raw_ops.Binary op width a b) tokens name spelled (suc (suc k), within, is) = absurd (omega arith)
-short_use half copies (raw_ops.Copy written a) tokens name spelled used = copies written a tokens name spelled used
-
-no_copies : (half : _) → ((written : Option ℕ) (a : RawOperand) (tokens : List Token) → ¬ SpellsOp half (raw_ops.Copy written a) tokens) → (op : RawOp) (tokens : List Token) → SpellsOp half op tokens → MayStandInSource op
-no_copies half none (raw_ops.Binary op width a b) tokens spelled = tt
-no_copies half none (raw_ops.Copy written a) tokens spelled = absurd (none written a tokens spelled)
-
-source_ops : (half : _) → ((written : Option ℕ) (a : RawOperand) (tokens : List Token) → ¬ SpellsOp half (raw_ops.Copy written a) tokens) → (ss : List RawStatement) (tokens : List Token) → SpellsHalf half ss tokens → (k : ℕ) (s : RawStatement) → slice_get ss k ≡ Some s → MayStandInSource s.op
-source_ops half none ss tokens spelled k s at = let own = (spelled_at half ss tokens k s spelled.spelled at).1 in no_copies half none s.op own.op own.is_op
-
-is_half : (half : _) → CopiesShort (SpellsOp half) → (ss : List RawStatement) (tokens : List Token) → SpellsHalf half ss tokens → AreInLineOrder ss → IsHalf ss
+is_half : (half : _) → ((a : RawOperand) (tokens : List Token) → SpellsOp half (Copy a) tokens → SpellsOperand half a tokens) → (ss : List RawStatement) (tokens : List Token) → SpellsHalf half ss tokens → AreInLineOrder ss → IsHalf ss
 is_half half copies ss tokens spelled in_order =
     record {
       some = spelled.some;
@@ -216,7 +188,11 @@ is_half half copies ss tokens spelled in_order =
       in_order = in_order;
       short_names = λ k s at. (spelled_at half ss tokens k s spelled.spelled at).1.name;
       short_uses = λ k s name at uses. let own = (spelled_at half ss tokens k s spelled.spelled at).1 in short_use half copies s.op own.op name own.is_op uses;
+      flags_fit = λ k s at. let own = (spelled_at half ss tokens k s spelled.spelled at).1 in written_flags half s.op own.op own.is_op;
     }
+
+source_ops : (half : _) → ((a : RawOperand) (tokens : List Token) → ¬ SpellsOp half (Copy a) tokens) → (ss : List RawStatement) (tokens : List Token) → SpellsHalf half ss tokens → (k : ℕ) (s : RawStatement) → slice_get ss k ≡ Some s → MayStandInSource s.op
+source_ops half none ss tokens spelled k s at = let own = (spelled_at half ss tokens k s spelled.spelled at).1 in no_copies half none s.op own.op own.is_op
 
 well_formed : (low : ℕ) (raw : RawRule) (tokens behind : List Token) → SpellsRule raw tokens → Ascend low (tokens ++ behind) → IsWellFormed raw
 unfolding Ascend
@@ -228,11 +204,11 @@ well_formed low raw tokens behind spelled up =
     let target = ordered _ spelled.arrow_line raw.target spelled.target behind spelled.is_target.spelled source.goes_on.1 in
     record {
       short_name = spelled.name.1;
-      source = is_half _ (λ written a tokens name never. absurd never) raw.source spelled.source spelled.is_source source.in_order;
-      target = is_half _ copy_short raw.target spelled.target spelled.is_target target.in_order;
+      source = is_half _ (λ a tokens never. absurd never) raw.source spelled.source spelled.is_source source.in_order;
+      target = is_half _ (λ a tokens spelled. spelled) raw.target spelled.target spelled.is_target target.in_order;
       name_first = source.not_before;
       source_first = λ j k s t at at'. let le : s.line ≤ source.last = source.not_behind j s at in let le' : spelled.arrow_line ≤ t.line = target.not_before k t at' in omega (arith, source.goes_on.0);
-      source_ops = source_ops _ (λ written a tokens never. never) raw.source spelled.source spelled.is_source;
+      source_ops = source_ops _ (λ a tokens never. never) raw.source spelled.source spelled.is_source;
     }
 
 rules_well_formed : (low : ℕ) (raws : List RawRule) (tokens : List Token) → SpellsRules raws tokens → Ascend low tokens → (k : ℕ) (raw : RawRule) → slice_get raws k ≡ Some raw → IsWellFormed raw

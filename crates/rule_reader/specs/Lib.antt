@@ -4,7 +4,6 @@ pub mod WellFormed
 pub mod Refusing
 pub mod Kinds
 pub mod Resolving
-pub mod Ready
 pub mod Faults
 pub mod Laws
 pub mod ClassFaults

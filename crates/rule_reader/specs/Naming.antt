@@ -1,13 +1,13 @@
 -- What a rule as written means: the rule whose registers are known by place. It says nothing of classes.
-use Rattle.std.specs.Prelude.{◌≡◌, ◌↔◌, ℕ, suc, ◌<◌, List, [], ◌∷◌, length, map, flat_map, Option, None, Some, Contains, slice_get}
+use Rattle.std.specs.Prelude.{◌≡◌, ◌↔◌, ℕ, suc, ◌<◌, List, [], ◌∷◌, length, map, flat_map, Some, Contains, slice_get}
 use Rattle.std.specs.List.{AllZip}
-use Rattle.ops.specs.Flags.{no_flags}
 use Rattle.rule_parse.specs.declared.raw.RawRule.{RawRule}
 use Rattle.rule_parse.specs.declared.raw.RawStatement.{RawStatement}
 use Rattle.rule_parse.specs.declared.raw.RawOp.{RawOp}
 use Rattle.rule_parse.specs.declared.raw.RawOp.TheVariants as raw_ops
 use Rattle.rule_parse.specs.declared.raw.RawOperand.{RawOperand}
-use Rattle.rule_parse.specs.declared.raw.RawOperand.TheVariants as raw_operands
+use Rattle.rule_parse.specs.declared.raw.RawArgument.{RawArgument}
+use Rattle.rule_parse.specs.declared.raw.RawArgument.TheVariants as raw_arguments
 use Rattle.rule_core.specs.declared.rule.Rule.{Rule}
 use Rattle.rule_core.specs.declared.rule.Statement.{Statement}
 use Rattle.rule_core.specs.declared.rule.Op.{Op}
@@ -19,18 +19,21 @@ use Rattle.rule_core.specs.declared.rule.Register.{Register}
 use Rattle.rule_core.specs.declared.rule.Register.TheVariants as registers
 use Rattle.rule_core.specs.Checks.{AreDistinct}
 
--- the operands of a statement, from left to right
-abbrev pub operands_of : RawOp → List RawOperand
-operands_of (raw_ops.Binary op width a b) = a ∷ b ∷ []
-operands_of (raw_ops.Copy written a) = a ∷ []
+-- what a statement reads, from left to right
+abbrev pub arguments_of : RawOp → List RawArgument
+arguments_of (raw_ops.Binary op flags a b) = a.value ∷ b.value ∷ []
+arguments_of (raw_ops.Compare pred a b) = a.value ∷ b.value ∷ []
+arguments_of (raw_ops.Select c a b) = c.value ∷ a.value ∷ b.value ∷ []
+arguments_of (raw_ops.Convert cast a to) = a.value ∷ []
+arguments_of (raw_ops.Copy a) = a.value ∷ []
 
 -- the statement uses the register
 abbrev pub Uses : RawOp → List ℕ → Type 0
-Uses op name = Contains (operands_of op) (raw_operands.Register name)
+Uses op name = Contains (arguments_of op) (raw_arguments.Register name)
 
 -- operand q of the statements, counted in the order of the text, is the register
 abbrev pub UsesAt : List RawStatement → ℕ → List ℕ → Type 0
-UsesAt statements q name = slice_get (flat_map (λ s. operands_of s.op) statements) q ≡ Some (raw_operands.Register name)
+UsesAt statements q name = slice_get (flat_map (λ s. arguments_of s.op) statements) q ≡ Some (raw_arguments.Register name)
 
 -- statement k assigns the register
 abbrev pub AssignsAt : List RawStatement → ℕ → List ℕ → Type 0
@@ -62,20 +65,23 @@ module _ (raw : RawRule) (inputs : List (List ℕ)) where
   HasName (registers.Source k) name = AssignsAt raw.source k name
   HasName (registers.Target k) name = AssignsAt raw.target k name
 
-  -- a name means a register of that name, and a literal itself
-  abbrev pub ArgumentMeans : RawOperand → Argument → Type 0
-  ArgumentMeans (raw_operands.Register name) (arguments.Register r) = HasName r name
-  ArgumentMeans (raw_operands.Literal z) (arguments.Literal number) = number ≡ z
-  ArgumentMeans operand argument = ⊥
+  -- a name means a register of that name, and a literal or a truth value itself
+  abbrev pub ArgumentMeans : RawArgument → Argument → Type 0
+  ArgumentMeans (raw_arguments.Register name) (arguments.Register r) = HasName r name
+  ArgumentMeans (raw_arguments.Literal z) (arguments.Literal number) = number ≡ z
+  ArgumentMeans (raw_arguments.Truth b) (arguments.Truth truth) = truth ≡ b
+  ArgumentMeans written argument = ⊥
 
   -- the type that is written before an operand is kept
-  abbrev pub OperandMeans : Option ℕ → RawOperand → Operand → Type 0
-  OperandMeans written operand o = (o.written ≡ written) × ArgumentMeans operand o.value
+  abbrev pub OperandMeans : RawOperand → Operand → Type 0
+  OperandMeans operand o = (o.written ≡ operand.written) × ArgumentMeans operand.value o.value
 
   abbrev pub OpMeans : RawOp → Op → Type 0
-  OpMeans (raw_ops.Binary op width a b) (ops.Binary opcode flags x y) =
-      (opcode ≡ op) × (flags ≡ no_flags) × OperandMeans (Some width) a x × OperandMeans None b y
-  OpMeans (raw_ops.Copy written a) (ops.Copy x) = OperandMeans written a x
+  OpMeans (raw_ops.Binary op flags a b) (ops.Binary op' flags' x y) = (op' ≡ op) × (flags' ≡ flags) × OperandMeans a x × OperandMeans b y
+  OpMeans (raw_ops.Compare pred a b) (ops.Compare pred' x y) = (pred' ≡ pred) × OperandMeans a x × OperandMeans b y
+  OpMeans (raw_ops.Select c a b) (ops.Select z x y) = OperandMeans c z × OperandMeans a x × OperandMeans b y
+  OpMeans (raw_ops.Convert cast a to) (ops.Convert cast' x to') = (cast' ≡ cast) × OperandMeans a x × (to' ≡ to)
+  OpMeans (raw_ops.Copy a) (ops.Copy x) = OperandMeans a x
   OpMeans raw_op op = ⊥
 
   abbrev pub StatementMeans : RawStatement → Statement → Type 0

@@ -1,5 +1,6 @@
 -- What the grammar and the limits say of a rule as written.
 use Rattle.std.specs.Prelude.{◌≡◌, ℕ, ◌<◌, ◌≤◌, List, length, Some, slice_get}
+use Rattle.ops.specs.Flags.{FlagsFit}
 use Rattle.rule_parse.specs.declared.raw.RawRule.{RawRule}
 use Rattle.rule_parse.specs.declared.raw.RawStatement.{RawStatement}
 use Rattle.rule_parse.specs.declared.raw.RawOp.{RawOp}
@@ -12,16 +13,22 @@ AreInLineOrder statements = (j k : ℕ) (s t : RawStatement) → j < k → slice
 
 -- all operations but copies
 abbrev pub MayStandInSource : RawOp → Type 0
-MayStandInSource (raw_ops.Binary op width a b) = Unit {0}
-MayStandInSource (raw_ops.Copy written a) = ⊥
+MayStandInSource (raw_ops.Copy a) = ⊥
+MayStandInSource op = Unit {0}
 
--- a half: 1 to 32 statements one behind the other, and names of at most 200 bytes
+-- the flags that are written fit the opcode
+abbrev pub FlagsFitOp : RawOp → Type 0
+FlagsFitOp (raw_ops.Binary op flags a b) = FlagsFit op flags
+FlagsFitOp op = Unit {0}
+
+-- a half: 1 to 32 statements one behind the other, names of at most 200 bytes, and flags that fit
 pub record IsHalf (statements : List RawStatement) : Type 0 where
   pub some : 0 < length statements
   pub few : length statements ≤ 32
   pub in_order : AreInLineOrder statements
   pub short_names : (k : ℕ) (s : RawStatement) → slice_get statements k ≡ Some s → length s.name ≤ 200
   pub short_uses : (k : ℕ) (s : RawStatement) (name : List ℕ) → slice_get statements k ≡ Some s → Uses s.op name → length name ≤ 200
+  pub flags_fit : (k : ℕ) (s : RawStatement) → slice_get statements k ≡ Some s → FlagsFitOp s.op
 
 pub record IsWellFormed (raw : RawRule) : Type 0 where
   pub short_name : length raw.name ≤ 200

@@ -1,13 +1,12 @@
 //! The inputs of a source.
 
-ghost use Rattle.std.specs.Prelude.{List as Seq, ◌++◌, IfOk, OnOk};
-ghost use Rattle.rule_parse.specs.declared.raw.RawOperand.{RawOperand as operand};
-ghost use Rattle.rule_reader.specs.Naming.{operands_of, AreInputs};
-ghost use Rattle.rule_reader.specs.Inputs.{AreFirstUses, AddsInput};
+ghost use Rattle.std.specs.Prelude.{IfOk, OnOk};
+ghost use Rattle.rule_reader.specs.Naming.{arguments_of, AreInputs};
+ghost use Rattle.rule_reader.specs.Inputs.{AddsInput, AddsUses};
 
 use crate::registers::{is_among, is_assigned};
 use lists::{List, Text};
-use rule_parse::{RawOp, RawOperand, RawStatement};
+use rule_parse::{RawArgument, RawOp, RawStatement};
 use std::alloc::{AllocError, Global};
 
 /// The registers that the source uses and no statement of it assigns, in the order of their first uses.
@@ -28,29 +27,35 @@ fn add_inputs(
     source: &[RawStatement],
     op: &RawOp,
 ) -> Result<(), AllocError>
-    ensures { OnOk result ((before : Seq operand) → AreFirstUses source.now before inputs.old →
-        AreFirstUses source.now (before ++ operands_of op.now) inputs.new) }
+    ensures { OnOk result (AddsUses source.now inputs.old (arguments_of op.now) inputs.new) }
 {
     match op {
-        RawOp::Binary(_, _, left, right) => {
-            add_input(alloc, inputs, source, left)?;
-            add_input(alloc, inputs, source, right)?;
+        RawOp::Binary(_, _, left, right) | RawOp::Compare(_, left, right) => {
+            add_input(alloc, inputs, source, &left.value)?;
+            add_input(alloc, inputs, source, &right.value)?;
         }
-        RawOp::Copy(_, operand) => add_input(alloc, inputs, source, operand)?,
+        RawOp::Select(condition, if_true, if_false) => {
+            add_input(alloc, inputs, source, &condition.value)?;
+            add_input(alloc, inputs, source, &if_true.value)?;
+            add_input(alloc, inputs, source, &if_false.value)?;
+        }
+        RawOp::Convert(_, operand, _) | RawOp::Copy(operand) => {
+            add_input(alloc, inputs, source, &operand.value)?;
+        }
     }
     Ok(())
 }
 
-/// Adds what an operand of the source names, where that is a new input.
+/// Adds what an operand of the source reads, where that is a new input.
 fn add_input(
     alloc: Global,
     inputs: &mut List<Text>,
     source: &[RawStatement],
-    operand: &RawOperand,
+    read: &RawArgument,
 ) -> Result<(), AllocError>
-    ensures { OnOk result (AddsInput source.now inputs.old operand.now inputs.new) }
+    ensures { OnOk result (AddsInput source.now inputs.old read.now inputs.new) }
 {
-    let RawOperand::Register(name) = operand else {
+    let RawArgument::Register(name) = read else {
         return Ok(());
     };
     let name = name.as_slice();

@@ -8,7 +8,6 @@ ghost use Rattle.rule_typing.specs.Faults.{HasNoFault};
 ghost use Rattle.rule_reader.specs.WellFormed.{IsWellFormed};
 ghost use Rattle.rule_reader.specs.Marks.{Marks};
 ghost use Rattle.rule_reader.specs.ClassFaults.{IsClassifiedAs, IsClassFault};
-ghost use Rattle.rule_reader.specs.Ready.{HasFixedClasses};
 ghost use Rattle.rule_reader.specs.Refusing.{IfRefused};
 ghost use Rattle.rule_reader.specs.Faults.{IsRuleOf, IsFirstFault, IsRuleFile, IsFault};
 
@@ -29,7 +28,7 @@ const MOST_BYTES: usize = 1_048_576;
 /// first kind of [`RuleFaultKind`] in their order, at its first line.
 ///
 /// It takes as many steps as the text has bytes, and for each rule as many more as the squares of its statements and operands,
-/// which are at most 64 and 128.
+/// which are at most 64 and 192.
 pub fn read_rules(alloc: Global, bytes: &[u8]) -> Result<Vec<Rule>, RuleError>
     ensures ok { IfOk result (λ rules. IsRuleFile bytes.now rules.items) }
     ensures limit { OnOk result (length bytes.now ≤ 1048576) }
@@ -39,7 +38,6 @@ pub fn read_rules(alloc: Global, bytes: &[u8]) -> Result<Vec<Rule>, RuleError>
     ensures rules { IfOk result (λ rules. All IsRule rules.items) }
     ensures classes { IfOk result (λ rules. All IsClassified rules.items) }
     ensures typed { IfOk result (λ rules. All HasNoFault rules.items) }
-    ensures fixed { IfOk result (λ rules. All HasFixedClasses rules.items) }
     ensures names { IfOk result (λ rules. AreDistinct (map (λ rule. rule.name) rules.items)) }
 {
     if bytes.len() > MOST_BYTES {

@@ -1,11 +1,11 @@
 //! Registers among statements as written, looked for one by one: a half has at most 32 statements.
 
 ghost use Rattle.std.specs.Prelude.{◌≡◌, ◌↔◌, ◌<◌, ◌≤◌, ℕ, Contains, IfSome, IfNone, IsTrue, Some, length, slice_get};
-ghost use Rattle.rule_parse.specs.declared.raw.RawOperand.TheVariants.{Register as register};
+ghost use Rattle.rule_parse.specs.declared.raw.RawArgument.TheVariants.{Register as register};
 ghost use Rattle.rule_reader.specs.Naming.{Uses, AssignsAt, IsRoot};
 
 use lists::Text;
-use rule_parse::{RawOp, RawOperand, RawStatement};
+use rule_parse::{RawArgument, RawOp, RawOperand, RawStatement};
 
 /// The first of the statements before a place that assigns the register.
 pub(crate) fn assigning(statements: &[RawStatement], place: usize, name: &[u8]) -> Option<usize>
@@ -60,11 +60,11 @@ pub(crate) fn is_among(names: &[Text], name: &[u8]) -> bool
 
 /// Whether the operand is the register.
 fn is_register(operand: &RawOperand, name: &[u8]) -> bool
-    ensures { IsTrue result ↔ (operand.now ≡ register name.now) }
+    ensures { IsTrue result ↔ (operand.now.value ≡ register name.now) }
 {
-    match operand {
-        RawOperand::Register(other) => other.as_slice() == name,
-        RawOperand::Literal(_) => false,
+    match &operand.value {
+        RawArgument::Register(other) => other.as_slice() == name,
+        RawArgument::Literal(_) | RawArgument::Truth(_) => false,
     }
 }
 
@@ -73,7 +73,14 @@ pub(crate) fn uses(op: &RawOp, name: &[u8]) -> bool
     ensures { IsTrue result ↔ Uses op.now name.now }
 {
     match op {
-        RawOp::Binary(_, _, left, right) => is_register(left, name) || is_register(right, name),
-        RawOp::Copy(_, operand) => is_register(operand, name),
+        RawOp::Binary(_, _, left, right) | RawOp::Compare(_, left, right) => {
+            is_register(left, name) || is_register(right, name)
+        }
+        RawOp::Select(condition, if_true, if_false) => {
+            is_register(condition, name)
+                || is_register(if_true, name)
+                || is_register(if_false, name)
+        }
+        RawOp::Convert(_, operand, _) | RawOp::Copy(operand) => is_register(operand, name),
     }
 }

@@ -2,7 +2,7 @@
 
 ghost use Rattle.std.specs.Prelude.{◌≡◌, ◌≤◌, ℕ, length, Contains, Some, slice_get, IfOk, IfErr, OnOk, MatchOption};
 ghost use Rattle.std.specs.List.{AllZip};
-ghost use Rattle.rule_parse.specs.declared.raw.RawOperand.TheVariants.{Register as register};
+ghost use Rattle.rule_parse.specs.declared.raw.RawArgument.TheVariants.{Register as register};
 ghost use Rattle.rule_reader.specs.Naming.{AreInputs, Uses, HasName, ArgumentMeans, OperandMeans, OpMeans, StatementMeans, Means};
 ghost use Rattle.rule_reader.specs.WellFormed.{IsWellFormed};
 ghost use Rattle.rule_reader.specs.Kinds.{StandsAt, UsesUnbound, UnboundAt};
@@ -13,9 +13,8 @@ ghost use Rattle.rule_reader.specs.Faults.{IsFirstLine};
 use crate::fault::{RuleError, RuleFaultKind, refused};
 use crate::registers::{assigning, is_root, place_of};
 use lists::{List, Text};
-use ops::{Flags, Width};
 use rule_core::{Argument, Op, Operand, Register, Rule, Statement};
-use rule_parse::{RawOp, RawOperand, RawRule, RawStatement};
+use rule_parse::{RawArgument, RawOp, RawOperand, RawRule, RawStatement};
 use std::alloc::{AllocError, Global};
 
 /// Which half of a rule a statement stands in.
@@ -27,7 +26,7 @@ pub(crate) enum Half {
 
 /// The input of a name.
 fn input(inputs: &[Text], name: &[u8]) -> Option<Register>
-    requires { length inputs.now ≤ 64 }
+    requires { length inputs.now ≤ 96 }
     ensures { MatchOption result
         (¬ Contains inputs.now name.now)
         (λ r. (k : ℕ) × (r ≡ Register.Input k) × (slice_get inputs.now k ≡ Some name.now)) }
@@ -88,13 +87,13 @@ fn register(
     }
 }
 
-/// What an operand of statement `place` of a half is, if it is no register that the statement may not use.
+/// What an operand of statement `place` of a half reads, if it is no register that the statement may not use.
 fn argument(
     rule: &RawRule,
     inputs: &[Text],
     half: Half,
     place: usize,
-    written: &RawOperand,
+    written: &RawArgument,
 ) -> Option<Argument>
     requires rule { IsWellFormed rule.now }
     requires inputs { AreInputs rule.now.source inputs.now }
@@ -102,14 +101,15 @@ fn argument(
     ensures { Resolves rule.now half place (λ n. written.now ≡ register n) (ArgumentMeans rule.now inputs.now written.now) result }
 {
     match written {
-        RawOperand::Register(name) => Some(Argument::Register(register(
+        RawArgument::Register(name) => Some(Argument::Register(register(
             rule,
             inputs,
             half,
             place,
             name.as_slice(),
         )?)),
-        RawOperand::Literal(number) => Some(Argument::Literal(*number)),
+        RawArgument::Literal(number) => Some(Argument::Literal(*number)),
+        RawArgument::Truth(truth) => Some(Argument::Truth(*truth)),
     }
 }
 
@@ -119,17 +119,16 @@ fn operand(
     inputs: &[Text],
     half: Half,
     place: usize,
-    width: Option<Width>,
     written: &RawOperand,
 ) -> Option<Operand>
     requires rule { IsWellFormed rule.now }
     requires inputs { AreInputs rule.now.source inputs.now }
     requires place { place ≤ length (half_of half rule.now) }
-    ensures { Resolves rule.now half place (λ n. written.now ≡ register n) (OperandMeans rule.now inputs.now width written.now) result }
+    ensures { Resolves rule.now half place (λ n. written.now.value ≡ register n) (OperandMeans rule.now inputs.now written.now) result }
 {
     Some(Operand {
-        value: argument(rule, inputs, half, place, written)?,
-        written: width,
+        value: argument(rule, inputs, half, place, &written.value)?,
+        written: written.written,
         class: 0,
     })
 }
@@ -142,15 +141,28 @@ fn op(rule: &RawRule, inputs: &[Text], half: Half, place: usize, written: &RawOp
     ensures { Resolves rule.now half place (Uses written.now) (OpMeans rule.now inputs.now written.now) result }
 {
     match written {
-        RawOp::Binary(opcode, width, left, right) => Some(Op::Binary(
+        RawOp::Binary(opcode, flags, left, right) => Some(Op::Binary(
             *opcode,
-            Flags::NONE,
-            operand(rule, inputs, half, place, Some(*width), left)?,
-            operand(rule, inputs, half, place, None, right)?,
+            *flags,
+            operand(rule, inputs, half, place, left)?,
+            operand(rule, inputs, half, place, right)?,
         )),
-        RawOp::Copy(width, copied) => Some(Op::Copy(operand(
-            rule, inputs, half, place, *width, copied,
-        )?)),
+        RawOp::Compare(predicate, left, right) => Some(Op::Compare(
+            *predicate,
+            operand(rule, inputs, half, place, left)?,
+            operand(rule, inputs, half, place, right)?,
+        )),
+        RawOp::Select(condition, if_true, if_false) => Some(Op::Select(
+            operand(rule, inputs, half, place, condition)?,
+            operand(rule, inputs, half, place, if_true)?,
+            operand(rule, inputs, half, place, if_false)?,
+        )),
+        RawOp::Convert(cast, converted, to) => Some(Op::Convert(
+            *cast,
+            operand(rule, inputs, half, place, converted)?,
+            *to,
+        )),
+        RawOp::Copy(copied) => Some(Op::Copy(operand(rule, inputs, half, place, copied)?)),
     }
 }
 

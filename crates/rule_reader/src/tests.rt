@@ -1,6 +1,8 @@
 //! Rule files at a table that was worked out by hand.
 
 use super::*;
+use ops::Flags;
+use rule_core::Op;
 use std::alloc::{AllocError, Global};
 use std::test::Fail;
 
@@ -33,7 +35,7 @@ fn outcome(alloc: Global, text: &[u8]) -> (&'static str, usize) {
     }
 }
 
-const ROWS: [(&[u8], &str, usize); 24] = [
+const ROWS: [(&[u8], &str, usize); 35] = [
     (b"Name: x", "Syntax", 1),
     (b"Name: a\n%r = or i8 \x80%x, 1\n", "BadByte", 2),
     (
@@ -137,7 +139,63 @@ const ROWS: [(&[u8], &str, usize); 24] = [
         "Unbound",
         4,
     ),
+    // Types left out: one that is written gives its class a width, and none has to be.
+    (b"Name: a\n%r = add nsw %x, 0\n=>\n%r = %x\n", "rules", 1),
+    (b"Name: a\n%r = and i8 %x, true\n=>\n%r = %x\n", "NoType", 1),
+    // A select uses its condition and both arms.
+    (
+        b"Name: a\n%r = select true, %x, %y\n=>\n%r = %x\n",
+        "rules",
+        1,
+    ),
+    (
+        b"Name: a\n%t = or %x, 1\n%r = select %c, %x, %t\n=>\n%r = select %c, %x, %t\n",
+        "rules",
+        1,
+    ),
+    (
+        b"Name: a\n%t = or %x, 1\n%r = select %c, %x, %x\n=>\n%r = %x\n",
+        "UnusedTemp",
+        2,
+    ),
+    (
+        b"Name: a\n%r = or %x, 1\n=>\n%r = select %c, %x, 1\n",
+        "Unbound",
+        4,
+    ),
+    // What a comparison gives has the width 1, and its operands are a class of their own.
+    (
+        b"Name: a\n%r = icmp eq i8 %x, %x\n=>\n%r = i1 1\n",
+        "rules",
+        1,
+    ),
+    (
+        b"Name: a\n%r = icmp eq i8 %x, %x\n=>\n%r = i8 1\n",
+        "NoType",
+        1,
+    ),
+    (
+        b"Name: a\n%r = icmp eq %x, %x\n=>\n%r = icmp eq 1, 2\n",
+        "OpenType",
+        1,
+    ),
+    // A cast keeps one class below another.
+    (b"Name: a\n%r = or %x, 1\n=>\n%r = trunc 5\n", "OpenType", 1),
+    (
+        b"Name: a\n%t = zext %x\n%u = zext %t\n%r = and %u, %x\n=>\n%r = %x\n",
+        "NoType",
+        1,
+    ),
 ];
+
+/// The flags of the first statement, if it is a binary operation.
+fn first_flags(alloc: Global, text: &[u8]) -> Option<Flags> {
+    let rules = read_rules(alloc, text).ok()?;
+    match rules.first()?.source.as_slice().first()?.op {
+        Op::Binary(_, flags, _, _) => Some(flags),
+        _ => None,
+    }
+}
 
 /// A rule of which the name has so many bytes, and the target so many temporaries that nothing uses.
 fn long_rule(alloc: Global, name_bytes: usize, temporaries: usize) -> Result<Vec<u8>, AllocError> {
@@ -152,6 +210,27 @@ fn long_rule(alloc: Global, name_bytes: usize, temporaries: usize) -> Result<Vec
         text.extend_from_slice(b" = or i8 1, 1\n")?;
     }
     text.extend_from_slice(b"%r = %x\n")?;
+    Ok(text)
+}
+
+/// Adds the statement that casts the temporary of a number to the one of the next.
+fn push_cast(text: &mut Vec<u8>, number: usize) -> Result<(), AllocError> {
+    text.extend_from_slice(b"%t")?;
+    text.push(b'1' + (number % 9) as u8)?;
+    text.extend_from_slice(b" = zext %t")?;
+    text.push(b'0' + (number % 9) as u8)?;
+    text.push(b'\n')?;
+    Ok(())
+}
+
+/// A rule of so many casts, one behind the other, which keep one more class apart.
+fn cast_rule(alloc: Global, casts: usize) -> Result<Vec<u8>, AllocError> {
+    let mut text = Vec::from_slice(alloc, b"Name: a\n")?;
+    for number in 0..casts {
+        push_cast(&mut text, number)?;
+    }
+    text.extend_from_slice(b"=>\n")?;
+    push_cast(&mut text, casts.saturating_sub(1))?;
     Ok(text)
 }
 
@@ -173,6 +252,19 @@ fn texts_have_their_rules_or_faults(rt: HostRuntime) -> Result<(), Fail> {
             "{name_bytes} bytes, {temporaries} temporaries"
         );
     }
+    for (casts, kind) in [(7, "rules"), (8, "TooMany")] {
+        let text = cast_rule(alloc, casts)?;
+        assert_eq!(rt; outcome(alloc, &text), (kind, 1), "{casts} casts");
+    }
+    let flags = Flags {
+        nuw: true,
+        nsw: true,
+        exact: false,
+    };
+    assert_eq!(rt;
+        first_flags(alloc, b"Name: a\n%r = mul nsw nuw %x, 0\n=>\n%r = 0\n"),
+        Some(flags)
+    );
     let comment = vec![in alloc; b';'; 1_048_577]?;
     assert_eq!(rt; outcome(alloc, &comment), ("TooLong", 1));
     assert_eq!(rt; outcome(alloc, &comment[1..]), ("rules", 0));

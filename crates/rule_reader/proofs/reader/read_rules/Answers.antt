@@ -4,7 +4,7 @@ use Rattle.rule_reader.specs.Refusing.{IfRefused}
 use Rattle.rule_reader.specs.Faults.{IsFault, too_long}
 use Rattle.rule_reader.proofs.Places.{read_at}
 use Rattle.rule_reader.proofs.Written.{written_well_formed}
-use Rattle.rule_reader.proofs.Reading.{first_rules_more, all_rules, all_are_rules, all_are_classified, all_have_no_fault, all_have_fixed_classes, names_are_distinct, text_fault, rule_fault, mark_at}
+use Rattle.rule_reader.proofs.Reading.{first_rules_more, all_rules, all_are_rules, all_are_classified, all_have_no_fault, names_are_distinct, text_fault, rule_fault, mark_at}
 use Rattle.rule_reader.proofs.reader.read_rules.Goals as goal
 
 pub returns-then-bytes-gt-MOST_BYTES-clause-refused :
@@ -56,11 +56,6 @@ pub returns-clause-typed : goal.returns-clause-typed
 returns-clause-typed c =
     let raws = c.in_ok-raws.raws.items in
     all_have_no_fault raws c.loop-place.rules.items (written_well_formed c.args.bytes.now raws c.in_ok-raws.ensures.ok) (all_rules raws c.loop-place.place c.loop-place.rules.items (omega arith) c.loop-place.invariant)
-
-pub returns-clause-fixed : goal.returns-clause-fixed
-returns-clause-fixed c =
-    let raws = c.in_ok-raws.raws.items in
-    all_have_fixed_classes raws c.loop-place.rules.items (written_well_formed c.args.bytes.now raws c.in_ok-raws.ensures.ok) (all_rules raws c.loop-place.place c.loop-place.rules.items (omega arith) c.loop-place.invariant)
 
 pub returns-clause-names : goal.returns-clause-names
 returns-clause-names c =
