@@ -1,12 +1,11 @@
 -- The effects of the halves in literals.
-use Rattle.std.proofs.Common.{◌≡◌, ℕ, suc, ◌+◌, ◌-◌, ◌<◌, Bool, true, false, ◌||◌, List, [], ◌∷◌, ◌++◌, length, map, take, Some, refl, sym, ap, subst, ◌∙◌, arith, get_or}
+use Rattle.std.proofs.Common.{◌≡◌, ℕ, suc, ◌+◌, ◌-◌, ◌<◌, Bool, true, false, ◌||◌, List, [], ◌∷◌, ◌++◌, length, map, Some, refl, sym, ap, subst, ◌∙◌, arith, get_or}
 use Rattle.std.specs.Prelude.{slice_get, slice_index}
 use Rattle.std.specs.List.{All}
 use Rattle.std.proofs.lemmas.List.{length-map, take_more, take_all}
 use Rattle.std.proofs.lemmas.Option.{slice_get-map, slice_get-get_or, get_or_from_slice_get}
 use Rattle.std.specs.Option.{option_map}
 use Rattle.ops.specs.Number.{Number}
-use Rattle.ops.specs.Value.{IsValueOf}
 use Rattle.ops.specs.declared.value.Effect.TheVariants as effects
 use Rattle.circuits.specs.Circuit.{Keeps}
 use Rattle.circuits.proofs.Kept.{Keeps-trans}
@@ -17,7 +16,7 @@ use Rattle.rule_core.specs.Typing.{IsTyping}
 use Rattle.rule_core.specs.Checks.{IsRule}
 use Rattle.rule_core.specs.Run.{StatementGives, Follows, GivesLast, SourceGives, TargetGives, temporaries_of, holding_source, holding_target}
 use Rattle.rule_core.specs.Readiness.{ValuesFit}
-use Rattle.rule_core.proofs.Members.{source_statement, target_statement, class_stands}
+use Rattle.rule_core.proofs.Members.{source_statement, class_stands}
 use Rattle.rule_core.proofs.Ready.{class_width}
 use Rattle.blast_value.specs.declared.held.Held.{Held}
 use Rattle.blast_value.specs.declared.held.Blasted.{Blasted}

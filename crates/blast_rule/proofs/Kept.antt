@@ -1,5 +1,5 @@
 -- What a circuit that keeps its older literals keeps of operands.
-use Rattle.std.proofs.Common.{◌≡◌, ℕ, suc, ◌<◌, Bool, List, [], ◌∷◌, map, length, refl, arith, get_or}
+use Rattle.std.proofs.Common.{◌≡◌, suc, Bool, List, [], ◌∷◌, map, refl, arith, get_or}
 use Rattle.std.specs.List.{All}
 use Rattle.circuits.specs.Circuit.{Keeps}
 use Rattle.circuits.proofs.Kept.{All-kept, map-kept}

@@ -1,14 +1,13 @@
 -- The inputs of a circuit, made one after the other.
-use Rattle.std.proofs.Common.{◌≡◌, ℕ, suc, ◌+◌, ◌*◌, ◌^◌, ◌<◌, ◌≤◌, Bool, false, List, [], ◌∷◌, ◌++◌, length, map, take, drop, Some, refl, sym, ap, ◌∙◌, add-one, drop-cons, append_assoc, append-nil, arith, get_or}
+use Rattle.std.proofs.Common.{◌≡◌, ℕ, ◌+◌, ◌<◌, ◌≤◌, Bool, false, List, [], ◌∷◌, ◌++◌, length, map, take, drop, Some, refl, sym, ap, ◌∙◌, append_assoc, append-nil, get_or}
 use Rattle.std.specs.Prelude.{slice_get, sum_by}
 use Rattle.std.specs.List.{All}
 use Rattle.std.proofs.lemmas.List.{map-append, length-map, length_push, drop-drop, take_more, take_all, drop_all}
 use Rattle.std.proofs.lemmas.List.Sums.{sum_by_push}
 use Rattle.std.proofs.lemmas.Option.{slice_get_within, get_or_from_slice_get}
 use Rattle.std.proofs.lemmas.List.Elements.{All-push}
-use Rattle.ops.specs.Integer.{bits}
 use Rattle.circuits.specs.Circuit.{Keeps}
-use Rattle.circuits.specs.Word.{bit, number}
+use Rattle.circuits.specs.Word.{number}
 use Rattle.circuits.proofs.Kept.{All-kept, map-kept, Keeps-trans}
 use Rattle.circuits.proofs.Words.{number-push}
 use Rattle.blast_value.specs.declared.held.Held.{Held}

@@ -1,21 +1,21 @@
 -- What registers hold, and whether they can be read.
-use Rattle.std.proofs.Common.{◌≡◌, ℕ, zero, suc, ◌<◌, ◌^◌, Bool, true, false, List, [], ◌∷◌, length, map, Option, Some, None, refl, sym, ap, subst, ◌∙◌, arith, get_or}
+use Rattle.std.proofs.Common.{◌≡◌, ℕ, zero, suc, ◌<◌, ◌≤◌, Bool, true, false, List, [], ◌∷◌, length, Option, Some, None, Result, IfOk, refl, sym, ap, subst, ◌∙◌, arith}
 use Rattle.std.specs.Prelude.{slice_get, slice_index, IsSome, ℤ, if◌then◌else◌}
 use Rattle.std.specs.List.{All}
 use Rattle.std.specs.Option.{option_map}
 use Rattle.std.proofs.lemmas.Option.{slice_get-map, slice_get_within, get_or_from_slice_get, same_Some}
+use Rattle.std.proofs.lemmas.Result.{IfOk-weaker}
 use Rattle.ops.specs.Number.{Number}
 use Rattle.ops.specs.Integer.{bits, residue}
 use Rattle.ops.specs.Value.{IsValueOf}
 use Rattle.ops.specs.declared.value.Value.{Value}
 use Rattle.rule_core.specs.declared.rule.Operand.{Operand}
-use Rattle.rule_core.specs.declared.rule.Argument.{Argument}
 use Rattle.rule_core.specs.declared.rule.Argument.TheVariants as arguments
 use Rattle.rule_core.specs.declared.rule.Register.{Register}
 use Rattle.rule_core.specs.declared.rule.Register.TheVariants as registers
 use Rattle.rule_core.specs.Run as run
 use Rattle.rule_core.specs.Run.{value_of, ArgumentGives, OperandGives}
-use Rattle.rule_core.specs.Readiness.{ArgumentIsReady, OperandIsReady}
+use Rattle.rule_core.specs.Readiness.{OperandIsReady}
 use Rattle.blast_value.specs.declared.held.Held.{Held}
 use Rattle.blast_value.specs.Effect.{held_value, IsOwn}
 use Rattle.blast_rule.specs.declared.registers.Registers.{Registers}
@@ -61,6 +61,12 @@ module _ {L : Type 0} (r : Registers L) where
 -- a class that has a width has the one that the list tells
 pub width_told : (typing : List ℕ) (c N W : ℕ) → slice_get typing c ≡ Some N → W ≡ slice_index typing c → W ≡ N
 width_told typing c N W at is = is ∙ get_or_from_slice_get typing c N 0 at
+
+-- so that the literals of an operand are some
+pub some_bits : {L E : Type 0} (typing : List ℕ) (c W : ℕ) (r : Result (Held L) E) → 1 ≤ W → W ≡ slice_index typing c
+    → IfOk r (λ held. slice_get typing c ≡ Some (length held.bits)) → IfOk r (λ held. 1 ≤ length held.bits)
+some_bits typing c W r some is at =
+    IfOk-weaker r (λ held. slice_get typing c ≡ Some (length held.bits)) (λ held. 1 ≤ length held.bits) (λ held width. let same : W ≡ length held.bits = width_told typing c (length held.bits) W width is in omega arith) at
 
 -- a literal, `true` or `false` gives its number
 module _ (typing : List ℕ) (constants choices : List Number) (held : run.Held) (N W : ℕ) (o : Operand) (v : Value) (at : slice_get typing o.class ≡ Some N) (width : W ≡ slice_index typing o.class) where

@@ -1,25 +1,18 @@
 -- Each rule of the tests meets the checks, and 2 is a typing of it.
-use Rattle.std.proofs.Common.{◌≡◌, ◌≢◌, ℕ, zero, suc, ◌+◌, ◌<◌, ◌≤◌, List, [], ◌∷◌, ◌++◌, length, add-zero, zero-add, add-suc, suc-add, Some, refl, sym, ap, subst, ◌∙◌, arith, get_or}
-use Rattle.std.specs.Prelude.{slice_get, Contains, pos, negsuc}
+use Rattle.std.proofs.Common.{◌≡◌, ◌≢◌, ℕ, zero, suc, ◌+◌, ◌<◌, ◌≤◌, List, [], ◌∷◌, ◌++◌, length, add-zero, zero-add, add-suc, suc-add, Some, refl, sym, ap, subst, ◌∙◌, arith, rules, get_or}
+use Rattle.std.specs.Prelude.{slice_get, Contains, ℤ, pos, negsuc}
 use Rattle.std.proofs.lemmas.Int.{ints}
 use Rattle.std.proofs.lemmas.Option.{same_Some, slice_get-get_or}
-use Rattle.ops.specs.Value.{IsValueOf}
-use Rattle.ops.specs.declared.value.Value.{Value}
+use Rattle.ops.specs.declared.opcode.Opcode.{Opcode}
 use Rattle.rule_core.specs.declared.rule.Statement.{Statement}
 use Rattle.rule_core.specs.declared.rule.Operand.{Operand}
-use Rattle.rule_core.specs.declared.rule.Op.TheVariants.{Binary, Copy}
-use Rattle.ops.specs.declared.opcode.Opcode.{Opcode}
-use Rattle.ops.specs.declared.opcode.Flags.{Flags}
-use Rattle.rule_core.specs.declared.rule.Argument.{Argument}
-use Rattle.rule_core.proofs.Members.{operand_stands}
 use Rattle.rule_core.specs.declared.rule.Argument.TheVariants as arguments
-use Rattle.rule_core.specs.declared.rule.Register.{Register}
 use Rattle.rule_core.specs.declared.rule.Register.TheVariants as registers
-use Rattle.rule_core.specs.Positions.{operands_of, operands_in, classes_of, IsStatementOf, Names, reads, source_assigns, target_assigns, assigns_root, Line, binary_left, binary_right, copy, register}
-use Rattle.rule_core.specs.Typing.{IsTyping, FitsOperand, FitsArgument}
+use Rattle.rule_core.specs.Positions.{operands_of, operands_in, classes_of, IsStatementOf}
+use Rattle.rule_core.specs.Typing.{IsTyping, FitsLiteral}
 use Rattle.rule_core.specs.Checks.{IsRule, SourceMayRead, TargetMayRead, ReadsAt, MayStandInSource, FlagsFitOp}
-use Rattle.rule_core.specs.Valid.{InputsFit}
 use Rattle.rule_core.specs.Sample.{plain}
+use Rattle.rule_core.proofs.Typed.{OpMeets, OperandMeets, typed}
 use Rattle.blast_rule.specs.Sample.{sample}
 
 -- a fact of each element, with its place, one by one
@@ -60,6 +53,10 @@ none_is names other all among = each (λ name. name ≡ other → ⊥) names all
 
 stands_once : (names : List (List ℕ)) (j : ℕ) (name : List ℕ) → AllAt (λ k n. n ≡ name → j ≡ k) 0 names → (k : ℕ) → slice_get names k ≡ Some name → j ≡ k
 stands_once names j name all k there = at (λ i n. n ≡ name → j ≡ i) names all k name there refl
+
+-- a literal that is a number of i2
+fits_two : (z : ℤ) → FitsLiteral 2 z → (N : ℕ) → slice_get (2 ∷ []) 0 ≡ Some N → FitsLiteral N z
+fits_two z fits N width = let two : 2 ≡ N = same_Some 2 N width in rw (← two) fits
 
 -- the rule with these three instructions
 module _ (first second third : Opcode) where
@@ -118,64 +115,35 @@ module _ (first second third : Opcode) where
         target_flags = at (λ k (s : Statement). FlagsFitOp s.op) (sample first second third).target (refl, tt);
       }
 
-  -- all its positions are of the class 0
-  operand_zero : (o : Operand) → Contains (operands_in (sample first second third)) o → o.class ≡ 0
+  -- all its positions are of the class 0, and 2 is a typing
+  operations : (s : Statement) → IsStatementOf (sample first second third) s → OpMeets (2 ∷ []) (λ r. 0) s.class s.op
   unfolding AllAt
-  operand_zero = each (λ (o : Operand). o.class ≡ 0) (operands_in (sample first second third)) (refl, (refl, (refl, (refl, (refl, (refl, tt))))))
+  operations =
+      each (λ (s : Statement). OpMeets (2 ∷ []) (λ r. 0) s.class s.op) ((sample first second third).source ++ (sample first second third).target)
+      ((refl, refl), ((refl, refl), ((refl, refl), tt)))
 
-  names_zero : (r : Register) (c : ℕ) → Names (sample first second third) r c → c ≡ 0
+  operands : (o : Operand) → Contains (operands_in (sample first second third)) o → OperandMeets (2 ∷ []) (λ r. 0) o
   unfolding AllAt
-  names_zero r c (reads {o} among is) = operand_zero o among
-  names_zero r c (source_assigns {k} {s} there) = at (λ j (t : Statement). t.class ≡ 0) (sample first second third).source (refl, (refl, tt)) k s there
-  names_zero r c (target_assigns {k} {s} there) = at (λ j (t : Statement). t.class ≡ 0) (sample first second third).target (refl, tt) k s there
-  names_zero r c (assigns_root {j} {k} {s} last last' there) = at (λ j (t : Statement). t.class ≡ 0) (sample first second third).target (refl, tt) k s there
+  operands = each (OperandMeets (2 ∷ []) (λ r. 0)) (operands_in (sample first second third)) (
+    (tt, refl),
+    (
+      (tt, fits_two (negsuc 0) (omega (arith, ints), omega (arith, ints))),
+      ((tt, refl), ((tt, fits_two (pos 1) (omega (arith, ints), omega (arith, ints))), ((tt, fits_two (pos 0) (omega (arith, ints), omega (arith, ints))), ((tt, refl), tt)))),
+    ),
+  )
 
-  statement_zero : (s : Statement) → IsStatementOf (sample first second third) s → s.class ≡ 0
+  in_source : (k : ℕ) (s : Statement) → slice_get (sample first second third).source k ≡ Some s → s.class ≡ 0
   unfolding AllAt
-  statement_zero = each (λ (s : Statement). s.class ≡ 0) ((sample first second third).source ++ (sample first second third).target) (refl, (refl, (refl, tt)))
+  in_source = at (λ k (s : Statement). s.class ≡ 0) (sample first second third).source (refl, (refl, tt))
 
-  of_binary : (s : Statement) (op : Opcode) (flags : Flags) (a b : Operand) → IsStatementOf (sample first second third) s → s.op ≡ Binary op flags a b → (a.class ≡ 0) × (b.class ≡ 0)
-  of_binary s op flags a b stands is =
-      let among : Contains (operands_of (Binary op flags a b)) a = (0, omega arith, refl) in
-      let among' : Contains (operands_of (Binary op flags a b)) b = (1, omega arith, refl) in (
-        operand_zero a (operand_stands (sample first second third) s a stands (subst (λ o. Contains (operands_of o) a) (sym is) among)),
-        operand_zero b (operand_stands (sample first second third) s b stands (subst (λ o. Contains (operands_of o) b) (sym is) among')),
-      )
-
-  line_zero : (c d : ℕ) → Line (sample first second third) c d → (c ≡ 0) × (d ≡ 0)
-  line_zero c d (binary_left {s} {op} {flags} {a} {b} stands is) = (statement_zero s stands, (of_binary s op flags a b stands is).0)
-  line_zero c d (binary_right {s} {op} {flags} {a} {b} stands is) = (statement_zero s stands, (of_binary s op flags a b stands is).1)
-  line_zero c d (copy {s} {a} stands is) =
-      let among : Contains (operands_of (Copy a)) a = (0, omega arith, refl) in
-      (statement_zero s stands, operand_zero a (operand_stands (sample first second third) s a stands (subst (λ o. Contains (operands_of o) a) (sym is) among)))
-  line_zero c d (register {r} p q) = (names_zero r c p, names_zero r d q)
-
-  -- the width of class 0 is 2
-  width_two : (c N : ℕ) → c ≡ 0 → slice_get (2 ∷ []) c ≡ Some N → N ≡ 2
-  width_two c N zero_is width = let h = rw zero_is at width in sym (same_Some 2 N h)
-
-  fits_two : (x : Argument) → FitsArgument 2 x → (N : ℕ) → slice_get (2 ∷ []) 0 ≡ Some N → FitsOperand N (plain x)
-  fits_two x fit N width = let two : N ≡ 2 = width_two 0 N refl width in (tt, rw two fit)
+  in_target : (k : ℕ) (s : Statement) → slice_get (sample first second third).target k ≡ Some s → s.class ≡ 0
+  unfolding AllAt
+  in_target = at (λ k (s : Statement). s.class ≡ 0) (sample first second third).target (refl, tt)
 
   pub is_typing : IsTyping (sample first second third) (2 ∷ [])
   unfolding AllAt
   is_typing =
-      record {
-        widths = each (λ N. (1 ≤ N) × (N ≤ 64)) (2 ∷ []) ((omega arith, omega arith), tt);
-        classes = each (λ c. c < 1) (classes_of (sample first second third)) (omega arith, (omega arith, (omega arith, (omega arith, (omega arith, (omega arith, (omega arith, (omega arith, (omega arith, tt)))))))));
-        no_more = only (λ c. Contains (classes_of (sample first second third)) c) (0, omega arith, refl);
-        same = λ c d line. let zeros = line_zero c d line in rw (zeros.0, zeros.1) refl;
-        operands = each (λ (o : Operand). (N : ℕ) → slice_get (2 ∷ []) o.class ≡ Some N → FitsOperand N o) (operands_in (sample first second third)) (
-          fits_two (arguments.Register (registers.Input 0)) tt,
-          (
-            fits_two (arguments.Literal (negsuc 0)) (omega (arith, ints), omega (arith, ints)),
-            (
-              fits_two (arguments.Register (registers.Source 0)) tt,
-              (
-                fits_two (arguments.Literal (pos 1)) (omega (arith, ints), omega (arith, ints)),
-                (fits_two (arguments.Literal (pos 0)) (omega (arith, ints), omega (arith, ints)), (fits_two (arguments.Register (registers.Input 0)) tt, tt)),
-              ),
-            ),
-          ),
-        );
-      }
+      typed (sample first second third) (2 ∷ []) (λ r. 0) operations operands in_source in_target (λ j k last last'. refl)
+      (each (λ N. (1 ≤ N) × (N ≤ 64)) (2 ∷ []) ((omega arith, omega arith), tt))
+      (each (λ c. c < 1) (classes_of (sample first second third)) (search rules))
+      (only (λ c. Contains (classes_of (sample first second third)) c) (0, omega arith, refl))

@@ -1,7 +1,6 @@
 -- What is read as a setting fits, and each setting that fits is read.
-use Rattle.std.proofs.Common.{◌≡◌, ℕ, zero, suc, ◌+◌, ◌<◌, Bool, List, [], ◌∷◌, length, map, take, sum_by, Some, refl, sym, ap, subst, ◌∙◌, arith, get_or}
+use Rattle.std.proofs.Common.{◌≡◌, ℕ, ◌+◌, ◌<◌, List, [], ◌∷◌, length, take, sum_by, Some, refl, sym, ap, subst, ◌∙◌, arith, get_or}
 use Rattle.std.specs.Prelude.{slice_get}
-use Rattle.std.specs.List.{range_with_len}
 use Rattle.std.proofs.lemmas.List.{length-map, take_more}
 use Rattle.std.proofs.lemmas.List.Sums.{sum_by_push}
 use Rattle.std.proofs.lemmas.List.FromFn.{length-map-range_with_len, get_or-map-range_with_len}
@@ -14,17 +13,17 @@ use Rattle.ops.specs.declared.value.Effect.TheVariants as effects
 use Rattle.rule_core.specs.declared.rule.Rule.{Rule}
 use Rattle.rule_core.specs.declared.rule.Statement.{Statement}
 use Rattle.rule_core.specs.declared.rule.Op.{Op}
-use Rattle.rule_core.specs.declared.rule.Op.TheVariants.{Binary, Copy}
+use Rattle.rule_core.specs.declared.rule.Op.TheVariants.{Binary, Compare, Select, Convert, Copy}
 use Rattle.rule_core.specs.declared.rule.Operand.{Operand}
 use Rattle.rule_core.specs.declared.rule.Argument.{Argument}
 use Rattle.rule_core.specs.declared.rule.Argument.TheVariants as arguments
-use Rattle.rule_core.specs.Run.{Held, Ending, Undefines, Holds, GoesOn, Leads, GivesLast, at_start, temporaries_of, holding_source, holding_target, ArgumentGives, OperandGives, OpGives, StatementGives, Follows, SourceGives, TargetGoesOn, TargetGives}
+use Rattle.rule_core.specs.Run.{Held, Ending, Undefines, Holds, GoesOn, Leads, at_start, temporaries_of, holding_source, holding_target, ArgumentGives, OperandGives, OpGives, Follows, SourceGives, TargetGoesOn, TargetGives}
 use Rattle.rule_core.specs.Typing.{IsTyping}
 use Rattle.rule_core.specs.Checks.{IsRule}
-use Rattle.rule_core.specs.Valid.{InputsFit, Setting, SettingFits, HaveEffects, chosen}
+use Rattle.rule_core.specs.Valid.{InputsFit, Setting, HaveEffects, chosen}
 use Rattle.blast_rule.specs.Inputs.{input_width, input_widths}
-use Rattle.blast_rule.specs.Settings.{values_read, constants_read, setting_of}
-use Rattle.blast_rule.specs.Laws.{ReadSettingsFit, ReadsAs, FittingSettingsAreRead}
+use Rattle.blast_rule.specs.Settings.{values_read, setting_of}
+use Rattle.blast_rule.specs.Laws.{ReadSettingsFit, FittingSettingsAreRead}
 use Rattle.blast_rule.proofs.Widths.{input_width-is, input_named}
 use Rattle.blast_rule.proofs.Written.{FitAll, all_written, length-all_written, read-all_written, values_read-fit, length-values_read}
 
@@ -79,6 +78,9 @@ module _ (typing : List ℕ) (constants choices constants' choices' : List Numbe
 
   op_same : (held : Held) (N : ℕ) (op : Op) (e : Effect) → OpGives typing constants choices held N op e → OpGives typing constants' choices' held N op e
   op_same held N (Binary op flags a b) e (x, y, left, right, is) = (x, y, operand_same held a x left, operand_same held b y right, is)
+  op_same held N (Compare pred a b) e (M, x, y, width, left, right, is) = (M, x, y, width, operand_same held a x left, operand_same held b y right, is)
+  op_same held N (Select c a b) e (z, x, y, chooses, left, right, is) = (z, x, y, operand_same held c z chooses, operand_same held a x left, operand_same held b y right, is)
+  op_same held N (Convert cast a to) e (M, x, width, gives, is) = (M, x, width, operand_same held a x gives, is)
   op_same held N (Copy a) e (x, gives, is) = (x, operand_same held a x gives, is)
 
   follows_same : (holding : Held → Value → Held) (statements : List Statement) (held : Held) (end : Ending) → Follows typing constants choices holding statements held end → Follows typing constants' choices' holding statements held end

@@ -1,36 +1,156 @@
 -- What a statement gives by what its operands give.
-use Rattle.std.proofs.Common.{◌≡◌, ℕ, ◌+◌, Bool, true, false, ◌||◌, if◌then◌else◌, List, map, length, Some, refl, sym, ap, subst, ◌∙◌, arith}
-use Rattle.std.specs.Prelude.{slice_get, slice_index}
-use Rattle.std.specs.List.{All}
+use Rattle.std.proofs.Common.{◌≡◌, ℕ, Bool, true, false, ◌||◌, if◌then◌else◌, List, [], ◌∷◌, map, length, Some, refl, sym, ap, subst, ◌∙◌, arith}
+use Rattle.std.specs.Prelude.{slice_get}
+use Rattle.std.specs.List.{All, AllZip}
+use Rattle.std.proofs.lemmas.List.Elements.{All-nil, All-cons, All-from_recursion}
+use Rattle.std.proofs.lemmas.Option.{same_Some, get_or_from_slice_get}
 use Rattle.ops.specs.Number.{Number}
-use Rattle.ops.specs.Instruction.{instruction}
+use Rattle.ops.specs.Value.{HasWidth}
+use Rattle.ops.specs.Integer.{bits}
 use Rattle.ops.specs.declared.value.Value.{Value}
+use Rattle.ops.specs.declared.value.Value.TheVariants.{Poison}
 use Rattle.ops.specs.declared.value.Effect.{Effect}
 use Rattle.ops.specs.declared.value.Effect.TheVariants as effects
-use Rattle.ops.specs.declared.opcode.Opcode.{Opcode}
-use Rattle.ops.specs.declared.opcode.Flags.{Flags}
 use Rattle.circuits.specs.Circuit.{Keeps}
+use Rattle.circuits.specs.Word.{number_of}
 use Rattle.rule_core.specs.declared.rule.Statement.{Statement}
 use Rattle.rule_core.specs.declared.rule.Operand.{Operand}
-use Rattle.rule_core.specs.declared.rule.Op.TheVariants.{Binary, Copy}
+use Rattle.rule_core.specs.declared.rule.Op.{Op}
+use Rattle.rule_core.specs.declared.rule.Op.TheVariants.{Binary, Compare, Select, Convert, Copy}
+use Rattle.rule_core.specs.Positions.{operands_of}
+use Rattle.rule_core.specs.Readiness.{OperandIsReady, OpIsReady}
 use Rattle.rule_core.specs.Run.{Held as Registry, OperandGives, OpGives, StatementGives}
 use Rattle.blast_value.specs.declared.held.Held.{Held}
 use Rattle.blast_value.specs.declared.held.Blasted.{Blasted}
-use Rattle.blast_value.specs.Effect.{held_value, effect_of, IsOwn, IsOwnEffect}
+use Rattle.blast_value.specs.declared.instruction.Instruction.{Instruction}
+use Rattle.blast_value.specs.declared.instruction.Instruction.TheVariants as instructions
+use Rattle.blast_value.specs.Meaning.{Takes, HasEffect}
+use Rattle.blast_value.specs.Gates.{gates_of, greatest}
+use Rattle.blast_value.specs.Effect.{held_value, effect_of, widths_of, IsOwn, IsOwnEffect}
 use Rattle.blast_rule.specs.declared.registers.Registers.{Registers}
-use Rattle.blast_rule.specs.Running.{seen, RegistersAreOwn}
-use Rattle.blast_rule.proofs.Reading.{width_told}
+use Rattle.blast_rule.specs.Gates.{op_gates}
+use Rattle.blast_rule.specs.Running.{instruction_of, seen, shapes, HoldsOperand, RegistersAreOwn}
 use Rattle.blast_rule.proofs.Kept.{held_value-kept, values-kept}
 
-module _ (typing : List ℕ) (constants choices : List Number) (held : Registry) (s : Statement) (N : ℕ) (at : slice_get typing s.class ≡ Some N) (e : Effect) where
-  pub binary_gives : (W : ℕ) (op : Opcode) (flags : Flags) (a b : Operand) (x y : Value) → W ≡ slice_index typing s.class → s.op ≡ Binary op flags a b
-      → OperandGives typing constants choices held a x → OperandGives typing constants choices held b y → e ≡ instruction op flags W x y → StatementGives typing constants choices held s e
-  binary_gives W op flags a b x y width is left right gives =
-      let same = width_told typing s.class N W at width in
-      (N, at, subst (λ o. OpGives typing constants choices held N o e) (sym is) (x, y, left, right, gives ∙ ap (λ n. instruction op flags n x y) same))
+-- what is related to elements, one by one
+uncons : {A B : Type 0} (R : A → B → Type 0) (x : A) (xs : List A) (ys : List B) → AllZip R (x ∷ xs) ys → (y : B) × (rest : List B) × (ys ≡ y ∷ rest) × R x y × AllZip R xs rest
+uncons R x xs [] all = absurd all
+uncons R x xs (y ∷ rest) all = (y, rest, refl, all.0, all.1)
 
-  pub copy_gives : (a : Operand) (x : Value) → s.op ≡ Copy a → OperandGives typing constants choices held a x → e ≡ effects.Gives x → StatementGives typing constants choices held s e
-  copy_gives a x is gives same = (N, at, subst (λ o. OpGives typing constants choices held N o e) (sym is) (x, gives, same))
+none : {A B : Type 0} (R : A → B → Type 0) (ys : List B) → AllZip R [] ys → ys ≡ []
+none R [] all = refl
+none R (y ∷ ys) all = absurd all
+
+one : {A B : Type 0} (R : A → B → Type 0) (a : A) (ys : List B) → AllZip R (a ∷ []) ys → (x : B) × (ys ≡ x ∷ []) × R a x
+one R a ys all = let first = uncons R a [] ys all in (first.0, first.2 ∙ ap (λ rest. first.0 ∷ rest) (none R first.1 first.4), first.3)
+
+two : {A B : Type 0} (R : A → B → Type 0) (a b : A) (ys : List B) → AllZip R (a ∷ b ∷ []) ys → (x y : B) × (ys ≡ x ∷ y ∷ []) × R a x × R b y
+two R a b ys all =
+    let first = uncons R a (b ∷ []) ys all in
+    let second = one R b first.1 first.4 in
+    (first.0, second.0, first.2 ∙ ap (λ rest. first.0 ∷ rest) second.1, first.3, second.2)
+
+three : {A B : Type 0} (R : A → B → Type 0) (a b c : A) (ys : List B) → AllZip R (a ∷ b ∷ c ∷ []) ys → (x y z : B) × (ys ≡ x ∷ y ∷ z ∷ []) × R a x × R b y × R c z
+three R a b c ys all =
+    let first = uncons R a (b ∷ c ∷ []) ys all in
+    let others = two R b c first.1 first.4 in
+    (first.0, others.0, others.1, first.2 ∙ ap (λ rest. first.0 ∷ rest) others.2, first.3, others.3, others.4)
+
+module _ {L : Type 0} (has_literal : L → Type 0) (admits : List Bool → Type 0) (value : List Bool → L → Bool) (typing : List ℕ) (r : Registers L) where
+  abbrev Holds : Operand → Held L → Type 0
+  Holds o held = HoldsOperand has_literal admits value typing r o held
+
+  -- the literals of operands are the circuit's, of the operands' widths
+  pub all_own : (operands : List Operand) (held : List (Held L)) → AllZip Holds operands held → All (IsOwn has_literal) held
+  all_own [] [] all = All-nil (IsOwn has_literal)
+  all_own [] (h ∷ held) all = absurd all
+  all_own (o ∷ operands) [] all = absurd all
+  all_own (o ∷ operands) (h ∷ held) all = All-cons (IsOwn has_literal) h held all.0.own (all_own operands held all.1)
+
+  width_is : (N : ℕ) (o : Operand) (h : Held L) → slice_get typing o.class ≡ Some N → Holds o h → length h.bits ≡ N
+  width_is N o h at holds = same_Some (length h.bits) N (sym holds.width ∙ at)
+
+  -- an operand's value has the width of its literals
+  of_width : (inputs : List Bool) (M : ℕ) (h : Held L) → length h.bits ≡ M → HasWidth (held_value (value inputs) h) M
+  of_width inputs M h is = elim (value inputs h.poison) as (λ b. HasWidth (if b then Poison else bits (length h.bits) (number_of (value inputs) h.bits)) M) [ true ↦ tt | false ↦ is ]
+
+  -- the instruction of a statement that is ready takes its operands, and its effect is the statement's
+  pub record Blasts (op : Op) (what : Instruction) (N : ℕ) (held : List (Held L)) : Type 0 where
+    pub takes : Takes what N (widths_of held)
+    pub gates : gates_of what N (greatest (widths_of held)) ≡ op_gates typing N op
+    pub gives : (inputs : List Bool) (constants choices : List Number) (e : Effect) → admits inputs → HasEffect what N (map (held_value (value inputs)) held) e → OpGives typing constants choices (seen (value inputs) r) N op e
+
+  pub blasts : (op : Op) (what : Instruction) (N : ℕ) (held : List (Held L)) → instruction_of op ≡ Some what → OpIsReady typing (shapes r) N op → AllZip Holds (operands_of op) held → Blasts op what N held
+  blasts (Binary op flags a b) what N held is ready all =
+      let h = two Holds a b held all in
+      let left = width_is N a h.0 ready.1.0 h.3 in
+      let right = width_is N b h.1 ready.2.0 h.4 in
+      rw (sym (same_Some (instructions.Binary op flags) what is), h.2) record {
+        takes = rw (left, right) refl;
+        gates = refl;
+        gives = λ inputs constants choices e admitted effect. (held_value (value inputs) h.0, held_value (value inputs) h.1, h.3.gives inputs constants choices admitted, h.4.gives inputs constants choices admitted, effect);
+      }
+  blasts (Compare pred a b) what N held is ready all =
+      let h = two Holds a b held all in
+      let left = width_is ready.0 a h.0 ready.1.0 h.3 in
+      let right = width_is ready.0 b h.1 ready.2.0 h.4 in
+      let told = get_or_from_slice_get typing a.class ready.0 0 ready.1.0 in
+      rw (sym (same_Some (instructions.Compare pred) what is), h.2) record {
+        takes = (ready.0, rw left at h.3.some, rw (left, right) refl, ready.3);
+        gates = rw (left, right, told) (omega arith);
+        gives = λ inputs constants choices e admitted effect. (
+          ready.0,
+          held_value (value inputs) h.0,
+          held_value (value inputs) h.1,
+          ready.1.0,
+          h.3.gives inputs constants choices admitted,
+          h.4.gives inputs constants choices admitted,
+          effect ready.0 (of_width inputs ready.0 h.0 left) (of_width inputs ready.0 h.1 right),
+        );
+      }
+  blasts (Select c a b) what N held is ready all =
+      let h = three Holds c a b held all in
+      let condition = width_is 1 c h.0 ready.0.0 h.4 in
+      let yes = width_is N a h.1 ready.1.0 h.5 in
+      let no = width_is N b h.2 ready.2.0 h.6 in
+      rw (sym (same_Some instructions.Select what is), h.3) record {
+        takes = rw (condition, yes, no) refl;
+        gates = refl;
+        gives = λ inputs constants choices e admitted effect. (
+          held_value (value inputs) h.0,
+          held_value (value inputs) h.1,
+          held_value (value inputs) h.2,
+          h.4.gives inputs constants choices admitted,
+          h.5.gives inputs constants choices admitted,
+          h.6.gives inputs constants choices admitted,
+          effect,
+        );
+      }
+  blasts (Convert cast a to) what N held is ready all =
+      let h = one Holds a held all in
+      let from = width_is ready.0 a h.0 ready.1.0 h.2 in
+      rw (sym (same_Some (instructions.Convert cast) what is), h.1) record {
+        takes = (ready.0, rw from at h.2.some, rw from refl, ready.2);
+        gates = refl;
+        gives = λ inputs constants choices e admitted effect. (ready.0, held_value (value inputs) h.0, ready.1.0, h.2.gives inputs constants choices admitted, effect ready.0 (of_width inputs ready.0 h.0 from));
+      }
+  blasts (Copy a) what N held is ready all = cc
+
+-- the operands of an operation that is ready can be read
+abbrev CanBeRead : List ℕ → Registry → Operand → Type 0
+CanBeRead typing held o = (N : ℕ) × OperandIsReady typing held N o
+
+pub all_ready : (typing : List ℕ) (held : Registry) (N : ℕ) (op : Op) → OpIsReady typing held N op → All (CanBeRead typing held) (operands_of op)
+all_ready typing held N (Binary op flags a b) ready = All-from_recursion (CanBeRead typing held) (a ∷ b ∷ []) ((N, ready.1), ((N, ready.2), tt))
+all_ready typing held N (Compare pred a b) ready = All-from_recursion (CanBeRead typing held) (a ∷ b ∷ []) ((ready.0, ready.1), ((ready.0, ready.2), tt))
+all_ready typing held N (Select c a b) ready = All-from_recursion (CanBeRead typing held) (c ∷ a ∷ b ∷ []) ((1, ready.0), ((N, ready.1), ((N, ready.2), tt)))
+all_ready typing held N (Convert cast a to) ready = All-from_recursion (CanBeRead typing held) (a ∷ []) ((ready.0, ready.1), tt)
+all_ready typing held N (Copy a) ready = All-from_recursion (CanBeRead typing held) (a ∷ []) ((N, ready), tt)
+
+-- a copy gives what its operand does
+pub copy_gives : (typing : List ℕ) (constants choices : List Number) (held : Registry) (s : Statement) (N : ℕ) → slice_get typing s.class ≡ Some N → (a : Operand) (x : Value) (e : Effect)
+    → s.op ≡ Copy a → OperandGives typing constants choices held a x → e ≡ effects.Gives x → StatementGives typing constants choices held s e
+copy_gives typing constants choices held s N at a x e is gives same = (N, at, subst (λ o. OpGives typing constants choices held N o e) (sym is) (x, gives, same))
 
 module _ {C L : Type 0} {has_literal : C → L → Type 0} {admits : C → List Bool → Type 0} {value : C → List Bool → L → Bool} {old new : C} (keeps : Keeps has_literal admits value old new) (inputs : List Bool) (admitted : admits old inputs) where
   -- what registers hold stays

@@ -1,5 +1,5 @@
 -- Statements that run one after the other.
-use Rattle.std.proofs.Common.{◌≡◌, ℕ, zero, suc, ◌+◌, ◌-◌, ◌<◌, Bool, true, false, ◌||◌, if◌then◌else◌, List, [], ◌∷◌, ◌++◌, length, length-append, Some, refl, sym, ap, subst, ◌∙◌, arith, get_or}
+use Rattle.std.proofs.Common.{◌≡◌, ℕ, ◌-◌, Bool, true, false, ◌||◌, if◌then◌else◌, List, [], ◌∷◌, ◌++◌, length, length-append, Some, refl, sym, ap, subst, arith}
 use Rattle.std.specs.Prelude.{slice_get}
 use Rattle.ops.specs.Number.{Number}
 use Rattle.ops.specs.declared.value.Value.{Value}
@@ -7,7 +7,7 @@ use Rattle.ops.specs.declared.value.Effect.{Effect}
 use Rattle.ops.specs.declared.value.Effect.TheVariants as effects
 use Rattle.rule_core.specs.declared.rule.Rule.{Rule}
 use Rattle.rule_core.specs.declared.rule.Statement.{Statement}
-use Rattle.rule_core.specs.Run.{Held, Ending, Undefines, Holds, GoesOn, Leads, GivesLast, at_start, temporaries_of, holding_source, holding_target, StatementGives, Follows, SourceGives, TargetGoesOn, TargetGives}
+use Rattle.rule_core.specs.Run.{Held, Ending, Undefines, Holds, GoesOn, Leads, GivesLast, at_start, temporaries_of, holding_source, holding_target, StatementGives, Follows, SourceGives, TargetGives}
 use Rattle.blast_rule.specs.Running.{ending}
 
 -- the effect that an undefined bit and a value say

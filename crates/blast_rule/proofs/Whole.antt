@@ -1,5 +1,5 @@
 -- The circuit of a rule as a whole.
-use Rattle.std.proofs.Common.{◌≡◌, ℕ, zero, suc, ◌↔◌, ◌^◌, ◌<◌, Bool, List, [], ◌∷◌, length, map, Some, refl, sym, subst, ◌∙◌, arith}
+use Rattle.std.proofs.Common.{◌≡◌, ℕ, zero, suc, ◌↔◌, Bool, List, [], ◌∷◌, length, map, Some, sym, subst, ◌∙◌, arith}
 use Rattle.std.specs.Prelude.{slice_get, IsTrue}
 use Rattle.std.proofs.lemmas.List.{length-map}
 use Rattle.std.proofs.lemmas.Nat.{pow_pos}

@@ -1,5 +1,5 @@
 -- The width of an input is that of each operand that reads it.
-use Rattle.std.proofs.Common.{◌≡◌, ℕ, zero, suc, ◌<◌, ◌⊎◌, inl, inr, Bool, true, false, cond, ◌==◌, List, [], ◌∷◌, ◌++◌, ◌+◌, ◌≤◌, length, length-append, drop, drop-cons, add-one, Option, Some, None, refl, sym, ap, ◌∙◌, eqb-true, eq-eqb, arith, get_or}
+use Rattle.std.proofs.Common.{◌≡◌, ℕ, zero, suc, ◌<◌, inl, inr, Bool, true, false, cond, List, [], ◌∷◌, ◌++◌, ◌+◌, ◌≤◌, length, length-append, drop, drop-cons, add-one, Option, Some, None, refl, sym, ap, ◌∙◌, eqb-true, eq-eqb, arith, get_or}
 use Rattle.std.specs.Prelude.{slice_get, slice_index, Contains, flat_map}
 use Rattle.std.specs.List.{find}
 use Rattle.std.specs.Option.{option_map_or, option_map, option_or}
@@ -10,17 +10,15 @@ use Rattle.std.proofs.lemmas.List.Elements.{Contains-append_cases, Contains-appe
 use Rattle.std.proofs.lemmas.Option.{same_Some, slice_get_within, slice_get-get_or, get_or_from_slice_get}
 use Rattle.rule_core.specs.declared.rule.Rule.{Rule}
 use Rattle.rule_core.specs.declared.rule.Statement.{Statement}
-use Rattle.rule_core.specs.declared.rule.Op.{Op}
-use Rattle.rule_core.specs.declared.rule.Op.TheVariants.{Binary, Copy}
 use Rattle.rule_core.specs.declared.rule.Operand.{Operand}
 use Rattle.rule_core.specs.declared.rule.Argument.{Argument}
 use Rattle.rule_core.specs.declared.rule.Argument.TheVariants as arguments
 use Rattle.rule_core.specs.declared.rule.Register.{Register}
 use Rattle.rule_core.specs.declared.rule.Register.TheVariants as registers
-use Rattle.rule_core.specs.Positions.{operands_of, operands_in, IsStatementOf, Names, reads, source_assigns, target_assigns, assigns_root, binary_left, binary_right, copy, register}
+use Rattle.rule_core.specs.Positions.{operands_of, operands_in, Names, reads, source_assigns, target_assigns, assigns_root, register}
 use Rattle.rule_core.specs.Typing.{IsTyping}
 use Rattle.rule_core.specs.Checks.{IsRule, ReadsAt}
-use Rattle.rule_core.proofs.Members.{Contains-from_get, class_stands}
+use Rattle.rule_core.proofs.Members.{Contains-from_get, operand_class_stands}
 use Rattle.rule_core.proofs.Ready.{class_width}
 use Rattle.blast_rule.specs.Inputs.{is_input, input_width}
 
@@ -58,21 +56,11 @@ is_input_at k (arguments.Truth b) pass = cc
 pub input_passes : (k : ℕ) (x : Argument) → x ≡ arguments.Register (registers.Input k) → is_input k x ≡ true
 input_passes k x is = ap (is_input k) is ∙ eq-eqb k k refl
 
--- the operands of a statement have the width of its result
-operand_width_at : (rule : Rule) (typing : List ℕ) (s : Statement) (o : Operand) (op : Op) → IsTyping rule typing → IsStatementOf rule s → s.op ≡ op → Contains (operands_of op) o → slice_get typing o.class ≡ slice_get typing s.class
-operand_width_at rule typing s o (Binary op flags a b) typed stands is (zero, lt, e) = rw (← e) (sym (typed.same s.class a.class (binary_left stands is)))
-operand_width_at rule typing s o (Binary op flags a b) typed stands is (suc zero, lt, e) = rw (← e) (sym (typed.same s.class b.class (binary_right stands is)))
-operand_width_at rule typing s o (Binary op flags a b) typed stands is (suc (suc k), lt, e) = absurd (omega arith)
-operand_width_at rule typing s o (Copy a) typed stands is (zero, lt, e) = rw (← e) (sym (typed.same s.class a.class (copy stands is)))
-operand_width_at rule typing s o (Copy a) typed stands is (suc k, lt, e) = absurd (omega arith)
-
 -- each operand of the rule has a width
 pub operand_width : (rule : Rule) (typing : List ℕ) (o : Operand) → IsTyping rule typing → Contains (operands_in rule) o → (N : ℕ) × (slice_get typing o.class ≡ Some N)
 operand_width rule typing o typed among =
     let of = of_one (λ (s : Statement). operands_of s.op) (rule.source ++ rule.target) o among in
-    let s = of.0 in
-    let w = class_width rule typing s.class typed (class_stands rule s of.1) in
-    (w.0, operand_width_at rule typing s o s.op typed of.1 refl of.2 ∙ w.1)
+    class_width rule typing o.class typed (operand_class_stands rule of.0 o of.1 of.2)
 
 -- a position that names an input is an operand that reads it
 named : (rule : Rule) (r : Register) (c k : ℕ) → Names rule r c → r ≡ registers.Input k → (o : Operand) × Contains (operands_in rule) o × (o.value ≡ arguments.Register (registers.Input k))

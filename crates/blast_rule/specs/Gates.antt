@@ -1,24 +1,27 @@
 -- How many gates a rule's circuit has at most at a typing.
-use Rattle.std.specs.Prelude.{ℕ, ◌+◌, ◌*◌, ◌-◌, List, length, sum_by, slice_index, slice_get}
+use Rattle.std.specs.Prelude.{ℕ, ◌+◌, ◌*◌, ◌-◌, List, length, map, sum_by, slice_index, slice_get}
 use Rattle.std.specs.Option.{option_map_or}
-use Rattle.ops.specs.declared.opcode.Opcode.{Opcode}
-use Rattle.ops.specs.declared.opcode.Opcode.TheVariants.{Mul, UDiv, SDiv, URem, SRem}
 use Rattle.circuits.specs.Gates.{equality_gates}
 use Rattle.rule_core.specs.declared.rule.Rule.{Rule}
 use Rattle.rule_core.specs.declared.rule.Statement.{Statement}
 use Rattle.rule_core.specs.declared.rule.Op.{Op}
-use Rattle.rule_core.specs.declared.rule.Op.TheVariants.{Binary, Copy}
+use Rattle.rule_core.specs.declared.rule.Op.TheVariants.{Binary, Compare, Select, Convert, Copy}
+use Rattle.rule_core.specs.Positions.{classes_of_statement}
 use Rattle.blast_value.specs.declared.instruction.Instruction.TheVariants as instructions
-use Rattle.blast_value.specs.Gates.{gates_of}
+use Rattle.blast_value.specs.Gates.{gates_of, greatest}
+use Rattle.blast_value.specs.Laws.{bound}
 
--- an operation over iN: its instruction's circuit; a copy takes none
-abbrev pub op_gates : ℕ → Op → ℕ
-op_gates N (Binary op flags a b) = gates_of (instructions.Binary op flags) N N
-op_gates N (Copy a) = 0
+-- an operation with a result of iN: its instruction's circuit, of a comparison one over the width of its operands; a copy takes none
+abbrev pub op_gates : List ℕ → ℕ → Op → ℕ
+op_gates typing N (Binary op flags a b) = gates_of (instructions.Binary op flags) N N
+op_gates typing N (Compare pred a b) = gates_of (instructions.Compare pred) N (slice_index typing a.class)
+op_gates typing N (Select c a b) = gates_of instructions.Select N N
+op_gates typing N (Convert cast a to) = gates_of (instructions.Convert cast) N (slice_index typing a.class)
+op_gates typing N (Copy a) = 0
 
 -- a statement: its operation's, and one for whether it or one before it has undefined behaviour
 abbrev pub statement_gates : List ℕ → Statement → ℕ
-statement_gates typing s = op_gates (slice_index typing s.class) s.op + 1
+statement_gates typing s = op_gates typing (slice_index typing s.class) s.op + 1
 
 -- statements one after the other
 abbrev pub run_gates : List ℕ → List Statement → ℕ
@@ -37,18 +40,15 @@ root_width rule typing = option_map_or (λ s. slice_index typing s.class) (slice
 abbrev pub most_gates : Rule → List ℕ → ℕ
 most_gates rule typing = run_gates typing rule.source + run_gates typing rule.target + 1 + refusal_gates (root_width rule typing)
 
--- 64 gates a bit, and 64 more for each pair of bits of a product, a quotient or a remainder
-abbrev pub opcode_bound : Opcode → ℕ → ℕ
-opcode_bound Mul N = 64 * N + 64 * N * N
-opcode_bound UDiv N = 64 * N + 64 * N * N
-opcode_bound SDiv N = 64 * N + 64 * N * N
-opcode_bound URem N = 64 * N + 64 * N * N
-opcode_bound SRem N = 64 * N + 64 * N * N
-opcode_bound op N = 64 * N
+-- the greatest width of a statement's result and operands
+abbrev pub greatest_width : List ℕ → Statement → ℕ
+greatest_width typing s = greatest (map (slice_index typing) (classes_of_statement s))
 
-abbrev pub op_bound : ℕ → Op → ℕ
-op_bound N (Binary op flags a b) = opcode_bound op N
-op_bound N (Copy a) = 64 * N
+-- 64 gates a bit of iN, and of a product, a quotient or a remainder 64 more for each pair of bits
+abbrev pub op_bound : Op → ℕ → ℕ
+op_bound (Binary op flags a b) N = bound (instructions.Binary op flags) N
+op_bound op N = 64 * N
 
+-- the same of the greatest width of a statement
 abbrev pub statement_bound : List ℕ → Statement → ℕ
-statement_bound typing s = op_bound (slice_index typing s.class) s.op
+statement_bound typing s = op_bound s.op (greatest_width typing s)

@@ -36,7 +36,7 @@ RulesWithoutCounterexampleReadAreValid =
     ((read : List Bool) → length read ≡ input_bits rule typing → Refutes rule typing (setting_of rule typing read) → ⊥) →
     IsValid rule typing
 
--- the circuit of a rule has at most 64 gates for each statement and bit of its width, and 64 more for each pair of bits of a
+-- the circuit of a rule has at most 64 gates for each statement and bit of its greatest width, and 64 more for each pair of bits of a
 -- product, a quotient or a remainder
 abbrev pub GatesAreFew : Type 0
 GatesAreFew =

@@ -1,16 +1,20 @@
 -- What the literals of a rule's registers stand for while its halves are built.
-use Rattle.std.specs.Prelude.{◌≡◌, ℕ, Bool, if◌then◌else◌, List, [], length, map, Option, slice_get}
+use Rattle.std.specs.Prelude.{◌≡◌, ◌≤◌, ℕ, Bool, if◌then◌else◌, List, [], length, map, Option, Some, None, slice_get}
 use Rattle.std.specs.List.{All}
 use Rattle.ops.specs.Number.{Number}
 use Rattle.ops.specs.Integer.{bits}
 use Rattle.ops.specs.declared.value.Value.{Value}
 use Rattle.rule_core.specs.declared.rule.Rule.{Rule}
-use Rattle.rule_core.specs.declared.rule.Statement.{Statement}
+use Rattle.rule_core.specs.declared.rule.Op.{Op}
+use Rattle.rule_core.specs.declared.rule.Op.TheVariants.{Binary, Compare, Select, Convert, Copy}
+use Rattle.rule_core.specs.declared.rule.Operand.{Operand}
 use Rattle.rule_core.specs.declared.rule.Register.{Register}
 use Rattle.rule_core.specs.declared.rule.Register.TheVariants as registers
-use Rattle.rule_core.specs.Run.{Ending, Undefines, Holds, Follows, temporaries_of, holding_source, holding_target}
+use Rattle.rule_core.specs.Run.{Ending, Undefines, Holds, OperandGives, Follows, temporaries_of, holding_source, holding_target}
 use Rattle.rule_core.specs.Run as run
 use Rattle.blast_value.specs.declared.held.Held.{Held}
+use Rattle.blast_value.specs.declared.instruction.Instruction.{Instruction}
+use Rattle.blast_value.specs.declared.instruction.Instruction.TheVariants as instructions
 use Rattle.blast_value.specs.Effect.{held_value, IsOwn}
 use Rattle.blast_rule.specs.declared.registers.Registers.{Registers}
 
@@ -40,6 +44,21 @@ pub record RegistersAreOwn {L : Type 0} (has_literal : L → Type 0) (r : Regist
   pub inputs : All (IsOwn has_literal) r.inputs.now
   pub source : All (IsOwn has_literal) r.source.now
   pub target : All (IsOwn has_literal) r.target.now
+
+-- the instruction of an operation; a copy has none
+abbrev pub instruction_of : Op → Option Instruction
+instruction_of (Binary op flags a b) = Some (instructions.Binary op flags)
+instruction_of (Compare pred a b) = Some (instructions.Compare pred)
+instruction_of (Select c a b) = Some instructions.Select
+instruction_of (Convert cast a to) = Some (instructions.Convert cast)
+instruction_of (Copy a) = None
+
+-- these literals of a circuit stand for what the operand gives
+pub record HoldsOperand {L : Type 0} (has_literal : L → Type 0) (admits : List Bool → Type 0) (value : List Bool → L → Bool) (typing : List ℕ) (r : Registers L) (o : Operand) (held : Held L) : Type 0 where
+  pub gives : (inputs : List Bool) (constants choices : List Number) → admits inputs → OperandGives typing constants choices (seen (value inputs) r) o (held_value (value inputs) held)
+  pub width : slice_get typing o.class ≡ Some (length held.bits)
+  pub some : 1 ≤ length held.bits
+  pub own : IsOwn has_literal held
 
 -- how statements end: in undefined behaviour, or with what registers hold then
 abbrev pub ending : Bool → run.Held → Ending

@@ -1,12 +1,13 @@
 //! How many gates a rule's circuit has at most.
-ghost use Rattle.std.specs.Prelude.{◌≡◌, ◌≤◌, ◌<◌, ◌*◌, length};
+ghost use Rattle.std.specs.Prelude.{◌≡◌, ◌≤◌, ◌<◌, ◌*◌, length, map};
 ghost use Rattle.std.specs.List.{All};
 ghost use Rattle.rule_core.specs.Checks.{IsRule};
+ghost use Rattle.rule_core.specs.Positions.{classes_of_statement, operands_of};
 ghost use Rattle.rule_core.specs.Typing.{IsTyping};
 ghost use Rattle.blast_rule.specs.Gates.{most_gates, run_gates, op_gates, root_width};
 
 use crate::width::width_of;
-use blast_value::Instruction;
+use blast_value::{Instruction, gates_of};
 use ops::Width;
 use rule_core::{Op, Rule, Statement, Typing};
 
@@ -36,26 +37,42 @@ fn root_width(rule: &Rule, typing: &[Width]) -> Width
 /// The same of statements one after the other.
 fn run_gates(typing: &[Width], statements: &[Statement]) -> u32
     requires few { length statements.now ≤ 32 }
-    requires classes { All (λ s. s.class < length typing.now) statements.now }
+    requires classes { All (λ s. All (λ class. class < length typing.now) (classes_of_statement s)) statements.now }
     ensures value { result ≡ run_gates typing.now statements.now }
     ensures few { result ≤ 32 * 266241 }
 {
     let mut gates = 0;
     for statement in statements {
-        gates += op_gates(width_of(typing, statement.class), &statement.op) + 1;
+        gates += op_gates(typing, width_of(typing, statement.class), statement.op) + 1;
     }
     gates
 }
 
 /// The same of an operation, whose result has this width.
-fn op_gates(width: Width, op: &Op) -> u32
-    ensures value { result ≡ op_gates width op.now }
+fn op_gates(typing: &[Width], width: Width, op: Op) -> u32
+    requires { All (λ class. class < length typing.now) (map (λ o. o.class) (operands_of op)) }
+    ensures value { result ≡ op_gates typing.now width op }
     ensures few { result ≤ 266240 }
 {
-    match *op {
+    blast_value::gates_are_few();
+    match op {
         Op::Binary(opcode, flags, _, _) => {
-            blast_value::gates_are_few();
-            blast_value::gates_of(Instruction::Binary(opcode, flags), width, width)
+            gates_of(Instruction::Binary(opcode, flags), width, width)
+        }
+        Op::Compare(pred, left, _) => {
+            gates_of(
+                Instruction::Compare(pred),
+                width,
+                width_of(typing, left.class),
+            )
+        }
+        Op::Select(_, _, _) => gates_of(Instruction::Select, width, width),
+        Op::Convert(cast, operand, _) => {
+            gates_of(
+                Instruction::Convert(cast),
+                width,
+                width_of(typing, operand.class),
+            )
         }
         Op::Copy(_) => 0,
     }

@@ -52,22 +52,31 @@ fn class_reading(op: Op, k: usize) -> Option<u32>
     ensures { result ≡ option_map (λ o. o.class) (find (λ o. is_input k o.value) (operands_of op)) }
 {
     match op {
-        Op::Binary(_, _, left, right) => match class_if_reading(left, k) {
-            Some(class) => Some(class),
-            None => class_if_reading(right, k),
-        },
-        Op::Copy(operand) => class_if_reading(operand, k),
+        Op::Binary(_, _, left, right) | Op::Compare(_, left, right) => {
+            class_among(&[left, right], k)
+        }
+        Op::Select(condition, yes, no) => class_among(&[condition, yes, no], k),
+        Op::Convert(_, operand, _) | Op::Copy(operand) => class_among(&[operand], k),
     }
 }
 
-/// The operand's class, if it reads the input.
-fn class_if_reading(operand: Operand, k: usize) -> Option<u32>
-    ensures { result ≡ (if is_input k operand.value then Some operand.class else None) }
+/// The class of the first of the operands that reads the input, if one does.
+fn class_among(operands: &[Operand], k: usize) -> Option<u32>
+    ensures { result ≡ option_map (λ o. o.class) (find (λ o. is_input k o.value) operands.now) }
 {
-    let class = operand.class;
-    match operand.value {
-        Argument::Register(Register::Input(i)) if i as usize == k => Some(class),
-        _ => None,
+    operands
+        .iter()
+        .find(|operand| is_input(operand.value, k))
+        .map(|operand| operand.class)
+}
+
+/// Whether what is read is the input.
+fn is_input(value: Argument, k: usize) -> bool
+    ensures { result ≡ is_input k value }
+{
+    match value {
+        Argument::Register(Register::Input(i)) => i as usize == k,
+        _ => false,
     }
 }
 

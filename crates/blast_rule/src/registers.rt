@@ -1,13 +1,13 @@
 //! The registers of a rule as literals, and what an operand gives.
-ghost use Rattle.std.specs.Prelude.{◌≡◌, ◌^◌, ◌<◌, ℕ, Bool, if◌then◌else◌, List as Seq, length, slice_get, Some, IsSome, IfOk};
-ghost use Rattle.std.specs.List.{All};
+ghost use Rattle.std.specs.Prelude.{◌≡◌, ◌^◌, ◌<◌, ◌≤◌, ℕ, Bool, if◌then◌else◌, List as Seq, length, slice_get, Some, IsSome, IfOk};
+ghost use Rattle.std.specs.List.{All, AllZip};
 ghost use Rattle.ops.specs.Number.{Number};
 ghost use Rattle.ops.specs.Integer.{bits, residue};
 ghost use Rattle.circuits.specs.Word.{number_of};
 ghost use Rattle.rule_core.specs.Run.{OperandGives};
 ghost use Rattle.rule_core.specs.Readiness.{OperandIsReady};
 ghost use Rattle.blast_value.specs.Effect.{held_value, IsOwn};
-ghost use Rattle.blast_rule.specs.Running.{held_at, seen, shapes, RegistersAreOwn};
+ghost use Rattle.blast_rule.specs.Running.{held_at, seen, shapes, HoldsOperand, RegistersAreOwn};
 
 use crate::width::width_of;
 use blast_value::Held;
@@ -25,6 +25,26 @@ pub(crate) struct Registers<'a, L> {
     pub(crate) target: &'a [Held<L>],
 }
 
+/// What operands give, in order. It makes no gate.
+pub(crate) fn operands_held<C: Circuit>(
+    alloc: Global,
+    c: &C,
+    typing: &[Width],
+    registers: Registers<C::Literal>,
+    operands: &[Operand],
+) -> Result<List<Held<C::Literal>>, AllocError>
+    requires ready { All (λ operand. (N : ℕ) × OperandIsReady typing.now (shapes registers) N operand) operands.now }
+    requires own { RegistersAreOwn (C.has_literal c.now) registers }
+    ensures { IfOk result (AllZip
+        (HoldsOperand (C.has_literal c.now) (C.admits c.now) (C.value c.now) typing.now registers.entry) operands.now) }
+{
+    let mut held = List::new(alloc);
+    for operand in operands {
+        held.push(operand_held(alloc, c, typing, registers, *operand)?)?;
+    }
+    Ok(held)
+}
+
 /// What an operand gives. It makes no gate.
 pub(crate) fn operand_held<C: Circuit>(
     alloc: Global,
@@ -39,6 +59,7 @@ pub(crate) fn operand_held<C: Circuit>(
         OperandGives typing.now constants choices (seen (C.value c.now inputs) registers.entry) operand
         (held_value (C.value c.now inputs) held)) }
     ensures width { IfOk result (λ held. slice_get typing.now operand.class ≡ Some (length held.bits)) }
+    ensures some { IfOk result (λ held. 1 ≤ length held.bits) }
     ensures own { IfOk result (IsOwn (C.has_literal c.now)) }
 {
     let width = width_of(typing, operand.class);

@@ -1,9 +1,7 @@
-use Rattle.std.proofs.Common.{◌≡◌, ◌<◌, ◌-◌, ◌+◌, length, map, take, Some, refl, sym, ap, ◌∙◌, arith, get_or}
-use Rattle.std.specs.Prelude.{slice_get}
+use Rattle.std.proofs.Common.{◌<◌, ◌+◌, length, map, ap, ◌∙◌, arith}
 use Rattle.std.proofs.lemmas.List.{length-map, length_push}
 use Rattle.std.proofs.lemmas.List.Elements.{All-push}
 use Rattle.circuits.proofs.Kept.{Adds-trans, Adds-weaken}
-use Rattle.rule_core.specs.declared.rule.Statement.{Statement}
 use Rattle.rule_core.proofs.Ready.{target_next}
 use Rattle.blast_value.specs.Effect.{IsOwn}
 use Rattle.blast_rule.specs.Running.{shape}

@@ -1,4 +1,4 @@
-use Rattle.std.proofs.Common.{◌≡◌, ℕ, Bool, List, [], length, take, map}
+use Rattle.std.proofs.Common.{◌≡◌, Bool, List, [], length, take, map}
 use Rattle.std.specs.List.{All}
 use Rattle.ops.specs.Number.{Number}
 use Rattle.circuits.specs.Circuit.{Adds}

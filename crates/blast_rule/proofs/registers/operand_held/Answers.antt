@@ -1,12 +1,11 @@
-use Rattle.std.proofs.Common.{◌≡◌, ◌<◌, ◌^◌, ℕ, length, Some, true, false, sym, ap, subst, ◌∙◌, arith, rules}
-use Rattle.std.specs.Prelude.{slice_get}
+use Rattle.std.proofs.Common.{◌≡◌, ◌≤◌, length, Some, sym, ap, subst, ◌∙◌, arith, rules}
 use Rattle.std.proofs.lemmas.Int.{to_z-of_z}
 use mir.Val.{SFits}
 use mir.Syntax.{w128}
 use Rattle.std.proofs.lemmas.Result.{IfOk-weaker}
-use Rattle.std.proofs.lemmas.Option.{slice_get_within, get_or_from_slice_get, same_Some}
-use Rattle.blast_value.specs.Effect.{IsOwn, held_value}
-use Rattle.blast_rule.proofs.Reading.{register_ready, register_gives, held_at-own, width_told, literal_gives, truth_gives, digit-below, is_some}
+use Rattle.std.proofs.lemmas.Option.{slice_get_within, same_Some}
+use Rattle.blast_value.specs.Effect.{IsOwn}
+use Rattle.blast_rule.proofs.Reading.{register_ready, register_gives, held_at-own, width_told, literal_gives, truth_gives, digit-below, is_some, some_bits}
 use Rattle.blast_rule.specs.Running.{seen}
 use Rattle.blast_rule.proofs.registers.operand_held.Goals as goal
 
@@ -67,3 +66,18 @@ pub returns-in-Truth-clause-width : goal.returns-in-Truth-clause-width
 returns-in-Truth-clause-width g c =
     let width = width_told c.args.typing.now c.args.operand.class c.requires.ready.0 c.width_of-width.result c.requires.ready.1.0 c.width_of-width.ensures in
     IfOk-weaker c.constant-in-Truth.result _ _ (λ held is. c.requires.ready.1.0 ∙ ap (λ N. Some N) (sym (is ∙ width))) c.constant-in-Truth.ensures.width
+
+pub returns-in-Register-clause-some : goal.returns-in-Register-clause-some
+returns-in-Register-clause-some g c =
+    let some : 1 ≤ c.width_of-width.result = omega arith in
+    some_bits c.args.typing.now c.args.operand.class c.width_of-width.result c.copied.result some c.width_of-width.ensures (returns-in-Register-clause-width g c)
+
+pub returns-in-Literal-clause-some : goal.returns-in-Literal-clause-some
+returns-in-Literal-clause-some g c =
+    let some : 1 ≤ c.width_of-width.result = omega arith in
+    some_bits c.args.typing.now c.args.operand.class c.width_of-width.result c.constant.result some c.width_of-width.ensures (returns-in-Literal-clause-width g c)
+
+pub returns-in-Truth-clause-some : goal.returns-in-Truth-clause-some
+returns-in-Truth-clause-some g c =
+    let some : 1 ≤ c.width_of-width.result = omega arith in
+    some_bits c.args.typing.now c.args.operand.class c.width_of-width.result c.constant-in-Truth.result some c.width_of-width.ensures (returns-in-Truth-clause-width g c)

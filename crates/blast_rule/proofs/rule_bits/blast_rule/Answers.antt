@@ -1,8 +1,5 @@
-use Rattle.std.proofs.Common.{◌≡◌, List, map, drop, sym, ap, subst, ◌∙◌}
-use Rattle.std.specs.Prelude.{IsTrue}
-use Rattle.ops.specs.Value.{AllowsEffect}
-use Rattle.rule_core.specs.Valid.{HaveEffects}
-use Rattle.blast_value.specs.Effect.{held_value, effect_of}
+use Rattle.std.proofs.Common.{◌≡◌, map, drop, sym, ap, ◌∙◌}
+use Rattle.blast_value.specs.Effect.{held_value}
 use Rattle.blast_rule.specs.Inputs.{input_widths, input_bits}
 use Rattle.blast_rule.specs.Settings.{values_read, setting_of}
 use Rattle.blast_rule.proofs.Kept.{effect_of-kept}
