@@ -7,6 +7,7 @@ use std::test::Fail;
 
 mod modules;
 mod rows;
+mod rules;
 mod texts;
 
 const OPTIMISE: &[&str] = &["alive", "optimise", "r", "m"];

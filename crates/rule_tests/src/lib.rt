@@ -2,4 +2,6 @@
 #![tactic(auto)]
 
 #[cfg(test)]
+mod one_statement;
+#[cfg(test)]
 mod tests;

@@ -1,8 +1,10 @@
 //! Twelve rules, read and decided, whose verdicts another program found by enumerating their settings.
 ghost use Rattle.std.specs.Prelude.{IfOk, All};
+ghost use Rattle.std.specs.List.Sorted.{IsStrictlyIncreasing};
 ghost use Rattle.verifier.specs.Findings.{IsReadRule};
 
 use lists::List;
+use ops::Width;
 use rule_core::Rule;
 use rule_reader::read_rules;
 use std::alloc::Global;
@@ -99,22 +101,24 @@ const VERDICTS: [&str; 12] = [
 const MOST_RULES: usize = 100;
 
 /// The rules of a text.
-fn rules_of(alloc: Global, text: &str) -> Result<Vec<Rule>, Fail>
+fn rules_of(alloc: Global, text: &[u8]) -> Result<Vec<Rule>, Fail>
     ensures { IfOk result (λ rules. All IsReadRule rules.items) }
 {
-    match read_rules(alloc, text.as_bytes()) {
+    match read_rules(alloc, text) {
         Ok(rules) => Ok(rules),
         Err(_) => Err("no rule file")?,
     }
 }
 
-/// The verdicts on the rules of a text.
-fn verified(alloc: Global, text: &str) -> Result<Verified, Fail> {
+/// The verdicts on the rules of a text, over widths of which each stands once, in order.
+pub(crate) fn verified(alloc: Global, text: &[u8], widths: &List<Width>) -> Result<Verified, Fail>
+    requires { IsStrictlyIncreasing widths.now }
+{
     let rules = rules_of(alloc, text)?;
     if rules.len() > MOST_RULES {
         return Err("too many rules")?;
     }
-    Ok(verify(alloc, rules.as_slice(), &List::new(alloc), 20_000)?)
+    Ok(verify(alloc, rules.as_slice(), widths, 20_000)?)
 }
 
 /// What the program calls a verdict.
@@ -129,7 +133,7 @@ fn word(verdict: &Verdict) -> &'static str {
 
 #[test]
 fn rules_have_their_verdicts(rt: HostRuntime) -> Result<(), Fail> {
-    let verified = verified(rt.alloc(), RULES)?;
+    let verified = verified(rt.alloc(), RULES.as_bytes(), &List::new(rt.alloc()))?;
     let rows = verified.table.as_slice();
     assert_eq!(rt; rows.len(), VERDICTS.len());
     for (row, verdict) in rows.iter().zip(&VERDICTS) {

@@ -8,16 +8,16 @@ use Rattle.std.proofs.lemmas.Option.{same_Some, slice_get_within}
 use Rattle.ops.specs.declared.opcode.Opcode.{Opcode}
 use Rattle.rule_core.specs.declared.rule.Statement.{Statement}
 use Rattle.rule_core.specs.declared.rule.Operand.{Operand}
-use Rattle.rule_core.specs.declared.rule.Op.TheVariants.{Binary, Copy}
+use Rattle.rule_core.specs.declared.rule.Op.TheVariants.{Copy}
 use Rattle.rule_core.specs.declared.rule.Argument.{Argument}
 use Rattle.rule_core.specs.declared.rule.Argument.TheVariants as arguments
-use Rattle.rule_core.specs.declared.rule.Register.{Register}
 use Rattle.rule_core.specs.declared.rule.Register.TheVariants as registers
-use Rattle.rule_core.specs.Positions.{operands_of, operands_in, classes_of, IsStatementOf, Names, reads, source_assigns, target_assigns, assigns_root, Line, binary_left, binary_right, copy, register}
-use Rattle.rule_core.specs.Typing.{IsTyping, FitsOperand, FitsArgument, FitsLiteral}
+use Rattle.rule_core.specs.Positions.{operands_of, operands_in, classes_of, IsStatementOf}
+use Rattle.rule_core.specs.Typing.{IsTyping, FitsLiteral}
 use Rattle.rule_core.specs.Checks.{IsRule, SourceMayRead, TargetMayRead, ReadsAt, MayStandInSource, FlagsFitOp, AreDistinct}
 use Rattle.rule_core.specs.Sample.{plain, assigns}
-use Rattle.rule_core.proofs.Members.{operand_stands, source_statement, target_statement, Contains-from_get}
+use Rattle.rule_core.proofs.Members.{Contains-from_get}
+use Rattle.rule_core.proofs.Typed.{OpMeets, ArgumentMeets, OperandMeets, typed}
 use Rattle.verdict.specs.Sample.{x, zero_literal, IsInputOrZero, zeroing}
 
 -- what is true of all elements is true of each
@@ -55,10 +55,10 @@ all_zero (suc n) = All-cons (λ d. d ≡ 0) 0 (replicate n 0) refl (all_zero n)
 zero_fits : (N : ℕ) → FitsLiteral N (pos 0)
 zero_fits N = (omega (arith, ints), omega (arith, ints, pow_pos N))
 
-right_fits : (N : ℕ) (a : Argument) → IsInputOrZero a → FitsArgument N a
-right_fits N (arguments.Register r) is = tt
-right_fits N (arguments.Literal z) is = rw is (zero_fits N)
-right_fits N (arguments.Truth b) is = absurd is
+right_meets : (N : ℕ) (a : Argument) → IsInputOrZero a → ArgumentMeets (N ∷ []) (λ r. 0) 0 a
+right_meets N (arguments.Register r) is = refl
+right_meets N (arguments.Literal z) is = λ M width. rw is (zero_fits M)
+right_meets N (arguments.Truth b) is = absurd is
 
 -- the statement of the target
 abbrev zeroed : Statement
@@ -127,44 +127,21 @@ module _ (code : Opcode) (right : Argument) (may_be : IsInputOrZero right) where
       }
 
   -- all its positions are of the class 0
-  operand_zero : (o : Operand) → Contains (operands_in (zeroing code right)) o → o.class ≡ 0
-  operand_zero = each (λ (o : Operand). o.class ≡ 0) (operands_in (zeroing code right)) (three (λ (o : Operand). o.class ≡ 0) refl refl refl)
+  statements_meet : (N : ℕ) (s : Statement) → IsStatementOf (zeroing code right) s → OpMeets (N ∷ []) (λ r. 0) s.class s.op
+  statements_meet N =
+      each (λ (s : Statement). OpMeets (N ∷ []) (λ r. 0) s.class s.op) (assigns 114 code x right ∷ zeroed ∷ [])
+      (All-cons (λ (s : Statement). OpMeets (N ∷ []) (λ r. 0) s.class s.op) (assigns 114 code x right) (zeroed ∷ []) (refl, refl)
+      (one_each (λ (s : Statement). OpMeets (N ∷ []) (λ r. 0) s.class s.op) zeroed refl))
 
-  statement_zero : (s : Statement) → IsStatementOf (zeroing code right) s → s.class ≡ 0
-  statement_zero =
-      each (λ (s : Statement). s.class ≡ 0) (assigns 114 code x right ∷ zeroed ∷ [])
-      (All-cons (λ (s : Statement). s.class ≡ 0) (assigns 114 code x right) (zeroed ∷ []) refl (one_each (λ (s : Statement). s.class ≡ 0) zeroed refl))
-
-  names_zero : (r : Register) (c : ℕ) → Names (zeroing code right) r c → c ≡ 0
-  names_zero r c (reads {o} among is) = operand_zero o among
-  names_zero r c (source_assigns {k} {s} there) = statement_zero s (source_statement (zeroing code right) k s there)
-  names_zero r c (target_assigns {k} {s} there) = statement_zero s (target_statement (zeroing code right) k s there)
-  names_zero r c (assigns_root {j} {k} {s} last last' there) = statement_zero s (target_statement (zeroing code right) k s there)
-
-  of_statement : (s : Statement) (o : Operand) → IsStatementOf (zeroing code right) s → Contains (operands_of s.op) o → o.class ≡ 0
-  of_statement s o stands among = operand_zero o (operand_stands (zeroing code right) s o stands among)
-
-  line_zero : (c d : ℕ) → Line (zeroing code right) c d → (c ≡ 0) × (d ≡ 0)
-  line_zero c d (binary_left {s} {op} {flags} {a} {b} stands is) =
-      let among : Contains (operands_of (Binary op flags a b)) a = (0, omega arith, refl) in
-      (statement_zero s stands, of_statement s a stands (subst (λ o. Contains (operands_of o) a) (sym is) among))
-  line_zero c d (binary_right {s} {op} {flags} {a} {b} stands is) =
-      let among : Contains (operands_of (Binary op flags a b)) b = (1, omega arith, refl) in
-      (statement_zero s stands, of_statement s b stands (subst (λ o. Contains (operands_of o) b) (sym is) among))
-  line_zero c d (copy {s} {a} stands is) =
-      let among : Contains (operands_of (Copy a)) a = (0, omega arith, refl) in
-      (statement_zero s stands, of_statement s a stands (subst (λ o. Contains (operands_of o) a) (sym is) among))
-  line_zero c d (register {r} p q) = (names_zero r c p, names_zero r d q)
+  operands_meet : (N : ℕ) (o : Operand) → Contains (operands_in (zeroing code right)) o → OperandMeets (N ∷ []) (λ r. 0) o
+  operands_meet N =
+      each (OperandMeets (N ∷ []) (λ r. 0)) (operands_in (zeroing code right))
+      (three (OperandMeets (N ∷ []) (λ r. 0)) (tt, refl) (tt, right_meets N right may_be) (tt, λ M width. zero_fits M))
 
   pub is_typing : (N : ℕ) → 1 ≤ N → N ≤ 64 → IsTyping (zeroing code right) (N ∷ [])
   is_typing N least most =
-      record {
-        widths = each (λ M. (1 ≤ M) × (M ≤ 64)) (N ∷ []) (one_each (λ M. (1 ≤ M) × (M ≤ 64)) N (least, most));
-        classes = λ c among. let zeroth : c ≡ 0 = each (λ d. d ≡ 0) (0 ∷ 0 ∷ 0 ∷ 0 ∷ 0 ∷ []) (all_zero 5) c among in omega arith;
-        no_more = λ c lt. let zeroth : 0 ≡ c = omega arith in subst (Contains (classes_of (zeroing code right))) zeroth (0, omega arith, refl);
-        same = λ c d line. let zeros = line_zero c d line in rw (zeros.0, zeros.1) refl;
-        operands = λ o among M width.
-            let is : N ≡ M = same_Some N M (subst (λ c. slice_get (N ∷ []) c ≡ Some M) (operand_zero o among) width) in
-            each (λ (o : Operand). FitsOperand M o) (operands_in (zeroing code right))
-            (three (λ (o : Operand). FitsOperand M o) (tt, tt) (tt, right_fits M right may_be) (tt, zero_fits M)) o among;
-      }
+      typed (zeroing code right) (N ∷ []) (λ r. 0) (statements_meet N) (operands_meet N)
+      (single (λ k (s : Statement). s.class ≡ 0) (assigns 114 code x right) refl) (single (λ k (s : Statement). s.class ≡ 0) zeroed refl) (λ j k last last'. refl)
+      (each (λ M. (1 ≤ M) × (M ≤ 64)) (N ∷ []) (one_each (λ M. (1 ≤ M) × (M ≤ 64)) N (least, most)))
+      (λ c among. let zeroth : c ≡ 0 = each (λ d. d ≡ 0) (0 ∷ 0 ∷ 0 ∷ 0 ∷ 0 ∷ []) (all_zero 5) c among in omega arith)
+      (λ c lt. let zeroth : 0 ≡ c = omega arith in subst (Contains (classes_of (zeroing code right))) zeroth (0, omega arith, refl))

@@ -1,0 +1,113 @@
+//! Rules that `verify` decides, and the lines that it prints. Where there are two counterexamples, either may be printed.
+
+use super::*;
+
+/// A rule file, the words behind its name, and what is left.
+#[derive(Clone, Copy)]
+struct Row {
+    rules: &'static str,
+    options: &'static [&'static str],
+    status: u8,
+    out: &'static str,
+    or: Option<&'static str>,
+}
+
+const MUL_ADD: &str =
+    "Name: mul-add\n%a = add %x, %y\n%r = mul %a, %z\n=>\n%p = mul %x, %z\n%q = mul %y, %z\n%r = add %p, %q\n";
+
+const ROWS: [Row; 10] = [
+    Row {
+        rules: MUL_ADD,
+        options: &["--widths", "16", "--conflicts", "1"],
+        status: 1,
+        out: "mul-add [16]: budget\n",
+        or: None,
+    },
+    Row {
+        rules: MUL_ADD,
+        options: &["--widths", "2", "--conflicts", "1"],
+        status: 0,
+        out: "mul-add [2]: admitted\n",
+        or: None,
+    },
+    Row {
+        rules: "Name: add-self\n%r = add nsw %x, %x\n=>\n%r = shl nsw %x, 1\n",
+        options: &["--widths", "1-2"],
+        status: 1,
+        out: "add-self [1]: refuted\n  %x = 0\n  source 0\n  target poison\nadd-self [2]: admitted\n",
+        or: None,
+    },
+    Row {
+        rules: "Name: select-or\n%r = select i1 %c, true, %y\n=>\n%r = or %c, %y\n",
+        options: &[],
+        status: 1,
+        out: "select-or [1]: refuted\n  %c = 1\n  %y = poison\n  source 1\n  target poison\n",
+        or: None,
+    },
+    Row {
+        rules: "Name: div-self\n%r = udiv %x, %x\n=>\n%r = 1\n",
+        options: &["--widths", "1-8"],
+        status: 0,
+        out: "div-self [1]: admitted\ndiv-self [2]: admitted\ndiv-self [3]: admitted\ndiv-self [4]: admitted\ndiv-self [5]: admitted\ndiv-self [6]: admitted\ndiv-self [7]: admitted\ndiv-self [8]: admitted\n",
+        or: None,
+    },
+    Row {
+        rules: "Name: mul-two\n%r = mul %x, 2\n=>\n%r = shl %x, 1\n",
+        options: &["--widths", "1"],
+        status: 0,
+        out: "",
+        or: None,
+    },
+    Row {
+        rules: "Name: neg-div\n%r = sub 0, %x\n=>\n%r = sdiv %x, -1\n",
+        options: &["--widths", "8"],
+        status: 1,
+        out: "neg-div [8]: refuted\n  %x = 128\n  source 128\n  target undefined\n",
+        or: Some("neg-div [8]: refuted\n  %x = poison\n  source poison\n  target undefined\n"),
+    },
+    Row {
+        rules: "Name: div-neg\n%r = sdiv %x, -1\n=>\n%r = sub 0, %x\n",
+        options: &["--widths", "1-8"],
+        status: 0,
+        out: "div-neg [1]: admitted\ndiv-neg [2]: admitted\ndiv-neg [3]: admitted\ndiv-neg [4]: admitted\ndiv-neg [5]: admitted\ndiv-neg [6]: admitted\ndiv-neg [7]: admitted\ndiv-neg [8]: admitted\n",
+        or: None,
+    },
+    Row {
+        rules: "Name: three-zero\n%a = icmp eq %x, 0\n%b = icmp eq %y, 0\n%c = icmp eq %z, 0\n%d = and %a, %b\n%r = and %d, %c\n=>\n%r = and %c, %d\n",
+        options: &["--widths", "1-17"],
+        status: 1,
+        out: "three-zero: too many typings\n",
+        or: None,
+    },
+    Row {
+        rules: "Name: sel-inc\n%t = add %x, 1\n%r = select %c, %x, %t\n=>\n%u = sub %t, 1\n%r = select %c, %u, %t\n",
+        options: &["--widths", "1-4"],
+        status: 0,
+        out: "sel-inc [1 1]: admitted\nsel-inc [2 1]: admitted\nsel-inc [3 1]: admitted\nsel-inc [4 1]: admitted\n",
+        or: None,
+    },
+];
+
+/// Whether that is what the row says.
+fn is_left(left: &Left, row: &Row) -> bool {
+    let out = left.out.contents();
+    left.status == row.status
+        && (out == row.out.as_bytes() || row.or.is_some_and(|or| out == or.as_bytes()))
+        && left.err.contents().is_empty()
+}
+
+/// What `verify` leaves of the row.
+fn verified(alloc: Global, row: &Row) -> Result<Left, Fail> {
+    let mut words = Vec::from_slice(alloc, VERIFY)?;
+    words.extend_from_slice(row.options)?;
+    what_is_left(alloc, &words, row.rules.as_bytes(), b"", NO_FAULTS)
+}
+
+#[test]
+fn rules_have_their_lines(rt: HostRuntime) -> Result<(), Fail> {
+    for row in &ROWS {
+        let left = verified(rt.alloc(), row)?;
+        assert!(rt; is_left(&left, row), "what is printed of {}", row.rules);
+    }
+    Ok(())
+}
