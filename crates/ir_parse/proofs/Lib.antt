@@ -1,3 +1,5 @@
+pub mod Advancing
+pub mod Framing
 pub mod FunctionReadings
 pub mod FunctionSpellings
 pub mod ItemReadings

@@ -1,3 +1,4 @@
+pub mod Advancing
 pub mod Grammar
 pub mod Items
 pub mod Laws

@@ -54,6 +54,13 @@ impl Part for Entry {
     }
 }
 
+/// An entry.
+pub(crate) fn read_entry(alloc: Global, tokens: &mut &[Placed<'_>]) -> Result<RawEntry, ParseError>
+    ensures { Gives (λ x. (x, seen tokens.new.now)) result (parsing.entry_at (seen tokens.old.now)) }
+{
+    Entry::read(alloc, tokens)
+}
+
 /// The entries of a module.
 #[tactic(auto, unfolding(crate::specs::Parsing::entries_at))]
 fn entries(alloc: Global, tokens: &mut &[Placed<'_>]) -> Result<List<RawEntry>, ParseError>

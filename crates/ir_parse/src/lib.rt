@@ -5,6 +5,7 @@
 
 mod block;
 mod entry;
+mod following;
 mod function;
 mod item;
 mod laws;
@@ -12,9 +13,10 @@ mod parameter;
 mod reader;
 mod word;
 
+pub use following::{NextEntry, next_entry};
 pub use ir_statements::{Misfit, ParseError, TextFault};
 pub use laws::{every_text_has_one_reading_or_one_fault, modules_are_read_as_they_are_spelled};
-pub use reader::parse;
+pub use reader::{MOST_BYTES, parse};
 
 #[cfg(test)]
 mod tests;

@@ -11,7 +11,7 @@ use ir_tokens::tokens_of;
 use std::alloc::Global;
 
 /// The most bytes of a text that is read.
-const MOST_BYTES: usize = 1 << 24;
+pub const MOST_BYTES: usize = 1 << 24;
 
 /// The module of a text as it is written, or the text's first fault. It takes as many steps as the text has bytes.
 pub fn parse(alloc: Global, bytes: &[u8]) -> Result<RawModule, ParseError>

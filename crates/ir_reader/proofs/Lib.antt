@@ -10,6 +10,8 @@ pub mod Unassigned
 pub mod Fitting
 pub mod Checking
 pub mod Reading
+pub mod GoingOn
+pub mod Answered
 pub mod Existence
 pub mod LawLemmas
 pub mod CheckLemmas

@@ -34,7 +34,7 @@ pub some_block : (blocks : List RawBlock) (tokens rest : List Placed) → Spells
 some_block [] tokens rest spelled = absurd spelled
 some_block (first ∷ others) tokens rest spelled = omega arith
 
-has_block : (entry : RawEntry) (tokens rest : List Placed) → SpellsEntry entry tokens rest → HasBlock entry
+pub has_block : (entry : RawEntry) (tokens rest : List Placed) → SpellsEntry entry tokens rest → HasBlock entry
 has_block (raw_entries.Kept text) tokens rest spelled = tt
 has_block (raw_entries.Function f) tokens rest spelled = some_block f.blocks _ _ spelled.2.2.2.2.2.2.2.2.1
 

@@ -1,7 +1,7 @@
 -- Marks on the functions whose names an earlier one has, and what the grammar says of a function.
 use Rattle.std.specs.Prelude.{◌≡◌, ℕ, ◌<◌, Bool, List, length, take, IsTrue, Some, slice_get}
 use Rattle.std.specs.Str.{bytes_eq}
-use Rattle.std.specs.Borrow.{Bor}
+use Rattle.std.specs.Prelude.{Vec}
 use Rattle.indexmap.specs.IndexSet.{IndexSet, contains_by}
 use Rattle.ir_raw.specs.declared.raw.RawEntry.{RawEntry}
 use Rattle.ir_raw.specs.declared.raw.RawEntry.TheVariants as raw_entries
@@ -33,5 +33,5 @@ IsNameOf (raw_entries.Kept text) name = ⊥
 IsNameOf (raw_entries.Function raw) name = raw.name ≡ name
 
 -- the text is among these
-abbrev pub HasText : {S : Type 0} → IndexSet (Bor (List ℕ)) S → List ℕ → Type 0
-HasText texts text = IsTrue (contains_by (λ t. bytes_eq text t.now) texts)
+abbrev pub HasText : {A S : Type 0} → IndexSet (Vec ℕ A) S → List ℕ → Type 0
+HasText texts text = IsTrue (contains_by (λ t. bytes_eq text t.items) texts)

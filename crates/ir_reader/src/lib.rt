@@ -11,6 +11,7 @@ mod assigned;
 mod count;
 mod entry;
 mod fault;
+mod faultless;
 mod function;
 mod laws;
 mod least;

@@ -10,6 +10,7 @@ ghost use Rattle.ir_reader.specs.Marks.{MarksEntry, HasBlock, HaveBlocks};
 ghost use Rattle.ir_reader.specs.Faults.{IsEntryOf, AreEntriesOf, IsFaultOfEntry, IsFaultOfEntries, IsModuleText, IsFault};
 
 use crate::fault::IrError;
+use crate::faultless::faultless_module;
 use crate::function::function;
 use crate::repeated::repeated_names;
 use crate::text::text;
@@ -33,6 +34,27 @@ pub fn read_module(alloc: Global, bytes: &[u8]) -> Result<Module, IrError>
     ensures forms { IfOk result ModuleHasForms }
 {
     ir_lexemes::lexemes_are_tokens();
+    module_of(alloc, bytes)
+}
+
+/// The module of a text, or the text's first fault. Only where something is refused the text is read a second time.
+fn module_of(alloc: Global, bytes: &[u8]) -> Result<Module, IrError>
+    ensures ok { IfOk result (IsModuleText bytes.now) }
+    ensures limit { OnOk result (length bytes.now ≤ most_bytes) }
+    ensures refused { IfErr result (λ e. IfRefused e (IsFault bytes.now)) }
+{
+    match faultless_module(alloc, bytes)? {
+        Some(module) => Ok(module),
+        None => module_or_fault(alloc, bytes),
+    }
+}
+
+/// The module of a text, or the text's first fault, where the whole text is read before the first function.
+fn module_or_fault(alloc: Global, bytes: &[u8]) -> Result<Module, IrError>
+    ensures ok { IfOk result (IsModuleText bytes.now) }
+    ensures limit { OnOk result (length bytes.now ≤ most_bytes) }
+    ensures refused { IfErr result (λ e. IfRefused e (IsFault bytes.now)) }
+{
     let raw = parse(alloc, bytes)?;
     Ok(Module {
         entries: entries(alloc, raw.entries.as_slice())?,
@@ -54,7 +76,7 @@ fn entries(alloc: Global, written: &[RawEntry]) -> Result<List<Entry>, IrError>
 }
 
 /// An entry, or its first fault.
-fn entry(alloc: Global, written: &RawEntry, is_repeated: bool) -> Result<Entry, IrError>
+pub(crate) fn entry(alloc: Global, written: &RawEntry, is_repeated: bool) -> Result<Entry, IrError>
     requires { HasBlock written.now }
     ensures ok { IfOk result (λ entry. (earlier : Seq written_function) → MarksEntry is_repeated earlier written.now → IsEntryOf earlier written.now entry) }
     ensures refused { IfErr result (λ e. IfRefused e (λ fault. (earlier : Seq written_function) → MarksEntry is_repeated earlier written.now → IsFaultOfEntry earlier written.now fault)) }

@@ -14,18 +14,25 @@ pub(crate) fn repeated_names(alloc: Global, entries: &[RawEntry]) -> Result<Vec<
     let mut names = IndexSet::new(alloc);
     let mut repeated = Vec::new(alloc);
     for entry in entries {
-        repeated.push(is_repeated(&mut names, entry)?)?;
+        repeated.push(is_repeated(alloc, &mut names, entry)?)?;
     }
     Ok(repeated)
 }
 
 /// Whether the entry is a function whose name is among these; from now on it is.
-fn is_repeated<'a>(names: &mut IndexSet<&'a [u8]>, entry: &'a RawEntry) -> Result<bool, AllocError>
+pub(crate) fn is_repeated(
+    alloc: Global,
+    names: &mut IndexSet<Vec<u8>>,
+    entry: &RawEntry,
+) -> Result<bool, AllocError>
     ensures mark { IfOk result (λ is_repeated. IsTrue is_repeated ↔ ((name : Seq ℕ) × IsNameOf entry.now name × HasText names.old name)) }
     ensures names { OnOk result ((name : Seq ℕ) → HasText names.new name ↔ (HasText names.old name ⊎ IsNameOf entry.now name)) }
 {
     match entry {
         RawEntry::Kept(_) => Ok(false),
-        RawEntry::Function(raw) => Ok(!names.insert(raw.name.as_slice())?),
+        RawEntry::Function(raw) => {
+            let name = Vec::from_slice(alloc, raw.name.as_slice())?;
+            Ok(!names.insert(name)?)
+        }
     }
 }

@@ -7,6 +7,7 @@ mod laws;
 mod naming;
 mod number;
 mod place;
+mod reader;
 mod token;
 mod tokens;
 
@@ -16,6 +17,7 @@ pub use laws::every_text_has_one_list_of_tokens;
 pub use naming::identifier;
 pub use number::constant;
 pub use place::{Extent, Place};
+pub use reader::TokenReader;
 pub use token::{Placed, Token};
 pub use tokens::tokens_of;
 

@@ -10,7 +10,7 @@ use scan::{BadByte, Cursor};
 use std::alloc::{AllocError, Global};
 
 /// The token behind the cursor, which goes behind it; at a byte that may not stand the cursor stays.
-fn next<'a>(cursor: &mut Cursor<'a>, text: &'a [u8], place: Place) -> Placed<'a>
+pub(crate) fn next<'a>(cursor: &mut Cursor<'a>, text: &'a [u8], place: Place) -> Placed<'a>
     requires text { cursor.old.text ≡ text.now }
     requires within { cursor.old.at ≤ length text.now }
     ensures text { cursor.new.text ≡ text.now }

@@ -1,5 +1,5 @@
 -- Which tokens of a module a first byte leaves.
-use Rattle.std.proofs.Common.{◌≡◌, ℕ, zero, suc, ◌+◌, ◌<◌, ◌≤◌, Bool, true, false, eqb, not, ◌&&◌, ◌||◌, List, [], ◌∷◌, length, take, drop, get_or, refl, sym, ap, subst, ◌∙◌, ⊎_elim, ◌⊎◌, inr, arith}
+use Rattle.std.proofs.Common.{◌≡◌, ℕ, zero, suc, ◌+◌, ◌<◌, ◌≤◌, Bool, true, false, eqb, not, ◌&&◌, ◌||◌, List, [], ◌∷◌, length, take, drop, get_or, refl, sym, ap, subst, ◌∙◌, ⊎_elim, ◌⊎◌, inl, inr, arith}
 use Rattle.std.specs.List.{list_all, prefix_len, Contains}
 use Rattle.std.proofs.lemmas.List.{length-drop, drop_all, at_drop_more}
 use Rattle.std.proofs.lemmas.List.Folds.{list_all_more}
@@ -14,9 +14,9 @@ use Rattle.scan.specs.IrTokens.{is_plain_name, is_name, is_word, is_number, is_r
 use Rattle.scan.proofs.Fronts.{which, and_left, and_right, and_both, or_left, or_right, or_true, front_begins, marked_none, begun_none}
 use Rattle.scan.proofs.LawLemmas.{is_good, digit_good, among_begins}
 use Rattle.scan.proofs.PlaceLemmas.{begins_some}
-use Rattle.scan.proofs.NameLemmas.{begins_other, name_cases, quoted_none, quoted_is, no_quotes}
-use Rattle.scan.proofs.ModuleFronts.{behind_fails, digit_name, list_all-along, literal_names, number_run}
-use Rattle.scan.proofs.ModuleTokens.{IsFound, found_as, longest_token, short_holds_none}
+use Rattle.scan.proofs.NameLemmas.{begins_other, name_longest, name_cases, quoted_none, quoted_is, no_quotes}
+use Rattle.scan.proofs.ModuleFronts.{behind_fails, label_none, digit_name, list_all-along, literal_names, number_run}
+use Rattle.scan.proofs.ModuleTokens.{IsFound, AtMost, found_as, longest_front, longest_token, short_holds_none}
 use Rattle.scan.proofs.ModuleKinds.{other_than, name_byte_good}
 
 -- ---- names, and the words and numbers among them
@@ -66,6 +66,22 @@ name_bytes bytes first e = ⊎_elim
 abbrev pub NoLonger : Kind → List ℕ → ℕ → Type 0
 NoLonger kind text most = (m : ℕ) → m ≤ length text → spells kind (take m text) (drop m text) ≡ true → m ≤ most
 
+-- no mark begins so
+no_mark : (p : ℕ → Bool) (text : List ℕ) → list_all (begins_with (λ b. not (p b))) marks ≡ true → begins_with p text ≡ true → IsLongest (spells Mark) text 0
+no_mark p text fails first = record {
+  within = omega arith;
+  found = λ none. absurd (omega arith);
+  longest = none;
+}
+  where
+    differ : (text : List ℕ) → begins_with p text ≡ true → begins_with (λ b. not (p b)) text ≡ true → ⊥
+    differ [] e f = false≢true e
+    differ (b ∷ text) e f = false≢true (rw e at f)
+
+    none : (m : ℕ) → m ≤ length text → is_among marks (take m text) ≡ true → m ≤ 0
+    none zero l e = omega arith
+    none (suc m) l e = absurd (differ text first (sym (front_begins (λ b. not (p b)) text (suc m) (omega arith)) ∙ among_begins (λ b. not (p b)) marks (take (suc m) text) fails e))
+
 plain_front : (text : List ℕ) (t : Kind × ℕ) → begins_with is_name_byte text ≡ true → IsFound text t → NoLonger Label text t.1 → NoLonger Word text t.1 → NoLonger Number text t.1 → IsLongestFront text t.0 t.1
 unfolding is_register is_function is_group is_metadata is_name_byte begins_name is_letter is_digit
 plain_front text t first h label word number = record { within = h.within; found = h.found; longest = longest }
@@ -73,16 +89,8 @@ plain_front text t first h label word number = record { within = h.within; found
     other : (c : ℕ) → is_name_byte c ≡ false → begins_with (λ b. eqb b c) text ≡ false
     other c fails = begins_other is_name_byte c text fails first
 
-    differ : (text : List ℕ) → begins_with is_name_byte text ≡ true → begins_with (λ b. not (is_name_byte b)) text ≡ true → ⊥
-    differ [] e f = false≢true e
-    differ (b ∷ text) e f = false≢true (rw e at f)
-
     none : (passes : List ℕ → List ℕ → Bool) → IsLongest passes text 0 → (m : ℕ) → m ≤ length text → passes (take m text) (drop m text) ≡ true → m ≤ t.1
     none passes k m l e = omega (arith, k.longest m l e)
-
-    no_mark : (m : ℕ) → m ≤ length text → is_among marks (take m text) ≡ true → m ≤ t.1
-    no_mark zero l e = omega arith
-    no_mark (suc m) l e = absurd (differ text first (sym (front_begins (λ b. not (is_name_byte b)) text (suc m) (omega arith)) ∙ among_begins (λ b. not (is_name_byte b)) marks (take (suc m) text) refl e))
 
     longest : (kind : Kind) (m : ℕ) → m ≤ length text → spells kind (take m text) (drop m text) ≡ true → m ≤ t.1
     longest End m l e = absurd (false≢true e)
@@ -95,7 +103,7 @@ plain_front text t first h label word number = record { within = h.within; found
     longest Group m l e = none (spells Group) (marked_none 35 is_digit text (other 35 refl)) m l e
     longest Metadata m l e = none (spells Metadata) (behind_fails 33 (list_all is_name_byte) text (other 33 refl)) m l e
     longest Quoted m l e = none (spells Quoted) (quoted_none text (other 34 refl)) m l e
-    longest Mark m l e = no_mark m l e
+    longest Mark m l e = none (spells Mark) (no_mark is_name_byte text refl first) m l e
 
 pub label_front : (text : List ℕ) (n : ℕ) → begins_with is_name_byte text ≡ true → IsLongest (λ bytes _. is_name bytes) text n → IsLongest (spells Label) text (n + 1) → IsLongestFront text Label (n + 1)
 label_front text n first h k = plain_front text (Label, n + 1) first (found_as Label text (n + 1) k) k.longest
@@ -190,3 +198,42 @@ no_number text fails = record {
     no_run : (text : List ℕ) → begins_with is_name_byte text ≡ false → prefix_len is_name_byte text ≡ 0
     no_run [] fails = refl
     no_run (b ∷ text) fails = rw fails refl
+
+-- a text that begins with the byte
+no_other : (p : ℕ → Bool) (c : ℕ) (text : List ℕ) → p c ≡ false → begins_with (λ b. eqb b c) text ≡ true → begins_with p text ≡ false
+no_other p c [] fails e = refl
+no_other p c (b ∷ text) fails e = ap p (eqb-true b c e) ∙ fails
+
+pub no_label : (text : List ℕ) → begins_with is_name_byte text ≡ false → begins_with (λ b. eqb b 34) text ≡ false → IsLongest (spells Label) text 0
+unfolding is_plain_name is_name_byte
+no_label text fails no_quote = label_none text 0 (inl refl) (name_longest text 0 0 0
+    (begun_none begins_name is_name_byte text (weaker begins_name text (λ b e. or_left (begins_name b) (is_digit b) e) fails))
+    (sym (no_run text (weaker is_digit text (λ b e. or_right (begins_name b) (is_digit b) e) fails)))
+    (quoted_none text no_quote))
+  where
+    weaker : (p : ℕ → Bool) (text : List ℕ) → ((b : ℕ) → p b ≡ true → is_name_byte b ≡ true) → begins_with is_name_byte text ≡ false → begins_with p text ≡ false
+    weaker p [] along fails = refl
+    weaker p (b ∷ text) along fails = ⊎_elim
+        (λ (h : p b ≡ true). absurd (false≢true (sym fails ∙ along b h)))
+        (λ (h : p b ≡ false). h)
+        (which (p b))
+
+    no_run : (text : List ℕ) → begins_with is_digit text ≡ false → prefix_len is_digit text ≡ 0
+    no_run [] fails = refl
+    no_run (b ∷ text) fails = rw fails refl
+
+pub quote_front : (text : List ℕ) (t : Kind × ℕ) → begins_with (λ b. eqb b 34) text ≡ true → IsFound text t → AtMost (spells Label) text t.1 → AtMost (spells Quoted) text t.1 → IsLongestFront text t.0 t.1
+unfolding is_register is_function is_group is_metadata is_name_byte begins_name is_letter is_digit
+quote_front text t quote h label quoted =
+    let no_name : begins_with is_name_byte text ≡ false = no_other is_name_byte 34 text refl quote in
+    longest_front text t h (record {
+      label = label;
+      word = record { length_of = 0; longest = no_word text no_name; fits = omega arith };
+      number = record { length_of = 0; longest = no_number text no_name; fits = omega arith };
+      register = record { length_of = 0; longest = behind_fails 37 is_name text (no_other (λ b. eqb b 37) 34 text refl quote); fits = omega arith };
+      function = record { length_of = 0; longest = behind_fails 64 is_name text (no_other (λ b. eqb b 64) 34 text refl quote); fits = omega arith };
+      group = record { length_of = 0; longest = marked_none 35 is_digit text (no_other (λ b. eqb b 35) 34 text refl quote); fits = omega arith };
+      metadata = record { length_of = 0; longest = behind_fails 33 (list_all is_name_byte) text (no_other (λ b. eqb b 33) 34 text refl quote); fits = omega arith };
+      quoted = quoted;
+      mark = record { length_of = 0; longest = no_mark (λ b. eqb b 34) text refl quote; fits = omega arith };
+    })

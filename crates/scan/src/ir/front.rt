@@ -1,6 +1,6 @@
 //! What a module begins with, where it begins with no gap.
 
-ghost use Rattle.std.specs.Prelude.{◌≡◌, ◌⊎◌, ◌≤◌, true, false, take, IfSome, IfNone, OnSome};
+ghost use Rattle.std.specs.Prelude.{◌≡◌, ◌⊎◌, ◌≤◌, ◌==◌, true, false, take, IfSome, IfNone, OnSome};
 ghost use Rattle.std.specs.List.{list_all};
 ghost use Rattle.scan.specs.Bytes as bytes;
 ghost use Rattle.scan.specs.Bytes.{begins_with};
@@ -40,18 +40,38 @@ fn plain_token(text: &[u8]) -> (Kind, usize)
     }
 }
 
-/// The longest token that a text begins with whose first byte is none of names, of 0 bytes where it begins with none.
+/// The longest label or quoted text that a text begins with whose first byte is a quote, of 0 bytes where it begins with none.
+fn quoted_token(text: &[u8]) -> (Kind, usize)
+    requires { begins_with (λ b. b == 34) text.now ≡ true }
+    ensures { IsLongestFront text.now result.0 result.1 }
+{
+    longer((Kind::Label, label(text)), (Kind::Quoted, quoted(text)))
+}
+
+/// The longest token that a text begins with whose first byte is neither one of names nor a quote, of 0 bytes where it begins
+/// with none.
 fn marked_token(text: &[u8]) -> (Kind, usize)
-    requires { begins_with bytes.is_name_byte text.now ≡ false }
+    requires no_name { begins_with bytes.is_name_byte text.now ≡ false }
+    requires no_quote { begins_with (λ b. b == 34) text.now ≡ false }
     ensures { IsLongestFront text.now result.0 result.1 }
 {
     let found = (Kind::Register, register(text));
     let found = longer(found, (Kind::Function, function(text)));
     let found = longer(found, (Kind::Group, group(text)));
     let found = longer(found, (Kind::Metadata, metadata(text)));
-    let found = longer(found, (Kind::Label, label(text)));
-    let found = longer(found, (Kind::Quoted, quoted(text)));
     longer(found, (Kind::Mark, mark(text)))
+}
+
+/// The longest token that a text begins with whose first byte is none of names, of 0 bytes where it begins with none.
+fn other_token(text: &[u8]) -> (Kind, usize)
+    requires { begins_with bytes.is_name_byte text.now ≡ false }
+    ensures { IsLongestFront text.now result.0 result.1 }
+{
+    if begins_byte(text, b'"') {
+        quoted_token(text)
+    } else {
+        marked_token(text)
+    }
 }
 
 /// The longest token that the text begins with, of 0 bytes where it begins with none; none where the first byte may not stand,
@@ -68,7 +88,7 @@ fn longest_token(text: &[u8]) -> Option<(Kind, usize)>
     if begins_bad(text) {
         return None;
     }
-    let found = marked_token(text);
+    let found = other_token(text);
     if holds_zero(&text[..found.1]) {
         None
     } else {

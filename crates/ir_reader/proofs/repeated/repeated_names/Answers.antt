@@ -10,7 +10,7 @@ use Rattle.ir_reader.proofs.repeated.repeated_names.Goals as goal
 pub loop-entry-init : goal.loop-entry-init
 loop-entry-init c = record {
   marks = subst (MarksFirst c.args.entries.now 0) (sym c.new-repeated.ensures.items) (marks_none c.args.entries.now);
-  known = λ name. (λ h. absurd (false≢true (sym (ap (list_any (λ t. bytes_eq name t.now)) c.new-names.ensures.empty) ∙ h)), λ h. absurd (name_none name h));
+  known = λ name. (λ h. absurd (false≢true (sym (ap (list_any (λ t. bytes_eq name t.items)) c.new-names.ensures.empty) ∙ h)), λ h. absurd (name_none name h));
 }
 
 pub loop-entry-preserved : goal.loop-entry-preserved

@@ -9,4 +9,4 @@ pub returns-then-begins_name_byte-clause-no_zero : goal.returns-then-begins_name
 returns-then-begins_name_byte-clause-no_zero c = quotable_holds_none (take c.plain_token.result.1 c.args.text.now) c.plain_token.ensures.plain
 
 pub returns-then-holds_zero-clause-bad : goal.returns-then-holds_zero-clause-bad
-returns-then-holds_zero-clause-bad c = zero_badly c.args.text.now c.marked_token-found.result.0 c.marked_token-found.result.1 c.marked_token-found.ensures (c.holds_zero.ensures.0 c.if-holds_zero.true)
+returns-then-holds_zero-clause-bad c = zero_badly c.args.text.now c.other_token-found.result.0 c.other_token-found.result.1 c.other_token-found.ensures (c.holds_zero.ensures.0 c.if-holds_zero.true)

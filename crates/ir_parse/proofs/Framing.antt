@@ -1,0 +1,166 @@
+-- What is spelled by tokens is spelled by them where more tokens stand behind.
+use Rattle.std.proofs.Common.{ℕ, List, [], ◌∷◌, ◌++◌, Option, Some, None, ap}
+use Rattle.ops.specs.declared.opcode.Opcode.{Opcode}
+use Rattle.ops.specs.declared.opcode.Flags.{Flags}
+use Rattle.ir_tokens.specs.Tokens.{Token, Placed}
+use Rattle.ir_raw.specs.declared.raw.RawEntry.{RawEntry}
+use Rattle.ir_raw.specs.declared.raw.RawEntry.TheVariants as entries
+use Rattle.ir_raw.specs.declared.raw.RawFunction.{RawFunction}
+use Rattle.ir_raw.specs.declared.raw.RawParameter.{RawParameter}
+use Rattle.ir_raw.specs.declared.raw.RawIdentifier.{RawIdentifier}
+use Rattle.ir_raw.specs.declared.raw.RawBlock.{RawBlock}
+use Rattle.ir_raw.specs.declared.raw.RawInst.{RawInst}
+use Rattle.ir_raw.specs.declared.raw.RawOp.{RawOp}
+use Rattle.ir_raw.specs.declared.raw.RawOp.TheVariants.{Binary, Compare, Select, Convert, Freeze, Phi}
+use Rattle.ir_raw.specs.declared.raw.TypedOperand.{TypedOperand}
+use Rattle.ir_raw.specs.declared.raw.RawOperand.{RawOperand}
+use Rattle.ir_raw.specs.declared.raw.RawIncoming.{RawIncoming}
+use Rattle.ir_raw.specs.declared.raw.RawTerminator.{RawTerminator}
+use Rattle.ir_raw.specs.declared.raw.RawTerminator.TheVariants.{Return, Unreachable, Jump, Branch, Switch}
+use Rattle.ir_raw.specs.declared.raw.RawCase.{RawCase}
+use Rattle.ir_statements.specs.Grammar.{Attachment, SpellsRegister, SpellsTarget, SpellsType, SpellsOperand, SpellsTyped, Tail, SpellsFlags, SpellsIncoming, SpellsOp, SpellsInst, SpellsCase, SpellsCases, SpellsTerminator}
+use Rattle.ir_statements.specs.Parts.{Part, IsOn, Is, Nothing, ◌⨾◌, Maybe, Each, Comma, Separated, Repeated}
+use Rattle.ir_parse.specs.Grammar.{SpellsItem, of_word, of_word_and_group, of_number, of_group, of_quoted, of_key_and_value, SpellsLabel, SpellsBlock, SpellsLabelledBlock, SpellsBlocks, SpellsParameter, SpellsParameterList, SpellsParameters, SpellsName, SpellsBody, SpellsFunction, SpellsEntry}
+
+-- a part stays one where more tokens stand behind
+abbrev pub Frames : Part → Type 0
+Frames P = (more tokens rest : List Placed) → P tokens rest → P (tokens ++ more) (rest ++ more)
+
+-- ---- parts
+
+on : (line : ℕ) (t : Token) → Frames (IsOn line t)
+on line t more tokens rest same = ap (λ l. l ++ more) same
+
+is : (t : Token) → Frames (Is t)
+is t more tokens rest (line, same) = (line, on line t more tokens rest same)
+
+none : Frames Nothing
+none more tokens rest same = ap (λ l. l ++ more) same
+
+both : (P Q : Part) → Frames P → Frames Q → Frames (P ⨾ Q)
+both P Q p q more tokens rest (between, one, two) = (between ++ more, p more tokens between one, q more between rest two)
+
+maybe : {A : Type 0} (P : A → Part) → ((x : A) → Frames (P x)) → (o : Option A) → Frames (Maybe P o)
+maybe P p None = none
+maybe P p (Some x) = p x
+
+each : {A : Type 0} (P : A → Part) → ((x : A) → Frames (P x)) → (xs : List A) → Frames (Each P xs)
+each P p [] = none
+each P p (x ∷ xs) = both (P x) (Each P xs) (p x) (each P p xs)
+
+separated : {A : Type 0} (P : A → Part) → ((x : A) → Frames (P x)) → (xs : List A) → Frames (Separated P xs)
+separated P p [] more tokens rest h = absurd h
+separated P p (x ∷ xs) more tokens rest h = both (P x) (Each (λ y. Comma ⨾ P y) xs) (p x) (each (λ y. Comma ⨾ P y) (λ y. both Comma (P y) (is _) (p y)) xs) more tokens rest h
+
+repeated : (P : Part) → Frames P → Frames (Repeated P)
+repeated P p more tokens rest (times, h) = (times, each (λ once. P) (λ once. p) times more tokens rest h)
+
+-- ---- names, types and values
+
+register : (r : RawIdentifier) → Frames (SpellsRegister r)
+register r more tokens rest (written, same, h) = (written, same, on r.line _ more tokens rest h)
+
+target : (t : RawIdentifier) → Frames (SpellsTarget t)
+target t = both _ _ (is _) (register t)
+
+type : (width : ℕ) → Frames (SpellsType width)
+type width more tokens rest (word, w, h) = (word, w, is _ more tokens rest h)
+
+operand : (width : ℕ) (a : RawOperand) → Frames (SpellsOperand width a)
+operand width a more tokens rest (token, value, h) = (token, value, on a.line token more tokens rest h)
+
+typed_value : (width : ℕ) (a : RawOperand) → Frames (SpellsType width ⨾ SpellsOperand width a)
+typed_value width a = both _ _ (type width) (operand width a)
+
+typed : (t : TypedOperand) → Frames (SpellsTyped t)
+typed t = typed_value t.width t.operand
+
+attachment : Frames Attachment
+attachment more tokens rest (name, number, n, m, two) = (name, number, n, m, both _ _ (is _) (is _) more tokens rest two)
+
+tail : Frames Tail
+tail = repeated (Comma ⨾ Attachment) (both Comma Attachment (is _) attachment)
+
+-- ---- instructions
+
+flags : (op : Opcode) (fs : Flags) → Frames (SpellsFlags op fs)
+flags op fs more tokens rest (written, adds, h) = (written, adds, each _ (λ flag. is _) written more tokens rest h)
+
+two_values : (width : ℕ) (a b : RawOperand) → Frames (SpellsType width ⨾ SpellsOperand width a ⨾ Comma ⨾ SpellsOperand width b)
+two_values width a b = both _ _ (type width) (both _ _ (operand width a) (both _ _ (is _) (operand width b)))
+
+incoming : (width : ℕ) (i : RawIncoming) → Frames (SpellsIncoming width i)
+incoming width i = both _ _ (is _) (both _ _ (operand width i.value) (both _ _ (is _) (both _ _ (register i.block) (is _))))
+
+op : (o : RawOp) → Frames (SpellsOp o)
+op (Binary opcode fs width a b) = both _ _ (is _) (both _ _ (flags opcode fs) (two_values width a b))
+op (Compare pred width a b) = both _ _ (is _) (both _ _ (is _) (two_values width a b))
+op (Select c a b) = both _ _ (is _) (both _ _ (typed c) (both _ _ (is _) (both _ _ (typed a) (both _ _ (is _) (typed b)))))
+op (Convert cast from a to) = both _ _ (is _) (both _ _ (type from) (both _ _ (operand from a) (both _ _ (is _) (type to))))
+op (Freeze width a) = both _ _ (is _) (typed_value width a)
+op (Phi width incomings) = both _ _ (is _) (both _ _ (type width) (separated (SpellsIncoming width) (incoming width) incomings))
+
+inst : (i : RawInst) → Frames (SpellsInst i)
+inst i = both _ _ (register i.result) (both _ _ (is _) (both _ _ (op i.op) tail))
+
+-- ---- terminators
+
+a_case : (c : RawCase) → Frames (SpellsCase c)
+a_case c more tokens rest (value, h) = (value, both _ _ (type c.width) (both _ _ (operand c.width c.value) (both _ _ (is _) (target c.target))) more tokens rest h)
+
+cases : (cs : List RawCase) → Frames (SpellsCases cs)
+cases cs = both _ _ (is _) (both _ _ (each SpellsCase a_case cs) (is _))
+
+terminator : (line : ℕ) (t : RawTerminator) → Frames (SpellsTerminator line t)
+terminator line (Return width a) = both _ _ (on line _) (typed_value width a)
+terminator line Unreachable = on line _
+terminator line (Jump to) = both _ _ (on line _) (target to)
+terminator line (Branch width a to other) = both _ _ (on line _) (both _ _ (type width) (both _ _ (operand width a) (both _ _ (is _) (both _ _ (target to) (both _ _ (is _) (target other))))))
+terminator line (Switch width a other cs) = both _ _ (on line _) (both _ _ (type width) (both _ _ (operand width a) (both _ _ (is _) (both _ _ (target other) (cases cs)))))
+
+-- ---- functions
+
+item : (x : List ℕ) → Frames (SpellsItem x)
+item x more tokens rest (of_word word h) = of_word word (is _ more tokens rest h)
+item x more tokens rest (of_word_and_group name group word same h) = of_word_and_group name group word same (both _ _ (is _) (is _) more tokens rest h)
+item x more tokens rest (of_number h) = of_number (is _ more tokens rest h)
+item x more tokens rest (of_group h) = of_group (is _ more tokens rest h)
+item x more tokens rest (of_quoted h) = of_quoted (is _ more tokens rest h)
+item x more tokens rest (of_key_and_value key value same h) = of_key_and_value key value same (both _ _ (is _) (both _ _ (is _) (is _)) more tokens rest h)
+
+label : (l : RawIdentifier) → Frames (SpellsLabel l)
+label l more tokens rest (written, same, h) = (written, same, on l.line _ more tokens rest h)
+
+block : (b : RawBlock) → Frames (SpellsBlock b)
+block b = both _ _ (maybe SpellsLabel label b.label) (both _ _ (each SpellsInst inst b.insts) (both _ _ (terminator b.end_line b.end) tail))
+
+labelled_block : (b : RawBlock) → Frames (SpellsLabelledBlock b)
+labelled_block b more tokens rest (labelled, h) = (labelled, block b more tokens rest h)
+
+blocks : (bs : List RawBlock) → Frames (SpellsBlocks bs)
+blocks [] more tokens rest h = absurd h
+blocks (b ∷ bs) more tokens rest h = both (SpellsBlock b) (Each SpellsLabelledBlock bs) (block b) (each SpellsLabelledBlock labelled_block bs) more tokens rest h
+
+parameter : (p : RawParameter) → Frames (SpellsParameter p)
+parameter p = both _ _ (type p.width) (both _ _ (each SpellsItem item p.items) (maybe SpellsRegister register p.name))
+
+parameter_list : (ps : List RawParameter) → Frames (SpellsParameterList ps)
+parameter_list [] = none
+parameter_list (p ∷ ps) = separated SpellsParameter parameter (p ∷ ps)
+
+parameters : (ps : List RawParameter) → Frames (SpellsParameters ps)
+parameters ps = both _ _ (is _) (both _ _ (parameter_list ps) (is _))
+
+name : (line : ℕ) (n : List ℕ) → Frames (SpellsName line n)
+name line n more tokens rest (written, same, h) = (written, same, on line _ more tokens rest h)
+
+body : (bs : List RawBlock) → Frames (SpellsBody bs)
+body bs = both _ _ (repeated Attachment attachment) (both _ _ (is _) (both _ _ (blocks bs) (is _)))
+
+function : (f : RawFunction) → Frames (SpellsFunction f)
+function f = both _ _ (is _) (both _ _ (each SpellsItem item f.before) (both _ _ (type f.width) (both _ _ (name f.line f.name)
+    (both _ _ (parameters f.parameters) (both _ _ (each SpellsItem item f.after) (body f.blocks))))))
+
+pub entry : (e : RawEntry) → Frames (SpellsEntry e)
+entry (entries.Kept text) = is _
+entry (entries.Function f) = function f

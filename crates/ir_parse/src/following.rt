@@ -1,0 +1,78 @@
+//! A text that is read entry by entry.
+
+ghost use Rattle.std.specs.Prelude.{◌≡◌, ℕ, List as Seq, IfOk};
+ghost use Rattle.ir_raw.specs.declared.raw.RawEntry.{RawEntry as written_entry};
+ghost use Rattle.ir_tokens.specs.Reading.{StandsIn};
+ghost use Rattle.ir_tokens.specs.Seen.{seen};
+ghost use Rattle.ir_parse.specs.Advancing.{HasRead, Follows, IsWhole, IsEnd};
+ghost use Rattle.ir_parse.specs.Parsing.{is_end};
+
+use crate::entry::read_entry;
+use ir_raw::RawEntry;
+use ir_tokens::{Placed, Token, TokenReader};
+use std::alloc::{AllocError, Global};
+
+/// What is next in a text.
+#[derive(Debug, Drop)]
+pub enum NextEntry {
+    Entry(RawEntry),
+    /// The end of the text.
+    End,
+    /// Nothing that is read, or memory was refused: [`parse`](crate::parse) says which.
+    Refused,
+}
+
+/// Whether the end of the text is next.
+fn ends(tokens: &[Placed<'_>]) -> bool
+    ensures { result ≡ is_end (seen tokens.now) }
+{
+    match tokens {
+        [Placed { token, .. }, ..] => matches!(*token, Token::End),
+        [] => false,
+    }
+}
+
+/// The entry that these tokens are, all of them.
+fn whole_entry(alloc: Global, tokens: &[Placed<'_>]) -> NextEntry
+    ensures { IsWhole (seen tokens.now) result }
+{
+    let mut rest = tokens;
+    match read_entry(alloc, &mut rest) {
+        Ok(entry) => {
+            if rest.is_empty() {
+                NextEntry::Entry(entry)
+            } else {
+                NextEntry::Refused
+            }
+        }
+        Err(_) => NextEntry::Refused,
+    }
+}
+
+/// What is next where the last token of a text is among these.
+fn end(tokens: &[Placed<'_>]) -> NextEntry
+    ensures { IsEnd (seen tokens.now) result }
+{
+    if ends(tokens) {
+        NextEntry::End
+    } else {
+        NextEntry::Refused
+    }
+}
+
+/// The next entry of a text, and goes behind it. The tokens are those of the last call, whose memory is used again.
+pub fn next_entry<'a>(
+    alloc: Global,
+    reader: &mut TokenReader<'a>,
+    tokens: &mut Vec<Placed<'a>>,
+) -> Result<NextEntry, AllocError>
+    requires { StandsIn reader.old.text.now reader.old }
+    ensures { IfOk result (λ next. (text : Seq ℕ) (front : Seq written_entry) →
+        HasRead text front reader.old → Follows text front reader.old next reader.new) }
+{
+    if reader.take_entry(tokens)? {
+        Ok(end(tokens.as_slice()))
+    } else {
+        Ok(whole_entry(alloc, tokens.as_slice()))
+    }
+}
