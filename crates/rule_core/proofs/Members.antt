@@ -1,12 +1,17 @@
 -- What stands in a rule: its statements, their operands, and the classes of both.
-use Rattle.std.proofs.Common.{◌≡◌, ℕ, zero, suc, ◌+◌, ◌<◌, List, [], ◌∷◌, ◌++◌, length, take, length-append, add_assoc, zero-add, suc-add, Some, refl, sym, ap, ◌∙◌, arith, get_or}
+use Rattle.std.proofs.Common.{◌≡◌, ℕ, zero, suc, ◌+◌, ◌<◌, List, [], ◌∷◌, ◌++◌, length, take, length-append, append_assoc, add_assoc, zero-add, suc-add, Some, refl, sym, ap, ◌∙◌, arith, get_or}
 use Rattle.std.specs.Prelude.{slice_get, Contains, map, flat_map}
 use Rattle.std.proofs.lemmas.Option.{slice_get_within, get_or_from_slice_get}
+use Rattle.std.proofs.lemmas.Grind.{flat_map-append}
 use Rattle.std.proofs.lemmas.List.Elements.{Contains-append_left, Contains-append_right}
 use Rattle.rule_core.specs.declared.rule.Rule.{Rule}
 use Rattle.rule_core.specs.declared.rule.Statement.{Statement}
 use Rattle.rule_core.specs.declared.rule.Operand.{Operand}
-use Rattle.rule_core.specs.Positions.{operands_of, operands_in, classes_of_statement, classes_of, IsStatementOf}
+use Rattle.rule_core.specs.declared.rule.Term.{Term}
+use Rattle.rule_core.specs.declared.rule.Node.{Node}
+use Rattle.rule_core.specs.declared.rule.Node.TheVariants as nodes
+use Rattle.rule_core.specs.declared.rule.Register.{Register}
+use Rattle.rule_core.specs.Positions.{operands_of, operands_among, operands_in, IsOperandAmong, classes_of_statement, classes_of_term, classes_of, terms_in, IsStatementOf, IsTermOf}
 
 -- what stands at a place is an element
 pub Contains-from_get : {X : Type 0} (xs : List X) (k : ℕ) (x : X) → slice_get xs k ≡ Some x → Contains xs x
@@ -35,14 +40,47 @@ target_statement rule k s at = Contains-append_right rule.source rule.target s (
 pub operand_stands : (rule : Rule) (s : Statement) (o : Operand) → IsStatementOf rule s → Contains (operands_of s.op) o → Contains (operands_in rule) o
 operand_stands rule s o stands among = Contains-flat_map (λ (t : Statement). operands_of t.op) (rule.source ++ rule.target) s o stands among
 
+statement_class_stands : (rule : Rule) (s : Statement) (c : ℕ) → IsStatementOf rule s → Contains (classes_of_statement s) c → Contains (classes_of rule) c
+statement_class_stands rule s c stands among =
+    Contains-append_left (flat_map classes_of_statement (rule.source ++ rule.target)) (flat_map classes_of_term (terms_in rule)) c
+    (Contains-flat_map classes_of_statement (rule.source ++ rule.target) s c stands among)
+
 pub class_stands : (rule : Rule) (s : Statement) → IsStatementOf rule s → Contains (classes_of rule) s.class
 class_stands rule s stands =
-    Contains-flat_map classes_of_statement (rule.source ++ rule.target) s s.class stands (Contains-from_get (classes_of_statement s) 0 s.class refl)
+    statement_class_stands rule s s.class stands (Contains-from_get (classes_of_statement s) 0 s.class refl)
 
 pub operand_class_stands : (rule : Rule) (s : Statement) (o : Operand) → IsStatementOf rule s → Contains (operands_of s.op) o → Contains (classes_of rule) o.class
 operand_class_stands rule s o stands among =
     let at : Contains (classes_of_statement s) o.class = Contains-append_right (s.class ∷ []) (map (λ (p : Operand). p.class) (operands_of s.op)) o.class (Contains-map (λ (p : Operand). p.class) (operands_of s.op) o among) in
-    Contains-flat_map classes_of_statement (rule.source ++ rule.target) s o.class stands at
+    statement_class_stands rule s o.class stands at
+
+-- and so are the classes of the nodes of terms
+term_class_among : (rule : Rule) (t : Term) (c : ℕ) → IsTermOf rule t → Contains (classes_of_term t) c → Contains (classes_of rule) c
+term_class_among rule t c stands among =
+    Contains-append_right (flat_map classes_of_statement (rule.source ++ rule.target)) (flat_map classes_of_term (terms_in rule)) c
+    (Contains-flat_map classes_of_term (terms_in rule) t c stands among)
+
+own_class : (t : Term) (node : Node) → t.node ≡ node → Contains (classes_of_term t) t.class
+own_class t (nodes.Width r c) is = rw is (Contains-from_get (t.class ∷ c ∷ []) 0 t.class refl)
+own_class t node is = rw is (Contains-from_get (t.class ∷ []) 0 t.class refl)
+
+pub term_class_stands : (rule : Rule) (t : Term) → IsTermOf rule t → Contains (classes_of rule) t.class
+term_class_stands rule t stands = term_class_among rule t t.class stands (own_class t t.node refl)
+
+pub measured_class_stands : (rule : Rule) (t : Term) (r : Register) (c : ℕ) → IsTermOf rule t → t.node ≡ nodes.Width r c → Contains (classes_of rule) c
+measured_class_stands rule t r c stands is = term_class_among rule t c stands (rw is (Contains-from_get (t.class ∷ c ∷ []) 1 c refl))
+
+pub constant_term : (rule : Rule) (n : ℕ) (t : Term) → slice_get rule.terms n ≡ Some t → IsTermOf rule t
+constant_term rule n t at = Contains-append_left rule.terms rule.witness_terms t (Contains-from_get rule.terms n t at)
+
+pub witness_term : (rule : Rule) (n : ℕ) (t : Term) → slice_get rule.witness_terms n ≡ Some t → IsTermOf rule t
+witness_term rule n t at = Contains-append_right rule.terms rule.witness_terms t (Contains-from_get rule.witness_terms n t at)
+
+-- the classes half by half, and then those of the constant terms and those of `Wit:`
+pub classes_apart : (rule : Rule) → classes_of rule ≡ flat_map classes_of_statement rule.source ++ (flat_map classes_of_statement rule.target ++ flat_map classes_of_term (terms_in rule))
+classes_apart rule =
+    rw (flat_map-append classes_of_statement rule.source rule.target)
+    (append_assoc (flat_map classes_of_statement rule.source) (flat_map classes_of_statement rule.target) (flat_map classes_of_term (terms_in rule)))
 
 -- what stands at a place of the first list stands there in both, and what stands in the second one stands behind the first
 pub get-append_left : {X : Type 0} (xs ys : List X) (k : ℕ) (x : X) → slice_get xs k ≡ Some x → slice_get (xs ++ ys) k ≡ Some x
@@ -61,3 +99,18 @@ get-flat_map f (a ∷ xs) zero x k y within is at = rw zero-add (get-append_left
 get-flat_map f (a ∷ xs) (suc i) x k y within is at =
     rw (length-append (f a) (flat_map f (take i xs)), add_assoc (length (f a)) (length (flat_map f (take i xs))) k)
     (get-append_right (f a) (flat_map f xs) (length (flat_map f (take i xs)) + k) ∙ get-flat_map f xs i x k y (omega arith) is at)
+
+-- and the same where a place is counted from the end of the first list
+pub get_behind : {X : Type 0} (xs ys : List X) (k rest : ℕ) (x : X) → k ≡ length xs + rest → slice_get ys rest ≡ Some x → slice_get (xs ++ ys) k ≡ Some x
+get_behind xs ys k rest x is at = rw is (get-append_right xs ys rest ∙ at)
+
+-- the operands of a half are the rule's
+pub source_operand : (rule : Rule) (o : Operand) → IsOperandAmong rule.source o → Contains (operands_in rule) o
+source_operand rule o among =
+    rw (flat_map-append (λ (s : Statement). operands_of s.op) rule.source rule.target)
+    (Contains-append_left (operands_among rule.source) (operands_among rule.target) o among)
+
+pub target_operand : (rule : Rule) (o : Operand) → IsOperandAmong rule.target o → Contains (operands_in rule) o
+target_operand rule o among =
+    rw (flat_map-append (λ (s : Statement). operands_of s.op) rule.source rule.target)
+    (Contains-append_right (operands_among rule.source) (operands_among rule.target) o among)

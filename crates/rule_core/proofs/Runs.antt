@@ -4,27 +4,26 @@ use Rattle.std.specs.Prelude.{slice_get}
 use Rattle.std.proofs.Common.{length-take}
 use Rattle.std.proofs.lemmas.List.{get_or-take}
 use Rattle.std.proofs.lemmas.Option.{get_or_from_slice_get}
-use Rattle.ops.specs.Number.{Number}
 use Rattle.ops.specs.declared.value.Value.{Value}
 use Rattle.ops.specs.declared.value.Effect.{Effect}
 use Rattle.rule_core.specs.declared.rule.Statement.{Statement}
-use Rattle.rule_core.specs.Run.{Held, Ending, GoesOn, StatementGives, Follows}
+use Rattle.rule_core.specs.Run.{Held, Given, Ending, GoesOn, StatementGives, Follows}
 
 -- the statement at a place gives its effect, and the run goes on from the next one
-pub Follows-step : (typing : List ℕ) (constants choices : List Number) (holding : Held → Value → Held) (statements : List Statement) (i : ℕ) (s : Statement) (held : Held) (e : Effect) (end : Ending)
-    → i < length statements → s ≡ get_or statements i s → StatementGives typing constants choices held s e
-    → GoesOn (λ v. Follows typing constants choices holding (drop (i + 1) statements) (holding held v) end) e end
-    → Follows typing constants choices holding (drop i statements) held end
-Follows-step typing constants choices holding statements i s held e end within is gives goes =
+pub Follows-step : (typing : List ℕ) (given : Given) (holding : Held → Value → Held) (statements : List Statement) (i : ℕ) (s : Statement) (held : Held) (e : Effect) (end : Ending)
+    → i < length statements → s ≡ get_or statements i s → StatementGives typing given held s e
+    → GoesOn (λ v. Follows typing given holding (drop (i + 1) statements) (holding held v) end) e end
+    → Follows typing given holding (drop i statements) held end
+Follows-step typing given holding statements i s held e end within is gives goes =
     let parts : drop i statements ≡ s ∷ drop (i + 1) statements = rw add-one (drop-cons statements i s within ∙ ap (λ x. x ∷ drop (suc i) statements) (sym is)) in
     rw parts (e, gives, goes)
 
 -- the same for the first statements, so many
-pub Follows-step-take : (typing : List ℕ) (constants choices : List Number) (holding : Held → Value → Held) (statements : List Statement) (count i : ℕ) (s : Statement) (held : Held) (e : Effect) (end : Ending)
-    → i < count → count ≤ length statements → slice_get statements i ≡ Some s → StatementGives typing constants choices held s e
-    → GoesOn (λ v. Follows typing constants choices holding (drop (i + 1) (take count statements)) (holding held v) end) e end
-    → Follows typing constants choices holding (drop i (take count statements)) held end
-Follows-step-take typing constants choices holding statements count i s held e end before within at gives goes =
+pub Follows-step-take : (typing : List ℕ) (given : Given) (holding : Held → Value → Held) (statements : List Statement) (count i : ℕ) (s : Statement) (held : Held) (e : Effect) (end : Ending)
+    → i < count → count ≤ length statements → slice_get statements i ≡ Some s → StatementGives typing given held s e
+    → GoesOn (λ v. Follows typing given holding (drop (i + 1) (take count statements)) (holding held v) end) e end
+    → Follows typing given holding (drop i (take count statements)) held end
+Follows-step-take typing given holding statements count i s held e end before within at gives goes =
     let inside : i < length (take count statements) = simp length-take (omega arith) in
     let is : s ≡ get_or (take count statements) i s = sym (get_or-take count statements i s before ∙ get_or_from_slice_get statements i s s at) in
-    Follows-step typing constants choices holding (take count statements) i s held e end inside is gives goes
+    Follows-step typing given holding (take count statements) i s held e end inside is gives goes

@@ -1,5 +1,6 @@
 -- What a rule that is read meets: a field for each kind of fault that its text could have had.
-use Rattle.std.specs.Prelude.{◌≡◌, ℕ, suc, ◌<◌, ◌≤◌, List, length, Some, Contains, slice_get, map, flat_map}
+use Rattle.std.specs.Prelude.{◌≡◌, ℕ, suc, ◌+◌, ◌<◌, ◌≤◌, List, length, Some, Contains, slice_get, map, sum_by}
+use Rattle.std.specs.List.{range_with_len}
 use Rattle.ops.specs.Flags.{FlagsFit}
 use Rattle.rule_core.specs.declared.rule.Rule.{Rule}
 use Rattle.rule_core.specs.declared.rule.Statement.{Statement}
@@ -10,23 +11,77 @@ use Rattle.rule_core.specs.declared.rule.Argument.{Argument}
 use Rattle.rule_core.specs.declared.rule.Argument.TheVariants as arguments
 use Rattle.rule_core.specs.declared.rule.Register.{Register}
 use Rattle.rule_core.specs.declared.rule.Register.TheVariants as registers
-use Rattle.rule_core.specs.Positions.{operands_of, operands_in}
+use Rattle.rule_core.specs.declared.rule.Term.{Term}
+use Rattle.rule_core.specs.declared.rule.Node.{Node}
+use Rattle.rule_core.specs.declared.rule.Node.TheVariants as nodes
+use Rattle.rule_core.specs.declared.rule.Formula.{Formula}
+use Rattle.rule_core.specs.declared.rule.Formula.TheVariants as formulas
+use Rattle.rule_core.specs.Positions.{operands_of, operands_among, operands_in, terms_in, undefs_among}
 
--- source statement k may read inputs and what earlier source statements assign
+-- source statement k may read inputs, what earlier source statements assign, and constants; the root's may read `undef`
 abbrev pub SourceMayRead : Rule → ℕ → Argument → Type 0
 SourceMayRead rule k (arguments.Register (registers.Input i)) = i < length rule.inputs
 SourceMayRead rule k (arguments.Register (registers.Source j)) = j < k
 SourceMayRead rule k (arguments.Register (registers.Target j)) = ⊥
 SourceMayRead rule k (arguments.Literal z) = Unit {0}
 SourceMayRead rule k (arguments.Truth b) = Unit {0}
+SourceMayRead rule k (arguments.Constant j) = j < length rule.constants
+SourceMayRead rule k (arguments.Undef j) = suc k ≡ length rule.source
+SourceMayRead rule k (arguments.Term n) = ⊥
 
--- target statement k may read inputs, what source statements but the root's assign, and what earlier target statements assign
+-- target statement k may read inputs, what source statements but the root's assign, what earlier target statements assign, constants,
+-- `undef` and terms
 abbrev pub TargetMayRead : Rule → ℕ → Argument → Type 0
 TargetMayRead rule k (arguments.Register (registers.Input i)) = i < length rule.inputs
 TargetMayRead rule k (arguments.Register (registers.Source j)) = suc j < length rule.source
 TargetMayRead rule k (arguments.Register (registers.Target j)) = j < k
 TargetMayRead rule k (arguments.Literal z) = Unit {0}
 TargetMayRead rule k (arguments.Truth b) = Unit {0}
+TargetMayRead rule k (arguments.Constant j) = j < length rule.constants
+TargetMayRead rule k (arguments.Undef j) = Unit {0}
+TargetMayRead rule k (arguments.Term n) = n < length rule.terms
+
+-- a register that the precondition and `Wit:` may name: an input, or what a source statement but the root's assigns
+abbrev pub IsBeforeRoot : Rule → Register → Type 0
+IsBeforeRoot rule (registers.Input i) = i < length rule.inputs
+IsBeforeRoot rule (registers.Source j) = suc j < length rule.source
+IsBeforeRoot rule (registers.Target j) = ⊥
+
+-- a register of which a target statement may name the width: one of these, or what a target statement but the root's assigns
+abbrev pub HasWidth : Rule → Register → Type 0
+HasWidth rule (registers.Input i) = i < length rule.inputs
+HasWidth rule (registers.Source j) = suc j < length rule.source
+HasWidth rule (registers.Target j) = suc j < length rule.target
+
+-- node n of the constant terms may be this one: its operands are earlier nodes, and no register and no `undef` stands in it
+abbrev pub MayBeTerm : Rule → ℕ → Node → Type 0
+MayBeTerm rule n (nodes.Literal z) = Unit {0}
+MayBeTerm rule n (nodes.Constant k) = k < length rule.constants
+MayBeTerm rule n (nodes.Register r) = ⊥
+MayBeTerm rule n (nodes.Undef k) = ⊥
+MayBeTerm rule n (nodes.Width r c) = HasWidth rule r
+MayBeTerm rule n (nodes.Unary function a) = a < n
+MayBeTerm rule n (nodes.Binary op a b) = (a < n) × (b < n)
+
+-- and node n of the expressions of `Wit:`
+abbrev pub MayBeWitness : Rule → ℕ → Node → Type 0
+MayBeWitness rule n (nodes.Literal z) = Unit {0}
+MayBeWitness rule n (nodes.Constant k) = k < length rule.constants
+MayBeWitness rule n (nodes.Register r) = IsBeforeRoot rule r
+MayBeWitness rule n (nodes.Undef k) = k < length (undefs_among rule.target)
+MayBeWitness rule n (nodes.Width r c) = IsBeforeRoot rule r
+MayBeWitness rule n (nodes.Unary function a) = a < n
+MayBeWitness rule n (nodes.Binary op a b) = (a < n) × (b < n)
+
+-- and node n of the precondition: its operands are earlier nodes, or constant terms, and one use is asked of a source's temporary
+abbrev pub MayBeFormula : Rule → ℕ → Formula → Type 0
+MayBeFormula rule n (formulas.Compare pred a b) = (a < length rule.terms) × (b < length rule.terms)
+MayBeFormula rule n (formulas.IsPowerOfTwo a) = a < length rule.terms
+MayBeFormula rule n (formulas.IsSignBit a) = a < length rule.terms
+MayBeFormula rule n (formulas.HasOneUse j) = suc j < length rule.source
+MayBeFormula rule n (formulas.Not a) = a < n
+MayBeFormula rule n (formulas.And a b) = (a < n) × (b < n)
+MayBeFormula rule n (formulas.Or a b) = (a < n) × (b < n)
 
 -- the flags that are written fit the opcode
 abbrev pub FlagsFitOp : Op → Type 0
@@ -37,6 +92,36 @@ FlagsFitOp op = Unit {0}
 abbrev pub MayStandInSource : Op → Type 0
 MayStandInSource (Copy a) = ⊥
 MayStandInSource op = Unit {0}
+
+-- a copy is of no `undef`, since each use of the root would then differ
+abbrev pub IsNoUndefCopy : Op → Type 0
+IsNoUndefCopy (Copy a) = (k : ℕ) → a.value ≡ arguments.Undef k → ⊥
+IsNoUndefCopy op = Unit {0}
+
+-- the `undef`s of a half are known by the places of their order
+abbrev pub UndefsInOrder : List Statement → Type 0
+UndefsInOrder statements = undefs_among statements ≡ range_with_len 0 (length (undefs_among statements))
+
+-- how many operands, names, literals, operators and functions stand where an operand does: those of its term are counted there
+abbrev pub argument_weight : Argument → ℕ
+argument_weight (arguments.Term n) = 0
+argument_weight argument = 1
+
+-- a node and the register in it
+abbrev pub node_weight : Node → ℕ
+node_weight (nodes.Width r c) = 2
+node_weight node = 1
+
+abbrev pub term_weight : Term → ℕ
+term_weight t = node_weight t.node
+
+abbrev pub formula_weight : Formula → ℕ
+formula_weight (formulas.HasOneUse j) = 2
+formula_weight formula = 1
+
+-- of a whole rule
+abbrev pub weight_of : Rule → ℕ
+weight_of rule = sum_by (λ o. argument_weight o.value) (operands_in rule) + sum_by term_weight (terms_in rule) + sum_by formula_weight rule.precondition
 
 -- no two of the names are equal
 abbrev pub AreDistinct : List (List ℕ) → Type 0
@@ -51,16 +136,20 @@ abbrev pub ReadsOnly : (ℕ → Argument → Type 0) → List Statement → Type
 ReadsOnly MayRead statements =
     (k : ℕ) (s : Statement) (o : Operand) → slice_get statements k ≡ Some s → Contains (operands_of s.op) o → MayRead k o.value
 
--- the register is read by operand q of the source's operands, in the order of the text
+-- operand q of the source's operands, in the order of the text, is this
+abbrev pub StandsAt : Rule → ℕ → Argument → Type 0
+StandsAt rule q argument = (o : Operand) × (slice_get (operands_among rule.source) q ≡ Some o) × (o.value ≡ argument)
+
+-- it reads the register
 abbrev pub ReadsAt : Rule → ℕ → Register → Type 0
-ReadsAt rule q r = (o : Operand) × (slice_get (flat_map (λ s. operands_of s.op) rule.source) q ≡ Some o) × (o.value ≡ arguments.Register r)
+ReadsAt rule q r = StandsAt rule q (arguments.Register r)
 
 -- the rule meets each check
 pub record IsRule (rule : Rule) : Type 0 where
-  -- TooMany: at most 32 statements a half, 256 operands, and 200 bytes a name
+  -- TooMany: at most 32 statements a half, 256 operands, names, literals, operators and functions, and 200 bytes a name
   pub few_in_source : length rule.source ≤ 32
   pub few_in_target : length rule.target ≤ 32
-  pub few_operands : length (operands_in rule) ≤ 256
+  pub few_nodes : weight_of rule ≤ 256
   pub short_name : length rule.name ≤ 200
   pub short_inputs : (name : List ℕ) → Contains rule.inputs name → length name ≤ 200
   pub short_constants : (name : List ℕ) → Contains rule.constants name → length name ≤ 200
@@ -78,6 +167,14 @@ pub record IsRule (rule : Rule) : Type 0 where
   pub inputs_read : (i : ℕ) → i < length rule.inputs → (q : ℕ) × ReadsAt rule q (registers.Input i)
   -- and in the order in which the source first reads them
   pub inputs_in_order : (h i q : ℕ) → h < i → ReadsAt rule q (registers.Input i) → (p : ℕ) × (p < q) × ReadsAt rule p (registers.Input h)
+  -- constants stand in the source, each of them once, in the order in which the source first reads them
+  pub constants_distinct : AreDistinct rule.constants
+  pub constants_read : (k : ℕ) → k < length rule.constants → (q : ℕ) × StandsAt rule q (arguments.Constant k)
+  pub constants_in_order : (h k q : ℕ) → h < k → StandsAt rule q (arguments.Constant k) → (p : ℕ) × (p < q) × StandsAt rule p (arguments.Constant h)
+  -- what terms and the precondition name is there
+  pub terms : (n : ℕ) (t : Term) → slice_get rule.terms n ≡ Some t → MayBeTerm rule n t.node
+  pub witness_terms : (n : ℕ) (t : Term) → slice_get rule.witness_terms n ≡ Some t → MayBeWitness rule n t.node
+  pub precondition : (n : ℕ) (f : Formula) → slice_get rule.precondition n ≡ Some f → MayBeFormula rule n f
   -- RootMissing: there is a root, and the last target statement assigns it
   pub source_root : 0 < length rule.source
   pub target_root : 0 < length rule.target
@@ -91,3 +188,10 @@ pub record IsRule (rule : Rule) : Type 0 where
   pub source_ops : (k : ℕ) (s : Statement) → slice_get rule.source k ≡ Some s → MayStandInSource s.op
   pub source_flags : (k : ℕ) (s : Statement) → slice_get rule.source k ≡ Some s → FlagsFitOp s.op
   pub target_flags : (k : ℕ) (s : Statement) → slice_get rule.target k ≡ Some s → FlagsFitOp s.op
+  -- UndefInside: each `undef` is one free value of its half, and no copy is one
+  pub source_undefs : UndefsInOrder rule.source
+  pub target_undefs : UndefsInOrder rule.target
+  pub target_copies : (k : ℕ) (s : Statement) → slice_get rule.target k ≡ Some s → IsNoUndefCopy s.op
+  -- WitnessCount: `Wit:` has an expression for each `undef` of the source
+  pub witnesses : length rule.witnesses ≡ length (undefs_among rule.source)
+  pub witnesses_there : (k n : ℕ) → slice_get rule.witnesses k ≡ Some n → n < length rule.witness_terms

@@ -1,5 +1,6 @@
 pub mod Checks
 pub mod Positions
+pub mod Terms
 pub mod Run
 pub mod Typing
 pub mod Valid

@@ -1,6 +1,6 @@
--- The positions of a rule, which are its results and operands, and the table of types: what keeps two positions at one width, what
--- fixes a width, and what keeps one width below another.
-use Rattle.std.specs.Prelude.{◌≡◌, ℕ, suc, Bool, List, [], ◌∷◌, ◌++◌, length, map, flat_map, Option, Some, Contains, slice_get}
+-- The positions of a rule, which are its results, its operands and the nodes of its terms, and the table of types: what keeps two
+-- positions at one width, what fixes a width, and what keeps one width below another.
+use Rattle.std.specs.Prelude.{◌≡◌, ℕ, suc, Bool, List, [], ◌∷◌, ◌++◌, length, map, flat_map, filter_map, Option, None, Some, Contains, slice_get}
 use Rattle.ops.specs.declared.opcode.Opcode.{Opcode}
 use Rattle.ops.specs.declared.opcode.Flags.{Flags}
 use Rattle.ops.specs.declared.comparison.Pred.{Pred}
@@ -11,8 +11,16 @@ use Rattle.rule_core.specs.declared.rule.Statement.{Statement}
 use Rattle.rule_core.specs.declared.rule.Op.{Op}
 use Rattle.rule_core.specs.declared.rule.Op.TheVariants.{Binary, Compare, Select, Convert, Copy}
 use Rattle.rule_core.specs.declared.rule.Operand.{Operand}
+use Rattle.rule_core.specs.declared.rule.Argument.{Argument}
 use Rattle.rule_core.specs.declared.rule.Argument.TheVariants as arguments
 use Rattle.rule_core.specs.declared.rule.Register.{Register}
+use Rattle.rule_core.specs.declared.rule.Name.{Name}
+use Rattle.rule_core.specs.declared.rule.Name.TheVariants as names
+use Rattle.rule_core.specs.declared.rule.Term.{Term}
+use Rattle.rule_core.specs.declared.rule.Node.{Node}
+use Rattle.rule_core.specs.declared.rule.Node.TheVariants as nodes
+use Rattle.rule_core.specs.declared.rule.Function.{Function}
+use Rattle.rule_core.specs.declared.rule.Formula.TheVariants.{Compare as CompareTerms}
 use Rattle.rule_core.specs.declared.rule.Register.TheVariants as registers
 
 -- the operands from left to right
@@ -23,29 +31,78 @@ operands_of (Select c a b) = c ∷ a ∷ b ∷ []
 operands_of (Convert cast a to) = a ∷ []
 operands_of (Copy a) = a ∷ []
 
+-- the operands of statements, in the order of the text
+abbrev pub operands_among : List Statement → List Operand
+operands_among statements = flat_map (λ s. operands_of s.op) statements
+
+-- the place of an `undef`
+abbrev pub undef_in : Argument → Option ℕ
+undef_in (arguments.Undef k) = Some k
+undef_in (arguments.Register r) = None
+undef_in (arguments.Literal z) = None
+undef_in (arguments.Truth b) = None
+undef_in (arguments.Constant k) = None
+undef_in (arguments.Term n) = None
+
+-- the places of the `undef`s of statements, in the order of the text
+abbrev pub undefs_among : List Statement → List ℕ
+undefs_among statements = filter_map (λ o. undef_in o.value) (operands_among statements)
+
 -- all operands of a rule, in the order of its text
 abbrev pub operands_in : Rule → List Operand
-operands_in rule = flat_map (λ s. operands_of s.op) (rule.source ++ rule.target)
+operands_in rule = operands_among (rule.source ++ rule.target)
+
+-- all nodes of a rule's terms
+abbrev pub terms_in : Rule → List Term
+terms_in rule = rule.terms ++ rule.witness_terms
 
 -- the classes of a statement's positions: the result, and then the operands
 abbrev pub classes_of_statement : Statement → List ℕ
 classes_of_statement s = s.class ∷ map (λ o. o.class) (operands_of s.op)
 
--- the class of each position of a rule, in order: the source's before the target's
+-- the classes of a node's positions: its own, and then that of the register whose width it is
+abbrev pub classes_of_node : ℕ → Node → List ℕ
+classes_of_node c (nodes.Width r d) = c ∷ d ∷ []
+classes_of_node c node = c ∷ []
+
+abbrev pub classes_of_term : Term → List ℕ
+classes_of_term t = classes_of_node t.class t.node
+
+-- the class of each position of a rule, in order: the source's before the target's, and then those of its terms
 abbrev pub classes_of : Rule → List ℕ
-classes_of rule = flat_map classes_of_statement (rule.source ++ rule.target)
+classes_of rule = flat_map classes_of_statement (rule.source ++ rule.target) ++ flat_map classes_of_term (terms_in rule)
 
 -- s is a statement of the rule
 abbrev pub IsStatementOf : Rule → Statement → Type 0
 IsStatementOf rule s = Contains (rule.source ++ rule.target) s
 
--- A position of class c names the register: as the operand that reads it, or as the result that assigns it. The last target
--- statement assigns the root, which is what the last source statement assigns.
-pub data Names (rule : Rule) : Register → ℕ → Type 0 where
-  reads : {o : Operand} {r : Register} → Contains (operands_in rule) o → o.value ≡ arguments.Register r → Names rule r o.class
-  source_assigns : {k : ℕ} {s : Statement} → slice_get rule.source k ≡ Some s → Names rule (registers.Source k) s.class
-  target_assigns : {k : ℕ} {s : Statement} → slice_get rule.target k ≡ Some s → Names rule (registers.Target k) s.class
-  assigns_root : {j k : ℕ} {s : Statement} → suc j ≡ length rule.source → suc k ≡ length rule.target → slice_get rule.target k ≡ Some s → Names rule (registers.Source j) s.class
+-- o is an operand of the half
+abbrev pub IsOperandAmong : List Statement → Operand → Type 0
+IsOperandAmong statements o = Contains (operands_among statements) o
+
+-- t is a node of the rule's terms
+abbrev pub IsTermOf : Rule → Term → Type 0
+IsTermOf rule t = Contains (terms_in rule) t
+
+-- A position of class c names the register, the constant or the `undef`: as the operand or the node that reads it, or as the result
+-- that assigns it. The last target statement assigns the root, which is what the last source statement assigns.
+pub data Names (rule : Rule) : Name → ℕ → Type 0 where
+  reads : {o : Operand} {r : Register} → Contains (operands_in rule) o → o.value ≡ arguments.Register r → Names rule (names.Register r) o.class
+  reads_constant : {o : Operand} {k : ℕ} → Contains (operands_in rule) o → o.value ≡ arguments.Constant k → Names rule (names.Constant k) o.class
+  chooses : {o : Operand} {k : ℕ} → IsOperandAmong rule.target o → o.value ≡ arguments.Undef k → Names rule (names.Undef k) o.class
+  source_assigns : {k : ℕ} {s : Statement} → slice_get rule.source k ≡ Some s → Names rule (names.Register (registers.Source k)) s.class
+  target_assigns : {k : ℕ} {s : Statement} → slice_get rule.target k ≡ Some s → Names rule (names.Register (registers.Target k)) s.class
+  assigns_root : {j k : ℕ} {s : Statement} → suc j ≡ length rule.source → suc k ≡ length rule.target → slice_get rule.target k ≡ Some s → Names rule (names.Register (registers.Source j)) s.class
+  term_register : {t : Term} {r : Register} → IsTermOf rule t → t.node ≡ nodes.Register r → Names rule (names.Register r) t.class
+  term_constant : {t : Term} {k : ℕ} → IsTermOf rule t → t.node ≡ nodes.Constant k → Names rule (names.Constant k) t.class
+  term_undef : {t : Term} {k : ℕ} → IsTermOf rule t → t.node ≡ nodes.Undef k → Names rule (names.Undef k) t.class
+  measures : {t : Term} {r : Register} {c : ℕ} → IsTermOf rule t → t.node ≡ nodes.Width r c → Names rule (names.Register r) c
+
+-- one line of the table of types keeps two nodes at one width: an operator or a function and its operands
+pub data TermLine (terms : List Term) : ℕ → ℕ → Type 0 where
+  unary : {t x : Term} {function : Function} {a : ℕ} → Contains terms t → t.node ≡ nodes.Unary function a → slice_get terms a ≡ Some x → TermLine terms t.class x.class
+  left : {t x : Term} {op : Opcode} {a b : ℕ} → Contains terms t → t.node ≡ nodes.Binary op a b → slice_get terms a ≡ Some x → TermLine terms t.class x.class
+  right : {t x : Term} {op : Opcode} {a b : ℕ} → Contains terms t → t.node ≡ nodes.Binary op a b → slice_get terms b ≡ Some x → TermLine terms t.class x.class
 
 -- one line of the table of types keeps positions of the classes c and d at one width
 pub data Line (rule : Rule) : ℕ → ℕ → Type 0 where
@@ -59,8 +116,17 @@ pub data Line (rule : Rule) : ℕ → ℕ → Type 0 where
   select_false : {s : Statement} {c a b : Operand} → IsStatementOf rule s → s.op ≡ Select c a b → Line rule s.class b.class
   -- the result and the operand of a copy
   copy : {s : Statement} {a : Operand} → IsStatementOf rule s → s.op ≡ Copy a → Line rule s.class a.class
-  -- all positions that name one register
-  register : {r : Register} {c d : ℕ} → Names rule r c → Names rule r d → Line rule c d
+  -- all positions that name one register, one constant or one `undef` of the target
+  name : {n : Name} {c d : ℕ} → Names rule n c → Names rule n d → Line rule c d
+  -- the nodes of constant terms, and of the expressions of `Wit:`
+  term : {c d : ℕ} → TermLine rule.terms c d → Line rule c d
+  witness_term : {c d : ℕ} → TermLine rule.witness_terms c d → Line rule c d
+  -- an operand and the term that it is
+  operand : {o : Operand} {n : ℕ} {t : Term} → Contains (operands_in rule) o → o.value ≡ arguments.Term n → slice_get rule.terms n ≡ Some t → Line rule o.class t.class
+  -- both sides of a comparison in the precondition
+  compared_terms : {pred : Pred} {a b : ℕ} {x y : Term} → Contains rule.precondition (CompareTerms pred a b) → slice_get rule.terms a ≡ Some x → slice_get rule.terms b ≡ Some y → Line rule x.class y.class
+  -- an expression of `Wit:` and the `undef` of the source that it chooses
+  witness : {o : Operand} {k n : ℕ} {t : Term} → IsOperandAmong rule.source o → o.value ≡ arguments.Undef k → slice_get rule.witnesses k ≡ Some n → slice_get rule.witness_terms n ≡ Some t → Line rule o.class t.class
 
 -- one line of the table of types gives positions of the class c the width N
 pub data Fixed (rule : Rule) : ℕ → ℕ → Type 0 where

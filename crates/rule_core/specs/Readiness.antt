@@ -5,6 +5,7 @@ use Rattle.ops.specs.Conversion.{CastFits}
 use Rattle.ops.specs.Flags.{FlagsFit}
 use Rattle.ops.specs.Value.{IsValueOf}
 use Rattle.ops.specs.declared.value.Value.{Value}
+use Rattle.ops.specs.declared.value.Value.TheVariants.{Bits}
 use Rattle.rule_core.specs.declared.rule.Rule.{Rule}
 use Rattle.rule_core.specs.declared.rule.Statement.{Statement}
 use Rattle.rule_core.specs.declared.rule.Op.{Op}
@@ -13,31 +14,43 @@ use Rattle.rule_core.specs.declared.rule.Operand.{Operand}
 use Rattle.rule_core.specs.declared.rule.Argument.{Argument}
 use Rattle.rule_core.specs.declared.rule.Argument.TheVariants as arguments
 use Rattle.rule_core.specs.declared.run.Held.{Held as View}
-use Rattle.rule_core.specs.Run.{Held, Undefines, Holds, value_of, at_start, holding_source, holding_target, Follows}
-use Rattle.rule_core.specs.Valid.{InputsFit}
+use Rattle.rule_core.specs.declared.run.Given.{Given as GivenView}
+use Rattle.rule_core.specs.Run.{Held, Undefines, Holds, Given, value_of, at_start, holding_source, holding_target, Follows}
+use Rattle.rule_core.specs.declared.rule.Term.{Term}
+use Rattle.rule_core.specs.declared.rule.Node.{Node}
+use Rattle.rule_core.specs.declared.rule.Node.TheVariants as nodes
+use Rattle.rule_core.specs.Positions.{IsOperandAmong}
+use Rattle.rule_core.specs.Valid.{InputsFit, ConstantsFit}
 
 -- what the code's view of the registers shows
 abbrev pub seen : View → Held
 seen held = record { inputs = held.inputs.now; source = held.source.now; target = held.target.now }
 
+-- and its view of what is given beside them
+abbrev pub shown : GivenView → Given
+shown given = record { constants = given.constants.now; choices = given.choices.now; terms = given.terms.now }
+
 -- what is read can be read at the width N
-abbrev pub ArgumentIsReady : Held → ℕ → Argument → Type 0
-ArgumentIsReady held N (arguments.Register r) = (v : Value) × (value_of held r ≡ Some v) × IsValueOf N v
-ArgumentIsReady held N (arguments.Literal z) = Unit {0}
-ArgumentIsReady held N (arguments.Truth b) = N ≡ 1
+abbrev pub ArgumentIsReady : Given → Held → ℕ → Argument → Type 0
+ArgumentIsReady given held N (arguments.Register r) = (v : Value) × (value_of held r ≡ Some v) × IsValueOf N v
+ArgumentIsReady given held N (arguments.Literal z) = Unit {0}
+ArgumentIsReady given held N (arguments.Truth b) = N ≡ 1
+ArgumentIsReady given held N (arguments.Constant k) = (n : Number) × (slice_get given.constants k ≡ Some n) × IsValueOf N (Bits n)
+ArgumentIsReady given held N (arguments.Undef k) = (n : Number) × (slice_get given.choices k ≡ Some n) × IsValueOf N (Bits n)
+ArgumentIsReady given held N (arguments.Term n) = (v : Value) × (slice_get given.terms n ≡ Some v) × IsValueOf N v
 
-abbrev pub OperandIsReady : List ℕ → Held → ℕ → Operand → Type 0
-OperandIsReady typing held N o = (slice_get typing o.class ≡ Some N) × ArgumentIsReady held N o.value
+abbrev pub OperandIsReady : List ℕ → Given → Held → ℕ → Operand → Type 0
+OperandIsReady typing given held N o = (slice_get typing o.class ≡ Some N) × ArgumentIsReady given held N o.value
 
-abbrev pub OpIsReady : List ℕ → Held → ℕ → Op → Type 0
-OpIsReady typing held N (Binary op flags a b) = FlagsFit op flags × OperandIsReady typing held N a × OperandIsReady typing held N b
-OpIsReady typing held N (Compare pred a b) = (M : ℕ) × OperandIsReady typing held M a × OperandIsReady typing held M b × (N ≡ 1)
-OpIsReady typing held N (Select c a b) = OperandIsReady typing held 1 c × OperandIsReady typing held N a × OperandIsReady typing held N b
-OpIsReady typing held N (Convert cast a to) = (M : ℕ) × OperandIsReady typing held M a × CastFits cast M N
-OpIsReady typing held N (Copy a) = OperandIsReady typing held N a
+abbrev pub OpIsReady : List ℕ → Given → Held → ℕ → Op → Type 0
+OpIsReady typing given held N (Binary op flags a b) = FlagsFit op flags × OperandIsReady typing given held N a × OperandIsReady typing given held N b
+OpIsReady typing given held N (Compare pred a b) = (M : ℕ) × OperandIsReady typing given held M a × OperandIsReady typing given held M b × (N ≡ 1)
+OpIsReady typing given held N (Select c a b) = OperandIsReady typing given held 1 c × OperandIsReady typing given held N a × OperandIsReady typing given held N b
+OpIsReady typing given held N (Convert cast a to) = (M : ℕ) × OperandIsReady typing given held M a × CastFits cast M N
+OpIsReady typing given held N (Copy a) = OperandIsReady typing given held N a
 
-abbrev pub StatementIsReady : List ℕ → Held → Statement → Type 0
-StatementIsReady typing held s = (N : ℕ) × (slice_get typing s.class ≡ Some N) × OpIsReady typing held N s.op
+abbrev pub StatementIsReady : List ℕ → Given → Held → Statement → Type 0
+StatementIsReady typing given held s = (N : ℕ) × (slice_get typing s.class ≡ Some N) × OpIsReady typing given held N s.op
 
 -- what statements have assigned are values of their results' widths
 abbrev pub ValuesFit : List ℕ → List Statement → List Value → Type 0
@@ -52,17 +65,45 @@ pub record HeldFits (rule : Rule) (typing : List ℕ) (held : Held) : Type 0 whe
   pub target : ValuesFit typing rule.target held.target
 
 -- the first statements of the source, so many, have run: to undefined behaviour, or to these values
-abbrev pub SourceRan : List ℕ → List Number → List Number → Rule → List Value → ℕ → Option (List Value) → Type 0
-SourceRan typing constants choices rule inputs count None =
-    Follows typing constants choices holding_source (take count rule.source) (at_start inputs) Undefines
-SourceRan typing constants choices rule inputs count (Some values) =
+abbrev pub SourceRan : List ℕ → Given → Rule → List Value → ℕ → Option (List Value) → Type 0
+SourceRan typing given rule inputs count None =
+    Follows typing given holding_source (take count rule.source) (at_start inputs) Undefines
+SourceRan typing given rule inputs count (Some values) =
     (length values ≡ count) × ValuesFit typing rule.source values
-    × Follows typing constants choices holding_source (take count rule.source) (at_start inputs) (Holds (record { inputs = inputs; source = values; target = [] }))
+    × Follows typing given holding_source (take count rule.source) (at_start inputs) (Holds (record { inputs = inputs; source = values; target = [] }))
 
 -- and the statements of the target after values of the source's
-abbrev pub TargetRan : List ℕ → List Number → List Number → Rule → List Value → List Value → Option (List Value) → Type 0
-TargetRan typing constants choices rule inputs source None =
-    Follows typing constants choices holding_target rule.target (record { inputs = inputs; source = source; target = [] }) Undefines
-TargetRan typing constants choices rule inputs source (Some values) =
+abbrev pub TargetRan : List ℕ → Given → Rule → List Value → List Value → Option (List Value) → Type 0
+TargetRan typing given rule inputs source None =
+    Follows typing given holding_target rule.target (record { inputs = inputs; source = source; target = [] }) Undefines
+TargetRan typing given rule inputs source (Some values) =
     (length values ≡ length rule.target)
-    × Follows typing constants choices holding_target rule.target (record { inputs = inputs; source = source; target = [] }) (Holds (record { inputs = inputs; source = source; target = values }))
+    × Follows typing given holding_target rule.target (record { inputs = inputs; source = source; target = [] }) (Holds (record { inputs = inputs; source = source; target = values }))
+
+-- what the nodes of terms give are values of their widths
+abbrev pub TermsFit : List ℕ → List Term → List Value → Type 0
+TermsFit typing terms values =
+    (k : ℕ) (t : Term) (v : Value) (N : ℕ) →
+    slice_get terms k ≡ Some t → slice_get values k ≡ Some v → slice_get typing t.class ≡ Some N → IsValueOf N v
+
+-- What statements of a half may read beside registers fits: constants, the half's choices, which are of `undef`s among its statements,
+-- and terms.
+pub record GivenFits (rule : Rule) (typing : List ℕ) (statements : List Statement) (given : Given) : Type 0 where
+  pub constants : ConstantsFit rule typing given.constants
+  pub choices : (k N : ℕ) (o : Operand) → IsOperandAmong statements o → o.value ≡ arguments.Undef k → slice_get typing o.class ≡ Some N → ArgumentIsReady given (at_start []) N (arguments.Undef k)
+  pub terms : (length given.terms ≡ length rule.terms) × TermsFit typing rule.terms given.terms
+
+-- what a node of iN of a constant term needs, where the nodes before it give these values
+abbrev pub NodeIsReady : List ℕ → List Number → List Value → ℕ → Node → Type 0
+NodeIsReady typing constants before N (nodes.Literal z) = Unit {0}
+NodeIsReady typing constants before N (nodes.Constant k) = (n : Number) × (slice_get constants k ≡ Some n) × IsValueOf N (Bits n)
+NodeIsReady typing constants before N (nodes.Register r) = ⊥
+NodeIsReady typing constants before N (nodes.Undef k) = ⊥
+NodeIsReady typing constants before N (nodes.Width r c) = (M : ℕ) × (slice_get typing c ≡ Some M)
+NodeIsReady typing constants before N (nodes.Unary function a) = (v : Value) × (slice_get before a ≡ Some v) × IsValueOf N v
+NodeIsReady typing constants before N (nodes.Binary op a b) =
+    (v : Value) × (w : Value) × (slice_get before a ≡ Some v) × (slice_get before b ≡ Some w) × IsValueOf N v × IsValueOf N w
+
+-- what the next node of a constant term needs is there
+abbrev pub TermIsReady : List ℕ → List Number → List Value → Term → Type 0
+TermIsReady typing constants before t = (N : ℕ) × (slice_get typing t.class ≡ Some N) × NodeIsReady typing constants before N t.node

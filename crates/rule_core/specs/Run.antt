@@ -7,6 +7,7 @@ use Rattle.ops.specs.Comparison.{comparison, selection}
 use Rattle.ops.specs.Conversion.{conversion}
 use Rattle.ops.specs.Integer.{residue, bits}
 use Rattle.ops.specs.declared.value.Value.{Value}
+use Rattle.ops.specs.declared.value.Value.TheVariants.{Bits}
 use Rattle.ops.specs.declared.value.Effect.{Effect}
 use Rattle.ops.specs.declared.value.Effect.TheVariants as effects
 use Rattle.rule_core.specs.declared.rule.Rule.{Rule}
@@ -18,6 +19,7 @@ use Rattle.rule_core.specs.declared.rule.Argument.{Argument}
 use Rattle.rule_core.specs.declared.rule.Argument.TheVariants as arguments
 use Rattle.rule_core.specs.declared.rule.Register.{Register}
 use Rattle.rule_core.specs.declared.rule.Register.TheVariants as registers
+use Rattle.rule_core.specs.Terms.{value_at, number_or_zero, constant_values}
 
 -- what registers hold: the inputs, and what the statements so far have assigned, in order
 pub record Held : Type 0 where
@@ -64,14 +66,27 @@ GivesLast values e = (v : Value) × (slice_get values (length values - 1) ≡ So
 abbrev pub temporaries_of : Rule → List Statement
 temporaries_of rule = take (length rule.source - 1) rule.source
 
--- A width for each class, a number for each constant, and one for each `undef` of the half that runs. No operand here is a
--- constant or an `undef`.
-module _ (typing : List ℕ) (constants choices : List Number) where
-  -- a register gives what it holds, and a literal itself modulo 2^N
+-- what statements read beside registers: a number for each constant, one for each `undef` of their half, and what terms give
+pub record Given : Type 0 where
+  pub constants : List Number
+  pub choices : List Number
+  pub terms : List Value
+
+-- the same, from what the constants are
+abbrev pub given_by : List ℕ → List Number → List Number → Rule → Given
+given_by typing constants choices rule = record { constants = constants; choices = choices; terms = constant_values typing constants rule }
+
+-- With a width for each class:
+module _ (typing : List ℕ) (given : Given) where
+  -- a register gives what it holds, a literal itself modulo 2^N, a constant and an `undef` their numbers, and a term what it gives, or
+  -- 0 where it has no value
   abbrev pub ArgumentGives : Held → ℕ → Argument → Value → Type 0
   ArgumentGives held N (arguments.Register r) v = value_of held r ≡ Some v
   ArgumentGives held N (arguments.Literal z) v = v ≡ bits N (residue N z)
   ArgumentGives held N (arguments.Truth b) v = v ≡ bits N (if b then 1 else 0)
+  ArgumentGives held N (arguments.Constant k) v = (n : Number) × (slice_get given.constants k ≡ Some n) × (v ≡ Bits n)
+  ArgumentGives held N (arguments.Undef k) v = (n : Number) × (slice_get given.choices k ≡ Some n) × (v ≡ Bits n)
+  ArgumentGives held N (arguments.Term n) v = v ≡ bits N (number_or_zero (value_at given.terms n))
 
   abbrev pub OperandGives : Held → Operand → Value → Type 0
   OperandGives held o v = (N : ℕ) × (slice_get typing o.class ≡ Some N) × ArgumentGives held N o.value v
@@ -98,20 +113,26 @@ module _ (typing : List ℕ) (constants choices : List Number) where
   Follows holding [] held end = end ≡ Holds held
   Follows holding (s ∷ statements) held end = (e : Effect) × StatementGives held s e × GoesOn (λ v. Follows holding statements (holding held v) end) e end
 
-  -- the source: its statements in order, and then the root
-  abbrev pub SourceGives : Rule → List Value → Effect → Type 0
-  SourceGives rule inputs e =
-      (end : Ending)
-      × Follows holding_source rule.source (at_start inputs) end
-      × Leads (λ held. GivesLast held.source) end e
+-- the source: its statements in order, and then the root
+abbrev pub SourceGives : List ℕ → List Number → List Number → Rule → List Value → Effect → Type 0
+SourceGives typing constants choices rule inputs e =
+    (end : Ending)
+    × Follows typing (given_by typing constants choices rule) holding_source rule.source (at_start inputs) end
+    × Leads (λ held. GivesLast held.source) end e
 
-  -- the target's statements in order from what is held, and then the root
-  abbrev pub TargetGoesOn : Rule → Held → Effect → Type 0
-  TargetGoesOn rule held e = (end : Ending) × Follows holding_target rule.target held end × Leads (λ after. GivesLast after.target) end e
+-- how the source's temporaries end, in which no `undef` stands
+abbrev pub TemporariesEnd : List ℕ → List Number → Rule → List Value → Ending → Type 0
+TemporariesEnd typing constants rule inputs end =
+    Follows typing (given_by typing constants [] rule) holding_source (temporaries_of rule) (at_start inputs) end
 
-  -- the target: first the source's temporaries in order
-  abbrev pub TargetGives : Rule → List Value → Effect → Type 0
-  TargetGives rule inputs e =
-      (end : Ending)
-      × Follows holding_source (temporaries_of rule) (at_start inputs) end
-      × Leads (TargetGoesOn rule) end e
+-- the target's statements in order from what is held, and then the root
+abbrev pub TargetGoesOn : List ℕ → List Number → List Number → Rule → Held → Effect → Type 0
+TargetGoesOn typing constants choices rule held e =
+    (end : Ending)
+    × Follows typing (given_by typing constants choices rule) holding_target rule.target held end
+    × Leads (λ after. GivesLast after.target) end e
+
+-- the target: first the source's temporaries in order
+abbrev pub TargetGives : List ℕ → List Number → List Number → Rule → List Value → Effect → Type 0
+TargetGives typing constants choices rule inputs e =
+    (end : Ending) × TemporariesEnd typing constants rule inputs end × Leads (TargetGoesOn typing constants choices rule) end e

@@ -3,7 +3,9 @@ use Rattle.std.specs.Prelude.{◌≡◌, ℕ, ◌-◌, ◌^◌, ◌<◌, ◌≤�
 use Rattle.rule_core.specs.declared.rule.Rule.{Rule}
 use Rattle.rule_core.specs.declared.rule.Operand.{Operand}
 use Rattle.rule_core.specs.declared.rule.Argument.TheVariants as arguments
-use Rattle.rule_core.specs.Positions.{operands_in, classes_of, Line, Fixed, Smaller}
+use Rattle.rule_core.specs.declared.rule.Term.{Term}
+use Rattle.rule_core.specs.declared.rule.Node.TheVariants as nodes
+use Rattle.rule_core.specs.Positions.{operands_in, classes_of, IsTermOf, Line, Fixed, Smaller}
 
 -- the width of a position, if the rule has it
 abbrev pub width_at : Rule → List ℕ → ℕ → Option ℕ
@@ -27,3 +29,4 @@ pub record IsTyping (rule : Rule) (typing : List ℕ) : Type 0 where
   pub smaller : (c d N M : ℕ) → Smaller rule c d → slice_get typing c ≡ Some N → slice_get typing d ≡ Some M → N < M
   -- literals fit
   pub literals : (o : Operand) (z : ℤ) (N : ℕ) → Contains (operands_in rule) o → o.value ≡ arguments.Literal z → slice_get typing o.class ≡ Some N → FitsLiteral N z
+  pub term_literals : (t : Term) (z : ℤ) (N : ℕ) → IsTermOf rule t → t.node ≡ nodes.Literal z → slice_get typing t.class ≡ Some N → FitsLiteral N z

@@ -1,12 +1,10 @@
 //! The laws of runs and of valid rules, each the contract of a function that does nothing.
-ghost use Rattle.rule_core.specs.Laws.{RulesHaveOneOutcome, ValidRulesHaveNoCounterexample, RulesWithoutCounterexampleAreValid};
+ghost use Rattle.rule_core.specs.Laws.{RulesHaveOneOutcome, ValidRulesHaveNoCounterexample, RulesWithoutCounterexampleAreValid, NodesGiveTheirValues, FormulasHoldAsTheyRead};
 
 /// At each setting that fits a rule and its typing, the source has one effect and the target has one.
 pub fn every_rule_has_one_outcome()
     ensures { RulesHaveOneOutcome }
-{
-    ops::instructions_keep_widths();
-}
+{}
 
 /// A valid rule has no counterexample.
 pub fn valid_rules_have_no_counterexample()
@@ -16,4 +14,14 @@ pub fn valid_rules_have_no_counterexample()
 /// A rule without a counterexample is valid.
 pub fn rules_without_counterexample_are_valid()
     ensures { RulesWithoutCounterexampleAreValid }
+{}
+
+/// Each node of terms gives what it gives from the values of all of them, where its operands stand before it.
+pub fn nodes_give_their_values()
+    ensures { NodesGiveTheirValues }
+{}
+
+/// Each node of a formula holds as it does from whether all of them hold, where its operands stand before it.
+pub fn formulas_hold_as_they_read()
+    ensures { FormulasHoldAsTheyRead }
 {}

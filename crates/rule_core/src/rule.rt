@@ -1,8 +1,9 @@
 //! A rule and its parts. A register is known by its place; the names are kept for printing.
 //!
-//! The positions of a rule are the results and operands of its statements, the source's before the target's, and of each statement
-//! the result and then the operands from left to right. Positions that have one width in each typing, by the table of types, are of
-//! one class, and each position keeps the number of its class.
+//! The positions of a rule are the results and operands of its statements and the nodes of its terms: the source's statements before
+//! the target's, of each statement the result and then the operands from left to right, and behind them the nodes, in the order in
+//! which they are kept. Positions that have one width in each typing, by the table of types, are of one class, and each position keeps
+//! the number of its class.
 
 use lists::{List, Text};
 use ops::{Cast, Flags, Opcode, Pred, Width};
@@ -22,6 +23,15 @@ pub struct Rule {
     pub source: List<Statement>,
     /// The statements that come in place of the root's. The last one assigns the root.
     pub target: List<Statement>,
+    /// The nodes of the constant terms: those of the target and then those of the precondition, from left to right, and each behind
+    /// its operands.
+    pub terms: List<Term>,
+    /// The nodes of the formula of `Pre:`, each behind its operands. The last one is the precondition; a rule without `Pre:` has none.
+    pub precondition: List<Formula>,
+    /// The nodes of the expressions of `Wit:`, from left to right, and each behind its operands.
+    pub witness_terms: List<Term>,
+    /// What each `undef` of the source is chosen to be, in the order of the text: the place of an expression's node.
+    pub witnesses: List<u32>,
 }
 
 /// A statement `%name = op`: the register that it assigns, and what that holds afterwards.
@@ -69,6 +79,12 @@ pub enum Argument {
     Literal(i128),
     /// `true` or `false`: 1 or 0, of width 1.
     Truth(bool),
+    /// An abstract constant, by its place.
+    Constant(u32),
+    /// An `undef`, by its place among those of its half.
+    Undef(u32),
+    /// A constant term that is more than a literal or a constant: the place of its node. It stands in a target alone.
+    Term(u32),
 }
 
 /// A register, by its place. Places count from 0.
@@ -80,6 +96,73 @@ pub enum Register {
     Source(u32),
     /// What a target statement assigns; the last one is the root.
     Target(u32),
+}
+
+/// What has one width wherever it is named.
+#[derive(Clone, Copy, PartialEq, Eq, Debug)]
+pub enum Name {
+    Register(Register),
+    /// An abstract constant, by its place.
+    Constant(u32),
+    /// An `undef` of the target, by its place: in `Wit:` the first one is `t1`.
+    Undef(u32),
+}
+
+/// A node of a term.
+#[derive(Clone, Copy, Debug)]
+pub struct Term {
+    /// The class of the node: a place in a `Typing`.
+    pub class: u32,
+    pub node: Node,
+}
+
+/// What a node is. Its operands are nodes before it, by their places.
+#[derive(Clone, Copy, Debug)]
+pub enum Node {
+    /// A number as it is written, as in an operand.
+    Literal(i128),
+    /// An abstract constant, by its place.
+    Constant(u32),
+    /// What the register holds. It stands in `Wit:` alone.
+    Register(Register),
+    /// An `undef` of the target, by its place. It stands in `Wit:` alone.
+    Undef(u32),
+    /// `width(%x)`: how many bits the register has, which is of this class.
+    Width(Register, u32),
+    Unary(Function, u32),
+    /// An operator of two operands: `*`, `/`, `/u`, `%`, `%u`, `+`, `-`, `<<`, `>>`, `u>>`, `&`, `^` or `|`. It is known by the
+    /// instruction that computes the same: `/` by `sdiv`, `%` by `srem`, `>>` by `ashr`.
+    Binary(Opcode, u32, u32),
+}
+
+/// An operator or a function of one operand.
+#[derive(Clone, Copy, PartialEq, Eq, Debug)]
+pub enum Function {
+    /// `-`: 0 less the operand, modulo 2^N.
+    Negate,
+    /// `~`: each bit turned.
+    Not,
+    /// `log2`: the exponent of a power of two.
+    Log2,
+    /// `abs`: the operand without its sign; the least number stays itself.
+    Abs,
+}
+
+/// A node of a precondition. Its operands are nodes before it, or nodes of the rule's terms, by their places.
+#[derive(Clone, Copy, Debug)]
+pub enum Formula {
+    /// A comparison of two terms of one class.
+    Compare(Pred, u32, u32),
+    /// `isPowerOf2`: exactly one bit of the term is set.
+    IsPowerOfTwo(u32),
+    /// `isSignBit`: the highest bit of the term alone is set.
+    IsSignBit(u32),
+    /// `hasOneUse`: the register that this source statement assigns is used once where the rule is applied. When a rule is decided it
+    /// counts as true.
+    HasOneUse(u32),
+    Not(u32),
+    And(u32, u32),
+    Or(u32, u32),
 }
 
 /// A width for each class of a rule, in the order of the classes' numbers.

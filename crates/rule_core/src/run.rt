@@ -1,15 +1,16 @@
 //! Runs of the two halves of a rule.
 
-ghost use Rattle.std.specs.Prelude.{◌≡◌, ◌+◌, ◌≤◌, ◌<◌, ◌-◌, ◌^◌, ℕ, length, slice_get, IsSome, IfOk, option_map, Some};
+ghost use Rattle.std.specs.Prelude.{◌≡◌, ◌+◌, ◌≤◌, ℕ, length, take, slice_get, IsSome, IfOk, option_map, Some};
 ghost use Rattle.ops.specs.Value.{IsValueOf, IsEffectOf};
-ghost use Rattle.ops.specs.Integer.{bits, residue};
 ghost use Rattle.rule_core.specs.Checks.{IsRule};
 ghost use Rattle.rule_core.specs.Typing.{IsTyping};
-ghost use Rattle.rule_core.specs.Run.{value_of, ArgumentGives, OperandGives, StatementGives, SourceGives, TargetGives};
+ghost use Rattle.rule_core.specs.Run.{value_of, OperandGives, StatementGives, SourceGives, TargetGives};
+ghost use Rattle.rule_core.specs.Terms.{constant_values, number_or_zero, value_at};
 ghost use Rattle.rule_core.specs.Valid.{InputsFit, ConstantsFit, SourceChoicesFit, TargetChoicesFit};
-ghost use Rattle.rule_core.specs.Readiness.{seen, ArgumentIsReady, OperandIsReady, StatementIsReady, ValuesFit, SourceRan, TargetRan};
+ghost use Rattle.rule_core.specs.Readiness.{seen, shown, OperandIsReady, StatementIsReady, ValuesFit, GivenFits, SourceRan, TargetRan};
 
 use crate::rule::{Argument, Op, Operand, Register, Rule, Statement, Typing};
+use crate::term::{fitting, number_or_zero, residue, term_value};
 use lists::List;
 use ops::{Effect, Value, Width, Word, choose, compare, convert, evaluate};
 use std::alloc::{AllocError, Global};
@@ -24,10 +25,13 @@ pub(crate) struct Held<'a> {
 
 /// What a half is run on beside the inputs.
 #[derive(Clone, Copy)]
-struct Given<'a> {
+pub(crate) struct Given<'a> {
     typing: &'a [Width],
     constants: &'a [Word],
+    /// A number for each `undef` of the half.
     choices: &'a [Word],
+    /// What the rule's terms give.
+    terms: &'a [Value],
 }
 
 /// What the source does on these inputs, constants and one number for each of its `undef`s: its statements in order, and then the
@@ -47,10 +51,12 @@ pub fn run_source(
     requires choices { SourceChoicesFit rule.now typing.now choices.now }
     ensures { IfOk result (λ effect. SourceGives typing.now constants.now choices.now rule.now inputs.now effect) }
 {
+    let terms = constant_values(alloc, rule, typing.as_slice(), constants.as_slice())?;
     let given = Given {
         typing: typing.as_slice(),
         constants: constants.as_slice(),
         choices: choices.as_slice(),
+        terms: &terms,
     };
     let count = rule.source.len();
     let Some(values) = source_values(alloc, rule, given, inputs.as_slice(), count)? else {
@@ -77,20 +83,46 @@ pub fn run_target(
     requires choices { TargetChoicesFit rule.now typing.now choices.now }
     ensures { IfOk result (λ effect. TargetGives typing.now constants.now choices.now rule.now inputs.now effect) }
 {
-    let given = Given {
+    let terms = constant_values(alloc, rule, typing.as_slice(), constants.as_slice())?;
+    let inputs = inputs.as_slice();
+    let before = Given {
         typing: typing.as_slice(),
         constants: constants.as_slice(),
-        choices: choices.as_slice(),
+        choices: &[],
+        terms: &terms,
     };
-    let inputs = inputs.as_slice();
     let count = rule.source.len() - 1;
-    let Some(source) = source_values(alloc, rule, given, inputs, count)? else {
+    let Some(source) = source_values(alloc, rule, before, inputs, count)? else {
         return Ok(Effect::Undefined);
+    };
+    let given = Given {
+        choices: choices.as_slice(),
+        ..before
     };
     let Some(values) = target_values(alloc, rule, given, inputs, &source)? else {
         return Ok(Effect::Undefined);
     };
     Ok(Effect::Gives(values[values.len() - 1]))
+}
+
+/// What the constant terms of the rule give.
+fn constant_values(
+    alloc: Global,
+    rule: &Rule,
+    typing: &[Width],
+    constants: &[Word],
+) -> Result<Vec<Value>, AllocError>
+    requires rule { IsRule rule.now }
+    requires typing { IsTyping rule.now typing.now }
+    requires constants { ConstantsFit rule.now typing.now constants.now }
+    ensures { IfOk result (λ values. values.items ≡ constant_values typing.now constants.now rule.now) }
+{
+    let mut values = Vec::new(alloc);
+    for term in rule.terms.as_slice() {
+        let value = term_value(typing, constants, &values, *term);
+        values.push(value)?;
+    }
+    Ok(values)
 }
 
 /// What the first statements of the source, so many, assign, or `None` where one is undefined behaviour.
@@ -103,9 +135,10 @@ fn source_values(
 ) -> Result<Option<Vec<Value>>, AllocError>
     requires rule { IsRule rule.now }
     requires typing { IsTyping rule.now given.typing.now }
+    requires given { GivenFits rule.now given.typing.now (take count rule.now.source) (shown given) }
     requires inputs { InputsFit rule.now given.typing.now inputs.now }
     requires count { count ≤ length rule.now.source }
-    ensures { IfOk result (λ values. SourceRan given.entry.typing.now given.entry.constants.now given.entry.choices.now rule.now inputs.now count (option_map (λ v. v.items) values)) }
+    ensures { IfOk result (λ values. SourceRan given.entry.typing.now (shown given.entry) rule.now inputs.now count (option_map (λ v. v.items) values)) }
 {
     let mut values = Vec::new(alloc);
     for place in 0..count {
@@ -132,10 +165,11 @@ fn target_values(
 ) -> Result<Option<Vec<Value>>, AllocError>
     requires rule { IsRule rule.now }
     requires typing { IsTyping rule.now given.typing.now }
+    requires given { GivenFits rule.now given.typing.now rule.now.target (shown given) }
     requires inputs { InputsFit rule.now given.typing.now inputs.now }
     requires count { length source.now + 1 ≡ length rule.now.source }
     requires source { ValuesFit given.typing.now rule.now.source source.now }
-    ensures { IfOk result (λ values. TargetRan given.entry.typing.now given.entry.constants.now given.entry.choices.now rule.now inputs.now source.now (option_map (λ v. v.items) values)) }
+    ensures { IfOk result (λ values. TargetRan given.entry.typing.now (shown given.entry) rule.now inputs.now source.now (option_map (λ v. v.items) values)) }
 {
     let mut values = Vec::new(alloc);
     for statement in rule.target.as_slice() {
@@ -154,8 +188,8 @@ fn target_values(
 
 /// What a statement does, given what the registers hold.
 fn effect_of(given: Given, held: Held, statement: &Statement) -> Effect
-    requires { StatementIsReady given.typing.now (seen held) statement.now }
-    ensures gives { StatementGives given.entry.typing.now given.entry.constants.now given.entry.choices.now (seen held.entry) statement.now result }
+    requires { StatementIsReady given.typing.now (shown given) (seen held) statement.now }
+    ensures gives { StatementGives given.entry.typing.now (shown given.entry) (seen held.entry) statement.now result }
     ensures width { (N : ℕ) → slice_get given.entry.typing.now statement.now.class ≡ Some N → IsEffectOf N result }
 {
     match statement.op {
@@ -189,8 +223,8 @@ fn effect_of(given: Given, held: Held, statement: &Statement) -> Effect
 
 /// What an operand gives.
 fn operand_value(given: Given, held: Held, operand: Operand) -> Value
-    requires { (N : ℕ) × OperandIsReady given.typing.now (seen held) N operand }
-    ensures gives { OperandGives given.entry.typing.now given.entry.constants.now given.entry.choices.now (seen held.entry) operand result }
+    requires { (N : ℕ) × OperandIsReady given.typing.now (shown given) (seen held) N operand }
+    ensures gives { OperandGives given.entry.typing.now (shown given.entry) (seen held.entry) operand result }
     ensures width { (N : ℕ) → slice_get given.entry.typing.now operand.class ≡ Some N → IsValueOf N result }
 {
     let width = width_of(given, operand.class);
@@ -198,7 +232,35 @@ fn operand_value(given: Given, held: Held, operand: Operand) -> Value
         Argument::Register(register) => register_value(held, register),
         Argument::Literal(literal) => Value::Bits(fitting(width, residue(width, literal))),
         Argument::Truth(truth) => Value::Bits(fitting(width, if truth { 1 } else { 0 })),
+        Argument::Constant(k) => Value::Bits(number_at(given.constants, k)),
+        Argument::Undef(k) => Value::Bits(number_at(given.choices, k)),
+        Argument::Term(n) => Value::Bits(or_zero(width, value_at(given.terms, n))),
     }
+}
+
+/// The number at a place.
+fn number_at(numbers: &[Word], k: u32) -> Word
+    requires { IsSome (slice_get numbers.now k) }
+    ensures { slice_get numbers.now k ≡ Some result }
+{
+    numbers[k as usize]
+}
+
+/// The value at a place.
+fn value_at(values: &[Value], n: u32) -> Value
+    requires { IsSome (slice_get values.now n) }
+    ensures value { value_at values.now n ≡ result }
+    ensures there { slice_get values.now n ≡ Some result }
+{
+    values[n as usize]
+}
+
+/// The number that a value of `iN` is, and 0 for poison.
+fn or_zero(width: Width, value: Value) -> Word
+    requires { IsValueOf width value }
+    ensures { result ≡ record { width = width; number = number_or_zero value } }
+{
+    fitting(width, number_or_zero(value))
 }
 
 /// What a register holds.
@@ -219,22 +281,4 @@ fn width_of(given: Given, class: u32) -> Width
     ensures { slice_get given.entry.typing.now class ≡ Some result }
 {
     given.typing[class as usize]
-}
-
-/// The literal modulo 2^N.
-#[tactic(auto, unfolding(ops::specs::Integer::residue))]
-fn residue(width: Width, literal: i128) -> u64
-    ensures residue { result ≡ residue width literal }
-    ensures fits { result < 2 ^ width }
-{
-    let modulus = (1u128 << width.bits()) as i128;
-    literal.rem_euclid(modulus) as u64
-}
-
-/// The number as one of `iN`, in which it fits.
-fn fitting(width: Width, number: u64) -> Word
-    requires { number < 2 ^ width }
-    ensures { result ≡ record { width = width; number = number } }
-{
-    Word::wrapped(width, number)
 }

@@ -1,15 +1,17 @@
 //! The width of a position under a typing.
 
-ghost use Rattle.std.specs.Prelude.{◌≡◌, ◌+◌, ◌<◌, ◌≤◌, length, Some, slice_get, flat_map, MatchResult};
+ghost use Rattle.std.specs.Prelude.{◌≡◌, ◌+◌, ◌++◌, ◌<◌, ◌≤◌, length, Some, slice_get, flat_map, MatchResult};
 ghost use Rattle.rule_core.specs.Checks.{IsRule};
-ghost use Rattle.rule_core.specs.Positions.{classes_of, classes_of_statement};
+ghost use Rattle.rule_core.specs.Positions.{classes_of, classes_of_statement, classes_of_term, terms_in};
 ghost use Rattle.rule_core.specs.Typing.{IsTyping, width_at};
 
-use crate::rule::{Op, Rule, Statement, Typing};
+use crate::rule::{Node, Op, Rule, Statement, Term, Typing};
 use ops::Width;
 
-/// The width of a position of the rule. Positions count results and operands from 0: statement by statement, the source's before
-/// the target's, and of each the result and then the operands from left to right. It takes as many steps as there are statements.
+/// The width of a position of the rule. Positions count results, operands and nodes from 0: statement by statement, the source's before
+/// the target's, of each the result and then the operands from left to right; and behind these the nodes of the terms, those of `Wit:`
+/// last, where a node that is a register's width has a second position, which is the register's. It takes as many steps as there are
+/// statements and nodes.
 pub fn width_at(rule: &Rule, typing: &Typing, position: u32) -> Width
     requires typing { IsTyping rule.now typing.now }
     requires position { position < length (classes_of rule.now) }
@@ -23,7 +25,26 @@ pub fn positions(rule: &Rule) -> u32
     requires { IsRule rule.now }
     ensures { result ≡ length (classes_of rule.now) }
 {
-    positions_of(rule.source.as_slice()) + positions_of(rule.target.as_slice())
+    positions_of(rule.source.as_slice())
+        + positions_of(rule.target.as_slice())
+        + positions_among(rule.terms.as_slice())
+        + positions_among(rule.witness_terms.as_slice())
+}
+
+/// How many positions some nodes have.
+fn positions_among(terms: &[Term]) -> u32
+    requires { length terms.now ≤ 256 }
+    ensures count { result ≡ length (flat_map classes_of_term terms.now) }
+    ensures few { result ≤ 512 }
+{
+    let mut count = 0;
+    for term in terms {
+        count += match term.node {
+            Node::Width(_, _) => 2,
+            _ => 1,
+        };
+    }
+    count
 }
 
 /// How many positions some statements have.
@@ -50,10 +71,50 @@ pub fn class_at(rule: &Rule, position: u32) -> u32
 {
     match class_among(rule.source.as_slice(), position as usize) {
         Ok(class) => class,
-        Err(rest) => match class_among(rule.target.as_slice(), rest) {
+        Err(rest) => class_behind_source(rule, rest),
+    }
+}
+
+/// The class of a position behind those of the source.
+fn class_behind_source(rule: &Rule, position: usize) -> u32
+    requires { position < length (flat_map classes_of_statement rule.now.target ++ flat_map classes_of_term (terms_in rule.now)) }
+    ensures { slice_get (flat_map classes_of_statement rule.now.target ++ flat_map classes_of_term (terms_in rule.now)) position ≡ Some result }
+{
+    match class_among(rule.target.as_slice(), position) {
+        Ok(class) => class,
+        Err(rest) => match class_in_terms(rule.terms.as_slice(), rest) {
             Ok(class) => class,
-            Err(_) => unreachable!(),
+            Err(rest) => match class_in_terms(rule.witness_terms.as_slice(), rest) {
+                Ok(class) => class,
+                Err(_) => unreachable!(),
+            },
         },
+    }
+}
+
+/// The class of a position among those of some nodes, or the place that it has behind them.
+fn class_in_terms(terms: &[Term], position: usize) -> Result<u32, usize>
+    ensures { MatchResult result (λ class. slice_get (flat_map classes_of_term terms.now) position ≡ Some class) (λ rest. position ≡ length (flat_map classes_of_term terms.now) + rest) }
+{
+    let mut rest = position;
+    for term in terms {
+        rest = match class_in_term(term, rest) {
+            Ok(class) => return Ok(class),
+            Err(rest) => rest,
+        };
+    }
+    Err(rest)
+}
+
+/// The same among the positions of one node.
+fn class_in_term(term: &Term, position: usize) -> Result<u32, usize>
+    ensures { MatchResult result (λ class. slice_get (classes_of_term term.now) position ≡ Some class) (λ rest. position ≡ length (classes_of_term term.now) + rest) }
+{
+    match (position, term.node) {
+        (0, _) => Ok(term.class),
+        (1, Node::Width(_, class)) => Ok(class),
+        (_, Node::Width(_, _)) => Err(position - 2),
+        _ => Err(position - 1),
     }
 }
 

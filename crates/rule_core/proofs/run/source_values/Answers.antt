@@ -1,8 +1,10 @@
-use Rattle.std.proofs.Common.{ℕ, ◌≡◌, ◌<◌, List, length, Some, refl, arith, get_or}
+use Rattle.std.proofs.Common.{ℕ, ◌≡◌, ◌<◌, List, length, take, Some, refl, arith, get_or}
 use Rattle.std.specs.Prelude.{slice_get}
 use Rattle.std.proofs.lemmas.Option.{slice_get_read}
 use Rattle.rule_core.specs.declared.rule.Statement.{Statement}
 use Rattle.rule_core.specs.Run.{Undefines, holding_source}
+use Rattle.rule_core.specs.Readiness.{shown}
+use Rattle.rule_core.proofs.Givens.{Contains-take}
 use Rattle.rule_core.proofs.Ready.{source_next, ValuesFit-push}
 use Rattle.rule_core.proofs.Runs.{Follows-step-take}
 use Rattle.rule_core.proofs.run.source_values.Goals as goal
@@ -15,15 +17,16 @@ pub effect_of-requires : goal.effect_of-requires
 effect_of-requires c =
     let at = stands c.args.rule.now.source c.as_slice.result.now c.loop-place.place c.index-as_slice-place.result c.as_slice.ensures (omega arith) c.index-as_slice-place.is in
     rw c.deref.ensures.value
-    (source_next c.args.rule.now c.args.given.typing.now c.args.inputs.now c.loop-place.values.items c.loop-place.place c.index-as_slice-place.result
-    c.requires.rule c.requires.typing c.requires.inputs c.loop-place.invariant.fit c.loop-place.invariant.count at)
+    (source_next c.args.rule.now c.args.given.typing.now (take c.args.count c.args.rule.now.source) (shown c.args.given) c.args.inputs.now c.loop-place.values.items c.loop-place.place c.index-as_slice-place.result
+    c.requires.rule c.requires.typing c.requires.given c.requires.inputs c.loop-place.invariant.fit c.loop-place.invariant.count at
+    (Contains-take c.args.rule.now.source c.args.count c.loop-place.place c.index-as_slice-place.result (omega arith) at))
 
 pub returns-in-Undefined : goal.returns-in-Undefined
 returns-in-Undefined c =
     let at = stands c.args.rule.now.source c.as_slice.result.now c.loop-place.place c.index-as_slice-place.result c.as_slice.ensures (omega arith) c.index-as_slice-place.is in
     let gives = rw c.deref.ensures.value at c.in-Undefined.ensures.gives in
     c.loop-place.invariant.follows Undefines
-    (Follows-step-take c.args.given.typing.now c.args.given.constants.now c.args.given.choices.now holding_source c.args.rule.now.source c.args.count c.loop-place.place c.index-as_slice-place.result _ _ Undefines
+    (Follows-step-take c.args.given.typing.now (shown c.args.given) holding_source c.args.rule.now.source c.args.count c.loop-place.place c.index-as_slice-place.result _ _ Undefines
     (omega arith) c.requires.count at gives refl)
 
 pub loop-place-preserved : goal.loop-place-preserved
@@ -38,6 +41,6 @@ loop-place-preserved c =
           c.loop-place.invariant.fit last c.in-Gives.ensures.width);
       follows = λ end rest.
           c.loop-place.invariant.follows end
-          (Follows-step-take c.args.given.typing.now c.args.given.constants.now c.args.given.choices.now holding_source c.args.rule.now.source c.args.count c.loop-place.place c.index-as_slice-place.result _ _ end
+          (Follows-step-take c.args.given.typing.now (shown c.args.given) holding_source c.args.rule.now.source c.args.count c.loop-place.place c.index-as_slice-place.result _ _ end
           (omega arith) c.requires.count at gives (rw items at rest));
     }

@@ -1,6 +1,6 @@
 use Rattle.std.proofs.Common.{◌≡◌, [], length, drop, take}
 use Rattle.rule_core.specs.Run.{Ending, Follows, holding_source, at_start}
-use Rattle.rule_core.specs.Readiness.{ValuesFit}
+use Rattle.rule_core.specs.Readiness.{shown, ValuesFit}
 use Rattle.rule_core.proofs.run.source_values.Given as goal
 
 abbrev pub invariant-loop-place : goal.invariant-loop-place
@@ -8,6 +8,6 @@ invariant-loop-place l = record {
   count : length l.values.items ≡ l.place;
   fit : ValuesFit l.given.typing.now l.rule.source l.values.items;
   follows : (end : Ending)
-      → Follows l.given.typing.now l.given.constants.now l.given.choices.now holding_source (drop l.place (take l.count l.rule.source)) (record { inputs = l.inputs; source = l.values.items; target = [] }) end
-      → Follows l.given.typing.now l.given.constants.now l.given.choices.now holding_source (take l.count l.rule.source) (at_start l.inputs) end;
+      → Follows l.given.typing.now (shown l.given) holding_source (drop l.place (take l.count l.rule.source)) (record { inputs = l.inputs; source = l.values.items; target = [] }) end
+      → Follows l.given.typing.now (shown l.given) holding_source (take l.count l.rule.source) (at_start l.inputs) end;
 }

@@ -3,6 +3,7 @@ use Rattle.std.specs.Prelude.{slice_get}
 use Rattle.std.proofs.lemmas.Option.{slice_get_read}
 use Rattle.rule_core.specs.declared.rule.Statement.{Statement}
 use Rattle.rule_core.specs.Run.{Undefines, holding_target}
+use Rattle.rule_core.specs.Readiness.{shown}
 use Rattle.rule_core.proofs.Ready.{target_next, ValuesFit-push}
 use Rattle.rule_core.proofs.Runs.{Follows-step}
 use Rattle.rule_core.proofs.run.target_values.Goals as goal
@@ -15,15 +16,15 @@ pub effect_of-requires : goal.effect_of-requires
 effect_of-requires c =
     let at = stands c.args.rule.now.target c.as_slice-statement-items.result.now c.loop-statement.statement-index c.statement-item.result c.as_slice-statement-items.ensures (omega (arith, ap length c.as_slice-statement-items.ensures)) c.statement-item.is in
     rw c.deref.ensures.value
-    (target_next c.args.rule.now c.args.given.typing.now c.args.inputs.now c.args.source.now c.loop-statement.values.items c.loop-statement.statement-index c.statement-item.result
-    c.requires.rule c.requires.typing c.requires.inputs c.requires.source c.loop-statement.invariant.fit c.requires.count c.loop-statement.invariant.count at)
+    (target_next c.args.rule.now c.args.given.typing.now (shown c.args.given) c.args.inputs.now c.args.source.now c.loop-statement.values.items c.loop-statement.statement-index c.statement-item.result
+    c.requires.rule c.requires.typing c.requires.given c.requires.inputs c.requires.source c.loop-statement.invariant.fit c.requires.count c.loop-statement.invariant.count at)
 
 pub returns-in-Undefined : goal.returns-in-Undefined
 returns-in-Undefined c =
     let at = stands c.args.rule.now.target c.as_slice-statement-items.result.now c.loop-statement.statement-index c.statement-item.result c.as_slice-statement-items.ensures (omega (arith, ap length c.as_slice-statement-items.ensures)) c.statement-item.is in
     let gives = rw c.deref.ensures.value at c.in-Undefined.ensures.gives in
     c.loop-statement.invariant.follows Undefines
-    (Follows-step c.args.given.typing.now c.args.given.constants.now c.args.given.choices.now holding_target c.args.rule.now.target c.loop-statement.statement-index c.statement-item.result _ _ Undefines
+    (Follows-step c.args.given.typing.now (shown c.args.given) holding_target c.args.rule.now.target c.loop-statement.statement-index c.statement-item.result _ _ Undefines
     (omega (arith, ap length c.as_slice-statement-items.ensures)) (rw c.as_slice-statement-items.ensures at c.statement-item.is) gives refl)
 
 pub loop-statement-preserved : goal.loop-statement-preserved
@@ -38,6 +39,6 @@ loop-statement-preserved c =
           c.loop-statement.invariant.fit last c.in-Gives.ensures.width);
       follows = λ end rest.
           c.loop-statement.invariant.follows end
-          (Follows-step c.args.given.typing.now c.args.given.constants.now c.args.given.choices.now holding_target c.args.rule.now.target c.loop-statement.statement-index c.statement-item.result _ _ end
+          (Follows-step c.args.given.typing.now (shown c.args.given) holding_target c.args.rule.now.target c.loop-statement.statement-index c.statement-item.result _ _ end
           (omega (arith, ap length c.as_slice-statement-items.ensures)) (rw c.as_slice-statement-items.ensures at c.statement-item.is) gives (rw items at rest));
     }

@@ -1,6 +1,6 @@
 use Rattle.std.proofs.Common.{◌≡◌, [], length, drop}
 use Rattle.rule_core.specs.Run.{Ending, Follows, holding_target}
-use Rattle.rule_core.specs.Readiness.{ValuesFit}
+use Rattle.rule_core.specs.Readiness.{shown, ValuesFit}
 use Rattle.rule_core.proofs.run.target_values.Given as goal
 
 abbrev pub invariant-loop-statement : goal.invariant-loop-statement
@@ -8,6 +8,6 @@ invariant-loop-statement l = record {
   count : length l.values.items ≡ l.statement-index;
   fit : ValuesFit l.given.typing.now l.rule.target l.values.items;
   follows : (end : Ending)
-      → Follows l.given.typing.now l.given.constants.now l.given.choices.now holding_target (drop l.statement-index l.rule.target) (record { inputs = l.inputs; source = l.source; target = l.values.items }) end
-      → Follows l.given.typing.now l.given.constants.now l.given.choices.now holding_target l.rule.target (record { inputs = l.inputs; source = l.source; target = [] }) end;
+      → Follows l.given.typing.now (shown l.given) holding_target (drop l.statement-index l.rule.target) (record { inputs = l.inputs; source = l.source; target = l.values.items }) end
+      → Follows l.given.typing.now (shown l.given) holding_target l.rule.target (record { inputs = l.inputs; source = l.source; target = [] }) end;
 }

@@ -3,8 +3,8 @@ use Rattle.rule_core.proofs.tests.choice.Goals as goal
 pub returns : goal.returns
 returns c =
     rw (
-      c.in_ok-named-3.ensures,
-      c.new.ensures,
+      c.plain_rule.ensures,
+      c.in_ok-name.ensures,
       c.in_ok-push-2.ensures.ok,
       c.in_ok-push.ensures.ok,
       c.new-inputs.ensures,

@@ -7,7 +7,7 @@ use Rattle.rule_core.specs.Valid.{InputsFit}
 use Rattle.rule_core.specs.Positions.{classes_of}
 use Rattle.rule_core.specs.Typing.{IsTyping}
 use Rattle.rule_core.specs.Sample.{choice}
-use Rattle.rule_core.proofs.Sample.{choice_is_rule, choice_is_typed, choice_inputs}
+use Rattle.rule_core.proofs.Sample.{choice_is_rule, choice_is_typed, choice_inputs, no_constants, no_source_choices, no_target_choices}
 use Rattle.rule_core.proofs.tests.choice_has_its_effects.Goals as goal
 
 count : (rule : Rule) → rule ≡ choice → length (classes_of rule) ≡ 9
@@ -48,7 +48,13 @@ pub effects-requires-clause-rule : goal.effects-requires-clause-rule
 effects-requires-clause-rule g c = rw c.in_ok-rule.ensures choice_is_rule
 
 pub effects-requires-clause-constants : goal.effects-requires-clause-constants
-effects-requires-clause-constants g c = rw c.in_ok-rule.ensures refl
+effects-requires-clause-constants g c = no_constants c.in_ok-rule.rule c.push-2.new.self (rw c.in_ok-rule.ensures refl)
+
+pub effects-requires-clause-source_choices : goal.effects-requires-clause-source_choices
+effects-requires-clause-source_choices g c = no_source_choices c.in_ok-rule.rule c.push-2.new.self (rw c.in_ok-rule.ensures refl)
+
+pub effects-requires-clause-target_choices : goal.effects-requires-clause-target_choices
+effects-requires-clause-target_choices g c = no_target_choices c.in_ok-rule.rule c.push-2.new.self (rw c.in_ok-rule.ensures refl)
 
 pub effects-requires-clause-typing : goal.effects-requires-clause-typing
 effects-requires-clause-typing g c =

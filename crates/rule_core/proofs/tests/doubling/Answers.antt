@@ -3,8 +3,8 @@ use Rattle.rule_core.proofs.tests.doubling.Goals as goal
 pub returns : goal.returns
 returns c =
     rw (
-      c.in_ok-named-2.ensures,
-      c.new.ensures,
+      c.plain_rule.ensures,
+      c.in_ok-name.ensures,
       c.in_ok-push.ensures.ok,
       c.new-inputs.ensures,
       c.in_ok-named.ensures,

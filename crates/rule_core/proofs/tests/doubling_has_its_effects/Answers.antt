@@ -6,7 +6,7 @@ use Rattle.rule_core.specs.declared.rule.Rule.{Rule}
 use Rattle.rule_core.specs.Valid.{InputsFit}
 use Rattle.rule_core.specs.Typing.{IsTyping}
 use Rattle.rule_core.specs.Sample.{doubling}
-use Rattle.rule_core.proofs.Sample.{doubling_is_rule, doubling_is_typed, doubling_inputs}
+use Rattle.rule_core.proofs.Sample.{doubling_is_rule, doubling_is_typed, doubling_inputs, no_constants, no_source_choices, no_target_choices}
 use Rattle.rule_core.proofs.tests.doubling_has_its_effects.Goals as goal
 
 bounds : (n N : ℕ) (made : Option ℕ) → made ≡ Some N → (IsSome made ↔ ((1 ≤ n) × (n ≤ 64))) → IfSome made (λ w. w ≡ n) → (1 ≤ N) × (N ≤ 64)
@@ -22,7 +22,13 @@ pub effects-requires-clause-rule : goal.effects-requires-clause-rule
 effects-requires-clause-rule g c = rw c.in_ok-rule.ensures doubling_is_rule
 
 pub effects-requires-clause-constants : goal.effects-requires-clause-constants
-effects-requires-clause-constants g c = rw c.in_ok-rule.ensures refl
+effects-requires-clause-constants g c = no_constants c.in_ok-rule.rule c.push.new.self (rw c.in_ok-rule.ensures refl)
+
+pub effects-requires-clause-source_choices : goal.effects-requires-clause-source_choices
+effects-requires-clause-source_choices g c = no_source_choices c.in_ok-rule.rule c.push.new.self (rw c.in_ok-rule.ensures refl)
+
+pub effects-requires-clause-target_choices : goal.effects-requires-clause-target_choices
+effects-requires-clause-target_choices g c = no_target_choices c.in_ok-rule.rule c.push.new.self (rw c.in_ok-rule.ensures refl)
 
 pub effects-requires-clause-typing : goal.effects-requires-clause-typing
 effects-requires-clause-typing g c =

@@ -1,0 +1,66 @@
+-- The exponent of a power of two, found from below.
+use Rattle.std.proofs.Common.{◌≡◌, ℕ, zero, suc, ◌<◌, ◌≤◌, ◌*◌, ◌^◌, ◌%◌, Bool, true, false, List, length, Some, None, ap, sym, ◌∙◌, arith, get_or, zero-add}
+use Rattle.std.specs.Prelude.{◌==◌, slice_get}
+use Rattle.std.specs.List.{range_with_len, position_or_len}
+use Rattle.std.proofs.lemmas.Bool.{eqb-true}
+use Rattle.std.proofs.Math.Nat.{mod-eq_of_lt}
+use Rattle.std.proofs.Math.Pow.{pow-lt}
+use Rattle.std.proofs.lemmas.List.Folds.{find_at}
+use Rattle.std.proofs.lemmas.List.Sums.{position_or_len_is, passes_at_first}
+use Rattle.std.proofs.lemmas.List.FromFn.{length-range_with_len, get_or-range_with_len}
+use Rattle.std.proofs.lemmas.Option.{slice_get-get_or, slice_get_past, slice_get_within, get_or_from_slice_get}
+use Rattle.rule_core.specs.Terms.{exponent}
+
+is_power : ℕ → ℕ → Bool
+is_power a k = 2 ^ k == a
+
+-- the first place at which it is found, or the end
+at_first : (N a k : ℕ) → k ≤ N → ((j : ℕ) → j < k → (2 ^ j == a) ≡ false) → (k < N → (2 ^ k == a) ≡ true) → exponent N a ≡ slice_get (range_with_len 0 N) k
+unfolding exponent is_power
+at_first N a k within before here =
+    let read : (j : ℕ) → j < N → get_or (range_with_len 0 N) j 0 ≡ j = λ j lt. get_or-range_with_len 0 N j 0 lt ∙ zero-add j in
+    let first : position_or_len (is_power a) (range_with_len 0 N) ≡ k =
+    position_or_len_is (is_power a) (range_with_len 0 N) k 0 (omega (arith, length-range_with_len 0 N))
+    (λ j lt. ap (is_power a) (read j (omega arith)) ∙ before j lt)
+    (λ lt. let inside : k < N = omega (arith, length-range_with_len 0 N) in ap (is_power a) (read k inside) ∙ here inside) in
+    find_at (is_power a) (range_with_len 0 N) ∙ ap (slice_get (range_with_len 0 N)) first
+
+pub found : (N a k : ℕ) → k < N → ((j : ℕ) → j < k → (2 ^ j == a) ≡ false) → (2 ^ k == a) ≡ true → exponent N a ≡ Some k
+found N a k within before here =
+    at_first N a k (omega arith) before (λ lt. here)
+    ∙ slice_get-get_or (range_with_len 0 N) k 0 (omega (arith, length-range_with_len 0 N))
+    ∙ ap (λ j. Some j) (get_or-range_with_len 0 N k 0 within ∙ zero-add k)
+
+pub not_found : (N a : ℕ) → ((j : ℕ) → j < N → (2 ^ j == a) ≡ false) → exponent N a ≡ None
+not_found N a before = at_first N a N (omega arith) before (λ lt. absurd (omega arith)) ∙ slice_get_past (range_with_len 0 N) N (omega (arith, length-range_with_len 0 N))
+
+-- an exponent that is found is below N, and a is its power of two
+pub within_width : (N a k : ℕ) → exponent N a ≡ Some k → (k < N) × (a ≡ 2 ^ k)
+unfolding exponent is_power
+within_width N a k is =
+    let places : List ℕ = range_with_len 0 N in
+    let i : ℕ = position_or_len (is_power a) places in
+    let at : slice_get places i ≡ Some k = sym (find_at (is_power a) places) ∙ is in
+    let inside : i < length places = slice_get_within places i k at in
+    let read : get_or places i 0 ≡ k = get_or_from_slice_get places i k 0 at in
+    let small : i < N = omega (arith, length-range_with_len 0 N) in
+    let same : i ≡ k = sym (get_or-range_with_len 0 N i 0 small ∙ zero-add i) ∙ read in
+    let passes : is_power a k ≡ true = ap (is_power a) (sym read) ∙ passes_at_first (is_power a) places 0 inside in
+    (omega arith, sym (eqb-true (2 ^ k) a passes))
+
+-- 1 moved to the left by fewer than 64 places
+pub shifted : (k : ℕ) → k < 64 → 1 * 2 ^ k % 18446744073709551616 ≡ 2 ^ k
+shifted k small =
+    let less : 2 ^ k < 2 ^ 64 = pow-lt small in
+    let below : 2 ^ k < 18446744073709551616 = omega arith in
+    let stays : 2 ^ k % 18446744073709551616 ≡ 2 ^ k = mod-eq_of_lt below in
+    omega arith
+
+-- a number is below its power of two
+below_power : (n : ℕ) → n < 2 ^ n
+below_power zero = omega arith
+below_power (suc n) = omega (arith, below_power n)
+
+-- so an exponent is a number of its width
+pub exponent_fits : (N a k : ℕ) → exponent N a ≡ Some k → k < 2 ^ N
+exponent_fits N a k is = let bounds = within_width N a k is in omega (arith, bounds.0, below_power k, pow-lt bounds.0)

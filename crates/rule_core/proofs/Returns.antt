@@ -1,0 +1,50 @@
+-- What the halves do, from how their statements ran.
+use Rattle.std.proofs.Common.{◌≡◌, ℕ, ◌-◌, ◌<◌, List, [], length, Option, None, Some, refl, sym, ◌∙◌, ap, arith, get_or}
+use Rattle.std.proofs.lemmas.List.{take_all}
+use Rattle.std.proofs.lemmas.Option.{slice_get_read}
+use Rattle.ops.specs.Number.{Number}
+use Rattle.ops.specs.declared.value.Value.{Value}
+use Rattle.ops.specs.declared.value.Effect.TheVariants as effects
+use Rattle.rule_core.specs.declared.rule.Rule.{Rule}
+use Rattle.rule_core.specs.Terms.{constant_values}
+use Rattle.rule_core.specs.Run.{Undefines, Holds, GivesLast, given_by, SourceGives, TargetGives}
+use Rattle.rule_core.specs.Readiness.{SourceRan, TargetRan}
+
+-- the same from equal parts
+pub terms_are : (rule : Rule) (typing classes : List ℕ) (constants numbers : List Number) (items terms : List Value)
+    → classes ≡ typing → numbers ≡ constants → items ≡ constant_values classes numbers rule → terms ≡ items → terms ≡ constant_values typing constants rule
+terms_are rule typing classes constants numbers items terms p q r s = s ∙ r ∙ ap (λ N. constant_values N numbers rule) p ∙ ap (λ n. constant_values typing n rule) q
+
+module _ (rule : Rule) (typing classes : List ℕ) (constants numbers choices chosen : List Number) (terms inputs read : List Value)
+    (p : classes ≡ typing) (q : numbers ≡ constants) (r : chosen ≡ choices) (s : terms ≡ constant_values typing constants rule) (t : read ≡ inputs) where
+  pub SourceRan-at : (count : ℕ) (values : Option (List Value)) → SourceRan classes (record { constants = numbers; choices = chosen; terms = terms }) rule read count values
+      → SourceRan typing (given_by typing constants choices rule) rule inputs count values
+  SourceRan-at count values ran = rw (s, p, q, r, t) at ran
+
+  pub TargetRan-at : (lent source : List Value) (values : Option (List Value)) → lent ≡ source → TargetRan classes (record { constants = numbers; choices = chosen; terms = terms }) rule read lent values
+      → TargetRan typing (given_by typing constants choices rule) rule inputs source values
+  TargetRan-at lent source values same ran = rw (s, p, q, r, t, same) at ran
+
+module _ (rule : Rule) (typing : List ℕ) (constants choices : List Number) (inputs : List Value) where
+  last : (values : List Value) (count : ℕ) (v : Value) → length values ≡ count → 0 < count → v ≡ get_or values (count - 1) v → GivesLast values (effects.Gives v)
+  last values count v long some is = (v, slice_get_read values (length values) (length values - 1) v refl (omega arith) (rw (sym long) at is), refl)
+
+  pub source_ends : (count : ℕ) → count ≡ length rule.source → SourceRan typing (given_by typing constants choices rule) rule inputs count None → SourceGives typing constants choices rule inputs effects.Undefined
+  source_ends count whole ran = (Undefines, rw (take_all count rule.source (omega arith)) at ran, refl)
+
+  pub source_returns : (count : ℕ) (values : List Value) (v : Value) → count ≡ length rule.source → 0 < length rule.source → SourceRan typing (given_by typing constants choices rule) rule inputs count (Some values)
+      → v ≡ get_or values (count - 1) v → SourceGives typing constants choices rule inputs (effects.Gives v)
+  source_returns count values v whole some ran is =
+      (Holds (record { inputs = inputs; source = values; target = [] }), rw (take_all count rule.source (omega arith)) at ran.2, last values count v ran.0 (omega arith) is)
+
+  module _ (count : ℕ) (source : List Value) (before : count ≡ length rule.source) (ran : SourceRan typing (given_by typing constants [] rule) rule inputs (count - 1) (Some source)) where
+    pub target_ends : TargetRan typing (given_by typing constants choices rule) rule inputs source None → TargetGives typing constants choices rule inputs effects.Undefined
+    target_ends follows = (Holds (record { inputs = inputs; source = source; target = [] }), rw before at ran.2, (Undefines, follows, refl))
+
+    pub target_returns : (values : List Value) (v : Value) → 0 < length rule.target → TargetRan typing (given_by typing constants choices rule) rule inputs source (Some values)
+        → v ≡ get_or values (length values - 1) v → TargetGives typing constants choices rule inputs (effects.Gives v)
+    target_returns values v some follows is = (
+      Holds (record { inputs = inputs; source = source; target = [] }),
+      rw before at ran.2,
+      (Holds (record { inputs = inputs; source = source; target = values }), follows.1, last values (length values) v refl (omega (arith, follows.0)) is),
+    )

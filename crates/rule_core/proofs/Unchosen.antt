@@ -1,0 +1,81 @@
+-- The source's temporaries run the same whatever its `undef`s are chosen to be.
+use Rattle.std.proofs.Common.{◌≡◌, ℕ, suc, ◌-◌, ◌<◌, List, [], ◌∷◌, ◌++◌, length, drop, Some, refl, subst, arith}
+use Rattle.std.specs.Prelude.{slice_get, Contains}
+use Rattle.std.proofs.lemmas.List.{take-append-drop}
+use Rattle.ops.specs.Number.{Number}
+use Rattle.ops.specs.declared.value.Value.{Value}
+use Rattle.ops.specs.declared.value.Effect.{Effect}
+use Rattle.ops.specs.declared.value.Effect.TheVariants as effects
+use Rattle.rule_core.specs.declared.rule.Rule.{Rule}
+use Rattle.rule_core.specs.declared.rule.Statement.{Statement}
+use Rattle.rule_core.specs.declared.rule.Op.{Op}
+use Rattle.rule_core.specs.declared.rule.Op.TheVariants.{Binary, Compare, Select, Convert, Copy}
+use Rattle.rule_core.specs.declared.rule.Operand.{Operand}
+use Rattle.rule_core.specs.declared.rule.Argument.{Argument}
+use Rattle.rule_core.specs.declared.rule.Argument.TheVariants as arguments
+use Rattle.rule_core.specs.Positions.{operands_of}
+use Rattle.rule_core.specs.Checks.{IsRule, SourceMayRead}
+use Rattle.rule_core.specs.Run.{Held, Undefines, GoesOn, given_by, at_start, temporaries_of, holding_source, ArgumentGives, OperandGives, OpGives, Follows, TemporariesEnd, SourceGives}
+use Rattle.rule_core.proofs.Members.{Contains-from_get}
+use Rattle.rule_core.proofs.Givens.{get_taken}
+use Rattle.rule_core.proofs.Once.{follows_once}
+
+-- it is no `undef`
+NoUndef : Argument → Type 0
+NoUndef argument = (k : ℕ) → argument ≡ arguments.Undef k → ⊥
+
+module _ (rule : Rule) (typing : List ℕ) (constants choices : List Number) where
+  argument_same : (held : Held) (N : ℕ) (x : Argument) (v : Value) → NoUndef x → ArgumentGives typing (given_by typing constants [] rule) held N x v → ArgumentGives typing (given_by typing constants choices rule) held N x v
+  unfolding NoUndef
+  argument_same held N (arguments.Undef k) v none gives = absurd (none k refl)
+  argument_same held N x v none gives = gives
+
+  operand_same : (held : Held) (o : Operand) (v : Value) → NoUndef o.value → OperandGives typing (given_by typing constants [] rule) held o v → OperandGives typing (given_by typing constants choices rule) held o v
+  operand_same held o v none (N, width, gives) = (N, width, argument_same held N o.value v none gives)
+
+  op_same : (held : Held) (N : ℕ) (op : Op) (e : Effect) → ((o : Operand) → Contains (operands_of op) o → NoUndef o.value) → OpGives typing (given_by typing constants [] rule) held N op e → OpGives typing (given_by typing constants choices rule) held N op e
+  op_same held N (Binary op flags a b) e none (x, y, p, q, is) =
+      let among = a ∷ b ∷ [] in
+      (x, y, operand_same held a x (none a (Contains-from_get among 0 a refl)) p, operand_same held b y (none b (Contains-from_get among 1 b refl)) q, is)
+  op_same held N (Compare pred a b) e none (M, x, y, at, p, q, is) =
+      let among = a ∷ b ∷ [] in
+      (M, x, y, at, operand_same held a x (none a (Contains-from_get among 0 a refl)) p, operand_same held b y (none b (Contains-from_get among 1 b refl)) q, is)
+  op_same held N (Select c a b) e none (z, x, y, o, p, q, is) =
+      let among = c ∷ a ∷ b ∷ [] in (
+        z,
+        x,
+        y,
+        operand_same held c z (none c (Contains-from_get among 0 c refl)) o,
+        operand_same held a x (none a (Contains-from_get among 1 a refl)) p,
+        operand_same held b y (none b (Contains-from_get among 2 b refl)) q,
+        is,
+      )
+  op_same held N (Convert cast a to) e none (M, x, at, p, is) = (M, x, at, operand_same held a x (none a (Contains-from_get (a ∷ []) 0 a refl)) p, is)
+  op_same held N (Copy a) e none (x, p, is) = (x, operand_same held a x (none a (Contains-from_get (a ∷ []) 0 a refl)) p, is)
+
+  -- statements without an `undef` that end in undefined behaviour do so with others behind them
+  follows_same : (statements rest : List Statement) (held : Held) → ((k : ℕ) (s : Statement) → slice_get statements k ≡ Some s → (o : Operand) → Contains (operands_of s.op) o → NoUndef o.value)
+      → Follows typing (given_by typing constants [] rule) holding_source statements held Undefines → Follows typing (given_by typing constants choices rule) holding_source (statements ++ rest) held Undefines
+  follows_same [] rest held none is = cc
+  follows_same (s ∷ statements) rest held none (e, (N, width, gives), goes) =
+      let same = op_same held N s.op e (none 0 s refl) gives in
+      elim e as (λ e. OpGives typing (given_by typing constants choices rule) held N s.op e → GoesOn (λ v. Follows typing (given_by typing constants [] rule) holding_source statements (holding_source held v) Undefines) e Undefines
+      → Follows typing (given_by typing constants choices rule) holding_source (s ∷ (statements ++ rest)) held Undefines) [
+        | effects.Undefined ↦ λ gives goes. (effects.Undefined, (N, width, gives), refl)
+        | effects.Gives v ↦ λ gives goes. (effects.Gives v, (N, width, gives), follows_same statements rest (holding_source held v) (λ k. none (suc k)) goes)
+      ] same goes
+
+  -- so the source does where its temporaries do
+  pub undefined_source : IsRule rule → (inputs : List Value) (e : Effect) → TemporariesEnd typing constants rule inputs Undefines → SourceGives typing constants choices rule inputs e → e ≡ effects.Undefined
+  unfolding NoUndef
+  undefined_source checked inputs e ends (end, follows, leads) =
+      let count : ℕ = length rule.source - 1 in
+      let none : (k : ℕ) (s : Statement) → slice_get (temporaries_of rule) k ≡ Some s → (o : Operand) → Contains (operands_of s.op) o → NoUndef o.value = λ k s at o among j is.
+      let whole = get_taken rule.source count k s at in
+      let root : suc k ≡ length rule.source = subst (SourceMayRead rule k) is (checked.source_reads k s o whole.0 among) in
+      let before : k < count = whole.1 in
+      absurd (omega arith) in
+      let runs = follows_same (temporaries_of rule) (drop count rule.source) (at_start inputs) none ends in
+      let all : Follows typing (given_by typing constants choices rule) holding_source rule.source (at_start inputs) Undefines = rw (take-append-drop count rule.source) at runs in
+      let same : end ≡ Undefines = follows_once typing (given_by typing constants choices rule) holding_source rule.source (at_start inputs) end Undefines follows all in
+      rw same at leads

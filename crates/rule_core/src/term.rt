@@ -1,0 +1,166 @@
+//! What the nodes of constant terms give.
+
+ghost use Rattle.std.specs.Prelude.{◌≡◌, ◌<◌, ◌-◌, ◌^◌, nat_lt, if◌then◌else◌, slice_index};
+ghost use Rattle.std.specs.Option.{option_map_or};
+ghost use Rattle.ops.specs.Integer.{bits, residue, least};
+ghost use Rattle.ops.specs.Value.{IsValueOf};
+ghost use Rattle.ops.specs.declared.value.Value.TheVariants.{Poison};
+ghost use Rattle.rule_core.specs.Terms.{of_constants, value_given, within, exponent, function_at, term_value, number_or_zero};
+ghost use Rattle.rule_core.specs.Readiness.{TermIsReady};
+
+use crate::rule::{Function, Node, Term};
+use ops::{Effect, Flags, Opcode, Value, Width, Word, evaluate};
+
+/// No flags: a term's operators have none.
+const NO_FLAGS: Flags = Flags {
+    nuw: false,
+    nsw: false,
+    exact: false,
+};
+
+/// What a node of a constant term gives, from what the nodes before it give; poison where it has no value.
+pub fn term_value(typing: &[Width], constants: &[Word], before: &[Value], term: Term) -> Value
+    requires { TermIsReady typing.now constants.now before.now term }
+    ensures value { result ≡ term_value typing.now (of_constants constants.now) before.now term }
+    ensures width { IsValueOf (slice_index typing.now term.class) result }
+{
+    let width = typing[term.class as usize];
+    match term.node {
+        Node::Literal(literal) => Value::Bits(fitting(width, residue(width, literal))),
+        Node::Constant(k) => Value::Bits(constants[k as usize]),
+        Node::Width(_, class) => within(width, typing[class as usize].bits()),
+        Node::Unary(function, operand) => match before[operand as usize] {
+            Value::Poison => Value::Poison,
+            Value::Bits(a) => function_value(function, width, a),
+        },
+        Node::Binary(opcode, left, right) => value_given(evaluate(
+            opcode,
+            NO_FLAGS,
+            width,
+            before[left as usize],
+            before[right as usize],
+        )),
+        Node::Register(_) | Node::Undef(_) => unreachable!(),
+    }
+}
+
+/// What a function gives at a number of `iN`.
+fn function_value(function: Function, width: Width, a: Word) -> Value
+    requires { a.width ≡ width }
+    ensures value { result ≡ function_at function width a.number }
+    ensures width { IsValueOf width result }
+{
+    match function {
+        Function::Negate => value_given(evaluate(
+            Opcode::Sub,
+            NO_FLAGS,
+            width,
+            Value::Bits(fitting(width, 0)),
+            Value::Bits(a),
+        )),
+        Function::Not => value_given(evaluate(
+            Opcode::Xor,
+            NO_FLAGS,
+            width,
+            Value::Bits(minus_one(width)),
+            Value::Bits(a),
+        )),
+        Function::Log2 => logarithm(width, a),
+        Function::Abs => Value::Bits(absolute(width, a)),
+    }
+}
+
+/// What an instruction gives, and poison where it is undefined behaviour.
+fn value_given(effect: Effect) -> Value
+    ensures { result ≡ value_given effect }
+{
+    match effect {
+        Effect::Undefined => Value::Poison,
+        Effect::Gives(value) => value,
+    }
+}
+
+/// The number, if it is one of `iN`, and else poison.
+fn within(width: Width, number: u32) -> Value
+    ensures value { result ≡ within width number }
+    ensures width { IsValueOf width result }
+{
+    match Word::new(width, u64::from(number)) {
+        Some(word) => Value::Bits(word),
+        None => Value::Poison,
+    }
+}
+
+/// The number that is -1 in two's complement.
+fn minus_one(width: Width) -> Word
+    ensures { result ≡ record { width = width; number = 2 ^ width - 1 } }
+{
+    fitting(width, ((1u128 << width.bits()) - 1) as u64)
+}
+
+/// The exponent below N of which the number is the power of two, if there is one.
+pub fn exponent(a: Word) -> Option<u32>
+    ensures { result ≡ exponent a.width a.number }
+{
+    for k in 0..a.width().bits() {
+        if 1u64 << k == a.number() {
+            return Some(k);
+        }
+    }
+    None
+}
+
+/// The logarithm of a power of two, and else poison.
+fn logarithm(width: Width, a: Word) -> Value
+    requires { a.width ≡ width }
+    ensures value { result ≡ option_map_or (bits width) (exponent width a.number) Poison }
+    ensures width { IsValueOf width result }
+{
+    match exponent(a) {
+        Some(k) => Value::Bits(fitting(width, u64::from(k))),
+        None => Value::Poison,
+    }
+}
+
+/// The number without its sign.
+fn absolute(width: Width, a: Word) -> Word
+    requires { a.width ≡ width }
+    ensures { result ≡ record { width = width; number = (if nat_lt a.number (least width) then a.number else 2 ^ width - a.number) } }
+{
+    if a.number() < 1u64 << (width.bits() - 1) {
+        a
+    } else {
+        fitting(
+            width,
+            ((1u128 << width.bits()) - u128::from(a.number())) as u64,
+        )
+    }
+}
+
+/// The number that a value is, and 0 for poison.
+pub(crate) fn number_or_zero(value: Value) -> u64
+    ensures { result ≡ number_or_zero value }
+{
+    match value {
+        Value::Poison => 0,
+        Value::Bits(word) => word.number(),
+    }
+}
+
+/// The literal modulo 2^N.
+#[tactic(auto, unfolding(ops::specs::Integer::residue))]
+pub(crate) fn residue(width: Width, literal: i128) -> u64
+    ensures residue { result ≡ residue width literal }
+    ensures fits { result < 2 ^ width }
+{
+    let modulus = (1u128 << width.bits()) as i128;
+    literal.rem_euclid(modulus) as u64
+}
+
+/// The number as one of `iN`, in which it fits.
+pub(crate) fn fitting(width: Width, number: u64) -> Word
+    requires { number < 2 ^ width }
+    ensures { result ≡ record { width = width; number = number } }
+{
+    Word::wrapped(width, number)
+}
