@@ -1,0 +1,3 @@
+pub mod Numbered
+pub mod Ready
+pub mod Stored

@@ -1,0 +1,36 @@
+-- Whether each of the values is a number, and with a formula that holds the precondition.
+use Rattle.std.proofs.Common.{◌≡◌, ◌↔◌, ℕ, ◌+◌, ◌<◌, ◌≤◌, below_more, Bool, true, false, IsTrue, List, length, Some, refl, sym, ap, subst, ◌∙◌, arith}
+use Rattle.std.specs.Prelude.{slice_get}
+use Rattle.std.proofs.lemmas.Option.{same_Some, slice_get_within}
+use Rattle.ops.specs.Number.{Number}
+use Rattle.ops.specs.declared.value.Value.{Value}
+use Rattle.ops.specs.declared.value.Value.TheVariants.{Poison, Bits}
+use Rattle.rule_core.specs.declared.rule.Rule.{Rule}
+use Rattle.rule_core.specs.Terms.{HasNumber, constant_values, last_holds, truths_of, PreconditionHolds}
+use Rattle.precond.specs.Numbers.{HaveNumbers}
+
+-- the values before a place are numbers
+abbrev pub FirstHaveNumbers : List Value → ℕ → Type 0
+FirstHaveNumbers values i = (n : ℕ) → n < i → (v : Value) → slice_get values n ≡ Some v → HasNumber v
+
+pub none_refuses : (values : List Value) (i : ℕ) (v : Value) → slice_get values i ≡ Some v → v ≡ Poison → IsTrue false ↔ HaveNumbers values
+none_refuses values i v at is = (λ h. cc, λ all. let none : HasNumber Poison = subst HasNumber is (all i v at) in absurd none)
+
+pub one_more : (values : List Value) (i : ℕ) (v : Value) (a : Number) → FirstHaveNumbers values i → slice_get values i ≡ Some v → v ≡ Bits a → FirstHaveNumbers values (i + 1)
+one_more values i v a first at is =
+    below_more _ _ first (λ u there. let e : u ≡ Bits a = same_Some u v (sym there ∙ at) ∙ is in subst HasNumber (sym e) tt)
+
+pub all_numbers : (values : List Value) (i : ℕ) → length values ≤ i → FirstHaveNumbers values i → IsTrue true ↔ HaveNumbers values
+all_numbers values i whole first = (λ h n v at. let within : n < length values = slice_get_within values n v at in first n (omega arith) v at, λ h. refl)
+
+module _ (rule : Rule) (typing : List ℕ) (constants : List Number) (values : List Value) (are : values ≡ constant_values typing constants rule) where
+  -- all are numbers: the formula decides
+  pub formula_decides : (b : Bool) → HaveNumbers values → b ≡ last_holds (truths_of values rule.precondition) → IsTrue b ↔ PreconditionHolds rule typing constants
+  formula_decides b all gives =
+      let numbers : HaveNumbers (constant_values typing constants rule) = subst HaveNumbers are all in
+      let decides : b ≡ last_holds (truths_of (constant_values typing constants rule) rule.precondition) = gives ∙ ap (λ vs. last_holds (truths_of vs rule.precondition)) are in
+      (λ h. record { values = numbers; formula = subst IsTrue decides h }, λ p. subst IsTrue (sym decides) p.formula)
+
+  -- one is none
+  pub none_decides : (HaveNumbers values → ⊥) → IsTrue false ↔ PreconditionHolds rule typing constants
+  none_decides none = (λ h. cc, λ p. absurd (none (subst HaveNumbers (sym are) p.values)))

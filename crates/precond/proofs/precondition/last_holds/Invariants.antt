@@ -1,0 +1,9 @@
+use Rattle.std.proofs.Common.{◌≡◌, take, length}
+use Rattle.rule_core.specs.Terms.{truths_of}
+use Rattle.precond.proofs.precondition.last_holds.Given as goal
+
+abbrev pub invariant-loop-n : goal.invariant-loop-n
+invariant-loop-n l = record {
+  count : length l.truths ≡ 256;
+  are : take l.n l.truths ≡ truths_of l.values (take l.n l.formulas);
+}
