@@ -5,16 +5,17 @@ use Rattle.ops.specs.declared.opcode.Opcode.{Opcode}
 use Rattle.ops.specs.declared.opcode.Flags.{Flags}
 use Rattle.words.specs.declared.flag.Flag.{Flag}
 use Rattle.words.specs.Flags.{has_flag, with_flag}
-use Rattle.rule_parse.specs.declared.fault.ParseError.{ParseError}
-use Rattle.rule_parse.specs.declared.fault.ParseError.TheVariants.{Refused, NoMemory}
-use Rattle.rule_parse.specs.declared.fault.Misfit.TheVariants.{Syntax, TooMany}
-use Rattle.rule_parse.specs.declared.fault.TextFault.{TextFault}
+use Rattle.rule_tokens.specs.declared.fault.ParseError.{ParseError}
+use Rattle.rule_tokens.specs.declared.fault.ParseError.TheVariants.{Refused, NoMemory}
+use Rattle.rule_tokens.specs.declared.fault.Misfit.TheVariants.{Syntax, TooMany}
+use Rattle.rule_tokens.specs.declared.fault.TextFault.{TextFault}
 use Rattle.rule_parse.specs.declared.half.Half.{Half}
 use Rattle.rule_parse.specs.declared.raw.RawRule.{RawRule}
 use Rattle.rule_parse.specs.declared.raw.RawStatement.{RawStatement}
-use Rattle.rule_parse.specs.Giving.{◌>>=◌, Fails, Refuses}
-use Rattle.rule_parse.specs.Parsing.{Read, fault, next_flag, flags_at, IsNoStatement, statement_at, statements_at, rule_at, rules_at, all_rules}
-use Rattle.rule_parse.specs.Tokens.{Token, Line, Register}
+use Rattle.rule_tokens.specs.Giving.{◌>>=◌, Fails}
+use Rattle.rule_tokens.specs.Reading.{Read, fault}
+use Rattle.rule_parse.specs.Parsing.{next_flag, flags_at, IsNoStatement, statement_at, statements_at, rule_at, rules_at, all_rules}
+use Rattle.rule_tokens.specs.Tokens.{Token, Line, Register}
 use Rattle.rule_parse.proofs.Readings.{rule_at-shorter}
 
 -- what was read before, and what is still read
@@ -30,11 +31,6 @@ with_front-none (Err e) = refl
 regroup : {A : Type 0} (front : List A) (x : A) (read : Read (List A)) → with_front front (read >>= λ others. Ok (x ∷ others.0, others.1)) ≡ with_front (front ++ x ∷ []) read
 regroup front x (Ok y) = ap (λ (xs : List _). Ok (xs, y.1)) (sym (append_assoc front (x ∷ []) y.0))
 regroup front x (Err e) = refl
-
--- the fault that an error of the code has is the one that is read
-pub fails : {Y : Type 0} (e : ParseError) (f : TextFault) (read : Result Y TextFault) → Refuses e f → read ≡ Err f → Fails e read
-fails NoMemory f read h is = tt
-fails (Refused g) f read h is = is ∙ ap Err (sym h)
 
 -- room for another statement behind these
 room_more : (most n : ℕ) → n < most → most - n ≡ suc (most - (n + 1))

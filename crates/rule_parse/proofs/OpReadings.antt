@@ -1,8 +1,7 @@
 -- What is read of a statement is spelled so, by tokens in front of those that are left.
-use Rattle.std.proofs.Common.{◌≡◌, ℕ, ◌≤◌, true, leb, List, [], ◌∷◌, ◌++◌, length, map, Option, Some, None, Ok, refl, sym, ap, subst, ◌∙◌, append_assoc}
+use Rattle.std.proofs.Common.{◌≡◌, ℕ, true, false, List, [], ◌∷◌, ◌++◌, map, Option, Some, None, Ok, refl, sym, ap, subst, ◌∙◌, ⊎_elim}
 use Rattle.std.specs.Prelude.{codes}
 use Rattle.std.specs.Str.{bytes_eq}
-use Rattle.std.proofs.lemmas.Bool.{leb-true}
 use Rattle.ops.specs.declared.opcode.Opcode.{Opcode}
 use Rattle.ops.specs.declared.opcode.Flags.{Flags}
 use Rattle.ops.specs.declared.comparison.Pred.{Pred}
@@ -13,7 +12,7 @@ use Rattle.words.specs.Words.{opcode_word, cast_word, pred_word, pred_in}
 use Rattle.words.specs.Flags.{AddsFlags, flag_word, has_flag, with_flag}
 use Rattle.words.proofs.WordLemmas.{same_word, pred_in-is}
 use Rattle.words.proofs.FlagLemmas.{flag_in-is}
-use Rattle.rule_parse.specs.declared.fault.Misfit.TheVariants.{Syntax, TooMany}
+use Rattle.rule_tokens.specs.declared.fault.Misfit.TheVariants.{Syntax}
 use Rattle.rule_parse.specs.declared.half.Half.{Half}
 use Rattle.rule_parse.specs.declared.half.Half.TheVariants.{Source, Target}
 use Rattle.rule_parse.specs.declared.raw.RawOp.{RawOp}
@@ -23,82 +22,103 @@ use Rattle.rule_parse.specs.declared.raw.RawArgument.{RawArgument}
 use Rattle.rule_parse.specs.declared.raw.RawArgument.TheVariants as arguments
 use Rattle.rule_parse.specs.declared.word.Operation.{Operation}
 use Rattle.rule_parse.specs.declared.word.Operation.TheVariants as operations
-use Rattle.rule_parse.specs.Grammar.{SpellsType, SpellsArgument, SpellsUntyped, SpellsOperand, SpellsPair, SpellsFlags, SpellsTo, SpellsOp}
-use Rattle.rule_parse.specs.Limits.{most_name_bytes}
-use Rattle.rule_parse.specs.Numbers.{literal_value, type_in}
-use Rattle.rule_parse.specs.Parsing.{fault, or_left_out, name_within, type_at, type_or_word, maybe_type, argument_at, typed_at, operand_at, comma_at, end_at, line_end, to_at, next_flag, flag_or_end, flags_at, pair_at, binary_at, pred_at, compare_at, select_at, convert_at, copy_at, operation_at, other_at, op_word, op_at}
-use Rattle.rule_parse.specs.Parts.{Part, Is, Comma, Nothing, ◌⨾◌, Maybe}
-use Rattle.rule_parse.specs.Tokens.{Token, Line, Register, Word, Number, Mark}
-use Rattle.rule_parse.specs.Words.{operation_word, operation_in, truth_in}
-use Rattle.rule_parse.proofs.Steps.{done, bind_ok, bound, ok_is, read_as, tested, passed, refused_not, not_left_out}
-use Rattle.rule_parse.proofs.Pieces.{operation_in-is, truth_in-is, type_in-is}
+use Rattle.scan.specs.RuleTokens.{is_constant}
+use Rattle.rule_terms.specs.declared.place.TermPlace.TheVariants.{Constant}
+use Rattle.rule_terms.specs.declared.raw.RawNode.{RawNode}
+use Rattle.rule_terms.specs.declared.raw.RawNode.TheVariants as raw_nodes
+use Rattle.rule_terms.specs.Grammar.{most_nested, SpellsWholeTerm}
+use Rattle.rule_terms.specs.Parsing.{mark_at, term_at}
+use Rattle.rule_tokens.specs.Giving.{◌>>=◌}
+use Rattle.rule_tokens.specs.Spelling.{SpellsType}
+use Rattle.rule_parse.specs.Grammar.{SpellsArgument, SpellsUntyped, SpellsOperand, SpellsPair, SpellsFlags, SpellsTo, SpellsOp}
+use Rattle.rule_tokens.specs.Numbers.{literal_value}
+use Rattle.rule_tokens.specs.Reading.{fault, name_within, type_at, maybe_type, line_end}
+use Rattle.rule_parse.specs.Parsing.{register_at, known_or_misplaced, source_word, term_argument_at, argument_at, typed_at, operand_at, to_at, next_flag, flag_or_end, flags_at, pair_at, binary_at, pred_at, compare_at, select_at, convert_at, copy_at, operation_at, other_at, op_word, op_at}
+use Rattle.rule_tokens.specs.Parts.{Is, Comma, ◌⨾◌, Maybe}
+use Rattle.rule_tokens.specs.Tokens.{Token, Register, Word, Number, Mark}
+use Rattle.rule_parse.specs.Words.{operation_word, operation_in, source_word_in, argument_of}
+use Rattle.rule_tokens.proofs.Steps.{done, bind_ok, bound, read_as, passed, refused_not, not_left_out, chosen}
+use Rattle.rule_tokens.proofs.Takes.{Takes, taken_to, both, nothing, one, word_as, name_within-is, type_at-is, maybe_type-is, line_end-is}
+use Rattle.rule_parse.proofs.Pieces.{operation_in-is, source_word_in-is}
+use Rattle.rule_terms.proofs.Spellings.{term_at-is}
+use Rattle.rule_terms.proofs.Starts.{mark_at-is}
 
--- tokens of a part, in front of the rest
-pub record Takes (Spells : Part) (tokens rest : List Token) : Type 0 where
-  pub own : List Token
-  pub is_own : Spells own
-  pub whole : tokens ≡ own ++ rest
+-- ---- operands
 
-pub taken_to : {P : Part} {tokens middle rest : List Token} → Takes P tokens middle → middle ≡ rest → Takes P tokens rest
-taken_to p same = record { own = p.own; is_own = p.is_own; whole = p.whole ∙ ap (λ (ts : List Token). p.own ++ ts) same }
-
-pub both : {P Q : Part} {tokens middle rest : List Token} → Takes P tokens middle → Takes Q middle rest → Takes (P ⨾ Q) tokens rest
-both {rest = rest} p q = record {
-  own = p.own ++ q.own;
-  is_own = (p.own, q.own, p.is_own, q.is_own, refl);
-  whole = p.whole ∙ ap (λ (ts : List Token). p.own ++ ts) q.whole ∙ sym (append_assoc p.own q.own rest);
-}
-
-nothing : (tokens : List Token) → Takes Nothing tokens tokens
-nothing tokens = record { own = []; is_own = refl; whole = refl }
-
--- a token that spells a part alone
-one : {P : Part} (token : Token) (rest : List Token) → P (token ∷ []) → Takes P (token ∷ rest) rest
-one token rest is = record { own = token ∷ []; is_own = is; whole = refl }
-
-word_as : (word wanted : List ℕ) (rest : List Token) → word ≡ wanted → Takes (Is (Word wanted)) (Word word ∷ rest) rest
-word_as word wanted rest same = one (Word word) rest (ap (λ (w : List ℕ). Word w ∷ []) same)
-
--- ---- types and operands
-
-pub name_within-is : (line : ℕ) (name held : List ℕ) → name_within line name ≡ Ok held → (length held ≤ most_name_bytes) × (name ≡ held)
-unfolding name_within
-name_within-is line name held e =
-    let t = tested (leb (length name) most_name_bytes) name held (fault line TooMany) e in
-    (subst (λ (n : List ℕ). length n ≤ most_name_bytes) t.1 (leb-true (length name) most_name_bytes t.0), t.1)
-
-type_at-is : (line : ℕ) (tokens : List Token) (x : ℕ × List Token) → type_at line tokens ≡ Ok x → Takes (SpellsType x.0) tokens x.1
-unfolding type_at
-type_at-is line (Word word ∷ rest) x e =
-    let n = not_left_out line word (type_in word) rest x e in
-    taken_to (one (Word word) rest (word, type_in-is word x.0 n.0, refl)) n.1
-type_at-is line tokens x e = absurd cc
-
-type_or_word-is : (word : List ℕ) (found : Option ℕ) (rest : List Token) → type_in word ≡ found → Takes (Maybe SpellsType (type_or_word word found rest).0) (Word word ∷ rest) (type_or_word word found rest).1
-type_or_word-is word (Some width) rest t = one (Word word) rest (word, type_in-is word width t, refl)
-type_or_word-is word None rest t = nothing (Word word ∷ rest)
-
-maybe_type-is : (tokens : List Token) → Takes (Maybe SpellsType (maybe_type tokens).0) tokens (maybe_type tokens).1
-unfolding maybe_type
-maybe_type-is (Word word ∷ rest) = type_or_word-is word (type_in word) rest refl
-maybe_type-is tokens = nothing tokens
-
-argument_at-is : (half : Half) (line : ℕ) (tokens : List Token) (x : RawArgument × List Token) → argument_at half line tokens ≡ Ok x → Takes (SpellsArgument half x.0) tokens x.1
-unfolding argument_at
-argument_at-is half line (Register name ∷ rest) x e =
+register_at-is : (half : Half) (line : ℕ) (name : List ℕ) (rest : List Token) (x : RawArgument × List Token) → register_at line name rest ≡ Ok x → Takes (SpellsArgument half x.0) (Register name ∷ rest) x.1
+register_at-is half line name rest x e =
     let n = bind_ok (name_within line name) _ _ e in
     let w = name_within-is line name n.0 n.1 in
     read_as (λ (y : RawArgument × List Token). Takes (SpellsArgument half y.0) (Register name ∷ rest) y.1) (arguments.Register n.0, rest) x n.2
     (one (Register name) rest (w.0, ap (λ (r : List ℕ). Register r ∷ []) w.1))
-argument_at-is half line (Number text ∷ rest) x e =
-    read_as (λ (y : RawArgument × List Token). Takes (SpellsArgument half y.0) (Number text ∷ rest) y.1) (arguments.Literal (literal_value text), rest) x e
+
+known-is : (line : ℕ) (word : List ℕ) (value : RawArgument) (found : Option RawArgument) → source_word_in word ≡ found → known_or_misplaced line word found ≡ Ok value → SpellsArgument Source value (Word word ∷ [])
+known-is line word value (Some v) f e = read_as (λ (y : RawArgument). SpellsArgument Source y (Word word ∷ [])) v value e (source_word_in-is word v f)
+known-is line word value None f e = absurd cc
+
+constant-is : (line : ℕ) (word : List ℕ) (value : RawArgument) → is_constant word ≡ true → (name_within line word >>= λ held. Ok (arguments.Constant held)) ≡ Ok value → SpellsArgument Source value (Word word ∷ [])
+constant-is line word value c e =
+    let n = bind_ok (name_within line word) _ _ e in
+    let w = name_within-is line word n.0 n.1 in
+    read_as (λ (y : RawArgument). SpellsArgument Source y (Word word ∷ [])) (arguments.Constant n.0) value n.2
+    (subst (λ (name : List ℕ). is_constant name ≡ true) w.1 c, w.0, ap (λ (name : List ℕ). Word name ∷ []) w.1)
+
+source_word-is : (line : ℕ) (word : List ℕ) (value : RawArgument) → source_word line word ≡ Ok value → SpellsArgument Source value (Word word ∷ [])
+unfolding source_word
+source_word-is line word value e = ⊎_elim
+    (λ (h : (is_constant word ≡ true) × ((name_within line word >>= λ held. Ok (arguments.Constant held)) ≡ Ok value)). constant-is line word value h.0 h.1)
+    (λ (h : (is_constant word ≡ false) × (known_or_misplaced line word (source_word_in word) ≡ Ok value)). known-is line word value (source_word_in word) refl h.1)
+    (chosen (is_constant word) (name_within line word >>= λ held. Ok (arguments.Constant held)) (known_or_misplaced line word (source_word_in word)) (Ok value) e)
+
+-- a term is a literal, a constant or a term
+abbrev IsTermArgument : RawArgument → Type 0
+IsTermArgument (arguments.Literal z) = Unit {0}
+IsTermArgument (arguments.Constant name) = Unit {0}
+IsTermArgument (arguments.Term nodes) = Unit {0}
+IsTermArgument (arguments.Register name) = ⊥
+IsTermArgument (arguments.Truth truth) = ⊥
+IsTermArgument arguments.Undef = ⊥
+
+argument_kind : (nodes : List RawNode) → IsTermArgument (argument_of nodes)
+unfolding argument_of
+argument_kind (raw_nodes.Literal z ∷ []) = tt
+argument_kind (raw_nodes.Constant name ∷ []) = tt
+argument_kind nodes = tt
+
+spells_term : (a : RawArgument) (nodes : List RawNode) (own : List Token) → SpellsWholeTerm Constant most_nested nodes own → a ≡ argument_of nodes → IsTermArgument a → SpellsArgument Target a own
+spells_term (arguments.Literal z) nodes own s e kind = (nodes, s, e)
+spells_term (arguments.Constant name) nodes own s e kind = (nodes, s, e)
+spells_term (arguments.Term ns) nodes own s e kind = (nodes, s, e)
+spells_term (arguments.Register name) nodes own s e kind = absurd kind
+spells_term (arguments.Truth truth) nodes own s e kind = absurd kind
+spells_term arguments.Undef nodes own s e kind = absurd kind
+
+term_argument_at-is : (line : ℕ) (tokens : List Token) (x : RawArgument × List Token) → term_argument_at line tokens ≡ Ok x → Takes (SpellsArgument Target x.0) tokens x.1
+term_argument_at-is line tokens x e =
+    let t = bind_ok (term_at Constant most_nested line tokens) _ _ e in
+    let s = term_at-is Constant most_nested line tokens t.0 t.1 in
+    read_as (λ (y : RawArgument × List Token). Takes (SpellsArgument Target y.0) tokens y.1) (argument_of t.0.0, t.0.1) x t.2
+    (record { own = s.own; is_own = spells_term (argument_of t.0.0) t.0.0 s.own s.is_own refl (argument_kind t.0.0); whole = s.whole })
+
+argument_at-is : (half : Half) (line : ℕ) (tokens : List Token) (x : RawArgument × List Token) → argument_at half line tokens ≡ Ok x → Takes (SpellsArgument half x.0) tokens x.1
+unfolding argument_at
+argument_at-is Source line (Register name ∷ rest) x e = register_at-is Source line name rest x e
+argument_at-is Source line (Number text ∷ rest) x e =
+    read_as (λ (y : RawArgument × List Token). Takes (SpellsArgument Source y.0) (Number text ∷ rest) y.1) (arguments.Literal (literal_value text), rest) x e
     (one (Number text) rest (text, refl, refl))
-argument_at-is half line (Word word ∷ rest) x e =
-    let t = bind_ok (or_left_out line word (truth_in half word) rest) _ _ e in
-    let n = not_left_out line word (truth_in half word) rest t.0 t.1 in
-    read_as (λ (y : RawArgument × List Token). Takes (SpellsArgument half y.0) (Word word ∷ rest) y.1) (arguments.Truth t.0.0, t.0.1) x t.2
-    (taken_to (one (Word word) rest (truth_in-is half word t.0.0 n.0)) n.1)
-argument_at-is half line tokens x e = absurd cc
+argument_at-is Source line (Word word ∷ rest) x e =
+    let v = bind_ok (source_word line word) _ _ e in
+    read_as (λ (y : RawArgument × List Token). Takes (SpellsArgument Source y.0) (Word word ∷ rest) y.1) (v.0, rest) x v.2
+    (one (Word word) rest (source_word-is line word v.0 v.1))
+argument_at-is Source line tokens x e = absurd cc
+argument_at-is Target line (Register name ∷ rest) x e = register_at-is Target line name rest x e
+argument_at-is Target line (Word word ∷ rest) x e = ⊎_elim
+    (λ (h : (bytes_eq word (codes "undef") ≡ true) × (done (arguments.Undef, rest) ≡ Ok x)).
+    read_as (λ (y : RawArgument × List Token). Takes (SpellsArgument Target y.0) (Word word ∷ rest) y.1) (arguments.Undef, rest) x h.1
+    (word_as word (codes "undef") rest (same_word word (codes "undef") h.0)))
+    (λ (h : (bytes_eq word (codes "undef") ≡ false) × (term_argument_at line (Word word ∷ rest) ≡ Ok x)). term_argument_at-is line (Word word ∷ rest) x h.1)
+    (chosen (bytes_eq word (codes "undef")) (done (arguments.Undef, rest)) (term_argument_at line (Word word ∷ rest)) (Ok x) e)
+argument_at-is Target line tokens x e = term_argument_at-is line tokens x e
 
 typed_at-is : (half : Half) (line : ℕ) (written : Option ℕ) (tokens : List Token) (x : RawOperand × List Token) → typed_at half line written tokens ≡ Ok x → (x.0.written ≡ written) × Takes (SpellsArgument half x.0.value) tokens x.1
 unfolding typed_at
@@ -119,40 +139,25 @@ operand_at-is half line tokens x e =
 
 -- ---- what stands behind an operand
 
-pub mark_is : (wanted mark : List ℕ) (rest : List Token) → bytes_eq mark wanted ≡ true → Mark mark ∷ rest ≡ Mark wanted ∷ rest
-mark_is wanted mark rest e = ap (λ (m : List ℕ). Mark m ∷ rest) (same_word mark wanted e)
+comma_at-is : (line : ℕ) (tokens rest : List Token) → mark_at (codes ",") line tokens ≡ Ok rest → Takes Comma tokens rest
+comma_at-is line tokens rest e = record { own = Mark (codes ",") ∷ []; is_own = refl; whole = mark_at-is (codes ",") line tokens rest e }
 
-comma_at-is : (half : Half) (left : RawOperand) (line : ℕ) (tokens rest : List Token) → comma_at half left line tokens ≡ Ok rest → Takes Comma tokens rest
-unfolding comma_at
-comma_at-is half left line (Mark mark ∷ behind) rest e =
-    let t = tested (bytes_eq mark (codes ",")) behind rest _ e in
-    taken_to (one (Mark mark) behind (mark_is (codes ",") mark [] t.0)) t.1
-comma_at-is half left line tokens rest e = absurd cc
+no_to : (line : ℕ) (tokens behind : List Token) (x : Option ℕ × List Token) → line_end line tokens ≡ Ok behind → done (None, behind) ≡ done x → Takes (Maybe SpellsTo x.0) tokens x.1
+no_to line tokens behind x ends e =
+    read_as (λ (y : Option ℕ × List Token). Takes (Maybe SpellsTo y.0) tokens y.1) (None, behind) x e (taken_to (nothing tokens) (line_end-is line tokens behind ends))
 
-end_at-is : (half : Half) (last : RawOperand) (line : ℕ) (tokens rest : List Token) → end_at half last line tokens ≡ Ok rest → tokens ≡ rest
-unfolding end_at
-end_at-is half last line [] rest e = ok_is _ _ e
-end_at-is half last line (Line next ∷ behind) rest e = ok_is _ _ e
-end_at-is half last line tokens rest e = absurd cc
+ends_line : (line : ℕ) (tokens : List Token) (x : Option ℕ × List Token) → (line_end line tokens >>= λ rest. done (None, rest)) ≡ done x → Takes (Maybe SpellsTo x.0) tokens x.1
+ends_line line tokens x e = let a = bind_ok (line_end line tokens) _ _ e in no_to line tokens a.0 x a.1 a.2
 
-pub line_end-is : (line : ℕ) (tokens rest : List Token) → line_end line tokens ≡ Ok rest → tokens ≡ rest
-line_end-is line [] rest e = ok_is _ _ e
-line_end-is line (Line next ∷ behind) rest e = ok_is _ _ e
-line_end-is line tokens rest e = absurd cc
-
-no_to : (half : Half) (from : RawOperand) (line : ℕ) (tokens behind : List Token) (x : Option ℕ × List Token) → end_at half from line tokens ≡ Ok behind → done (None, behind) ≡ done x → Takes (Maybe SpellsTo x.0) tokens x.1
-no_to half from line tokens behind x ends e =
-    read_as (λ (y : Option ℕ × List Token). Takes (Maybe SpellsTo y.0) tokens y.1) (None, behind) x e (taken_to (nothing tokens) (end_at-is half from line tokens behind ends))
-
-to_at-is : (half : Half) (from : RawOperand) (line : ℕ) (tokens : List Token) (x : Option ℕ × List Token) → to_at half from line tokens ≡ Ok x → Takes (Maybe SpellsTo x.0) tokens x.1
+to_at-is : (line : ℕ) (tokens : List Token) (x : Option ℕ × List Token) → to_at line tokens ≡ Ok x → Takes (Maybe SpellsTo x.0) tokens x.1
 unfolding to_at
-to_at-is half from line (Word word ∷ rest) x e =
+to_at-is line (Word word ∷ rest) x e =
     let p = passed (bytes_eq word (codes "to")) _ x (fault line Syntax) e in
     bound (type_at line rest) _ _ p.1 (λ width t e1.
     bound (line_end line width.1) _ _ e1 (λ behind ends e2.
     read_as (λ (y : Option ℕ × List Token). Takes (Maybe SpellsTo y.0) (Word word ∷ rest) y.1) (Some width.0, behind) x e2
     (both (word_as word (codes "to") rest (same_word word (codes "to") p.0)) (taken_to (type_at-is line rest width t) (line_end-is line width.1 behind ends)))))
-to_at-is half from line tokens x e = let a = bind_ok (end_at half from line tokens) _ _ e in no_to half from line tokens a.0 x a.1 a.2
+to_at-is line tokens x e = ends_line line tokens x e
 
 -- ---- flags
 
@@ -191,12 +196,12 @@ pair_at-is : (half : Half) (line : ℕ) (tokens : List Token) (x : (RawOperand �
 unfolding pair_at
 pair_at-is half line tokens x e =
     bound (operand_at half line tokens) _ _ e (λ left l e1.
-    bound (comma_at half left.0 line left.1) _ _ e1 (λ behind c e2.
+    bound (mark_at (codes ",") line left.1) _ _ e1 (λ behind c e2.
     bound (typed_at half line None behind) _ _ e2 (λ right r e3.
-    bound (end_at half right.0 line right.1) _ _ e3 (λ rest ends e4.
+    bound (line_end line right.1) _ _ e3 (λ rest ends e4.
     read_as (λ (y : (RawOperand × RawOperand) × List Token). Takes (SpellsPair half y.0.0 y.0.1) tokens y.1) ((left.0, right.0), rest) x e4
-    (both (operand_at-is half line tokens left l) (both (comma_at-is half left.0 line left.1 behind c)
-    (taken_to (untyped_at-is half line behind right r) (end_at-is half right.0 line right.1 rest ends))))))))
+    (both (operand_at-is half line tokens left l) (both (comma_at-is line left.1 behind c)
+    (taken_to (untyped_at-is half line behind right r) (line_end-is line right.1 rest ends))))))))
 
 -- an operation that is read behind its opcode
 abbrev IsOpBehind : Half → List ℕ → List Token → RawOp × List Token → Type 0
@@ -229,30 +234,30 @@ select_at-is : (half : Half) (line : ℕ) (word : List ℕ) (tokens : List Token
 unfolding select_at
 select_at-is half line word tokens x is e =
     bound (operand_at half line tokens) _ _ e (λ a p e1.
-    bound (comma_at half a.0 line a.1) _ _ e1 (λ b q e2.
+    bound (mark_at (codes ",") line a.1) _ _ e1 (λ b q e2.
     bound (operand_at half line b) _ _ e2 (λ c r e3.
-    bound (comma_at half c.0 line c.1) _ _ e3 (λ d s e4.
+    bound (mark_at (codes ",") line c.1) _ _ e3 (λ d s e4.
     bound (operand_at half line d) _ _ e4 (λ f t e5.
-    bound (end_at half f.0 line f.1) _ _ e5 (λ rest ends e6.
+    bound (line_end line f.1) _ _ e5 (λ rest ends e6.
     read_as (IsOpBehind half word tokens) (Select a.0 c.0 f.0, rest) x e6
-    (both (word_as word (codes "select") tokens is) (both (operand_at-is half line tokens a p) (both (comma_at-is half a.0 line a.1 b q) (both (operand_at-is half line b c r)
-    (both (comma_at-is half c.0 line c.1 d s) (taken_to (operand_at-is half line d f t) (end_at-is half f.0 line f.1 rest ends)))))))))))))
+    (both (word_as word (codes "select") tokens is) (both (operand_at-is half line tokens a p) (both (comma_at-is line a.1 b q) (both (operand_at-is half line b c r)
+    (both (comma_at-is line c.1 d s) (taken_to (operand_at-is half line d f t) (line_end-is line f.1 rest ends)))))))))))))
 
 convert_at-is : (half : Half) (line : ℕ) (cast : Cast) (word : List ℕ) (tokens : List Token) (x : RawOp × List Token) → word ≡ cast_word cast → convert_at half line cast tokens ≡ Ok x → IsOpBehind half word tokens x
 unfolding convert_at
 convert_at-is half line cast word tokens x is e =
     bound (operand_at half line tokens) _ _ e (λ from p e1.
-    bound (to_at half from.0 line from.1) _ _ e1 (λ to q e2.
+    bound (to_at line from.1) _ _ e1 (λ to q e2.
     read_as (IsOpBehind half word tokens) (Convert cast from.0 to.0, to.1) x e2
-    (both (word_as word (cast_word cast) tokens is) (both (operand_at-is half line tokens from p) (to_at-is half from.0 line from.1 to q)))))
+    (both (word_as word (cast_word cast) tokens is) (both (operand_at-is half line tokens from p) (to_at-is line from.1 to q)))))
 
 copy_at-is : (line : ℕ) (tokens : List Token) (x : RawOp × List Token) → copy_at line tokens ≡ Ok x → Takes (SpellsOp Target x.0) tokens x.1
 unfolding copy_at
 copy_at-is line tokens x e =
     bound (operand_at Target line tokens) _ _ e (λ a p e1.
-    bound (end_at Target a.0 line a.1) _ _ e1 (λ rest ends e2.
+    bound (line_end line a.1) _ _ e1 (λ rest ends e2.
     read_as (λ (y : RawOp × List Token). Takes (SpellsOp Target y.0) tokens y.1) (Copy a.0, rest) x e2
-    (taken_to (operand_at-is Target line tokens a p) (end_at-is Target a.0 line a.1 rest ends))))
+    (taken_to (operand_at-is Target line tokens a p) (line_end-is line a.1 rest ends))))
 
 operation_at-is : (half : Half) (line : ℕ) (operation : Operation) (word : List ℕ) (tokens : List Token) (x : RawOp × List Token) → word ≡ operation_word operation → operation_at half line operation tokens ≡ Ok x → IsOpBehind half word tokens x
 operation_at-is half line (operations.Binary op) word tokens x is e = binary_at-is half line op word tokens x is e

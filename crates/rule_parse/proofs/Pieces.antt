@@ -1,25 +1,24 @@
 -- Words: what those that are read spell, and that what is spelled is read.
-use Rattle.std.proofs.Common.{◌≡◌, ℕ, ◌≤◌, Bool, true, false, cond, eqb, leb, ◌&&◌, List, [], ◌∷◌, Some, None, refl, sym, ap, subst, ◌∙◌, ⊎_elim}
+use Rattle.std.proofs.Common.{◌≡◌, ℕ, true, false, cond, List, [], ◌∷◌, Option, Some, None, refl, sym, subst, ⊎_elim}
 use Rattle.std.specs.Prelude.{codes}
 use Rattle.std.specs.Str.{bytes_eq}
-use Rattle.std.proofs.lemmas.Bool.{eqb-true, leb-true, le-leb}
 use Rattle.ops.specs.declared.opcode.Opcode.{Opcode}
 use Rattle.ops.specs.declared.opcode.Opcode.TheVariants.{Add, Sub, Mul, UDiv, SDiv, URem, SRem, Shl, LShr, AShr, And, Or, Xor}
 use Rattle.ops.specs.declared.conversion.Cast.TheVariants.{Trunc, ZExt, SExt}
 use Rattle.words.specs.Flags.{flag_in}
 use Rattle.words.proofs.WordLemmas.{same_word, found-passes}
 use Rattle.scan.specs.Bytes.{is_digit, are_digits}
-use Rattle.scan.proofs.Fronts.{which, and_left, and_right}
-use Rattle.rule_parse.specs.declared.half.Half.{Half}
-use Rattle.rule_parse.specs.declared.half.Half.TheVariants.{Source, Target}
-use Rattle.rule_parse.specs.declared.raw.RawArgument.TheVariants.{Truth}
+use Rattle.scan.proofs.Fronts.{which}
+use Rattle.rule_parse.specs.declared.half.Half.TheVariants.{Source}
+use Rattle.rule_parse.specs.declared.raw.RawArgument.{RawArgument}
+use Rattle.rule_parse.specs.declared.raw.RawArgument.TheVariants as arguments
 use Rattle.rule_parse.specs.declared.word.Operation.{Operation}
 use Rattle.rule_parse.specs.declared.word.Operation.TheVariants.{Binary, Compare, Select, Convert}
 use Rattle.rule_parse.specs.Grammar.{SpellsArgument}
-use Rattle.rule_parse.specs.Numbers.{decimal_value, IsWrittenType, type_in}
-use Rattle.rule_parse.specs.Tokens.{Word}
-use Rattle.rule_parse.specs.Words.{operation_word, operations, operation_in, truth_word, truth_in}
-use Rattle.rule_parse.proofs.Steps.{chosen, guarded}
+use Rattle.rule_tokens.specs.Numbers.{IsWrittenType}
+use Rattle.rule_tokens.specs.Tokens.{Word}
+use Rattle.rule_parse.specs.Words.{operation_word, operations, operation_in, source_word_in}
+use Rattle.rule_tokens.proofs.Steps.{chosen}
 
 -- ---- operations and truths
 
@@ -48,44 +47,23 @@ operation_in-of (Convert Trunc) = refl
 operation_in-of (Convert ZExt) = refl
 operation_in-of (Convert SExt) = refl
 
-spells_truth : (word : List ℕ) (is truth : Bool) → bytes_eq word (truth_word is) ≡ true → is ≡ truth → SpellsArgument Source (Truth truth) (Word word ∷ [])
-spells_truth word is truth e same = ap (λ (w : List ℕ). Word w ∷ []) (same_word word (truth_word is) e ∙ ap truth_word same)
+-- one word after the other is tried
+tried : (word wanted : List ℕ) (a value : RawArgument) (others : Option RawArgument) → SpellsArgument Source a (Word wanted ∷ []) → cond (bytes_eq word wanted) (Some a) others ≡ Some value → (others ≡ Some value → SpellsArgument Source value (Word word ∷ [])) → SpellsArgument Source value (Word word ∷ [])
+tried word wanted a value others is e next = ⊎_elim
+    (λ (h : (bytes_eq word wanted ≡ true) × (Some a ≡ Some value)).
+    let spelled : SpellsArgument Source a (Word word ∷ []) = subst (λ (w : List ℕ). SpellsArgument Source a (Word w ∷ [])) (sym (same_word word wanted h.0)) is in
+    subst (λ (v : RawArgument). SpellsArgument Source v (Word word ∷ [])) (let taken = h.1 in cc) spelled)
+    (λ (h : (bytes_eq word wanted ≡ false) × (others ≡ Some value)). next h.1)
+    (chosen (bytes_eq word wanted) (Some a) others (Some value) e)
 
-pub truth_in-is : (half : Half) (word : List ℕ) (truth : Bool) → truth_in half word ≡ Some truth → SpellsArgument half (Truth truth) (Word word ∷ [])
-unfolding truth_in
-truth_in-is Source word truth e = ⊎_elim
-    (λ (h : (bytes_eq word (codes "true") ≡ true) × (Some true ≡ Some truth)). spells_truth word true truth h.0 (let taken = h.1 in cc))
-    (λ (h : (bytes_eq word (codes "true") ≡ false) × (cond (bytes_eq word (codes "false")) (Some false) None ≡ Some truth)).
-    let g = guarded (bytes_eq word (codes "false")) false truth h.1 in spells_truth word false truth g.0 g.1)
-    (chosen (bytes_eq word (codes "true")) (Some true) (cond (bytes_eq word (codes "false")) (Some false) None) (Some truth) e)
-truth_in-is Target word truth e = absurd cc
+pub source_word_in-is : (word : List ℕ) (value : RawArgument) → source_word_in word ≡ Some value → SpellsArgument Source value (Word word ∷ [])
+unfolding source_word_in
+source_word_in-is word value e =
+    tried word (codes "true") (arguments.Truth true) value _ refl e (λ e1.
+    tried word (codes "false") (arguments.Truth false) value _ refl e1 (λ e2.
+    tried word (codes "undef") arguments.Undef value _ refl e2 (λ e3. absurd cc)))
 
 -- ---- types
-
-all_four : (a b c d : Bool) → a ≡ true → b ≡ true → c ≡ true → d ≡ true → (a && b && c && d) ≡ true
-all_four a b c d p q r s = rw (p, q, r, s) refl
-
-pub type_in-is : (word : List ℕ) (width : ℕ) → type_in word ≡ Some width → IsWrittenType word width
-unfolding type_in
-type_in-is [] width e = absurd cc
-type_in-is (b ∷ digits) width e =
-    let g = guarded (eqb b 105 && are_digits digits && leb 1 (decimal_value digits) && leb (decimal_value digits) 64) (decimal_value digits) width e in
-    let three = and_left (eqb b 105 && are_digits digits && leb 1 (decimal_value digits)) (leb (decimal_value digits) 64) g.0 in
-    let two = and_left (eqb b 105 && are_digits digits) (leb 1 (decimal_value digits)) three in (
-      digits,
-      ap (λ (c : ℕ). c ∷ digits) (eqb-true b 105 (and_left (eqb b 105) (are_digits digits) two)),
-      and_right (eqb b 105) (are_digits digits) two,
-      g.1,
-      subst (λ (w : ℕ). 1 ≤ w) g.1 (leb-true 1 (decimal_value digits) (and_right (eqb b 105 && are_digits digits) (leb 1 (decimal_value digits)) three)),
-      subst (λ (w : ℕ). w ≤ 64) g.1 (leb-true (decimal_value digits) 64 (and_right (eqb b 105 && are_digits digits && leb 1 (decimal_value digits)) (leb (decimal_value digits) 64) g.0)),
-    )
-
-pub type_in-of : (word : List ℕ) (width : ℕ) → IsWrittenType word width → type_in word ≡ Some width
-unfolding type_in
-type_in-of word width (digits, is, all, value, low, high) =
-    let one : leb 1 (decimal_value digits) ≡ true = le-leb 1 (decimal_value digits) (subst (λ (w : ℕ). 1 ≤ w) (sym value) low) in
-    let most : leb (decimal_value digits) 64 ≡ true = le-leb (decimal_value digits) 64 (subst (λ (w : ℕ). w ≤ 64) (sym value) high) in
-    rw (is, all_four true (are_digits digits) (leb 1 (decimal_value digits)) (leb (decimal_value digits) 64) refl all one most) (ap Some value)
 
 -- the word of a type is none of a flag or an operation
 pub type_is_no_flag : (op : Opcode) (word : List ℕ) (width : ℕ) → IsWrittenType word width → flag_in op word ≡ None

@@ -1,35 +1,39 @@
 -- What is read is spelled so, by tokens in front of those that are left.
-use Rattle.std.proofs.Common.{◌≡◌, ℕ, zero, suc, ◌<◌, ◌≤◌, Bool, true, false, cond, List, [], ◌∷◌, ◌++◌, length, Ok, Err, refl, sym, ap, subst, ◌∙◌, append_assoc, length-append, arith}
+use Rattle.std.proofs.Common.{◌≡◌, ℕ, zero, suc, ◌<◌, ◌≤◌, Bool, true, false, cond, List, [], ◌∷◌, ◌++◌, length, Option, Some, None, Ok, Err, refl, sym, ap, subst, ◌∙◌, ⊎_elim, append_assoc, length-append, arith}
 use Rattle.std.specs.Prelude.{codes}
 use Rattle.std.specs.Str.{bytes_eq}
 use Rattle.words.proofs.WordLemmas.{same_word}
-use Rattle.rule_parse.specs.declared.fault.Misfit.TheVariants.{Syntax}
+use Rattle.rule_tokens.specs.declared.fault.Misfit.TheVariants.{Syntax}
 use Rattle.rule_parse.specs.declared.half.Half.{Half}
 use Rattle.rule_parse.specs.declared.half.Half.TheVariants.{Source, Target}
 use Rattle.rule_parse.specs.declared.raw.RawRule.{RawRule}
 use Rattle.rule_parse.specs.declared.raw.RawStatement.{RawStatement}
-use Rattle.rule_parse.specs.Giving.{◌>>=◌}
-use Rattle.rule_parse.specs.Grammar.{SpellsStatement, SpellsStatements, SpellsHalf, SpellsRule, SpellsRules}
-use Rattle.rule_parse.specs.Limits.{most_statements, most_name_bytes}
-use Rattle.rule_parse.specs.Parsing.{fault, name_within, op_at, equals_at, statement_at, statements_at, name_text, name_at, source_at, arrow_at, target_at, rule_at, rules_at}
-use Rattle.rule_parse.specs.Tokens.{Token, Line, Head, Name, Register, Arrow, Mark}
-use Rattle.rule_parse.proofs.OpReadings.{Takes, name_within-is, mark_is, line_end-is, op_at-is}
-use Rattle.rule_parse.proofs.Steps.{done, bind_ok, bound, read_as, tested}
+use Rattle.rule_parse.specs.declared.raw.RawPrecondition.{RawPrecondition}
+use Rattle.rule_parse.specs.declared.raw.RawWitness.{RawWitness}
+use Rattle.rule_terms.specs.FormulaReading.{formula_at}
+use Rattle.rule_terms.specs.Parsing.{mark_at}
+use Rattle.rule_terms.proofs.Starts.{mark_at-is}
+use Rattle.rule_tokens.specs.Parts.{Maybe}
+use Rattle.rule_tokens.specs.Giving.{◌>>=◌}
+use Rattle.rule_parse.specs.Grammar.{SpellsStatement, SpellsStatements, SpellsHalf, SpellsPrecondition, SpellsWitness, SpellsRule, SpellsRules}
+use Rattle.rule_parse.specs.Limits.{most_statements}
+use Rattle.rule_tokens.specs.Limits.{most_name_bytes}
+use Rattle.rule_tokens.specs.Reading.{fault, name_within}
+use Rattle.rule_parse.specs.Parsing.{op_at, statement_at, statements_at, name_text, name_at, behind_precondition, precondition_at, expressions_at, behind_witness, witness_at, source_at, arrow_at, target_at, rule_at, rules_at}
+use Rattle.rule_tokens.specs.Tokens.{Token, Line, Head, Name, Register, Arrow, Mark}
+use Rattle.rule_tokens.proofs.Takes.{Takes, nothing, name_within-is, line_end-is}
+use Rattle.rule_parse.proofs.Expressions.{expressions_at-is}
+use Rattle.rule_parse.proofs.OpReadings.{op_at-is}
+use Rattle.rule_terms.proofs.FormulaReadings.{formula_at-is}
+use Rattle.rule_tokens.proofs.Steps.{done, bind_ok, bound, read_as, chosen}
 
 -- ---- statements
-
-equals_at-is : (line : ℕ) (tokens rest : List Token) → equals_at line tokens ≡ Ok rest → tokens ≡ Mark (codes "=") ∷ rest
-unfolding equals_at
-equals_at-is line (Mark mark ∷ behind) rest e =
-    let t = tested (bytes_eq mark (codes "=")) behind rest (fault line Syntax) e in
-    mark_is (codes "=") mark behind t.0 ∙ ap (λ (ts : List Token). Mark (codes "=") ∷ ts) t.1
-equals_at-is line tokens rest e = absurd cc
 
 statement_at-is : (half : Half) (line : ℕ) (register : List ℕ) (tokens : List Token) (x : RawStatement × List Token) → statement_at half line register tokens ≡ Ok x → Takes (SpellsStatement half x.0) (Line line ∷ Register register ∷ tokens) x.1
 unfolding statement_at
 statement_at-is half line register tokens x e =
     bound (name_within line register) _ _ e (λ held n e1.
-    bound (equals_at line tokens) _ _ e1 (λ behind q e2.
+    bound (mark_at (codes "=") line tokens) _ _ e1 (λ behind q e2.
     bound (op_at half line behind) _ _ e2 (λ computed o e3.
     let name = name_within-is line register held n in
     let op = op_at-is half line behind computed o in
@@ -37,7 +41,7 @@ statement_at-is half line register tokens x e =
     (record {
       own = Line line ∷ Register held ∷ Mark (codes "=") ∷ op.own;
       is_own = record { name = name.0; op = op.own; is_op = op.is_own; spelled = refl };
-      whole = ap (λ (r : List ℕ). Line line ∷ Register r ∷ tokens) name.1 ∙ ap (λ (ts : List Token). Line line ∷ Register held ∷ ts) (equals_at-is line tokens behind q ∙ ap (λ (ts : List Token). Mark (codes "=") ∷ ts) op.whole);
+      whole = ap (λ (r : List ℕ). Line line ∷ Register r ∷ tokens) name.1 ∙ ap (λ (ts : List Token). Line line ∷ Register held ∷ ts) (mark_at-is (codes "=") line tokens behind q ∙ ap (λ (ts : List Token). Mark (codes "=") ∷ ts) op.whole);
     }))))
 
 -- so many statements at most, and one at least where one begins
@@ -134,25 +138,89 @@ name_at-is last (Line line ∷ Head head ∷ rest) x e = headed (bytes_eq head (
     headed false h e = absurd cc
 name_at-is last tokens x e = absurd cc
 
+precondition_read : (line : ℕ) (head : List ℕ) (rest : List Token) (x : Option RawPrecondition × List Token) → head ≡ codes "Pre:" → behind_precondition line rest ≡ Ok x → Takes (Maybe SpellsPrecondition x.0) (Line line ∷ Head head ∷ rest) x.1
+precondition_read line head rest x is e =
+    let f = bind_ok (formula_at line rest) _ _ e in
+    let s = formula_at-is line rest f.0 f.1 in
+    read_as (λ (y : Option RawPrecondition × List Token). Takes (Maybe SpellsPrecondition y.0) (Line line ∷ Head head ∷ rest) y.1) (Some (record { line = line; formula = f.0.0 }), f.0.1) x f.2
+    (record {
+      own = Line line ∷ Head (codes "Pre:") ∷ s.own;
+      is_own = (s.own, s.is_own, refl);
+      whole = ap (λ (h : List ℕ). Line line ∷ Head h ∷ rest) is ∙ ap (λ (ts : List Token). Line line ∷ Head (codes "Pre:") ∷ ts) s.whole;
+    })
+
+no_precondition : (tokens : List Token) (x : Option RawPrecondition × List Token) → done (None, tokens) ≡ Ok x → Takes (Maybe SpellsPrecondition x.0) tokens x.1
+no_precondition tokens x e = read_as (λ (y : Option RawPrecondition × List Token). Takes (Maybe SpellsPrecondition y.0) tokens y.1) (None, tokens) x e (nothing tokens)
+
+precondition_at-is : (tokens : List Token) (x : Option RawPrecondition × List Token) → precondition_at tokens ≡ Ok x → Takes (Maybe SpellsPrecondition x.0) tokens x.1
+unfolding precondition_at
+precondition_at-is (Line line ∷ Head head ∷ rest) x e = ⊎_elim
+    (λ (h : (bytes_eq head (codes "Pre:") ≡ true) × (behind_precondition line rest ≡ Ok x)). precondition_read line head rest x (same_word head (codes "Pre:") h.0) h.1)
+    (λ (h : (bytes_eq head (codes "Pre:") ≡ false) × (done (None, Line line ∷ Head head ∷ rest) ≡ Ok x)). no_precondition (Line line ∷ Head head ∷ rest) x h.1)
+    (chosen (bytes_eq head (codes "Pre:")) (behind_precondition line rest) (done (None, Line line ∷ Head head ∷ rest)) (Ok x) e)
+precondition_at-is tokens x e = no_precondition tokens x e
+
+witness_read : (line : ℕ) (head : List ℕ) (rest : List Token) (x : Option RawWitness × List Token) → head ≡ codes "Wit:" → behind_witness line rest ≡ Ok x → Takes (Maybe SpellsWitness x.0) (Line line ∷ Head head ∷ rest) x.1
+witness_read line head rest x is e =
+    let f = bind_ok (expressions_at line rest) _ _ e in
+    let s = expressions_at-is line rest f.0 f.1 in
+    read_as (λ (y : Option RawWitness × List Token). Takes (Maybe SpellsWitness y.0) (Line line ∷ Head head ∷ rest) y.1) (Some (record { line = line; expressions = f.0.0 }), f.0.1) x f.2
+    (record {
+      own = Line line ∷ Head (codes "Wit:") ∷ s.own;
+      is_own = (s.own, s.is_own, refl);
+      whole = ap (λ (h : List ℕ). Line line ∷ Head h ∷ rest) is ∙ ap (λ (ts : List Token). Line line ∷ Head (codes "Wit:") ∷ ts) s.whole;
+    })
+
+no_witness : (tokens : List Token) (x : Option RawWitness × List Token) → done (None, tokens) ≡ Ok x → Takes (Maybe SpellsWitness x.0) tokens x.1
+no_witness tokens x e = read_as (λ (y : Option RawWitness × List Token). Takes (Maybe SpellsWitness y.0) tokens y.1) (None, tokens) x e (nothing tokens)
+
+witness_at-is : (tokens : List Token) (x : Option RawWitness × List Token) → witness_at tokens ≡ Ok x → Takes (Maybe SpellsWitness x.0) tokens x.1
+unfolding witness_at
+witness_at-is (Line line ∷ Head head ∷ rest) x e = ⊎_elim
+    (λ (h : (bytes_eq head (codes "Wit:") ≡ true) × (behind_witness line rest ≡ Ok x)). witness_read line head rest x (same_word head (codes "Wit:") h.0) h.1)
+    (λ (h : (bytes_eq head (codes "Wit:") ≡ false) × (done (None, Line line ∷ Head head ∷ rest) ≡ Ok x)). no_witness (Line line ∷ Head head ∷ rest) x h.1)
+    (chosen (bytes_eq head (codes "Wit:")) (behind_witness line rest) (done (None, Line line ∷ Head head ∷ rest)) (Ok x) e)
+witness_at-is tokens x e = no_witness tokens x e
+
 pub rule_at-is : (last : ℕ) (tokens : List Token) (x : RawRule × List Token) → rule_at last tokens ≡ Ok x → Takes (SpellsRule x.0) tokens x.1
 unfolding rule_at
 rule_at-is last tokens x e =
     bound (name_at last tokens) _ _ e (λ named n e1.
-    bound (source_at last named.1) _ _ e1 (λ from s e2.
-    bound (arrow_at last from.1) _ _ e2 (λ behind w e3.
-    bound (target_at last behind) _ _ e3 (λ to t e4.
+    bound (precondition_at named.1) _ _ e1 (λ pre p e2.
+    bound (witness_at pre.1) _ _ e2 (λ wit q e3.
+    bound (source_at last wit.1) _ _ e3 (λ from s e4.
+    bound (arrow_at last from.1) _ _ e4 (λ behind w e5.
+    bound (target_at last behind) _ _ e5 (λ to t e6.
     let name = name_at-is last tokens named n in
-    let source = source_at-is last named.1 from s in
+    let precondition = precondition_at-is named.1 pre p in
+    let witness = witness_at-is pre.1 wit q in
+    let source = source_at-is last wit.1 from s in
     let arrow = arrow_at-is last from.1 behind w in
     let target = target_at-is last behind to t in
     let front : List Token → List Token = λ ts. Line named.0.0 ∷ Head (codes "Name:") ∷ Name named.0.1 ∷ ts in
     let back : List Token → List Token = λ ts. Line arrow.0 ∷ Arrow ∷ ts in
-    read_as (λ (y : RawRule × List Token). Takes (SpellsRule y.0) tokens y.1) (record { line = named.0.0; name = named.0.1; source = from.0; target = to.0 }, to.1) x e4
+    let halves : wit.1 ≡ (source.own ++ back target.own) ++ to.1 =
+    source.whole ∙ ap (λ (ts : List Token). source.own ++ ts) (arrow.1 ∙ ap back target.whole) ∙ sym (append_assoc source.own (back target.own) to.1) in
+    let behind_pre : pre.1 ≡ (witness.own ++ (source.own ++ back target.own)) ++ to.1 =
+    witness.whole ∙ ap (λ (ts : List Token). witness.own ++ ts) halves ∙ sym (append_assoc witness.own (source.own ++ back target.own) to.1) in
+    read_as (λ (y : RawRule × List Token). Takes (SpellsRule y.0) tokens y.1) (record { line = named.0.0; name = named.0.1; precondition = pre.0; witness = wit.0; source = from.0; target = to.0 }, to.1) x e6
     (record {
-      own = front (source.own ++ back target.own);
-      is_own = record { name = (name.0, name.1); source = source.own; is_source = source.is_own; arrow_line = arrow.0; target = target.own; is_target = target.is_own; spelled = refl };
-      whole = name.2 ∙ ap front (source.whole ∙ ap (λ (ts : List Token). source.own ++ ts) (arrow.1 ∙ ap back target.whole) ∙ sym (append_assoc source.own (back target.own) to.1));
-    })))))
+      own = front (precondition.own ++ (witness.own ++ (source.own ++ back target.own)));
+      is_own = record {
+        name = (name.0, name.1);
+        precondition = precondition.own;
+        is_precondition = precondition.is_own;
+        witness = witness.own;
+        is_witness = witness.is_own;
+        source = source.own;
+        is_source = source.is_own;
+        arrow_line = arrow.0;
+        target = target.own;
+        is_target = target.is_own;
+        spelled = refl;
+      };
+      whole = name.2 ∙ ap front (precondition.whole ∙ ap (λ (ts : List Token). precondition.own ++ ts) behind_pre ∙ sym (append_assoc precondition.own (witness.own ++ (source.own ++ back target.own)) to.1));
+    })))))))
 
 -- ---- rules
 

@@ -1,21 +1,29 @@
 -- What is spelled is read, where the line of its last token ends behind it.
-use Rattle.std.proofs.Common.{◌≡◌, ℕ, zero, suc, ◌<◌, ◌≤◌, List, [], ◌∷◌, ◌++◌, length, Ok, refl, ap, ◌∙◌, append_assoc, length-append, arith}
+use Rattle.std.proofs.Common.{◌≡◌, ℕ, zero, suc, ◌<◌, ◌≤◌, List, [], ◌∷◌, ◌++◌, length, Option, Some, None, Ok, refl, ap, ◌∙◌, append_assoc, length-append, arith}
 use Rattle.std.specs.Prelude.{codes}
 use Rattle.rule_parse.specs.declared.half.Half.{Half}
 use Rattle.rule_parse.specs.declared.half.Half.TheVariants.{Source, Target}
 use Rattle.rule_parse.specs.declared.raw.RawRule.{RawRule}
 use Rattle.rule_parse.specs.declared.raw.RawStatement.{RawStatement}
-use Rattle.rule_parse.specs.Grammar.{SpellsOp, SpellsStatements, SpellsHalf, SpellsRule, SpellsRules}
-use Rattle.rule_parse.specs.Limits.{most_statements, most_name_bytes}
-use Rattle.rule_parse.specs.Parsing.{equals_at, statement_at, statements_at, IsNoStatement, name_text, name_at, source_at, arrow_at, target_at, rule_at, rules_at}
-use Rattle.rule_parse.specs.Tokens.{Token, Line, Head, Name, Register, Arrow, Mark}
-use Rattle.rule_parse.proofs.OpSpellings.{EndsLine, name_within-of, line_end-of, op_at-of}
+use Rattle.rule_parse.specs.declared.raw.RawPrecondition.{RawPrecondition}
+use Rattle.rule_parse.specs.declared.raw.RawWitness.{RawWitness}
+use Rattle.rule_terms.proofs.Starts.{mark_at-of}
+use Rattle.rule_tokens.specs.Parts.{Maybe}
+use Rattle.rule_parse.specs.Grammar.{SpellsOp, SpellsStatements, SpellsHalf, SpellsPrecondition, SpellsWitness, SpellsRule, SpellsRules}
+use Rattle.rule_parse.specs.Limits.{most_statements}
+use Rattle.rule_tokens.specs.Limits.{most_name_bytes}
+use Rattle.rule_parse.specs.Parsing.{statement_at, statements_at, IsNoStatement, name_text, name_at, precondition_at, witness_at, source_at, arrow_at, target_at, rule_at, rules_at}
+use Rattle.rule_tokens.specs.Tokens.{Token, Line, Head, Name, Register, Arrow, Mark}
+use Rattle.rule_tokens.proofs.Ends.{EndsLine, name_within-of, line_end-of}
+use Rattle.rule_parse.proofs.Expressions.{expressions_at-of}
+use Rattle.rule_parse.proofs.OpSpellings.{op_at-of}
+use Rattle.rule_terms.proofs.FormulaSpellings.{formula_at-of}
 
 -- ---- statements
 
 statement_at-of : (half : Half) (s : RawStatement) (op rest : List Token) → length s.name ≤ most_name_bytes → SpellsOp half s.op op → EndsLine rest → statement_at half s.line s.name (Mark (codes "=") ∷ op ++ rest) ≡ Ok (s, rest)
-unfolding statement_at equals_at
-statement_at-of half s op rest le is ends = rw (name_within-of s.line s.name le, op_at-of half s.line s.op op rest is ends) refl
+unfolding statement_at
+statement_at-of half s op rest le is ends = rw (name_within-of s.line s.name le, mark_at-of (codes "=") s.line (op ++ rest) refl, op_at-of half s.line s.op op rest is ends) refl
 
 statements_end : (half : Half) (statements : List RawStatement) (own rest : List Token) → SpellsStatements half statements own → EndsLine rest → EndsLine (own ++ rest)
 statements_end half [] own rest is ends = rw is ends
@@ -81,14 +89,48 @@ arrow_at-of : (last line : ℕ) (rest : List Token) → EndsLine rest → arrow_
 unfolding arrow_at
 arrow_at-of last line rest ends = line_end-of line rest ends
 
+-- what goes on with a rule behind its name or behind a part of it
+record GoesOn (tokens : List Token) : Type 0 where
+  ends : EndsLine tokens
+  no_precondition : precondition_at tokens ≡ Ok (None, tokens)
+
+record GoesOnToSource (tokens : List Token) : Type 0 where
+  goes_on : GoesOn tokens
+  no_witness : witness_at tokens ≡ Ok (None, tokens)
+
+source_goes_on : (tokens : List Token) → Begins tokens → GoesOnToSource tokens
+unfolding precondition_at witness_at
+source_goes_on tokens b = rw b.is (record { goes_on = record { ends = tt; no_precondition = refl }; no_witness = refl })
+
+witness_goes_on : (w : Option RawWitness) (own rest : List Token) → Maybe SpellsWitness w own → GoesOn rest → GoesOn (own ++ rest)
+unfolding precondition_at
+witness_goes_on None own rest is next = rw is next
+witness_goes_on (Some w) own rest (o, all, whole) next = rw whole (record { ends = tt; no_precondition = refl })
+
+precondition_at-of : (p : Option RawPrecondition) (own rest : List Token) → Maybe SpellsPrecondition p own → GoesOn rest → precondition_at (own ++ rest) ≡ Ok (p, rest)
+unfolding precondition_at
+precondition_at-of None own rest is next = rw is next.no_precondition
+precondition_at-of (Some p) own rest (o, formula, whole) next = rw (whole, formula_at-of p.line p.formula o rest formula next.ends) refl
+
+witness_at-of : (w : Option RawWitness) (own rest : List Token) → Maybe SpellsWitness w own → GoesOnToSource rest → witness_at (own ++ rest) ≡ Ok (w, rest)
+unfolding witness_at
+witness_at-of None own rest is next = rw is next.no_witness
+witness_at-of (Some w) own rest (o, all, whole) next = rw (whole, expressions_at-of w.line w.expressions o rest all next.goes_on.ends) refl
+
 rule_at-of : (last : ℕ) (rule : RawRule) (own rest : List Token) → SpellsRule rule own → EndsLine rest → IsNoStatement rest → rule_at last (own ++ rest) ≡ Ok (rule, rest)
 unfolding rule_at
 rule_at-of last rule own rest h ends none =
     let behind : List Token = Line h.arrow_line ∷ Arrow ∷ (h.target ++ rest) in
+    let source = source_goes_on (h.source ++ behind) (half_begins Source rule.source h.source behind h.is_source) in
+    let witness = witness_goes_on rule.witness h.witness (h.source ++ behind) h.is_witness source.goes_on in
     rw (
       h.spelled,
+      append_assoc h.precondition (h.witness ++ (h.source ++ Line h.arrow_line ∷ Arrow ∷ h.target)) rest,
+      append_assoc h.witness (h.source ++ Line h.arrow_line ∷ Arrow ∷ h.target) rest,
       append_assoc h.source (Line h.arrow_line ∷ Arrow ∷ h.target) rest,
-      name_at-of last rule.line rule.name (h.source ++ behind) h.name.0 h.name.1,
+      name_at-of last rule.line rule.name (h.precondition ++ (h.witness ++ (h.source ++ behind))) h.name.0 h.name.1,
+      precondition_at-of rule.precondition h.precondition (h.witness ++ (h.source ++ behind)) h.is_precondition witness,
+      witness_at-of rule.witness h.witness (h.source ++ behind) h.is_witness source,
       source_at-of last rule.source h.source behind h.is_source tt tt,
       arrow_at-of last h.arrow_line (h.target ++ rest) (half_ends Target rule.target h.target rest h.is_target),
       target_at-of last rule.target h.target rest h.is_target ends none,

@@ -1,34 +1,44 @@
 -- A text has one list of rules or one fault.
-use Rattle.std.proofs.Common.{◌≡◌, ℕ, List, Result, Ok, Err, length, refl, sym, ap, ◌∙◌, ◌⊎◌, inl, inr, arith}
+use Rattle.std.proofs.Common.{◌≡◌, ℕ, List, Result, Ok, Err, length, refl, sym, ap, subst, ◌∙◌, ◌⊎◌, inl, inr, arith}
 use Rattle.std.specs.Prelude.{IfOk, IfErr}
 use Rattle.std.proofs.Math.Nat.{le_refl}
 use Rattle.scan.specs.Laws.{OneTokenAtAPlace}
-use Rattle.rule_parse.specs.declared.fault.ParseError.{ParseError}
-use Rattle.rule_parse.specs.declared.fault.ParseError.TheVariants.{Refused, NoMemory}
-use Rattle.rule_parse.specs.declared.fault.TextFault.{TextFault}
+use Rattle.rule_tokens.specs.declared.fault.ParseError.{ParseError}
+use Rattle.rule_tokens.specs.declared.fault.ParseError.TheVariants.{Refused, NoMemory}
+use Rattle.rule_tokens.specs.declared.fault.TextFault.{TextFault}
 use Rattle.rule_parse.specs.declared.raw.RawRule.{RawRule}
-use Rattle.rule_parse.specs.Giving.{Gives}
+use Rattle.rule_tokens.specs.Giving.{Gives}
+use Rattle.rule_parse.specs.Grammar.{SpellsRules}
 use Rattle.rule_parse.specs.Laws.{TextsHaveOneReadingOrFault}
+use Rattle.rule_parse.specs.Limited.{limited}
 use Rattle.rule_parse.specs.Parsing.{all_rules}
-use Rattle.rule_parse.specs.Refusing.{IfRefused}
+use Rattle.rule_tokens.specs.Refusing.{IfRefused}
 use Rattle.rule_parse.specs.Text.{IsWritten, IsTextFault}
-use Rattle.rule_parse.specs.Tokens.{Token, AreTokens}
-use Rattle.rule_parse.proofs.Readers.{one_reading, has_tokens}
+use Rattle.rule_tokens.specs.Tokens.{Token, AreTokens}
+use Rattle.rule_tokens.proofs.Readers.{one_reading, has_tokens}
 use Rattle.rule_parse.proofs.Readings.{rules_at-is}
 use Rattle.rule_parse.proofs.Spellings.{rules_at-of}
-use Rattle.rule_parse.proofs.Steps.{ok_is}
+use Rattle.rule_parse.proofs.Weight.{spelled_whole}
+use Rattle.rule_tokens.proofs.Steps.{ok_is}
 
 -- what is read of a text's tokens
 abbrev IsRead : List ℕ → Result (List RawRule) TextFault → Type 0
-IsRead text r = (tokens : List Token) × (last : ℕ) × AreTokens text tokens last × (all_rules last tokens ≡ r)
+IsRead text r = (tokens : List Token) × (last : ℕ) × AreTokens text tokens last × (all_rules last (limited tokens) ≡ r)
 
 one_read : OneTokenAtAPlace → (text : List ℕ) (r s : Result (List RawRule) TextFault) → IsRead text r → IsRead text s → r ≡ s
 one_read one text r s (tokens, last, are, is) (tokens', last', are', is') =
     let same = one_reading one text are (omega arith) tokens' last' are' in
-    sym is ∙ ap (λ (ts : List Token). all_rules last ts) same.0 ∙ ap (λ (l : ℕ). all_rules l tokens') same.1 ∙ is'
+    sym is ∙ ap (λ (ts : List Token). all_rules last (limited ts)) same.0 ∙ ap (λ (l : ℕ). all_rules l (limited tokens')) same.1 ∙ is'
 
 written_read : (text : List ℕ) (raws : List RawRule) → IsWritten text raws → IsRead text (Ok raws)
-written_read text raws w = (w.tokens, w.last, w.are_tokens, rules_at-of (length w.tokens) w.last raws w.tokens w.spelled (le_refl _))
+written_read text raws w = (w.tokens, w.last, w.are_tokens, ap (λ (ts : List Token). all_rules w.last ts) w.few ∙ rules_at-of (length w.tokens) w.last raws w.tokens w.spelled (le_refl _))
+
+-- what is read of limited tokens is written by the whole ones
+read_written : (text : List ℕ) (tokens : List Token) (last : ℕ) (raws : List RawRule) → AreTokens text tokens last → all_rules last (limited tokens) ≡ Ok raws → IsWritten text raws
+read_written text tokens last raws are e =
+    let spelled : SpellsRules raws (limited tokens) = rules_at-is (length (limited tokens)) last (limited tokens) raws e in
+    let few = spelled_whole raws tokens spelled in
+    record { tokens = tokens; last = last; are_tokens = are; few = few; spelled = subst (λ (ts : List Token). SpellsRules raws ts) few spelled }
 
 fault_read : (text : List ℕ) (fault : TextFault) → IsTextFault text fault → IsRead text (Err fault)
 fault_read text fault f = (f.tokens, f.last, f.are_tokens, f.found)
@@ -41,19 +51,19 @@ ok_of raws = Ok raws
 
 pub texts : OneTokenAtAPlace → TextsHaveOneReadingOrFault
 texts one = record {
-  some = λ text. let t = has_tokens text in found text t.0 t.1 t.2 (all_rules t.1 t.0) refl;
+  some = λ text. let t = has_tokens text in found text t.0 t.1 t.2 (all_rules t.1 (limited t.0)) refl;
   one_reading = λ text a b h k. ok_is a b (one_read one text (Ok a) (Ok b) (written_read text a h) (written_read text b k));
   one_fault = λ text a b h k. let e : err_of a ≡ err_of b = one_read one text (Err a) (Err b) (fault_read text a h) (fault_read text b k) in cc;
   not_both = λ text raws fault h k. let e : ok_of raws ≡ err_of fault = one_read one text (Ok raws) (Err fault) (written_read text raws h) (fault_read text fault k) in cc;
 }
   where
-    found : (text : List ℕ) (tokens : List Token) (last : ℕ) → AreTokens text tokens last → (r : Result (List RawRule) TextFault) → all_rules last tokens ≡ r → ((raws : List RawRule) × IsWritten text raws) ⊎ ((fault : TextFault) × IsTextFault text fault)
-    found text tokens last are (Ok raws) e = inl (raws, record { tokens = tokens; last = last; are_tokens = are; spelled = rules_at-is (length tokens) last tokens raws e })
+    found : (text : List ℕ) (tokens : List Token) (last : ℕ) → AreTokens text tokens last → (r : Result (List RawRule) TextFault) → all_rules last (limited tokens) ≡ r → ((raws : List RawRule) × IsWritten text raws) ⊎ ((fault : TextFault) × IsTextFault text fault)
+    found text tokens last are (Ok raws) e = inl (raws, read_written text tokens last raws are e)
     found text tokens last are (Err fault) e = inr (fault, record { tokens = tokens; last = last; are_tokens = are; found = e })
 
 -- ---- what the code answers
 
-pub answers : {X : Type 0} (items : X → List RawRule) (text : List ℕ) (tokens : List Token) (last : ℕ) (r : Result X ParseError) → AreTokens text tokens last → Gives items r (all_rules last tokens) → IfOk r (λ x. IsWritten text (items x)) × IfErr r (λ e. IfRefused e (IsTextFault text))
-answers items text tokens last (Ok x) are e = (record { tokens = tokens; last = last; are_tokens = are; spelled = rules_at-is (length tokens) last tokens (items x) e }, tt)
+pub answers : {X : Type 0} (items : X → List RawRule) (text : List ℕ) (tokens : List Token) (last : ℕ) (r : Result X ParseError) → AreTokens text tokens last → Gives items r (all_rules last (limited tokens)) → IfOk r (λ x. IsWritten text (items x)) × IfErr r (λ e. IfRefused e (IsTextFault text))
+answers items text tokens last (Ok x) are e = (read_written text tokens last (items x) are e, tt)
 answers items text tokens last (Err (Refused fault)) are e = (tt, record { tokens = tokens; last = last; are_tokens = are; found = e })
 answers items text tokens last (Err NoMemory) are e = (tt, tt)

@@ -1,39 +1,52 @@
 -- The parts of a rule as written, and which tokens spell them. Each part stands on a line of its own.
---
--- This is the whole of what is read. Left out of the language of rules, each at its first token, are: `Pre:` and `Wit:`; `undef`;
--- constants; terms that are no literals; and in the target `true` and `false`.
-use Rattle.std.specs.Prelude.{◌≡◌, ℕ, ◌≤◌, List, [], ◌∷◌, ◌++◌, length, map, None, codes}
+use Rattle.std.specs.Prelude.{◌≡◌, IsTrue, ℕ, ◌≤◌, List, [], ◌∷◌, ◌++◌, length, map, None, codes}
 use Rattle.ops.specs.declared.opcode.Opcode.{Opcode}
 use Rattle.ops.specs.declared.opcode.Flags.{Flags}
 use Rattle.ops.specs.Flags.{no_flags}
 use Rattle.words.specs.declared.flag.Flag.{Flag}
 use Rattle.words.specs.Words.{opcode_word, cast_word, pred_word}
 use Rattle.words.specs.Flags.{AddsFlags, flag_word}
+use Rattle.scan.specs.RuleTokens.{is_constant}
+use Rattle.rule_terms.specs.declared.raw.RawNode.{RawNode}
+use Rattle.rule_terms.specs.declared.place.TermPlace.TheVariants.{Constant, Witness}
+use Rattle.rule_terms.specs.Formulas.{SpellsWholeFormula}
+use Rattle.rule_terms.specs.Grammar.{most_nested, SpellsWholeTerm}
 use Rattle.rule_parse.specs.declared.half.Half.{Half}
 use Rattle.rule_parse.specs.declared.half.Half.TheVariants.{Source, Target}
 use Rattle.rule_parse.specs.declared.raw.RawRule.{RawRule}
 use Rattle.rule_parse.specs.declared.raw.RawStatement.{RawStatement}
+use Rattle.rule_parse.specs.declared.raw.RawPrecondition.{RawPrecondition}
+use Rattle.rule_parse.specs.declared.raw.RawWitness.{RawWitness}
 use Rattle.rule_parse.specs.declared.raw.RawOp.{RawOp}
 use Rattle.rule_parse.specs.declared.raw.RawOp.TheVariants.{Binary, Compare, Select, Convert, Copy}
 use Rattle.rule_parse.specs.declared.raw.RawOperand.{RawOperand}
 use Rattle.rule_parse.specs.declared.raw.RawArgument.{RawArgument}
 use Rattle.rule_parse.specs.declared.raw.RawArgument.TheVariants as arguments
-use Rattle.rule_parse.specs.Limits.{most_statements, most_name_bytes}
-use Rattle.rule_parse.specs.Numbers.{literal_value, IsWrittenType}
-use Rattle.rule_parse.specs.Parts.{Part, Is, Comma, Never, ◌⨾◌, Maybe}
-use Rattle.rule_parse.specs.Tokens.{Token, Line, Head, Name, Register, Word, Number, Arrow, Mark}
-use Rattle.rule_parse.specs.Words.{truth_word}
+use Rattle.rule_parse.specs.Limits.{most_statements}
+use Rattle.rule_tokens.specs.Limits.{most_name_bytes}
+use Rattle.rule_tokens.specs.Spelling.{SpellsType}
+use Rattle.rule_tokens.specs.Numbers.{literal_value}
+use Rattle.rule_tokens.specs.Parts.{Part, Is, Comma, Nothing, Never, ◌⨾◌, Maybe}
+use Rattle.rule_tokens.specs.Tokens.{Token, Line, Head, Name, Register, Word, Number, Arrow, Mark}
+use Rattle.rule_parse.specs.Words.{truth_word, argument_of}
 
--- type
-abbrev pub SpellsType : ℕ → Part
-SpellsType width tokens = (written : List ℕ) × IsWrittenType written width × Is (Word written) tokens
+-- a term of constants that is this operand
+abbrev pub SpellsTermOperand : RawArgument → Part
+SpellsTermOperand a tokens = (nodes : List RawNode) × SpellsWholeTerm Constant most_nested nodes tokens × (a ≡ argument_of nodes)
 
--- o := REG | literal, and in the source 'true' | 'false' too
+-- o := REG | 'undef', and in the source CONST | literal | 'true' | 'false' too
 abbrev pub SpellsArgument : Half → RawArgument → Part
 SpellsArgument half (arguments.Register name) tokens = (length name ≤ most_name_bytes) × Is (Register name) tokens
-SpellsArgument half (arguments.Literal z) tokens = (text : List ℕ) × (z ≡ literal_value text) × Is (Number text) tokens
+SpellsArgument half arguments.Undef tokens = Is (Word (codes "undef")) tokens
+SpellsArgument Source (arguments.Literal z) tokens = (text : List ℕ) × (z ≡ literal_value text) × Is (Number text) tokens
+SpellsArgument Source (arguments.Constant name) tokens = IsTrue (is_constant name) × (length name ≤ most_name_bytes) × Is (Word name) tokens
 SpellsArgument Source (arguments.Truth truth) tokens = Is (Word (truth_word truth)) tokens
+SpellsArgument Source (arguments.Term nodes) tokens = ⊥
+-- and in the target a term
+SpellsArgument Target (arguments.Literal z) tokens = SpellsTermOperand (arguments.Literal z) tokens
+SpellsArgument Target (arguments.Constant name) tokens = SpellsTermOperand (arguments.Constant name) tokens
 SpellsArgument Target (arguments.Truth truth) tokens = ⊥
+SpellsArgument Target (arguments.Term nodes) tokens = SpellsTermOperand (arguments.Term nodes) tokens
 
 -- [type] o
 abbrev pub SpellsOperand : Half → RawOperand → Part
@@ -88,15 +101,41 @@ pub record SpellsHalf (half : Half) (statements : List RawStatement) (tokens : L
   pub most : length statements ≤ most_statements
   pub spelled : SpellsStatements half statements tokens
 
--- rule := 'Name:' text source+ '=>' target+
+-- 'Pre:' formula
+abbrev pub SpellsPrecondition : RawPrecondition → Part
+SpellsPrecondition p tokens = (own : List Token) × SpellsWholeFormula p.formula own × (tokens ≡ Line p.line ∷ Head (codes "Pre:") ∷ own)
+
+-- term (',' term)*
+abbrev pub SpellsExpression : List RawNode → Part
+SpellsExpression nodes tokens = SpellsWholeTerm Witness most_nested nodes tokens
+
+abbrev pub SpellsMoreExpressions : List (List RawNode) → List Token → Type 0
+SpellsMoreExpressions [] tokens = Nothing tokens
+SpellsMoreExpressions (nodes ∷ expressions) tokens = (own rest : List Token)
+    × SpellsExpression nodes own × SpellsMoreExpressions expressions rest × (tokens ≡ Mark (codes ",") ∷ own ++ rest)
+
+abbrev pub SpellsExpressions : List (List RawNode) → Part
+SpellsExpressions [] tokens = ⊥
+SpellsExpressions (nodes ∷ expressions) tokens = (own rest : List Token)
+    × SpellsExpression nodes own × SpellsMoreExpressions expressions rest × (tokens ≡ own ++ rest)
+
+-- 'Wit:' term (',' term)*
+abbrev pub SpellsWitness : RawWitness → Part
+SpellsWitness w tokens = (own : List Token) × SpellsExpressions w.expressions own × (tokens ≡ Line w.line ∷ Head (codes "Wit:") ∷ own)
+
+-- rule := 'Name:' text ['Pre:' formula] ['Wit:' term (',' term)*] source+ '=>' target+
 pub record SpellsRule (rule : RawRule) (tokens : List Token) : Type 0 where
   pub name : (1 ≤ length rule.name) × (length rule.name ≤ most_name_bytes)
+  pub precondition : List Token
+  pub is_precondition : Maybe SpellsPrecondition rule.precondition precondition
+  pub witness : List Token
+  pub is_witness : Maybe SpellsWitness rule.witness witness
   pub source : List Token
   pub is_source : SpellsHalf Source rule.source source
   pub arrow_line : ℕ
   pub target : List Token
   pub is_target : SpellsHalf Target rule.target target
-  pub spelled : tokens ≡ Line rule.line ∷ Head (codes "Name:") ∷ Name rule.name ∷ source ++ Line arrow_line ∷ Arrow ∷ target
+  pub spelled : tokens ≡ Line rule.line ∷ Head (codes "Name:") ∷ Name rule.name ∷ precondition ++ (witness ++ (source ++ Line arrow_line ∷ Arrow ∷ target))
 
 -- rules one behind the other
 abbrev pub SpellsRules : List RawRule → List Token → Type 0

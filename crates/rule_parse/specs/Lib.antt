@@ -1,12 +1,9 @@
-pub mod Giving
 pub mod Grammar
+pub mod Inside
 pub mod Laws
+pub mod Limited
 pub mod Limits
-pub mod Numbers
 pub mod Parsing
-pub mod Parts
-pub mod Refusing
-pub mod Seen
 pub mod Text
-pub mod Tokens
+pub mod Weight
 pub mod Words

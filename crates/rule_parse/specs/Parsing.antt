@@ -1,6 +1,6 @@
 -- Reading the parts of a rule from left to right: what the tokens spell and the tokens behind it, or the fault of the first token
 -- that does not fit.
-use Rattle.std.specs.Prelude.{ℕ, zero, suc, nat_le, if◌then◌else◌, List, [], ◌∷◌, length, take, Option, None, Some, Result, Ok, Err, codes}
+use Rattle.std.specs.Prelude.{ℕ, zero, suc, if◌then◌else◌, List, [], ◌∷◌, ◌++◌, length, Option, None, Some, Result, Ok, Err, codes}
 use Rattle.std.specs.Str.{bytes_eq}
 use Rattle.ops.specs.declared.opcode.Opcode.{Opcode}
 use Rattle.ops.specs.declared.opcode.Flags.{Flags}
@@ -10,13 +10,14 @@ use Rattle.ops.specs.Flags.{no_flags}
 use Rattle.words.specs.declared.flag.Flag.{Flag}
 use Rattle.words.specs.Words.{pred_in}
 use Rattle.words.specs.Flags.{flag_in, has_flag, with_flag}
-use Rattle.rule_parse.specs.declared.fault.Misfit.{Misfit}
-use Rattle.rule_parse.specs.declared.fault.Misfit.TheVariants.{BadByte, Syntax, LeftOut, TooMany}
-use Rattle.rule_parse.specs.declared.fault.TextFault.{TextFault}
+use Rattle.rule_tokens.specs.declared.fault.Misfit.TheVariants.{Syntax, TooMany}
+use Rattle.rule_tokens.specs.declared.fault.TextFault.{TextFault}
 use Rattle.rule_parse.specs.declared.half.Half.{Half}
 use Rattle.rule_parse.specs.declared.half.Half.TheVariants.{Source, Target}
 use Rattle.rule_parse.specs.declared.raw.RawRule.{RawRule}
 use Rattle.rule_parse.specs.declared.raw.RawStatement.{RawStatement}
+use Rattle.rule_parse.specs.declared.raw.RawPrecondition.{RawPrecondition}
+use Rattle.rule_parse.specs.declared.raw.RawWitness.{RawWitness}
 use Rattle.rule_parse.specs.declared.raw.RawOp.{RawOp}
 use Rattle.rule_parse.specs.declared.raw.RawOp.TheVariants.{Binary, Compare, Select, Convert, Copy}
 use Rattle.rule_parse.specs.declared.raw.RawOperand.{RawOperand}
@@ -24,73 +25,50 @@ use Rattle.rule_parse.specs.declared.raw.RawArgument.{RawArgument}
 use Rattle.rule_parse.specs.declared.raw.RawArgument.TheVariants as arguments
 use Rattle.rule_parse.specs.declared.word.Operation.{Operation}
 use Rattle.rule_parse.specs.declared.word.Operation.TheVariants as operations
-use Rattle.rule_parse.specs.Giving.{◌>>=◌}
-use Rattle.rule_parse.specs.Limits.{most_statements, most_name_bytes}
-use Rattle.rule_parse.specs.Numbers.{literal_value, type_in}
-use Rattle.rule_parse.specs.Tokens.{Token, Line, Head, Name, Register, Word, Number, Arrow, Mark, Bad}
-use Rattle.rule_parse.specs.Words.{operation_in, truth_in, begins_term, continues_term}
+use Rattle.rule_terms.specs.declared.raw.RawNode.{RawNode}
+use Rattle.rule_terms.specs.declared.place.TermPlace.TheVariants.{Constant, Witness}
+use Rattle.rule_terms.specs.Grammar.{most_nested}
+use Rattle.rule_terms.specs.Parsing.{mark_at, term_at}
+use Rattle.rule_terms.specs.FormulaReading.{formula_at}
+use Rattle.rule_terms.specs.Chains.{Reader, chain_at}
+use Rattle.scan.specs.RuleTokens.{is_constant}
+use Rattle.rule_tokens.specs.Giving.{◌>>=◌}
+use Rattle.rule_parse.specs.Limits.{most_statements}
+use Rattle.rule_tokens.specs.Reading.{Read, fault, unexpected, misplaced_word, left_out, or_left_out, name_within, type_at, maybe_type, line_end}
+use Rattle.rule_tokens.specs.Numbers.{literal_value}
+use Rattle.rule_tokens.specs.Tokens.{Token, Line, Head, Name, Register, Word, Number, Arrow}
+use Rattle.rule_parse.specs.Words.{operation_in, source_word_in, argument_of}
 
--- what is read, and the tokens behind it
-abbrev pub Read : Type 0 → Type 0
-Read A = Result (A × List Token) TextFault
+-- ---- operands
 
-abbrev pub fault : ℕ → Misfit → TextFault
-fault line kind = record { line = line; kind = kind }
+-- a register
+abbrev pub register_at : ℕ → List ℕ → List Token → Read RawArgument
+register_at line name rest = name_within line name >>= λ held. Ok (arguments.Register held, rest)
 
--- ---- the fault of the first token, on this line
+-- a word of the source: a constant, a truth or `undef`
+abbrev pub known_or_misplaced : ℕ → List ℕ → Option RawArgument → Result RawArgument TextFault
+known_or_misplaced line word (Some value) = Ok value
+known_or_misplaced line word None = Err (misplaced_word line word)
 
--- none of its kind may stand here, or the line ends here
-abbrev pub unexpected : ℕ → List Token → TextFault
-unexpected line (Bad ∷ tokens) = fault line BadByte
-unexpected line tokens = fault line Syntax
+unfoldable pub source_word : ℕ → List ℕ → Result RawArgument TextFault
+source_word line word =
+    if is_constant word then (name_within line word >>= λ held. Ok (arguments.Constant held))
+    else known_or_misplaced line word (source_word_in word)
 
--- words may stand here, but not this one
-abbrev pub left_out : ℕ → List Token → TextFault
-left_out line (Word word ∷ tokens) = fault line (LeftOut word)
-left_out line tokens = unexpected line tokens
+-- a term, or the literal or the constant that is one
+abbrev pub term_argument_at : ℕ → List Token → Read RawArgument
+term_argument_at line tokens = term_at Constant most_nested line tokens >>= λ term. Ok (argument_of term.0, term.1)
 
--- it is no operand that is read
-unfoldable pub no_operand : Half → ℕ → List Token → TextFault
-no_operand half line (Mark mark ∷ tokens) = fault line (if begins_term half mark then LeftOut (take 1 mark) else Syntax)
-no_operand half line tokens = left_out line tokens
-
--- it stands behind an operand, where it may not
-unfoldable pub behind_operand : Half → RawOperand → ℕ → List Token → TextFault
-behind_operand half operand line (Mark mark ∷ tokens) =
-    fault line (if continues_term half operand.value mark then LeftOut (take 1 mark) else Syntax)
-behind_operand half operand line tokens = unexpected line tokens
-
--- ---- words, types and operands
-
--- what a word on a line stands for; a word that stands for nothing is left out
-abbrev pub or_left_out : {A : Type 0} → ℕ → List ℕ → Option A → List Token → Read A
-or_left_out line word (Some x) rest = Ok (x, rest)
-or_left_out line word None rest = Err (fault line (LeftOut word))
-
--- a name of at most 200 bytes
-unfoldable pub name_within : ℕ → List ℕ → Result (List ℕ) TextFault
-name_within line name = if nat_le (length name) most_name_bytes then Ok name else Err (fault line TooMany)
-
--- a type
-unfoldable pub type_at : ℕ → List Token → Read ℕ
-type_at line (Word word ∷ rest) = or_left_out line word (type_in word) rest
-type_at line tokens = Err (unexpected line tokens)
-
--- a type, if one is next, and the tokens behind it
-abbrev pub type_or_word : List ℕ → Option ℕ → List Token → Option ℕ × List Token
-type_or_word word (Some width) rest = (Some width, rest)
-type_or_word word None rest = (None, Word word ∷ rest)
-
-unfoldable pub maybe_type : List Token → Option ℕ × List Token
-maybe_type (Word word ∷ rest) = type_or_word word (type_in word) rest
-maybe_type tokens = (None, tokens)
-
--- a register, a literal or a truth
+-- an operand without its type
 unfoldable pub argument_at : Half → ℕ → List Token → Read RawArgument
-argument_at half line (Register name ∷ rest) = name_within line name >>= λ held. Ok (arguments.Register held, rest)
-argument_at half line (Number text ∷ rest) = Ok (arguments.Literal (literal_value text), rest)
-argument_at half line (Word word ∷ rest) = or_left_out line word (truth_in half word) rest >>= λ truth. Ok (arguments.Truth truth.0, truth.1)
-argument_at half line tokens = Err (no_operand half line tokens)
+argument_at Source line (Register name ∷ rest) = register_at line name rest
+argument_at Source line (Number text ∷ rest) = Ok (arguments.Literal (literal_value text), rest)
+argument_at Source line (Word word ∷ rest) = source_word line word >>= λ value. Ok (value, rest)
+argument_at Source line tokens = Err (unexpected line tokens)
+argument_at Target line (Register name ∷ rest) = register_at line name rest
+argument_at Target line (Word word ∷ rest) =
+    if bytes_eq word (codes "undef") then Ok (arguments.Undef, rest) else term_argument_at line (Word word ∷ rest)
+argument_at Target line tokens = term_argument_at line tokens
 
 -- an operand with this type before it
 unfoldable pub typed_at : Half → ℕ → Option ℕ → List Token → Read RawOperand
@@ -100,32 +78,13 @@ typed_at half line written tokens = argument_at half line tokens >>= λ value. O
 abbrev pub operand_at : Half → ℕ → List Token → Read RawOperand
 operand_at half line tokens = typed_at half line (maybe_type tokens).0 (maybe_type tokens).1
 
--- ---- what stands behind an operand
-
--- a `,`
-unfoldable pub comma_at : Half → RawOperand → ℕ → List Token → Result (List Token) TextFault
-comma_at half left line (Mark mark ∷ rest) = if bytes_eq mark (codes ",") then Ok rest else Err (behind_operand half left line (Mark mark ∷ rest))
-comma_at half left line tokens = Err (behind_operand half left line tokens)
-
--- the end of the line
-unfoldable pub end_at : Half → RawOperand → ℕ → List Token → Result (List Token) TextFault
-end_at half last line [] = Ok []
-end_at half last line (Line next ∷ rest) = Ok (Line next ∷ rest)
-end_at half last line tokens = Err (behind_operand half last line tokens)
-
--- the same behind what is no operand
-abbrev pub line_end : ℕ → List Token → Result (List Token) TextFault
-line_end line [] = Ok []
-line_end line (Line next ∷ rest) = Ok (Line next ∷ rest)
-line_end line tokens = Err (unexpected line tokens)
-
 -- the end of the line, maybe behind `to` and a type
-unfoldable pub to_at : Half → RawOperand → ℕ → List Token → Read (Option ℕ)
-to_at half from line (Word word ∷ rest) =
+unfoldable pub to_at : ℕ → List Token → Read (Option ℕ)
+to_at line (Word word ∷ rest) =
     if bytes_eq word (codes "to")
     then (type_at line rest >>= λ width. line_end line width.1 >>= λ behind. Ok (Some width.0, behind))
     else Err (fault line Syntax)
-to_at half from line tokens = end_at half from line tokens >>= λ rest. Ok (None, rest)
+to_at line tokens = line_end line tokens >>= λ rest. Ok (None, rest)
 
 -- ---- flags
 
@@ -149,9 +108,9 @@ flags_at op line before (token ∷ rest) = flag_or_end line before (next_flag op
 unfoldable pub pair_at : Half → ℕ → List Token → Read (RawOperand × RawOperand)
 pair_at half line tokens = do
   left ← operand_at half line tokens
-  behind ← comma_at half left.0 line left.1
+  behind ← mark_at (codes ",") line left.1
   right ← typed_at half line None behind
-  rest ← end_at half right.0 line right.1
+  rest ← line_end line right.1
   Ok ((left.0, right.0), rest)
 
 -- a binary operation, behind its opcode
@@ -177,25 +136,25 @@ compare_at half line tokens = do
 unfoldable pub select_at : Half → ℕ → List Token → Read RawOp
 select_at half line tokens = do
   condition ← operand_at half line tokens
-  first ← comma_at half condition.0 line condition.1
+  first ← mark_at (codes ",") line condition.1
   if_true ← operand_at half line first
-  second ← comma_at half if_true.0 line if_true.1
+  second ← mark_at (codes ",") line if_true.1
   if_false ← operand_at half line second
-  rest ← end_at half if_false.0 line if_false.1
+  rest ← line_end line if_false.1
   Ok (Select condition.0 if_true.0 if_false.0, rest)
 
 -- a cast, behind its opcode
 unfoldable pub convert_at : Half → ℕ → Cast → List Token → Read RawOp
 convert_at half line cast tokens = do
   from ← operand_at half line tokens
-  to ← to_at half from.0 line from.1
+  to ← to_at line from.1
   Ok (Convert cast from.0 to.0, to.1)
 
 -- a copy
 unfoldable pub copy_at : ℕ → List Token → Read RawOp
 copy_at line tokens = do
   operand ← operand_at Target line tokens
-  rest ← end_at Target operand.0 line operand.1
+  rest ← line_end line operand.1
   Ok (Copy operand.0, rest)
 
 -- behind its opcode
@@ -218,16 +177,11 @@ unfoldable pub op_at : Half → ℕ → List Token → Read RawOp
 op_at half line (Word word ∷ rest) = op_word half line word (operation_in word) rest
 op_at half line tokens = other_at half line tokens
 
--- the `=` behind the register
-unfoldable pub equals_at : ℕ → List Token → Result (List Token) TextFault
-equals_at line (Mark mark ∷ rest) = if bytes_eq mark (codes "=") then Ok rest else Err (fault line Syntax)
-equals_at line tokens = Err (unexpected line tokens)
-
 -- the statement of a register, behind it
 unfoldable pub statement_at : Half → ℕ → List ℕ → List Token → Read RawStatement
 statement_at half line register tokens = do
   name ← name_within line register
-  behind ← equals_at line tokens
+  behind ← mark_at (codes "=") line tokens
   op ← op_at half line behind
   Ok (record { line = line; name = name; op = op.0 }, op.1)
 
@@ -264,9 +218,39 @@ name_at last (Line line ∷ Head head ∷ rest) =
     if bytes_eq head (codes "Name:") then (name_text line rest >>= λ name. Ok ((line, name.0), name.1)) else Err (fault line Syntax)
 name_at last tokens = Err (unexpected_line last tokens)
 
--- one statement or more; a precondition or a witness in front of them is left out
+-- the precondition, if one is next
+abbrev pub behind_precondition : ℕ → List Token → Read (Option RawPrecondition)
+behind_precondition line tokens = formula_at line tokens >>= λ formula. Ok (Some (record { line = line; formula = formula.0 }), formula.1)
+
+unfoldable pub precondition_at : List Token → Read (Option RawPrecondition)
+precondition_at (Line line ∷ Head head ∷ rest) = if bytes_eq head (codes "Pre:") then behind_precondition line rest else Ok (None, Line line ∷ Head head ∷ rest)
+precondition_at tokens = Ok (None, tokens)
+
+-- an expression of a witness, behind others
+abbrev pub expression_at : ℕ → Reader (List (List RawNode))
+expression_at line before tokens = term_at Witness most_nested line tokens >>= λ term. Ok (before ++ term.0 ∷ [], term.1)
+
+abbrev pub more_expressions : ℕ → Reader (List (List RawNode))
+more_expressions line before tokens = chain_at (codes ",") (expression_at line) before tokens
+
+-- expressions behind each other, with `,` between them, and the end of the line
+unfoldable pub expressions_at : ℕ → List Token → Read (List (List RawNode))
+expressions_at line tokens = do
+  first ← expression_at line [] tokens
+  all ← more_expressions line first.0 first.1
+  rest ← line_end line all.1
+  Ok (all.0, rest)
+
+-- the witness, if one is next
+abbrev pub behind_witness : ℕ → List Token → Read (Option RawWitness)
+behind_witness line tokens = expressions_at line tokens >>= λ all. Ok (Some (record { line = line; expressions = all.0 }), all.1)
+
+unfoldable pub witness_at : List Token → Read (Option RawWitness)
+witness_at (Line line ∷ Head head ∷ rest) = if bytes_eq head (codes "Wit:") then behind_witness line rest else Ok (None, Line line ∷ Head head ∷ rest)
+witness_at tokens = Ok (None, tokens)
+
+-- one statement or more
 unfoldable pub source_at : ℕ → List Token → Read (List RawStatement)
-source_at last (Line line ∷ Head head ∷ rest) = Err (fault line (if bytes_eq head (codes "Name:") then Syntax else LeftOut head))
 source_at last (Line line ∷ Register name ∷ rest) = statements_at most_statements Source (Line line ∷ Register name ∷ rest)
 source_at last tokens = Err (unexpected_line last tokens)
 
@@ -283,10 +267,12 @@ target_at last tokens = Err (unexpected_line last tokens)
 unfoldable pub rule_at : ℕ → List Token → Read RawRule
 rule_at last tokens = do
   name ← name_at last tokens
-  source ← source_at last name.1
+  precondition ← precondition_at name.1
+  witness ← witness_at precondition.1
+  source ← source_at last witness.1
   behind ← arrow_at last source.1
   target ← target_at last behind
-  Ok (record { line = name.0.0; name = name.0.1; source = source.0; target = target.0 }, target.1)
+  Ok (record { line = name.0.0; name = name.0.1; precondition = precondition.0; witness = witness.0; source = source.0; target = target.0 }, target.1)
 
 -- Rules up to the end of the text. The number bounds how many; that of the tokens is enough.
 unfoldable pub rules_at : ℕ → ℕ → List Token → Result (List RawRule) TextFault

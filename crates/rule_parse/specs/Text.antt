@@ -1,16 +1,19 @@
 -- Rule files as written: their rules, or their first fault.
 use Rattle.std.specs.Prelude.{◌≡◌, ℕ, List, Err}
-use Rattle.rule_parse.specs.declared.fault.TextFault.{TextFault}
+use Rattle.rule_tokens.specs.declared.fault.TextFault.{TextFault}
 use Rattle.rule_parse.specs.declared.raw.RawRule.{RawRule}
 use Rattle.rule_parse.specs.Grammar.{SpellsRules}
+use Rattle.rule_parse.specs.Limited.{limited}
 use Rattle.rule_parse.specs.Parsing.{all_rules}
-use Rattle.rule_parse.specs.Tokens.{Token, AreTokens}
+use Rattle.rule_tokens.specs.Tokens.{Token, AreTokens}
 
 -- the text is that of these rules
 pub record IsWritten (text : List ℕ) (raws : List RawRule) : Type 0 where
   pub tokens : List Token
   pub last : ℕ
   pub are_tokens : AreTokens text tokens last
+  -- no rule has too many operands, literals, names, operators and functions
+  pub few : limited tokens ≡ tokens
   pub spelled : SpellsRules raws tokens
 
 -- the first token that does not fit: its line, and why it does not
@@ -18,4 +21,4 @@ pub record IsTextFault (text : List ℕ) (fault : TextFault) : Type 0 where
   pub tokens : List Token
   pub last : ℕ
   pub are_tokens : AreTokens text tokens last
-  pub found : all_rules last tokens ≡ Err fault
+  pub found : all_rules last (limited tokens) ≡ Err fault

@@ -1,5 +1,5 @@
 //! The laws of rule files, each the contract of a function that does nothing.
-ghost use Rattle.rule_parse.specs.Laws.{RulesAreReadAsSpelled, TextsHaveOneReadingOrFault};
+ghost use Rattle.rule_parse.specs.Laws.{RulesAreReadAsSpelled, TextsHaveOneReadingOrFault, WrittenRulesAreSmall};
 
 /// Reading from left to right answers rules exactly where the grammar spells them.
 pub fn rules_are_read_as_they_are_spelled()
@@ -12,3 +12,8 @@ pub fn every_text_has_one_reading_or_one_fault()
 {
     scan::every_place_has_one_rule_token();
 }
+
+/// No rule of a text as written has more than 256 operands, literals, names, operators and functions.
+pub fn written_rules_are_small()
+    ensures { WrittenRulesAreSmall }
+{}

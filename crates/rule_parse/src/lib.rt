@@ -1,27 +1,30 @@
 //! Rules as they are written in a text, or the first token that does not fit, with its line.
 //!
-//! A text is read in two steps: bytes to tokens with their lines (`tokens`), and those to rules (`rule`, `statement`, `op`, `operand`).
+//! A text is read in two steps: bytes to tokens with their lines, and those to rules (`rule`, `statement`, `op`, `operand`).
 #![tactic(auto)]
 
-mod fault;
+mod excess;
 mod half;
 mod laws;
-mod number;
+mod limit;
 mod op;
 mod operand;
+mod precondition;
 mod raw;
 mod reader;
-mod refusal;
 mod rule;
 mod statement;
-mod token;
-mod tokens;
+mod witness;
 mod word;
 
-pub use fault::{Misfit, ParseError, TextFault};
-pub use laws::{every_text_has_one_reading_or_one_fault, rules_are_read_as_they_are_spelled};
-pub use raw::{RawArgument, RawOp, RawOperand, RawRule, RawStatement};
+pub use laws::{
+    every_text_has_one_reading_or_one_fault, rules_are_read_as_they_are_spelled,
+    written_rules_are_small,
+};
+pub use raw::{RawArgument, RawOp, RawOperand, RawPrecondition, RawRule, RawStatement, RawWitness};
 pub use reader::parse_rules;
+pub use rule_terms::{RawFormula, RawNode, RawTerm};
+pub use rule_tokens::{Misfit, ParseError, TextFault};
 
 #[cfg(test)]
 mod tests;

@@ -2,18 +2,19 @@
 
 ghost use Rattle.std.specs.Prelude.{◌≡◌, drop, IfSome, IfNone};
 ghost use Rattle.ops.specs.Flags.{no_flags};
-ghost use Rattle.rule_parse.specs.Giving.{Gives};
+ghost use Rattle.rule_tokens.specs.Giving.{Gives};
 ghost use Rattle.rule_parse.specs.Parsing as parsing;
-ghost use Rattle.rule_parse.specs.Seen.{seen};
+ghost use Rattle.rule_tokens.specs.Seen.{seen};
 
-use crate::fault::{Misfit, ParseError};
 use crate::half::Half;
-use crate::operand::{comma, end, operand, result_type, typed};
+use crate::operand::{operand, result_type, typed};
 use crate::raw::{RawOp, RawOperand};
-use crate::refusal::{left_out, misplaced, refused, unexpected};
-use crate::token::Token;
 use crate::word::{Operation, operation_of};
 use ops::{Cast, Flags, Opcode, Pred};
+use rule_terms::mark;
+use rule_tokens::{
+    Misfit, ParseError, Token, line_end, misplaced, misplaced_word, refused, unexpected,
+};
 use std::alloc::Global;
 use words::{Flag, flag_of, has_flag, predicate_of, with_flag};
 
@@ -56,9 +57,9 @@ fn pair(
     ensures { Gives (λ x. (x, seen tokens.new.now)) result (parsing.pair_at half line (seen tokens.old.now)) }
 {
     let left = operand(alloc, half, line, tokens)?;
-    comma(alloc, half, &left, line, tokens)?;
+    mark(",", line, tokens)?;
     let right = typed(alloc, half, line, None, tokens)?;
-    end(alloc, half, &right, line, *tokens)?;
+    line_end(line, *tokens)?;
     Ok((left, right))
 }
 
@@ -89,7 +90,7 @@ fn predicate(alloc: Global, line: usize, tokens: &mut &[Token<'_>]) -> Result<Pr
                 *tokens = rest;
                 Ok(pred)
             }
-            None => Err(left_out(alloc, line, word)),
+            None => Err(misplaced_word(alloc, line, word)),
         },
         _ => Err(unexpected(line, *tokens)),
     }
@@ -121,11 +122,11 @@ fn selection(
     ensures { Gives (λ x. (x, seen tokens.new.now)) result (parsing.select_at half line (seen tokens.old.now)) }
 {
     let condition = operand(alloc, half, line, tokens)?;
-    comma(alloc, half, &condition, line, tokens)?;
+    mark(",", line, tokens)?;
     let if_true = operand(alloc, half, line, tokens)?;
-    comma(alloc, half, &if_true, line, tokens)?;
+    mark(",", line, tokens)?;
     let if_false = operand(alloc, half, line, tokens)?;
-    end(alloc, half, &if_false, line, *tokens)?;
+    line_end(line, *tokens)?;
     Ok(RawOp::Select(condition, if_true, if_false))
 }
 
@@ -141,7 +142,7 @@ fn conversion(
     ensures { Gives (λ x. (x, seen tokens.new.now)) result (parsing.convert_at half line cast (seen tokens.old.now)) }
 {
     let from = operand(alloc, half, line, tokens)?;
-    let to = result_type(alloc, half, &from, line, tokens)?;
+    let to = result_type(alloc, line, tokens)?;
     Ok(RawOp::Convert(cast, from, to))
 }
 
@@ -151,7 +152,7 @@ fn copy(alloc: Global, line: usize, tokens: &mut &[Token<'_>]) -> Result<RawOp, 
     ensures { Gives (λ x. (x, seen tokens.new.now)) result (parsing.copy_at line (seen tokens.old.now)) }
 {
     let operand = operand(alloc, Half::Target, line, tokens)?;
-    end(alloc, Half::Target, &operand, line, *tokens)?;
+    line_end(line, *tokens)?;
     Ok(RawOp::Copy(operand))
 }
 

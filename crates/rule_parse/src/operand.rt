@@ -1,76 +1,48 @@
 //! Types and operands from tokens, and what stands behind them.
 
-ghost use Rattle.std.specs.Prelude.{◌≡◌};
-ghost use Rattle.rule_parse.specs.Giving.{Gives};
+ghost use Rattle.std.specs.Prelude.{◌≡◌, IfOk};
+ghost use Rattle.rule_tokens.specs.Giving.{Gives};
+ghost use Rattle.rule_tokens.specs.Seen.{seen};
+ghost use Rattle.rule_parse.specs.declared.half.Half.TheVariants as halves;
 ghost use Rattle.rule_parse.specs.Parsing as parsing;
-ghost use Rattle.rule_parse.specs.Seen.{seen};
+ghost use Rattle.rule_parse.specs.Words as spelled;
 
-use crate::fault::{Misfit, ParseError};
 use crate::half::Half;
-use crate::number::{literal, written_type};
+use crate::limit::MOST_NESTED;
 use crate::raw::{RawArgument, RawOperand};
-use crate::refusal::{behind_operand, left_out, no_operand, refused, unexpected};
-use crate::token::Token;
-use crate::word::truth_of;
+use crate::word::source_word_of;
 use lists::Text;
 use ops::Width;
-use std::alloc::Global;
+use rule_terms::{RawNode, RawTerm, TermPlace, is_constant, term};
+use rule_tokens::{
+    Misfit, ParseError, Token, integer_type, line_end, literal, maybe_type, misplaced_word,
+    name_within, refused, unexpected,
+};
+use std::alloc::{AllocError, Global};
 use words::is;
 
-/// The most bytes of a name.
-const MOST_NAME_BYTES: usize = 200;
-
-/// A name of at most 200 bytes.
-#[tactic(auto, unfolding(crate::specs::Parsing::name_within))]
-pub(crate) fn name_within(alloc: Global, line: usize, name: &[u8]) -> Result<Text, ParseError>
-    ensures { Gives (λ x. x) result (parsing.name_within line name.now) }
+/// A word of the source: a constant, a truth or `undef`.
+#[tactic(auto, unfolding(crate::specs::Parsing::source_word))]
+fn source_word(alloc: Global, line: usize, word: &[u8]) -> Result<RawArgument, ParseError>
+    ensures { Gives (λ x. x) result (parsing.source_word line word.now) }
 {
-    if name.len() <= MOST_NAME_BYTES {
-        Ok(Text::from_vec(Vec::from_slice(alloc, name)?))
-    } else {
-        Err(refused(line, Misfit::TooMany))
+    if is_constant(word) {
+        return Ok(RawArgument::Constant(name_within(alloc, line, word)?));
+    }
+    match source_word_of(word) {
+        Some(argument) => Ok(argument),
+        None => Err(misplaced_word(alloc, line, word)),
     }
 }
 
-/// A type.
-#[tactic(auto, unfolding(crate::specs::Parsing::type_at))]
-fn integer_type(alloc: Global, line: usize, tokens: &mut &[Token<'_>]) -> Result<Width, ParseError>
-    ensures { Gives (λ x. (x, seen tokens.new.now)) result (parsing.type_at line (seen tokens.old.now)) }
-{
-    match *tokens {
-        [Token::Word(word), rest @ ..] => match written_type(word) {
-            Some(width) => {
-                *tokens = rest;
-                Ok(width)
-            }
-            None => Err(left_out(alloc, line, word)),
-        },
-        _ => Err(unexpected(line, *tokens)),
-    }
-}
-
-/// The type that is next, if one is; goes behind it.
-#[tactic(auto, unfolding(crate::specs::Parsing::maybe_type))]
-fn maybe_type(tokens: &mut &[Token<'_>]) -> Option<Width>
-    ensures { (result, seen tokens.new.now) ≡ parsing.maybe_type (seen tokens.old.now) }
-{
-    let [Token::Word(word), rest @ ..] = *tokens else {
-        return None;
-    };
-    let width = written_type(word)?;
-    *tokens = rest;
-    Some(width)
-}
-
-/// A register, a literal or a truth.
+/// An operand of the source without its type.
 #[tactic(auto, unfolding(crate::specs::Parsing::argument_at))]
-fn argument(
+fn source_argument(
     alloc: Global,
-    half: Half,
     line: usize,
     tokens: &mut &[Token<'_>],
 ) -> Result<RawArgument, ParseError>
-    ensures { Gives (λ x. (x, seen tokens.new.now)) result (parsing.argument_at half line (seen tokens.old.now)) }
+    ensures { Gives (λ x. (x, seen tokens.new.now)) result (parsing.argument_at halves.Source line (seen tokens.old.now)) }
 {
     match *tokens {
         [Token::Register(name), rest @ ..] => {
@@ -81,14 +53,75 @@ fn argument(
             *tokens = rest;
             Ok(RawArgument::Literal(literal(text)))
         }
-        [Token::Word(word), rest @ ..] => match truth_of(half, word) {
-            Some(truth) => {
-                *tokens = rest;
-                Ok(RawArgument::Truth(truth))
-            }
-            None => Err(left_out(alloc, line, word)),
-        },
-        _ => Err(no_operand(alloc, half, line, *tokens)),
+        [Token::Word(word), rest @ ..] => {
+            *tokens = rest;
+            source_word(alloc, line, word)
+        }
+        _ => Err(unexpected(line, *tokens)),
+    }
+}
+
+/// A term as an operand: a literal or a constant alone is known as such.
+#[tactic(auto, unfolding(crate::specs::Words::argument_of))]
+fn argument_of(alloc: Global, term: RawTerm) -> Result<RawArgument, AllocError>
+    ensures { IfOk result (λ x. x ≡ spelled.argument_of term) }
+{
+    match term.as_slice() {
+        [RawNode::Literal(number)] => Ok(RawArgument::Literal(*number)),
+        [RawNode::Constant(name)] => {
+            let name = Vec::from_slice(alloc, name.as_slice())?;
+            Ok(RawArgument::Constant(Text::from_vec(name)))
+        }
+        _ => Ok(RawArgument::Term(term)),
+    }
+}
+
+/// A term of constants as an operand.
+fn term_argument(
+    alloc: Global,
+    line: usize,
+    tokens: &mut &[Token<'_>],
+) -> Result<RawArgument, ParseError>
+    ensures { Gives (λ x. (x, seen tokens.new.now)) result (parsing.term_argument_at line (seen tokens.old.now)) }
+{
+    let nodes = term(alloc, TermPlace::Constant, MOST_NESTED, line, tokens)?;
+    Ok(argument_of(alloc, nodes)?)
+}
+
+/// An operand of the target without its type.
+#[tactic(auto, unfolding(crate::specs::Parsing::argument_at))]
+fn target_argument(
+    alloc: Global,
+    line: usize,
+    tokens: &mut &[Token<'_>],
+) -> Result<RawArgument, ParseError>
+    ensures { Gives (λ x. (x, seen tokens.new.now)) result (parsing.argument_at halves.Target line (seen tokens.old.now)) }
+{
+    match *tokens {
+        [Token::Register(name), rest @ ..] => {
+            *tokens = rest;
+            Ok(RawArgument::Register(name_within(alloc, line, name)?))
+        }
+        [Token::Word(word), rest @ ..] if is(word, "undef") => {
+            *tokens = rest;
+            Ok(RawArgument::Undef)
+        }
+        _ => term_argument(alloc, line, tokens),
+    }
+}
+
+/// An operand without its type.
+fn argument(
+    alloc: Global,
+    half: Half,
+    line: usize,
+    tokens: &mut &[Token<'_>],
+) -> Result<RawArgument, ParseError>
+    ensures { Gives (λ x. (x, seen tokens.new.now)) result (parsing.argument_at half line (seen tokens.old.now)) }
+{
+    match half {
+        Half::Source => source_argument(alloc, line, tokens),
+        Half::Target => target_argument(alloc, line, tokens),
     }
 }
 
@@ -120,70 +153,17 @@ pub(crate) fn operand(
     typed(alloc, half, line, written, tokens)
 }
 
-/// The `,` behind an operand.
-#[tactic(auto, unfolding(crate::specs::Parsing::comma_at))]
-pub(crate) fn comma(
-    alloc: Global,
-    half: Half,
-    left: &RawOperand,
-    line: usize,
-    tokens: &mut &[Token<'_>],
-) -> Result<(), ParseError>
-    ensures { Gives (λ _. seen tokens.new.now) result (parsing.comma_at half left.now line (seen tokens.old.now)) }
-{
-    match *tokens {
-        [Token::Mark(mark), rest @ ..] => {
-            if is(mark, ",") {
-                *tokens = rest;
-                Ok(())
-            } else {
-                Err(behind_operand(alloc, half, left, line, *tokens))
-            }
-        }
-        _ => Err(behind_operand(alloc, half, left, line, *tokens)),
-    }
-}
-
-/// That the line ends behind the last operand.
-#[tactic(auto, unfolding(crate::specs::Parsing::end_at))]
-pub(crate) fn end(
-    alloc: Global,
-    half: Half,
-    last: &RawOperand,
-    line: usize,
-    tokens: &[Token<'_>],
-) -> Result<(), ParseError>
-    ensures { Gives (λ _. seen tokens.now) result (parsing.end_at half last.now line (seen tokens.now)) }
-{
-    match tokens {
-        [] | [Token::Line(_), ..] => Ok(()),
-        _ => Err(behind_operand(alloc, half, last, line, tokens)),
-    }
-}
-
-/// That nothing more stands on a line, behind what is no operand.
-pub(crate) fn line_end(line: usize, tokens: &[Token<'_>]) -> Result<(), ParseError>
-    ensures { Gives (λ _. seen tokens.now) result (parsing.line_end line (seen tokens.now)) }
-{
-    match tokens {
-        [] | [Token::Line(_), ..] => Ok(()),
-        _ => Err(unexpected(line, tokens)),
-    }
-}
-
 /// The type behind a `to`, if one is written, and that the line ends there.
 #[tactic(auto, unfolding(crate::specs::Parsing::to_at))]
 pub(crate) fn result_type(
     alloc: Global,
-    half: Half,
-    from: &RawOperand,
     line: usize,
     tokens: &mut &[Token<'_>],
 ) -> Result<Option<Width>, ParseError>
-    ensures { Gives (λ x. (x, seen tokens.new.now)) result (parsing.to_at half from.now line (seen tokens.old.now)) }
+    ensures { Gives (λ x. (x, seen tokens.new.now)) result (parsing.to_at line (seen tokens.old.now)) }
 {
     let [Token::Word(word), rest @ ..] = *tokens else {
-        end(alloc, half, from, line, *tokens)?;
+        line_end(line, *tokens)?;
         return Ok(None);
     };
     if is(word, "to") {

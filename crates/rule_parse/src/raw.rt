@@ -2,6 +2,7 @@
 
 use lists::{List, Text};
 use ops::{Cast, Flags, Opcode, Pred, Width};
+use rule_terms::{RawFormula, RawTerm};
 
 /// A rule as written.
 #[derive(Debug, Drop)]
@@ -9,8 +10,30 @@ pub struct RawRule {
     /// The line of `Name:`, counted from 1.
     pub line: usize,
     pub name: Text,
+    /// What stands behind `Pre:`, if that is written.
+    pub precondition: Option<RawPrecondition>,
+    /// What stands behind `Wit:`, if that is written.
+    pub witness: Option<RawWitness>,
     pub source: List<RawStatement>,
     pub target: List<RawStatement>,
+}
+
+/// A precondition as written.
+#[derive(Debug, Drop)]
+pub struct RawPrecondition {
+    /// Its line, counted from 1.
+    pub line: usize,
+    /// The nodes of the formula, each behind its operands. The last one is the formula.
+    pub formula: List<RawFormula>,
+}
+
+/// The choices of the source's `undef`s as written.
+#[derive(Debug, Drop)]
+pub struct RawWitness {
+    /// Their line, counted from 1.
+    pub line: usize,
+    /// The expressions, from left to right.
+    pub expressions: List<RawTerm>,
 }
 
 /// A statement `%name = op` as written.
@@ -55,4 +78,10 @@ pub enum RawArgument {
     Literal(i128),
     /// `true` or `false`.
     Truth(bool),
+    /// An abstract constant, by its name.
+    Constant(Text),
+    /// `undef`.
+    Undef,
+    /// A term that is more than a literal or a constant. It stands in a target alone.
+    Term(RawTerm),
 }

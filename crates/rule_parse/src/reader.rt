@@ -2,12 +2,12 @@
 
 ghost use Rattle.std.specs.Prelude.{IfOk, IfErr};
 ghost use Rattle.rule_parse.specs.Text.{IsWritten, IsTextFault};
-ghost use Rattle.rule_parse.specs.Refusing.{IfRefused};
+ghost use Rattle.rule_tokens.specs.Refusing.{IfRefused};
 
-use crate::fault::ParseError;
+use crate::excess::limited;
 use crate::raw::RawRule;
 use crate::rule::rules;
-use crate::tokens::tokens_of;
+use rule_tokens::{ParseError, tokens_of};
 use std::alloc::Global;
 
 /// The rules of a text as they are written, in order, or its first fault. It takes as many steps as the text has bytes.
@@ -16,5 +16,6 @@ pub fn parse_rules(alloc: Global, bytes: &[u8]) -> Result<Vec<RawRule>, ParseErr
     ensures refused { IfErr result (λ e. IfRefused e (IsTextFault bytes.now)) }
 {
     let text = tokens_of(alloc, bytes)?;
-    rules(alloc, text.last_line, text.tokens.as_slice())
+    let tokens = limited(alloc, text.tokens.as_slice())?;
+    rules(alloc, text.last_line, tokens.as_slice())
 }

@@ -1,20 +1,19 @@
 //! Rules from the tokens of a text: each part of a rule stands on a line of its own.
 
 ghost use Rattle.std.specs.Prelude.{◌≡◌, ◌∷◌, IfSome, IfNone};
-ghost use Rattle.rule_parse.specs.Giving.{Gives, Refuses};
+ghost use Rattle.rule_tokens.specs.Giving.{Gives, Refuses};
 ghost use Rattle.rule_parse.specs.Parsing as parsing;
 ghost use Rattle.rule_parse.specs.Parsing.{IsNoStatement};
-ghost use Rattle.rule_parse.specs.Seen.{seen};
-ghost use Rattle.rule_parse.specs.Tokens.{Line, Register};
+ghost use Rattle.rule_tokens.specs.Seen.{seen};
+ghost use Rattle.rule_tokens.specs.Tokens.{Line, Register};
 
-use crate::fault::{Misfit, ParseError};
 use crate::half::Half;
-use crate::operand::{line_end, name_within};
+use crate::precondition::precondition;
 use crate::raw::{RawRule, RawStatement};
-use crate::refusal::{left_out, refused, unexpected};
 use crate::statement::statement;
-use crate::token::Token;
+use crate::witness::witness;
 use lists::{List, Text};
+use rule_tokens::{Misfit, ParseError, Token, line_end, name_within, refused, unexpected};
 use std::alloc::Global;
 use words::is;
 
@@ -96,7 +95,7 @@ fn statements(
     Ok(statements)
 }
 
-/// The source: one statement or more. A precondition and a witness before them are left out.
+/// The source: one statement or more.
 #[tactic(auto, unfolding(crate::specs::Parsing::source_at))]
 fn source(
     alloc: Global,
@@ -106,13 +105,6 @@ fn source(
     ensures { Gives (λ x. (x, seen tokens.new.now)) result (parsing.source_at last (seen tokens.old.now)) }
 {
     match *tokens {
-        [Token::Line(line), Token::Head(head), ..] => {
-            if is(head, "Name:") {
-                Err(refused(*line, Misfit::Syntax))
-            } else {
-                Err(left_out(alloc, *line, head))
-            }
-        }
         [Token::Line(_), Token::Register(_), ..] => statements(alloc, Half::Source, tokens),
         _ => Err(unexpected_line(last, *tokens)),
     }
@@ -153,12 +145,16 @@ fn rule(alloc: Global, last: usize, tokens: &mut &[Token<'_>]) -> Result<RawRule
     ensures { Gives (λ x. (x, seen tokens.new.now)) result (parsing.rule_at last (seen tokens.old.now)) }
 {
     let (line, name) = name(alloc, last, tokens)?;
+    let precondition = precondition(alloc, tokens)?;
+    let witness = witness(alloc, tokens)?;
     let source = source(alloc, last, tokens)?;
     arrow(last, tokens)?;
     let target = target(alloc, last, tokens)?;
     Ok(RawRule {
         line,
         name,
+        precondition,
+        witness,
         source,
         target,
     })

@@ -1,31 +1,11 @@
-//! Words and marks of rules.
+//! Words of rules.
 
-ghost use Rattle.std.specs.Prelude.{◌≡◌, take};
-ghost use Rattle.std.specs.List.{list_any};
-ghost use Rattle.std.specs.Str.{bytes_eq};
+ghost use Rattle.std.specs.Prelude.{◌≡◌};
 ghost use Rattle.rule_parse.specs.Words as spelled;
 
-use crate::half::Half;
 use crate::raw::RawArgument;
 use ops::{Cast, Opcode};
 use words::{cast_name, is, opcode_name};
-
-/// Whether a word is one of these.
-fn is_among(word: &[u8], words: &[&str]) -> bool
-    ensures { result ≡ list_any (λ w. bytes_eq word.now w.now) words.now }
-{
-    words.iter().any(|wanted| is(word, wanted))
-}
-
-/// The first byte, where there is one.
-pub(crate) fn first_byte(bytes: &[u8]) -> &[u8]
-    ensures { result.now ≡ take 1 bytes.now }
-{
-    match bytes {
-        [] => bytes,
-        [_, ..] => &bytes[..1],
-    }
-}
 
 /// An operation that a statement begins with.
 #[derive(Clone, Copy, Debug)]
@@ -79,42 +59,18 @@ pub(crate) fn operation_of(word: &[u8]) -> Option<Operation>
         .find(|operation| is(word, operation_name(*operation)))
 }
 
-/// The truth that a word is, where one may stand: in the source alone.
-#[tactic(auto, unfolding(crate::specs::Words::truth_in))]
-pub(crate) fn truth_of(half: Half, word: &[u8]) -> Option<bool>
-    ensures { result ≡ spelled.truth_in half word.now }
+/// What a word of the source is as an operand, where it is no constant: a truth or `undef`.
+#[tactic(auto, unfolding(crate::specs::Words::source_word_in))]
+pub(crate) fn source_word_of(word: &[u8]) -> Option<RawArgument>
+    ensures { result ≡ spelled.source_word_in word.now }
 {
-    match half {
-        Half::Source if is(word, "true") => Some(true),
-        Half::Source if is(word, "false") => Some(false),
-        Half::Source | Half::Target => None,
-    }
-}
-
-/// Whether a mark begins a term, which stands in the target alone.
-#[tactic(auto, unfolding(crate::specs::Words::begins_term))]
-pub(crate) fn begins_term(half: Half, mark: &[u8]) -> bool
-    ensures { result ≡ spelled.begins_term half mark.now }
-{
-    match half {
-        Half::Source => false,
-        Half::Target => is_among(mark, &["(", "-", "~"]),
-    }
-}
-
-/// The operators of two operands.
-const OPERATORS: [&str; 13] = [
-    "*", "/", "/u", "%", "%u", "+", "-", "<<", ">>", "u>>", "&", "^", "|",
-];
-
-/// Whether a mark goes on with the term that an operand began: an operator behind a literal of the target.
-#[tactic(auto, unfolding(crate::specs::Words::continues_term))]
-pub(crate) fn continues_term(half: Half, argument: &RawArgument, mark: &[u8]) -> bool
-    ensures { result ≡ spelled.continues_term half argument.now mark.now }
-{
-    match (half, argument) {
-        (Half::Target, RawArgument::Literal(_)) => is_among(mark, &OPERATORS),
-        (Half::Target, RawArgument::Register(_) | RawArgument::Truth(_)) => false,
-        (Half::Source, _) => false,
+    if is(word, "true") {
+        Some(RawArgument::Truth(true))
+    } else if is(word, "false") {
+        Some(RawArgument::Truth(false))
+    } else if is(word, "undef") {
+        Some(RawArgument::Undef)
+    } else {
+        None
     }
 }

@@ -1,6 +1,7 @@
 use Rattle.std.proofs.Common.{sym, ◌∙◌}
-use Rattle.rule_parse.specs.Seen.{seen}
-use Rattle.rule_parse.proofs.Loops.{fails, flags-more, flags-again}
+use Rattle.rule_tokens.specs.Seen.{seen}
+use Rattle.rule_tokens.proofs.Steps.{fails}
+use Rattle.rule_parse.proofs.Loops.{flags-more, flags-again}
 use Rattle.rule_parse.proofs.OpSpellings.{flags_done}
 use Rattle.rule_parse.proofs.op.flags.Goals as goal
 

@@ -1,0 +1,9 @@
+use Rattle.std.proofs.Common.{◌≡◌, ◌++◌, drop}
+use Rattle.rule_tokens.specs.Seen.{seen}
+use Rattle.rule_parse.specs.Limited.{limited_to, limited}
+use Rattle.rule_parse.proofs.excess.limited.Given as goal
+
+-- what was kept, and what is still limited
+abbrev pub invariant-loop-token : goal.invariant-loop-token
+invariant-loop-token l =
+    seen l.kept.items ++ limited_to l.room l.begins (seen (drop l.token-index l.tokens)) ≡ limited (seen l.tokens)

@@ -1,6 +1,0 @@
-use Rattle.std.proofs.Common.{◌≡◌, ◌-◌, ◌^◌, min, take}
-use Rattle.rule_parse.specs.Numbers.{decimal_value}
-use Rattle.rule_parse.proofs.number.magnitude.Given as goal
-
-abbrev pub invariant-loop-digit : goal.invariant-loop-digit
-invariant-loop-digit l = l.number ≡ min (decimal_value (take l.digit-index l.digits)) (2 ^ 128 - 1)

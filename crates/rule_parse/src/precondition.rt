@@ -1,0 +1,33 @@
+//! Preconditions from the tokens of a text.
+
+ghost use Rattle.std.specs.Prelude.{◌≡◌};
+ghost use Rattle.rule_tokens.specs.Giving.{Gives};
+ghost use Rattle.rule_tokens.specs.Seen.{seen};
+ghost use Rattle.rule_parse.specs.Parsing as parsing;
+
+use crate::raw::RawPrecondition;
+use rule_terms::formula;
+use rule_tokens::{ParseError, Token};
+use std::alloc::Global;
+use words::is;
+
+/// The precondition, if one is next; goes behind it.
+#[tactic(auto, unfolding(crate::specs::Parsing::precondition_at))]
+pub(crate) fn precondition(
+    alloc: Global,
+    tokens: &mut &[Token<'_>],
+) -> Result<Option<RawPrecondition>, ParseError>
+    ensures { Gives (λ x. (x, seen tokens.new.now)) result (parsing.precondition_at (seen tokens.old.now)) }
+{
+    match *tokens {
+        [Token::Line(line), Token::Head(head), rest @ ..] if is(head, "Pre:") => {
+            *tokens = rest;
+            let formula = formula(alloc, *line, tokens)?;
+            Ok(Some(RawPrecondition {
+                line: *line,
+                formula,
+            }))
+        }
+        _ => Ok(None),
+    }
+}

@@ -1,0 +1,80 @@
+//! Witnesses from the tokens of a text.
+
+ghost use Rattle.std.specs.Prelude.{◌≡◌};
+ghost use Rattle.rule_tokens.specs.Giving.{Gives};
+ghost use Rattle.rule_tokens.specs.Seen.{seen};
+ghost use Rattle.rule_parse.specs.Parsing as parsing;
+
+use crate::limit::MOST_NESTED;
+use crate::raw::RawWitness;
+use lists::List;
+use rule_terms::{RawTerm, TermPlace, takes, term};
+use rule_tokens::{ParseError, Token, line_end};
+use std::alloc::Global;
+use words::is;
+
+/// An expression of a witness, behind others.
+fn expression(
+    alloc: Global,
+    line: usize,
+    expressions: &mut List<RawTerm>,
+    tokens: &mut &[Token<'_>],
+) -> Result<(), ParseError>
+    ensures { Gives (λ _. (expressions.new, seen tokens.new.now)) result (parsing.expression_at line expressions.old (seen tokens.old.now)) }
+{
+    let term = term(alloc, TermPlace::Witness, MOST_NESTED, line, tokens)?;
+    expressions.push(term)?;
+    Ok(())
+}
+
+/// The expressions behind the first one, each behind a `,`.
+fn more_expressions(
+    alloc: Global,
+    line: usize,
+    expressions: &mut List<RawTerm>,
+    tokens: &mut &[Token<'_>],
+) -> Result<(), ParseError>
+    ensures { Gives (λ _. (expressions.new, seen tokens.new.now)) result (parsing.more_expressions line expressions.old (seen tokens.old.now)) }
+{
+    while takes(",", tokens) {
+        expression(alloc, line, expressions, tokens)?;
+    }
+    Ok(())
+}
+
+/// Expressions with `,` between them; the line ends behind them.
+#[tactic(auto, unfolding(crate::specs::Parsing::expressions_at))]
+fn expressions(
+    alloc: Global,
+    line: usize,
+    tokens: &mut &[Token<'_>],
+) -> Result<List<RawTerm>, ParseError>
+    ensures { Gives (λ x. (x, seen tokens.new.now)) result (parsing.expressions_at line (seen tokens.old.now)) }
+{
+    let mut expressions = List::new(alloc);
+    expression(alloc, line, &mut expressions, tokens)?;
+    more_expressions(alloc, line, &mut expressions, tokens)?;
+    line_end(line, *tokens)?;
+    Ok(expressions)
+}
+
+/// The witness, if one is next; goes behind it.
+#[tactic(auto, unfolding(crate::specs::Parsing::witness_at))]
+pub(crate) fn witness(
+    alloc: Global,
+    tokens: &mut &[Token<'_>],
+) -> Result<Option<RawWitness>, ParseError>
+    ensures { Gives (λ x. (x, seen tokens.new.now)) result (parsing.witness_at (seen tokens.old.now)) }
+{
+    match *tokens {
+        [Token::Line(line), Token::Head(head), rest @ ..] if is(head, "Wit:") => {
+            *tokens = rest;
+            let expressions = expressions(alloc, *line, tokens)?;
+            Ok(Some(RawWitness {
+                line: *line,
+                expressions,
+            }))
+        }
+        _ => Ok(None),
+    }
+}

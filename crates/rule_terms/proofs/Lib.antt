@@ -1,0 +1,12 @@
+pub mod ChainLemmas
+pub mod Chains
+pub mod Endings
+pub mod FormulaReadings
+pub mod FormulaSpellings
+pub mod FormulaSteps
+pub mod Meanings
+pub mod Places
+pub mod Predicates
+pub mod Readings
+pub mod Spellings
+pub mod Starts

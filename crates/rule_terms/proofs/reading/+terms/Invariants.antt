@@ -1,0 +1,28 @@
+use Rattle.std.proofs.Common.{◌≡◌, ◌+◌, ◌*◌, ◌-◌, length}
+use Rattle.rule_tokens.specs.Seen.{seen}
+use Rattle.rule_terms.specs.Parsing.{behind_at, operand_at, primary_at, whole_chain_at}
+use Rattle.rule_terms.proofs.reading.+terms.Given as goal
+
+-- one level more counts 2, and one nested more as much as all levels
+abbrev pub decreases-primary : goal.decreases-primary
+decreases-primary l = 17 * l.nesting
+
+abbrev pub decreases-behind : goal.decreases-behind
+decreases-behind l = 17 * l.nesting + 2 * l.level + 1
+
+abbrev pub decreases-operand : goal.decreases-operand
+decreases-operand l = 17 * l.nesting + 2 * l.level + 2
+
+abbrev pub decreases-inside : goal.decreases-inside
+decreases-inside l = 17 * l.nesting + 15
+
+abbrev pub decreases-begun : goal.decreases-begun
+decreases-begun l = 17 * l.nesting + 16
+
+abbrev pub invariant-behind-loop-opcode : goal.invariant-behind-loop-opcode
+invariant-behind-loop-opcode l =
+    whole_chain_at (operand_at (primary_at l.site.place l.site.line l.nesting) (l.level - 1)) l.level l.nodes (seen l.tokens.now)
+    ≡ behind_at (primary_at l.site.place l.site.line l.nesting) l.level l.fn.nodes (seen l.fn.tokens.now)
+
+abbrev pub decreases-behind-loop-opcode : goal.decreases-behind-loop-opcode
+decreases-behind-loop-opcode l = length (seen l.tokens.now)

@@ -1,0 +1,9 @@
+pub mod Chains
+pub mod FormulaReading
+pub mod FormulaWords
+pub mod Formulas
+pub mod Grammar
+pub mod Laws
+pub mod Nodes
+pub mod Parsing
+pub mod Words

@@ -1,0 +1,104 @@
+-- The words and marks of terms.
+use Rattle.std.specs.Prelude.{◌≡◌, ℕ, ◌-◌, ◌^◌, ◌==◌, not, ◌&&◌, min, if◌then◌else◌, IsTrue, List, [], ◌∷◌, find, Option, Some, None, codes}
+use Rattle.std.specs.Str.{bytes_eq}
+use Rattle.ops.specs.declared.opcode.Opcode.{Opcode}
+use Rattle.ops.specs.declared.opcode.Opcode.TheVariants.{Add, Sub, Mul, UDiv, SDiv, URem, SRem, Shl, LShr, AShr, And, Or, Xor}
+use Rattle.rule_core.specs.declared.rule.Function.{Function}
+use Rattle.rule_core.specs.declared.rule.Function.TheVariants.{Negate, Not, Log2, Abs}
+use Rattle.scan.specs.Bytes.{begins_with, are_digits}
+use Rattle.scan.specs.RuleTokens.{is_constant}
+use Rattle.rule_tokens.specs.Numbers.{decimal_value}
+use Rattle.rule_terms.specs.declared.place.TermPlace.{TermPlace}
+use Rattle.rule_terms.specs.declared.place.TermPlace.TheVariants as places
+use Rattle.rule_terms.specs.declared.word.Meaning.{Meaning}
+use Rattle.rule_terms.specs.declared.word.Meaning.TheVariants as meanings
+
+-- ---- operators of two operands
+
+-- an operator is known by the instruction that computes the same
+abbrev pub operator_mark : Opcode → List ℕ
+operator_mark Mul = codes "*"
+operator_mark SDiv = codes "/"
+operator_mark UDiv = codes "/u"
+operator_mark SRem = codes "%"
+operator_mark URem = codes "%u"
+operator_mark Add = codes "+"
+operator_mark Sub = codes "-"
+operator_mark Shl = codes "<<"
+operator_mark AShr = codes ">>"
+operator_mark LShr = codes "u>>"
+operator_mark And = codes "&"
+operator_mark Xor = codes "^"
+operator_mark Or = codes "|"
+
+abbrev pub operators : List Opcode
+operators = Mul ∷ SDiv ∷ UDiv ∷ SRem ∷ URem ∷ Add ∷ Sub ∷ Shl ∷ AShr ∷ LShr ∷ And ∷ Xor ∷ Or ∷ []
+
+-- the operator that a mark is
+unfoldable pub operator_in : List ℕ → Option Opcode
+operator_in mark = find (λ op. bytes_eq mark (operator_mark op)) operators
+
+-- how loosely an operator binds; what is no operation of two operands has the level 0
+abbrev pub level_of : Opcode → ℕ
+level_of Mul = 1
+level_of SDiv = 1
+level_of UDiv = 1
+level_of SRem = 1
+level_of URem = 1
+level_of Add = 2
+level_of Sub = 2
+level_of Shl = 3
+level_of AShr = 3
+level_of LShr = 3
+level_of And = 4
+level_of Xor = 5
+level_of Or = 6
+
+-- the level of a whole term
+abbrev pub loosest : ℕ
+loosest = 6
+
+-- ---- operators and functions of one operand
+
+-- the mark before an operand
+abbrev pub IsPrefix : Function → List ℕ → Type 0
+IsPrefix Negate mark = mark ≡ codes "-"
+IsPrefix Not mark = mark ≡ codes "~"
+IsPrefix function mark = ⊥
+
+-- the word before an operand in parentheses
+abbrev pub IsCalled : Function → List ℕ → Type 0
+IsCalled Log2 word = word ≡ codes "log2"
+IsCalled Abs word = word ≡ codes "abs"
+IsCalled function word = ⊥
+
+-- ---- words
+
+-- An `undef` of the target, by its place: `t1` is the place 0. A place past the end of 32 bits is held as that end.
+abbrev pub IsChoice : List ℕ → ℕ → Type 0
+IsChoice word place = (digits : List ℕ)
+    × (word ≡ 116 ∷ digits) × IsTrue (are_digits digits) × IsTrue (not (begins_with (λ b. b == 48) digits))
+    × (place ≡ min (decimal_value digits - 1) (2 ^ 32 - 1))
+
+-- the place of the target's `undef` that a word is
+unfoldable pub choice_in : List ℕ → Option ℕ
+choice_in [] = None
+choice_in (b ∷ digits) =
+    if (b == 116) && are_digits digits && not (begins_with (λ b. b == 48) digits)
+    then Some (min (decimal_value digits - 1) (2 ^ 32 - 1)) else None
+
+abbrev pub choice_meaning : Option ℕ → Option Meaning
+choice_meaning None = None
+choice_meaning (Some place) = Some (meanings.Choice place)
+
+-- what a name means in an operand's place
+unfoldable pub name_in : TermPlace → List ℕ → Option Meaning
+name_in places.Constant word = if is_constant word then Some meanings.Constant else None
+name_in places.Witness word = if is_constant word then Some meanings.Constant else choice_meaning (choice_in word)
+
+-- what a word means in an operand's place
+unfoldable pub meaning_in : TermPlace → List ℕ → Option Meaning
+meaning_in place word =
+    if bytes_eq word (codes "width") then Some meanings.Width
+    else (if bytes_eq word (codes "log2") then Some (meanings.Call Log2)
+    else (if bytes_eq word (codes "abs") then Some (meanings.Call Abs) else name_in place word))

@@ -1,0 +1,313 @@
+//! Formulas from the tokens of a line.
+//!
+//! A comparison binds tighter than `!`, `!` tighter than `&&`, and `&&` tighter than `||`. Only nesting is followed by recursion.
+
+ghost use Rattle.std.specs.Prelude.{◌≡◌, drop, length};
+ghost use Rattle.std.specs.List.{list_any};
+ghost use Rattle.rule_tokens.specs.Giving.{Gives};
+ghost use Rattle.rule_tokens.specs.Seen.{seen};
+ghost use Rattle.rule_terms.specs.FormulaReading as reading;
+ghost use Rattle.rule_terms.specs.Grammar.{last_place};
+
+use crate::formula_word::{Opening, Predicate, comparison_of, opening_of, predicate_node};
+use crate::place::TermPlace;
+use crate::raw::RawFormula;
+use crate::reading::term;
+use crate::start::mark;
+use crate::take::takes;
+use lists::{List, Text};
+use ops::Pred;
+use rule_tokens::{Misfit, ParseError, Token, line_end, name_within, refused, unexpected};
+use std::alloc::Global;
+use words::is;
+
+/// The most open parentheses and pending operators of one operand at a token.
+const MOST_NESTED: u32 = 32;
+
+/// One level of nesting more.
+fn deeper(line: usize, nesting: u32) -> Result<u32, ParseError>
+    ensures { Gives (λ x. x) result (reading.deeper line nesting) }
+{
+    if nesting == 0 {
+        Err(refused(line, Misfit::TooMany))
+    } else {
+        Ok(nesting - 1)
+    }
+}
+
+/// The place of the last node; past the end of `u32` that end.
+fn last_place(nodes: &List<RawFormula>) -> u32
+    ensures { result ≡ last_place (length nodes.now) }
+{
+    match u32::try_from(nodes.len().saturating_sub(1)) {
+        Ok(place) => place,
+        Err(_) => u32::MAX,
+    }
+}
+
+/// A comparison.
+#[tactic(auto, unfolding(crate::specs::FormulaReading::comparison_at))]
+fn comparison(line: usize, tokens: &mut &[Token<'_>]) -> Result<Pred, ParseError>
+    ensures { Gives (λ x. (x, seen tokens.new.now)) result (reading.comparison_at line (seen tokens.old.now)) }
+{
+    match *tokens {
+        [Token::Mark(mark), rest @ ..] => match comparison_of(mark) {
+            Some(pred) => {
+                *tokens = rest;
+                Ok(pred)
+            }
+            None => Err(refused(line, Misfit::Syntax)),
+        },
+        _ => Err(unexpected(line, *tokens)),
+    }
+}
+
+/// Two terms and a comparison between them.
+#[tactic(auto, unfolding(crate::specs::FormulaReading::compares_at))]
+fn compares(
+    alloc: Global,
+    nesting: u32,
+    line: usize,
+    nodes: &mut List<RawFormula>,
+    tokens: &mut &[Token<'_>],
+) -> Result<(), ParseError>
+    ensures { Gives (λ _. (nodes.new, seen tokens.new.now)) result (reading.compares_at nesting line nodes.old (seen tokens.old.now)) }
+{
+    let left = term(alloc, TermPlace::Constant, nesting, line, tokens)?;
+    let pred = comparison(line, tokens)?;
+    let right = term(alloc, TermPlace::Constant, nesting, line, tokens)?;
+    nodes.push(RawFormula::Compare(pred, left, right))?;
+    Ok(())
+}
+
+/// A term in parentheses, behind its predicate.
+#[tactic(auto, unfolding(crate::specs::FormulaReading::tests_at))]
+fn tests(
+    alloc: Global,
+    predicate: Predicate,
+    nesting: u32,
+    line: usize,
+    nodes: &mut List<RawFormula>,
+    tokens: &mut &[Token<'_>],
+) -> Result<(), ParseError>
+    ensures { Gives (λ _. (nodes.new, seen tokens.new.now)) result (reading.tests_at predicate nesting line nodes.old (seen tokens.old.now)) }
+{
+    mark("(", line, tokens)?;
+    let inside = deeper(line, nesting)?;
+    let term = term(alloc, TermPlace::Constant, inside, line, tokens)?;
+    mark(")", line, tokens)?;
+    nodes.push(predicate_node(predicate, term))?;
+    Ok(())
+}
+
+/// A register.
+fn register(alloc: Global, line: usize, tokens: &mut &[Token<'_>]) -> Result<Text, ParseError>
+    ensures { Gives (λ x. (x, seen tokens.new.now)) result (reading.register_at line (seen tokens.old.now)) }
+{
+    match *tokens {
+        [Token::Register(name), rest @ ..] => {
+            *tokens = rest;
+            name_within(alloc, line, name)
+        }
+        _ => Err(unexpected(line, *tokens)),
+    }
+}
+
+/// A register in parentheses, behind `hasOneUse`.
+#[tactic(auto, unfolding(crate::specs::FormulaReading::one_use_at))]
+fn one_use(
+    alloc: Global,
+    line: usize,
+    nodes: &mut List<RawFormula>,
+    tokens: &mut &[Token<'_>],
+) -> Result<(), ParseError>
+    ensures { Gives (λ _. (nodes.new, seen tokens.new.now)) result (reading.one_use_at line nodes.old (seen tokens.old.now)) }
+{
+    mark("(", line, tokens)?;
+    let register = register(alloc, line, tokens)?;
+    mark(")", line, tokens)?;
+    nodes.push(RawFormula::HasOneUse(register))?;
+    Ok(())
+}
+
+/// Goes behind the first token.
+fn skip(tokens: &mut &[Token<'_>])
+    ensures { seen tokens.new.now ≡ drop 1 (seen tokens.old.now) }
+{
+    if let [_, rest @ ..] = *tokens {
+        *tokens = rest;
+    }
+}
+
+/// A member of a formula, where so many levels of nesting are left.
+#[cycle(formula)]
+fn member(
+    alloc: Global,
+    nesting: u32,
+    line: usize,
+    nodes: &mut List<RawFormula>,
+    tokens: &mut &[Token<'_>],
+) -> Result<(), ParseError>
+    ensures { Gives (λ _. (nodes.new, seen tokens.new.now)) result (reading.member_at nesting line nodes.old (seen tokens.old.now)) }
+{
+    match opening_of(*tokens) {
+        Opening::Turns => {
+            let inside = deeper(line, nesting)?;
+            skip(tokens);
+            member(alloc, inside, line, nodes, tokens)?;
+            let turned = last_place(nodes);
+            nodes.push(RawFormula::Not(turned))?;
+            Ok(())
+        }
+        Opening::Encloses => {
+            let inside = deeper(line, nesting)?;
+            skip(tokens);
+            alternatives(alloc, inside, line, nodes, tokens)?;
+            mark(")", line, tokens)
+        }
+        Opening::Tests(predicate) => {
+            skip(tokens);
+            tests(alloc, predicate, nesting, line, nodes, tokens)
+        }
+        Opening::Compares => compares(alloc, nesting, line, nodes, tokens),
+    }
+}
+
+/// Members joined by `&&`.
+#[cycle(formula)]
+fn members(
+    alloc: Global,
+    nesting: u32,
+    line: usize,
+    nodes: &mut List<RawFormula>,
+    tokens: &mut &[Token<'_>],
+) -> Result<(), ParseError>
+    ensures { Gives (λ _. (nodes.new, seen tokens.new.now)) result (reading.members_of (reading.member_at nesting line) nodes.old (seen tokens.old.now)) }
+{
+    member(alloc, nesting, line, nodes, tokens)?;
+    more_members(alloc, nesting, line, nodes, tokens)
+}
+
+/// The members behind the first one.
+#[cycle(formula)]
+fn more_members(
+    alloc: Global,
+    nesting: u32,
+    line: usize,
+    nodes: &mut List<RawFormula>,
+    tokens: &mut &[Token<'_>],
+) -> Result<(), ParseError>
+    ensures { Gives (λ _. (nodes.new, seen tokens.new.now)) result (reading.more_members (reading.member_at nesting line) nodes.old (seen tokens.old.now)) }
+{
+    while takes("&&", tokens) {
+        let left = last_place(nodes);
+        member(alloc, nesting, line, nodes, tokens)?;
+        let right = last_place(nodes);
+        nodes.push(RawFormula::And(left, right))?;
+    }
+    Ok(())
+}
+
+/// These joined by `||`.
+#[cycle(formula)]
+fn alternatives(
+    alloc: Global,
+    nesting: u32,
+    line: usize,
+    nodes: &mut List<RawFormula>,
+    tokens: &mut &[Token<'_>],
+) -> Result<(), ParseError>
+    ensures { Gives (λ _. (nodes.new, seen tokens.new.now)) result (reading.alternatives_of (reading.member_at nesting line) nodes.old (seen tokens.old.now)) }
+{
+    members(alloc, nesting, line, nodes, tokens)?;
+    more_alternatives(alloc, nesting, line, nodes, tokens)
+}
+
+/// The members joined by `||` behind the first ones.
+#[cycle(formula)]
+fn more_alternatives(
+    alloc: Global,
+    nesting: u32,
+    line: usize,
+    nodes: &mut List<RawFormula>,
+    tokens: &mut &[Token<'_>],
+) -> Result<(), ParseError>
+    ensures { Gives (λ _. (nodes.new, seen tokens.new.now)) result (reading.more_alternatives (reading.member_at nesting line) nodes.old (seen tokens.old.now)) }
+{
+    while takes("||", tokens) {
+        let left = last_place(nodes);
+        members(alloc, nesting, line, nodes, tokens)?;
+        let right = last_place(nodes);
+        nodes.push(RawFormula::Or(left, right))?;
+    }
+    Ok(())
+}
+
+/// A member of the outermost `&&`.
+#[tactic(auto, unfolding(crate::specs::FormulaReading::outer_member_at))]
+fn outer_member(
+    alloc: Global,
+    line: usize,
+    nodes: &mut List<RawFormula>,
+    tokens: &mut &[Token<'_>],
+) -> Result<(), ParseError>
+    ensures { Gives (λ _. (nodes.new, seen tokens.new.now)) result (reading.outer_member_at line nodes.old (seen tokens.old.now)) }
+{
+    match *tokens {
+        [Token::Word(word), rest @ ..] if is(word, "hasOneUse") => {
+            *tokens = rest;
+            one_use(alloc, line, nodes, tokens)
+        }
+        _ => member(alloc, MOST_NESTED, line, nodes, tokens),
+    }
+}
+
+/// The members of the outermost `&&` behind the first one.
+fn more_outer_members(
+    alloc: Global,
+    line: usize,
+    nodes: &mut List<RawFormula>,
+    tokens: &mut &[Token<'_>],
+) -> Result<(), ParseError>
+    ensures { Gives (λ _. (nodes.new, seen tokens.new.now)) result (reading.more_members (reading.outer_member_at line) nodes.old (seen tokens.old.now)) }
+{
+    while takes("&&", tokens) {
+        let left = last_place(nodes);
+        outer_member(alloc, line, nodes, tokens)?;
+        let right = last_place(nodes);
+        nodes.push(RawFormula::And(left, right))?;
+    }
+    Ok(())
+}
+
+/// Whether `hasOneUse` is among the nodes.
+fn asks_one_use(nodes: &[RawFormula]) -> bool
+    ensures { result ≡ list_any reading.asks_one_use nodes.now }
+{
+    nodes
+        .iter()
+        .any(|node| matches!(node, RawFormula::HasOneUse(_)))
+}
+
+/// The nodes of the formula of a precondition, behind its head, each behind its operands; the line ends behind it.
+///
+/// # Errors
+///
+/// Refused: the fault of the first token that does not fit. NoMemory: there was no memory.
+#[tactic(auto, unfolding(crate::specs::FormulaReading::formula_at))]
+pub fn formula(
+    alloc: Global,
+    line: usize,
+    tokens: &mut &[Token<'_>],
+) -> Result<List<RawFormula>, ParseError>
+    ensures { Gives (λ x. (x, seen tokens.new.now)) result (reading.formula_at line (seen tokens.old.now)) }
+{
+    let mut nodes = List::new(alloc);
+    outer_member(alloc, line, &mut nodes, tokens)?;
+    more_outer_members(alloc, line, &mut nodes, tokens)?;
+    if !asks_one_use(nodes.as_slice()) {
+        more_alternatives(alloc, MOST_NESTED, line, &mut nodes, tokens)?;
+    }
+    line_end(line, *tokens)?;
+    Ok(nodes)
+}

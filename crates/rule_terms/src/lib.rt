@@ -1,0 +1,25 @@
+//! Terms and formulas of rules as they are written, from the tokens of a line.
+#![tactic(auto)]
+
+mod formula_reading;
+mod formula_word;
+mod laws;
+mod place;
+mod raw;
+mod reading;
+mod start;
+mod take;
+mod word;
+
+pub use formula_reading::formula;
+pub use formula_word::is_among;
+pub use laws::{nodes_stand_behind_their_operands, terms_are_read_as_they_are_spelled};
+pub use place::TermPlace;
+pub use raw::{RawFormula, RawNode, RawTerm};
+pub use reading::{rest_of_term, term};
+pub use start::mark;
+pub use take::takes;
+pub use word::{is_constant, operator_of};
+
+#[cfg(test)]
+mod tests;

@@ -1,0 +1,10 @@
+//! Where a term stands.
+
+/// Where a term stands.
+#[derive(Clone, Copy, Debug, PartialEq, Eq)]
+pub enum TermPlace {
+    /// In a target or a precondition: it is made of constants and literals.
+    Constant,
+    /// In `Wit:`, where it may name registers and the target's `undef`s too.
+    Witness,
+}

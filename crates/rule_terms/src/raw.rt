@@ -1,0 +1,41 @@
+//! Terms and formulas as they are written: constants and registers by their names.
+
+use lists::{List, Text};
+use ops::{Opcode, Pred};
+use rule_core::Function;
+
+/// A term as written: its nodes, each behind its operands. The last one is the term.
+pub type RawTerm = List<RawNode>;
+
+/// A node of a term as written. Its operands are nodes before it in the term, by their places.
+#[derive(Debug, Drop)]
+pub enum RawNode {
+    /// A number with its sign; past an end of `i128` that end.
+    Literal(i128),
+    /// An abstract constant, by its name.
+    Constant(Text),
+    /// A register by its name, without the `%`. It stands in `Wit:` alone.
+    Register(Text),
+    /// An `undef` of the target by its place, which is 0 for `t1`; past the end of `u32` that end. It stands in `Wit:` alone.
+    Undef(u32),
+    /// `width(%x)`: the register by its name.
+    Width(Text),
+    Unary(Function, u32),
+    /// An operator of two operands, as the instruction that computes the same.
+    Binary(Opcode, u32, u32),
+}
+
+/// A node of a formula as written. Operands that are formulas are nodes before it, by their places.
+#[derive(Debug, Drop)]
+pub enum RawFormula {
+    Compare(Pred, RawTerm, RawTerm),
+    /// `isPowerOf2`.
+    IsPowerOfTwo(RawTerm),
+    /// `isSignBit`.
+    IsSignBit(RawTerm),
+    /// `hasOneUse`, of the register by its name.
+    HasOneUse(Text),
+    Not(u32),
+    And(u32, u32),
+    Or(u32, u32),
+}

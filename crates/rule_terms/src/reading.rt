@@ -1,0 +1,216 @@
+//! Terms from the tokens of a line. Operators of one level are read in a loop; only what is nested, and the levels, recurse.
+
+ghost use Rattle.std.specs.Prelude.{◌≡◌, length, Some, None, IfSome, IfNone, OnOk};
+ghost use Rattle.rule_tokens.specs.Giving.{Gives};
+ghost use Rattle.rule_tokens.specs.Seen.{seen};
+ghost use Rattle.rule_terms.specs.Grammar.{last_place};
+ghost use Rattle.rule_terms.specs.Parsing as parsing;
+
+use crate::place::TermPlace;
+use crate::raw::{RawNode, RawTerm};
+use crate::start::{Start, begin, mark, measured};
+use crate::word::{level_of, operator_of};
+use ops::Opcode;
+use rule_core::Function;
+use rule_tokens::{Misfit, ParseError, Token, refused};
+use std::alloc::{AllocError, Global};
+
+/// The level of a whole term, which no operator is looser than.
+const LOOSEST: u32 = 6;
+
+/// Where a term stands in a text, and with what memory it is read.
+#[derive(Clone, Copy)]
+struct Site {
+    alloc: Global,
+    place: TermPlace,
+    line: usize,
+}
+
+/// The place of the last node; past the end of `u32` that end.
+fn last_place(nodes: &RawTerm) -> u32
+    ensures { result ≡ last_place (length nodes.now) }
+{
+    match u32::try_from(nodes.len().saturating_sub(1)) {
+        Ok(place) => place,
+        Err(_) => u32::MAX,
+    }
+}
+
+/// Adds an operator of the last node.
+fn push_unary(function: Function, nodes: &mut RawTerm) -> Result<(), AllocError>
+    ensures { OnOk result (nodes.new ≡ parsing.add_unary function nodes.old) }
+{
+    let operand = last_place(nodes);
+    nodes.push(RawNode::Unary(function, operand))?;
+    Ok(())
+}
+
+/// The operator of the level that is next, if one is; goes behind it.
+#[tactic(auto, unfolding(crate::specs::Parsing::operator_at))]
+fn operator(level: u32, tokens: &mut &[Token<'_>]) -> Option<Opcode>
+    ensures some { IfSome result (λ op. parsing.operator_at level (seen tokens.old.now) ≡ Some (op, seen tokens.new.now)) }
+    ensures none { IfNone result (parsing.operator_at level (seen tokens.old.now) ≡ None) }
+    ensures stays { IfNone result (seen tokens.new.now ≡ seen tokens.old.now) }
+{
+    let [Token::Mark(mark), rest @ ..] = *tokens else {
+        return None;
+    };
+    let opcode = operator_of(mark)?;
+    if level_of(opcode) == level {
+        *tokens = rest;
+        Some(opcode)
+    } else {
+        None
+    }
+}
+
+/// What goes on with an operand, by operators up to the level.
+#[cycle(terms)]
+fn behind(
+    site: &Site,
+    nesting: u32,
+    level: u32,
+    nodes: &mut RawTerm,
+    tokens: &mut &[Token<'_>],
+) -> Result<(), ParseError>
+    ensures { Gives (λ _. (nodes.new, seen tokens.new.now)) result (parsing.behind_at (parsing.primary_at site.now.place site.now.line nesting) level nodes.old (seen tokens.old.now)) }
+{
+    if level == 0 {
+        return Ok(());
+    }
+    behind(site, nesting, level - 1, nodes, tokens)?;
+    while let Some(opcode) = operator(level, tokens) {
+        let left = last_place(nodes);
+        operand(site, nesting, level - 1, nodes, tokens)?;
+        let right = last_place(nodes);
+        nodes.push(RawNode::Binary(opcode, left, right))?;
+    }
+    Ok(())
+}
+
+/// An operand of an operator that is looser than the level.
+#[cycle(terms)]
+fn operand(
+    site: &Site,
+    nesting: u32,
+    level: u32,
+    nodes: &mut RawTerm,
+    tokens: &mut &[Token<'_>],
+) -> Result<(), ParseError>
+    ensures { Gives (λ _. (nodes.new, seen tokens.new.now)) result (parsing.operand_at (parsing.primary_at site.now.place site.now.line nesting) level nodes.old (seen tokens.old.now)) }
+{
+    primary(site, nesting, nodes, tokens)?;
+    behind(site, nesting, level, nodes, tokens)
+}
+
+/// A term behind its `(`, and the `)` behind it.
+#[cycle(terms)]
+fn inside(
+    site: &Site,
+    nesting: u32,
+    nodes: &mut RawTerm,
+    tokens: &mut &[Token<'_>],
+) -> Result<(), ParseError>
+    ensures { Gives (λ _. (nodes.new, seen tokens.new.now)) result (parsing.inside_at site.now.line (parsing.primary_at site.now.place site.now.line nesting) nodes.old (seen tokens.old.now)) }
+{
+    operand(site, nesting, LOOSEST, nodes, tokens)?;
+    mark(")", site.line, tokens)
+}
+
+/// An operand of which this is the whole, where nothing more may be nested.
+fn shallow(line: usize, start: Start, nodes: &mut RawTerm) -> Result<(), ParseError>
+    ensures { Gives (λ _. nodes.new) result (parsing.shallow_in line nodes.old start) }
+{
+    match start {
+        Start::Leaf(node) => {
+            nodes.push(node)?;
+            Ok(())
+        }
+        Start::Prefix(_) | Start::Parenthesis | Start::Call(_) | Start::Width => {
+            Err(refused(line, Misfit::TooMany))
+        }
+    }
+}
+
+/// An operand behind its beginning, with so many more nested in it at most.
+#[cycle(terms)]
+fn begun(
+    site: &Site,
+    nesting: u32,
+    start: Start,
+    nodes: &mut RawTerm,
+    tokens: &mut &[Token<'_>],
+) -> Result<(), ParseError>
+    ensures { Gives (λ _. (nodes.new, seen tokens.new.now)) result (parsing.begun_at site.now.line (parsing.primary_at site.now.place site.now.line nesting) nodes.old start (seen tokens.old.now)) }
+{
+    match start {
+        Start::Leaf(node) => nodes.push(node)?,
+        Start::Prefix(function) => {
+            primary(site, nesting, nodes, tokens)?;
+            push_unary(function, nodes)?;
+        }
+        Start::Parenthesis => inside(site, nesting, nodes, tokens)?,
+        Start::Call(function) => {
+            inside(site, nesting, nodes, tokens)?;
+            push_unary(function, nodes)?;
+        }
+        Start::Width => {
+            let name = measured(site.alloc, site.line, tokens)?;
+            nodes.push(RawNode::Width(name))?;
+        }
+    }
+    Ok(())
+}
+
+/// An operand without operators of two operands outside parentheses, with so many nested at most.
+#[cycle(terms)]
+fn primary(
+    site: &Site,
+    nesting: u32,
+    nodes: &mut RawTerm,
+    tokens: &mut &[Token<'_>],
+) -> Result<(), ParseError>
+    ensures { Gives (λ _. (nodes.new, seen tokens.new.now)) result (parsing.primary_at site.now.place site.now.line nesting nodes.old (seen tokens.old.now)) }
+{
+    let start = begin(site.alloc, site.place, site.line, tokens)?;
+    if nesting == 0 {
+        return shallow(site.line, start, nodes);
+    }
+    begun(site, nesting - 1, start, nodes, tokens)
+}
+
+/// The term that stands here; goes behind it. At most `nesting` parentheses and operators of one operand are open at a token, and the
+/// next one is `TooMany`. It takes as many steps as the term has tokens.
+#[tactic(auto, unfolding(crate::specs::Parsing::term_at))]
+pub fn term(
+    alloc: Global,
+    place: TermPlace,
+    nesting: u32,
+    line: usize,
+    tokens: &mut &[Token<'_>],
+) -> Result<RawTerm, ParseError>
+    ensures { Gives (λ x. (x, seen tokens.new.now)) result (parsing.term_at place nesting line (seen tokens.old.now)) }
+{
+    let site = Site { alloc, place, line };
+    let mut nodes = RawTerm::new(alloc);
+    operand(&site, nesting, LOOSEST, &mut nodes, tokens)?;
+    Ok(nodes)
+}
+
+/// The term that begins with these nodes, which are those of an operand in parentheses, and goes on here; goes behind it.
+#[tactic(auto, unfolding(crate::specs::Parsing::rest_of_term_at))]
+pub fn rest_of_term(
+    alloc: Global,
+    place: TermPlace,
+    nesting: u32,
+    line: usize,
+    first: RawTerm,
+    tokens: &mut &[Token<'_>],
+) -> Result<RawTerm, ParseError>
+    ensures { Gives (λ x. (x, seen tokens.new.now)) result (parsing.rest_of_term_at place nesting line first (seen tokens.old.now)) }
+{
+    let site = Site { alloc, place, line };
+    let mut nodes = first;
+    behind(&site, nesting, LOOSEST, &mut nodes, tokens)?;
+    Ok(nodes)
+}

@@ -1,0 +1,161 @@
+//! What an operand of a term begins with.
+
+ghost use Rattle.std.specs.Prelude.{◌≡◌};
+ghost use Rattle.rule_tokens.specs.Giving.{Gives};
+ghost use Rattle.rule_tokens.specs.Seen.{seen};
+ghost use Rattle.rule_terms.specs.Parsing as parsing;
+
+use crate::place::TermPlace;
+use crate::raw::RawNode;
+use crate::word::{Meaning, meaning_of};
+use lists::Text;
+use rule_core::Function;
+use rule_tokens::{
+    Misfit, ParseError, Token, literal, misplaced_word, name_within, refused, unexpected,
+};
+use std::alloc::Global;
+use words::is;
+
+/// What an operand begins with.
+#[derive(Debug, Drop)]
+pub(crate) enum Start {
+    /// A node of one token, which is the whole operand.
+    Leaf(RawNode),
+    /// `-` or `~`.
+    Prefix(Function),
+    /// `(`.
+    Parenthesis,
+    /// `log2(` or `abs(`.
+    Call(Function),
+    /// `width(`.
+    Width,
+}
+
+/// The mark that has to stand here.
+#[tactic(auto, unfolding(crate::specs::Parsing::mark_at))]
+pub fn mark(wanted: &str, line: usize, tokens: &mut &[Token<'_>]) -> Result<(), ParseError>
+    ensures { Gives (λ _. seen tokens.new.now) result (parsing.mark_at wanted.now line (seen tokens.old.now)) }
+{
+    match *tokens {
+        [Token::Mark(mark), rest @ ..] => {
+            if is(mark, wanted) {
+                *tokens = rest;
+                Ok(())
+            } else {
+                Err(refused(line, Misfit::Syntax))
+            }
+        }
+        _ => Err(unexpected(line, *tokens)),
+    }
+}
+
+/// A register, which stands in a witness alone.
+fn register(alloc: Global, place: TermPlace, line: usize, name: &[u8]) -> Result<Start, ParseError>
+    ensures { Gives (λ x. x) result (parsing.register_in place line name.now) }
+{
+    match place {
+        TermPlace::Constant => Err(refused(line, Misfit::Syntax)),
+        TermPlace::Witness => Ok(Start::Leaf(RawNode::Register(name_within(alloc, line, name)?))),
+    }
+}
+
+/// A word, behind which these tokens stand.
+fn word(
+    alloc: Global,
+    line: usize,
+    word: &[u8],
+    meaning: Option<Meaning>,
+    tokens: &mut &[Token<'_>],
+) -> Result<Start, ParseError>
+    ensures { Gives (λ x. (x, seen tokens.new.now)) result (parsing.word_at line word.now meaning (seen tokens.old.now)) }
+{
+    match meaning {
+        Some(Meaning::Width) => {
+            mark("(", line, tokens)?;
+            Ok(Start::Width)
+        }
+        Some(Meaning::Call(function)) => {
+            mark("(", line, tokens)?;
+            Ok(Start::Call(function))
+        }
+        Some(Meaning::Constant) => {
+            let name = name_within(alloc, line, word)?;
+            Ok(Start::Leaf(RawNode::Constant(name)))
+        }
+        Some(Meaning::Choice(choice)) => {
+            name_within(alloc, line, word)?;
+            Ok(Start::Leaf(RawNode::Undef(choice)))
+        }
+        None => Err(misplaced_word(alloc, line, word)),
+    }
+}
+
+/// What a mark begins: a parenthesis, or an operator of one operand.
+#[tactic(auto, unfolding(crate::specs::Parsing::opening_in))]
+fn opening_of(mark: &[u8]) -> Option<Start>
+    ensures { result ≡ parsing.opening_in mark.now }
+{
+    if is(mark, "(") {
+        Some(Start::Parenthesis)
+    } else if is(mark, "-") {
+        Some(Start::Prefix(Function::Negate))
+    } else if is(mark, "~") {
+        Some(Start::Prefix(Function::Not))
+    } else {
+        None
+    }
+}
+
+/// What the operand begins with that stands here; goes behind it.
+#[tactic(auto, unfolding(crate::specs::Parsing::start_at))]
+pub(crate) fn begin(
+    alloc: Global,
+    place: TermPlace,
+    line: usize,
+    tokens: &mut &[Token<'_>],
+) -> Result<Start, ParseError>
+    ensures { Gives (λ x. (x, seen tokens.new.now)) result (parsing.start_at place line (seen tokens.old.now)) }
+{
+    match *tokens {
+        [Token::Number(text), rest @ ..] => {
+            *tokens = rest;
+            Ok(Start::Leaf(RawNode::Literal(literal(text))))
+        }
+        [Token::Register(name), rest @ ..] => {
+            *tokens = rest;
+            register(alloc, place, line, name)
+        }
+        [Token::Word(text), rest @ ..] => {
+            *tokens = rest;
+            word(alloc, line, text, meaning_of(place, text), tokens)
+        }
+        [Token::Mark(mark), rest @ ..] => {
+            let Some(start) = opening_of(mark) else {
+                return Err(refused(line, Misfit::Syntax));
+            };
+            *tokens = rest;
+            Ok(start)
+        }
+        _ => Err(unexpected(line, *tokens)),
+    }
+}
+
+/// The register of a `width(`, and the parenthesis behind it.
+#[tactic(auto, unfolding(crate::specs::Parsing::measured_at))]
+pub(crate) fn measured(
+    alloc: Global,
+    line: usize,
+    tokens: &mut &[Token<'_>],
+) -> Result<Text, ParseError>
+    ensures { Gives (λ x. (x, seen tokens.new.now)) result (parsing.measured_at line (seen tokens.old.now)) }
+{
+    match *tokens {
+        [Token::Register(name), rest @ ..] => {
+            *tokens = rest;
+            let name = name_within(alloc, line, name)?;
+            mark(")", line, tokens)?;
+            Ok(name)
+        }
+        _ => Err(unexpected(line, *tokens)),
+    }
+}

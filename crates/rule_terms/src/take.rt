@@ -1,0 +1,23 @@
+//! Marks that are next.
+
+ghost use Rattle.std.specs.Prelude.{◌≡◌, drop, if◌then◌else◌};
+ghost use Rattle.rule_tokens.specs.Seen.{seen};
+ghost use Rattle.rule_terms.specs.Chains as reading;
+
+use rule_tokens::Token;
+use words::is;
+
+/// Whether the mark is next; goes behind it, if it is.
+pub fn takes(mark: &str, tokens: &mut &[Token<'_>]) -> bool
+    ensures next { result ≡ reading.next_is mark.now (seen tokens.old.now) }
+    ensures goes { seen tokens.new.now ≡ (if result then drop 1 (seen tokens.old.now) else seen tokens.old.now) }
+{
+    let [Token::Mark(found), rest @ ..] = *tokens else {
+        return false;
+    };
+    let taken = is(found, mark);
+    if taken {
+        *tokens = rest;
+    }
+    taken
+}

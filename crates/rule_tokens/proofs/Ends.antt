@@ -1,0 +1,27 @@
+-- What is spelled is read, where the line of its last token ends behind it.
+use Rattle.std.proofs.Common.{◌≡◌, ℕ, ◌≤◌, List, [], ◌∷◌, ◌++◌, length, Ok, refl}
+use Rattle.std.proofs.lemmas.Bool.{le-leb}
+use Rattle.rule_tokens.specs.Limits.{most_name_bytes}
+use Rattle.rule_tokens.specs.Reading.{name_within, type_at, line_end}
+use Rattle.rule_tokens.specs.Spelling.{SpellsType}
+use Rattle.rule_tokens.specs.Tokens.{Token, Line}
+use Rattle.rule_tokens.proofs.Types.{type_in-of}
+
+-- the line ends here
+abbrev pub EndsLine : List Token → Type 0
+EndsLine [] = Unit {0}
+EndsLine (Line next ∷ rest) = Unit {0}
+EndsLine tokens = ⊥
+
+pub name_within-of : (line : ℕ) (name : List ℕ) → length name ≤ most_name_bytes → name_within line name ≡ Ok name
+unfolding name_within
+name_within-of line name le = rw (le-leb (length name) most_name_bytes le) refl
+
+pub type_at-of : (line width : ℕ) (own rest : List Token) → SpellsType width own → type_at line (own ++ rest) ≡ Ok (width, rest)
+unfolding type_at
+type_at-of line width own rest (written, type, is) = rw (is, type_in-of written width type) refl
+
+pub line_end-of : (line : ℕ) (rest : List Token) → EndsLine rest → line_end line rest ≡ Ok rest
+line_end-of line [] ends = refl
+line_end-of line (Line next ∷ rest) ends = refl
+line_end-of line tokens ends = absurd ends

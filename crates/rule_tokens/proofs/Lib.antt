@@ -1,0 +1,8 @@
+pub mod Decimals
+pub mod Ends
+pub mod Nexts
+pub mod Readers
+pub mod Steps
+pub mod Takes
+pub mod Tokenising
+pub mod Types

@@ -1,0 +1,81 @@
+-- The tokens of a text from a place on: one step more.
+use Rattle.std.proofs.Common.{◌≡◌, ◌≢◌, ℕ, zero, suc, ◌+◌, ◌-◌, ◌<◌, ◌≤◌, Bool, true, false, cond, eqb, List, [], ◌∷◌, ◌++◌, length, refl, sym, ap, subst, ◌∙◌, append_assoc, None, arith}
+use Rattle.std.specs.Prelude.{codes}
+use Rattle.std.specs.Str.{bytes_eq}
+use Rattle.std.proofs.lemmas.List.{append-nil}
+use Rattle.std.proofs.lemmas.List.Sums.{prefix_len-le-length}
+use Rattle.scan.specs.Bytes.{is_blank}
+use Rattle.scan.specs.declared.rule_token.RuleKind.{RuleKind}
+use Rattle.scan.specs.declared.rule_token.RuleKind.TheVariants as kinds
+use Rattle.scan.specs.declared.rule_token.RuleToken.{RuleToken}
+use Rattle.scan.specs.declared.span.Span.{Span}
+use Rattle.scan.specs.Names.{IsNameNext, rest_of_line}
+use Rattle.scan.specs.RuleTokens.{IsNextRuleToken, IsBadNext, Begins, kind_of, IsLongestToken, ends_primary}
+use Rattle.scan.proofs.KindLemmas.{kind_of-empty}
+use Rattle.scan.proofs.PlaceLemmas.{rest_within}
+use Rattle.rule_tokens.specs.Tokens.{Token, Line, Bad, Place, AtName, AtToken, token_on, token_of, place_behind, bytes_at, IsNameToken, TokensFrom, ends, token, name, bad_token}
+
+-- a token other than the end has a byte
+longest_some : (operator : Bool) (text : List ℕ) (kind : RuleKind) (n : ℕ) → IsLongestToken operator text kind n → 0 < n
+longest_some operator text kind zero h = let none : kind_of operator [] text ≡ None = kind_of-empty operator text in let some = h.of_kind in absurd cc
+longest_some operator text kind (suc n) h = omega arith
+
+begins_some : (operator : Bool) (text : List ℕ) (kind : RuleKind) (n : ℕ) → kind ≢ kinds.End → Begins operator text kind n → 0 < n
+begins_some operator text kinds.End n other h = absurd (other refl)
+begins_some operator text kinds.Other n other h = let one : n ≡ 1 = h.1 in omega arith
+begins_some operator text kinds.Head n other h = longest_some operator text kinds.Head n h
+begins_some operator text kinds.Register n other h = longest_some operator text kinds.Register n h
+begins_some operator text kinds.Word n other h = longest_some operator text kinds.Word n h
+begins_some operator text kinds.Number n other h = longest_some operator text kinds.Number n h
+begins_some operator text kinds.Arrow n other h = longest_some operator text kinds.Arrow n h
+begins_some operator text kinds.Mark n other h = longest_some operator text kinds.Mark n h
+
+pub token_moves : (operator : Bool) (text : List ℕ) (at : ℕ) (t : RuleToken) → IsNextRuleToken operator text at t → t.kind ≢ kinds.End → at < t.span.end
+token_moves operator text at t h other = let some : 0 < t.span.end - t.span.start = begins_some _ _ t.kind _ other h.token in omega (arith, h.order.0, h.order.1)
+
+-- a name lies within the text
+pub name_within_text : (text : List ℕ) (at : ℕ) (span : Span) → at ≤ length text → IsNameNext text at span → (span.start ≤ span.end) × (span.end ≤ length text)
+name_within_text text at span le h =
+    (omega (arith, h.start, h.end), omega (arith, h.start, h.end, rest_within text at le, prefix_len-le-length is_blank (rest_of_line text at)))
+
+added_on : (front : List Token) (same : Bool) (line : ℕ) (t : Token) (tokens : List Token) → (front ++ cond same (t ∷ []) (Line line ∷ t ∷ [])) ++ tokens ≡ front ++ cond same (t ∷ tokens) (Line line ∷ t ∷ tokens)
+added_on front true line t tokens = append_assoc front (t ∷ []) tokens
+added_on front false line t tokens = append_assoc front (Line line ∷ t ∷ []) tokens
+
+-- one token more behind those in front
+pub added : (front : List Token) (before line : ℕ) (t : Token) (tokens : List Token) → (front ++ token_on before line t []) ++ tokens ≡ front ++ token_on before line t tokens
+added front before line t tokens = added_on front (eqb line before) line t tokens
+
+-- the tokens in front are those of the text up to a place, whatever tokens are read from there on
+abbrev pub SoFar : List ℕ → Place → ℕ → ℕ → List Token → Type 0
+SoFar text place at before front = (tokens : List Token) (last : ℕ) → TokensFrom text place at before tokens last → TokensFrom text (AtToken false) 0 0 (front ++ tokens) last
+
+pub token_read : (source text : List ℕ) (operator : Bool) (at at' before : ℕ) (front front' : List Token) (t : RuleToken) (found : Token) (bytes : List ℕ) (place : Place) → source ≡ text → SoFar text (AtToken operator) at before front → IsNextRuleToken operator source at t → t.kind ≢ kinds.End
+    → bytes ≡ bytes_at text t.span → found ≡ token_of t.kind bytes → place_behind t.kind bytes ≡ place → front' ≡ front ++ token_on before t.line found [] → at' ≡ t.span.end → SoFar text place at' t.line front'
+token_read source text operator at at' before front front' t found bytes place same so_far next other is token_is place_is made goes tokens last h =
+    let next' : IsNextRuleToken operator text at t = subst (λ (s : List ℕ). IsNextRuleToken operator s at t) same next in
+    let found_is : found ≡ token_of t.kind (bytes_at text t.span) = token_is ∙ ap (token_of t.kind) is in
+    let behind : place ≡ place_behind t.kind (bytes_at text t.span) = sym place_is ∙ ap (place_behind t.kind) is in
+    let step : TokensFrom text (AtToken operator) at before (token_on before t.line (token_of t.kind (bytes_at text t.span)) tokens) last
+    = token t next' other (subst (λ (p : Place). TokensFrom text p t.span.end t.line tokens last) behind (subst (λ (i : ℕ). TokensFrom text place i t.line tokens last) goes h)) in
+    let whole : front' ++ tokens ≡ front ++ token_on before t.line (token_of t.kind (bytes_at text t.span)) tokens
+    = ap (λ (ts : List Token). ts ++ tokens) made ∙ added front before t.line found tokens ∙ ap (λ (f : Token). front ++ token_on before t.line f tokens) found_is in
+    subst (λ (ts : List Token). TokensFrom text (AtToken false) 0 0 ts last) (sym whole) (so_far _ last step)
+
+pub name_read : (text : List ℕ) (at line : ℕ) (front : List Token) (found : Token) → SoFar text AtName at line front → IsNameToken text at found → SoFar text (AtToken false) (at + length (rest_of_line text at)) line (front ++ found ∷ [])
+name_read text at line front found so_far is tokens last h =
+    subst (λ (ts : List Token). TokensFrom text (AtToken false) 0 0 ts last) (sym (append_assoc front (found ∷ []) tokens)) (so_far (found ∷ tokens) last (name is h))
+
+pub end_read : (source text : List ℕ) (operator : Bool) (at before : ℕ) (front : List Token) (t : RuleToken) → source ≡ text → SoFar text (AtToken operator) at before front → IsNextRuleToken operator source at t → t.kind ≡ kinds.End → TokensFrom text (AtToken false) 0 0 front t.line
+end_read source text operator at before front t same so_far next end =
+    subst (λ (ts : List Token). TokensFrom text (AtToken false) 0 0 ts t.line) (append-nil front) (so_far [] t.line (ends t (subst (λ (s : List ℕ). IsNextRuleToken operator s at t) same next) end refl))
+
+pub bad_read : (source text : List ℕ) (operator : Bool) (at before line : ℕ) (front front' : List Token) → source ≡ text → SoFar text (AtToken operator) at before front → IsBadNext source at line → front' ≡ front ++ token_on before line Bad [] → TokensFrom text (AtToken false) 0 0 front' line
+bad_read source text operator at before line front front' same so_far bad made =
+    subst (λ (ts : List Token). TokensFrom text (AtToken false) 0 0 ts line) (sym made) (so_far _ line (bad_token (subst (λ (s : List ℕ). IsBadNext s at line) same bad)))
+
+pub place_name : (kind : RuleKind) (bytes : List ℕ) → bytes_eq bytes (codes "Name:") ≡ true → place_behind kind bytes ≡ AtName
+place_name kind bytes e = rw e refl
+
+pub place_token : (kind : RuleKind) (bytes : List ℕ) (operator : Bool) → bytes_eq bytes (codes "Name:") ≡ false → operator ≡ ends_primary kind bytes → place_behind kind bytes ≡ AtToken operator
+place_token kind bytes operator e is = rw e (ap AtToken (sym is))

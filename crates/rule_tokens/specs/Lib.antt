@@ -1,0 +1,9 @@
+pub mod Giving
+pub mod Limits
+pub mod Numbers
+pub mod Parts
+pub mod Reading
+pub mod Refusing
+pub mod Seen
+pub mod Spelling
+pub mod Tokens

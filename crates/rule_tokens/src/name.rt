@@ -1,0 +1,24 @@
+//! Names as written.
+
+ghost use Rattle.rule_tokens.specs.Giving.{Gives};
+ghost use Rattle.rule_tokens.specs.Reading as reading;
+
+use crate::fault::{Misfit, ParseError};
+use crate::refusal::refused;
+use lists::Text;
+use std::alloc::Global;
+
+/// The most bytes of a name.
+const MOST_NAME_BYTES: usize = 200;
+
+/// A name of at most 200 bytes.
+#[tactic(auto, unfolding(crate::specs::Reading::name_within))]
+pub fn name_within(alloc: Global, line: usize, name: &[u8]) -> Result<Text, ParseError>
+    ensures { Gives (λ x. x) result (reading.name_within line name.now) }
+{
+    if name.len() <= MOST_NAME_BYTES {
+        Ok(Text::from_vec(Vec::from_slice(alloc, name)?))
+    } else {
+        Err(refused(line, Misfit::TooMany))
+    }
+}

@@ -1,0 +1,117 @@
+//! The tokens of a text with their lines.
+
+ghost use Rattle.std.specs.Prelude.{◌≡◌, ◌≢◌, ◌≤◌, ◌+◌, ◌++◌, [], length, IfOk, IfErr, OnOk, IfSome, IfNone, OnSome};
+ghost use Rattle.scan.specs.declared.rule_token.RuleKind.TheVariants as kinds;
+ghost use Rattle.scan.specs.Names.{IsBadInRest, rest_of_line};
+ghost use Rattle.rule_tokens.specs.Seen.{seen, seen_token};
+ghost use Rattle.rule_tokens.specs.Tokens as relation;
+ghost use Rattle.rule_tokens.specs.Tokens.{AreTokens, IsNameToken, token_on};
+
+use crate::token::Token;
+use scan::{BadByte, Cursor, RuleKind, ends_primary};
+use std::alloc::{AllocError, Global};
+use words::is;
+
+/// The tokens of a text, and its last line.
+#[derive(Debug, Drop)]
+pub struct Tokens<'a> {
+    /// All tokens in order, or those up to the first byte that may not stand where it does, which is the last one then. Each line's
+    /// are behind its number.
+    pub tokens: Vec<Token<'a>>,
+    pub last_line: usize,
+}
+
+/// The token of a kind, with its bytes; the end of a text is none.
+fn token_of(kind: RuleKind, bytes: &[u8]) -> Option<Token<'_>>
+    ensures end { IfNone result (kind ≡ kinds.End) }
+    ensures other { OnSome result (kind ≢ kinds.End) }
+    ensures token { IfSome result (λ token. seen_token token ≡ relation.token_of kind bytes.now) }
+{
+    match kind {
+        RuleKind::End => None,
+        RuleKind::Other => Some(Token::Other),
+        RuleKind::Head => Some(Token::Head(bytes)),
+        RuleKind::Register => Some(Token::Register(match bytes {
+            [_, name @ ..] => name,
+            [] => bytes,
+        })),
+        RuleKind::Word => Some(Token::Word(bytes)),
+        RuleKind::Number => Some(Token::Number(bytes)),
+        RuleKind::Arrow => Some(Token::Arrow),
+        RuleKind::Mark => Some(Token::Mark(bytes)),
+    }
+}
+
+/// Adds a token on a line, behind a token on the line `before`.
+fn push<'a>(
+    tokens: &mut Vec<Token<'a>>,
+    before: usize,
+    line: usize,
+    token: Token<'a>,
+) -> Result<(), AllocError>
+    ensures { OnOk result (seen tokens.new.items ≡ seen tokens.old.items ++ token_on before line (seen_token token.entry) []) }
+{
+    if line != before {
+        tokens.push(Token::Line(line))?;
+    }
+    tokens.push(token)?;
+    Ok(())
+}
+
+/// The name of a rule, which is the rest of the line.
+fn name<'a>(cursor: &mut Cursor<'a>, text: &'a [u8]) -> Result<Token<'a>, BadByte>
+    requires text { cursor.old.text ≡ text.now }
+    requires within { cursor.old.at ≤ length text.now }
+    ensures text { cursor.new.text ≡ text.now }
+    ensures name { IfOk result (λ token. IsNameToken text.now cursor.old.at (seen_token token)) }
+    ensures goes { IfOk result (λ _. cursor.new.at ≡ cursor.old.at + length (rest_of_line text.now cursor.old.at)) }
+    ensures bad { IfErr result (λ e. IsBadInRest text.now cursor.old.at e.line) }
+{
+    let span = cursor.take_name()?;
+    Ok(Token::Name(span.bytes(text)))
+}
+
+/// The tokens of a text. It takes as many steps as the text has bytes.
+pub fn tokens_of(alloc: Global, text: &[u8]) -> Result<Tokens<'_>, AllocError>
+    ensures { IfOk result (λ x. AreTokens text.now (seen x.tokens.items) x.last_line) }
+{
+    let mut tokens = Vec::new(alloc);
+    let mut cursor = Cursor::new(text);
+    let mut operator = false;
+    let mut before = 0;
+    loop {
+        let token = match cursor.next_rule_token(operator) {
+            Ok(token) => token,
+            Err(BadByte { line }) => {
+                push(&mut tokens, before, line, Token::Bad)?;
+                return Ok(Tokens {
+                    tokens,
+                    last_line: line,
+                });
+            }
+        };
+        let bytes = token.span.bytes(text);
+        let Some(found) = token_of(token.kind, bytes) else {
+            return Ok(Tokens {
+                tokens,
+                last_line: token.line,
+            });
+        };
+        push(&mut tokens, before, token.line, found)?;
+        before = token.line;
+        operator = ends_primary(token.kind, bytes);
+        if is(bytes, "Name:") {
+            match name(&mut cursor, text) {
+                Ok(name) => tokens.push(name)?,
+                Err(BadByte { line }) => {
+                    tokens.push(Token::Bad)?;
+                    return Ok(Tokens {
+                        tokens,
+                        last_line: line,
+                    });
+                }
+            }
+            operator = false;
+        }
+    }
+}

@@ -1,0 +1,47 @@
+//! Types as written.
+
+ghost use Rattle.std.specs.Prelude.{◌≡◌};
+ghost use Rattle.rule_tokens.specs.Giving.{Gives};
+ghost use Rattle.rule_tokens.specs.Reading as reading;
+ghost use Rattle.rule_tokens.specs.Seen.{seen};
+
+use crate::fault::ParseError;
+use crate::number::written_type;
+use crate::refusal::{misplaced_word, unexpected};
+use crate::token::Token;
+use ops::Width;
+use std::alloc::Global;
+
+/// A type.
+#[tactic(auto, unfolding(crate::specs::Reading::type_at))]
+pub fn integer_type(
+    alloc: Global,
+    line: usize,
+    tokens: &mut &[Token<'_>],
+) -> Result<Width, ParseError>
+    ensures { Gives (λ x. (x, seen tokens.new.now)) result (reading.type_at line (seen tokens.old.now)) }
+{
+    match *tokens {
+        [Token::Word(word), rest @ ..] => match written_type(word) {
+            Some(width) => {
+                *tokens = rest;
+                Ok(width)
+            }
+            None => Err(misplaced_word(alloc, line, word)),
+        },
+        _ => Err(unexpected(line, *tokens)),
+    }
+}
+
+/// The type that is next, if one is; goes behind it.
+#[tactic(auto, unfolding(crate::specs::Reading::maybe_type))]
+pub fn maybe_type(tokens: &mut &[Token<'_>]) -> Option<Width>
+    ensures { (result, seen tokens.new.now) ≡ reading.maybe_type (seen tokens.old.now) }
+{
+    let [Token::Word(word), rest @ ..] = *tokens else {
+        return None;
+    };
+    let width = written_type(word)?;
+    *tokens = rest;
+    Some(width)
+}
