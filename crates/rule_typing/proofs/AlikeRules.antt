@@ -1,6 +1,8 @@
 -- What a rule meets does not speak of its classes: of two rules that differ in no more than those, the second meets it with the first.
-use Rattle.std.proofs.Common.{◌≡◌, ℕ, ◌≤◌, List, [], ◌∷◌, ◌++◌, length, map, Some, refl, sym, ap, subst, ◌∙◌, arith}
-use Rattle.std.specs.Prelude.{slice_get, Contains, flat_map}
+use Rattle.std.proofs.Common.{◌≡◌, ℕ, ◌≤◌, List, [], ◌∷◌, ◌++◌, length, map, Option, Some, refl, sym, ap, subst, ◌∙◌, arith}
+use Rattle.std.specs.Prelude.{slice_get, Contains, flat_map, filter_map, sum_by}
+use Rattle.std.specs.List.{range_with_len}
+use Rattle.std.proofs.lemmas.List.Sums.{sum_by-cons}
 use Rattle.std.proofs.lemmas.List.{length-map, map-append}
 use Rattle.rule_core.specs.declared.rule.Rule.{Rule}
 use Rattle.rule_core.specs.declared.rule.Statement.{Statement}
@@ -11,9 +13,14 @@ use Rattle.rule_core.specs.declared.rule.Argument.{Argument}
 use Rattle.rule_core.specs.declared.rule.Argument.TheVariants as arguments
 use Rattle.rule_core.specs.declared.rule.Register.{Register}
 use Rattle.rule_core.specs.declared.rule.Register.TheVariants as registers
-use Rattle.rule_core.specs.Positions.{operands_of, operands_in}
-use Rattle.rule_core.specs.Checks.{IsRule, SourceMayRead, TargetMayRead, FlagsFitOp, MayStandInSource, names_of, ReadsOnly, ReadsAt, AreDistinct}
-use Rattle.rule_typing.specs.Relabelling.{mapped_op, mapped_statement}
+use Rattle.rule_core.specs.declared.rule.Term.{Term}
+use Rattle.rule_core.specs.declared.rule.Node.{Node}
+use Rattle.rule_core.specs.declared.rule.Node.TheVariants as nodes
+use Rattle.rule_core.specs.declared.rule.Formula.{Formula}
+use Rattle.rule_core.specs.declared.rule.Formula.TheVariants as formulas
+use Rattle.rule_core.specs.Positions.{operands_of, operands_among, operands_in, terms_in, undef_in, undefs_among}
+use Rattle.rule_core.specs.Checks.{IsRule, SourceMayRead, TargetMayRead, IsBeforeRoot, HasWidth, MayBeTerm, MayBeWitness, MayBeFormula, FlagsFitOp, MayStandInSource, IsNoUndefCopy, UndefsInOrder, argument_weight, node_weight, term_weight, formula_weight, weight_of, names_of, ReadsOnly, StandsAt, AreDistinct}
+use Rattle.rule_typing.specs.Relabelling.{mapped_op, mapped_statement, mapped_node, mapped_term}
 use Rattle.rule_typing.proofs.Images.{same_get, same_among}
 use Rattle.rule_typing.proofs.Relabelled.{AreAlike, mapped_operand, operands-mapped_op, operands-mapped}
 
@@ -73,25 +80,133 @@ reads_carry May May' weaker xs ys same holds k t o at among =
     let values : o'.value ≡ o.value = ap (λ (x : Operand). x.value) (sym e') in
     weaker k o.value (subst (May k) values (holds k s o' there among'))
 
-reads_at : (r s : Rule) → AreAlike r s → (q : ℕ) (register : Register) → ReadsAt r q register → ReadsAt s q register
-reads_at r s same q register (o, at, is) =
+stands_at : (r s : Rule) → AreAlike r s → (q : ℕ) (argument : Argument) → StandsAt r q argument → StandsAt s q argument
+stands_at r s same q argument (o, at, is) =
     let halves : HalvesAlike s.source r.source = ap (λ (x : Rule). x.source) (sym same) in
-    let (o', at', e) = same_get bare_operand (flat_map (λ s. operands_of s.op) s.source) (flat_map (λ s. operands_of s.op) r.source) q o (same_operands s.source r.source halves) at in
+    let (o', at', e) = same_get bare_operand (operands_among s.source) (operands_among r.source) q o (same_operands s.source r.source halves) at in
     (o', at', ap (λ (x : Operand). x.value) e ∙ is)
 
-source_reads : (r s : Rule) → length r.inputs ≡ length s.inputs → (k : ℕ) (v : Argument) → SourceMayRead r k v → SourceMayRead s k v
-source_reads r s inputs k (arguments.Register (registers.Input i)) may = omega arith
-source_reads r s inputs k (arguments.Register (registers.Source j)) may = may
-source_reads r s inputs k (arguments.Register (registers.Target j)) may = may
-source_reads r s inputs k (arguments.Literal z) may = may
-source_reads r s inputs k (arguments.Truth b) may = may
+copies_op : (f : ℕ → ℕ) (op : Op) → IsNoUndefCopy (mapped_op f op) ≡ IsNoUndefCopy op
+copies_op f (Binary op flags a b) = refl
+copies_op f (Compare pred a b) = refl
+copies_op f (Select z a b) = refl
+copies_op f (Convert cast a to) = refl
+copies_op f (Copy a) = refl
 
-target_reads : (r s : Rule) → length r.inputs ≡ length s.inputs → length r.source ≡ length s.source → (k : ℕ) (v : Argument) → TargetMayRead r k v → TargetMayRead s k v
-target_reads r s inputs source k (arguments.Register (registers.Input i)) may = omega arith
-target_reads r s inputs source k (arguments.Register (registers.Source j)) may = omega arith
-target_reads r s inputs source k (arguments.Register (registers.Target j)) may = may
-target_reads r s inputs source k (arguments.Literal z) may = may
-target_reads r s inputs source k (arguments.Truth b) may = may
+-- what is summed or gathered over elements is the same over their images, where it is the same of each
+sum_image : {X : Type 0} (weight : X → ℕ) (g : X → X) → ((x : X) → weight (g x) ≡ weight x) → (xs : List X) → sum_by weight (map g xs) ≡ sum_by weight xs
+sum_image weight g same [] = refl
+sum_image weight g same (x ∷ xs) = sum_by-cons weight (g x) (map g xs) ∙ omega (arith, same x, sum_image weight g same xs, sum_by-cons weight x xs)
+
+filter_image : {X Y : Type 0} (h : X → Option Y) (g : X → X) → ((x : X) → h (g x) ≡ h x) → (xs : List X) → filter_map h (map g xs) ≡ filter_map h xs
+filter_image h g same [] = refl
+filter_image h g same (x ∷ xs) = rw (same x, filter_image h g same xs) refl
+
+same_sum : {X : Type 0} (weight : X → ℕ) (g : X → X) → ((x : X) → weight (g x) ≡ weight x) → (xs ys : List X) → map g xs ≡ map g ys → sum_by weight xs ≡ sum_by weight ys
+same_sum weight g same xs ys alike = sym (sum_image weight g same xs) ∙ ap (sum_by weight) alike ∙ sum_image weight g same ys
+
+same_undefs : (xs ys : List Statement) → HalvesAlike xs ys → undefs_among xs ≡ undefs_among ys
+same_undefs xs ys same =
+    let undef_of = λ (o : Operand). undef_in o.value in
+    sym (filter_image undef_of bare_operand (λ o. refl) (operands_among xs)) ∙ ap (filter_map undef_of) (same_operands xs ys same) ∙ filter_image undef_of bare_operand (λ o. refl) (operands_among ys)
+
+-- nodes that differ in no more than their classes
+abbrev pub bare_term : Term → Term
+bare_term t = mapped_term (λ c. 0) t
+
+node_weighs : (f : ℕ → ℕ) (node : Node) → node_weight (mapped_node f node) ≡ node_weight node
+node_weighs f (nodes.Literal z) = refl
+node_weighs f (nodes.Constant k) = refl
+node_weighs f (nodes.Register r) = refl
+node_weighs f (nodes.Undef k) = refl
+node_weighs f (nodes.Width r c) = refl
+node_weighs f (nodes.Unary function a) = refl
+node_weighs f (nodes.Binary op a b) = refl
+
+may_be_term : (rule : Rule) (n : ℕ) (f : ℕ → ℕ) (node : Node) → MayBeTerm rule n (mapped_node f node) ≡ MayBeTerm rule n node
+may_be_term rule n f (nodes.Literal z) = refl
+may_be_term rule n f (nodes.Constant k) = refl
+may_be_term rule n f (nodes.Register r) = refl
+may_be_term rule n f (nodes.Undef k) = refl
+may_be_term rule n f (nodes.Width r c) = refl
+may_be_term rule n f (nodes.Unary function a) = refl
+may_be_term rule n f (nodes.Binary op a b) = refl
+
+may_be_witness : (rule : Rule) (n : ℕ) (f : ℕ → ℕ) (node : Node) → MayBeWitness rule n (mapped_node f node) ≡ MayBeWitness rule n node
+may_be_witness rule n f (nodes.Literal z) = refl
+may_be_witness rule n f (nodes.Constant k) = refl
+may_be_witness rule n f (nodes.Register r) = refl
+may_be_witness rule n f (nodes.Undef k) = refl
+may_be_witness rule n f (nodes.Width r c) = refl
+may_be_witness rule n f (nodes.Unary function a) = refl
+may_be_witness rule n f (nodes.Binary op a b) = refl
+
+nodes_carry : (May May' : ℕ → Node → Type 0) → ((n : ℕ) (f : ℕ → ℕ) (node : Node) → May n (mapped_node f node) ≡ May n node) → ((n : ℕ) (node : Node) → May n node → May' n node) → (xs ys : List Term) → map bare_term xs ≡ map bare_term ys
+    → ((n : ℕ) (t : Term) → slice_get xs n ≡ Some t → May n t.node) → (n : ℕ) (t : Term) → slice_get ys n ≡ Some t → May' n t.node
+nodes_carry May May' blind weaker xs ys same holds n t at =
+    let (s, there, e) = same_get bare_term xs ys n t same at in
+    let across : May n s.node ≡ May n t.node = sym (blind n (λ c. 0) s.node) ∙ ap (λ (x : Term). May n x.node) e ∙ blind n (λ c. 0) t.node in
+    weaker n t.node (subst (λ X. X) across (holds n s there))
+
+-- What one of two rules may read the other may, where both have as many inputs, constants, statements, nodes and `undef`s.
+module _ (r s : Rule) (inputs : length r.inputs ≡ length s.inputs) (constants : length r.constants ≡ length s.constants) (source : length r.source ≡ length s.source) (target : length r.target ≡ length s.target)
+    (terms : length r.terms ≡ length s.terms) (undefs : length (undefs_among r.target) ≡ length (undefs_among s.target)) where
+  source_reads : (k : ℕ) (v : Argument) → SourceMayRead r k v → SourceMayRead s k v
+  source_reads k (arguments.Register (registers.Input i)) may = omega arith
+  source_reads k (arguments.Register (registers.Source j)) may = may
+  source_reads k (arguments.Register (registers.Target j)) may = may
+  source_reads k (arguments.Literal z) may = may
+  source_reads k (arguments.Truth b) may = may
+  source_reads k (arguments.Constant j) may = omega arith
+  source_reads k (arguments.Undef j) may = omega arith
+  source_reads k (arguments.Term n) may = may
+
+  target_reads : (k : ℕ) (v : Argument) → TargetMayRead r k v → TargetMayRead s k v
+  target_reads k (arguments.Register (registers.Input i)) may = omega arith
+  target_reads k (arguments.Register (registers.Source j)) may = omega arith
+  target_reads k (arguments.Register (registers.Target j)) may = may
+  target_reads k (arguments.Literal z) may = may
+  target_reads k (arguments.Truth b) may = may
+  target_reads k (arguments.Constant j) may = omega arith
+  target_reads k (arguments.Undef j) may = may
+  target_reads k (arguments.Term n) may = omega arith
+
+  before_root : (x : Register) → IsBeforeRoot r x → IsBeforeRoot s x
+  before_root (registers.Input i) may = omega arith
+  before_root (registers.Source j) may = omega arith
+  before_root (registers.Target j) may = may
+
+  has_width : (x : Register) → HasWidth r x → HasWidth s x
+  has_width (registers.Input i) may = omega arith
+  has_width (registers.Source j) may = omega arith
+  has_width (registers.Target j) may = omega arith
+
+  as_term : (n : ℕ) (node : Node) → MayBeTerm r n node → MayBeTerm s n node
+  as_term n (nodes.Literal z) may = may
+  as_term n (nodes.Constant k) may = omega arith
+  as_term n (nodes.Register x) may = may
+  as_term n (nodes.Undef k) may = may
+  as_term n (nodes.Width x c) may = has_width x may
+  as_term n (nodes.Unary function a) may = may
+  as_term n (nodes.Binary op a b) may = may
+
+  as_witness : (n : ℕ) (node : Node) → MayBeWitness r n node → MayBeWitness s n node
+  as_witness n (nodes.Literal z) may = may
+  as_witness n (nodes.Constant k) may = omega arith
+  as_witness n (nodes.Register x) may = before_root x may
+  as_witness n (nodes.Undef k) may = omega arith
+  as_witness n (nodes.Width x c) may = before_root x may
+  as_witness n (nodes.Unary function a) may = may
+  as_witness n (nodes.Binary op a b) may = may
+
+  as_formula : (n : ℕ) (f : Formula) → MayBeFormula r n f → MayBeFormula s n f
+  as_formula n (formulas.Compare pred a b) (left, right) = (omega arith, omega arith)
+  as_formula n (formulas.IsPowerOfTwo a) may = omega arith
+  as_formula n (formulas.IsSignBit a) may = omega arith
+  as_formula n (formulas.HasOneUse j) may = omega arith
+  as_formula n (formulas.Not a) may = may
+  as_formula n (formulas.And a b) may = may
+  as_formula n (formulas.Or a b) may = may
 
 pub IsRule-alike : (r s : Rule) → AreAlike r s → IsRule r → IsRule s
 IsRule-alike r s same checked =
@@ -107,11 +222,27 @@ IsRule-alike r s same checked =
     let counts : length r.inputs ≡ length s.inputs = ap length inputs in
     let halves : HalvesAlike (r.source ++ r.target) (s.source ++ s.target)
     = map-append bare_statement r.source r.target ∙ ap (λ l. l ++ map bare_statement r.target) source ∙ ap (λ l. map bare_statement s.source ++ l) target ∙ sym (map-append bare_statement s.source s.target) in
-    let operands : length (operands_in r) ≡ length (operands_in s) = same_length bare_operand (operands_in r) (operands_in s) (same_operands (r.source ++ r.target) (s.source ++ s.target) halves) in
+    let operands : map bare_operand (operands_in r) ≡ map bare_operand (operands_in s) = same_operands (r.source ++ r.target) (s.source ++ s.target) halves in
+    let terms : map bare_term r.terms ≡ map bare_term s.terms = ap (λ (x : Rule). x.terms) same in
+    let witness_terms : map bare_term r.witness_terms ≡ map bare_term s.witness_terms = ap (λ (x : Rule). x.witness_terms) same in
+    let all_terms : map bare_term (terms_in r) ≡ map bare_term (terms_in s)
+    = map-append bare_term r.terms r.witness_terms ∙ ap (λ l. l ++ map bare_term r.witness_terms) terms ∙ ap (λ l. map bare_term s.terms ++ l) witness_terms ∙ sym (map-append bare_term s.terms s.witness_terms) in
+    let precondition : r.precondition ≡ s.precondition = ap (λ (x : Rule). x.precondition) same in
+    let witnesses : r.witnesses ≡ s.witnesses = ap (λ (x : Rule). x.witnesses) same in
+    let constant_counts : length r.constants ≡ length s.constants = ap length constants in
+    let term_counts : length r.terms ≡ length s.terms = same_length bare_term r.terms s.terms terms in
+    let source_undefs : undefs_among r.source ≡ undefs_among s.source = same_undefs r.source s.source source in
+    let target_undefs : undefs_among r.target ≡ undefs_among s.target = same_undefs r.target s.target target in
+    let undef_counts : length (undefs_among r.target) ≡ length (undefs_among s.target) = ap length target_undefs in
+    let weights : weight_of r ≡ weight_of s
+    = let first = same_sum (λ (o : Operand). argument_weight o.value) bare_operand (λ o. refl) (operands_in r) (operands_in s) operands in
+    let second = same_sum term_weight bare_term (λ t. node_weighs (λ c. 0) t.node) (terms_in r) (terms_in s) all_terms in
+    let third = ap (sum_by formula_weight) precondition in
+    omega (arith, first, second, third) in
     record {
       few_in_source = omega (arith, checked.few_in_source);
       few_in_target = omega (arith, checked.few_in_target);
-      few_operands = omega (arith, checked.few_operands);
+      few_nodes = omega (arith, weights, checked.few_nodes);
       short_name = subst (λ n. length n ≤ 200) name checked.short_name;
       short_inputs = subst (λ l. (n : List ℕ) → Contains l n → length n ≤ 200) inputs checked.short_inputs;
       short_constants = subst (λ l. (n : List ℕ) → Contains l n → length n ≤ 200) constants checked.short_constants;
@@ -119,12 +250,18 @@ IsRule-alike r s same checked =
       short_in_target = subst (λ l. (n : List ℕ) → Contains l n → length n ≤ 200) target_names checked.short_in_target;
       source_names = subst AreDistinct source_names checked.source_names;
       target_names = subst AreDistinct target_names checked.target_names;
-      source_reads = reads_carry (SourceMayRead r) (SourceMayRead s) (source_reads r s counts) r.source s.source source checked.source_reads;
-      target_reads = reads_carry (TargetMayRead r) (TargetMayRead s) (target_reads r s counts sources) r.target s.target target checked.target_reads;
+      source_reads = reads_carry (SourceMayRead r) (SourceMayRead s) (source_reads r s counts constant_counts sources targets term_counts undef_counts) r.source s.source source checked.source_reads;
+      target_reads = reads_carry (TargetMayRead r) (TargetMayRead s) (target_reads r s counts constant_counts sources targets term_counts undef_counts) r.target s.target target checked.target_reads;
       inputs_distinct = subst AreDistinct inputs checked.inputs_distinct;
       inputs_not_assigned = λ n among assigned. checked.inputs_not_assigned n (subst (λ l. Contains l n) (sym inputs) among) (subst (λ l. Contains l n) (sym source_names) assigned);
-      inputs_read = λ i within. let h = checked.inputs_read i (omega arith) in (h.0, reads_at r s same h.0 (registers.Input i) h.1);
-      inputs_in_order = λ h i q less at. let e = checked.inputs_in_order h i q less (reads_at s r (sym same) q (registers.Input i) at) in (e.0, e.1, reads_at r s same e.0 (registers.Input h) e.2);
+      inputs_read = λ i within. let h = checked.inputs_read i (omega arith) in (h.0, stands_at r s same h.0 (arguments.Register (registers.Input i)) h.1);
+      inputs_in_order = λ h i q less at. let e = checked.inputs_in_order h i q less (stands_at s r (sym same) q (arguments.Register (registers.Input i)) at) in (e.0, e.1, stands_at r s same e.0 (arguments.Register (registers.Input h)) e.2);
+      constants_distinct = subst AreDistinct constants checked.constants_distinct;
+      constants_read = λ k within. let h = checked.constants_read k (omega arith) in (h.0, stands_at r s same h.0 (arguments.Constant k) h.1);
+      constants_in_order = λ h k q less at. let e = checked.constants_in_order h k q less (stands_at s r (sym same) q (arguments.Constant k) at) in (e.0, e.1, stands_at r s same e.0 (arguments.Constant h) e.2);
+      terms = nodes_carry (MayBeTerm r) (MayBeTerm s) (may_be_term r) (as_term r s counts constant_counts sources targets term_counts undef_counts) r.terms s.terms terms checked.terms;
+      witness_terms = nodes_carry (MayBeWitness r) (MayBeWitness s) (may_be_witness r) (as_witness r s counts constant_counts sources targets term_counts undef_counts) r.witness_terms s.witness_terms witness_terms checked.witness_terms;
+      precondition = λ n f at. as_formula r s counts constant_counts sources targets term_counts undef_counts n f (checked.precondition n f (subst (λ l. slice_get l n ≡ Some f) (sym precondition) at));
       source_root = omega (arith, checked.source_root);
       target_root = omega (arith, checked.target_root);
       root = λ j k u v last at last' at'.
@@ -135,8 +272,13 @@ IsRule-alike r s same checked =
       temporaries_stay = λ j u less at assigned.
           let (u', there, e) = same_get bare_statement r.source s.source j u source at in
           checked.temporaries_stay j u' (omega arith) there (subst (λ l. Contains l u'.name) (sym target_names) (subst (λ n. Contains (names_of s.target) n) (ap (λ (x : Statement). x.name) (sym e)) assigned));
-      temporaries_read = λ j less. let h = checked.temporaries_read j (omega arith) in (h.0, reads_at r s same h.0 (registers.Source j) h.1);
+      temporaries_read = λ j less. let h = checked.temporaries_read j (omega arith) in (h.0, stands_at r s same h.0 (arguments.Register (registers.Source j)) h.1);
       source_ops = carries MayStandInSource source_op r.source s.source source checked.source_ops;
       source_flags = carries FlagsFitOp flags_op r.source s.source source checked.source_flags;
       target_flags = carries FlagsFitOp flags_op r.target s.target target checked.target_flags;
+      source_undefs = subst (λ l. l ≡ range_with_len 0 (length l)) source_undefs checked.source_undefs;
+      target_undefs = subst (λ l. l ≡ range_with_len 0 (length l)) target_undefs checked.target_undefs;
+      target_copies = carries IsNoUndefCopy copies_op r.target s.target target checked.target_copies;
+      witnesses = sym (ap length witnesses) ∙ checked.witnesses ∙ ap length source_undefs;
+      witnesses_there = λ k n at. let less = checked.witnesses_there k n (subst (λ l. slice_get l k ≡ Some n) (sym witnesses) at) in omega (arith, same_length bare_term r.witness_terms s.witness_terms witness_terms);
     }

@@ -1,5 +1,5 @@
 -- What holds of each of some operands or statements, and of those of a rule, as walks over them find it.
-use Rattle.std.proofs.Common.{◌≡◌, inl, inr, ◌↔◌, ℕ, ◌<◌, List, length, get_or, Bool, true, false, not, IsTrue, Option, None, Some, refl, sym, ap, subst, ◌∙◌, ◌+◌, ◌≤◌, arith}
+use Rattle.std.proofs.Common.{◌≡◌, inl, inr, ◌↔◌, ℕ, ◌<◌, List, ◌++◌, length, get_or, Bool, true, false, not, IsTrue, Option, None, Some, refl, sym, ap, subst, ◌∙◌, ◌+◌, ◌≤◌, arith}
 use Rattle.std.proofs.lemmas.Bool.{cases_eq}
 use Rattle.std.proofs.lemmas.Option.{slice_get-get_or, get_or_from_slice_get}
 use Rattle.std.specs.Prelude.{Contains, flat_map, slice_get, IfNone}
@@ -14,6 +14,13 @@ use Rattle.rule_typing.proofs.Images.{from_flat_map}
 
 abbrev pub all_operands : List Statement → List Operand
 all_operands statements = flat_map (λ s. operands_of s.op) statements
+
+-- what holds of each of two lists holds of each of both
+pub each_of_both : {X : Type 0} (P : X → Type 0) (xs ys : List X) → (((x : X) → Contains xs x → P x) × ((x : X) → Contains ys x → P x)) ↔ ((x : X) → Contains (xs ++ ys) x → P x)
+each_of_both P xs ys = (
+  λ h x among. elim (Contains-append_cases xs ys x among) [ inl left ↦ h.0 x left | inr right ↦ h.1 x right ],
+  λ each. (λ x left. each x (Contains-append_left xs ys x left), λ x right. each x (Contains-append_right xs ys x right)),
+)
 
 -- what holds of each statement of the source and of the target holds of each of the rule
 pub each_half : (P : Statement → Type 0) (rule : Rule) → (((s : Statement) → Contains rule.source s → P s) × ((s : Statement) → Contains rule.target s → P s)) ↔ ((s : Statement) → IsStatementOf rule s → P s)

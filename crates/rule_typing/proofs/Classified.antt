@@ -1,11 +1,16 @@
 -- Positions that are numbered, merged along lines and renumbered in order are classified.
-use Rattle.std.proofs.Common.{◌≡◌, ℕ, ◌+◌, ◌^◌, ◌<◌, List, [], ◌∷◌, ◌++◌, length, Some, refl, sym, ap, subst, ◌∙◌, arith, length-append}
-use Rattle.std.specs.Prelude.{slice_get, flat_map}
-use Rattle.std.proofs.lemmas.List.{length-map}
+use Rattle.std.proofs.Common.{◌≡◌, ℕ, ◌+◌, ◌*◌, ◌^◌, ◌<◌, ◌≤◌, List, [], ◌∷◌, ◌++◌, length, map, Some, refl, sym, ap, subst, ◌∙◌, arith, length-append}
+use Rattle.std.specs.Prelude.{slice_get, flat_map, sum_by}
+use Rattle.std.proofs.lemmas.List.Sums.{sum_by-cons}
 use Rattle.rule_core.specs.declared.rule.Rule.{Rule}
 use Rattle.rule_core.specs.declared.rule.Statement.{Statement}
-use Rattle.rule_core.specs.Positions.{Line, operands_of, classes_of, classes_of_statement}
-use Rattle.rule_core.specs.Checks.{IsRule}
+use Rattle.rule_core.specs.declared.rule.Op.{Op}
+use Rattle.rule_core.specs.declared.rule.Op.TheVariants.{Binary, Compare, Select, Convert, Copy}
+use Rattle.rule_core.specs.declared.rule.Term.{Term}
+use Rattle.rule_core.specs.declared.rule.Node.{Node}
+use Rattle.rule_core.specs.declared.rule.Node.TheVariants as nodes
+use Rattle.rule_core.specs.Positions.{Line, operands_of, terms_in, classes_of, classes_of_statement, classes_of_node, classes_of_term}
+use Rattle.rule_core.specs.Checks.{IsRule, node_weight, term_weight}
 use Rattle.rule_typing.specs.Relabelling.{mapped, numbered, IsRenumbered}
 use Rattle.rule_typing.specs.Classes.{Joined, line, itself, turned, along, IsInOrder, IsClassified}
 use Rattle.rule_typing.specs.Splits.{IsMerged}
@@ -14,13 +19,42 @@ use Rattle.rule_typing.proofs.Relabelled.{class_is_position, classes_of-mapped, 
 use Rattle.rule_typing.proofs.MappedLines.{line_map}
 
 -- a rule has fewer than 2^32 positions
-count_classes : (xs : List Statement) → length (flat_map classes_of_statement xs) ≡ length xs + length (flat_map (λ s. operands_of s.op) xs)
-count_classes [] = refl
-count_classes (s ∷ xs) =
-    omega (arith, count_classes xs, length-append (classes_of_statement s) (flat_map classes_of_statement xs), length-append (operands_of s.op) (flat_map (λ (t : Statement). operands_of t.op) xs), length-map (operands_of s.op) (λ o. o.class))
+count_classes : (xs : List Statement) → length (flat_map classes_of_statement xs) ≤ 4 * length xs
+count_classes [] = omega arith
+count_classes (s ∷ xs) = omega (arith, count_classes xs, length-append (classes_of_statement s) (flat_map classes_of_statement xs), four_classes s.class s.op)
+  where
+    four_classes : (c : ℕ) (op : Op) → length (c ∷ map (λ o. o.class) (operands_of op)) ≤ 4
+    four_classes c (Binary op flags a b) = omega arith
+    four_classes c (Compare pred a b) = omega arith
+    four_classes c (Select z a b) = omega arith
+    four_classes c (Convert cast a to) = omega arith
+    four_classes c (Copy a) = omega arith
+
+node_weighs : (c : ℕ) (node : Node) → length (classes_of_node c node) ≡ node_weight node
+node_weighs c (nodes.Literal z) = refl
+node_weighs c (nodes.Constant k) = refl
+node_weighs c (nodes.Register r) = refl
+node_weighs c (nodes.Undef k) = refl
+node_weighs e (nodes.Width r c) = refl
+node_weighs c (nodes.Unary function a) = refl
+node_weighs c (nodes.Binary op a b) = refl
+
+count_terms : (xs : List Term) → length (flat_map classes_of_term xs) ≡ sum_by term_weight xs
+count_terms [] = refl
+count_terms (t ∷ xs) = omega (arith, count_terms xs, length-append (classes_of_term t) (flat_map classes_of_term xs), sum_by-cons term_weight t xs, node_weighs t.class t.node)
 
 pub few_positions : (rule : Rule) → IsRule rule → length (classes_of rule) < 2 ^ 32
-few_positions rule checked = omega (arith, count_classes (rule.source ++ rule.target), length-append rule.source rule.target, checked.few_in_source, checked.few_in_target, checked.few_operands)
+few_positions rule checked =
+    omega (
+      arith,
+      length-append (flat_map classes_of_statement (rule.source ++ rule.target)) (flat_map classes_of_term (terms_in rule)),
+      count_classes (rule.source ++ rule.target),
+      count_terms (terms_in rule),
+      length-append rule.source rule.target,
+      checked.few_in_source,
+      checked.few_in_target,
+      checked.few_nodes,
+    )
 
 -- classes that are joined have one number once each line's are one
 one_number : (rule : Rule) (f : ℕ → ℕ) → ((c d : ℕ) → Line (mapped f rule) c d → c ≡ d) → (p q : ℕ) → Joined rule p q → f p ≡ f q

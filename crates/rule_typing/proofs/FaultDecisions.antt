@@ -1,15 +1,14 @@
 -- Which fault the classes of a rule have, if they have one, can be decided.
-use Rattle.std.proofs.Common.{◌≡◌, ◌⊎◌, inl, inr, ℕ, ◌≤◌, refl}
+use Rattle.std.proofs.Common.{◌≡◌, ◌⊎◌, inl, inr, ℕ, ◌≤◌}
 use Rattle.std.proofs.Math.Decide.{map_dec, dec_le}
 use Rattle.rule_core.specs.declared.rule.Rule.{Rule}
 use Rattle.rule_core.specs.declared.rule.Operand.{Operand}
 use Rattle.rule_core.specs.declared.rule.Argument.{Argument}
 use Rattle.rule_core.specs.declared.rule.Argument.TheVariants as arguments
-use Rattle.rule_core.specs.declared.rule.Register.{Register}
 use Rattle.rule_core.specs.Positions.{operands_of, classes_of}
 use Rattle.rule_typing.specs.declared.classes.ClassFault.{ClassFault}
 use Rattle.rule_typing.specs.declared.classes.ClassFault.TheVariants as faults
-use Rattle.rule_typing.specs.Classes.{IsClassified, HasClasses, IsRegisterOf, NamesClass}
+use Rattle.rule_typing.specs.Classes.{IsClassified, HasClasses, IsName, IsNameOf, NamesClass}
 use Rattle.rule_typing.specs.Faults.{HasNoTyping, IsOpen, IsFault, HasNoFault}
 use Rattle.rule_typing.proofs.Deciding.{dec_both, dec_either, dec_not, dec_number, dec_one}
 use Rattle.rule_typing.proofs.WidthDecisions.{dec_fixed}
@@ -21,17 +20,20 @@ dec_no_typing rule n classes count = elim (typing_decided rule n classes count) 
   | no none ↦ yes (λ typing typed. none (typing, typed))
 ]
 
-dec_reads : (c : ℕ) (o : Operand) → Dec (IsRegisterOf c o)
+dec_reads : (c : ℕ) (o : Operand) → Dec (IsNameOf c o)
 dec_reads c o = dec_both (dec_number o.class c) (by_value o.value)
   where
-    by_value : (value : Argument) → Dec ((r : Register) × (value ≡ arguments.Register r))
-    by_value (arguments.Register r) = yes (r, refl)
-    by_value (arguments.Literal z) = no (λ (r, e). cc)
-    by_value (arguments.Truth b) = no (λ (r, e). cc)
+    by_value : (value : Argument) → Dec (IsName value)
+    by_value (arguments.Register r) = yes tt
+    by_value (arguments.Constant k) = yes tt
+    by_value (arguments.Literal z) = no (λ h. h)
+    by_value (arguments.Truth b) = no (λ h. h)
+    by_value (arguments.Undef k) = no (λ h. h)
+    by_value (arguments.Term n) = no (λ h. h)
 
 dec_open : (rule : Rule) (c : ℕ) → Dec (IsOpen rule c)
 dec_open rule c =
-    dec_both (dec_not (dec_one (NamesClass c) rule.source (λ s. dec_either (dec_number s.class c) (dec_one (IsRegisterOf c) (operands_of s.op) (dec_reads c)))))
+    dec_both (dec_not (dec_one (NamesClass c) rule.source (λ s. dec_either (dec_number s.class c) (dec_one (IsNameOf c) (operands_of s.op) (dec_reads c)))))
     (map_dec (λ none N fixes. none (N, fixes)) (λ none (N, fixes). none N fixes) (dec_not (dec_fixed rule c)))
 
 pub faults_of : (rule : Rule) (n : ℕ) → IsClassified rule → HasClasses rule n → HasNoFault rule ⊎ ((fault : ClassFault) × IsFault rule fault)

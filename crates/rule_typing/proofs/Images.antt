@@ -22,7 +22,7 @@ from_map f [] y (k, within, is) = absurd (omega arith)
 from_map f (a ∷ xs) y (zero, within, is) = (a, (0, omega arith, refl), sym is)
 from_map f (a ∷ xs) y (suc k, within, is) = let rest = from_map f xs y (k, omega arith, is) in (rest.0, Contains-later a xs rest.0 rest.1, rest.2)
 
-from_option_map : {X Y : Type 0} (f : X → Y) (o : Option X) (y : Y) → option_map f o ≡ Some y → (x : X) × (o ≡ Some x) × (f x ≡ y)
+pub from_option_map : {X Y : Type 0} (f : X → Y) (o : Option X) (y : Y) → option_map f o ≡ Some y → (x : X) × (o ≡ Some x) × (f x ≡ y)
 from_option_map f None y e = cc
 from_option_map f (Some x) y e = (x, refl, same_Some (f x) y e)
 

@@ -1,4 +1,3 @@
-pub mod Agreeing
 pub mod AlikeRules
 pub mod Among
 pub mod Answered
@@ -13,13 +12,14 @@ pub mod FixedLines
 pub mod Found
 pub mod Images
 pub mod Joining
+pub mod LineParts
 pub mod Listing
 pub mod MappedLines
 pub mod Merging
 pub mod NameLines
 pub mod Next
+pub mod NumberedLists
 pub mod Numbering
-pub mod OpLines
 pub mod Order
 pub mod Past
 pub mod Raised
@@ -31,4 +31,7 @@ pub mod Slots
 pub mod Solved
 pub mod Splitting
 pub mod Typed
+pub mod Walks
 pub mod WidthDecisions
+pub mod SplitLines
+pub mod TermSample

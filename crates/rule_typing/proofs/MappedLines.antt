@@ -1,89 +1,297 @@
 -- The lines of a rule whose classes are mapped: those of the rule before, under the map.
-use Rattle.std.proofs.Common.{◌≡◌, inl, inr, ℕ, ◌++◌, map, sym, ap, subst, ◌∙◌}
-use Rattle.std.specs.Prelude.{Contains}
+use Rattle.std.proofs.Common.{◌≡◌, inl, inr, ℕ, ◌+◌, ◌-◌, ◌==◌, if◌then◌else◌, List, [], ◌∷◌, ◌++◌, length, map, Bool, true, false, Option, None, Some, refl, sym, ap, subst, ◌∙◌, arith}
+use Rattle.std.specs.Prelude.{Contains, slice_get, option_map, option_and_then}
 use Rattle.std.proofs.lemmas.List.{length-map, map-append}
+use Rattle.std.proofs.lemmas.Option.{slice_get-map}
+use Rattle.std.proofs.lemmas.List.Elements.{Contains-append_left, Contains-append_right}
 use Rattle.rule_core.specs.declared.rule.Rule.{Rule}
 use Rattle.rule_core.specs.declared.rule.Statement.{Statement}
+use Rattle.rule_core.specs.declared.rule.Op.{Op}
+use Rattle.rule_core.specs.declared.rule.Op.TheVariants.{Binary, Compare, Select, Convert, Copy}
 use Rattle.rule_core.specs.declared.rule.Operand.{Operand}
-use Rattle.rule_core.specs.declared.rule.Register.{Register}
-use Rattle.rule_core.specs.Positions.{operands_of, operands_in, classes_of_statement, classes_of, IsStatementOf, Names, reads, source_assigns, target_assigns, assigns_root, Line, register}
-use Rattle.rule_core.proofs.Members.{Contains-flat_map, source_statement, target_statement, class_stands}
-use Rattle.rule_typing.specs.Relabelling.{mapped_statement, mapped}
-use Rattle.rule_typing.specs.Splits.{OpLine}
-use Rattle.rule_typing.proofs.Images.{Contains-map, Contains-later, from_map, get_from_map, get-map, from_flat_map}
-use Rattle.rule_typing.proofs.Relabelled.{mapped_operand, operands_in-mapped}
-use Rattle.rule_typing.proofs.OpLines.{op_line, line_cases, op_classes, op_map, from_op_map}
+use Rattle.rule_core.specs.declared.rule.Argument.{Argument}
+use Rattle.rule_core.specs.declared.rule.Argument.TheVariants as arguments
+use Rattle.rule_core.specs.declared.rule.Register.TheVariants as registers
+use Rattle.rule_core.specs.declared.rule.Name.{Name}
+use Rattle.rule_core.specs.declared.rule.Name.TheVariants as names
+use Rattle.rule_core.specs.declared.rule.Term.{Term}
+use Rattle.rule_core.specs.declared.rule.Node.{Node}
+use Rattle.rule_core.specs.declared.rule.Node.TheVariants as nodes
+use Rattle.rule_core.specs.declared.rule.Formula.{Formula}
+use Rattle.rule_core.specs.declared.rule.Formula.TheVariants as formulas
+use Rattle.rule_core.specs.Positions.{operands_of, operands_among, operands_in, terms_in, classes_of, IsTermOf, Names, reads, reads_constant, chooses, source_assigns, target_assigns, assigns_root, term_register, term_constant, term_undef, measures, TermLine, unary, left, right, Line, binary_left, binary_right, compared, select_true, select_false, copy, name, term, witness_term, operand, compared_terms, witness}
+use Rattle.rule_core.proofs.Members.{source_statement, target_statement, operand_stands, class_stands, operand_class_stands, term_class_stands, measured_class_stands, constant_term, witness_term as witness_node}
+use Rattle.rule_typing.specs.declared.half.Half.{Half}
+use Rattle.rule_typing.specs.declared.half.Half.TheVariants as halves
+use Rattle.rule_typing.specs.Relabelling.{mapped_op, mapped_statement, mapped_node, mapped_term, mapped}
+use Rattle.rule_typing.specs.Splits.{paired, op_pairs, statement_pairs, node_class, chosen_class, term_class, operand_pairs, node_pairs, term_pairs, formula_pairs, PairOf, name_of, operand_naming, node_naming, term_naming, NamingOf, assigned_class, last_class, root_class, IsRead}
+use Rattle.rule_typing.proofs.Images.{Contains-map, from_map, from_option_map, from_flat_map}
+use Rattle.rule_typing.proofs.Relabelled.{mapped_operand, statements_mapped, terms_mapped, operands-mapped}
+use Rattle.rule_typing.proofs.NameLines.{statements_of, half_operand, IsNamed, read, assigned, root, named_cases, names_of_named}
+use Rattle.rule_typing.proofs.LineParts.{OnLine, by_statement, by_operand, by_term, by_witness, by_comparison, by_name, line_of, line_cases}
 
-statements-mapped : (f : ℕ → ℕ) (rule : Rule) → (mapped f rule).source ++ (mapped f rule).target ≡ map (mapped_statement f) (rule.source ++ rule.target)
-statements-mapped f rule = sym (map-append (mapped_statement f) rule.source rule.target)
+-- ---- the ends of a line are classes of the rule
 
--- the ends of a line are classes of the rule
 pub operand_class : (rule : Rule) (o : Operand) → Contains (operands_in rule) o → Contains (classes_of rule) o.class
 operand_class rule o among =
-    let (s, stands, here) = from_flat_map (λ (t : Statement). operands_of t.op) (rule.source ++ rule.target) o among in
-    Contains-flat_map classes_of_statement (rule.source ++ rule.target) s o.class stands
-    (Contains-later s.class (map (λ x. x.class) (operands_of s.op)) o.class (Contains-map (λ (x : Operand). x.class) (operands_of s.op) o here))
+    let (s, stands, here) = from_flat_map (λ (t : Statement). operands_of t.op) (rule.source ++ rule.target) o among in operand_class_stands rule s o stands here
 
-named_class : (rule : Rule) (r : Register) (c : ℕ) → Names rule r c → Contains (classes_of rule) c
-named_class rule r c (reads {o} among is) = operand_class rule o among
-named_class rule r c (source_assigns {k} {s} at) = class_stands rule s (source_statement rule k s at)
-named_class rule r c (target_assigns {k} {s} at) = class_stands rule s (target_statement rule k s at)
-named_class rule r c (assigns_root {j} {k} {s} last last' at) = class_stands rule s (target_statement rule k s at)
+named_class : (rule : Rule) (n : Name) (c : ℕ) → Names rule n c → Contains (classes_of rule) c
+named_class rule n c (reads {o} among is) = operand_class rule o among
+named_class rule n c (reads_constant {o} among is) = operand_class rule o among
+named_class rule n c (chooses {o} among is) = operand_class rule o (half_operand rule halves.Target o among)
+named_class rule n c (source_assigns {k} {s} at) = class_stands rule s (source_statement rule k s at)
+named_class rule n c (target_assigns {k} {s} at) = class_stands rule s (target_statement rule k s at)
+named_class rule n c (assigns_root {j} {k} {s} last last' at) = class_stands rule s (target_statement rule k s at)
+named_class rule n c (term_register {t} stands is) = term_class_stands rule t stands
+named_class rule n c (term_constant {t} stands is) = term_class_stands rule t stands
+named_class rule n c (term_undef {t} stands is) = term_class_stands rule t stands
+named_class rule n c (measures {t} {r} {c = d} stands is) = measured_class_stands rule t r d stands is
+
+-- an operand of an operation
+first_of : (rule : Rule) (s : Statement) (op : Op) (o : Operand) → Contains (rule.source ++ rule.target) s → s.op ≡ op → Contains (operands_of op) o → Contains (classes_of rule) o.class
+first_of rule s op o stands is among = operand_class_stands rule s o stands (subst (λ x. Contains (operands_of x) o) (sym is) among)
+
+at : (xs : List Operand) (o : Operand) → Contains (o ∷ xs) o
+at xs o = (0, omega arith, refl)
+
+behind : (x o : Operand) (xs : List Operand) → Contains (x ∷ o ∷ xs) o
+behind x o xs = (1, omega arith, refl)
+
+term_ends : (rule : Rule) (terms : List Term) (c d : ℕ) → ((t : Term) → Contains terms t → IsTermOf rule t) → ((n : ℕ) (t : Term) → slice_get terms n ≡ Some t → IsTermOf rule t) → TermLine terms c d → Contains (classes_of rule) c × Contains (classes_of rule) d
+term_ends rule terms c d stands placed (unary {t} {x} {function} {a} among is there) = (term_class_stands rule t (stands t among), term_class_stands rule x (placed a x there))
+term_ends rule terms c d stands placed (left {t} {x} {op} {a} {b} among is there) = (term_class_stands rule t (stands t among), term_class_stands rule x (placed a x there))
+term_ends rule terms c d stands placed (right {t} {x} {op} {a} {b} among is there) = (term_class_stands rule t (stands t among), term_class_stands rule x (placed b x there))
 
 pub line_classes : (rule : Rule) (c d : ℕ) → Line rule c d → Contains (classes_of rule) c × Contains (classes_of rule) d
-line_classes rule c d on = elim (line_cases rule c d on) [
-  | inl (s, stands, h) ↦
-      let ends = op_classes s.class s.op c d h in
-      (Contains-flat_map classes_of_statement (rule.source ++ rule.target) s c stands ends.0, Contains-flat_map classes_of_statement (rule.source ++ rule.target) s d stands ends.1)
-  | inr (r, p, q) ↦ (named_class rule r c p, named_class rule r d q)
-]
+line_classes rule c d (binary_left {s} {op} {flags} {a} {b} stands is) = (class_stands rule s stands, first_of rule s (Binary op flags a b) a stands is (at (b ∷ []) a))
+line_classes rule c d (binary_right {s} {op} {flags} {a} {b} stands is) = (class_stands rule s stands, first_of rule s (Binary op flags a b) b stands is (behind a b []))
+line_classes rule c d (compared {s} {pred} {a} {b} stands is) = (first_of rule s (Compare pred a b) a stands is (at (b ∷ []) a), first_of rule s (Compare pred a b) b stands is (behind a b []))
+line_classes rule c d (select_true {s} {c = z} {a} {b} stands is) = (class_stands rule s stands, first_of rule s (Select z a b) a stands is (behind z a (b ∷ [])))
+line_classes rule c d (select_false {s} {c = z} {a} {b} stands is) = (class_stands rule s stands, first_of rule s (Select z a b) b stands is (2, omega arith, refl))
+line_classes rule c d (copy {s} {a} stands is) = (class_stands rule s stands, first_of rule s (Copy a) a stands is (at [] a))
+line_classes rule c d (name {n} p q) = (named_class rule n c p, named_class rule n d q)
+line_classes rule c d (term on) = term_ends rule rule.terms c d (λ t among. Contains-append_left rule.terms rule.witness_terms t among) (constant_term rule) on
+line_classes rule c d (witness_term on) = term_ends rule rule.witness_terms c d (λ t among. Contains-append_right rule.terms rule.witness_terms t among) (witness_node rule) on
+line_classes rule c d (operand {o} {n} {t} among is there) = (operand_class rule o among, term_class_stands rule t (constant_term rule n t there))
+line_classes rule c d (compared_terms {pred} {a} {b} {x} {y} among there there') = (term_class_stands rule x (constant_term rule a x there), term_class_stands rule y (constant_term rule b y there'))
+line_classes rule c d (witness {o} {k} {n} {t} among is chosen there) = (operand_class rule o (half_operand rule halves.Source o among), term_class_stands rule t (witness_node rule n t there))
 
--- forwards
-module _ (f : ℕ → ℕ) (rule : Rule) where
-  stands : (s : Statement) → IsStatementOf rule s → IsStatementOf (mapped f rule) (mapped_statement f s)
-  stands s h = subst (λ l. Contains l (mapped_statement f s)) (sym (statements-mapped f rule)) (Contains-map (mapped_statement f) (rule.source ++ rule.target) s h)
+-- ---- pairs under a map
 
-  names_map : (r : Register) (c : ℕ) → Names rule r c → Names (mapped f rule) r (f c)
-  names_map r c (reads {o} among is) = reads {o = mapped_operand f o} (subst (λ l. Contains l (mapped_operand f o)) (sym (operands_in-mapped f rule)) (Contains-map (mapped_operand f) (operands_in rule) o among)) is
-  names_map r c (source_assigns {k} {s} at) = source_assigns {s = mapped_statement f s} (get-map (mapped_statement f) rule.source k s at)
-  names_map r c (target_assigns {k} {s} at) = target_assigns {s = mapped_statement f s} (get-map (mapped_statement f) rule.target k s at)
-  names_map r c (assigns_root {j} {k} {s} last last' at) =
-      assigns_root {s = mapped_statement f s} (last ∙ sym (length-map rule.source (mapped_statement f))) (last' ∙ sym (length-map rule.target (mapped_statement f))) (get-map (mapped_statement f) rule.target k s at)
+abbrev both : (ℕ → ℕ) → ℕ × ℕ → ℕ × ℕ
+both f p = (f p.0, f p.1)
 
-  pub line_map : (c d : ℕ) → Line rule c d → Line (mapped f rule) (f c) (f d)
-  line_map c d on = elim (line_cases rule c d on) [
-    | inl (s, among, h) ↦ op_line (mapped f rule) (f c) (f d) (mapped_statement f s, stands s among, op_map f s.class s.op c d h)
-    | inr (r, p, q) ↦ register (names_map r c p) (names_map r d q)
-  ]
+module _ (f : ℕ → ℕ) where
+  paired-map : (a b : Option ℕ) → paired (option_map f a) (option_map f b) ≡ map (both f) (paired a b)
+  paired-map None b = refl
+  paired-map (Some c) None = refl
+  paired-map (Some c) (Some d) = refl
 
-  -- backwards
-  from_stands : (s : Statement) → IsStatementOf (mapped f rule) s → (t : Statement) × IsStatementOf rule t × (s ≡ mapped_statement f t)
-  from_stands s h = from_map (mapped_statement f) (rule.source ++ rule.target) s (subst (λ l. Contains l s) (statements-mapped f rule) h)
+  op_pairs-mapped : (r : ℕ) (op : Op) → op_pairs (f r) (mapped_op f op) ≡ map (both f) (op_pairs r op)
+  op_pairs-mapped r (Binary op flags a b) = refl
+  op_pairs-mapped r (Compare pred a b) = refl
+  op_pairs-mapped r (Select z a b) = refl
+  op_pairs-mapped r (Convert cast a to) = refl
+  op_pairs-mapped r (Copy a) = refl
 
-  from_names : (r : Register) (c : ℕ) → Names (mapped f rule) r c → (p : ℕ) × Names rule r p × (c ≡ f p)
-  from_names r c (reads {o} among is) =
-      let (o', among', e) = from_map (mapped_operand f) (operands_in rule) o (subst (λ l. Contains l o) (operands_in-mapped f rule) among) in
-      (o'.class, reads {o = o'} among' (ap (λ (x : Operand). x.value) (sym e) ∙ is), ap (λ (x : Operand). x.class) e)
-  from_names r c (source_assigns {k} {s} at) =
-      let (t, there, e) = get_from_map (mapped_statement f) rule.source k s at in (t.class, source_assigns there, ap (λ (x : Statement). x.class) (sym e))
-  from_names r c (target_assigns {k} {s} at) =
-      let (t, there, e) = get_from_map (mapped_statement f) rule.target k s at in (t.class, target_assigns there, ap (λ (x : Statement). x.class) (sym e))
-  from_names r c (assigns_root {j} {k} {s} last last' at) =
-      let (t, there, e) = get_from_map (mapped_statement f) rule.target k s at in
-      (t.class, assigns_root (last ∙ length-map rule.source (mapped_statement f)) (last' ∙ length-map rule.target (mapped_statement f)) there, ap (λ (x : Statement). x.class) (sym e))
+  term_option : (o : Option Term) → option_map (λ t. t.class) (option_map (mapped_term f) o) ≡ option_map f (option_map (λ t. t.class) o)
+  term_option None = refl
+  term_option (Some t) = refl
 
-  -- positions of the classes p and q stood on one line, and are c and d now
-  abbrev pub ComesFrom : ℕ → ℕ → Type 0
-  ComesFrom c d = (p : ℕ) × (q : ℕ) × Line rule p q × (c ≡ f p) × (d ≡ f q)
+  node_class-mapped : (terms : List Term) (n : ℕ) → node_class (map (mapped_term f) terms) n ≡ option_map f (node_class terms n)
+  node_class-mapped terms n = ap (λ o. option_map (λ (t : Term). t.class) o) (slice_get-map (mapped_term f) terms n) ∙ term_option (slice_get terms n)
 
-  pub from_line_map : (c d : ℕ) → Line (mapped f rule) c d → ComesFrom c d
-  from_line_map c d on = elim (line_cases (mapped f rule) c d on) [
-    | inl (s, among, h) ↦
-        let (t, among', e) = from_stands s among in
-        let (p, q, h', c_is, d_is) = from_op_map f t.class t.op c d (subst (λ (x : Statement). OpLine x.class x.op c d) e h) in
-        (p, q, op_line rule p q (t, among', h'), c_is, d_is)
-    | inr (r, p, q) ↦
-        let (x, named, e) = from_names r c p in
-        let (y, named', e') = from_names r d q in
-        (x, y, register named named', e, e')
-  ]
+  chosen_option : (terms : List Term) (o : Option ℕ) → option_and_then (node_class (map (mapped_term f) terms)) o ≡ option_map f (option_and_then (node_class terms) o)
+  chosen_option terms None = refl
+  chosen_option terms (Some n) = node_class-mapped terms n
+
+  term_class-mapped : (rule : Rule) (half : Half) (value : Argument) → term_class (mapped f rule) half value ≡ option_map f (term_class rule half value)
+  term_class-mapped rule half (arguments.Term n) = node_class-mapped rule.terms n
+  term_class-mapped rule halves.Source (arguments.Undef k) = chosen_option rule.witness_terms (slice_get rule.witnesses k)
+  term_class-mapped rule halves.Target (arguments.Undef k) = refl
+  term_class-mapped rule half (arguments.Register r) = refl
+  term_class-mapped rule half (arguments.Literal z) = refl
+  term_class-mapped rule half (arguments.Truth b) = refl
+  term_class-mapped rule half (arguments.Constant k) = refl
+
+  operand_pairs-mapped : (rule : Rule) (half : Half) (o : Operand) → operand_pairs (mapped f rule) half (mapped_operand f o) ≡ map (both f) (operand_pairs rule half o)
+  operand_pairs-mapped rule half o = ap (paired (Some (f o.class))) (term_class-mapped rule half o.value) ∙ paired-map (Some o.class) (term_class rule half o.value)
+
+  pairs-node : (terms : List Term) (c n : ℕ) → paired (Some (f c)) (node_class (map (mapped_term f) terms) n) ≡ map (both f) (paired (Some c) (node_class terms n))
+  pairs-node terms c n = ap (paired (Some (f c))) (node_class-mapped terms n) ∙ paired-map (Some c) (node_class terms n)
+
+  node_pairs-mapped : (terms : List Term) (c : ℕ) (node : Node) → node_pairs (map (mapped_term f) terms) (f c) (mapped_node f node) ≡ map (both f) (node_pairs terms c node)
+  node_pairs-mapped terms c (nodes.Unary function a) = pairs-node terms c a
+  node_pairs-mapped terms c (nodes.Binary op a b) =
+      ap (λ l. l ++ paired (Some (f c)) (node_class (map (mapped_term f) terms) b)) (pairs-node terms c a) ∙ ap (λ l. map (both f) (paired (Some c) (node_class terms a)) ++ l) (pairs-node terms c b)
+      ∙ sym (map-append (both f) (paired (Some c) (node_class terms a)) (paired (Some c) (node_class terms b)))
+  node_pairs-mapped terms c (nodes.Literal z) = refl
+  node_pairs-mapped terms c (nodes.Constant k) = refl
+  node_pairs-mapped terms c (nodes.Register r) = refl
+  node_pairs-mapped terms c (nodes.Undef k) = refl
+  node_pairs-mapped terms c (nodes.Width r d) = refl
+
+  formula_pairs-mapped : (terms : List Term) (x : Formula) → formula_pairs (map (mapped_term f) terms) x ≡ map (both f) (formula_pairs terms x)
+  formula_pairs-mapped terms (formulas.Compare pred a b) =
+      ap (λ o. paired o (node_class (map (mapped_term f) terms) b)) (node_class-mapped terms a) ∙ ap (paired (option_map f (node_class terms a))) (node_class-mapped terms b) ∙ paired-map (node_class terms a) (node_class terms b)
+  formula_pairs-mapped terms (formulas.IsPowerOfTwo a) = refl
+  formula_pairs-mapped terms (formulas.IsSignBit a) = refl
+  formula_pairs-mapped terms (formulas.HasOneUse j) = refl
+  formula_pairs-mapped terms (formulas.Not a) = refl
+  formula_pairs-mapped terms (formulas.And a b) = refl
+  formula_pairs-mapped terms (formulas.Or a b) = refl
+
+  -- pairs of elements that are mapped
+  pair_map : {X Y : Type 0} (g : X → Y) (pairs : X → List (ℕ × ℕ)) (pairs' : Y → List (ℕ × ℕ)) → ((x : X) → pairs' (g x) ≡ map (both f) (pairs x)) → (xs : List X) (c d : ℕ) → PairOf pairs xs c d → PairOf pairs' (map g xs) (f c) (f d)
+  pair_map g pairs pairs' same xs c d (x, among, pair) = (g x, Contains-map g xs x among, subst (λ l. Contains l (f c, f d)) (sym (same x)) (Contains-map (both f) (pairs x) (c, d) pair))
+
+  abbrev Came : (ℕ → ℕ → Type 0) → ℕ → ℕ → Type 0
+  Came P c d = (p : ℕ) × (q : ℕ) × P p q × (c ≡ f p) × (d ≡ f q)
+
+  from_image : (pairs : List (ℕ × ℕ)) (c d : ℕ) → Contains (map (both f) pairs) (c, d) → Came (λ p q. Contains pairs (p, q)) c d
+  from_image pairs c d among = let ((p, q), inside, is) = from_map (both f) pairs (c, d) among in (p, q, inside, ap (λ (x : ℕ × ℕ). x.0) is, ap (λ (x : ℕ × ℕ). x.1) is)
+
+  from_pair_map : {X Y : Type 0} (g : X → Y) (pairs : X → List (ℕ × ℕ)) (pairs' : Y → List (ℕ × ℕ)) → ((x : X) → pairs' (g x) ≡ map (both f) (pairs x)) → (xs : List X) (c d : ℕ) → PairOf pairs' (map g xs) c d → Came (PairOf pairs xs) c d
+  from_pair_map g pairs pairs' same xs c d (y, among, pair) =
+      let (x, stands, e) = from_map g xs y among in
+      let (p, q, inside, is, is') = from_image (pairs x) c d (subst (λ l. Contains l (c, d)) (same x) (subst (λ z. Contains (pairs' z) (c, d)) e pair)) in
+      (p, q, (x, stands, inside), is, is')
+
+  -- ---- names under a map
+
+  abbrev moved : Name × ℕ → Name × ℕ
+  moved p = (p.0, f p.1)
+
+  naming_option : (c : ℕ) (o : Option Name) → option_map {U = Name × ℕ} (λ n. (n, f c)) o ≡ option_map moved (option_map {U = Name × ℕ} (λ n. (n, c)) o)
+  naming_option c None = refl
+  naming_option c (Some n) = refl
+
+  operand_naming-mapped : (half : Half) (o : Operand) → operand_naming half (mapped_operand f o) ≡ option_map moved (operand_naming half o)
+  operand_naming-mapped half o = naming_option o.class (name_of half o.value)
+
+  node_naming-mapped : (c : ℕ) (node : Node) → node_naming (f c) (mapped_node f node) ≡ option_map moved (node_naming c node)
+  node_naming-mapped c (nodes.Literal z) = refl
+  node_naming-mapped c (nodes.Constant k) = refl
+  node_naming-mapped c (nodes.Register r) = refl
+  node_naming-mapped c (nodes.Undef k) = refl
+  node_naming-mapped c (nodes.Width r d) = refl
+  node_naming-mapped c (nodes.Unary function a) = refl
+  node_naming-mapped c (nodes.Binary op a b) = refl
+
+  naming_map : {X : Type 0} (g : X → X) (naming : X → Option (Name × ℕ)) → ((x : X) → naming (g x) ≡ option_map moved (naming x)) → (xs : List X) (n : Name) (c : ℕ) → NamingOf naming xs n c → NamingOf naming (map g xs) n (f c)
+  naming_map g naming same xs n c (x, among, e) = (g x, Contains-map g xs x among, same x ∙ ap (λ o. option_map moved o) e)
+
+  from_naming_map : {X : Type 0} (g : X → X) (naming : X → Option (Name × ℕ)) → ((x : X) → naming (g x) ≡ option_map moved (naming x)) → (xs : List X) (n : Name) (c : ℕ) → NamingOf naming (map g xs) n c → (p : ℕ) × NamingOf naming xs n p × (c ≡ f p)
+  from_naming_map g naming same xs n c (y, among, e) =
+      let (x, stands, is) = from_map g xs y among in
+      let ((m, p), there, equal) = from_option_map moved (naming x) (n, c) (sym (same x) ∙ ap naming (sym is) ∙ e) in
+      (p, (x, stands, there ∙ ap (λ z. Some (z, p)) (ap (λ (q : Name × ℕ). q.0) equal)), sym (ap (λ (q : Name × ℕ). q.1) equal))
+
+  class_option : (o : Option Statement) → option_map (λ s. s.class) (option_map (mapped_statement f) o) ≡ option_map f (option_map (λ s. s.class) o)
+  class_option None = refl
+  class_option (Some s) = refl
+
+  result-mapped : (xs : List Statement) (k : ℕ) → option_map (λ s. s.class) (slice_get (map (mapped_statement f) xs) k) ≡ option_map f (option_map (λ s. s.class) (slice_get xs k))
+  result-mapped xs k = ap (λ o. option_map (λ (s : Statement). s.class) o) (slice_get-map (mapped_statement f) xs k) ∙ class_option (slice_get xs k)
+
+  last-mapped : (xs : List Statement) → last_class (map (mapped_statement f) xs) ≡ option_map f (last_class xs)
+  last-mapped xs = ap (λ n. option_map (λ (s : Statement). s.class) (slice_get (map (mapped_statement f) xs) (n - 1))) (length-map xs (mapped_statement f)) ∙ result-mapped xs (length xs - 1)
+
+  chosen-map : (b : Bool) (o : Option ℕ) → (if b then option_map f o else None) ≡ option_map f (if b then o else None)
+  chosen-map true o = refl
+  chosen-map false o = refl
+
+  module _ (rule : Rule) where
+    assigned-mapped : (n : Name) → assigned_class (mapped f rule) n ≡ option_map f (assigned_class rule n)
+    assigned-mapped (names.Register (registers.Input k)) = refl
+    assigned-mapped (names.Register (registers.Source k)) = result-mapped rule.source k
+    assigned-mapped (names.Register (registers.Target k)) = result-mapped rule.target k
+    assigned-mapped (names.Constant k) = refl
+    assigned-mapped (names.Undef k) = refl
+
+    root-mapped : (n : Name) → root_class (mapped f rule) n ≡ option_map f (root_class rule n)
+    root-mapped (names.Register (registers.Input k)) = refl
+    root-mapped (names.Register (registers.Source k)) =
+        ap (λ m. if k + 1 == m then last_class (map (mapped_statement f) rule.target) else None) (length-map rule.source (mapped_statement f))
+        ∙ ap (λ o. if k + 1 == length rule.source then o else None) (last-mapped rule.target) ∙ chosen-map (k + 1 == length rule.source) (last_class rule.target)
+    root-mapped (names.Register (registers.Target k)) = refl
+    root-mapped (names.Constant k) = refl
+    root-mapped (names.Undef k) = refl
+
+    operands_map : (half : Half) → operands_among (statements_of (mapped f rule) half) ≡ map (mapped_operand f) (operands_among (statements_of rule half))
+    operands_map halves.Source = operands-mapped f rule.source
+    operands_map halves.Target = operands-mapped f rule.target
+
+    reads_map : (half : Half) (n : Name) (c : ℕ) → NamingOf (operand_naming half) (operands_among (statements_of rule half)) n c → NamingOf (operand_naming half) (operands_among (statements_of (mapped f rule) half)) n (f c)
+    reads_map half n c h =
+        subst (λ l. NamingOf (operand_naming half) l n (f c)) (sym (operands_map half)) (naming_map (mapped_operand f) (operand_naming half) (operand_naming-mapped half) (operands_among (statements_of rule half)) n c h)
+
+    named_map : (n : Name) (c : ℕ) → IsNamed rule n c → IsNamed (mapped f rule) n (f c)
+    named_map n c (read (inl h)) = read (inl (reads_map halves.Source n c h))
+    named_map n c (read (inr (inl h))) = read (inr (inl (reads_map halves.Target n c h)))
+    named_map n c (read (inr (inr h))) =
+        read (inr (inr (subst (λ l. NamingOf term_naming l n (f c)) (sym (terms_mapped f rule)) (naming_map (mapped_term f) term_naming (λ t. node_naming-mapped t.class t.node) (terms_in rule) n c h))))
+    named_map n c (assigned h) = assigned (assigned-mapped n ∙ ap (λ o. option_map f o) h)
+    named_map n c (root h) = root (root-mapped n ∙ ap (λ o. option_map f o) h)
+
+    names_map : (n : Name) (c : ℕ) → Names rule n c → Names (mapped f rule) n (f c)
+    names_map n c h = names_of_named (mapped f rule) n (f c) (named_map n c (named_cases rule n c h))
+
+    parts_map : (c d : ℕ) → OnLine rule c d → OnLine (mapped f rule) (f c) (f d)
+    parts_map c d (by_statement h) =
+        by_statement (subst (λ l. PairOf statement_pairs l (f c) (f d)) (sym (statements_mapped f rule)) (pair_map (mapped_statement f) statement_pairs statement_pairs (λ s. op_pairs-mapped s.class s.op) (rule.source ++ rule.target) c d h))
+    parts_map c d (by_operand half h) =
+        by_operand half (subst (λ l. PairOf (operand_pairs (mapped f rule) half) l (f c) (f d)) (sym (operands_map half)) (pair_map (mapped_operand f) (operand_pairs rule half) (operand_pairs (mapped f rule) half) (operand_pairs-mapped rule half) (operands_among (statements_of rule half)) c d h))
+    parts_map c d (by_term h) = by_term (pair_map (mapped_term f) (term_pairs rule.terms) (term_pairs (map (mapped_term f) rule.terms)) (λ t. node_pairs-mapped rule.terms t.class t.node) rule.terms c d h)
+    parts_map c d (by_witness h) =
+        by_witness (pair_map (mapped_term f) (term_pairs rule.witness_terms) (term_pairs (map (mapped_term f) rule.witness_terms)) (λ t. node_pairs-mapped rule.witness_terms t.class t.node) rule.witness_terms c d h)
+    parts_map c d (by_comparison (x, among, pair)) =
+        by_comparison (x, among, subst (λ l. Contains l (f c, f d)) (sym (formula_pairs-mapped rule.terms x)) (Contains-map (both f) (formula_pairs rule.terms x) (c, d) pair))
+    parts_map c d (by_name n p q) = by_name n (names_map n c p) (names_map n d q)
+
+    pub line_map : (c d : ℕ) → Line rule c d → Line (mapped f rule) (f c) (f d)
+    line_map c d on = line_of (mapped f rule) (f c) (f d) (parts_map c d (line_cases rule c d on))
+
+    -- ---- backwards
+
+    from_reads : (half : Half) (n : Name) (c : ℕ) → NamingOf (operand_naming half) (operands_among (statements_of (mapped f rule) half)) n c → (p : ℕ) × NamingOf (operand_naming half) (operands_among (statements_of rule half)) n p × (c ≡ f p)
+    from_reads half n c h =
+        from_naming_map (mapped_operand f) (operand_naming half) (operand_naming-mapped half) (operands_among (statements_of rule half)) n c (subst (λ l. NamingOf (operand_naming half) l n c) (operands_map half) h)
+
+    from_named : (n : Name) (c : ℕ) → IsNamed (mapped f rule) n c → (p : ℕ) × IsNamed rule n p × (c ≡ f p)
+    from_named n c (read (inl h)) = let (p, there, is) = from_reads halves.Source n c h in (p, read (inl there), is)
+    from_named n c (read (inr (inl h))) = let (p, there, is) = from_reads halves.Target n c h in (p, read (inr (inl there)), is)
+    from_named n c (read (inr (inr h))) =
+        let (p, there, is) = from_naming_map (mapped_term f) term_naming (λ t. node_naming-mapped t.class t.node) (terms_in rule) n c (subst (λ l. NamingOf term_naming l n c) (terms_mapped f rule) h) in (p, read (inr (inr there)), is)
+    from_named n c (assigned h) = let (p, there, is) = from_option_map f (assigned_class rule n) c (sym (assigned-mapped n) ∙ h) in (p, assigned there, sym is)
+    from_named n c (root h) = let (p, there, is) = from_option_map f (root_class rule n) c (sym (root-mapped n) ∙ h) in (p, root there, sym is)
+
+    from_names : (n : Name) (c : ℕ) → Names (mapped f rule) n c → (p : ℕ) × Names rule n p × (c ≡ f p)
+    from_names n c h = let (p, there, is) = from_named n c (named_cases (mapped f rule) n c h) in (p, names_of_named rule n p there, is)
+
+    from_parts : (c d : ℕ) → OnLine (mapped f rule) c d → Came (OnLine rule) c d
+    from_parts c d (by_statement h) =
+        let (p, q, there, is, is') = from_pair_map (mapped_statement f) statement_pairs statement_pairs (λ s. op_pairs-mapped s.class s.op) (rule.source ++ rule.target) c d (subst (λ l. PairOf statement_pairs l c d) (statements_mapped f rule) h) in
+        (p, q, by_statement there, is, is')
+    from_parts c d (by_operand half h) =
+        let (p, q, there, is, is') = from_pair_map (mapped_operand f) (operand_pairs rule half) (operand_pairs (mapped f rule) half) (operand_pairs-mapped rule half) (operands_among (statements_of rule half)) c d
+        (subst (λ l. PairOf (operand_pairs (mapped f rule) half) l c d) (operands_map half) h) in
+        (p, q, by_operand half there, is, is')
+    from_parts c d (by_term h) =
+        let (p, q, there, is, is') = from_pair_map (mapped_term f) (term_pairs rule.terms) (term_pairs (map (mapped_term f) rule.terms)) (λ t. node_pairs-mapped rule.terms t.class t.node) rule.terms c d h in
+        (p, q, by_term there, is, is')
+    from_parts c d (by_witness h) =
+        let (p, q, there, is, is') = from_pair_map (mapped_term f) (term_pairs rule.witness_terms) (term_pairs (map (mapped_term f) rule.witness_terms)) (λ t. node_pairs-mapped rule.witness_terms t.class t.node) rule.witness_terms c d h in
+        (p, q, by_witness there, is, is')
+    from_parts c d (by_comparison (x, among, pair)) =
+        let (p, q, inside, is, is') = from_image (formula_pairs rule.terms x) c d (subst (λ l. Contains l (c, d)) (formula_pairs-mapped rule.terms x) pair) in
+        (p, q, by_comparison (x, among, inside), is, is')
+    from_parts c d (by_name n h k) =
+        let (p, named, is) = from_names n c h in
+        let (q, named', is') = from_names n d k in
+        (p, q, by_name n named named', is, is')
+
+    -- positions of the classes p and q stood on one line, and are c and d now
+    pub from_line_map : (c d : ℕ) → Line (mapped f rule) c d → (p : ℕ) × (q : ℕ) × Line rule p q × (c ≡ f p) × (d ≡ f q)
+    from_line_map c d on = let (p, q, there, is, is') = from_parts c d (line_cases (mapped f rule) c d on) in (p, q, line_of rule p q there, is, is')

@@ -1,161 +1,150 @@
--- The positions that name a register, as the code goes over them.
-use Rattle.std.proofs.Common.{◌≡◌, ◌≢◌, ◌⊎◌, inl, inr, ℕ, zero, suc, ◌+◌, ◌<◌, ◌≤◌, List, [], ◌∷◌, length, length-append, Option, None, Some, refl, sym, ap, subst, ◌∙◌, arith, get_or}
-use Rattle.std.specs.Prelude.{slice_get, Contains, flat_map, option_map}
-use Rattle.std.proofs.lemmas.Option.{slice_get-get_or, slice_get_within, same_Some}
+-- The positions that name a register, a constant or an `undef`, as the code goes over them.
+use Rattle.std.proofs.Common.{◌≡◌, ◌≢◌, ◌⊎◌, inl, inr, ℕ, zero, suc, ◌+◌, ◌-◌, ◌==◌, ◌<◌, ◌≤◌, if◌then◌else◌, List, [], ◌∷◌, ◌++◌, length, Bool, true, false, Option, None, Some, refl, sym, ap, subst, ◌∙◌, arith}
+use Rattle.std.specs.Prelude.{slice_get, Contains, option_map}
+use Rattle.std.proofs.lemmas.Bool.{cases_eq}
+use Rattle.std.proofs.lemmas.Bool.Decides.{nat_tests}
+use Rattle.std.proofs.lemmas.Option.{same_Some}
 use Rattle.std.proofs.lemmas.List.Elements.{Contains-append_left, Contains-append_right, Contains-append_cases}
 use Rattle.std.proofs.lemmas.Grind.{flat_map-append}
 use Rattle.rule_core.specs.declared.rule.Rule.{Rule}
 use Rattle.rule_core.specs.declared.rule.Statement.{Statement}
 use Rattle.rule_core.specs.declared.rule.Operand.{Operand}
+use Rattle.rule_core.specs.declared.rule.Argument.{Argument}
 use Rattle.rule_core.specs.declared.rule.Argument.TheVariants as arguments
 use Rattle.rule_core.specs.declared.rule.Register.{Register}
 use Rattle.rule_core.specs.declared.rule.Register.TheVariants as registers
-use Rattle.rule_core.specs.Positions.{operands_of, operands_in, IsStatementOf, Names, reads, source_assigns, target_assigns, assigns_root, Line}
-use Rattle.rule_core.specs.Checks.{IsRule, SourceMayRead, TargetMayRead, ReadsAt}
-use Rattle.rule_core.proofs.Members.{source_statement, target_statement}
-use Rattle.rule_typing.specs.Splits.{OpLine, StatementsLine, Reads, Agrees, Differ, assigned_class, IsRootClass}
-use Rattle.rule_typing.proofs.OpLines.{NameOne, op_line, line_cases}
+use Rattle.rule_core.specs.declared.rule.Name.{Name}
+use Rattle.rule_core.specs.declared.rule.Name.TheVariants as names
+use Rattle.rule_core.specs.declared.rule.Term.{Term}
+use Rattle.rule_core.specs.declared.rule.Node.{Node}
+use Rattle.rule_core.specs.declared.rule.Node.TheVariants as nodes
+use Rattle.rule_core.specs.Positions.{operands_of, operands_among, operands_in, terms_in, IsTermOf, Names, reads, reads_constant, chooses, source_assigns, target_assigns, assigns_root, term_register, term_constant, term_undef, measures}
+use Rattle.rule_typing.specs.declared.half.Half.{Half}
+use Rattle.rule_typing.specs.declared.half.Half.TheVariants as halves
+use Rattle.rule_typing.specs.Splits.{name_of, operand_naming, node_naming, term_naming, NamingOf, assigned_class, last_class, root_class, IsRead}
 
-all_operands : List Statement → List Operand
-all_operands statements = flat_map (λ s. operands_of s.op) statements
+-- the statements of a half
+abbrev pub statements_of : Rule → Half → List Statement
+statements_of rule halves.Source = rule.source
+statements_of rule halves.Target = rule.target
 
--- an element of what elements are mapped to comes from one of them
-from_flat_map : {X Y : Type 0} (f : X → List Y) (xs : List X) (y : Y) → Contains (flat_map f xs) y → (k : ℕ) × (x : X) × (slice_get xs k ≡ Some x) × Contains (f x) y
-from_flat_map f [] y (k, lt, e) = absurd (omega arith)
-from_flat_map f (a ∷ xs) y among = elim (Contains-append_cases (f a) (flat_map f xs) y among) [
-  | inl here ↦ (0, a, refl, here)
-  | inr later ↦ let rest = from_flat_map f xs y later in (suc rest.0, rest.1, rest.2, rest.3)
-]
-
--- an operand of the rule is one of the source's or of the target's
-pub operand_cases : (rule : Rule) (o : Operand) → Contains (operands_in rule) o → Contains (flat_map (λ s. operands_of s.op) rule.source) o ⊎ Contains (flat_map (λ s. operands_of s.op) rule.target) o
+-- operands of a half are the rule's
+pub operand_cases : (rule : Rule) (o : Operand) → Contains (operands_in rule) o → Contains (operands_among rule.source) o ⊎ Contains (operands_among rule.target) o
 operand_cases rule o among =
-    Contains-append_cases (flat_map (λ (s : Statement). operands_of s.op) rule.source) (flat_map (λ (s : Statement). operands_of s.op) rule.target) o
+    Contains-append_cases (operands_among rule.source) (operands_among rule.target) o
     (subst (λ l. Contains l o) (flat_map-append (λ (s : Statement). operands_of s.op) rule.source rule.target) among)
 
-source_operand : (rule : Rule) (o : Operand) → Contains (flat_map (λ s. operands_of s.op) rule.source) o → Contains (operands_in rule) o
-source_operand rule o among =
-    subst (λ l. Contains l o) (sym (flat_map-append (λ (s : Statement). operands_of s.op) rule.source rule.target))
-    (Contains-append_left (flat_map (λ (s : Statement). operands_of s.op) rule.source) (flat_map (λ (s : Statement). operands_of s.op) rule.target) o among)
+pub half_operand : (rule : Rule) (half : Half) (o : Operand) → Contains (operands_among (statements_of rule half)) o → Contains (operands_in rule) o
+half_operand rule halves.Source o among =
+    subst (λ l. Contains l o) (sym (flat_map-append (λ (s : Statement). operands_of s.op) rule.source rule.target)) (Contains-append_left (operands_among rule.source) (operands_among rule.target) o among)
+half_operand rule halves.Target o among =
+    subst (λ l. Contains l o) (sym (flat_map-append (λ (s : Statement). operands_of s.op) rule.source rule.target)) (Contains-append_right (operands_among rule.source) (operands_among rule.target) o among)
 
-target_operand : (rule : Rule) (o : Operand) → Contains (flat_map (λ s. operands_of s.op) rule.target) o → Contains (operands_in rule) o
-target_operand rule o among =
-    subst (λ l. Contains l o) (sym (flat_map-append (λ (s : Statement). operands_of s.op) rule.source rule.target))
-    (Contains-append_right (flat_map (λ (s : Statement). operands_of s.op) rule.source) (flat_map (λ (s : Statement). operands_of s.op) rule.target) o among)
+abbrev At : Rule → Name × ℕ → Type 0
+At rule p = Names rule p.0 p.1
 
--- what reads the register, assigns it, or assigns the root, names it
-reads_source : (rule : Rule) (r : Register) (c : ℕ) → Reads (flat_map (λ s. operands_of s.op) rule.source) r c → Names rule r c
-reads_source rule r c (o, among, is, class) = subst (Names rule r) class (reads (source_operand rule o among) is)
+-- an operand and a node name what they read
+value_names : (rule : Rule) (half : Half) (o : Operand) (value : Argument) (n : Name) (c : ℕ) → Contains (operands_among (statements_of rule half)) o → o.value ≡ value → option_map {U = Name × ℕ} (λ m. (m, o.class)) (name_of half value) ≡ Some (n, c) → Names rule n c
+value_names rule half o (arguments.Register r) n c among is e = subst (At rule) (same_Some (names.Register r, o.class) (n, c) e) (reads (half_operand rule half o among) is)
+value_names rule half o (arguments.Constant k) n c among is e = subst (At rule) (same_Some (names.Constant k, o.class) (n, c) e) (reads_constant (half_operand rule half o among) is)
+value_names rule halves.Source o (arguments.Undef k) n c among is e = cc
+value_names rule halves.Target o (arguments.Undef k) n c among is e = subst (At rule) (same_Some (names.Undef k, o.class) (n, c) e) (chooses among is)
+value_names rule half o (arguments.Literal z) n c among is e = cc
+value_names rule half o (arguments.Truth b) n c among is e = cc
+value_names rule half o (arguments.Term k) n c among is e = cc
 
-reads_target : (rule : Rule) (r : Register) (c : ℕ) → Reads (flat_map (λ s. operands_of s.op) rule.target) r c → Names rule r c
-reads_target rule r c (o, among, is, class) = subst (Names rule r) class (reads (target_operand rule o among) is)
+pub operand_names : (rule : Rule) (half : Half) (o : Operand) (n : Name) (c : ℕ) → Contains (operands_among (statements_of rule half)) o → operand_naming half o ≡ Some (n, c) → Names rule n c
+operand_names rule half o n c among e = value_names rule half o o.value n c among refl e
 
+node_names : (rule : Rule) (t : Term) (node : Node) (n : Name) (c : ℕ) → IsTermOf rule t → t.node ≡ node → node_naming t.class node ≡ Some (n, c) → Names rule n c
+node_names rule t (nodes.Register r) n c among is e = subst (At rule) (same_Some (names.Register r, t.class) (n, c) e) (term_register among is)
+node_names rule t (nodes.Constant k) n c among is e = subst (At rule) (same_Some (names.Constant k, t.class) (n, c) e) (term_constant among is)
+node_names rule t (nodes.Undef k) n c among is e = subst (At rule) (same_Some (names.Undef k, t.class) (n, c) e) (term_undef among is)
+node_names rule t (nodes.Width r d) n c among is e = subst (At rule) (same_Some (names.Register r, d) (n, c) e) (measures among is)
+node_names rule t (nodes.Literal z) n c among is e = cc
+node_names rule t (nodes.Unary function a) n c among is e = cc
+node_names rule t (nodes.Binary op a b) n c among is e = cc
+
+pub term_names : (rule : Rule) (t : Term) (n : Name) (c : ℕ) → IsTermOf rule t → term_naming t ≡ Some (n, c) → Names rule n c
+term_names rule t n c among e = node_names rule t t.node n c among refl e
+
+pub read_names : (rule : Rule) (n : Name) (c : ℕ) → IsRead rule n c → Names rule n c
+read_names rule n c (inl (o, among, e)) = operand_names rule halves.Source o n c among e
+read_names rule n c (inr (inl (o, among, e))) = operand_names rule halves.Target o n c among e
+read_names rule n c (inr (inr (t, among, e))) = term_names rule t n c among e
+
+-- what assigns a register, or the root, names it
 result_class : (o : Option Statement) (c : ℕ) → option_map (λ s. s.class) o ≡ Some c → (s : Statement) × (o ≡ Some s) × (s.class ≡ c)
 result_class None c e = cc
 result_class (Some s) c e = (s, refl, same_Some s.class c e)
 
-pub assigned_names : (rule : Rule) (r : Register) (c : ℕ) → assigned_class rule r ≡ Some c → Names rule r c
-assigned_names rule (registers.Input k) c e = cc
-assigned_names rule (registers.Source k) c e = let h = result_class (slice_get rule.source k) c e in subst (Names rule (registers.Source k)) h.2 (source_assigns h.1)
-assigned_names rule (registers.Target k) c e = let h = result_class (slice_get rule.target k) c e in subst (Names rule (registers.Target k)) h.2 (target_assigns h.1)
+pub assigned_names : (rule : Rule) (n : Name) (c : ℕ) → assigned_class rule n ≡ Some c → Names rule n c
+assigned_names rule (names.Register (registers.Input k)) c e = cc
+assigned_names rule (names.Register (registers.Source k)) c e = let h = result_class (slice_get rule.source k) c e in subst (Names rule (names.Register (registers.Source k))) h.2 (source_assigns h.1)
+assigned_names rule (names.Register (registers.Target k)) c e = let h = result_class (slice_get rule.target k) c e in subst (Names rule (names.Register (registers.Target k))) h.2 (target_assigns h.1)
+assigned_names rule (names.Constant k) c e = cc
+assigned_names rule (names.Undef k) c e = cc
 
-pub root_names : (rule : Rule) (r : Register) (c : ℕ) → IsRootClass rule r c → Names rule r c
-root_names rule r c (j, is, last, (k, t, last', at, class)) =
-    let h : Names rule (registers.Source j) t.class = assigns_root last last' at in
-    subst (λ x. Names rule x c) (sym is) (subst (Names rule (registers.Source j)) class h)
+chosen_then : {X : Type 0} (a b : ℕ) (x y : X) → a ≡ b → (if a == b then x else y) ≡ x
+chosen_then a b x y same = grind (arith, nat_tests)
 
--- once operands of both halves agree on the class of a register, it is that of each position that names it
-module _ (rule : Rule) (assigned between after : Option ℕ) where
-  pub all_names : (r : Register) → assigned ≡ assigned_class rule r → ((c d : ℕ) → IsRootClass rule r c → assigned ≡ Some d → c ≡ d)
-      → Agrees (flat_map (λ s. operands_of s.op) rule.source) r assigned between → Agrees (flat_map (λ s. operands_of s.op) rule.target) r between after
-      → (c : ℕ) → Names rule r c → after ≡ Some c
-  all_names r is root p q c (reads {o} among reads_it) = elim (operand_cases rule o among) [
-    | inl left ↦ q.kept o.class (p.read o.class (o, left, reads_it, refl))
-    | inr right ↦ q.read o.class (o, right, reads_it, refl)
-  ]
-  all_names r is root p q c (source_assigns {k} {s} at) = q.kept s.class (p.kept s.class (is ∙ ap (λ o. option_map (λ (t : Statement). t.class) o) at))
-  all_names r is root p q c (target_assigns {k} {s} at) = q.kept s.class (p.kept s.class (is ∙ ap (λ o. option_map (λ (t : Statement). t.class) o) at))
-  all_names r is root p q c (assigns_root {j} {k} {s = t} last last' at) =
-      let s : Statement = get_or rule.source j t in
-      let there : slice_get rule.source j ≡ Some s = slice_get-get_or rule.source j t (omega arith) in
-      let one : assigned ≡ Some s.class = is ∙ ap (λ o. option_map (λ (t : Statement). t.class) o) there in
-      let same : t.class ≡ s.class = root t.class s.class (j, refl, last, (k, t, last', at, refl)) one in
-      q.kept t.class (p.kept t.class (one ∙ ap (λ n. Some n) (sym same)))
+chosen_else : {X : Type 0} (a b : ℕ) (x y : X) → a ≢ b → (if a == b then x else y) ≡ y
+chosen_else a b x y other = grind (arith, nat_tests)
 
--- two classes on which operands differ are both the register's
-pub differ_source : (rule : Rule) (r : Register) (assigned : Option ℕ) (c d : ℕ) → assigned ≡ assigned_class rule r → Differ (flat_map (λ s. operands_of s.op) rule.source) r assigned c d → Names rule r c × Names rule r d × (c ≢ d)
-differ_source rule r assigned c d is p =
-    (elim p.one [ inl h ↦ assigned_names rule r c (sym is ∙ h) | inr h ↦ reads_source rule r c h ], reads_source rule r d p.other, p.apart)
-
-pub differ_target : (rule : Rule) (r : Register) (assigned between : Option ℕ) (c d : ℕ) → assigned ≡ assigned_class rule r → Agrees (flat_map (λ s. operands_of s.op) rule.source) r assigned between
-    → Differ (flat_map (λ s. operands_of s.op) rule.target) r between c d → Names rule r c × Names rule r d × (c ≢ d)
-differ_target rule r assigned between c d is a p = (
-  elim p.one [
-    | inl h ↦ elim (a.from c h) [ inl older ↦ assigned_names rule r c (sym is ∙ older) | inr left ↦ reads_source rule r c left ]
-    | inr h ↦ reads_target rule r c h
-  ],
-  reads_target rule r d p.other,
-  p.apart,
-)
-
--- a register that is named is there
-unfoldable pub IsThere : Rule → Register → Type 0
-IsThere rule (registers.Input k) = k < length rule.inputs
-IsThere rule (registers.Source k) = k < length rule.source
-IsThere rule (registers.Target k) = k < length rule.target
-
-source_read_there : (rule : Rule) (k : ℕ) (r : Register) → k < length rule.source → SourceMayRead rule k (arguments.Register r) → IsThere rule r
-unfolding IsThere
-source_read_there rule k (registers.Input i) within may = may
-source_read_there rule k (registers.Source j) within may = omega arith
-source_read_there rule k (registers.Target j) within may = absurd may
-
-target_read_there : (rule : Rule) (k : ℕ) (r : Register) → k < length rule.target → TargetMayRead rule k (arguments.Register r) → IsThere rule r
-unfolding IsThere
-target_read_there rule k (registers.Input i) within may = may
-target_read_there rule k (registers.Source j) within may = omega arith
-target_read_there rule k (registers.Target j) within may = omega arith
-
-pub named_is_there : (rule : Rule) (r : Register) (c : ℕ) → IsRule rule → Names rule r c → IsThere rule r
-unfolding IsThere
-named_is_there rule r c checked (reads {o} among is) = elim (operand_cases rule o among) [
-  | inl left ↦ let h = from_flat_map (λ (s : Statement). operands_of s.op) rule.source o left in
-      source_read_there rule h.0 r (slice_get_within rule.source h.0 h.1 h.2) (subst (SourceMayRead rule h.0) is (checked.source_reads h.0 h.1 o h.2 h.3))
-  | inr right ↦ let h = from_flat_map (λ (s : Statement). operands_of s.op) rule.target o right in
-      target_read_there rule h.0 r (slice_get_within rule.target h.0 h.1 h.2) (subst (TargetMayRead rule h.0) is (checked.target_reads h.0 h.1 o h.2 h.3))
-]
-named_is_there rule r c checked (source_assigns {k} {s} at) = slice_get_within rule.source k s at
-named_is_there rule r c checked (target_assigns {k} {s} at) = slice_get_within rule.target k s at
-named_is_there rule r c checked (assigns_root {j} {k} {s} last last' at) = omega arith
-
--- an input that operand q reads is not numbered past it
-input_at_most : (rule : Rule) (i q : ℕ) → IsRule rule → ReadsAt rule q (registers.Input i) → i ≤ q
-input_at_most rule zero q checked reads_it = omega arith
-input_at_most rule (suc h) q checked reads_it =
-    let before = checked.inputs_in_order h (suc h) q (omega arith) reads_it in
-    let rest : h ≤ before.0 = input_at_most rule h before.0 checked before.2 in
-    let less : before.0 < q = before.1 in
-    omega arith
-
-pub few_inputs : (rule : Rule) (i : ℕ) → IsRule rule → i < length rule.inputs → i < 256
-few_inputs rule i checked within =
-    let read = checked.inputs_read i within in
-    let most : i ≤ read.0 = input_at_most rule i read.0 checked read.1 in
-    let inside : read.0 < length (flat_map (λ s. operands_of s.op) rule.source) = slice_get_within (flat_map (λ (s : Statement). operands_of s.op) rule.source) read.0 read.1.0 read.1.1 in
-    let both : length (operands_in rule) ≡ length (flat_map (λ s. operands_of s.op) rule.source) + length (flat_map (λ s. operands_of s.op) rule.target)
-    = ap length (flat_map-append (λ (s : Statement). operands_of s.op) rule.source rule.target) ∙ length-append (flat_map (λ (s : Statement). operands_of s.op) rule.source) (flat_map (λ (s : Statement). operands_of s.op) rule.target) in
-    omega (arith, checked.few_operands)
-
-of_statement : (rule : Rule) (s : Statement) (c d : ℕ) → IsStatementOf rule s → OpLine s.class s.op c d → StatementsLine rule.source c d ⊎ StatementsLine rule.target c d
-of_statement rule s c d stands line = elim (Contains-append_cases rule.source rule.target s stands) [
-  | inl (k, lt, e) ↦ inl (k, s, slice_get-get_or rule.source k s lt ∙ ap (λ x. Some x) e, line)
-  | inr (k, lt, e) ↦ inr (k, s, slice_get-get_or rule.target k s lt ∙ ap (λ x. Some x) e, line)
+-- the root is the last register of the source
+pub root_is_last : (rule : Rule) (n : Name) (c : ℕ) → root_class rule n ≡ Some c → (k : ℕ) × (n ≡ names.Register (registers.Source k)) × (k + 1 ≡ length rule.source) × (last_class rule.target ≡ Some c)
+root_is_last rule (names.Register (registers.Input k)) c e = cc
+root_is_last rule (names.Register (registers.Target k)) c e = cc
+root_is_last rule (names.Constant k) c e = cc
+root_is_last rule (names.Undef k) c e = cc
+root_is_last rule (names.Register (registers.Source k)) c e = elim (cases_eq (k + 1) (length rule.source)) [
+  | inl same ↦ (k, refl, same, sym (chosen_then (k + 1) (length rule.source) (last_class rule.target) None same) ∙ e)
+  | inr other ↦ let none : None ≡ Some c = sym (chosen_else (k + 1) (length rule.source) (last_class rule.target) None other) ∙ e in cc
 ]
 
--- lines are those of statements and those of names
-pub statements_line : (rule : Rule) (c d : ℕ) → StatementsLine rule.source c d ⊎ StatementsLine rule.target c d → Line rule c d
-statements_line rule c d (inl (k, s, at, h)) = op_line rule c d (s, source_statement rule k s at, h)
-statements_line rule c d (inr (k, s, at, h)) = op_line rule c d (s, target_statement rule k s at, h)
+there : {X : Type 0} (xs : List X) (k : ℕ) (x : X) → slice_get xs k ≡ Some x → 0 < length xs
+there [] zero x at = cc
+there [] (suc k) x at = cc
+there (a ∷ xs) k x at = omega arith
 
-pub line_parts : (rule : Rule) (c d : ℕ) → Line rule c d → (StatementsLine rule.source c d ⊎ StatementsLine rule.target c d) ⊎ NameOne rule c d
-line_parts rule c d on = elim (line_cases rule c d on) [ inl (s, stands, h) ↦ inl (of_statement rule s c d stands h) | inr names ↦ inr names ]
+pub root_names : (rule : Rule) (n : Name) (c : ℕ) → root_class rule n ≡ Some c → Names rule n c
+root_names rule n c e =
+    let (k, is, last, class) = root_is_last rule n c e in
+    let (t, at, same) = result_class (slice_get rule.target (length rule.target - 1)) c class in
+    let some : 0 < length rule.target = there rule.target (length rule.target - 1) t at in
+    let h : Names rule (names.Register (registers.Source k)) t.class = assigns_root {k = length rule.target - 1} (omega arith) (omega arith) at in
+    subst (λ m. Names rule m c) (sym is) (subst (Names rule (names.Register (registers.Source k))) same h)
+
+-- A position names it by reading it, or by a result.
+pub data IsNamed (rule : Rule) (n : Name) (c : ℕ) : Type 0 where
+  read : IsRead rule n c → IsNamed rule n c
+  assigned : assigned_class rule n ≡ Some c → IsNamed rule n c
+  root : root_class rule n ≡ Some c → IsNamed rule n c
+
+read_operand : (rule : Rule) (o : Operand) (n : Name) (c : ℕ) → Contains (operands_in rule) o → ((half : Half) → operand_naming half o ≡ Some (n, c)) → IsNamed rule n c
+read_operand rule o n c among naming = elim (operand_cases rule o among) [
+  | inl left ↦ read (inl (o, left, naming halves.Source))
+  | inr right ↦ read (inr (inl (o, right, naming halves.Target)))
+]
+
+naming_at : (half : Half) (o : Operand) (value : Argument) → o.value ≡ value → operand_naming half o ≡ option_map {U = Name × ℕ} (λ n. (n, o.class)) (name_of half value)
+naming_at half o value is = ap (λ v. option_map {U = Name × ℕ} (λ n. (n, o.class)) (name_of half v)) is
+
+pub named_cases : (rule : Rule) (n : Name) (c : ℕ) → Names rule n c → IsNamed rule n c
+named_cases rule n c (reads {o} {r} among is) = read_operand rule o (names.Register r) o.class among (λ half. naming_at half o (arguments.Register r) is)
+named_cases rule n c (reads_constant {o} {k} among is) = read_operand rule o (names.Constant k) o.class among (λ half. naming_at half o (arguments.Constant k) is)
+named_cases rule n c (chooses {o} {k} among is) = read (inr (inl (o, among, naming_at halves.Target o (arguments.Undef k) is)))
+named_cases rule n c (source_assigns {k} {s} at) = assigned (ap (λ x. option_map (λ (t : Statement). t.class) x) at)
+named_cases rule n c (target_assigns {k} {s} at) = assigned (ap (λ x. option_map (λ (t : Statement). t.class) x) at)
+named_cases rule n c (assigns_root {j} {k} {s} last last' at) =
+    let place : length rule.target - 1 ≡ k = omega arith in
+    root (chosen_then (j + 1) (length rule.source) (last_class rule.target) None (omega arith) ∙ ap (λ i. option_map (λ (t : Statement). t.class) (slice_get rule.target i)) place ∙ ap (λ x. option_map (λ (t : Statement). t.class) x) at)
+named_cases rule n c (term_register {t} {r} among is) = read (inr (inr (t, among, ap (node_naming t.class) is)))
+named_cases rule n c (term_constant {t} {k} among is) = read (inr (inr (t, among, ap (node_naming t.class) is)))
+named_cases rule n c (term_undef {t} {k} among is) = read (inr (inr (t, among, ap (node_naming t.class) is)))
+named_cases rule n c (measures {t} {r} {c = d} among is) = read (inr (inr (t, among, ap (node_naming t.class) is)))
+
+pub names_of_named : (rule : Rule) (n : Name) (c : ℕ) → IsNamed rule n c → Names rule n c
+names_of_named rule n c (read h) = read_names rule n c h
+names_of_named rule n c (assigned h) = assigned_names rule n c h
+names_of_named rule n c (root h) = root_names rule n c h

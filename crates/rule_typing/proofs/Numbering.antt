@@ -14,7 +14,8 @@ use Rattle.rule_typing.specs.declared.relabelling.Renaming.TheVariants.{Swap}
 use Rattle.rule_typing.specs.Relabelling.{mapped, renamed, IsRenumbered}
 use Rattle.rule_typing.specs.Classes.{IsInOrder}
 use Rattle.rule_typing.proofs.Images.{get-append_cases}
-use Rattle.rule_typing.proofs.Relabelled.{none_there, classes_of-mapped, mapped-id, mapped-mapped, alike_mapped}
+use Rattle.rule_typing.proofs.NumberedLists.{none_there}
+use Rattle.rule_typing.proofs.Relabelled.{classes_of-mapped, mapped-id, mapped-mapped, alike_mapped}
 use Rattle.rule_typing.proofs.AlikeRules.{IsRule-alike}
 
 swapped_first : (a b : ℕ) → renamed (Swap a b) a ≡ b

@@ -9,8 +9,10 @@ use Rattle.std.proofs.lemmas.Grind.{flat_map-append}
 use Rattle.std.proofs.lemmas.Option.{slice_get-get_or}
 use Rattle.std.proofs.lemmas.List.Elements.{Contains-append_left, Contains-append_right, Contains-append_cases}
 use Rattle.rule_core.specs.declared.rule.Rule.{Rule}
-use Rattle.rule_core.specs.declared.rule.Statement.{Statement}
-use Rattle.rule_core.specs.Positions.{classes_of_statement, classes_of}
+use Rattle.rule_core.specs.declared.rule.Register.{Register}
+use Rattle.rule_core.specs.declared.rule.Node.{Node}
+use Rattle.rule_core.specs.declared.rule.Node.TheVariants as nodes
+use Rattle.rule_core.specs.Positions.{classes_of, classes_of_node}
 use Rattle.rule_core.proofs.Members.{Contains-from_get}
 use Rattle.rule_typing.specs.Classes.{IsClassified, HasClasses}
 use Rattle.rule_typing.specs.Fitting.{IsPast}
@@ -33,11 +35,11 @@ past_both xs ys m n k p q is = record {
   ];
 }
 
-pub past_next : (xs : List Statement) (i : ℕ) (s : Statement) (m n k : ℕ) → i < length xs → s ≡ get_or xs i s → IsPast (flat_map classes_of_statement (take i xs)) m → IsPast (classes_of_statement s) n → k ≡ max m n
-    → IsPast (flat_map classes_of_statement (take (i + 1) xs)) k
-past_next xs i s m n k within is p q most =
-    rw (take_more xs i s within, ← is, flat_map-append classes_of_statement (take i xs) (s ∷ []), append-nil (classes_of_statement s))
-    (past_both (flat_map classes_of_statement (take i xs)) (classes_of_statement s) m n k p q most)
+pub past_next : (X : Type 0) (classes : X → List ℕ) (xs : List X) (i : ℕ) (x : X) (m n k : ℕ) → i < length xs → x ≡ get_or xs i x → IsPast (flat_map classes (take i xs)) m → IsPast (classes x) n → k ≡ max m n
+    → IsPast (flat_map classes (take (i + 1) xs)) k
+past_next X classes xs i x m n k within is p q most =
+    rw (take_more xs i x within, ← is, flat_map-append classes (take i xs) (x ∷ []), append-nil (classes x))
+    (past_both (flat_map classes (take i xs)) (classes x) m n k p q most)
 
 -- the classes of a rule that keeps its classes are all numbers below the least one past them
 pub all_below : (rule : Rule) (n : ℕ) → IsClassified rule → IsPast (classes_of rule) n → HasClasses rule n
@@ -62,6 +64,16 @@ past_three r x y n is = past_both (r ∷ x ∷ []) (y ∷ []) (max r x + 1) (y +
 pub past_four : (r x y z n : ℕ) → n ≡ max (max (max r x) y) z + 1 → IsPast (r ∷ x ∷ y ∷ z ∷ []) n
 past_four r x y z n is =
     past_both (r ∷ x ∷ y ∷ []) (z ∷ []) (max (max r x) y + 1) (z + 1) n (past_three r x y (max (max r x) y + 1) refl) (past_one z (z + 1) refl) (omega arith)
+
+-- a node that is no register's width has one position
+pub past_node : (c : ℕ) (node : Node) → ((r : Register) (d : ℕ) → node ≡ nodes.Width r d → ⊥) → IsPast (classes_of_node c node) (c + 1)
+past_node c (nodes.Literal z) other = past_one c (c + 1) refl
+past_node c (nodes.Constant k) other = past_one c (c + 1) refl
+past_node c (nodes.Register r) other = past_one c (c + 1) refl
+past_node c (nodes.Undef k) other = past_one c (c + 1) refl
+past_node c (nodes.Width r d) other = absurd (other r d refl)
+past_node c (nodes.Unary function a) other = past_one c (c + 1) refl
+past_node c (nodes.Binary op a b) other = past_one c (c + 1) refl
 
 other_greater : (a b : ℕ) → a < b → ord_max nat_cmp a b ≡ b
 other_greater a b less = grind (arith, nat_tests)

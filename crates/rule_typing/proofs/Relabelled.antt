@@ -1,4 +1,4 @@
--- Rules whose classes have other numbers: all else stays, and their lines are the old ones under the new numbers.
+-- Rules whose classes have other numbers: all else stays.
 use Rattle.std.proofs.Common.{◌≡◌, inl, inr, ℕ, zero, suc, ◌+◌, List, [], ◌∷◌, ◌++◌, length, map, Some, refl, sym, ap, ◌∙◌, arith, length-append}
 use Rattle.std.specs.Prelude.{slice_get, flat_map}
 use Rattle.std.proofs.lemmas.List.{map-append, length-map}
@@ -9,9 +9,12 @@ use Rattle.rule_core.specs.declared.rule.Statement.{Statement}
 use Rattle.rule_core.specs.declared.rule.Op.{Op}
 use Rattle.rule_core.specs.declared.rule.Op.TheVariants.{Binary, Compare, Select, Convert, Copy}
 use Rattle.rule_core.specs.declared.rule.Operand.{Operand}
-use Rattle.rule_core.specs.Positions.{operands_of, operands_in, classes_of_statement, classes_of}
-use Rattle.rule_typing.specs.Relabelling.{mapped_op, mapped_statement, mapped, numbered_op, numbered_statement, numbered_statements, numbered}
-use Rattle.rule_typing.proofs.Images.{get-append_cases}
+use Rattle.rule_core.specs.declared.rule.Term.{Term}
+use Rattle.rule_core.specs.declared.rule.Node.{Node}
+use Rattle.rule_core.specs.declared.rule.Node.TheVariants as nodes
+use Rattle.rule_core.specs.Positions.{operands_of, operands_among, operands_in, terms_in, classes_of_statement, classes_of_node, classes_of_term, classes_of}
+use Rattle.rule_typing.specs.Relabelling.{mapped_op, mapped_statement, mapped_node, mapped_term, mapped, numbered_op, numbered_statement, numbered_statements, numbered_node, numbered_term, numbered_terms, positions_of, positions_among, numbered}
+use Rattle.rule_typing.proofs.NumberedLists.{none_there, AreFrom, from_both, count-numbered, classes-numbered, numbered_image, numbered_anew}
 
 -- an operand whose class c is f c
 abbrev pub mapped_operand : (ℕ → ℕ) → Operand → Operand
@@ -31,25 +34,46 @@ op_classes f (Select z a b) = refl
 op_classes f (Convert cast a to) = refl
 op_classes f (Copy a) = refl
 
--- the classes of statements, and of the rule, are mapped
+node_classes : (f : ℕ → ℕ) (c : ℕ) (node : Node) → classes_of_node (f c) (mapped_node f node) ≡ map f (classes_of_node c node)
+node_classes f c (nodes.Literal z) = refl
+node_classes f c (nodes.Constant k) = refl
+node_classes f c (nodes.Register r) = refl
+node_classes f c (nodes.Undef k) = refl
+node_classes f d (nodes.Width r c) = refl
+node_classes f c (nodes.Unary function a) = refl
+node_classes f c (nodes.Binary op a b) = refl
+
+-- the classes of elements are mapped
+flat-mapped : {X : Type 0} (classes : X → List ℕ) (g : X → X) (f : ℕ → ℕ) → ((x : X) → classes (g x) ≡ map f (classes x)) → (xs : List X) → flat_map classes (map g xs) ≡ map f (flat_map classes xs)
+flat-mapped classes g f each [] = refl
+flat-mapped classes g f each (x ∷ xs) = rw (flat-mapped classes g f each xs, each x) (sym (map-append f (classes x) (flat_map classes xs)))
+
 pub classes-mapped : (f : ℕ → ℕ) (xs : List Statement) → flat_map classes_of_statement (map (mapped_statement f) xs) ≡ map f (flat_map classes_of_statement xs)
-classes-mapped f [] = refl
-classes-mapped f (s ∷ xs) =
-    rw (classes-mapped f xs, op_classes f s.op) (sym (map-append f (classes_of_statement s) (flat_map classes_of_statement xs)))
+classes-mapped f xs = flat-mapped classes_of_statement (mapped_statement f) f (λ s. ap (λ l. f s.class ∷ l) (op_classes f s.op)) xs
+
+pub term_classes-mapped : (f : ℕ → ℕ) (xs : List Term) → flat_map classes_of_term (map (mapped_term f) xs) ≡ map f (flat_map classes_of_term xs)
+term_classes-mapped f xs = flat-mapped classes_of_term (mapped_term f) f (λ t. node_classes f t.class t.node) xs
+
+-- and so are those of the rule
+pub statements_mapped : (f : ℕ → ℕ) (rule : Rule) → (mapped f rule).source ++ (mapped f rule).target ≡ map (mapped_statement f) (rule.source ++ rule.target)
+statements_mapped f rule = sym (map-append (mapped_statement f) rule.source rule.target)
+
+pub terms_mapped : (f : ℕ → ℕ) (rule : Rule) → terms_in (mapped f rule) ≡ map (mapped_term f) (terms_in rule)
+terms_mapped f rule = sym (map-append (mapped_term f) rule.terms rule.witness_terms)
 
 pub classes_of-mapped : (f : ℕ → ℕ) (rule : Rule) → classes_of (mapped f rule) ≡ map f (classes_of rule)
 classes_of-mapped f rule =
-    ap (flat_map classes_of_statement) (sym (map-append (mapped_statement f) rule.source rule.target)) ∙ classes-mapped f (rule.source ++ rule.target)
+    rw (statements_mapped f rule, terms_mapped f rule, classes-mapped f (rule.source ++ rule.target), term_classes-mapped f (terms_in rule))
+    (sym (map-append f (flat_map classes_of_statement (rule.source ++ rule.target)) (flat_map classes_of_term (terms_in rule))))
 
 -- and so are the operands
-pub operands-mapped : (f : ℕ → ℕ) (xs : List Statement) → flat_map (λ s. operands_of s.op) (map (mapped_statement f) xs) ≡ map (mapped_operand f) (flat_map (λ s. operands_of s.op) xs)
+pub operands-mapped : (f : ℕ → ℕ) (xs : List Statement) → operands_among (map (mapped_statement f) xs) ≡ map (mapped_operand f) (operands_among xs)
 operands-mapped f [] = refl
 operands-mapped f (s ∷ xs) =
-    rw (operands-mapped f xs, operands-mapped_op f s.op) (sym (map-append (mapped_operand f) (operands_of s.op) (flat_map (λ (t : Statement). operands_of t.op) xs)))
+    rw (operands-mapped f xs, operands-mapped_op f s.op) (sym (map-append (mapped_operand f) (operands_of s.op) (operands_among xs)))
 
 pub operands_in-mapped : (f : ℕ → ℕ) (rule : Rule) → operands_in (mapped f rule) ≡ map (mapped_operand f) (operands_in rule)
-operands_in-mapped f rule =
-    ap (flat_map (λ (t : Statement). operands_of t.op)) (sym (map-append (mapped_statement f) rule.source rule.target)) ∙ operands-mapped f (rule.source ++ rule.target)
+operands_in-mapped f rule = ap operands_among (statements_mapped f rule) ∙ operands-mapped f (rule.source ++ rule.target)
 
 -- one map after the other is one map
 mapped_op-mapped_op : (g f : ℕ → ℕ) (op : Op) → mapped_op g (mapped_op f op) ≡ mapped_op (λ c. g (f c)) op
@@ -63,8 +87,21 @@ statements-mapped : (g f : ℕ → ℕ) (xs : List Statement) → map (mapped_st
 statements-mapped g f [] = refl
 statements-mapped g f (s ∷ xs) = rw (statements-mapped g f xs, mapped_op-mapped_op g f s.op) refl
 
+node-mapped : (g f : ℕ → ℕ) (node : Node) → mapped_node g (mapped_node f node) ≡ mapped_node (λ c. g (f c)) node
+node-mapped g f (nodes.Literal z) = refl
+node-mapped g f (nodes.Constant k) = refl
+node-mapped g f (nodes.Register r) = refl
+node-mapped g f (nodes.Undef k) = refl
+node-mapped g f (nodes.Width r c) = refl
+node-mapped g f (nodes.Unary function a) = refl
+node-mapped g f (nodes.Binary op a b) = refl
+
+terms-mapped : (g f : ℕ → ℕ) (xs : List Term) → map (mapped_term g) (map (mapped_term f) xs) ≡ map (mapped_term (λ c. g (f c))) xs
+terms-mapped g f [] = refl
+terms-mapped g f (t ∷ xs) = rw (terms-mapped g f xs, node-mapped g f t.node) refl
+
 pub mapped-mapped : (g f : ℕ → ℕ) (rule : Rule) → mapped g (mapped f rule) ≡ mapped (λ c. g (f c)) rule
-mapped-mapped g f rule = rw (statements-mapped g f rule.source, statements-mapped g f rule.target) refl
+mapped-mapped g f rule = rw (statements-mapped g f rule.source, statements-mapped g f rule.target, terms-mapped g f rule.terms, terms-mapped g f rule.witness_terms) refl
 
 -- a map that changes no class changes nothing
 mapped_op-id : (op : Op) → mapped_op (λ c. c) op ≡ op
@@ -78,8 +115,21 @@ statements-id : (xs : List Statement) → map (mapped_statement (λ c. c)) xs �
 statements-id [] = refl
 statements-id (s ∷ xs) = rw (statements-id xs, mapped_op-id s.op) refl
 
+node-id : (node : Node) → mapped_node (λ c. c) node ≡ node
+node-id (nodes.Literal z) = refl
+node-id (nodes.Constant k) = refl
+node-id (nodes.Register r) = refl
+node-id (nodes.Undef k) = refl
+node-id (nodes.Width r c) = refl
+node-id (nodes.Unary function a) = refl
+node-id (nodes.Binary op a b) = refl
+
+terms-id : (xs : List Term) → map (mapped_term (λ c. c)) xs ≡ xs
+terms-id [] = refl
+terms-id (t ∷ xs) = rw (terms-id xs, node-id t.node) refl
+
 pub mapped-id : (rule : Rule) → mapped (λ c. c) rule ≡ rule
-mapped-id rule = rw (statements-id rule.source, statements-id rule.target) refl
+mapped-id rule = rw (statements-id rule.source, statements-id rule.target, terms-id rule.terms, terms-id rule.witness_terms) refl
 
 -- Two rules that differ in no more than their classes.
 abbrev pub AreAlike : Rule → Rule → Type 0
@@ -95,12 +145,35 @@ numbered_op_bare n (Select z a b) = refl
 numbered_op_bare n (Convert cast a to) = refl
 numbered_op_bare n (Copy a) = refl
 
-numbered_bare : (n : ℕ) (xs : List Statement) → map (mapped_statement (λ c. 0)) (numbered_statements n xs) ≡ map (mapped_statement (λ c. 0)) xs
-numbered_bare n [] = refl
-numbered_bare n (s ∷ xs) = rw (numbered_bare (n + length (classes_of_statement s)) xs, numbered_op_bare (n + 1) s.op) refl
+numbered_statement_bare : (n : ℕ) (s : Statement) → mapped_statement (λ c. 0) (numbered_statement n s) ≡ mapped_statement (λ c. 0) s
+numbered_statement_bare n s = rw (numbered_op_bare (n + 1) s.op) refl
+
+numbered_node_bare : (n : ℕ) (node : Node) → mapped_node (λ c. 0) (numbered_node n node) ≡ mapped_node (λ c. 0) node
+numbered_node_bare n (nodes.Literal z) = refl
+numbered_node_bare n (nodes.Constant k) = refl
+numbered_node_bare n (nodes.Register r) = refl
+numbered_node_bare n (nodes.Undef k) = refl
+numbered_node_bare n (nodes.Width r c) = refl
+numbered_node_bare n (nodes.Unary function a) = refl
+numbered_node_bare n (nodes.Binary op a b) = refl
+
+numbered_term_bare : (n : ℕ) (t : Term) → mapped_term (λ c. 0) (numbered_term n t) ≡ mapped_term (λ c. 0) t
+numbered_term_bare n t = rw (numbered_node_bare (n + 1) t.node) refl
+
+statements_bare : (n : ℕ) (xs : List Statement) → map (mapped_statement (λ c. 0)) (numbered_statements n xs) ≡ map (mapped_statement (λ c. 0)) xs
+statements_bare n xs = numbered_image Statement classes_of_statement numbered_statement (mapped_statement (λ c. 0)) numbered_statement_bare n xs
+
+terms_bare : (n : ℕ) (xs : List Term) → map (mapped_term (λ c. 0)) (numbered_terms n xs) ≡ map (mapped_term (λ c. 0)) xs
+terms_bare n xs = numbered_image Term classes_of_term numbered_term (mapped_term (λ c. 0)) numbered_term_bare n xs
 
 pub alike_numbered : (rule : Rule) → AreAlike (numbered rule) rule
-alike_numbered rule = rw (numbered_bare 0 rule.source, numbered_bare (length (flat_map classes_of_statement rule.source)) rule.target) refl
+alike_numbered rule =
+    rw (
+      statements_bare 0 rule.source,
+      statements_bare (positions_of rule.source) rule.target,
+      terms_bare (positions_of rule.source + positions_of rule.target) rule.terms,
+      terms_bare (positions_of rule.source + positions_of rule.target + positions_among rule.terms) rule.witness_terms,
+    ) refl
 
 -- the classes before play no part in the numbering
 numbered_mapped_op : (f : ℕ → ℕ) (n : ℕ) (op : Op) → numbered_op n (mapped_op f op) ≡ numbered_op n op
@@ -117,14 +190,49 @@ count-mapped_op f (Select z a b) = refl
 count-mapped_op f (Convert cast a to) = refl
 count-mapped_op f (Copy a) = refl
 
-numbered_mapped : (f : ℕ → ℕ) (n : ℕ) (xs : List Statement) → numbered_statements n (map (mapped_statement f) xs) ≡ numbered_statements n xs
-numbered_mapped f n [] = refl
-numbered_mapped f n (s ∷ xs) =
-    rw (count-mapped_op f s.op, numbered_mapped_op f (n + 1) s.op) (ap (λ l. numbered_statement n s ∷ l) (numbered_mapped f (n + length (classes_of_statement s)) xs))
+numbered_mapped_node : (f : ℕ → ℕ) (n : ℕ) (node : Node) → numbered_node n (mapped_node f node) ≡ numbered_node n node
+numbered_mapped_node f n (nodes.Literal z) = refl
+numbered_mapped_node f n (nodes.Constant k) = refl
+numbered_mapped_node f n (nodes.Register r) = refl
+numbered_mapped_node f n (nodes.Undef k) = refl
+numbered_mapped_node f n (nodes.Width r c) = refl
+numbered_mapped_node f n (nodes.Unary function a) = refl
+numbered_mapped_node f n (nodes.Binary op a b) = refl
+
+count-mapped_node : (f : ℕ → ℕ) (c d : ℕ) (node : Node) → length (classes_of_node d (mapped_node f node)) ≡ length (classes_of_node c node)
+count-mapped_node f c d (nodes.Literal z) = refl
+count-mapped_node f c d (nodes.Constant k) = refl
+count-mapped_node f c d (nodes.Register r) = refl
+count-mapped_node f c d (nodes.Undef k) = refl
+count-mapped_node f b d (nodes.Width r c) = refl
+count-mapped_node f c d (nodes.Unary function a) = refl
+count-mapped_node f c d (nodes.Binary op a b) = refl
+
+statements_anew : (f : ℕ → ℕ) (n : ℕ) (xs : List Statement) → numbered_statements n (map (mapped_statement f) xs) ≡ numbered_statements n xs
+statements_anew f n xs =
+    numbered_anew Statement classes_of_statement numbered_statement (mapped_statement f) (λ m s. rw (numbered_mapped_op f (m + 1) s.op) refl) (λ s. rw (count-mapped_op f s.op) refl) n xs
+
+terms_anew : (f : ℕ → ℕ) (n : ℕ) (xs : List Term) → numbered_terms n (map (mapped_term f) xs) ≡ numbered_terms n xs
+terms_anew f n xs =
+    numbered_anew Term classes_of_term numbered_term (mapped_term f) (λ m t. rw (numbered_mapped_node f (m + 1) t.node) refl) (λ t. count-mapped_node f t.class (f t.class) t.node) n xs
+
+positions-mapped : (f : ℕ → ℕ) (xs : List Statement) → positions_of (map (mapped_statement f) xs) ≡ positions_of xs
+positions-mapped f xs = ap length (classes-mapped f xs) ∙ length-map (flat_map classes_of_statement xs) f
+
+term_positions-mapped : (f : ℕ → ℕ) (xs : List Term) → positions_among (map (mapped_term f) xs) ≡ positions_among xs
+term_positions-mapped f xs = ap length (term_classes-mapped f xs) ∙ length-map (flat_map classes_of_term xs) f
 
 pub numbered-mapped : (f : ℕ → ℕ) (rule : Rule) → numbered (mapped f rule) ≡ numbered rule
 numbered-mapped f rule =
-    rw (classes-mapped f rule.source, length-map (flat_map classes_of_statement rule.source) f, numbered_mapped f 0 rule.source, numbered_mapped f (length (flat_map classes_of_statement rule.source)) rule.target) refl
+    rw (
+      positions-mapped f rule.source,
+      positions-mapped f rule.target,
+      term_positions-mapped f rule.terms,
+      statements_anew f 0 rule.source,
+      statements_anew f (positions_of rule.source) rule.target,
+      terms_anew f (positions_of rule.source + positions_of rule.target) rule.terms,
+      terms_anew f (positions_of rule.source + positions_of rule.target + positions_among rule.terms) rule.witness_terms,
+    ) refl
 
 pub numbered_alike : (r s : Rule) → AreAlike r s → numbered r ≡ numbered s
 numbered_alike r s same = sym (numbered-mapped (λ c. 0) r) ∙ ap numbered same ∙ numbered-mapped (λ c. 0) s
@@ -158,40 +266,96 @@ classes-numbered_op n (Copy a) zero c at = let h = same_Some n c at in omega ari
 classes-numbered_op n (Copy a) (suc zero) c at = let h = same_Some (n + 1) c at in omega arith
 classes-numbered_op n (Copy a) (suc (suc k)) c at = cc
 
-pub none_there : {X : Type 0} (k : ℕ) (x : X) → slice_get [] k ≡ Some x → ⊥
-none_there zero x at = cc
-none_there (suc k) x at = cc
+count_statement : (n : ℕ) (s : Statement) → length (classes_of_statement (numbered_statement n s)) ≡ length (classes_of_statement s)
+count_statement n s = ap suc (count-numbered_op (n + 1) s.op)
 
-classes-numbered : (n : ℕ) (xs : List Statement) (k c : ℕ) → slice_get (flat_map classes_of_statement (numbered_statements n xs)) k ≡ Some c → c ≡ n + k
-classes-numbered n [] k c at = absurd (none_there k c at)
-classes-numbered n (s ∷ xs) k c at =
-    elim (get-append_cases (classes_of_statement (numbered_statement n s)) (flat_map classes_of_statement (numbered_statements (n + length (classes_of_statement s)) xs)) k c at) [
-      | inl here ↦ classes-numbered_op n s.op k c here
-      | inr (j, place, there) ↦
-          let rest = classes-numbered (n + length (classes_of_statement s)) xs j c there in
-          omega (arith, count-numbered_op (n + 1) s.op)
-    ]
+count_node : (n c : ℕ) (node : Node) → length (classes_of_node n (numbered_node (n + 1) node)) ≡ length (classes_of_node c node)
+count_node n c (nodes.Literal z) = refl
+count_node n c (nodes.Constant k) = refl
+count_node n c (nodes.Register r) = refl
+count_node n c (nodes.Undef k) = refl
+count_node n d (nodes.Width r c) = refl
+count_node n c (nodes.Unary function a) = refl
+count_node n c (nodes.Binary op a b) = refl
 
-count-numbered : (n : ℕ) (xs : List Statement) → length (flat_map classes_of_statement (numbered_statements n xs)) ≡ length (flat_map classes_of_statement xs)
-count-numbered n [] = refl
-count-numbered n (s ∷ xs) =
-    length-append (classes_of_statement (numbered_statement n s)) (flat_map classes_of_statement (numbered_statements (n + length (classes_of_statement s)) xs))
-    ∙ rw (count-numbered_op (n + 1) s.op, count-numbered (n + length (classes_of_statement s)) xs)
-    (sym (length-append (classes_of_statement s) (flat_map classes_of_statement xs)))
+from_one : (n : ℕ) → AreFrom n (n ∷ [])
+from_one n zero c at = let h = same_Some n c at in omega arith
+from_one n (suc k) c at = absurd (none_there k c at)
 
-pub class_is_position : (rule : Rule) (k c : ℕ) → slice_get (classes_of (numbered rule)) k ≡ Some c → c ≡ k
-class_is_position rule k c at =
-    let parts = rw (flat_map-append classes_of_statement (numbered rule).source (numbered rule).target) at at in
-    elim (get-append_cases (flat_map classes_of_statement (numbered rule).source) (flat_map classes_of_statement (numbered rule).target) k c parts) [
-      | inl here ↦ let h = classes-numbered 0 rule.source k c here in omega arith
-      | inr (j, place, there) ↦
-          let h = classes-numbered (length (flat_map classes_of_statement rule.source)) rule.target j c there in
-          omega (arith, count-numbered 0 rule.source)
-    ]
+from_two : (n : ℕ) → AreFrom n (n ∷ (n + 1) ∷ [])
+from_two n zero c at = let h = same_Some n c at in omega arith
+from_two n (suc zero) c at = let h = same_Some (n + 1) c at in omega arith
+from_two n (suc (suc k)) c at = absurd (none_there k c at)
 
-pub count_positions : (rule : Rule) → length (classes_of (numbered rule)) ≡ length (classes_of rule)
-count_positions rule =
-    rw (flat_map-append classes_of_statement (numbered rule).source (numbered rule).target, flat_map-append classes_of_statement rule.source rule.target)
-    (length-append (flat_map classes_of_statement (numbered rule).source) (flat_map classes_of_statement (numbered rule).target)
-    ∙ rw (count-numbered 0 rule.source, count-numbered (length (flat_map classes_of_statement rule.source)) rule.target)
-    (sym (length-append (flat_map classes_of_statement rule.source) (flat_map classes_of_statement rule.target))))
+node_from : (n : ℕ) (node : Node) → AreFrom n (classes_of_node n (numbered_node (n + 1) node))
+node_from n (nodes.Literal z) = from_one n
+node_from n (nodes.Constant k) = from_one n
+node_from n (nodes.Register r) = from_one n
+node_from n (nodes.Undef k) = from_one n
+node_from n (nodes.Width r c) = from_two n
+node_from n (nodes.Unary function a) = from_one n
+node_from n (nodes.Binary op a b) = from_one n
+
+-- the classes half by half, and then those of the terms and of `Wit:`
+pub classes_apart : (rule : Rule) → classes_of rule ≡ (flat_map classes_of_statement rule.source ++ flat_map classes_of_statement rule.target) ++ (flat_map classes_of_term rule.terms ++ flat_map classes_of_term rule.witness_terms)
+classes_apart rule = rw (flat_map-append classes_of_statement rule.source rule.target, flat_map-append classes_of_term rule.terms rule.witness_terms) refl
+
+statements_count : (n : ℕ) (xs : List Statement) → positions_of (numbered_statements n xs) ≡ positions_of xs
+statements_count n xs = count-numbered Statement classes_of_statement numbered_statement count_statement n xs
+
+terms_count : (n : ℕ) (xs : List Term) → positions_among (numbered_terms n xs) ≡ positions_among xs
+terms_count n xs = count-numbered Term classes_of_term numbered_term (λ m t. count_node m t.class t.node) n xs
+
+statements_from : (n : ℕ) (xs : List Statement) → AreFrom n (flat_map classes_of_statement (numbered_statements n xs))
+statements_from n xs = classes-numbered Statement classes_of_statement numbered_statement count_statement (λ m s. classes-numbered_op m s.op) n xs
+
+terms_from : (n : ℕ) (xs : List Term) → AreFrom n (flat_map classes_of_term (numbered_terms n xs))
+terms_from n xs = classes-numbered Term classes_of_term numbered_term (λ m t. count_node m t.class t.node) (λ m t. node_from m t.node) n xs
+
+module _ (rule : Rule) where
+  abbrev source : List ℕ
+  source = flat_map classes_of_statement (numbered rule).source
+
+  abbrev target : List ℕ
+  target = flat_map classes_of_statement (numbered rule).target
+
+  abbrev terms : List ℕ
+  terms = flat_map classes_of_term (numbered rule).terms
+
+  abbrev witness : List ℕ
+  witness = flat_map classes_of_term (numbered rule).witness_terms
+
+  counts : (length source ≡ positions_of rule.source) × (length target ≡ positions_of rule.target) × (length terms ≡ positions_among rule.terms) × (length witness ≡ positions_among rule.witness_terms)
+  counts = (
+    statements_count 0 rule.source,
+    statements_count (positions_of rule.source) rule.target,
+    terms_count (positions_of rule.source + positions_of rule.target) rule.terms,
+    terms_count (positions_of rule.source + positions_of rule.target + positions_among rule.terms) rule.witness_terms,
+  )
+
+  pub class_is_position : (k c : ℕ) → slice_get (classes_of (numbered rule)) k ≡ Some c → c ≡ k
+  class_is_position k c at =
+      let halves : AreFrom 0 (source ++ target) = from_both 0 (positions_of rule.source) source target (omega (arith, counts.0)) (statements_from 0 rule.source) (statements_from (positions_of rule.source) rule.target) in
+      let nodes : AreFrom (positions_of rule.source + positions_of rule.target) (terms ++ witness)
+      = from_both (positions_of rule.source + positions_of rule.target) (positions_of rule.source + positions_of rule.target + positions_among rule.terms) terms witness (omega (arith, counts.2))
+      (terms_from (positions_of rule.source + positions_of rule.target) rule.terms) (terms_from (positions_of rule.source + positions_of rule.target + positions_among rule.terms) rule.witness_terms) in
+      let both : AreFrom 0 ((source ++ target) ++ (terms ++ witness)) = from_both 0 (positions_of rule.source + positions_of rule.target) (source ++ target) (terms ++ witness) (omega (arith, counts.0, counts.1, length-append source target)) halves nodes in
+      let h = both k c (ap (λ l. slice_get l k) (sym (classes_apart (numbered rule))) ∙ at) in omega arith
+
+  pub count_positions : length (classes_of (numbered rule)) ≡ length (classes_of rule)
+  count_positions =
+      omega (
+        arith,
+        counts.0,
+        counts.1,
+        counts.2,
+        counts.3,
+        ap length (classes_apart (numbered rule)),
+        ap length (classes_apart rule),
+        length-append (source ++ target) (terms ++ witness),
+        length-append source target,
+        length-append terms witness,
+        length-append (flat_map classes_of_statement rule.source ++ flat_map classes_of_statement rule.target) (flat_map classes_of_term rule.terms ++ flat_map classes_of_term rule.witness_terms),
+        length-append (flat_map classes_of_statement rule.source) (flat_map classes_of_statement rule.target),
+        length-append (flat_map classes_of_term rule.terms) (flat_map classes_of_term rule.witness_terms),
+      )

@@ -1,6 +1,7 @@
 -- The rules of the tests meet the checks.
 use Rattle.std.proofs.Common.{◌≡◌, ◌≢◌, ◌⊎◌, inl, inr, ℕ, zero, suc, ◌+◌, ◌-◌, ◌*◌, ◌<◌, ◌≤◌, List, [], ◌∷◌, ◌++◌, length, map, get_or, Option, None, Some, refl, sym, ap, subst, ◌∙◌, arith, add-zero, zero-add, append-nil, length-append}
-use Rattle.std.specs.Prelude.{slice_get, Contains, flat_map, ℤ}
+use Rattle.std.specs.Prelude.{slice_get, Contains, flat_map, filter_map, sum_by, ℤ}
+use Rattle.std.proofs.lemmas.List.Sums.{sum_by-cons}
 use Rattle.std.proofs.lemmas.Bool.{cases_eq}
 use Rattle.std.proofs.lemmas.Bool.Decides.{nat_tests}
 use Rattle.std.proofs.lemmas.Option.{same_Some, slice_get-get_or}
@@ -13,21 +14,21 @@ use Rattle.rule_core.specs.declared.rule.Operand.{Operand}
 use Rattle.rule_core.specs.declared.rule.Argument.{Argument}
 use Rattle.rule_core.specs.declared.rule.Argument.TheVariants as arguments
 use Rattle.rule_core.specs.declared.rule.Register.TheVariants as registers
-use Rattle.rule_core.specs.Positions.{operands_of}
-use Rattle.rule_core.specs.Checks.{IsRule, SourceMayRead, TargetMayRead, ReadsAt, MayStandInSource, FlagsFitOp, names_of}
+use Rattle.rule_core.specs.Positions.{operands_of, operands_among, operands_in, undef_in, undefs_among}
+use Rattle.rule_core.specs.Checks.{IsRule, SourceMayRead, TargetMayRead, StandsAt, ReadsAt, MayStandInSource, FlagsFitOp, IsNoUndefCopy, UndefsInOrder, argument_weight, names_of}
 use Rattle.rule_typing.specs.Sample.{input, literal, source_op, before, settled_value, settled_operand, settled, named, steps, sample}
-use Rattle.rule_typing.proofs.Images.{from_map, get_from_map}
-use Rattle.rule_typing.proofs.Relabelled.{none_there}
+use Rattle.rule_typing.proofs.Images.{from_map, get_from_map, from_flat_map}
+use Rattle.rule_typing.proofs.NumberedLists.{none_there}
 
-only_one : {X : Type 0} (x : X) (j : ℕ) (y : X) → slice_get (x ∷ []) j ≡ Some y → (j ≡ 0) × (x ≡ y)
+pub only_one : {X : Type 0} (x : X) (j : ℕ) (y : X) → slice_get (x ∷ []) j ≡ Some y → (j ≡ 0) × (x ≡ y)
 only_one x zero y at = (refl, same_Some x y at)
 only_one x (suc j) y at = absurd (none_there j y at)
 
 -- two names of one byte
-byte : (a b : ℕ) → a ∷ [] ≡ b ∷ [] → a ≡ b
+pub byte : (a b : ℕ) → a ∷ [] ≡ b ∷ [] → a ≡ b
 byte a b same = ap (λ (l : List ℕ). get_or l 0 0) same
 
-get_of : {X : Type 0} (xs : List X) (x : X) → Contains xs x → (k : ℕ) × (slice_get xs k ≡ Some x)
+pub get_of : {X : Type 0} (xs : List X) (x : X) → Contains xs x → (k : ℕ) × (slice_get xs k ≡ Some x)
 get_of xs x (k, within, is) = (k, slice_get-get_or xs k x within ∙ ap (λ y. Some y) is)
 
 -- ---- what statements read
@@ -83,6 +84,42 @@ count_operands : (statements : List Statement) → length (flat_map (λ s. opera
 count_operands [] = omega arith
 count_operands (s ∷ statements) =
     omega (arith, count_operands statements, three_operands s.op, length-append (operands_of s.op) (flat_map (λ (t : Statement). operands_of t.op) statements))
+
+-- each operand counts at most once
+pub weigh_operands : (operands : List Operand) → sum_by (λ o. argument_weight o.value) operands ≤ length operands
+weigh_operands [] = omega arith
+weigh_operands (o ∷ operands) = omega (arith, weigh_operands operands, sum_by-cons (λ (x : Operand). argument_weight x.value) o operands, at_most_one o.value)
+  where
+    at_most_one : (value : Argument) → argument_weight value ≤ 1
+    at_most_one (arguments.Register r) = omega arith
+    at_most_one (arguments.Literal z) = omega arith
+    at_most_one (arguments.Truth b) = omega arith
+    at_most_one (arguments.Constant j) = omega arith
+    at_most_one (arguments.Undef j) = omega arith
+    at_most_one (arguments.Term j) = omega arith
+
+-- an operand that is settled is no `undef`
+no_undef : (k : ℕ) (value : Argument) → undef_in (settled_value k value) ≡ None
+no_undef k (arguments.Register (registers.Input i)) = refl
+no_undef k (arguments.Register (registers.Source j)) = elim (cases_eq k 0) [ inl none ↦ ap undef_in (before_first k none) | inr some ↦ ap undef_in (before_later k some) ]
+no_undef k (arguments.Register (registers.Target j)) = elim (cases_eq k 0) [ inl none ↦ ap undef_in (before_first k none) | inr some ↦ ap undef_in (before_later k some) ]
+no_undef k (arguments.Literal z) = refl
+no_undef k (arguments.Truth b) = refl
+no_undef k (arguments.Constant j) = refl
+no_undef k (arguments.Undef j) = refl
+no_undef k (arguments.Term j) = refl
+
+-- where no operand is one there are none
+none_among : (operands : List Operand) → ((o : Operand) → Contains operands o → undef_in o.value ≡ None) → filter_map (λ o. undef_in o.value) operands ≡ []
+none_among [] each = refl
+none_among (o ∷ operands) each = rw (each o (0, omega arith, refl), none_among operands (λ p (k, within, is). each p (suc k, omega arith, is))) refl
+
+not_copied : (k : ℕ) (op : Op) → IsNoUndefCopy (settled k op)
+not_copied k (Binary op flags a b) = tt
+not_copied k (Compare pred a b) = tt
+not_copied k (Select z a b) = tt
+not_copied k (Convert cast a to) = tt
+not_copied k (Copy a) = λ j is. let some : None ≡ Some j = sym (no_undef k a.value) ∙ ap undef_in is in cc
 
 module _ (cast : Option Cast) (written : Option ℕ) (n : ℤ) (ops : List Op) (last : Op) (few : length ops ≤ 8) where
   abbrev rule : Rule
@@ -142,6 +179,9 @@ module _ (cast : Option Cast) (written : Option ℕ) (n : ℤ) (ops : List Op) (
   value_reads k (arguments.Register (registers.Target j)) = before_reads k
   value_reads k (arguments.Literal z) = tt
   value_reads k (arguments.Truth b) = tt
+  value_reads k (arguments.Constant j) = tt
+  value_reads k (arguments.Undef j) = tt
+  value_reads k (arguments.Term n) = tt
 
   target_reads : (k : ℕ) (s : Statement) (o : Operand) → slice_get rule.target k ≡ Some s → Contains (operands_of s.op) o → TargetMayRead rule k o.value
   target_reads k s o at among =
@@ -189,15 +229,37 @@ module _ (cast : Option Cast) (written : Option ℕ) (n : ℤ) (ops : List Op) (
     | inr value ↦ let other : arguments.Literal n ≡ arguments.Register (registers.Input i) = sym value ∙ is in cc
   ]
 
+  no_constant : (k q : ℕ) → StandsAt rule q (arguments.Constant k) → ⊥
+  no_constant k q (o, at, is) = elim (operand_at cast q o (ap (λ l. slice_get l q) (sym one_op) ∙ at)) [
+    | inl (first, value) ↦ let other : arguments.Register (registers.Input 0) ≡ arguments.Constant k = sym value ∙ is in cc
+    | inr value ↦ let other : arguments.Literal n ≡ arguments.Constant k = sym value ∙ is in cc
+  ]
+
   first_reads : ReadsAt rule 0 (registers.Input 0)
   first_reads = let (o, at, is) = first_operand cast in (o, ap (λ l. slice_get l 0) one_op ∙ at, is)
+
+  source_undef : (o : Operand) → Contains (operands_among rule.source) o → undef_in o.value ≡ None
+  source_undef o among =
+      let (q, there) = get_of (operands_of (source_op cast written n)) o (subst (λ l. Contains l o) one_op among) in
+      elim (operand_at cast q o there) [ inl (first, is) ↦ ap undef_in is | inr is ↦ ap undef_in is ]
+
+  target_undef : (o : Operand) → Contains (operands_among rule.target) o → undef_in o.value ≡ None
+  target_undef o among =
+      let (s, stands, here) = from_flat_map (λ (t : Statement). operands_of t.op) rule.target o among in
+      let (k, at) = get_of rule.target s stands in
+      let (op, is) = (step_at k s at).1 in
+      let (raw, there, same) = from_map (settled_operand k) (operands_of op) o (subst (λ l. Contains l o) (ap operands_of is ∙ operands-settled k op) here) in
+      ap (λ (p : Operand). undef_in p.value) same ∙ no_undef k raw.value
+
+  in_order : (statements : List Statement) → undefs_among statements ≡ [] → UndefsInOrder statements
+  in_order statements none = rw none refl
 
   pub is_rule : IsRule rule
   is_rule =
       record {
         few_in_source = omega arith;
         few_in_target = omega (arith, count_target);
-        few_operands = omega (arith, count_operands (rule.source ++ rule.target), count_target, length-append rule.source rule.target);
+        few_nodes = omega (arith, weigh_operands (operands_in rule), count_operands (rule.source ++ rule.target), count_target, length-append rule.source rule.target);
         short_name = omega arith;
         short_inputs = λ name among. let (k, at) = get_of rule.inputs name among in subst (λ (l : List ℕ). length l ≤ 200) (only_one (120 ∷ []) k name at).1 (omega arith);
         short_constants = λ name among. let (k, at) = get_of [] name among in absurd (none_there k name at);
@@ -214,6 +276,12 @@ module _ (cast : Option Cast) (written : Option ℕ) (n : ℤ) (ops : List Op) (
             let h = byte 120 114 ((only_one (120 ∷ []) k name at).1 ∙ sym (only_one (114 ∷ []) j name at').1) in absurd (omega arith);
         inputs_read = λ i less. let none : i ≡ 0 = omega arith in (0, subst (λ j. ReadsAt rule 0 (registers.Input j)) (sym none) first_reads);
         inputs_in_order = λ h i q less at. let none = reads_first q i at in absurd (omega arith);
+        constants_distinct = λ j k name at at'. absurd (none_there j name at);
+        constants_read = λ k less. absurd (omega arith);
+        constants_in_order = λ h k q less at. absurd (no_constant k q at);
+        terms = λ k t at. absurd (none_there k t at);
+        witness_terms = λ k t at. absurd (none_there k t at);
+        precondition = λ k f at. absurd (none_there k f at);
         source_root = omega arith;
         target_root = omega (arith, count_target);
         root = λ j k s t last_j at last_k at'.
@@ -228,6 +296,11 @@ module _ (cast : Option Cast) (written : Option ℕ) (n : ℤ) (ops : List Op) (
         source_ops = λ k s at. subst (λ (t : Statement). MayStandInSource t.op) (in_source k s at).1 (stands cast);
         source_flags = λ k s at. subst (λ (t : Statement). FlagsFitOp t.op) (in_source k s at).1 (flags cast);
         target_flags = λ k s at. let (op, is) = (step_at k s at).1 in subst FlagsFitOp (sym is) (flags-settled k op);
+        source_undefs = in_order rule.source (none_among (operands_among rule.source) source_undef);
+        target_undefs = in_order rule.target (none_among (operands_among rule.target) target_undef);
+        target_copies = λ k s at. let (op, is) = (step_at k s at).1 in subst IsNoUndefCopy (sym is) (not_copied k op);
+        witnesses = sym (ap length (none_among (operands_among rule.source) source_undef));
+        witnesses_there = λ k j at. absurd (none_there k j at);
       }
 
 -- one more step

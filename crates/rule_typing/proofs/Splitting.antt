@@ -1,46 +1,34 @@
 -- Whether positions on one line have different classes.
-use Rattle.std.proofs.Common.{◌≡◌, ◌≢◌, ◌⊎◌, inl, inr, ℕ, zero, suc, List, length, Some, refl, sym, ap, subst, ◌∙◌, arith}
+use Rattle.std.proofs.Common.{◌≡◌, ◌≢◌, ◌⊎◌, inl, inr, ℕ, zero, suc, ◌+◌, ◌-◌, List, ◌++◌, length, Option, None, Some, refl, sym, ap, subst, ◌∙◌, arith}
 use Rattle.std.specs.Prelude.{slice_get, Contains}
 use Rattle.std.proofs.Math.Decide.{map_dec}
+use Rattle.std.proofs.lemmas.Option.{same_Some}
 use Rattle.rule_core.specs.declared.rule.Rule.{Rule}
-use Rattle.rule_core.specs.declared.rule.Statement.{Statement}
-use Rattle.rule_core.specs.declared.rule.Op.{Op}
-use Rattle.rule_core.specs.declared.rule.Op.TheVariants.{Binary, Compare, Select, Convert, Copy}
-use Rattle.rule_core.specs.declared.rule.Operand.{Operand}
-use Rattle.rule_core.specs.declared.rule.Argument.{Argument}
-use Rattle.rule_core.specs.declared.rule.Argument.TheVariants as arguments
 use Rattle.rule_core.specs.declared.rule.Register.{Register}
 use Rattle.rule_core.specs.declared.rule.Register.TheVariants as registers
-use Rattle.rule_core.specs.Positions.{operands_in, Names, reads, source_assigns, target_assigns, assigns_root, Line, register}
-use Rattle.rule_typing.specs.Splits.{OpLine, StatementsLine}
-use Rattle.rule_typing.proofs.NameLines.{statements_line, line_parts}
-use Rattle.rule_typing.proofs.Deciding.{dec_both, dec_either, dec_not, stable, dec_number, dec_place, dec_one}
+use Rattle.rule_core.specs.declared.rule.Name.{Name}
+use Rattle.rule_core.specs.declared.rule.Name.TheVariants as names
+use Rattle.rule_core.specs.Positions.{operands_among, terms_in, Names, Line, name}
+use Rattle.rule_typing.specs.declared.half.Half.{Half}
+use Rattle.rule_typing.specs.declared.half.Half.TheVariants as halves
+use Rattle.rule_typing.specs.Splits.{statement_pairs, operand_pairs, term_pairs, formula_pairs, PairOf, operand_naming, term_naming, NamingOf, assigned_class, root_class, RootLine, IsRead}
+use Rattle.rule_typing.proofs.NameLines.{statements_of, read_names, root_is_last, IsNamed, read, assigned, root, named_cases, names_of_named}
+use Rattle.rule_typing.proofs.LineParts.{OnLine, by_statement, by_operand, by_term, by_witness, by_comparison, by_name, line_of, line_cases}
+use Rattle.rule_typing.proofs.SplitLines.{root_line}
+use Rattle.rule_typing.proofs.Deciding.{dec_both, dec_either, dec_not, stable, dec_number, dec_one}
 
--- ---- lines of statements
+-- ---- pairs
 
--- the first class differs from one of two others, or from one
-dec_two : (r x y : ℕ) → Dec ((c : ℕ) × (d : ℕ) × ((c ≡ r) × ((d ≡ x) ⊎ (d ≡ y))) × (c ≢ d))
-dec_two r x y =
-    map_dec (λ one. elim one [ inl apart ↦ (r, x, (refl, inl refl), apart) | inr apart ↦ (r, y, (refl, inr refl), apart) ])
-    (λ (c, d, (is, one), apart). elim one [ inl is' ↦ inl (λ e. apart (is ∙ e ∙ sym is')) | inr is' ↦ inr (λ e. apart (is ∙ e ∙ sym is')) ])
-    (dec_either (dec_not (dec_number r x)) (dec_not (dec_number r y)))
+-- a pair of one of the elements that differs
+abbrev Split : (ℕ → ℕ → Type 0) → Type 0
+Split P = (c : ℕ) × (d : ℕ) × P c d × (c ≢ d)
 
-dec_pair : (x y : ℕ) → Dec ((c : ℕ) × (d : ℕ) × ((c ≡ x) × (d ≡ y)) × (c ≢ d))
-dec_pair x y = map_dec (λ apart. (x, y, (refl, refl), apart)) (λ (c, d, (is, is'), apart) e. apart (is ∙ e ∙ sym is')) (dec_not (dec_number x y))
+dec_pairs : {X : Type 0} (pairs : X → List (ℕ × ℕ)) (xs : List X) → Dec (Split (PairOf pairs xs))
+dec_pairs pairs xs =
+    map_dec (λ (x, among, (p, inside, apart)). (p.0, p.1, (x, among, inside), apart)) (λ (c, d, (x, among, inside), apart). (x, among, ((c, d), inside, apart)))
+    (dec_one (λ x. (p : ℕ × ℕ) × Contains (pairs x) p × (p.0 ≢ p.1)) xs (λ x. dec_one (λ (p : ℕ × ℕ). p.0 ≢ p.1) (pairs x) (λ p. dec_not (dec_number p.0 p.1))))
 
-dec_op : (r : ℕ) (op : Op) → Dec ((c : ℕ) × (d : ℕ) × OpLine r op c d × (c ≢ d))
-dec_op r (Binary op flags a b) = dec_two r a.class b.class
-dec_op r (Compare pred a b) = dec_pair a.class b.class
-dec_op r (Select z a b) = dec_two r a.class b.class
-dec_op r (Convert cast a to) = no (λ (c, d, h, apart). h)
-dec_op r (Copy a) = dec_pair r a.class
-
-dec_statements : (statements : List Statement) → Dec ((c : ℕ) × (d : ℕ) × StatementsLine statements c d × (c ≢ d))
-dec_statements statements =
-    map_dec (λ (k, s, at, (c, d, line, apart)). (c, d, (k, s, at, line), apart)) (λ (c, d, (k, s, at, line), apart). (k, s, at, (c, d, line, apart)))
-    (dec_place (λ k s. (c : ℕ) × (d : ℕ) × OpLine s.class s.op c d × (c ≢ d)) statements (λ k s. dec_op s.class s.op))
-
--- ---- lines of names
+-- ---- names
 
 dec_register : (r s : Register) → Dec (r ≡ s)
 dec_register (registers.Input j) (registers.Input k) = map_dec (λ e. ap (λ n. registers.Input n) e) (λ e. cc) (dec_number j k)
@@ -53,74 +41,129 @@ dec_register (registers.Source j) (registers.Target k) = no (λ e. cc)
 dec_register (registers.Target j) (registers.Input k) = no (λ e. cc)
 dec_register (registers.Target j) (registers.Source k) = no (λ e. cc)
 
-module _ (rule : Rule) (P : Register → ℕ → Type 0) (each : (r : Register) (c : ℕ) → Dec (P r c)) where
-  -- it holds of a register and its class where an operand reads it, a statement assigns it, or the target's last one assigns the root
-  InOperand : Operand → Type 0
-  InOperand o = (r : Register) × (o.value ≡ arguments.Register r) × P r o.class
+dec_name : (m n : Name) → Dec (m ≡ n)
+dec_name (names.Register r) (names.Register s) = map_dec (λ e. ap (λ x. names.Register x) e) (λ e. cc) (dec_register r s)
+dec_name (names.Constant j) (names.Constant k) = map_dec (λ e. ap (λ x. names.Constant x) e) (λ e. cc) (dec_number j k)
+dec_name (names.Undef j) (names.Undef k) = map_dec (λ e. ap (λ x. names.Undef x) e) (λ e. cc) (dec_number j k)
+dec_name (names.Register r) (names.Constant k) = no (λ e. cc)
+dec_name (names.Register r) (names.Undef k) = no (λ e. cc)
+dec_name (names.Constant j) (names.Register r) = no (λ e. cc)
+dec_name (names.Constant j) (names.Undef k) = no (λ e. cc)
+dec_name (names.Undef j) (names.Register r) = no (λ e. cc)
+dec_name (names.Undef j) (names.Constant k) = no (λ e. cc)
 
-  InRoot : ℕ → Statement → Type 0
-  InRoot k t = (j : ℕ) × (suc j ≡ length rule.source) × (suc k ≡ length rule.target) × P (registers.Source j) t.class
+-- what an option holds has it
+dec_held : {X : Type 0} (Q : X → Type 0) → ((x : X) → Dec (Q x)) → (o : Option X) → Dec ((x : X) × (o ≡ Some x) × Q x)
+dec_held Q each None = no (λ (x, e, q). cc)
+dec_held Q each (Some x) = map_dec (λ q. (x, refl, q)) (λ (y, e, q). subst Q (sym (same_Some x y e)) q) (each x)
 
-  dec_value : (value : Argument) (c : ℕ) → Dec ((r : Register) × (value ≡ arguments.Register r) × P r c)
-  dec_value (arguments.Register r) c = map_dec (λ p. (r, refl, p)) (λ (s, e, p). let same : s ≡ r = cc in subst (λ x. P x c) same p) (each r c)
-  dec_value (arguments.Literal z) c = no (λ (s, e, p). cc)
-  dec_value (arguments.Truth b) c = no (λ (s, e, p). cc)
+module _ (rule : Rule) where
+  -- what reads a name has it
+  dec_naming : {X : Type 0} (naming : X → Option (Name × ℕ)) (Q : Name → ℕ → Type 0) → ((n : Name) (c : ℕ) → Dec (Q n c)) → (xs : List X) → Dec ((n : Name) × (c : ℕ) × NamingOf naming xs n c × Q n c)
+  dec_naming {X} naming Q each xs =
+      map_dec (λ (x, among, (p, e, q)). (p.0, p.1, (x, among, e), q)) (λ (n, c, (x, among, e), q). (x, among, ((n, c), e, q)))
+      (dec_one (λ x. (p : Name × ℕ) × (naming x ≡ Some p) × Q p.0 p.1) xs (λ x. dec_held (λ (p : Name × ℕ). Q p.0 p.1) (λ p. each p.0 p.1) (naming x)))
 
-  dec_root : (n k c : ℕ) → Dec ((j : ℕ) × (suc j ≡ n) × (suc k ≡ length rule.target) × P (registers.Source j) c)
-  dec_root zero k c = no (λ (j, e, last, p). absurd (omega arith))
-  dec_root (suc n) k c =
-      map_dec (λ (last, p). (n, refl, last, p)) (λ (j, e, last, p). (last, let same : j ≡ n = omega arith in subst (λ i. P (registers.Source i) c) same p))
-      (dec_both (dec_number (suc k) (length rule.target)) (each (registers.Source n) c))
+  dec_read : (Q : Name → ℕ → Type 0) → ((n : Name) (c : ℕ) → Dec (Q n c)) → Dec ((n : Name) × (c : ℕ) × IsRead rule n c × Q n c)
+  dec_read Q each =
+      map_dec (λ one. elim one [
+        | inl (n, c, h, q) ↦ (n, c, inl h, q)
+        | inr rest ↦ elim rest [ inl (n, c, h, q) ↦ (n, c, inr (inl h), q) | inr (n, c, h, q) ↦ (n, c, inr (inr h), q) ]
+      ]) (λ (n, c, h, q). elim h [
+        | inl left ↦ inl (n, c, left, q)
+        | inr rest ↦ elim rest [ inl middle ↦ inr (inl (n, c, middle, q)) | inr right ↦ inr (inr (n, c, right, q)) ]
+      ])
+      (dec_either (dec_naming (operand_naming halves.Source) Q each (operands_among rule.source))
+      (dec_either (dec_naming (operand_naming halves.Target) Q each (operands_among rule.target)) (dec_naming term_naming Q each (terms_in rule))))
+
+  -- another position of another class has the name
+  Other : Name → ℕ → Type 0
+  Other n c = (d : ℕ) × Names rule n d × (c ≢ d)
+
+  by_parts : (n : Name) (c d : ℕ) → c ≢ d → IsNamed rule n d
+      → ((m : Name) × (e : ℕ) × IsRead rule m e × ((m ≡ n) × (c ≢ e))) ⊎ (((e : ℕ) × (assigned_class rule n ≡ Some e) × (c ≢ e)) ⊎ ((e : ℕ) × (root_class rule n ≡ Some e) × (c ≢ e)))
+  by_parts n c d apart (read h) = inl (n, d, h, (refl, apart))
+  by_parts n c d apart (assigned h) = inr (inl (d, h, apart))
+  by_parts n c d apart (root h) = inr (inr (d, h, apart))
+
+  dec_other : (n : Name) (c : ℕ) → Dec (Other n c)
+  unfolding Other
+  dec_other n c =
+      map_dec (λ one. elim one [
+        | inl (m, d, h, (same, apart)) ↦ (d, subst (λ x. Names rule x d) same (read_names rule m d h), apart)
+        | inr rest ↦ elim rest [ inl (d, h, apart) ↦ (d, names_of_named rule n d (assigned h), apart) | inr (d, h, apart) ↦ (d, names_of_named rule n d (root h), apart) ]
+      ]) (λ (d, h, apart). by_parts n c d apart (named_cases rule n d h))
+      (dec_either (dec_read (λ m d. (m ≡ n) × (c ≢ d)) (λ m d. dec_both (dec_name m n) (dec_not (dec_number c d))))
+      (dec_either (dec_held (λ d. c ≢ d) (λ d. dec_not (dec_number c d)) (assigned_class rule n)) (dec_held (λ d. c ≢ d) (λ d. dec_not (dec_number c d)) (root_class rule n))))
+
+  -- the results that assign the root differ
+  dec_root : Dec (Split (RootLine rule))
+  dec_root =
+      let n : Name = names.Register (registers.Source (length rule.source - 1)) in
+      map_dec (λ (c, h, (d, k, apart)). (c, d, (n, h, k), apart))
+      (λ (c, d, (m, h, k), apart).
+      let (j, named, end, class) = root_is_last rule m d k in
+      let place : j ≡ length rule.source - 1 = omega arith in
+      let same : m ≡ n = named ∙ ap (λ i. names.Register (registers.Source i)) place in
+      (c, subst (λ x. assigned_class rule x ≡ Some c) same h, (d, subst (λ x. root_class rule x ≡ Some d) same k, apart)))
+      (dec_held (λ c. (d : ℕ) × (root_class rule n ≡ Some d) × (c ≢ d)) (λ c. dec_held (λ d. c ≢ d) (λ d. dec_not (dec_number c d)) (root_class rule n)) (assigned_class rule n))
+
+  -- ---- lines
 
   abbrev Found : Type 0
   Found =
-      ((o : Operand) × Contains (operands_in rule) o × InOperand o)
-      ⊎ (((k : ℕ) × (s : Statement) × (slice_get rule.source k ≡ Some s) × P (registers.Source k) s.class)
-      ⊎ (((k : ℕ) × (s : Statement) × (slice_get rule.target k ≡ Some s) × P (registers.Target k) s.class)
-      ⊎ ((k : ℕ) × (s : Statement) × (slice_get rule.target k ≡ Some s) × InRoot k s)))
+      Split (PairOf statement_pairs (rule.source ++ rule.target))
+      ⊎ (Split (PairOf (operand_pairs rule halves.Source) (operands_among rule.source))
+      ⊎ (Split (PairOf (operand_pairs rule halves.Target) (operands_among rule.target))
+      ⊎ (Split (PairOf (term_pairs rule.terms) rule.terms)
+      ⊎ (Split (PairOf (term_pairs rule.witness_terms) rule.witness_terms)
+      ⊎ (Split (PairOf (formula_pairs rule.terms) rule.precondition)
+      ⊎ (((n : Name) × (c : ℕ) × IsRead rule n c × Other n c)
+      ⊎ Split (RootLine rule)))))))
 
-  abbrev Named : Type 0
-  Named = (r : Register) × (c : ℕ) × Names rule r c × P r c
+  dec_found : Dec Found
+  dec_found =
+      dec_either (dec_pairs statement_pairs (rule.source ++ rule.target))
+      (dec_either (dec_pairs (operand_pairs rule halves.Source) (operands_among rule.source))
+      (dec_either (dec_pairs (operand_pairs rule halves.Target) (operands_among rule.target))
+      (dec_either (dec_pairs (term_pairs rule.terms) rule.terms)
+      (dec_either (dec_pairs (term_pairs rule.witness_terms) rule.witness_terms)
+      (dec_either (dec_pairs (formula_pairs rule.terms) rule.precondition)
+      (dec_either (dec_read Other dec_other) dec_root))))))
 
-  named : Found → Named
-  unfolding InOperand InRoot
-  named (inl (o, among, (r, is, p))) = (r, o.class, reads among is, p)
-  named (inr (inl (k, s, at, p))) = (registers.Source k, s.class, source_assigns at, p)
-  named (inr (inr (inl (k, s, at, p)))) = (registers.Target k, s.class, target_assigns at, p)
-  named (inr (inr (inr (k, s, at, (j, last, last', p))))) = (registers.Source j, s.class, assigns_root last last' at, p)
+  found_line : Found → Split (Line rule)
+  unfolding Other
+  found_line (inl (c, d, h, apart)) = (c, d, line_of rule c d (by_statement h), apart)
+  found_line (inr (inl (c, d, h, apart))) = (c, d, line_of rule c d (by_operand halves.Source h), apart)
+  found_line (inr (inr (inl (c, d, h, apart)))) = (c, d, line_of rule c d (by_operand halves.Target h), apart)
+  found_line (inr (inr (inr (inl (c, d, h, apart))))) = (c, d, line_of rule c d (by_term h), apart)
+  found_line (inr (inr (inr (inr (inl (c, d, h, apart)))))) = (c, d, line_of rule c d (by_witness h), apart)
+  found_line (inr (inr (inr (inr (inr (inl (c, d, h, apart))))))) = (c, d, line_of rule c d (by_comparison h), apart)
+  found_line (inr (inr (inr (inr (inr (inr (inl (n, c, h, (d, q, apart))))))))) = (c, d, name (read_names rule n c h) q, apart)
+  found_line (inr (inr (inr (inr (inr (inr (inr (c, d, h, apart)))))))) = (c, d, root_line rule c d h, apart)
 
-  found_by : (r : Register) (c : ℕ) → Names rule r c → P r c → Found
-  unfolding InOperand InRoot
-  found_by r c (reads {o} among is) p = inl (o, among, (r, is, p))
-  found_by r c (source_assigns {k} {s} at) p = inr (inl (k, s, at, p))
-  found_by r c (target_assigns {k} {s} at) p = inr (inr (inl (k, s, at, p)))
-  found_by r c (assigns_root {j} {k} {s} last last' at) p = inr (inr (inr (k, s, at, (j, last, last', p))))
+  apart_names : (n : Name) (c d : ℕ) → c ≢ d → Names rule n c → Names rule n d → IsNamed rule n c → IsNamed rule n d → Found
+  unfolding Other
+  apart_names n c d apart p q (read h) k = inr (inr (inr (inr (inr (inr (inl (n, c, h, (d, q, apart))))))))
+  apart_names n c d apart p q (assigned h) (read k) = inr (inr (inr (inr (inr (inr (inl (n, d, k, (c, p, λ e. apart (sym e)))))))))
+  apart_names n c d apart p q (assigned h) (assigned k) = absurd (apart (same_Some c d (sym h ∙ k)))
+  apart_names n c d apart p q (assigned h) (root k) = inr (inr (inr (inr (inr (inr (inr (c, d, (n, h, k), apart)))))))
+  apart_names n c d apart p q (root h) (read k) = inr (inr (inr (inr (inr (inr (inl (n, d, k, (c, p, λ e. apart (sym e)))))))))
+  apart_names n c d apart p q (root h) (assigned k) = inr (inr (inr (inr (inr (inr (inr (d, c, (n, k, h), λ e. apart (sym e))))))))
+  apart_names n c d apart p q (root h) (root k) = absurd (apart (same_Some c d (sym h ∙ k)))
 
-  pub dec_named : Dec Named
-  unfolding InOperand InRoot
-  dec_named =
-      map_dec named (λ (r, c, names, p). found_by r c names p) (dec_either (dec_one InOperand (operands_in rule) (λ o. dec_value o.value o.class))
-      (dec_either (dec_place (λ k s. P (registers.Source k) s.class) rule.source (λ k s. each (registers.Source k) s.class))
-      (dec_either (dec_place (λ k s. P (registers.Target k) s.class) rule.target (λ k s. each (registers.Target k) s.class))
-      (dec_place InRoot rule.target (λ k s. dec_root (length rule.source) k s.class)))))
-
-dec_names : (rule : Rule) → Dec ((c : ℕ) × (d : ℕ) × ((r : Register) × Names rule r c × Names rule r d) × (c ≢ d))
-dec_names rule =
-    map_dec (λ (r, c, p, (s, d, q, (same, apart))). (c, d, (r, p, subst (λ x. Names rule x d) same q), apart)) (λ (c, d, (r, p, q), apart). (r, c, p, (r, d, q, (refl, apart))))
-    (dec_named rule (λ r c. (s : Register) × (d : ℕ) × Names rule s d × ((s ≡ r) × (c ≢ d)))
-    (λ r c. dec_named rule (λ s d. (s ≡ r) × (c ≢ d)) (λ s d. dec_both (dec_register s r) (dec_not (dec_number c d)))))
-
--- ---- lines
+  line_found : (c d : ℕ) → c ≢ d → OnLine rule c d → Found
+  line_found c d apart (by_statement h) = inl (c, d, h, apart)
+  line_found c d apart (by_operand halves.Source h) = inr (inl (c, d, h, apart))
+  line_found c d apart (by_operand halves.Target h) = inr (inr (inl (c, d, h, apart)))
+  line_found c d apart (by_term h) = inr (inr (inr (inl (c, d, h, apart))))
+  line_found c d apart (by_witness h) = inr (inr (inr (inr (inl (c, d, h, apart)))))
+  line_found c d apart (by_comparison h) = inr (inr (inr (inr (inr (inl (c, d, h, apart))))))
+  line_found c d apart (by_name n p q) = apart_names n c d apart p q (named_cases rule n c p) (named_cases rule n d q)
 
 -- on some line two classes differ, or each line's are one
 pub split_or_joined : (rule : Rule) → ((c : ℕ) × (d : ℕ) × Line rule c d × (c ≢ d)) ⊎ ((c d : ℕ) → Line rule c d → c ≡ d)
-split_or_joined rule = elim (dec_either (dec_either (dec_statements rule.source) (dec_statements rule.target)) (dec_names rule)) [
-  | yes (inl (inl (c, d, line, apart))) ↦ inl (c, d, statements_line rule c d (inl line), apart)
-  | yes (inl (inr (c, d, line, apart))) ↦ inl (c, d, statements_line rule c d (inr line), apart)
-  | yes (inr (c, d, (r, p, q), apart)) ↦ inl (c, d, register p q, apart)
-  | no none ↦ inr (λ c d line. stable (dec_number c d) (λ apart. elim (line_parts rule c d line) [
-    | inl (inl at) ↦ none (inl (inl (c, d, at, apart)))
-    | inl (inr at) ↦ none (inl (inr (c, d, at, apart)))
-    | inr names ↦ none (inr (c, d, names, apart))
-  ]))
+split_or_joined rule = elim (dec_found rule) [
+  | yes found ↦ inl (found_line rule found)
+  | no none ↦ inr (λ c d on. stable (dec_number c d) (λ apart. none (line_found rule c d apart (line_cases rule c d on))))
 ]

@@ -1,21 +1,24 @@
 -- Where a rule keeps its classes, widths are a typing exactly where there is one for each class, and each class may have its own.
-use Rattle.std.proofs.Common.{◌≡◌, ◌↔◌, inl, inr, ℕ, suc, ◌+◌, ◌<◌, List, [], ◌∷◌, ◌++◌, length, map, get_or, Some, refl, sym, ap, subst, ◌∙◌, arith, add-zero, add_assoc}
+use Rattle.std.proofs.Common.{◌≡◌, ◌↔◌, inl, inr, ℕ, suc, ◌+◌, ◌<◌, List, [], ◌∷◌, ◌++◌, length, map, get_or, Some, refl, sym, ap, subst, ◌∙◌, arith, add-zero, length-append}
 use Rattle.std.specs.Prelude.{slice_get, Contains, flat_map}
 use Rattle.std.proofs.lemmas.Bool.{cases_lt}
-use Rattle.std.proofs.lemmas.Grind.{flat_map-append}
 use Rattle.std.proofs.lemmas.Option.{slice_get-get_or, get_or_from_slice_get, same_Some}
 use Rattle.rule_core.specs.declared.rule.Rule.{Rule}
 use Rattle.rule_core.specs.declared.rule.Statement.{Statement}
 use Rattle.rule_core.specs.declared.rule.Op.{Op}
 use Rattle.rule_core.specs.declared.rule.Op.TheVariants.{Binary, Compare, Select, Convert, Copy}
-use Rattle.rule_core.specs.Positions.{operands_of, classes_of_statement, classes_of, Line, Fixed, Smaller}
+use Rattle.rule_core.specs.declared.rule.Term.{Term}
+use Rattle.rule_core.specs.declared.rule.Node.{Node}
+use Rattle.rule_core.specs.declared.rule.Node.TheVariants as nodes
+use Rattle.rule_core.specs.Positions.{operands_of, classes_of_statement, classes_of_node, classes_of_term, classes_of, Line, Fixed, Smaller}
 use Rattle.rule_core.specs.Typing.{IsTyping}
 use Rattle.rule_core.proofs.Members.{Contains-from_get, get-append_left, get-append_right}
-use Rattle.rule_typing.specs.Relabelling.{mapped_op, mapped_statement, mapped, numbered_op, numbered_statement, numbered_statements, numbered}
+use Rattle.rule_typing.specs.Relabelling.{mapped_op, mapped_statement, mapped_node, mapped_term, mapped, numbered_op, numbered_statement, numbered_statements, numbered_node, numbered_term, numbered_terms, positions_of, positions_among, numbered}
 use Rattle.rule_typing.specs.Classes.{IsClassified, HasClasses, line}
 use Rattle.rule_typing.specs.Fitting.{MayHaveWidth}
 use Rattle.rule_typing.specs.Solving.{MeetsSmaller}
-use Rattle.rule_typing.proofs.Relabelled.{class_is_position, count_positions}
+use Rattle.rule_typing.proofs.NumberedLists.{Gives, gives_left, gives_right, restored_list}
+use Rattle.rule_typing.proofs.Relabelled.{classes_apart, class_is_position, count_positions}
 use Rattle.rule_typing.proofs.MappedLines.{from_line_map, line_classes}
 use Rattle.rule_typing.proofs.FixedLines.{fixed_class}
 
@@ -44,16 +47,23 @@ restored_statement f n s gives =
     = restored_op f (n + 1) s.op (λ k c at. let same : n + 1 + k ≡ n + suc k = omega arith in ap f same ∙ gives (suc k) c at) in
     rw (result, op) refl
 
-restored_statements : (f : ℕ → ℕ) (n : ℕ) (xs : List Statement) → ((k c : ℕ) → slice_get (flat_map classes_of_statement xs) k ≡ Some c → f (n + k) ≡ c) → map (mapped_statement f) (numbered_statements n xs) ≡ xs
-restored_statements f n [] gives = refl
-restored_statements f n (s ∷ xs) gives =
-    let rest = flat_map classes_of_statement xs in
-    let count = length (classes_of_statement s) in
-    let here : mapped_statement f (numbered_statement n s) ≡ s
-    = restored_statement f n s (λ k c at. gives k c (get-append_left (classes_of_statement s) rest k c at)) in
-    let later : map (mapped_statement f) (numbered_statements (n + count) xs) ≡ xs
-    = restored_statements f (n + count) xs (λ k c at. ap f (add_assoc n count k) ∙ gives (count + k) c (get-append_right (classes_of_statement s) rest k ∙ at)) in
-    rw (here, later) refl
+restored_node : (f : ℕ → ℕ) (n c : ℕ) (node : Node) → Gives f n (classes_of_node c node) → mapped_term f (numbered_term n (record { class = c; node = node })) ≡ record { class = c; node = node }
+restored_node f n c (nodes.Literal z) gives = let own : f n ≡ c = ap f (sym (add-zero n)) ∙ gives 0 c refl in rw own refl
+restored_node f n c (nodes.Constant k) gives = let own : f n ≡ c = ap f (sym (add-zero n)) ∙ gives 0 c refl in rw own refl
+restored_node f n c (nodes.Register r) gives = let own : f n ≡ c = ap f (sym (add-zero n)) ∙ gives 0 c refl in rw own refl
+restored_node f n c (nodes.Undef k) gives = let own : f n ≡ c = ap f (sym (add-zero n)) ∙ gives 0 c refl in rw own refl
+restored_node f n c (nodes.Width r d) gives =
+    let own : f n ≡ c = ap f (sym (add-zero n)) ∙ gives 0 c refl in
+    let other : f (n + 1) ≡ d = gives 1 d refl in
+    rw (own, other) refl
+restored_node f n c (nodes.Unary function a) gives = let own : f n ≡ c = ap f (sym (add-zero n)) ∙ gives 0 c refl in rw own refl
+restored_node f n c (nodes.Binary op a b) gives = let own : f n ≡ c = ap f (sym (add-zero n)) ∙ gives 0 c refl in rw own refl
+
+restored_statements : (f : ℕ → ℕ) (n : ℕ) (xs : List Statement) → Gives f n (flat_map classes_of_statement xs) → map (mapped_statement f) (numbered_statements n xs) ≡ xs
+restored_statements f n xs gives = restored_list Statement classes_of_statement numbered_statement (mapped_statement f) f (restored_statement f) n xs gives
+
+restored_terms : (f : ℕ → ℕ) (n : ℕ) (xs : List Term) → Gives f n (flat_map classes_of_term xs) → map (mapped_term f) (numbered_terms n xs) ≡ xs
+restored_terms f n xs gives = restored_list Term classes_of_term numbered_term (mapped_term f) f (λ m t. restored_node f m t.class t.node) n xs gives
 
 class_at : Rule → ℕ → ℕ
 class_at rule k = get_or (classes_of rule) k 0
@@ -61,14 +71,21 @@ class_at rule k = get_or (classes_of rule) k 0
 restored : (rule : Rule) → mapped (class_at rule) (numbered rule) ≡ rule
 unfolding class_at
 restored rule =
+    let f = class_at rule in
     let source = flat_map classes_of_statement rule.source in
     let target = flat_map classes_of_statement rule.target in
-    let parts : classes_of rule ≡ source ++ target = flat_map-append classes_of_statement rule.source rule.target in
-    let first : map (mapped_statement (class_at rule)) (numbered_statements 0 rule.source) ≡ rule.source
-    = restored_statements (class_at rule) 0 rule.source (λ k c at. let same : 0 + k ≡ k = omega arith in ap (class_at rule) same ∙ get_or_from_slice_get (classes_of rule) k c 0 (ap (λ l. slice_get l k) parts ∙ get-append_left source target k c at)) in
-    let second : map (mapped_statement (class_at rule)) (numbered_statements (length source) rule.target) ≡ rule.target
-    = restored_statements (class_at rule) (length source) rule.target (λ k c at. get_or_from_slice_get (classes_of rule) (length source + k) c 0 (ap (λ l. slice_get l (length source + k)) parts ∙ get-append_right source target k ∙ at)) in
-    rw (first, second) refl
+    let terms = flat_map classes_of_term rule.terms in
+    let witness = flat_map classes_of_term rule.witness_terms in
+    let all : Gives f 0 ((source ++ target) ++ (terms ++ witness))
+    = λ k c at. let same : 0 + k ≡ k = omega arith in ap f same ∙ get_or_from_slice_get (classes_of rule) k c 0 (ap (λ l. slice_get l k) (classes_apart rule) ∙ at) in
+    let behind : length (source ++ target) ≡ length source + length target = length-append source target in
+    let halves : Gives f 0 (source ++ target) = gives_left f 0 (source ++ target) (terms ++ witness) all in
+    let nodes_give : Gives f (length source + length target) (terms ++ witness) = gives_right f 0 (length source + length target) (source ++ target) (terms ++ witness) (omega arith) all in
+    let first = restored_statements f 0 rule.source (gives_left f 0 source target halves) in
+    let second = restored_statements f (length source) rule.target (gives_right f 0 (length source) source target (omega arith) halves) in
+    let third = restored_terms f (length source + length target) rule.terms (gives_left f (length source + length target) terms witness nodes_give) in
+    let fourth = restored_terms f (length source + length target + length terms) rule.witness_terms (gives_right f (length source + length target) (length source + length target + length terms) terms witness refl nodes_give) in
+    rw (first, second, third, fourth) refl
 
 -- a class of the numbered rule is a position, where the rule keeps its class
 kept_at : (rule : Rule) (p : ℕ) → Contains (classes_of (numbered rule)) p → slice_get (classes_of rule) p ≡ Some (class_at rule p)
@@ -101,6 +118,7 @@ typed rule widths n classified counted same may below =
       fixed = fixed_at rule widths n counted same may;
       smaller = below;
       literals = λ o z N among is at. (may o.class N at).literals o z among refl is;
+      term_literals = λ t z N among is at. (may t.class N at).term_literals t z among refl is;
     }
 
 pub count_widths : (rule : Rule) (widths : List ℕ) (n : ℕ) → HasClasses rule n → IsTyping rule widths → length widths ≡ n
@@ -119,6 +137,7 @@ may_have rule widths typing c N at =
       within = typing.widths N (Contains-from_get widths c N at);
       fixed = λ M fixed. same_Some M N (sym (typing.fixed c M fixed) ∙ at);
       literals = λ o z among class is. typing.literals o z N among is (subst (λ k. slice_get widths k ≡ Some N) (sym class) at);
+      term_literals = λ t z among class is. typing.term_literals t z N among is (subst (λ k. slice_get widths k ≡ Some N) (sym class) at);
     }
 
 -- where there are as many widths as classes: each class may have its own, and casts keep them in order

@@ -10,10 +10,13 @@ use Rattle.rule_core.specs.declared.rule.Statement.{Statement}
 use Rattle.rule_core.specs.declared.rule.Operand.{Operand}
 use Rattle.rule_core.specs.declared.rule.Argument.{Argument}
 use Rattle.rule_core.specs.declared.rule.Argument.TheVariants as arguments
-use Rattle.rule_core.specs.Positions.{operands_of, operands_in, Fixed}
+use Rattle.rule_core.specs.declared.rule.Term.{Term}
+use Rattle.rule_core.specs.declared.rule.Node.{Node}
+use Rattle.rule_core.specs.declared.rule.Node.TheVariants as nodes
+use Rattle.rule_core.specs.Positions.{operands_of, operands_in, terms_in, Fixed}
 use Rattle.rule_core.specs.Typing.{FitsLiteral}
 use Rattle.rule_typing.specs.Fixing.{fixed_line, FixesWidth, StatementFixes}
-use Rattle.rule_typing.specs.Fitting.{FitsIn, MayHaveWidth}
+use Rattle.rule_typing.specs.Fitting.{FitsIn, TermFits, MayHaveWidth}
 use Rattle.rule_typing.proofs.Deciding.{dec_both, dec_either, dec_not, stable, dec_number, dec_one, dec_each}
 use Rattle.rule_typing.proofs.FixedLines.{of_fixed, fixed_of}
 
@@ -35,6 +38,9 @@ module _ (Q : ℕ → Type 0) (each : (M : ℕ) → Dec (Q M)) where
   dec_value (arguments.Truth b) = map_dec (λ q. (1, ((b, refl), refl), q)) (λ (M, (is, one), q). subst Q one q) (each 1)
   dec_value (arguments.Register r) = no (λ (M, ((b, e), one), q). cc)
   dec_value (arguments.Literal z) = no (λ (M, ((b, e), one), q). cc)
+  dec_value (arguments.Constant k) = no (λ (M, ((b, e), one), q). cc)
+  dec_value (arguments.Undef k) = no (λ (M, ((b, e), one), q). cc)
+  dec_value (arguments.Term n) = no (λ (M, ((b, e), one), q). cc)
 
   dec_operand : (c : ℕ) (o : Operand) → Dec ((M : ℕ) × FixesWidth c M o × Q M)
   dec_operand c o =
@@ -73,6 +79,18 @@ dec_argument : (N : ℕ) (value : Argument) → Dec ((z : ℤ) → value ≡ arg
 dec_argument N (arguments.Register r) = yes (λ z e. cc)
 dec_argument N (arguments.Literal y) = map_dec (λ fits z e. let same : y ≡ z = cc in subst (FitsLiteral N) same fits) (λ each. each y refl) (dec_literal N y)
 dec_argument N (arguments.Truth b) = yes (λ z e. cc)
+dec_argument N (arguments.Constant k) = yes (λ z e. cc)
+dec_argument N (arguments.Undef k) = yes (λ z e. cc)
+dec_argument N (arguments.Term n) = yes (λ z e. cc)
+
+dec_node : (N : ℕ) (node : Node) → Dec ((z : ℤ) → node ≡ nodes.Literal z → FitsLiteral N z)
+dec_node N (nodes.Literal y) = map_dec (λ fits z e. let same : y ≡ z = cc in subst (FitsLiteral N) same fits) (λ each. each y refl) (dec_literal N y)
+dec_node N (nodes.Constant k) = yes (λ z e. cc)
+dec_node N (nodes.Register r) = yes (λ z e. cc)
+dec_node N (nodes.Undef k) = yes (λ z e. cc)
+dec_node N (nodes.Width r c) = yes (λ z e. cc)
+dec_node N (nodes.Unary function a) = yes (λ z e. cc)
+dec_node N (nodes.Binary op a b) = yes (λ z e. cc)
 
 dec_implied : {P Q : Type 0} → Dec P → Dec Q → Dec (P → Q)
 dec_implied (no h) d = yes (λ p. absurd (h p))
@@ -82,8 +100,11 @@ dec_implied (yes p) (no h) = no (λ f. h (f p))
 dec_fits : (c N : ℕ) (o : Operand) → Dec (FitsIn c N o)
 dec_fits c N o = map_dec (λ h z is e. h is z e) (λ h is z e. h z is e) (dec_implied (dec_number o.class c) (dec_argument N o.value))
 
+dec_term : (c N : ℕ) (t : Term) → Dec (TermFits c N t)
+dec_term c N t = map_dec (λ h z is e. h is z e) (λ h is z e. h z is e) (dec_implied (dec_number t.class c) (dec_node N t.node))
+
 pub dec_width : (rule : Rule) (c N : ℕ) → Dec (MayHaveWidth rule c N)
 dec_width rule c N =
-    map_dec (λ (within, (fixed, fits)). record { within = within; fixed = fixed; literals = λ o z among is e. fits o among z is e })
-    (λ may. (may.within, (may.fixed, λ o among z is e. may.literals o z among is e)))
-    (dec_both (dec_both (dec_le 1 N) (dec_le N 64)) (dec_both (dec_only rule c N) (dec_each (FitsIn c N) (operands_in rule) (dec_fits c N))))
+    map_dec (λ (within, (fixed, (fits, terms))). record { within = within; fixed = fixed; literals = λ o z among is e. fits o among z is e; term_literals = λ t z among is e. terms t among z is e })
+    (λ may. (may.within, (may.fixed, (λ o among z is e. may.literals o z among is e, λ t among z is e. may.term_literals t z among is e))))
+    (dec_both (dec_both (dec_le 1 N) (dec_le N 64)) (dec_both (dec_only rule c N) (dec_both (dec_each (FitsIn c N) (operands_in rule) (dec_fits c N)) (dec_each (TermFits c N) (terms_in rule) (dec_term c N)))))

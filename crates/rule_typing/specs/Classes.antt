@@ -3,8 +3,8 @@ use Rattle.std.specs.Prelude.{◌≡◌, ◌↔◌, ℕ, ◌<◌, ◌⊎◌, Lis
 use Rattle.rule_core.specs.declared.rule.Rule.{Rule}
 use Rattle.rule_core.specs.declared.rule.Statement.{Statement}
 use Rattle.rule_core.specs.declared.rule.Operand.{Operand}
+use Rattle.rule_core.specs.declared.rule.Argument.{Argument}
 use Rattle.rule_core.specs.declared.rule.Argument.TheVariants as arguments
-use Rattle.rule_core.specs.declared.rule.Register.{Register}
 use Rattle.rule_core.specs.Positions.{operands_of, classes_of, Line}
 use Rattle.rule_typing.specs.Relabelling.{numbered}
 
@@ -33,15 +33,24 @@ pub record IsClassified (rule : Rule) : Type 0 where
 abbrev pub HasClasses : Rule → ℕ → Type 0
 HasClasses rule n = (c : ℕ) → Contains (classes_of rule) c ↔ (c < n)
 
--- the operand is a register, of class c
-abbrev pub IsRegisterOf : ℕ → Operand → Type 0
-IsRegisterOf c o = (o.class ≡ c) × ((r : Register) × (o.value ≡ arguments.Register r))
+-- the operand is a register or a constant
+abbrev pub IsName : Argument → Type 0
+IsName (arguments.Register r) = Unit {0}
+IsName (arguments.Constant k) = Unit {0}
+IsName (arguments.Literal z) = ⊥
+IsName (arguments.Truth b) = ⊥
+IsName (arguments.Undef k) = ⊥
+IsName (arguments.Term n) = ⊥
 
--- one of these operands is
+-- and has the class c
+abbrev pub IsNameOf : ℕ → Operand → Type 0
+IsNameOf c o = (o.class ≡ c) × IsName o.value
+
+-- one of these operands does
 abbrev pub ReadsClass : List Operand → ℕ → Type 0
-ReadsClass operands c = (o : Operand) × Contains operands o × IsRegisterOf c o
+ReadsClass operands c = (o : Operand) × Contains operands o × IsNameOf c o
 
--- a register that the statement assigns or reads has the class c
+-- a register that the statement assigns, or a register or a constant that it reads, has the class c
 abbrev pub NamesClass : ℕ → Statement → Type 0
 NamesClass c s = (s.class ≡ c) ⊎ ReadsClass (operands_of s.op) c
 

@@ -9,3 +9,4 @@ pub mod Relabelling
 pub mod Sample
 pub mod Solving
 pub mod Splits
+pub mod TermSample

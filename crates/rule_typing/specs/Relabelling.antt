@@ -4,9 +4,12 @@ use Rattle.rule_core.specs.declared.rule.Rule.{Rule}
 use Rattle.rule_core.specs.declared.rule.Statement.{Statement}
 use Rattle.rule_core.specs.declared.rule.Op.{Op}
 use Rattle.rule_core.specs.declared.rule.Op.TheVariants.{Binary, Compare, Select, Convert, Copy}
+use Rattle.rule_core.specs.declared.rule.Term.{Term}
+use Rattle.rule_core.specs.declared.rule.Node.{Node}
+use Rattle.rule_core.specs.declared.rule.Node.TheVariants as nodes
 use Rattle.rule_typing.specs.declared.relabelling.Renaming.{Renaming}
 use Rattle.rule_typing.specs.declared.relabelling.Renaming.TheVariants.{Merge, Swap}
-use Rattle.rule_core.specs.Positions.{classes_of_statement}
+use Rattle.rule_core.specs.Positions.{classes_of_statement, classes_of_term}
 
 -- each class c is f c
 abbrev pub mapped_op : (ℕ → ℕ) → Op → Op
@@ -19,8 +22,26 @@ mapped_op f (Copy a) = Copy (record a { class = f a.class })
 abbrev pub mapped_statement : (ℕ → ℕ) → Statement → Statement
 mapped_statement f s = record s { class = f s.class; op = mapped_op f s.op }
 
+abbrev pub mapped_node : (ℕ → ℕ) → Node → Node
+mapped_node f (nodes.Literal z) = nodes.Literal z
+mapped_node f (nodes.Constant k) = nodes.Constant k
+mapped_node f (nodes.Register r) = nodes.Register r
+mapped_node f (nodes.Undef k) = nodes.Undef k
+mapped_node f (nodes.Width r c) = nodes.Width r (f c)
+mapped_node f (nodes.Unary function a) = nodes.Unary function a
+mapped_node f (nodes.Binary op a b) = nodes.Binary op a b
+
+abbrev pub mapped_term : (ℕ → ℕ) → Term → Term
+mapped_term f t = record t { class = f t.class; node = mapped_node f t.node }
+
 abbrev pub mapped : (ℕ → ℕ) → Rule → Rule
-mapped f rule = record rule { source = map (mapped_statement f) rule.source; target = map (mapped_statement f) rule.target }
+mapped f rule =
+    record rule {
+      source = map (mapped_statement f) rule.source;
+      target = map (mapped_statement f) rule.target;
+      terms = map (mapped_term f) rule.terms;
+      witness_terms = map (mapped_term f) rule.witness_terms;
+    }
 
 -- the class at each position is the position, from n on
 abbrev pub numbered_op : ℕ → Op → Op
@@ -33,16 +54,44 @@ numbered_op n (Copy a) = Copy (record a { class = n })
 abbrev pub numbered_statement : ℕ → Statement → Statement
 numbered_statement n s = record s { class = n; op = numbered_op (n + 1) s.op }
 
+abbrev pub numbered_node : ℕ → Node → Node
+numbered_node n (nodes.Literal z) = nodes.Literal z
+numbered_node n (nodes.Constant k) = nodes.Constant k
+numbered_node n (nodes.Register r) = nodes.Register r
+numbered_node n (nodes.Undef k) = nodes.Undef k
+numbered_node n (nodes.Width r c) = nodes.Width r n
+numbered_node n (nodes.Unary function a) = nodes.Unary function a
+numbered_node n (nodes.Binary op a b) = nodes.Binary op a b
+
+abbrev pub numbered_term : ℕ → Term → Term
+numbered_term n t = record t { class = n; node = numbered_node (n + 1) t.node }
+
+-- each of some elements numbered from the position that is the first behind those of the elements before it
+abbrev pub numbered_from : {X : Type 0} → (X → List ℕ) → (ℕ → X → X) → ℕ → List X → List X
+numbered_from classes number n [] = []
+numbered_from classes number n (x ∷ xs) = number n x ∷ numbered_from classes number (n + length (classes x)) xs
+
 abbrev pub numbered_statements : ℕ → List Statement → List Statement
-numbered_statements n [] = []
-numbered_statements n (s ∷ statements) = numbered_statement n s ∷ numbered_statements (n + length (classes_of_statement s)) statements
+numbered_statements n statements = numbered_from classes_of_statement numbered_statement n statements
+
+abbrev pub numbered_terms : ℕ → List Term → List Term
+numbered_terms n terms = numbered_from classes_of_term numbered_term n terms
+
+-- how many positions statements have, and terms
+abbrev pub positions_of : List Statement → ℕ
+positions_of statements = length (flat_map classes_of_statement statements)
+
+abbrev pub positions_among : List Term → ℕ
+positions_among terms = length (flat_map classes_of_term terms)
 
 -- the rule in which each position is a class of its own, whose number is the position's
 abbrev pub numbered : Rule → Rule
 numbered rule =
     record rule {
       source = numbered_statements 0 rule.source;
-      target = numbered_statements (length (flat_map classes_of_statement rule.source)) rule.target;
+      target = numbered_statements (positions_of rule.source) rule.target;
+      terms = numbered_terms (positions_of rule.source + positions_of rule.target) rule.terms;
+      witness_terms = numbered_terms (positions_of rule.source + positions_of rule.target + positions_among rule.terms) rule.witness_terms;
     }
 
 -- the new rule has other numbers for the same classes

@@ -1,6 +1,6 @@
 -- The rules of the tests: `%r = add %x, n` or a cast of %x => %a = .., %b = .., %r = .., where each statement of the target reads %x,
 -- what the one before it assigns, or numbers.
-use Rattle.std.specs.Prelude.{ℕ, ◌+◌, ◌-◌, ℤ, ◌==◌, if◌then◌else◌, List, [], ◌∷◌, ◌++◌, length, Option, None, Some}
+use Rattle.std.specs.Prelude.{ℕ, ◌+◌, ◌-◌, ℤ, pos, ◌==◌, if◌then◌else◌, List, [], ◌∷◌, ◌++◌, length, Option, None, Some}
 use Rattle.ops.specs.Flags.{no_flags}
 use Rattle.ops.specs.declared.opcode.Opcode.TheVariants.{Add}
 use Rattle.ops.specs.declared.conversion.Cast.{Cast}
@@ -35,6 +35,9 @@ settled_value k (arguments.Register (registers.Source j)) = before k
 settled_value k (arguments.Register (registers.Target j)) = before k
 settled_value k (arguments.Literal z) = arguments.Literal z
 settled_value k (arguments.Truth b) = arguments.Truth b
+settled_value k (arguments.Constant j) = arguments.Literal (pos 0)
+settled_value k (arguments.Undef j) = arguments.Literal (pos 0)
+settled_value k (arguments.Term n) = arguments.Literal (pos 0)
 
 abbrev pub settled_operand : ℕ → Operand → Operand
 settled_operand k o = record o { value = settled_value k o.value }
@@ -63,4 +66,8 @@ sample source ops last =
       constants = [];
       source = named 114 source ∷ [];
       target = steps 0 ops ++ named 114 (settled (length ops) last) ∷ [];
+      terms = [];
+      precondition = [];
+      witness_terms = [];
+      witnesses = [];
     }

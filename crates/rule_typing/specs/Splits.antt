@@ -1,57 +1,199 @@
--- Parts of the lines of a rule, as the code goes over them.
-use Rattle.std.specs.Prelude.{◌≡◌, ◌≢◌, ◌⊎◌, ℕ, suc, List, length, option_map, Option, None, Some, Contains, slice_get}
+-- The lines of a rule as lists: the classes on each line that is no name's, and the names with the classes of their positions.
+use Rattle.std.specs.Prelude.{◌≡◌, ◌≢◌, ◌⊎◌, ℕ, ◌+◌, ◌-◌, ◌==◌, if◌then◌else◌, List, [], ◌∷◌, ◌++◌, length, flat_map, filter_map, option_map, option_and_then, Option, None, Some, Contains, slice_get}
 use Rattle.rule_core.specs.declared.rule.Rule.{Rule}
 use Rattle.rule_core.specs.declared.rule.Statement.{Statement}
 use Rattle.rule_core.specs.declared.rule.Op.{Op}
 use Rattle.rule_core.specs.declared.rule.Op.TheVariants.{Binary, Compare, Select, Convert, Copy}
 use Rattle.rule_core.specs.declared.rule.Operand.{Operand}
+use Rattle.rule_core.specs.declared.rule.Argument.{Argument}
 use Rattle.rule_core.specs.declared.rule.Argument.TheVariants as arguments
-use Rattle.rule_core.specs.declared.rule.Register.{Register}
 use Rattle.rule_core.specs.declared.rule.Register.TheVariants as registers
+use Rattle.rule_core.specs.declared.rule.Name.{Name}
+use Rattle.rule_core.specs.declared.rule.Name.TheVariants as names
+use Rattle.rule_core.specs.declared.rule.Term.{Term}
+use Rattle.rule_core.specs.declared.rule.Node.{Node}
+use Rattle.rule_core.specs.declared.rule.Node.TheVariants as nodes
+use Rattle.rule_core.specs.declared.rule.Formula.{Formula}
+use Rattle.rule_core.specs.declared.rule.Formula.TheVariants as formulas
+use Rattle.rule_core.specs.Positions.{operands_of, operands_among, terms_in, Names}
+use Rattle.rule_typing.specs.declared.half.Half.{Half}
+use Rattle.rule_typing.specs.declared.half.Half.TheVariants as halves
 use Rattle.rule_typing.specs.Classes.{Joined}
 use Rattle.rule_typing.specs.Relabelling.{mapped}
 
--- the line of an operation whose result has the class r keeps positions of the classes c and d at one width
-abbrev pub OpLine : ℕ → Op → ℕ → ℕ → Type 0
-OpLine r (Binary op flags a b) c d = (c ≡ r) × ((d ≡ a.class) ⊎ (d ≡ b.class))
-OpLine r (Compare pred a b) c d = (c ≡ a.class) × (d ≡ b.class)
-OpLine r (Select z a b) c d = (c ≡ r) × ((d ≡ a.class) ⊎ (d ≡ b.class))
-OpLine r (Convert cast a to) c d = ⊥
-OpLine r (Copy a) c d = (c ≡ r) × (d ≡ a.class)
+-- ---- lines that are no name's: pairs of classes
 
--- one of the statements does
-abbrev pub StatementsLine : List Statement → ℕ → ℕ → Type 0
-StatementsLine statements c d = (k : ℕ) × (s : Statement) × (slice_get statements k ≡ Some s) × OpLine s.class s.op c d
+-- two classes, if there are both
+abbrev pub paired : Option ℕ → Option ℕ → List (ℕ × ℕ)
+paired None d = []
+paired (Some c) None = []
+paired (Some c) (Some d) = (c, d) ∷ []
 
--- an operand among these reads the register, and has the class c
-abbrev pub Reads : List Operand → Register → ℕ → Type 0
-Reads operands r c = (o : Operand) × Contains operands o × (o.value ≡ arguments.Register r) × (o.class ≡ c)
+-- the line of an operation whose result has the class r
+abbrev pub op_pairs : ℕ → Op → List (ℕ × ℕ)
+op_pairs r (Binary op flags a b) = (r, a.class) ∷ (r, b.class) ∷ []
+op_pairs r (Compare pred a b) = (a.class, b.class) ∷ []
+op_pairs r (Select z a b) = (r, a.class) ∷ (r, b.class) ∷ []
+op_pairs r (Convert cast a to) = []
+op_pairs r (Copy a) = (r, a.class) ∷ []
 
--- The class of the first position that names the register, after operands are seen too: it is that of all that read it.
-pub record Agrees (operands : List Operand) (r : Register) (before after : Option ℕ) : Type 0 where
-  pub read : (c : ℕ) → Reads operands r c → after ≡ Some c
-  pub kept : (c : ℕ) → before ≡ Some c → after ≡ Some c
-  pub from : (c : ℕ) → after ≡ Some c → (before ≡ Some c) ⊎ Reads operands r c
+abbrev pub statement_pairs : Statement → List (ℕ × ℕ)
+statement_pairs s = op_pairs s.class s.op
 
--- two classes of positions that name the register, the first one or operands among these, differ
-pub record Differ (operands : List Operand) (r : Register) (before : Option ℕ) (c d : ℕ) : Type 0 where
-  pub one : (before ≡ Some c) ⊎ Reads operands r c
-  pub other : Reads operands r d
-  pub apart : c ≢ d
+-- the class of the node at a place
+abbrev pub node_class : List Term → ℕ → Option ℕ
+node_class terms n = option_map (λ t. t.class) (slice_get terms n)
 
--- the class of the result that assigns the register in the half in which it is numbered
-abbrev pub assigned_class : Rule → Register → Option ℕ
-assigned_class rule (registers.Input k) = None
-assigned_class rule (registers.Source k) = option_map (λ s. s.class) (slice_get rule.source k)
-assigned_class rule (registers.Target k) = option_map (λ s. s.class) (slice_get rule.target k)
+-- the class of the expression that `Wit:` has for an `undef` of the source
+abbrev pub chosen_class : Rule → ℕ → Option ℕ
+chosen_class rule k = option_and_then (node_class rule.witness_terms) (slice_get rule.witnesses k)
 
--- the root's result in the target has the class c
-abbrev pub HasRootClass : Rule → ℕ → Type 0
-HasRootClass rule c = (k : ℕ) × (t : Statement) × (suc k ≡ length rule.target) × (slice_get rule.target k ≡ Some t) × (t.class ≡ c)
+-- the class of the term that an operand of the half is, or of the expression that is chosen for it
+abbrev pub term_class : Rule → Half → Argument → Option ℕ
+term_class rule half (arguments.Term n) = node_class rule.terms n
+term_class rule halves.Source (arguments.Undef k) = chosen_class rule k
+term_class rule halves.Target (arguments.Undef k) = None
+term_class rule half (arguments.Register r) = None
+term_class rule half (arguments.Literal z) = None
+term_class rule half (arguments.Truth b) = None
+term_class rule half (arguments.Constant k) = None
 
--- the register is the root, and its result in the target has the class c
-abbrev pub IsRootClass : Rule → Register → ℕ → Type 0
-IsRootClass rule r c = (j : ℕ) × (r ≡ registers.Source j) × (suc j ≡ length rule.source) × HasRootClass rule c
+abbrev pub operand_pairs : Rule → Half → Operand → List (ℕ × ℕ)
+operand_pairs rule half o = paired (Some o.class) (term_class rule half o.value)
+
+-- an operator or a function of class c and its operands
+abbrev pub node_pairs : List Term → ℕ → Node → List (ℕ × ℕ)
+node_pairs terms c (nodes.Unary function a) = paired (Some c) (node_class terms a)
+node_pairs terms c (nodes.Binary op a b) = paired (Some c) (node_class terms a) ++ paired (Some c) (node_class terms b)
+node_pairs terms c (nodes.Literal z) = []
+node_pairs terms c (nodes.Constant k) = []
+node_pairs terms c (nodes.Register r) = []
+node_pairs terms c (nodes.Undef k) = []
+node_pairs terms c (nodes.Width r d) = []
+
+abbrev pub term_pairs : List Term → Term → List (ℕ × ℕ)
+term_pairs terms t = node_pairs terms t.class t.node
+
+-- both sides of a comparison
+abbrev pub formula_pairs : List Term → Formula → List (ℕ × ℕ)
+formula_pairs terms (formulas.Compare pred a b) = paired (node_class terms a) (node_class terms b)
+formula_pairs terms (formulas.IsPowerOfTwo a) = []
+formula_pairs terms (formulas.IsSignBit a) = []
+formula_pairs terms (formulas.HasOneUse j) = []
+formula_pairs terms (formulas.Not a) = []
+formula_pairs terms (formulas.And a b) = []
+formula_pairs terms (formulas.Or a b) = []
+
+-- c and d are a pair of the list
+abbrev pub IsPairIn : List (ℕ × ℕ) → ℕ → ℕ → Type 0
+IsPairIn pairs c d = Contains pairs (c, d)
+
+-- and of one of the elements
+abbrev pub PairOf : {X : Type 0} → (X → List (ℕ × ℕ)) → List X → ℕ → ℕ → Type 0
+PairOf {X} pairs xs c d = (x : X) × Contains xs x × IsPairIn (pairs x) c d
+
+-- ---- names
+
+-- the name that an operand of the half is, if it is one: an `undef` is one in the target alone
+abbrev pub name_of : Half → Argument → Option Name
+name_of half (arguments.Register r) = Some (names.Register r)
+name_of half (arguments.Constant k) = Some (names.Constant k)
+name_of halves.Target (arguments.Undef k) = Some (names.Undef k)
+name_of halves.Source (arguments.Undef k) = None
+name_of half (arguments.Literal z) = None
+name_of half (arguments.Truth b) = None
+name_of half (arguments.Term n) = None
+
+-- it and the class of the operand
+abbrev pub operand_naming : Half → Operand → Option (Name × ℕ)
+operand_naming half o = option_map (λ n. (n, o.class)) (name_of half o.value)
+
+-- the name that a node of class c is, or of whose width it is, and the class of that position
+abbrev pub node_naming : ℕ → Node → Option (Name × ℕ)
+node_naming c (nodes.Register r) = Some (names.Register r, c)
+node_naming c (nodes.Constant k) = Some (names.Constant k, c)
+node_naming c (nodes.Undef k) = Some (names.Undef k, c)
+node_naming c (nodes.Width r d) = Some (names.Register r, d)
+node_naming c (nodes.Literal z) = None
+node_naming c (nodes.Unary function a) = None
+node_naming c (nodes.Binary op a b) = None
+
+abbrev pub term_naming : Term → Option (Name × ℕ)
+term_naming t = node_naming t.class t.node
+
+-- one of the elements names n with a position of class c
+abbrev pub NamingOf : {X : Type 0} → (X → Option (Name × ℕ)) → List X → Name → ℕ → Type 0
+NamingOf {X} naming xs n c = (x : X) × Contains xs x × (naming x ≡ Some (n, c))
+
+-- the class of the result that assigns a register in the half in which it is numbered
+abbrev pub assigned_class : Rule → Name → Option ℕ
+assigned_class rule (names.Register (registers.Input k)) = None
+assigned_class rule (names.Register (registers.Source k)) = option_map (λ s. s.class) (slice_get rule.source k)
+assigned_class rule (names.Register (registers.Target k)) = option_map (λ s. s.class) (slice_get rule.target k)
+assigned_class rule (names.Constant k) = None
+assigned_class rule (names.Undef k) = None
+
+-- the class of the result of the last statement
+abbrev pub last_class : List Statement → Option ℕ
+last_class statements = option_map (λ s. s.class) (slice_get statements (length statements - 1))
+
+-- the class of the result that assigns the root in the target, if that is the name
+abbrev pub root_class : Rule → Name → Option ℕ
+root_class rule (names.Register (registers.Input k)) = None
+root_class rule (names.Register (registers.Source k)) = if k + 1 == length rule.source then last_class rule.target else None
+root_class rule (names.Register (registers.Target k)) = None
+root_class rule (names.Constant k) = None
+root_class rule (names.Undef k) = None
+
+-- a position of class c reads n: an operand or a node
+abbrev pub IsRead : Rule → Name → ℕ → Type 0
+IsRead rule n c =
+    NamingOf (operand_naming halves.Source) (operands_among rule.source) n c
+    ⊎ (NamingOf (operand_naming halves.Target) (operands_among rule.target) n c ⊎ NamingOf term_naming (terms_in rule) n c)
+
+-- ---- both
+
+-- c and d are a pair of the element, or it names with a position of class c what another one of class d names
+abbrev pub LineOf : {X : Type 0} → Rule → (X → List (ℕ × ℕ)) → (X → Option (Name × ℕ)) → X → ℕ → ℕ → Type 0
+LineOf rule pairs naming x c d = IsPairIn (pairs x) c d ⊎ ((n : Name) × (naming x ≡ Some (n, c)) × Names rule n d)
+
+-- one of the elements does
+abbrev pub LinesOf : {X : Type 0} → Rule → (X → List (ℕ × ℕ)) → (X → Option (Name × ℕ)) → List X → ℕ → ℕ → Type 0
+LinesOf {X} rule pairs naming xs c d = (x : X) × Contains xs x × LineOf rule pairs naming x c d
+
+-- the lines of operands of a half
+abbrev pub OperandsLine : Rule → Half → List Operand → ℕ → ℕ → Type 0
+OperandsLine rule half operands = LinesOf rule (operand_pairs rule half) (operand_naming half) operands
+
+-- the lines of a statement of a half: of its operation, and of its operands
+abbrev pub StatementLine : Rule → Half → Statement → ℕ → ℕ → Type 0
+StatementLine rule half s c d = IsPairIn (statement_pairs s) c d ⊎ OperandsLine rule half (operands_of s.op) c d
+
+-- those of statements
+abbrev pub StatementsLine : Rule → Half → List Statement → ℕ → ℕ → Type 0
+StatementsLine rule half statements c d = (s : Statement) × Contains statements s × StatementLine rule half s c d
+
+-- the lines of the nodes of a list of terms
+abbrev pub TermsLine : Rule → List Term → ℕ → ℕ → Type 0
+TermsLine rule terms = LinesOf rule (term_pairs terms) term_naming terms
+
+-- results of the classes c and d assign the root, in the source and in the target
+abbrev pub RootLine : Rule → ℕ → ℕ → Type 0
+RootLine rule c d = (n : Name) × (assigned_class rule n ≡ Some c) × (root_class rule n ≡ Some d)
+
+-- ---- what is found
+
+-- two classes that P joins and that differ; none where each two that P joins are one
+abbrev pub Splits : (ℕ → ℕ → Type 0) → Option (ℕ × ℕ) → Type 0
+Splits P None = (c d : ℕ) → P c d → c ≡ d
+Splits P (Some pair) = P pair.0 pair.1 × (pair.0 ≢ pair.1)
+
+-- a class of which P holds other than c; none where P holds of no other
+abbrev pub FindsOther : (ℕ → Type 0) → ℕ → Option ℕ → Type 0
+FindsOther P c None = (d : ℕ) → P d → c ≡ d
+FindsOther P c (Some d) = P d × (c ≢ d)
+
+-- ---- merging
 
 -- the new rule is the old one with classes merged, of which lines join each two
 pub record IsMerged (old new : Rule) : Type 0 where

@@ -1,20 +1,20 @@
 //! Which widths the classes of a rule may have.
 
 ghost use Rattle.std.specs.Prelude.{◌≡◌, ◌≤◌, ◌↔◌, ℕ, IsTrue, slice_get, flat_map, Some};
-ghost use Rattle.rule_core.specs.Positions.{operands_of, operands_in, classes_of_statement};
+ghost use Rattle.rule_core.specs.Positions.{operands_of, operands_in, terms_in, classes_of_statement, classes_of_term};
 ghost use Rattle.rule_core.specs.Typing.{IsTyping, FitsLiteral};
 ghost use Rattle.rule_typing.specs.Classes.{IsClassified, HasClasses};
-ghost use Rattle.rule_typing.specs.Fitting.{FitsIn, LiteralsFit, MayHaveWidth, IsPast};
+ghost use Rattle.rule_typing.specs.Fitting.{FitsIn, LiteralsFit, TermFits, TermsFit, MayHaveWidth, IsPast};
 
 use crate::casts::casts_fit;
 use crate::fixed::other_fixed_width;
 use crate::operands::Operands;
 use lists::List;
 use ops::Width;
-use rule_core::{Argument, Op, Operand, Rule, Statement};
+use rule_core::{Argument, Node, Op, Operand, Rule, Statement, Term};
 
 /// Whether the widths are a typing of the rule, whose classes are written. It takes no memory. Its steps are the number of operands
-/// for each class.
+/// and nodes for each class.
 pub fn is_typing(rule: &Rule, widths: &List<Width>) -> bool
     requires { IsClassified rule.now }
     ensures { IsTrue result ↔ IsTyping rule.now widths.now }
@@ -51,10 +51,51 @@ pub(crate) fn class_fits(rule: &Rule, class: usize, width: Width) -> bool
 /// Whether the literals of the class fit a width of so many bits.
 fn literals_fit(rule: &Rule, class: usize, bits: u32) -> bool
     requires { (1 ≤ bits) × (bits ≤ 64) }
+    ensures { IsTrue result ↔ (LiteralsFit (operands_in rule.now) class bits × TermsFit (terms_in rule.now) class bits) }
+{
+    all_operands_fit(rule, class, bits) && all_terms_fit(rule, class, bits)
+}
+
+/// The same among all operands.
+fn all_operands_fit(rule: &Rule, class: usize, bits: u32) -> bool
+    requires { (1 ≤ bits) × (bits ≤ 64) }
     ensures { IsTrue result ↔ LiteralsFit (operands_in rule.now) class bits }
 {
     statements_fit(rule.source.as_slice(), class, bits)
         && statements_fit(rule.target.as_slice(), class, bits)
+}
+
+/// The same among all nodes.
+fn all_terms_fit(rule: &Rule, class: usize, bits: u32) -> bool
+    requires { (1 ≤ bits) × (bits ≤ 64) }
+    ensures { IsTrue result ↔ TermsFit (terms_in rule.now) class bits }
+{
+    terms_fit(rule.terms.as_slice(), class, bits)
+        && terms_fit(rule.witness_terms.as_slice(), class, bits)
+}
+
+/// The same among nodes.
+fn terms_fit(terms: &[Term], class: usize, bits: u32) -> bool
+    requires { (1 ≤ bits) × (bits ≤ 64) }
+    ensures { IsTrue result ↔ TermsFit terms.now class bits }
+{
+    for term in terms {
+        if !term_fits(*term, class, bits) {
+            return false;
+        }
+    }
+    true
+}
+
+/// Whether a node fits the width, if it is a literal of the class.
+fn term_fits(term: Term, class: usize, bits: u32) -> bool
+    requires { (1 ≤ bits) × (bits ≤ 64) }
+    ensures { IsTrue result ↔ TermFits class bits term }
+{
+    let Node::Literal(literal) = term.node else {
+        return true;
+    };
+    term.class as usize != class || fits_literal(bits, literal)
 }
 
 /// The same among the operands of statements.
@@ -110,8 +151,32 @@ pub(crate) fn class_count(rule: &Rule) -> usize
     requires { IsClassified rule.now }
     ensures { HasClasses rule.now result }
 {
-    let count = past_statements(rule.source.as_slice());
-    count.max(past_statements(rule.target.as_slice()))
+    let source = past_statements(rule.source.as_slice());
+    let target = past_statements(rule.target.as_slice());
+    let terms = past_terms(rule.terms.as_slice());
+    let witness_terms = past_terms(rule.witness_terms.as_slice());
+    source.max(target).max(terms.max(witness_terms))
+}
+
+/// The least number past the classes of nodes.
+fn past_terms(terms: &[Term]) -> usize
+    ensures { IsPast (flat_map classes_of_term terms.now) result }
+{
+    let mut past = 0;
+    for term in terms {
+        past = past.max(past_term(*term));
+    }
+    past
+}
+
+/// The least number past the classes of a node.
+fn past_term(term: Term) -> usize
+    ensures { IsPast (classes_of_term term) result }
+{
+    let Node::Width(_, register_class) = term.node else {
+        return term.class as usize + 1;
+    };
+    term.class.max(register_class) as usize + 1
 }
 
 /// The least number past the classes of statements.

@@ -113,7 +113,8 @@ fn fixed_by_value(value: Argument) -> Option<Width>
 {
     match value {
         Argument::Truth(_) => Some(one_bit()),
-        Argument::Register(_) | Argument::Literal(_) => None,
+        Argument::Register(_) | Argument::Constant(_) | Argument::Undef(_) => None,
+        Argument::Literal(_) | Argument::Term(_) => None,
     }
 }
 

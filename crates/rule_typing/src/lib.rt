@@ -10,12 +10,16 @@ mod classes;
 mod enumeration;
 mod fits;
 mod fixed;
+mod half;
 mod laws;
 mod lines;
+mod names;
 mod open_classes;
+mod operand_lines;
 mod operands;
 mod relabelling;
 mod solving;
+mod term_lines;
 mod widths;
 
 pub use answer::Typings;

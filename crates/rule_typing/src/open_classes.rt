@@ -2,7 +2,7 @@
 
 ghost use Rattle.std.specs.Prelude.{◌↔◌, IsTrue, Contains};
 ghost use Rattle.rule_core.specs.declared.rule.Statement.{Statement};
-ghost use Rattle.rule_typing.specs.Classes.{HasClasses, IsRegisterOf, ReadsClass, NamesClass};
+ghost use Rattle.rule_typing.specs.Classes.{HasClasses, IsName, IsNameOf, ReadsClass, NamesClass};
 ghost use Rattle.rule_typing.specs.Faults.{IsOpen, HasOpenClass};
 
 use crate::fixed::fixed_width;
@@ -32,7 +32,7 @@ fn is_open(rule: &Rule, class: usize) -> bool
     }
 }
 
-/// Whether a register that these statements assign or read has the class.
+/// Whether a register that these statements assign, or a register or a constant that they read, has the class.
 fn is_named(statements: &[Statement], class: usize) -> bool
     ensures { IsTrue result ↔ ((s : Statement) × Contains statements.now s × NamesClass class s) }
 {
@@ -44,7 +44,7 @@ fn is_named(statements: &[Statement], class: usize) -> bool
     false
 }
 
-/// Whether a register that the statement assigns or reads does.
+/// The same for one statement.
 fn names_class(statement: &Statement, class: usize) -> bool
     ensures { IsTrue result ↔ NamesClass class statement.now }
 {
@@ -52,20 +52,29 @@ fn names_class(statement: &Statement, class: usize) -> bool
     statement.class as usize == class || reads_class(operands.as_slice(), class)
 }
 
-/// Whether one of the operands is a register of the class.
+/// Whether one of the operands is a register or a constant of the class.
 fn reads_class(operands: &[Operand], class: usize) -> bool
     ensures { IsTrue result ↔ ReadsClass operands.now class }
 {
     for operand in operands {
-        if is_register_of(*operand, class) {
+        if is_name_of(*operand, class) {
             return true;
         }
     }
     false
 }
 
-fn is_register_of(operand: Operand, class: usize) -> bool
-    ensures { IsTrue result ↔ IsRegisterOf class operand }
+fn is_name_of(operand: Operand, class: usize) -> bool
+    ensures { IsTrue result ↔ IsNameOf class operand }
 {
-    operand.class as usize == class && matches!(operand.value, Argument::Register(_))
+    operand.class as usize == class && is_name(operand.value)
+}
+
+fn is_name(value: Argument) -> bool
+    ensures { IsTrue result ↔ IsName value }
+{
+    match value {
+        Argument::Register(_) | Argument::Constant(_) => true,
+        Argument::Literal(_) | Argument::Truth(_) | Argument::Undef(_) | Argument::Term(_) => false,
+    }
 }

@@ -1,11 +1,11 @@
 //! Other numbers for the classes of a rule.
 
 ghost use Rattle.std.specs.Prelude.{◌≡◌, ◌+◌, ◌<◌, ◌^◌, length, map, flat_map};
-ghost use Rattle.rule_core.specs.Positions.{operands_of, classes_of_statement, classes_of};
-ghost use Rattle.rule_typing.specs.Relabelling.{mapped_op, mapped_statement, mapped, numbered_op, numbered_statement, numbered_statements, numbered, renamed};
+ghost use Rattle.rule_core.specs.Positions.{operands_of, classes_of_statement, classes_of_term, classes_of};
+ghost use Rattle.rule_typing.specs.Relabelling.{mapped_op, mapped_statement, mapped_node, mapped_term, mapped, numbered_op, numbered_statement, numbered_statements, numbered_term, numbered_terms, numbered, renamed};
 
 use lists::List;
-use rule_core::{Op, Operand, Rule, Statement};
+use rule_core::{Node, Op, Operand, Rule, Statement, Term};
 
 /// What becomes of the classes' numbers.
 #[derive(Clone, Copy, Debug)]
@@ -76,12 +76,34 @@ impl Renaming {
         }
     }
 
+    fn node(self, node: Node) -> Node
+        ensures { result ≡ mapped_node (renamed self) node }
+    {
+        match node {
+            Node::Width(register, class) => Node::Width(register, self.of(class)),
+            Node::Literal(_) | Node::Constant(_) | Node::Register(_) | Node::Undef(_) => node,
+            Node::Unary(_, _) | Node::Binary(_, _, _) => node,
+        }
+    }
+
+    fn terms(self, terms: &mut List<Term>)
+        ensures { terms.new ≡ map (mapped_term (renamed self)) terms.old }
+    {
+        for place in 0..terms.len() {
+            let term = terms.get_mut(place);
+            term.class = self.of(term.class);
+            term.node = self.node(term.node);
+        }
+    }
+
     /// Renames the classes of the rule.
     pub(crate) fn apply(self, rule: &mut Rule)
         ensures { rule.new ≡ mapped (renamed self) rule.old }
     {
         self.statements(&mut rule.source);
         self.statements(&mut rule.target);
+        self.terms(&mut rule.terms);
+        self.terms(&mut rule.witness_terms);
     }
 }
 
@@ -96,8 +118,10 @@ pub(crate) fn number_positions(rule: &mut Rule)
     requires { length (classes_of rule.old) < 2 ^ 32 }
     ensures { rule.new ≡ numbered rule.old }
 {
-    let behind = number_statements(&mut rule.source, 0);
-    number_statements(&mut rule.target, behind);
+    let behind_source = number_statements(&mut rule.source, 0);
+    let behind_target = number_statements(&mut rule.target, behind_source);
+    let behind_terms = number_terms(&mut rule.terms, behind_target);
+    number_terms(&mut rule.witness_terms, behind_terms);
 }
 
 /// The same for some statements, whose first position is given; the answer is the position behind them.
@@ -112,6 +136,36 @@ fn number_statements(statements: &mut List<Statement>, first: u32) -> u32
         next = number_statement(statement, next);
     }
     next
+}
+
+/// The same for some nodes.
+fn number_terms(terms: &mut List<Term>, first: u32) -> u32
+    requires { first + length (flat_map classes_of_term terms.old) < 2 ^ 32 }
+    ensures numbered { terms.new ≡ numbered_terms first terms.old }
+    ensures behind { result ≡ first + length (flat_map classes_of_term terms.old) }
+{
+    let mut next = first;
+    for place in 0..terms.len() {
+        let term = terms.get_mut(place);
+        next = number_term(term, next);
+    }
+    next
+}
+
+fn number_term(term: &mut Term, first: u32) -> u32
+    requires { first + length (classes_of_term term.old) < 2 ^ 32 }
+    ensures numbered { term.new ≡ numbered_term first term.old }
+    ensures behind { result ≡ first + length (classes_of_term term.old) }
+{
+    term.class = first;
+    match term.node {
+        Node::Width(register, _) => {
+            term.node = Node::Width(register, first + 1);
+            first + 2
+        }
+        Node::Literal(_) | Node::Constant(_) | Node::Register(_) | Node::Undef(_) => first + 1,
+        Node::Unary(_, _) | Node::Binary(_, _, _) => first + 1,
+    }
 }
 
 fn number_statement(statement: &mut Statement, first: u32) -> u32

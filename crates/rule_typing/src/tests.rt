@@ -3,6 +3,7 @@ ghost use Rattle.std.specs.Prelude.{◌≡◌, ◌≤◌, length, IfOk};
 ghost use Rattle.rule_typing.specs.Sample.{input, literal, source_op, settled_value, settled_operand, settled, named, steps, sample};
 ghost use Rattle.rule_core.specs.Checks.{IsRule};
 
+mod terms;
 mod typings;
 
 use super::*;
@@ -82,6 +83,7 @@ fn settled_value(value: Argument, place: u32) -> Argument
         Argument::Register(_) => Argument::Register(Register::Target(place - 1)),
         Argument::Literal(number) => Argument::Literal(number),
         Argument::Truth(truth) => Argument::Truth(truth),
+        Argument::Constant(_) | Argument::Undef(_) | Argument::Term(_) => Argument::Literal(0),
     }
 }
 
@@ -155,6 +157,10 @@ fn rule_of(alloc: Global, source_op: Op, ops: &[Op], last: Op) -> Result<Rule, A
         constants: List::new(alloc),
         source,
         target,
+        terms: List::new(alloc),
+        precondition: List::new(alloc),
+        witness_terms: List::new(alloc),
+        witnesses: List::new(alloc),
     })
 }
 

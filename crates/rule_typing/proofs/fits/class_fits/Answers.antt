@@ -1,17 +1,17 @@
 use Rattle.std.proofs.Common.{◌≡◌, ◌↔◌, ◌≤◌, ℕ, Some, sym, ap, subst}
 use Rattle.std.proofs.lemmas.Option.{same_Some}
 use Rattle.rule_core.specs.declared.rule.Rule.{Rule}
-use Rattle.rule_core.specs.Positions.{operands_in, Fixed}
-use Rattle.rule_typing.specs.Fitting.{LiteralsFit, MayHaveWidth}
+use Rattle.rule_core.specs.Positions.{operands_in, terms_in, Fixed}
+use Rattle.rule_typing.specs.Fitting.{LiteralsFit, TermsFit, MayHaveWidth}
 use Rattle.rule_typing.proofs.Among.{says}
 use Rattle.rule_typing.proofs.fits.class_fits.Goals as goal
 
 -- no other width is fixed, and literals fit
-by_literals : (rule : Rule) (c N bits : ℕ) → bits ≡ N → 1 ≤ bits → bits ≤ 64 → ((M : ℕ) → Fixed rule c M → Some N ≡ Some M) → LiteralsFit (operands_in rule) c bits ↔ MayHaveWidth rule c N
+by_literals : (rule : Rule) (c N bits : ℕ) → bits ≡ N → 1 ≤ bits → bits ≤ 64 → ((M : ℕ) → Fixed rule c M → Some N ≡ Some M) → (LiteralsFit (operands_in rule) c bits × TermsFit (terms_in rule) c bits) ↔ MayHaveWidth rule c N
 by_literals rule c N bits same low high only =
     rw (sym same) (
-      λ fit. record { within = (low, high); fixed = λ M fixed. sym (same_Some bits M (subst (λ n. Some n ≡ Some M) (sym same) (only M fixed))); literals = λ o z among is e. fit o among z is e },
-      λ may o among z is e. may.literals o z among is e,
+      λ (fit, terms). record { within = (low, high); fixed = λ M fixed. sym (same_Some bits M (subst (λ n. Some n ≡ Some M) (sym same) (only M fixed))); literals = λ o z among is e. fit o among z is e; term_literals = λ t z among is e. terms t among z is e },
+      λ may. (λ o among z is e. may.literals o z among is e, λ t among z is e. may.term_literals t z among is e),
     )
 
 pub returns-in-Some : goal.returns-in-Some

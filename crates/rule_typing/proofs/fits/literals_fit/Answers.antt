@@ -1,12 +1,12 @@
-use Rattle.rule_typing.specs.Fitting.{FitsIn}
-use Rattle.rule_typing.proofs.Among.{both, not_both, each_rule}
+use Rattle.rule_core.specs.Positions.{operands_in, terms_in}
+use Rattle.rule_typing.specs.Fitting.{LiteralsFit, TermsFit}
+use Rattle.rule_typing.proofs.Among.{both, not_both}
 use Rattle.rule_typing.proofs.fits.literals_fit.Goals as goal
 
-pub returns-then-statements_fit : goal.returns-then-statements_fit
-returns-then-statements_fit c =
-    both c.statements_fit.result c.statements_fit-then-statements_fit.result (rw c.as_slice.ensures at c.statements_fit.ensures) (rw c.as_slice-then-statements_fit.ensures at c.statements_fit-then-statements_fit.ensures)
-    (each_rule (FitsIn c.args.class c.args.bits) c.args.rule.now) c.if-statements_fit.true
+pub returns-then-all_operands_fit : goal.returns-then-all_operands_fit
+returns-then-all_operands_fit c =
+    both {C = LiteralsFit (operands_in c.args.rule.now) c.args.class c.args.bits × TermsFit (terms_in c.args.rule.now) c.args.class c.args.bits} c.all_operands_fit.result c.all_terms_fit.result c.all_operands_fit.ensures c.all_terms_fit.ensures (λ h. h, λ h. h) c.if-all_operands_fit.true
 
-pub returns-else-statements_fit : goal.returns-else-statements_fit
-returns-else-statements_fit c =
-    not_both c.statements_fit.result (rw c.as_slice.ensures at c.statements_fit.ensures) (each_rule (FitsIn c.args.class c.args.bits) c.args.rule.now) c.if-statements_fit.false
+pub returns-else-all_operands_fit : goal.returns-else-all_operands_fit
+returns-else-all_operands_fit c =
+    not_both {B = TermsFit (terms_in c.args.rule.now) c.args.class c.args.bits} {C = LiteralsFit (operands_in c.args.rule.now) c.args.class c.args.bits × TermsFit (terms_in c.args.rule.now) c.args.class c.args.bits} c.all_operands_fit.result c.all_operands_fit.ensures (λ h. h, λ h. h) c.if-all_operands_fit.false

@@ -1,6 +1,6 @@
-use Rattle.rule_typing.specs.Classes.{IsRegisterOf}
+use Rattle.rule_typing.specs.Classes.{IsNameOf}
 use Rattle.rule_typing.proofs.Among.{SoFar}
 use Rattle.rule_typing.proofs.open_classes.reads_class.Given as goal
 
 abbrev pub invariant-loop-operand : goal.invariant-loop-operand
-invariant-loop-operand l = SoFar (λ o. IsRegisterOf l.class o → ⊥) l.operands l.operand-index
+invariant-loop-operand l = SoFar (λ o. IsNameOf l.class o → ⊥) l.operands l.operand-index

@@ -1,0 +1,8 @@
+use Rattle.std.proofs.Common.{◌≡◌, ℕ, Some}
+use Rattle.rule_core.specs.declared.rule.Term.{Term}
+use Rattle.rule_typing.specs.Splits.{term_naming}
+use Rattle.rule_typing.proofs.Among.{SoFar}
+use Rattle.rule_typing.proofs.names.other_by_terms.Given as goal
+
+abbrev pub invariant-loop-term : goal.invariant-loop-term
+invariant-loop-term l = SoFar (λ x. (d : ℕ) → (λ (t : Term) (d : ℕ). term_naming t ≡ Some (l.name, d)) x d → l.class ≡ d) l.terms l.term-index

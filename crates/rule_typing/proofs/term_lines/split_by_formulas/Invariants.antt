@@ -1,0 +1,8 @@
+use Rattle.rule_typing.proofs.Walks.{AreOne}
+use Rattle.rule_core.specs.declared.rule.Formula.{Formula}
+use Rattle.rule_typing.specs.Splits.{IsPairIn, formula_pairs}
+use Rattle.rule_typing.proofs.Among.{SoFar}
+use Rattle.rule_typing.proofs.term_lines.split_by_formulas.Given as goal
+
+abbrev pub invariant-loop-formula : goal.invariant-loop-formula
+invariant-loop-formula l = SoFar (λ (f : Formula). AreOne (IsPairIn (formula_pairs l.terms f))) l.formulas l.formula-index

@@ -1,0 +1,8 @@
+//! The two halves of a rule.
+
+/// A half of a rule.
+#[derive(Clone, Copy, Debug)]
+pub(crate) enum Half {
+    Source,
+    Target,
+}

@@ -1,0 +1,84 @@
+//! The lines of terms: an operator or a function is of one class with its operands, both sides of a comparison are of one class, and a
+//! node is of one class with all that has its name.
+
+ghost use Rattle.std.specs.Prelude.{◌≡◌, ◌≢◌, ℕ, [], ◌∷◌, Some, option_map, slice_get};
+ghost use Rattle.rule_typing.specs.Splits.{node_class, node_pairs, term_pairs, term_naming, formula_pairs, IsPairIn, PairOf, LineOf, TermsLine, Splits};
+
+use crate::lines::split_classes;
+use crate::names::{split_by_name, term_naming};
+use rule_core::{Formula, Node, Rule, Term};
+
+/// Two classes that a line of one of these nodes keeps at one width, or `None` where each line's are one.
+pub(crate) fn split_by_terms(rule: &Rule, terms: &[Term]) -> Option<(u32, u32)>
+    ensures { Splits (TermsLine rule.now terms.now) result }
+{
+    for term in terms {
+        if let Some(pair) = split_by_term(rule, terms, *term) {
+            return Some(pair);
+        }
+    }
+    None
+}
+
+/// The same for the lines of one of them.
+fn split_by_term(rule: &Rule, terms: &[Term], term: Term) -> Option<(u32, u32)>
+    ensures { Splits (LineOf rule.now (term_pairs terms.now) term_naming term) result }
+{
+    match split_by_node(terms, term.class, term.node) {
+        Some(pair) => Some(pair),
+        None => split_by_name(rule, term_naming(term)),
+    }
+}
+
+/// The same for the line of an operator or a function of that class.
+fn split_by_node(terms: &[Term], class: u32, node: Node) -> Option<(u32, u32)>
+    ensures { Splits (IsPairIn (node_pairs terms.now class node)) result }
+{
+    match node {
+        Node::Unary(_, operand) => split_classes(Some(class), node_class(terms, operand)),
+        Node::Binary(_, left, right) => {
+            match split_classes(Some(class), node_class(terms, left)) {
+                Some(pair) => Some(pair),
+                None => split_classes(Some(class), node_class(terms, right)),
+            }
+        }
+        Node::Literal(_) | Node::Constant(_) => None,
+        Node::Register(_) | Node::Undef(_) | Node::Width(_, _) => None,
+    }
+}
+
+/// The same for the comparisons of formulas of these terms.
+pub(crate) fn split_by_formulas(terms: &[Term], formulas: &[Formula]) -> Option<(u32, u32)>
+    ensures { Splits (PairOf (formula_pairs terms.now) formulas.now) result }
+{
+    for formula in formulas {
+        if let Some(pair) = split_by_formula(terms, *formula) {
+            return Some(pair);
+        }
+    }
+    None
+}
+
+/// The same for one formula.
+fn split_by_formula(terms: &[Term], formula: Formula) -> Option<(u32, u32)>
+    ensures { Splits (IsPairIn (formula_pairs terms.now formula)) result }
+{
+    match formula {
+        Formula::Compare(_, left, right) => {
+            split_classes(node_class(terms, left), node_class(terms, right))
+        }
+        Formula::IsPowerOfTwo(_) | Formula::IsSignBit(_) | Formula::HasOneUse(_) => None,
+        Formula::Not(_) | Formula::And(_, _) | Formula::Or(_, _) => None,
+    }
+}
+
+/// The class of the node at a place.
+pub(crate) fn node_class(terms: &[Term], place: u32) -> Option<u32>
+    ensures { result ≡ node_class terms.now place }
+{
+    if (place as usize) < terms.len() {
+        Some(terms[place as usize].class)
+    } else {
+        None
+    }
+}
