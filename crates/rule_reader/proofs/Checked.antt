@@ -1,8 +1,11 @@
--- A rule that is meant by a rule as written, in which no check of its registers fails, is a rule.
-use Rattle.std.proofs.Common.{◌≡◌, inl, inr, ℕ, suc, ◌*◌, ◌<◌, ◌≤◌, List, [], ◌∷◌, ◌++◌, length, length-append, Some, refl, sym, ap, subst, ◌∙◌, arith, get_or}
-use Rattle.std.specs.Prelude.{slice_get, Contains, map, flat_map}
-use Rattle.std.specs.List.{AllZip}
-use Rattle.std.proofs.lemmas.Option.{slice_get_within, slice_get-get_or}
+-- A rule that a rule as written without faults means meets each check of a rule.
+use Rattle.std.proofs.Common.{◌≡◌, ◌⊎◌, inl, inr, ℕ, zero, suc, ◌+◌, ◌-◌, ◌<◌, ◌≤◌, List, [], ◌∷◌, ◌++◌, length, length-append, Some, refl, sym, ap, subst, ◌∙◌, arith, get_or}
+use Rattle.std.specs.Prelude.{slice_get, Contains, map, flat_map, filter_map, sum_by}
+use Rattle.std.specs.List.{AllZip, range_with_len}
+use Rattle.std.proofs.lemmas.Option.{slice_get_within, slice_get-get_or, same_Some}
+use Rattle.std.proofs.lemmas.List.FromFn.{length-range_with_len}
+use Rattle.std.proofs.lemmas.List.Sums.{sum_by-append}
+use Rattle.std.proofs.lemmas.Grind.{flat_map-append}
 use Rattle.ops.specs.declared.opcode.Opcode.{Opcode}
 use Rattle.ops.specs.declared.opcode.Flags.{Flags}
 use Rattle.ops.specs.Flags.{FlagsFit}
@@ -10,7 +13,12 @@ use Rattle.rule_parse.specs.declared.raw.RawRule.{RawRule}
 use Rattle.rule_parse.specs.declared.raw.RawStatement.{RawStatement}
 use Rattle.rule_parse.specs.declared.raw.RawOp.{RawOp}
 use Rattle.rule_parse.specs.declared.raw.RawOp.TheVariants as raw_ops
+use Rattle.rule_parse.specs.declared.raw.RawArgument.{RawArgument}
 use Rattle.rule_parse.specs.declared.raw.RawArgument.TheVariants as raw_arguments
+use Rattle.rule_terms.specs.declared.raw.RawNode.{RawNode}
+use Rattle.rule_terms.specs.declared.raw.RawNode.TheVariants as raw_nodes
+use Rattle.rule_terms.specs.declared.raw.RawFormula.{RawFormula}
+use Rattle.rule_terms.specs.declared.raw.RawFormula.TheVariants as raw_formulas
 use Rattle.rule_core.specs.declared.rule.Rule.{Rule}
 use Rattle.rule_core.specs.declared.rule.Statement.{Statement}
 use Rattle.rule_core.specs.declared.rule.Op.{Op}
@@ -20,63 +28,124 @@ use Rattle.rule_core.specs.declared.rule.Argument.{Argument}
 use Rattle.rule_core.specs.declared.rule.Argument.TheVariants as arguments
 use Rattle.rule_core.specs.declared.rule.Register.{Register}
 use Rattle.rule_core.specs.declared.rule.Register.TheVariants as registers
-use Rattle.rule_core.specs.Checks.{IsRule, names_of, ReadsAt, SourceMayRead, TargetMayRead, MayStandInSource as MayBeInSource, FlagsFitOp}
-use Rattle.rule_core.specs.Positions.{operands_of as operands_meant}
+use Rattle.rule_core.specs.declared.rule.Term.{Term}
+use Rattle.rule_core.specs.declared.rule.Node.{Node}
+use Rattle.rule_core.specs.declared.rule.Node.TheVariants as nodes
+use Rattle.rule_core.specs.declared.rule.Formula.{Formula}
+use Rattle.rule_core.specs.declared.rule.Formula.TheVariants as formulas
+use Rattle.rule_core.specs.Checks.{IsRule, SourceMayRead, TargetMayRead, HasWidth, IsBeforeRoot, MayBeTerm, MayBeWitness, MayBeFormula, MayStandInSource as MayBeInSource, FlagsFitOp, IsNoUndefCopy, UndefsInOrder, StandsAt as StandsInRule, names_of}
+use Rattle.rule_core.specs.Positions.{operands_of as operands_meant, operands_among, undefs_among}
 use Rattle.rule_core.proofs.Members.{Contains-from_get}
-use Rattle.rule_reader.specs.declared.resolve.Half.TheVariants as halves
-use Rattle.rule_reader.specs.Naming.{arguments_of, Uses, UsesAt, AssignsAt, IsInput, IsRoot, HasName, ArgumentMeans, OpMeans, StatementMeans, Means}
-use Rattle.rule_reader.specs.WellFormed.{IsHalf, IsWellFormed, MayStandInSource, FlagsFitOp as FlagsFitRaw}
-use Rattle.rule_reader.specs.Kinds.{StandsAt, MayUse, UsesUnbound, RootMissingAt, UnusedTempAt}
-use Rattle.rule_reader.proofs.Places.{same_at, there, map_at, zip_right, zip_length, somewhere}
-use Rattle.rule_reader.proofs.Stable.{stable_name, find_use}
-use Rattle.rule_reader.proofs.Meaning.{flat_at, at_flat, assigning_statement, statement_assigns, Goes, register_name, operands_go, names_go, reads_written, written_reads}
-use Rattle.rule_reader.proofs.Names.{IsPlain, one_place, one_register, input_of, not_redefined, input_or_earlier, target_register}
+use Rattle.rule_reader.specs.declared.counts.Counts.{Counts}
+use Rattle.rule_reader.specs.declared.names.Names.{Names}
+use Rattle.rule_reader.specs.declared.place.Place.{Place}
+use Rattle.rule_reader.specs.declared.place.Place.TheVariants as places
+use Rattle.rule_parse.specs.Inside.{arguments_of, arguments_among, formula_of, expressions_of, target_terms, terms_of, terms_of_argument, terms_of_formula}
+use Rattle.rule_reader.specs.Naming.{nodes_in, past, past_all, no_counts, in_half, with_counts, with_nodes, with_terms, last_nodes, UsesAt, IsRoot, AssignsAt, IsInput, IsTemporary, GivesInput, GivesConstant, AreNames, ArgumentMeans, OpMeans, StatementMeans, NodeMeans, FormulaMeans, HasName, HalfMeans, Means, names_of_rule}
+use Rattle.rule_terms.specs.Nodes.{IsBehindOperands}
+use Rattle.rule_reader.specs.WellFormed.{IsHalf, IsWellFormed, IsTerm, IsBehindFormulas, MayStandInTerm, MayStandInSource, FlagsFitOp as FlagsFitRaw}
+use Rattle.rule_reader.specs.Kinds.{Each, MayUse, NodeIsBound, TermIsBound, ArgumentIsBound, FormulaIsBound, RootMissingAt, UnusedTempAt, UndefInsideAt, WitnessCountAt, IsUndefCopy}
+use Rattle.rule_reader.specs.Resolving.{NamesAreThere}
+use Rattle.rule_reader.proofs.Places.{order, same_at, there, map_at, at_append, somewhere, zip_right, zip_length}
+use Rattle.rule_reader.proofs.SameWeight.{same_weight}
+use Rattle.rule_reader.proofs.There.{IsThere, term_there}
+use Rattle.rule_reader.proofs.Stable.{stable_name, same_number}
+use Rattle.rule_reader.proofs.Members.{each_in, each_at, flat_at, at_flat}
+use Rattle.rule_reader.proofs.Counting.{with_counts_at}
+use Rattle.rule_reader.proofs.Nodes.{nodes_append, count_nodes, node_at, terms_length, with_terms_at, last_nodes_count}
+use Rattle.rule_reader.proofs.Weighing.{nodes_weigh}
+use Rattle.rule_reader.proofs.Found.{input_of as input_of_names}
+use Rattle.rule_reader.proofs.Meaning.{assigning_statement, statement_assigns, names_go, count_go, read_go, nodes_upto, reads_written, written_reads, undefs_from, all_go}
+use Rattle.rule_reader.proofs.OneRegister.{IsPlain, one_place, one_register, input_of, not_redefined, input_or_earlier, target_register, before_root_register, not_root_before}
+use Rattle.rule_reader.proofs.NameDecisions.{dec_uses_at}
 
--- no check of the registers fails
+-- no check of the registers, constants and `undef`s fails
 pub record IsBound (raw : RawRule) : Type 0 where
   pub plain : IsPlain raw
-  pub source_bound : (line : ℕ) → ¬ StandsAt raw.source (UsesUnbound raw halves.Source) line
-  pub target_bound : (line : ℕ) → ¬ StandsAt raw.target (UsesUnbound raw halves.Target) line
+  pub there : NamesAreThere raw
   pub root_there : (line : ℕ) → ¬ RootMissingAt raw line
   pub all_used : (line : ℕ) → ¬ UnusedTempAt raw.source line
-
-few_of_op : (op : Op) → length (operands_meant op) ≤ 3
-few_of_op (ops.Binary op flags x y) = omega arith
-few_of_op (ops.Compare pred x y) = omega arith
-few_of_op (ops.Select z x y) = omega arith
-few_of_op (ops.Convert cast x to) = omega arith
-few_of_op (ops.Copy x) = omega arith
-
-few_of : (ss : List Statement) → length (flat_map (λ s. operands_meant s.op) ss) ≤ 3 * length ss
-few_of [] = omega arith
-few_of (s ∷ ss) = let one = few_of_op s.op in let rest = few_of ss in omega (arith, length-append (operands_meant s.op) (flat_map (λ (s : Statement). operands_meant s.op) ss))
+  pub undefs_right : (line : ℕ) → ¬ UndefInsideAt raw line
+  pub enough : (line : ℕ) → ¬ WitnessCountAt raw line
 
 same_fit : (op op' : Opcode) (flags flags' : Flags) → op' ≡ op → flags' ≡ flags → FlagsFit op flags → FlagsFit op' flags'
 same_fit op op' flags flags' same same' fit = subst (λ o. FlagsFit o flags') (sym same) (subst (FlagsFit op) (sym same') fit)
 
-fits : (raw : RawRule) (inputs : List (List ℕ)) (w : RawOp) (op : Op) → OpMeans raw inputs w op → FlagsFitRaw w → FlagsFitOp op
-fits raw inputs (raw_ops.Binary op flags a b) (ops.Binary op' flags' x y) means fit = same_fit op op' flags flags' means.0 means.1 fit
-fits raw inputs w (ops.Binary op flags x y) means fit = absurd means
-fits raw inputs w op means fit = tt
+module _ (raw : RawRule) (names : Names) where
+  fits : (b : Counts) (w : RawOp) (op : Op) → OpMeans raw names b w op → FlagsFitRaw w → FlagsFitOp op
+  fits b (raw_ops.Binary op flags a c) (ops.Binary op' flags' x y) means fit = same_fit op op' flags flags' means.0 means.1 fit
+  fits b w (ops.Binary op flags x y) means fit = absurd means
+  fits b w op means fit = tt
 
-no_copy : (raw : RawRule) (inputs : List (List ℕ)) (w : RawOp) (op : Op) → OpMeans raw inputs w op → MayStandInSource w → MayBeInSource op
-no_copy raw inputs (raw_ops.Copy a) (ops.Copy x) means stands = absurd stands
-no_copy raw inputs w (ops.Copy x) means stands = absurd means
-no_copy raw inputs w op means stands = tt
+  no_copy : (b : Counts) (w : RawOp) (op : Op) → OpMeans raw names b w op → MayStandInSource w → MayBeInSource op
+  no_copy b (raw_ops.Copy a) (ops.Copy x) means stands = absurd stands
+  no_copy b w (ops.Copy x) means stands = absurd means
+  no_copy b w op means stands = tt
 
--- names that a list of statements as written has
+  undef_means : (b : Counts) (v : RawArgument) (k : ℕ) → ArgumentMeans raw names b v (arguments.Undef k) → v ≡ raw_arguments.Undef
+  undef_means b raw_arguments.Undef k means = refl
+  undef_means b v k means = absurd means
+
+  no_undef_copy : (b : Counts) (w : RawOp) (op : Op) → OpMeans raw names b w op → ¬ IsUndefCopy w → IsNoUndefCopy op
+  no_undef_copy b (raw_ops.Copy a) (ops.Copy x) means not = λ k is. not (undef_means b a.value k (subst (ArgumentMeans raw names b a.value) is means.1))
+  no_undef_copy b w (ops.Copy x) means not = absurd means
+  no_undef_copy b w op means not = tt
+
+  term_means : (b : Counts) (v : RawArgument) (n : ℕ) → ArgumentMeans raw names b v (arguments.Term n) → (t : List RawNode) × (v ≡ raw_arguments.Term t) × (suc n ≡ b.nodes + length t)
+  term_means b (raw_arguments.Term t) n means = (t, refl, means)
+  term_means b v n means = absurd means
+
+  register_means : (b : Counts) (v : RawArgument) (r : Register) → ArgumentMeans raw names b v (arguments.Register r) → (name : List ℕ) × (v ≡ raw_arguments.Register name) × HasName raw names r name
+  register_means b (raw_arguments.Register name) r means = (name, refl, means)
+  register_means b v r means = absurd means
+
+  constant_means : (b : Counts) (v : RawArgument) (k : ℕ) → ArgumentMeans raw names b v (arguments.Constant k) → (name : List ℕ) × (v ≡ raw_arguments.Constant name) × (slice_get names.constants k ≡ Some name)
+  constant_means b (raw_arguments.Constant name) k means = (name, refl, means)
+  constant_means b v k means = absurd means
+
+  named_register : (b : Counts) (name : List ℕ) (a : Argument) → ArgumentMeans raw names b (raw_arguments.Register name) a → (r : Register) × (a ≡ arguments.Register r) × HasName raw names r name
+  named_register b name (arguments.Register r) means = (r, refl, means)
+  named_register b name a means = absurd means
+
+  named_constant : (b : Counts) (name : List ℕ) (a : Argument) → ArgumentMeans raw names b (raw_arguments.Constant name) a → (k : ℕ) × (a ≡ arguments.Constant k) × (slice_get names.constants k ≡ Some name)
+  named_constant b name (arguments.Constant k) means = (k, refl, means)
+  named_constant b name a means = absurd means
+
+-- the last node of a term is one of all nodes
+last_within : (n : ℕ) (ts : List (List RawNode)) (k m : ℕ) → ((t : List RawNode) → Contains ts t → 0 < length t) → slice_get (last_nodes n ts) k ≡ Some m → m < n + nodes_in ts
+last_within n [] k m some at = elim k as (λ j. slice_get [] j ≡ Some m → m < n + nodes_in []) [ zero ↦ λ h. absurd (cc) | suc j ↦ λ h. absurd (cc) ] at
+last_within n (t ∷ ts) zero m some at =
+    let first : n + length t - 1 ≡ m = same_Some (n + length t - 1) m at in
+    let long : 0 < length t = some t (Contains-from_get (t ∷ ts) 0 t refl) in
+    omega (arith, nodes_append (t ∷ []) ts, first, long)
+last_within n (t ∷ ts) (suc k) m some at =
+    let rest : m < n + length t + nodes_in ts = last_within (n + length t) ts k m (λ u among. let (j, there') = somewhere ts u among in some u (Contains-from_get (t ∷ ts) (suc j) u there')) at in
+    omega (arith, nodes_append (t ∷ []) ts, rest)
+
+-- and the terms of a formula's node stand before the end
+formula_within : (n : ℕ) (fs : List RawFormula) (k : ℕ) (x : ℕ × RawFormula) → slice_get (with_terms n fs) k ≡ Some x → x.0 + nodes_in (terms_of_formula x.1) ≤ n + nodes_in (flat_map terms_of_formula fs)
+formula_within n [] k x at = elim k as (λ j. slice_get [] j ≡ Some x → x.0 + nodes_in (terms_of_formula x.1) ≤ n + 0) [ zero ↦ λ h. absurd (cc) | suc j ↦ λ h. absurd (cc) ] at
+formula_within n (f ∷ fs) zero x at =
+    subst (λ (y : ℕ × RawFormula). y.0 + nodes_in (terms_of_formula y.1) ≤ n + nodes_in (flat_map terms_of_formula (f ∷ fs))) (same_Some (n, f) x at) (omega (arith, nodes_append (terms_of_formula f) (flat_map terms_of_formula fs)))
+formula_within n (f ∷ fs) (suc k) x at =
+    let rest : x.0 + nodes_in (terms_of_formula x.1) ≤ n + nodes_in (terms_of_formula f) + nodes_in (flat_map terms_of_formula fs) = formula_within (n + nodes_in (terms_of_formula f)) fs k x at in
+    omega (arith, nodes_append (terms_of_formula f) (flat_map terms_of_formula fs), rest)
+
 module _ (raw : RawRule) (rule : Rule) (well : IsWellFormed raw) (bound : IsBound raw) (means : Means raw rule) where
+  abbrev own : Names
+  own = names_of_rule rule
+
   source_names : names_of rule.source ≡ map (λ s. s.name) raw.source
-  source_names = names_go raw rule.inputs raw.source rule.source means.source
+  source_names = names_go raw own no_counts raw.source rule.source means.source
 
   target_names : names_of rule.target ≡ map (λ s. s.name) raw.target
-  target_names = names_go raw rule.inputs raw.target rule.target means.target
+  target_names = names_go raw own no_counts raw.target rule.target means.target
 
   source_length : length rule.source ≡ length raw.source
-  source_length = zip_length (StatementMeans raw rule.inputs) raw.source rule.source means.source
+  source_length = count_go raw own no_counts raw.source rule.source means.source
 
   target_length : length rule.target ≡ length raw.target
-  target_length = zip_length (StatementMeans raw rule.inputs) raw.target rule.target means.target
+  target_length = count_go raw own no_counts raw.target rule.target means.target
 
   source_at : (k : ℕ) (name : List ℕ) → slice_get (names_of rule.source) k ≡ Some name → AssignsAt raw.source k name
   source_at k name at = subst (λ ns. slice_get ns k ≡ Some name) source_names at
@@ -84,81 +153,148 @@ module _ (raw : RawRule) (rule : Rule) (well : IsWellFormed raw) (bound : IsBoun
   target_at : (k : ℕ) (name : List ℕ) → slice_get (names_of rule.target) k ≡ Some name → AssignsAt raw.target k name
   target_at k name at = subst (λ ns. slice_get ns k ≡ Some name) target_names at
 
-  -- what a statement's operand that reads a register is as written
-  used : (ws : List RawStatement) (ss : List Statement) (k : ℕ) (s : Statement) (o : Operand) (r : Register) → AllZip (StatementMeans raw rule.inputs) ws ss
-      → slice_get ss k ≡ Some s → Contains (operands_meant s.op) o → o.value ≡ arguments.Register r
-      → (w : RawStatement) × (slice_get ws k ≡ Some w) × ((name : List ℕ) × Uses w.op name × HasName raw rule.inputs r name)
-  used ws ss k s o r all at among reads =
-      let (w, there, goes) = zip_right (StatementMeans raw rule.inputs) ws ss k s all at in
+  -- the statement as written
+  written : (ws : List RawStatement) (ss : List Statement) (k : ℕ) (s : Statement) → HalfMeans raw own ws ss → slice_get ss k ≡ Some s → (b : Counts) × (w : RawStatement) × (slice_get ws k ≡ Some w) × StatementMeans raw own b w s
+  written ws ss k s all at =
+      let (x, at', goes) = zip_right (λ (x : Counts × RawStatement) (y : Statement). StatementMeans raw own x.0 x.1 y) (with_counts no_counts ws) ss k s all at in
+      (x.0, x.1, with_counts_at no_counts ws k x at', goes)
+
+  -- what a statement's operand is as written
+  used : (ws : List RawStatement) (ss : List Statement) (k : ℕ) (s : Statement) (o : Operand) → HalfMeans raw own ws ss → slice_get ss k ≡ Some s → Contains (operands_meant s.op) o
+      → (w : RawStatement) × (b : Counts) × (v : RawArgument) × (slice_get ws k ≡ Some w) × Contains (arguments_of w.op) v × ArgumentMeans raw own b v o.value
+  used ws ss k s o all at among =
+      let (c, w, at', goes) = written ws ss k s all at in
       let (q, place) = somewhere (operands_meant s.op) o among in
-      let (v, spot, goes') = zip_right (Goes raw rule.inputs) (arguments_of w.op) (operands_meant s.op) q o (operands_go raw rule.inputs w.op s.op goes.1) place in
-      let (name, is, has) = register_name raw rule.inputs v r (subst (λ a. ArgumentMeans raw rule.inputs v a) reads goes') in
-      (w, there, (name, Contains-from_get (arguments_of w.op) q (raw_arguments.Register name) (spot ∙ ap (λ x. Some x) is), has))
+      let (b, v, spot, goes') = read_go raw own c w.op s.op q o goes.1 place in
+      (w, b, v, at', Contains-from_get (arguments_of w.op) q v spot, goes')
 
-  may_in_source : (k : ℕ) (w : RawStatement) (name : List ℕ) → slice_get raw.source k ≡ Some w → Uses w.op name → ¬ (¬ MayUse raw halves.Source k name)
-  may_in_source k w name at uses not = bound.source_bound w.line (k, w, at, (name, uses, not), refl)
-
-  may_in_target : (k : ℕ) (w : RawStatement) (name : List ℕ) → slice_get raw.target k ≡ Some w → Uses w.op name → ¬ (¬ MayUse raw halves.Target k name)
-  may_in_target k w name at uses not = bound.target_bound w.line (k, w, at, (name, uses, not), refl)
-
-  read_in_source : (k : ℕ) (s : Statement) (o : Operand) (a : Argument) → slice_get rule.source k ≡ Some s → Contains (operands_meant s.op) o → o.value ≡ a → SourceMayRead rule k a
-  read_in_source k s o (arguments.Register r) at among is =
-      let (w, there, (name, uses, has)) = used raw.source rule.source k s o r means.source at among is in
-      elim (input_or_earlier raw rule.inputs bound.plain means.inputs k name r (slice_get_within raw.source k w there) (may_in_source k w name there uses) has) [
+  source_may : (k : ℕ) (w : RawStatement) (b : Counts) (v : RawArgument) (a : Argument) → slice_get raw.source k ≡ Some w → Contains (arguments_of w.op) v → ArgumentMeans raw own b v a → SourceMayRead rule k a
+  source_may k w b (raw_arguments.Register name) (arguments.Register r) at among has =
+      let may : MayUse raw (places.Source k) name = each_in (ArgumentIsBound raw (places.Source k)) (arguments_of w.op) (raw_arguments.Register name) (bound.there.source k w at) among in
+      elim (input_or_earlier raw own bound.plain means.names k name r (slice_get_within raw.source k w at) (λ not. not may) has) [
         | inl (i, lt, e) ↦ subst (λ x. SourceMayRead rule k (arguments.Register x)) (sym e) lt
         | inr (j, lt, e) ↦ subst (λ x. SourceMayRead rule k (arguments.Register x)) (sym e) lt
       ]
-  read_in_source k s o (arguments.Literal z) at among is = tt
-  read_in_source k s o (arguments.Truth b) at among is = tt
+  source_may k w b (raw_arguments.Literal z) (arguments.Literal y) at among has = tt
+  source_may k w b (raw_arguments.Truth t) (arguments.Truth u) at among has = tt
+  source_may k w b (raw_arguments.Constant name) (arguments.Constant j) at among has = slice_get_within rule.constants j name has
+  source_may k w b raw_arguments.Undef (arguments.Undef j) at among has = elim (order (suc k) (length raw.source)) [
+    | inl lt ↦ absurd (bound.undefs_right w.line (inl (k, w, at, (lt, among), refl)))
+    | inr (inl e) ↦ e ∙ sym source_length
+    | inr (inr gt) ↦ let inside : k < length raw.source = slice_get_within raw.source k w at in absurd (omega arith)
+  ]
+  source_may k w b (raw_arguments.Term t) (arguments.Term n) at among has = absurd (well.source_arguments k w t at among)
+  source_may k w b v a at among has = absurd has
 
-  read_in_target : (k : ℕ) (s : Statement) (o : Operand) (a : Argument) → slice_get rule.target k ≡ Some s → Contains (operands_meant s.op) o → o.value ≡ a → TargetMayRead rule k a
-  read_in_target k s o (arguments.Register r) at among is =
-      let (w, there, (name, uses, has)) = used raw.target rule.target k s o r means.target at among is in
-      elim (target_register raw rule.inputs bound.plain means.inputs k name r (may_in_target k w name there uses) has) [
+  terms_long : length rule.terms ≡ nodes_in (terms_of raw)
+  terms_long = terms_length raw own (terms_of raw) rule.terms means.terms
+
+  target_nodes : nodes_in (target_terms raw) ≤ length rule.terms
+  target_nodes = omega (arith, terms_long, nodes_append (target_terms raw) (flat_map terms_of_formula (formula_of raw)))
+
+  -- the term of a target operand
+  term_within : (q : ℕ) (o : Operand) (n : ℕ) → slice_get (operands_among rule.target) q ≡ Some o → o.value ≡ arguments.Term n → n < length rule.terms
+  term_within q o n at is =
+      let (b, v, at', spot, goes) = reads_written raw own raw.target rule.target q o means.target at in
+      let (t, e, sum) = term_means raw own b v n (subst (ArgumentMeans raw own b v) is goes) in
+      let upto : (past b v).nodes ≤ (in_half raw.target).nodes = nodes_upto no_counts (arguments_among raw.target) q (b, v) at' in
+      let upto' : b.nodes + length t ≤ (in_half raw.target).nodes = subst (λ u. (past b u).nodes ≤ (in_half raw.target).nodes) e upto in
+      omega (arith, sum, upto', nodes_weigh no_counts (arguments_among raw.target), target_nodes)
+
+  target_may : (k : ℕ) (w : RawStatement) (b : Counts) (v : RawArgument) (a : Argument) → ((n : ℕ) → a ≡ arguments.Term n → n < length rule.terms) → slice_get raw.target k ≡ Some w → Contains (arguments_of w.op) v → ArgumentMeans raw own b v a → TargetMayRead rule k a
+  target_may k w b (raw_arguments.Register name) (arguments.Register r) inside at among has =
+      let may : MayUse raw (places.Target k) name = each_in (ArgumentIsBound raw (places.Target k)) (arguments_of w.op) (raw_arguments.Register name) (bound.there.target k w at) among in
+      elim (target_register raw own bound.plain means.names k name r (λ not. not may) has) [
         | inl (i, lt, e) ↦ subst (λ x. TargetMayRead rule k (arguments.Register x)) (sym e) lt
         | inr (inl (j, lt, e)) ↦ subst (λ x. TargetMayRead rule k (arguments.Register x)) (sym e) (subst (λ n. suc j < n) (sym source_length) lt)
         | inr (inr (j, lt, e)) ↦ subst (λ x. TargetMayRead rule k (arguments.Register x)) (sym e) lt
       ]
-  read_in_target k s o (arguments.Literal z) at among is = tt
-  read_in_target k s o (arguments.Truth b) at among is = tt
+  target_may k w b (raw_arguments.Literal z) (arguments.Literal y) inside at among has = tt
+  target_may k w b (raw_arguments.Truth t) (arguments.Truth u) inside at among has = tt
+  target_may k w b (raw_arguments.Constant name) (arguments.Constant j) inside at among has = slice_get_within rule.constants j name has
+  target_may k w b raw_arguments.Undef (arguments.Undef j) inside at among has = tt
+  target_may k w b (raw_arguments.Term t) (arguments.Term n) inside at among has = inside n refl
+  target_may k w b v a inside at among has = absurd has
 
-  input_not_root : (name : List ℕ) → IsInput raw.source name → ¬ IsRoot raw.source name
-  input_not_root name input (j, last, at) = input.1 j at
+  read_in_source : (k : ℕ) (s : Statement) (o : Operand) → slice_get rule.source k ≡ Some s → Contains (operands_meant s.op) o → SourceMayRead rule k o.value
+  read_in_source k s o at among = let (w, b, v, at', among', goes) = used raw.source rule.source k s o means.source at among in source_may k w b v o.value at' among' goes
 
-  -- an input that is written is read
-  input_read : (i q : ℕ) (name : List ℕ) → slice_get rule.inputs i ≡ Some name → UsesAt raw.source q name → ReadsAt rule q (registers.Input i)
+  read_in_target : (k : ℕ) (s : Statement) (o : Operand) → slice_get rule.target k ≡ Some s → Contains (operands_meant s.op) o → TargetMayRead rule k o.value
+  read_in_target k s o at among =
+      let (w, b, v, at', among', goes) = used raw.target rule.target k s o means.target at among in
+      let (q, spot) = at_flat (λ (s : Statement). operands_meant s.op) rule.target k s o at among in
+      target_may k w b v o.value (λ n is. term_within q o n spot is) at' among' goes
+
+  -- ---- inputs and constants
+
+  input_name : (name : List ℕ) → Contains rule.inputs name → IsInput raw.source name
+  input_name name among = input_of_names raw.source own means.names name among
+
+  input_read : (i q : ℕ) (name : List ℕ) → slice_get rule.inputs i ≡ Some name → UsesAt raw.source q name → StandsInRule rule q (arguments.Register (registers.Input i))
   input_read i q name at uses =
-      let (r, reads, has) = written_reads raw rule q name means uses in
-      let not_root = input_not_root name (input_of raw rule.inputs bound.plain means.inputs i name at) in
-      subst (ReadsAt rule q) (one_register raw rule.inputs bound.plain means.inputs r (registers.Input i) name not_root has at) reads
+      let (b, o, spot, goes) = written_reads raw own raw.source rule.source q (raw_arguments.Register name) means.source uses in
+      let (r, e, has) = named_register raw own b name o.value goes in
+      let not_root : ¬ IsRoot raw.source name = λ (j, last, at'). (input_name name (Contains-from_get rule.inputs i name at)).1 j at' in
+      (o, spot, e ∙ ap (λ x. arguments.Register x) (one_register raw own bound.plain means.names r (registers.Input i) name not_root has at))
 
-  all_inputs_read : (i : ℕ) → i < length rule.inputs → (q : ℕ) × ReadsAt rule q (registers.Input i)
+  constant_read : (k q : ℕ) (name : List ℕ) → slice_get rule.constants k ≡ Some name → slice_get (arguments_among raw.source) q ≡ Some (raw_arguments.Constant name) → StandsInRule rule q (arguments.Constant k)
+  constant_read k q name at uses =
+      let (b, o, spot, goes) = written_reads raw own raw.source rule.source q (raw_arguments.Constant name) means.source uses in
+      let (j, e, has) = named_constant raw own b name o.value goes in
+      (o, spot, e ∙ ap (λ x. arguments.Constant x) (means.names.constants.once j k name has at))
+
+  read_as : (q : ℕ) (a : Argument) → StandsInRule rule q a → (b : Counts) × (v : RawArgument) × (slice_get (arguments_among raw.source) q ≡ Some v) × ArgumentMeans raw own b v a
+  read_as q a (o, at, is) = let (b, v, at', spot, goes) = reads_written raw own raw.source rule.source q o means.source at in (b, v, spot, subst (ArgumentMeans raw own b v) is goes)
+
+  free_input : (i : ℕ) (name : List ℕ) → slice_get rule.inputs i ≡ Some name → (k : ℕ) → AssignsAt raw.source k name → ⊥
+  free_input i name at = (input_name name (Contains-from_get rule.inputs i name at)).1
+
+  all_inputs_read : (i : ℕ) → i < length rule.inputs → (q : ℕ) × StandsInRule rule q (arguments.Register (registers.Input i))
   all_inputs_read i within =
       let name : List ℕ = get_or rule.inputs i [] in
       let at : slice_get rule.inputs i ≡ Some name = slice_get-get_or rule.inputs i [] within in
-      let (q, uses) = (input_of raw rule.inputs bound.plain means.inputs i name at).0 in
+      let (q, uses) = (input_name name (Contains-from_get rule.inputs i name at)).0 in
       (q, input_read i q name at uses)
 
-  inputs_in_order : (h i q : ℕ) → h < i → ReadsAt rule q (registers.Input i) → (p : ℕ) × (p < q) × ReadsAt rule p (registers.Input h)
+  inputs_in_order : (h i q : ℕ) → h < i → StandsInRule rule q (arguments.Register (registers.Input i)) → (p : ℕ) × (p < q) × StandsInRule rule p (arguments.Register (registers.Input h))
   inputs_in_order h i q lt reads =
-      let (n, uses, at) = reads_written raw rule q (registers.Input i) means reads in
+      let (b, v, spot, goes) = read_as q (arguments.Register (registers.Input i)) reads in
+      let (n, e, at) = register_means raw own b v (registers.Input i) goes in
       let within : i < length rule.inputs = slice_get_within rule.inputs i n at in
       let m : List ℕ = get_or rule.inputs h [] in
       let at' : slice_get rule.inputs h ≡ Some m = slice_get-get_or rule.inputs h [] (omega arith) in
-      let (p, before, earlier) = means.inputs.in_order h i q m n lt at' at uses in
-      (p, before, input_read h p m at' earlier)
+      let (p, before, (a, spot', gives)) = means.names.inputs.in_order h i q m n lt at' at (v, spot, (e, free_input i n at)) in
+      (p, before, input_read h p m at' (spot' ∙ ap (λ x. Some x) gives.0))
 
-  temporaries_read : (j : ℕ) → suc j < length rule.source → (q : ℕ) × ReadsAt rule q (registers.Source j)
+  all_constants_read : (k : ℕ) → k < length rule.constants → (q : ℕ) × StandsInRule rule q (arguments.Constant k)
+  all_constants_read k within =
+      let name : List ℕ = get_or rule.constants k [] in
+      let at : slice_get rule.constants k ≡ Some name = slice_get-get_or rule.constants k [] within in
+      let (q, (a, spot, is)) = (means.names.constants.each name).0 (Contains-from_get rule.constants k name at) in
+      (q, constant_read k q name at (spot ∙ ap (λ x. Some x) is))
+
+  constants_in_order : (h k q : ℕ) → h < k → StandsInRule rule q (arguments.Constant k) → (p : ℕ) × (p < q) × StandsInRule rule p (arguments.Constant h)
+  constants_in_order h k q lt reads =
+      let (b, v, spot, goes) = read_as q (arguments.Constant k) reads in
+      let (n, e, at) = constant_means raw own b v k goes in
+      let within : k < length rule.constants = slice_get_within rule.constants k n at in
+      let m : List ℕ = get_or rule.constants h [] in
+      let at' : slice_get rule.constants h ≡ Some m = slice_get-get_or rule.constants h [] (omega arith) in
+      let (p, before, (a, spot', gives)) = means.names.constants.in_order h k q m n lt at' at (v, spot, e) in
+      (p, before, constant_read h p m at' (spot' ∙ ap (λ x. Some x) gives))
+
+  temporaries_read : (j : ℕ) → suc j < length rule.source → (q : ℕ) × StandsInRule rule q (arguments.Register (registers.Source j))
   temporaries_read j before =
       let inside : suc j < length raw.source = subst (λ n. suc j < n) source_length before in
       let (w, at) = there raw.source j (omega arith) in
       let assigns : AssignsAt raw.source j w.name = statement_assigns raw.source j w at in
       let not_root : ¬ IsRoot raw.source w.name = λ (i, last, assigns'). let e : i ≡ j = one_place raw.source bound.plain.source_once i j w.name assigns' assigns in absurd (omega arith) in
-      elim (find_use (flat_map (λ (s : RawStatement). arguments_of s.op) raw.source) w.name) [
-        | inl (q, uses) ↦
-            let (r, reads, has) = written_reads raw rule q w.name means uses in
-            (q, subst (ReadsAt rule q) (one_register raw rule.inputs bound.plain means.inputs r (registers.Source j) w.name not_root has assigns) reads)
-        | inr none ↦ absurd (bound.all_used w.line (
+      elim (dec_uses_at raw.source w.name) [
+        | yes (q, uses) ↦
+            let (b, o, spot, goes) = written_reads raw own raw.source rule.source q (raw_arguments.Register w.name) means.source uses in
+            let (r, e, has) = named_register raw own b w.name o.value goes in
+            (q, (o, spot, e ∙ ap (λ x. arguments.Register x) (one_register raw own bound.plain means.names r (registers.Source j) w.name not_root has assigns)))
+        | no none ↦ absurd (bound.all_used w.line (
           j,
           w,
           at,
@@ -166,16 +302,103 @@ module _ (raw : RawRule) (rule : Rule) (well : IsWellFormed raw) (bound : IsBoun
             inside,
             λ (k, t, le, at', uses).
                 let (q, place) = at_flat (λ (s : RawStatement). arguments_of s.op) raw.source k t (raw_arguments.Register w.name) at' uses in
-                none q place,
+                none (q, place),
           ),
           refl,
         ))
       ]
 
+  -- ---- terms
+
+  before_root : (name : List ℕ) (r : Register) → MayUse raw places.Heading name → HasName raw own r name → IsBeforeRoot rule r
+  before_root name r may has = elim (before_root_register raw own bound.plain means.names name r may has) [
+    | inl (i, lt, e) ↦ subst (IsBeforeRoot rule) (sym e) lt
+    | inr (j, lt, e) ↦ subst (IsBeforeRoot rule) (sym e) (subst (λ n. suc j < n) (sym source_length) lt)
+  ]
+
+  has_width : (name : List ℕ) (r : Register) → IsThere raw (raw_nodes.Width name) → HasName raw own r name → HasWidth rule r
+  has_width name r (inl (k, inside, may)) has = elim (target_register raw own bound.plain means.names k name r (λ not. not may) has) [
+    | inl (i, lt, e) ↦ subst (HasWidth rule) (sym e) lt
+    | inr (inl (j, lt, e)) ↦ subst (HasWidth rule) (sym e) (subst (λ n. suc j < n) (sym source_length) lt)
+    | inr (inr (j, lt, e)) ↦ subst (HasWidth rule) (sym e) (let within : suc j < length raw.target = omega arith in subst (λ n. suc j < n) (sym target_length) within)
+  ]
+  has_width name r (inr may) has = elim (before_root_register raw own bound.plain means.names name r may has) [
+    | inl (i, lt, e) ↦ subst (HasWidth rule) (sym e) lt
+    | inr (j, lt, e) ↦ subst (HasWidth rule) (sym e) (subst (λ n. suc j < n) (sym source_length) lt)
+  ]
+
+  may_be_term : (n b k : ℕ) (w : RawNode) (m : Node) → b + k ≡ n → NodeMeans raw own b w m → IsBehindOperands k w → MayStandInTerm w → IsThere raw w → MayBeTerm rule n m
+  may_be_term n b k (raw_nodes.Literal z) (nodes.Literal y) sum is behind stands named = tt
+  may_be_term n b k (raw_nodes.Constant name) (nodes.Constant j) sum is behind stands named = slice_get_within rule.constants j name is
+  may_be_term n b k (raw_nodes.Register name) (nodes.Register r) sum is behind stands named = stands
+  may_be_term n b k (raw_nodes.Undef i) (nodes.Undef j) sum is behind stands named = stands
+  may_be_term n b k (raw_nodes.Width name) (nodes.Width r c) sum is behind stands named = has_width name r named is
+  may_be_term n b k (raw_nodes.Unary f a) (nodes.Unary f' x) sum is behind stands named = omega (arith, is.1)
+  may_be_term n b k (raw_nodes.Binary op a c) (nodes.Binary op' x y) sum is behind stands named = (omega (arith, is.1, behind.0), omega (arith, is.2, behind.1))
+  may_be_term n b k w m sum is behind stands named = absurd is
+
+  undefs_long : length (undefs_among rule.target) ≡ (in_half raw.target).undefs
+  undefs_long =
+      let e = undefs_from raw own no_counts (arguments_among raw.target) (operands_among rule.target) (in_half raw.target).undefs (all_go raw own no_counts raw.target rule.target means.target) (omega arith) in
+      ap length e ∙ length-range_with_len 0 (in_half raw.target).undefs
+
+  source_undefs_long : length (undefs_among rule.source) ≡ (in_half raw.source).undefs
+  source_undefs_long =
+      let e = undefs_from raw own no_counts (arguments_among raw.source) (operands_among rule.source) (in_half raw.source).undefs (all_go raw own no_counts raw.source rule.source means.source) (omega arith) in
+      ap length e ∙ length-range_with_len 0 (in_half raw.source).undefs
+
+  may_be_witness : (n b k : ℕ) (w : RawNode) (m : Node) → b + k ≡ n → NodeMeans raw own b w m → IsBehindOperands k w → NodeIsBound raw places.Heading w → MayBeWitness rule n m
+  may_be_witness n b k (raw_nodes.Literal z) (nodes.Literal y) sum is behind named = tt
+  may_be_witness n b k (raw_nodes.Constant name) (nodes.Constant j) sum is behind named = slice_get_within rule.constants j name is
+  may_be_witness n b k (raw_nodes.Register name) (nodes.Register r) sum is behind named = before_root name r named is
+  may_be_witness n b k (raw_nodes.Undef i) (nodes.Undef j) sum is behind named = omega (arith, is, named, undefs_long)
+  may_be_witness n b k (raw_nodes.Width name) (nodes.Width r c) sum is behind named = before_root name r named is
+  may_be_witness n b k (raw_nodes.Unary f a) (nodes.Unary f' x) sum is behind named = omega (arith, is.1)
+  may_be_witness n b k (raw_nodes.Binary op a c) (nodes.Binary op' x y) sum is behind named = (omega (arith, is.1, behind.0), omega (arith, is.2, behind.1))
+  may_be_witness n b k w m sum is behind named = absurd is
+
+  all_terms : (n : ℕ) (t : Term) → slice_get rule.terms n ≡ Some t → MayBeTerm rule n t.node
+  all_terms n t at =
+      let (x, at', is) = zip_right (λ (x : ℕ × RawNode) (y : Term). NodeMeans raw own x.0 x.1 y.node) (with_nodes 0 (terms_of raw)) rule.terms n t means.terms at in
+      let (u, among, (k, spot, sum)) = node_at 0 (terms_of raw) n x at' in
+      let inside = Contains-from_get u k x.1 spot in
+      let whole : x.0 + k ≡ 0 + n = sum in
+      let place : x.0 + k ≡ n = omega arith in
+      may_be_term n x.0 k x.1 t.node place is ((well.terms u among).each k x.1 spot) (well.constant_terms u x.1 among inside) (term_there raw bound.there u x.1 among inside)
+
+  all_witness_terms : (n : ℕ) (t : Term) → slice_get rule.witness_terms n ≡ Some t → MayBeWitness rule n t.node
+  all_witness_terms n t at =
+      let (x, at', is) = zip_right (λ (x : ℕ × RawNode) (y : Term). NodeMeans raw own x.0 x.1 y.node) (with_nodes 0 (expressions_of raw)) rule.witness_terms n t means.witness_terms at in
+      let (u, among, (k, spot, sum)) = node_at 0 (expressions_of raw) n x at' in
+      let whole : x.0 + k ≡ 0 + n = sum in
+      let place : x.0 + k ≡ n = omega arith in
+      may_be_witness n x.0 k x.1 t.node place is ((well.expressions u among).each k x.1 spot)
+      (each_in (NodeIsBound raw places.Heading) u x.1 (each_in (TermIsBound raw places.Heading) (expressions_of raw) u bound.there.witness among) (Contains-from_get u k x.1 spot))
+
+  may_be_formula : (n b : ℕ) (w : RawFormula) (f : Formula) → FormulaMeans raw own b w f → IsBehindFormulas n w → FormulaIsBound raw w → b + nodes_in (terms_of_formula w) ≤ length rule.terms → MayBeFormula rule n f
+  may_be_formula n b (raw_formulas.Compare pred u v) (formulas.Compare pred' x y) is behind named few = (omega (arith, is.1, nodes_append (u ∷ []) (v ∷ [])), omega (arith, is.2, nodes_append (u ∷ []) (v ∷ [])))
+  may_be_formula n b (raw_formulas.IsPowerOfTwo u) (formulas.IsPowerOfTwo x) is behind named few = omega arith
+  may_be_formula n b (raw_formulas.IsSignBit u) (formulas.IsSignBit x) is behind named few = omega arith
+  may_be_formula n b (raw_formulas.HasOneUse name) (formulas.HasOneUse k) is (behind) named few =
+      let e : named.0 ≡ k = one_place raw.source bound.plain.source_once named.0 k name named.2 is in
+      let lt : suc named.0 < length raw.source = named.1 in omega (arith, source_length)
+  may_be_formula n b (raw_formulas.Not a) (formulas.Not x) is behind named few = omega arith
+  may_be_formula n b (raw_formulas.And a c) (formulas.And x y) is behind named few = (omega (arith, is.0, behind.0), omega (arith, is.1, behind.1))
+  may_be_formula n b (raw_formulas.Or a c) (formulas.Or x y) is behind named few = (omega (arith, is.0, behind.0), omega (arith, is.1, behind.1))
+  may_be_formula n b w f is behind named few = absurd is
+
+  all_formulas : (n : ℕ) (f : Formula) → slice_get rule.precondition n ≡ Some f → MayBeFormula rule n f
+  all_formulas n f at =
+      let start = nodes_in (target_terms raw) in
+      let (x, at', is) = zip_right (λ (x : ℕ × RawFormula) (y : Formula). FormulaMeans raw own x.0 x.1 y) (with_terms start (formula_of raw)) rule.precondition n f means.precondition at in
+      let spot = with_terms_at raw own start (formula_of raw) n x at' in
+      may_be_formula n x.0 x.1 f is (well.formula n x.1 spot) (each_at (FormulaIsBound raw) (formula_of raw) n x.1 bound.there.precondition spot)
+      (omega (arith, formula_within start (formula_of raw) n x at', terms_long, nodes_append (target_terms raw) (flat_map terms_of_formula (formula_of raw))))
+
   root_assigned : (j k : ℕ) (s t : Statement) → suc j ≡ length rule.source → slice_get rule.source j ≡ Some s → suc k ≡ length rule.target → slice_get rule.target k ≡ Some t → t.name ≡ s.name
   root_assigned j k s t last at last' at' =
-      let (v, there, goes) = zip_right (StatementMeans raw rule.inputs) raw.source rule.source j s means.source at in
-      let (w, there', goes') = zip_right (StatementMeans raw rule.inputs) raw.target rule.target k t means.target at' in
+      let (b, v, there, goes) = written raw.source rule.source j s means.source at in
+      let (b', w, there', goes') = written raw.target rule.target k t means.target at' in
       let same : w.name ≡ v.name = stable_name w.name v.name (λ differ. bound.root_there w.line (
         k,
         w,
@@ -190,13 +413,16 @@ module _ (raw : RawRule) (rule : Rule) (well : IsWellFormed raw) (bound : IsBoun
       )) in
       goes'.0 ∙ same ∙ sym goes.0
 
-  input_name : (name : List ℕ) → Contains rule.inputs name → IsInput raw.source name
-  input_name name among = (means.inputs.each name).0 among
-
   short_uses : (name : List ℕ) (q : ℕ) → UsesAt raw.source q name → length name ≤ 200
   short_uses name q uses =
       let (k, w, at, among) = flat_at (λ (s : RawStatement). arguments_of s.op) raw.source q (raw_arguments.Register name) uses in
       well.source.short_uses k w name at among
+
+  short_constant : (name : List ℕ) → Contains rule.constants name → length name ≤ 200
+  short_constant name among =
+      let (q, (a, spot, is)) = (means.names.constants.each name).0 among in
+      let (k, w, at, among') = flat_at (λ (s : RawStatement). arguments_of s.op) raw.source q (raw_arguments.Constant name) (spot ∙ ap (λ x. Some x) is) in
+      well.source.short_constants k w name at among'
 
   short_assigned : (ws : List RawStatement) (ss : List Statement) (name : List ℕ) → IsHalf ws → names_of ss ≡ map (λ s. s.name) ws → Contains (names_of ss) name → length name ≤ 200
   short_assigned ws ss name half same among =
@@ -204,35 +430,65 @@ module _ (raw : RawRule) (rule : Rule) (well : IsWellFormed raw) (bound : IsBoun
       let (w, at', is) = assigning_statement ws k name (subst (λ ns. slice_get ns k ≡ Some name) same at) in
       subst (λ n. length n ≤ 200) is (half.short_names k w at')
 
+  copies : (k : ℕ) (s : Statement) → slice_get rule.target k ≡ Some s → IsNoUndefCopy s.op
+  copies k s at = let (b, w, at', goes) = written raw.target rule.target k s means.target at in no_undef_copy raw own b w.op s.op goes.1 (λ copy. bound.undefs_right w.line (inr (k, w, at', copy, refl)))
+
+  undefs_in_order : UndefsInOrder rule.target
+  undefs_in_order =
+      let e = undefs_from raw own no_counts (arguments_among raw.target) (operands_among rule.target) (in_half raw.target).undefs (all_go raw own no_counts raw.target rule.target means.target) (omega arith) in
+      e ∙ ap (range_with_len 0) (sym undefs_long)
+
+  source_undefs_in_order : UndefsInOrder rule.source
+  source_undefs_in_order =
+      let e = undefs_from raw own no_counts (arguments_among raw.source) (operands_among rule.source) (in_half raw.source).undefs (all_go raw own no_counts raw.source rule.source means.source) (omega arith) in
+      e ∙ ap (range_with_len 0) (sym source_undefs_long)
+
+  as_many : length (expressions_of raw) ≡ (in_half raw.source).undefs
+  as_many = elim (same_number (length (expressions_of raw)) (in_half raw.source).undefs) [ inl e ↦ e | inr differ ↦ absurd (bound.enough _ (differ, refl)) ]
+
+  witness_count : length rule.witnesses ≡ length (undefs_among rule.source)
+  witness_count = ap length means.witnesses ∙ last_nodes_count 0 (expressions_of raw) ∙ as_many ∙ sym source_undefs_long
+
   pub checked_rule : IsRule rule
   checked_rule =
       record {
         few_in_source = omega (arith, well.source.few, source_length);
         few_in_target = omega (arith, well.target.few, target_length);
-        few_operands = let few = few_of (rule.source ++ rule.target) in omega (arith, well.source.few, well.target.few, source_length, target_length, length-append rule.source rule.target);
+        few_nodes = subst (λ n. n ≤ 256) (sym (same_weight raw rule means)) well.weight;
         short_name = subst (λ n. length n ≤ 200) (sym means.name) well.short_name;
         short_inputs = λ name among. let (q, uses) = (input_name name among).0 in short_uses name q uses;
-        short_constants = λ name (k, within, is). absurd (omega (arith, ap length means.constants));
+        short_constants = short_constant;
         short_in_source = λ name among. short_assigned raw.source rule.source name well.source source_names among;
         short_in_target = λ name among. short_assigned raw.target rule.target name well.target target_names among;
         source_names = λ j k name p q. one_place raw.source bound.plain.source_once j k name (source_at j name p) (source_at k name q);
         target_names = λ j k name p q. one_place raw.target bound.plain.target_once j k name (target_at j name p) (target_at k name q);
-        source_reads = λ k s o at among. read_in_source k s o o.value at among refl;
-        target_reads = λ k s o at among. read_in_target k s o o.value at among refl;
-        inputs_distinct = means.inputs.once;
+        source_reads = λ k s o at among. read_in_source k s o at among;
+        target_reads = λ k s o at among. read_in_target k s o at among;
+        inputs_distinct = means.names.inputs.once;
         inputs_not_assigned = λ name among assigned. let (k, at) = somewhere (names_of rule.source) name assigned in (input_name name among).1 k (source_at k name at);
         inputs_read = all_inputs_read;
         inputs_in_order = inputs_in_order;
+        constants_distinct = means.names.constants.once;
+        constants_read = all_constants_read;
+        constants_in_order = constants_in_order;
+        terms = all_terms;
+        witness_terms = all_witness_terms;
+        precondition = all_formulas;
         source_root = omega (arith, well.source.some, source_length);
         target_root = omega (arith, well.target.some, target_length);
         root = root_assigned;
-        inputs_stay = λ name among assigned. let (k, at) = somewhere (names_of rule.target) name assigned in not_redefined raw rule.inputs bound.plain means.inputs k name (target_at k name at) (inl (input_name name among));
+        inputs_stay = λ name among assigned. let (k, at) = somewhere (names_of rule.target) name assigned in not_redefined raw own bound.plain means.names k name (target_at k name at) (inl (input_name name among));
         temporaries_stay = λ j s before at assigned.
             let (k, at') = somewhere (names_of rule.target) s.name assigned in
-            let own : AssignsAt raw.source j s.name = source_at j s.name (map_at (λ (s : Statement). s.name) rule.source j s at) in
-            not_redefined raw rule.inputs bound.plain means.inputs k s.name (target_at k s.name at') (inr (j, (subst (λ n. suc j < n) source_length before), own));
+            let mine : AssignsAt raw.source j s.name = source_at j s.name (map_at (λ (s : Statement). s.name) rule.source j s at) in
+            not_redefined raw own bound.plain means.names k s.name (target_at k s.name at') (inr (j, (subst (λ n. suc j < n) source_length before), mine));
         temporaries_read = temporaries_read;
-        source_ops = λ k s at. let (w, at', goes) = zip_right (StatementMeans raw rule.inputs) raw.source rule.source k s means.source at in no_copy raw rule.inputs w.op s.op goes.1 (well.source_ops k w at');
-        source_flags = λ k s at. let (w, at', goes) = zip_right (StatementMeans raw rule.inputs) raw.source rule.source k s means.source at in fits raw rule.inputs w.op s.op goes.1 (well.source.flags_fit k w at');
-        target_flags = λ k s at. let (w, at', goes) = zip_right (StatementMeans raw rule.inputs) raw.target rule.target k s means.target at in fits raw rule.inputs w.op s.op goes.1 (well.target.flags_fit k w at');
+        source_ops = λ k s at. let (b, w, at', goes) = written raw.source rule.source k s means.source at in no_copy raw own b w.op s.op goes.1 (well.source_ops k w at');
+        source_flags = λ k s at. let (b, w, at', goes) = written raw.source rule.source k s means.source at in fits raw own b w.op s.op goes.1 (well.source.flags_fit k w at');
+        target_flags = λ k s at. let (b, w, at', goes) = written raw.target rule.target k s means.target at in fits raw own b w.op s.op goes.1 (well.target.flags_fit k w at');
+        source_undefs = source_undefs_in_order;
+        target_undefs = undefs_in_order;
+        target_copies = copies;
+        witnesses = witness_count;
+        witnesses_there = λ k n at. omega (arith, last_within 0 (expressions_of raw) k n (λ t among. (well.expressions t among).some) (subst (λ l. slice_get l k ≡ Some n) means.witnesses at), terms_length raw own (expressions_of raw) rule.witness_terms means.witness_terms);
       }

@@ -18,10 +18,11 @@ use Rattle.rule_typing.specs.Classes.{IsClassified}
 use Rattle.rule_typing.specs.Faults.{IsFault as IsFaultOfClasses, HasTooManyClasses, HasNoTyping, HasOpenClass}
 use Rattle.rule_reader.specs.declared.fault.RuleFault.{RuleFault}
 use Rattle.rule_reader.specs.Naming.{Means}
-use Rattle.rule_reader.specs.Kinds.{ClassesAt, DuplicateAt, UnboundAt, RootMissingAt, RedefinesAt, UnusedTempAt}
+use Rattle.rule_reader.specs.Kinds.{ClassesAt, DuplicateAt, UnboundAt, RootMissingAt, RedefinesAt, UnusedTempAt, UndefInsideAt, WitnessCountAt}
 use Rattle.rule_reader.specs.Faults.{Check, Duplicate, Unbound, RootMissing, Redefines, UnusedTemp, UndefInside, WitnessCount, ManyClasses, NoType, OpenType, rank, kind_of, class_check, FailsAt, IsFirstLine, IsFirstFault, IsRuleOf}
 use Rattle.rule_reader.specs.ClassFaults.{IsClassifiedAs, IsClassFault}
 use Rattle.rule_reader.proofs.Checked.{IsBound, checked_rule}
+use Rattle.rule_reader.proofs.There.{names_there}
 use Rattle.rule_reader.proofs.Classes.{same_meaning}
 use Rattle.rule_reader.proofs.Once.{one_rule}
 use Rattle.rule_reader.proofs.Places.{order, same_at}
@@ -67,7 +68,7 @@ module _ (earlier : List RawRule) (raw : RawRule) where
   first_fault c fault clear kind line = record { check = c; kind = kind; line = line; first = clear }
 
   -- none of the checks of registers fails
-  pub bound_of : Clear 5 → IsBound raw
+  pub bound_of : Clear 7 → IsBound raw
   bound_of clear =
       record {
         plain = record {
@@ -75,24 +76,22 @@ module _ (earlier : List RawRule) (raw : RawRule) where
           target_once = λ line h. clear Duplicate line (omega arith) (inr (inr h));
           stays = λ line h. clear Redefines line (omega arith) h;
         };
-        source_bound = λ line h. clear Unbound line (omega arith) (inl h);
-        target_bound = λ line h. clear Unbound line (omega arith) (inr h);
+        there = names_there raw (λ line h. clear Unbound line (omega arith) h);
         root_there = λ line h. clear RootMissing line (omega arith) h;
         all_used = λ line h. clear UnusedTemp line (omega arith) h;
+        undefs_right = λ line h. clear UndefInside line (omega arith) h;
+        enough = λ line h. clear WitnessCount line (omega arith) h;
       }
-
-  clear_to_classes : Clear 5 → Clear 7
-  clear_to_classes clear = clear_more WitnessCount (clear_more UndefInside clear (λ line h. h)) (λ line h. h)
 
   -- a fault of classes is that of the rule with its classes, which is one
   no_class_fault : (rule : Rule) (HasFault : Rule → Type 0) (line : ℕ) → IsBound raw → Means raw rule → IsClassified rule → ¬ HasFault rule → ¬ ClassesAt raw HasFault line
   no_class_fault rule HasFault line bound means classes not ((other, means', classes', fault), is) = not (subst HasFault (one_rule raw other rule bound means' classes' means classes) fault)
 
-  pub rule_of : (rule classified : Rule) → Clear 5 → Means raw rule → IsClassifiedAs rule classified → IsRuleOf earlier raw classified
+  pub rule_of : (rule classified : Rule) → Clear 7 → Means raw rule → IsClassifiedAs rule classified → IsRuleOf earlier raw classified
   rule_of rule classified clear means result =
       let bound = bound_of clear in
       let meant : Means raw classified = same_meaning raw rule classified (sym result.rest) means in
-      let clear_8 = clear_more ManyClasses (clear_to_classes clear) (λ line. no_class_fault classified HasTooManyClasses line bound meant result.classes result.typed.few) in
+      let clear_8 = clear_more ManyClasses clear (λ line. no_class_fault classified HasTooManyClasses line bound meant result.classes result.typed.few) in
       let clear_9 = clear_more NoType clear_8 (λ line. no_class_fault classified HasNoTyping line bound meant result.classes result.typed.typed) in
       let clear_10 = clear_more OpenType clear_9 (λ line. no_class_fault classified HasOpenClass line bound meant result.classes result.typed.closed) in
       record { passes = λ check line fails. clear_10 check line (few_checks check) fails; means = meant; classes = result.classes }
@@ -101,20 +100,20 @@ module _ (earlier : List RawRule) (raw : RawRule) where
   class_line : (rule : Rule) (HasFault : Rule → Type 0) (line : ℕ) → Means raw rule → IsClassified rule → HasFault rule → line ≡ raw.line → IsFirstLine (ClassesAt raw HasFault) line
   class_line rule HasFault line means classes has is = (((rule, means, classes, has), sym is), λ other h. omega (arith, h.1))
 
-  class_fault : (classified : Rule) (fault : RuleFault) → Clear 5 → Means raw classified → IsClassified classified → fault.line ≡ raw.line → (f : ClassFault) → IsFaultOfClasses classified f → fault.kind ≡ kind_of (class_check f) → IsFirstFault earlier raw fault
+  class_fault : (classified : Rule) (fault : RuleFault) → Clear 7 → Means raw classified → IsClassified classified → fault.line ≡ raw.line → (f : ClassFault) → IsFaultOfClasses classified f → fault.kind ≡ kind_of (class_check f) → IsFirstFault earlier raw fault
   class_fault classified fault clear meant classes line class_faults.TooMany is kind =
-      first_fault ManyClasses fault (clear_to_classes clear) kind (class_line classified HasTooManyClasses fault.line meant classes is line)
+      first_fault ManyClasses fault clear kind (class_line classified HasTooManyClasses fault.line meant classes is line)
   class_fault classified fault clear meant classes line class_faults.NoType is kind =
       let bound = bound_of clear in
-      let clear_8 = clear_more ManyClasses (clear_to_classes clear) (λ l. no_class_fault classified HasTooManyClasses l bound meant classes is.0) in
+      let clear_8 = clear_more ManyClasses clear (λ l. no_class_fault classified HasTooManyClasses l bound meant classes is.0) in
       first_fault NoType fault clear_8 kind (class_line classified HasNoTyping fault.line meant classes is.1 line)
   class_fault classified fault clear meant classes line class_faults.OpenType is kind =
       let bound = bound_of clear in
-      let clear_8 = clear_more ManyClasses (clear_to_classes clear) (λ l. no_class_fault classified HasTooManyClasses l bound meant classes is.0) in
+      let clear_8 = clear_more ManyClasses clear (λ l. no_class_fault classified HasTooManyClasses l bound meant classes is.0) in
       let clear_9 = clear_more NoType clear_8 (λ l. no_class_fault classified HasNoTyping l bound meant classes is.1) in
       first_fault OpenType fault clear_9 kind (class_line classified HasOpenClass fault.line meant classes is.2 line)
 
-  pub fault_of_classes : (rule : Rule) (fault : RuleFault) → Clear 5 → Means raw rule → IsClassFault rule raw.line fault → IsFirstFault earlier raw fault
+  pub fault_of_classes : (rule : Rule) (fault : RuleFault) → Clear 7 → Means raw rule → IsClassFault rule raw.line fault → IsFirstFault earlier raw fault
   fault_of_classes rule fault clear means found =
       class_fault found.classified fault clear (same_meaning raw rule found.classified (sym found.rest) means) found.classes found.line found.class_fault found.is_fault found.kind
 
@@ -128,19 +127,14 @@ module _ (raw : RawRule) (is_repeated : Bool) where
   abbrev pub ForEarlier : (List RawRule → Type 0) → Type 0
   ForEarlier P = (earlier : List RawRule) → Marks is_repeated earlier raw → P earlier
 
-  pub unbound_fault : (e : RuleError) → ForEarlier (λ earlier. Clear earlier raw 1) → IfRefused e (λ fault. fault.kind ≡ kind_of Unbound) → IfRefused e (λ fault. IsFirstLine (UnboundAt raw) fault.line)
-      → IfRefused e (λ fault. ForEarlier (λ earlier. IsFirstFault earlier raw fault))
-  unbound_fault (errors.Refused fault) clear kind line = λ earlier marks. first_fault earlier raw Unbound fault (clear earlier marks) kind line
-  unbound_fault errors.NoMemory clear kind line = tt
-
-  pub checked_so_far : (rule : Rule) → IsWellFormed raw → ForEarlier (λ earlier. Clear earlier raw 5) → Means raw rule → IsRule rule
+  pub checked_so_far : (rule : Rule) → IsWellFormed raw → ForEarlier (λ earlier. Clear earlier raw 7) → Means raw rule → IsRule rule
   checked_so_far rule well clear means = let (earlier, marks) = some_earlier is_repeated raw in checked_rule raw rule well (bound_of earlier raw (clear earlier marks)) means
 
-  pub classified_ok : (rule : Rule) (found : Result Rule RuleError) → ForEarlier (λ earlier. Clear earlier raw 5) → Means raw rule → IfOk found (IsClassifiedAs rule) → IfOk found (λ classified. ForEarlier (λ earlier. IsRuleOf earlier raw classified))
+  pub classified_ok : (rule : Rule) (found : Result Rule RuleError) → ForEarlier (λ earlier. Clear earlier raw 7) → Means raw rule → IfOk found (IsClassifiedAs rule) → IfOk found (λ classified. ForEarlier (λ earlier. IsRuleOf earlier raw classified))
   classified_ok rule (Ok classified) clear means is = λ earlier marks. rule_of earlier raw rule classified (clear earlier marks) means is
   classified_ok rule (Err e) clear means is = tt
 
-  pub classified_refused : (rule : Rule) (found : Result Rule RuleError) → ForEarlier (λ earlier. Clear earlier raw 5) → Means raw rule → IfErr found (λ e. IfRefused e (IsClassFault rule raw.line)) → IfErr found (λ e. IfRefused e (λ fault. ForEarlier (λ earlier. IsFirstFault earlier raw fault)))
+  pub classified_refused : (rule : Rule) (found : Result Rule RuleError) → ForEarlier (λ earlier. Clear earlier raw 7) → Means raw rule → IfErr found (λ e. IfRefused e (IsClassFault rule raw.line)) → IfErr found (λ e. IfRefused e (λ fault. ForEarlier (λ earlier. IsFirstFault earlier raw fault)))
   classified_refused rule (Ok classified) clear means is = tt
   classified_refused rule (Err (errors.Refused fault)) clear means is = λ earlier marks. fault_of_classes earlier raw rule fault (clear earlier marks) means is
   classified_refused rule (Err errors.NoMemory) clear means is = tt
@@ -166,6 +160,12 @@ module _ (raw : RawRule) (is_repeated : Bool) where
 
   pub clear_5 : ForEarlier (λ earlier. Clear earlier raw 4) → (source : List RawStatement) → source ≡ raw.source → ((line : ℕ) → ¬ UnusedTempAt source line) → ForEarlier (λ earlier. Clear earlier raw 5)
   clear_5 clear source is none earlier marks = clear_more earlier raw UnusedTemp (clear earlier marks) (subst (λ ss. (line : ℕ) → ¬ UnusedTempAt ss line) is none)
+
+  pub clear_6 : ForEarlier (λ earlier. Clear earlier raw 5) → ((line : ℕ) → ¬ UndefInsideAt raw line) → ForEarlier (λ earlier. Clear earlier raw 6)
+  clear_6 clear none earlier marks = clear_more earlier raw UndefInside (clear earlier marks) none
+
+  pub clear_7 : ForEarlier (λ earlier. Clear earlier raw 6) → ((line : ℕ) → ¬ WitnessCountAt raw line) → ForEarlier (λ earlier. Clear earlier raw 7)
+  clear_7 clear none earlier marks = clear_more earlier raw WitnessCount (clear earlier marks) none
 
   pub unused_first : (source : List RawStatement) (line : ℕ) → source ≡ raw.source → IsFirstLine (UnusedTempAt source) line → ForEarlier (λ earlier. IsFirstLine (FailsAt earlier raw UnusedTemp) line)
   unused_first source line is first earlier marks = subst (λ ss. IsFirstLine (UnusedTempAt ss) line) is first

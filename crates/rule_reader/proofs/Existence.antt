@@ -10,13 +10,13 @@ use Rattle.rule_reader.specs.declared.fault.RuleFault.{RuleFault}
 use Rattle.rule_reader.specs.declared.fault.RuleFaultKind.TheVariants as kinds
 use Rattle.rule_reader.specs.WellFormed.{IsWellFormed}
 use Rattle.rule_reader.specs.Refusing.{kind_of_misfit}
-use Rattle.rule_reader.specs.Faults.{Check, Duplicate, Unbound, RootMissing, Redefines, UnusedTemp, rank, kind_of, class_check, FailsAt, IsFirstFault, IsRuleOf, IsRuleFile, IsFault, too_long, of_text, of_rule}
+use Rattle.rule_reader.specs.Faults.{Check, Duplicate, Unbound, RootMissing, Redefines, UnusedTemp, UndefInside, WitnessCount, rank, kind_of, class_check, FailsAt, IsFirstFault, IsRuleOf, IsRuleFile, IsFault, too_long, of_text, of_rule}
 use Rattle.rule_reader.proofs.Checked.{checked_rule}
 use Rattle.rule_reader.proofs.Checking.{Clear, clear_none, clear_more, first_fault, bound_of, rule_of, fault_of_classes}
 use Rattle.rule_reader.proofs.Classes.{same_meaning}
 use Rattle.rule_reader.proofs.Meant.{some_rule}
 use Rattle.rule_reader.proofs.Places.{there}
-use Rattle.rule_reader.proofs.FirstLines.{FirstOf, first_duplicate, first_unbound, first_missing_root, first_redefined, first_unused}
+use Rattle.rule_reader.proofs.FirstLines.{FirstOf, first_duplicate, first_unbound, first_missing_root, first_redefined, first_unused, first_undef_inside, first_witness_count}
 use Rattle.rule_reader.proofs.Reading.{AreFirstRules, first_rules_none, first_rules_more, first_rules_pass, all_rules}
 use Rattle.rule_reader.proofs.Written.{written_well_formed}
 
@@ -33,16 +33,17 @@ module _ (earlier : List RawRule) (raw : RawRule) (well : IsWellFormed raw) wher
   checked_next check (Some line, first) (inr clear) =
       let fault : RuleFault = record { line = line; kind = kind_of check } in inl (fault, first_fault earlier raw check fault clear refl first)
 
-  registers_checked : HasFault ⊎ Clear earlier raw 5
+  registers_checked : HasFault ⊎ Clear earlier raw 7
   registers_checked =
-      checked_next UnusedTemp (first_unused raw well) (checked_next Redefines (first_redefined raw well) (checked_next RootMissing (first_missing_root raw well)
-      (checked_next Unbound (first_unbound raw well) (checked_next Duplicate (first_duplicate raw well earlier) (inr (clear_none earlier raw))))))
+      checked_next WitnessCount (first_witness_count raw well) (checked_next UndefInside (first_undef_inside raw well)
+      (checked_next UnusedTemp (first_unused raw well) (checked_next Redefines (first_redefined raw well) (checked_next RootMissing (first_missing_root raw well)
+      (checked_next Unbound (first_unbound raw well) (checked_next Duplicate (first_duplicate raw well earlier) (inr (clear_none earlier raw))))))))
 
   rule_or_fault : RulesHaveClasses → ((rule : Rule) × IsRuleOf earlier raw rule) ⊎ HasFault
   rule_or_fault classes = elim registers_checked [
     | inl fault ↦ inr fault
     | inr clear ↦
-        let (rule, means) = some_rule raw (λ line. clear Unbound line (omega arith)) in
+        let (rule, means) = some_rule raw well (λ line. clear Unbound line (omega arith)) in
         let (classified, same, keeps, faults) = classes rule in
         elim faults [
           | inl typed ↦ inl (classified, rule_of earlier raw rule classified clear means (record { is_rule = checked_rule raw classified well (bound_of earlier raw clear) (same_meaning raw rule classified (sym same) means); rest = same; classes = keeps; typed = typed }))

@@ -1,17 +1,23 @@
 -- The first line on which a check of a rule as written fails, or none.
-use Rattle.std.proofs.Common.{◌≡◌, ◌⊎◌, inl, inr, ℕ, zero, suc, ◌+◌, ◌≤◌, List, length, Option, None, Some, refl, arith}
+use Rattle.std.proofs.Common.{◌≡◌, ◌⊎◌, inl, inr, ℕ, zero, suc, ◌+◌, ◌≤◌, List, length, Option, None, Some, refl, sym, ◌∙◌, arith}
 use Rattle.std.proofs.lemmas.Bool.{cases_lt}
 use Rattle.rule_parse.specs.declared.raw.RawRule.{RawRule}
 use Rattle.rule_parse.specs.declared.raw.RawStatement.{RawStatement}
 use Rattle.rule_typing.proofs.Deciding.{dec_both, dec_either, dec_not, dec_number, dec_place}
-use Rattle.rule_reader.specs.declared.resolve.Half.TheVariants as halves
+use Rattle.rule_reader.specs.declared.place.Place.TheVariants as places
 use Rattle.rule_reader.specs.WellFormed.{AreInLineOrder, IsWellFormed}
-use Rattle.rule_reader.specs.Kinds.{StandsAt, HasNameOf, AssignsAgain, DuplicateAt, UsesUnbound, UnboundAt, MissesRoot, RootMissingAt, Redefines, RedefinesAt, IsUnused, UnusedTempAt}
+use Rattle.rule_reader.specs.Kinds.{Each, FormulaIsBound, TermIsBound, StandsAt, HasNameOf, AssignsAgain, DuplicateAt, StatementUnbound, PreconditionUnbound, WitnessUnbound, UnboundAt, MissesRoot, RootMissingAt, Redefines, RedefinesAt, IsUnused, UnusedTempAt, ReadsUndefInside, IsUndefCopy, UndefInsideAt, WitnessCountAt, witness_line}
 use Rattle.rule_reader.specs.Faults.{IsFirst}
+use Rattle.rule_parse.specs.declared.raw.RawPrecondition.{RawPrecondition}
+use Rattle.rule_parse.specs.declared.raw.RawWitness.{RawWitness}
+use Rattle.rule_parse.specs.Inside.{expressions_of}
+use Rattle.rule_reader.specs.Naming.{in_half}
+use Rattle.rule_reader.proofs.Stable.{same_number}
 use Rattle.rule_reader.proofs.Places.{there}
 use Rattle.rule_reader.proofs.Firsts.{NoneBefore, first_here, first_none, none_more, first_left, first_right, first_none_of, lines_before}
 use Rattle.rule_reader.proofs.Assignments.{Again, name_line_first}
-use Rattle.rule_reader.proofs.NameDecisions.{dec_name, dec_assigned_before, dec_temporary, dec_root, dec_input, dec_unbound, dec_unused}
+use Rattle.rule_reader.proofs.NameDecisions.{dec_name, dec_assigned_before, dec_temporary, dec_root, dec_input, dec_each, dec_op, dec_formula, dec_term, dec_unused, dec_undef_inside, dec_undef_copy}
+use Rattle.rule_reader.proofs.Unbound.{InSource, InTarget, in_precondition, in_witness, in_source, in_target, one_precondition, bound_precondition, one_witness, bound_witness}
 
 -- the first line, or none
 abbrev pub FirstOf : (ℕ → Type 0) → Type 0
@@ -57,12 +63,44 @@ module _ (raw : RawRule) (well : IsWellFormed raw) where
       (lines_before raw.source raw.target (AssignsAgain raw.source) (AssignsAgain raw.target) well.source_first))
       (name_line_first earlier raw well)
 
+  first_precondition : (p : Option RawPrecondition) → raw.precondition ≡ p → FirstOf (PreconditionUnbound raw)
+  first_precondition None is = (None, λ line (p, is', not, e). absurd (let e : None ≡ Some p = sym is ∙ is' in cc))
+  first_precondition (Some p) is = elim (dec_each (FormulaIsBound raw) (dec_formula raw) p.formula) [
+    | yes each ↦ (None, bound_precondition raw p is each)
+    | no not ↦ (Some p.line, one_precondition raw p is not)
+  ]
+
+  first_witness : (w : Option RawWitness) → raw.witness ≡ w → FirstOf (WitnessUnbound raw)
+  first_witness None is = (None, λ line (w, is', not, e). absurd (let e : None ≡ Some w = sym is ∙ is' in cc))
+  first_witness (Some w) is = elim (dec_each (TermIsBound raw places.Heading) (dec_term raw places.Heading) w.expressions) [
+    | yes each ↦ (None, bound_witness raw w is each)
+    | no not ↦ (Some w.line, one_witness raw w is not)
+  ]
+
+  unbound_of : FirstOf (PreconditionUnbound raw) → FirstOf (WitnessUnbound raw) → FirstOf (InSource raw well) → FirstOf (InTarget raw well) → FirstOf (UnboundAt raw)
+  unbound_of (Some line, first) w s t = (Some line, in_precondition raw well line first)
+  unbound_of (None, none) (Some line, first) s t = (Some line, in_witness raw well line none first)
+  unbound_of (None, none) (None, none') (Some line, first) t = (Some line, in_source raw well line none none' first)
+  unbound_of (None, none) (None, none') (None, none'') (found, first) = (found, in_target raw well found none none' none'' first)
+
   pub first_unbound : FirstOf (UnboundAt raw)
   first_unbound =
-      first_of_two (StandsAt raw.source (UsesUnbound raw halves.Source)) (StandsAt raw.target (UsesUnbound raw halves.Target))
-      (first_of raw.source (UsesUnbound raw halves.Source) well.source.in_order (dec_unbound raw halves.Source))
-      (first_of raw.target (UsesUnbound raw halves.Target) well.target.in_order (dec_unbound raw halves.Target))
-      (lines_before raw.source raw.target (UsesUnbound raw halves.Source) (UsesUnbound raw halves.Target) well.source_first)
+      unbound_of (first_precondition raw.precondition refl) (first_witness raw.witness refl)
+      (first_of raw.source (StatementUnbound raw (λ k. places.Source k)) well.source.in_order (λ k s. dec_not (dec_op raw (places.Source k) s.op)))
+      (first_of raw.target (StatementUnbound raw (λ k. places.Target k)) well.target.in_order (λ k s. dec_not (dec_op raw (places.Target k) s.op)))
+
+  pub first_undef_inside : FirstOf (UndefInsideAt raw)
+  first_undef_inside =
+      first_of_two (StandsAt raw.source (ReadsUndefInside raw.source)) (StandsAt raw.target (λ k s. IsUndefCopy s.op))
+      (first_of raw.source (ReadsUndefInside raw.source) well.source.in_order (dec_undef_inside raw.source))
+      (first_of raw.target (λ k s. IsUndefCopy s.op) well.target.in_order (λ k s. dec_undef_copy s.op))
+      (lines_before raw.source raw.target (ReadsUndefInside raw.source) (λ k s. IsUndefCopy s.op) well.source_first)
+
+  pub first_witness_count : FirstOf (WitnessCountAt raw)
+  first_witness_count = elim (same_number (length (expressions_of raw)) (in_half raw.source).undefs) [
+    | inl same ↦ (None, λ line h. h.0 same)
+    | inr differ ↦ (Some (witness_line raw), ((differ, refl), λ other h. omega (arith, h.1)))
+  ]
 
   pub first_missing_root : FirstOf (RootMissingAt raw)
   first_missing_root =

@@ -1,97 +1,78 @@
--- What is found for names and operands.
-use Rattle.std.proofs.Common.{◌≡◌, inl, inr, ℕ, ◌-◌, ◌<◌, List, length, Option, None, Some, refl, sym, ap, subst, ◌∙◌, arith}
+-- What is found for names.
+use Rattle.std.proofs.Common.{◌≡◌, inl, inr, ℕ, suc, ◌-◌, ◌<◌, List, length, Option, None, Some, refl, sym, ap, subst, ◌∙◌, arith}
 use Rattle.std.specs.Prelude.{slice_get, Contains, MatchOption}
+use Rattle.std.proofs.lemmas.Option.{slice_get_within}
 use Rattle.rule_parse.specs.declared.raw.RawRule.{RawRule}
 use Rattle.rule_parse.specs.declared.raw.RawStatement.{RawStatement}
-use Rattle.rule_parse.specs.declared.raw.RawOp.{RawOp}
-use Rattle.rule_parse.specs.declared.raw.RawArgument.{RawArgument}
 use Rattle.rule_parse.specs.declared.raw.RawArgument.TheVariants as raw_arguments
 use Rattle.rule_core.specs.declared.rule.Register.{Register}
 use Rattle.rule_core.specs.declared.rule.Register.TheVariants as registers
-use Rattle.rule_core.specs.declared.rule.Op.{Op}
 use Rattle.rule_core.proofs.Members.{Contains-from_get}
-use Rattle.rule_reader.specs.declared.resolve.Half.{Half}
-use Rattle.rule_reader.specs.declared.resolve.Half.TheVariants as halves
-use Rattle.rule_reader.specs.Naming.{arguments_of, Uses, AssignsAt, IsInput, IsRoot, AreInputs, HasName, OpMeans}
-use Rattle.rule_reader.specs.declared.fault.RuleError.{RuleError}
-use Rattle.rule_reader.specs.declared.fault.RuleError.TheVariants as errors
-use Rattle.rule_reader.specs.Refusing.{IfRefused}
-use Rattle.rule_reader.specs.Faults.{IsFirstLine}
-use Rattle.rule_reader.proofs.Firsts.{first_left, first_right, first_none_of, lines_before}
-use Rattle.rule_reader.specs.Kinds.{StandsAt, MayUse, UsesUnbound, UnboundAt}
-use Rattle.rule_reader.specs.Resolving.{half_of, Resolves}
-use Rattle.rule_reader.specs.WellFormed.{AreInLineOrder, IsWellFormed}
+use Rattle.rule_reader.specs.declared.names.Names.{Names}
+use Rattle.rule_reader.specs.declared.place.Place.TheVariants as places
+use Rattle.rule_reader.specs.Naming.{AssignsAt, AreInputs, IsInput, IsConstant, IsRoot, AreNames, HasName}
+use Rattle.rule_reader.specs.Kinds.{MayUse}
+use Rattle.rule_reader.specs.Resolving.{Finds}
 
-module _ (raw : RawRule) (inputs : List (List ℕ)) (ins : AreInputs raw.source inputs) (place : ℕ) (name : List ℕ) where
+module _ (source : List RawStatement) (names : Names) (are : AreNames source names) (name : List ℕ) where
+  pub input_of : Contains names.inputs name → IsInput source name
+  input_of among = let (q, (a, at, (is, free))) = (are.inputs.each name).0 among in ((q, at ∙ ap (λ x. Some x) is), free)
+
+  pub of_input : IsInput source name → Contains names.inputs name
+  of_input input = (are.inputs.each name).1 (input.0.0, (raw_arguments.Register name, input.0.1, (refl, input.1)))
+
+  pub constant_of : Contains names.constants name → IsConstant source name
+  constant_of among = let (q, (a, at, is)) = (are.constants.each name).0 among in (q, at ∙ ap (λ x. Some x) is)
+
+  pub of_constant : IsConstant source name → Contains names.constants name
+  of_constant (q, at) = (are.constants.each name).1 (q, (raw_arguments.Constant name, at, refl))
+
+module _ (raw : RawRule) (names : Names) (are : AreNames raw.source names) (name : List ℕ) where
   abbrev Free : List RawStatement → ℕ → Type 0
   Free statements before = (k : ℕ) → k < before → ¬ AssignsAt statements k name
 
   abbrev IsInputOf : Option Register → Type 0
-  IsInputOf found = MatchOption found (¬ Contains inputs name) (λ r. (k : ℕ) × (r ≡ registers.Input k) × (slice_get inputs k ≡ Some name))
+  IsInputOf found = MatchOption found (¬ Contains names.inputs name) (λ r. (k : ℕ) × (r ≡ registers.Input k) × (slice_get names.inputs k ≡ Some name))
 
-  input_here : (k : ℕ) → slice_get inputs k ≡ Some name → (n : List ℕ) → n ≡ name → IsInput raw.source n
-  input_here k at n is = subst (IsInput raw.source) (sym is) ((ins.each name).0 (Contains-from_get inputs k name at))
+  input_here : (k : ℕ) → slice_get names.inputs k ≡ Some name → IsInput raw.source name
+  input_here k at = input_of raw.source names are name (Contains-from_get names.inputs k name at)
 
   -- in the source, where no earlier statement assigns it
-  pub found_in_source : (half : List RawStatement) (found : Option Register) → half ≡ raw.source → Free half place → IsInputOf found → Resolves raw halves.Source place (λ n. n ≡ name) (λ r. HasName raw inputs r name) found
-  found_in_source half None is free no_input = (
-    name,
-    refl,
-    λ may. elim may [
-      | inl input ↦ no_input ((ins.each name).1 input)
-      | inr (j, lt, at) ↦ free j lt (subst (λ ss. AssignsAt ss j name) (sym is) at)
-    ],
-  )
-  found_in_source half (Some r) is free (k, e, at) = (λ n same. inl (input_here k at n same), subst (λ x. HasName raw inputs x name) (sym e) at)
+  pub found_in_source : (place : ℕ) (half : List RawStatement) (found : Option Register) → half ≡ raw.source → Free half place → IsInputOf found → Finds raw names (places.Source place) name found
+  found_in_source place half None is free no_input = λ may. elim may [
+    | inl input ↦ no_input (of_input raw.source names are name input)
+    | inr (j, lt, at) ↦ free j lt (subst (λ ss. AssignsAt ss j name) (sym is) at)
+  ]
+  found_in_source place half (Some r) is free (k, e, at) = (inl (input_here k at), subst (λ x. HasName raw names x name) (sym e) at)
 
-  -- in the target, where no earlier statement and no temporary of the source assigns it
-  pub found_in_target : (half other : List RawStatement) (found : Option Register) → half ≡ raw.target → other ≡ raw.source → ¬ IsRoot raw.source name → Free half place → Free other (length other - 1) → IsInputOf found
-      → Resolves raw halves.Target place (λ n. n ≡ name) (λ r. HasName raw inputs r name) found
-  found_in_target half other None is is' not_root free no_temporary no_input = (
-    name,
-    refl,
-    λ may. elim may.1 [
-      | inl input ↦ no_input ((ins.each name).1 input)
-      | inr (inl (k, lt, at)) ↦ no_temporary k (let e : length other ≡ length raw.source = ap length is' in omega arith) (subst (λ ss. AssignsAt ss k name) (sym is') at)
-      | inr (inr (j, lt, at)) ↦ free j lt (subst (λ ss. AssignsAt ss j name) (sym is) at)
-    ],
-  )
-  found_in_target half other (Some r) is is' not_root free no_temporary (k, e, at) =
-      (λ n same. (subst (λ x. ¬ IsRoot raw.source x) (sym same) not_root, inl (input_here k at n same)), subst (λ x. HasName raw inputs x name) (sym e) at)
+  -- before the source, where no temporary is it
+  pub found_before_root : (half : List RawStatement) (found : Option Register) → half ≡ raw.source → Free half (length half - 1) → IsInputOf found → Finds raw names places.Heading name found
+  found_before_root half None is free no_input = λ may. elim may [
+    | inl input ↦ no_input (of_input raw.source names are name input)
+    | inr (j, lt, at) ↦ free j (let e : length half ≡ length raw.source = ap length is in omega arith) (subst (λ ss. AssignsAt ss j name) (sym is) at)
+  ]
+  found_before_root half (Some r) is free (k, e, at) = (inl (input_here k at), subst (λ x. HasName raw names x name) (sym e) at)
 
--- what stands at place q of what the operation reads may not be used
-pub unbound_at : (raw : RawRule) (inputs : List (List ℕ)) (half : Half) (place : ℕ) (written op : RawOp) (q : ℕ) (a : RawArgument) (found : Option Op)
-    → written ≡ op → slice_get (arguments_of op) q ≡ Some a → found ≡ None → (name : List ℕ) × (a ≡ raw_arguments.Register name) × ¬ MayUse raw half place name
-    → Resolves raw half place (Uses written) (OpMeans raw inputs written) found
-unbound_at raw inputs half place written op q a found is at none (name, e, not) =
-    subst (Resolves raw half place (Uses written) (OpMeans raw inputs written)) (sym none)
-    (name, subst (λ w. Uses w name) (sym is) (Contains-from_get (arguments_of op) q (raw_arguments.Register name) (at ∙ ap (λ x. Some x) e)), not)
+  pub found_temporary : (half : List RawStatement) (k : ℕ) → half ≡ raw.source → k < length half - 1 → AssignsAt half k name → Finds raw names places.Heading name (Some (registers.Source k))
+  found_temporary half k is lt at =
+      let at' : AssignsAt raw.source k name = subst (λ ss. AssignsAt ss k name) is at in
+      (inr (k, (let e : length half ≡ length raw.source = ap length is in omega arith), at'), at')
 
--- a half is in the order of its lines
-pub half_in_order : (raw : RawRule) (half : Half) → IsWellFormed raw → AreInLineOrder (half_of half raw)
-half_in_order raw halves.Source well = well.source.in_order
-half_in_order raw halves.Target well = well.target.in_order
+  -- in the target, where no earlier statement assigns it
+  pub found_in_target : (place : ℕ) (half : List RawStatement) (found : Option Register) → half ≡ raw.target → ¬ IsRoot raw.source name → Free half place → Finds raw names places.Heading name found → Finds raw names (places.Target place) name found
+  found_in_target place half None is not_root free none = λ may. elim may.1 [
+    | inl input ↦ none (inl input)
+    | inr (inl temporary) ↦ none (inr temporary)
+    | inr (inr (j, lt, at)) ↦ free j lt (subst (λ ss. AssignsAt ss j name) (sym is) at)
+  ]
+  found_in_target place half (Some r) is not_root free (may, has) = elim may [
+    | inl input ↦ ((not_root, inl input), has)
+    | inr temporary ↦ ((not_root, inr (inl temporary)), has)
+  ]
 
--- an unbound use in a half, which the code sees as this list, is the first of both
-module _ (raw : RawRule) (well : IsWellFormed raw) where
-  abbrev InSource : List RawStatement → ℕ → Type 0
-  InSource half = StandsAt half (UsesUnbound raw halves.Source)
-
-  abbrev InTarget : List RawStatement → ℕ → Type 0
-  InTarget half = StandsAt half (UsesUnbound raw halves.Target)
-
-  pub unbound_in_source : (half : List RawStatement) (e : RuleError) → half ≡ raw.source → IfRefused e (λ fault. IsFirstLine (InSource half) fault.line) → IfRefused e (λ fault. IsFirstLine (UnboundAt raw) fault.line)
-  unbound_in_source half (errors.Refused fault) is first =
-      first_left (InSource raw.source) (InTarget raw.target) fault.line (subst (λ ss. IsFirstLine (InSource ss) fault.line) is first)
-      (lines_before raw.source raw.target (UsesUnbound raw halves.Source) (UsesUnbound raw halves.Target) well.source_first)
-  unbound_in_source half errors.NoMemory is first = tt
-
-  pub unbound_in_target : (half other : List RawStatement) (e : RuleError) → half ≡ raw.source → other ≡ raw.target → ((line : ℕ) → ¬ InSource half line) → IfRefused e (λ fault. IsFirstLine (InTarget other) fault.line)
-      → IfRefused e (λ fault. IsFirstLine (UnboundAt raw) fault.line)
-  unbound_in_target half other (errors.Refused fault) is is' none first =
-      first_right (InSource raw.source) (InTarget raw.target) fault.line (subst (λ ss. (line : ℕ) → ¬ InSource ss line) is none) (subst (λ ss. IsFirstLine (InTarget ss) fault.line) is' first)
-  unbound_in_target half other errors.NoMemory is is' none first = tt
-
-  pub none_unbound : (half other : List RawStatement) → half ≡ raw.source → other ≡ raw.target → ((line : ℕ) → ¬ InSource half line) → ((line : ℕ) → ¬ InTarget other line) → (line : ℕ) → ¬ UnboundAt raw line
-  none_unbound half other is is' none none' =
-      first_none_of (InSource raw.source) (InTarget raw.target) (subst (λ ss. (line : ℕ) → ¬ InSource ss line) is none) (subst (λ ss. (line : ℕ) → ¬ InTarget ss line) is' none')
+-- the inputs are what a name is among
+pub among_inputs : (source : List RawStatement) (inputs : List (List ℕ)) (name : List ℕ) → AreInputs source inputs → (Contains inputs name → IsInput source name) × (IsInput source name → Contains inputs name)
+among_inputs source inputs name are = (
+  λ among. let (q, (a, at, (is, free))) = (are.each name).0 among in ((q, at ∙ ap (λ x. Some x) is), free),
+  λ input. (are.each name).1 (input.0.0, (raw_arguments.Register name, input.0.1, (refl, input.1))),
+)

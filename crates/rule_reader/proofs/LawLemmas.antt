@@ -3,7 +3,7 @@ use Rattle.std.proofs.Common.{◌≡◌, inl, inr, ℕ, suc, ◌<◌, ◌≤◌,
 use Rattle.std.specs.Prelude.{slice_get}
 use Rattle.std.proofs.lemmas.Option.{slice_get_within}
 use Rattle.rule_parse.specs.declared.raw.RawRule.{RawRule}
-use Rattle.rule_parse.specs.declared.fault.TextFault.{TextFault}
+use Rattle.rule_tokens.specs.declared.fault.TextFault.{TextFault}
 use Rattle.rule_parse.specs.Laws.{TextsHaveOneReadingOrFault}
 use Rattle.rule_core.specs.declared.rule.Rule.{Rule}
 use Rattle.rule_typing.specs.Laws.{RulesHaveClasses}

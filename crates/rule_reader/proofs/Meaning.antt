@@ -1,8 +1,10 @@
 -- What a rule that is meant has of the rule as written: names, operands and registers.
-use Rattle.std.proofs.Common.{◌≡◌, inl, inr, ℕ, zero, suc, ◌<◌, List, [], ◌∷◌, length, Some, refl, ap, subst, ◌∙◌}
-use Rattle.std.specs.Prelude.{slice_get, Contains, map, flat_map}
-use Rattle.std.specs.List.{AllZip}
-use Rattle.std.proofs.lemmas.Option.{slice_get_within}
+use Rattle.std.proofs.Common.{◌≡◌, inl, inr, ℕ, zero, suc, ◌+◌, ◌<◌, ◌≤◌, List, [], ◌∷◌, ◌++◌, length, Option, None, Some, refl, sym, ap, subst, ◌∙◌, arith}
+use Rattle.std.specs.Prelude.{slice_get, Contains, map, flat_map, filter_map}
+use Rattle.std.specs.List.{cons_option}
+use Rattle.std.specs.List.{AllZip, range_with_len}
+use Rattle.std.proofs.lemmas.Option.{slice_get_within, same_Some}
+use Rattle.std.proofs.lemmas.Grind.{flat_map-append}
 use Rattle.rule_parse.specs.declared.raw.RawRule.{RawRule}
 use Rattle.rule_parse.specs.declared.raw.RawStatement.{RawStatement}
 use Rattle.rule_parse.specs.declared.raw.RawOp.{RawOp}
@@ -16,23 +18,14 @@ use Rattle.rule_core.specs.declared.rule.Op.TheVariants as ops
 use Rattle.rule_core.specs.declared.rule.Operand.{Operand}
 use Rattle.rule_core.specs.declared.rule.Argument.{Argument}
 use Rattle.rule_core.specs.declared.rule.Argument.TheVariants as arguments
-use Rattle.rule_core.specs.declared.rule.Register.{Register}
-use Rattle.rule_core.specs.Checks.{names_of, ReadsAt}
-use Rattle.rule_core.specs.Positions.{operands_of as operands_meant}
-use Rattle.rule_reader.specs.Naming.{arguments_of, UsesAt, AssignsAt, HasName, ArgumentMeans, OpMeans, StatementMeans, Means}
-use Rattle.rule_reader.proofs.Places.{at_append, at_map, map_at, somewhere, zip_left, zip_right, zip_flat_map}
-use Rattle.rule_core.proofs.Members.{Contains-from_get, Contains-flat_map}
-
--- what stands at a place of what elements are mapped to is of one of them
-pub flat_at : {X Y : Type 0} (f : X → List Y) (xs : List X) (q : ℕ) (y : Y) → slice_get (flat_map f xs) q ≡ Some y → (k : ℕ) × (x : X) × (slice_get xs k ≡ Some x) × Contains (f x) y
-flat_at f [] q y at = elim q as (λ j. slice_get [] j ≡ Some y → (k : ℕ) × (x : _) × (slice_get [] k ≡ Some x) × Contains (f x) y) [ zero ↦ λ h. cc | suc j ↦ λ h. cc ] at
-flat_at f (a ∷ xs) q y at = elim (at_append (f a) (flat_map f xs) q y at) [
-  | inl here ↦ (0, a, refl, Contains-from_get (f a) q y here)
-  | inr (j, is, there) ↦ let rest = flat_at f xs j y there in (suc rest.0, rest.1, rest.2, rest.3)
-]
-
-pub at_flat : {X Y : Type 0} (f : X → List Y) (xs : List X) (k : ℕ) (x : X) (y : Y) → slice_get xs k ≡ Some x → Contains (f x) y → (q : ℕ) × (slice_get (flat_map f xs) q ≡ Some y)
-at_flat f xs k x y at among = somewhere (flat_map f xs) y (Contains-flat_map f xs x y (Contains-from_get xs k x at) among)
+use Rattle.rule_core.specs.Checks.{names_of, StandsAt}
+use Rattle.rule_core.specs.Positions.{operands_of as operands_meant, operands_among, undef_in}
+use Rattle.rule_reader.specs.declared.names.Names.{Names}
+use Rattle.rule_reader.specs.declared.counts.Counts.{Counts}
+use Rattle.rule_parse.specs.Inside.{arguments_of, arguments_among}
+use Rattle.rule_reader.specs.Naming.{past, past_all, no_counts, in_half, with_counts, AssignsAt, ArgumentMeans, OpMeans, StatementMeans, HalfMeans, Means, names_of_rule}
+use Rattle.rule_reader.proofs.Places.{at_map, map_at, zip_left, zip_right, zip_append, zip_length}
+use Rattle.rule_reader.proofs.Counting.{past_append}
 
 -- a statement that assigns the register
 pub assigning_statement : (statements : List RawStatement) (k : ℕ) (name : List ℕ) → AssignsAt statements k name → (s : RawStatement) × (slice_get statements k ≡ Some s) × (s.name ≡ name)
@@ -44,47 +37,125 @@ statement_assigns statements k s at = map_at (λ (s : RawStatement). s.name) sta
 pub assigns_within : (statements : List RawStatement) (k : ℕ) (name : List ℕ) → AssignsAt statements k name → k < length statements
 assigns_within statements k name at = let found = assigning_statement statements k name at in slice_get_within statements k found.0 found.1
 
-module _ (raw : RawRule) (inputs : List (List ℕ)) where
+-- arguments, each with what stands before it
+abbrev pub with_before : Counts → List RawArgument → List (Counts × RawArgument)
+with_before b [] = []
+with_before b (a ∷ arguments) = (b, a) ∷ with_before (past b a) arguments
+
+with_before_append : (b : Counts) (xs ys : List RawArgument) → with_before b (xs ++ ys) ≡ with_before b xs ++ with_before (past_all b xs) ys
+with_before_append b [] ys = refl
+with_before_append b (x ∷ xs) ys = ap (λ l. (b, x) ∷ l) (with_before_append (past b x) xs ys)
+
+pub with_before_at : (b : Counts) (xs : List RawArgument) (q : ℕ) (x : Counts × RawArgument) → slice_get (with_before b xs) q ≡ Some x → slice_get xs q ≡ Some x.1
+with_before_at b [] q x at = elim q as (λ j. slice_get [] j ≡ Some x → slice_get [] j ≡ Some x.1) [ zero ↦ λ h. cc | suc j ↦ λ h. cc ] at
+with_before_at b (a ∷ xs) zero x at = ap (λ (y : Counts × RawArgument). Some y.1) (same_Some (b, a) x at)
+with_before_at b (a ∷ xs) (suc q) x at = with_before_at (past b a) xs q x at
+
+pub at_with_before : (b : Counts) (xs : List RawArgument) (q : ℕ) (a : RawArgument) → slice_get xs q ≡ Some a → (c : Counts) × (slice_get (with_before b xs) q ≡ Some (c, a))
+at_with_before b [] q a at = elim q as (λ j. slice_get [] j ≡ Some a → (c : Counts) × (slice_get [] j ≡ Some (c, a))) [ zero ↦ λ h. cc | suc j ↦ λ h. cc ] at
+at_with_before b (x ∷ xs) zero a at = (b, ap (λ (y : RawArgument). Some (b, y)) (same_Some x a at))
+at_with_before b (x ∷ xs) (suc q) a at = at_with_before (past b x) xs q a at
+
+nodes_grow : (b : Counts) (xs : List RawArgument) → b.nodes ≤ (past_all b xs).nodes
+nodes_grow b [] = omega arith
+nodes_grow b (raw_arguments.Register name ∷ xs) = nodes_grow b xs
+nodes_grow b (raw_arguments.Literal z ∷ xs) = nodes_grow b xs
+nodes_grow b (raw_arguments.Truth t ∷ xs) = nodes_grow b xs
+nodes_grow b (raw_arguments.Constant name ∷ xs) = nodes_grow b xs
+nodes_grow b (raw_arguments.Undef ∷ xs) = nodes_grow (past b raw_arguments.Undef) xs
+nodes_grow b (raw_arguments.Term t ∷ xs) = omega (arith, nodes_grow (past b (raw_arguments.Term t)) xs)
+
+undefs_grow : (b : Counts) (xs : List RawArgument) → b.undefs ≤ (past_all b xs).undefs
+undefs_grow b [] = omega arith
+undefs_grow b (raw_arguments.Register name ∷ xs) = undefs_grow b xs
+undefs_grow b (raw_arguments.Literal z ∷ xs) = undefs_grow b xs
+undefs_grow b (raw_arguments.Truth t ∷ xs) = undefs_grow b xs
+undefs_grow b (raw_arguments.Constant name ∷ xs) = undefs_grow b xs
+undefs_grow b (raw_arguments.Undef ∷ xs) = omega (arith, undefs_grow (past b raw_arguments.Undef) xs)
+undefs_grow b (raw_arguments.Term t ∷ xs) = undefs_grow (past b (raw_arguments.Term t)) xs
+
+-- the nodes up to an argument are not more than those of all
+pub nodes_upto : (b : Counts) (xs : List RawArgument) (q : ℕ) (x : Counts × RawArgument) → slice_get (with_before b xs) q ≡ Some x → (past x.0 x.1).nodes ≤ (past_all b xs).nodes
+nodes_upto b [] q x at = elim q as (λ j. slice_get [] j ≡ Some x → (past x.0 x.1).nodes ≤ b.nodes) [ zero ↦ λ h. absurd (cc) | suc j ↦ λ h. absurd (cc) ] at
+nodes_upto b (a ∷ xs) zero x at = subst (λ (y : Counts × RawArgument). (past y.0 y.1).nodes ≤ (past_all (past b a) xs).nodes) (same_Some (b, a) x at) (nodes_grow (past b a) xs)
+nodes_upto b (a ∷ xs) (suc q) x at = nodes_upto (past b a) xs q x at
+
+module _ (raw : RawRule) (names : Names) where
   -- what an operand reads, as written
-  abbrev pub Goes : RawArgument → Operand → Type 0
-  Goes w o = ArgumentMeans raw inputs w o.value
+  abbrev pub Goes : Counts × RawArgument → Operand → Type 0
+  Goes w o = ArgumentMeans raw names w.0 w.1 o.value
 
-  pub register_name : (w : RawArgument) (r : Register) → ArgumentMeans raw inputs w (arguments.Register r) → (name : List ℕ) × (w ≡ raw_arguments.Register name) × HasName raw inputs r name
-  register_name (raw_arguments.Register name) r means = (name, refl, means)
-  register_name (raw_arguments.Literal z) r means = absurd means
-  register_name (raw_arguments.Truth b) r means = absurd means
+  abbrev pub Go : Counts → List RawArgument → List Operand → Type 0
+  Go b ws os = AllZip Goes (with_before b ws) os
 
-  pub named_register : (name : List ℕ) (a : Argument) → ArgumentMeans raw inputs (raw_arguments.Register name) a → (r : Register) × (a ≡ arguments.Register r) × HasName raw inputs r name
-  named_register name (arguments.Register r) means = (r, refl, means)
-  named_register name (arguments.Literal z) means = absurd means
-  named_register name (arguments.Truth b) means = absurd means
+  pub operands_go : (b : Counts) (w : RawOp) (op : Op) → OpMeans raw names b w op → Go b (arguments_of w) (operands_meant op)
+  operands_go b (raw_ops.Binary op flags a c) (ops.Binary op' flags' x y) means = (means.2.1, (means.3.1, tt))
+  operands_go b (raw_ops.Compare pred a c) (ops.Compare pred' x y) means = (means.1.1, (means.2.1, tt))
+  operands_go b (raw_ops.Select c a d) (ops.Select z x y) means = (means.0.1, (means.1.1, (means.2.1, tt)))
+  operands_go b (raw_ops.Convert cast a to) (ops.Convert cast' x to') means = (means.1.1, tt)
+  operands_go b (raw_ops.Copy a) (ops.Copy x) means = (means.1, tt)
+  operands_go b w op means = absurd means
 
-  pub operands_go : (w : RawOp) (op : Op) → OpMeans raw inputs w op → AllZip Goes (arguments_of w) (operands_meant op)
-  operands_go (raw_ops.Binary op flags a b) (ops.Binary op' flags' x y) means = (means.2.1, (means.3.1, tt))
-  operands_go (raw_ops.Compare pred a b) (ops.Compare pred' x y) means = (means.1.1, (means.2.1, tt))
-  operands_go (raw_ops.Select c a b) (ops.Select z x y) means = (means.0.1, (means.1.1, (means.2.1, tt)))
-  operands_go (raw_ops.Convert cast a to) (ops.Convert cast' x to') means = (means.1.1, tt)
-  operands_go (raw_ops.Copy a) (ops.Copy x) means = (means.1, tt)
-  operands_go w op means = absurd means
+  -- statements from what stands before them on
+  abbrev pub MeanFrom : Counts → List RawStatement → List Statement → Type 0
+  MeanFrom b ws ss = AllZip (λ w s. StatementMeans raw names w.0 w.1 s) (with_counts b ws) ss
 
-  pub names_go : (ws : List RawStatement) (ss : List Statement) → AllZip (StatementMeans raw inputs) ws ss → names_of ss ≡ map (λ s. s.name) ws
-  names_go [] [] all = refl
-  names_go [] (s ∷ ss) all = absurd all
-  names_go (w ∷ ws) [] all = absurd all
-  names_go (w ∷ ws) (s ∷ ss) all = let e = all.0.0 in let rest = names_go ws ss all.1 in cc
+  pub names_go : (b : Counts) (ws : List RawStatement) (ss : List Statement) → MeanFrom b ws ss → names_of ss ≡ map (λ s. s.name) ws
+  names_go b [] [] all = refl
+  names_go b [] (s ∷ ss) all = absurd all
+  names_go b (w ∷ ws) [] all = absurd all
+  names_go b (w ∷ ws) (s ∷ ss) all = let e = all.0.0 in let rest = names_go (past_all b (arguments_of w.op)) ws ss all.1 in cc
 
-  pub all_go : (ws : List RawStatement) (ss : List Statement) → AllZip (StatementMeans raw inputs) ws ss → AllZip Goes (flat_map (λ s. arguments_of s.op) ws) (flat_map (λ s. operands_meant s.op) ss)
-  all_go ws ss all = zip_flat_map (StatementMeans raw inputs) Goes (λ (w : RawStatement). arguments_of w.op) (λ (s : Statement). operands_meant s.op) (λ w s means. operands_go w.op s.op means.1) ws ss all
+  pub count_go : (b : Counts) (ws : List RawStatement) (ss : List Statement) → MeanFrom b ws ss → length ss ≡ length ws
+  count_go b [] [] all = refl
+  count_go b [] (s ∷ ss) all = absurd all
+  count_go b (w ∷ ws) [] all = absurd all
+  count_go b (w ∷ ws) (s ∷ ss) all = ap suc (count_go (past_all b (arguments_of w.op)) ws ss all.1)
 
--- operand q of the source that is meant reads the register that is written there, and none other is
-pub reads_written : (raw : RawRule) (rule : Rule) (q : ℕ) (r : Register) → Means raw rule → ReadsAt rule q r → (name : List ℕ) × UsesAt raw.source q name × HasName raw rule.inputs r name
-reads_written raw rule q r means (o, at, reads) =
-    let found = zip_right (Goes raw rule.inputs) (flat_map (λ (s : RawStatement). arguments_of s.op) raw.source) (flat_map (λ (s : Statement). operands_meant s.op) rule.source) q o (all_go raw rule.inputs raw.source rule.source means.source) at in
-    let named = register_name raw rule.inputs found.0 r (subst (λ a. ArgumentMeans raw rule.inputs found.0 a) reads found.2) in
-    (named.0, found.1 ∙ ap (λ w. Some w) named.1, named.2)
+  go_append : (b : Counts) (xs ys : List RawArgument) (os ps : List Operand) → Go b xs os → Go (past_all b xs) ys ps → Go b (xs ++ ys) (os ++ ps)
+  go_append b xs ys os ps p q = subst (λ l. AllZip Goes l (os ++ ps)) (sym (with_before_append b xs ys)) (zip_append Goes (with_before b xs) os (with_before (past_all b xs) ys) ps p q)
 
-pub written_reads : (raw : RawRule) (rule : Rule) (q : ℕ) (name : List ℕ) → Means raw rule → UsesAt raw.source q name → (r : Register) × ReadsAt rule q r × HasName raw rule.inputs r name
-written_reads raw rule q name means at =
-    let found = zip_left (Goes raw rule.inputs) (flat_map (λ (s : RawStatement). arguments_of s.op) raw.source) (flat_map (λ (s : Statement). operands_meant s.op) rule.source) q (raw_arguments.Register name) (all_go raw rule.inputs raw.source rule.source means.source) at in
-    let named = named_register raw rule.inputs name found.0.value found.2 in
-    (named.0, (found.0, found.1, named.1), named.2)
+  pub all_go : (b : Counts) (ws : List RawStatement) (ss : List Statement) → MeanFrom b ws ss → Go b (arguments_among ws) (operands_among ss)
+  all_go b [] [] all = tt
+  all_go b [] (s ∷ ss) all = absurd all
+  all_go b (w ∷ ws) [] all = absurd all
+  all_go b (w ∷ ws) (s ∷ ss) all =
+      go_append b (arguments_of w.op) (arguments_among ws) (operands_meant s.op) (operands_among ss) (operands_go b w.op s.op all.0.1) (all_go (past_all b (arguments_of w.op)) ws ss all.1)
+
+  -- what a statement's operand reads stands in the statement as written
+  pub read_go : (b : Counts) (w : RawOp) (op : Op) (q : ℕ) (o : Operand) → OpMeans raw names b w op → slice_get (operands_meant op) q ≡ Some o → (c : Counts) × (a : RawArgument) × (slice_get (arguments_of w) q ≡ Some a) × ArgumentMeans raw names c a o.value
+  read_go b w op q o means at =
+      let found = zip_right Goes (with_before b (arguments_of w)) (operands_meant op) q o (operands_go b w op means) at in
+      (found.0.0, found.0.1, with_before_at b (arguments_of w) q found.0 found.1, found.2)
+
+  undef_first : (b : Counts) (w : RawArgument) (ws : List RawArgument) (a : Argument) (behind : List ℕ) (n : ℕ) → ArgumentMeans raw names b w a
+      → ((m : ℕ) → (past_all (past b w) ws).undefs ≡ (past b w).undefs + m → behind ≡ range_with_len (past b w).undefs m) → (past_all (past b w) ws).undefs ≡ b.undefs + n → cons_option (undef_in a) behind ≡ range_with_len b.undefs n
+  undef_first b (raw_arguments.Register name) ws (arguments.Register r) behind n means rest sum = rest n sum
+  undef_first b (raw_arguments.Literal z) ws (arguments.Literal y) behind n means rest sum = rest n sum
+  undef_first b (raw_arguments.Truth t) ws (arguments.Truth u) behind n means rest sum = rest n sum
+  undef_first b (raw_arguments.Constant name) ws (arguments.Constant k) behind n means rest sum = rest n sum
+  undef_first b (raw_arguments.Term t) ws (arguments.Term k) behind n means rest sum = rest n sum
+  undef_first b raw_arguments.Undef ws (arguments.Undef k) behind zero means rest sum = absurd (omega (arith, undefs_grow (past b raw_arguments.Undef) ws))
+  undef_first b raw_arguments.Undef ws (arguments.Undef k) behind (suc m) means rest sum = let later = rest m (omega arith) in let first : k ≡ b.undefs = means in cc
+  undef_first b w ws a behind n means rest sum = absurd means
+
+  -- the `undef`s are numbered in their order
+  pub undefs_from : (b : Counts) (ws : List RawArgument) (os : List Operand) (n : ℕ) → Go b ws os → (past_all b ws).undefs ≡ b.undefs + n → filter_map (λ o. undef_in o.value) os ≡ range_with_len b.undefs n
+  undefs_from b [] [] n go sum = ap (range_with_len b.undefs) (let e : 0 ≡ n = omega arith in e)
+  undefs_from b [] (o ∷ os) n go sum = absurd go
+  undefs_from b (w ∷ ws) [] n go sum = absurd go
+  undefs_from b (w ∷ ws) (o ∷ os) n go sum = undef_first b w ws o.value (filter_map (λ o. undef_in o.value) os) n go.0 (λ m e. undefs_from (past b w) ws os m go.1 e) sum
+
+-- operand q of a half that is meant reads what is written there, and none other is
+pub reads_written : (raw : RawRule) (names : Names) (ws : List RawStatement) (ss : List Statement) (q : ℕ) (o : Operand) → HalfMeans raw names ws ss → slice_get (operands_among ss) q ≡ Some o
+    → (c : Counts) × (a : RawArgument) × (slice_get (with_before no_counts (arguments_among ws)) q ≡ Some (c, a)) × (slice_get (arguments_among ws) q ≡ Some a) × ArgumentMeans raw names c a o.value
+reads_written raw names ws ss q o means at =
+    let found = zip_right (Goes raw names) (with_before no_counts (arguments_among ws)) (operands_among ss) q o (all_go raw names no_counts ws ss means) at in
+    (found.0.0, found.0.1, found.1, with_before_at no_counts (arguments_among ws) q found.0 found.1, found.2)
+
+pub written_reads : (raw : RawRule) (names : Names) (ws : List RawStatement) (ss : List Statement) (q : ℕ) (a : RawArgument) → HalfMeans raw names ws ss → slice_get (arguments_among ws) q ≡ Some a
+    → (c : Counts) × (o : Operand) × (slice_get (operands_among ss) q ≡ Some o) × ArgumentMeans raw names c a o.value
+written_reads raw names ws ss q a means at =
+    let (c, at') = at_with_before no_counts (arguments_among ws) q a at in
+    let found = zip_left (Goes raw names) (with_before no_counts (arguments_among ws)) (operands_among ss) q (c, a) (all_go raw names no_counts ws ss means) at' in
+    (c, found.0, found.1, found.2)

@@ -1,6 +1,6 @@
--- A rule as written that uses no register unbound means a rule.
-use Rattle.std.proofs.Common.{◌≡◌, inl, inr, ℕ, suc, List, [], ◌∷◌, ◌++◌, append_assoc, Some, refl, sym, ap, subst, ◌∙◌}
-use Rattle.std.specs.Prelude.{slice_get, Contains, flat_map}
+-- A rule as written that uses nothing unbound means a rule.
+use Rattle.std.proofs.Common.{◌≡◌, inl, inr, ℕ, suc, ◌+◌, ◌-◌, ◌<◌, List, [], ◌∷◌, ◌++◌, length, append_assoc, Some, refl, sym, ap, subst, ◌∙◌, arith}
+use Rattle.std.specs.Prelude.{slice_get, Contains}
 use Rattle.std.specs.List.{AllZip}
 use Rattle.std.proofs.lemmas.List.{append-nil}
 use Rattle.rule_parse.specs.declared.raw.RawRule.{RawRule}
@@ -10,6 +10,10 @@ use Rattle.rule_parse.specs.declared.raw.RawOp.TheVariants as raw_ops
 use Rattle.rule_parse.specs.declared.raw.RawOperand.{RawOperand}
 use Rattle.rule_parse.specs.declared.raw.RawArgument.{RawArgument}
 use Rattle.rule_parse.specs.declared.raw.RawArgument.TheVariants as raw_arguments
+use Rattle.rule_terms.specs.declared.raw.RawNode.{RawNode}
+use Rattle.rule_terms.specs.declared.raw.RawNode.TheVariants as raw_nodes
+use Rattle.rule_terms.specs.declared.raw.RawFormula.{RawFormula}
+use Rattle.rule_terms.specs.declared.raw.RawFormula.TheVariants as raw_formulas
 use Rattle.rule_core.specs.declared.rule.Rule.{Rule}
 use Rattle.rule_core.specs.declared.rule.Statement.{Statement}
 use Rattle.rule_core.specs.declared.rule.Op.{Op}
@@ -19,90 +23,160 @@ use Rattle.rule_core.specs.declared.rule.Argument.{Argument}
 use Rattle.rule_core.specs.declared.rule.Argument.TheVariants as arguments
 use Rattle.rule_core.specs.declared.rule.Register.{Register}
 use Rattle.rule_core.specs.declared.rule.Register.TheVariants as registers
+use Rattle.rule_core.specs.declared.rule.Term.{Term}
+use Rattle.rule_core.specs.declared.rule.Node.{Node}
+use Rattle.rule_core.specs.declared.rule.Node.TheVariants as nodes
+use Rattle.rule_core.specs.declared.rule.Formula.{Formula}
+use Rattle.rule_core.specs.declared.rule.Formula.TheVariants as formulas
 use Rattle.rule_core.proofs.Members.{Contains-from_get}
-use Rattle.rule_typing.proofs.Deciding.{stable, dec_one}
-use Rattle.rule_reader.specs.declared.resolve.Half.{Half}
-use Rattle.rule_reader.specs.declared.resolve.Half.TheVariants as halves
-use Rattle.rule_reader.specs.Naming.{arguments_of, Uses, AreInputs, HasName, ArgumentMeans, OperandMeans, OpMeans, StatementMeans, Means}
-use Rattle.rule_reader.specs.Inputs.{AreFirstUses, AddsInput}
-use Rattle.rule_reader.specs.Kinds.{MayUse, UnboundAt}
-use Rattle.rule_reader.proofs.InputLemmas.{no_uses, more_uses, first_uses_inputs}
+use Rattle.rule_typing.proofs.Deciding.{dec_one}
+use Rattle.rule_reader.specs.declared.names.Names.{Names}
+use Rattle.rule_reader.specs.declared.counts.Counts.{Counts}
+use Rattle.rule_reader.specs.declared.place.Place.{Place}
+use Rattle.rule_reader.specs.declared.place.Place.TheVariants as places
+use Rattle.rule_reader.specs.declared.place.Half.TheVariants as halves
+use Rattle.rule_parse.specs.Inside.{arguments_of, arguments_among, terms_of, terms_of_formula, expressions_of, formula_of, target_terms}
+use Rattle.rule_reader.specs.Naming.{nodes_in, past, past_all, no_counts, with_counts, with_nodes, with_terms, last_nodes, GivesInput, GivesConstant, AssignsAt, IsConstant, AreNames, HasName, ArgumentMeans, OperandMeans, OpMeans, StatementMeans, NodeMeans, FormulaMeans, Means}
+use Rattle.rule_reader.specs.WellFormed.{IsTerm, IsWellFormed}
+use Rattle.rule_reader.specs.Inputs.{AddsNames, AreNamesAmong}
+use Rattle.rule_reader.specs.Kinds.{Each, MayUse, ArgumentIsBound, NodeIsBound, TermIsBound, FormulaIsBound, UnboundAt}
+use Rattle.rule_reader.specs.Resolving.{IsWhole, NamesAreThere}
+use Rattle.rule_reader.proofs.InputLemmas.{no_names, more_names, all_names}
 use Rattle.rule_reader.proofs.Places.{somewhere}
-use Rattle.rule_reader.proofs.NameDecisions.{dec_name, dec_assigned, dec_may_use}
+use Rattle.rule_reader.proofs.Members.{each_in, each_at, each_of}
+use Rattle.rule_reader.proofs.Nodes.{node_at, with_terms_at}
+use Rattle.rule_reader.proofs.NameDecisions.{dec_name, dec_assigned}
+use Rattle.rule_reader.proofs.Found.{of_input, of_constant}
+use Rattle.rule_reader.proofs.Building.{whole_half, formula_term}
+use Rattle.rule_reader.proofs.There.{IsThere, term_there, names_there}
 
--- ---- inputs
+-- ---- names
 
-with_argument : (source : List RawStatement) (before : List (List ℕ)) (a : RawArgument) → (after : List (List ℕ)) × AddsInput source before a after
-with_argument source before (raw_arguments.Literal z) = (before, refl)
-with_argument source before (raw_arguments.Truth b) = (before, refl)
+with_argument : (source : List RawStatement) (before : Names) (a : RawArgument) → (after : Names) × AddsNames source before a after
+with_argument source before (raw_arguments.Literal z) = (before, record { inputs = inr (λ n g. cc, refl); constants = inr (λ n g. cc, refl) })
+with_argument source before (raw_arguments.Truth b) = (before, record { inputs = inr (λ n g. cc, refl); constants = inr (λ n g. cc, refl) })
+with_argument source before raw_arguments.Undef = (before, record { inputs = inr (λ n g. cc, refl); constants = inr (λ n g. cc, refl) })
+with_argument source before (raw_arguments.Term t) = (before, record { inputs = inr (λ n g. cc, refl); constants = inr (λ n g. cc, refl) })
+with_argument source before (raw_arguments.Constant name) = elim (dec_one (λ other. other ≡ name) before.constants (λ other. dec_name other name)) [
+  | yes (other, among, same) ↦ (before, record { inputs = inr (λ n g. cc, refl); constants = inl (name, refl, inr (subst (Contains before.constants) same among, refl)) })
+  | no new ↦ (record { inputs = before.inputs; constants = before.constants ++ name ∷ [] }, record { inputs = inr (λ n g. cc, refl); constants = inl (name, refl, inl (λ among. new (name, among, refl), refl)) })
+]
 with_argument source before (raw_arguments.Register name) = elim (dec_assigned source name) [
-  | yes assigned ↦ (before, inr (inl assigned, refl))
-  | no free ↦ elim (dec_one (λ other. other ≡ name) before (λ other. dec_name other name)) [
-    | yes (other, among, same) ↦ (before, inr (inr (subst (Contains before) same among), refl))
-    | no new ↦ (before ++ name ∷ [], inl (λ k at. free (k, at), λ among. new (name, among, refl), refl))
+  | yes (k, at) ↦ (before, record { inputs = inr (λ n g. let same : name ≡ n = cc in g.1 k (subst (AssignsAt source k) same at), refl); constants = inr (λ n g. cc, refl) })
+  | no free ↦ elim (dec_one (λ other. other ≡ name) before.inputs (λ other. dec_name other name)) [
+    | yes (other, among, same) ↦ (before, record { inputs = inl (name, (refl, λ k at. free (k, at)), inr (subst (Contains before.inputs) same among, refl)); constants = inr (λ n g. cc, refl) })
+    | no new ↦ (record { inputs = before.inputs ++ name ∷ []; constants = before.constants }, record { inputs = inl (name, (refl, λ k at. free (k, at)), inl (λ among. new (name, among, refl), refl)); constants = inr (λ n g. cc, refl) })
   ]
 ]
 
-with_arguments : (source : List RawStatement) (seen : List RawArgument) (before : List (List ℕ)) (left : List RawArgument) → AreFirstUses source seen before → (after : List (List ℕ)) × AreFirstUses source (seen ++ left) after
-with_arguments source seen before [] uses = (before, subst (λ l. AreFirstUses source l before) (sym (append-nil seen)) uses)
+with_arguments : (source : List RawStatement) (seen : List RawArgument) (before : Names) (left : List RawArgument) → AreNamesAmong source seen before → (after : Names) × AreNamesAmong source (seen ++ left) after
+with_arguments source seen before [] uses = (before, subst (λ l. AreNamesAmong source l before) (sym (append-nil seen)) uses)
 with_arguments source seen before (a ∷ left) uses =
     let (next, added) = with_argument source before a in
-    let (after, all) = with_arguments source (seen ++ a ∷ []) next left (more_uses source seen before next a uses added) in
-    (after, subst (λ l. AreFirstUses source l after) (append_assoc seen (a ∷ []) left) all)
+    let (after, all) = with_arguments source (seen ++ a ∷ []) next left (more_names source seen before next a uses added) in
+    (after, subst (λ l. AreNamesAmong source l after) (append_assoc seen (a ∷ []) left) all)
 
-some_inputs : (source : List RawStatement) → (inputs : List (List ℕ)) × AreInputs source inputs
-some_inputs source = let (inputs, uses) = with_arguments source [] [] (flat_map (λ s. arguments_of s.op) source) (no_uses source) in (inputs, first_uses_inputs source inputs uses)
+some_names : (source : List RawStatement) → (names : Names) × AreNames source names
+some_names source = let (names, uses) = with_arguments source [] _ (arguments_among source) (no_names source) in (names, all_names source names uses)
 
 -- ---- statements
 
-module _ (raw : RawRule) (inputs : List (List ℕ)) (ins : AreInputs raw.source inputs) where
-  some_register : (half : Half) (k : ℕ) (name : List ℕ) → MayUse raw half k name → (r : Register) × HasName raw inputs r name
-  some_register halves.Source k name (inl input) = let (i, at) = somewhere inputs name ((ins.each name).1 input) in (registers.Input i, at)
-  some_register halves.Source k name (inr (j, lt, at)) = (registers.Source j, at)
-  some_register halves.Target k name (not_root, inl input) = let (i, at) = somewhere inputs name ((ins.each name).1 input) in (registers.Input i, at)
-  some_register halves.Target k name (not_root, inr (inl (j, lt, at))) = (registers.Source j, at)
-  some_register halves.Target k name (not_root, inr (inr (j, lt, at))) = (registers.Target j, at)
+module _ (raw : RawRule) (names : Names) (are : AreNames raw.source names) where
+  some_register : (place : Place) (name : List ℕ) → MayUse raw place name → (r : Register) × HasName raw names r name
+  some_register (places.Source k) name (inl input) = let (i, at) = somewhere names.inputs name (of_input raw.source names are name input) in (registers.Input i, at)
+  some_register (places.Source k) name (inr (j, lt, at)) = (registers.Source j, at)
+  some_register (places.Target k) name (not_root, inl input) = let (i, at) = somewhere names.inputs name (of_input raw.source names are name input) in (registers.Input i, at)
+  some_register (places.Target k) name (not_root, inr (inl (j, lt, at))) = (registers.Source j, at)
+  some_register (places.Target k) name (not_root, inr (inr (j, lt, at))) = (registers.Target j, at)
+  some_register places.Heading name (inl input) = let (i, at) = somewhere names.inputs name (of_input raw.source names are name input) in (registers.Input i, at)
+  some_register places.Heading name (inr (j, lt, at)) = (registers.Source j, at)
 
-  some_argument : (half : Half) (k : ℕ) (w : RawArgument) → ((name : List ℕ) → w ≡ raw_arguments.Register name → MayUse raw half k name) → (a : Argument) × ArgumentMeans raw inputs w a
-  some_argument half k (raw_arguments.Register name) may = let (r, is) = some_register half k name (may name refl) in (arguments.Register r, is)
-  some_argument half k (raw_arguments.Literal z) may = (arguments.Literal z, refl)
-  some_argument half k (raw_arguments.Truth b) may = (arguments.Truth b, refl)
+  some_constant : (name : List ℕ) → IsConstant raw.source name → (k : ℕ) × (slice_get names.constants k ≡ Some name)
+  some_constant name is = somewhere names.constants name (of_constant raw.source names are name is)
 
-  -- the operand whose argument stands at place q of what the operation reads
-  some_operand : (half : Half) (k : ℕ) (op : RawOp) (q : ℕ) (w : RawOperand) → ((name : List ℕ) → Uses op name → MayUse raw half k name) → slice_get (arguments_of op) q ≡ Some w.value → (o : Operand) × OperandMeans raw inputs w o
-  some_operand half k op q w may at =
-      let (a, means) = some_argument half k w.value (λ name e. may name (Contains-from_get (arguments_of op) q (raw_arguments.Register name) (at ∙ ap (λ v. Some v) e))) in
-      (record { value = a; written = w.written; class = 0 }, (refl, means))
+  some_argument : (place : Place) (u : Counts) (w : RawArgument) → ArgumentIsBound raw place w → IsWhole w → (a : Argument) × ArgumentMeans raw names u w a
+  some_argument place u (raw_arguments.Register name) bound whole = let (r, is) = some_register place name bound in (arguments.Register r, is)
+  some_argument place u (raw_arguments.Literal z) bound whole = (arguments.Literal z, refl)
+  some_argument place u (raw_arguments.Truth b) bound whole = (arguments.Truth b, refl)
+  some_argument place u (raw_arguments.Constant name) bound whole = let (k, is) = some_constant name bound in (arguments.Constant k, is)
+  some_argument place u raw_arguments.Undef bound whole = (arguments.Undef u.undefs, refl)
+  some_argument place u (raw_arguments.Term t) bound whole = (arguments.Term (u.nodes + length t - 1), omega (arith, whole.some))
 
-  some_op : (half : Half) (k : ℕ) (w : RawOp) → ((name : List ℕ) → Uses w name → MayUse raw half k name) → (op : Op) × OpMeans raw inputs w op
-  some_op half k (raw_ops.Binary op flags a b) may =
-      let (x, left) = some_operand half k (raw_ops.Binary op flags a b) 0 a may refl in
-      let (y, right) = some_operand half k (raw_ops.Binary op flags a b) 1 b may refl in
+  some_operand : (place : Place) (u : Counts) (w : RawOperand) → ArgumentIsBound raw place w.value → IsWhole w.value → (o : Operand) × OperandMeans raw names u w o
+  some_operand place u w bound whole = let (a, means) = some_argument place u w.value bound whole in (record { value = a; written = w.written; class = 0 }, (refl, means))
+
+  some_op : (place : Place) (u : Counts) (w : RawOp) → Each (ArgumentIsBound raw place) (arguments_of w) → Each IsWhole (arguments_of w) → (op : Op) × OpMeans raw names u w op
+  some_op place u (raw_ops.Binary op flags a b) bound whole =
+      let (x, left) = some_operand place u a bound.0 whole.0 in
+      let (y, right) = some_operand place (past u a.value) b bound.1.0 whole.1.0 in
       (ops.Binary op flags x y, (refl, refl, left, right))
-  some_op half k (raw_ops.Compare pred a b) may =
-      let (x, left) = some_operand half k (raw_ops.Compare pred a b) 0 a may refl in
-      let (y, right) = some_operand half k (raw_ops.Compare pred a b) 1 b may refl in
+  some_op place u (raw_ops.Compare pred a b) bound whole =
+      let (x, left) = some_operand place u a bound.0 whole.0 in
+      let (y, right) = some_operand place (past u a.value) b bound.1.0 whole.1.0 in
       (ops.Compare pred x y, (refl, left, right))
-  some_op half k (raw_ops.Select c a b) may =
-      let (z, condition) = some_operand half k (raw_ops.Select c a b) 0 c may refl in
-      let (x, if_true) = some_operand half k (raw_ops.Select c a b) 1 a may refl in
-      let (y, if_false) = some_operand half k (raw_ops.Select c a b) 2 b may refl in
+  some_op place u (raw_ops.Select c a b) bound whole =
+      let (z, condition) = some_operand place u c bound.0 whole.0 in
+      let (x, if_true) = some_operand place (past u c.value) a bound.1.0 whole.1.0 in
+      let (y, if_false) = some_operand place (past (past u c.value) a.value) b bound.1.1.0 whole.1.1.0 in
       (ops.Select z x y, (condition, if_true, if_false))
-  some_op half k (raw_ops.Convert cast a to) may = let (x, means) = some_operand half k (raw_ops.Convert cast a to) 0 a may refl in (ops.Convert cast x to, (refl, means, refl))
-  some_op half k (raw_ops.Copy a) may = let (x, means) = some_operand half k (raw_ops.Copy a) 0 a may refl in (ops.Copy x, means)
+  some_op place u (raw_ops.Convert cast a to) bound whole = let (x, means) = some_operand place u a bound.0 whole.0 in (ops.Convert cast x to, (refl, means, refl))
+  some_op place u (raw_ops.Copy a) bound whole = let (x, means) = some_operand place u a bound.0 whole.0 in (ops.Copy x, means)
 
-  some_statements : (ws : List RawStatement) → ((k : ℕ) (w : RawStatement) → slice_get ws k ≡ Some w → (op : Op) × OpMeans raw inputs w.op op) → (ss : List Statement) × AllZip (StatementMeans raw inputs) ws ss
-  some_statements [] each = ([], tt)
-  some_statements (w ∷ ws) each =
-      let (op, means) = each 0 w refl in
-      let (ss, all) = some_statements ws (λ k v at. each (suc k) v at) in
+  some_statements : (u : Counts) (ws : List RawStatement) → ((k : ℕ) (w : RawStatement) (v : Counts) → slice_get ws k ≡ Some w → (op : Op) × OpMeans raw names v w.op op) → (ss : List Statement) × AllZip (λ w s. StatementMeans raw names w.0 w.1 s) (with_counts u ws) ss
+  some_statements u [] each = ([], tt)
+  some_statements u (w ∷ ws) each =
+      let (op, means) = each 0 w u refl in
+      let (ss, all) = some_statements (past_all u (arguments_of w.op)) ws (λ k x v at. each (suc k) x v at) in
       (record { name = w.name; class = 0; op = op } ∷ ss, ((refl, means), all))
 
-pub some_rule : (raw : RawRule) → ((line : ℕ) → ¬ UnboundAt raw line) → (rule : Rule) × Means raw rule
-some_rule raw bound =
-    let (inputs, ins) = some_inputs raw.source in
-    let in_source = λ (k : ℕ) (w : RawStatement) (at : slice_get raw.source k ≡ Some w). some_op raw inputs ins halves.Source k w.op (λ name uses. stable (dec_may_use raw halves.Source k name) (λ not. bound w.line (inl (k, w, at, (name, uses, not), refl)))) in
-    let in_target = λ (k : ℕ) (w : RawStatement) (at : slice_get raw.target k ≡ Some w). some_op raw inputs ins halves.Target k w.op (λ name uses. stable (dec_may_use raw halves.Target k name) (λ not. bound w.line (inr (k, w, at, (name, uses, not), refl)))) in
-    let (source, sources) = some_statements raw inputs ins raw.source in_source in
-    let (target, targets) = some_statements raw inputs ins raw.target in_target in
-    (record { name = raw.name; inputs = inputs; constants = []; source = source; target = target }, record { name = refl; inputs = ins; constants = refl; source = sources; target = targets })
+  -- ---- terms and the formula
+
+  some_node : (place : Place) (b : ℕ) (w : RawNode) → NodeIsBound raw place w → (x : Node) × NodeMeans raw names b w x
+  some_node place b (raw_nodes.Literal z) bound = (nodes.Literal z, refl)
+  some_node place b (raw_nodes.Constant name) bound = let (k, is) = some_constant name bound in (nodes.Constant k, is)
+  some_node place b (raw_nodes.Register name) bound = let (r, is) = some_register place name bound in (nodes.Register r, is)
+  some_node place b (raw_nodes.Undef k) bound = (nodes.Undef k, refl)
+  some_node place b (raw_nodes.Width name) bound = let (r, is) = some_register place name bound in (nodes.Width r 0, is)
+  some_node place b (raw_nodes.Unary f a) bound = (nodes.Unary f (b + a), (refl, refl))
+  some_node place b (raw_nodes.Binary op a c) bound = (nodes.Binary op (b + a) (b + c), (refl, refl, refl))
+
+  some_terms : (ws : List (ℕ × RawNode)) → ((q : ℕ) (w : ℕ × RawNode) → slice_get ws q ≡ Some w → (x : Node) × NodeMeans raw names w.0 w.1 x) → (terms : List Term) × AllZip (λ w t. NodeMeans raw names w.0 w.1 t.node) ws terms
+  some_terms [] each = ([], tt)
+  some_terms (w ∷ ws) each =
+      let (node, means) = each 0 w refl in
+      let (terms, all) = some_terms ws (λ k v at. each (suc k) v at) in
+      (record { class = 0; node = node } ∷ terms, (means, all))
+
+  some_formula : (b : ℕ) (w : RawFormula) → FormulaIsBound raw w → Each IsTerm (terms_of_formula w) → (f : Formula) × FormulaMeans raw names b w f
+  some_formula b (raw_formulas.Compare pred u v) bound whole = (formulas.Compare pred (b + length u - 1) (b + length u + length v - 1), (refl, omega (arith, whole.0.some), omega (arith, whole.1.0.some)))
+  some_formula b (raw_formulas.IsPowerOfTwo u) bound whole = (formulas.IsPowerOfTwo (b + length u - 1), omega (arith, whole.0.some))
+  some_formula b (raw_formulas.IsSignBit u) bound whole = (formulas.IsSignBit (b + length u - 1), omega (arith, whole.0.some))
+  some_formula b (raw_formulas.HasOneUse name) bound whole = (formulas.HasOneUse bound.0, bound.2)
+  some_formula b (raw_formulas.Not a) bound whole = (formulas.Not a, refl)
+  some_formula b (raw_formulas.And a c) bound whole = (formulas.And a c, (refl, refl))
+  some_formula b (raw_formulas.Or a c) bound whole = (formulas.Or a c, (refl, refl))
+
+  some_precondition : (n : ℕ) (ws : List RawFormula) → ((k : ℕ) (w : RawFormula) (b : ℕ) → slice_get ws k ≡ Some w → (f : Formula) × FormulaMeans raw names b w f) → (fs : List Formula) × AllZip (λ w f. FormulaMeans raw names w.0 w.1 f) (with_terms n ws) fs
+  some_precondition n [] each = ([], tt)
+  some_precondition n (w ∷ ws) each =
+      let (f, means) = each 0 w n refl in
+      let (fs, all) = some_precondition (n + nodes_in (terms_of_formula w)) ws (λ k v b at. each (suc k) v b at) in
+      (f ∷ fs, (means, all))
+
+pub some_rule : (raw : RawRule) → IsWellFormed raw → ((line : ℕ) → ¬ UnboundAt raw line) → (rule : Rule) × Means raw rule
+some_rule raw well none =
+    let bound : NamesAreThere raw = names_there raw none in
+    let (names, are) = some_names raw.source in
+    let (source, sources) = some_statements raw names are no_counts raw.source (λ k w v at. some_op raw names are (places.Source k) v w.op (bound.source k w at) (whole_half raw well halves.Source k w at)) in
+    let (target, targets) = some_statements raw names are no_counts raw.target (λ k w v at. some_op raw names are (places.Target k) v w.op (bound.target k w at) (whole_half raw well halves.Target k w at)) in
+    let (terms, constant) = some_terms raw names are (with_nodes 0 (terms_of raw)) (λ q w at.
+    let (t, among, (k, spot, sum)) = node_at 0 (terms_of raw) q w at in
+    elim (term_there raw bound t w.1 among (Contains-from_get t k w.1 spot)) [ inl (j, lt, named) ↦ some_node raw names are (places.Target j) w.0 w.1 named | inr named ↦ some_node raw names are places.Heading w.0 w.1 named ]) in
+    let (witness, choices) = some_terms raw names are (with_nodes 0 (expressions_of raw)) (λ q w at.
+    let (t, among, (k, spot, sum)) = node_at 0 (expressions_of raw) q w at in
+    some_node raw names are places.Heading w.0 w.1 (each_in (NodeIsBound raw places.Heading) t w.1 (each_in (TermIsBound raw places.Heading) (expressions_of raw) t bound.witness among) (Contains-from_get t k w.1 spot))) in
+    let (formula, precondition) = some_precondition raw names are (nodes_in (target_terms raw)) (formula_of raw) (λ k w b at.
+    some_formula raw names are b w (each_at (FormulaIsBound raw) (formula_of raw) k w bound.precondition at) (each_of IsTerm (terms_of_formula w) (λ t among. well.terms t (formula_term raw k w t at among)))) in (
+      record { name = raw.name; inputs = names.inputs; constants = names.constants; source = source; target = target; terms = terms; precondition = formula; witness_terms = witness; witnesses = last_nodes 0 (expressions_of raw) },
+      record { name = refl; names = are; source = sources; target = targets; terms = constant; precondition = precondition; witness_terms = choices; witnesses = refl },
+    )

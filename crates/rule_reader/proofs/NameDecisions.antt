@@ -1,17 +1,23 @@
 -- What can be decided of the names in a rule as written.
-use Rattle.std.proofs.Common.{◌≡◌, inl, inr, ℕ, suc, ◌<◌, ◌≤◌, List, length, Some, refl, ap, subst, ◌∙◌}
+use Rattle.std.proofs.Common.{◌≡◌, inl, inr, ℕ, suc, ◌<◌, ◌≤◌, List, [], ◌∷◌, length, Some, refl, ap, subst, ◌∙◌}
 use Rattle.std.specs.Prelude.{slice_get, Contains, map, flat_map}
 use Rattle.std.proofs.Math.Decide.{map_dec, dec_le, dec_lt}
 use Rattle.rule_parse.specs.declared.raw.RawRule.{RawRule}
 use Rattle.rule_parse.specs.declared.raw.RawStatement.{RawStatement}
 use Rattle.rule_parse.specs.declared.raw.RawOp.{RawOp}
 use Rattle.rule_parse.specs.declared.raw.RawArgument.{RawArgument}
-use Rattle.rule_parse.specs.declared.raw.RawArgument.TheVariants.{Register, Literal, Truth}
+use Rattle.rule_parse.specs.declared.raw.RawOp.TheVariants as ops
+use Rattle.rule_parse.specs.declared.raw.RawArgument.TheVariants.{Register, Literal, Truth, Constant, Undef, Term}
+use Rattle.rule_terms.specs.declared.raw.RawNode.{RawNode}
+use Rattle.rule_terms.specs.declared.raw.RawNode.TheVariants as nodes
+use Rattle.rule_terms.specs.declared.raw.RawFormula.{RawFormula}
+use Rattle.rule_terms.specs.declared.raw.RawFormula.TheVariants as formulas
 use Rattle.rule_typing.proofs.Deciding.{dec_both, dec_either, dec_not, dec_number, dec_place, dec_one}
-use Rattle.rule_reader.specs.declared.resolve.Half.{Half}
-use Rattle.rule_reader.specs.declared.resolve.Half.TheVariants as halves
-use Rattle.rule_reader.specs.Naming.{arguments_of, Uses, AssignsAt, IsInput, IsTemporary, IsRoot}
-use Rattle.rule_reader.specs.Kinds.{MayUse, UsesUnbound, IsUnused}
+use Rattle.rule_reader.specs.declared.place.Place.{Place}
+use Rattle.rule_reader.specs.declared.place.Place.TheVariants as places
+use Rattle.rule_parse.specs.Inside.{arguments_of, arguments_among}
+use Rattle.rule_reader.specs.Naming.{in_half, Uses, UsesAt, AssignsAt, IsInput, IsTemporary, IsRoot, IsConstant}
+use Rattle.rule_reader.specs.Kinds.{Each, MayUse, NodeIsBound, TermIsBound, ArgumentIsBound, OpIsBound, FormulaIsBound, ReadsUndefInside, IsUndefCopy, IsUnused}
 use Rattle.rule_reader.proofs.Stable.{same_name}
 
 pub dec_name : (a b : List ℕ) → Dec (a ≡ b)
@@ -34,11 +40,30 @@ dec_temporary source name = dec_name_at (λ k. suc k < length source) (map (λ s
 pub dec_root : (source : List RawStatement) (name : List ℕ) → Dec (IsRoot source name)
 dec_root source name = dec_name_at (λ k. suc k ≡ length source) (map (λ s. s.name) source) name (λ k. dec_number (suc k) (length source))
 
--- an argument is the register
+-- an argument is the register, the constant or an `undef`
 dec_argument : (o : RawArgument) (name : List ℕ) → Dec (o ≡ Register name)
 dec_argument (Register other) name = map_dec (λ same. ap (λ n. Register n) same) (λ e. cc) (dec_name other name)
 dec_argument (Literal z) name = no (λ e. cc)
 dec_argument (Truth b) name = no (λ e. cc)
+dec_argument (Constant other) name = no (λ e. cc)
+dec_argument Undef name = no (λ e. cc)
+dec_argument (Term t) name = no (λ e. cc)
+
+dec_constant_argument : (o : RawArgument) (name : List ℕ) → Dec (o ≡ Constant name)
+dec_constant_argument (Constant other) name = map_dec (λ same. ap (λ n. Constant n) same) (λ e. cc) (dec_name other name)
+dec_constant_argument (Literal z) name = no (λ e. cc)
+dec_constant_argument (Truth b) name = no (λ e. cc)
+dec_constant_argument (Register other) name = no (λ e. cc)
+dec_constant_argument Undef name = no (λ e. cc)
+dec_constant_argument (Term t) name = no (λ e. cc)
+
+dec_undef_argument : (o : RawArgument) → Dec (o ≡ Undef)
+dec_undef_argument Undef = yes refl
+dec_undef_argument (Literal z) = no (λ e. cc)
+dec_undef_argument (Truth b) = no (λ e. cc)
+dec_undef_argument (Register other) = no (λ e. cc)
+dec_undef_argument (Constant other) = no (λ e. cc)
+dec_undef_argument (Term t) = no (λ e. cc)
 
 dec_uses : (op : RawOp) (name : List ℕ) → Dec (Uses op name)
 dec_uses op name =
@@ -50,22 +75,70 @@ dec_input source name =
     (map_dec (λ (q, o, at, is). (q, at ∙ ap (λ x. Some x) is)) (λ (q, at). (q, Register name, at, refl)) (dec_place (λ q o. o ≡ Register name) (flat_map (λ s. arguments_of s.op) source) (λ q o. dec_argument o name)))
     (map_dec (λ none k at. none (k, at)) (λ none (k, at). none k at) (dec_not (dec_assigned source name)))
 
-pub dec_may_use : (raw : RawRule) (half : Half) (k : ℕ) (name : List ℕ) → Dec (MayUse raw half k name)
-dec_may_use raw halves.Source k name = dec_either (dec_input raw.source name) (dec_assigned_before raw.source k name)
-dec_may_use raw halves.Target k name =
-    dec_both (dec_not (dec_root raw.source name)) (dec_either (dec_input raw.source name) (dec_either (dec_temporary raw.source name) (dec_assigned_before raw.target k name)))
+pub dec_constant : (source : List RawStatement) (name : List ℕ) → Dec (IsConstant source name)
+dec_constant source name =
+    map_dec (λ (q, o, at, is). (q, at ∙ ap (λ x. Some x) is)) (λ (q, at). (q, Constant name, at, refl)) (dec_place (λ q o. o ≡ Constant name) (arguments_among source) (λ q o. dec_constant_argument o name))
 
-pub dec_unbound : (raw : RawRule) (half : Half) (k : ℕ) (s : RawStatement) → Dec (UsesUnbound raw half k s)
-dec_unbound raw half k s =
-    map_dec (λ (o, among, (name, is, not)). (name, subst (Contains (arguments_of s.op)) is among, not)) (λ (name, uses, not). (Register name, uses, (name, refl, not)))
-    (dec_one (λ o. (name : List ℕ) × (o ≡ Register name) × ¬ MayUse raw half k name) (arguments_of s.op) of_argument)
-  where
-    of_argument : (o : RawArgument) → Dec ((name : List ℕ) × (o ≡ Register name) × ¬ MayUse raw half k name)
-    of_argument (Register other) = map_dec (λ not. (other, refl, not)) (λ (name, e, not). let same : name ≡ other = cc in subst (λ n. ¬ MayUse raw half k n) same not) (dec_not (dec_may_use raw half k other))
-    of_argument (Literal z) = no (λ (name, e, not). cc)
-    of_argument (Truth b) = no (λ (name, e, not). cc)
+pub dec_may_use : (raw : RawRule) (place : Place) (name : List ℕ) → Dec (MayUse raw place name)
+dec_may_use raw (places.Source k) name = dec_either (dec_input raw.source name) (dec_assigned_before raw.source k name)
+dec_may_use raw (places.Target k) name =
+    dec_both (dec_not (dec_root raw.source name)) (dec_either (dec_input raw.source name) (dec_either (dec_temporary raw.source name) (dec_assigned_before raw.target k name)))
+dec_may_use raw places.Heading name = dec_either (dec_input raw.source name) (dec_temporary raw.source name)
+
+pub dec_each : {X : Type 0} (P : X → Type 0) → ((x : X) → Dec (P x)) → (xs : List X) → Dec (Each P xs)
+dec_each P each [] = yes tt
+dec_each P each (x ∷ xs) = dec_both (each x) (dec_each P each xs)
+
+dec_node : (raw : RawRule) (place : Place) (node : RawNode) → Dec (NodeIsBound raw place node)
+dec_node raw place (nodes.Literal z) = yes tt
+dec_node raw place (nodes.Constant name) = dec_constant raw.source name
+dec_node raw place (nodes.Register name) = dec_may_use raw place name
+dec_node raw place (nodes.Undef k) = dec_lt k (in_half raw.target).undefs
+dec_node raw place (nodes.Width name) = dec_may_use raw place name
+dec_node raw place (nodes.Unary f a) = yes tt
+dec_node raw place (nodes.Binary op a b) = yes tt
+
+pub dec_term : (raw : RawRule) (place : Place) (t : List RawNode) → Dec (TermIsBound raw place t)
+dec_term raw place t = dec_each (NodeIsBound raw place) (dec_node raw place) t
+
+dec_read : (raw : RawRule) (place : Place) (a : RawArgument) → Dec (ArgumentIsBound raw place a)
+dec_read raw place (Register name) = dec_may_use raw place name
+dec_read raw place (Literal z) = yes tt
+dec_read raw place (Truth b) = yes tt
+dec_read raw place (Constant name) = dec_constant raw.source name
+dec_read raw place Undef = yes tt
+dec_read raw place (Term t) = dec_term raw place t
+
+pub dec_op : (raw : RawRule) (place : Place) (op : RawOp) → Dec (OpIsBound raw place op)
+dec_op raw place op = dec_each (ArgumentIsBound raw place) (dec_read raw place) (arguments_of op)
+
+pub dec_formula : (raw : RawRule) (f : RawFormula) → Dec (FormulaIsBound raw f)
+dec_formula raw (formulas.Compare pred a b) = dec_both (dec_term raw places.Heading a) (dec_term raw places.Heading b)
+dec_formula raw (formulas.IsPowerOfTwo a) = dec_term raw places.Heading a
+dec_formula raw (formulas.IsSignBit a) = dec_term raw places.Heading a
+dec_formula raw (formulas.HasOneUse name) = dec_temporary raw.source name
+dec_formula raw (formulas.Not a) = yes tt
+dec_formula raw (formulas.And a b) = yes tt
+dec_formula raw (formulas.Or a b) = yes tt
+
+pub dec_undef_inside : (source : List RawStatement) (k : ℕ) (s : RawStatement) → Dec (ReadsUndefInside source k s)
+dec_undef_inside source k s =
+    dec_both (dec_lt (suc k) (length source))
+    (map_dec (λ (o, among, is). subst (Contains (arguments_of s.op)) is among) (λ among. (Undef, among, refl)) (dec_one (λ o. o ≡ Undef) (arguments_of s.op) dec_undef_argument))
+
+pub dec_undef_copy : (op : RawOp) → Dec (IsUndefCopy op)
+dec_undef_copy (ops.Copy a) = dec_undef_argument a.value
+dec_undef_copy (ops.Binary op flags a b) = no (λ e. e)
+dec_undef_copy (ops.Compare pred a b) = no (λ e. e)
+dec_undef_copy (ops.Select c a b) = no (λ e. e)
+dec_undef_copy (ops.Convert cast a to) = no (λ e. e)
 
 pub dec_unused : (source : List RawStatement) (k : ℕ) (s : RawStatement) → Dec (IsUnused source k s)
 dec_unused source k s =
     dec_both (dec_lt (suc k) (length source)) (dec_not (map_dec (λ (j, t, at, (le, uses)). (j, t, le, at, uses)) (λ (j, t, le, at, uses). (j, t, at, (le, uses)))
     (dec_place (λ j t. (suc k ≤ j) × Uses t.op s.name) source (λ j t. dec_both (dec_le (suc k) j) (dec_uses t.op s.name)))))
+
+-- an argument of the source is the register, or none is
+pub dec_uses_at : (source : List RawStatement) (name : List ℕ) → Dec ((q : ℕ) × UsesAt source q name)
+dec_uses_at source name =
+    map_dec (λ (q, o, at, is). (q, at ∙ ap (λ x. Some x) is)) (λ (q, at). (q, Register name, at, refl)) (dec_place (λ q o. o ≡ Register name) (arguments_among source) (λ q o. dec_argument o name))

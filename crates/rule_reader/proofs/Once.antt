@@ -1,5 +1,5 @@
--- A rule as written has one list of inputs, and means one rule with its classes.
-use Rattle.std.proofs.Common.{◌≡◌, inl, inr, ℕ, zero, suc, ◌+◌, ◌<◌, List, [], ◌∷◌, ◌++◌, length, length-append, append_assoc, Some, refl, sym, ap, subst, ◌∙◌, arith}
+-- A rule as written has one list of inputs and one of constants, and means one rule with its classes.
+use Rattle.std.proofs.Common.{◌≡◌, ◌⊎◌, inl, inr, ℕ, zero, suc, ◌+◌, ◌<◌, List, [], ◌∷◌, ◌++◌, length, length-append, append_assoc, Some, refl, sym, ap, subst, ◌∙◌, arith}
 use Rattle.std.specs.Prelude.{slice_get, Contains, map, flat_map}
 use Rattle.std.specs.List.{AllZip}
 use Rattle.std.proofs.lemmas.Option.{slice_get_within, same_Some}
@@ -12,6 +12,10 @@ use Rattle.rule_parse.specs.declared.raw.RawOp.TheVariants as raw_ops
 use Rattle.rule_parse.specs.declared.raw.RawOperand.{RawOperand}
 use Rattle.rule_parse.specs.declared.raw.RawArgument.{RawArgument}
 use Rattle.rule_parse.specs.declared.raw.RawArgument.TheVariants as raw_arguments
+use Rattle.rule_terms.specs.declared.raw.RawNode.{RawNode}
+use Rattle.rule_terms.specs.declared.raw.RawNode.TheVariants as raw_nodes
+use Rattle.rule_terms.specs.declared.raw.RawFormula.{RawFormula}
+use Rattle.rule_terms.specs.declared.raw.RawFormula.TheVariants as raw_formulas
 use Rattle.rule_core.specs.declared.rule.Rule.{Rule}
 use Rattle.rule_core.specs.declared.rule.Statement.{Statement}
 use Rattle.rule_core.specs.declared.rule.Op.{Op}
@@ -19,66 +23,87 @@ use Rattle.rule_core.specs.declared.rule.Op.TheVariants as ops
 use Rattle.rule_core.specs.declared.rule.Operand.{Operand}
 use Rattle.rule_core.specs.declared.rule.Argument.{Argument}
 use Rattle.rule_core.specs.declared.rule.Argument.TheVariants as arguments
-use Rattle.rule_core.specs.Positions.{operands_of as operands_meant, classes_of_statement, classes_of}
+use Rattle.rule_core.specs.declared.rule.Term.{Term}
+use Rattle.rule_core.specs.declared.rule.Node.{Node}
+use Rattle.rule_core.specs.declared.rule.Node.TheVariants as nodes
+use Rattle.rule_core.specs.declared.rule.Formula.{Formula}
+use Rattle.rule_core.specs.declared.rule.Formula.TheVariants as formulas
+use Rattle.rule_core.specs.Positions.{operands_of as operands_meant, classes_of_statement, classes_of_node, classes_of_term, classes_of}
 use Rattle.rule_core.proofs.Members.{Contains-from_get}
 use Rattle.rule_typing.specs.Classes.{Joined, SameClass, IsClassified}
-use Rattle.rule_typing.specs.Relabelling.{numbered_op, numbered_statement, numbered_statements, numbered}
-use Rattle.rule_reader.specs.Naming.{arguments_of, Uses, UsesAt, IsRoot, AreInputs, ArgumentMeans, OperandMeans, OpMeans, StatementMeans, Means}
+use Rattle.rule_typing.specs.Relabelling.{numbered_op, numbered_statement, numbered_statements, numbered_node, numbered_term, numbered_terms, numbered}
+use Rattle.rule_reader.specs.declared.names.Names.{Names}
+use Rattle.rule_reader.specs.declared.counts.Counts.{Counts}
+use Rattle.rule_reader.specs.declared.place.Place.{Place}
+use Rattle.rule_reader.specs.declared.place.Place.TheVariants as places
+use Rattle.rule_parse.specs.Inside.{arguments_of, terms_of, expressions_of, formula_of, target_terms, terms_of_formula}
+use Rattle.rule_reader.specs.Naming.{nodes_in, past, past_all, no_counts, with_counts, with_nodes, with_terms, GivenAt, AreFirstGiven, GivesInput, GivesConstant, IsRoot, AreNames, ArgumentMeans, OperandMeans, OpMeans, StatementMeans, NodeMeans, FormulaMeans, HalfMeans, TermsMean, PreconditionMeans, Means, names_of_rule}
+use Rattle.rule_reader.specs.Kinds.{Each, MayUse, ArgumentIsBound, OpIsBound, NodeIsBound, TermIsBound}
 use Rattle.rule_reader.proofs.Places.{order, somewhere, there}
-use Rattle.rule_reader.proofs.Names.{IsPlain, one_register, not_root_in_source}
+use Rattle.rule_reader.proofs.Members.{each_in, each_at}
+use Rattle.rule_reader.proofs.Nodes.{node_at}
+use Rattle.rule_reader.proofs.OneRegister.{IsPlain, one_place, one_register, not_root_in_source, not_root_before}
+use Rattle.rule_reader.proofs.There.{term_there}
 use Rattle.rule_reader.proofs.Checked.{IsBound}
 
--- ---- inputs
+-- ---- names
 
--- m is used before n, which is used
-abbrev UsedBefore : List RawStatement → List ℕ → List ℕ → Type 0
-UsedBefore source m n = ((q : ℕ) × UsesAt source q n) × ((q : ℕ) → UsesAt source q n → (p : ℕ) × (p < q) × UsesAt source p m)
+module _ (Gives : RawArgument → List ℕ → Type 0) (os : List RawArgument) where
+  -- m is given before n, which is given
+  abbrev GivenBefore : List ℕ → List ℕ → Type 0
+  GivenBefore m n = ((q : ℕ) × GivenAt Gives os q n) × ((q : ℕ) → GivenAt Gives os q n → (p : ℕ) × (p < q) × GivenAt Gives os p m)
 
-descend : (source : List RawStatement) (m n : List ℕ) → UsedBefore source m n → UsedBefore source n m → (fuel q : ℕ) → q < fuel → UsesAt source q n → ⊥
-descend source m n before after zero q lt uses = absurd (omega arith)
-descend source m n before after (suc fuel) q lt uses =
-    let (p, less, uses') = before.1 q uses in
-    let (r, less', uses'') = after.1 p uses' in
-    descend source m n before after fuel r (omega arith) uses''
+  descend : (m n : List ℕ) → GivenBefore m n → GivenBefore n m → (fuel q : ℕ) → q < fuel → GivenAt Gives os q n → ⊥
+  descend m n before after zero q lt given = absurd (omega arith)
+  descend m n before after (suc fuel) q lt given =
+      let (p, less, given') = before.1 q given in
+      let (r, less', given'') = after.1 p given' in
+      descend m n before after fuel r (omega arith) given''
 
-not_both : (source : List RawStatement) (m n : List ℕ) → UsedBefore source m n → UsedBefore source n m → ⊥
-not_both source m n before after = descend source m n before after (suc before.0.0) before.0.0 (omega arith) before.0.1
+  not_both : (m n : List ℕ) → GivenBefore m n → GivenBefore n m → ⊥
+  not_both m n before after = descend m n before after (suc before.0.0) before.0.0 (omega arith) before.0.1
 
-abbrev InOrder : List RawStatement → List (List ℕ) → Type 0
-InOrder source names = (h i : ℕ) (m n : List ℕ) → h < i → slice_get names h ≡ Some m → slice_get names i ≡ Some n → UsedBefore source m n
+  abbrev InOrder : List (List ℕ) → Type 0
+  InOrder names = (h i : ℕ) (m n : List ℕ) → h < i → slice_get names h ≡ Some m → slice_get names i ≡ Some n → GivenBefore m n
 
-same_lists : (source : List RawStatement) (xs ys : List (List ℕ)) → InOrder source xs → InOrder source ys → ((x : List ℕ) → Contains xs x → Contains ys x) → ((x : List ℕ) → Contains ys x → Contains xs x) → xs ≡ ys
-same_lists source [] [] p q f g = refl
-same_lists source [] (y ∷ ys) p q f g = absurd (let (k, within, is) = g y (Contains-from_get (y ∷ ys) 0 y refl) in let lt : k < 0 = within in omega arith)
-same_lists source (x ∷ xs) [] p q f g = absurd (let (k, within, is) = f x (Contains-from_get (x ∷ xs) 0 x refl) in let lt : k < 0 = within in omega arith)
-same_lists source (x ∷ xs) (y ∷ ys) p q f g =
-    let first : x ≡ y = first_same (somewhere (y ∷ ys) x (f x (Contains-from_get (x ∷ xs) 0 x refl))) (somewhere (x ∷ xs) y (g y (Contains-from_get (y ∷ ys) 0 y refl))) in
-    let rest : xs ≡ ys = same_lists source xs ys (λ h i m n lt at at'. p (suc h) (suc i) m n (omega arith) at at') (λ h i m n lt at at'. q (suc h) (suc i) m n (omega arith) at at')
-    (λ z among. let (k, at) = somewhere xs z among in
-    let (j, at') = somewhere (y ∷ ys) z (f z (Contains-from_get (x ∷ xs) (suc k) z at)) in
-    elim j as (λ i. slice_get (y ∷ ys) i ≡ Some z → Contains ys z) [
-      | zero ↦ λ e. let same : z ≡ x = cc in let self : UsedBefore source x x = subst (λ w. UsedBefore source x w) same (p 0 (suc k) x z (omega arith) refl at) in absurd (not_both source x x self self)
-      | suc i ↦ λ e. Contains-from_get ys i z e
-    ] at')
-    (λ z among. let (k, at) = somewhere ys z among in
-    let (j, at') = somewhere (x ∷ xs) z (g z (Contains-from_get (y ∷ ys) (suc k) z at)) in
-    elim j as (λ i. slice_get (x ∷ xs) i ≡ Some z → Contains xs z) [
-      | zero ↦ λ e. let same : z ≡ y = cc in let self : UsedBefore source y y = subst (λ w. UsedBefore source y w) same (q 0 (suc k) y z (omega arith) refl at) in absurd (not_both source y y self self)
-      | suc i ↦ λ e. Contains-from_get xs i z e
-    ] at') in
-    cc
-  where
-    first_same : ((k : ℕ) × (slice_get (y ∷ ys) k ≡ Some x)) → ((k : ℕ) × (slice_get (x ∷ xs) k ≡ Some y)) → x ≡ y
-    first_same (zero, e) b = sym (same_Some y x e)
-    first_same (suc k, e) (zero, e') = same_Some x y e'
-    first_same (suc k, e) (suc j, e') = absurd (not_both source y x (q 0 (suc k) y x (omega arith) refl e) (p 0 (suc j) x y (omega arith) refl e'))
+  same_lists : (xs ys : List (List ℕ)) → InOrder xs → InOrder ys → ((x : List ℕ) → Contains xs x → Contains ys x) → ((x : List ℕ) → Contains ys x → Contains xs x) → xs ≡ ys
+  same_lists [] [] p q f g = refl
+  same_lists [] (y ∷ ys) p q f g = absurd (let (k, within, is) = g y (Contains-from_get (y ∷ ys) 0 y refl) in let lt : k < 0 = within in omega arith)
+  same_lists (x ∷ xs) [] p q f g = absurd (let (k, within, is) = f x (Contains-from_get (x ∷ xs) 0 x refl) in let lt : k < 0 = within in omega arith)
+  same_lists (x ∷ xs) (y ∷ ys) p q f g =
+      let first : x ≡ y = first_same (somewhere (y ∷ ys) x (f x (Contains-from_get (x ∷ xs) 0 x refl))) (somewhere (x ∷ xs) y (g y (Contains-from_get (y ∷ ys) 0 y refl))) in
+      let rest : xs ≡ ys = same_lists xs ys (λ h i m n lt at at'. p (suc h) (suc i) m n (omega arith) at at') (λ h i m n lt at at'. q (suc h) (suc i) m n (omega arith) at at')
+      (λ z among. let (k, at) = somewhere xs z among in
+      let (j, at') = somewhere (y ∷ ys) z (f z (Contains-from_get (x ∷ xs) (suc k) z at)) in
+      elim j as (λ i. slice_get (y ∷ ys) i ≡ Some z → Contains ys z) [
+        | zero ↦ λ e. let same : z ≡ x = cc in let self : GivenBefore x x = subst (λ w. GivenBefore x w) same (p 0 (suc k) x z (omega arith) refl at) in absurd (not_both x x self self)
+        | suc i ↦ λ e. Contains-from_get ys i z e
+      ] at')
+      (λ z among. let (k, at) = somewhere ys z among in
+      let (j, at') = somewhere (x ∷ xs) z (g z (Contains-from_get (y ∷ ys) (suc k) z at)) in
+      elim j as (λ i. slice_get (x ∷ xs) i ≡ Some z → Contains xs z) [
+        | zero ↦ λ e. let same : z ≡ y = cc in let self : GivenBefore y y = subst (λ w. GivenBefore y w) same (q 0 (suc k) y z (omega arith) refl at) in absurd (not_both y y self self)
+        | suc i ↦ λ e. Contains-from_get xs i z e
+      ] at') in
+      cc
+    where
+      first_same : ((k : ℕ) × (slice_get (y ∷ ys) k ≡ Some x)) → ((k : ℕ) × (slice_get (x ∷ xs) k ≡ Some y)) → x ≡ y
+      first_same (zero, e) b = sym (same_Some y x e)
+      first_same (suc k, e) (zero, e') = same_Some x y e'
+      first_same (suc k, e) (suc j, e') = absurd (not_both y x (q 0 (suc k) y x (omega arith) refl e) (p 0 (suc j) x y (omega arith) refl e'))
 
-inputs_in_order : (source : List RawStatement) (inputs : List (List ℕ)) → AreInputs source inputs → InOrder source inputs
-inputs_in_order source inputs ins h i m n lt at at' = (((ins.each n).0 (Contains-from_get inputs i n at')).0, λ q uses. ins.in_order h i q m n lt at at' uses)
+  in_order : (names : List (List ℕ)) → AreFirstGiven Gives os names → InOrder names
+  in_order names first h i m n lt at at' = ((first.each n).0 (Contains-from_get names i n at'), λ q given. first.in_order h i q m n lt at at' given)
 
-pub one_inputs : (source : List RawStatement) (a b : List (List ℕ)) → AreInputs source a → AreInputs source b → a ≡ b
-one_inputs source a b p q =
-    same_lists source a b (inputs_in_order source a p) (inputs_in_order source b q) (λ x among. (q.each x).1 ((p.each x).0 among)) (λ x among. (p.each x).1 ((q.each x).0 among))
+  one_given : (a b : List (List ℕ)) → AreFirstGiven Gives os a → AreFirstGiven Gives os b → a ≡ b
+  one_given a b p q = same_lists a b (in_order a p) (in_order b q) (λ x among. (q.each x).1 ((p.each x).0 among)) (λ x among. (p.each x).1 ((q.each x).0 among))
+
+one_names : (source : List RawStatement) (a b : Names) → AreNames source a → AreNames source b → a ≡ b
+one_names source a b p q =
+    let inputs = one_given (GivesInput source) _ a.inputs b.inputs p.inputs q.inputs in
+    let constants = one_given GivesConstant _ a.constants b.constants p.constants q.constants in
+    let same : ◌≡◌ {A = Names} (record { inputs = a.inputs; constants = a.constants }) (record { inputs = b.inputs; constants = b.constants }) = cc in
+    same
 
 -- ---- what is meant, but for classes
 
@@ -86,92 +111,238 @@ one_inputs source a b p q =
 abbrev at_class : Operand → ℕ → Operand
 at_class a n = record a { class = n }
 
--- no statement of these uses the root
-abbrev Rootless : RawRule → List RawStatement → Type 0
-Rootless raw ws = (k : ℕ) (w : RawStatement) (name : List ℕ) → slice_get ws k ≡ Some w → Uses w.op name → ¬ IsRoot raw.source name
+-- no register that an argument, or a node, names is the root
+abbrev Rootless : RawRule → RawArgument → Type 0
+Rootless raw w = (name : List ℕ) → w ≡ raw_arguments.Register name → ¬ IsRoot raw.source name
 
-module _ (raw : RawRule) (inputs : List (List ℕ)) (plain : IsPlain raw) (ins : AreInputs raw.source inputs) where
-  one_argument : (w : RawArgument) (a b : Argument) → ((name : List ℕ) → w ≡ raw_arguments.Register name → ¬ IsRoot raw.source name) → ArgumentMeans raw inputs w a → ArgumentMeans raw inputs w b → a ≡ b
-  one_argument (raw_arguments.Register name) (arguments.Register r) (arguments.Register s) free p q = ap (λ x. arguments.Register x) (one_register raw inputs plain ins r s name (free name refl) p q)
-  one_argument (raw_arguments.Literal z) (arguments.Literal x) (arguments.Literal y) free p q = ap (λ n. arguments.Literal n) (p ∙ sym q)
-  one_argument (raw_arguments.Truth b) (arguments.Truth x) (arguments.Truth y) free p q = ap (λ n. arguments.Truth n) (p ∙ sym q)
-  one_argument (raw_arguments.Register name) (arguments.Register r) b free p q = absurd q
-  one_argument (raw_arguments.Literal z) (arguments.Literal x) b free p q = absurd q
-  one_argument (raw_arguments.Truth b) (arguments.Truth x) c free p q = absurd q
-  one_argument w a b free p q = absurd p
+abbrev NodeRootless : RawRule → RawNode → Type 0
+NodeRootless raw w = (name : List ℕ) → (w ≡ raw_nodes.Register name) ⊎ (w ≡ raw_nodes.Width name) → ¬ IsRoot raw.source name
 
-  -- the operand whose argument stands at place q of what the operation reads
-  one_operand : (n : ℕ) (op : RawOp) (q : ℕ) (w : RawOperand) (a b : Operand) → ((name : List ℕ) → Uses op name → ¬ IsRoot raw.source name) → slice_get (arguments_of op) q ≡ Some w.value → OperandMeans raw inputs w a → OperandMeans raw inputs w b → at_class a n ≡ at_class b n
-  one_operand n op q w a b free at means means' =
-      let value : a.value ≡ b.value = one_argument w.value a.value b.value (λ name e. free name (Contains-from_get (arguments_of op) q (raw_arguments.Register name) (at ∙ ap (λ v. Some v) e))) means.1 means'.1 in
+module _ (raw : RawRule) (names : Names) (plain : IsPlain raw) (are : AreNames raw.source names) where
+  one_argument : (u : Counts) (w : RawArgument) (a b : Argument) → Rootless raw w → ArgumentMeans raw names u w a → ArgumentMeans raw names u w b → a ≡ b
+  one_argument u (raw_arguments.Register name) (arguments.Register r) (arguments.Register s) free p q = ap (λ x. arguments.Register x) (one_register raw names plain are r s name (free name refl) p q)
+  one_argument u (raw_arguments.Literal z) (arguments.Literal x) (arguments.Literal y) free p q = ap (λ n. arguments.Literal n) (p ∙ sym q)
+  one_argument u (raw_arguments.Truth b) (arguments.Truth x) (arguments.Truth y) free p q = ap (λ n. arguments.Truth n) (p ∙ sym q)
+  one_argument u (raw_arguments.Constant name) (arguments.Constant j) (arguments.Constant k) free p q = ap (λ n. arguments.Constant n) (are.constants.once j k name p q)
+  one_argument u raw_arguments.Undef (arguments.Undef j) (arguments.Undef k) free p q = ap (λ n. arguments.Undef n) (p ∙ sym q)
+  one_argument u (raw_arguments.Term t) (arguments.Term j) (arguments.Term k) free p q = ap (λ n. arguments.Term n) (let e : j ≡ k = omega (arith, p, q) in e)
+  one_argument u (raw_arguments.Register name) (arguments.Register r) b free p q = absurd q
+  one_argument u (raw_arguments.Literal z) (arguments.Literal x) b free p q = absurd q
+  one_argument u (raw_arguments.Truth b) (arguments.Truth x) c free p q = absurd q
+  one_argument u (raw_arguments.Constant name) (arguments.Constant j) b free p q = absurd q
+  one_argument u raw_arguments.Undef (arguments.Undef j) b free p q = absurd q
+  one_argument u (raw_arguments.Term t) (arguments.Term j) b free p q = absurd q
+  one_argument u w a b free p q = absurd p
+
+  one_operand : (n : ℕ) (u : Counts) (w : RawOperand) (a b : Operand) → Rootless raw w.value → OperandMeans raw names u w a → OperandMeans raw names u w b → at_class a n ≡ at_class b n
+  one_operand n u w a b free means means' =
+      let value : a.value ≡ b.value = one_argument u w.value a.value b.value free means.1 means'.1 in
       let type : a.written ≡ b.written = means.0 ∙ sym means'.0 in
       cc
 
-  one_op : (n : ℕ) (w : RawOp) (p q : Op) → ((name : List ℕ) → Uses w name → ¬ IsRoot raw.source name) → OpMeans raw inputs w p → OpMeans raw inputs w q → (numbered_op n p ≡ numbered_op n q) × (length (operands_meant p) ≡ length (operands_meant q))
-  one_op n (raw_ops.Binary op flags a b) (ops.Binary o f x y) (ops.Binary o' f' x' y') free p q =
-      let lefts = one_operand n (raw_ops.Binary op flags a b) 0 a x x' free refl p.2 q.2 in
-      let rights = one_operand (n + 1) (raw_ops.Binary op flags a b) 1 b y y' free refl p.3 q.3 in
+  one_op : (n : ℕ) (u : Counts) (w : RawOp) (p q : Op) → Each (Rootless raw) (arguments_of w) → OpMeans raw names u w p → OpMeans raw names u w q → (numbered_op n p ≡ numbered_op n q) × (length (operands_meant p) ≡ length (operands_meant q))
+  one_op n u (raw_ops.Binary op flags a b) (ops.Binary o f x y) (ops.Binary o' f' x' y') free p q =
+      let lefts = one_operand n u a x x' free.0 p.2 q.2 in
+      let rights = one_operand (n + 1) (past u a.value) b y y' free.1.0 p.3 q.3 in
       let opcodes : o ≡ o' = p.0 ∙ sym q.0 in
       let same_flags : f ≡ f' = p.1 ∙ sym q.1 in
       (cc, refl)
-  one_op n (raw_ops.Compare pred a b) (ops.Compare o x y) (ops.Compare o' x' y') free p q =
-      let lefts = one_operand n (raw_ops.Compare pred a b) 0 a x x' free refl p.1 q.1 in
-      let rights = one_operand (n + 1) (raw_ops.Compare pred a b) 1 b y y' free refl p.2 q.2 in
+  one_op n u (raw_ops.Compare pred a b) (ops.Compare o x y) (ops.Compare o' x' y') free p q =
+      let lefts = one_operand n u a x x' free.0 p.1 q.1 in
+      let rights = one_operand (n + 1) (past u a.value) b y y' free.1.0 p.2 q.2 in
       let predicates : o ≡ o' = p.0 ∙ sym q.0 in
       (cc, refl)
-  one_op n (raw_ops.Select c a b) (ops.Select z x y) (ops.Select z' x' y') free p q =
-      let conditions = one_operand n (raw_ops.Select c a b) 0 c z z' free refl p.0 q.0 in
-      let arms = one_operand (n + 1) (raw_ops.Select c a b) 1 a x x' free refl p.1 q.1 in
-      let others = one_operand (n + 2) (raw_ops.Select c a b) 2 b y y' free refl p.2 q.2 in
+  one_op n u (raw_ops.Select c a b) (ops.Select z x y) (ops.Select z' x' y') free p q =
+      let conditions = one_operand n u c z z' free.0 p.0 q.0 in
+      let arms = one_operand (n + 1) (past u c.value) a x x' free.1.0 p.1 q.1 in
+      let others = one_operand (n + 2) (past (past u c.value) a.value) b y y' free.1.1.0 p.2 q.2 in
       (cc, refl)
-  one_op n (raw_ops.Convert cast a to) (ops.Convert o x t) (ops.Convert o' x' t') free p q =
-      let operands = one_operand n (raw_ops.Convert cast a to) 0 a x x' free refl p.1 q.1 in
+  one_op n u (raw_ops.Convert cast a to) (ops.Convert o x t) (ops.Convert o' x' t') free p q =
+      let operands = one_operand n u a x x' free.0 p.1 q.1 in
       let casts : o ≡ o' = p.0 ∙ sym q.0 in
       let types : t ≡ t' = p.2 ∙ sym q.2 in
       (cc, refl)
-  one_op n (raw_ops.Copy a) (ops.Copy x) (ops.Copy x') free p q = (ap (λ z. ops.Copy z) (one_operand n (raw_ops.Copy a) 0 a x x' free refl p q), refl)
-  one_op n (raw_ops.Binary op flags a b) (ops.Binary o f x y) q' free p q = absurd q
-  one_op n (raw_ops.Compare pred a b) (ops.Compare o x y) q' free p q = absurd q
-  one_op n (raw_ops.Select c a b) (ops.Select z x y) q' free p q = absurd q
-  one_op n (raw_ops.Convert cast a to) (ops.Convert o x t) q' free p q = absurd q
-  one_op n (raw_ops.Copy a) (ops.Copy x) q' free p q = absurd q
-  one_op n w p' q' free p q = absurd p
+  one_op n u (raw_ops.Copy a) (ops.Copy x) (ops.Copy x') free p q = (ap (λ z. ops.Copy z) (one_operand n u a x x' free.0 p q), refl)
+  one_op n u (raw_ops.Binary op flags a b) (ops.Binary o f x y) q' free p q = absurd q
+  one_op n u (raw_ops.Compare pred a b) (ops.Compare o x y) q' free p q = absurd q
+  one_op n u (raw_ops.Select c a b) (ops.Select z x y) q' free p q = absurd q
+  one_op n u (raw_ops.Convert cast a to) (ops.Convert o x t) q' free p q = absurd q
+  one_op n u (raw_ops.Copy a) (ops.Copy x) q' free p q = absurd q
+  one_op n u w p' q' free p q = absurd p
 
-  one_list : (n : ℕ) (ws : List RawStatement) (ss ts : List Statement) → Rootless raw ws → AllZip (StatementMeans raw inputs) ws ss → AllZip (StatementMeans raw inputs) ws ts
+  abbrev From : Counts → List RawStatement → List Statement → Type 0
+  From u ws ss = AllZip (λ w s. StatementMeans raw names w.0 w.1 s) (with_counts u ws) ss
+
+  one_list : (n : ℕ) (u : Counts) (ws : List RawStatement) (ss ts : List Statement) → ((k : ℕ) (w : RawStatement) → slice_get ws k ≡ Some w → Each (Rootless raw) (arguments_of w.op)) → From u ws ss → From u ws ts
       → (numbered_statements n ss ≡ numbered_statements n ts) × (length (flat_map classes_of_statement ss) ≡ length (flat_map classes_of_statement ts))
-  one_list n [] [] [] free p q = (refl, refl)
-  one_list n [] [] (t ∷ ts) free p q = absurd q
-  one_list n [] (s ∷ ss) ts free p q = absurd p
-  one_list n (w ∷ ws) [] ts free p q = absurd p
-  one_list n (w ∷ ws) (s ∷ ss) [] free p q = absurd q
-  one_list n (w ∷ ws) (s ∷ ss) (t ∷ ts) free p q =
-      let (op, many) = one_op (n + 1) w.op s.op t.op (λ name uses. free 0 w name refl uses) p.0.1 q.0.1 in
+  one_list n u [] [] [] free p q = (refl, refl)
+  one_list n u [] [] (t ∷ ts) free p q = absurd q
+  one_list n u [] (s ∷ ss) ts free p q = absurd p
+  one_list n u (w ∷ ws) [] ts free p q = absurd p
+  one_list n u (w ∷ ws) (s ∷ ss) [] free p q = absurd q
+  one_list n u (w ∷ ws) (s ∷ ss) (t ∷ ts) free p q =
+      let (op, many) = one_op (n + 1) u w.op s.op t.op (free 0 w refl) p.0.1 q.0.1 in
       let name : s.name ≡ t.name = p.0.0 ∙ sym q.0.0 in
       let long : length (classes_of_statement s) ≡ length (classes_of_statement t) = simp length-map (ap suc many) in
-      let (rest, rest_long) = one_list (n + length (classes_of_statement s)) ws ss ts (λ k v name at uses. free (suc k) v name at uses) p.1 q.1 in
+      let (rest, rest_long) = one_list (n + length (classes_of_statement s)) (past_all u (arguments_of w.op)) ws ss ts (λ k v at. free (suc k) v at) p.1 q.1 in
       let rest' : numbered_statements (n + length (classes_of_statement s)) ss ≡ numbered_statements (n + length (classes_of_statement t)) ts = rest ∙ ap (λ m. numbered_statements (n + m) ts) long in
       let first : numbered_statement n s ≡ numbered_statement n t = cc in
       (cc, length-append (classes_of_statement s) (flat_map classes_of_statement ss) ∙ ap (λ m. m + length (flat_map classes_of_statement ss)) long ∙ ap (λ m. length (classes_of_statement t) + m) rest_long ∙ sym (length-append (classes_of_statement t) (flat_map classes_of_statement ts)))
 
-source_rootless : (raw : RawRule) (inputs : List (List ℕ)) → IsBound raw → AreInputs raw.source inputs → Rootless raw raw.source
-source_rootless raw inputs bound ins k w name at uses root =
-    bound.source_bound w.line (k, w, at, (name, uses, λ may. not_root_in_source raw inputs bound.plain ins k name (slice_get_within raw.source k w at) may root), refl)
+  -- ---- terms
 
-target_rootless : (raw : RawRule) → IsBound raw → Rootless raw raw.target
-target_rootless raw bound k w name at uses root = bound.target_bound w.line (k, w, at, (name, uses, λ may. may.0 root), refl)
+  one_node : (n b : ℕ) (w : RawNode) (x y : Node) → NodeRootless raw w → NodeMeans raw names b w x → NodeMeans raw names b w y → (numbered_node n x ≡ numbered_node n y) × (length (classes_of_node 0 x) ≡ length (classes_of_node 0 y))
+  one_node n b (raw_nodes.Literal z) (nodes.Literal x) (nodes.Literal y) free p q = (ap (λ m. nodes.Literal m) (p ∙ sym q), refl)
+  one_node n b (raw_nodes.Constant name) (nodes.Constant j) (nodes.Constant k) free p q = (ap (λ m. nodes.Constant m) (are.constants.once j k name p q), refl)
+  one_node n b (raw_nodes.Register name) (nodes.Register r) (nodes.Register s) free p q = (ap (λ m. nodes.Register m) (one_register raw names plain are r s name (free name (inl refl)) p q), refl)
+  one_node n b (raw_nodes.Undef i) (nodes.Undef j) (nodes.Undef k) free p q = (ap (λ m. nodes.Undef m) (p ∙ sym q), refl)
+  one_node n b (raw_nodes.Width name) (nodes.Width r c) (nodes.Width s d) free p q = (ap (λ m. nodes.Width m n) (one_register raw names plain are r s name (free name (inr refl)) p q), refl)
+  one_node n b (raw_nodes.Unary f a) (nodes.Unary g x) (nodes.Unary h y) free p q = let e : g ≡ h = p.0 ∙ sym q.0 in let e' : x ≡ y = p.1 ∙ sym q.1 in (cc, refl)
+  one_node n b (raw_nodes.Binary op a c) (nodes.Binary g x y) (nodes.Binary h x' y') free p q =
+      let e : g ≡ h = p.0 ∙ sym q.0 in
+      let e' : x ≡ x' = p.1 ∙ sym q.1 in
+      let e'' : y ≡ y' = p.2 ∙ sym q.2 in
+      (cc, refl)
+  one_node n b (raw_nodes.Literal z) (nodes.Literal x) y free p q = absurd q
+  one_node n b (raw_nodes.Constant name) (nodes.Constant j) y free p q = absurd q
+  one_node n b (raw_nodes.Register name) (nodes.Register r) y free p q = absurd q
+  one_node n b (raw_nodes.Undef i) (nodes.Undef j) y free p q = absurd q
+  one_node n b (raw_nodes.Width name) (nodes.Width r c) y free p q = absurd q
+  one_node n b (raw_nodes.Unary f a) (nodes.Unary g x) y free p q = absurd q
+  one_node n b (raw_nodes.Binary op a c) (nodes.Binary g x y) z free p q = absurd q
+  one_node n b w x y free p q = absurd p
+
+  any_class : (c d : ℕ) (x : Node) → length (classes_of_node c x) ≡ length (classes_of_node d x)
+  any_class c d (nodes.Literal z) = refl
+  any_class c d (nodes.Constant k) = refl
+  any_class c d (nodes.Register r) = refl
+  any_class c d (nodes.Undef k) = refl
+  any_class c d (nodes.Width r e) = refl
+  any_class c d (nodes.Unary f a) = refl
+  any_class c d (nodes.Binary op a b) = refl
+
+  one_terms : (n : ℕ) (ws : List (ℕ × RawNode)) (ss ts : List Term) → ((k : ℕ) (w : ℕ × RawNode) → slice_get ws k ≡ Some w → NodeRootless raw w.1) → AllZip (λ w t. NodeMeans raw names w.0 w.1 t.node) ws ss → AllZip (λ w t. NodeMeans raw names w.0 w.1 t.node) ws ts
+      → (numbered_terms n ss ≡ numbered_terms n ts) × (length (flat_map classes_of_term ss) ≡ length (flat_map classes_of_term ts))
+  one_terms n [] [] [] free p q = (refl, refl)
+  one_terms n [] [] (t ∷ ts) free p q = absurd q
+  one_terms n [] (s ∷ ss) ts free p q = absurd p
+  one_terms n (w ∷ ws) [] ts free p q = absurd p
+  one_terms n (w ∷ ws) (s ∷ ss) [] free p q = absurd q
+  one_terms n (w ∷ ws) (s ∷ ss) (t ∷ ts) free p q =
+      let (node, many) = one_node (n + 1) w.0 w.1 s.node t.node (free 0 w refl) p.0 q.0 in
+      let long : length (classes_of_term s) ≡ length (classes_of_term t) = any_class s.class 0 s.node ∙ many ∙ any_class 0 t.class t.node in
+      let (rest, rest_long) = one_terms (n + length (classes_of_term s)) ws ss ts (λ k v at. free (suc k) v at) p.1 q.1 in
+      let rest' : numbered_terms (n + length (classes_of_term s)) ss ≡ numbered_terms (n + length (classes_of_term t)) ts = rest ∙ ap (λ m. numbered_terms (n + m) ts) long in
+      let first : numbered_term n s ≡ numbered_term n t = cc in
+      (cc, length-append (classes_of_term s) (flat_map classes_of_term ss) ∙ ap (λ m. m + length (flat_map classes_of_term ss)) long ∙ ap (λ m. length (classes_of_term t) + m) rest_long ∙ sym (length-append (classes_of_term t) (flat_map classes_of_term ts)))
+
+  one_formula : (b : ℕ) (w : RawFormula) (f g : Formula) → FormulaMeans raw names b w f → FormulaMeans raw names b w g → f ≡ g
+  one_formula b (raw_formulas.Compare pred u v) (formulas.Compare o x y) (formulas.Compare o' x' y') p q =
+      let e : o ≡ o' = p.0 ∙ sym q.0 in
+      let e' : x ≡ x' = omega (arith, p.1, q.1) in
+      let e'' : y ≡ y' = omega (arith, p.2, q.2) in
+      cc
+  one_formula b (raw_formulas.IsPowerOfTwo u) (formulas.IsPowerOfTwo x) (formulas.IsPowerOfTwo y) p q = ap (λ m. formulas.IsPowerOfTwo m) (let e : x ≡ y = omega (arith, p, q) in e)
+  one_formula b (raw_formulas.IsSignBit u) (formulas.IsSignBit x) (formulas.IsSignBit y) p q = ap (λ m. formulas.IsSignBit m) (let e : x ≡ y = omega (arith, p, q) in e)
+  one_formula b (raw_formulas.HasOneUse name) (formulas.HasOneUse j) (formulas.HasOneUse k) p q = ap (λ m. formulas.HasOneUse m) (one_place raw.source plain.source_once j k name p q)
+  one_formula b (raw_formulas.Not a) (formulas.Not x) (formulas.Not y) p q = ap (λ m. formulas.Not m) (p ∙ sym q)
+  one_formula b (raw_formulas.And a c) (formulas.And x y) (formulas.And x' y') p q = let e : x ≡ x' = p.0 ∙ sym q.0 in let e' : y ≡ y' = p.1 ∙ sym q.1 in cc
+  one_formula b (raw_formulas.Or a c) (formulas.Or x y) (formulas.Or x' y') p q = let e : x ≡ x' = p.0 ∙ sym q.0 in let e' : y ≡ y' = p.1 ∙ sym q.1 in cc
+  one_formula b (raw_formulas.Compare pred u v) (formulas.Compare o x y) g p q = absurd q
+  one_formula b (raw_formulas.IsPowerOfTwo u) (formulas.IsPowerOfTwo x) g p q = absurd q
+  one_formula b (raw_formulas.IsSignBit u) (formulas.IsSignBit x) g p q = absurd q
+  one_formula b (raw_formulas.HasOneUse name) (formulas.HasOneUse j) g p q = absurd q
+  one_formula b (raw_formulas.Not a) (formulas.Not x) g p q = absurd q
+  one_formula b (raw_formulas.And a c) (formulas.And x y) g p q = absurd q
+  one_formula b (raw_formulas.Or a c) (formulas.Or x y) g p q = absurd q
+  one_formula b w f g p q = absurd p
+
+  one_precondition : (n : ℕ) (ws : List RawFormula) (fs gs : List Formula) → AllZip (λ w f. FormulaMeans raw names w.0 w.1 f) (with_terms n ws) fs → AllZip (λ w f. FormulaMeans raw names w.0 w.1 f) (with_terms n ws) gs → fs ≡ gs
+  one_precondition n [] [] [] p q = refl
+  one_precondition n [] [] (g ∷ gs) p q = absurd q
+  one_precondition n [] (f ∷ fs) gs p q = absurd p
+  one_precondition n (w ∷ ws) [] gs p q = absurd p
+  one_precondition n (w ∷ ws) (f ∷ fs) [] p q = absurd q
+  one_precondition n (w ∷ ws) (f ∷ fs) (g ∷ gs) p q =
+      let first : f ≡ g = one_formula n w f g p.0 q.0 in
+      let rest : fs ≡ gs = one_precondition (n + nodes_in (terms_of_formula w)) ws fs gs p.1 q.1 in
+      cc
+
+-- ---- what is bound is not the root
+
+rootless : (raw : RawRule) (place : Place) (w : RawArgument) → ((name : List ℕ) → MayUse raw place name → ¬ IsRoot raw.source name) → ArgumentIsBound raw place w → Rootless raw w
+rootless raw place (raw_arguments.Register other) free bound name e root = let same : other ≡ name = cc in free other bound (subst (IsRoot raw.source) (sym same) root)
+rootless raw place (raw_arguments.Literal z) free bound name e root = cc
+rootless raw place (raw_arguments.Truth b) free bound name e root = cc
+rootless raw place (raw_arguments.Constant other) free bound name e root = cc
+rootless raw place raw_arguments.Undef free bound name e root = cc
+rootless raw place (raw_arguments.Term t) free bound name e root = cc
+
+all_rootless : (raw : RawRule) (place : Place) (ws : List RawArgument) → ((name : List ℕ) → MayUse raw place name → ¬ IsRoot raw.source name) → Each (ArgumentIsBound raw place) ws → Each (Rootless raw) ws
+all_rootless raw place [] free bound = tt
+all_rootless raw place (w ∷ ws) free bound = (rootless raw place w free bound.0, all_rootless raw place ws free bound.1)
+
+node_rootless : (raw : RawRule) (place : Place) (w : RawNode) → ((name : List ℕ) → MayUse raw place name → ¬ IsRoot raw.source name) → NodeIsBound raw place w → NodeRootless raw w
+node_rootless raw place (raw_nodes.Register other) free bound name e root = elim e [
+  | inl same ↦ let is : other ≡ name = cc in free other bound (subst (IsRoot raw.source) (sym is) root)
+  | inr other ↦ cc
+]
+node_rootless raw place (raw_nodes.Width other) free bound name e root = elim e [
+  | inl other ↦ cc
+  | inr same ↦ let is : other ≡ name = cc in free other bound (subst (IsRoot raw.source) (sym is) root)
+]
+node_rootless raw place (raw_nodes.Literal z) free bound name e root = elim e [ inl same ↦ cc | inr same ↦ cc ]
+node_rootless raw place (raw_nodes.Constant other) free bound name e root = elim e [ inl same ↦ cc | inr same ↦ cc ]
+node_rootless raw place (raw_nodes.Undef k) free bound name e root = elim e [ inl same ↦ cc | inr same ↦ cc ]
+node_rootless raw place (raw_nodes.Unary f a) free bound name e root = elim e [ inl same ↦ cc | inr same ↦ cc ]
+node_rootless raw place (raw_nodes.Binary op a b) free bound name e root = elim e [ inl same ↦ cc | inr same ↦ cc ]
+
+module _ (raw : RawRule) (names : Names) (bound : IsBound raw) (are : AreNames raw.source names) where
+  free_in_source : (k : ℕ) (w : RawStatement) → slice_get raw.source k ≡ Some w → Each (Rootless raw) (arguments_of w.op)
+  free_in_source k w at = all_rootless raw (places.Source k) (arguments_of w.op) (λ name may. not_root_in_source raw names bound.plain are k name (slice_get_within raw.source k w at) may) (bound.there.source k w at)
+
+  free_in_target : (k : ℕ) (w : RawStatement) → slice_get raw.target k ≡ Some w → Each (Rootless raw) (arguments_of w.op)
+  free_in_target k w at = all_rootless raw (places.Target k) (arguments_of w.op) (λ name may. may.0) (bound.there.target k w at)
+
+  free_before : (w : RawNode) → NodeIsBound raw places.Heading w → NodeRootless raw w
+  free_before w named = node_rootless raw places.Heading w (λ name may. not_root_before raw names bound.plain are name may) named
+
+  free_in_terms : (q : ℕ) (w : ℕ × RawNode) → slice_get (with_nodes 0 (terms_of raw)) q ≡ Some w → NodeRootless raw w.1
+  free_in_terms q w at =
+      let (t, among, (k, spot, sum)) = node_at 0 (terms_of raw) q w at in
+      elim (term_there raw bound.there t w.1 among (Contains-from_get t k w.1 spot)) [
+        | inl (j, lt, named) ↦ node_rootless raw (places.Target j) w.1 (λ name may. may.0) named
+        | inr named ↦ free_before w.1 named
+      ]
+
+  free_in_witness : (q : ℕ) (w : ℕ × RawNode) → slice_get (with_nodes 0 (expressions_of raw)) q ≡ Some w → NodeRootless raw w.1
+  free_in_witness q w at =
+      let (t, among, (k, spot, sum)) = node_at 0 (expressions_of raw) q w at in
+      free_before w.1 (each_in (NodeIsBound raw places.Heading) t w.1 (each_in (TermIsBound raw places.Heading) (expressions_of raw) t bound.there.witness among) (Contains-from_get t k w.1 spot))
 
 -- two rules that are meant differ in their classes alone
 pub one_meaning : (raw : RawRule) (rule other : Rule) → IsBound raw → Means raw rule → Means raw other → numbered rule ≡ numbered other
 one_meaning raw rule other bound p q =
-    let inputs : rule.inputs ≡ other.inputs = one_inputs raw.source rule.inputs other.inputs p.inputs q.inputs in
-    let q_source = subst (λ i. AllZip (StatementMeans raw i) raw.source other.source) (sym inputs) q.source in
-    let q_target = subst (λ i. AllZip (StatementMeans raw i) raw.target other.target) (sym inputs) q.target in
-    let (sources, long) = one_list raw rule.inputs bound.plain p.inputs 0 raw.source rule.source other.source (source_rootless raw rule.inputs bound p.inputs) p.source q_source in
-    let (targets, _) = one_list raw rule.inputs bound.plain p.inputs (length (flat_map classes_of_statement rule.source)) raw.target rule.target other.target (target_rootless raw bound) p.target q_target in
-    let targets' : numbered_statements (length (flat_map classes_of_statement rule.source)) rule.target ≡ numbered_statements (length (flat_map classes_of_statement other.source)) other.target
-    = targets ∙ ap (λ m. numbered_statements m other.target) long in
+    let own = names_of_rule rule in
+    let same : names_of_rule rule ≡ names_of_rule other = one_names raw.source (names_of_rule rule) (names_of_rule other) p.names q.names in
+    let inputs : rule.inputs ≡ other.inputs = ap (λ (n : Names). n.inputs) same in
+    let constants : rule.constants ≡ other.constants = ap (λ (n : Names). n.constants) same in
+    let q_source = subst (λ i. HalfMeans raw i raw.source other.source) (sym same) q.source in
+    let q_target = subst (λ i. HalfMeans raw i raw.target other.target) (sym same) q.target in
+    let q_terms = subst (λ i. TermsMean raw i (terms_of raw) other.terms) (sym same) q.terms in
+    let q_witness = subst (λ i. TermsMean raw i (expressions_of raw) other.witness_terms) (sym same) q.witness_terms in
+    let q_formula = subst (λ i. PreconditionMeans raw i (formula_of raw) other.precondition) (sym same) q.precondition in
+    let (sources, long) = one_list raw own bound.plain p.names 0 no_counts raw.source rule.source other.source (free_in_source raw own bound p.names) p.source q_source in
+    let (targets, longer) = one_list raw own bound.plain p.names (length (flat_map classes_of_statement rule.source)) no_counts raw.target rule.target other.target (free_in_target raw own bound p.names) p.target q_target in
+    let (terms, longest) = one_terms raw own bound.plain p.names (length (flat_map classes_of_statement rule.source) + length (flat_map classes_of_statement rule.target)) (with_nodes 0 (terms_of raw)) rule.terms other.terms (free_in_terms raw own bound p.names) p.terms q_terms in
+    let (witness, _) = one_terms raw own bound.plain p.names (length (flat_map classes_of_statement rule.source) + length (flat_map classes_of_statement rule.target) + length (flat_map classes_of_term rule.terms)) (with_nodes 0 (expressions_of raw)) rule.witness_terms other.witness_terms
+    (free_in_witness raw own bound p.names) p.witness_terms q_witness in
+    let formula : rule.precondition ≡ other.precondition = one_precondition raw own bound.plain p.names (nodes_in (target_terms raw)) (formula_of raw) rule.precondition other.precondition p.precondition q_formula in
     let names : rule.name ≡ other.name = p.name ∙ sym q.name in
-    let constants : rule.constants ≡ other.constants = p.constants ∙ sym q.constants in
+    let witnesses : rule.witnesses ≡ other.witnesses = p.witnesses ∙ sym q.witnesses in
+    let first : length (flat_map classes_of_statement rule.source) ≡ length (flat_map classes_of_statement other.source) = long in
+    let second : length (flat_map classes_of_statement rule.target) ≡ length (flat_map classes_of_statement other.target) = longer in
+    let third : length (flat_map classes_of_term rule.terms) ≡ length (flat_map classes_of_term other.terms) = longest in
     cc
 
 -- ---- classes
@@ -284,30 +455,101 @@ as_many m n (s ∷ ss) (t ∷ ts) e =
     length-append (classes_of_statement s) (flat_map classes_of_statement ss) ∙ ap (λ k. suc k + length (flat_map classes_of_statement ss)) own ∙ ap (λ k. length (classes_of_statement t) + k) rest
     ∙ sym (length-append (classes_of_statement t) (flat_map classes_of_statement ts))
 
-both_classes : (rule : Rule) → classes_of rule ≡ flat_map classes_of_statement rule.source ++ flat_map classes_of_statement rule.target
-both_classes rule = flat_map-append classes_of_statement rule.source rule.target
+node_same : (m n c d : ℕ) (x y : Node) (xs ys : List ℕ) → numbered_node m x ≡ numbered_node n y → classes_of_node c x ++ xs ≡ classes_of_node d y ++ ys → (c ≡ d) × (x ≡ y) × (xs ≡ ys)
+node_same m n c d (nodes.Literal z) (nodes.Literal z') xs ys e classes = (cc, e, cc)
+node_same m n c d (nodes.Constant k) (nodes.Constant k') xs ys e classes = (cc, e, cc)
+node_same m n c d (nodes.Register r) (nodes.Register r') xs ys e classes = (cc, e, cc)
+node_same m n c d (nodes.Undef k) (nodes.Undef k') xs ys e classes = (cc, e, cc)
+node_same m n c d (nodes.Width r i) (nodes.Width r' j) xs ys e classes = let same : r ≡ r' = cc in let class : i ≡ j = cc in (cc, cc, cc)
+node_same m n c d (nodes.Unary f x) (nodes.Unary f' x') xs ys e classes = (cc, e, cc)
+node_same m n c d (nodes.Binary op x y) (nodes.Binary op' x' y') xs ys e classes = (cc, e, cc)
+node_same m n c d x y xs ys e classes = absurd (cc)
+
+term_same : (m n : ℕ) (s t : Term) (xs ys : List ℕ) → numbered_term m s ≡ numbered_term n t → classes_of_term s ++ xs ≡ classes_of_term t ++ ys → (s ≡ t) × (xs ≡ ys)
+term_same m n s t xs ys e classes =
+    let (class, node, rest) = node_same (m + 1) (n + 1) s.class t.class s.node t.node xs ys (ap (λ (z : Term). z.node) e) classes in
+    let same : ◌≡◌ {A = Term} (record { class = s.class; node = s.node }) (record { class = t.class; node = t.node }) = cc in
+    (same, rest)
+
+terms_same : (m n : ℕ) (ss ts : List Term) (xs ys : List ℕ) → numbered_terms m ss ≡ numbered_terms n ts → flat_map classes_of_term ss ++ xs ≡ flat_map classes_of_term ts ++ ys → (ss ≡ ts) × (xs ≡ ys)
+terms_same m n [] [] xs ys e classes = (refl, classes)
+terms_same m n [] (t ∷ ts) xs ys e classes = absurd (cc)
+terms_same m n (s ∷ ss) [] xs ys e classes = absurd (cc)
+terms_same m n (s ∷ ss) (t ∷ ts) xs ys e classes =
+    let first : numbered_term m s ≡ numbered_term n t = cc in
+    let later : numbered_terms (m + length (classes_of_term s)) ss ≡ numbered_terms (n + length (classes_of_term t)) ts = cc in
+    let all : classes_of_term s ++ (flat_map classes_of_term ss ++ xs) ≡ classes_of_term t ++ (flat_map classes_of_term ts ++ ys)
+    = sym (append_assoc (classes_of_term s) (flat_map classes_of_term ss) xs) ∙ classes ∙ append_assoc (classes_of_term t) (flat_map classes_of_term ts) ys in
+    let (own, rest) = term_same m n s t (flat_map classes_of_term ss ++ xs) (flat_map classes_of_term ts ++ ys) first all in
+    let (others, left) = terms_same (m + length (classes_of_term s)) (n + length (classes_of_term t)) ss ts xs ys later rest in
+    (cc, left)
+
+node_long : (m n c d : ℕ) (x y : Node) → numbered_node m x ≡ numbered_node n y → length (classes_of_node c x) ≡ length (classes_of_node d y)
+node_long m n c d (nodes.Literal z) (nodes.Literal z') e = refl
+node_long m n c d (nodes.Constant k) (nodes.Constant k') e = refl
+node_long m n c d (nodes.Register r) (nodes.Register r') e = refl
+node_long m n c d (nodes.Undef k) (nodes.Undef k') e = refl
+node_long m n c d (nodes.Width r i) (nodes.Width r' j) e = refl
+node_long m n c d (nodes.Unary f x) (nodes.Unary f' x') e = refl
+node_long m n c d (nodes.Binary op x y) (nodes.Binary op' x' y') e = refl
+node_long m n c d x y e = absurd (cc)
+
+terms_long : (m n : ℕ) (ss ts : List Term) → numbered_terms m ss ≡ numbered_terms n ts → length (flat_map classes_of_term ss) ≡ length (flat_map classes_of_term ts)
+terms_long m n [] [] e = refl
+terms_long m n [] (t ∷ ts) e = absurd (cc)
+terms_long m n (s ∷ ss) [] e = absurd (cc)
+terms_long m n (s ∷ ss) (t ∷ ts) e =
+    let first : numbered_term m s ≡ numbered_term n t = cc in
+    let later : numbered_terms (m + length (classes_of_term s)) ss ≡ numbered_terms (n + length (classes_of_term t)) ts = cc in
+    let own = node_long (m + 1) (n + 1) s.class t.class s.node t.node (ap (λ (z : Term). z.node) first) in
+    let rest = terms_long (m + length (classes_of_term s)) (n + length (classes_of_term t)) ss ts later in
+    length-append (classes_of_term s) (flat_map classes_of_term ss) ∙ ap (λ k. k + length (flat_map classes_of_term ss)) own ∙ ap (λ k. length (classes_of_term t) + k) rest ∙ sym (length-append (classes_of_term t) (flat_map classes_of_term ts))
+
+-- the classes of a rule, part by part
+abbrev in_parts : Rule → List ℕ → List ℕ
+in_parts rule xs = flat_map classes_of_statement rule.source ++ (flat_map classes_of_statement rule.target ++ (flat_map classes_of_term rule.terms ++ (flat_map classes_of_term rule.witness_terms ++ xs)))
+
+all_parts : (rule : Rule) → classes_of rule ≡ in_parts rule []
+all_parts rule =
+    let S = flat_map classes_of_statement rule.source in
+    let T = flat_map classes_of_statement rule.target in
+    let U = flat_map classes_of_term rule.terms in
+    let V = flat_map classes_of_term rule.witness_terms in
+    let halves : flat_map classes_of_statement (rule.source ++ rule.target) ≡ S ++ T = flat_map-append classes_of_statement rule.source rule.target in
+    let terms : flat_map classes_of_term (rule.terms ++ rule.witness_terms) ≡ U ++ V = flat_map-append classes_of_term rule.terms rule.witness_terms in
+    let whole : classes_of rule ≡ (S ++ T) ++ (U ++ V) = cc in
+    whole ∙ append_assoc S T (U ++ V) ∙ ap (λ l. S ++ (T ++ (U ++ l))) (sym (append-nil V))
+
+parts_length : (rule : Rule) → length (classes_of rule) ≡ length (flat_map classes_of_statement rule.source) + (length (flat_map classes_of_statement rule.target) + (length (flat_map classes_of_term rule.terms) + length (flat_map classes_of_term rule.witness_terms)))
+parts_length rule =
+    let S = flat_map classes_of_statement rule.source in
+    let T = flat_map classes_of_statement rule.target in
+    let U = flat_map classes_of_term rule.terms in
+    let V = flat_map classes_of_term rule.witness_terms in
+    omega (arith, ap length (all_parts rule), length-append S (T ++ (U ++ (V ++ []))), length-append T (U ++ (V ++ [])), length-append U (V ++ []), ap length (append-nil V))
 
 -- a rule has its classes in one way
 pub one_classified : (rule other : Rule) → numbered rule ≡ numbered other → IsClassified rule → IsClassified other → rule ≡ other
 one_classified rule other e one two =
-    let sources : numbered_statements 0 rule.source ≡ numbered_statements 0 other.source = ap (λ (r : Rule). r.source) e in
-    let targets : numbered_statements (length (flat_map classes_of_statement rule.source)) rule.target ≡ numbered_statements (length (flat_map classes_of_statement other.source)) other.target = ap (λ (r : Rule). r.target) e in
+    let sources = ap (λ (r : Rule). r.source) e in
+    let targets = ap (λ (r : Rule). r.target) e in
+    let terms = ap (λ (r : Rule). r.terms) e in
+    let witness = ap (λ (r : Rule). r.witness_terms) e in
     let long : length (classes_of rule) ≡ length (classes_of other) =
-    ap length (both_classes rule) ∙ length-append (flat_map classes_of_statement rule.source) (flat_map classes_of_statement rule.target)
-    ∙ ap (λ k. k + length (flat_map classes_of_statement rule.target)) (as_many 0 0 rule.source other.source sources)
-    ∙ ap (λ k. length (flat_map classes_of_statement other.source) + k) (as_many _ _ rule.target other.target targets)
-    ∙ sym (ap length (both_classes other) ∙ length-append (flat_map classes_of_statement other.source) (flat_map classes_of_statement other.target)) in
+    omega (arith, parts_length rule, parts_length other, as_many _ _ rule.source other.source sources, as_many _ _ rule.target other.target targets, terms_long _ _ rule.terms other.terms terms, terms_long _ _ rule.witness_terms other.witness_terms witness) in
     let classes : classes_of rule ≡ classes_of other = lists_at (classes_of rule) (classes_of other) long (λ k c d at at'. same_number_at rule other e one two long (suc k) k c d (omega arith) at at') in
-    let parts : flat_map classes_of_statement rule.source ++ (flat_map classes_of_statement rule.target ++ []) ≡ flat_map classes_of_statement other.source ++ (flat_map classes_of_statement other.target ++ []) =
-    ap (λ l. flat_map classes_of_statement rule.source ++ l) (append-nil (flat_map classes_of_statement rule.target)) ∙ sym (both_classes rule) ∙ classes ∙ both_classes other
-    ∙ ap (λ l. flat_map classes_of_statement other.source ++ l) (sym (append-nil (flat_map classes_of_statement other.target))) in
-    let (source, behind) = same_statements 0 0 rule.source other.source (flat_map classes_of_statement rule.target ++ []) (flat_map classes_of_statement other.target ++ []) sources parts in
-    let (target, _) = same_statements _ _ rule.target other.target [] [] targets behind in
+    let parts : in_parts rule [] ≡ in_parts other [] = sym (all_parts rule) ∙ classes ∙ all_parts other in
+    let (source, behind) = same_statements _ _ rule.source other.source _ _ sources parts in
+    let (target, behind') = same_statements _ _ rule.target other.target _ _ targets behind in
+    let (constant, behind'') = terms_same _ _ rule.terms other.terms _ _ terms behind' in
+    let (choice, _) = terms_same _ _ rule.witness_terms other.witness_terms [] [] witness behind'' in
     let names : rule.name ≡ other.name = ap (λ (r : Rule). r.name) e in
     let inputs : rule.inputs ≡ other.inputs = ap (λ (r : Rule). r.inputs) e in
     let constants : rule.constants ≡ other.constants = ap (λ (r : Rule). r.constants) e in
-    let same : ◌≡◌ {A = Rule} (record { name = rule.name; inputs = rule.inputs; constants = rule.constants; source = rule.source; target = rule.target })
-    (record { name = other.name; inputs = other.inputs; constants = other.constants; source = other.source; target = other.target }) = cc in
+    let precondition : rule.precondition ≡ other.precondition = ap (λ (r : Rule). r.precondition) e in
+    let witnesses : rule.witnesses ≡ other.witnesses = ap (λ (r : Rule). r.witnesses) e in
+    let same : ◌≡◌ {A = Rule} (record { name = rule.name; inputs = rule.inputs; constants = rule.constants; source = rule.source; target = rule.target; terms = rule.terms; precondition = rule.precondition; witness_terms = rule.witness_terms; witnesses = rule.witnesses })
+    (record { name = other.name; inputs = other.inputs; constants = other.constants; source = other.source; target = other.target; terms = other.terms; precondition = other.precondition; witness_terms = other.witness_terms; witnesses = other.witnesses }) = cc in
     same
 
 -- a rule as written means one rule with its classes

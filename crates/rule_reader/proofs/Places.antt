@@ -94,7 +94,7 @@ zip_length R [] (b ∷ ys) all = absurd all
 zip_length R (a ∷ xs) [] all = absurd all
 zip_length R (a ∷ xs) (b ∷ ys) all = ap suc (zip_length R xs ys all.1)
 
-zip_append : {X Y : Type 0} (R : X → Y → Type 0) (ws : List X) (ys : List Y) (xs : List X) (zs : List Y) → AllZip R ws ys → AllZip R xs zs → AllZip R (ws ++ xs) (ys ++ zs)
+pub zip_append : {X Y : Type 0} (R : X → Y → Type 0) (ws : List X) (ys : List Y) (xs : List X) (zs : List Y) → AllZip R ws ys → AllZip R xs zs → AllZip R (ws ++ xs) (ys ++ zs)
 zip_append R [] [] xs zs p q = q
 zip_append R [] (b ∷ ys) xs zs p q = absurd p
 zip_append R (a ∷ ws) [] xs zs p q = absurd p

@@ -9,9 +9,9 @@ use Rattle.rule_core.specs.Checks.{IsRule, AreDistinct}
 use Rattle.rule_typing.specs.Classes.{IsClassified}
 use Rattle.rule_typing.specs.Faults.{HasNoFault}
 use Rattle.rule_parse.specs.Text.{IsTextFault}
-use Rattle.rule_parse.specs.Refusing.{IfRefused as IfTextRefused}
-use Rattle.rule_parse.specs.declared.fault.ParseError.{ParseError}
-use Rattle.rule_parse.specs.declared.fault.ParseError.TheVariants as parse_errors
+use Rattle.rule_tokens.specs.Refusing.{IfRefused as IfTextRefused}
+use Rattle.rule_tokens.specs.declared.fault.ParseError.{ParseError}
+use Rattle.rule_tokens.specs.declared.fault.ParseError.TheVariants as parse_errors
 use Rattle.rule_reader.specs.declared.fault.RuleError.{RuleError}
 use Rattle.rule_reader.specs.declared.fault.RuleError.TheVariants as errors
 use Rattle.rule_reader.specs.Refusing.{IfRefused, Becomes}

@@ -1,42 +1,91 @@
--- What the grammar says of operations: names are short, flags fit, and a source has no copies.
-use Rattle.std.proofs.Common.{◌≡◌, ℕ, zero, suc, ◌≤◌, List, length, subst, arith}
+-- What the grammar says of operations: names are short, flags fit, a source has no copies and no terms, and a target has constant terms.
+-- A half is known by what its copies are.
+use Rattle.std.proofs.Common.{◌≡◌, ℕ, ◌≤◌, List, [], ◌∷◌, length, sym, subst}
+use Rattle.std.specs.Prelude.{Contains, flat_map}
 use Rattle.words.proofs.FlagLemmas.{own_flags}
+use Rattle.rule_tokens.specs.Parts.{Part}
+use Rattle.rule_tokens.specs.Tokens.{Token}
+use Rattle.rule_terms.specs.declared.raw.RawNode.{RawNode}
+use Rattle.rule_terms.specs.declared.raw.RawNode.TheVariants as raw_nodes
+use Rattle.rule_terms.specs.Grammar.{most_nested}
+use Rattle.rule_parse.specs.declared.raw.RawStatement.{RawStatement}
 use Rattle.rule_parse.specs.declared.raw.RawOp.{RawOp}
 use Rattle.rule_parse.specs.declared.raw.RawOp.TheVariants.{Binary, Compare, Select, Convert, Copy}
 use Rattle.rule_parse.specs.declared.raw.RawOperand.{RawOperand}
 use Rattle.rule_parse.specs.declared.raw.RawArgument.{RawArgument}
-use Rattle.rule_parse.specs.declared.raw.RawArgument.TheVariants.{Register, Literal, Truth}
-use Rattle.rule_parse.specs.Tokens.{Token}
-use Rattle.rule_parse.specs.Grammar.{SpellsArgument, SpellsOperand, SpellsPair, SpellsOp}
-use Rattle.rule_reader.specs.Naming.{Uses}
+use Rattle.rule_parse.specs.declared.raw.RawArgument.TheVariants.{Register, Literal, Truth, Constant, Undef, Term}
+use Rattle.rule_parse.specs.Grammar.{SpellsArgument, SpellsOperand, SpellsUntyped, SpellsPair, SpellsOp, SpellsStatements, SpellsHalf, SpellsTermOperand}
+use Rattle.rule_parse.specs.Words.{argument_of}
+use Rattle.rule_reader.specs.Kinds.{Each}
+use Rattle.rule_parse.specs.Inside.{arguments_of, arguments_among, terms_of_argument}
 use Rattle.rule_reader.specs.WellFormed.{MayStandInSource, FlagsFitOp}
+use Rattle.rule_reader.proofs.Members.{each_in, each_append}
+use Rattle.rule_reader.proofs.SpelledTerms.{IsConstantNode, IsConstantTerm, constant_term}
 
-short_argument : (half : _) (a : RawArgument) (tokens : List Token) (name : List ℕ) → SpellsArgument half a tokens → a ≡ Register name → length name ≤ 200
-short_argument half (Register other) tokens name spelled is = let same : other ≡ name = cc in subst (λ n. length n ≤ 200) same spelled.0
-short_argument half (Literal z) tokens name spelled is = absurd (cc)
-short_argument half (Truth b) tokens name spelled is = absurd (cc)
+-- some tokens spell it
+abbrev pub IsSpelled : {A : Type 0} → (A → Part) → A → Type 0
+IsSpelled Spells x = (own : List Token) × Spells x own
 
-short_operand : (half : _) (a : RawOperand) (tokens : List Token) (name : List ℕ) → SpellsOperand half a tokens → a.value ≡ Register name → length name ≤ 200
-short_operand half a tokens name spelled is = short_argument half a.value spelled.1 name spelled.3 is
+-- ---- what statements read
 
-short_left : (half : _) (a b : RawOperand) (tokens : List Token) (name : List ℕ) → SpellsPair half a b tokens → a.value ≡ Register name → length name ≤ 200
-short_left half a b tokens name spelled is = short_operand half a spelled.0 name spelled.2 is
+operand : (half : _) (a : RawOperand) (tokens : List Token) → SpellsOperand half a tokens → IsSpelled (SpellsArgument half) a.value
+operand half a tokens spelled = (spelled.1, spelled.3)
 
-short_right : (half : _) (a b : RawOperand) (tokens : List Token) (name : List ℕ) → SpellsPair half a b tokens → b.value ≡ Register name → length name ≤ 200
-short_right half a b tokens name spelled is = short_argument half b.value spelled.3.1 name spelled.3.3.1 is
+untyped : (half : _) (a : RawOperand) (tokens : List Token) → SpellsUntyped half a tokens → IsSpelled (SpellsArgument half) a.value
+untyped half a tokens spelled = (tokens, spelled.1)
 
--- Names that are used are short. A copy, where the half has one, is an operand.
-pub short_use : (half : _) → ((a : RawOperand) (tokens : List Token) → SpellsOp half (Copy a) tokens → SpellsOperand half a tokens) → (op : RawOp) (tokens : List Token) (name : List ℕ) → SpellsOp half op tokens → Uses op name → length name ≤ 200
-short_use half copies (Binary op flags a b) tokens name spelled (zero, within, is) = short_left half a b spelled.3.1 name spelled.3.3 is
-short_use half copies (Binary op flags a b) tokens name spelled (suc zero, within, is) = short_right half a b spelled.3.1 name spelled.3.3 is
-short_use half copies (Compare pred a b) tokens name spelled (zero, within, is) = short_left half a b spelled.3.1 name spelled.3.3 is
-short_use half copies (Compare pred a b) tokens name spelled (suc zero, within, is) = short_right half a b spelled.3.1 name spelled.3.3 is
-short_use half copies (Select c a b) tokens name spelled (zero, within, is) = short_operand half c spelled.3.0 name spelled.3.2 is
-short_use half copies (Select c a b) tokens name spelled (suc zero, within, is) = short_operand half a spelled.3.3.3.0 name spelled.3.3.3.2 is
-short_use half copies (Select c a b) tokens name spelled (suc (suc zero), within, is) = short_operand half b spelled.3.3.3.3.1 name spelled.3.3.3.3.3 is
-short_use half copies (Convert cast a to) tokens name spelled (zero, within, is) = short_operand half a spelled.3.0 name spelled.3.2 is
-short_use half copies (Copy a) tokens name spelled (zero, within, is) = short_operand half a tokens name (copies a tokens spelled) is
-short_use half copies op tokens name spelled (k, within, is) = absurd (omega arith)
+pair : (half : _) (a b : RawOperand) (tokens : List Token) → SpellsPair half a b tokens → Each (IsSpelled (SpellsArgument half)) (a.value ∷ b.value ∷ [])
+pair half a b tokens spelled = (operand half a spelled.0 spelled.2, (untyped half b spelled.3.1 spelled.3.3, tt))
+
+-- What an operation reads is spelled. A copy, where the half has one, is an operand.
+arguments_spelled : (half : _) → ((a : RawOperand) (tokens : List Token) → SpellsOp half (Copy a) tokens → SpellsOperand half a tokens) → (op : RawOp) (tokens : List Token) → SpellsOp half op tokens → Each (IsSpelled (SpellsArgument half)) (arguments_of op)
+arguments_spelled half copies (Binary op flags a b) tokens spelled = pair half a b spelled.3.1 spelled.3.3
+arguments_spelled half copies (Compare pred a b) tokens spelled = pair half a b spelled.3.1 spelled.3.3
+arguments_spelled half copies (Select c a b) tokens spelled =
+    (operand half c spelled.3.0 spelled.3.2, (operand half a spelled.3.3.3.0 spelled.3.3.3.2, (operand half b spelled.3.3.3.3.1 spelled.3.3.3.3.3, tt)))
+arguments_spelled half copies (Convert cast a to) tokens spelled = (operand half a spelled.3.0 spelled.3.2, tt)
+arguments_spelled half copies (Copy a) tokens spelled = (operand half a tokens (copies a tokens spelled), tt)
+
+pub argument_spelled : (half : _) → ((a : RawOperand) (tokens : List Token) → SpellsOp half (Copy a) tokens → SpellsOperand half a tokens) → (op : RawOp) (tokens : List Token) (a : RawArgument) → SpellsOp half op tokens → Contains (arguments_of op) a → IsSpelled (SpellsArgument half) a
+argument_spelled half copies op tokens a spelled among = each_in (IsSpelled (SpellsArgument half)) (arguments_of op) a (arguments_spelled half copies op tokens spelled) among
+
+-- and what statements read
+among_spelled : (half : _) → ((a : RawOperand) (tokens : List Token) → SpellsOp half (Copy a) tokens → SpellsOperand half a tokens) → (ss : List RawStatement) (tokens : List Token) → SpellsStatements half ss tokens → Each (IsSpelled (SpellsArgument half)) (arguments_among ss)
+among_spelled half copies [] tokens spelled = tt
+among_spelled half copies (s ∷ ss) tokens (own, rest, spelled, others, is) =
+    each_append (IsSpelled (SpellsArgument half)) (arguments_of s.op) (arguments_among ss) (arguments_spelled half copies s.op spelled.op spelled.is_op) (among_spelled half copies ss rest others)
+
+-- ---- the terms of a target
+
+-- a constant is the only node of its term
+constant_alone : (name : List ℕ) (nodes : List RawNode) → Constant name ≡ argument_of nodes → Each IsConstantNode nodes → length name ≤ 200
+unfolding argument_of
+constant_alone name (raw_nodes.Constant other ∷ []) e each = let same : other ≡ name = cc in subst (λ n. length n ≤ 200) same each.0
+constant_alone name (raw_nodes.Literal z ∷ []) e each = absurd (cc)
+constant_alone name nodes e each = absurd (cc)
+
+pub short_alone : (name : List ℕ) (tokens : List Token) → SpellsTermOperand (Constant name) tokens → length name ≤ 200
+short_alone name tokens spelled = constant_alone name spelled.0 spelled.2 (constant_term most_nested spelled.0 tokens spelled.1).1
+
+same_term : (t nodes : List RawNode) → Term t ≡ argument_of nodes → nodes ≡ t
+unfolding argument_of
+same_term t (raw_nodes.Literal z ∷ []) e = absurd (cc)
+same_term t (raw_nodes.Constant name ∷ []) e = absurd (cc)
+same_term t nodes e = cc
+
+pub term_operand : (t : List RawNode) (tokens : List Token) → SpellsTermOperand (Term t) tokens → IsConstantTerm t
+term_operand t tokens spelled = subst IsConstantTerm (same_term t spelled.0 spelled.2) (constant_term most_nested spelled.0 tokens spelled.1)
+
+-- the terms of what is read, where each term is a constant one
+terms_among : (half : _) → ((t : List RawNode) (tokens : List Token) → SpellsArgument half (Term t) tokens → IsConstantTerm t) → (arguments : List RawArgument) → Each (IsSpelled (SpellsArgument half)) arguments → Each IsConstantTerm (flat_map terms_of_argument arguments)
+terms_among half constant [] spelled = tt
+terms_among half constant (Term t ∷ arguments) spelled = (constant t spelled.0.0 spelled.0.1, terms_among half constant arguments spelled.1)
+terms_among half constant (a ∷ arguments) spelled = terms_among half constant arguments spelled.1
+
+pub spelled_terms : (half : _) → ((a : RawOperand) (tokens : List Token) → SpellsOp half (Copy a) tokens → SpellsOperand half a tokens) → ((t : List RawNode) (tokens : List Token) → SpellsArgument half (Term t) tokens → IsConstantTerm t) → (ss : List RawStatement) (tokens : List Token) → SpellsHalf half ss tokens → Each IsConstantTerm (flat_map terms_of_argument (arguments_among ss))
+spelled_terms half copies constant ss tokens spelled = terms_among half constant (arguments_among ss) (among_spelled half copies ss tokens spelled.spelled)
+
+-- ---- flags and copies
 
 -- flags fit their opcode
 pub written_flags : (half : _) (op : RawOp) (tokens : List Token) → SpellsOp half op tokens → FlagsFitOp op

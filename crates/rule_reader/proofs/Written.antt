@@ -1,178 +1,28 @@
 -- Rules as written are well formed.
-use Rattle.std.proofs.Common.{◌≡◌, ℕ, zero, suc, ◌+◌, ◌<◌, ◌≤◌, Bool, true, false, cond, eqb, List, [], ◌∷◌, ◌++◌, length, append_assoc, take, Some, refl, sym, ap, subst, ◌∙◌, arith}
-use Rattle.std.specs.Prelude.{slice_get, Contains}
-use Rattle.std.specs.Prelude.{codes}
-use Rattle.std.specs.List.{sum_by}
+use Rattle.std.proofs.Common.{◌≡◌, ℕ, zero, suc, ◌+◌, ◌<◌, ◌≤◌, false, List, [], ◌∷◌, ◌++◌, length, append_assoc, Some, subst, arith}
+use Rattle.std.specs.Prelude.{slice_get, Contains, flat_map, codes}
 use Rattle.std.proofs.lemmas.Option.{same_Some}
-use Rattle.std.proofs.lemmas.List.{take-take}
-use Rattle.std.proofs.lemmas.List.Sums.{sum_by-take-drop}
-use Rattle.scan.specs.declared.rule_token.RuleKind.{RuleKind}
-use Rattle.scan.specs.declared.rule_token.RuleKind.TheVariants as kinds
 use Rattle.scan.specs.Lines.{line_of}
-use Rattle.scan.specs.Names.{rest_of_line}
-use Rattle.scan.specs.RuleTokens.{line_at}
+use Rattle.rule_terms.specs.declared.raw.RawNode.{RawNode}
 use Rattle.rule_parse.specs.declared.raw.RawRule.{RawRule}
+use Rattle.rule_parse.specs.declared.raw.RawPrecondition.{RawPrecondition}
+use Rattle.rule_parse.specs.declared.raw.RawWitness.{RawWitness}
 use Rattle.rule_parse.specs.declared.raw.RawStatement.{RawStatement}
 use Rattle.rule_parse.specs.declared.raw.RawOp.TheVariants.{Copy}
 use Rattle.rule_parse.specs.declared.raw.RawOperand.{RawOperand}
-use Rattle.rule_parse.specs.Tokens.{Token, Line, Head, Name, Register, Word, Number, Arrow, Mark, Other, Bad, token_of, Place, AtToken, TokensFrom, ends, token, name as at_name, bad_token, bad_name}
-use Rattle.rule_parse.specs.Grammar.{SpellsOperand, SpellsOp, SpellsStatement, SpellsStatements, SpellsHalf, SpellsRule, SpellsRules}
+use Rattle.rule_parse.specs.declared.raw.RawArgument.TheVariants as raw_arguments
+use Rattle.rule_parse.specs.Grammar.{SpellsArgument, SpellsOperand, SpellsOp, SpellsStatement, SpellsStatements, SpellsHalf, SpellsPrecondition, SpellsWitness, SpellsRule, SpellsRules}
 use Rattle.rule_parse.specs.Text.{IsWritten}
-use Rattle.rule_reader.specs.WellFormed.{AreInLineOrder, MayStandInSource, IsHalf, IsWellFormed}
-use Rattle.rule_reader.proofs.Spelled.{short_use, written_flags, no_copies}
-
--- a line of these tokens begins
-abbrev Begins : List Token → ℕ → Type 0
-Begins tokens n = Contains tokens (Line n)
-
--- the lines begin in their order, none before a line
-unfoldable pub Ascend : ℕ → List Token → Type 0
-Ascend low [] = Unit {0}
-Ascend low (Line n ∷ tokens) = (low ≤ n) × Ascend n tokens
-Ascend low (Head text ∷ tokens) = Ascend low tokens
-Ascend low (Name text ∷ tokens) = Ascend low tokens
-Ascend low (Register text ∷ tokens) = Ascend low tokens
-Ascend low (Word text ∷ tokens) = Ascend low tokens
-Ascend low (Number text ∷ tokens) = Ascend low tokens
-Ascend low (Arrow ∷ tokens) = Ascend low tokens
-Ascend low (Mark text ∷ tokens) = Ascend low tokens
-Ascend low (Other ∷ tokens) = Ascend low tokens
-Ascend low (Bad ∷ tokens) = Ascend low tokens
-
-lower : (low high : ℕ) (tokens : List Token) → low ≤ high → Ascend high tokens → Ascend low tokens
-unfolding Ascend
-lower low high [] le up = tt
-lower low high (Line n ∷ tokens) le up = (omega (arith, up.0), up.1)
-lower low high (Head text ∷ tokens) le up = lower low high tokens le up
-lower low high (Name text ∷ tokens) le up = lower low high tokens le up
-lower low high (Register text ∷ tokens) le up = lower low high tokens le up
-lower low high (Word text ∷ tokens) le up = lower low high tokens le up
-lower low high (Number text ∷ tokens) le up = lower low high tokens le up
-lower low high (Arrow ∷ tokens) le up = lower low high tokens le up
-lower low high (Mark text ∷ tokens) le up = lower low high tokens le up
-lower low high (Other ∷ tokens) le up = lower low high tokens le up
-lower low high (Bad ∷ tokens) le up = lower low high tokens le up
-
--- behind some tokens the lines go on in their order
-skip : (low : ℕ) (xs ys : List Token) → Ascend low (xs ++ ys) → (m : ℕ) × (low ≤ m) × Ascend m ys
-unfolding Ascend
-skip low [] ys up = (low, (omega arith), up)
-skip low (Line n ∷ xs) ys up = let (m, le, rest) = skip n xs ys up.1 in (m, (omega (arith, up.0)), rest)
-skip low (Head text ∷ xs) ys up = skip low xs ys up
-skip low (Name text ∷ xs) ys up = skip low xs ys up
-skip low (Register text ∷ xs) ys up = skip low xs ys up
-skip low (Word text ∷ xs) ys up = skip low xs ys up
-skip low (Number text ∷ xs) ys up = skip low xs ys up
-skip low (Arrow ∷ xs) ys up = skip low xs ys up
-skip low (Mark text ∷ xs) ys up = skip low xs ys up
-skip low (Other ∷ xs) ys up = skip low xs ys up
-skip low (Bad ∷ xs) ys up = skip low xs ys up
-
--- a later place stands on no earlier line
-line_more : (text : List ℕ) (m n : ℕ) → m ≤ n → line_of text m ≤ line_of text n
-line_more text m n le =
-    let f : ℕ → ℕ = λ b. cond (eqb b 10) 1 0 in
-    let parts = sum_by-take-drop f (take n text) m in
-    let same : sum_by f (take m (take n text)) ≡ sum_by f (take m text) = ap (sum_by f) (take-take m n text le) in
-    omega (arith, parts, same)
-
--- a token of a kind begins no line
-no_line : (kind : RuleKind) (bytes : List ℕ) (low : ℕ) (tokens : List Token) → Ascend low tokens → Ascend low (token_of kind bytes ∷ tokens)
-unfolding Ascend
-no_line kinds.End bytes low tokens up = up
-no_line kinds.Other bytes low tokens up = up
-no_line kinds.Head bytes low tokens up = up
-no_line kinds.Register bytes low tokens up = up
-no_line kinds.Word bytes low tokens up = up
-no_line kinds.Number bytes low tokens up = up
-no_line kinds.Arrow bytes low tokens up = up
-no_line kinds.Mark bytes low tokens up = up
-
-on_line : (b : Bool) (low at : ℕ) (t : Token) (tokens : List Token) → low ≤ at → Ascend at (t ∷ tokens) → Ascend low (cond b (t ∷ tokens) (Line at ∷ t ∷ tokens))
-unfolding Ascend
-on_line true low at t tokens le up = lower low at (t ∷ tokens) le up
-on_line false low at t tokens le up = (le, up)
-
-kind_line : (kind : RuleKind) (text : List ℕ) (start : ℕ) → ¬ (kind ≡ kinds.End) → line_at kind text start ≡ line_of text start
-kind_line kinds.End text start not = absurd (not refl)
-kind_line kinds.Other text start not = refl
-kind_line kinds.Head text start not = refl
-kind_line kinds.Register text start not = refl
-kind_line kinds.Word text start not = refl
-kind_line kinds.Number text start not = refl
-kind_line kinds.Arrow text start not = refl
-kind_line kinds.Mark text start not = refl
-
-up_from : (text : List ℕ) (place : Place) (at before last : ℕ) (tokens : List Token) → TokensFrom text place at before tokens last → Ascend (line_of text at) tokens
-unfolding Ascend
-up_from text _ at before last _ (ends t next end is) = tt
-up_from text _ at before last _ (token {tokens} t next not rest) =
-    let on : t.line ≡ line_of text t.span.start = next.line ∙ kind_line t.kind text t.span.start not in
-    let le : line_of text at ≤ line_of text t.span.start = line_more text at t.span.start (next.order.0) in
-    let le' : line_of text t.span.start ≤ line_of text t.span.end = line_more text t.span.start t.span.end (next.order.1) in
-    let later = up_from text _ t.span.end t.line last tokens rest in
-    on_line (eqb t.line before) (line_of text at) t.line (token_of t.kind _) tokens (omega arith) (no_line t.kind _ t.line tokens (lower t.line (line_of text t.span.end) tokens (omega arith) later))
-up_from text _ at before last _ (at_name {found} {tokens} named rest) =
-    subst (λ t. Ascend (line_of text at) (t ∷ tokens)) (sym named.2)
-    (lower (line_of text at) (line_of text (at + length (rest_of_line text at))) tokens (line_more text at (at + length (rest_of_line text at)) (omega arith)) (up_from text _ (at + length (rest_of_line text at)) before last tokens rest))
-up_from text _ at before last _ (bad_token next) =
-    let le : line_of text at ≤ line_of text next.start = line_more text at next.start next.order in
-    on_line (eqb last before) (line_of text at) last Bad [] (omega (arith, next.line_is)) tt
-up_from text _ at before last _ (bad_name next) = tt
-
--- statements of a half, behind which more tokens follow
-pub record Ordered (low : ℕ) (ss : List RawStatement) (behind : List Token) : Type 0 where
-  pub not_before : (k : ℕ) (s : RawStatement) → slice_get ss k ≡ Some s → low ≤ s.line
-  pub in_order : AreInLineOrder ss
-  pub last : ℕ
-  pub not_behind : (k : ℕ) (s : RawStatement) → slice_get ss k ≡ Some s → s.line ≤ last
-  pub reaches : low ≤ last
-  pub goes_on : Ascend last behind
-
-none_at : {X : Type 0} (k : ℕ) (x : X) → slice_get [] k ≡ Some x → ⊥
-none_at zero x at = cc
-none_at (suc k) x at = cc
-
-ordered : (half : _) (low : ℕ) (ss : List RawStatement) (tokens behind : List Token) → SpellsStatements half ss tokens → Ascend low (tokens ++ behind) → Ordered low ss behind
-unfolding Ascend
-ordered half low [] tokens behind is up =
-    record {
-      not_before = λ k s at. absurd (none_at k s at);
-      in_order = λ j k s t lt at at'. absurd (none_at j s at);
-      last = low;
-      not_behind = λ k s at. absurd (none_at k s at);
-      reaches = omega arith;
-      goes_on = subst (λ l. Ascend low (l ++ behind)) is up;
-    }
-ordered half low (s ∷ ss) tokens behind (own, rest, spelled, others, is) up =
-    let whole : tokens ++ behind ≡ Line s.line ∷ (Register s.name ∷ Mark (codes "=") ∷ spelled.op) ++ (rest ++ behind) =
-    ap (λ l. l ++ behind) is ∙ append_assoc own rest behind ∙ ap (λ l. l ++ (rest ++ behind)) spelled.spelled in
-    let start = subst (λ l. Ascend low l) whole up in
-    let (m, le, later) = skip s.line (Register s.name ∷ Mark (codes "=") ∷ spelled.op) (rest ++ behind) start.1 in
-    let next = ordered half m ss rest behind others later in
-    record {
-      not_before = λ k t at. elim k as (λ i. slice_get (s ∷ ss) i ≡ Some t → low ≤ t.line) [
-        | zero ↦ λ e. let same : s ≡ t = same_Some s t e in let line : s.line ≡ t.line = ap (λ (z : RawStatement). z.line) same in omega (arith, start.0)
-        | suc i ↦ λ e. let below : m ≤ t.line = next.not_before i t e in omega (arith, start.0)
-      ] at;
-      in_order = λ j k t v lt at at'. elim j as (λ i. i < k → slice_get (s ∷ ss) i ≡ Some t → t.line ≤ v.line) [
-        | zero ↦ λ lt' e. elim k as (λ i. 0 < i → slice_get (s ∷ ss) i ≡ Some v → t.line ≤ v.line) [
-          | zero ↦ λ lt'' e'. absurd (omega arith)
-          | suc i ↦ λ lt'' e'. let same : s ≡ t = same_Some s t e in let line : s.line ≡ t.line = ap (λ (z : RawStatement). z.line) same in let below : m ≤ v.line = next.not_before i v e' in omega arith
-        ] lt' at'
-        | suc i ↦ λ lt' e. elim k as (λ n. suc i < n → slice_get (s ∷ ss) n ≡ Some v → t.line ≤ v.line) [
-          | zero ↦ λ lt'' e'. absurd (omega arith)
-          | suc n ↦ λ lt'' e'. next.in_order i n t v (omega arith) e e'
-        ] lt' at'
-      ] lt at;
-      last = next.last;
-      not_behind = λ k t at. elim k as (λ i. slice_get (s ∷ ss) i ≡ Some t → t.line ≤ next.last) [
-        | zero ↦ λ e. let same : s ≡ t = same_Some s t e in let line : s.line ≡ t.line = ap (λ (z : RawStatement). z.line) same in omega (arith, next.reaches)
-        | suc i ↦ λ e. next.not_behind i t e
-      ] at;
-      reaches = omega (arith, start.0, next.reaches);
-      goes_on = next.goes_on;
-    }
+use Rattle.rule_parse.specs.Weight.{raw_weight}
+use Rattle.rule_parse.proofs.Weight.{small_rules}
+use Rattle.rule_tokens.specs.Tokens.{Token, Line, Head, Name, Arrow, AtToken}
+use Rattle.rule_reader.specs.Kinds.{Each}
+use Rattle.rule_parse.specs.Inside.{arguments_of, terms_of_formula, formula_of, target_terms, terms_of, expressions_of}
+use Rattle.rule_reader.specs.WellFormed.{AreInLineOrder, MayStandInSource, IsHalf, IsTerm, IsWellFormed}
+use Rattle.rule_reader.proofs.Members.{each_in, each_append, each_flat}
+use Rattle.rule_reader.proofs.LineOrder.{Ascend, skip, up_from, none_at, ordered, headed}
+use Rattle.rule_reader.proofs.SpelledTerms.{IsConstantNode, may_stand, IsConstantTerm, formula_behind, formula_terms, expression_terms}
+use Rattle.rule_reader.proofs.Spelled.{argument_spelled, short_alone, term_operand, spelled_terms, written_flags, no_copies}
 
 -- a statement of a half is spelled
 spelled_at : (half : _) (ss : List RawStatement) (tokens : List Token) (k : ℕ) (s : RawStatement) → SpellsStatements half ss tokens → slice_get ss k ≡ Some s → (own : List Token) × SpellsStatement half s own
@@ -180,46 +30,82 @@ spelled_at half [] tokens k s is at = absurd (none_at k s at)
 spelled_at half (s ∷ ss) tokens zero t (own, rest, spelled, others, is) at = (own, subst (λ x. SpellsStatement half x own) (same_Some s t at) spelled)
 spelled_at half (s ∷ ss) tokens (suc k) t (own, rest, spelled, others, is) at = spelled_at half ss rest k t others at
 
-is_half : (half : _) → ((a : RawOperand) (tokens : List Token) → SpellsOp half (Copy a) tokens → SpellsOperand half a tokens) → (ss : List RawStatement) (tokens : List Token) → SpellsHalf half ss tokens → AreInLineOrder ss → IsHalf ss
-is_half half copies ss tokens spelled in_order =
+is_half : (half : _) → ((a : RawOperand) (tokens : List Token) → SpellsOp half (Copy a) tokens → SpellsOperand half a tokens) → ((name : List ℕ) (tokens : List Token) → SpellsArgument half (raw_arguments.Constant name) tokens → length name ≤ 200) → (ss : List RawStatement) (tokens : List Token) → SpellsHalf half ss tokens → AreInLineOrder ss → IsHalf ss
+is_half half copies constants ss tokens spelled in_order =
     record {
       some = spelled.some;
       few = spelled.most;
       in_order = in_order;
       short_names = λ k s at. (spelled_at half ss tokens k s spelled.spelled at).1.name;
-      short_uses = λ k s name at uses. let own = (spelled_at half ss tokens k s spelled.spelled at).1 in short_use half copies s.op own.op name own.is_op uses;
+      short_uses = λ k s name at uses. let own = (spelled_at half ss tokens k s spelled.spelled at).1 in (argument_spelled half copies s.op own.op (raw_arguments.Register name) own.is_op uses).1.0;
+      short_constants = λ k s name at names. let own = (spelled_at half ss tokens k s spelled.spelled at).1 in
+          let named = argument_spelled half copies s.op own.op (raw_arguments.Constant name) own.is_op names in
+          constants name named.0 named.1;
       flags_fit = λ k s at. let own = (spelled_at half ss tokens k s spelled.spelled at).1 in written_flags half s.op own.op own.is_op;
     }
 
 source_ops : (half : _) → ((a : RawOperand) (tokens : List Token) → ¬ SpellsOp half (Copy a) tokens) → (ss : List RawStatement) (tokens : List Token) → SpellsHalf half ss tokens → (k : ℕ) (s : RawStatement) → slice_get ss k ≡ Some s → MayStandInSource s.op
 source_ops half none ss tokens spelled k s at = let own = (spelled_at half ss tokens k s spelled.spelled at).1 in no_copies half none s.op own.op own.is_op
 
-well_formed : (low : ℕ) (raw : RawRule) (tokens behind : List Token) → SpellsRule raw tokens → Ascend low (tokens ++ behind) → IsWellFormed raw
+source_arguments : (half : _) → ((a : RawOperand) (tokens : List Token) → ¬ SpellsOp half (Copy a) tokens) → ((t : List RawNode) (tokens : List Token) → ¬ SpellsArgument half (raw_arguments.Term t) tokens) → (ss : List RawStatement) (tokens : List Token) → SpellsHalf half ss tokens → (k : ℕ) (s : RawStatement) (t : List RawNode) → slice_get ss k ≡ Some s → ¬ Contains (arguments_of s.op) (raw_arguments.Term t)
+source_arguments half none never ss tokens spelled k s t at among =
+    let own = (spelled_at half ss tokens k s spelled.spelled at).1 in
+    let term = argument_spelled half (λ a own' copy. absurd (none a own' copy)) s.op own.op (raw_arguments.Term t) own.is_op among in
+    never t term.0 term.1
+
+-- the constant terms of a rule
+all_terms : (raw : RawRule) (tokens : List Token) → SpellsRule raw tokens → Each IsConstantTerm (terms_of raw)
+all_terms raw tokens spelled =
+    each_append IsConstantTerm (target_terms raw) (flat_map terms_of_formula (formula_of raw))
+    (spelled_terms _ (λ a own copy. copy) term_operand raw.target spelled.target spelled.is_target)
+    (each_flat IsConstantTerm terms_of_formula (formula_of raw) (formula_terms raw.precondition spelled.precondition spelled.is_precondition))
+
+-- parts one behind the other
+behind_part : (low : ℕ) (xs ys zs : List Token) → Ascend low ((xs ++ ys) ++ zs) → Ascend low (xs ++ (ys ++ zs))
+behind_part low xs ys zs up = subst (λ l. Ascend low l) (append_assoc xs ys zs) up
+
+well_formed : (low : ℕ) (raw : RawRule) (tokens behind : List Token) → SpellsRule raw tokens → raw_weight raw ≤ 256 → Ascend low (tokens ++ behind) → IsWellFormed raw
 unfolding Ascend
-well_formed low raw tokens behind spelled up =
-    let whole : tokens ++ behind ≡ Line raw.line ∷ Head (codes "Name:") ∷ Name raw.name ∷ (spelled.source ++ (Line spelled.arrow_line ∷ Arrow ∷ (spelled.target ++ behind))) =
-    ap (λ l. l ++ behind) spelled.spelled ∙ ap (λ l. Line raw.line ∷ Head (codes "Name:") ∷ Name raw.name ∷ l) (append_assoc spelled.source (Line spelled.arrow_line ∷ Arrow ∷ spelled.target) behind) in
-    let start = subst (λ l. Ascend low l) whole up in
-    let source = ordered _ raw.line raw.source spelled.source (Line spelled.arrow_line ∷ Arrow ∷ (spelled.target ++ behind)) spelled.is_source.spelled start.1 in
+well_formed low raw tokens behind spelled small up =
+    let halves = spelled.source ++ Line spelled.arrow_line ∷ Arrow ∷ spelled.target in
+    let start = subst (λ l. Ascend low (l ++ behind)) spelled.spelled up in
+    let pre = headed (λ (p : RawPrecondition). p.line) SpellsPrecondition raw.line raw.precondition spelled.precondition ((spelled.witness ++ halves) ++ behind) (λ p own s. (Head (codes "Pre:") ∷ s.0, s.2)) spelled.is_precondition
+    (behind_part raw.line spelled.precondition (spelled.witness ++ halves) behind start.1) in
+    let wit = headed (λ (w : RawWitness). w.line) SpellsWitness pre.last raw.witness spelled.witness (halves ++ behind) (λ w own s. (Head (codes "Wit:") ∷ s.0, s.2)) spelled.is_witness
+    (behind_part pre.last spelled.witness halves behind pre.goes_on) in
+    let source = ordered _ wit.last raw.source spelled.source (Line spelled.arrow_line ∷ Arrow ∷ (spelled.target ++ behind)) spelled.is_source.spelled
+    (behind_part wit.last spelled.source (Line spelled.arrow_line ∷ Arrow ∷ spelled.target) behind wit.goes_on) in
     let target = ordered _ spelled.arrow_line raw.target spelled.target behind spelled.is_target.spelled source.goes_on.1 in
+    let constant_terms = all_terms raw tokens spelled in
+    let expressions = expression_terms raw.witness spelled.witness spelled.is_witness in
     record {
       short_name = spelled.name.1;
-      source = is_half _ (λ a tokens never. absurd never) raw.source spelled.source spelled.is_source source.in_order;
-      target = is_half _ (λ a tokens spelled. spelled) raw.target spelled.target spelled.is_target target.in_order;
-      name_first = source.not_before;
+      source = is_half _ (λ a own never. absurd never) (λ name own s. s.1) raw.source spelled.source spelled.is_source source.in_order;
+      target = is_half _ (λ a own copy. copy) short_alone raw.target spelled.target spelled.is_target target.in_order;
+      name_first = λ k s at. let le : wit.last ≤ s.line = source.not_before k s at in omega (arith, pre.reaches, wit.reaches);
+      precondition_first = λ p k s is at. let le : wit.last ≤ s.line = source.not_before k s at in let le' : p.line ≤ pre.last = pre.not_behind p is in omega (arith, wit.reaches);
+      precondition_before = λ p w is is'. let le : p.line ≤ pre.last = pre.not_behind p is in let le' : pre.last ≤ w.line = wit.not_before w is' in omega arith;
+      witness_first = λ w k s is at. let le : wit.last ≤ s.line = source.not_before k s at in let le' : w.line ≤ wit.last = wit.not_behind w is in omega arith;
       source_first = λ j k s t at at'. let le : s.line ≤ source.last = source.not_behind j s at in let le' : spelled.arrow_line ≤ t.line = target.not_before k t at' in omega (arith, source.goes_on.0);
-      source_ops = source_ops _ (λ a tokens never. never) raw.source spelled.source spelled.is_source;
+      source_ops = source_ops _ (λ a own never. never) raw.source spelled.source spelled.is_source;
+      source_arguments = source_arguments _ (λ a own never. never) (λ t own never. never) raw.source spelled.source spelled.is_source;
+      terms = λ t among. (each_in IsConstantTerm (terms_of raw) t constant_terms among).0;
+      constant_terms = λ t node among within. may_stand node (each_in IsConstantNode t node (each_in IsConstantTerm (terms_of raw) t constant_terms among).1 within);
+      expressions = λ t among. each_in IsTerm (expressions_of raw) t expressions among;
+      formula = formula_behind raw.precondition spelled.precondition spelled.is_precondition;
+      weight = small;
     }
 
-rules_well_formed : (low : ℕ) (raws : List RawRule) (tokens : List Token) → SpellsRules raws tokens → Ascend low tokens → (k : ℕ) (raw : RawRule) → slice_get raws k ≡ Some raw → IsWellFormed raw
-rules_well_formed low [] tokens spelled up k raw at = absurd (none_at k raw at)
-rules_well_formed low (rule ∷ rules) tokens (own, rest, spelled, others, is) up zero raw at =
-    subst IsWellFormed (same_Some rule raw at) (well_formed low rule own rest spelled (subst (Ascend low) is up))
-rules_well_formed low (rule ∷ rules) tokens (own, rest, spelled, others, is) up (suc k) raw at =
+rules_well_formed : (low : ℕ) (raws : List RawRule) (tokens : List Token) → SpellsRules raws tokens → Ascend low tokens → (k : ℕ) (raw : RawRule) → slice_get raws k ≡ Some raw → raw_weight raw ≤ 256 → IsWellFormed raw
+rules_well_formed low [] tokens spelled up k raw at small = absurd (none_at k raw at)
+rules_well_formed low (rule ∷ rules) tokens (own, rest, spelled, others, is) up zero raw at small =
+    well_formed low raw own rest (subst (λ r. SpellsRule r own) (same_Some rule raw at) spelled) small (subst (Ascend low) is up)
+rules_well_formed low (rule ∷ rules) tokens (own, rest, spelled, others, is) up (suc k) raw at small =
     let (m, le, later) = skip low own rest (subst (Ascend low) is up) in
-    rules_well_formed m rules rest others later k raw at
+    rules_well_formed m rules rest others later k raw at small
 
 -- each rule of a text as written is well formed
 pub written_well_formed : (text : List ℕ) (raws : List RawRule) → IsWritten text raws → (k : ℕ) (raw : RawRule) → slice_get raws k ≡ Some raw → IsWellFormed raw
 written_well_formed text raws written k raw at =
-    rules_well_formed (line_of text 0) raws written.tokens written.spelled (up_from text (AtToken false) 0 0 written.last written.tokens written.are_tokens) k raw at
+    let up = up_from text (AtToken false) 0 0 written.last written.tokens written.are_tokens in
+    rules_well_formed (line_of text 0) raws written.tokens written.spelled up k raw at (small_rules text raws written k raw at)

@@ -1,7 +1,7 @@
 -- Which texts are rule files, of which rules, and which is the first fault of one that is none.
 use Rattle.std.specs.Prelude.{◌≡◌, ℕ, ◌<◌, ◌≤◌, List, length, take, Option, None, Some, slice_get}
 use Rattle.rule_parse.specs.declared.raw.RawRule.{RawRule}
-use Rattle.rule_parse.specs.declared.fault.TextFault.{TextFault}
+use Rattle.rule_tokens.specs.declared.fault.TextFault.{TextFault}
 use Rattle.rule_parse.specs.Text.{IsWritten, IsTextFault}
 use Rattle.rule_core.specs.declared.rule.Rule.{Rule}
 use Rattle.rule_typing.specs.declared.classes.ClassFault.{ClassFault}
@@ -13,7 +13,7 @@ use Rattle.rule_reader.specs.declared.fault.RuleFaultKind.TheVariants as kinds
 use Rattle.rule_reader.specs.declared.fault.RuleFault.{RuleFault}
 use Rattle.rule_reader.specs.Refusing.{kind_of_misfit}
 use Rattle.rule_reader.specs.Naming.{Means}
-use Rattle.rule_reader.specs.Kinds.{DuplicateAt, UnboundAt, RootMissingAt, RedefinesAt, UnusedTempAt, ClassesAt}
+use Rattle.rule_reader.specs.Kinds.{DuplicateAt, UnboundAt, RootMissingAt, RedefinesAt, UnusedTempAt, UndefInsideAt, WitnessCountAt, ClassesAt}
 
 -- the checks of a rule, in their order
 pub data Check : Type 0 where
@@ -60,15 +60,15 @@ class_check class_faults.TooMany = ManyClasses
 class_check class_faults.NoType = NoType
 class_check class_faults.OpenType = OpenType
 
--- A check of a rule, these being the earlier ones, fails at the line. No rule that is written yet has an `undef` or a `Wit:`.
+-- A check of a rule, these being the earlier ones, fails at the line
 abbrev pub FailsAt : List RawRule → RawRule → Check → ℕ → Type 0
 FailsAt earlier raw Duplicate = DuplicateAt earlier raw
 FailsAt earlier raw Unbound = UnboundAt raw
 FailsAt earlier raw RootMissing = RootMissingAt raw
 FailsAt earlier raw Redefines = RedefinesAt raw
 FailsAt earlier raw UnusedTemp = UnusedTempAt raw.source
-FailsAt earlier raw UndefInside = λ line. ⊥
-FailsAt earlier raw WitnessCount = λ line. ⊥
+FailsAt earlier raw UndefInside = UndefInsideAt raw
+FailsAt earlier raw WitnessCount = WitnessCountAt raw
 FailsAt earlier raw ManyClasses = ClassesAt raw HasTooManyClasses
 FailsAt earlier raw NoType = ClassesAt raw HasNoTyping
 FailsAt earlier raw OpenType = ClassesAt raw HasOpenClass

@@ -1,27 +1,28 @@
--- The inputs of a source that some of its first arguments use, and how more arguments add to them.
-use Rattle.std.specs.Prelude.{◌≡◌, ◌⊎◌, ℕ, ◌<◌, List, [], ◌∷◌, ◌++◌, Some, Contains, slice_get}
+-- The names that some of a source's first arguments give, and how more arguments add to them.
+use Rattle.std.specs.Prelude.{◌≡◌, ◌⊎◌, ℕ, List, [], ◌∷◌, ◌++◌, Contains}
 use Rattle.rule_parse.specs.declared.raw.RawStatement.{RawStatement}
 use Rattle.rule_parse.specs.declared.raw.RawArgument.{RawArgument}
-use Rattle.rule_parse.specs.declared.raw.RawArgument.TheVariants.{Register, Literal, Truth}
-use Rattle.rule_core.specs.Checks.{AreDistinct}
-use Rattle.rule_reader.specs.Naming.{AssignsAt}
+use Rattle.rule_reader.specs.declared.names.Names.{Names}
+use Rattle.rule_reader.specs.Naming.{AreFirstGiven, GivesInput, GivesConstant}
 
--- among the arguments, those registers that the source does not assign, each once, in the order of their first uses
-pub record AreFirstUses (source : List RawStatement) (arguments : List RawArgument) (inputs : List (List ℕ)) : Type 0 where
-  pub used : (name : List ℕ) → Contains inputs name → (q : ℕ) × (slice_get arguments q ≡ Some (Register name))
-  pub not_assigned : (name : List ℕ) → Contains inputs name → (k : ℕ) → ¬ AssignsAt source k name
-  pub all : (name : List ℕ) (q : ℕ) → slice_get arguments q ≡ Some (Register name) → ((k : ℕ) → ¬ AssignsAt source k name) → Contains inputs name
-  pub once : AreDistinct inputs
-  pub in_order : (h i q : ℕ) (m n : List ℕ) → h < i → slice_get inputs h ≡ Some m → slice_get inputs i ≡ Some n → slice_get arguments q ≡ Some (Register n) → (p : ℕ) × (p < q) × (slice_get arguments p ≡ Some (Register m))
+-- a name is added where it is new
+abbrev pub AddsNew : List (List ℕ) → List ℕ → List (List ℕ) → Type 0
+AddsNew before name after = (¬ Contains before name × (after ≡ before ++ name ∷ [])) ⊎ (Contains before name × (after ≡ before))
 
--- one more argument adds a register that is a new input, and nothing else
-abbrev pub AddsInput : List RawStatement → List (List ℕ) → RawArgument → List (List ℕ) → Type 0
-AddsInput source before (Register name) after =
-    (((k : ℕ) → ¬ AssignsAt source k name) × ¬ Contains before name × (after ≡ before ++ name ∷ []))
-    ⊎ ((((k : ℕ) × AssignsAt source k name) ⊎ Contains before name) × (after ≡ before))
-AddsInput source before (Literal z) after = after ≡ before
-AddsInput source before (Truth b) after = after ≡ before
+-- one more argument adds the name that it gives, where that is new, and nothing else
+abbrev pub Adds : (RawArgument → List ℕ → Type 0) → List (List ℕ) → RawArgument → List (List ℕ) → Type 0
+Adds Gives before a after = ((name : List ℕ) × Gives a name × AddsNew before name after) ⊎ (((name : List ℕ) → ¬ Gives a name) × (after ≡ before))
 
--- the first uses among some arguments become those among these behind them too
-abbrev pub AddsUses : List RawStatement → List (List ℕ) → List RawArgument → List (List ℕ) → Type 0
-AddsUses source before more after = (arguments : List RawArgument) → AreFirstUses source arguments before → AreFirstUses source (arguments ++ more) after
+-- and so for the inputs and the constants of a source
+pub record AddsNames (source : List RawStatement) (before : Names) (a : RawArgument) (after : Names) : Type 0 where
+  pub inputs : Adds (GivesInput source) before.inputs a after.inputs
+  pub constants : Adds GivesConstant before.constants a after.constants
+
+-- the names among some arguments
+pub record AreNamesAmong (source : List RawStatement) (arguments : List RawArgument) (names : Names) : Type 0 where
+  pub inputs : AreFirstGiven (GivesInput source) arguments names.inputs
+  pub constants : AreFirstGiven GivesConstant arguments names.constants
+
+-- these become those among more arguments behind them too
+abbrev pub AddsUses : List RawStatement → Names → List RawArgument → Names → Type 0
+AddsUses source before more after = (arguments : List RawArgument) → AreNamesAmong source arguments before → AreNamesAmong source (arguments ++ more) after

@@ -1,9 +1,9 @@
 -- What an error says of the text.
 use Rattle.std.specs.Prelude.{◌≡◌}
-use Rattle.rule_parse.specs.declared.fault.Misfit.{Misfit}
-use Rattle.rule_parse.specs.declared.fault.Misfit.TheVariants as misfits
-use Rattle.rule_parse.specs.declared.fault.ParseError.{ParseError}
-use Rattle.rule_parse.specs.declared.fault.ParseError.TheVariants as parse_errors
+use Rattle.rule_tokens.specs.declared.fault.Misfit.{Misfit}
+use Rattle.rule_tokens.specs.declared.fault.Misfit.TheVariants as misfits
+use Rattle.rule_tokens.specs.declared.fault.ParseError.{ParseError}
+use Rattle.rule_tokens.specs.declared.fault.ParseError.TheVariants as parse_errors
 use Rattle.rule_reader.specs.declared.fault.RuleFaultKind.{RuleFaultKind}
 use Rattle.rule_reader.specs.declared.fault.RuleFaultKind.TheVariants as kinds
 use Rattle.rule_reader.specs.declared.fault.RuleFault.{RuleFault}

@@ -1,11 +1,21 @@
 -- What the grammar and the limits say of a rule as written.
-use Rattle.std.specs.Prelude.{◌≡◌, ℕ, ◌<◌, ◌≤◌, List, length, Some, slice_get}
+use Rattle.std.specs.Prelude.{◌≡◌, ℕ, ◌<◌, ◌≤◌, List, length, Some, Contains, slice_get}
 use Rattle.ops.specs.Flags.{FlagsFit}
 use Rattle.rule_parse.specs.declared.raw.RawRule.{RawRule}
+use Rattle.rule_parse.specs.declared.raw.RawPrecondition.{RawPrecondition}
+use Rattle.rule_parse.specs.declared.raw.RawWitness.{RawWitness}
 use Rattle.rule_parse.specs.declared.raw.RawStatement.{RawStatement}
 use Rattle.rule_parse.specs.declared.raw.RawOp.{RawOp}
 use Rattle.rule_parse.specs.declared.raw.RawOp.TheVariants as raw_ops
+use Rattle.rule_parse.specs.declared.raw.RawArgument.TheVariants as raw_arguments
+use Rattle.rule_terms.specs.declared.raw.RawNode.{RawNode}
+use Rattle.rule_terms.specs.declared.raw.RawNode.TheVariants as raw_nodes
+use Rattle.rule_terms.specs.declared.raw.RawFormula.{RawFormula}
+use Rattle.rule_terms.specs.declared.raw.RawFormula.TheVariants as raw_formulas
+use Rattle.rule_terms.specs.Nodes.{IsBehindOperands}
+use Rattle.rule_parse.specs.Inside.{arguments_of, formula_of, terms_of, expressions_of}
 use Rattle.rule_reader.specs.Naming.{Uses}
+use Rattle.rule_parse.specs.Weight.{raw_weight}
 
 -- no statement stands on a line before that of an earlier one
 abbrev pub AreInLineOrder : List RawStatement → Type 0
@@ -28,13 +38,44 @@ pub record IsHalf (statements : List RawStatement) : Type 0 where
   pub in_order : AreInLineOrder statements
   pub short_names : (k : ℕ) (s : RawStatement) → slice_get statements k ≡ Some s → length s.name ≤ 200
   pub short_uses : (k : ℕ) (s : RawStatement) (name : List ℕ) → slice_get statements k ≡ Some s → Uses s.op name → length name ≤ 200
+  pub short_constants : (k : ℕ) (s : RawStatement) (name : List ℕ) → slice_get statements k ≡ Some s → Contains (arguments_of s.op) (raw_arguments.Constant name) → length name ≤ 200
   pub flags_fit : (k : ℕ) (s : RawStatement) → slice_get statements k ≡ Some s → FlagsFitOp s.op
+
+-- a term has a node or more, each behind its operands
+pub record IsTerm (term : List RawNode) : Type 0 where
+  pub some : 0 < length term
+  pub each : (k : ℕ) (node : RawNode) → slice_get term k ≡ Some node → IsBehindOperands k node
+
+-- a node of a constant term is no register and no `undef`
+abbrev pub MayStandInTerm : RawNode → Type 0
+MayStandInTerm (raw_nodes.Register name) = ⊥
+MayStandInTerm (raw_nodes.Undef k) = ⊥
+MayStandInTerm node = Unit {0}
+
+-- node k of a formula has those of its operands that are nodes of it before it
+abbrev pub IsBehindFormulas : ℕ → RawFormula → Type 0
+IsBehindFormulas k (raw_formulas.Not a) = a < k
+IsBehindFormulas k (raw_formulas.And a b) = (a < k) × (b < k)
+IsBehindFormulas k (raw_formulas.Or a b) = (a < k) × (b < k)
+IsBehindFormulas k formula = Unit {0}
 
 pub record IsWellFormed (raw : RawRule) : Type 0 where
   pub short_name : length raw.name ≤ 200
   pub source : IsHalf raw.source
   pub target : IsHalf raw.target
-  -- `Name:` stands before the source, and the source before the target
+  -- `Name:` stands before `Pre:`, that before `Wit:`, that before the source, and the source before the target
   pub name_first : (k : ℕ) (s : RawStatement) → slice_get raw.source k ≡ Some s → raw.line ≤ s.line
+  pub precondition_first : (p : RawPrecondition) (k : ℕ) (s : RawStatement) → raw.precondition ≡ Some p → slice_get raw.source k ≡ Some s → p.line ≤ s.line
+  pub precondition_before : (p : RawPrecondition) (w : RawWitness) → raw.precondition ≡ Some p → raw.witness ≡ Some w → p.line ≤ w.line
+  pub witness_first : (w : RawWitness) (k : ℕ) (s : RawStatement) → raw.witness ≡ Some w → slice_get raw.source k ≡ Some s → w.line ≤ s.line
   pub source_first : (j k : ℕ) (s t : RawStatement) → slice_get raw.source j ≡ Some s → slice_get raw.target k ≡ Some t → s.line ≤ t.line
+  -- no copies and no terms stand in the source
   pub source_ops : (k : ℕ) (s : RawStatement) → slice_get raw.source k ≡ Some s → MayStandInSource s.op
+  pub source_arguments : (k : ℕ) (s : RawStatement) (t : List RawNode) → slice_get raw.source k ≡ Some s → ¬ Contains (arguments_of s.op) (raw_arguments.Term t)
+  -- terms, formulas and the expressions of `Wit:` are in the order of their nodes
+  pub terms : (t : List RawNode) → Contains (terms_of raw) t → IsTerm t
+  pub constant_terms : (t : List RawNode) (node : RawNode) → Contains (terms_of raw) t → Contains t node → MayStandInTerm node
+  pub expressions : (t : List RawNode) → Contains (expressions_of raw) t → IsTerm t
+  pub formula : (k : ℕ) (f : RawFormula) → slice_get (formula_of raw) k ≡ Some f → IsBehindFormulas k f
+  -- and there are not more than 256 operands, nodes and names
+  pub weight : raw_weight raw ≤ 256

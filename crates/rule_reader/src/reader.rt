@@ -11,11 +11,13 @@ ghost use Rattle.rule_reader.specs.ClassFaults.{IsClassifiedAs, IsClassFault};
 ghost use Rattle.rule_reader.specs.Refusing.{IfRefused};
 ghost use Rattle.rule_reader.specs.Faults.{IsRuleOf, IsFirstFault, IsRuleFile, IsFault};
 
+use crate::bound::unbound;
 use crate::checks::{duplicate, redefined, root_missing, unused};
 use crate::fault::{RuleError, RuleFaultKind, refused};
-use crate::inputs::inputs;
+use crate::names::names_of;
 use crate::repeated::repeated_names;
 use crate::resolve::resolved;
+use crate::undefs::{undef_inside, witness_count};
 use rule_core::Rule;
 use rule_parse::{RawRule, parse_rules};
 use rule_typing::classify;
@@ -27,8 +29,8 @@ const MOST_BYTES: usize = 1_048_576;
 /// The rules of a text, in order, or its first fault: its length, then the first token that does not fit, and then rule by rule the
 /// first kind of [`RuleFaultKind`] in their order, at its first line.
 ///
-/// It takes as many steps as the text has bytes, and for each rule as many more as the squares of its statements and operands,
-/// which are at most 64 and 192.
+/// It takes as many steps as the text has bytes, and for each rule as many more as the square of its operands and nodes, which are
+/// at most 256.
 pub fn read_rules(alloc: Global, bytes: &[u8]) -> Result<Vec<Rule>, RuleError>
     ensures ok { IfOk result (λ rules. IsRuleFile bytes.now rules.items) }
     ensures limit { OnOk result (length bytes.now ≤ 1048576) }
@@ -61,17 +63,26 @@ fn checked(alloc: Global, raw: &RawRule, is_repeated: bool) -> Result<Rule, Rule
     if let Some(line) = duplicate(raw, is_repeated) {
         return Err(refused(line, RuleFaultKind::Duplicate));
     }
-    let inputs = inputs(alloc, raw.source.as_slice())?;
-    let rule = resolved(alloc, raw, inputs)?;
+    let names = names_of(alloc, raw.source.as_slice())?;
+    if let Some(line) = unbound(raw, &names) {
+        return Err(refused(line, RuleFaultKind::Unbound));
+    }
     if let Some(line) = root_missing(raw) {
         return Err(refused(line, RuleFaultKind::RootMissing));
     }
-    if let Some(line) = redefined(raw, rule.inputs.as_slice()) {
+    if let Some(line) = redefined(raw, names.inputs.as_slice()) {
         return Err(refused(line, RuleFaultKind::Redefines));
     }
     if let Some(line) = unused(raw.source.as_slice()) {
         return Err(refused(line, RuleFaultKind::UnusedTemp));
     }
+    if let Some(line) = undef_inside(raw) {
+        return Err(refused(line, RuleFaultKind::UndefInside));
+    }
+    if let Some(line) = witness_count(raw) {
+        return Err(refused(line, RuleFaultKind::WitnessCount));
+    }
+    let rule = resolved(alloc, raw, names)?;
     classified(rule, raw.line)
 }
 

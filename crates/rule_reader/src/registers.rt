@@ -64,7 +64,11 @@ fn is_register(operand: &RawOperand, name: &[u8]) -> bool
 {
     match &operand.value {
         RawArgument::Register(other) => other.as_slice() == name,
-        RawArgument::Literal(_) | RawArgument::Truth(_) => false,
+        RawArgument::Literal(_)
+        | RawArgument::Truth(_)
+        | RawArgument::Constant(_)
+        | RawArgument::Undef
+        | RawArgument::Term(_) => false,
     }
 }
 

@@ -1,168 +1,201 @@
-//! Rules whose registers are known by place, from rules as written.
+//! Statements whose names are known by place, from statements as written, whose names are all there to use.
 
-ghost use Rattle.std.specs.Prelude.{◌≡◌, ◌≤◌, ℕ, length, Contains, Some, slice_get, IfOk, IfErr, OnOk, MatchOption};
-ghost use Rattle.std.specs.List.{AllZip};
-ghost use Rattle.rule_parse.specs.declared.raw.RawArgument.TheVariants.{Register as register};
-ghost use Rattle.rule_reader.specs.Naming.{AreInputs, Uses, HasName, ArgumentMeans, OperandMeans, OpMeans, StatementMeans, Means};
+ghost use Rattle.std.specs.Prelude.{◌≡◌, ◌≤◌, ℕ, [], ◌∷◌, length, Contains, Some, slice_get, IfOk, MatchOption};
+ghost use Rattle.rule_parse.specs.Inside.{arguments_of};
+ghost use Rattle.rule_reader.specs.Naming.{in_half, AreNames, IsConstant, IsConstantOf, HasName, ArgumentMeans, OperandMeans, OpMeans, HalfMeans, Means};
 ghost use Rattle.rule_reader.specs.WellFormed.{IsWellFormed};
-ghost use Rattle.rule_reader.specs.Kinds.{StandsAt, UsesUnbound, UnboundAt};
-ghost use Rattle.rule_reader.specs.Resolving.{half_of, Resolves};
-ghost use Rattle.rule_reader.specs.Refusing.{IfRefused};
-ghost use Rattle.rule_reader.specs.Faults.{IsFirstLine};
+ghost use Rattle.rule_reader.specs.Kinds.{MayUse};
+ghost use Rattle.rule_reader.specs.Resolving.{half_of, IsPlaceOf, Finds, HalfIsBound, NamesAreThere, AreReady};
 
-use crate::fault::{RuleError, RuleFaultKind, refused};
+use crate::counts::Counts;
+use crate::names::Names;
+use crate::place::{Half, Place};
+use crate::precondition::precondition;
 use crate::registers::{assigning, is_root, place_of};
+use crate::terms::target_terms;
+use crate::witness::{Choices, witness};
 use lists::{List, Text};
 use rule_core::{Argument, Op, Operand, Register, Rule, Statement};
 use rule_parse::{RawArgument, RawOp, RawOperand, RawRule, RawStatement};
 use std::alloc::{AllocError, Global};
 
-/// Which half of a rule a statement stands in.
-#[derive(Clone, Copy, Debug, PartialEq, Eq)]
-pub(crate) enum Half {
-    Source,
-    Target,
-}
-
 /// The input of a name.
-fn input(inputs: &[Text], name: &[u8]) -> Option<Register>
-    requires { length inputs.now ≤ 96 }
+fn input(names: &Names, name: &[u8]) -> Option<Register>
+    requires { length names.now.inputs ≤ 96 }
     ensures { MatchOption result
-        (¬ Contains inputs.now name.now)
-        (λ r. (k : ℕ) × (r ≡ Register.Input k) × (slice_get inputs.now k ≡ Some name.now)) }
+        (¬ Contains names.now.inputs name.now)
+        (λ r. (k : ℕ) × (r ≡ Register.Input k) × (slice_get names.now.inputs k ≡ Some name.now)) }
 {
-    Some(Register::Input(place_of(inputs, name)? as u32))
+    Some(Register::Input(place_of(names.inputs.as_slice(), name)? as u32))
 }
 
 /// What statement `place` of the source may use by a name: what an earlier statement assigns, or an input.
-fn in_source(rule: &RawRule, inputs: &[Text], place: usize, name: &[u8]) -> Option<Register>
+fn in_source(rule: &RawRule, names: &Names, place: usize, name: &[u8]) -> Option<Register>
     requires rule { IsWellFormed rule.now }
-    requires inputs { AreInputs rule.now.source inputs.now }
+    requires names { AreNames rule.now.source names.now }
     requires place { place ≤ length rule.now.source }
-    ensures { Resolves rule.now Half.Source place (λ n. n ≡ name.now) (λ r. HasName rule.now inputs.now r name.now) result }
+    ensures { Finds rule.now names.now (Place.Source place) name.now result }
 {
     match assigning(rule.source.as_slice(), place, name) {
         Some(before) => Some(Register::Source(before as u32)),
-        None => input(inputs, name),
+        None => input(names, name),
+    }
+}
+
+/// What `Pre:` and `Wit:` may use by a name: a temporary of the source, or an input.
+fn before_root(rule: &RawRule, names: &Names, name: &[u8]) -> Option<Register>
+    requires rule { IsWellFormed rule.now }
+    requires names { AreNames rule.now.source names.now }
+    ensures { Finds rule.now names.now Place.Heading name.now result }
+{
+    let source = rule.source.as_slice();
+    match assigning(source, source.len() - 1, name) {
+        Some(temporary) => Some(Register::Source(temporary as u32)),
+        None => input(names, name),
     }
 }
 
 /// What statement `place` of the target may use by a name: what an earlier one of its statements assigns, a temporary of the
 /// source, or an input, but not the root.
-fn in_target(rule: &RawRule, inputs: &[Text], place: usize, name: &[u8]) -> Option<Register>
+fn in_target(rule: &RawRule, names: &Names, place: usize, name: &[u8]) -> Option<Register>
     requires rule { IsWellFormed rule.now }
-    requires inputs { AreInputs rule.now.source inputs.now }
+    requires names { AreNames rule.now.source names.now }
     requires place { place ≤ length rule.now.target }
-    ensures { Resolves rule.now Half.Target place (λ n. n ≡ name.now) (λ r. HasName rule.now inputs.now r name.now) result }
+    ensures { Finds rule.now names.now (Place.Target place) name.now result }
 {
-    let source = rule.source.as_slice();
-    if is_root(source, name) {
+    if is_root(rule.source.as_slice(), name) {
         return None;
     }
-    if let Some(before) = assigning(rule.target.as_slice(), place, name) {
-        return Some(Register::Target(before as u32));
-    }
-    match assigning(source, source.len() - 1, name) {
-        Some(temporary) => Some(Register::Source(temporary as u32)),
-        None => input(inputs, name),
+    match assigning(rule.target.as_slice(), place, name) {
+        Some(before) => Some(Register::Target(before as u32)),
+        None => before_root(rule, names, name),
     }
 }
 
-/// What statement `place` of a half may use by a name.
-fn register(
-    rule: &RawRule,
-    inputs: &[Text],
-    half: Half,
-    place: usize,
-    name: &[u8],
-) -> Option<Register>
+/// The register of a name that is used at a place, if it may be used there.
+pub(crate) fn found(rule: &RawRule, names: &Names, place: Place, name: &[u8]) -> Option<Register>
     requires rule { IsWellFormed rule.now }
-    requires inputs { AreInputs rule.now.source inputs.now }
-    requires place { place ≤ length (half_of half rule.now) }
-    ensures { Resolves rule.now half place (λ n. n ≡ name.now) (λ r. HasName rule.now inputs.now r name.now) result }
+    requires names { AreNames rule.now.source names.now }
+    requires place { IsPlaceOf rule.now place }
+    ensures { Finds rule.now names.now place name.now result }
 {
-    match half {
-        Half::Source => in_source(rule, inputs, place, name),
-        Half::Target => in_target(rule, inputs, place, name),
+    match place {
+        Place::Source(statement) => in_source(rule, names, statement, name),
+        Place::Target(statement) => in_target(rule, names, statement, name),
+        Place::Heading => before_root(rule, names, name),
     }
 }
 
-/// What an operand of statement `place` of a half reads, if it is no register that the statement may not use.
+/// The register of a name that may be used at a place.
+pub(crate) fn register(rule: &RawRule, names: &Names, place: Place, name: &[u8]) -> Register
+    requires rule { IsWellFormed rule.now }
+    requires names { AreNames rule.now.source names.now }
+    requires place { IsPlaceOf rule.now place }
+    requires bound { MayUse rule.now place name.now }
+    ensures { HasName rule.now names.now result name.now }
+{
+    match found(rule, names, place, name) {
+        Some(register) => register,
+        None => unreachable!(),
+    }
+}
+
+/// The place of a constant.
+pub(crate) fn constant(rule: &RawRule, names: &Names, name: &[u8]) -> u32
+    requires rule { IsWellFormed rule.now }
+    requires names { AreNames rule.now.source names.now }
+    requires bound { IsConstant rule.now.source name.now }
+    ensures { IsConstantOf rule.now names.now result name.now }
+{
+    match place_of(names.constants.as_slice(), name) {
+        Some(place) => place as u32,
+        None => unreachable!(),
+    }
+}
+
+/// What an operand reads, where so much stands before it.
 fn argument(
     rule: &RawRule,
-    inputs: &[Text],
-    half: Half,
-    place: usize,
+    names: &Names,
+    place: Place,
+    before: Counts,
     written: &RawArgument,
-) -> Option<Argument>
+) -> Argument
     requires rule { IsWellFormed rule.now }
-    requires inputs { AreInputs rule.now.source inputs.now }
-    requires place { place ≤ length (half_of half rule.now) }
-    ensures { Resolves rule.now half place (λ n. written.now ≡ register n) (ArgumentMeans rule.now inputs.now written.now) result }
+    requires names { AreNames rule.now.source names.now }
+    requires place { IsPlaceOf rule.now place }
+    requires ready { AreReady rule.now place before (written.now ∷ []) }
+    ensures { ArgumentMeans rule.now names.now before written.now result }
 {
     match written {
-        RawArgument::Register(name) => Some(Argument::Register(register(
-            rule,
-            inputs,
-            half,
-            place,
-            name.as_slice(),
-        )?)),
-        RawArgument::Literal(number) => Some(Argument::Literal(*number)),
-        RawArgument::Truth(truth) => Some(Argument::Truth(*truth)),
+        RawArgument::Register(name) => {
+            Argument::Register(register(rule, names, place, name.as_slice()))
+        }
+        RawArgument::Literal(number) => Argument::Literal(*number),
+        RawArgument::Truth(truth) => Argument::Truth(*truth),
+        RawArgument::Constant(name) => {
+            Argument::Constant(constant(rule, names, name.as_slice()))
+        }
+        RawArgument::Undef => Argument::Undef(before.undefs),
+        RawArgument::Term(term) => Argument::Term(before.nodes + term.len() as u32 - 1),
     }
 }
 
 /// The same with the type that is written before it.
 fn operand(
     rule: &RawRule,
-    inputs: &[Text],
-    half: Half,
-    place: usize,
+    names: &Names,
+    place: Place,
+    before: Counts,
     written: &RawOperand,
-) -> Option<Operand>
+) -> Operand
     requires rule { IsWellFormed rule.now }
-    requires inputs { AreInputs rule.now.source inputs.now }
-    requires place { place ≤ length (half_of half rule.now) }
-    ensures { Resolves rule.now half place (λ n. written.now.value ≡ register n) (OperandMeans rule.now inputs.now written.now) result }
+    requires names { AreNames rule.now.source names.now }
+    requires place { IsPlaceOf rule.now place }
+    requires ready { AreReady rule.now place before (written.now.value ∷ []) }
+    ensures { OperandMeans rule.now names.now before written.now result }
 {
-    Some(Operand {
-        value: argument(rule, inputs, half, place, &written.value)?,
+    Operand {
+        value: argument(rule, names, place, before, &written.value),
         written: written.written,
         class: 0,
-    })
+    }
 }
 
-/// What statement `place` of a half computes, if it uses no register that it may not use.
-fn op(rule: &RawRule, inputs: &[Text], half: Half, place: usize, written: &RawOp) -> Option<Op>
+/// What a statement computes, where so much stands before it.
+fn op(rule: &RawRule, names: &Names, place: Place, before: Counts, written: &RawOp) -> Op
     requires rule { IsWellFormed rule.now }
-    requires inputs { AreInputs rule.now.source inputs.now }
-    requires place { place ≤ length (half_of half rule.now) }
-    ensures { Resolves rule.now half place (Uses written.now) (OpMeans rule.now inputs.now written.now) result }
+    requires names { AreNames rule.now.source names.now }
+    requires place { IsPlaceOf rule.now place }
+    requires ready { AreReady rule.now place before (arguments_of written.now) }
+    ensures { OpMeans rule.now names.now before written.now result }
 {
     match written {
-        RawOp::Binary(opcode, flags, left, right) => Some(Op::Binary(
+        RawOp::Binary(opcode, flags, left, right) => Op::Binary(
             *opcode,
             *flags,
-            operand(rule, inputs, half, place, left)?,
-            operand(rule, inputs, half, place, right)?,
-        )),
-        RawOp::Compare(predicate, left, right) => Some(Op::Compare(
+            operand(rule, names, place, before, left),
+            operand(rule, names, place, before.past(&left.value), right),
+        ),
+        RawOp::Compare(predicate, left, right) => Op::Compare(
             *predicate,
-            operand(rule, inputs, half, place, left)?,
-            operand(rule, inputs, half, place, right)?,
-        )),
-        RawOp::Select(condition, if_true, if_false) => Some(Op::Select(
-            operand(rule, inputs, half, place, condition)?,
-            operand(rule, inputs, half, place, if_true)?,
-            operand(rule, inputs, half, place, if_false)?,
-        )),
-        RawOp::Convert(cast, converted, to) => Some(Op::Convert(
+            operand(rule, names, place, before, left),
+            operand(rule, names, place, before.past(&left.value), right),
+        ),
+        RawOp::Select(condition, if_true, if_false) => {
+            let arms = before.past(&condition.value);
+            Op::Select(
+                operand(rule, names, place, before, condition),
+                operand(rule, names, place, arms, if_true),
+                operand(rule, names, place, arms.past(&if_true.value), if_false),
+            )
+        }
+        RawOp::Convert(cast, converted, to) => Op::Convert(
             *cast,
-            operand(rule, inputs, half, place, converted)?,
+            operand(rule, names, place, before, converted),
             *to,
-        )),
-        RawOp::Copy(copied) => Some(Op::Copy(operand(rule, inputs, half, place, copied)?)),
+        ),
+        RawOp::Copy(copied) => Op::Copy(operand(rule, names, place, before, copied)),
     }
 }
 
@@ -178,50 +211,54 @@ fn statement(alloc: Global, written: &RawStatement, op: Op) -> Result<Statement,
     })
 }
 
-/// The statements of a half, or the first line on which one uses a register that it may not use.
+/// The statements of a half.
 fn statements(
     alloc: Global,
     rule: &RawRule,
-    inputs: &[Text],
+    names: &Names,
     half: Half,
-    written: &[RawStatement],
-) -> Result<List<Statement>, RuleError>
+) -> Result<List<Statement>, AllocError>
     requires rule { IsWellFormed rule.now }
-    requires inputs { AreInputs rule.now.source inputs.now }
-    requires half { written.now ≡ half_of half rule.now }
-    ensures means { IfOk result (AllZip (StatementMeans rule.now inputs.now) written.now) }
-    ensures bound { OnOk result ((line : ℕ) → ¬ StandsAt written.now (UsesUnbound rule.now half) line) }
-    ensures kind { IfErr result (λ e. IfRefused e (λ fault. fault.kind ≡ RuleFaultKind.Unbound)) }
-    ensures line { IfErr result (λ e. IfRefused e (λ fault. IsFirstLine (StandsAt written.now (UsesUnbound rule.now half)) fault.line)) }
+    requires names { AreNames rule.now.source names.now }
+    requires bound { HalfIsBound rule.now half }
+    ensures { IfOk result (HalfMeans rule.now names.now (half_of half rule.now)) }
 {
     let mut statements = List::new(alloc);
-    for (place, written) in written.iter().enumerate() {
-        let Some(op) = op(rule, inputs, half, place, &written.op) else {
-            return Err(refused(written.line, RuleFaultKind::Unbound));
-        };
-        statements.push(statement(alloc, written, op)?)?;
+    let mut before = Counts::NONE;
+    let half_written = half.of(rule);
+    for (place, written) in half_written.iter().enumerate() {
+        let meant = op(rule, names, half.place(place), before, &written.op);
+        before = before.past_op(&written.op);
+        statements.push(statement(alloc, written, meant)?)?;
     }
     Ok(statements)
 }
 
-/// The rule that is meant, but for its classes, or the first line on which a statement uses a register that it may not use.
-pub(crate) fn resolved(alloc: Global, rule: &RawRule, inputs: List<Text>) -> Result<Rule, RuleError>
+/// The rule that is meant, but for its classes.
+pub(crate) fn resolved(alloc: Global, rule: &RawRule, names: Names) -> Result<Rule, AllocError>
     requires rule { IsWellFormed rule.now }
-    requires inputs { AreInputs rule.now.source inputs }
-    ensures means { IfOk result (Means rule.now) }
-    ensures bound { OnOk result ((line : ℕ) → ¬ UnboundAt rule.now line) }
-    ensures kind { IfErr result (λ e. IfRefused e (λ fault. fault.kind ≡ RuleFaultKind.Unbound)) }
-    ensures line { IfErr result (λ e. IfRefused e (λ fault. IsFirstLine (UnboundAt rule.now) fault.line)) }
+    requires names { AreNames rule.now.source names }
+    requires bound { NamesAreThere rule.now }
+    ensures { IfOk result (Means rule.now) }
 {
-    let written = rule.source.as_slice();
-    let source = statements(alloc, rule, inputs.as_slice(), Half::Source, written)?;
-    let written = rule.target.as_slice();
-    let target = statements(alloc, rule, inputs.as_slice(), Half::Target, written)?;
+    let source = statements(alloc, rule, &names, Half::Source)?;
+    let target = statements(alloc, rule, &names, Half::Target)?;
+    let mut terms = target_terms(alloc, rule, &names)?;
+    let precondition = precondition(alloc, &mut terms, rule, &names)?;
+    let Choices {
+        terms: witness_terms,
+        places: witnesses,
+    } = witness(alloc, rule, &names)?;
+    let Names { inputs, constants } = names;
     Ok(Rule {
         name: Text::from_vec(Vec::from_slice(alloc, rule.name.as_slice())?),
         inputs,
-        constants: List::new(alloc),
+        constants,
         source,
         target,
+        terms,
+        precondition,
+        witness_terms,
+        witnesses,
     })
 }

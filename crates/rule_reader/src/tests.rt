@@ -35,12 +35,12 @@ fn outcome(alloc: Global, text: &[u8]) -> (&'static str, usize) {
     }
 }
 
-const ROWS: [(&[u8], &str, usize); 35] = [
+const ROWS: [(&[u8], &str, usize); 58] = [
     (b"Name: x", "Syntax", 1),
     (b"Name: a\n%r = or i8 \x80%x, 1\n", "BadByte", 2),
     (
         b"Name: a\nPre: C == 1\n%r = or i1 %x, 0\n=>\n%r = %x\n",
-        "LeftOut",
+        "Unbound",
         2,
     ),
     (
@@ -184,6 +184,128 @@ const ROWS: [(&[u8], &str, usize); 35] = [
     (
         b"Name: a\n%t = zext %x\n%u = zext %t\n%r = and %u, %x\n=>\n%r = %x\n",
         "NoType",
+        1,
+    ),
+    // Constants: the source has each that the target and `Pre:` name.
+    (
+        b"Name: a\nPre: isPowerOf2(C1)\n%r = mul %x, C1\n=>\n%r = shl %x, log2(C1)\n",
+        "rules",
+        1,
+    ),
+    (
+        b"Name: a\n%r = or %x, C1\n=>\n%r = or %x, C01\n",
+        "Unbound",
+        4,
+    ),
+    (
+        b"Name: a\n%r = or %x, C1\n=>\n%r = or %x, C1+C2\n",
+        "Unbound",
+        4,
+    ),
+    // The line of `Pre:` comes before those of the source.
+    (
+        b"Name: a\nPre: C2 == 1\n%r = or %r, C1\n=>\n%r = %x\n",
+        "Unbound",
+        2,
+    ),
+    // `width` names its register, which is no use of a temporary.
+    (
+        b"Name: a\n%r = or %x, C\n=>\n%r = or %x, C+width(%y)\n",
+        "Unbound",
+        4,
+    ),
+    (
+        b"Name: a\nPre: width(%r) == C\n%r = or %x, C\n=>\n%r = %x\n",
+        "Unbound",
+        2,
+    ),
+    (
+        b"Name: a\nPre: width(%u) == C\n%r = or %x, C\n=>\n%u = or %x, C\n%r = %u\n",
+        "Unbound",
+        2,
+    ),
+    (
+        b"Name: a\nPre: width(%t) == C\n%t = or %x, C\n%r = or %x, C\n=>\n%r = %x\n",
+        "UnusedTemp",
+        3,
+    ),
+    (
+        b"Name: a\n%r = or %x, C\n=>\n%u = or %x, width(%v)\n%v = or %x, C\n%r = %v\n",
+        "Unbound",
+        4,
+    ),
+    // One use is asked of a temporary of the source alone.
+    (
+        b"Name: a\nPre: hasOneUse(%t)\n%t = or %x, C\n%r = or %t, C\n=>\n%r = %x\n",
+        "rules",
+        1,
+    ),
+    (
+        b"Name: a\nPre: hasOneUse(%x)\n%r = or %x, C\n=>\n%r = %x\n",
+        "Unbound",
+        2,
+    ),
+    (
+        b"Name: a\nPre: hasOneUse(%r)\n%r = or %x, C\n=>\n%r = %x\n",
+        "Unbound",
+        2,
+    ),
+    // `undef` in the root alone, with an expression for each.
+    (
+        b"Name: a\nWit: 0\n%r = or %x, undef\n=>\n%r = %x\n",
+        "rules",
+        1,
+    ),
+    (
+        b"Name: a\n%r = or %x, undef\n=>\n%r = %x\n",
+        "WitnessCount",
+        1,
+    ),
+    (
+        b"Name: a\nWit: 0, 1\n%r = or %x, undef\n=>\n%r = %x\n",
+        "WitnessCount",
+        2,
+    ),
+    (
+        b"Name: a\nWit: 0\n%t = or %x, undef\n%r = or %t, 1\n=>\n%r = %x\n",
+        "UndefInside",
+        3,
+    ),
+    (
+        b"Name: a\n%r = or %x, 1\n=>\n%r = undef\n",
+        "UndefInside",
+        4,
+    ),
+    (
+        b"Name: a\n%r = or %x, 1\n=>\n%t = undef\n%r = %t\n",
+        "UndefInside",
+        4,
+    ),
+    // `Wit:` names inputs, temporaries and the `undef`s of the target.
+    (
+        b"Name: a\nWit: t1 & ~%x\n%r = or %x, undef\n=>\n%r = or %x, undef\n",
+        "rules",
+        1,
+    ),
+    (
+        b"Name: a\nWit: t2\n%r = or %x, undef\n=>\n%r = or %x, undef\n",
+        "Unbound",
+        2,
+    ),
+    (
+        b"Name: a\nWit: %r\n%r = or %x, undef\n=>\n%r = %x\n",
+        "Unbound",
+        2,
+    ),
+    (
+        b"Name: a\nWit: C\n%r = or %x, undef\n=>\n%r = %x\n",
+        "Unbound",
+        2,
+    ),
+    // A class that holds no name of the source, and no width that is written.
+    (
+        b"Name: a\nPre: width(%x) u> 4\n%r = or %x, 1\n=>\n%r = %x\n",
+        "OpenType",
         1,
     ),
 ];

@@ -61,3 +61,8 @@ pub returns-clause-names : goal.returns-clause-names
 returns-clause-names c =
     let raws = c.in_ok-raws.raws.items in
     names_are_distinct raws c.loop-place.rules.items (written_well_formed c.args.bytes.now raws c.in_ok-raws.ensures.ok) (all_rules raws c.loop-place.place c.loop-place.rules.items (omega arith) c.loop-place.invariant)
+
+pub returns-clause-ok : goal.returns-clause-ok
+returns-clause-ok c =
+    let raws = c.in_ok-raws.raws.items in
+    record { raws = raws; written = c.in_ok-raws.ensures.ok; read = all_rules raws c.loop-place.place c.loop-place.rules.items (omega arith) c.loop-place.invariant }

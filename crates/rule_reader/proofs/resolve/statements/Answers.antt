@@ -1,33 +1,46 @@
-use Rattle.std.proofs.Common.{subst, sym, arith}
-use Rattle.rule_reader.specs.Naming.{OpMeans, StatementMeans}
-use Rattle.rule_reader.specs.WellFormed.{AreInLineOrder}
-use Rattle.rule_reader.specs.Kinds.{StandsAt, UsesUnbound}
-use Rattle.rule_reader.specs.Refusing.{IfRefused}
-use Rattle.rule_reader.specs.Faults.{IsFirstLine}
-use Rattle.rule_reader.proofs.Places.{read_at, zip_more}
-use Rattle.rule_reader.proofs.Firsts.{first_here, first_none, none_more}
-use Rattle.rule_reader.proofs.Found.{half_in_order}
+use Rattle.std.proofs.Common.{◌∙◌, arith, ap, length, refl, subst, sym}
+use Rattle.rule_parse.specs.Inside.{arguments_of}
+use Rattle.rule_reader.specs.Naming.{OpMeans}
+use Rattle.rule_reader.specs.Resolving.{half_of, AreReady}
+use Rattle.rule_reader.proofs.Counting.{counts_more, half_more, half_all}
+use Rattle.rule_reader.proofs.Building.{place_within, ready_at, few_past}
 use Rattle.rule_reader.proofs.resolve.statements.Goals as goal
 
-pub returns-in_default-clause-line : goal.returns-in_default-clause-line
-returns-in_default-clause-line c =
-    let raw = c.args.rule.now in
-    let written = c.args.written.now in
-    let s = c.index-written-place.result in
-    subst (λ e. IfRefused e (λ fault. IsFirstLine (StandsAt written (UsesUnbound raw c.args.half)) fault.line)) (sym c.refused.ensures)
-    (first_here written (UsesUnbound raw c.args.half) c.loop-place.place s (subst AreInLineOrder (sym c.requires.half) (half_in_order raw c.args.half c.requires.rule)) c.loop-place.invariant.bound
-    (read_at written c.loop-place.place s (omega arith) c.index-written-place.is) c.in_default.ensures)
+pub loop-place-init : goal.loop-place-init
+loop-place-init c = record { before = refl; means = rw c.new-statements.ensures tt }
+
+pub op-meant-requires-clause-place : goal.op-meant-requires-clause-place
+op-meant-requires-clause-place c =
+    let long = ap length c.of-half_written.ensures in
+    rw c.place.ensures (place_within c.args.rule.now c.args.half c.loop-place.place (omega (arith, long)))
+
+pub op-meant-requires-clause-ready : goal.op-meant-requires-clause-ready
+op-meant-requires-clause-ready c =
+    let w = c.index-half_written-place.result in
+    subst (λ p. AreReady c.args.rule.now p c.loop-place.before (arguments_of w.op)) (sym c.place.ensures)
+    (ready_at c.args.rule.now c.requires.rule c.args.half c.of-half_written.result.now c.loop-place.place w c.loop-place.before c.requires.bound c.of-half_written.ensures (omega arith) c.index-half_written-place.is
+    (rw c.of-half_written.ensures c.loop-place.invariant.before))
+
+pub past_op-before-requires : goal.past_op-before-requires
+past_op-before-requires c =
+    let w = c.index-half_written-place.result in
+    few_past c.args.rule.now c.requires.rule c.args.half c.of-half_written.result.now c.loop-place.place w c.loop-place.before c.of-half_written.ensures (omega arith) c.index-half_written-place.is
+    (rw c.of-half_written.ensures c.loop-place.invariant.before)
 
 pub loop-place-preserved : goal.loop-place-preserved
 loop-place-preserved c =
     let raw = c.args.rule.now in
-    let written = c.args.written.now in
-    let s = c.index-written-place.result in
+    let ws = half_of c.args.half raw in
+    let long = ap length c.of-half_written.ensures in
+    let w = c.index-half_written-place.result in
+    let item = rw c.of-half_written.ensures at c.index-half_written-place.is in
     record {
-      means = zip_more (StatementMeans raw c.args.inputs.now) written c.loop-place.statements _ c.loop-place.place s c.in_ok-statement.field-0 (omega arith) c.index-written-place.is c.loop-place.invariant.means c.in_ok-push.ensures.ok (c.in_ok-statement.ensures.name, subst (OpMeans raw c.args.inputs.now s.op) (sym c.in_ok-statement.ensures.op) c.in-Some.ensures.1);
-      bound = none_more written (UsesUnbound raw c.args.half) c.loop-place.place s c.loop-place.invariant.bound (read_at written c.loop-place.place s (omega arith) c.index-written-place.is)
-          (λ (name, uses, not). not (c.in-Some.ensures.0 name uses));
+      before = c.past_op-before.ensures ∙ counts_more ws c.loop-place.place w c.loop-place.before (omega (arith, long)) item c.loop-place.invariant.before;
+      means = half_more raw c.args.names.now ws c.loop-place.place w c.loop-place.before c.loop-place.statements _ _ (omega (arith, long)) item c.loop-place.invariant.before c.loop-place.invariant.means c.in_ok-push.ensures.ok
+          (c.in_ok-statement.ensures.name, subst (OpMeans raw c.args.names.now c.loop-place.before w.op) (sym c.in_ok-statement.ensures.op) c.op-meant.ensures);
     }
 
-pub returns-clause-bound : goal.returns-clause-bound
-returns-clause-bound c = first_none c.args.written.now (UsesUnbound c.args.rule.now c.args.half) (λ k s lt. c.loop-place.invariant.bound k s (omega arith))
+pub returns : goal.returns
+returns c =
+    let long = ap length c.of-half_written.ensures in
+    half_all c.args.rule.now c.args.names.now (half_of c.args.half c.args.rule.now) c.loop-place.place c.loop-place.statements (omega (arith, long)) c.loop-place.invariant.means

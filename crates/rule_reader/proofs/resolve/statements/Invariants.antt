@@ -1,14 +1,13 @@
--- the statements so far mean these, and use nothing that they may not use
-use Rattle.std.proofs.Common.{take}
-use Rattle.std.specs.List.{AllZip}
-use Rattle.rule_reader.specs.Naming.{StatementMeans}
-use Rattle.rule_reader.specs.Kinds.{UsesUnbound}
-use Rattle.rule_reader.proofs.Firsts.{NoneBefore}
+-- the statements so far mean these, and so much stands behind them
+use Rattle.std.proofs.Common.{◌≡◌, take}
+use Rattle.rule_parse.specs.Inside.{arguments_among}
+use Rattle.rule_reader.specs.Naming.{past_all, no_counts, HalfMeans}
+use Rattle.rule_reader.specs.Resolving.{half_of}
 use Rattle.rule_reader.proofs.resolve.statements.Given as goal
 
 abbrev pub invariant-loop-place : goal.invariant-loop-place
 invariant-loop-place l =
     record {
-      means : AllZip (StatementMeans l.rule l.inputs) (take l.place l.written) l.statements;
-      bound : NoneBefore l.written (UsesUnbound l.rule l.half) l.place;
+      before : l.before ≡ past_all no_counts (arguments_among (take l.place (half_of l.half l.rule)));
+      means : HalfMeans l.rule l.names (take l.place (half_of l.half l.rule)) l.statements;
     }

@@ -1,0 +1,92 @@
+-- How many `undef`s and nodes of terms stand before and behind what.
+use Rattle.std.proofs.Common.{◌≡◌, ℕ, zero, suc, ◌+◌, ◌<◌, ◌≤◌, List, [], ◌∷◌, ◌++◌, length, Some, refl, sym, ap, subst, ◌∙◌, arith, take, drop, get_or, append_assoc}
+use Rattle.std.specs.Prelude.{slice_get, flat_map, fold, sum_by, map}
+use Rattle.std.specs.List.{AllZip}
+use Rattle.std.proofs.lemmas.List.{take_more, take_all, append-nil, take-append-drop}
+use Rattle.std.proofs.lemmas.Grind.{flat_map-append, fold-append}
+use Rattle.std.proofs.lemmas.Option.{same_Some}
+use Rattle.rule_parse.specs.declared.raw.RawRule.{RawRule}
+use Rattle.rule_parse.specs.declared.raw.RawStatement.{RawStatement}
+use Rattle.rule_parse.specs.declared.raw.RawArgument.{RawArgument}
+use Rattle.rule_parse.specs.declared.raw.RawArgument.TheVariants.{Register, Literal, Truth, Constant, Undef, Term}
+use Rattle.rule_core.specs.declared.rule.Statement.{Statement}
+use Rattle.rule_reader.specs.declared.names.Names.{Names}
+use Rattle.rule_reader.specs.declared.counts.Counts.{Counts}
+use Rattle.rule_reader.specs.declared.place.Place.{Place}
+use Rattle.rule_parse.specs.Inside.{arguments_of, arguments_among}
+use Rattle.rule_reader.specs.Naming.{past, past_all, no_counts, in_half, with_counts, StatementMeans, HalfMeans}
+use Rattle.rule_reader.specs.Kinds.{Each, ArgumentIsBound}
+use Rattle.rule_reader.specs.Resolving.{AreFew, IsWhole, AreReady}
+use Rattle.rule_reader.proofs.Places.{zip_push}
+
+few_one : (c : Counts) (a : RawArgument) → AreFew (past c a) → AreFew c
+few_one c (Register name) few = few
+few_one c (Literal z) few = few
+few_one c (Truth b) few = few
+few_one c (Constant name) few = few
+few_one c Undef few = (omega (arith, few.0), few.1)
+few_one c (Term t) few = (few.0, omega (arith, few.1))
+
+pub few_before : (c : Counts) (os : List RawArgument) → AreFew (past_all c os) → AreFew c
+few_before c [] few = few
+few_before c (a ∷ os) few = few_one c a (few_before (past c a) os few)
+
+pub past_append : (c : Counts) (xs ys : List RawArgument) → past_all c (xs ++ ys) ≡ past_all (past_all c xs) ys
+past_append c xs ys = fold-append past c xs ys
+
+-- what statements read, up to one of them and behind it
+pub arguments_more : (ss : List RawStatement) (k : ℕ) (s : RawStatement) → k < length ss → s ≡ get_or ss k s → arguments_among (take (k + 1) ss) ≡ arguments_among (take k ss) ++ arguments_of s.op
+arguments_more ss k s within is =
+    ap arguments_among (take_more ss k s within ∙ ap (λ x. take k ss ++ x ∷ []) (sym is)) ∙ flat_map-append (λ (x : RawStatement). arguments_of x.op) (take k ss) (s ∷ []) ∙ ap (λ l. arguments_among (take k ss) ++ l) (append-nil (arguments_of s.op))
+
+pub counts_more : (ss : List RawStatement) (k : ℕ) (s : RawStatement) (c : Counts) → k < length ss → s ≡ get_or ss k s → c ≡ past_all no_counts (arguments_among (take k ss)) → past_all c (arguments_of s.op) ≡ past_all no_counts (arguments_among (take (k + 1) ss))
+counts_more ss k s c within is before =
+    ap (λ b. past_all b (arguments_of s.op)) before ∙ sym (past_append no_counts (arguments_among (take k ss)) (arguments_of s.op)) ∙ ap (past_all no_counts) (sym (arguments_more ss k s within is))
+
+pub few_at : (ss : List RawStatement) (k : ℕ) (s : RawStatement) (c : Counts) → AreFew (in_half ss) → k < length ss → s ≡ get_or ss k s → c ≡ past_all no_counts (arguments_among (take k ss)) → AreFew (past_all c (arguments_of s.op))
+few_at ss k s c few within is before =
+    let parts : arguments_among ss ≡ arguments_among (take (k + 1) ss) ++ arguments_among (drop (k + 1) ss) =
+    ap arguments_among (sym (take-append-drop (k + 1) ss)) ∙ flat_map-append (λ (x : RawStatement). arguments_of x.op) (take (k + 1) ss) (drop (k + 1) ss) in
+    let whole : in_half ss ≡ past_all (past_all no_counts (arguments_among (take (k + 1) ss))) (arguments_among (drop (k + 1) ss)) = ap (past_all no_counts) parts ∙ past_append no_counts (arguments_among (take (k + 1) ss)) (arguments_among (drop (k + 1) ss)) in
+    subst AreFew (sym (counts_more ss k s c within is before)) (few_before (past_all no_counts (arguments_among (take (k + 1) ss))) (arguments_among (drop (k + 1) ss)) (subst AreFew whole few))
+
+-- at the end
+pub counts_all : (ss : List RawStatement) (k : ℕ) (c : Counts) → length ss ≤ k → c ≡ past_all no_counts (arguments_among (take k ss)) → c ≡ in_half ss
+counts_all ss k c past_end is = is ∙ ap in_half (take_all k ss past_end)
+
+-- arguments that are bound, whole and few can mean something
+pub ready : (raw : RawRule) (place : Place) (c : Counts) (os : List RawArgument) → Each (ArgumentIsBound raw place) os → Each IsWhole os → AreFew (past_all c os) → AreReady raw place c os
+ready raw place c [] bound whole few = tt
+ready raw place c (a ∷ os) bound whole few = ((bound.0, whole.0, few_before (past c a) os few), ready raw place (past c a) os bound.1 whole.1 few)
+
+-- ---- statements with what stands before them
+
+pub with_counts_at : (c : Counts) (ss : List RawStatement) (k : ℕ) (x : Counts × RawStatement) → slice_get (with_counts c ss) k ≡ Some x → slice_get ss k ≡ Some x.1
+with_counts_at c [] k x at = elim k as (λ j. slice_get [] j ≡ Some x → slice_get [] j ≡ Some x.1) [ zero ↦ λ h. cc | suc j ↦ λ h. cc ] at
+with_counts_at c (s ∷ ss) zero x at = ap (λ (y : Counts × RawStatement). Some y.1) (same_Some (c, s) x at)
+with_counts_at c (s ∷ ss) (suc k) x at = with_counts_at (past_all c (arguments_of s.op)) ss k x at
+
+pub at_with_counts : (c : Counts) (ss : List RawStatement) (k : ℕ) (s : RawStatement) → slice_get ss k ≡ Some s → (b : Counts) × (slice_get (with_counts c ss) k ≡ Some (b, s))
+at_with_counts c [] k s at = elim k as (λ j. slice_get [] j ≡ Some s → (b : Counts) × (slice_get [] j ≡ Some (b, s))) [ zero ↦ λ h. cc | suc j ↦ λ h. cc ] at
+at_with_counts c (t ∷ ss) zero s at = (c, ap (λ (y : RawStatement). Some (c, y)) (same_Some t s at))
+at_with_counts c (t ∷ ss) (suc k) s at = at_with_counts (past_all c (arguments_of t.op)) ss k s at
+
+with_counts_push : (c : Counts) (ss : List RawStatement) (s : RawStatement) → with_counts c (ss ++ s ∷ []) ≡ with_counts c ss ++ (past_all c (arguments_among ss), s) ∷ []
+with_counts_push c [] s = refl
+with_counts_push c (t ∷ ss) s =
+    let rest = with_counts_push (past_all c (arguments_of t.op)) ss s in
+    let same : past_all (past_all c (arguments_of t.op)) (arguments_among ss) ≡ past_all c (arguments_of t.op ++ arguments_among ss) = sym (past_append c (arguments_of t.op) (arguments_among ss)) in
+    ap (λ l. (c, t) ∷ l) (rest ∙ ap (λ b. with_counts (past_all c (arguments_of t.op)) ss ++ (b, s) ∷ []) same)
+
+-- one more statement of a half
+pub half_more : (raw : RawRule) (names : Names) (ws : List RawStatement) (k : ℕ) (w : RawStatement) (c : Counts) (ss zs : List Statement) (s : Statement) → k < length ws → w ≡ get_or ws k w → c ≡ past_all no_counts (arguments_among (take k ws))
+    → HalfMeans raw names (take k ws) ss → zs ≡ ss ++ s ∷ [] → StatementMeans raw names c w s → HalfMeans raw names (take (k + 1) ws) zs
+half_more raw names ws k w c ss zs s within is before all more means =
+    let R : Counts × RawStatement → Statement → Type 0 = λ x y. StatementMeans raw names x.0 x.1 y in
+    let c' = past_all no_counts (arguments_among (take k ws)) in
+    subst (λ l. HalfMeans raw names l zs) (sym (take_more ws k w within ∙ ap (λ z. take k ws ++ z ∷ []) (sym is)))
+    (subst (λ l. AllZip R l zs) (sym (with_counts_push no_counts (take k ws) w))
+    (subst (AllZip R (with_counts no_counts (take k ws) ++ (c', w) ∷ [])) (sym more) (zip_push R (with_counts no_counts (take k ws)) ss (c', w) s all (subst (λ b. StatementMeans raw names b w s) before means))))
+
+pub half_all : (raw : RawRule) (names : Names) (ws : List RawStatement) (k : ℕ) (ss : List Statement) → length ws ≤ k → HalfMeans raw names (take k ws) ss → HalfMeans raw names ws ss
+half_all raw names ws k ss past_end all = subst (λ l. HalfMeans raw names l ss) (take_all k ws past_end) all

@@ -1,0 +1,107 @@
+-- What is known of numbers from the weight of a rule as written.
+use Rattle.std.proofs.Common.{◌≡◌, ℕ, ◌+◌, ◌≤◌, List, [], ◌∷◌, ◌++◌, length, refl, sym, ap, ◌∙◌, arith}
+use Rattle.std.specs.Prelude.{Contains, flat_map, fold, sum_by}
+use Rattle.std.proofs.lemmas.List.Sums.{sum_by-append}
+use Rattle.std.proofs.lemmas.Grind.{flat_map-append}
+use Rattle.rule_parse.specs.declared.raw.RawRule.{RawRule}
+use Rattle.rule_parse.specs.declared.raw.RawStatement.{RawStatement}
+use Rattle.rule_parse.specs.declared.raw.RawArgument.{RawArgument}
+use Rattle.rule_parse.specs.declared.raw.RawArgument.TheVariants.{Register, Literal, Truth, Constant, Undef, Term}
+use Rattle.rule_terms.specs.declared.raw.RawNode.{RawNode}
+use Rattle.rule_terms.specs.declared.raw.RawNode.TheVariants as raw_nodes
+use Rattle.rule_reader.specs.declared.counts.Counts.{Counts}
+use Rattle.rule_parse.specs.Inside.{arguments_of, arguments_among, formula_of, terms_of_argument, terms_of_formula, target_terms, terms_of, expressions_of}
+use Rattle.rule_reader.specs.Naming.{nodes_in, past, past_all, no_counts, in_half}
+use Rattle.rule_parse.specs.Weight.{argument_weight, node_weight, raw_weight}
+use Rattle.rule_reader.specs.WellFormed.{IsWellFormed}
+use Rattle.rule_reader.specs.Resolving.{AreFew}
+use Rattle.rule_core.proofs.Members.{Contains-from_get}
+use Rattle.rule_reader.proofs.Places.{somewhere}
+use Rattle.rule_reader.proofs.Members.{flat_at, Contains-behind}
+use Rattle.rule_reader.proofs.Nodes.{nodes_append}
+
+pub sum_cons : {X : Type 0} (f : X → ℕ) (x : X) (xs : List X) → sum_by f (x ∷ xs) ≡ f x + sum_by f xs
+sum_cons f x xs = sum_by-append f (x ∷ []) xs ∙ ap (λ n. n + sum_by f xs) (omega arith)
+
+undefs_past : (c : Counts) (a : RawArgument) → (past c a).undefs ≤ c.undefs + argument_weight a
+undefs_past c (Register name) = omega arith
+undefs_past c (Literal z) = omega arith
+undefs_past c (Truth b) = omega arith
+undefs_past c (Constant name) = omega arith
+undefs_past c Undef = omega arith
+undefs_past c (Term t) = omega arith
+
+undefs_weigh : (c : Counts) (xs : List RawArgument) → (past_all c xs).undefs ≤ c.undefs + sum_by argument_weight xs
+undefs_weigh c [] = omega arith
+undefs_weigh c (a ∷ xs) = omega (arith, undefs_past c a, undefs_weigh (past c a) xs, sum_cons argument_weight a xs)
+
+nodes_past : (c : Counts) (a : RawArgument) → (past c a).nodes ≡ c.nodes + nodes_in (terms_of_argument a)
+nodes_past c (Register name) = omega arith
+nodes_past c (Literal z) = omega arith
+nodes_past c (Truth b) = omega arith
+nodes_past c (Constant name) = omega arith
+nodes_past c Undef = omega arith
+nodes_past c (Term t) = omega arith
+
+-- the nodes that are counted are those of the terms
+pub nodes_weigh : (c : Counts) (xs : List RawArgument) → (past_all c xs).nodes ≡ c.nodes + nodes_in (flat_map terms_of_argument xs)
+nodes_weigh c [] = omega arith
+nodes_weigh c (a ∷ xs) = omega (arith, nodes_past c a, nodes_weigh (past c a) xs, nodes_append (terms_of_argument a) (flat_map terms_of_argument xs))
+
+one_node : (node : RawNode) → 1 ≤ node_weight node
+one_node (raw_nodes.Literal z) = omega arith
+one_node (raw_nodes.Constant name) = omega arith
+one_node (raw_nodes.Register name) = omega arith
+one_node (raw_nodes.Undef k) = omega arith
+one_node (raw_nodes.Width name) = omega arith
+one_node (raw_nodes.Unary f a) = omega arith
+one_node (raw_nodes.Binary op a b) = omega arith
+
+term_weighs : (t : List RawNode) → length t ≤ sum_by node_weight t
+term_weighs [] = omega arith
+term_weighs (node ∷ t) = omega (arith, one_node node, term_weighs t, sum_cons node_weight node t)
+
+terms_weigh : (ts : List (List RawNode)) → nodes_in ts ≤ sum_by (λ t. sum_by node_weight t) ts
+terms_weigh [] = omega arith
+terms_weigh (t ∷ ts) = omega (arith, term_weighs t, terms_weigh ts, sum_cons length t ts, sum_cons (λ (t : List RawNode). sum_by node_weight t) t ts)
+
+module _ (raw : RawRule) (well : IsWellFormed raw) where
+  arguments_weigh : sum_by argument_weight (arguments_among (raw.source ++ raw.target)) ≡ sum_by argument_weight (arguments_among raw.source) + sum_by argument_weight (arguments_among raw.target)
+  arguments_weigh = ap (sum_by argument_weight) (flat_map-append (λ (s : RawStatement). arguments_of s.op) raw.source raw.target) ∙ sum_by-append argument_weight (arguments_among raw.source) (arguments_among raw.target)
+
+  nodes_weigh_all : nodes_in (terms_of raw) + nodes_in (expressions_of raw) ≤ 256
+  nodes_weigh_all = omega (arith, well.weight, terms_weigh (terms_of raw ++ expressions_of raw), nodes_append (terms_of raw) (expressions_of raw))
+
+  pub few_terms : nodes_in (terms_of raw) ≤ 256
+  few_terms = omega (arith, nodes_weigh_all)
+
+  pub few_expressions : nodes_in (expressions_of raw) ≤ 256
+  few_expressions = omega (arith, nodes_weigh_all)
+
+  pub few_in_target : AreFew (in_half raw.target)
+  few_in_target = (
+    omega (arith, well.weight, arguments_weigh, undefs_weigh no_counts (arguments_among raw.target)),
+    omega (arith, few_terms, nodes_weigh no_counts (arguments_among raw.target), nodes_append (target_terms raw) (flat_map terms_of_formula (formula_of raw))),
+  )
+
+  -- no terms stand in the source
+  none_in : (xs : List RawArgument) → ((t : List RawNode) → ¬ Contains xs (Term t)) → flat_map terms_of_argument xs ≡ []
+  none_in [] none = refl
+  none_in (Register name ∷ xs) none = none_in xs (λ t among. none t (Contains-behind (Register name) xs (Term t) among))
+  none_in (Literal z ∷ xs) none = none_in xs (λ t among. none t (Contains-behind (Literal z) xs (Term t) among))
+  none_in (Truth b ∷ xs) none = none_in xs (λ t among. none t (Contains-behind (Truth b) xs (Term t) among))
+  none_in (Constant name ∷ xs) none = none_in xs (λ t among. none t (Contains-behind (Constant name) xs (Term t) among))
+  none_in (Undef ∷ xs) none = none_in xs (λ t among. none t (Contains-behind Undef xs (Term t) among))
+  none_in (Term t ∷ xs) none = absurd (none t (Contains-from_get (Term t ∷ xs) 0 (Term t) refl))
+
+  no_source_terms : (t : List RawNode) → ¬ Contains (arguments_among raw.source) (Term t)
+  no_source_terms t among =
+      let (q, at) = somewhere (arguments_among raw.source) (Term t) among in
+      let (k, s, at', here) = flat_at (λ (s : RawStatement). arguments_of s.op) raw.source q (Term t) at in
+      well.source_arguments k s t at' here
+
+  pub few_in_source : AreFew (in_half raw.source)
+  few_in_source = (
+    omega (arith, well.weight, arguments_weigh, undefs_weigh no_counts (arguments_among raw.source)),
+    omega (arith, nodes_weigh no_counts (arguments_among raw.source), ap nodes_in (none_in (arguments_among raw.source) no_source_terms)),
+  )

@@ -1,0 +1,8 @@
+-- those so far are bound
+use Rattle.std.proofs.Common.{take}
+use Rattle.rule_reader.specs.declared.place.Place.TheVariants as places
+use Rattle.rule_reader.specs.Kinds.{Each, TermIsBound}
+use Rattle.rule_reader.proofs.bound.expressions_are_bound.Given as goal
+
+abbrev pub invariant-loop-expression : goal.invariant-loop-expression
+invariant-loop-expression l = Each (TermIsBound l.rule places.Heading) (take l.expression-index l.expressions)

@@ -1,0 +1,7 @@
+-- those so far are bound
+use Rattle.std.proofs.Common.{take}
+use Rattle.rule_reader.specs.Kinds.{Each, FormulaIsBound}
+use Rattle.rule_reader.proofs.bound.formula_is_bound.Given as goal
+
+abbrev pub invariant-loop-node : goal.invariant-loop-node
+invariant-loop-node l = Each (FormulaIsBound l.rule) (take l.node-index l.formula)

@@ -1,0 +1,7 @@
+-- those so far are bound
+use Rattle.std.proofs.Common.{take}
+use Rattle.rule_reader.specs.Kinds.{Each, NodeIsBound}
+use Rattle.rule_reader.proofs.bound.term_is_bound.Given as goal
+
+abbrev pub invariant-loop-node : goal.invariant-loop-node
+invariant-loop-node l = Each (NodeIsBound l.rule l.place) (take l.node-index l.term)

@@ -1,0 +1,8 @@
+-- the names among what the statements so far read
+use Rattle.std.proofs.Common.{take}
+use Rattle.rule_parse.specs.Inside.{arguments_among}
+use Rattle.rule_reader.specs.Inputs.{AreNamesAmong}
+use Rattle.rule_reader.proofs.names.names_of.Given as goal
+
+abbrev pub invariant-loop-statement : goal.invariant-loop-statement
+invariant-loop-statement l = AreNamesAmong l.source (arguments_among (take l.statement-index l.source)) l.names

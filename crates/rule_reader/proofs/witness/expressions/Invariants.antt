@@ -1,0 +1,11 @@
+-- the nodes of the expressions so far, and the last one of each
+use Rattle.std.proofs.Common.{◌≡◌, take}
+use Rattle.rule_reader.specs.Naming.{TermsMean, last_nodes}
+use Rattle.rule_reader.proofs.witness.expressions.Given as goal
+
+abbrev pub invariant-loop-written : goal.invariant-loop-written
+invariant-loop-written l =
+    record {
+      terms : TermsMean l.rule l.names (take l.written-index l.initial.written) l.terms;
+      places : l.places ≡ last_nodes 0 (take l.written-index l.initial.written);
+    }

@@ -1,0 +1,83 @@
+//! How many `undef`s and nodes of terms stand in a part of a half.
+
+ghost use Rattle.std.specs.Prelude.{◌≡◌};
+ghost use Rattle.rule_parse.specs.Inside.{arguments_of};
+ghost use Rattle.rule_reader.specs.Naming.{past, past_all, in_half};
+ghost use Rattle.rule_reader.specs.Resolving.{half_of, AreFew};
+ghost use Rattle.rule_reader.specs.WellFormed.{IsWellFormed};
+
+use crate::place::Half;
+use rule_parse::{RawArgument, RawOp, RawRule, RawStatement};
+
+/// How many `undef`s and nodes of terms stand in a part of a half.
+#[derive(Clone, Copy, Debug, PartialEq, Eq)]
+pub(crate) struct Counts {
+    pub(crate) undefs: u32,
+    pub(crate) nodes: u32,
+}
+
+impl Counts {
+    /// Before a half there are none.
+    pub(crate) const NONE: Counts = Counts {
+        undefs: 0,
+        nodes: 0,
+    };
+
+    /// How many there are behind an argument, where so many stand before it.
+    pub(crate) fn past(self, argument: &RawArgument) -> Counts
+        requires { AreFew (past self argument.now) }
+        ensures { result ≡ past self argument.now }
+    {
+        match argument {
+            RawArgument::Undef => Counts {
+                undefs: self.undefs + 1,
+                nodes: self.nodes,
+            },
+            RawArgument::Term(term) => Counts {
+                undefs: self.undefs,
+                nodes: self.nodes + term.len() as u32,
+            },
+            RawArgument::Register(_)
+            | RawArgument::Literal(_)
+            | RawArgument::Truth(_)
+            | RawArgument::Constant(_) => self,
+        }
+    }
+
+    /// How many there are behind what a statement reads.
+    pub(crate) fn past_op(self, op: &RawOp) -> Counts
+        requires { AreFew (past_all self (arguments_of op.now)) }
+        ensures { result ≡ past_all self (arguments_of op.now) }
+    {
+        match op {
+            RawOp::Binary(_, _, left, right) | RawOp::Compare(_, left, right) => {
+                self.past(&left.value).past(&right.value)
+            }
+            RawOp::Select(condition, if_true, if_false) => self
+                .past(&condition.value)
+                .past(&if_true.value)
+                .past(&if_false.value),
+            RawOp::Convert(_, operand, _) | RawOp::Copy(operand) => self.past(&operand.value),
+        }
+    }
+}
+
+/// How many there are in a half.
+fn in_half(statements: &[RawStatement]) -> Counts
+    requires { AreFew (in_half statements.now) }
+    ensures { result ≡ in_half statements.now }
+{
+    let mut counts = Counts::NONE;
+    for statement in statements {
+        counts = counts.past_op(&statement.op);
+    }
+    counts
+}
+
+/// How many `undef`s there are in a half of a rule.
+pub(crate) fn undefs_in(rule: &RawRule, half: Half) -> u32
+    requires { IsWellFormed rule.now }
+    ensures { result ≡ (in_half (half_of half rule.now)).undefs }
+{
+    in_half(half.of(rule)).undefs
+}

@@ -1,0 +1,46 @@
+//! Where in a rule a name is used.
+
+ghost use Rattle.std.specs.Prelude.{◌≡◌};
+ghost use Rattle.rule_reader.specs.Resolving.{half_of, place_in};
+
+use rule_parse::{RawRule, RawStatement};
+
+/// A half of a rule.
+#[derive(Clone, Copy, Debug, PartialEq, Eq)]
+pub(crate) enum Half {
+    Source,
+    Target,
+}
+
+/// Where a name is used: which names are there to use depends on it.
+#[derive(Clone, Copy, Debug, PartialEq, Eq)]
+pub(crate) enum Place {
+    /// In a statement of the source, by its place.
+    Source(usize),
+    /// In a statement of the target, by its place.
+    Target(usize),
+    /// In `Pre:` or `Wit:`, which stand before the source.
+    Heading,
+}
+
+impl Half {
+    /// The place of a statement of the half.
+    pub(crate) fn place(self, statement: usize) -> Place
+        ensures { result ≡ place_in self statement }
+    {
+        match self {
+            Half::Source => Place::Source(statement),
+            Half::Target => Place::Target(statement),
+        }
+    }
+
+    /// The statements of the half.
+    pub(crate) fn of(self, rule: &RawRule) -> &[RawStatement]
+        ensures { result.now ≡ half_of self rule.now }
+    {
+        match self {
+            Half::Source => rule.source.as_slice(),
+            Half::Target => rule.target.as_slice(),
+        }
+    }
+}
