@@ -1,11 +1,13 @@
 -- How many gates there are at most.
-use Rattle.std.proofs.Common.{◌≡◌, ℕ, zero, suc, ◌+◌, ◌-◌, ◌*◌, ◌^◌, ◌<◌, ◌≤◌, max, List, [], ◌∷◌, ◌++◌, length, map, Some, refl, sym, subst, arith, get_or}
-use Rattle.std.specs.Prelude.{slice_get, slice_index, sum_by, Contains}
-use Rattle.std.specs.List.{All, fold}
+use Rattle.std.proofs.Common.{◌≡◌, ℕ, zero, suc, ◌+◌, ◌-◌, ◌*◌, ◌^◌, ◌<◌, ◌≤◌, max, List, [], ◌∷◌, ◌++◌, length, length-append, map, Option, None, Some, refl, sym, ap, subst, ◌∙◌, arith, get_or}
+use Rattle.std.specs.Prelude.{slice_get, slice_index, sum_by, flat_map, filter_map, Contains}
+use Rattle.std.specs.Option.{option_map}
+use Rattle.std.specs.List.{All, fold, cons_option}
+use Rattle.circuits.specs.Gates.{select_gates}
 use Rattle.std.proofs.Math.Nat.{mul-le-mul_left, mul-le-mul}
-use Rattle.std.proofs.lemmas.List.Elements.{All-nil, All-cons, All-head, All-tail, All-map, All-weaker, All-contains_itself}
+use Rattle.std.proofs.lemmas.List.Elements.{All-nil, All-cons, All-head, All-tail, All-map, All-weaker, All-contains_itself, Contains-append_left}
 use Rattle.std.proofs.lemmas.List.Sums.{sum_by-cons, sum_by-le}
-use Rattle.std.proofs.lemmas.Option.{slice_get-get_or, slice_get_within, same_Some}
+use Rattle.std.proofs.lemmas.Option.{slice_get-get_or, slice_get_within, slice_get-map, get_or_from_slice_get, same_Some}
 use Rattle.ops.specs.declared.opcode.Opcode.TheVariants.{Add, Sub, Mul, UDiv, SDiv, URem, SRem, Shl, LShr, AShr, And, Or, Xor}
 use Rattle.rule_core.specs.declared.rule.Rule.{Rule}
 use Rattle.rule_core.specs.declared.rule.Statement.{Statement}
@@ -13,18 +15,26 @@ use Rattle.rule_core.specs.declared.rule.Operand.{Operand}
 use Rattle.rule_core.specs.declared.rule.Op.{Op}
 use Rattle.rule_core.specs.declared.rule.Op.TheVariants.{Binary, Compare, Select, Convert, Copy}
 use Rattle.rule_core.specs.Typing.{IsTyping}
-use Rattle.rule_core.specs.Checks.{IsRule}
-use Rattle.rule_core.specs.Positions.{operands_of, classes_of_statement, IsStatementOf}
-use Rattle.rule_core.proofs.Members.{Contains-from_get, Contains-flat_map, source_statement, target_statement}
+use Rattle.rule_core.specs.Checks.{IsRule, MayBeFormula}
+use Rattle.rule_core.specs.declared.rule.Term.{Term}
+use Rattle.rule_core.specs.declared.rule.Node.{Node}
+use Rattle.rule_core.specs.declared.rule.Node.TheVariants as nodes
+use Rattle.rule_core.specs.declared.rule.Function.TheVariants.{Negate, Not, Log2, Abs}
+use Rattle.rule_core.specs.declared.rule.Formula.{Formula}
+use Rattle.rule_core.specs.declared.rule.Formula.TheVariants as formulas_of
+use Rattle.rule_core.specs.Positions.{operands_of, operands_among, undef_in, undefs_among, terms_in, classes_of_statement, classes_of_term, IsStatementOf, IsTermOf}
+use Rattle.rule_core.proofs.Members.{Contains-from_get, Contains-flat_map, source_statement, target_statement, term_class_stands, constant_term, witness_term}
+use Rattle.rule_core.proofs.Weights.{few_terms, few_formulas}
 use Rattle.blast_value.proofs.Counts.{shift-few}
-use Rattle.blast_rule.specs.Gates.{op_gates, statement_gates, refusal_gates, root_width, most_gates, greatest_width, op_bound, statement_bound}
+use Rattle.blast_rule.specs.Gates.{op_gates, statement_gates, node_gates, term_gates, terms_gates, numbers_gates, formula_gates, widths_of_terms, widths_of_witness, refusal_gates, root_width, most_gates, greatest_width, op_bound, node_bound, statement_bound, term_bound, formula_bound, choice_bound, rule_bound}
+use Rattle.blast_rule.specs.Terms.{ReadsTerms}
 use Rattle.blast_rule.specs.Laws.{GatesAreFew, GatesAreBelow}
 
 square_mono : (n k : ℕ) → n ≤ k → n * n ≤ k * k
 square_mono n k h = mul-le-mul h h
 
 -- an operation leaves room for the comparison at the end, where K is no smaller than the width of its result and those of its operands
-op-few : (typing : List ℕ) (N K : ℕ) (op : Op) → 1 ≤ N → N ≤ 64 → N ≤ K → All (λ M. M ≤ K) (map (slice_index typing) (map (λ (o : Operand). o.class) (operands_of op))) → op_gates typing N op + (2 * N + 6) ≤ op_bound op K
+op-few : (typing : List ℕ) (N K : ℕ) (op : Op) → 1 ≤ N → N ≤ 64 → N ≤ K → All (λ M. M ≤ K) (map (slice_index typing) (map (λ (o : Operand). o.class) (operands_of op))) → op_gates typing N op + (2 * N + 7) ≤ op_bound op K
 op-few typing N K (Binary Add flags a b) some low below all = omega arith
 op-few typing N K (Binary Sub flags a b) some low below all = omega arith
 op-few typing N K (Binary Mul flags a b) some low below all = let fewer : N - 1 ≤ N = omega arith in omega (arith, mul-le-mul_left (3 * N) fewer, square_mono N K below)
@@ -57,6 +67,91 @@ bound-few N op low =
       ]
       | _ ↦ omega arith
     ]
+
+-- a node leaves room for its number and for whether it has one
+node-few : (N : ℕ) (node : Node) → 1 ≤ N → N ≤ 64 → node_gates N node + N + 1 ≤ node_bound node N
+node-few N (nodes.Literal z) some low = omega arith
+node-few N (nodes.Constant k) some low = omega arith
+node-few N (nodes.Register r) some low = omega arith
+node-few N (nodes.Undef k) some low = omega arith
+node-few N (nodes.Width r c) some low = omega arith
+node-few N (nodes.Unary Negate a) some low = omega arith
+node-few N (nodes.Unary Not a) some low = omega arith
+node-few N (nodes.Unary Log2 a) some low = omega arith
+node-few N (nodes.Unary Abs a) some low = omega arith
+node-few N (nodes.Binary Add a b) some low = omega arith
+node-few N (nodes.Binary Sub a b) some low = omega arith
+node-few N (nodes.Binary Mul a b) some low = let fewer : N - 1 ≤ N = omega arith in omega (arith, mul-le-mul_left (3 * N) fewer)
+node-few N (nodes.Binary UDiv a b) some low = omega arith
+node-few N (nodes.Binary SDiv a b) some low = omega arith
+node-few N (nodes.Binary URem a b) some low = omega arith
+node-few N (nodes.Binary SRem a b) some low = omega arith
+node-few N (nodes.Binary Shl a b) some low = omega (arith, shift-few N low)
+node-few N (nodes.Binary LShr a b) some low = omega (arith, shift-few N low)
+node-few N (nodes.Binary AShr a b) some low = omega (arith, shift-few N low)
+node-few N (nodes.Binary And a b) some low = omega arith
+node-few N (nodes.Binary Or a b) some low = omega arith
+node-few N (nodes.Binary Xor a b) some low = omega arith
+
+pub node-low : (N : ℕ) (node : Node) → N ≤ 64 → node_bound node N ≤ 266240
+node-low N node low =
+    let square : N * N ≤ 64 * 64 = mul-le-mul low low in
+    elim node as (λ n. node_bound n N ≤ 266240) [
+      | nodes.Binary op a b ↦ elim op as (λ o. node_bound (nodes.Binary o a b) N ≤ 266240) [
+        | Mul ↦ omega arith
+        | UDiv ↦ omega arith
+        | SDiv ↦ omega arith
+        | URem ↦ omega arith
+        | SRem ↦ omega arith
+        | _ ↦ omega arith
+      ]
+      | _ ↦ omega arith
+    ]
+
+unit_term : Term
+unit_term = record { class = 0; node = nodes.Constant 0 }
+
+-- nodes, their numbers, and whether each has one
+terms-few : (typing : List ℕ) (terms : List Term) → All (λ t. (1 ≤ slice_index typing t.class) × (slice_index typing t.class ≤ 64)) terms
+    → terms_gates typing terms + numbers_gates (map (λ t. slice_index typing t.class) terms) + length (map (λ (t : Term). slice_index typing t.class) terms) ≤ sum_by (term_bound typing) terms
+terms-few typing [] all = omega arith
+terms-few typing (t ∷ terms) all =
+    let w : Term → ℕ = λ t. slice_index typing t.class in
+    let here = all 0 t (omega arith) in
+    omega (
+      arith,
+      node-few (w t) t.node here.0 here.1,
+      sum_by-cons (term_gates typing) t terms,
+      sum_by-cons select_gates (w t) (map w terms),
+      sum_by-cons (term_bound typing) t terms,
+      terms-few typing terms (All-tail (λ t. (1 ≤ slice_index typing t.class) × (slice_index typing t.class ≤ 64)) t terms all),
+    )
+
+-- what stands at a place, or 0, is no greater than what none is greater than
+index-low : (m : ℕ) (xs : List ℕ) (k : ℕ) → All (λ x. x ≤ m) xs → slice_index xs k ≤ m
+index-low m [] zero all = omega arith
+index-low m [] (suc k) all = omega arith
+index-low m (x ∷ xs) zero all = All-head (λ x. x ≤ m) x xs all
+index-low m (x ∷ xs) (suc k) all = index-low m xs k (All-tail (λ x. x ≤ m) x xs all)
+
+-- statements have at most three operands
+few_kept : {X Y : Type 0} (f : X → Option Y) (xs : List X) → length (filter_map f xs) ≤ length xs
+few_kept f [] = omega arith
+few_kept {X} {Y} f (x ∷ xs) = elim (f x) as (λ o. length (cons_option o (filter_map f xs)) ≤ suc (length xs)) [ None ↦ omega (arith, few_kept f xs) | Some y ↦ omega (arith, few_kept f xs) ]
+
+op_operands : (op : Op) → length (operands_of op) ≤ 3
+op_operands (Binary op flags a b) = omega arith
+op_operands (Compare pred a b) = omega arith
+op_operands (Select c a b) = omega arith
+op_operands (Convert cast a to) = omega arith
+op_operands (Copy a) = omega arith
+
+pub few_operands : (statements : List Statement) → length (operands_among statements) ≤ 3 * length statements
+few_operands [] = omega arith
+few_operands (s ∷ statements) = omega (arith, op_operands s.op, few_operands statements, length-append (operands_of s.op) (operands_among statements))
+
+pub few_undefs : (statements : List Statement) → length (undefs_among statements) ≤ 3 * length statements
+few_undefs statements = omega (arith, few_kept (λ (o : Operand). undef_in o.value) (operands_among statements), few_operands statements)
 
 -- the greatest of numbers is no smaller than each, and no greater than what none of them is greater than
 fold-above : (a : ℕ) (xs : List ℕ) → (a ≤ fold max a xs) × All (λ x. x ≤ fold max a xs) xs
@@ -93,7 +188,7 @@ module _ (rule : Rule) (typing : List ℕ) (checked : IsRule rule) (typed : IsTy
   class_within : (s : Statement) → IsStatementOf rule s → HaveWidths typing s
   class_within s stands =
       All-weaker (Contains (classes_of_statement s)) (λ class. class < length typing)
-      (λ class among. typed.classes class (Contains-flat_map classes_of_statement (rule.source ++ rule.target) s class stands among))
+      (λ class among. typed.classes class (Contains-append_left (flat_map classes_of_statement (rule.source ++ rule.target)) (flat_map classes_of_term (terms_in rule)) class (Contains-flat_map classes_of_statement (rule.source ++ rule.target) s class stands among)))
       (classes_of_statement s) (All-contains_itself (classes_of_statement s))
 
   class_width : (class : ℕ) → class < length typing → (1 ≤ slice_index typing class) × (slice_index typing class ≤ 64)
@@ -106,7 +201,7 @@ module _ (rule : Rule) (typing : List ℕ) (checked : IsRule rule) (typed : IsTy
   widths-below : (s : Statement) → All (λ N. N ≤ greatest_width typing s) (map (slice_index typing) (classes_of_statement s))
   widths-below s = (fold-above 0 (map (slice_index typing) (classes_of_statement s))).1
 
-  statement-room : (s : Statement) → IsStatementOf rule s → statement_gates typing s + refusal_gates (slice_index typing s.class) + 1 ≤ statement_bound typing s
+  statement-room : (s : Statement) → IsStatementOf rule s → statement_gates typing s + refusal_gates (slice_index typing s.class) + 2 ≤ statement_bound typing s
   statement-room s stands =
       let w = statement_width s stands in
       let operands = All-tail (λ M. M ≤ greatest_width typing s) (slice_index typing s.class) (map (slice_index typing) (map (λ (o : Operand). o.class) (operands_of s.op))) (widths-below s) in
@@ -139,21 +234,93 @@ module _ (rule : Rule) (typing : List ℕ) (checked : IsRule rule) (typed : IsTy
   some_root [] some = absurd (omega arith)
   some_root (s ∷ rest) some = (get_or (s ∷ rest) (length (s ∷ rest) - 1) s, slice_get-get_or (s ∷ rest) (length (s ∷ rest) - 1) s (omega arith))
 
-  few_in_rule : most_gates rule typing ≤ sum_by (statement_bound typing) rule.source + sum_by (statement_bound typing) rule.target
+  term_width : (t : Term) → IsTermOf rule t → (1 ≤ slice_index typing t.class) × (slice_index typing t.class ≤ 64)
+  term_width t stands = class_width t.class (typed.classes t.class (term_class_stands rule t stands))
+
+  constant_terms : (P : Term → Type 0) → ((t : Term) → IsTermOf rule t → P t) → All P rule.terms
+  constant_terms P all k d within = all (get_or rule.terms k d) (constant_term rule k (get_or rule.terms k d) (slice_get-get_or rule.terms k d within))
+
+  witness_terms : (P : Term → Type 0) → ((t : Term) → IsTermOf rule t → P t) → All P rule.witness_terms
+  witness_terms P all k d within = all (get_or rule.witness_terms k d) (witness_term rule k (get_or rule.witness_terms k d) (slice_get-get_or rule.witness_terms k d within))
+
+  formulas : (P : Formula → Type 0) → ((n : ℕ) (f : Formula) → MayBeFormula rule n f → P f) → All P rule.precondition
+  formulas P all k d within = all k (get_or rule.precondition k d) (checked.precondition k (get_or rule.precondition k d) (slice_get-get_or rule.precondition k d within))
+
+  -- the classes of terms have widths, and what reads terms reads those that are there
+  pub terms_within : All (λ t. t.class < length typing) rule.terms
+  terms_within = constant_terms (λ t. t.class < length typing) (λ t stands. typed.classes t.class (term_class_stands rule t stands))
+
+  pub expressions_within : All (λ t. t.class < length typing) rule.witness_terms
+  expressions_within = witness_terms (λ t. t.class < length typing) (λ t stands. typed.classes t.class (term_class_stands rule t stands))
+
+  reads_terms : (n : ℕ) (f : Formula) → MayBeFormula rule n f → ReadsTerms (length rule.terms) f
+  reads_terms n (formulas_of.Compare pred a b) may = may.0
+  reads_terms n (formulas_of.IsPowerOfTwo a) may = may
+  reads_terms n (formulas_of.IsSignBit a) may = may
+  reads_terms n (formulas_of.HasOneUse j) may = tt
+  reads_terms n (formulas_of.Not a) may = tt
+  reads_terms n (formulas_of.And a b) may = tt
+  reads_terms n (formulas_of.Or a b) may = tt
+
+  pub formulas_read : All (ReadsTerms (length rule.terms)) rule.precondition
+  formulas_read = formulas (ReadsTerms (length rule.terms)) reads_terms
+
+  pub places_within : All (λ n. n < length rule.witness_terms) rule.witnesses
+  places_within k d within = checked.witnesses_there k (get_or rule.witnesses k d) (slice_get-get_or rule.witnesses k d within)
+
+  -- the width of a term at a place
+  pub width_there : (a : ℕ) → a < length rule.terms → (1 ≤ slice_index (widths_of_terms rule typing) a) × (slice_index (widths_of_terms rule typing) a ≤ 64)
+  width_there a within =
+      let w : Term → ℕ = λ t. slice_index typing t.class in
+      let t : Term = get_or rule.terms a unit_term in
+      let at : slice_get rule.terms a ≡ Some t = slice_get-get_or rule.terms a unit_term within in
+      let told : slice_index (widths_of_terms rule typing) a ≡ w t = get_or_from_slice_get (widths_of_terms rule typing) a (w t) 0 (slice_get-map w rule.terms a ∙ ap (option_map w) at) in
+      let width = term_width t (constant_term rule a t at) in
+      (omega (arith, width.0, told), omega (arith, width.1, told))
+
+  formula_few : (n : ℕ) (f : Formula) → MayBeFormula rule n f → formula_gates (widths_of_terms rule typing) f ≤ formula_bound (widths_of_terms rule typing) f
+  formula_few n (formulas_of.Compare pred a b) may = let w = width_there a may.0 in omega (arith, w.0)
+  formula_few n (formulas_of.IsPowerOfTwo a) may = let w = width_there a may in omega (arith, w.0)
+  formula_few n (formulas_of.IsSignBit a) may = let w = width_there a may in omega (arith, w.0)
+  formula_few n (formulas_of.HasOneUse j) may = omega arith
+  formula_few n (formulas_of.Not a) may = omega arith
+  formula_few n (formulas_of.And a b) may = omega arith
+  formula_few n (formulas_of.Or a b) may = omega arith
+
+  formula_low : (n : ℕ) (f : Formula) → MayBeFormula rule n f → formula_bound (widths_of_terms rule typing) f ≤ 4096
+  formula_low n (formulas_of.Compare pred a b) may = let w = width_there a may.0 in omega (arith, w.1)
+  formula_low n (formulas_of.IsPowerOfTwo a) may = let w = width_there a may in omega (arith, w.1)
+  formula_low n (formulas_of.IsSignBit a) may = let w = width_there a may in omega (arith, w.1)
+  formula_low n (formulas_of.HasOneUse j) may = omega arith
+  formula_low n (formulas_of.Not a) may = omega arith
+  formula_low n (formulas_of.And a b) may = omega arith
+  formula_low n (formulas_of.Or a b) may = omega arith
+
+  few_in_rule : most_gates rule typing ≤ rule_bound rule typing
   few_in_rule =
       let root = some_root rule.source checked.source_root in
       let width = root_width-is root.0 root.1 in
       let stands = source_statement rule (length rule.source - 1) root.0 root.1 in
-      let source = sum-room (statement_gates typing) (statement_bound typing) (refusal_gates (root_width rule typing) + 1) rule.source (length rule.source - 1) root.0
+      let source = sum-room (statement_gates typing) (statement_bound typing) (refusal_gates (root_width rule typing) + 2) rule.source (length rule.source - 1) root.0
       (in_source (λ s. statement_gates typing s ≤ statement_bound typing s) statement-few) root.1 (rw width (omega (arith, statement-room root.0 stands))) in
       let target = sum-le (statement_gates typing) (statement_bound typing) rule.target (in_target (λ s. statement_gates typing s ≤ statement_bound typing s) statement-few) in
+      let terms = terms-few typing rule.terms (constant_terms (λ t. (1 ≤ slice_index typing t.class) × (slice_index typing t.class ≤ 64)) term_width) in
+      let expressions = terms-few typing rule.witness_terms (witness_terms (λ t. (1 ≤ slice_index typing t.class) × (slice_index typing t.class ≤ 64)) term_width) in
+      let precondition = sum-le (formula_gates (widths_of_terms rule typing)) (formula_bound (widths_of_terms rule typing)) rule.precondition (formulas (λ f. formula_gates (widths_of_terms rule typing) f ≤ formula_bound (widths_of_terms rule typing) f) formula_few) in
+      let choices = sum-le (λ n. select_gates (slice_index (widths_of_witness rule typing) n)) (choice_bound (widths_of_witness rule typing)) rule.witnesses (λ k d below. omega arith) in
       omega arith
 
   below_in_rule : most_gates rule typing < 2 ^ 27
   below_in_rule =
       let source = sum_by-le (statement_bound typing) 266240 rule.source (in_source (λ s. statement_bound typing s ≤ 266240) statement-bound) in
       let target = sum_by-le (statement_bound typing) 266240 rule.target (in_target (λ s. statement_bound typing s ≤ 266240) statement-bound) in
-      omega (arith, few_in_rule, checked.few_in_source, checked.few_in_target)
+      let low : (t : Term) → IsTermOf rule t → term_bound typing t ≤ 266240 = λ t stands. node-low (slice_index typing t.class) t.node (term_width t stands).1 in
+      let terms = sum_by-le (term_bound typing) 266240 rule.terms (constant_terms (λ t. term_bound typing t ≤ 266240) low) in
+      let expressions = sum_by-le (term_bound typing) 266240 rule.witness_terms (witness_terms (λ t. term_bound typing t ≤ 266240) low) in
+      let precondition = sum_by-le (formula_bound (widths_of_terms rule typing)) 4096 rule.precondition (formulas (λ f. formula_bound (widths_of_terms rule typing) f ≤ 4096) formula_low) in
+      let all_low = witness_terms (λ t. slice_index typing t.class ≤ 64) (λ t stands. (term_width t stands).1) in
+      let choices = sum_by-le (choice_bound (widths_of_witness rule typing)) 4096 rule.witnesses (λ k d below. let w = index-low 64 (widths_of_witness rule typing) (get_or rule.witnesses k d) (All-map (λ N. N ≤ 64) (λ (t : Term). slice_index typing t.class) rule.witness_terms all_low) in omega arith) in
+      omega (arith, few_in_rule, checked.few_in_source, checked.few_in_target, few_terms rule checked, few_formulas rule checked, few_undefs rule.source, checked.witnesses)
 
 pub gates_are_few : GatesAreFew
 gates_are_few rule typing checked typed = few_in_rule rule typing checked typed

@@ -1,81 +1,34 @@
 -- The effects of the halves in literals.
-use Rattle.std.proofs.Common.{◌≡◌, ℕ, suc, ◌+◌, ◌-◌, ◌<◌, Bool, true, false, ◌||◌, List, [], ◌∷◌, ◌++◌, length, map, Some, refl, sym, ap, subst, ◌∙◌, arith, get_or}
+use Rattle.std.proofs.Common.{◌≡◌, ℕ, suc, ◌+◌, ◌-◌, ◌<◌, Bool, List, [], ◌∷◌, ◌++◌, length, map, Some, refl, sym, ap, ◌∙◌, arith, get_or}
 use Rattle.std.specs.Prelude.{slice_get, slice_index}
-use Rattle.std.specs.List.{All}
 use Rattle.std.proofs.lemmas.List.{length-map, take_more, take_all}
 use Rattle.std.proofs.lemmas.Option.{slice_get-map, slice_get-get_or, get_or_from_slice_get}
 use Rattle.std.specs.Option.{option_map}
-use Rattle.ops.specs.Number.{Number}
 use Rattle.ops.specs.declared.value.Effect.TheVariants as effects
-use Rattle.circuits.specs.Circuit.{Keeps}
-use Rattle.circuits.proofs.Kept.{Keeps-trans}
 use Rattle.rule_core.specs.declared.rule.Rule.{Rule}
 use Rattle.rule_core.specs.declared.rule.Statement.{Statement}
-use Rattle.rule_core.specs.Positions.{source_assigns, assigns_root, register}
+use Rattle.rule_core.specs.Positions.{source_assigns, assigns_root, name}
 use Rattle.rule_core.specs.Typing.{IsTyping}
 use Rattle.rule_core.specs.Checks.{IsRule}
-use Rattle.rule_core.specs.Run.{StatementGives, Follows, GivesLast, SourceGives, TargetGives, temporaries_of, holding_source, holding_target}
+use Rattle.rule_core.specs.Run.{GivesLast, temporaries_of}
 use Rattle.rule_core.specs.Readiness.{ValuesFit}
 use Rattle.rule_core.proofs.Members.{source_statement, class_stands}
 use Rattle.rule_core.proofs.Ready.{class_width}
 use Rattle.blast_value.specs.declared.held.Held.{Held}
-use Rattle.blast_value.specs.declared.held.Blasted.{Blasted}
-use Rattle.blast_value.specs.Effect.{held_value, effect_of, IsOwn, IsOwnEffect}
+use Rattle.blast_value.specs.Effect.{held_value}
 use Rattle.blast_rule.specs.Gates.{root_width}
-use Rattle.blast_rule.specs.Running.{shape, holds, ending}
+use Rattle.blast_rule.specs.Running.{shape}
 use Rattle.blast_rule.proofs.Counts.{root_class}
-use Rattle.blast_rule.proofs.Kept.{AllOwn-kept, values-kept, effect_of-kept, held_value-kept}
-use Rattle.blast_rule.proofs.Runs.{holds-kept, own_none, held_after}
-use Rattle.blast_rule.proofs.Steps.{source-gives, target-gives, effect}
 
 -- the source is its temporaries and the root's statement
 pub parts : (rule : Rule) (root : Statement) → 0 < length rule.source → root ≡ get_or rule.source (length rule.source - 1) root → rule.source ≡ temporaries_of rule ++ root ∷ []
 parts rule root some is =
     sym (take_all (length rule.source - 1 + 1) rule.source (omega arith)) ∙ take_more rule.source (length rule.source - 1) root (omega arith) ∙ ap (λ x. temporaries_of rule ++ x ∷ []) (sym is)
 
-last_value : {L : Type 0} (value : L → Bool) (items : List (Held L)) (h : Held L) → slice_get items (length items - 1) ≡ Some h → GivesLast (map (held_value value) items) (effects.Gives (held_value value h))
+pub last_value : {L : Type 0} (value : L → Bool) (items : List (Held L)) (h : Held L) → slice_get items (length items - 1) ≡ Some h → GivesLast (map (held_value value) items) (effects.Gives (held_value value h))
 last_value value items h at =
     let place : length (map (held_value value) items) - 1 ≡ length items - 1 = ap (λ n. n - 1) (length-map items (held_value value)) in
     (held_value value h, rw place (slice_get-map (held_value value) items (length items - 1) ∙ ap (option_map (held_value value)) at), refl)
-
-module _ {C L : Type 0} {has_literal : C → L → Type 0} {admits : C → List Bool → Type 0} {value : C → List Bool → L → Bool} {old mid now new : C}
-    (first : Keeps has_literal admits value old mid) (second : Keeps has_literal admits value mid now) (third : Keeps has_literal admits value now new) (given : List Bool) (admitted : admits old given)
-    (typing : List ℕ) (constants choices : List Number) (rule : Rule) (inputs items : List (Held L)) (u : L) (own_inputs : All (IsOwn (has_literal old)) inputs) (own_items : All (IsOwn (has_literal mid)) items)
-    (ran : Follows typing constants choices holding_source (temporaries_of rule) (holds (value mid given) inputs [] []) (ending (value mid given u) (holds (value mid given) inputs items []))) where
-  mid_admitted : admits mid given
-  mid_admitted = first.admitted given admitted
-
-  -- the temporaries have run as well where the circuit has grown
-  ran_now : Follows typing constants choices holding_source (temporaries_of rule) (holds (value now given) inputs [] []) (ending (value mid given u) (holds (value now given) inputs items []))
-  ran_now =
-      let own_now = AllOwn-kept first inputs own_inputs in
-      let none = own_none (IsOwn (has_literal mid)) in
-      rw (← holds-kept second given mid_admitted inputs [] own_now none [] none, ← holds-kept second given mid_admitted inputs items own_now own_items [] none) at ran
-
-  inputs_same : map (held_value (value now given)) inputs ≡ map (held_value (value old given)) inputs
-  inputs_same = values-kept (Keeps-trans first second) given admitted inputs own_inputs
-
-  pub source_effect : (root : Statement) (made : Blasted L) → rule.source ≡ temporaries_of rule ++ root ∷ [] → IsOwnEffect (has_literal now) made
-      → (value mid given u ≡ true → value now given made.undefined ≡ true)
-      → (value mid given u ≡ false → StatementGives typing constants choices (holds (value now given) inputs items []) root (effect_of (value now given) made))
-      → SourceGives typing constants choices rule (map (held_value (value old given)) inputs) (effect_of (value new given) made)
-  source_effect root made whole own stays gives =
-      let is = source-gives typing constants choices rule (map (held_value (value now given)) inputs) (map (held_value (value now given)) items) root (value mid given u) (value now given made.undefined) (held_value (value now given) (held_after made)) whole ran_now stays gives in
-      let kept = effect_of-kept third given (second.admitted given mid_admitted) made own in
-      subst (λ e. SourceGives typing constants choices rule (map (held_value (value old given)) inputs) e) (sym kept) (subst (λ vs. SourceGives typing constants choices rule vs (effect_of (value now given) made)) inputs_same is)
-
-  pub target_effect : (target : List (Held L)) (here undefined : L) (h : Held L) → has_literal mid u → slice_get target (length target - 1) ≡ Some h → IsOwn (has_literal now) h
-      → Follows typing constants choices holding_target rule.target (holds (value now given) inputs items []) (ending (value now given here) (holds (value now given) inputs items target))
-      → value new given undefined ≡ (value now given u || value now given here)
-      → TargetGives typing constants choices rule (map (held_value (value old given)) inputs) (effect_of (value new given) (record { bits = h.bits; poison = h.poison; undefined = undefined }))
-  target_effect target here undefined h own_u at own later is =
-      let u_same = second.values given u mid_admitted own_u in
-      let either : value new given undefined ≡ (value mid given u || value now given here) = is ∙ ap (λ b. b || value now given here) u_same in
-      let gives = target-gives typing constants choices rule (map (held_value (value now given)) inputs) (holds (value now given) inputs items []) (holds (value now given) inputs items target) (value mid given u) (value now given here) (value new given undefined) (held_value (value now given) h)
-      ran_now later (last_value (value now given) target h at) either in
-      let kept = held_value-kept third given (second.admitted given mid_admitted) h own in
-      subst (λ v. TargetGives typing constants choices rule (map (held_value (value old given)) inputs) (effect (value new given undefined) v)) (sym kept)
-      (subst (λ vs. TargetGives typing constants choices rule vs (effect (value new given undefined) (held_value (value now given) h))) inputs_same gives)
 
 -- the last statement of some
 last_statement : (statements : List Statement) → 0 < length statements → (s : Statement) × (slice_get statements (length statements - 1) ≡ Some s) × (s ≡ get_or statements (length statements - 1) s)
@@ -101,7 +54,7 @@ target_width rule typing target h checked typed count fit at =
     let s = last_statement rule.source checked.source_root in
     let t = last_statement rule.target checked.target_root in
     let w = class_width rule typing s.0.class typed (class_stands rule s.0 (source_statement rule j s.0 s.1)) in
-    let same = typed.same s.0.class t.0.class (register (source_assigns s.1) (assigns_root last_source last_target t.1)) in
+    let same = typed.same s.0.class t.0.class (name (source_assigns s.1) (assigns_root last_source last_target t.1)) in
     let place : length target - 1 ≡ k = ap (λ n. n - 1) count in
     let there : slice_get (map shape target) k ≡ Some (shape h) = rw (← place) (slice_get-map shape target (length target - 1) ∙ ap (option_map shape) at) in
     (fit k t.0 (shape h) w.0 t.1 there (sym same ∙ w.1)).0 ∙ source_width rule typing s.0 w.0 checked.source_root (s.2) w.1

@@ -1,5 +1,5 @@
 -- The inputs of a circuit, made one after the other.
-use Rattle.std.proofs.Common.{◌≡◌, ℕ, ◌+◌, ◌<◌, ◌≤◌, Bool, false, List, [], ◌∷◌, ◌++◌, length, map, take, drop, Some, refl, sym, ap, ◌∙◌, append_assoc, append-nil, get_or}
+use Rattle.std.proofs.Common.{◌≡◌, ℕ, suc, ◌+◌, ◌<◌, ◌≤◌, Bool, false, List, [], ◌∷◌, ◌++◌, length, map, take, drop, Some, refl, sym, ap, subst, ◌∙◌, append_assoc, append-nil, arith, get_or}
 use Rattle.std.specs.Prelude.{slice_get, sum_by}
 use Rattle.std.specs.List.{All}
 use Rattle.std.proofs.lemmas.List.{map-append, length-map, length_push, drop-drop, take_more, take_all, drop_all}
@@ -7,15 +7,15 @@ use Rattle.std.proofs.lemmas.List.Sums.{sum_by_push}
 use Rattle.std.proofs.lemmas.Option.{slice_get_within, get_or_from_slice_get}
 use Rattle.std.proofs.lemmas.List.Elements.{All-push}
 use Rattle.circuits.specs.Circuit.{Keeps}
-use Rattle.circuits.specs.Word.{number}
+use Rattle.circuits.specs.Word.{number, number_of}
 use Rattle.circuits.proofs.Kept.{All-kept, map-kept, Keeps-trans}
 use Rattle.circuits.proofs.Words.{number-push}
-use Rattle.blast_value.specs.declared.held.Held.{Held}
-use Rattle.blast_value.specs.Effect.{held_value, widths_of, IsOwn}
-use Rattle.blast_rule.specs.Settings.{value_read, values_read}
-use Rattle.blast_rule.proofs.Written.{values_read-next}
+use Rattle.blast_value.specs.Effect.{held_value}
+use Rattle.ops.specs.Number.{Number}
+use Rattle.blast_rule.specs.Settings.{value_read, number_read, all_read}
+use Rattle.blast_rule.specs.Parts.{number_held}
+use Rattle.blast_rule.proofs.Written.{all_read-next}
 use Rattle.blast_rule.proofs.Words.{number-take_one, get_or-behind}
-use Rattle.blast_rule.proofs.Kept.{AllOwn-kept, values-kept}
 
 -- so many inputs were made, and are the bits of a word
 pub record Made {C L : Type 0} (has_literal : C → L → Type 0) (admits : C → List Bool → Type 0) (value : C → List Bool → L → Bool) (inputs_made gates_made : C → ℕ) (start now : C) (word : List L) (i : ℕ) : Type 0 where
@@ -55,57 +55,77 @@ module _ {C L : Type 0} {has_literal : C → L → Type 0} {admits : C → List 
         (sym (number-take_one (drop (inputs_made start) inputs) i));
   }
 
-  -- and the last one is the poison bit
-  pub made_value : (inputs : List Bool) → admits start inputs → held_value (value next inputs) (record { bits = word; poison = l }) ≡ value_read i (drop (inputs_made start) inputs)
-  made_value inputs admitted = rw (next_value inputs admitted, before.width, word_kept inputs admitted) refl
+-- once all bits were made, they are the number that is read
+module _ {C L : Type 0} {has_literal : C → L → Type 0} {admits : C → List Bool → Type 0} {value : C → List Bool → L → Bool} {inputs_made gates_made : C → ℕ} {start now : C} {word : List L} {i : ℕ}
+    (before : Made has_literal admits value inputs_made gates_made start now word i) where
+  pub made_number : (N : ℕ) → N ≡ i → (inputs : List Bool) → admits start inputs → number_held (value now inputs) word ≡ number_read N (drop (inputs_made start) inputs)
+  made_number N same inputs admitted = rw (same, before.width, before.number inputs admitted) refl
 
--- so many of the rule's inputs were made
-pub record AllMade {C L : Type 0} (has_literal : C → L → Type 0) (admits : C → List Bool → Type 0) (value : C → List Bool → L → Bool) (inputs_made gates_made : C → ℕ) (start now : C) (widths : List ℕ) (made_so_far : List (Held L)) (k : ℕ) : Type 0 where
-  pub keeps : Keeps has_literal admits value start now
-  pub gates : gates_made now ≡ gates_made start
-  pub own : All (IsOwn (has_literal now)) made_so_far
-  pub widths_are : widths_of made_so_far ≡ take k widths
-  pub made : (inputs : List Bool) → admits start inputs → drop (inputs_made now) inputs ≡ drop (sum_by (λ N. N + 1) (take k widths)) (drop (inputs_made start) inputs)
-  pub values : (inputs : List Bool) → admits start inputs → values_read widths (drop (inputs_made start) inputs) ≡ map (held_value (value now inputs)) made_so_far ++ values_read (drop k widths) (drop (inputs_made now) inputs)
+-- a number and one more truth value are the value that is read
+pub poison_made : {L : Type 0} (value : L → Bool) (word : List L) (poison : L) (N : ℕ) (read : List Bool) → number_held value word ≡ number_read N read → value poison ≡ get_or read N false
+    → held_value value (record { bits = word; poison = poison }) ≡ value_read N read
+poison_made value word poison N read is last =
+    let width : length word ≡ N = ap (λ (n : Number). n.width) is in
+    let same : number_of value word ≡ number (take N read) = ap (λ (n : Number). n.number) is in
+    rw (last, width, same) refl
 
--- and once all of them were
-pub record WereMade {C L : Type 0} (admits : C → List Bool → Type 0) (value : C → List Bool → L → Bool) (inputs_made : C → ℕ) (start now : C) (widths : List ℕ) (made_so_far : List (Held L)) : Type 0 where
-  pub widths_are : widths_of made_so_far ≡ widths
-  pub made : (inputs : List Bool) → admits start inputs → drop (inputs_made now) inputs ≡ drop (sum_by (λ N. N + 1) widths) (drop (inputs_made start) inputs)
-  pub values : (inputs : List Bool) → admits start inputs → map (held_value (value now inputs)) made_so_far ≡ values_read widths (drop (inputs_made start) inputs)
+-- What is made one after the other, each of it literals that stand for what is read, which are kept as the circuit grows.
+module _ {C M X : Type 0} (admits : C → List Bool → Type 0) (inputs_made : C → ℕ) (keeps : C → C → Type 0) (admitted_by : (old new : C) → keeps old new → (inputs : List Bool) → admits old inputs → admits new inputs)
+    (own : C → M → Type 0) (own_kept : (old new : C) → keeps old new → (m : M) → own old m → own new m)
+    (stands : C → List Bool → M → X) (stands_kept : (old new : C) → keeps old new → (inputs : List Bool) → admits old inputs → (m : M) → own old m → stands new inputs m ≡ stands old inputs m)
+    (one : ℕ → List Bool → X) (size : ℕ → ℕ) (width : M → ℕ) where
+  -- so many of them were made
+  pub record AllMade (start now : C) (widths : List ℕ) (made : List M) (k : ℕ) : Type 0 where
+    pub own_them : All (own now) made
+    pub widths_are : map width made ≡ take k widths
+    pub behind : (inputs : List Bool) → admits start inputs → drop (inputs_made now) inputs ≡ drop (sum_by size (take k widths)) (drop (inputs_made start) inputs)
+    pub read : (inputs : List Bool) → admits start inputs → all_read one size widths (drop (inputs_made start) inputs) ≡ map (stands now inputs) made ++ all_read one size (drop k widths) (drop (inputs_made now) inputs)
 
-module _ {C L : Type 0} {has_literal : C → L → Type 0} {admits : C → List Bool → Type 0} {value : C → List Bool → L → Bool} {inputs_made gates_made : C → ℕ} {start now next : C} {widths : List ℕ} {so_far : List (Held L)} {k : ℕ} where
-  pub all_made_more : AllMade has_literal admits value inputs_made gates_made start now widths so_far k → (N : ℕ) (held : Held L) → slice_get widths k ≡ Some N → length held.bits ≡ N → IsOwn (has_literal next) held
-      → Keeps has_literal admits value now next → gates_made next ≡ gates_made now
-      → ((inputs : List Bool) → admits now inputs → drop (inputs_made next) inputs ≡ drop (N + 1) (drop (inputs_made now) inputs))
-      → ((inputs : List Bool) → admits now inputs → held_value (value next inputs) held ≡ value_read N (drop (inputs_made now) inputs))
-      → AllMade has_literal admits value inputs_made gates_made start next widths (so_far ++ held ∷ []) (k + 1)
-  all_made_more before N held at width own keeps gates made value_is =
+  map-kept_all : (old new : C) → keeps old new → (inputs : List Bool) → admits old inputs → (made : List M) → All (own old) made → map (stands new inputs) made ≡ map (stands old inputs) made
+  map-kept_all old new kept inputs admitted [] all = refl
+  map-kept_all old new kept inputs admitted (m ∷ made) all =
+      let first = stands_kept old new kept inputs admitted m (all 0 m (omega arith)) in
+      let rest = map-kept_all old new kept inputs admitted made (λ k d below. all (suc k) d (omega arith)) in
+      cc
+
+  all_made_empty : (start : C) (widths : List ℕ) → AllMade start start widths [] 0
+  all_made_empty start widths = record {
+    own_them = λ k d below. absurd (omega arith);
+    widths_are = refl;
+    behind = λ inputs admitted. refl;
+    read = λ inputs admitted. refl;
+  }
+
+  pub all_made_none : (start : C) (widths : List ℕ) (made : List M) → made ≡ [] → AllMade start start widths made 0
+  all_made_none start widths made none = subst (λ xs. AllMade start start widths xs 0) (sym none) (all_made_empty start widths)
+
+  pub all_made_more : (start now next : C) (widths : List ℕ) (made : List M) (k N : ℕ) (m : M) → AllMade start now widths made k → ((inputs : List Bool) → admits start inputs → admits now inputs) → keeps now next → slice_get widths k ≡ Some N → width m ≡ N → own next m
+      → ((inputs : List Bool) → admits now inputs → drop (inputs_made next) inputs ≡ drop (size N) (drop (inputs_made now) inputs))
+      → ((inputs : List Bool) → admits now inputs → stands next inputs m ≡ one N (drop (inputs_made now) inputs))
+      → AllMade start next widths (made ++ m ∷ []) (k + 1)
+  all_made_more start now next widths made k N m before still kept at is_wide own_m moved is =
       let within : k < length widths = slice_get_within widths k N at in
       let more : take (k + 1) widths ≡ take k widths ++ N ∷ [] = take_more widths k N within ∙ ap (λ n. take k widths ++ n ∷ []) (get_or_from_slice_get widths k N N at) in
       record {
-        keeps = Keeps-trans before.keeps keeps;
-        gates = gates ∙ before.gates;
-        own = All-push (IsOwn (has_literal next)) so_far held (AllOwn-kept keeps so_far before.own) own;
-        widths_are = map-append (λ (h : Held L). length h.bits) so_far (held ∷ []) ∙ rw (before.widths_are, width) (sym more);
-        made = λ inputs admitted.
-            made inputs (before.keeps.admitted inputs admitted) ∙ ap (drop (N + 1)) (before.made inputs admitted)
-            ∙ drop-drop (N + 1) (sum_by (λ n. n + 1) (take k widths)) (drop (inputs_made start) inputs)
-            ∙ ap (λ n. drop n (drop (inputs_made start) inputs)) (sym (ap (sum_by (λ n. n + 1)) more ∙ sum_by_push (λ n. n + 1) (take k widths) N));
-        values = λ inputs admitted.
-            let now_admitted = before.keeps.admitted inputs admitted in
-            before.values inputs admitted
-            ∙ rw (values_read-next widths k N (drop (inputs_made now) inputs) at, ← value_is inputs now_admitted, ← made inputs now_admitted, ← values-kept keeps inputs now_admitted so_far before.own, map-append (held_value (value next inputs)) so_far (held ∷ []))
-            (sym (append_assoc (map (held_value (value next inputs)) so_far) (held_value (value next inputs) held ∷ []) (values_read (drop (k + 1) widths) (drop (inputs_made next) inputs))));
+        own_them = All-push (own next) made m (λ j d below. own_kept now next kept (get_or made j d) (before.own_them j d below)) own_m;
+        widths_are = map-append width made (m ∷ []) ∙ rw (before.widths_are, is_wide) (sym more);
+        behind = λ inputs admitted.
+            moved inputs (still inputs admitted) ∙ ap (drop (size N)) (before.behind inputs admitted) ∙ drop-drop (size N) (sum_by size (take k widths)) (drop (inputs_made start) inputs)
+            ∙ ap (λ n. drop n (drop (inputs_made start) inputs)) (sym (ap (sum_by size) more ∙ sum_by_push size (take k widths) N));
+        read = λ inputs admitted.
+            let a = still inputs admitted in
+            before.read inputs admitted
+            ∙ rw (all_read-next one size widths k N (drop (inputs_made now) inputs) at, ← is inputs a, ← moved inputs a, ← map-kept_all now next kept inputs a made before.own_them, map-append (stands next inputs) made (m ∷ []))
+            (sym (append_assoc (map (stands next inputs) made) (stands next inputs m ∷ []) (all_read one size (drop (k + 1) widths) (drop (inputs_made next) inputs))));
       }
 
-module _ {C L : Type 0} {has_literal : C → L → Type 0} {admits : C → List Bool → Type 0} {value : C → List Bool → L → Bool} {inputs_made gates_made : C → ℕ} {start now : C} {widths : List ℕ} {so_far : List (Held L)} {k : ℕ} where
-  pub all_made : AllMade has_literal admits value inputs_made gates_made start now widths so_far k → length widths ≤ k → WereMade admits value inputs_made start now widths so_far
-  all_made before all =
-      let whole : take k widths ≡ widths = take_all k widths all in
+  pub all_made_widths : (start now : C) (widths : List ℕ) (made : List M) (k : ℕ) → AllMade start now widths made k → length widths ≤ k → map width made ≡ widths
+  all_made_widths start now widths made k before all = before.widths_are ∙ take_all k widths all
+
+  pub all_made_behind : (start now : C) (widths : List ℕ) (made : List M) (k : ℕ) → AllMade start now widths made k → length widths ≤ k → (inputs : List Bool) → admits start inputs → drop (inputs_made now) inputs ≡ drop (sum_by size widths) (drop (inputs_made start) inputs)
+  all_made_behind start now widths made k before all inputs admitted = before.behind inputs admitted ∙ ap (λ ws. drop (sum_by size ws) (drop (inputs_made start) inputs)) (take_all k widths all)
+
+  pub all_made_read : (start now : C) (widths : List ℕ) (made : List M) (k : ℕ) → AllMade start now widths made k → length widths ≤ k → (inputs : List Bool) → admits start inputs → map (stands now inputs) made ≡ all_read one size widths (drop (inputs_made start) inputs)
+  all_made_read start now widths made k before all inputs admitted =
       let none : drop k widths ≡ [] = drop_all k widths all in
-      record {
-        widths_are = before.widths_are ∙ whole;
-        made = λ inputs admitted. before.made inputs admitted ∙ ap (λ ws. drop (sum_by (λ N. N + 1) ws) (drop (inputs_made start) inputs)) whole;
-        values = λ inputs admitted. sym (before.values inputs admitted ∙ rw none (append-nil (map (held_value (value now inputs)) so_far)));
-      }
+      sym (before.read inputs admitted ∙ rw none (append-nil (map (stands now inputs) made)))

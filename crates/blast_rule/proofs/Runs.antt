@@ -6,11 +6,10 @@ use Rattle.std.proofs.lemmas.List.{map-append, length-map, take_more, take_all}
 use Rattle.std.proofs.lemmas.List.Sums.{sum_by_push, sum_by-cons}
 use Rattle.std.proofs.lemmas.Nat.{pow_pos}
 use Rattle.std.proofs.lemmas.Option.{same_Some, slice_get-get_or, slice_get_within, get_or_from_slice_get}
-use Rattle.ops.specs.Number.{Number}
 use Rattle.ops.specs.Value.{IsValueOf}
 use Rattle.circuits.specs.Circuit.{Keeps}
 use Rattle.rule_core.specs.declared.rule.Statement.{Statement}
-use Rattle.rule_core.specs.Run.{StatementGives, Follows, holding_source, holding_target}
+use Rattle.rule_core.specs.Run.{Given, StatementGives, Follows, holding_source, holding_target}
 use Rattle.rule_core.specs.Readiness.{ValuesFit}
 use Rattle.rule_core.proofs.Ready.{ValuesFit-push}
 use Rattle.blast_value.specs.declared.held.Held.{Held}
@@ -53,10 +52,10 @@ shapes_fit-push typing statements items i s held fit count at width =
 pub stands : (statements slice : List Statement) (i : ℕ) (s : Statement) → slice ≡ statements → i < length statements → s ≡ get_or slice i s → slice_get statements i ≡ Some s
 stands statements slice i s same within is = slice_get-get_or statements i s within ∙ ap (λ x. Some x) (sym (rw same at is))
 
-module _ {C L : Type 0} {has_literal : C → L → Type 0} {admits : C → List Bool → Type 0} {value : C → List Bool → L → Bool} {now next : C} (keeps : Keeps has_literal admits value now next) (given : List Bool) (admitted : admits now given)
+module _ {C L : Type 0} {has_literal : C → L → Type 0} {admits : C → List Bool → Type 0} {value : C → List Bool → L → Bool} {now next : C} (keeps : Keeps has_literal admits value now next) (read : List Bool) (admitted : admits now read)
     (inputs source : List (Held L)) (own_inputs : All (IsOwn (has_literal now)) inputs) (own_source : All (IsOwn (has_literal now)) source) where
-  pub holds-kept : (target : List (Held L)) → All (IsOwn (has_literal now)) target → holds (value next given) inputs source target ≡ holds (value now given) inputs source target
-  holds-kept target own = rw (values-kept keeps given admitted inputs own_inputs, values-kept keeps given admitted source own_source, values-kept keeps given admitted target own) refl
+  pub holds-kept : (target : List (Held L)) → All (IsOwn (has_literal now)) target → holds (value next read) inputs source target ≡ holds (value now read) inputs source target
+  holds-kept target own = rw (values-kept keeps read admitted inputs own_inputs, values-kept keeps read admitted source own_source, values-kept keeps read admitted target own) refl
 
 -- registers that hold nothing are a circuit's
 pub own_none : {L : Type 0} (P : L → Type 0) → All P []
@@ -66,30 +65,30 @@ pub own_last : {X : Type 0} (P : X → Type 0) (xs : List X) (x : X) → All P x
 own_last P xs x all at = subst P (get_or_from_slice_get xs (length xs - 1) x x at) (all (length xs - 1) x (slice_get_within xs (length xs - 1) x at))
 
 -- a statement after those that have run
-module _ {C L : Type 0} {has_literal : C → L → Type 0} {admits : C → List Bool → Type 0} {value : C → List Bool → L → Bool} {now next : C} (keeps : Keeps has_literal admits value now next) (given : List Bool) (admitted : admits now given)
-    (typing : List ℕ) (constants choices : List Number) (statements : List Statement) (i : ℕ) (s : Statement) (within : i < length statements) (is : s ≡ get_or statements i s) (inputs items : List (Held L)) (before : L) (made : Blasted L)
+module _ {C L : Type 0} {has_literal : C → L → Type 0} {admits : C → List Bool → Type 0} {value : C → List Bool → L → Bool} {now next : C} (keeps : Keeps has_literal admits value now next) (read : List Bool) (admitted : admits now read)
+    (typing : List ℕ) (given : Given) (statements : List Statement) (i : ℕ) (s : Statement) (within : i < length statements) (is : s ≡ get_or statements i s) (inputs items : List (Held L)) (before : L) (made : Blasted L)
     (own_inputs : All (IsOwn (has_literal now)) inputs) (own_items : All (IsOwn (has_literal now)) items)
-    (stays : value now given before ≡ true → value next given made.undefined ≡ true) where
+    (stays : value now read before ≡ true → value next read made.undefined ≡ true) where
   more : take (i + 1) statements ≡ take i statements ++ s ∷ []
   more = take_more statements i s within ∙ ap (λ x. take i statements ++ x ∷ []) (sym is)
 
-  pub source_more : Follows typing constants choices holding_source (take i statements) (holds (value now given) inputs [] []) (ending (value now given before) (holds (value now given) inputs items []))
-      → (value now given before ≡ false → StatementGives typing constants choices (holds (value next given) inputs items []) s (effect_of (value next given) made))
-      → Follows typing constants choices holding_source (take (i + 1) statements) (holds (value next given) inputs [] []) (ending (value next given made.undefined) (holds (value next given) inputs (items ++ held_after made ∷ []) []))
+  pub source_more : Follows typing given holding_source (take i statements) (holds (value now read) inputs [] []) (ending (value now read before) (holds (value now read) inputs items []))
+      → (value now read before ≡ false → StatementGives typing given (holds (value next read) inputs items []) s (effect_of (value next read) made))
+      → Follows typing given holding_source (take (i + 1) statements) (holds (value next read) inputs [] []) (ending (value next read made.undefined) (holds (value next read) inputs (items ++ held_after made ∷ []) []))
   source_more ran gives =
-      let ran' = rw (← holds-kept keeps given admitted inputs [] own_inputs (own_none (IsOwn (has_literal now))) [] (own_none (IsOwn (has_literal now))), ← holds-kept keeps given admitted inputs items own_inputs own_items [] (own_none (IsOwn (has_literal now)))) at ran in
+      let ran' = rw (← holds-kept keeps read admitted inputs [] own_inputs (own_none (IsOwn (has_literal now))) [] (own_none (IsOwn (has_literal now))), ← holds-kept keeps read admitted inputs items own_inputs own_items [] (own_none (IsOwn (has_literal now)))) at ran in
       rw more
-      (follows-push typing constants choices holding_source (take i statements) s (holds (value next given) inputs [] []) (holds (value next given) inputs items []) (holds (value next given) inputs (items ++ held_after made ∷ []) [])
-      (value now given before) (value next given made.undefined) (held_value (value next given) (held_after made)) ran' stays gives
-      (rw (map-append (held_value (value next given)) items (held_after made ∷ [])) refl))
+      (follows-push typing given holding_source (take i statements) s (holds (value next read) inputs [] []) (holds (value next read) inputs items []) (holds (value next read) inputs (items ++ held_after made ∷ []) [])
+      (value now read before) (value next read made.undefined) (held_value (value next read) (held_after made)) ran' stays gives
+      (rw (map-append (held_value (value next read)) items (held_after made ∷ [])) refl))
 
   pub target_more : (source : List (Held L)) → All (IsOwn (has_literal now)) source
-      → Follows typing constants choices holding_target (take i statements) (holds (value now given) inputs source []) (ending (value now given before) (holds (value now given) inputs source items))
-      → (value now given before ≡ false → StatementGives typing constants choices (holds (value next given) inputs source items) s (effect_of (value next given) made))
-      → Follows typing constants choices holding_target (take (i + 1) statements) (holds (value next given) inputs source []) (ending (value next given made.undefined) (holds (value next given) inputs source (items ++ held_after made ∷ [])))
+      → Follows typing given holding_target (take i statements) (holds (value now read) inputs source []) (ending (value now read before) (holds (value now read) inputs source items))
+      → (value now read before ≡ false → StatementGives typing given (holds (value next read) inputs source items) s (effect_of (value next read) made))
+      → Follows typing given holding_target (take (i + 1) statements) (holds (value next read) inputs source []) (ending (value next read made.undefined) (holds (value next read) inputs source (items ++ held_after made ∷ [])))
   target_more source own_source ran gives =
-      let ran' = rw (← holds-kept keeps given admitted inputs source own_inputs own_source [] (own_none (IsOwn (has_literal now))), ← holds-kept keeps given admitted inputs source own_inputs own_source items own_items) at ran in
+      let ran' = rw (← holds-kept keeps read admitted inputs source own_inputs own_source [] (own_none (IsOwn (has_literal now))), ← holds-kept keeps read admitted inputs source own_inputs own_source items own_items) at ran in
       rw more
-      (follows-push typing constants choices holding_target (take i statements) s (holds (value next given) inputs source []) (holds (value next given) inputs source items) (holds (value next given) inputs source (items ++ held_after made ∷ []))
-      (value now given before) (value next given made.undefined) (held_value (value next given) (held_after made)) ran' stays gives
-      (rw (map-append (held_value (value next given)) items (held_after made ∷ [])) refl))
+      (follows-push typing given holding_target (take i statements) s (holds (value next read) inputs source []) (holds (value next read) inputs source items) (holds (value next read) inputs source (items ++ held_after made ∷ []))
+      (value now read before) (value next read made.undefined) (held_value (value next read) (held_after made)) ran' stays gives
+      (rw (map-append (held_value (value next read)) items (held_after made ∷ [])) refl))

@@ -1,142 +1,154 @@
 -- What is read as a setting fits, and each setting that fits is read.
-use Rattle.std.proofs.Common.{◌≡◌, ℕ, ◌+◌, ◌<◌, List, [], ◌∷◌, length, take, sum_by, Some, refl, sym, ap, subst, ◌∙◌, arith, get_or}
+use Rattle.std.proofs.Common.{◌≡◌, ℕ, ◌+◌, ◌<◌, List, [], ◌∷◌, ◌++◌, length, length-append, take, sum_by, Bool, Some, refl, sym, ap, subst, ◌∙◌, arith, get_or}
 use Rattle.std.specs.Prelude.{slice_get}
-use Rattle.std.proofs.lemmas.List.{length-map, take_more}
-use Rattle.std.proofs.lemmas.List.Sums.{sum_by_push}
-use Rattle.std.proofs.lemmas.List.FromFn.{length-map-range_with_len, get_or-map-range_with_len}
-use Rattle.std.proofs.lemmas.Option.{slice_get-get_or, slice_get_within, get_or_from_slice_get, same_Some}
+use Rattle.std.proofs.lemmas.List.{take_more}
+use Rattle.std.proofs.lemmas.List.Sums.{sum_by_push, sum_by-cons}
+use Rattle.std.proofs.lemmas.Option.{slice_get_within, get_or_from_slice_get, same_Some}
 use Rattle.ops.specs.Number.{Number}
 use Rattle.ops.specs.Value.{IsValueOf}
 use Rattle.ops.specs.declared.value.Value.{Value}
-use Rattle.ops.specs.declared.value.Effect.{Effect}
-use Rattle.ops.specs.declared.value.Effect.TheVariants as effects
+use Rattle.ops.specs.declared.value.Value.TheVariants.{Bits}
 use Rattle.rule_core.specs.declared.rule.Rule.{Rule}
 use Rattle.rule_core.specs.declared.rule.Statement.{Statement}
-use Rattle.rule_core.specs.declared.rule.Op.{Op}
-use Rattle.rule_core.specs.declared.rule.Op.TheVariants.{Binary, Compare, Select, Convert, Copy}
-use Rattle.rule_core.specs.declared.rule.Operand.{Operand}
-use Rattle.rule_core.specs.declared.rule.Argument.{Argument}
-use Rattle.rule_core.specs.declared.rule.Argument.TheVariants as arguments
-use Rattle.rule_core.specs.Run.{Held, Ending, Undefines, Holds, GoesOn, Leads, at_start, temporaries_of, holding_source, holding_target, ArgumentGives, OperandGives, OpGives, Follows, SourceGives, TargetGoesOn, TargetGives}
 use Rattle.rule_core.specs.Typing.{IsTyping}
 use Rattle.rule_core.specs.Checks.{IsRule}
-use Rattle.rule_core.specs.Valid.{InputsFit, Setting, HaveEffects, chosen}
-use Rattle.blast_rule.specs.Inputs.{input_width, input_widths}
-use Rattle.blast_rule.specs.Settings.{values_read, setting_of}
+use Rattle.rule_core.specs.Positions.{Names, undefs_among}
+use Rattle.rule_core.specs.Valid.{Setting, InputsFit, ConstantsFit, TargetChoicesFit}
+use Rattle.blast_rule.specs.declared.named.Kind.{Kind}
+use Rattle.blast_rule.specs.declared.named.Kind.TheVariants.{Input, Constant, Undef}
+use Rattle.blast_rule.specs.Inputs.{named_width, named_widths, input_widths, constant_widths, undef_widths, value_bits, number_bits}
+use Rattle.blast_rule.specs.Naming.{AreNamed}
+use Rattle.blast_rule.specs.Settings.{value_read, number_read, values_read, numbers_read, behind_inputs, behind_constants}
 use Rattle.blast_rule.specs.Laws.{ReadSettingsFit, FittingSettingsAreRead}
-use Rattle.blast_rule.proofs.Widths.{input_width-is, input_named}
-use Rattle.blast_rule.proofs.Written.{FitAll, all_written, length-all_written, read-all_written, values_read-fit, length-values_read}
+use Rattle.blast_rule.proofs.Widths.{half_of, name_of, count_of, half_operand, naming, operand_width, named_width-is, are_named, length-named_widths, named_widths-at}
+use Rattle.blast_rule.proofs.Written.{FitAll, written, length-written, read-written, value_read-fits, number_written, length-number_written, read-number_written, number_read-fits, all_written, length-all_written, read-all_written, behind-all_written, all_read-fit, length-all_read}
 
-pub length-input_widths : (rule : Rule) (typing : List ℕ) → length (input_widths rule typing) ≡ length rule.inputs
-length-input_widths rule typing = length-map-range_with_len (input_width rule typing) 0 (length rule.inputs)
+abbrev pub IsNumberOf : ℕ → Number → Type 0
+IsNumberOf N n = IsValueOf N (Bits n)
 
--- the width at place k is that of input k
-pub input_widths-at : (rule : Rule) (typing : List ℕ) (k : ℕ) → k < length rule.inputs → slice_get (input_widths rule typing) k ≡ Some (input_width rule typing k)
-input_widths-at rule typing k within =
-    slice_get-get_or (input_widths rule typing) k 0 (omega (arith, length-input_widths rule typing))
-    ∙ ap (λ N. Some N) (get_or-map-range_with_len (input_width rule typing) 0 (length rule.inputs) k k 0 within (omega arith))
+module _ {X : Type 0} (Fits : ℕ → X → Type 0) (rule : Rule) (typing : List ℕ) (kind : Kind) (checked : IsRule rule) (typed : IsTyping rule typing) (xs : List X) where
+  -- what has the widths of a kind fits at each position that names one
+  pub fit_widths : FitAll Fits (named_widths typing (half_of rule kind) kind (count_of rule kind)) xs
+      → (k c N : ℕ) (x : X) → Names rule (name_of kind k) c → slice_get typing c ≡ Some N → slice_get xs k ≡ Some x → Fits N x
+  fit_widths fit k c N x names at there =
+      let within : k < count_of rule kind = omega (arith, slice_get_within xs k x there, fit.0, length-named_widths typing (half_of rule kind) kind (count_of rule kind)) in
+      let is = named_width-is rule typing kind k c N typed (are_named rule typing kind checked typed k within) names at in
+      subst (λ M. Fits M x) is (fit.1 k (named_width typing (half_of rule kind) kind k) x (named_widths-at typing (half_of rule kind) kind (count_of rule kind) k within) there)
 
--- values of the inputs' widths fit
-pub fit_widths : (rule : Rule) (typing : List ℕ) (values : List Value) → IsTyping rule typing → FitAll (input_widths rule typing) values → InputsFit rule typing values
-fit_widths rule typing values typed fit =
-    record {
-      count = fit.0 ∙ length-input_widths rule typing;
-      widths = λ k c N v names at there.
-          let within : k < length rule.inputs = omega (arith, slice_get_within values k v there, fit.0, length-input_widths rule typing) in
-          subst (λ M. IsValueOf M v) (input_width-is rule typing k c N typed names at) (fit.1 k (input_width rule typing k) v (input_widths-at rule typing k within) there);
-    }
+  -- and the other way round
+  pub widths_fit : length xs ≡ count_of rule kind → ((k c N : ℕ) (x : X) → Names rule (name_of kind k) c → slice_get typing c ≡ Some N → slice_get xs k ≡ Some x → Fits N x)
+      → FitAll Fits (named_widths typing (half_of rule kind) kind (count_of rule kind)) xs
+  widths_fit count fit = (
+    count ∙ sym (length-named_widths typing (half_of rule kind) kind (count_of rule kind)),
+    λ k N x at there.
+        let within : k < count_of rule kind = omega (arith, slice_get_within xs k x there, count) in
+        let named = are_named rule typing kind checked typed k within in
+        let o = named.operand in
+        let w = operand_width rule typing o.0 typed (half_operand rule kind o.0 o.1) in
+        let names = naming rule kind k o.0 o.1 o.2 in
+        let is = named_width-is rule typing kind k o.0.class w.0 typed named names w.1 in
+        let same : N ≡ w.0 = same_Some N (named_width typing (half_of rule kind) kind k) (sym at ∙ named_widths-at typing (half_of rule kind) kind (count_of rule kind) k within) ∙ is in
+        subst (λ M. Fits M x) (sym same) (fit k o.0.class w.0 x names w.1 there),
+  )
 
--- and the other way round
-pub widths_fit : (rule : Rule) (typing : List ℕ) (values : List Value) → IsRule rule → IsTyping rule typing → InputsFit rule typing values → FitAll (input_widths rule typing) values
-widths_fit rule typing values checked typed fit = (
-  fit.count ∙ sym (length-input_widths rule typing),
-  λ k N v at there.
-      let within : k < length rule.inputs = omega (arith, slice_get_within values k v there, fit.count) in
-      let n = input_named rule typing k checked typed within in
-      let is : input_width rule typing k ≡ n.1 = input_width-is rule typing k n.0 n.1 typed n.2 n.3 in
-      let same : N ≡ n.1 = same_Some N (input_width rule typing k) (sym at ∙ input_widths-at rule typing k within) ∙ is in
-      subst (λ M. IsValueOf M v) (sym same) (fit.widths k n.0 n.1 v n.2 n.3 there),
+module _ (rule : Rule) (typing : List ℕ) (checked : IsRule rule) (typed : IsTyping rule typing) where
+  pub inputs_fit : (values : List Value) → FitAll IsValueOf (input_widths rule typing) values → InputsFit rule typing values
+  inputs_fit values fit = record {
+    count = fit.0 ∙ length-named_widths typing rule.source Input (length rule.inputs);
+    widths = fit_widths IsValueOf rule typing Input checked typed values fit;
+  }
+
+  pub constants_fit : (numbers : List Number) → FitAll IsNumberOf (constant_widths rule typing) numbers → ConstantsFit rule typing numbers
+  constants_fit numbers fit = record {
+    count = fit.0 ∙ length-named_widths typing rule.source Constant (length rule.constants);
+    widths = fit_widths IsNumberOf rule typing Constant checked typed numbers fit;
+  }
+
+  pub undefs_fit : (numbers : List Number) → FitAll IsNumberOf (undef_widths rule typing) numbers → TargetChoicesFit rule typing numbers
+  undefs_fit numbers fit = record {
+    count = fit.0 ∙ length-named_widths typing rule.target Undef (count_of rule Undef);
+    widths = fit_widths IsNumberOf rule typing Undef checked typed numbers fit;
+  }
+
+all_numbers-fit : (widths : List ℕ) (read : List Bool) → FitAll IsNumberOf widths (numbers_read widths read)
+all_numbers-fit widths read = (
+  length-all_read number_read number_bits IsNumberOf number_written length-number_written read-number_written number_read-fits widths read,
+  all_read-fit number_read number_bits IsNumberOf number_written length-number_written read-number_written number_read-fits widths read,
 )
 
 pub read_fits : ReadSettingsFit
 read_fits rule typing read checked typed =
     record {
-      inputs = fit_widths rule typing (values_read (input_widths rule typing) read) typed (length-values_read (input_widths rule typing) read, values_read-fit (input_widths rule typing) read);
-      constants = length-map rule.constants (λ (name : List ℕ). let zero_of : Number = record { width = 1; number = 0 } in zero_of);
-      target_undefs = refl;
+      inputs = inputs_fit rule typing checked typed (values_read (input_widths rule typing) read) (
+        length-all_read value_read value_bits IsValueOf written length-written read-written value_read-fits (input_widths rule typing) read,
+        all_read-fit value_read value_bits IsValueOf written length-written read-written value_read-fits (input_widths rule typing) read,
+      );
+      constants = constants_fit rule typing checked typed (numbers_read (constant_widths rule typing) (behind_inputs rule typing read)) (all_numbers-fit (constant_widths rule typing) (behind_inputs rule typing read));
+      target_undefs = undefs_fit rule typing checked typed (numbers_read (undef_widths rule typing) (behind_constants rule typing read)) (all_numbers-fit (undef_widths rule typing) (behind_constants rule typing read));
     }
 
--- What statements do goes by no constant and no choice.
-module _ (typing : List ℕ) (constants choices constants' choices' : List Number) where
-  argument_same : (held : Held) (N : ℕ) (x : Argument) (v : Value) → ArgumentGives typing constants choices held N x v → ArgumentGives typing constants' choices' held N x v
-  argument_same held N (arguments.Register r) v gives = gives
-  argument_same held N (arguments.Literal z) v gives = gives
-  argument_same held N (arguments.Truth b) v gives = gives
-
-  operand_same : (held : Held) (o : Operand) (v : Value) → OperandGives typing constants choices held o v → OperandGives typing constants' choices' held o v
-  operand_same held o v (N, width, gives) = (N, width, argument_same held N o.value v gives)
-
-  op_same : (held : Held) (N : ℕ) (op : Op) (e : Effect) → OpGives typing constants choices held N op e → OpGives typing constants' choices' held N op e
-  op_same held N (Binary op flags a b) e (x, y, left, right, is) = (x, y, operand_same held a x left, operand_same held b y right, is)
-  op_same held N (Compare pred a b) e (M, x, y, width, left, right, is) = (M, x, y, width, operand_same held a x left, operand_same held b y right, is)
-  op_same held N (Select c a b) e (z, x, y, chooses, left, right, is) = (z, x, y, operand_same held c z chooses, operand_same held a x left, operand_same held b y right, is)
-  op_same held N (Convert cast a to) e (M, x, width, gives, is) = (M, x, width, operand_same held a x gives, is)
-  op_same held N (Copy a) e (x, gives, is) = (x, operand_same held a x gives, is)
-
-  follows_same : (holding : Held → Value → Held) (statements : List Statement) (held : Held) (end : Ending) → Follows typing constants choices holding statements held end → Follows typing constants' choices' holding statements held end
-  follows_same holding [] held end follows = follows
-  follows_same holding (s ∷ rest) held end (e, (N, width, gives), goes) = (
-    e,
-    (N, width, op_same held N s.op e gives),
-    elim e as (λ d. GoesOn (λ v. Follows typing constants choices holding rest (holding held v) end) d end → GoesOn (λ v. Follows typing constants' choices' holding rest (holding held v) end) d end) [
-      | effects.Undefined ↦ λ ends. ends
-      | effects.Gives v ↦ λ next. follows_same holding rest (holding held v) end next
-    ] goes,
-  )
-
-  leads_same : (next next' : Held → Effect → Type 0) → ((held : Held) (e : Effect) → next held e → next' held e) → (end : Ending) (e : Effect) → Leads next end e → Leads next' end e
-  leads_same next next' same Undefines e leads = leads
-  leads_same next next' same (Holds held) e leads = same held e leads
-
-  source_same : (rule : Rule) (inputs : List Value) (e : Effect) → SourceGives typing constants choices rule inputs e → SourceGives typing constants' choices' rule inputs e
-  source_same rule inputs e (end, follows, leads) = (end, follows_same holding_source rule.source (at_start inputs) end follows, leads)
-
-  goes_on_same : (rule : Rule) (held : Held) (e : Effect) → TargetGoesOn typing constants choices rule held e → TargetGoesOn typing constants' choices' rule held e
-  goes_on_same rule held e (end, follows, leads) = (end, follows_same holding_target rule.target held end follows, leads)
-
-  target_same : (rule : Rule) (inputs : List Value) (e : Effect) → TargetGives typing constants choices rule inputs e → TargetGives typing constants' choices' rule inputs e
-  target_same rule inputs e (end, follows, leads) = (
-    end,
-    follows_same holding_source (temporaries_of rule) (at_start inputs) end follows,
-    leads_same (TargetGoesOn typing constants choices rule) (TargetGoesOn typing constants' choices' rule) (goes_on_same rule) end e leads,
-  )
-
-effects_same : (rule : Rule) (typing : List ℕ) (setting setting' : Setting) (source target : Effect) → setting'.inputs ≡ setting.inputs → HaveEffects rule typing setting source target → HaveEffects rule typing setting' source target
-effects_same rule typing setting setting' source target same have =
-    record {
-      of_source = rw same (source_same typing setting.constants (chosen rule typing setting) setting'.constants (chosen rule typing setting') rule setting.inputs source have.of_source);
-      of_target = rw same (target_same typing setting.constants setting.target_undefs setting'.constants setting'.target_undefs rule setting.inputs target have.of_target);
-    }
+-- three lists are a setting
+pub same_setting : (setting : Setting) (inputs : List Value) (constants undefs : List Number) → inputs ≡ setting.inputs → constants ≡ setting.constants → undefs ≡ setting.target_undefs
+    → record { inputs = inputs; constants = constants; target_undefs = undefs } ≡ setting
+same_setting setting inputs constants undefs first second third = rw (first, second, third) refl
 
 pub fitting_are_read : FittingSettingsAreRead
 fitting_are_read rule typing setting checked typed fits =
-    let fit = widths_fit rule typing setting.inputs checked typed fits.inputs in
-    let read = all_written (input_widths rule typing) setting.inputs in
-    let same : (setting_of rule typing read).inputs ≡ setting.inputs = read-all_written (input_widths rule typing) setting.inputs fit in (
+    let iw = input_widths rule typing in
+    let cw = constant_widths rule typing in
+    let uw = undef_widths rule typing in
+    let i_fit = widths_fit IsValueOf rule typing Input checked typed setting.inputs fits.inputs.count fits.inputs.widths in
+    let c_fit = widths_fit IsNumberOf rule typing Constant checked typed setting.constants fits.constants.count fits.constants.widths in
+    let u_fit = widths_fit IsNumberOf rule typing Undef checked typed setting.target_undefs fits.target_undefs.count fits.target_undefs.widths in
+    let first = all_written value_read value_bits IsValueOf written length-written read-written value_read-fits iw setting.inputs in
+    let second = all_written number_read number_bits IsNumberOf number_written length-number_written read-number_written number_read-fits cw setting.constants in
+    let third = all_written number_read number_bits IsNumberOf number_written length-number_written read-number_written number_read-fits uw setting.target_undefs in
+    let read : List Bool = first ++ (second ++ (third ++ [])) in
+    let behind : behind_inputs rule typing read ≡ second ++ (third ++ []) =
+    behind-all_written value_read value_bits IsValueOf written length-written read-written value_read-fits iw setting.inputs (second ++ (third ++ [])) i_fit.0 in
+    let behind_both : behind_constants rule typing read ≡ third ++ [] =
+    rw behind (behind-all_written number_read number_bits IsNumberOf number_written length-number_written read-number_written number_read-fits cw setting.constants (third ++ []) c_fit.0) in (
       read,
       record {
-        count = length-all_written (input_widths rule typing) setting.inputs (fits.inputs.count ∙ sym (length-input_widths rule typing));
-        inputs = same;
-        target_undefs = sym fits.target_undefs;
-        effects = λ source target have. effects_same rule typing setting (setting_of rule typing read) source target same have;
+        count = omega (
+          arith,
+          length-append first (second ++ (third ++ [])),
+          length-append second (third ++ []),
+          length-append third [],
+          length-all_written value_read value_bits IsValueOf written length-written read-written value_read-fits iw setting.inputs i_fit.0,
+          length-all_written number_read number_bits IsNumberOf number_written length-number_written read-number_written number_read-fits cw setting.constants c_fit.0,
+          length-all_written number_read number_bits IsNumberOf number_written length-number_written read-number_written number_read-fits uw setting.target_undefs u_fit.0,
+        );
+        is = same_setting setting _ _ _
+            (read-all_written value_read value_bits IsValueOf written length-written read-written value_read-fits iw setting.inputs (second ++ (third ++ [])) i_fit)
+            (ap (numbers_read cw) behind ∙ read-all_written number_read number_bits IsNumberOf number_written length-number_written read-number_written number_read-fits cw setting.constants (third ++ []) c_fit)
+            (ap (numbers_read uw) behind_both ∙ read-all_written number_read number_bits IsNumberOf number_written length-number_written read-number_written number_read-fits uw setting.target_undefs [] u_fit);
       },
     )
 
--- the truth values of one input more
-pub sum-input_widths : (rule : Rule) (typing : List ℕ) (k : ℕ) → k < length rule.inputs
-    → sum_by (λ N. N + 1) (take (k + 1) (input_widths rule typing)) ≡ sum_by (λ N. N + 1) (take k (input_widths rule typing)) + (input_width rule typing k + 1)
-sum-input_widths rule typing k within =
-    let widths = input_widths rule typing in
-    let width : get_or widths k 0 ≡ input_width rule typing k = get_or_from_slice_get widths k (input_width rule typing k) 0 (input_widths-at rule typing k within) in
-    ap (λ (ws : List ℕ). sum_by (λ N. N + 1) ws) (take_more widths k 0 (omega (arith, length-input_widths rule typing)))
-    ∙ sum_by_push (λ N. N + 1) (take k widths) (get_or widths k 0) ∙ ap (λ n. sum_by (λ N. N + 1) (take k widths) + (n + 1)) width
+-- the truth values of one more
+pub sum-named_widths : (size : ℕ → ℕ) (typing : List ℕ) (kind : Kind) (statements : List _) (count k : ℕ) → k < count
+    → sum_by size (take (k + 1) (named_widths typing statements kind count)) ≡ sum_by size (take k (named_widths typing statements kind count)) + size (named_width typing statements kind k)
+sum-named_widths size typing kind statements count k within =
+    let widths = named_widths typing statements kind count in
+    let width : get_or widths k 0 ≡ named_width typing statements kind k = get_or_from_slice_get widths k (named_width typing statements kind k) 0 (named_widths-at typing statements kind count k within) in
+    ap (λ (ws : List ℕ). sum_by size ws) (take_more widths k 0 (omega (arith, length-named_widths typing statements kind count)))
+    ∙ sum_by_push size (take k widths) (get_or widths k 0) ∙ ap (λ n. sum_by size (take k widths) + size n) width
+
+-- what is told of the half, the count and the widths where they are these
+pub are_named_as : (rule : Rule) (typing : List ℕ) (kind : Kind) → IsRule rule → IsTyping rule typing → (ts : List ℕ) (statements : List Statement) (count : ℕ)
+    → ts ≡ typing → statements ≡ half_of rule kind → count ≡ count_of rule kind → AreNamed ts statements kind count
+are_named_as rule typing kind checked typed ts statements count same half all = rw (same, half, all) (are_named rule typing kind checked typed)
+
+pub widths_as : (rule : Rule) (typing : List ℕ) (kind : Kind) (ts : List ℕ) (statements : List Statement) (count : ℕ)
+    → ts ≡ typing → statements ≡ half_of rule kind → count ≡ count_of rule kind → named_widths ts statements kind count ≡ named_widths typing (half_of rule kind) kind (count_of rule kind)
+widths_as rule typing kind ts statements count same half all = rw (same, half, all) refl
+
+-- values have one truth value more than numbers
+pub sum-values : (widths : List ℕ) → sum_by value_bits widths ≡ sum_by number_bits widths + length widths
+sum-values [] = refl
+sum-values (N ∷ widths) = omega (arith, sum_by-cons value_bits N widths, sum_by-cons number_bits N widths, sum-values widths)
+
+-- how many `undef`s the target has, where these are its statements
+pub undefs_as : (rule : Rule) (statements : List Statement) (count : ℕ) → count ≡ length (undefs_among statements) → statements ≡ rule.target → count ≡ count_of rule Undef
+undefs_as rule statements count told half = told ∙ ap (λ (ss : List Statement). length (undefs_among ss)) half

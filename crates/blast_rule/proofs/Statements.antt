@@ -4,7 +4,6 @@ use Rattle.std.specs.Prelude.{slice_get}
 use Rattle.std.specs.List.{All, AllZip}
 use Rattle.std.proofs.lemmas.List.Elements.{All-nil, All-cons, All-from_recursion}
 use Rattle.std.proofs.lemmas.Option.{same_Some, get_or_from_slice_get}
-use Rattle.ops.specs.Number.{Number}
 use Rattle.ops.specs.Value.{HasWidth}
 use Rattle.ops.specs.Integer.{bits}
 use Rattle.ops.specs.declared.value.Value.{Value}
@@ -19,7 +18,7 @@ use Rattle.rule_core.specs.declared.rule.Op.{Op}
 use Rattle.rule_core.specs.declared.rule.Op.TheVariants.{Binary, Compare, Select, Convert, Copy}
 use Rattle.rule_core.specs.Positions.{operands_of}
 use Rattle.rule_core.specs.Readiness.{OperandIsReady, OpIsReady}
-use Rattle.rule_core.specs.Run.{Held as Registry, OperandGives, OpGives, StatementGives}
+use Rattle.rule_core.specs.Run.{Held as Registry, Given, OperandGives, OpGives, StatementGives}
 use Rattle.blast_value.specs.declared.held.Held.{Held}
 use Rattle.blast_value.specs.declared.held.Blasted.{Blasted}
 use Rattle.blast_value.specs.declared.instruction.Instruction.{Instruction}
@@ -27,10 +26,10 @@ use Rattle.blast_value.specs.declared.instruction.Instruction.TheVariants as ins
 use Rattle.blast_value.specs.Meaning.{Takes, HasEffect}
 use Rattle.blast_value.specs.Gates.{gates_of, greatest}
 use Rattle.blast_value.specs.Effect.{held_value, effect_of, widths_of, IsOwn, IsOwnEffect}
-use Rattle.blast_rule.specs.declared.registers.Registers.{Registers}
+use Rattle.blast_rule.specs.declared.scope.Scope.{Scope}
 use Rattle.blast_rule.specs.Gates.{op_gates}
-use Rattle.blast_rule.specs.Running.{instruction_of, seen, shapes, HoldsOperand, RegistersAreOwn}
-use Rattle.blast_rule.proofs.Kept.{held_value-kept, values-kept}
+use Rattle.blast_rule.specs.Running.{instruction_of, seen, shapes, given_shape, IsGiven, HoldsOperand}
+use Rattle.blast_rule.proofs.Kept.{held_value-kept}
 
 -- what is related to elements, one by one
 uncons : {A B : Type 0} (R : A → B → Type 0) (x : A) (xs : List A) (ys : List B) → AllZip R (x ∷ xs) ys → (y : B) × (rest : List B) × (ys ≡ y ∷ rest) × R x y × AllZip R xs rest
@@ -56,7 +55,7 @@ three R a b c ys all =
     let others = two R b c first.1 first.4 in
     (first.0, others.0, others.1, first.2 ∙ ap (λ rest. first.0 ∷ rest) others.2, first.3, others.3, others.4)
 
-module _ {L : Type 0} (has_literal : L → Type 0) (admits : List Bool → Type 0) (value : List Bool → L → Bool) (typing : List ℕ) (r : Registers L) where
+module _ {L : Type 0} (has_literal : L → Type 0) (admits : List Bool → Type 0) (value : List Bool → L → Bool) (typing : List ℕ) (r : Scope L) where
   abbrev Holds : Operand → Held L → Type 0
   Holds o held = HoldsOperand has_literal admits value typing r o held
 
@@ -78,9 +77,9 @@ module _ {L : Type 0} (has_literal : L → Type 0) (admits : List Bool → Type 
   pub record Blasts (op : Op) (what : Instruction) (N : ℕ) (held : List (Held L)) : Type 0 where
     pub takes : Takes what N (widths_of held)
     pub gates : gates_of what N (greatest (widths_of held)) ≡ op_gates typing N op
-    pub gives : (inputs : List Bool) (constants choices : List Number) (e : Effect) → admits inputs → HasEffect what N (map (held_value (value inputs)) held) e → OpGives typing constants choices (seen (value inputs) r) N op e
+    pub gives : (inputs : List Bool) (given : Given) (e : Effect) → admits inputs → IsGiven (value inputs) r given → HasEffect what N (map (held_value (value inputs)) held) e → OpGives typing given (seen (value inputs) r) N op e
 
-  pub blasts : (op : Op) (what : Instruction) (N : ℕ) (held : List (Held L)) → instruction_of op ≡ Some what → OpIsReady typing (shapes r) N op → AllZip Holds (operands_of op) held → Blasts op what N held
+  pub blasts : (op : Op) (what : Instruction) (N : ℕ) (held : List (Held L)) → instruction_of op ≡ Some what → OpIsReady typing (given_shape r) (shapes r) N op → AllZip Holds (operands_of op) held → Blasts op what N held
   blasts (Binary op flags a b) what N held is ready all =
       let h = two Holds a b held all in
       let left = width_is N a h.0 ready.1.0 h.3 in
@@ -88,7 +87,7 @@ module _ {L : Type 0} (has_literal : L → Type 0) (admits : List Bool → Type 
       rw (sym (same_Some (instructions.Binary op flags) what is), h.2) record {
         takes = rw (left, right) refl;
         gates = refl;
-        gives = λ inputs constants choices e admitted effect. (held_value (value inputs) h.0, held_value (value inputs) h.1, h.3.gives inputs constants choices admitted, h.4.gives inputs constants choices admitted, effect);
+        gives = λ inputs given e admitted is_given effect. (held_value (value inputs) h.0, held_value (value inputs) h.1, h.3.gives inputs given admitted is_given, h.4.gives inputs given admitted is_given, effect);
       }
   blasts (Compare pred a b) what N held is ready all =
       let h = two Holds a b held all in
@@ -98,13 +97,13 @@ module _ {L : Type 0} (has_literal : L → Type 0) (admits : List Bool → Type 
       rw (sym (same_Some (instructions.Compare pred) what is), h.2) record {
         takes = (ready.0, rw left at h.3.some, rw (left, right) refl, ready.3);
         gates = rw (left, right, told) (omega arith);
-        gives = λ inputs constants choices e admitted effect. (
+        gives = λ inputs given e admitted is_given effect. (
           ready.0,
           held_value (value inputs) h.0,
           held_value (value inputs) h.1,
           ready.1.0,
-          h.3.gives inputs constants choices admitted,
-          h.4.gives inputs constants choices admitted,
+          h.3.gives inputs given admitted is_given,
+          h.4.gives inputs given admitted is_given,
           effect ready.0 (of_width inputs ready.0 h.0 left) (of_width inputs ready.0 h.1 right),
         );
       }
@@ -116,13 +115,13 @@ module _ {L : Type 0} (has_literal : L → Type 0) (admits : List Bool → Type 
       rw (sym (same_Some instructions.Select what is), h.3) record {
         takes = rw (condition, yes, no) refl;
         gates = refl;
-        gives = λ inputs constants choices e admitted effect. (
+        gives = λ inputs given e admitted is_given effect. (
           held_value (value inputs) h.0,
           held_value (value inputs) h.1,
           held_value (value inputs) h.2,
-          h.4.gives inputs constants choices admitted,
-          h.5.gives inputs constants choices admitted,
-          h.6.gives inputs constants choices admitted,
+          h.4.gives inputs given admitted is_given,
+          h.5.gives inputs given admitted is_given,
+          h.6.gives inputs given admitted is_given,
           effect,
         );
       }
@@ -132,33 +131,28 @@ module _ {L : Type 0} (has_literal : L → Type 0) (admits : List Bool → Type 
       rw (sym (same_Some (instructions.Convert cast) what is), h.1) record {
         takes = (ready.0, rw from at h.2.some, rw from refl, ready.2);
         gates = refl;
-        gives = λ inputs constants choices e admitted effect. (ready.0, held_value (value inputs) h.0, ready.1.0, h.2.gives inputs constants choices admitted, effect ready.0 (of_width inputs ready.0 h.0 from));
+        gives = λ inputs given e admitted is_given effect. (ready.0, held_value (value inputs) h.0, ready.1.0, h.2.gives inputs given admitted is_given, effect ready.0 (of_width inputs ready.0 h.0 from));
       }
   blasts (Copy a) what N held is ready all = cc
 
 -- the operands of an operation that is ready can be read
-abbrev CanBeRead : List ℕ → Registry → Operand → Type 0
-CanBeRead typing held o = (N : ℕ) × OperandIsReady typing held N o
+abbrev CanBeRead : List ℕ → Given → Registry → Operand → Type 0
+CanBeRead typing given held o = (N : ℕ) × OperandIsReady typing given held N o
 
-pub all_ready : (typing : List ℕ) (held : Registry) (N : ℕ) (op : Op) → OpIsReady typing held N op → All (CanBeRead typing held) (operands_of op)
-all_ready typing held N (Binary op flags a b) ready = All-from_recursion (CanBeRead typing held) (a ∷ b ∷ []) ((N, ready.1), ((N, ready.2), tt))
-all_ready typing held N (Compare pred a b) ready = All-from_recursion (CanBeRead typing held) (a ∷ b ∷ []) ((ready.0, ready.1), ((ready.0, ready.2), tt))
-all_ready typing held N (Select c a b) ready = All-from_recursion (CanBeRead typing held) (c ∷ a ∷ b ∷ []) ((1, ready.0), ((N, ready.1), ((N, ready.2), tt)))
-all_ready typing held N (Convert cast a to) ready = All-from_recursion (CanBeRead typing held) (a ∷ []) ((ready.0, ready.1), tt)
-all_ready typing held N (Copy a) ready = All-from_recursion (CanBeRead typing held) (a ∷ []) ((N, ready), tt)
+pub all_ready : (typing : List ℕ) (given : Given) (held : Registry) (N : ℕ) (op : Op) → OpIsReady typing given held N op → All (CanBeRead typing given held) (operands_of op)
+all_ready typing given held N (Binary op flags a b) ready = All-from_recursion (CanBeRead typing given held) (a ∷ b ∷ []) ((N, ready.1), ((N, ready.2), tt))
+all_ready typing given held N (Compare pred a b) ready = All-from_recursion (CanBeRead typing given held) (a ∷ b ∷ []) ((ready.0, ready.1), ((ready.0, ready.2), tt))
+all_ready typing given held N (Select c a b) ready = All-from_recursion (CanBeRead typing given held) (c ∷ a ∷ b ∷ []) ((1, ready.0), ((N, ready.1), ((N, ready.2), tt)))
+all_ready typing given held N (Convert cast a to) ready = All-from_recursion (CanBeRead typing given held) (a ∷ []) ((ready.0, ready.1), tt)
+all_ready typing given held N (Copy a) ready = All-from_recursion (CanBeRead typing given held) (a ∷ []) ((N, ready), tt)
 
 -- a copy gives what its operand does
-pub copy_gives : (typing : List ℕ) (constants choices : List Number) (held : Registry) (s : Statement) (N : ℕ) → slice_get typing s.class ≡ Some N → (a : Operand) (x : Value) (e : Effect)
-    → s.op ≡ Copy a → OperandGives typing constants choices held a x → e ≡ effects.Gives x → StatementGives typing constants choices held s e
-copy_gives typing constants choices held s N at a x e is gives same = (N, at, subst (λ o. OpGives typing constants choices held N o e) (sym is) (x, gives, same))
+pub copy_gives : (typing : List ℕ) (given : Given) (held : Registry) (s : Statement) (N : ℕ) → slice_get typing s.class ≡ Some N → (a : Operand) (x : Value) (e : Effect)
+    → s.op ≡ Copy a → OperandGives typing given held a x → e ≡ effects.Gives x → StatementGives typing given held s e
+copy_gives typing given held s N at a x e is gives same = (N, at, subst (λ o. OpGives typing given held N o e) (sym is) (x, gives, same))
 
 module _ {C L : Type 0} {has_literal : C → L → Type 0} {admits : C → List Bool → Type 0} {value : C → List Bool → L → Bool} {old new : C} (keeps : Keeps has_literal admits value old new) (inputs : List Bool) (admitted : admits old inputs) where
-  -- what registers hold stays
-  pub seen-kept : (r : Registers L) → RegistersAreOwn (has_literal old) r → seen (value new inputs) r ≡ seen (value old inputs) r
-  seen-kept r own =
-      rw (values-kept keeps inputs admitted r.inputs.now own.inputs, values-kept keeps inputs admitted r.source.now own.source, values-kept keeps inputs admitted r.target.now own.target) refl
-
-  -- and so does an effect, where its undefined bit is either of it and of one that is false
+  -- an effect stays, where its undefined bit is either of it and of one that is false
   pub effect-next : (made : Blasted L) (before undefined : L) → IsOwnEffect (has_literal old) made → value old inputs before ≡ false → value new inputs undefined ≡ (value old inputs before || value old inputs made.undefined)
       → effect_of (value new inputs) (record { bits = made.bits; poison = made.poison; undefined = undefined }) ≡ effect_of (value old inputs) made
   effect-next made before undefined own none is =

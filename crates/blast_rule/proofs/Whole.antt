@@ -1,61 +1,82 @@
 -- The circuit of a rule as a whole.
-use Rattle.std.proofs.Common.{◌≡◌, ℕ, zero, suc, ◌↔◌, Bool, List, [], ◌∷◌, length, map, Some, sym, subst, ◌∙◌, arith}
-use Rattle.std.specs.Prelude.{slice_get, IsTrue}
-use Rattle.std.proofs.lemmas.List.{length-map}
-use Rattle.std.proofs.lemmas.Nat.{pow_pos}
-use Rattle.std.proofs.lemmas.Option.{same_Some, slice_get_within}
+use Rattle.std.proofs.Common.{◌≡◌, ℕ, ◌↔◌, ◌+◌, ◌≤◌, Bool, true, false, ◌&&◌, List, map, refl, sym, subst, ◌∙◌, arith}
+use Rattle.std.specs.Prelude.{IsTrue}
+use Rattle.std.specs.List.{All}
 use Rattle.ops.specs.Number.{Number}
-use Rattle.ops.specs.Value.{IsValueOf, AllowsEffect}
-use Rattle.ops.specs.declared.value.Value.{Value}
+use Rattle.ops.specs.Value.{AllowsEffect}
 use Rattle.ops.specs.declared.value.Effect.{Effect}
+use Rattle.circuits.specs.Circuit.{Keeps}
 use Rattle.rule_core.specs.declared.rule.Rule.{Rule}
 use Rattle.rule_core.specs.Typing.{IsTyping}
 use Rattle.rule_core.specs.Checks.{IsRule}
-use Rattle.rule_core.specs.Run.{SourceGives, TargetGives}
-use Rattle.rule_core.specs.Valid.{InputsFit, Setting, SettingFits, HaveEffects, chosen}
+use Rattle.rule_core.specs.Terms.{PreconditionHolds}
+use Rattle.rule_core.specs.Valid.{Setting, SettingFits, HaveEffects}
 use Rattle.rule_core.specs.Laws.{RulesHaveOneOutcome}
-use Rattle.blast_value.specs.declared.held.Held.{Held}
-use Rattle.blast_value.specs.Effect.{widths_of}
-use Rattle.blast_rule.specs.Inputs.{input_widths}
-use Rattle.blast_rule.specs.Parts.{Refutes}
-use Rattle.blast_rule.specs.Running.{shape}
-use Rattle.blast_rule.proofs.Settings.{fit_widths}
+use Rattle.blast_value.specs.declared.held.Blasted.{Blasted}
+use Rattle.blast_value.specs.Effect.{effect_of, IsOwnEffect}
+use Rattle.blast_rule.specs.declared.setting_bits.SettingBits.{SettingBits}
+use Rattle.blast_rule.specs.Halves.{setting_held, SettingIsOwn}
+use Rattle.blast_rule.specs.Parts.{Refutes, number_held}
+use Rattle.blast_rule.proofs.Kept.{AllOwn-kept, AllAll-kept, values-kept, numbers_held-kept, effect_of-kept}
 
-shape_fits : {L : Type 0} (items : List (Held L)) (k N : ℕ) (v : Value) → slice_get (widths_of items) k ≡ Some N → slice_get (map shape items) k ≡ Some v → IsValueOf N v
-shape_fits [] k N v at there = absurd (omega (arith, slice_get_within [] k N at))
-shape_fits (h ∷ items) zero N v at there = subst (IsValueOf N) (same_Some (shape h) v there) (same_Some (length h.bits) N at, pow_pos N)
-shape_fits (h ∷ items) (suc k) N v at there = shape_fits items k N v at there
+falsity : IsTrue false → ⊥
+falsity h = cc
 
--- words of the inputs' widths can be read as the inputs
-pub shapes_fit : {L : Type 0} (rule : Rule) (typing : List ℕ) (items : List (Held L)) → IsTyping rule typing → widths_of items ≡ input_widths rule typing → InputsFit rule typing (map shape items)
-shapes_fit rule typing items typed widths =
-    let count = λ (ws : List ℕ). length (map shape items) ≡ length ws in
-    fit_widths rule typing (map shape items) typed (
-      subst count widths (length-map items shape ∙ sym (length-map items (λ h. length h.bits))),
-      λ k N v at there. shape_fits items k N v (subst (λ (ws : List ℕ). slice_get ws k ≡ Some N) (sym widths) at) there,
-    )
+both : (a b : Bool) → IsTrue (a && b) → IsTrue a × IsTrue b
+both true b h = (refl, h)
+both false b h = absurd (falsity h)
 
-pub have_effects : (rule : Rule) (typing typing' : List ℕ) (setting : Setting) (values : List Value) (source source' target target' : Effect) → typing' ≡ typing → values ≡ setting.inputs → source' ≡ source → target' ≡ target
-    → ((constants choices : List Number) → SourceGives typing' constants choices rule values source') → ((constants choices : List Number) → TargetGives typing' constants choices rule values target') → HaveEffects rule typing setting source target
-have_effects rule typing typing' setting values source source' target target' same inputs s t of_source of_target =
-    let constants = setting.constants in
-    let first = chosen rule typing setting in
-    let second = setting.target_undefs in
-    record {
-      of_source = subst (λ e. SourceGives typing constants first rule setting.inputs e) s
-          (subst (λ vs. SourceGives typing constants first rule vs source') inputs (subst (λ ws. SourceGives ws constants first rule values source') same (of_source constants first)));
-      of_target = subst (λ e. TargetGives typing constants second rule setting.inputs e) t
-          (subst (λ vs. TargetGives typing constants second rule vs target') inputs (subst (λ ws. TargetGives ws constants second rule values target') same (of_target constants second)));
-    }
+and_true : (a b : Bool) → IsTrue a → IsTrue b → IsTrue (a && b)
+and_true true b first second = second
+and_true false b first second = absurd (falsity first)
 
--- a literal that is true exactly where one effect refuses the other is true exactly at a counterexample
-pub refutes : RulesHaveOneOutcome → (rule : Rule) (typing : List ℕ) (setting : Setting) (source target : Effect) (b : Bool) → IsRule rule → IsTyping rule typing → SettingFits rule typing setting → HaveEffects rule typing setting source target
-    → (IsTrue b ↔ (AllowsEffect source target → ⊥)) → IsTrue b ↔ Refutes rule typing setting
-refutes one rule typing setting source target b checked typed fits have is = (
-  λ true. (source, target, record { fits = fits; effects = have; refused = is.0 true }),
-  λ (s, t, counter).
+-- a literal that is true exactly where the precondition holds and one effect refuses the other is true exactly at a counterexample
+pub refutes : RulesHaveOneOutcome → (rule : Rule) (typing : List ℕ) (setting : Setting) (choices : List Number) (source target : Effect) (met refused b : Bool) → IsRule rule → IsTyping rule typing → SettingFits rule typing setting
+    → HaveEffects rule typing setting choices source target → (IsTrue met ↔ PreconditionHolds rule typing setting.constants) → (IsTrue refused ↔ ¬ AllowsEffect source target) → b ≡ (met && refused) → IsTrue b ↔ Refutes rule typing setting
+refutes one rule typing setting choices source target met refused b checked typed fits have holds is same = (
+  λ h.
+      let parts = both met refused (subst IsTrue same h) in
+      (choices, source, target, record { fits = fits; precondition = holds.0 parts.0; effects = have; refused = is.0 parts.1 }),
+  λ (ch, s, t, counter).
       let o = one rule typing setting checked typed fits in
-      let here = o.3 source target have in
-      let there = o.3 s t counter.effects in
-      is.1 (λ allowed. counter.refused (subst (λ e. AllowsEffect e t) (here.0 ∙ sym there.0) (subst (AllowsEffect source) (here.1 ∙ sym there.1) allowed))),
+      let here = o.4 choices source target have in
+      let there = o.4 ch s t counter.effects in
+      subst IsTrue (sym same) (and_true met refused (holds.1 counter.precondition)
+      (is.1 (λ allowed. counter.refused (subst (λ e. AllowsEffect e t) (here.0 ∙ sym there.0) (subst (AllowsEffect source) (here.1 ∙ sym there.1) allowed))))),
 )
+
+module _ {C L : Type 0} {has_literal : C → L → Type 0} {admits : C → List Bool → Type 0} {value : C → List Bool → L → Bool} {old new : C} (keeps : Keeps has_literal admits value old new) where
+  -- what stands for a setting is kept
+  pub setting-kept : (read : List Bool) → admits old read → (made : SettingBits L) → SettingIsOwn (has_literal old) made → setting_held (value new read) made ≡ setting_held (value old read) made
+  setting-kept read admitted made own =
+      rw (values-kept keeps read admitted made.inputs own.inputs, numbers_held-kept keeps read admitted made.constants own.constants, numbers_held-kept keeps read admitted made.target_undefs own.target_undefs) refl
+
+  pub setting_own-kept : (made : SettingBits L) → SettingIsOwn (has_literal old) made → SettingIsOwn (has_literal new) made
+  setting_own-kept made own = record {
+    inputs = AllOwn-kept keeps made.inputs own.inputs;
+    constants = AllAll-kept keeps made.constants own.constants;
+    target_undefs = AllAll-kept keeps made.target_undefs own.target_undefs;
+  }
+
+  -- and so are effects
+  pub effects-kept : (read : List Bool) → admits old read → (rule : Rule) (typing : List ℕ) (setting : Setting) (choices : List (List L)) (source target : Blasted L) → All (All (has_literal old)) choices → IsOwnEffect (has_literal old) source → IsOwnEffect (has_literal old) target
+      → HaveEffects rule typing setting (map (number_held (value old read)) choices) (effect_of (value old read) source) (effect_of (value old read) target)
+      → HaveEffects rule typing setting (map (number_held (value new read)) choices) (effect_of (value new read) source) (effect_of (value new read) target)
+  effects-kept read admitted rule typing setting choices source target own own_source own_target have =
+      rw (numbers_held-kept keeps read admitted choices own, effect_of-kept keeps read admitted source own_source, effect_of-kept keeps read admitted target own_target) have
+
+-- gates that were added after inputs were made are no more than all
+pub gates_within : (old one now most total : ℕ) → one ≡ old → now ≤ one + most → most ≤ total → now ≤ old + total
+gates_within old one now most total same added fewer = omega arith
+
+pub first_within : (given witness halves refusal : ℕ) → given ≤ given + witness + halves + refusal + 1
+first_within given witness halves refusal = omega arith
+
+pub second_within : (given witness halves refusal : ℕ) → given + (witness + halves) ≤ given + witness + halves + refusal + 1
+second_within given witness halves refusal = omega arith
+
+pub third_within : (given witness halves refusal : ℕ) → given + (witness + halves) + refusal ≤ given + witness + halves + refusal + 1
+third_within given witness halves refusal = omega arith
+
+pub fourth_within : (given witness halves refusal : ℕ) → given + (witness + halves) + refusal + 1 ≤ given + witness + halves + refusal + 1
+fourth_within given witness halves refusal = omega arith

@@ -1,13 +1,12 @@
 -- Laws of what is read as a setting, and of the gates of a rule's circuit.
-use Rattle.std.specs.Prelude.{◌≡◌, ◌≤◌, ◌<◌, ◌+◌, ◌^◌, ℕ, Bool, List, length, sum_by}
-use Rattle.ops.specs.declared.value.Effect.{Effect}
+use Rattle.std.specs.Prelude.{◌≡◌, ◌≤◌, ◌<◌, ◌^◌, ℕ, Bool, List, length}
 use Rattle.rule_core.specs.declared.rule.Rule.{Rule}
 use Rattle.rule_core.specs.Checks.{IsRule}
 use Rattle.rule_core.specs.Typing.{IsTyping}
-use Rattle.rule_core.specs.Valid.{Setting, SettingFits, HaveEffects, IsValid}
+use Rattle.rule_core.specs.Valid.{Setting, SettingFits, IsValid}
 use Rattle.blast_rule.specs.Inputs.{input_bits}
 use Rattle.blast_rule.specs.Settings.{setting_of}
-use Rattle.blast_rule.specs.Gates.{most_gates, statement_bound}
+use Rattle.blast_rule.specs.Gates.{most_gates, rule_bound}
 use Rattle.blast_rule.specs.Parts.{Refutes}
 
 -- whatever is read fits
@@ -15,13 +14,10 @@ abbrev pub ReadSettingsFit : Type 0
 ReadSettingsFit =
     (rule : Rule) (typing : List ℕ) (read : List Bool) → IsRule rule → IsTyping rule typing → SettingFits rule typing (setting_of rule typing read)
 
--- the setting that is read from these truth values has the inputs of the other one, its numbers for `undef`s, and its effects;
--- no statement reads a constant yet
+-- so many truth values are read as the setting
 pub record ReadsAs (rule : Rule) (typing : List ℕ) (setting : Setting) (read : List Bool) : Type 0 where
   pub count : length read ≡ input_bits rule typing
-  pub inputs : (setting_of rule typing read).inputs ≡ setting.inputs
-  pub target_undefs : (setting_of rule typing read).target_undefs ≡ setting.target_undefs
-  pub effects : (source target : Effect) → HaveEffects rule typing setting source target → HaveEffects rule typing (setting_of rule typing read) source target
+  pub is : setting_of rule typing read ≡ setting
 
 -- each setting that fits is read from some list of `input_bits` truth values
 abbrev pub FittingSettingsAreRead : Type 0
@@ -36,12 +32,10 @@ RulesWithoutCounterexampleReadAreValid =
     ((read : List Bool) → length read ≡ input_bits rule typing → Refutes rule typing (setting_of rule typing read) → ⊥) →
     IsValid rule typing
 
--- the circuit of a rule has at most 64 gates for each statement and bit of its greatest width, and 64 more for each pair of bits of a
--- product, a quotient or a remainder
+-- the circuit of a rule has at most 64 gates for each statement and each node and bit of its greatest width, and 64 more for each pair
+-- of bits of a product, a quotient or a remainder
 abbrev pub GatesAreFew : Type 0
-GatesAreFew =
-    (rule : Rule) (typing : List ℕ) → IsRule rule → IsTyping rule typing →
-    most_gates rule typing ≤ sum_by (statement_bound typing) rule.source + sum_by (statement_bound typing) rule.target
+GatesAreFew = (rule : Rule) (typing : List ℕ) → IsRule rule → IsTyping rule typing → most_gates rule typing ≤ rule_bound rule typing
 
 -- and so fewer than 2 ^ 27
 abbrev pub GatesAreBelow : Type 0

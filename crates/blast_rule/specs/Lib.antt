@@ -1,7 +1,10 @@
 pub mod Inputs
+pub mod Naming
 pub mod Settings
 pub mod Gates
 pub mod Parts
+pub mod Halves
 pub mod Laws
 pub mod Running
+pub mod Terms
 pub mod Sample

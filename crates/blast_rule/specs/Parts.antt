@@ -9,9 +9,10 @@ use Rattle.rule_core.specs.Valid.{Setting, IsCounterexample}
 use Rattle.blast_value.specs.Effect.{IsOwnEffect}
 use Rattle.blast_rule.specs.declared.rule_bits.RuleBits.{RuleBits}
 
--- the setting is a counterexample, for some effects of the two halves
+-- the setting is a counterexample, for some choices of `Wit:` and some effects of the two halves
 abbrev pub Refutes : Rule → List ℕ → Setting → Type 0
-Refutes rule typing setting = (source : Effect) × (target : Effect) × IsCounterexample rule typing setting source target
+Refutes rule typing setting =
+    (choices : List Number) × (source : Effect) × (target : Effect) × IsCounterexample rule typing setting choices source target
 
 -- the number that a word of literals stands for, of the word's width
 abbrev pub number_held : {L : Type 0} → (L → Bool) → List L → Number

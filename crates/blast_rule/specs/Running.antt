@@ -1,22 +1,25 @@
--- What the literals of a rule's registers stand for while its halves are built.
+-- What the literals of a scope stand for while a rule's halves are built.
 use Rattle.std.specs.Prelude.{◌≡◌, ◌≤◌, ℕ, Bool, if◌then◌else◌, List, [], length, map, Option, Some, None, slice_get}
 use Rattle.std.specs.List.{All}
 use Rattle.ops.specs.Number.{Number}
 use Rattle.ops.specs.Integer.{bits}
 use Rattle.ops.specs.declared.value.Value.{Value}
+use Rattle.circuits.specs.Word.{number_of}
 use Rattle.rule_core.specs.declared.rule.Rule.{Rule}
 use Rattle.rule_core.specs.declared.rule.Op.{Op}
 use Rattle.rule_core.specs.declared.rule.Op.TheVariants.{Binary, Compare, Select, Convert, Copy}
 use Rattle.rule_core.specs.declared.rule.Operand.{Operand}
 use Rattle.rule_core.specs.declared.rule.Register.{Register}
 use Rattle.rule_core.specs.declared.rule.Register.TheVariants as registers
-use Rattle.rule_core.specs.Run.{Ending, Undefines, Holds, OperandGives, Follows, temporaries_of, holding_source, holding_target}
+use Rattle.rule_core.specs.Terms.{number_or_zero}
+use Rattle.rule_core.specs.Run.{Ending, Undefines, Holds, Given, OperandGives, Follows, temporaries_of, holding_source, holding_target}
 use Rattle.rule_core.specs.Run as run
 use Rattle.blast_value.specs.declared.held.Held.{Held}
 use Rattle.blast_value.specs.declared.instruction.Instruction.{Instruction}
 use Rattle.blast_value.specs.declared.instruction.Instruction.TheVariants as instructions
 use Rattle.blast_value.specs.Effect.{held_value, IsOwn}
-use Rattle.blast_rule.specs.declared.registers.Registers.{Registers}
+use Rattle.blast_rule.specs.declared.scope.Scope.{Scope}
+use Rattle.blast_rule.specs.Parts.{number_held}
 
 -- what registers hold, where these literals stand for the inputs and for what source and target statements have assigned
 abbrev pub holds : {L : Type 0} → (L → Bool) → List (Held L) → List (Held L) → List (Held L) → run.Held
@@ -24,26 +27,46 @@ holds value inputs source target =
     record { inputs = map (held_value value) inputs; source = map (held_value value) source; target = map (held_value value) target }
 
 -- the literals of a register, if it has any
-abbrev pub held_at : {L : Type 0} → Registers L → Register → Option (Held L)
-held_at r (registers.Input k) = slice_get r.inputs.now k
-held_at r (registers.Source k) = slice_get r.source.now k
-held_at r (registers.Target k) = slice_get r.target.now k
+abbrev pub held_at : {L : Type 0} → Scope L → Register → Option (Held L)
+held_at s (registers.Input k) = slice_get s.inputs.now k
+held_at s (registers.Source k) = slice_get s.source.now k
+held_at s (registers.Target k) = slice_get s.target.now k
 
-abbrev pub seen : {L : Type 0} → (L → Bool) → Registers L → run.Held
-seen value r = holds value r.inputs.now r.source.now r.target.now
+abbrev pub seen : {L : Type 0} → (L → Bool) → Scope L → run.Held
+seen value s = holds value s.inputs.now s.source.now s.target.now
 
--- a number of the width of a register's word: whether a statement can read registers goes by their widths
+-- the value of a word
+abbrev pub word_value : {L : Type 0} → (L → Bool) → List L → Value
+word_value value word = bits (length word) (number_of value word)
+
+-- what statements read beside registers is what the literals say
+pub record IsGiven {L : Type 0} (value : L → Bool) (s : Scope L) (given : Given) : Type 0 where
+  pub constants : given.constants ≡ map (number_held value) s.constants.now
+  pub choices : given.choices ≡ map (number_held value) s.choices.now
+  pub terms : map number_or_zero given.terms ≡ map (number_of value) s.terms.now
+
+-- a number of the width of a word: whether a statement can read what it reads goes by widths
+abbrev pub word_shape : {L : Type 0} → List L → Number
+word_shape word = record { width = length word; number = 0 }
+
 abbrev pub shape : {L : Type 0} → Held L → Value
 shape held = bits (length held.bits) 0
 
-abbrev pub shapes : {L : Type 0} → Registers L → run.Held
-shapes r = record { inputs = map shape r.inputs.now; source = map shape r.source.now; target = map shape r.target.now }
+abbrev pub shapes : {L : Type 0} → Scope L → run.Held
+shapes s = record { inputs = map shape s.inputs.now; source = map shape s.source.now; target = map shape s.target.now }
 
--- all the registers' literals are a circuit's
-pub record RegistersAreOwn {L : Type 0} (has_literal : L → Type 0) (r : Registers L) : Type 0 where
-  pub inputs : All (IsOwn has_literal) r.inputs.now
-  pub source : All (IsOwn has_literal) r.source.now
-  pub target : All (IsOwn has_literal) r.target.now
+abbrev pub given_shape : {L : Type 0} → Scope L → Given
+given_shape s =
+    record { constants = map word_shape s.constants.now; choices = map word_shape s.choices.now; terms = map (λ word. bits (length word) 0) s.terms.now }
+
+-- all the literals are a circuit's
+pub record ScopeIsOwn {L : Type 0} (has_literal : L → Type 0) (s : Scope L) : Type 0 where
+  pub inputs : All (IsOwn has_literal) s.inputs.now
+  pub source : All (IsOwn has_literal) s.source.now
+  pub target : All (IsOwn has_literal) s.target.now
+  pub constants : All (All has_literal) s.constants.now
+  pub choices : All (All has_literal) s.choices.now
+  pub terms : All (All has_literal) s.terms.now
 
 -- the instruction of an operation; a copy has none
 abbrev pub instruction_of : Op → Option Instruction
@@ -54,8 +77,8 @@ instruction_of (Convert cast a to) = Some (instructions.Convert cast)
 instruction_of (Copy a) = None
 
 -- these literals of a circuit stand for what the operand gives
-pub record HoldsOperand {L : Type 0} (has_literal : L → Type 0) (admits : List Bool → Type 0) (value : List Bool → L → Bool) (typing : List ℕ) (r : Registers L) (o : Operand) (held : Held L) : Type 0 where
-  pub gives : (inputs : List Bool) (constants choices : List Number) → admits inputs → OperandGives typing constants choices (seen (value inputs) r) o (held_value (value inputs) held)
+pub record HoldsOperand {L : Type 0} (has_literal : L → Type 0) (admits : List Bool → Type 0) (value : List Bool → L → Bool) (typing : List ℕ) (s : Scope L) (o : Operand) (held : Held L) : Type 0 where
+  pub gives : (inputs : List Bool) (given : Given) → admits inputs → IsGiven (value inputs) s given → OperandGives typing given (seen (value inputs) s) o (held_value (value inputs) held)
   pub width : slice_get typing o.class ≡ Some (length held.bits)
   pub some : 1 ≤ length held.bits
   pub own : IsOwn has_literal held
@@ -64,15 +87,13 @@ pub record HoldsOperand {L : Type 0} (has_literal : L → Type 0) (admits : List
 abbrev pub ending : Bool → run.Held → Ending
 ending undefined held = if undefined then Undefines else Holds held
 
-module _ {L : Type 0} (value : L → Bool) (rule : Rule) (typing : List ℕ) (inputs : List (Held L)) where
+module _ {L : Type 0} (value : L → Bool) (rule : Rule) (typing : List ℕ) (given : Given) (inputs : List (Held L)) where
   -- the source's temporaries have run
   abbrev pub TemporariesRan : List (Held L) → L → Type 0
   TemporariesRan source undefined =
-      (constants choices : List Number) →
-      Follows typing constants choices holding_source (temporaries_of rule) (holds value inputs [] []) (ending (value undefined) (holds value inputs source []))
+      Follows typing given holding_source (temporaries_of rule) (holds value inputs [] []) (ending (value undefined) (holds value inputs source []))
 
   -- and after them the target's statements
   abbrev pub TargetRan : List (Held L) → List (Held L) → L → Type 0
   TargetRan source target undefined =
-      (constants choices : List Number) →
-      Follows typing constants choices holding_target rule.target (holds value inputs source []) (ending (value undefined) (holds value inputs source target))
+      Follows typing given holding_target rule.target (holds value inputs source []) (ending (value undefined) (holds value inputs source target))

@@ -1,27 +1,70 @@
 //! How many gates a rule's circuit has at most.
-ghost use Rattle.std.specs.Prelude.{◌≡◌, ◌≤◌, ◌<◌, ◌*◌, length, map};
+ghost use Rattle.std.specs.Prelude.{◌≡◌, ◌≤◌, ◌<◌, ◌*◌, ◌^◌, length, map};
 ghost use Rattle.std.specs.List.{All};
 ghost use Rattle.rule_core.specs.Checks.{IsRule};
 ghost use Rattle.rule_core.specs.Positions.{classes_of_statement, operands_of};
 ghost use Rattle.rule_core.specs.Typing.{IsTyping};
-ghost use Rattle.blast_rule.specs.Gates.{most_gates, run_gates, op_gates, root_width};
+ghost use Rattle.blast_rule.specs.Gates.{most_gates, given_gates, witness_gates, halves_gates, run_gates, op_gates, root_width};
 
+use crate::term_gates::{choices_gates, formulas_gates, numbers_gates, terms_gates};
 use crate::width::width_of;
 use blast_value::{Instruction, gates_of};
 use ops::Width;
 use rule_core::{Op, Rule, Statement, Typing};
 
 /// The most gates that [`blast_rule`](crate::blast_rule) adds for the rule at the typing. It takes no memory, and as many steps as there
-/// are statements.
+/// are statements and nodes.
 pub fn most_gates(rule: &Rule, typing: &Typing) -> u32
     requires rule { IsRule rule.now }
     requires typing { IsTyping rule.now typing.now }
     ensures { result ≡ most_gates rule.now typing.now }
 {
     let widths = typing.as_slice();
-    let halves = run_gates(widths, rule.source.as_slice())
-        + run_gates(widths, rule.target.as_slice());
-    halves + 1 + 2 * root_width(rule, widths).bits() + 4
+    given_gates(rule, widths)
+        + witness_gates(rule, widths)
+        + halves_gates(rule, widths)
+        + 2 * root_width(rule, widths).bits()
+        + 4
+        + 1
+}
+
+/// The same of the constant terms, their numbers, and the precondition.
+fn given_gates(rule: &Rule, typing: &[Width]) -> u32
+    requires rule { IsRule rule.now }
+    requires typing { IsTyping rule.now typing.now }
+    ensures value { result ≡ given_gates rule.now typing.now }
+    ensures few { result < 2 ^ 27 }
+{
+    let terms = rule.terms.as_slice();
+    let formulas = rule.precondition.as_slice();
+    terms_gates(typing, terms)
+        + numbers_gates(typing, terms)
+        + formulas_gates(typing, terms, formulas)
+        + terms.len() as u32
+}
+
+/// The same of what `Wit:` chooses.
+fn witness_gates(rule: &Rule, typing: &[Width]) -> u32
+    requires rule { IsRule rule.now }
+    requires typing { IsTyping rule.now typing.now }
+    ensures value { result ≡ witness_gates rule.now typing.now }
+    ensures few { result < 2 ^ 27 }
+{
+    let terms = rule.witness_terms.as_slice();
+    let places = rule.witnesses.as_slice();
+    terms_gates(typing, terms) + choices_gates(typing, terms, places)
+}
+
+/// The same of the statements of both halves, and of whether one that the target runs has undefined behaviour.
+fn halves_gates(rule: &Rule, typing: &[Width]) -> u32
+    requires rule { IsRule rule.now }
+    requires typing { IsTyping rule.now typing.now }
+    ensures value { result ≡ halves_gates rule.now typing.now }
+    ensures few { result < 2 ^ 27 }
+{
+    let source = rule.source.as_slice();
+    let target = rule.target.as_slice();
+    run_gates(typing, source) + run_gates(typing, target) + 1
 }
 
 /// The width of the root.

@@ -5,16 +5,29 @@
 //! older literals keep their values.
 #![tactic(auto)]
 
+mod formula;
+mod function;
 mod gates;
+mod given;
 mod halves;
 mod inputs;
 mod laws;
+mod named;
+mod number;
+mod operand;
+mod power;
 mod refusal;
-mod registers;
 mod rule_bits;
+mod scope;
 mod setting;
+mod setting_bits;
 mod statement;
+mod target;
+mod temporaries;
+mod term;
+mod term_gates;
 mod width;
+mod witness;
 
 pub use gates::most_gates;
 pub use inputs::input_bits;

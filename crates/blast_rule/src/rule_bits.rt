@@ -3,16 +3,17 @@ ghost use Rattle.std.specs.Prelude.{◌≡◌, ◌+◌, ◌≤◌, ◌↔◌, Bo
 ghost use Rattle.circuits.specs.Circuit.{Keeps};
 ghost use Rattle.rule_core.specs.Checks.{IsRule};
 ghost use Rattle.rule_core.specs.Typing.{IsTyping};
-ghost use Rattle.rule_core.specs.Valid.{HaveEffects, chosen};
+ghost use Rattle.rule_core.specs.Valid.{HaveEffects};
 ghost use Rattle.blast_value.specs.Effect.{effect_of};
 ghost use Rattle.blast_rule.specs.Inputs.{input_bits};
 ghost use Rattle.blast_rule.specs.Settings.{setting_of};
 ghost use Rattle.blast_rule.specs.Gates.{most_gates, root_width};
 ghost use Rattle.blast_rule.specs.Parts.{Refutes, AreOwn, HaveWidth, number_held};
 
+use crate::given::blast_given;
 use crate::halves::blast_halves;
-use crate::inputs::make_inputs;
 use crate::refusal::refusal;
+use crate::setting_bits::make_setting;
 use blast_value::Blasted;
 use circuits::{Bits, Circuit};
 use lists::List;
@@ -24,7 +25,7 @@ use std::alloc::{AllocError, Global};
 pub struct RuleBits<L> {
     /// Whether the setting is a counterexample.
     pub bad: L,
-    /// The number that each `undef` of the source is chosen to be. There are none yet.
+    /// The number that each `undef` of the source is chosen to be.
     pub choices: List<Bits<L>>,
     /// What the source does.
     pub source: Blasted<L>,
@@ -33,8 +34,8 @@ pub struct RuleBits<L> {
 }
 
 /// The circuit of a rule at a typing, over inputs that stand for a setting: for each input of the rule its bits, the lowest first,
-/// and then its poison bit. It makes [`input_bits`](crate::input_bits) inputs and at most [`most_gates`](crate::most_gates) gates. The
-/// circuit has no inputs before.
+/// and then its poison bit; then the bits of each constant, and then those of each `undef` of the target. It makes
+/// [`input_bits`](crate::input_bits) inputs and at most [`most_gates`](crate::most_gates) gates. The circuit has no inputs before.
 pub fn blast_rule<C: Circuit>(
     alloc: Global,
     c: &mut C,
@@ -50,10 +51,8 @@ pub fn blast_rule<C: Circuit>(
         IsTrue (C.value c.new inputs made.bad) ↔ Refutes rule.now typing.now (setting_of rule.now typing.now inputs)) }
     ensures effects { IfOk result (λ made. (inputs : Seq Bool) → C.admits c.old inputs →
         HaveEffects rule.now typing.now (setting_of rule.now typing.now inputs)
+        (map (number_held (C.value c.new inputs)) made.choices)
         (effect_of (C.value c.new inputs) made.source) (effect_of (C.value c.new inputs) made.target)) }
-    ensures choices { IfOk result (λ made. (inputs : Seq Bool) → C.admits c.old inputs →
-        map (number_held (C.value c.new inputs)) made.choices
-        ≡ chosen rule.now typing.now (setting_of rule.now typing.now inputs)) }
     ensures width { IfOk result (HaveWidth (root_width rule.now typing.now)) }
     ensures own { IfOk result (AreOwn (C.has_literal c.new)) }
 
@@ -64,12 +63,15 @@ pub fn blast_rule<C: Circuit>(
     ensures keeps { Keeps C.has_literal C.admits C.value c.old c.new }
 {
     rule_core::every_rule_has_one_outcome();
-    let inputs = make_inputs(alloc, c, rule, typing.as_slice())?;
-    let halves = blast_halves(alloc, c, rule, typing.as_slice(), &inputs)?;
-    let bad = refusal(alloc, c, &halves.source, &halves.target)?;
+    let typing = typing.as_slice();
+    let setting = make_setting(alloc, c, rule, typing)?;
+    let given = blast_given(alloc, c, rule, typing, setting.constants.as_slice())?;
+    let halves = blast_halves(alloc, c, rule, typing, &setting, given.terms.as_slice())?;
+    let refused = refusal(alloc, c, &halves.source, &halves.target)?;
+    let bad = c.and(alloc, given.met, refused)?;
     Ok(RuleBits {
         bad,
-        choices: List::new(alloc),
+        choices: halves.choices,
         source: halves.source,
         target: halves.target,
     })

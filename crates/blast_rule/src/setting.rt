@@ -1,14 +1,17 @@
 //! Settings of a rule, read from truth values.
-ghost use Rattle.std.specs.Prelude.{◌≡◌, ◌<◌, ◌^◌, false, IfOk, take, drop, replicate, slice_index_or};
+ghost use Rattle.std.specs.Prelude.{◌≡◌, ◌<◌, ◌^◌, false, IfOk, take, drop, sum_by, slice_index_or};
 ghost use Rattle.rule_core.specs.Checks.{IsRule};
 ghost use Rattle.rule_core.specs.Typing.{IsTyping};
 ghost use Rattle.circuits.specs.Word.{number};
-ghost use Rattle.blast_rule.specs.Settings.{setting_of, value_read};
+ghost use Rattle.blast_rule.specs.declared.named.Kind.TheVariants as kinds;
+ghost use Rattle.blast_rule.specs.Inputs.{named_widths, value_bits, number_bits};
+ghost use Rattle.blast_rule.specs.Naming.{AreNamed};
+ghost use Rattle.blast_rule.specs.Settings.{setting_of, value_read, values_read, numbers_read};
 
-use crate::inputs::input_width;
+use crate::named::{Kind, named_width, undefs_among};
 use lists::List;
 use ops::{Value, Width, Word};
-use rule_core::{Rule, Typing};
+use rule_core::{Rule, Statement, Typing};
 use std::alloc::{AllocError, Global};
 
 /// What the halves of a rule are compared on.
@@ -23,7 +26,8 @@ pub struct Setting {
 }
 
 /// The setting that truth values of the circuit's inputs stand for, in the order in which [`blast_rule`](crate::blast_rule) makes
-/// them: for each input of the rule its bits, the lowest first, and then its poison bit. Past its end the list counts as false.
+/// them: for each input of the rule its bits, the lowest first, and then its poison bit; then the bits of each constant, and then
+/// those of each `undef` of the target. Past its end the list counts as false.
 pub fn setting_of(
     alloc: Global,
     rule: &Rule,
@@ -37,18 +41,66 @@ pub fn setting_of(
     ensures target_undefs { IfOk result (λ setting.
         setting.target_undefs ≡ (setting_of rule.now typing.now bits.now).target_undefs) }
 {
-    let mut inputs = List::new(alloc);
-    let mut rest = bits;
-    for k in 0..rule.inputs.len() {
-        let width = input_width(rule, typing.as_slice(), k);
-        inputs.push(value_read(width, rest))?;
-        rest = after(rest, width.bits() as usize + 1);
-    }
+    let typing = typing.as_slice();
+    let source = rule.source.as_slice();
+    let target = rule.target.as_slice();
+    let (inputs, rest) = values_read(alloc, typing, source, rule.inputs.len(), bits)?;
+    let count = rule.constants.len();
+    let (constants, rest) = numbers_read(alloc, typing, source, Kind::Constant, count, rest)?;
+    let count = undefs_among(target);
+    let (target_undefs, _) = numbers_read(alloc, typing, target, Kind::Undef, count, rest)?;
     Ok(Setting {
         inputs,
-        constants: zeros(alloc, rule.constants.len())?,
-        target_undefs: List::new(alloc),
+        constants,
+        target_undefs,
     })
+}
+
+/// The values of the first inputs that truth values are read as, and the truth values behind them.
+fn values_read<'a>(
+    alloc: Global,
+    typing: &[Width],
+    statements: &[Statement],
+    count: usize,
+    bits: &'a [bool],
+) -> Result<(List<Value>, &'a [bool]), AllocError>
+    requires { AreNamed typing.now statements.now kinds.Input count }
+    ensures values { IfOk result (λ read. read.0 ≡ values_read (named_widths typing.now statements.now kinds.Input count) bits.now) }
+    ensures rest { IfOk result (λ read.
+        read.1.now ≡ drop (sum_by value_bits (named_widths typing.now statements.now kinds.Input count)) bits.now) }
+{
+    let mut values = List::new(alloc);
+    let mut rest = bits;
+    for k in 0..count {
+        let width = named_width(typing, statements, Kind::Input, k);
+        values.push(value_read(width, rest))?;
+        rest = after(rest, width.bits() as usize + 1);
+    }
+    Ok((values, rest))
+}
+
+/// The numbers of the first ones of a kind that truth values are read as, and the truth values behind them.
+fn numbers_read<'a>(
+    alloc: Global,
+    typing: &[Width],
+    statements: &[Statement],
+    kind: Kind,
+    count: usize,
+    bits: &'a [bool],
+) -> Result<(List<Word>, &'a [bool]), AllocError>
+    requires { AreNamed typing.now statements.now kind count }
+    ensures numbers { IfOk result (λ read. read.0 ≡ numbers_read (named_widths typing.now statements.now kind count) bits.now) }
+    ensures rest { IfOk result (λ read.
+        read.1.now ≡ drop (sum_by number_bits (named_widths typing.now statements.now kind count)) bits.now) }
+{
+    let mut numbers = List::new(alloc);
+    let mut rest = bits;
+    for k in 0..count {
+        let width = named_width(typing, statements, kind, k);
+        numbers.push(Word::wrapped(width, number_read(width, rest)))?;
+        rest = after(rest, width.bits() as usize);
+    }
+    Ok((numbers, rest))
 }
 
 /// The value that truth values are read as.
@@ -96,17 +148,4 @@ fn after(bits: &[bool], count: usize) -> &[bool]
     } else {
         &[]
     }
-}
-
-/// The 0 of `i1`, so many times.
-fn zeros(alloc: Global, count: usize) -> Result<List<Word>, AllocError>
-    ensures { IfOk result (λ words. words ≡ replicate count (record { width = 1; number = 0 })) }
-{
-    let mut words = List::new(alloc);
-    if let Some(width) = Width::new(1) {
-        for _ in 0..count {
-            words.push(Word::wrapped(width, 0))?;
-        }
-    }
-    Ok(words)
 }

@@ -1,16 +1,16 @@
 //! One statement of a rule in literals.
 ghost use Rattle.std.specs.Prelude.{◌≡◌, ◌+◌, true, false, Bool, List as Seq, length, slice_get, slice_index, Some, IfOk};
-ghost use Rattle.ops.specs.Number.{Number};
 ghost use Rattle.circuits.specs.Circuit.{Adds};
 ghost use Rattle.rule_core.specs.declared.rule.Op.TheVariants.{Copy as CopyOf};
 ghost use Rattle.rule_core.specs.Positions.{operands_of};
-ghost use Rattle.rule_core.specs.Run.{StatementGives};
+ghost use Rattle.rule_core.specs.Run.{Given, StatementGives};
 ghost use Rattle.rule_core.specs.Readiness.{StatementIsReady};
 ghost use Rattle.blast_value.specs.Effect.{effect_of, IsOwnEffect};
 ghost use Rattle.blast_rule.specs.Gates.{op_gates, statement_gates};
-ghost use Rattle.blast_rule.specs.Running.{instruction_of, seen, shapes, RegistersAreOwn};
+ghost use Rattle.blast_rule.specs.Running.{instruction_of, seen, shapes, given_shape, IsGiven, ScopeIsOwn};
 
-use crate::registers::{Registers, operand_held, operands_held};
+use crate::operand::{operand_held, operands_held};
+use crate::scope::Scope;
 use crate::width::width_of;
 use blast_value::{Blasted, Held, Instruction, blast_value};
 use circuits::{Circuit, or};
@@ -18,21 +18,21 @@ use ops::Width;
 use rule_core::{Op, Operand, Statement};
 use std::alloc::{AllocError, Global};
 
-/// What a statement does after others, given what the registers hold, and whether one of the others has undefined behaviour.
+/// What a statement does after others, given what it can read, and whether one of the others has undefined behaviour.
 pub(crate) fn blast_next<C: Circuit>(
     alloc: Global,
     c: &mut C,
     typing: &[Width],
-    registers: Registers<C::Literal>,
+    scope: Scope<C::Literal>,
     statement: &Statement,
     undefined: C::Literal,
 ) -> Result<Blasted<C::Literal>, AllocError>
-    requires ready { StatementIsReady typing.now (shapes registers) statement.now }
-    requires own { RegistersAreOwn (C.has_literal c.old) registers }
+    requires ready { StatementIsReady typing.now (given_shape scope) (shapes scope) statement.now }
+    requires own { ScopeIsOwn (C.has_literal c.old) scope }
     requires own_undefined { C.has_literal c.old undefined }
-    ensures gives { IfOk result (λ made. (inputs : Seq Bool) (constants choices : Seq Number) → C.admits c.old inputs →
-        C.value c.old inputs undefined ≡ false →
-        StatementGives typing.now constants choices (seen (C.value c.new inputs) registers.entry) statement.now
+    ensures gives { IfOk result (λ made. (inputs : Seq Bool) (given : Given) → C.admits c.old inputs →
+        IsGiven (C.value c.old inputs) scope.entry given → C.value c.old inputs undefined ≡ false →
+        StatementGives typing.now given (seen (C.value c.new inputs) scope.entry) statement.now
         (effect_of (C.value c.new inputs) made)) }
     ensures stays { IfOk result (λ made. (inputs : Seq Bool) → C.admits c.old inputs →
         C.value c.old inputs undefined ≡ true → C.value c.new inputs made.undefined ≡ true) }
@@ -45,7 +45,7 @@ pub(crate) fn blast_next<C: Circuit>(
         bits,
         poison,
         undefined: here,
-    } = blast_statement(alloc, c, typing, registers, statement)?;
+    } = blast_statement(alloc, c, typing, scope, statement)?;
     let undefined = or(alloc, c, undefined, here)?;
     Ok(Blasted {
         bits,
@@ -54,18 +54,19 @@ pub(crate) fn blast_next<C: Circuit>(
     })
 }
 
-/// What a statement does, given what the registers hold.
+/// What a statement does, given what it can read.
 fn blast_statement<C: Circuit>(
     alloc: Global,
     c: &mut C,
     typing: &[Width],
-    registers: Registers<C::Literal>,
+    scope: Scope<C::Literal>,
     statement: &Statement,
 ) -> Result<Blasted<C::Literal>, AllocError>
-    requires ready { StatementIsReady typing.now (shapes registers) statement.now }
-    requires own { RegistersAreOwn (C.has_literal c.old) registers }
-    ensures gives { IfOk result (λ made. (inputs : Seq Bool) (constants choices : Seq Number) → C.admits c.old inputs →
-        StatementGives typing.now constants choices (seen (C.value c.old inputs) registers.entry) statement.now
+    requires ready { StatementIsReady typing.now (given_shape scope) (shapes scope) statement.now }
+    requires own { ScopeIsOwn (C.has_literal c.old) scope }
+    ensures gives { IfOk result (λ made. (inputs : Seq Bool) (given : Given) → C.admits c.old inputs →
+        IsGiven (C.value c.old inputs) scope.entry given →
+        StatementGives typing.now given (seen (C.value c.old inputs) scope.entry) statement.now
         (effect_of (C.value c.new inputs) made)) }
     ensures width { IfOk result (λ made. slice_get typing.now statement.now.class ≡ Some (length made.bits)) }
     ensures own { IfOk result (IsOwnEffect (C.has_literal c.new)) }
@@ -75,11 +76,11 @@ fn blast_statement<C: Circuit>(
     match statement.op {
         Op::Binary(opcode, flags, left, right) => {
             let what = Instruction::Binary(opcode, flags);
-            blast_instruction(alloc, c, typing, registers, statement, what, &[left, right])
+            blast_instruction(alloc, c, typing, scope, statement, what, &[left, right])
         }
         Op::Compare(pred, left, right) => {
             let what = Instruction::Compare(pred);
-            blast_instruction(alloc, c, typing, registers, statement, what, &[left, right])
+            blast_instruction(alloc, c, typing, scope, statement, what, &[left, right])
         }
         Op::Select(condition, yes, no) => {
             let what = Instruction::Select;
@@ -87,7 +88,7 @@ fn blast_statement<C: Circuit>(
                 alloc,
                 c,
                 typing,
-                registers,
+                scope,
                 statement,
                 what,
                 &[condition, yes, no],
@@ -95,9 +96,9 @@ fn blast_statement<C: Circuit>(
         }
         Op::Convert(cast, operand, _) => {
             let what = Instruction::Convert(cast);
-            blast_instruction(alloc, c, typing, registers, statement, what, &[operand])
+            blast_instruction(alloc, c, typing, scope, statement, what, &[operand])
         }
-        Op::Copy(operand) => blast_copy(alloc, c, typing, registers, statement, operand),
+        Op::Copy(operand) => blast_copy(alloc, c, typing, scope, statement, operand),
     }
 }
 
@@ -106,24 +107,25 @@ fn blast_instruction<C: Circuit>(
     alloc: Global,
     c: &mut C,
     typing: &[Width],
-    registers: Registers<C::Literal>,
+    scope: Scope<C::Literal>,
     statement: &Statement,
     what: Instruction,
     operands: &[Operand],
 ) -> Result<Blasted<C::Literal>, AllocError>
     requires instruction { instruction_of statement.now.op ≡ Some what }
     requires operands { operands.now ≡ operands_of statement.now.op }
-    requires ready { StatementIsReady typing.now (shapes registers) statement.now }
-    requires own { RegistersAreOwn (C.has_literal c.old) registers }
-    ensures gives { IfOk result (λ made. (inputs : Seq Bool) (constants choices : Seq Number) → C.admits c.old inputs →
-        StatementGives typing.now constants choices (seen (C.value c.old inputs) registers.entry) statement.now
+    requires ready { StatementIsReady typing.now (given_shape scope) (shapes scope) statement.now }
+    requires own { ScopeIsOwn (C.has_literal c.old) scope }
+    ensures gives { IfOk result (λ made. (inputs : Seq Bool) (given : Given) → C.admits c.old inputs →
+        IsGiven (C.value c.old inputs) scope.entry given →
+        StatementGives typing.now given (seen (C.value c.old inputs) scope.entry) statement.now
         (effect_of (C.value c.new inputs) made)) }
     ensures width { IfOk result (λ made. slice_get typing.now statement.now.class ≡ Some (length made.bits)) }
     ensures own { IfOk result (IsOwnEffect (C.has_literal c.new)) }
     ensures adds { Adds C.has_literal C.admits C.value C.inputs_made C.gates_made c.old c.new
         (op_gates typing.now (slice_index typing.now statement.now.class) statement.now.op) }
 {
-    let held = operands_held(alloc, c, typing, registers, operands)?;
+    let held = operands_held(alloc, c, typing, scope, operands)?;
     blast_value(alloc, c, what, width_of(typing, statement.class), &held)
 }
 
@@ -132,20 +134,21 @@ fn blast_copy<C: Circuit>(
     alloc: Global,
     c: &C,
     typing: &[Width],
-    registers: Registers<C::Literal>,
+    scope: Scope<C::Literal>,
     statement: &Statement,
     operand: Operand,
 ) -> Result<Blasted<C::Literal>, AllocError>
     requires copy { statement.now.op ≡ CopyOf operand }
-    requires ready { StatementIsReady typing.now (shapes registers) statement.now }
-    requires own { RegistersAreOwn (C.has_literal c.now) registers }
-    ensures gives { IfOk result (λ made. (inputs : Seq Bool) (constants choices : Seq Number) → C.admits c.now inputs →
-        StatementGives typing.now constants choices (seen (C.value c.now inputs) registers.entry) statement.now
+    requires ready { StatementIsReady typing.now (given_shape scope) (shapes scope) statement.now }
+    requires own { ScopeIsOwn (C.has_literal c.now) scope }
+    ensures gives { IfOk result (λ made. (inputs : Seq Bool) (given : Given) → C.admits c.now inputs →
+        IsGiven (C.value c.now inputs) scope.entry given →
+        StatementGives typing.now given (seen (C.value c.now inputs) scope.entry) statement.now
         (effect_of (C.value c.now inputs) made)) }
     ensures width { IfOk result (λ made. slice_get typing.now statement.now.class ≡ Some (length made.bits)) }
     ensures own { IfOk result (IsOwnEffect (C.has_literal c.now)) }
 {
-    let Held { bits, poison } = operand_held(alloc, c, typing, registers, operand)?;
+    let Held { bits, poison } = operand_held(alloc, c, typing, scope, operand)?;
     Ok(Blasted {
         bits,
         poison,

@@ -1,39 +1,43 @@
 //! Rules over small widths, at settings.
-ghost use Rattle.std.specs.Prelude.{◌≡◌, ◌≤◌, [], ◌∷◌, IfOk};
+ghost use Rattle.std.specs.Prelude.{◌≡◌, [], ◌∷◌, IfOk};
 ghost use Rattle.rule_core.specs.Checks.{IsRule};
 ghost use Rattle.rule_core.specs.Typing.{IsTyping};
-ghost use Rattle.rule_core.specs.Sample.{of_class, statement, assigns, doubling, choice};
-ghost use Rattle.blast_rule.specs.Sample.{sample};
+ghost use Rattle.rule_core.specs.Sample.{plain, term, assigns};
+ghost use Rattle.blast_rule.specs.Sample.{half, terms, precondition, witness_terms, sample};
 
 use super::*;
 use blast_value::Blasted;
 use circuits::EvalCircuit;
 use lists::{List, Text};
-use ops::{Cast, Flags, Opcode, Pred, Value, Width};
-use rule_core::{Argument, Op, Operand, Register, Rule, Statement, Typing};
+use ops::{Flags, Opcode, Pred, Value, Width};
+use rule_core::{
+    Argument, Formula, Function, Node, Op, Operand, Register, Rule, Statement, Term, Typing,
+};
 use std::alloc::{AllocError, Global};
 use std::test::Fail;
 
 const X: Argument = Argument::Register(Register::Input(0));
 
-const T: Argument = Argument::Register(Register::Source(0));
-
-const Y: Argument = Argument::Register(Register::Input(1));
-
-const NSW: Flags = Flags {
+const NO_FLAGS: Flags = Flags {
     nuw: false,
-    nsw: true,
+    nsw: false,
     exact: false,
 };
 
-fn of_class(class: u32, value: Argument) -> Operand
-    ensures { result ≡ of_class class value }
+fn plain(value: Argument) -> Operand
+    ensures { result ≡ plain value }
 {
     Operand {
         value,
         written: None,
-        class,
+        class: 0,
     }
+}
+
+fn term(node: Node) -> Term
+    ensures { result ≡ term node }
+{
+    Term { class: 0, node }
 }
 
 fn named(alloc: Global, byte: u8) -> Result<Text, AllocError>
@@ -42,14 +46,12 @@ fn named(alloc: Global, byte: u8) -> Result<Text, AllocError>
     Ok(Text::from_vec(vec![in alloc; byte]?))
 }
 
-fn statement(alloc: Global, name: u8, class: u32, op: Op) -> Result<Statement, AllocError>
-    ensures { IfOk result (λ s. s ≡ statement name class op) }
+fn one_name(alloc: Global, byte: u8) -> Result<List<Text>, AllocError>
+    ensures { IfOk result (λ names. names ≡ (byte ∷ []) ∷ []) }
 {
-    Ok(Statement {
-        name: named(alloc, name)?,
-        class,
-        op,
-    })
+    let mut names = List::new(alloc);
+    names.push(named(alloc, byte)?)?;
+    Ok(names)
 }
 
 fn assigns(
@@ -61,95 +63,128 @@ fn assigns(
 ) -> Result<Statement, AllocError>
     ensures { IfOk result (λ s. s ≡ assigns name opcode left right) }
 {
-    let op = Op::Binary(opcode, Flags::NONE, of_class(0, left), of_class(0, right));
-    statement(alloc, name, 0, op)
+    Ok(Statement {
+        name: named(alloc, name)?,
+        class: 0,
+        op: Op::Binary(opcode, NO_FLAGS, plain(left), plain(right)),
+    })
 }
 
-// %t = first %x, -1, %r = second %t, 1 => %r = third 0, %x
-fn sample(alloc: Global, first: Opcode, second: Opcode, third: Opcode) -> Result<Rule, AllocError>
-    ensures { IfOk result (λ rule. rule ≡ sample first second third) }
+// %name = opcode %x, right, and then %r = xor of that register and `undef`
+fn half(
+    alloc: Global,
+    name: u8,
+    opcode: Opcode,
+    right: Argument,
+    register: Register,
+) -> Result<List<Statement>, AllocError>
+    ensures { IfOk result (λ statements. statements ≡ half name opcode right register) }
 {
-    let mut inputs = List::new(alloc);
-    inputs.push(named(alloc, b'x')?)?;
-    let mut source = List::new(alloc);
-    source.push(assigns(alloc, b't', first, X, Argument::Literal(-1))?)?;
-    source.push(assigns(alloc, b'r', second, T, Argument::Literal(1))?)?;
-    let mut target = List::new(alloc);
-    target.push(assigns(alloc, b'r', third, Argument::Literal(0), X)?)?;
+    let first = assigns(alloc, name, opcode, X, right)?;
+    let before = Argument::Register(register);
+    let root = assigns(alloc, b'r', Opcode::Xor, before, Argument::Undef(0))?;
+    let mut statements = List::new(alloc);
+    statements.push(first)?;
+    statements.push(root)?;
+    Ok(statements)
+}
+
+// The nodes of C, function(C) and 1.
+fn terms(alloc: Global, function: Function) -> Result<List<Term>, AllocError>
+    ensures { IfOk result (λ nodes. nodes ≡ terms function) }
+{
+    let mut terms = List::new(alloc);
+    terms.push(term(Node::Constant(0)))?;
+    terms.push(term(Node::Unary(function, 0)))?;
+    terms.push(term(Node::Literal(1)))?;
+    Ok(terms)
+}
+
+// isPowerOf2(C) || C pred 1
+fn precondition(alloc: Global, pred: Pred) -> Result<List<Formula>, AllocError>
+    ensures { IfOk result (λ formulas. formulas ≡ precondition pred) }
+{
+    let mut formulas = List::new(alloc);
+    formulas.push(Formula::IsPowerOfTwo(0))?;
+    formulas.push(Formula::Compare(pred, 0, 2))?;
+    formulas.push(Formula::Or(0, 1))?;
+    Ok(formulas)
+}
+
+// The nodes of %x operator t1.
+fn witness_terms(alloc: Global, operator: Opcode) -> Result<List<Term>, AllocError>
+    ensures { IfOk result (λ nodes. nodes ≡ witness_terms operator) }
+{
+    let mut terms = List::new(alloc);
+    terms.push(term(Node::Register(Register::Input(0))))?;
+    terms.push(term(Node::Undef(0)))?;
+    terms.push(term(Node::Binary(operator, 0, 1)))?;
+    Ok(terms)
+}
+
+/// What the rule of the tests is made of.
+#[derive(Clone, Copy, Debug)]
+struct Parts {
+    opcode: Opcode,
+    function: Function,
+    pred: Pred,
+    operator: Opcode,
+}
+
+// Pre: isPowerOf2(C) || C pred 1
+// %t = opcode %x, C, %r = xor %t, undef => %s = opcode %x, function(C), %r = xor %s, undef
+// Wit: %x operator t1
+fn sample(alloc: Global, what: Parts) -> Result<Rule, AllocError>
+    ensures { IfOk result (λ rule. rule ≡ sample what.opcode what.function what.pred what.operator) }
+{
+    let constant = Argument::Constant(0);
+    let source = half(alloc, b't', what.opcode, constant, Register::Source(0))?;
+    let target = half(
+        alloc,
+        b's',
+        what.opcode,
+        Argument::Term(1),
+        Register::Target(0),
+    )?;
+    let mut witnesses = List::new(alloc);
+    witnesses.push(2)?;
     Ok(Rule {
         name: named(alloc, b'n')?,
-        inputs,
-        constants: List::new(alloc),
+        inputs: one_name(alloc, b'x')?,
+        constants: one_name(alloc, b'C')?,
         source,
         target,
+        terms: terms(alloc, what.function)?,
+        precondition: precondition(alloc, what.pred)?,
+        witness_terms: witness_terms(alloc, what.operator)?,
+        witnesses,
     })
 }
 
-// %r = add nsw %x, %x => %r = shl nsw %x, 1
-fn doubling(alloc: Global) -> Result<Rule, AllocError>
-    ensures { IfOk result (λ rule. rule ≡ doubling) }
+fn of_width(alloc: Global, width: Width) -> Result<Typing, AllocError>
+    ensures { IfOk result (λ typing. typing ≡ width ∷ []) }
 {
-    let x = of_class(0, X);
-    let mut inputs = List::new(alloc);
-    inputs.push(named(alloc, b'x')?)?;
-    let sum = Op::Binary(Opcode::Add, NSW, x, x);
-    let mut source = List::new(alloc);
-    source.push(statement(alloc, b'r', 0, sum)?)?;
-    let shifted = Op::Binary(Opcode::Shl, NSW, x, of_class(0, Argument::Literal(1)));
-    let mut target = List::new(alloc);
-    target.push(statement(alloc, b'r', 0, shifted)?)?;
-    Ok(Rule {
-        name: named(alloc, b'd')?,
-        inputs,
-        constants: List::new(alloc),
-        source,
-        target,
-    })
+    let mut typing = List::new(alloc);
+    typing.push(width)?;
+    Ok(typing)
 }
 
-// %c = icmp ult %x, -2, %r = select %c, %y, %x => %r = sext %c, where %c is of class 0 and all else of class 1
-fn choice(alloc: Global) -> Result<Rule, AllocError>
-    ensures { IfOk result (λ rule. rule ≡ choice) }
-{
-    let mut inputs = List::new(alloc);
-    inputs.push(named(alloc, b'x')?)?;
-    inputs.push(named(alloc, b'y')?)?;
-    let less = Op::Compare(
-        Pred::Ult,
-        of_class(1, X),
-        of_class(1, Argument::Literal(-2)),
-    );
-    let chosen = Op::Select(of_class(0, T), of_class(1, Y), of_class(1, X));
-    let mut source = List::new(alloc);
-    source.push(statement(alloc, b'c', 0, less)?)?;
-    source.push(statement(alloc, b'r', 1, chosen)?)?;
-    let extended = Op::Convert(Cast::SExt, of_class(0, T), None);
-    let mut target = List::new(alloc);
-    target.push(statement(alloc, b'r', 1, extended)?)?;
-    Ok(Rule {
-        name: named(alloc, b'c')?,
-        inputs,
-        constants: List::new(alloc),
-        source,
-        target,
-    })
+/// A rule with a typing of it.
+#[derive(Drop)]
+struct Example {
+    rule: Rule,
+    typing: Typing,
 }
 
-fn width(bits: u32) -> Width
-    requires least { 1 ≤ bits }
-    requires most { bits ≤ 64 }
-    ensures { result ≡ bits }
+fn typed(alloc: Global, what: Parts, width: Width) -> Result<Example, AllocError>
+    ensures rule { IfOk result (λ typed. IsRule typed.rule) }
+    ensures typing { IfOk result (λ typed. IsTyping typed.rule typed.typing) }
 {
-    match Width::new(bits) {
-        Some(width) => width,
-        None => unreachable!(),
-    }
-}
-
-fn of_widths(alloc: Global, widths: &[Width]) -> Result<Typing, AllocError>
-    ensures { IfOk result (λ typing. typing ≡ widths.now) }
-{
-    Ok(List::from_vec(Vec::from_slice(alloc, widths)?))
+    // says that the width is from 1 to 64
+    let _bits = width.bits();
+    let rule = sample(alloc, what)?;
+    let typing = of_width(alloc, width)?;
+    Ok(Example { rule, typing })
 }
 
 /// An effect: undefined behaviour, poison or a number.
@@ -168,205 +203,222 @@ fn effect_seen(effect: &Blasted<bool>) -> Does {
     if effect.poison {
         return Does::Poison;
     }
-    match effect.bits.as_slice() {
-        [bit] => Does::Gives(u8::from(*bit)),
-        [low, high] => Does::Gives(u8::from(*low) + 2 * u8::from(*high)),
-        _ => Does::Undefined,
+    Does::Gives(number_seen(effect.bits.as_slice()))
+}
+
+fn number_seen(bits: &[bool]) -> u8 {
+    match bits {
+        [bit] => u8::from(*bit),
+        [low, high] => u8::from(*low) + 2 * u8::from(*high),
+        _ => 9,
     }
 }
 
-// What the halves do where these are the bits of the inputs, and whether that refutes the rule.
+// What `Wit:` chooses, what the halves do where these are the bits of the inputs, and whether that refutes the rule.
 fn seen(
     alloc: Global,
     rule: &Rule,
     typing: &Typing,
     bits: Vec<bool>,
-) -> Result<(Does, Does, bool), AllocError>
+) -> Result<(u8, Does, Does, bool), AllocError>
     requires rule { IsRule rule.now }
     requires typing { IsTyping rule.now typing.now }
 {
     let mut circuit = EvalCircuit::new(List::from_vec(bits));
     let made = blast_rule(alloc, &mut circuit, rule, typing)?;
+    let choice = match made.choices.as_slice() {
+        [word] => number_seen(word.as_slice()),
+        _ => 9,
+    };
     Ok((
+        choice,
         effect_seen(&made.source),
         effect_seen(&made.target),
         made.bad,
     ))
 }
 
-// The two bits and the poison bit of a number, or of poison for `None`.
-fn two_bits(x: Option<u8>) -> (bool, bool, bool) {
-    (
-        matches!(x, Some(1 | 3)),
-        matches!(x, Some(2 | 3)),
-        x.is_none(),
-    )
-}
-
-// The same of the sample over i2, where x is this number or poison.
+// The same of the sample at the width, where x, C and t1 are these numbers, or x is poison.
 fn sample_at(
     alloc: Global,
-    first: Opcode,
-    third: Opcode,
+    what: Parts,
+    width: Width,
     x: Option<u8>,
-) -> Result<(Does, Does, bool), AllocError> {
-    let rule = sample(alloc, first, Opcode::Add, third)?;
-    let typing = of_widths(alloc, &[width(2)])?;
-    let (low, high, poison) = two_bits(x);
-    seen(alloc, &rule, &typing, vec![in alloc; low, high, poison]?)
+    numbers: (u8, u8),
+) -> Result<(u8, Does, Does, bool), AllocError> {
+    let (constant, undef) = numbers;
+    let mut read = Vec::new(alloc);
+    push_bits(&mut read, width, x.unwrap_or(0))?;
+    read.push(x.is_none())?;
+    push_bits(&mut read, width, constant)?;
+    push_bits(&mut read, width, undef)?;
+    let typed = typed(alloc, what, width)?;
+    seen(alloc, &typed.rule, &typed.typing, read)
 }
 
-// The same of the doubling over i1.
-fn doubling_at(alloc: Global, x: Option<u8>) -> Result<(Does, Does, bool), AllocError> {
-    let rule = doubling(alloc)?;
-    let typing = of_widths(alloc, &[width(1)])?;
-    let bits = vec![in alloc; x == Some(1), x.is_none()]?;
-    seen(alloc, &rule, &typing, bits)
-}
-
-// The same of the choice over i2.
-fn choice_at(
-    alloc: Global,
-    x: Option<u8>,
-    y: Option<u8>,
-) -> Result<(Does, Does, bool), AllocError> {
-    let rule = choice(alloc)?;
-    let typing = of_widths(alloc, &[width(1), width(2)])?;
-    let (x_low, x_high, x_poison) = two_bits(x);
-    let (y_low, y_high, y_poison) = two_bits(y);
-    let bits = vec![in alloc; x_low, x_high, x_poison, y_low, y_high, y_poison]?;
-    seen(alloc, &rule, &typing, bits)
-}
-
-// How many inputs and gates the sample's circuit has over i2, and the setting of these bits.
-fn sample_counts(alloc: Global, bits: &[bool]) -> Result<(u32, u32, Setting), AllocError> {
-    let rule = sample(alloc, Opcode::Xor, Opcode::Add, Opcode::Sub)?;
-    let typing = of_widths(alloc, &[width(2)])?;
-    let setting = setting_of(alloc, &rule, &typing, bits)?;
-    Ok((
-        input_bits(&rule, &typing),
-        most_gates(&rule, &typing),
-        setting,
-    ))
-}
-
-// How many inputs and gates the circuit of the choice has over i2.
-fn choice_counts(alloc: Global) -> Result<(u32, u32), AllocError> {
-    let rule = choice(alloc)?;
-    let typing = of_widths(alloc, &[width(1), width(2)])?;
-    Ok((input_bits(&rule, &typing), most_gates(&rule, &typing)))
-}
-
-// For x of 0, 1, 2, 3 and poison what the source does, what the target does, and whether that refutes the rule.
-#[test]
-fn rules_are_refuted_at_their_counterexamples(rt: HostRuntime) -> Result<(), Fail> {
-    use Does::{Gives, Poison, Undefined};
-    for (first, third, expected) in [
-        // -x by its complement
-        (
-            Opcode::Xor,
-            Opcode::Sub,
-            [
-                (Gives(0), Gives(0), false),
-                (Gives(3), Gives(3), false),
-                (Gives(2), Gives(2), false),
-                (Gives(1), Gives(1), false),
-                (Poison, Poison, false),
-            ],
-        ),
-        // 0 divided by x: undefined where x is 0 or poison
-        (
-            Opcode::Xor,
-            Opcode::UDiv,
-            [
-                (Gives(0), Undefined, true),
-                (Gives(3), Gives(0), true),
-                (Gives(2), Gives(0), true),
-                (Gives(1), Gives(0), true),
-                (Poison, Undefined, true),
-            ],
-        ),
-        // x divided by -1, the temporary: undefined where x is -2 or poison
-        (
-            Opcode::SDiv,
-            Opcode::Sub,
-            [
-                (Gives(1), Gives(0), true),
-                (Gives(0), Gives(3), true),
-                (Undefined, Undefined, false),
-                (Gives(2), Gives(1), true),
-                (Undefined, Undefined, false),
-            ],
-        ),
-        // a shift by 3 gives poison, in whose place each number may stand
-        (
-            Opcode::Shl,
-            Opcode::Sub,
-            [
-                (Poison, Gives(0), false),
-                (Poison, Gives(3), false),
-                (Poison, Gives(2), false),
-                (Poison, Gives(1), false),
-                (Poison, Poison, false),
-            ],
-        ),
-    ] {
-        for (x, expected) in [Some(0), Some(1), Some(2), Some(3), None]
-            .into_iter()
-            .zip(expected)
-        {
-            let seen = sample_at(rt.alloc(), first, third, x)?;
-            assert_eq!(rt; seen, expected, "{first:?} {third:?} at {x:?}");
-        }
+// The bits of a number of i1 or i2.
+fn push_bits(read: &mut Vec<bool>, width: Width, number: u8) -> Result<(), AllocError> {
+    read.push(number % 2 == 1)?;
+    if width.bits() == 2 {
+        read.push(number / 2 == 1)?;
     }
     Ok(())
 }
 
+// For settings of x, C and t1 what `Wit:` chooses, what the source and the target do, and whether that refutes the rule.
 #[test]
-fn flags_comparisons_selects_and_casts_are_seen(rt: HostRuntime) -> Result<(), Fail> {
+fn rules_are_refuted_at_their_counterexamples(rt: HostRuntime) -> Result<(), Fail> {
     use Does::{Gives, Poison};
-    for (x, expected) in [
-        (Some(0), (Gives(0), Poison, true)),
-        (Some(1), (Poison, Poison, false)),
-        (None, (Poison, Poison, false)),
+    let bitwise = Parts {
+        opcode: Opcode::And,
+        function: Function::Not,
+        pred: Pred::Eq,
+        operator: Opcode::Or,
+    };
+    let logarithm = Parts {
+        opcode: Opcode::Add,
+        function: Function::Log2,
+        pred: Pred::Ult,
+        operator: Opcode::UDiv,
+    };
+    let one = Width::new(1).ok_or("there is no i1")?;
+    let two = Width::new(2).ok_or("there is no i2")?;
+    for (what, width, x, numbers, expected) in [
+        // the precondition holds where C is 1
+        (
+            bitwise,
+            one,
+            Some(0),
+            (0, 0),
+            (0, Gives(0), Gives(0), false),
+        ),
+        (
+            bitwise,
+            one,
+            Some(0),
+            (0, 1),
+            (1, Gives(1), Gives(1), false),
+        ),
+        (
+            bitwise,
+            one,
+            Some(0),
+            (1, 0),
+            (0, Gives(0), Gives(0), false),
+        ),
+        (
+            bitwise,
+            one,
+            Some(0),
+            (1, 1),
+            (1, Gives(1), Gives(1), false),
+        ),
+        (
+            bitwise,
+            one,
+            Some(1),
+            (0, 0),
+            (1, Gives(1), Gives(1), false),
+        ),
+        (
+            bitwise,
+            one,
+            Some(1),
+            (0, 1),
+            (1, Gives(1), Gives(0), false),
+        ),
+        (
+            bitwise,
+            one,
+            Some(1),
+            (1, 0),
+            (1, Gives(0), Gives(0), false),
+        ),
+        (bitwise, one, Some(1), (1, 1), (1, Gives(0), Gives(1), true)),
+        (bitwise, one, None, (0, 0), (0, Poison, Poison, false)),
+        (bitwise, one, None, (0, 1), (1, Poison, Poison, false)),
+        (bitwise, one, None, (1, 0), (0, Poison, Poison, false)),
+        (bitwise, one, None, (1, 1), (1, Poison, Poison, false)),
+        // x divided by 0 has no value, so that 0 is chosen
+        (
+            logarithm,
+            two,
+            Some(2),
+            (2, 0),
+            (0, Gives(0), Gives(3), true),
+        ),
+        (
+            logarithm,
+            two,
+            Some(2),
+            (2, 1),
+            (2, Gives(2), Gives(2), false),
+        ),
+        (
+            logarithm,
+            two,
+            Some(2),
+            (1, 0),
+            (0, Gives(3), Gives(2), true),
+        ),
+        (
+            logarithm,
+            two,
+            Some(3),
+            (1, 2),
+            (1, Gives(1), Gives(1), false),
+        ),
+        // log2 of 0 or 3 has no value, so that the precondition is false
+        (
+            logarithm,
+            two,
+            Some(1),
+            (0, 3),
+            (0, Gives(1), Gives(2), false),
+        ),
+        (
+            logarithm,
+            two,
+            Some(3),
+            (3, 1),
+            (3, Gives(1), Gives(2), false),
+        ),
+        (logarithm, two, None, (1, 1), (0, Poison, Poison, false)),
     ] {
-        assert_eq!(rt;
-            doubling_at(rt.alloc(), x)?,
-            expected,
-            "the doubling at {x:?}"
-        );
-    }
-    for (x, y, expected) in [
-        (Some(1), Some(3), (Gives(3), Gives(3), false)),
-        (Some(1), Some(2), (Gives(2), Gives(3), true)),
-        (Some(2), Some(0), (Gives(2), Gives(0), true)),
-        (Some(3), None, (Gives(3), Gives(0), true)),
-        (Some(0), None, (Poison, Gives(3), false)),
-        (None, Some(1), (Poison, Poison, false)),
-    ] {
-        assert_eq!(rt;
-            choice_at(rt.alloc(), x, y)?,
-            expected,
-            "the choice at {x:?}, {y:?}"
-        );
+        let found = sample_at(rt.alloc(), what, width, x, numbers)?;
+        assert_eq!(rt; found, expected, "{what:?} at {x:?}, {numbers:?}");
     }
     Ok(())
 }
 
 #[test]
 fn a_rule_has_its_inputs_and_gates(rt: HostRuntime) -> Result<(), Fail> {
-    for (bits, poison) in [([false, true, false], false), ([false, true, true], true)] {
-        let (inputs, gates, setting) = sample_counts(rt.alloc(), &bits)?;
-        assert_eq!(rt; inputs, 3);
-        // 4 + 1 for xor, 39 + 1 each for add and sub, 1 for both halves, 2 * 2 + 4 at the end
-        assert_eq!(rt; gates, 94);
-        match setting.inputs.as_slice() {
-            [Value::Bits(x)] => assert_eq!(rt; (x.number(), false), (2, poison)),
-            [Value::Poison] => assert!(rt; poison),
-            _ => assert!(rt; false),
+    let what = Parts {
+        opcode: Opcode::Add,
+        function: Function::Log2,
+        pred: Pred::Ult,
+        operator: Opcode::UDiv,
+    };
+    let width = Width::new(2).ok_or("there is no i2")?;
+    let Example { rule, typing } = typed(rt.alloc(), what, width)?;
+    assert_eq!(rt; input_bits(&rule, &typing), 3 + 2 + 2);
+    // the terms 17, their numbers 6, the formula 17 + 6 + 1, and 3 for whether they have values; what is chosen 2 + 45 and 2; both
+    // halves 40 + 5 each and 1, 2 * 2 + 4 for what is allowed, and 1 with the precondition
+    assert_eq!(rt;
+        most_gates(&rule, &typing),
+        17 + 6 + 24 + 3 + 49 + 91 + 8 + 1
+    );
+    let read = [false, true, false, true, false, true, true];
+    let setting = setting_of(rt.alloc(), &rule, &typing, &read)?;
+    match (
+        setting.inputs.as_slice(),
+        setting.constants.as_slice(),
+        setting.target_undefs.as_slice(),
+    ) {
+        ([Value::Bits(x)], [constant], [undef]) => {
+            assert_eq!(rt; (x.number(), constant.number(), undef.number()), (2, 1, 3));
         }
+        _ => assert!(rt; false),
     }
-    // 5 + 1 for icmp over i2, 4 + 1 for select, 0 + 1 for sext, 1 for both halves, 2 * 2 + 4 at the end
-    assert_eq!(rt; choice_counts(rt.alloc())?, (6, 21));
     Ok(())
 }

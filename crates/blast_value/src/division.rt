@@ -11,8 +11,8 @@ ghost use Rattle.blast_value.specs.Effect.{held_value, effect_of, IsOwn, IsOwnEf
 ghost use Rattle.blast_value.specs.Families.{division_opcode, divided, is_signed};
 ghost use Rattle.blast_value.specs.Gates.{opcode_gates, quotient_gates};
 
-use crate::constant::equals;
 use crate::held::{Blasted, Held};
+use crate::known::equals;
 use circ_muldiv::{Divided, divide_signed, divide_unsigned};
 use circuits::{Bits, Circuit, or};
 use ops::{Flags, Width};

@@ -8,12 +8,12 @@ mod arithmetic;
 mod bitwise;
 mod blast;
 mod comparison;
-mod constant;
 mod conversion;
 mod division;
 mod gates;
 mod held;
 mod instruction;
+mod known;
 mod shift;
 mod sign;
 mod strict;
@@ -22,6 +22,7 @@ pub use blast::blast_value;
 pub use gates::{gates_are_few, gates_of};
 pub use held::{Blasted, Held};
 pub use instruction::Instruction;
+pub use known::{constant, equals};
 
 #[cfg(test)]
 mod tests;

@@ -10,8 +10,8 @@ ghost use Rattle.blast_value.specs.Effect.{held_value, effect_of, IsOwn, IsOwnEf
 ghost use Rattle.blast_value.specs.Families.{floor, moved_back, shift_opcode, shifted};
 ghost use Rattle.blast_value.specs.Gates.{opcode_gates, left_gates, moved_gates, right_gates};
 
-use crate::constant::constant;
 use crate::held::{Blasted, Held};
+use crate::known::constant;
 use crate::sign::sign;
 use crate::strict::strict;
 use circuits::{Bits, Circuit, equal, less_unsigned, or, shift_left, shift_right};

@@ -5,7 +5,7 @@ ghost use Rattle.ops.specs.Conversion.{CastFits};
 ghost use Rattle.blast_value.specs.Meaning.{Takes};
 
 use super::*;
-use crate::constant::constant;
+use crate::known::constant;
 use Cell::{Is, Poison, Undefined};
 use Opcode::{AShr, Add, And, LShr, Mul, Or, SDiv, SRem, Shl, Sub, UDiv, URem, Xor};
 use Pred::{Eq, Ne, Sge, Sgt, Sle, Slt, Uge, Ugt, Ule, Ult};

@@ -1,15 +1,13 @@
-use Rattle.std.proofs.lemmas.List.Elements.{All-same}
-use Rattle.blast_rule.proofs.Counts.{HaveWidths, classes_in_source, classes_in_target}
+use Rattle.std.proofs.Common.{◌≡◌, arith}
+use Rattle.blast_rule.specs.Gates.{given_gates, witness_gates, halves_gates, root_width}
 use Rattle.blast_rule.proofs.gates.most_gates.Goals as goal
 
-pub run_gates-requires-clause-classes : goal.run_gates-requires-clause-classes
-run_gates-requires-clause-classes c =
-    let typing = c.args.typing.now in
+pub returns : goal.returns
+returns c =
     let rule = c.args.rule.now in
-    rw c.as_slice-widths.ensures (All-same (HaveWidths typing) _ rule.source c.as_slice.ensures (classes_in_source rule typing c.requires.rule c.requires.typing))
-
-pub run_gates-requires-2-clause-classes : goal.run_gates-requires-2-clause-classes
-run_gates-requires-2-clause-classes c =
     let typing = c.args.typing.now in
-    let rule = c.args.rule.now in
-    rw c.as_slice-widths.ensures (All-same (HaveWidths typing) _ rule.target c.as_slice-2.ensures (classes_in_target rule typing c.requires.rule c.requires.typing))
+    let given : c.given_gates.result ≡ given_gates rule typing = rw c.as_slice-widths.ensures at c.given_gates.ensures.value in
+    let witness : c.witness_gates.result ≡ witness_gates rule typing = rw c.as_slice-widths.ensures at c.witness_gates.ensures.value in
+    let halves : c.halves_gates.result ≡ halves_gates rule typing = rw c.as_slice-widths.ensures at c.halves_gates.ensures.value in
+    let root : c.root_width.result ≡ root_width rule typing = rw c.as_slice-widths.ensures at c.root_width.ensures in
+    omega (arith, given, witness, halves, root)

@@ -1,0 +1,115 @@
+-- What the two halves do, joined from their parts.
+use Rattle.std.proofs.Common.{◌≡◌, ℕ, Bool, true, false, if◌then◌else◌, List, [], ◌∷◌, ◌++◌, map, refl, sym, ap, subst, ◌∙◌}
+use Rattle.std.specs.Prelude.{slice_index}
+use Rattle.std.specs.List.{All}
+use Rattle.std.specs.Option.{unwrap_or}
+use Rattle.ops.specs.Number.{Number}
+use Rattle.ops.specs.declared.value.Value.TheVariants.{Poison}
+use Rattle.ops.specs.declared.value.Effect.{Effect}
+use Rattle.ops.specs.declared.value.Effect.TheVariants as effects
+use Rattle.circuits.specs.Circuit.{Keeps}
+use Rattle.circuits.proofs.Kept.{Keeps-trans}
+use Rattle.rule_core.specs.declared.rule.Rule.{Rule}
+use Rattle.rule_core.specs.declared.rule.Statement.{Statement}
+use Rattle.rule_core.specs.Checks.{IsRule}
+use Rattle.rule_core.specs.Run.{Held as Registry, Holds, given_by, at_start, temporaries_of, holding_source, StatementGives, Follows, SourceGives, TargetGives, TargetGoesOn, TemporariesEnd, value_of}
+use Rattle.rule_core.specs.Terms.{Meanings}
+use Rattle.rule_core.specs.Valid.{Setting, Chooses, meanings_at, witness_number, witness_values, witness_width}
+use Rattle.rule_core.proofs.Once.{follows_once}
+use Rattle.blast_value.specs.declared.held.Held.{Held}
+use Rattle.blast_value.specs.declared.held.Blasted.{Blasted}
+use Rattle.blast_value.specs.Effect.{held_value, effect_of, IsOwn, IsOwnEffect}
+use Rattle.blast_rule.specs.declared.scope.Scope.{Scope}
+use Rattle.blast_rule.specs.Halves.{AreTerms}
+use Rattle.blast_rule.specs.Parts.{number_held}
+use Rattle.blast_rule.specs.Running.{holds, seen, ending, IsGiven}
+use Rattle.blast_rule.specs.Terms.{MeansNames, numbers_chosen, number_chosen, term_widths}
+use Rattle.blast_rule.proofs.Kept.{AllOwn-kept, values-kept, numbers_held-kept, numbers_of-kept, effect_of-kept}
+use Rattle.blast_rule.proofs.Scopes.{Reads, seen_of, given_of}
+use Rattle.blast_rule.proofs.Shapes.{width_at_place}
+use Rattle.blast_rule.proofs.Runs.{held_after}
+use Rattle.blast_rule.proofs.Steps.{source-gives, target-gives}
+use Rattle.blast_rule.proofs.Unchosen.{temporaries_same}
+
+-- what holds where statements have ended
+ended : (undefined : Bool) (now held : Registry) → ending undefined now ≡ Holds held → now ≡ held
+ended true now held is = cc
+ended false now held is = cc
+
+-- both ways of choosing a number are one
+choices_same : (rule : Rule) (typing : List ℕ) (setting : Setting) (held : Registry) (places : List ℕ)
+    → map (number_chosen (term_widths typing rule.witness_terms) (witness_values rule typing setting held)) places ≡ map (witness_number rule typing setting held) places
+choices_same rule typing setting held [] = refl
+choices_same rule typing setting held (n ∷ places) =
+    let rest = choices_same rule typing setting held places in
+    let width : slice_index (term_widths typing rule.witness_terms) n ≡ witness_width rule typing n = width_at_place typing rule.witness_terms n in
+    rw (width, rest) refl
+
+module _ {C L : Type 0} {has_literal : C → L → Type 0} {admits : C → List Bool → Type 0} {value : C → List Bool → L → Bool} {a b : C} (keeps : Keeps has_literal admits value a b) (read : List Bool) (admitted : admits a read)
+    (rule : Rule) (typing : List ℕ) (checked : IsRule rule) (inputs source : List (Held L)) (constants undefs terms : List (List L)) (u : L)
+    (own_inputs : All (IsOwn (has_literal a)) inputs) (own_constants : All (All (has_literal a)) constants) (own_undefs : All (All (has_literal a)) undefs) where
+  abbrev at : Setting
+  at = record { inputs = map (held_value (value a read)) inputs; constants = map (number_held (value a read)) constants; target_undefs = map (number_held (value a read)) undefs }
+
+  -- how the temporaries end
+  abbrev Ran : Type 0
+  Ran = Follows typing (given_by typing at.constants [] rule) holding_source (temporaries_of rule) (holds (value b read) inputs [] []) (ending (value b read u) (holds (value b read) inputs source []))
+
+  pub temporaries_end : Ran → TemporariesEnd typing at.constants rule at.inputs (ending (value b read u) (holds (value b read) inputs source []))
+  temporaries_end ran = subst (λ vs. Follows typing (given_by typing at.constants [] rule) holding_source (temporaries_of rule) (at_start vs) (ending (value b read u) (holds (value b read) inputs source [])))
+      (values-kept keeps read admitted inputs own_inputs) ran
+
+  -- and what `Wit:` chooses then
+  pub chooses : Ran → (before : Scope L) → Reads before inputs source [] constants undefs terms → (words : List Number) → ((names : Meanings) → MeansNames (value b read) before names → words ≡ numbers_chosen typing names rule) → Chooses rule typing at words
+  chooses ran before reads words numbers held ends =
+      let once = follows_once typing (given_by typing at.constants [] rule) holding_source (temporaries_of rule) (at_start at.inputs) (ending (value b read u) (holds (value b read) inputs source [])) (Holds held) (temporaries_end ran) ends in
+      let is : holds (value b read) inputs source [] ≡ held = ended (value b read u) (holds (value b read) inputs source []) held once in
+      let same : seen (value b read) before ≡ held = seen_of before inputs source [] constants undefs terms reads (value b read) ∙ is in
+      numbers (meanings_at at held) (record {
+        constants = sym (ap (map (number_held (value b read))) reads.constants_are ∙ numbers_held-kept keeps read admitted constants own_constants);
+        undefs = sym (ap (map (number_held (value b read))) reads.choices_are ∙ numbers_held-kept keeps read admitted undefs own_undefs);
+        registers = λ r. ap (λ (h : Registry). unwrap_or (value_of h r) Poison) (sym same);
+      }) ∙ choices_same rule typing at held rule.witnesses
+
+  -- what statements are given beside registers
+  pub is_given : (s : Scope L) (held_inputs held_source held_target : List (Held L)) (words : List (List L)) → Reads s held_inputs held_source held_target constants words terms → (choices : List Number) → choices ≡ map (number_held (value b read)) words
+      → AreTerms (value a read) rule typing at.constants terms → All (All (has_literal a)) terms → IsGiven (value b read) s (given_by typing at.constants choices rule)
+  is_given s held_inputs held_source held_target words reads choices is terms_are own_terms =
+      given_of s held_inputs held_source held_target constants words terms reads (value b read) (given_by typing at.constants choices rule)
+      (sym (numbers_held-kept keeps read admitted constants own_constants)) is (sym terms_are ∙ sym (numbers_of-kept keeps read admitted terms own_terms))
+
+  module _ {m d e : C} (second : Keeps has_literal admits value b m) (third : Keeps has_literal admits value m d) (fourth : Keeps has_literal admits value d e) (own_source : All (IsOwn (has_literal b)) source) (own_u : has_literal b u) (ran : Ran) where
+    b_admitted : admits b read
+    b_admitted = keeps.admitted read admitted
+
+    d_admitted : admits d read
+    d_admitted = third.admitted read (second.admitted read b_admitted)
+
+    -- the source's effect is its root's after the temporaries
+    pub source_effect : (choices : List Number) (root : Statement) (made : Blasted L) → rule.source ≡ temporaries_of rule ++ root ∷ [] → IsOwnEffect (has_literal d) made → (value m read u ≡ true → value d read made.undefined ≡ true)
+        → (value m read u ≡ false → StatementGives typing (given_by typing at.constants choices rule) (holds (value d read) inputs source []) root (effect_of (value d read) made))
+        → SourceGives typing at.constants choices rule at.inputs (effect_of (value e read) made)
+    source_effect choices root made parts own stays gives =
+        let next = Keeps-trans second third in
+        let u_same : value m read u ≡ value b read u = second.values read u b_admitted own_u in
+        let inputs_same = values-kept next read b_admitted inputs (AllOwn-kept keeps inputs own_inputs) in
+        let source_same = values-kept next read b_admitted source own_source in
+        let whole = values-kept (Keeps-trans keeps next) read admitted inputs own_inputs in
+        let now : Registry = holds (value d read) inputs source [] in
+        let ran_now : Follows typing (given_by typing at.constants [] rule) holding_source (temporaries_of rule) (at_start (map (held_value (value d read)) inputs)) (ending (value b read u) now) = rw (inputs_same, source_same) ran in
+        let effect_now = source-gives typing at.constants choices rule (map (held_value (value d read)) inputs) (map (held_value (value d read)) source) root (value b read u) (value d read made.undefined) (held_value (value d read) (held_after made)) parts
+        (temporaries_same rule typing at.constants choices checked (at_start (map (held_value (value d read)) inputs)) (ending (value b read u) now) ran_now)
+        (λ is. stays (u_same ∙ is)) (λ is. gives (u_same ∙ is)) in
+        subst (λ e'. SourceGives typing at.constants choices rule at.inputs e') (sym (effect_of-kept fourth read d_admitted made own))
+        (subst (λ vs. SourceGives typing at.constants choices rule vs (effect_of (value d read) made)) whole effect_now)
+
+    -- and the target's is that of its statements
+    pub target_effect : (after : Effect) (made : Blasted L) → TargetGoesOn typing at.constants at.target_undefs rule (holds (value m read) inputs source []) after → effect_of (value e read) made ≡ (if value d read u then effects.Undefined else after)
+        → TargetGives typing at.constants at.target_undefs rule at.inputs (effect_of (value e read) made)
+    target_effect after made goes is =
+        let u_same : value d read u ≡ value b read u = (Keeps-trans second third).values read u b_admitted own_u in
+        let inputs_same = values-kept second read b_admitted inputs (AllOwn-kept keeps inputs own_inputs) in
+        let source_same = values-kept second read b_admitted source own_source in
+        let goes_on : TargetGoesOn typing at.constants at.target_undefs rule (holds (value b read) inputs source []) after = rw (inputs_same, source_same) at goes in
+        target-gives typing at.constants at.target_undefs rule at.inputs (holds (value b read) inputs source []) (value b read u) after (effect_of (value e read) made) (temporaries_end ran) goes_on
+        (is ∙ ap (λ x. if x then effects.Undefined else after) u_same)

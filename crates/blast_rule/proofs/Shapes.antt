@@ -1,0 +1,130 @@
+-- Words of the right widths can be read.
+use Rattle.std.proofs.Common.{◌≡◌, ℕ, zero, suc, ◌<◌, List, [], ◌∷◌, length, map, take, Some, refl, sym, ap, subst, ◌∙◌, arith, get_or}
+use Rattle.std.specs.Prelude.{slice_get, slice_index}
+use Rattle.std.specs.Option.{option_map, option_map_or}
+use Rattle.std.proofs.lemmas.List.{length-map}
+use Rattle.std.proofs.lemmas.Nat.{pow_pos}
+use Rattle.std.proofs.lemmas.Option.{same_Some, slice_get-map, slice_get-get_or, slice_get_within, get_or_from_slice_get}
+use Rattle.ops.specs.Value.{IsValueOf}
+use Rattle.ops.specs.Integer.{bits}
+use Rattle.rule_core.specs.declared.rule.Rule.{Rule}
+use Rattle.rule_core.specs.declared.rule.Term.{Term}
+use Rattle.rule_core.specs.Typing.{IsTyping}
+use Rattle.rule_core.specs.Checks.{IsRule}
+use Rattle.rule_core.specs.Run.{at_start, temporaries_of}
+use Rattle.rule_core.specs.Valid.{InputsFit, ConstantsFit, TargetChoicesFit, SourceChoicesFit, Setting, SettingFits, witness_number}
+use Rattle.rule_core.specs.Readiness.{TermsFit, GivenFits}
+use Rattle.rule_core.proofs.Ready.{ValuesFit-none}
+use Rattle.rule_core.proofs.Givens.{source_given, given_before_root, target_given}
+use Rattle.rule_core.proofs.Witnesses.{choices_fit}
+use Rattle.blast_value.specs.declared.held.Held.{Held}
+use Rattle.blast_value.specs.Effect.{widths_of}
+use Rattle.blast_rule.specs.Inputs.{input_widths, constant_widths, undef_widths}
+use Rattle.blast_rule.specs.Gates.{widths_of_terms}
+use Rattle.blast_rule.specs.Running.{shape, word_shape}
+use Rattle.blast_rule.specs.Terms.{term_widths}
+use Rattle.blast_rule.proofs.Written.{FitAll}
+use Rattle.blast_rule.proofs.Settings.{IsNumberOf, inputs_fit, constants_fit, undefs_fit}
+
+-- what stands for things by their sizes has these widths
+module _ {M X : Type 0} (Fits : ℕ → X → Type 0) (size : M → ℕ) (stand : M → X) (fits : (m : M) → Fits (size m) (stand m)) where
+  pub stands_fit : (items : List M) (k N : ℕ) (x : X) → slice_get (map size items) k ≡ Some N → slice_get (map stand items) k ≡ Some x → Fits N x
+  stands_fit [] k N x at there = absurd (omega (arith, slice_get_within [] k N at))
+  stands_fit (m ∷ items) zero N x at there = subst (λ n. Fits n x) (same_Some (size m) N at) (subst (Fits (size m)) (same_Some (stand m) x there) (fits m))
+  stands_fit (m ∷ items) (suc k) N x at there = stands_fit items k N x at there
+
+  pub all_stand : (items : List M) (widths : List ℕ) → map size items ≡ widths → FitAll Fits widths (map stand items)
+  all_stand items widths is = (
+    length-map items stand ∙ sym (length-map items size) ∙ ap length is,
+    λ k N x at there. stands_fit items k N x (ap (λ ws. slice_get ws k) is ∙ at) there,
+  )
+
+shape_fits : {L : Type 0} (h : Held L) → IsValueOf (length h.bits) (shape h)
+shape_fits h = (refl, pow_pos (length h.bits))
+
+word_fits : {L : Type 0} (word : List L) → IsNumberOf (length word) (word_shape word)
+word_fits word = (refl, pow_pos (length word))
+
+module _ {L : Type 0} (rule : Rule) (typing : List ℕ) (checked : IsRule rule) (typed : IsTyping rule typing) where
+  -- as inputs, constants and `undef`s of the target
+  pub inputs_stand : (items : List (Held L)) → widths_of items ≡ input_widths rule typing → InputsFit rule typing (map shape items)
+  inputs_stand items is = inputs_fit rule typing checked typed (map shape items) (all_stand IsValueOf (λ (h : Held L). length h.bits) shape shape_fits items (input_widths rule typing) is)
+
+  pub constants_stand : (words : List (List L)) → map length words ≡ constant_widths rule typing → ConstantsFit rule typing (map word_shape words)
+  constants_stand words is = constants_fit rule typing checked typed (map word_shape words) (all_stand IsNumberOf length word_shape word_fits words (constant_widths rule typing) is)
+
+  pub undefs_stand : (words : List (List L)) → map length words ≡ undef_widths rule typing → TargetChoicesFit rule typing (map word_shape words)
+  undefs_stand words is = undefs_fit rule typing checked typed (map word_shape words) (all_stand IsNumberOf length word_shape word_fits words (undef_widths rule typing) is)
+
+  -- as what terms give
+  pub terms_stand : (words : List (List L)) → map length words ≡ widths_of_terms rule typing → (length (map (λ (word : List L). bits (length word) 0) words) ≡ length rule.terms) × TermsFit typing rule.terms (map (λ (word : List L). bits (length word) 0) words)
+  terms_stand words is = (
+    length-map words (λ (word : List L). bits (length word) 0) ∙ sym (length-map words length) ∙ ap length is ∙ length-map rule.terms (λ (t : Term). slice_index typing t.class),
+    λ k t v N at there width.
+        let told : slice_get (map length words) k ≡ Some N =
+        ap (λ ws. slice_get ws k) is ∙ slice_get-map (λ (t : Term). slice_index typing t.class) rule.terms k ∙ ap (option_map (λ (t : Term). slice_index typing t.class)) at ∙ ap (λ M. Some M) (get_or_from_slice_get typing t.class N 0 width) in
+        stands_fit IsValueOf length (λ (word : List L). bits (length word) 0) (λ word. (refl, pow_pos (length word))) words k N v told there,
+  )
+
+-- the width at a place of what terms are mapped to
+pub width_at_place : (typing : List ℕ) (terms : List Term) (n : ℕ) → slice_index (term_widths typing terms) n ≡ option_map_or (λ (t : Term). slice_index typing t.class) (slice_get terms n) 0
+width_at_place typing [] zero = refl
+width_at_place typing [] (suc n) = refl
+width_at_place typing (t ∷ terms) zero = refl
+width_at_place typing (t ∷ terms) (suc n) = width_at_place typing terms n
+
+module _ {L : Type 0} (rule : Rule) (typing : List ℕ) (checked : IsRule rule) (typed : IsTyping rule typing) (items : List (Held L)) (constants undefs terms : List (List L))
+    (inputs_are : widths_of items ≡ input_widths rule typing) (constants_are : map length constants ≡ constant_widths rule typing) (undefs_are : map length undefs ≡ undef_widths rule typing) (terms_are : map length terms ≡ widths_of_terms rule typing) where
+  abbrev standing : Setting
+  standing = record { inputs = map shape items; constants = map word_shape constants; target_undefs = map word_shape undefs }
+
+  pub standing_fits : SettingFits rule typing standing
+  standing_fits = record {
+    inputs = inputs_stand rule typing checked typed items inputs_are;
+    constants = constants_stand rule typing checked typed constants constants_are;
+    target_undefs = undefs_stand rule typing checked typed undefs undefs_are;
+  }
+
+  -- as what `Wit:` chooses
+  pub choices_stand : (words : List (List L)) → map length words ≡ map (slice_index (term_widths typing rule.witness_terms)) rule.witnesses → SourceChoicesFit rule typing (map word_shape words)
+  choices_stand words is =
+      let fit = choices_fit rule typing standing (at_start (map shape items)) checked typed standing_fits
+      (record { inputs = standing_fits.inputs; source = ValuesFit-none typing rule.source; target = ValuesFit-none typing rule.target }) in
+      let chosen = witness_number rule typing standing (at_start (map shape items)) in
+      let told = slice_index (term_widths typing rule.witness_terms) in
+      let count : length words ≡ length rule.witnesses = sym (length-map words length) ∙ ap length is ∙ length-map rule.witnesses told in
+      record {
+        count = length-map words word_shape ∙ count ∙ checked.witnesses;
+        widths = λ k N n o among value width at.
+            let within : k < length words = omega (arith, slice_get_within (map word_shape words) k n at, length-map words word_shape) in
+            let m : ℕ = get_or rule.witnesses k 0 in
+            let there : slice_get rule.witnesses k ≡ Some m = slice_get-get_or rule.witnesses k 0 (omega arith) in
+            let first = fit.widths k N (chosen m) o among value width (slice_get-map chosen rule.witnesses k ∙ ap (option_map chosen) there) in
+            let size : slice_get (map length words) k ≡ Some N =
+            ap (λ ws. slice_get ws k) is ∙ slice_get-map told rule.witnesses k ∙ ap (option_map told) there ∙ ap (λ M. Some M) (width_at_place typing rule.witness_terms m ∙ first.0) in
+            stands_fit IsNumberOf length word_shape word_fits words k N n size at;
+      }
+
+  -- what statements read beside registers
+  pub before_root_stands : (words : List (List L))
+      → GivenFits rule typing (temporaries_of rule) (record { constants = map word_shape constants; choices = map word_shape words; terms = map (λ (word : List L). bits (length word) 0) terms })
+  before_root_stands words = record {
+    constants = standing_fits.constants;
+    choices = λ k N o among value width. let none = (given_before_root rule typing (map word_shape constants) checked typed standing_fits.constants).choices k N o among value width in cc;
+    terms = terms_stand rule typing checked typed terms terms_are;
+  }
+
+  pub source_stands : (words : List (List L)) → map length words ≡ map (slice_index (term_widths typing rule.witness_terms)) rule.witnesses
+      → GivenFits rule typing (take (length rule.source) rule.source) (record { constants = map word_shape constants; choices = map word_shape words; terms = map (λ (word : List L). bits (length word) 0) terms })
+  source_stands words is = record {
+    constants = standing_fits.constants;
+    choices = (source_given rule typing (map word_shape constants) checked typed standing_fits.constants (map word_shape words) (length rule.source) (choices_stand words is)).choices;
+    terms = terms_stand rule typing checked typed terms terms_are;
+  }
+
+  pub target_stands : GivenFits rule typing rule.target (record { constants = map word_shape constants; choices = map word_shape undefs; terms = map (λ (word : List L). bits (length word) 0) terms })
+  target_stands = record {
+    constants = standing_fits.constants;
+    choices = (target_given rule typing (map word_shape constants) checked typed standing_fits.constants (map word_shape undefs) standing_fits.target_undefs).choices;
+    terms = terms_stand rule typing checked typed terms terms_are;
+  }

@@ -1,0 +1,72 @@
+-- Statements without an `undef` run the same whatever the `undef`s are chosen to be.
+use Rattle.std.proofs.Common.{◌≡◌, ℕ, suc, ◌-◌, ◌<◌, List, [], ◌∷◌, length, Some, refl, subst, arith}
+use Rattle.std.specs.Prelude.{slice_get, Contains}
+use Rattle.ops.specs.Number.{Number}
+use Rattle.ops.specs.declared.value.Value.{Value}
+use Rattle.ops.specs.declared.value.Effect.{Effect}
+use Rattle.ops.specs.declared.value.Effect.TheVariants as effects
+use Rattle.rule_core.specs.declared.rule.Rule.{Rule}
+use Rattle.rule_core.specs.declared.rule.Statement.{Statement}
+use Rattle.rule_core.specs.declared.rule.Op.{Op}
+use Rattle.rule_core.specs.declared.rule.Op.TheVariants.{Binary, Compare, Select, Convert, Copy}
+use Rattle.rule_core.specs.declared.rule.Operand.{Operand}
+use Rattle.rule_core.specs.declared.rule.Argument.{Argument}
+use Rattle.rule_core.specs.declared.rule.Argument.TheVariants as arguments
+use Rattle.rule_core.specs.Positions.{operands_of}
+use Rattle.rule_core.specs.Checks.{IsRule, SourceMayRead}
+use Rattle.rule_core.specs.Run.{Held, Ending, GoesOn, given_by, temporaries_of, holding_source, ArgumentGives, OperandGives, OpGives, Follows}
+use Rattle.rule_core.proofs.Members.{Contains-from_get}
+use Rattle.rule_core.proofs.Givens.{get_taken}
+
+-- it is no `undef`
+abbrev NoUndef : Argument → Type 0
+NoUndef argument = (k : ℕ) → argument ≡ arguments.Undef k → ⊥
+
+module _ (rule : Rule) (typing : List ℕ) (constants choices : List Number) where
+  argument_same : (held : Held) (N : ℕ) (x : Argument) (v : Value) → NoUndef x → ArgumentGives typing (given_by typing constants [] rule) held N x v → ArgumentGives typing (given_by typing constants choices rule) held N x v
+  argument_same held N (arguments.Undef k) v none gives = absurd (none k refl)
+  argument_same held N x v none gives = gives
+
+  operand_same : (held : Held) (o : Operand) (v : Value) → NoUndef o.value → OperandGives typing (given_by typing constants [] rule) held o v → OperandGives typing (given_by typing constants choices rule) held o v
+  operand_same held o v none (N, width, gives) = (N, width, argument_same held N o.value v none gives)
+
+  op_same : (held : Held) (N : ℕ) (op : Op) (e : Effect) → ((o : Operand) → Contains (operands_of op) o → NoUndef o.value) → OpGives typing (given_by typing constants [] rule) held N op e → OpGives typing (given_by typing constants choices rule) held N op e
+  op_same held N (Binary op flags a b) e none (x, y, p, q, is) =
+      let among = a ∷ b ∷ [] in
+      (x, y, operand_same held a x (none a (Contains-from_get among 0 a refl)) p, operand_same held b y (none b (Contains-from_get among 1 b refl)) q, is)
+  op_same held N (Compare pred a b) e none (M, x, y, at, p, q, is) =
+      let among = a ∷ b ∷ [] in
+      (M, x, y, at, operand_same held a x (none a (Contains-from_get among 0 a refl)) p, operand_same held b y (none b (Contains-from_get among 1 b refl)) q, is)
+  op_same held N (Select c a b) e none (z, x, y, o, p, q, is) =
+      let among = c ∷ a ∷ b ∷ [] in (
+        z,
+        x,
+        y,
+        operand_same held c z (none c (Contains-from_get among 0 c refl)) o,
+        operand_same held a x (none a (Contains-from_get among 1 a refl)) p,
+        operand_same held b y (none b (Contains-from_get among 2 b refl)) q,
+        is,
+      )
+  op_same held N (Convert cast a to) e none (M, x, at, p, is) = (M, x, at, operand_same held a x (none a (Contains-from_get (a ∷ []) 0 a refl)) p, is)
+  op_same held N (Copy a) e none (x, p, is) = (x, operand_same held a x (none a (Contains-from_get (a ∷ []) 0 a refl)) p, is)
+
+  follows_same : (statements : List Statement) (held : Held) (end : Ending) → ((k : ℕ) (s : Statement) → slice_get statements k ≡ Some s → (o : Operand) → Contains (operands_of s.op) o → NoUndef o.value)
+      → Follows typing (given_by typing constants [] rule) holding_source statements held end → Follows typing (given_by typing constants choices rule) holding_source statements held end
+  follows_same [] held end none is = is
+  follows_same (s ∷ statements) held end none (e, (N, width, gives), goes) =
+      let same = op_same held N s.op e (none 0 s refl) gives in
+      elim e as (λ e. OpGives typing (given_by typing constants choices rule) held N s.op e → GoesOn (λ v. Follows typing (given_by typing constants [] rule) holding_source statements (holding_source held v) end) e end
+      → Follows typing (given_by typing constants choices rule) holding_source (s ∷ statements) held end) [
+        | effects.Undefined ↦ λ gives goes. (effects.Undefined, (N, width, gives), goes)
+        | effects.Gives v ↦ λ gives goes. (effects.Gives v, (N, width, gives), follows_same statements (holding_source held v) end (λ k. none (suc k)) goes)
+      ] same goes
+
+  -- so do the source's temporaries
+  pub temporaries_same : IsRule rule → (held : Held) (end : Ending) → Follows typing (given_by typing constants [] rule) holding_source (temporaries_of rule) held end
+      → Follows typing (given_by typing constants choices rule) holding_source (temporaries_of rule) held end
+  temporaries_same checked held end ran =
+      follows_same (temporaries_of rule) held end (λ k s at o among j is.
+      let whole = get_taken rule.source (length rule.source - 1) k s at in
+      let root : suc k ≡ length rule.source = subst (SourceMayRead rule k) is (checked.source_reads k s o whole.0 among) in
+      let before : k < length rule.source - 1 = whole.1 in
+      absurd (omega arith)) ran

@@ -1,0 +1,74 @@
+use Rattle.std.proofs.Common.{◌≡◌, [], map, refl, ap, ◌∙◌, arith}
+use Rattle.circuits.proofs.Kept.{Adds-trans, Adds-weaken}
+use Rattle.rule_core.specs.Terms.{of_constants, number_or_zero, constant_values}
+use Rattle.blast_value.specs.Effect.{held_value, widths_of}
+use Rattle.blast_rule.specs.declared.scope.Scope.{Scope}
+use Rattle.blast_rule.specs.Gates.{widths_of_terms}
+use Rattle.blast_rule.specs.Parts.{number_held}
+use Rattle.blast_rule.proofs.Kept.{numbers_of-kept, values-kept}
+use Rattle.blast_rule.proofs.Preconditions.{precondition_holds, nothing_held}
+use Rattle.blast_rule.proofs.Ready.{constant_terms_held, precondition_held}
+use Rattle.blast_rule.proofs.given.blast_given.Goals as goal
+
+pub blast_terms-requires-clause-ready : goal.blast_terms-requires-clause-ready
+blast_terms-requires-clause-ready g c =
+    let scope : Scope _ = record {
+      inputs = record { ref_ptr = (c.scope-1.given.0, 0); now = [] };
+      source = record { ref_ptr = (c.scope-2-1.given.0, 0); now = [] };
+      target = record { ref_ptr = (c.scope-3-1.given.0, 0); now = [] };
+      constants = c.args.constants;
+      choices = record { ref_ptr = (c.scope-4-1.given.0, 0); now = [] };
+      terms = record { ref_ptr = (c.scope-5-1.given.0, 0); now = [] };
+    } in
+    rw c.as_slice.ensures (constant_terms_held c.args.rule.now c.args.typing.now c.requires.rule c.requires.typing scope c.requires.widths)
+
+pub blast_precondition-requires-clause-ready : goal.blast_precondition-requires-clause-ready
+blast_precondition-requires-clause-ready g c =
+    let widths : widths_of c.in_ok-values.values.items ≡ widths_of_terms c.args.rule.now c.args.typing.now = rw c.as_slice.ensures at c.in_ok-values.ensures.widths in
+    rw (c.deref-2.ensures.value, c.as_slice-2.ensures, widths) (precondition_held c.args.rule.now c.args.typing.now c.requires.rule c.requires.typing)
+
+pub returns-in_err-terms-clause-adds : goal.returns-in_err-terms-clause-adds
+returns-in_err-terms-clause-adds g c =
+    let widths : widths_of c.in_ok-values.values.items ≡ widths_of_terms c.args.rule.now c.args.typing.now = rw c.as_slice.ensures at c.in_ok-values.ensures.widths in
+    Adds-weaken (Adds-trans (rw c.as_slice.ensures at c.blast_terms.ensures.adds) (rw (c.deref.ensures.value, widths) at c.numbers_or_zeros.ensures.adds)) (omega arith)
+
+pub returns-in_err-met-clause-adds : goal.returns-in_err-met-clause-adds
+returns-in_err-met-clause-adds g c =
+    let widths : widths_of c.in_ok-values.values.items ≡ widths_of_terms c.args.rule.now c.args.typing.now = rw c.as_slice.ensures at c.in_ok-values.ensures.widths in
+    let first = Adds-trans (rw c.as_slice.ensures at c.blast_terms.ensures.adds) (rw (c.deref.ensures.value, widths) at c.numbers_or_zeros.ensures.adds) in
+    Adds-weaken (Adds-trans first (rw (c.deref-2.ensures.value, c.as_slice-2.ensures, widths) at c.blast_precondition.ensures.adds)) (omega arith)
+
+pub returns-clause-terms : goal.returns-clause-terms
+returns-clause-terms g c = λ inputs admitted.
+    let m = g.C.Circuit in
+    let start = m.value c.args.c.now inputs in
+    let constants = map (number_held start) c.args.constants.now in
+    let first = c.blast_terms.ensures.adds.keeps.admitted inputs admitted in
+    let second = c.numbers_or_zeros.ensures.adds.keeps.admitted inputs first in
+    let words = c.in_ok-terms.terms.items in
+    let values : map (held_value (m.value c.blast_terms.new.c inputs)) c.in_ok-values.values.items ≡ constant_values c.args.typing.now constants c.args.rule.now =
+    rw c.as_slice.ensures at (c.in_ok-values.ensures.values inputs (of_constants constants) admitted (record { constants = refl; undefs = refl; registers = nothing_held })) in
+    rw c.from_vec.ensures
+    (numbers_of-kept c.blast_precondition.ensures.adds.keeps inputs second words c.in_ok-terms.ensures.own
+    ∙ rw c.deref.ensures.value at (c.in_ok-terms.ensures.numbers inputs first)
+    ∙ ap (map number_or_zero) values)
+
+pub returns-clause-met : goal.returns-clause-met
+returns-clause-met g c = λ inputs admitted.
+    let m = g.C.Circuit in
+    let start = m.value c.args.c.now inputs in
+    let constants = map (number_held start) c.args.constants.now in
+    let first = c.blast_terms.ensures.adds.keeps.admitted inputs admitted in
+    let second = c.numbers_or_zeros.ensures.adds.keeps.admitted inputs first in
+    let items = c.in_ok-values.values.items in
+    let values : map (held_value (m.value c.blast_terms.new.c inputs)) items ≡ constant_values c.args.typing.now constants c.args.rule.now =
+    rw c.as_slice.ensures at (c.in_ok-values.ensures.values inputs (of_constants constants) admitted (record { constants = refl; undefs = refl; registers = nothing_held })) in
+    let now = values-kept c.numbers_or_zeros.ensures.adds.keeps inputs first items c.in_ok-values.ensures.own ∙ values in
+    precondition_holds c.args.rule.now c.args.typing.now constants (map (held_value (m.value c.numbers_or_zeros.new.c inputs)) items) (m.value c.blast_precondition.new.c inputs c.in_ok-met.met) now
+    (rw (c.deref-2.ensures.value, c.as_slice-2.ensures) at (c.in_ok-met.ensures.value inputs second))
+
+pub returns-clause-adds : goal.returns-clause-adds
+returns-clause-adds g c =
+    let widths : widths_of c.in_ok-values.values.items ≡ widths_of_terms c.args.rule.now c.args.typing.now = rw c.as_slice.ensures at c.in_ok-values.ensures.widths in
+    let first = Adds-trans (rw c.as_slice.ensures at c.blast_terms.ensures.adds) (rw (c.deref.ensures.value, widths) at c.numbers_or_zeros.ensures.adds) in
+    Adds-weaken (Adds-trans first (rw (c.deref-2.ensures.value, c.as_slice-2.ensures, widths) at c.blast_precondition.ensures.adds)) (omega arith)

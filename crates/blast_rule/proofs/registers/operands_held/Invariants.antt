@@ -1,9 +1,0 @@
-use Rattle.std.proofs.Common.{take}
-use Rattle.std.specs.List.{AllZip}
-use Rattle.blast_rule.specs.Running.{HoldsOperand}
-use Rattle.blast_rule.proofs.registers.operands_held.Given as goal
-
-abbrev pub invariant-loop-operand : goal.invariant-loop-operand
-invariant-loop-operand g l =
-    let m = g.C.Circuit in
-    AllZip (HoldsOperand (m.has_literal l.c) (m.admits l.c) (m.value l.c) l.typing l.registers) (take l.operand-index l.operands) l.held

@@ -1,9 +1,0 @@
-use Rattle.std.proofs.Common.{◌≡◌, ◌+◌, ◌*◌, ◌^◌, Bool, List, length}
-use Rattle.std.specs.List.{All}
-use Rattle.circuits.specs.Word.{number_of}
-use Rattle.blast_value.proofs.constant.constant.Given as goal
-
-abbrev pub invariant-loop-i : goal.invariant-loop-i
-invariant-loop-i g l =
-    let m = g.C.Circuit in
-    All (m.has_literal l.c) l.word × (length l.word ≡ l._i) × ((inputs : List Bool) → m.admits l.c inputs → number_of (m.value l.c inputs) l.word + 2 ^ l._i * l.rest ≡ l.fn.number)
