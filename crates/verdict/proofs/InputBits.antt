@@ -1,48 +1,62 @@
--- A rule has at most 256 inputs, since its source has an operand for each of them, and so the circuit of a rule has few.
-use Rattle.std.proofs.Common.{ℕ, zero, suc, ◌+◌, ◌-◌, ◌*◌, ◌≤◌, List, Some, length, get_or, ap, inl, inr, arith, length-append}
-use Rattle.std.specs.Prelude.{slice_index, flat_map, All}
-use Rattle.std.specs.List.{range_with_len, find}
+-- A rule has few inputs, constants and `undef`s of the target, since a half has few operands, and so its circuit has few inputs.
+use Rattle.std.proofs.Common.{ℕ, zero, suc, ◌*◌, ◌<◌, ◌≤◌, List, [], ◌∷◌, length, get_or, inl, inr, arith, length-append}
+use Rattle.std.specs.Prelude.{slice_index, sum_by, map, All, Option, None, Some}
+use Rattle.std.specs.List.{range_with_len, filter_map, cons_option}
 use Rattle.std.specs.Option.{option_map_or}
-use Rattle.std.specs.Prelude.{Option, None}
 use Rattle.std.proofs.lemmas.Bool.{cases_lt}
 use Rattle.std.proofs.lemmas.Option.{slice_get_within}
-use Rattle.std.proofs.lemmas.Grind.{flat_map-append}
 use Rattle.std.proofs.lemmas.List.{get_or_past}
 use Rattle.std.proofs.lemmas.List.Elements.{All-map, Contains-get_or}
 use Rattle.std.proofs.lemmas.List.FromFn.{length-map-range_with_len}
 use Rattle.std.proofs.lemmas.List.Sums.{sum_by-le}
 use Rattle.rule_core.specs.declared.rule.Rule.{Rule}
 use Rattle.rule_core.specs.declared.rule.Statement.{Statement}
+use Rattle.rule_core.specs.declared.rule.Op.{Op}
+use Rattle.rule_core.specs.declared.rule.Op.TheVariants.{Binary, Compare, Select, Convert, Copy}
 use Rattle.rule_core.specs.declared.rule.Operand.{Operand}
+use Rattle.rule_core.specs.declared.rule.Argument.{Argument}
+use Rattle.rule_core.specs.declared.rule.Argument.TheVariants as arguments
 use Rattle.rule_core.specs.declared.rule.Register.TheVariants as registers
-use Rattle.rule_core.specs.Checks.{IsRule, ReadsAt}
-use Rattle.rule_core.specs.Positions.{operands_of, operands_in}
+use Rattle.rule_core.specs.Checks.{IsRule, StandsAt}
+use Rattle.rule_core.specs.Positions.{operands_of, operands_among, undef_in, undefs_among}
 use Rattle.rule_core.specs.Typing.{IsTyping}
-use Rattle.blast_rule.specs.Inputs.{input_bits, input_width, input_widths, is_input}
+use Rattle.blast_rule.specs.Inputs.{input_widths, constant_widths, undef_widths, value_bits, number_bits, input_bits}
 
--- the source first reads the inputs in order, so that its operands before one that reads input i are at least i
-read_late : (rule : Rule) (i q : ℕ) → IsRule rule → ReadsAt rule q (registers.Input i) → i ≤ q
-read_late rule zero q checked at = omega arith
-read_late rule (suc i) q checked at = let before = checked.inputs_in_order i (suc i) q (omega arith) at in omega (arith, before.1, read_late rule i before.0 checked before.2)
+-- a statement has at most three operands
+three : (op : Op) → length (operands_of op) ≤ 3
+three (Binary op flags a b) = omega arith
+three (Compare pred a b) = omega arith
+three (Select c a b) = omega arith
+three (Convert cast a to) = omega arith
+three (Copy a) = omega arith
 
--- the source has at most as many operands as the rule
-source_operands : (rule : Rule) → length (flat_map (λ (s : Statement). operands_of s.op) rule.source) ≤ length (operands_in rule)
-source_operands rule =
-    let f : Statement → List Operand = λ s. operands_of s.op in
-    omega (arith, ap length (flat_map-append f rule.source rule.target), length-append (flat_map f rule.source) (flat_map f rule.target))
+operands_few : (statements : List Statement) → length (operands_among statements) ≤ 3 * length statements
+operands_few [] = omega arith
+operands_few (s ∷ statements) = omega (arith, length-append (operands_of s.op) (operands_among statements), three s.op, operands_few statements)
 
-inputs_few : (rule : Rule) → IsRule rule → length rule.inputs ≤ 256
-inputs_few rule checked =
-    let operands = flat_map (λ (s : Statement). operands_of s.op) rule.source in
-    elim (cases_lt 0 (length rule.inputs)) [
-      | inr none ↦ omega arith
-      | inl some ↦
-          let last = checked.inputs_read (length rule.inputs - 1) (omega arith) in
-          let inside = slice_get_within operands last.0 last.1.0 last.1.1 in
-          omega (arith, inside, read_late rule (length rule.inputs - 1) last.0 checked last.1, source_operands rule, checked.few_operands)
-    ]
+-- where the source first reads such things in order, its operands before one that reads the k-th are at least k
+read_late : (rule : Rule) (what : ℕ → Argument)
+    → ((h k q : ℕ) → h < k → StandsAt rule q (what k) → (p : ℕ) × (p < q) × StandsAt rule p (what h))
+    → (k q : ℕ) → StandsAt rule q (what k) → k ≤ q
+read_late rule what in_order zero q at = omega arith
+read_late rule what in_order (suc k) q at =
+    let before = in_order k (suc k) q (omega arith) at in omega (arith, before.1, read_late rule what in_order k before.0 before.2)
 
--- the width of each class is at most 64, and so is that of each input
+-- so there are at most as many of them as operands
+read_few : (rule : Rule) (what : ℕ → Argument) (count : ℕ)
+    → ((k : ℕ) → k < count → (q : ℕ) × StandsAt rule q (what k))
+    → ((h k q : ℕ) → h < k → StandsAt rule q (what k) → (p : ℕ) × (p < q) × StandsAt rule p (what h))
+    → count ≤ length (operands_among rule.source)
+read_few rule what zero read in_order = omega arith
+read_few rule what (suc last) read in_order =
+    let at = read last (omega arith) in
+    omega (arith, read_late rule what in_order last at.0 at.1, slice_get_within (operands_among rule.source) at.0 at.1.0 at.1.1)
+
+kept_few : {X Y : Type 0} (f : X → Option Y) (xs : List X) → length (filter_map f xs) ≤ length xs
+kept_few f [] = omega arith
+kept_few f (x ∷ xs) = elim (f x) as (λ o. length (cons_option o (filter_map f xs)) ≤ suc (length xs)) [ None ↦ omega (arith, kept_few f xs) | Some y ↦ omega (arith, kept_few f xs) ]
+
+-- the width of each class is at most 64, and so is that of each operand
 class_width : (rule : Rule) (typing : List ℕ) → IsTyping rule typing → (c : ℕ) → slice_index typing c ≤ 64
 class_width rule typing typed c =
     elim (cases_lt c (length typing)) [
@@ -54,10 +68,31 @@ width_among : (rule : Rule) (typing : List ℕ) → IsTyping rule typing → (fo
 width_among rule typing typed None = omega arith
 width_among rule typing typed (Some o) = class_width rule typing typed o.class
 
-pub input_bits_few : (rule : Rule) (typing : List ℕ) → IsRule rule → IsTyping rule typing → input_bits rule typing ≤ 256 * 65
+-- the widths of so many things, each told by an operand, sum to few bits
+sum_few : (rule : Rule) (typing : List ℕ) → IsTyping rule typing → (teller : ℕ → Option Operand) (count : ℕ) (bits : ℕ → ℕ) → ((N : ℕ) → N ≤ 64 → bits N ≤ 65)
+    → sum_by bits (map (λ k. option_map_or (λ o. slice_index typing o.class) (teller k) 0) (range_with_len 0 count)) ≤ count * 65
+sum_few rule typing typed teller count bits few =
+    let width : ℕ → ℕ = λ k. option_map_or (λ o. slice_index typing o.class) (teller k) 0 in
+    let places = range_with_len 0 count in
+    let each : All (λ N. bits N ≤ 65) (map width places) =
+    All-map (λ N. bits N ≤ 65) width places (λ k d within. few (width (get_or places k d)) (width_among rule typing typed (teller (get_or places k d)))) in
+    omega (arith, sum_by-le bits 65 (map width places) each, length-map-range_with_len width 0 count)
+
+pub input_bits_few : (rule : Rule) (typing : List ℕ) → IsRule rule → IsTyping rule typing → input_bits rule typing ≤ 288 * 65
 input_bits_few rule typing checked typed =
-    let widths = range_with_len 0 (length rule.inputs) in
-    let each : All (λ N. N + 1 ≤ 65) (input_widths rule typing) =
-    All-map (λ N. N + 1 ≤ 65) (input_width rule typing) widths
-    (λ k d within. omega (arith, width_among rule typing typed (find (λ o. is_input (get_or widths k d) o.value) (operands_in rule)))) in
-    omega (arith, sum_by-le (λ N. N + 1) 65 (input_widths rule typing) each, length-map-range_with_len (input_width rule typing) 0 (length rule.inputs), inputs_few rule checked)
+    let inputs : sum_by value_bits (input_widths rule typing) ≤ length rule.inputs * 65 = sum_few rule typing typed _ _ _ (λ N h. omega arith) in
+    let constants : sum_by number_bits (constant_widths rule typing) ≤ length rule.constants * 65 = sum_few rule typing typed _ _ _ (λ N h. omega arith) in
+    let undefs : sum_by number_bits (undef_widths rule typing) ≤ length (undefs_among rule.target) * 65 = sum_few rule typing typed _ _ _ (λ N h. omega arith) in
+    omega (
+      arith,
+      checked.few_in_source,
+      checked.few_in_target,
+      operands_few rule.source,
+      operands_few rule.target,
+      read_few rule (λ k. arguments.Register (registers.Input k)) (length rule.inputs) checked.inputs_read checked.inputs_in_order,
+      read_few rule (λ k. arguments.Constant k) (length rule.constants) checked.constants_read checked.constants_in_order,
+      kept_few (λ (o : Operand). undef_in o.value) (operands_among rule.target),
+      inputs,
+      constants,
+      undefs,
+    )

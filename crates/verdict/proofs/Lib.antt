@@ -1,4 +1,4 @@
 pub mod Chain
 pub mod Examples
 pub mod InputBits
-pub mod Sample
+pub mod Widths

@@ -5,7 +5,8 @@ use Rattle.clauses.specs.Settings.{StandsFor}
 use Rattle.cdcl_log.specs.Found.{IsHonestLimit}
 use Rattle.rule_core.specs.declared.rule.Rule.{Rule}
 use Rattle.rule_core.specs.declared.example.Example.{Example}
-use Rattle.rule_core.specs.Valid.{Setting, IsValid, IsCounterexample, chosen}
+use Rattle.rule_core.specs.Positions.{undefs_among}
+use Rattle.rule_core.specs.Valid.{Setting, IsValid, IsCounterexample}
 use Rattle.blast_rule.specs.Inputs.{input_bits}
 use Rattle.blast_rule.specs.Settings.{setting_of}
 use Rattle.blast_rule.specs.Gates.{most_gates}
@@ -18,14 +19,13 @@ use Rattle.verdict.specs.declared.verdict.Tried.{Tried}
 abbrev pub setting_in : Example → Setting
 setting_in example = record { inputs = example.inputs; constants = example.constants; target_undefs = example.target_undefs }
 
--- The example is a counterexample with its two effects, and keeps what the source's `undef`s are chosen to be.
-pub record IsRefutedBy (rule : Rule) (typing : List ℕ) (example : Example) : Type 0 where
-  pub counterexample : IsCounterexample rule typing (setting_in example) example.source example.target
-  pub source_undefs : example.source_undefs ≡ chosen rule typing (setting_in example)
+-- The example is a counterexample: with what `Wit:` chooses for the source's `undef`s there, and the effects of both halves.
+abbrev pub IsRefutedBy : Rule → List ℕ → Example → Type 0
+IsRefutedBy rule typing example = IsCounterexample rule typing (setting_in example) example.source_undefs example.source example.target
 
--- the source of the rule has an `undef`; none has yet
+-- the source of the rule has an `undef`
 abbrev pub HasSourceUndef : Rule → Type 0
-HasSourceUndef rule = ⊥
+HasSourceUndef rule = 0 < length (undefs_among rule.source)
 
 -- The set stands for the counterexamples of the rule at the typing: its inputs are the bits of a setting, it stands for the
 -- test that these are read as a counterexample, and beside them it has at most a variable for each gate and one more.

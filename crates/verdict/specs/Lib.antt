@@ -1,3 +1,3 @@
 pub mod Honest
+pub mod Reading
 pub mod Laws
-pub mod Sample

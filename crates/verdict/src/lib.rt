@@ -5,11 +5,9 @@
 
 mod decision;
 mod laws;
+mod reading;
 mod verdict;
 
 pub use decision::decide;
 pub use laws::few_bits_are_decided;
 pub use verdict::{Row, Table, Tried, Verdict};
-
-#[cfg(test)]
-mod tests;

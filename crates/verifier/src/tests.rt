@@ -27,6 +27,10 @@ fn named_rule(alloc: Global) -> Result<Rule, AllocError> {
         constants: one(alloc, text(alloc, b"C")?)?,
         source: List::new(alloc),
         target: List::new(alloc),
+        terms: List::new(alloc),
+        precondition: List::new(alloc),
+        witness_terms: List::new(alloc),
+        witnesses: List::new(alloc),
     })
 }
 

@@ -1,7 +1,6 @@
 //! Verdicts on a list of rules.
 
 ghost use Rattle.std.specs.Prelude.{◌≡◌, ◌↔◌, ◌≤◌, ◌<◌, ◌^◌, [], ◌∷◌, All, length, IsTrue, IfOk, OnOk};
-ghost use Rattle.std.specs.List.Sorted.{IsStrictlyIncreasing};
 ghost use Rattle.rule_core.specs.Checks.{IsRule};
 ghost use Rattle.rule_core.specs.Typing.{IsTyping};
 ghost use Rattle.verifier.specs.Additions.{AddsRows, AddsRule};
@@ -40,7 +39,6 @@ pub fn verify(
 ) -> Result<Verified, AllocError>
     requires rules { All IsReadRule rules.now }
     requires few { length rules.now < 2 ^ 32 }
-    requires widths { IsStrictlyIncreasing widths.now }
     requires conflicts { conflicts ≤ 1000000 }
     ensures verified { IfOk result (IsVerified rules.now widths.now conflicts) }
 {
@@ -65,7 +63,6 @@ fn push_rule(
     conflicts: u32,
 ) -> Result<(), AllocError>
     requires rule { IsReadRule rule.now }
-    requires widths { IsStrictlyIncreasing widths.now }
     requires conflicts { conflicts ≤ 1000000 }
     ensures { OnOk result (AddsRule widths.now conflicts place rule.now verified.old verified.new) }
 {

@@ -10,3 +10,6 @@ returns-in-Limit c =
     record {
       honest = honest_budget c.args.rule.now c.args.typing.now set c.in_ok-set.ensures limit c.in-Limit.log (subst (IsFound set limit) c.in-Limit.is c.in_ok-model.ensures);
     }
+
+pub returns-in_ok-example-in-Sat : goal.returns-in_ok-example-in-Sat
+returns-in_ok-example-in-Sat c = record { honest = c.refusal.ensures c.args.typing.now c.args.limit c.in_ok-example-in-Sat.ensures }
