@@ -1,6 +1,5 @@
 -- What the words of a command line ask for: a task, the files that it reads, and what it takes in them.
 use Rattle.std.specs.Prelude.{◌≡◌, ◌≢◌, ◌≤◌, ℕ, true, false, length, List, [], ◌∷◌, map, ◌⊎◌, codes}
-use Rattle.std.specs.List.Sorted.{IsStrictlyIncreasing}
 use Rattle.scan.specs.declared.rule_token.RuleToken.{RuleToken}
 use Rattle.scan.specs.RuleTokens.{IsNextRuleToken}
 use Rattle.command_line.specs.declared.command.Command.{Command}
@@ -30,9 +29,9 @@ task_of (commands.Verify rules widths conflicts) = Verify rules.now widths confl
 task_of (commands.Optimise rules source conflicts steps) = Optimise rules.now source.now conflicts steps
 task_of (commands.Run source name arguments blocks) = Run source.now name.now (map (λ a. a.now) arguments) blocks
 
--- what the work of a command asks of it: widths in order, each once, and a limit within that of a search
+-- what the work of a command asks of it: a limit within that of a search
 abbrev pub IsReady : Command → Type 0
-IsReady (commands.Verify rules widths conflicts) = IsStrictlyIncreasing widths × (conflicts ≤ 1000000)
+IsReady (commands.Verify rules widths conflicts) = conflicts ≤ 1000000
 IsReady (commands.Optimise rules source conflicts steps) = Unit {0}
 IsReady (commands.Run source name arguments blocks) = Unit {0}
 

@@ -1,7 +1,6 @@
 //! The work of each command, before anything is written.
 
 ghost use Rattle.std.specs.Prelude.{◌≡◌, ◌≤◌, ◌<◌, ◌+◌, ◌^◌, length, map, take, IfSome, [], IfOk, All, if◌then◌else◌};
-ghost use Rattle.std.specs.List.Sorted.{IsStrictlyIncreasing};
 ghost use Rattle.verifier.specs.Findings.{IsReadRule};
 ghost use Rattle.module_work.specs.Running.{IsRun};
 ghost use Rattle.alive_top.specs.Asking.{asked};
@@ -168,7 +167,6 @@ fn verified(
     conflicts: u32,
 ) -> Result<Work, AllocError>
     requires rules { All IsReadRule rules.now }
-    requires widths { IsStrictlyIncreasing widths.now }
     requires conflicts { conflicts ≤ 1000000 }
     ensures { IfOk result (λ work. IsVerifyWork rules.now widths.now conflicts (seen_work work)) }
 {
@@ -203,7 +201,6 @@ fn verify<'a, F: Files>(
     widths: &List<Width>,
     conflicts: u32,
 ) -> Result<Work, Refusal<'a>>
-    requires widths { IsStrictlyIncreasing widths.now }
     requires conflicts { conflicts ≤ 1000000 }
     ensures answer { TaskOf
         (asked (F.bytes_under files.old) (F.names_asked files.old) (F.names_asked files.new) (F.faults files.old) (F.faults files.new))

@@ -1,11 +1,7 @@
 //! Rules of one statement over each opcode and flag. Their classes and verdicts were worked out by hand, and a program apart from this
 //! one enumerated their settings: each refuted rule has one counterexample.
-ghost use Rattle.std.specs.Prelude.{IfOk};
-ghost use Rattle.std.specs.List.Sorted.{IsStrictlyIncreasing};
 
-use crate::tests::verified;
-use lists::List;
-use ops::Width;
+use crate::tests::{verified, widths};
 use std::alloc::Global;
 use std::test::Fail;
 
@@ -145,21 +141,6 @@ const ROWS: [(&str, &str, &str); 49] = [
     ),
 ];
 
-/// The widths from 1 to 4.
-fn widths(alloc: Global) -> Result<List<Width>, Fail>
-    ensures { IfOk result (λ widths. IsStrictlyIncreasing widths) }
-{
-    let (Some(one), Some(two), Some(three), Some(four)) = (
-        Width::new(1),
-        Width::new(2),
-        Width::new(3),
-        Width::new(4),
-    ) else {
-        return Err("no width")?;
-    };
-    Ok(List::from_vec(vec![in alloc; one, two, three, four]?))
-}
-
 /// A file of the rule that computes this in its source and its target.
 fn rule_file(alloc: Global, source: &str, target: &str) -> Result<Vec<u8>, Fail> {
     let mut text = Vec::from_slice(alloc, b"Name: r\n%r = ")?;
@@ -173,7 +154,7 @@ fn rule_file(alloc: Global, source: &str, target: &str) -> Result<Vec<u8>, Fail>
 #[test]
 fn each_opcode_and_flag_has_its_verdicts(rt: HostRuntime) -> Result<(), Fail> {
     let alloc = rt.alloc();
-    let widths = widths(alloc)?;
+    let widths = widths(alloc, 1, 4)?;
     for (source, target, lines) in &ROWS {
         let text = rule_file(alloc, source, target)?;
         let verified = verified(alloc, &text, &widths)?;

@@ -1,6 +1,5 @@
 //! Twelve rules, read and decided, whose verdicts another program found by enumerating their settings.
 ghost use Rattle.std.specs.Prelude.{IfOk, All};
-ghost use Rattle.std.specs.List.Sorted.{IsStrictlyIncreasing};
 ghost use Rattle.verifier.specs.Findings.{IsReadRule};
 
 use lists::List;
@@ -110,15 +109,22 @@ fn rules_of(alloc: Global, text: &[u8]) -> Result<Vec<Rule>, Fail>
     }
 }
 
-/// The verdicts on the rules of a text, over widths of which each stands once, in order.
-pub(crate) fn verified(alloc: Global, text: &[u8], widths: &List<Width>) -> Result<Verified, Fail>
-    requires { IsStrictlyIncreasing widths.now }
-{
+/// The verdicts on the rules of a text over widths.
+pub(crate) fn verified(alloc: Global, text: &[u8], widths: &List<Width>) -> Result<Verified, Fail> {
     let rules = rules_of(alloc, text)?;
     if rules.len() > MOST_RULES {
         return Err("too many rules")?;
     }
     Ok(verify(alloc, rules.as_slice(), widths, 20_000)?)
+}
+
+/// The widths from one to another.
+pub(crate) fn widths(alloc: Global, least: u32, most: u32) -> Result<List<Width>, Fail> {
+    let mut widths = List::new(alloc);
+    for bits in least..=most {
+        widths.push(Width::new(bits).ok_or("no width")?)?;
+    }
+    Ok(widths)
 }
 
 /// What the program calls a verdict.

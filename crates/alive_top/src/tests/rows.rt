@@ -15,7 +15,7 @@ struct Row {
     err: Option<&'static str>,
 }
 
-const ROWS: [Row; 24] = [
+const ROWS: [Row; 26] = [
     // words
     Row {
         words: &[],
@@ -80,6 +80,24 @@ const ROWS: [Row; 24] = [
         status: 3,
         out: "",
         err: Some("rules: line 4: Unbound\n"),
+    },
+    Row {
+        words: VERIFY,
+        rules: "Name: bad\n%a = and %x, undef\n%r = add %a, 1\n=>\n%r = %x\n",
+        source: "",
+        faults: NO_FAULTS,
+        status: 3,
+        out: "",
+        err: Some("rules: line 2: UndefInside\n"),
+    },
+    Row {
+        words: VERIFY,
+        rules: "Name: and-undef\n%r = and %x, undef\n=>\n%r = 0\n",
+        source: "",
+        faults: NO_FAULTS,
+        status: 3,
+        out: "",
+        err: Some("rules: line 1: WitnessCount\n"),
     },
     // verdicts
     Row {

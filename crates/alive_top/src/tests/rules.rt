@@ -15,7 +15,7 @@ struct Row {
 const MUL_ADD: &str =
     "Name: mul-add\n%a = add %x, %y\n%r = mul %a, %z\n=>\n%p = mul %x, %z\n%q = mul %y, %z\n%r = add %p, %q\n";
 
-const ROWS: [Row; 10] = [
+const ROWS: [Row; 19] = [
     Row {
         rules: MUL_ADD,
         options: &["--widths", "16", "--conflicts", "1"],
@@ -84,6 +84,70 @@ const ROWS: [Row; 10] = [
         options: &["--widths", "1-4"],
         status: 0,
         out: "sel-inc [1 1]: admitted\nsel-inc [2 1]: admitted\nsel-inc [3 1]: admitted\nsel-inc [4 1]: admitted\n",
+        or: None,
+    },
+    Row {
+        rules: "Name: not-add\n%1 = xor %x, -1\n%2 = add %1, C\n=>\n%2 = sub C-1, %x\n",
+        options: &["--widths", "1-5"],
+        status: 0,
+        out: "not-add [1]: admitted\nnot-add [2]: admitted\nnot-add [3]: admitted\nnot-add [4]: admitted\nnot-add [5]: admitted\n",
+        or: None,
+    },
+    Row {
+        rules: "Name: shl-sdiv\nPre: C1 == 2 && C2 == -4 && C2 % (1<<C1) == 0\n%s = shl nsw %X, C1\n%r = sdiv %s, C2\n=>\n%r = sdiv %X, C2/(1<<C1)\n",
+        options: &["--widths", "3"],
+        status: 1,
+        out: "shl-sdiv [3]: refuted\n  %X = 7\n  C1 = 2\n  C2 = 4\n  source 1\n  target 7\n",
+        or: None,
+    },
+    Row {
+        rules: "Name: mul-pow\n%r = mul %x, C\n=>\n%r = shl %x, log2(C)\n",
+        options: &["--widths", "1-5"],
+        status: 0,
+        out: "mul-pow [1]: admitted\nmul-pow [2]: admitted\nmul-pow [3]: admitted\nmul-pow [4]: admitted\nmul-pow [5]: admitted\n",
+        or: None,
+    },
+    Row {
+        rules: "Name: mul-pow-nsw\n%r = mul nsw %x, C\n=>\n%r = shl nsw %x, log2(C)\n",
+        options: &["--widths", "4"],
+        status: 1,
+        out: "mul-pow-nsw [4]: refuted\n  %x = 1\n  C = 8\n  source 8\n  target poison\n",
+        or: None,
+    },
+    Row {
+        rules: "Name: and-undef\nWit: 0\n%r = and %x, undef\n=>\n%r = 0\n",
+        options: &["--widths", "4"],
+        status: 0,
+        out: "and-undef [4]: admitted\n",
+        or: None,
+    },
+    Row {
+        rules: "Name: and-undef\nWit: -1\n%r = and %x, undef\n=>\n%r = 0\n",
+        options: &["--widths", "1"],
+        status: 1,
+        out: "and-undef [1]: witness fails\n  %x = 1\n  u1 = 1\n  source 1\n  target 0\n",
+        or: None,
+    },
+    Row {
+        rules: "Name: xor-undef\nWit: %x ^ t1\n%r = xor %x, undef\n=>\n%r = or undef, 0\n",
+        options: &["--widths", "4"],
+        status: 0,
+        out: "xor-undef [4]: admitted\n",
+        or: None,
+    },
+    // 13 input bits
+    Row {
+        rules: "Name: xor-self\n%r = xor %x, %x\n=>\n%r = 0\n",
+        options: &["--widths", "12", "--conflicts", "1"],
+        status: 1,
+        out: "xor-self [12]: budget\n",
+        or: None,
+    },
+    Row {
+        rules: "Name: xor-self\n%r = xor %x, %x\n=>\n%r = 0\n",
+        options: &["--widths", "12"],
+        status: 0,
+        out: "xor-self [12]: admitted\n",
         or: None,
     },
 ];
