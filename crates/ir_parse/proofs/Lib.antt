@@ -1,4 +1,3 @@
-pub mod Advancing
 pub mod Framing
 pub mod FunctionReadings
 pub mod FunctionSpellings

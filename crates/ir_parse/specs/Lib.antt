@@ -1,4 +1,3 @@
-pub mod Advancing
 pub mod Grammar
 pub mod Items
 pub mod Laws

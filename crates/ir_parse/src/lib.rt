@@ -4,8 +4,7 @@
 #![tactic(auto)]
 
 mod block;
-mod entry;
-mod following;
+mod entries;
 mod function;
 mod item;
 mod laws;
@@ -13,7 +12,7 @@ mod parameter;
 mod reader;
 mod word;
 
-pub use following::{NextEntry, next_entry};
+pub use entries::entry;
 pub use ir_statements::{Misfit, ParseError, TextFault};
 pub use laws::{every_text_has_one_reading_or_one_fault, modules_are_read_as_they_are_spelled};
 pub use reader::{MOST_BYTES, parse};

@@ -4,7 +4,7 @@ ghost use Rattle.std.specs.Prelude.{◌≤◌, length, IfOk, OnOk, IfErr};
 ghost use Rattle.ir_parse.specs.Refusing.{IfRefused};
 ghost use Rattle.ir_parse.specs.Text.{most_bytes, IsRaw, IsTextFault};
 
-use crate::entry::raw_module;
+use crate::entries::raw_module;
 use ir_raw::RawModule;
 use ir_statements::{Misfit, ParseError, refused};
 use ir_tokens::tokens_of;

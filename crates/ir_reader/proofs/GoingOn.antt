@@ -10,7 +10,7 @@ use Rattle.ir_tokens.specs.declared.reader.TokenReader.{TokenReader}
 use Rattle.ir_tokens.specs.Reading.{StandsIn}
 use Rattle.ir_raw.specs.declared.raw.RawEntry.{RawEntry}
 use Rattle.ir_raw.specs.declared.raw.RawFunction.{RawFunction}
-use Rattle.ir_parse.specs.Advancing.{HasRead}
+use Rattle.ir_reader.specs.Advancing.{HasRead}
 use Rattle.ir_parse.specs.Grammar.{SpellsEntry}
 use Rattle.ir_parse.specs.Text.{IsRaw}
 use Rattle.ir_resolve.specs.Kinds.{HasNameOf}

@@ -10,6 +10,7 @@ pub mod Unassigned
 pub mod Fitting
 pub mod Checking
 pub mod Reading
+pub mod Advancing
 pub mod GoingOn
 pub mod Answered
 pub mod Existence

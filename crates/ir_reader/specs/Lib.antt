@@ -7,3 +7,4 @@ pub mod Marks
 pub mod Counts
 pub mod Predecessors
 pub mod Laws
+pub mod Advancing

@@ -1,7 +1,6 @@
 -- Marks on the functions whose names an earlier one has, and what the grammar says of a function.
-use Rattle.std.specs.Prelude.{◌≡◌, ℕ, ◌<◌, Bool, List, length, take, IsTrue, Some, slice_get}
+use Rattle.std.specs.Prelude.{◌≡◌, ℕ, ◌<◌, Bool, List, length, take, IsTrue, Some, slice_get, Vec}
 use Rattle.std.specs.Str.{bytes_eq}
-use Rattle.std.specs.Prelude.{Vec}
 use Rattle.indexmap.specs.IndexSet.{IndexSet, contains_by}
 use Rattle.ir_raw.specs.declared.raw.RawEntry.{RawEntry}
 use Rattle.ir_raw.specs.declared.raw.RawEntry.TheVariants as raw_entries

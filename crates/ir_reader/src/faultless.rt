@@ -7,11 +7,13 @@ ghost use Rattle.std.specs.Prelude.{◌≤◌, length, IfOk, IfSome};
 ghost use Rattle.ir_parse.specs.Text.{most_bytes};
 ghost use Rattle.ir_reader.specs.Faults.{IsModuleText};
 
+use crate::fault::IrError;
+use crate::following::{NextEntry, next_entry};
 use crate::reader::entry;
 use crate::repeated::is_repeated;
 use indexmap::IndexSet;
 use ir_core::Module;
-use ir_parse::{MOST_BYTES, NextEntry, next_entry};
+use ir_parse::MOST_BYTES;
 use ir_tokens::TokenReader;
 use lists::List;
 use std::alloc::{AllocError, Global};
@@ -37,7 +39,8 @@ pub(crate) fn faultless_module(alloc: Global, bytes: &[u8]) -> Result<Option<Mod
         let is_repeated = is_repeated(alloc, &mut names, &written)?;
         match entry(alloc, &written, is_repeated) {
             Ok(entry) => entries.push(entry)?,
-            Err(_) => return Ok(None),
+            Err(IrError::Refused(_)) => return Ok(None),
+            Err(IrError::NoMemory) => return Err(AllocError),
         }
     }
 }

@@ -12,6 +12,7 @@ mod count;
 mod entry;
 mod fault;
 mod faultless;
+mod following;
 mod function;
 mod laws;
 mod least;

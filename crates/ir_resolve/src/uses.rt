@@ -24,6 +24,11 @@ pub(crate) struct Uses<'a> {
     pub(crate) targets: Vec<&'a RawIdentifier>,
 }
 
+/// How many reads and names of blocks there is room for at first. Most functions have no more.
+const USUAL_READS: usize = 64;
+
+const USUAL_TARGETS: usize = 32;
+
 impl<'a> Uses<'a> {
     /// Adds an operand.
     fn add_read(&mut self, width: Width, operand: &'a RawOperand) -> Result<(), AllocError>
@@ -123,8 +128,8 @@ impl<'a> Uses<'a> {
         ensures targets { IfOk result (λ uses. seen_targets uses ≡ targets_of raw.now) }
     {
         let mut uses = Uses {
-            reads: Vec::new(alloc),
-            targets: Vec::new(alloc),
+            reads: Vec::with_capacity(alloc, USUAL_READS)?,
+            targets: Vec::with_capacity(alloc, USUAL_TARGETS)?,
         };
         for block in raw.blocks.as_slice() {
             uses.add_block(block)?;

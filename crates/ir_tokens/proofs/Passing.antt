@@ -1,8 +1,8 @@
 -- A reader goes behind one token more.
-use Rattle.std.proofs.Common.{◌≡◌, ℕ, ◌≤◌, true, false, List, [], ◌∷◌, ◌++◌, length, sym, ap, subst, ◌∙◌, append_assoc}
+use Rattle.std.proofs.Common.{◌≡◌, ℕ, true, false, List, [], ◌∷◌, ◌++◌, sym, ap, subst, ◌∙◌, append_assoc}
 use Rattle.ir_tokens.specs.declared.place.Place.{Place}
 use Rattle.ir_tokens.specs.declared.reader.TokenReader.{TokenReader}
-use Rattle.ir_tokens.specs.Order.{IsTokenAt, TokensFrom, AreTokens, last}
+use Rattle.ir_tokens.specs.Order.{IsTokenAt, AreTokens, last}
 use Rattle.ir_tokens.specs.Places.{place_behind}
 use Rattle.ir_tokens.specs.Reading.{StandsIn, HasPassed}
 use Rattle.ir_tokens.specs.Tokens.{Placed, is_last}

@@ -1,7 +1,7 @@
 //! The tokens of a text, entry by entry.
 
 ghost use Rattle.std.specs.Prelude.{◌≡◌, ◌<◌, ℕ, List as Seq, [], ◌++◌, OnOk, IfOk, false};
-ghost use Rattle.ir_tokens.specs.Reading.{StandsIn, HasPassed, HasCome};
+ghost use Rattle.ir_tokens.specs.Reading.{StandsIn, HasPassed, HasCome, IsOneEntry};
 ghost use Rattle.ir_tokens.specs.Seen.{seen};
 ghost use Rattle.ir_tokens.specs.Tokens.{Placed as PlacedToken};
 
@@ -37,6 +37,7 @@ impl<'a> TokenReader<'a> {
         requires { StandsIn self.old.text.now self.old }
         ensures come { IfOk result (λ ends. (text : Seq ℕ) (front : Seq PlacedToken) →
             HasPassed text front self.old → HasCome text (front ++ seen tokens.new.items) ends self.new) }
+        ensures entry { IfOk result (λ ends. IsOneEntry self.old.place (seen tokens.new.items) ends) }
         ensures stands { OnOk result (StandsIn self.old.text.now self.new) }
         ensures goes { IfOk result (λ ends. ends ≡ false → self.old.cursor.at < self.new.cursor.at) }
     {

@@ -6,7 +6,6 @@ use crate::Token::{
     Word,
 };
 use ops::Width;
-use std::alloc::Global;
 use std::process::Abort;
 use std::test::Fail;
 
@@ -92,6 +91,30 @@ const TEXTS: [(&[u8], &[(usize, Token)]); 7] = [
     (b"\"x\":\n%\"\\00\" y", &[(1, Label(b"\"x\"")), (2, Bad)]),
 ];
 
+/// A module, and the tokens of its entries.
+const MODULE: &[u8] = b"target x\n$a = y define\ndefine i8 @f(i8 %0) {\n%1 = x\n} }\n; none\n";
+
+const ENTRIES: [&[(usize, Token)]; 5] = [
+    &[(1, Kept(b"target x"))],
+    &[(2, Kept(b"$a = y define"))],
+    &[
+        (3, Word(b"define")),
+        (3, Word(b"i8")),
+        (3, Function(b"f")),
+        (3, Mark(b'(')),
+        (3, Word(b"i8")),
+        (3, Register(b"0")),
+        (3, Mark(b')')),
+        (3, Mark(b'{')),
+        (4, Register(b"1")),
+        (4, Mark(b'=')),
+        (4, Word(b"x")),
+        (5, Mark(b'}')),
+    ],
+    &[(5, Mark(b'}'))],
+    &[(6, End)],
+];
+
 /// Names that are written, and the bytes that they spell.
 const NAMES: [(&[u8], &[u8]); 7] = [
     (b"a.b", b"a.b"),
@@ -131,26 +154,26 @@ const CONSTANTS: [(&[u8], u32, Option<u64>); 16] = [
     (b"-99999999999999999999", 64, None),
 ];
 
-/// Fails unless the text has these tokens.
-fn expect_tokens<'a>(
-    rt: &impl Abort,
-    alloc: Global,
-    text: &'a [u8],
-    wanted: &[(usize, Token<'a>)],
-) -> Result<(), Fail> {
-    let tokens = tokens_of(alloc, text)?;
+/// Fails unless these are the tokens.
+fn expect_tokens<'a>(rt: &impl Abort, tokens: &[Placed<'a>], wanted: &[(usize, Token<'a>)]) {
     assert_eq!(rt; tokens.len(), wanted.len());
     for (found, (line, token)) in tokens.iter().zip(wanted) {
         assert_eq!(rt; found.line, *line);
         assert_eq!(rt; found.token, *token);
     }
-    Ok(())
 }
 
 #[test]
 fn texts_have_their_tokens(rt: HostRuntime) -> Result<(), Fail> {
     for (text, wanted) in TEXTS {
-        expect_tokens(&rt, rt.alloc(), text, wanted)?;
+        let tokens = tokens_of(rt.alloc(), text)?;
+        expect_tokens(&rt, tokens.as_slice(), wanted);
+    }
+    let mut reader = TokenReader::new(MODULE);
+    let mut tokens = Vec::new(rt.alloc());
+    for (place, wanted) in ENTRIES.iter().enumerate() {
+        assert_eq!(rt; reader.take_entry(&mut tokens)?, place + 1 == ENTRIES.len());
+        expect_tokens(&rt, tokens.as_slice(), wanted);
     }
     Ok(())
 }

@@ -109,6 +109,9 @@ fn add_blocks<'a>(
     Ok(())
 }
 
+/// How many parameters, blocks and results there is room for at first. Most functions have no more.
+const USUAL_ROOM: usize = 64;
+
 /// The parameters, blocks and results of a function, in text order.
 pub(crate) fn definitions(
     alloc: Global,
@@ -118,7 +121,7 @@ pub(crate) fn definitions(
         map seen_definition definitions.items ≡ definitions_of raw.now) }
     ensures err { IfErr result (λ e. e ≡ ResolveError.NoMemory) }
 {
-    let mut definitions = Vec::new(alloc);
+    let mut definitions = Vec::with_capacity(alloc, USUAL_ROOM)?;
     add_parameters(&mut definitions, raw.parameters.as_slice())?;
     add_blocks(&mut definitions, raw.blocks.as_slice())?;
     Ok(definitions)

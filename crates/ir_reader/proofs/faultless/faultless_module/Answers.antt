@@ -2,7 +2,7 @@ use Rattle.std.proofs.Common.{◌∙◌, ◌<◌, ◌≤◌, [], length, refl, s
 use Rattle.std.specs.List.{list_any}
 use Rattle.std.specs.Str.{bytes_eq}
 use Rattle.std.proofs.lemmas.Bool.{false≢true}
-use Rattle.ir_parse.specs.Advancing.{Follows}
+use Rattle.ir_reader.specs.Advancing.{Follows}
 use Rattle.ir_reader.specs.Marks.{HasText}
 use Rattle.ir_reader.proofs.GoingOn.{block_behind, goes_on, is_module}
 use Rattle.ir_reader.proofs.Reading.{AreFirstEntries, first_entries_none}

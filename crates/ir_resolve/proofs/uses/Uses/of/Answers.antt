@@ -16,6 +16,6 @@ pub returns : goal.returns
 returns c =
     let blocks = adds_all (flat_map read_in) (flat_map named_in) c.as_slice-block-items.result.now c.loop-block.block-index _ _ (omega arith) c.loop-block.invariant in
     record {
-      reads = blocks.reads_added ∙ ap (λ rs. map seen_read rs ++ flat_map read_in c.as_slice-block-items.result.now) c.new.ensures.items ∙ ap (flat_map read_in) c.as_slice-block-items.ensures;
-      targets = blocks.targets_added ∙ ap (λ ts. map (λ w. w.now) ts ++ flat_map named_in c.as_slice-block-items.result.now) c.new-2.ensures.items ∙ ap (flat_map named_in) c.as_slice-block-items.ensures;
+      reads = blocks.reads_added ∙ ap (λ rs. map seen_read rs ++ flat_map read_in c.as_slice-block-items.result.now) c.in_ok-with_capacity.ensures.items ∙ ap (flat_map read_in) c.as_slice-block-items.ensures;
+      targets = blocks.targets_added ∙ ap (λ ts. map (λ w. w.now) ts ++ flat_map named_in c.as_slice-block-items.result.now) c.in_ok-with_capacity-2.ensures.items ∙ ap (flat_map named_in) c.as_slice-block-items.ensures;
     }

@@ -1,11 +1,10 @@
-use Rattle.std.proofs.Common.{◌≡◌, ◌∙◌, ◌<◌, ◌≤◌, ◌++◌, ℕ, false, length, refl, sym, ap, subst, arith}
+use Rattle.std.proofs.Common.{◌∙◌, ◌<◌, ◌≤◌, ◌++◌, true, false, length, sym, ap, subst, arith}
 use Rattle.std.proofs.lemmas.List.{append-nil, map_push}
-use Rattle.ir_tokens.specs.Places.{place_behind}
-use Rattle.ir_tokens.specs.Reading.{StandsIn, HasPassed}
+use Rattle.ir_tokens.specs.Reading.{MayBegin}
 use Rattle.ir_tokens.specs.Seen.{seen, seen_placed}
-use Rattle.ir_tokens.specs.Tokens.{is_last}
 use Rattle.ir_tokens.proofs.Moving.{token_moves, token_within}
-use Rattle.ir_tokens.proofs.Passing.{token_passed, last_passed, has_passed}
+use Rattle.ir_tokens.proofs.OneEntry.{Within, none_taken, none_begins, ends_with, goes_on_with}
+use Rattle.ir_tokens.proofs.Passing.{token_passed, last_passed}
 use Rattle.ir_tokens.proofs.Reading.{SoFar}
 use Rattle.ir_tokens.proofs.reader.TokenReader.take_entry.Goals as goal
 
@@ -13,6 +12,7 @@ pub loop-placed-init : goal.loop-placed-init
 loop-placed-init c = record {
   stands = c.requires;
   goes = omega arith;
+  entry = subst (λ l. Within c.args.self.now.place (seen l) c.args.self.now.place) (sym c.clear.ensures.items) (none_taken c.args.self.now.place);
   so_far = λ text front h. rw (c.clear.ensures.items, append-nil front) h.leads;
 }
 
@@ -34,6 +34,16 @@ pub returns-then-is_last-clause-come : goal.returns-then-is_last-clause-come
 returns-then-is_last-clause-come c = λ text front h.
     last_passed text c.loop-placed.self.text.now c.loop-placed.self.place c.loop-placed.self.cursor.at c.next-placed.new.cursor.at front (seen c.loop-placed.tokens.items) (seen c.push.new.self.items) (seen_placed c.next-placed.result)
     (c.loop-placed.invariant.stands.of_text ∙ h.stands.of_text) (ap seen c.in_ok-push.ensures.items ∙ map_push seen_placed c.loop-placed.tokens.items c.next-placed.result) (c.loop-placed.invariant.so_far text front h) c.next-placed.ensures.token (sym c.is_last.ensures ∙ c.if-is_last.true)
+
+pub returns-then-is_last-clause-entry : goal.returns-then-is_last-clause-entry
+returns-then-is_last-clause-entry c =
+    ends_with c.args.self.now.place c.loop-placed.self.place (seen c.loop-placed.tokens.items) (seen c.push.new.self.items) (seen_placed c.next-placed.result) true c.loop-placed.invariant.entry
+    (ap seen c.in_ok-push.ensures.items ∙ map_push seen_placed c.loop-placed.tokens.items c.next-placed.result) (λ goes. cc)
+
+pub returns-in-AtEntry-clause-entry : goal.returns-in-AtEntry-clause-entry
+returns-in-AtEntry-clause-entry c =
+    ends_with c.args.self.now.place c.loop-placed.self.place (seen c.loop-placed.tokens.items) (seen c.push.new.self.items) (seen_placed c.next-placed.result) false c.loop-placed.invariant.entry
+    (ap seen c.in_ok-push.ensures.items ∙ map_push seen_placed c.loop-placed.tokens.items c.next-placed.result) (λ _. subst MayBegin (sym c.in-AtEntry.is ∙ c.place_behind-self.ensures) tt)
 
 pub returns-in-AtEntry-clause-stands : goal.returns-in-AtEntry-clause-stands
 returns-in-AtEntry-clause-stands c = record {
@@ -71,6 +81,9 @@ loop-placed-preserved c = record {
     within = rw (sym c.loop-placed.invariant.stands.of_text) (token_within (rw c.loop-placed.invariant.stands.of_text c.loop-placed.invariant.stands.within) c.next-placed.ensures.token);
   };
   goes = omega (arith, c.loop-placed.invariant.goes, token_moves c.next-placed.ensures.token (sym c.is_last.ensures ∙ c.if-is_last.false));
+  entry = subst (Within c.args.self.now.place (seen c.push.new.self.items)) (sym c.place_behind-self.ensures)
+      (goes_on_with c.args.self.now.place c.loop-placed.self.place (seen c.loop-placed.tokens.items) (seen c.push.new.self.items) (seen_placed c.next-placed.result) c.loop-placed.invariant.entry
+      (ap seen c.in_ok-push.ensures.items ∙ map_push seen_placed c.loop-placed.tokens.items c.next-placed.result) (subst (λ p. ¬ MayBegin p) c.place_behind-self.ensures (none_begins c.place_behind-self.result c.in_default.not-AtEntry)));
   so_far = λ text front h. subst (λ p. SoFar text p c.next-placed.new.cursor.at (front ++ seen c.push.new.self.items)) (sym c.place_behind-self.ensures)
       (token_passed text c.loop-placed.self.text.now c.loop-placed.self.place c.loop-placed.self.cursor.at c.next-placed.new.cursor.at front (seen c.loop-placed.tokens.items) (seen c.push.new.self.items) (seen_placed c.next-placed.result)
       (c.loop-placed.invariant.stands.of_text ∙ h.stands.of_text) (ap seen c.in_ok-push.ensures.items ∙ map_push seen_placed c.loop-placed.tokens.items c.next-placed.result) (c.loop-placed.invariant.so_far text front h) c.next-placed.ensures.token (sym c.is_last.ensures ∙ c.if-is_last.false));

@@ -5,9 +5,9 @@ use Rattle.ir_tokens.specs.Reading.{HasPassed, HasCome}
 use Rattle.ir_tokens.specs.Tokens.{Placed, End}
 use Rattle.ir_raw.specs.declared.raw.RawEntry.{RawEntry}
 use Rattle.ir_statements.specs.Parts.{Part, Each, Is}
-use Rattle.ir_parse.specs.declared.following.NextEntry.{NextEntry}
-use Rattle.ir_parse.specs.declared.following.NextEntry.TheVariants as nexts
-use Rattle.ir_parse.specs.Advancing.{HasRead, Follows, IsWhole, IsEnd}
+use Rattle.ir_reader.specs.declared.following.NextEntry.{NextEntry}
+use Rattle.ir_reader.specs.declared.following.NextEntry.TheVariants as nexts
+use Rattle.ir_reader.specs.Advancing.{HasRead, Follows, IsWhole, IsEnd}
 use Rattle.ir_parse.specs.Grammar.{SpellsEntry}
 use Rattle.ir_parse.specs.Parsing.{is_end}
 use Rattle.ir_parse.proofs.Framing.{entry}

@@ -4,21 +4,21 @@ ghost use Rattle.std.specs.Prelude.{◌≡◌, ℕ, List as Seq, IfOk};
 ghost use Rattle.ir_raw.specs.declared.raw.RawEntry.{RawEntry as written_entry};
 ghost use Rattle.ir_tokens.specs.Reading.{StandsIn};
 ghost use Rattle.ir_tokens.specs.Seen.{seen};
-ghost use Rattle.ir_parse.specs.Advancing.{HasRead, Follows, IsWhole, IsEnd};
+ghost use Rattle.ir_reader.specs.Advancing.{HasRead, Follows, IsWhole, IsEnd};
 ghost use Rattle.ir_parse.specs.Parsing.{is_end};
 
-use crate::entry::read_entry;
+use ir_parse::{ParseError, entry};
 use ir_raw::RawEntry;
 use ir_tokens::{Placed, Token, TokenReader};
 use std::alloc::{AllocError, Global};
 
 /// What is next in a text.
 #[derive(Debug, Drop)]
-pub enum NextEntry {
+pub(crate) enum NextEntry {
     Entry(RawEntry),
     /// The end of the text.
     End,
-    /// Nothing that is read, or memory was refused: [`parse`](crate::parse) says which.
+    /// Nothing that is read: [`parse`](ir_parse::parse) says why.
     Refused,
 }
 
@@ -33,19 +33,20 @@ fn ends(tokens: &[Placed<'_>]) -> bool
 }
 
 /// The entry that these tokens are, all of them.
-fn whole_entry(alloc: Global, tokens: &[Placed<'_>]) -> NextEntry
-    ensures { IsWhole (seen tokens.now) result }
+fn whole_entry(alloc: Global, tokens: &[Placed<'_>]) -> Result<NextEntry, AllocError>
+    ensures { IfOk result (IsWhole (seen tokens.now)) }
 {
     let mut rest = tokens;
-    match read_entry(alloc, &mut rest) {
+    match entry(alloc, &mut rest) {
         Ok(entry) => {
             if rest.is_empty() {
-                NextEntry::Entry(entry)
+                Ok(NextEntry::Entry(entry))
             } else {
-                NextEntry::Refused
+                Ok(NextEntry::Refused)
             }
         }
-        Err(_) => NextEntry::Refused,
+        Err(ParseError::Refused(_)) => Ok(NextEntry::Refused),
+        Err(ParseError::NoMemory) => Err(AllocError),
     }
 }
 
@@ -61,7 +62,7 @@ fn end(tokens: &[Placed<'_>]) -> NextEntry
 }
 
 /// The next entry of a text, and goes behind it. The tokens are those of the last call, whose memory is used again.
-pub fn next_entry<'a>(
+pub(crate) fn next_entry<'a>(
     alloc: Global,
     reader: &mut TokenReader<'a>,
     tokens: &mut Vec<Placed<'a>>,
@@ -73,6 +74,6 @@ pub fn next_entry<'a>(
     if reader.take_entry(tokens)? {
         Ok(end(tokens.as_slice()))
     } else {
-        Ok(whole_entry(alloc, tokens.as_slice()))
+        whole_entry(alloc, tokens.as_slice())
     }
 }

@@ -5,8 +5,8 @@ use Rattle.ir_tokens.specs.Reading.{HasPassed}
 use Rattle.ir_tokens.specs.Tokens.{Placed, End}
 use Rattle.ir_raw.specs.declared.raw.RawEntry.{RawEntry}
 use Rattle.ir_statements.specs.Parts.{Each, Is}
-use Rattle.ir_parse.specs.declared.following.NextEntry.{NextEntry}
-use Rattle.ir_parse.specs.declared.following.NextEntry.TheVariants as nexts
+use Rattle.ir_reader.specs.declared.following.NextEntry.{NextEntry}
+use Rattle.ir_reader.specs.declared.following.NextEntry.TheVariants as nexts
 use Rattle.ir_parse.specs.Grammar.{SpellsEntry}
 use Rattle.ir_parse.specs.Text.{IsRaw}
 

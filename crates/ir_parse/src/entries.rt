@@ -12,10 +12,10 @@ use lists::List;
 use std::alloc::Global;
 use words::is;
 
-/// An entry; another one is next before the end of the text.
-enum Entry {}
+/// An entry of a module; another one is next before the end of the text.
+enum ModuleEntry {}
 
-impl Part for Entry {
+impl Part for ModuleEntry {
     ghost use Rattle.ir_parse.specs.Parsing.{begins_entry, entry_at};
 
     ghost begins = { begins_entry };
@@ -54,11 +54,11 @@ impl Part for Entry {
     }
 }
 
-/// An entry.
-pub(crate) fn read_entry(alloc: Global, tokens: &mut &[Placed<'_>]) -> Result<RawEntry, ParseError>
+/// The entry in front of the tokens, which goes behind it, or the fault of the first token that does not fit.
+pub fn entry(alloc: Global, tokens: &mut &[Placed<'_>]) -> Result<RawEntry, ParseError>
     ensures { Gives (λ x. (x, seen tokens.new.now)) result (parsing.entry_at (seen tokens.old.now)) }
 {
-    Entry::read(alloc, tokens)
+    ModuleEntry::read(alloc, tokens)
 }
 
 /// The entries of a module.
@@ -66,7 +66,7 @@ pub(crate) fn read_entry(alloc: Global, tokens: &mut &[Placed<'_>]) -> Result<Ra
 fn entries(alloc: Global, tokens: &mut &[Placed<'_>]) -> Result<List<RawEntry>, ParseError>
     ensures { Gives (λ x. (x, seen tokens.new.now)) result (parsing.entries_at (seen tokens.old.now)) }
 {
-    each::<Entry>(alloc, List::new(alloc), tokens)
+    each::<ModuleEntry>(alloc, List::new(alloc), tokens)
 }
 
 /// The module of a text's tokens, or the first fault.

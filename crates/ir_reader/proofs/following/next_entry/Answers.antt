@@ -1,8 +1,9 @@
 use Rattle.std.proofs.Common.{subst}
+use Rattle.std.proofs.lemmas.Result.{IfOk-weaker}
 use Rattle.ir_tokens.specs.Seen.{seen}
-use Rattle.ir_parse.specs.Advancing.{IsWhole, IsEnd}
-use Rattle.ir_parse.proofs.Advancing.{Came, entry_follows, end_follows}
-use Rattle.ir_parse.proofs.following.next_entry.Goals as goal
+use Rattle.ir_reader.specs.Advancing.{IsWhole, IsEnd}
+use Rattle.ir_reader.proofs.Advancing.{Came, entry_follows, end_follows}
+use Rattle.ir_reader.proofs.following.next_entry.Goals as goal
 
 pub returns-then-branch : goal.returns-then-branch
 returns-then-branch c =
@@ -14,7 +15,10 @@ returns-then-branch c =
 pub returns-else-branch : goal.returns-else-branch
 returns-else-branch c =
     let taken = seen c.take_entry.new.tokens.items in
-    entry_follows c.args.reader.now c.take_entry.new.self taken c.whole_entry.result
+    IfOk-weaker c.whole_entry.result (IsWhole (seen c.as_slice-else-branch.result.now)) _
+    (λ next whole.
+    entry_follows c.args.reader.now c.take_entry.new.self taken next
     (subst (λ b. Came c.args.reader.now taken b c.take_entry.new.self) c.if-branch.false c.in_ok-take_entry.ensures.come)
     (c.in_ok-take_entry.ensures.goes c.if-branch.false)
-    (subst (λ l. IsWhole (seen l) c.whole_entry.result) c.as_slice-else-branch.ensures.value c.whole_entry.ensures)
+    (subst (λ l. IsWhole (seen l) next) c.as_slice-else-branch.ensures.value whole))
+    c.whole_entry.ensures

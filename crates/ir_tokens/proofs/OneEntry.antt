@@ -1,0 +1,56 @@
+-- The tokens of one entry, one after the other.
+use Rattle.std.proofs.Common.{◌≡◌, ℕ, ◌<◌, ◌≤◌, Bool, false, List, [], ◌∷◌, ◌++◌, length, take, Option, inl, inr, refl, sym, ap, subst, ◌∙◌, arith}
+use Rattle.std.proofs.lemmas.Bool.{cases_lt}
+use Rattle.std.proofs.lemmas.List.{take_all, take-append-le, length-append}
+use Rattle.std.proofs.lemmas.List.Sums.{fold-append}
+use Rattle.ir_tokens.specs.declared.place.Place.{Place}
+use Rattle.ir_tokens.specs.declared.place.Place.TheVariants.{AtEntry, InHeader, InBody}
+use Rattle.ir_tokens.specs.Places.{place_behind}
+use Rattle.ir_tokens.specs.Reading.{place_behind_all, MayBegin, IsOneEntry}
+use Rattle.ir_tokens.specs.Tokens.{Placed}
+
+-- no entry may begin behind any of these tokens, from a place on, and the reader stands behind them
+pub record Within (place : Place) (tokens : List Placed) (behind : Place) : Type 0 where
+  pub is_behind : behind ≡ place_behind_all place tokens
+  pub within : (k : ℕ) → 0 < k → k ≤ length tokens → ¬ MayBegin (place_behind_all place (take k tokens))
+
+pub none_taken : (place : Place) → Within place [] place
+none_taken place = record { is_behind = refl; within = λ k some le. absurd (omega arith) }
+
+more_behind : (place behind : Place) (tokens : List Placed) (t : Placed) → behind ≡ place_behind_all place tokens → place_behind behind t ≡ place_behind_all place (tokens ++ t ∷ [])
+more_behind place behind tokens t is = ap (λ p. place_behind p t) is ∙ sym (fold-append place_behind place tokens (t ∷ []))
+
+before_last : (place : Place) (tokens : List Placed) (t : Placed) (behind : Place) → Within place tokens behind
+    → (k : ℕ) → 0 < k → k ≤ length tokens → ¬ MayBegin (place_behind_all place (take k (tokens ++ t ∷ [])))
+before_last place tokens t behind h k some le = subst (λ l. ¬ MayBegin (place_behind_all place l)) (sym (take-append-le k tokens (t ∷ []) le)) (h.within k some le)
+
+-- an entry may begin behind the token, or the text ends with it
+pub ends_with : (place behind : Place) (tokens new : List Placed) (t : Placed) (ends : Bool) → Within place tokens behind → new ≡ tokens ++ t ∷ [] → (ends ≡ false → MayBegin (place_behind behind t)) → IsOneEntry place new ends
+ends_with place behind tokens new t ends h is may = subst (λ l. IsOneEntry place l ends) (sym is) (
+    record {
+      some = omega (arith, length-append tokens (t ∷ []));
+      before = λ k some less. before_last place tokens t behind h k some (omega (arith, length-append tokens (t ∷ [])));
+      behind = λ goes. subst MayBegin (more_behind place behind tokens t h.is_behind) (may goes);
+    }
+    )
+
+pub none_begins : (place : Place) → ((before : Option ℕ) → place ≡ AtEntry before → ⊥) → ¬ MayBegin place
+none_begins (AtEntry before) not_there may = not_there before refl
+none_begins (InHeader word) not_there may = may
+none_begins InBody not_there may = may
+
+-- no entry may begin behind the token
+pub goes_on_with : (place behind : Place) (tokens new : List Placed) (t : Placed) → Within place tokens behind → new ≡ tokens ++ t ∷ [] → ¬ MayBegin (place_behind behind t) → Within place new (place_behind behind t)
+goes_on_with place behind tokens new t h is none = subst (λ l. Within place l (place_behind behind t)) (sym is) (
+    record {
+      is_behind = more_behind place behind tokens t h.is_behind;
+      within = λ k some le. elim (cases_lt (length tokens) k) [
+        | inr early ↦ before_last place tokens t behind h k some early
+        | inl all ↦ λ may. none
+            (
+            subst MayBegin (sym (more_behind place behind tokens t h.is_behind))
+            (subst (λ l. MayBegin (place_behind_all place l)) (take_all k (tokens ++ t ∷ []) (omega (arith, length-append tokens (t ∷ [])))) may)
+            )
+      ];
+    }
+    )
