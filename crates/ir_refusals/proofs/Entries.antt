@@ -2,7 +2,7 @@
 use Rattle.std.proofs.Common.{◌≡◌, ◌<◌, ℕ, suc, Bool, true, false, cond, List, [], ◌∷◌, ◌++◌, length, Option, Some, None, Ok, Err, refl, sym, ap, subst, ◌∙◌, ◌⊎◌, inl, inr, append_assoc, arith}
 use Rattle.std.specs.Prelude.{codes}
 use Rattle.std.specs.Str.{bytes_eq}
-use Rattle.ir_tokens.specs.Tokens.{Token, Placed, End, Kept, Word}
+use Rattle.ir_tokens.specs.Tokens.{Token, Placed, End, Kept, Word, Mark}
 use Rattle.ir_raw.specs.declared.raw.RawEntry.{RawEntry}
 use Rattle.ir_raw.specs.declared.raw.RawEntry.TheVariants as entries
 use Rattle.ir_statements.specs.declared.fault.Misfit.{Misfit}
@@ -13,25 +13,25 @@ use Rattle.ir_statements.specs.Readers.{Reader, fault, unexpected, ◌>>=◌, do
 use Rattle.ir_statements.proofs.Loops.{repeat-done}
 use Rattle.ir_parse.specs.Parsing as parsing
 use Rattle.ir_parse.proofs.TakingParts.{entry-takes}
-use Rattle.ir_refusals.proofs.Choices.{AsksNext, Tested, tested_next, Opens, transfer, begun_test, maps_transferred}
+use Rattle.ir_refusals.proofs.Choices.{AsksNext, Tested, tested_next, Opens, SaysOfRecords, transfer, begun_test, maps_transferred}
 use Rattle.ir_refusals.proofs.Functions.{function-good}
 use Rattle.ir_refusals.proofs.Outcomes.{Follow, Next, next_map, Anything, Ended, StopsAt, stops, Sample, Why, Reasons, IsReadIf, Lifts, Outcome, outcome_both, maps_first, maps_second, Takes, takes, refuses, token_outcome, Good, done-good, ◌then◌}
-use Rattle.ir_refusals.proofs.Reasons.{like_word, like_type, like_function, reason_map}
+use Rattle.ir_refusals.proofs.Reasons.{like_word, like_type, like_function, like_width, like_number, reason_map}
 use Rattle.ir_refusals.proofs.Repeats.{Steps, steps_of, loop_sample, loop_lifts, one_step, repeat_outcomes}
 
 -- ---- an entry
 
 -- a kept line, or the word of a function
-abbrev entry_token_at : Reader (Option (List ℕ))
+abbrev pub entry_token_at : Reader (Option (List ℕ))
 entry_token_at ((line, Kept text) ∷ rest) = Ok (Some text, rest)
 entry_token_at ((line, Word word) ∷ rest) = cond (bytes_eq word (codes "define")) (Ok (None, rest)) (Err (fault line (LeftOut word)))
 entry_token_at tokens = Err (unexpected places.Entry tokens)
 
-abbrev behind_entry : Option (List ℕ) → Reader RawEntry
+abbrev pub behind_entry : Option (List ℕ) → Reader RawEntry
 behind_entry (Some text) = done (entries.Kept text)
 behind_entry None = parsing.function_at >>= λ f. done (entries.Function f)
 
-same_entry : (tokens : List Placed) → parsing.entry_at tokens ≡ (entry_token_at >>= behind_entry) tokens
+pub same_entry : (tokens : List Placed) → parsing.entry_at tokens ≡ (entry_token_at >>= behind_entry) tokens
 unfolding parsing.entry_at
 same_entry ((line, Kept text) ∷ rest) = refl
 same_entry ((line, Word word) ∷ rest) = by (bytes_eq word (codes "define")) refl
@@ -42,10 +42,10 @@ same_entry ((line, Word word) ∷ rest) = by (bytes_eq word (codes "define")) re
 same_entry tokens = refl
 
 -- the first token is no entry's
-abbrev IsFirst : Why
+abbrev pub IsFirst : Why
 IsFirst front t kind = (front ≡ []) × (kind ≡ misfit places.Entry t)
 
-entry_token_takes : (line : ℕ) (t : Token) → Takes entry_token_at IsFirst line t
+pub entry_token_takes : (line : ℕ) (t : Token) → Takes entry_token_at IsFirst line t
 unfolding unexpected misfit leaves_out shown
 entry_token_takes line (Kept text) = takes _ refl (λ more. refl)
 entry_token_takes line (Word word) = by (bytes_eq word (codes "define")) refl
@@ -55,29 +55,29 @@ entry_token_takes line (Word word) = by (bytes_eq word (codes "define")) refl
     by false h = refuses (LeftOut word) (refl, refl) (λ more. rw h refl)
 entry_token_takes line t = refuses (misfit places.Entry t) (refl, refl) (λ more. refl)
 
-behind_entry-good : (begun : Option (List ℕ)) → Good Anything (behind_entry begun) Anything
+pub behind_entry-good : (begun : Option (List ℕ)) → Good Anything (behind_entry begun) Anything
 behind_entry-good (Some text) = done-good (λ t f. tt) _
 behind_entry-good None = function-good then (λ f. done-good (λ t g. tt) _)
 
-abbrev Begins : Follow
+abbrev pub Begins : Follow
 Begins = Tested parsing.begins_entry true
 
 abbrev Ends : Follow
 Ends = Tested parsing.begins_entry false
 
 -- what a refusal says, or that the first token is no entry's
-abbrev OrFirst : {A : Type 0} → Follow → Reader A → Follow → Why
+abbrev pub OrFirst : {A : Type 0} → Follow → Reader A → Follow → Why
 OrFirst E R F front t kind = IsFirst front t kind ⊎ Reasons E R F front t kind
 
 entry_outcome : (tokens : List Placed) → Ended tokens → Outcome Begins parsing.entry_at Anything (OrFirst Begins parsing.entry_at Anything) tokens (parsing.entry_at tokens)
 entry_outcome tokens e =
     subst (Outcome Begins parsing.entry_at Anything (OrFirst Begins parsing.entry_at Anything) tokens) (sym (same_entry tokens))
-    (transfer (λ ts. true) (λ l k t a b. refl) true read parsing.entry_at (λ ts h. same_entry ts) (Unit {0}) (Unit {0}) (Unit {0}) (λ v. v) (λ t u h like. refl) Begins Begins Anything (OrFirst Begins read Anything) (OrFirst Begins parsing.entry_at Anything) (λ t d. refl) (λ t f d. d) tokens over refl (read tokens)
+    (transfer (λ ts. true) (λ l k t a b. refl) true read parsing.entry_at (λ ts h. same_entry ts) (Unit {0}) (Unit {0}) (Unit {0}) (λ v. v) (λ t u h like. refl) Begins Begins Anything (λ t begins h. (inr (λ ending. refl), λ end text. refl)) (OrFirst Begins read Anything) (OrFirst Begins parsing.entry_at Anything) (λ t d. refl) (λ t d. d) tokens over refl (read tokens)
     (outcome_both (Unit {0}) (Unit {0}) (Unit {0}) Begins Anything Anything entry_token_at behind_entry IsFirst (λ x. Reasons Anything (behind_entry x) Anything) (OrFirst Begins read Anything) tokens
     (record {
       first = λ front l t behind there kind why. inl why;
       second = λ x is o front l t behind there kind why.
-          inr (reason_map _ _ _ _ _ _ t (maps_second (Unit {0}) (Unit {0}) Begins Anything Anything entry_token_at behind_entry tokens x o front l t behind there) kind why);
+          inr (reason_map _ _ _ _ _ _ _ _ t (maps_second (Unit {0}) (Unit {0}) Begins Anything Anything entry_token_at behind_entry (λ y. (behind_entry-good y).sample) tokens x o front l t behind there) kind why);
     })
     (λ x. (behind_entry-good x).sample) (entry_token_at tokens) refl (token_outcome (Unit {0}) Begins entry_token_at Anything (Unit {0}) IsFirst entry_token_takes tokens e) (λ x is ended. (behind_entry-good x.0).outcome x.1 ended)))
   where
@@ -87,7 +87,7 @@ entry_outcome tokens e =
     over : (front : List Placed) (l : ℕ) (t : Token) (behind : List Placed) → tokens ≡ front ++ (l, t) ∷ behind → (kind : Misfit) → OrFirst Begins read Anything front t kind → OrFirst Begins parsing.entry_at Anything front t kind
     over front l t behind there kind (inl why) = inl why
     over front l t behind there kind (inr why) =
-        inr (reason_map _ _ _ _ _ _ t (maps_transferred (λ ts. true) (λ k i v a b. refl) true read parsing.entry_at (λ ts h. same_entry ts) (Unit {0}) (Unit {0}) (λ v. v) (λ v u h like. refl) Begins Begins Anything (λ w d. refl) (λ w d. d) tokens refl front l t behind there) kind why)
+        inr (reason_map _ _ _ _ _ _ _ _ t (maps_transferred (λ ts. true) (λ k i v a b. refl) true read parsing.entry_at (λ ts h. same_entry ts) (Unit {0}) (Unit {0}) (λ v. v) (λ v u h like. refl) Begins Begins Anything (λ v begins h. (inr (λ ending. refl), λ end text. refl)) (λ w d. refl) (λ w d. d) tokens refl front l t behind there) kind why)
 
 -- ---- entries
 
@@ -107,27 +107,35 @@ entry_open : Opens parsing.begins_entry true (Unit {0})
 entry_open t u next (like_word v w other noun) = refl
 entry_open t u next (like_type m other width begins is) = refl
 entry_open t u next (like_function written other) = refl
+entry_open t u next (like_width w other width out is) = refl
+entry_open t u next (like_number digits other) = refl
 
 entry_shut : Opens parsing.begins_entry false (Unit {0})
 entry_shut t u none (like_word v w other noun) = absurd cc
 entry_shut t u none (like_type m other width begins is) = absurd cc
 entry_shut t u none (like_function written other) = absurd cc
+entry_shut t u none (like_width w other width out is) = absurd cc
+entry_shut t u none (like_number digits other) = absurd cc
 
-entry_steps : Steps (Unit {0}) Anything Ends (Unit {0}) parsing.begins_entry (another_at parsing.entry_at)
-entry_steps = steps_of (record { asks = entry_next; takes = entry-takes; ends = λ t f. f; ends_part = λ t f. tt; next_ends_part = λ t n. tt; opens = entry_open; shuts = entry_shut })
+entry_records : SaysOfRecords parsing.begins_entry
+entry_records b (Mark m) begins says = (λ ending. says, λ text. says)
+entry_records b t begins says = absurd cc
 
-abbrev Loop : List RawEntry → Reader (List RawEntry)
+pub entry_steps : Steps (Unit {0}) Anything Ends (Unit {0}) parsing.begins_entry (another_at parsing.entry_at)
+entry_steps = steps_of (record { asks = entry_next; takes = entry-takes; ends = λ t f. f; ends_part = λ t f. tt; next_ends_part = λ t n. tt; opens = entry_open; shuts = entry_shut; records = λ a b t begins h. let r = entry_records b t begins h in (inr r.0, λ end. r.1) })
+
+abbrev pub Loop : List RawEntry → Reader (List RawEntry)
 Loop = repeat_at parsing.begins_entry (another_at parsing.entry_at)
 
 -- another entry, behind those in front
-another_outcome : (before : List RawEntry) (tokens : List Placed) → Ended tokens
+pub another_outcome : (before : List RawEntry) (tokens : List Placed) → Ended tokens
     → Outcome Begins (another_at parsing.entry_at before) Anything (OrFirst Begins (another_at parsing.entry_at before) Anything) tokens (another_at parsing.entry_at before tokens)
 another_outcome before tokens e =
     outcome_both (Unit {0}) (Unit {0}) (Unit {0}) Begins Anything Anything parsing.entry_at (λ x. done (before ++ x ∷ [])) (OrFirst Begins parsing.entry_at Anything) (λ x. Reasons Anything (done (before ++ x ∷ [])) Anything) (OrFirst Begins (another_at parsing.entry_at before) Anything) tokens
     (record {
       first = λ front l t behind there kind why. first front t kind why;
       second = λ x is o front l t behind there kind why.
-          inr (reason_map _ _ _ _ _ _ t (maps_second (Unit {0}) (Unit {0}) Begins Anything Anything parsing.entry_at (λ y. done (before ++ y ∷ [])) tokens x o front l t behind there) kind why);
+          inr (reason_map _ _ _ _ _ _ _ _ t (maps_second (Unit {0}) (Unit {0}) Begins Anything Anything parsing.entry_at (λ y. done (before ++ y ∷ [])) (λ y. (last y).sample) tokens x o front l t behind there) kind why);
     })
     (λ x. (last x).sample) (parsing.entry_at tokens) refl (entry_outcome tokens e) (λ x is ended. (last x.0).outcome x.1 ended)
   where
@@ -137,7 +145,7 @@ another_outcome before tokens e =
     first : (front : List Placed) (t : Token) (kind : Misfit) → OrFirst Begins parsing.entry_at Anything front t kind → OrFirst Begins (another_at parsing.entry_at before) Anything front t kind
     first front t kind (inl why) = inl why
     first front t kind (inr why) =
-        inr (reason_map _ _ _ _ _ _ t (maps_first (Unit {0}) Begins Anything Anything parsing.entry_at (λ x. done (before ++ x ∷ [])) (λ x. (last x).sample) front t) kind why)
+        inr (reason_map _ _ _ _ _ _ _ _ t (maps_first (Unit {0}) Begins Anything Anything parsing.entry_at (λ x. done (before ++ x ∷ [])) (λ x. (last x).sample) front t) kind why)
 
 ends_first : (a : List RawEntry) (front : List Placed) → front ≡ [] → EndsAt (Loop a) Ends front
 ends_first a front none =

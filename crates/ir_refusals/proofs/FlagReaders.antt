@@ -1,26 +1,31 @@
 -- Readers of flags. One that is refused stands already among those before it.
-use Rattle.std.proofs.Common.{◌≡◌, ℕ, suc, Bool, true, false, List, [], ◌∷◌, ◌++◌, length, Option, Some, None, Ok, Err, refl, sym, ap, subst, ◌∙◌, ◌⊎◌, inl, inr, is_some, append_assoc, arith}
+use Rattle.std.proofs.Common.{◌≡◌, ℕ, suc, Bool, true, false, List, [], ◌∷◌, ◌++◌, length, Option, Some, None, Ok, Err, refl, sym, ap, subst, ◌∙◌, ◌⊎◌, inl, inr, is_some, arith}
 use Rattle.std.proofs.lemmas.List.{append_cancel_right}
 use Rattle.ops.specs.declared.opcode.Opcode.{Opcode}
 use Rattle.ops.specs.declared.opcode.Flags.{Flags}
 use Rattle.ops.specs.Flags.{no_flags}
-use Rattle.ir_tokens.specs.Tokens.{Token, Placed, Word, Mark, Function}
+use Rattle.ir_tokens.specs.Tokens.{Token, Placed, Word, Mark}
 use Rattle.ir_statements.specs.declared.fault.Misfit.{Misfit}
 use Rattle.ir_statements.specs.declared.fault.Misfit.TheVariants.{Syntax}
+use Rattle.ir_statements.specs.declared.word.Ending.{Ending}
+use Rattle.ir_statements.specs.declared.word.Ending.TheVariants as endings
+use Rattle.ir_statements.specs.declared.word.TypeWord.TheVariants.{OutOfRange}
 use Rattle.words.specs.declared.flag.Flag.{Flag}
 use Rattle.words.specs.declared.flag.Flag.TheVariants.{Nuw, Nsw, Exact}
 use Rattle.ir_statements.specs.Parsing as parsing
 use Rattle.ir_statements.specs.Parts.{Is, Each}
+use Rattle.ir_statements.specs.Places.{begins_record}
 use Rattle.ir_statements.specs.Readers.{Read, fault, repeat_at}
+use Rattle.ir_statements.specs.Words.{ending_word, type_in}
 use Rattle.ir_statements.proofs.Steps.{read_as, same_front}
 use Rattle.words.specs.Flags.{flag_in, flag_word, has_flag, with_flag}
 use Rattle.ir_statements.proofs.Takings.{flag-takes}
 use Rattle.ir_statements.proofs.WordLemmas.{type_is_no_flag}
 use Rattle.words.proofs.FlagLemmas.{flag_in-is}
 use Rattle.ir_refusals.specs.Misfits.{RepeatsFlag}
-use Rattle.ir_refusals.proofs.Choices.{AsksNext, Tested, Opens}
-use Rattle.ir_refusals.proofs.Outcomes.{Follow, Anything, Ended, Why, Reasons, IsReadIf, Lifts, OutcomeIf, Takes, takes, refuses, taken, repeats_behind, outcome_map, GoodIf}
-use Rattle.ir_refusals.proofs.Reasons.{a_type, Like, like_word, like_type, like_function, Reason}
+use Rattle.ir_refusals.proofs.Choices.{AsksNext, Tested, Opens, SaysOfRecords}
+use Rattle.ir_refusals.proofs.Outcomes.{Follow, Anything, Ended, Why, Reasons, Lifts, OutcomeIf, Takes, takes, refuses, taken, repeats_behind, outcome_map, GoodIf}
+use Rattle.ir_refusals.proofs.Reasons.{like_word, like_type, like_function, like_width, like_number}
 use Rattle.ir_refusals.proofs.Repeats.{Steps, loop_sample, repeat_outcomes}
 
 abbrev pub NotFlag : Opcode → Follow
@@ -33,18 +38,48 @@ flag_next : (op : Opcode) → AsksNext (parsing.is_flag op)
 flag_next op l k (Word w) a b = refl
 flag_next op l k t a b = refl
 
+-- a flag is no word of a width
+flag_is_no_width : (op : Opcode) (w : List ℕ) → type_in w ≡ OutOfRange → is_some (flag_in op w) ≡ true → ⊥
+unfolding type_in
+flag_is_no_width op w out next = by (flag_in op w) refl
+  where
+    no_width : (flag : Flag) → type_in (flag_word flag) ≡ OutOfRange → ⊥
+    no_width Nuw is = cc
+    no_width Nsw is = cc
+    no_width Exact is = cc
+
+    by : (flag : Option Flag) → flag_in op w ≡ flag → ⊥
+    by (Some flag) h = no_width flag (subst (λ (v : List ℕ). type_in v ≡ OutOfRange) (flag_in-is op w flag h).0 out)
+    by None h = let no_flag : is_some (flag_in op w) ≡ false = rw h refl in cc
+
 flag_open : (op : Opcode) → Opens (parsing.is_flag op) true ⊥
 flag_open op t u next (like_word v w other noun) = absurd v
 flag_open op t u next (like_type m other width begins is) = absurd cc
 flag_open op t u next (like_function written other) = absurd cc
+flag_open op t u next (like_width w other width out is) = absurd (flag_is_no_width op w out next)
+flag_open op t u next (like_number digits other) = absurd cc
 
 flag_shut : (op : Opcode) → Opens (parsing.is_flag op) false ⊥
 flag_shut op t u none (like_word v w other noun) = absurd v
 flag_shut op t u none (like_type m other width begins is) = rw (type_is_no_flag op other width is) refl
 flag_shut op t u none (like_function written other) = refl
+flag_shut op t u none (like_width w other width out is) = rw (type_is_no_flag op other width is) refl
+flag_shut op t u none (like_number digits other) = refl
+
+-- no word of a terminator is a flag
+ending_is_no_flag : (op : Opcode) (ending : Ending) → Tested (parsing.is_flag op) false (Word (ending_word ending))
+unfolding flag_in
+ending_is_no_flag op endings.Return = refl
+ending_is_no_flag op endings.Unreachable = refl
+ending_is_no_flag op endings.Branch = refl
+ending_is_no_flag op endings.Switch = refl
+
+flag_records : (op : Opcode) → SaysOfRecords (parsing.is_flag op)
+flag_records op b (Mark m) begins says = (λ ending. ending_is_no_flag op ending ∙ says, λ text. says)
+flag_records op b t begins says = absurd cc
 
 flag_steps : (op : Opcode) → Steps ⊥ Anything (NotFlag op) ⊥ (parsing.is_flag op) (parsing.flag_at op)
-flag_steps op = record { asks = flag_next op; takes = flag-takes op; ends = λ t f. f; ends_step = λ t f. tt; next_ends_step = λ t n. tt; opens = flag_open op; shuts = flag_shut op }
+flag_steps op = record { asks = flag_next op; takes = flag-takes op; ends = λ t f. f; ends_step = λ t f. tt; next_ends_step = λ t n. tt; opens = flag_open op; shuts = flag_shut op; records = λ a b t begins h. let r = flag_records op b t begins h in (inr r.0, λ end. r.1) }
 
 -- ---- one flag
 
@@ -128,8 +163,11 @@ flag_lifts op E enters a tokens next = record {
 }
 
 there_before : (op : Opcode) (front : List Placed) (t : Token) (kind : Misfit) → IsThereOrRead no_flags front t kind → Reasons Anything (parsing.flags_at op) (NotFlag op) front t kind
-there_before op front t kind (w, flag, token, same, syntax, r) = subst (Reasons Anything (parsing.flags_at op) (NotFlag op) front t) (sym syntax) (λ u like. inr (w, token, by flag r))
+there_before op front t kind (w, flag, token, same, syntax, r) = subst (Reasons Anything (parsing.flags_at op) (NotFlag op) front t) (sym syntax) (λ u like. inr (w, token, by flag r), λ begins. absurd (is_no_record t w token begins), λ bad. cc)
   where
+    is_no_record : (u : Token) (v : List ℕ) → u ≡ Word v → begins_record u ≡ true → ⊥
+    is_no_record u v is begins = let no : begins_record u ≡ false = rw is refl in cc
+
     by : (flag : Flag) → RepeatsFlag front w ⊎ ((has_flag no_flags flag ≡ true) × AreFlags front) → RepeatsFlag front w
     by flag (inl repeats) = repeats
     by Nuw (inr h) = let no = h.0 in absurd cc

@@ -1,7 +1,6 @@
 -- Readers of instructions. A `,` behind a `phi` begins an incoming value or an attachment, and the token behind it says which.
-use Rattle.std.proofs.Common.{◌≡◌, ◌<◌, ◌≤◌, ℕ, zero, suc, Bool, true, false, cond, not, eqb, List, [], ◌∷◌, ◌++◌, length, Option, Some, None, Ok, Err, refl, sym, ap, subst, ◌∙◌, arith, length-append}
+use Rattle.std.proofs.Common.{◌≡◌, ◌<◌, ◌≤◌, ℕ, zero, suc, Bool, true, false, List, [], ◌∷◌, ◌++◌, length, Option, Some, None, Ok, Err, refl, sym, ap, subst, ◌∙◌, inr, arith, length-append}
 use Rattle.ir_tokens.specs.Tokens.{Token, Placed, Word, Register, Mark}
-use Rattle.ir_raw.specs.declared.raw.RawInst.{RawInst}
 use Rattle.ir_raw.specs.declared.raw.RawOp.{RawOp}
 use Rattle.ir_raw.specs.declared.raw.RawOp.TheVariants.{Phi}
 use Rattle.ir_raw.specs.declared.raw.RawIncoming.{RawIncoming}
@@ -16,9 +15,9 @@ use Rattle.ir_statements.proofs.Readings.{mark_at-is}
 use Rattle.ir_statements.proofs.Shorter.{token}
 use Rattle.ir_statements.proofs.Takings.{tail-takes, incoming-takes, inst-takes}
 use Rattle.ir_refusals.proofs.Choices.{Tested, tested_next, And, Either, either_outcome, either_sample, reasons_transferred, same-good}
-use Rattle.ir_refusals.proofs.Outcomes.{Follow, Next, next_map, Anything, Ended, Sample, Why, Reasons, IsReadIf, Outcome, both, Good, done-good, ◌then◌}
+use Rattle.ir_refusals.proofs.Outcomes.{Follow, next_map, Anything, Ended, Sample, Why, Reasons, IsReadIf, Outcome, both, Good, done-good, ◌then◌}
 use Rattle.ir_refusals.proofs.Repeats.{one_step, another_takes, each-good}
-use Rattle.ir_refusals.proofs.Statements.{NotComma, NotRegister, mark_shut, mark_open, metadata_shut, metadata_open, register_shut, register_open, mark_next, metadata_next, register_next, attachment-good, tail-good, binary-good, compare-good, select-good, convert-good, freeze-good, incoming-good}
+use Rattle.ir_refusals.proofs.Statements.{NotComma, NotRegister, mark_shut, mark_open, metadata_shut, metadata_open, register_shut, register_open, mark_records, metadata_records, register_records, mark_next, metadata_next, register_next, attachment-good, tail-good, binary-good, compare-good, select-good, convert-good, freeze-good, incoming-good}
 use Rattle.ir_refusals.proofs.TokenReaders.{mark-good, a_register, register-good, type-good, opcode_at, opcode-good}
 
 -- readers one behind the other are so in either order of brackets
@@ -107,7 +106,7 @@ others-good {A} width f front = record { sample = some front; outcome = λ token
         → ((y : RawIncoming × List Placed) → length y.1 ≤ length tokens → Ended y.1 → Outcome Anything (Others width f (front ++ y.0 ∷ [])) NotComma (Reasons Anything (Others width f (front ++ y.0 ∷ [])) NotComma) y.1 (Others width f (front ++ y.0 ∷ []) y.1))
         → Outcome Anything (BehindComma width f front) NotComma (Reasons Anything (BehindComma width f front) NotComma) tokens (BehindComma width f front tokens)
     behind front tokens e more =
-        either_outcome (Unit {0}) Anything NotComma (parsing.attachment_at >>= λ u. Ending (f front)) (parsing.incoming_at width >>= λ i. Others width f (front ++ i ∷ [])) parsing.is_metadata metadata_next metadata_open metadata_shut tokens
+        either_outcome (Unit {0}) Anything NotComma (parsing.attachment_at >>= λ u. Ending (f front)) (parsing.incoming_at width >>= λ i. Others width f (front ++ i ∷ [])) parsing.is_metadata metadata_next metadata_open metadata_shut metadata_records tokens
         (λ next. (attached-good (f front)).outcome tokens e)
         (λ next.
         both (Unit {0}) (Unit {0}) (Unit {0}) (And Anything (Tested parsing.is_metadata false)) Anything NotComma (parsing.incoming_at width) (λ i. Others width f (front ++ i ∷ [])) (λ i. some (front ++ i ∷ [])) tokens ((begun-good width).outcome tokens e)
@@ -123,10 +122,10 @@ others-good {A} width f front = record { sample = some front; outcome = λ token
     by front tokens e more false none =
         let nothing : Good NotComma (done (f front)) NotComma = done-good (λ t n. n) (f front) in
         subst (Outcome Anything (Others width f front) NotComma (Reasons Anything (Others width f front) NotComma) tokens) (sym (no_others width f front tokens none))
-        (reasons_transferred (parsing.is_mark marks.comma) (mark_next marks.comma) false (done (f front)) (Others width f front) (no_others width f front) (Unit {0}) (Unit {0}) (Unit {0}) (λ v. v) (mark_shut marks.comma) NotComma Anything NotComma (λ t d. d) (λ t d. tt) tokens none (Ok (f front, tokens)) (nothing.outcome tokens e))
+        (reasons_transferred (parsing.is_mark marks.comma) (mark_next marks.comma) false (done (f front)) (Others width f front) (no_others width f front) (Unit {0}) (Unit {0}) (Unit {0}) (λ v. v) (mark_shut marks.comma) NotComma Anything NotComma (λ t begins says. let r = mark_records marks.comma refl false t begins says in (inr r.0, λ end. r.1)) (λ t d. d) (λ t d. tt) tokens none (Ok (f front, tokens)) (nothing.outcome tokens e))
     by front tokens e more true next =
         subst (Outcome Anything (Others width f front) NotComma (Reasons Anything (Others width f front) NotComma) tokens) (sym (others_behind width f front tokens next))
-        (reasons_transferred (parsing.is_mark marks.comma) (mark_next marks.comma) true (parsing.mark_at marks.comma >>= λ u. BehindComma width f front) (Others width f front) (others_behind width f front) (Unit {0}) (Unit {0}) (Unit {0}) (λ v. v) (mark_open marks.comma refl) (Tested (parsing.is_mark marks.comma) true) Anything NotComma (λ t d. d) (λ t d. tt) tokens next
+        (reasons_transferred (parsing.is_mark marks.comma) (mark_next marks.comma) true (parsing.mark_at marks.comma >>= λ u. BehindComma width f front) (Others width f front) (others_behind width f front) (Unit {0}) (Unit {0}) (Unit {0}) (λ v. v) (mark_open marks.comma refl) (Tested (parsing.is_mark marks.comma) true) Anything NotComma (λ t begins says. let r = mark_records marks.comma refl true t begins says in (inr r.0, λ end. r.1)) (λ t d. d) (λ t d. tt) tokens next
         ((parsing.mark_at marks.comma >>= λ u. BehindComma width f front) tokens)
         (both (Unit {0}) (Unit {0}) (Unit {0}) (Tested (parsing.is_mark marks.comma) true) Anything NotComma (parsing.mark_at marks.comma) (λ u. BehindComma width f front) (λ u. samples front) tokens (comma-good.outcome tokens e)
         (λ x is ended_here.
@@ -180,5 +179,5 @@ register_is_no_comma t next = absurd cc
 pub insts-good : {E F : Follow} → ((t : Token) → F t → NotComma t) → ((t : Token) → F t → NotRegister t) → ((t : Token) → F t → E t) → ((t : Token) → Tested parsing.is_register true t → E t) → Good E parsing.insts_at F
 unfolding parsing.insts_at
 insts-good no_comma no_register enters next_enters =
-    each-good (Unit {0}) NotComma parsing.is_register parsing.inst_at (record { asks = register_next; takes = inst-takes; ends = no_register; ends_part = no_comma; next_ends_part = register_is_no_comma; opens = register_open; shuts = register_shut })
+    each-good (Unit {0}) NotComma parsing.is_register parsing.inst_at (record { asks = register_next; takes = inst-takes; ends = no_register; ends_part = no_comma; next_ends_part = register_is_no_comma; opens = register_open; shuts = register_shut; records = λ a b t begins h. let r = register_records b t begins h in (inr r.0, λ end. r.1) })
     (λ tokens e next. (inst-good {E = Tested parsing.is_register true} refl).outcome tokens e) enters next_enters []

@@ -9,4 +9,5 @@ pub mod Reasons
 pub mod Refusals
 pub mod Repeats
 pub mod Statements
+pub mod TextEnds
 pub mod TokenReaders

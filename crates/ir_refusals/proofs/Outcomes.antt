@@ -1,13 +1,16 @@
 -- What a reader makes of tokens, said so that it composes: it goes behind a front of them whatever stands further behind, or it refuses
 -- the token behind a front that it can be made to read by other tokens.
-use Rattle.std.proofs.Common.{◌≡◌, ℕ, Bool, true, false, cond, List, [], ◌∷◌, ◌++◌, Result, Ok, Err, refl, sym, ap, subst, ◌∙◌, ◌⊎◌, inl, inr, append_assoc}
+use Rattle.std.proofs.Common.{◌≡◌, ℕ, true, false, List, [], ◌∷◌, ◌++◌, Ok, Err, refl, sym, ap, subst, ◌∙◌, ◌⊎◌, inl, inr, append_assoc}
 use Rattle.std.proofs.lemmas.List.{append-nil}
-use Rattle.ir_tokens.specs.Tokens.{Token, Placed, is_last}
+use Rattle.ir_tokens.specs.Tokens.{Token, Placed, Word, Group, is_last}
 use Rattle.ir_statements.specs.declared.fault.Misfit.{Misfit}
 use Rattle.ir_statements.specs.declared.fault.TextFault.{TextFault}
+use Rattle.ir_statements.specs.declared.word.Ending.{Ending}
+use Rattle.ir_statements.specs.Places.{begins_record}
+use Rattle.ir_statements.specs.Words.{ending_word}
 use Rattle.ir_statements.specs.Readers.{Read, Reader, fault, goes_on, ◌>>=◌, done}
 use Rattle.ir_refusals.specs.Misfits.{RepeatsFlag}
-use Rattle.ir_refusals.proofs.Reasons.{Like, like_map, Maps, Reason, reason_map}
+use Rattle.ir_refusals.proofs.Reasons.{an_end, a_group, Like, NoRecord, NoGroup, Maps, Reason, reason_map}
 
 -- ---- what stands next
 
@@ -90,7 +93,7 @@ Bad V R front t u = RefusesAt R front u × (front ≡ [] → Like V t u)
 
 -- reasons where words are meant at the front if V holds
 abbrev pub ReasonsIf : {A : Type 0} → Type 0 → Follow → Reader A → Follow → Why
-ReasonsIf V E R F front t kind = Reason (Fit E R F front) (Bad V R front) (RepeatsFlag front) t kind
+ReasonsIf V E R F front t kind = Reason (Fit E R F front) (Bad V R front) (RepeatsFlag front) (RefusesAt R front) t kind
 
 abbrev pub Reasons : {A : Type 0} → Follow → Reader A → Follow → Why
 Reasons E R F = ReasonsIf (Unit {0}) E R F
@@ -106,6 +109,8 @@ pub record IsReadIf {A : Type 0} (V : Type 0) (E : Follow) (R : Reader A) (F : F
   pub ended : Ended rest
   pub stopped : Next (StopsAt R front x) rest
   pub halts : Next (λ t. (u : Token) → Like W t u → Halts R front x u) rest
+  pub records : Next (λ t. begins_record t ≡ true → NoRecord (Fit E R F front) (Halts R front x)) rest
+  pub groups : F an_end → Next (λ t. begins_record t ≡ true → NoGroup (Halts R front x)) rest
   pub follows : (t : Token) → F t → StopsAt R front x t
   pub nothing : front ≡ [] → (t : Token) → F t → E t
   pub words : front ≡ [] → Next (λ t. (u : Token) → Like W t u → Like V t u) rest
@@ -163,6 +168,8 @@ taken V E R F W Y line t rest e (takes x going h) =
       ended = ended_behind (line, t) rest going e;
       stopped = next_any _ rest (ended_behind (line, t) rest going e) (λ u l more. h ((l, u) ∷ more));
       halts = next_any _ rest (ended_behind (line, t) rest going e) (λ s u like l more. inl (h ((l, u) ∷ more)));
+      records = next_any _ rest (ended_behind (line, t) rest going e) (λ s begins. inr (λ ending l more. inl (h ((l, Word (ending_word ending)) ∷ more))));
+      groups = λ end. next_any _ rest (ended_behind (line, t) rest going e) (λ s begins text l more. inl (h ((l, Group text) ∷ more)));
       follows = λ u f l more. h ((l, u) ∷ more);
       nothing = λ none. absurd cc;
       words = λ none. absurd cc;
@@ -181,7 +188,7 @@ one_token some one = record { sample = (some.2, (0, some.0) ∷ [], λ tokens ne
 
 pub data MayTake {A : Type 0} (R : Reader A) (Y : Why) (x : A) (line : ℕ) (t : Token) : Type 0 where
   may_take : Takes R Y line t → MayTake R Y x line t
-  leaves : StopsAt R [] x t → ((u : Token) → Like (Unit {0}) t u → StopsAt R [] x u) → MayTake R Y x line t
+  leaves : StopsAt R [] x t → ((u : Token) → Like (Unit {0}) t u → StopsAt R [] x u) → (begins_record t ≡ true → ((ending : Ending) → StopsAt R [] x (Word (ending_word ending))) × NoGroup (StopsAt R [] x)) → MayTake R Y x line t
 
 pub token_or_none : {A : Type 0} {E : Follow} {R : Reader A} {F : Follow} (x : A) → ((t : Token) → F t → StopsAt R [] x t) → ((t : Token) → F t → E t) → ((line : ℕ) (t : Token) → MayTake R (Reasons E R F) x line t) → Good E R F
 token_or_none {A} {E} {R} {F} x none_at enters one = record {
@@ -195,9 +202,20 @@ token_or_none {A} {E} {R} {F} x none_at enters one = record {
       where
         of : MayTake R (Reasons E R F) x line t → Outcome E R F (Reasons E R F) ((line, t) ∷ rest) (R ((line, t) ∷ rest))
         of (may_take h) = taken (Unit {0}) E R F (Unit {0}) (Reasons E R F) line t rest e h
-        of (leaves h k) =
+        of (leaves h k j) =
             subst (Outcome E R F (Reasons E R F) ((line, t) ∷ rest)) (sym (h line rest))
-            (record { front = []; there = refl; ended = e; stopped = h; halts = λ u like l more. inl (k u like l more); follows = none_at; nothing = λ none. enters; words = λ none u like. like })
+            (record {
+              front = [];
+              there = refl;
+              ended = e;
+              stopped = h;
+              halts = λ u like l more. inl (k u like l more);
+              records = λ begins. inr (λ ending l more. inl ((j begins).0 ending l more));
+              groups = λ end begins text l more. inl ((j begins).1 text l more);
+              follows = none_at;
+              nothing = λ none. enters;
+              words = λ none u like. like;
+            })
 
 -- ---- nothing more
 
@@ -210,6 +228,8 @@ done-good {A} {V} {E} {F} enters x = record {
     ended = e;
     stopped = next_any _ tokens e (λ t line more. refl);
     halts = next_any _ tokens e (λ t u like line more. inl refl);
+    records = next_any _ tokens e (λ t begins. inr (λ ending line more. inl refl));
+    groups = λ end. next_any _ tokens e (λ t begins text line more. inl refl);
     follows = λ t f line more. refl;
     nothing = λ none. enters;
     words = λ none. next_any _ tokens e (λ t u like. like);
@@ -259,14 +279,37 @@ no_second : (a b : List Placed) → a ++ b ≡ [] → b ≡ []
 no_second [] b none = none
 no_second (t ∷ a) b none = absurd cc
 
+-- what fits the first reader, or the second, fits both
+pub fits_first : {A B : Type 0} (E F G : Follow) (R : Reader A) (S : A → Reader B) → ((x : A) → Sample F (S x) G) → (front : List Placed) (t : Token) → Fit E R F front t → Fit E (R >>= S) G front t
+fits_first E F G R S s front t (c, enters) =
+    let q = s c.0 in
+    ((q.0, c.1 ++ q.1, λ ts next. let second = q.2 ts next in rw (append_assoc c.1 q.1 ts, c.2 (q.1 ++ ts) second.1) second.0), enters)
+
+pub fits_second : {A B : Type 0} (U V : Type 0) (E F G : Follow) (R : Reader A) (S : A → Reader B) (tokens : List Placed) (x : A × List Placed) (o : IsReadIf U E R F V tokens x.0 x.1)
+    (front : List Placed) (u : Placed) (behind : List Placed) → x.1 ≡ front ++ u ∷ behind → (t : Token) → Fit F (S x.0) G front t → Fit E (R >>= S) G (o.front ++ front) t
+fits_second U V E F G R S tokens x o [] u behind there t (c, enters) =
+    ((c.0, c.1, λ ts next. read_both R S o.front [] x.0 c.0 ((0, t) ∷ (c.1 ++ ts)) ts (o.follows t (enters refl) 0 (c.1 ++ ts)) (c.2 ts next)), λ none. o.nothing (no_first o.front [] none) t (enters refl))
+fits_second U V E F G R S tokens x o ((l, v) ∷ front) u behind there t (c, enters) = (
+  (
+    c.0,
+    c.1,
+    λ ts next.
+        read_both R S o.front ((l, v) ∷ front) x.0 c.0 ((0, t) ∷ (c.1 ++ ts)) ts
+        (stops R o.front x.0 ((l, v) ∷ (front ++ (0, t) ∷ (c.1 ++ ts))) (subst (Next (StopsAt R o.front x.0)) there o.stopped)) (c.2 ts next),
+  ),
+  λ none. let bad = no_second o.front ((l, v) ∷ front) none in absurd cc,
+)
+
 both_read : {A B : Type 0} {U V W : Type 0} {E F G : Follow} (R : Reader A) (S : A → Reader B) (tokens : List Placed) (x : A × List Placed) (y : B × List Placed)
-    → IsReadIf U E R F V tokens x.0 x.1 → IsReadIf V F (S x.0) G W x.1 y.0 y.1 → IsReadIf U E (R >>= S) G W tokens y.0 y.1
-both_read {A} {B} {U} {V} {W} {E} {F} {G} R S tokens x y o p = record {
+    → ((z : A) → Sample F (S z) G) → IsReadIf U E R F V tokens x.0 x.1 → IsReadIf V F (S x.0) G W x.1 y.0 y.1 → IsReadIf U E (R >>= S) G W tokens y.0 y.1
+both_read {A} {B} {U} {V} {W} {E} {F} {G} R S tokens x y s o p = record {
   front = o.front ++ p.front;
   there = o.there ∙ ap (λ (ts : List Placed). o.front ++ ts) p.there ∙ sym (append_assoc o.front p.front y.1);
   ended = p.ended;
   stopped = next_here y.1 p.ended p.stopped (subst (Next (StopsAt R o.front x.0)) p.there o.stopped);
   halts = halts_here y.1 p.ended p.front p.words p.halts (subst (Next (StopsAt R o.front x.0)) p.there o.stopped) (subst (Next (λ t. (u : Token) → Like V t u → Halts R o.front x.0 u)) p.there o.halts);
+  records = records_here y.1 p.front p.there p.records;
+  groups = λ end. groups_here y.1 p.front p.there (p.groups end) (λ none. o.groups (p.nothing none an_end end));
   follows = λ t g line more. at t line more (p.follows t g) (follows_first t g line more);
   nothing = λ none t g. o.nothing (no_first o.front p.front none) t (p.nothing (no_second o.front p.front none) t g);
   words = λ none. next_both y.1 (p.words (no_second o.front p.front none)) (subst (λ (f : List Placed). Next (λ t. (u : Token) → Like V t u → Like U t u) (f ++ y.1)) (no_second o.front p.front none) (subst (Next (λ t. (u : Token) → Like V t u → Like U t u)) p.there (o.words (no_first o.front p.front none))));
@@ -300,6 +343,32 @@ both_read {A} {B} {U} {V} {W} {E} {F} {G} R S tokens x y o p = record {
     halts_here [] e front w h k j = absurd h
     halts_here ((l, t) ∷ rest) e [] w h k j = λ u like line more. first_halts u line more (j u (w refl u like) line more) (h u like line more)
     halts_here ((l, t) ∷ rest) e ((i, v) ∷ front) w h k j = λ u like line more. then_halts ((i, v) ∷ front) u line more (stops R o.front x.0 ((i, v) ∷ (front ++ (line, u) ∷ more)) k) (h u like line more)
+
+    first_records : (t : Token) (begins : begins_record t ≡ true) → NoRecord (Fit E R F o.front) (Halts R o.front x.0) → NoRecord (Fit F (S x.0) G []) (Halts (S x.0) [] y.0) → (rest : List Placed) (l : ℕ) → x.1 ≡ (l, t) ∷ rest
+        → NoRecord (Fit E (R >>= S) G (o.front ++ [])) (Halts (R >>= S) (o.front ++ []) y.0)
+    first_records t begins h (inl fit) rest l same = inl (fits_second U V E F G R S tokens x o [] (l, t) rest same a_group fit)
+    first_records t begins (inl fit) (inr k) rest l same = inl (subst (λ (f : List Placed). Fit E (R >>= S) G f a_group) (sym (append-nil o.front)) (fits_first E F G R S s o.front a_group fit))
+    first_records t begins (inr h) (inr k) rest l same = inr (λ ending line more. first_halts (Word (ending_word ending)) line more (h ending line more) (k ending line more))
+
+    then_records : (t : Token) (i : ℕ) (v : Token) (front : List Placed) → NoRecord (Fit F (S x.0) G ((i, v) ∷ front)) (Halts (S x.0) ((i, v) ∷ front) y.0) → (rest : List Placed) (l : ℕ) → x.1 ≡ (i, v) ∷ (front ++ (l, t) ∷ rest)
+        → NoRecord (Fit E (R >>= S) G (o.front ++ (i, v) ∷ front)) (Halts (R >>= S) (o.front ++ (i, v) ∷ front) y.0)
+    then_records t i v front (inl fit) rest l same = inl (fits_second U V E F G R S tokens x o ((i, v) ∷ front) (l, t) rest same a_group fit)
+    then_records t i v front (inr k) rest l same =
+        inr (λ ending line more.
+        then_halts ((i, v) ∷ front) (Word (ending_word ending)) line more (stops R o.front x.0 ((i, v) ∷ (front ++ (line, Word (ending_word ending)) ∷ more)) (subst (Next (StopsAt R o.front x.0)) same o.stopped)) (k ending line more))
+
+    records_here : (rest front : List Placed) → x.1 ≡ front ++ rest → Next (λ t. begins_record t ≡ true → NoRecord (Fit F (S x.0) G front) (Halts (S x.0) front y.0)) rest
+        → Next (λ t. begins_record t ≡ true → NoRecord (Fit E (R >>= S) G (o.front ++ front)) (Halts (R >>= S) (o.front ++ front) y.0)) rest
+    records_here [] front same h = absurd h
+    records_here ((l, t) ∷ rest) [] same h = λ begins. first_records t begins (subst (Next (λ t. begins_record t ≡ true → NoRecord (Fit E R F o.front) (Halts R o.front x.0))) same o.records begins) (h begins) rest l same
+    records_here ((l, t) ∷ rest) ((i, v) ∷ front) same h = λ begins. then_records t i v front (h begins) rest l same
+
+    groups_here : (rest front : List Placed) → x.1 ≡ front ++ rest → Next (λ t. begins_record t ≡ true → NoGroup (Halts (S x.0) front y.0)) rest → (front ≡ [] → Next (λ t. begins_record t ≡ true → NoGroup (Halts R o.front x.0)) x.1)
+        → Next (λ t. begins_record t ≡ true → NoGroup (Halts (R >>= S) (o.front ++ front) y.0)) rest
+    groups_here [] front same h k = absurd h
+    groups_here ((l, t) ∷ rest) [] same h k = λ begins text line more. first_halts (Group text) line more (subst (Next (λ t. begins_record t ≡ true → NoGroup (Halts R o.front x.0))) same (k refl) begins text line more) (h begins text line more)
+    groups_here ((l, t) ∷ rest) ((i, v) ∷ front) same h k = λ begins text line more.
+        then_halts ((i, v) ∷ front) (Group text) line more (stops R o.front x.0 ((i, v) ∷ (front ++ (line, Group text) ∷ more)) (subst (Next (StopsAt R o.front x.0)) same o.stopped)) (h begins text line more)
 
     follows_first : (t : Token) → G t → (line : ℕ) (more : List Placed) → Next (StopsAt R o.front x.0) (p.front ++ (line, t) ∷ more)
     follows_first t g line more = by_front p.front p.there (λ none. o.follows t (p.nothing none t g))
@@ -338,27 +407,6 @@ second_refuses {A} {B} {U} {U'} {E} {F} {G} {V} {W} R S s tokens x found o p why
               read_both R S o.front ((l, u) ∷ front) x.0 c.0 (c.1 ++ ts) ts
               (stops R o.front x.0 ((l, u) ∷ (front ++ (c.1 ++ ts))) (subst (Next (StopsAt R o.front x.0)) same o.stopped)) (c.2 ts next),
         )
-
--- what fits the first reader, or the second, fits both
-pub fits_first : {A B : Type 0} (E F G : Follow) (R : Reader A) (S : A → Reader B) → ((x : A) → Sample F (S x) G) → (front : List Placed) (t : Token) → Fit E R F front t → Fit E (R >>= S) G front t
-fits_first E F G R S s front t (c, enters) =
-    let q = s c.0 in
-    ((q.0, c.1 ++ q.1, λ ts next. let second = q.2 ts next in rw (append_assoc c.1 q.1 ts, c.2 (q.1 ++ ts) second.1) second.0), enters)
-
-pub fits_second : {A B : Type 0} (U V : Type 0) (E F G : Follow) (R : Reader A) (S : A → Reader B) (tokens : List Placed) (x : A × List Placed) (o : IsReadIf U E R F V tokens x.0 x.1)
-    (front : List Placed) (u : Placed) (behind : List Placed) → x.1 ≡ front ++ u ∷ behind → (t : Token) → Fit F (S x.0) G front t → Fit E (R >>= S) G (o.front ++ front) t
-fits_second U V E F G R S tokens x o [] u behind there t (c, enters) =
-    ((c.0, c.1, λ ts next. read_both R S o.front [] x.0 c.0 ((0, t) ∷ (c.1 ++ ts)) ts (o.follows t (enters refl) 0 (c.1 ++ ts)) (c.2 ts next)), λ none. o.nothing (no_first o.front [] none) t (enters refl))
-fits_second U V E F G R S tokens x o ((l, v) ∷ front) u behind there t (c, enters) = (
-  (
-    c.0,
-    c.1,
-    λ ts next.
-        read_both R S o.front ((l, v) ∷ front) x.0 c.0 ((0, t) ∷ (c.1 ++ ts)) ts
-        (stops R o.front x.0 ((l, v) ∷ (front ++ (0, t) ∷ (c.1 ++ ts))) (subst (Next (StopsAt R o.front x.0)) there o.stopped)) (c.2 ts next),
-  ),
-  λ none. let bad = no_second o.front ((l, v) ∷ front) none in absurd cc,
-)
 
 -- what the first refuses, or the second, both refuse
 pub bad_first : {A B : Type 0} (V : Type 0) (R : Reader A) (S : A → Reader B) (front : List Placed) (t u : Token) → Bad V R front t u → Bad V (R >>= S) front t u
@@ -402,25 +450,64 @@ outcome_both T U Z E F G R S X V W tokens lifts s (Err e) is o p = first_refuses
 outcome_both {A} {B} T U Z E F G R S X V W tokens lifts s (Ok x) is o p = behind (S x.0 x.1) (p x is o.ended)
   where
     behind : (q : Read B) → OutcomeIf U F (S x.0) G Z (V x.0) x.1 q → OutcomeIf T E (R >>= S) G Z W tokens q
-    behind (Ok y) p = both_read R S tokens x y o p
+    behind (Ok y) p = both_read R S tokens x y s o p
     behind (Err e) p = second_refuses R S s tokens x e o p (lifts.second x is o p.front e.line p.token p.behind p.there e.kind p.why)
 
 pub maps_first : {A B : Type 0} (V : Type 0) (E F G : Follow) (R : Reader A) (S : A → Reader B) → ((x : A) → Sample F (S x) G) → (front : List Placed) (t : Token)
-    → Maps (Fit E R F front) (Fit E (R >>= S) G front) (Bad V R front) (Bad V (R >>= S) front) (RepeatsFlag front) (RepeatsFlag front) t
-maps_first V E F G R S s front t = record { fits = λ v fit. fits_first E F G R S s front v fit; bad = λ u b. bad_first V R S front t u b; repeats = λ w r. r }
+    → Maps (Fit E R F front) (Fit E (R >>= S) G front) (Bad V R front) (Bad V (R >>= S) front) (RepeatsFlag front) (RepeatsFlag front) (RefusesAt R front) (RefusesAt (R >>= S) front) t
+maps_first {A} {B} V E F G R S s front t = record { fits = λ v fit. fits_first E F G R S s front v fit; bad = λ u b. bad_first V R S front t u b; repeats = λ w r. r; records = λ begins none. records none; groups = λ begins end refused text line more. let r = refused text line more in (r.0, rw r.1 refl) }
+  where
+    records : NoRecord (Fit E R F front) (RefusesAt R front) → NoRecord (Fit E (R >>= S) G front) (RefusesAt (R >>= S) front)
+    records (inl fit) = inl (fits_first E F G R S s front a_group fit)
+    records (inr refused) = inr (λ ending line more. let r = refused ending line more in (r.0, rw r.1 refl))
 
-pub maps_second : {A B : Type 0} (U V : Type 0) (E F G : Follow) (R : Reader A) (S : A → Reader B) (tokens : List Placed) (x : A × List Placed) (o : IsReadIf U E R F V tokens x.0 x.1) (front : List Placed) (l : ℕ) (t : Token) (behind : List Placed) → x.1 ≡ front ++ (l, t) ∷ behind
-    → Maps (Fit F (S x.0) G front) (Fit E (R >>= S) G (o.front ++ front)) (Bad V (S x.0) front) (Bad U (R >>= S) (o.front ++ front)) (RepeatsFlag front) (RepeatsFlag (o.front ++ front)) t
-maps_second U V E F G R S tokens x o front l t behind there = record {
+-- where the first halts and the second refuses, both refuse
+halts_refuses : {A B : Type 0} (R : Reader A) (S : A → Reader B) (front : List Placed) (x : A) (u : Token) (line : ℕ) (more : List Placed) → (e : TextFault) × (S x ((line, u) ∷ more) ≡ Err e)
+    → (R (front ++ (line, u) ∷ more) ≡ Ok (x, (line, u) ∷ more)) ⊎ ((e : TextFault) × (R (front ++ (line, u) ∷ more) ≡ Err e)) → (e : TextFault) × ((R >>= S) ((front ++ []) ++ (line, u) ∷ more) ≡ Err e)
+halts_refuses R S front x u line more r (inl first) = (r.0, rw (append_assoc front [] ((line, u) ∷ more), first) r.1)
+halts_refuses R S front x u line more r (inr (e, first)) = (e, rw (append_assoc front [] ((line, u) ∷ more), first) refl)
+
+-- where the second refuses the mark of a record, both do, and where a group fits behind the first, it fits
+records_second : {A B : Type 0} (U V : Type 0) (E F G : Follow) (R : Reader A) (S : A → Reader B) → ((x : A) → Sample F (S x) G) → (tokens : List Placed) (x : A × List Placed) (o : IsReadIf U E R F V tokens x.0 x.1) (front : List Placed) (l : ℕ) (t : Token) (behind : List Placed) → x.1 ≡ front ++ (l, t) ∷ behind
+    → begins_record t ≡ true → NoRecord (Fit F (S x.0) G front) (RefusesAt (S x.0) front) → NoRecord (Fit E (R >>= S) G (o.front ++ front)) (RefusesAt (R >>= S) (o.front ++ front))
+records_second U V E F G R S s tokens x o front l t behind there begins (inl fit) = inl (fits_second U V E F G R S tokens x o front (l, t) behind there a_group fit)
+records_second U V E F G R S s tokens x o [] l t behind there begins (inr refused) = by (subst (Next (λ v. begins_record v ≡ true → NoRecord (Fit E R F o.front) (Halts R o.front x.0))) there o.records begins)
+  where
+    by : NoRecord (Fit E R F o.front) (Halts R o.front x.0) → NoRecord (Fit E (R >>= S) G (o.front ++ [])) (RefusesAt (R >>= S) (o.front ++ []))
+    by (inl fit) = inl (subst (λ (f : List Placed). Fit E (R >>= S) G f a_group) (sym (append-nil o.front)) (fits_first E F G R S s o.front a_group fit))
+    by (inr halts) = inr (λ ending line more. halts_refuses R S o.front x.0 (Word (ending_word ending)) line more (refused ending line more) (halts ending line more))
+records_second U V E F G R S s tokens x o ((i, v) ∷ front) l t behind there begins (inr refused) =
+    inr (λ ending line more.
+    let u : Token = Word (ending_word ending) in
+    let r = refused ending line more in
+    let one = stops R o.front x.0 ((i, v) ∷ (front ++ (line, u) ∷ more)) (subst (Next (StopsAt R o.front x.0)) there o.stopped) in
+    (r.0, rw (append_assoc o.front ((i, v) ∷ front) ((line, u) ∷ more), one) r.1))
+
+-- the same for groups
+groups_second : {A B : Type 0} (U V : Type 0) (E F G : Follow) (R : Reader A) (S : A → Reader B) (tokens : List Placed) (x : A × List Placed) (o : IsReadIf U E R F V tokens x.0 x.1) (front : List Placed) (l : ℕ) (t : Token) (behind : List Placed) → x.1 ≡ front ++ (l, t) ∷ behind
+    → begins_record t ≡ true → Fit F (S x.0) G front an_end → NoGroup (RefusesAt (S x.0) front) → NoGroup (RefusesAt (R >>= S) (o.front ++ front))
+groups_second U V E F G R S tokens x o [] l t behind there begins end refused text line more =
+    halts_refuses R S o.front x.0 (Group text) line more (refused text line more) (subst (Next (λ v. begins_record v ≡ true → NoGroup (Halts R o.front x.0))) there (o.groups (end.1 refl)) begins text line more)
+groups_second U V E F G R S tokens x o ((i, v) ∷ front) l t behind there begins end refused text line more =
+    let r = refused text line more in
+    let one = stops R o.front x.0 ((i, v) ∷ (front ++ (line, Group text) ∷ more)) (subst (Next (StopsAt R o.front x.0)) there o.stopped) in
+    (r.0, rw (append_assoc o.front ((i, v) ∷ front) ((line, Group text) ∷ more), one) r.1)
+
+pub maps_second : {A B : Type 0} (U V : Type 0) (E F G : Follow) (R : Reader A) (S : A → Reader B) → ((x : A) → Sample F (S x) G) → (tokens : List Placed) (x : A × List Placed) (o : IsReadIf U E R F V tokens x.0 x.1) (front : List Placed) (l : ℕ) (t : Token) (behind : List Placed) → x.1 ≡ front ++ (l, t) ∷ behind
+    → Maps (Fit F (S x.0) G front) (Fit E (R >>= S) G (o.front ++ front)) (Bad V (S x.0) front) (Bad U (R >>= S) (o.front ++ front)) (RepeatsFlag front) (RepeatsFlag (o.front ++ front))
+    (RefusesAt (S x.0) front) (RefusesAt (R >>= S) (o.front ++ front)) t
+maps_second U V E F G R S s tokens x o front l t behind there = record {
   fits = λ v fit. fits_second U V E F G R S tokens x o front (l, t) behind there v fit;
   bad = λ u b. bad_second U V E F R S tokens x o front l t behind there u b;
   repeats = λ w r. repeats_behind o.front front w r;
+  records = λ begins none. records_second U V E F G R S s tokens x o front l t behind there begins none;
+  groups = λ begins end refused. groups_second U V E F G R S tokens x o front l t behind there begins end refused;
 }
 
 pub reasons_lift : {A B : Type 0} (U V : Type 0) (E F G : Follow) (R : Reader A) (S : A → Reader B) → ((x : A) → Sample F (S x) G) → (tokens : List Placed) → Lifts U V E F G R S (ReasonsIf U E R F) (λ x. ReasonsIf V F (S x) G) (ReasonsIf U E (R >>= S) G) tokens
 reasons_lift U V E F G R S s tokens = record {
-  first = λ front l t behind there kind why. reason_map _ _ _ _ _ _ t (maps_first U E F G R S s front t) kind why;
-  second = λ x is o front l t behind there kind why. reason_map _ _ _ _ _ _ t (maps_second U V E F G R S tokens x o front l t behind there) kind why;
+  first = λ front l t behind there kind why. reason_map _ _ _ _ _ _ _ _ t (maps_first U E F G R S s front t) kind why;
+  second = λ x is o front l t behind there kind why. reason_map _ _ _ _ _ _ _ _ t (maps_second U V E F G R S s tokens x o front l t behind there) kind why;
 }
 
 -- what a reader behind another does

@@ -1,7 +1,8 @@
 //! The laws of faults, each the contract of a function that does nothing.
 ghost use Rattle.ir_refusals.specs.Laws.{FaultsAreWhereTextsDoNotFit};
 
-/// A text is refused at the first token with which its tokens begin no text of the grammar, and one whose tokens all fit is not refused.
+/// A text is refused at the first token with which its tokens begin no text of the grammar, for a kind of reason that says which other tokens
+/// fit there; and one whose tokens all fit is not refused.
 pub fn faults_are_where_texts_do_not_fit()
     ensures { FaultsAreWhereTextsDoNotFit }
 {
