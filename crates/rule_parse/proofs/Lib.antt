@@ -1,4 +1,5 @@
 pub mod Beginnings
+pub mod Counts
 pub mod Cuts
 pub mod Expressions
 pub mod Kept

@@ -29,7 +29,7 @@ use Rattle.rule_tokens.proofs.Steps.{done, bind_ok, bound, read_as, chosen}
 
 -- ---- statements
 
-statement_at-is : (half : Half) (line : ℕ) (register : List ℕ) (tokens : List Token) (x : RawStatement × List Token) → statement_at half line register tokens ≡ Ok x → Takes (SpellsStatement half x.0) (Line line ∷ Register register ∷ tokens) x.1
+pub statement_at-is : (half : Half) (line : ℕ) (register : List ℕ) (tokens : List Token) (x : RawStatement × List Token) → statement_at half line register tokens ≡ Ok x → Takes (SpellsStatement half x.0) (Line line ∷ Register register ∷ tokens) x.1
 unfolding statement_at
 statement_at-is half line register tokens x e =
     bound (name_within line register) _ _ e (λ held n e1.
@@ -45,9 +45,9 @@ statement_at-is half line register tokens x e =
     }))))
 
 -- so many statements at most, and one at least where one begins
-record TakesStatements (room : ℕ) (half : Half) (statements : List RawStatement) (tokens rest : List Token) : Type 0 where
-  taken : Takes (SpellsStatements half statements) tokens rest
-  most : length statements ≤ room
+pub record TakesStatements (room : ℕ) (half : Half) (statements : List RawStatement) (tokens rest : List Token) : Type 0 where
+  pub taken : Takes (SpellsStatements half statements) tokens rest
+  pub most : length statements ≤ room
 
 no_statements : (room : ℕ) (half : Half) (tokens : List Token) → TakesStatements room half [] tokens tokens
 no_statements room half tokens = record { taken = record { own = []; is_own = refl; whole = refl }; most = omega arith }
@@ -69,7 +69,7 @@ one_taken room half line name rest x first others one more e =
       most = omega (arith, more.most);
     })
 
-statements_at-is : (room : ℕ) (half : Half) (tokens : List Token) (x : List RawStatement × List Token) → statements_at room half tokens ≡ Ok x → TakesStatements room half x.0 tokens x.1
+pub statements_at-is : (room : ℕ) (half : Half) (tokens : List Token) (x : List RawStatement × List Token) → statements_at room half tokens ≡ Ok x → TakesStatements room half x.0 tokens x.1
 unfolding statements_at
 statements_at-is zero half (Line line ∷ Register name ∷ rest) x e = absurd cc
 statements_at-is (suc room) half (Line line ∷ Register name ∷ rest) x e =
@@ -98,17 +98,17 @@ half_read half line name rest x e =
 
 -- ---- the parts of a rule
 
-source_at-is : (last : ℕ) (tokens : List Token) (x : List RawStatement × List Token) → source_at last tokens ≡ Ok x → Takes (SpellsHalf Source x.0) tokens x.1
+pub source_at-is : (last : ℕ) (tokens : List Token) (x : List RawStatement × List Token) → source_at last tokens ≡ Ok x → Takes (SpellsHalf Source x.0) tokens x.1
 unfolding source_at
 source_at-is last (Line line ∷ Register name ∷ rest) x e = half_read Source line name rest x e
 source_at-is last tokens x e = absurd cc
 
-target_at-is : (last : ℕ) (tokens : List Token) (x : List RawStatement × List Token) → target_at last tokens ≡ Ok x → Takes (SpellsHalf Target x.0) tokens x.1
+pub target_at-is : (last : ℕ) (tokens : List Token) (x : List RawStatement × List Token) → target_at last tokens ≡ Ok x → Takes (SpellsHalf Target x.0) tokens x.1
 unfolding target_at
 target_at-is last (Line line ∷ Register name ∷ rest) x e = half_read Target line name rest x e
 target_at-is last tokens x e = absurd cc
 
-arrow_at-is : (last : ℕ) (tokens rest : List Token) → arrow_at last tokens ≡ Ok rest → (line : ℕ) × (tokens ≡ Line line ∷ Arrow ∷ rest)
+pub arrow_at-is : (last : ℕ) (tokens rest : List Token) → arrow_at last tokens ≡ Ok rest → (line : ℕ) × (tokens ≡ Line line ∷ Arrow ∷ rest)
 unfolding arrow_at
 arrow_at-is last (Line line ∷ Arrow ∷ behind) rest e = (line, ap (λ (ts : List Token). Line line ∷ Arrow ∷ ts) (line_end-is line behind rest e))
 arrow_at-is last tokens rest e = absurd cc
@@ -122,10 +122,10 @@ name_text-is line (Name (b ∷ text) ∷ rest) x e =
     (subst (λ (name : List ℕ). 1 ≤ length name) w.1 (omega arith), w.0, ap (λ (name : List ℕ). Name name ∷ rest) w.1)
 name_text-is line tokens x e = absurd cc
 
-abbrev IsNamed : List Token → (ℕ × List ℕ) × List Token → Type 0
+abbrev pub IsNamed : List Token → (ℕ × List ℕ) × List Token → Type 0
 IsNamed tokens x = (1 ≤ length x.0.1) × (length x.0.1 ≤ most_name_bytes) × (tokens ≡ Line x.0.0 ∷ Head (codes "Name:") ∷ Name x.0.1 ∷ x.1)
 
-name_at-is : (last : ℕ) (tokens : List Token) (x : (ℕ × List ℕ) × List Token) → name_at last tokens ≡ Ok x → IsNamed tokens x
+pub name_at-is : (last : ℕ) (tokens : List Token) (x : (ℕ × List ℕ) × List Token) → name_at last tokens ≡ Ok x → IsNamed tokens x
 unfolding name_at
 name_at-is last (Line line ∷ Head head ∷ rest) x e = headed (bytes_eq head (codes "Name:")) refl e
   where
@@ -152,7 +152,7 @@ precondition_read line head rest x is e =
 no_precondition : (tokens : List Token) (x : Option RawPrecondition × List Token) → done (None, tokens) ≡ Ok x → Takes (Maybe SpellsPrecondition x.0) tokens x.1
 no_precondition tokens x e = read_as (λ (y : Option RawPrecondition × List Token). Takes (Maybe SpellsPrecondition y.0) tokens y.1) (None, tokens) x e (nothing tokens)
 
-precondition_at-is : (tokens : List Token) (x : Option RawPrecondition × List Token) → precondition_at tokens ≡ Ok x → Takes (Maybe SpellsPrecondition x.0) tokens x.1
+pub precondition_at-is : (tokens : List Token) (x : Option RawPrecondition × List Token) → precondition_at tokens ≡ Ok x → Takes (Maybe SpellsPrecondition x.0) tokens x.1
 unfolding precondition_at
 precondition_at-is (Line line ∷ Head head ∷ rest) x e = ⊎_elim
     (λ (h : (bytes_eq head (codes "Pre:") ≡ true) × (behind_precondition line rest ≡ Ok x)). precondition_read line head rest x (same_word head (codes "Pre:") h.0) h.1)
@@ -174,7 +174,7 @@ witness_read line head rest x is e =
 no_witness : (tokens : List Token) (x : Option RawWitness × List Token) → done (None, tokens) ≡ Ok x → Takes (Maybe SpellsWitness x.0) tokens x.1
 no_witness tokens x e = read_as (λ (y : Option RawWitness × List Token). Takes (Maybe SpellsWitness y.0) tokens y.1) (None, tokens) x e (nothing tokens)
 
-witness_at-is : (tokens : List Token) (x : Option RawWitness × List Token) → witness_at tokens ≡ Ok x → Takes (Maybe SpellsWitness x.0) tokens x.1
+pub witness_at-is : (tokens : List Token) (x : Option RawWitness × List Token) → witness_at tokens ≡ Ok x → Takes (Maybe SpellsWitness x.0) tokens x.1
 unfolding witness_at
 witness_at-is (Line line ∷ Head head ∷ rest) x e = ⊎_elim
     (λ (h : (bytes_eq head (codes "Wit:") ≡ true) × (behind_witness line rest ≡ Ok x)). witness_read line head rest x (same_word head (codes "Wit:") h.0) h.1)

@@ -2,7 +2,9 @@
 use Rattle.std.specs.Prelude.{◌≡◌, ◌↔◌, ◌⊎◌, ℕ, ◌≤◌, List, Some, Ok, slice_get}
 use Rattle.rule_tokens.specs.declared.fault.TextFault.{TextFault}
 use Rattle.rule_parse.specs.declared.raw.RawRule.{RawRule}
+use Rattle.rule_parse.specs.Counted.{IsWithinLimit, IsCut}
 use Rattle.rule_parse.specs.Grammar.{SpellsRules}
+use Rattle.rule_parse.specs.Limited.{limited}
 use Rattle.rule_parse.specs.Limits.{most_nodes}
 use Rattle.rule_parse.specs.Parsing.{all_rules}
 use Rattle.rule_parse.specs.Text.{IsWritten, IsTextFault}
@@ -23,3 +25,7 @@ pub record TextsHaveOneReadingOrFault : Type 0 where
 -- no rule has more operands, literals, names, operators and functions than the limit
 abbrev pub WrittenRulesAreSmall : Type 0
 WrittenRulesAreSmall = (text : List ℕ) (raws : List RawRule) → IsWritten text raws → (k : ℕ) (raw : RawRule) → slice_get raws k ≡ Some raw → raw_weight raw ≤ most_nodes
+
+-- tokens are kept whole, where no rule has more than the limit, or else up to the first token with which one has
+abbrev pub TokensAreKeptUpToTheLimit : Type 0
+TokensAreKeptUpToTheLimit = (tokens : List Token) → (IsWithinLimit tokens × (limited tokens ≡ tokens)) ⊎ IsCut tokens (limited tokens)

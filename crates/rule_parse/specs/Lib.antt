@@ -1,3 +1,4 @@
+pub mod Counted
 pub mod Grammar
 pub mod Inside
 pub mod Laws

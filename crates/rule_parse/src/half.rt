@@ -2,7 +2,7 @@
 
 /// Which half of a rule a statement stands in.
 #[derive(Clone, Copy, Debug, PartialEq, Eq)]
-pub(crate) enum Half {
+pub enum Half {
     Source,
     Target,
 }

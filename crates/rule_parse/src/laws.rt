@@ -1,5 +1,5 @@
 //! The laws of rule files, each the contract of a function that does nothing.
-ghost use Rattle.rule_parse.specs.Laws.{RulesAreReadAsSpelled, TextsHaveOneReadingOrFault, WrittenRulesAreSmall};
+ghost use Rattle.rule_parse.specs.Laws.{RulesAreReadAsSpelled, TextsHaveOneReadingOrFault, TokensAreKeptUpToTheLimit, WrittenRulesAreSmall};
 
 /// Reading from left to right answers rules exactly where the grammar spells them.
 pub fn rules_are_read_as_they_are_spelled()
@@ -16,4 +16,10 @@ pub fn every_text_has_one_reading_or_one_fault()
 /// No rule of a text as written has more than 256 operands, literals, names, operators and functions.
 pub fn written_rules_are_small()
     ensures { WrittenRulesAreSmall }
+{}
+
+/// Tokens are kept whole where no rule has more than 256 operands, literals, names, operators and functions, or else up to the first
+/// token with which one has.
+pub fn tokens_are_kept_up_to_the_limit()
+    ensures { TokensAreKeptUpToTheLimit }
 {}

@@ -17,14 +17,16 @@ mod statement;
 mod witness;
 mod word;
 
+pub use half::Half;
 pub use laws::{
     every_text_has_one_reading_or_one_fault, rules_are_read_as_they_are_spelled,
-    written_rules_are_small,
+    tokens_are_kept_up_to_the_limit, written_rules_are_small,
 };
 pub use raw::{RawArgument, RawOp, RawOperand, RawPrecondition, RawRule, RawStatement, RawWitness};
 pub use reader::parse_rules;
 pub use rule_terms::{RawFormula, RawNode, RawTerm};
 pub use rule_tokens::{Misfit, ParseError, TextFault};
+pub use word::Operation;
 
 #[cfg(test)]
 mod tests;

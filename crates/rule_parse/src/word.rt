@@ -9,7 +9,7 @@ use words::{cast_name, is, opcode_name};
 
 /// An operation that a statement begins with.
 #[derive(Clone, Copy, Debug)]
-pub(crate) enum Operation {
+pub enum Operation {
     Binary(Opcode),
     Compare,
     Select,

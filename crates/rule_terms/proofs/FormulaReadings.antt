@@ -56,7 +56,7 @@ comparison_or_fault-is line mark rest x (Some pred) f e =
     read_as (λ (y : Pred × List Token). Mark mark ∷ rest ≡ Mark (comparison_mark y.0) ∷ y.1) (pred, rest) x e (ap (λ (m : List ℕ). Mark m ∷ rest) (comparison_in-is mark pred f))
 comparison_or_fault-is line mark rest x None f e = absurd cc
 
-comparison_at-is : (line : ℕ) (tokens : List Token) (x : Pred × List Token) → comparison_at line tokens ≡ Ok x → tokens ≡ Mark (comparison_mark x.0) ∷ x.1
+pub comparison_at-is : (line : ℕ) (tokens : List Token) (x : Pred × List Token) → comparison_at line tokens ≡ Ok x → tokens ≡ Mark (comparison_mark x.0) ∷ x.1
 unfolding comparison_at
 comparison_at-is line (Mark mark ∷ rest) x e = comparison_or_fault-is line mark rest x (comparison_in mark) refl e
 comparison_at-is line tokens x e = absurd cc
@@ -207,7 +207,7 @@ alternatives_of-is nesting read reads before tokens x e =
 -- ---- members
 
 -- the tokens of a member that begins so
-abbrev StartsSo : Opening → List Token → Type 0
+abbrev pub StartsSo : Opening → List Token → Type 0
 StartsSo Turns tokens = tokens ≡ Mark (codes "!") ∷ drop 1 tokens
 StartsSo Encloses tokens = tokens ≡ Mark (codes "(") ∷ drop 1 tokens
 StartsSo (Tests predicate) tokens = tokens ≡ Word (predicate_word predicate) ∷ drop 1 tokens
@@ -241,7 +241,7 @@ word_opening-is : (word : List ℕ) (rest : List Token) (found : Option Predicat
 word_opening-is word rest (Some predicate) f = ap (λ (w : List ℕ). Word w ∷ rest) (predicate_in-is word predicate f)
 word_opening-is word rest None f = tt
 
-opening_at-is : (tokens : List Token) → StartsSo (opening_at tokens) tokens
+pub opening_at-is : (tokens : List Token) → StartsSo (opening_at tokens) tokens
 unfolding opening_at
 opening_at-is (Mark mark ∷ rest) = mark_opening-is mark rest (mark_opening mark rest) refl
 opening_at-is (Word word ∷ rest) = word_opening-is word rest (predicate_in word) refl
@@ -336,7 +336,7 @@ none_among : (front back : List RawFormula) → list_any asks_one_use (front ++ 
 none_among front back none = neither (list_any asks_one_use front) (list_any asks_one_use back) (sym (list_any-append asks_one_use front back) ∙ none)
 
 -- without `hasOneUse` it may stand within another
-stands_within : {standing : Standing} {level : Level} {nesting start : ℕ} {nodes : List RawFormula} {own : List Token} → SpellsFormula standing level nesting start nodes own → list_any asks_one_use nodes ≡ false → SpellsFormula Within level nesting start nodes own
+pub stands_within : {standing : Standing} {level : Level} {nesting start : ℕ} {nodes : List RawFormula} {own : List Token} → SpellsFormula standing level nesting start nodes own → list_any asks_one_use nodes ≡ false → SpellsFormula Within level nesting start nodes own
 stands_within (compares pred left right) none = compares pred left right
 stands_within (tests predicate term) none = tests predicate term
 stands_within (one_use le) none = absurd cc

@@ -55,11 +55,11 @@ unfolding opens_formula
 opens_step depth token tokens = refl
 
 -- a token that says nothing of formulas is passed
-plain_passed : (depth : ℕ) (token : Token) (tokens : List Token) → sign_of token ≡ signs.Plain → opens_formula depth (token ∷ tokens) ≡ opens_formula depth tokens
+pub plain_passed : (depth : ℕ) (token : Token) (tokens : List Token) → sign_of token ≡ signs.Plain → opens_formula depth (token ∷ tokens) ≡ opens_formula depth tokens
 plain_passed depth token tokens plain = opens_step depth token tokens ∙ ap (λ (s : Sign). opens_behind s depth (λ more. opens_formula more tokens)) plain
 
 -- nothing in these tokens says that a formula stands there, and their parentheses are closed
-abbrev IsPlain : List Token → Type 0
+abbrev pub IsPlain : List Token → Type 0
 IsPlain own = (depth : ℕ) (rest : List Token) → opens_formula depth (own ++ rest) ≡ opens_formula depth rest
 
 plain_one : (token : Token) → sign_of token ≡ signs.Plain → IsPlain (token ∷ [])
@@ -114,7 +114,7 @@ prefix_plain Not mark is = rw is refl
 prefix_plain Log2 mark is = absurd is
 prefix_plain Abs mark is = absurd is
 
-term_plain : {nesting start level : ℕ} {nodes : List RawNode} {own : List Token} → SpellsTerm Constant nesting start level nodes own → IsPlain own
+pub term_plain : {nesting start level : ℕ} {nodes : List RawNode} {own : List Token} → SpellsTerm Constant nesting start level nodes own → IsPlain own
 term_plain (leaf node own is) = leaf_plain node own is
 term_plain (width name le) = plain_more (Word (codes "width")) (Mark (codes "(") ∷ Register name ∷ Mark (codes ")") ∷ []) refl (plain_enclosed (Register name ∷ []) (plain_one (Register name) refl))
 term_plain (parenthesised {tokens} inside) = plain_enclosed tokens (term_plain inside)
@@ -160,7 +160,7 @@ parenthesis_compares own rest is =
     let closes : opens_formula 0 ((own ++ Mark (codes ")") ∷ []) ++ rest) ≡ false = rw (append_assoc own (Mark (codes ")") ∷ []) rest) (is 0 (Mark (codes ")") ∷ rest)) in
     rw closes refl
 
-term_compares : {nesting start level : ℕ} {nodes : List RawNode} {own : List Token} → SpellsTerm Constant nesting start level nodes own → (rest : List Token) → opening_at (own ++ rest) ≡ Compares
+pub term_compares : {nesting start level : ℕ} {nodes : List RawNode} {own : List Token} → SpellsTerm Constant nesting start level nodes own → (rest : List Token) → opening_at (own ++ rest) ≡ Compares
 unfolding opening_at predicate_in
 term_compares (leaf node own is) rest = leaf_compares node own rest is
 term_compares (width name le) rest = refl
@@ -174,7 +174,7 @@ term_compares (joined_term {front} {back} op level left right) rest = rw (append
 SaysFormula : List Token → Type 0
 SaysFormula own = (depth : ℕ) (rest : List Token) → opens_formula depth (own ++ rest) ≡ true
 
-comparison_says : (pred : Pred) → sign_of (Mark (comparison_mark pred)) ≡ signs.InFormula
+pub comparison_says : (pred : Pred) → sign_of (Mark (comparison_mark pred)) ≡ signs.InFormula
 comparison_says Eq = refl
 comparison_says Ne = refl
 comparison_says Ugt = refl
@@ -186,14 +186,14 @@ comparison_says Sge = refl
 comparison_says Slt = refl
 comparison_says Sle = refl
 
-predicate_says : (predicate : Predicate) → sign_of (Word (predicate_word predicate)) ≡ signs.InFormula
+pub predicate_says : (predicate : Predicate) → sign_of (Word (predicate_word predicate)) ≡ signs.InFormula
 predicate_says IsPowerOfTwo = refl
 predicate_says IsSignBit = refl
 
 says_now : (depth : ℕ) (token : Token) (tokens : List Token) → sign_of token ≡ signs.InFormula → opens_formula depth (token ∷ tokens) ≡ true
 says_now depth token tokens says = opens_step depth token tokens ∙ ap (λ (s : Sign). opens_behind s depth (λ more. opens_formula more tokens)) says
 
-formula_says : {standing : Standing} {level : Level} {nesting start : ℕ} {nodes : List RawFormula} {own : List Token} → SpellsFormula standing level nesting start nodes own → (depth : ℕ) (rest : List Token) → opens_formula depth (own ++ rest) ≡ true
+pub formula_says : {standing : Standing} {level : Level} {nesting start : ℕ} {nodes : List RawFormula} {own : List Token} → SpellsFormula standing level nesting start nodes own → (depth : ℕ) (rest : List Token) → opens_formula depth (own ++ rest) ≡ true
 unfolding opens_formula
 formula_says (compares {front} {back} pred left right) depth rest =
     rw (append_assoc front (Mark (comparison_mark pred) ∷ back) rest) (term_plain left depth (Mark (comparison_mark pred) ∷ back ++ rest) ∙ says_now depth (Mark (comparison_mark pred)) (back ++ rest) (comparison_says pred))
@@ -226,7 +226,7 @@ comparison_ends Sge rest = refl
 comparison_ends Slt rest = refl
 comparison_ends Sle rest = refl
 
-comparison_at-of : (line : ℕ) (pred : Pred) (rest : List Token) → comparison_at line (Mark (comparison_mark pred) ∷ rest) ≡ Ok (pred, rest)
+pub comparison_at-of : (line : ℕ) (pred : Pred) (rest : List Token) → comparison_at line (Mark (comparison_mark pred) ∷ rest) ≡ Ok (pred, rest)
 unfolding comparison_at comparison_in
 comparison_at-of line Eq rest = refl
 comparison_at-of line Ne rest = refl
@@ -300,12 +300,12 @@ alternatives_more part start before left right tokens rest short e is =
 -- ---- formulas
 
 -- what a formula of a level within another reads, up to what may go on with it
-abbrev ReadsTo : Level → ℕ → ℕ → List RawFormula → List Token → List Token → List RawFormula → Type 0
+abbrev pub ReadsTo : Level → ℕ → ℕ → List RawFormula → List Token → List Token → List RawFormula → Type 0
 ReadsTo Member nesting line before own rest after = member_at nesting line before (own ++ rest) ≡ Ok (after, rest)
 ReadsTo Members nesting line before own rest after = members_of (member_at nesting line) before (own ++ rest) ≡ more_members (member_at nesting line) after rest
 ReadsTo Alternatives nesting line before own rest after = next_is (codes "&&") rest ≡ false → alternatives_of (member_at nesting line) before (own ++ rest) ≡ more_alternatives (member_at nesting line) after rest
 
-within_read : {standing : Standing} {level : Level} {nesting start : ℕ} {nodes : List RawFormula} {own : List Token} → SpellsFormula standing level nesting start nodes own → standing ≡ Within → (line : ℕ) (before : List RawFormula) (rest : List Token) → start ≡ length before → EndsTerm rest → ReadsTo level nesting line before own rest (before ++ nodes)
+pub within_read : {standing : Standing} {level : Level} {nesting start : ℕ} {nodes : List RawFormula} {own : List Token} → SpellsFormula standing level nesting start nodes own → standing ≡ Within → (line : ℕ) (before : List RawFormula) (rest : List Token) → start ≡ length before → EndsTerm rest → ReadsTo level nesting line before own rest (before ++ nodes)
 within_read (compares {nesting} {left = left} {right = right} {front} {back} pred l r) w line before rest e ends = compares_read nesting line before pred left right front back rest l r ends
 within_read (tests {nesting = nesting} {term = term} {own = own} predicate is) w line before rest e ends = tests_read predicate nesting line before term own rest is
 within_read (one_use le) w line before rest e ends = absurd cc
@@ -371,12 +371,12 @@ deep : (nesting line : ℕ) (before : List RawFormula) (tokens : List Token) (x 
 deep nesting line before tokens x e is = subst (λ (n : ℕ). member_at n line before tokens ≡ Ok x) e is
 
 -- what a formula of a level that may stand outermost reads
-abbrev OuterReadsTo : Level → ℕ → List RawFormula → List Token → List Token → List RawFormula → Type 0
+abbrev pub OuterReadsTo : Level → ℕ → List RawFormula → List Token → List Token → List RawFormula → Type 0
 OuterReadsTo Member line before own rest after = outer_member_at line before (own ++ rest) ≡ Ok (after, rest)
 OuterReadsTo Members line before own rest after = members_of (outer_member_at line) before (own ++ rest) ≡ more_members (outer_member_at line) after rest
 OuterReadsTo Alternatives line before own rest after = Unit {0}
 
-outer_read : {standing : Standing} {level : Level} {nesting start : ℕ} {nodes : List RawFormula} {own : List Token} → SpellsFormula standing level nesting start nodes own → nesting ≡ most_nested → (line : ℕ) (before : List RawFormula) (rest : List Token) → start ≡ length before → EndsTerm rest → OuterReadsTo level line before own rest (before ++ nodes)
+pub outer_read : {standing : Standing} {level : Level} {nesting start : ℕ} {nodes : List RawFormula} {own : List Token} → SpellsFormula standing level nesting start nodes own → nesting ≡ most_nested → (line : ℕ) (before : List RawFormula) (rest : List Token) → start ≡ length before → EndsTerm rest → OuterReadsTo level line before own rest (before ++ nodes)
 outer_read (compares {nesting = nesting} {left = left} {right = right} {front = front} {back = back} pred l r) deepest line before rest e ends =
     rw (append_assoc front (Mark (comparison_mark pred) ∷ back) rest)
     (outer_compares line before nesting left front ((Mark (comparison_mark pred) ∷ back) ++ rest) l
@@ -406,7 +406,7 @@ none_joined left right operator start node l r =
     list_any-append asks_one_use (left ++ right) end ∙ rw (list_any-append asks_one_use left right, l, r, node (last_place (start + length left)) (last_place (start + length left + length right))) refl
 
 -- a formula that may stand within another asks of no use
-none_within : {standing : Standing} {level : Level} {nesting start : ℕ} {nodes : List RawFormula} {own : List Token} → SpellsFormula standing level nesting start nodes own → standing ≡ Within → list_any asks_one_use nodes ≡ false
+pub none_within : {standing : Standing} {level : Level} {nesting start : ℕ} {nodes : List RawFormula} {own : List Token} → SpellsFormula standing level nesting start nodes own → standing ≡ Within → list_any asks_one_use nodes ≡ false
 none_within (compares pred l r) w = refl
 none_within (tests IsPowerOfTwo is) w = refl
 none_within (tests IsSignBit is) w = refl

@@ -14,14 +14,14 @@ use words::is;
 
 /// A predicate of one term.
 #[derive(Clone, Copy, Debug)]
-pub(crate) enum Predicate {
+pub enum Predicate {
     IsPowerOfTwo,
     IsSignBit,
 }
 
 /// How a member of a formula begins.
 #[derive(Clone, Copy, Debug)]
-pub(crate) enum Opening {
+pub enum Opening {
     /// By `!`.
     Turns,
     /// By a parenthesis around a formula.
@@ -34,7 +34,7 @@ pub(crate) enum Opening {
 
 /// What a token says of the parentheses that it stands in.
 #[derive(Clone, Copy, Debug)]
-pub(crate) enum Sign {
+pub enum Sign {
     Opens,
     Closes,
     LineEnds,

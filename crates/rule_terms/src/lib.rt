@@ -12,14 +12,14 @@ mod take;
 mod word;
 
 pub use formula_reading::formula;
-pub use formula_word::is_among;
+pub use formula_word::{Opening, Predicate, Sign, is_among};
 pub use laws::{nodes_stand_behind_their_operands, terms_are_read_as_they_are_spelled};
 pub use place::TermPlace;
 pub use raw::{RawFormula, RawNode, RawTerm};
 pub use reading::{rest_of_term, term};
-pub use start::mark;
+pub use start::{Start, mark};
 pub use take::takes;
-pub use word::{is_constant, operator_of};
+pub use word::{Meaning, is_constant, operator_of};
 
 #[cfg(test)]
 mod tests;

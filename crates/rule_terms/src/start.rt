@@ -18,7 +18,7 @@ use words::is;
 
 /// What an operand begins with.
 #[derive(Debug, Drop)]
-pub(crate) enum Start {
+pub enum Start {
     /// A node of one token, which is the whole operand.
     Leaf(RawNode),
     /// `-` or `~`.

@@ -107,7 +107,7 @@ fn choice_of(word: &[u8]) -> Option<u32>
 
 /// What a word means in an operand's place.
 #[derive(Clone, Copy, Debug)]
-pub(crate) enum Meaning {
+pub enum Meaning {
     /// `width`, of a register in parentheses.
     Width,
     /// A function of an operand in parentheses.
