@@ -1,0 +1,12 @@
+pub mod Files
+pub mod Formulas
+pub mod Lines
+pub mod Nouns
+pub mod Outcomes
+pub mod Parentheses
+pub mod Parts
+pub mod Refusals
+pub mod Rules
+pub mod Statements
+pub mod Terms
+pub mod Texts
