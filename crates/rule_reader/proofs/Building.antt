@@ -1,7 +1,7 @@
 -- Building a rule from one as written whose names are all there to use.
-use Rattle.std.proofs.Common.{◌≡◌, ℕ, zero, suc, ◌+◌, ◌<◌, ◌≤◌, List, [], ◌∷◌, ◌++◌, length, Some, refl, sym, ap, subst, ◌∙◌, arith, take, drop, get_or}
+use Rattle.std.proofs.Common.{◌≡◌, ℕ, ◌+◌, ◌<◌, ◌≤◌, List, [], ◌∷◌, ◌++◌, length, Some, refl, sym, ap, subst, ◌∙◌, arith, take, drop, get_or}
 use Rattle.std.specs.Prelude.{slice_get, Contains, flat_map, sum_by}
-use Rattle.std.proofs.lemmas.List.{append-nil, take-append-drop, take_all}
+use Rattle.std.proofs.lemmas.List.{take-append-drop, take_all}
 use Rattle.std.proofs.lemmas.Grind.{flat_map-append}
 use Rattle.std.proofs.lemmas.List.Elements.{Contains-append_left, Contains-append_right}
 use Rattle.rule_parse.specs.declared.raw.RawRule.{RawRule}
@@ -11,7 +11,6 @@ use Rattle.rule_parse.specs.declared.raw.RawArgument.TheVariants.{Register, Lite
 use Rattle.rule_terms.specs.declared.raw.RawNode.{RawNode}
 use Rattle.rule_terms.specs.declared.raw.RawNode.TheVariants as raw_nodes
 use Rattle.rule_terms.specs.declared.raw.RawFormula.{RawFormula}
-use Rattle.rule_terms.specs.declared.raw.RawFormula.TheVariants as raw_formulas
 use Rattle.rule_core.specs.declared.rule.Term.{Term as Meant}
 use Rattle.rule_core.proofs.Members.{Contains-from_get, Contains-flat_map}
 use Rattle.rule_reader.specs.declared.names.Names.{Names}
@@ -20,14 +19,14 @@ use Rattle.rule_reader.specs.declared.place.Place.{Place}
 use Rattle.rule_reader.specs.declared.place.Place.TheVariants as places
 use Rattle.rule_reader.specs.declared.place.Half.{Half}
 use Rattle.rule_reader.specs.declared.place.Half.TheVariants as halves
-use Rattle.rule_parse.specs.Inside.{arguments_of, arguments_among, terms_of_argument, terms_of_formula, formula_of, target_terms, terms_of, expressions_of}
+use Rattle.rule_parse.specs.Inside.{arguments_of, arguments_among, terms_of_argument, terms_of_formula, formula_of, target_terms, terms_of}
 use Rattle.rule_reader.specs.Naming.{nodes_in, past_all, no_counts, in_half, TermsMean}
 use Rattle.rule_terms.specs.Nodes.{IsBehindOperands}
 use Rattle.rule_reader.specs.WellFormed.{AreInLineOrder, IsTerm, IsWellFormed}
 use Rattle.rule_reader.specs.Kinds.{Each, ArgumentIsBound, TermIsBound, NodeIsBound}
 use Rattle.rule_reader.specs.Resolving.{half_of, place_in, IsPlaceOf, HalfIsBound, AreFew, IsWhole, AreReady, NodeFits, HasReadyTerm, AddsTerms}
-use Rattle.rule_reader.proofs.Places.{read_at, somewhere}
-use Rattle.rule_reader.proofs.Members.{each_at, each_of, flat_at}
+use Rattle.rule_reader.proofs.Places.{read_at}
+use Rattle.rule_reader.proofs.Members.{each_at, each_of}
 use Rattle.rule_reader.proofs.Counting.{few_at, ready, arguments_more}
 use Rattle.rule_reader.proofs.Nodes.{nodes_append, terms_length}
 use Rattle.rule_reader.proofs.Weighing.{sum_cons, few_terms, few_in_target, few_in_source}

@@ -1,11 +1,9 @@
 -- A rule that a rule as written without faults means meets each check of a rule.
-use Rattle.std.proofs.Common.{◌≡◌, ◌⊎◌, inl, inr, ℕ, zero, suc, ◌+◌, ◌-◌, ◌<◌, ◌≤◌, List, [], ◌∷◌, ◌++◌, length, length-append, Some, refl, sym, ap, subst, ◌∙◌, arith, get_or}
-use Rattle.std.specs.Prelude.{slice_get, Contains, map, flat_map, filter_map, sum_by}
-use Rattle.std.specs.List.{AllZip, range_with_len}
+use Rattle.std.proofs.Common.{◌≡◌, inl, inr, ℕ, zero, suc, ◌+◌, ◌-◌, ◌<◌, ◌≤◌, List, [], ◌∷◌, length, Some, refl, sym, ap, subst, ◌∙◌, arith, get_or}
+use Rattle.std.specs.Prelude.{slice_get, Contains, map, flat_map}
+use Rattle.std.specs.List.{range_with_len}
 use Rattle.std.proofs.lemmas.Option.{slice_get_within, slice_get-get_or, same_Some}
 use Rattle.std.proofs.lemmas.List.FromFn.{length-range_with_len}
-use Rattle.std.proofs.lemmas.List.Sums.{sum_by-append}
-use Rattle.std.proofs.lemmas.Grind.{flat_map-append}
 use Rattle.ops.specs.declared.opcode.Opcode.{Opcode}
 use Rattle.ops.specs.declared.opcode.Flags.{Flags}
 use Rattle.ops.specs.Flags.{FlagsFit}
@@ -38,25 +36,24 @@ use Rattle.rule_core.specs.Positions.{operands_of as operands_meant, operands_am
 use Rattle.rule_core.proofs.Members.{Contains-from_get}
 use Rattle.rule_reader.specs.declared.counts.Counts.{Counts}
 use Rattle.rule_reader.specs.declared.names.Names.{Names}
-use Rattle.rule_reader.specs.declared.place.Place.{Place}
 use Rattle.rule_reader.specs.declared.place.Place.TheVariants as places
-use Rattle.rule_parse.specs.Inside.{arguments_of, arguments_among, formula_of, expressions_of, target_terms, terms_of, terms_of_argument, terms_of_formula}
-use Rattle.rule_reader.specs.Naming.{nodes_in, past, past_all, no_counts, in_half, with_counts, with_nodes, with_terms, last_nodes, UsesAt, IsRoot, AssignsAt, IsInput, IsTemporary, GivesInput, GivesConstant, AreNames, ArgumentMeans, OpMeans, StatementMeans, NodeMeans, FormulaMeans, HasName, HalfMeans, Means, names_of_rule}
+use Rattle.rule_parse.specs.Inside.{arguments_of, arguments_among, formula_of, expressions_of, target_terms, terms_of, terms_of_formula}
+use Rattle.rule_reader.specs.Naming.{nodes_in, past, no_counts, in_half, with_counts, with_nodes, with_terms, last_nodes, UsesAt, IsRoot, AssignsAt, IsInput, ArgumentMeans, OpMeans, StatementMeans, NodeMeans, FormulaMeans, HasName, HalfMeans, Means, names_of_rule}
 use Rattle.rule_terms.specs.Nodes.{IsBehindOperands}
-use Rattle.rule_reader.specs.WellFormed.{IsHalf, IsWellFormed, IsTerm, IsBehindFormulas, MayStandInTerm, MayStandInSource, FlagsFitOp as FlagsFitRaw}
-use Rattle.rule_reader.specs.Kinds.{Each, MayUse, NodeIsBound, TermIsBound, ArgumentIsBound, FormulaIsBound, RootMissingAt, UnusedTempAt, UndefInsideAt, WitnessCountAt, IsUndefCopy}
+use Rattle.rule_reader.specs.WellFormed.{IsHalf, IsWellFormed, IsBehindFormulas, MayStandInTerm, MayStandInSource, FlagsFitOp as FlagsFitRaw}
+use Rattle.rule_reader.specs.Kinds.{MayUse, NodeIsBound, TermIsBound, ArgumentIsBound, FormulaIsBound, RootMissingAt, UnusedTempAt, UndefInsideAt, WitnessCountAt, IsUndefCopy}
 use Rattle.rule_reader.specs.Resolving.{NamesAreThere}
-use Rattle.rule_reader.proofs.Places.{order, same_at, there, map_at, at_append, somewhere, zip_right, zip_length}
+use Rattle.rule_reader.proofs.Places.{order, same_at, there, map_at, somewhere, zip_right}
 use Rattle.rule_reader.proofs.SameWeight.{same_weight}
 use Rattle.rule_reader.proofs.There.{IsThere, term_there}
 use Rattle.rule_reader.proofs.Stable.{stable_name, same_number}
 use Rattle.rule_reader.proofs.Members.{each_in, each_at, flat_at, at_flat}
 use Rattle.rule_reader.proofs.Counting.{with_counts_at}
-use Rattle.rule_reader.proofs.Nodes.{nodes_append, count_nodes, node_at, terms_length, with_terms_at, last_nodes_count}
+use Rattle.rule_reader.proofs.Nodes.{nodes_append, node_at, terms_length, with_terms_at, last_nodes_count}
 use Rattle.rule_reader.proofs.Weighing.{nodes_weigh}
 use Rattle.rule_reader.proofs.Found.{input_of as input_of_names}
 use Rattle.rule_reader.proofs.Meaning.{assigning_statement, statement_assigns, names_go, count_go, read_go, nodes_upto, reads_written, written_reads, undefs_from, all_go}
-use Rattle.rule_reader.proofs.OneRegister.{IsPlain, one_place, one_register, input_of, not_redefined, input_or_earlier, target_register, before_root_register, not_root_before}
+use Rattle.rule_reader.proofs.OneRegister.{IsPlain, one_place, one_register, not_redefined, input_or_earlier, target_register, before_root_register}
 use Rattle.rule_reader.proofs.NameDecisions.{dec_uses_at}
 
 -- no check of the registers, constants and `undef`s fails

@@ -1,6 +1,6 @@
 -- How many `undef`s and nodes of terms stand before and behind what.
-use Rattle.std.proofs.Common.{◌≡◌, ℕ, zero, suc, ◌+◌, ◌<◌, ◌≤◌, List, [], ◌∷◌, ◌++◌, length, Some, refl, sym, ap, subst, ◌∙◌, arith, take, drop, get_or, append_assoc}
-use Rattle.std.specs.Prelude.{slice_get, flat_map, fold, sum_by, map}
+use Rattle.std.proofs.Common.{◌≡◌, ℕ, zero, suc, ◌+◌, ◌<◌, ◌≤◌, List, [], ◌∷◌, ◌++◌, length, Some, refl, sym, ap, subst, ◌∙◌, arith, take, drop, get_or}
+use Rattle.std.specs.Prelude.{slice_get}
 use Rattle.std.specs.List.{AllZip}
 use Rattle.std.proofs.lemmas.List.{take_more, take_all, append-nil, take-append-drop}
 use Rattle.std.proofs.lemmas.Grind.{flat_map-append, fold-append}

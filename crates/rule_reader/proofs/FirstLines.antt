@@ -6,7 +6,7 @@ use Rattle.rule_parse.specs.declared.raw.RawStatement.{RawStatement}
 use Rattle.rule_typing.proofs.Deciding.{dec_both, dec_either, dec_not, dec_number, dec_place}
 use Rattle.rule_reader.specs.declared.place.Place.TheVariants as places
 use Rattle.rule_reader.specs.WellFormed.{AreInLineOrder, IsWellFormed}
-use Rattle.rule_reader.specs.Kinds.{Each, FormulaIsBound, TermIsBound, StandsAt, HasNameOf, AssignsAgain, DuplicateAt, StatementUnbound, PreconditionUnbound, WitnessUnbound, UnboundAt, MissesRoot, RootMissingAt, Redefines, RedefinesAt, IsUnused, UnusedTempAt, ReadsUndefInside, IsUndefCopy, UndefInsideAt, WitnessCountAt, witness_line}
+use Rattle.rule_reader.specs.Kinds.{FormulaIsBound, TermIsBound, StandsAt, HasNameOf, AssignsAgain, DuplicateAt, StatementUnbound, PreconditionUnbound, WitnessUnbound, UnboundAt, MissesRoot, RootMissingAt, Redefines, RedefinesAt, IsUnused, UnusedTempAt, ReadsUndefInside, IsUndefCopy, UndefInsideAt, WitnessCountAt, witness_line}
 use Rattle.rule_reader.specs.Faults.{IsFirst}
 use Rattle.rule_parse.specs.declared.raw.RawPrecondition.{RawPrecondition}
 use Rattle.rule_parse.specs.declared.raw.RawWitness.{RawWitness}

@@ -1,7 +1,6 @@
 -- What is found for names.
-use Rattle.std.proofs.Common.{◌≡◌, inl, inr, ℕ, suc, ◌-◌, ◌<◌, List, length, Option, None, Some, refl, sym, ap, subst, ◌∙◌, arith}
+use Rattle.std.proofs.Common.{◌≡◌, inl, inr, ℕ, ◌-◌, ◌<◌, List, length, Option, None, Some, refl, sym, ap, subst, ◌∙◌, arith}
 use Rattle.std.specs.Prelude.{slice_get, Contains, MatchOption}
-use Rattle.std.proofs.lemmas.Option.{slice_get_within}
 use Rattle.rule_parse.specs.declared.raw.RawRule.{RawRule}
 use Rattle.rule_parse.specs.declared.raw.RawStatement.{RawStatement}
 use Rattle.rule_parse.specs.declared.raw.RawArgument.TheVariants as raw_arguments
@@ -11,7 +10,6 @@ use Rattle.rule_core.proofs.Members.{Contains-from_get}
 use Rattle.rule_reader.specs.declared.names.Names.{Names}
 use Rattle.rule_reader.specs.declared.place.Place.TheVariants as places
 use Rattle.rule_reader.specs.Naming.{AssignsAt, AreInputs, IsInput, IsConstant, IsRoot, AreNames, HasName}
-use Rattle.rule_reader.specs.Kinds.{MayUse}
 use Rattle.rule_reader.specs.Resolving.{Finds}
 
 module _ (source : List RawStatement) (names : Names) (are : AreNames source names) (name : List ℕ) where

@@ -1,31 +1,28 @@
 -- What a rule that is meant has of the rule as written: names, operands and registers.
-use Rattle.std.proofs.Common.{◌≡◌, inl, inr, ℕ, zero, suc, ◌+◌, ◌<◌, ◌≤◌, List, [], ◌∷◌, ◌++◌, length, Option, None, Some, refl, sym, ap, subst, ◌∙◌, arith}
-use Rattle.std.specs.Prelude.{slice_get, Contains, map, flat_map, filter_map}
+use Rattle.std.proofs.Common.{◌≡◌, ℕ, zero, suc, ◌+◌, ◌<◌, ◌≤◌, List, [], ◌∷◌, ◌++◌, length, Some, refl, sym, ap, subst, arith}
+use Rattle.std.specs.Prelude.{slice_get, map, filter_map}
 use Rattle.std.specs.List.{cons_option}
 use Rattle.std.specs.List.{AllZip, range_with_len}
 use Rattle.std.proofs.lemmas.Option.{slice_get_within, same_Some}
-use Rattle.std.proofs.lemmas.Grind.{flat_map-append}
 use Rattle.rule_parse.specs.declared.raw.RawRule.{RawRule}
 use Rattle.rule_parse.specs.declared.raw.RawStatement.{RawStatement}
 use Rattle.rule_parse.specs.declared.raw.RawOp.{RawOp}
 use Rattle.rule_parse.specs.declared.raw.RawOp.TheVariants as raw_ops
 use Rattle.rule_parse.specs.declared.raw.RawArgument.{RawArgument}
 use Rattle.rule_parse.specs.declared.raw.RawArgument.TheVariants as raw_arguments
-use Rattle.rule_core.specs.declared.rule.Rule.{Rule}
 use Rattle.rule_core.specs.declared.rule.Statement.{Statement}
 use Rattle.rule_core.specs.declared.rule.Op.{Op}
 use Rattle.rule_core.specs.declared.rule.Op.TheVariants as ops
 use Rattle.rule_core.specs.declared.rule.Operand.{Operand}
 use Rattle.rule_core.specs.declared.rule.Argument.{Argument}
 use Rattle.rule_core.specs.declared.rule.Argument.TheVariants as arguments
-use Rattle.rule_core.specs.Checks.{names_of, StandsAt}
+use Rattle.rule_core.specs.Checks.{names_of}
 use Rattle.rule_core.specs.Positions.{operands_of as operands_meant, operands_among, undef_in}
 use Rattle.rule_reader.specs.declared.names.Names.{Names}
 use Rattle.rule_reader.specs.declared.counts.Counts.{Counts}
 use Rattle.rule_parse.specs.Inside.{arguments_of, arguments_among}
-use Rattle.rule_reader.specs.Naming.{past, past_all, no_counts, in_half, with_counts, AssignsAt, ArgumentMeans, OpMeans, StatementMeans, HalfMeans, Means, names_of_rule}
-use Rattle.rule_reader.proofs.Places.{at_map, map_at, zip_left, zip_right, zip_append, zip_length}
-use Rattle.rule_reader.proofs.Counting.{past_append}
+use Rattle.rule_reader.specs.Naming.{past, past_all, no_counts, with_counts, AssignsAt, ArgumentMeans, OpMeans, StatementMeans, HalfMeans}
+use Rattle.rule_reader.proofs.Places.{at_map, map_at, zip_left, zip_right, zip_append}
 
 -- a statement that assigns the register
 pub assigning_statement : (statements : List RawStatement) (k : ℕ) (name : List ℕ) → AssignsAt statements k name → (s : RawStatement) × (slice_get statements k ≡ Some s) × (s.name ≡ name)

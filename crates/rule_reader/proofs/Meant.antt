@@ -1,5 +1,5 @@
 -- A rule as written that uses nothing unbound means a rule.
-use Rattle.std.proofs.Common.{◌≡◌, inl, inr, ℕ, suc, ◌+◌, ◌-◌, ◌<◌, List, [], ◌∷◌, ◌++◌, length, append_assoc, Some, refl, sym, ap, subst, ◌∙◌, arith}
+use Rattle.std.proofs.Common.{◌≡◌, inl, inr, ℕ, suc, ◌+◌, ◌-◌, List, [], ◌∷◌, ◌++◌, length, append_assoc, Some, refl, sym, subst, arith}
 use Rattle.std.specs.Prelude.{slice_get, Contains}
 use Rattle.std.specs.List.{AllZip}
 use Rattle.std.proofs.lemmas.List.{append-nil}
@@ -36,7 +36,7 @@ use Rattle.rule_reader.specs.declared.place.Place.{Place}
 use Rattle.rule_reader.specs.declared.place.Place.TheVariants as places
 use Rattle.rule_reader.specs.declared.place.Half.TheVariants as halves
 use Rattle.rule_parse.specs.Inside.{arguments_of, arguments_among, terms_of, terms_of_formula, expressions_of, formula_of, target_terms}
-use Rattle.rule_reader.specs.Naming.{nodes_in, past, past_all, no_counts, with_counts, with_nodes, with_terms, last_nodes, GivesInput, GivesConstant, AssignsAt, IsConstant, AreNames, HasName, ArgumentMeans, OperandMeans, OpMeans, StatementMeans, NodeMeans, FormulaMeans, Means}
+use Rattle.rule_reader.specs.Naming.{nodes_in, past, past_all, no_counts, with_counts, with_nodes, with_terms, last_nodes, AssignsAt, IsConstant, AreNames, HasName, ArgumentMeans, OperandMeans, OpMeans, StatementMeans, NodeMeans, FormulaMeans, Means}
 use Rattle.rule_reader.specs.WellFormed.{IsTerm, IsWellFormed}
 use Rattle.rule_reader.specs.Inputs.{AddsNames, AreNamesAmong}
 use Rattle.rule_reader.specs.Kinds.{Each, MayUse, ArgumentIsBound, NodeIsBound, TermIsBound, FormulaIsBound, UnboundAt}
@@ -44,11 +44,11 @@ use Rattle.rule_reader.specs.Resolving.{IsWhole, NamesAreThere}
 use Rattle.rule_reader.proofs.InputLemmas.{no_names, more_names, all_names}
 use Rattle.rule_reader.proofs.Places.{somewhere}
 use Rattle.rule_reader.proofs.Members.{each_in, each_at, each_of}
-use Rattle.rule_reader.proofs.Nodes.{node_at, with_terms_at}
+use Rattle.rule_reader.proofs.Nodes.{node_at}
 use Rattle.rule_reader.proofs.NameDecisions.{dec_name, dec_assigned}
 use Rattle.rule_reader.proofs.Found.{of_input, of_constant}
 use Rattle.rule_reader.proofs.Building.{whole_half, formula_term}
-use Rattle.rule_reader.proofs.There.{IsThere, term_there, names_there}
+use Rattle.rule_reader.proofs.There.{term_there, names_there}
 
 -- ---- names
 

@@ -38,9 +38,9 @@ use Rattle.rule_reader.specs.declared.place.Place.{Place}
 use Rattle.rule_reader.specs.declared.place.Place.TheVariants as places
 use Rattle.rule_parse.specs.Inside.{arguments_of, terms_of, expressions_of, formula_of, target_terms, terms_of_formula}
 use Rattle.rule_reader.specs.Naming.{nodes_in, past, past_all, no_counts, with_counts, with_nodes, with_terms, GivenAt, AreFirstGiven, GivesInput, GivesConstant, IsRoot, AreNames, ArgumentMeans, OperandMeans, OpMeans, StatementMeans, NodeMeans, FormulaMeans, HalfMeans, TermsMean, PreconditionMeans, Means, names_of_rule}
-use Rattle.rule_reader.specs.Kinds.{Each, MayUse, ArgumentIsBound, OpIsBound, NodeIsBound, TermIsBound}
+use Rattle.rule_reader.specs.Kinds.{Each, MayUse, ArgumentIsBound, NodeIsBound, TermIsBound}
 use Rattle.rule_reader.proofs.Places.{order, somewhere, there}
-use Rattle.rule_reader.proofs.Members.{each_in, each_at}
+use Rattle.rule_reader.proofs.Members.{each_in}
 use Rattle.rule_reader.proofs.Nodes.{node_at}
 use Rattle.rule_reader.proofs.OneRegister.{IsPlain, one_place, one_register, not_root_in_source, not_root_before}
 use Rattle.rule_reader.proofs.There.{term_there}

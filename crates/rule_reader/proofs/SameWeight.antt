@@ -1,6 +1,6 @@
 -- A rule that is meant has as many operands, nodes and names as the rule as written.
-use Rattle.std.proofs.Common.{◌≡◌, ℕ, suc, ◌+◌, List, [], ◌∷◌, ◌++◌, length, refl, sym, ap, ◌∙◌, arith}
-use Rattle.std.specs.Prelude.{flat_map, map, sum_by}
+use Rattle.std.proofs.Common.{◌≡◌, ℕ, ◌+◌, List, [], ◌∷◌, ◌++◌, length, refl, ap, ◌∙◌, arith}
+use Rattle.std.specs.Prelude.{map, sum_by}
 use Rattle.std.specs.List.{AllZip}
 use Rattle.std.proofs.lemmas.List.Sums.{sum_by-append}
 use Rattle.std.proofs.lemmas.Grind.{flat_map-append}
@@ -23,14 +23,14 @@ use Rattle.rule_core.specs.declared.rule.Node.TheVariants as nodes
 use Rattle.rule_core.specs.declared.rule.Formula.{Formula}
 use Rattle.rule_core.specs.declared.rule.Formula.TheVariants as formulas
 use Rattle.rule_core.specs.Checks.{argument_weight as meant_weight, node_weight as meant_node_weight, term_weight, formula_weight as meant_formula_weight, weight_of}
-use Rattle.rule_core.specs.Positions.{operands_of as operands_meant, operands_among, operands_in, terms_in}
+use Rattle.rule_core.specs.Positions.{operands_of as operands_meant, operands_among, operands_in}
 use Rattle.rule_reader.specs.declared.counts.Counts.{Counts}
 use Rattle.rule_reader.specs.declared.names.Names.{Names}
 use Rattle.rule_parse.specs.Inside.{arguments_of, arguments_among, formula_of, expressions_of, target_terms, terms_of, terms_of_formula}
 use Rattle.rule_reader.specs.Naming.{nodes_in, past, no_counts, with_nodes, with_terms, ArgumentMeans, NodeMeans, FormulaMeans, Means, names_of_rule}
 use Rattle.rule_parse.specs.Weight.{argument_weight, node_weight, formula_weight, raw_weight}
 use Rattle.rule_reader.proofs.Weighing.{sum_cons}
-use Rattle.rule_reader.proofs.Meaning.{Go, with_before, all_go}
+use Rattle.rule_reader.proofs.Meaning.{Go, all_go}
 
 module _ (raw : RawRule) (names : Names) where
   one_argument : (b : Counts) (v : RawArgument) (a : Argument) → ArgumentMeans raw names b v a → meant_weight a ≡ argument_weight v

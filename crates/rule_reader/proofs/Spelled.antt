@@ -1,6 +1,6 @@
 -- What the grammar says of operations: names are short, flags fit, a source has no copies and no terms, and a target has constant terms.
 -- A half is known by what its copies are.
-use Rattle.std.proofs.Common.{◌≡◌, ℕ, ◌≤◌, List, [], ◌∷◌, length, sym, subst}
+use Rattle.std.proofs.Common.{◌≡◌, ℕ, ◌≤◌, List, [], ◌∷◌, length, subst}
 use Rattle.std.specs.Prelude.{Contains, flat_map}
 use Rattle.words.proofs.FlagLemmas.{own_flags}
 use Rattle.rule_tokens.specs.Parts.{Part}
@@ -13,7 +13,7 @@ use Rattle.rule_parse.specs.declared.raw.RawOp.{RawOp}
 use Rattle.rule_parse.specs.declared.raw.RawOp.TheVariants.{Binary, Compare, Select, Convert, Copy}
 use Rattle.rule_parse.specs.declared.raw.RawOperand.{RawOperand}
 use Rattle.rule_parse.specs.declared.raw.RawArgument.{RawArgument}
-use Rattle.rule_parse.specs.declared.raw.RawArgument.TheVariants.{Register, Literal, Truth, Constant, Undef, Term}
+use Rattle.rule_parse.specs.declared.raw.RawArgument.TheVariants.{Literal, Constant, Term}
 use Rattle.rule_parse.specs.Grammar.{SpellsArgument, SpellsOperand, SpellsUntyped, SpellsPair, SpellsOp, SpellsStatements, SpellsHalf, SpellsTermOperand}
 use Rattle.rule_parse.specs.Words.{argument_of}
 use Rattle.rule_reader.specs.Kinds.{Each}

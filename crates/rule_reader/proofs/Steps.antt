@@ -1,5 +1,5 @@
 -- Terms and formulas that are added one behind the other.
-use Rattle.std.proofs.Common.{◌≡◌, ℕ, ◌+◌, ◌-◌, ◌<◌, ◌≤◌, List, [], ◌∷◌, ◌++◌, length, Some, refl, sym, ap, subst, ◌∙◌, arith, take, drop, get_or, append_assoc}
+use Rattle.std.proofs.Common.{◌≡◌, ℕ, ◌+◌, ◌-◌, ◌<◌, ◌≤◌, List, [], ◌∷◌, ◌++◌, length, Some, sym, ap, subst, ◌∙◌, arith, take, drop, get_or, append_assoc}
 use Rattle.std.specs.Prelude.{slice_get, Contains, flat_map}
 use Rattle.std.proofs.lemmas.List.{append-nil, take-append-drop, take_all, take_more}
 use Rattle.std.proofs.lemmas.Grind.{flat_map-append}
@@ -9,18 +9,17 @@ use Rattle.rule_terms.specs.declared.raw.RawNode.{RawNode}
 use Rattle.rule_parse.specs.declared.raw.RawArgument.{RawArgument}
 use Rattle.rule_terms.specs.declared.raw.RawFormula.{RawFormula}
 use Rattle.rule_core.specs.declared.rule.Term.{Term}
-use Rattle.rule_core.specs.declared.rule.Formula.{Formula}
 use Rattle.rule_core.proofs.Members.{Contains-from_get}
 use Rattle.rule_reader.specs.declared.names.Names.{Names}
 use Rattle.rule_reader.specs.declared.place.Place.TheVariants as places
 use Rattle.rule_parse.specs.Inside.{arguments_of, terms_of_argument, terms_of_formula, formula_of, target_terms, terms_of, expressions_of}
-use Rattle.rule_reader.specs.Naming.{nodes_in, last_nodes, TermsMean, FormulaMeans}
+use Rattle.rule_reader.specs.Naming.{nodes_in, last_nodes, TermsMean}
 use Rattle.rule_reader.specs.WellFormed.{IsTerm, IsWellFormed}
 use Rattle.rule_reader.specs.Kinds.{Each, FormulaIsBound, TermIsBound}
 use Rattle.rule_reader.specs.Resolving.{TermIsReady, HasReadyTerms, AddsTerms}
 use Rattle.rule_reader.proofs.Places.{read_at}
 use Rattle.rule_reader.proofs.Members.{each_at, each_of}
-use Rattle.rule_reader.proofs.Nodes.{nodes_append, terms_length, adds_both, formula_terms_more, FormulasMean, last_nodes_push}
+use Rattle.rule_reader.proofs.Nodes.{nodes_append, terms_length, adds_both, formula_terms_more, last_nodes_push}
 use Rattle.rule_reader.proofs.Building.{formula_term}
 use Rattle.rule_reader.proofs.Weighing.{few_terms, few_expressions}
 

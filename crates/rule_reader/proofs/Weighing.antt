@@ -1,6 +1,6 @@
 -- What is known of numbers from the weight of a rule as written.
-use Rattle.std.proofs.Common.{◌≡◌, ℕ, ◌+◌, ◌≤◌, List, [], ◌∷◌, ◌++◌, length, refl, sym, ap, ◌∙◌, arith}
-use Rattle.std.specs.Prelude.{Contains, flat_map, fold, sum_by}
+use Rattle.std.proofs.Common.{◌≡◌, ℕ, ◌+◌, ◌≤◌, List, [], ◌∷◌, ◌++◌, length, refl, ap, ◌∙◌, arith}
+use Rattle.std.specs.Prelude.{Contains, flat_map, sum_by}
 use Rattle.std.proofs.lemmas.List.Sums.{sum_by-append}
 use Rattle.std.proofs.lemmas.Grind.{flat_map-append}
 use Rattle.rule_parse.specs.declared.raw.RawRule.{RawRule}
@@ -12,7 +12,7 @@ use Rattle.rule_terms.specs.declared.raw.RawNode.TheVariants as raw_nodes
 use Rattle.rule_reader.specs.declared.counts.Counts.{Counts}
 use Rattle.rule_parse.specs.Inside.{arguments_of, arguments_among, formula_of, terms_of_argument, terms_of_formula, target_terms, terms_of, expressions_of}
 use Rattle.rule_reader.specs.Naming.{nodes_in, past, past_all, no_counts, in_half}
-use Rattle.rule_parse.specs.Weight.{argument_weight, node_weight, raw_weight}
+use Rattle.rule_parse.specs.Weight.{argument_weight, node_weight}
 use Rattle.rule_reader.specs.WellFormed.{IsWellFormed}
 use Rattle.rule_reader.specs.Resolving.{AreFew}
 use Rattle.rule_core.proofs.Members.{Contains-from_get}

@@ -1,5 +1,5 @@
 -- Rules as written are well formed.
-use Rattle.std.proofs.Common.{◌≡◌, ℕ, zero, suc, ◌+◌, ◌<◌, ◌≤◌, false, List, [], ◌∷◌, ◌++◌, length, append_assoc, Some, subst, arith}
+use Rattle.std.proofs.Common.{◌≡◌, ℕ, zero, suc, ◌≤◌, false, List, [], ◌∷◌, ◌++◌, length, append_assoc, Some, subst, arith}
 use Rattle.std.specs.Prelude.{slice_get, Contains, flat_map, codes}
 use Rattle.std.proofs.lemmas.Option.{same_Some}
 use Rattle.scan.specs.Lines.{line_of}
@@ -15,7 +15,7 @@ use Rattle.rule_parse.specs.Grammar.{SpellsArgument, SpellsOperand, SpellsOp, Sp
 use Rattle.rule_parse.specs.Text.{IsWritten}
 use Rattle.rule_parse.specs.Weight.{raw_weight}
 use Rattle.rule_parse.proofs.Weight.{small_rules}
-use Rattle.rule_tokens.specs.Tokens.{Token, Line, Head, Name, Arrow, AtToken}
+use Rattle.rule_tokens.specs.Tokens.{Token, Line, Head, Arrow, AtToken}
 use Rattle.rule_reader.specs.Kinds.{Each}
 use Rattle.rule_parse.specs.Inside.{arguments_of, terms_of_formula, formula_of, target_terms, terms_of, expressions_of}
 use Rattle.rule_reader.specs.WellFormed.{AreInLineOrder, MayStandInSource, IsHalf, IsTerm, IsWellFormed}

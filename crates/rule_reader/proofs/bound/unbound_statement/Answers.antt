@@ -1,9 +1,9 @@
 use Rattle.std.proofs.Common.{arith, ap}
 use Rattle.std.proofs.Common.{length}
 use Rattle.rule_reader.specs.Kinds.{StatementUnbound}
-use Rattle.rule_reader.specs.Resolving.{half_of, place_in, IsPlaceOf}
+use Rattle.rule_reader.specs.Resolving.{half_of, place_in}
 use Rattle.rule_reader.specs.Kinds.{OpIsBound}
-use Rattle.std.proofs.Common.{subst, sym}
+use Rattle.std.proofs.Common.{subst}
 use Rattle.rule_reader.proofs.Firsts.{first_here, first_none, none_more}
 use Rattle.rule_reader.proofs.Looking.{says, denies}
 use Rattle.rule_reader.proofs.Building.{place_within, half_in_order, item_at}

@@ -1,4 +1,4 @@
-use Rattle.std.proofs.Common.{arith, refl, subst}
+use Rattle.std.proofs.Common.{arith, subst}
 use Rattle.std.proofs.lemmas.List.{take_all}
 use Rattle.rule_parse.specs.Inside.{target_terms}
 use Rattle.rule_reader.specs.Naming.{nodes_in}
