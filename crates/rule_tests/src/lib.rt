@@ -6,4 +6,6 @@ mod constants;
 #[cfg(test)]
 mod one_statement;
 #[cfg(test)]
+mod preconditions;
+#[cfg(test)]
 mod tests;

@@ -100,7 +100,7 @@ const VERDICTS: [&str; 12] = [
 const MOST_RULES: usize = 100;
 
 /// The rules of a text.
-fn rules_of(alloc: Global, text: &[u8]) -> Result<Vec<Rule>, Fail>
+pub(crate) fn rules_of(alloc: Global, text: &[u8]) -> Result<Vec<Rule>, Fail>
     ensures { IfOk result (λ rules. All IsReadRule rules.items) }
 {
     match read_rules(alloc, text) {
