@@ -3,14 +3,16 @@ use Rattle.std.proofs.Common.{◌≡◌, ℕ, zero, suc, ◌+◌, ◌<◌, ◌�
 use Rattle.std.specs.List.{list_all, prefix_len, Contains}
 use Rattle.std.proofs.lemmas.List.{length-drop, drop_all, at_drop_more}
 use Rattle.std.proofs.lemmas.List.Folds.{list_all_more}
+use Rattle.std.specs.Str.{bytes_eq}
 use Rattle.std.proofs.lemmas.Bool.{false≢true, eqb-true}
+use Rattle.std.proofs.lemmas.Slice.Eq.{bytes_eq-Decides}
 use Rattle.scan.specs.declared.ir.token.Kind.{Kind}
 use Rattle.scan.specs.declared.ir.token.Kind.TheVariants.{End, Other, Label, Word, Number, Register, Function, Group, Metadata, Quoted, Mark}
 use Rattle.scan.specs.Bytes.{is_bad, is_digit, is_letter, begins_name, begins_word, is_name_byte, begins_with, is_run}
 use Rattle.scan.specs.Longest.{IsLongest}
 use Rattle.scan.specs.Quoted.{is_quotable, is_quoted, in_quotes, unquoted}
 use Rattle.scan.specs.RuleTokens.{is_among, is_negative, is_literal}
-use Rattle.scan.specs.IrTokens.{is_plain_name, is_name, is_word, is_number, is_register, is_function, is_group, is_metadata, marks, spells, IsLongestFront, BeginsBadly, HoldsZero}
+use Rattle.scan.specs.IrTokens.{is_plain_name, is_name, is_behind, is_word, is_number, is_register, is_function, is_group, is_metadata, marks, spells, IsLongestFront, BeginsBadly, HoldsZero}
 use Rattle.scan.proofs.Fronts.{which, and_left, and_right, and_both, or_left, or_right, or_true, front_begins, marked_none, begun_none}
 use Rattle.scan.proofs.LawLemmas.{is_good, digit_good, among_begins}
 use Rattle.scan.proofs.PlaceLemmas.{begins_some}
@@ -237,3 +239,166 @@ quote_front text t quote h label quoted =
       quoted = quoted;
       mark = record { length_of = 0; longest = no_mark (λ b. eqb b 34) text refl quote; fits = omega arith };
     })
+
+-- ---- a text whose first byte is neither one of names nor a quote
+
+none_longer : (passes : List ℕ → List ℕ → Bool) (text : List ℕ) (most : ℕ) → IsLongest passes text 0 → AtMost passes text most
+none_longer passes text most h = record { length_of = 0; longest = h; fits = omega arith }
+
+pub itself : (passes : List ℕ → List ℕ → Bool) (text : List ℕ) (n : ℕ) → IsLongest passes text n → AtMost passes text n
+itself passes text n h = record { length_of = n; longest = h; fits = omega arith }
+
+-- what may be longer than a token: of each kind that begins with a mark
+record MarkedAtMost (text : List ℕ) (most : ℕ) : Type 0 where
+  register : AtMost (spells Register) text most
+  function : AtMost (spells Function) text most
+  group : AtMost (spells Group) text most
+  metadata : AtMost (spells Metadata) text most
+  mark : AtMost (spells Mark) text most
+
+marked_front : (text : List ℕ) (t : Kind × ℕ) → begins_with is_name_byte text ≡ false → begins_with (λ b. eqb b 34) text ≡ false → IsFound text t → MarkedAtMost text t.1 → IsLongestFront text t.0 t.1
+marked_front text t no_name no_quote h marked = longest_front text t h (record {
+  label = none_longer (spells Label) text t.1 (no_label text no_name no_quote);
+  word = none_longer (spells Word) text t.1 (no_word text no_name);
+  number = none_longer (spells Number) text t.1 (no_number text no_name);
+  register = marked.register;
+  function = marked.function;
+  group = marked.group;
+  metadata = marked.metadata;
+  quoted = none_longer (spells Quoted) text t.1 (quoted_none text no_quote);
+  mark = marked.mark;
+})
+
+-- none is longer, of the kinds that begin with another byte than the text
+no_register : (text : List ℕ) (most : ℕ) → begins_with (λ b. eqb b 37) text ≡ false → AtMost (spells Register) text most
+unfolding is_register
+no_register text most e = none_longer (spells Register) text most (behind_fails 37 is_name text e)
+
+no_function : (text : List ℕ) (most : ℕ) → begins_with (λ b. eqb b 64) text ≡ false → AtMost (spells Function) text most
+unfolding is_function
+no_function text most e = none_longer (spells Function) text most (behind_fails 64 is_name text e)
+
+no_group : (text : List ℕ) (most : ℕ) → begins_with (λ b. eqb b 35) text ≡ false → AtMost (spells Group) text most
+unfolding is_group
+no_group text most e = none_longer (spells Group) text most (marked_none 35 is_digit text e)
+
+no_metadata : (text : List ℕ) (most : ℕ) → begins_with (λ b. eqb b 33) text ≡ false → AtMost (spells Metadata) text most
+unfolding is_metadata
+no_metadata text most e = none_longer (spells Metadata) text most (behind_fails 33 (list_all is_name_byte) text e)
+
+pub register_front : (text : List ℕ) (n : ℕ) → begins_with is_name_byte text ≡ false → begins_with (λ b. eqb b 34) text ≡ false → begins_with (λ b. eqb b 37) text ≡ true → IsLongest (spells Register) text n → IsLongestFront text Register n
+register_front text n no_name no_quote first h = marked_front text (Register, n) no_name no_quote (found_as Register text n h) (record {
+  register = itself (spells Register) text n h;
+  function = no_function text n (no_other (λ b. eqb b 64) 37 text refl first);
+  group = no_group text n (no_other (λ b. eqb b 35) 37 text refl first);
+  metadata = no_metadata text n (no_other (λ b. eqb b 33) 37 text refl first);
+  mark = none_longer (spells Mark) text n (no_mark (λ b. eqb b 37) text refl first);
+})
+
+pub function_front : (text : List ℕ) (n : ℕ) → begins_with is_name_byte text ≡ false → begins_with (λ b. eqb b 34) text ≡ false → begins_with (λ b. eqb b 64) text ≡ true → IsLongest (spells Function) text n → IsLongestFront text Function n
+function_front text n no_name no_quote first h = marked_front text (Function, n) no_name no_quote (found_as Function text n h) (record {
+  register = no_register text n (no_other (λ b. eqb b 37) 64 text refl first);
+  function = itself (spells Function) text n h;
+  group = no_group text n (no_other (λ b. eqb b 35) 64 text refl first);
+  metadata = no_metadata text n (no_other (λ b. eqb b 33) 64 text refl first);
+  mark = none_longer (spells Mark) text n (no_mark (λ b. eqb b 64) text refl first);
+})
+
+pub metadata_front : (text : List ℕ) (n : ℕ) → begins_with is_name_byte text ≡ false → begins_with (λ b. eqb b 34) text ≡ false → begins_with (λ b. eqb b 33) text ≡ true → IsLongest (spells Metadata) text n → IsLongestFront text Metadata n
+metadata_front text n no_name no_quote first h = marked_front text (Metadata, n) no_name no_quote (found_as Metadata text n h) (record {
+  register = no_register text n (no_other (λ b. eqb b 37) 33 text refl first);
+  function = no_function text n (no_other (λ b. eqb b 64) 33 text refl first);
+  group = no_group text n (no_other (λ b. eqb b 35) 33 text refl first);
+  metadata = itself (spells Metadata) text n h;
+  mark = none_longer (spells Mark) text n (no_mark (λ b. eqb b 33) text refl first);
+})
+
+pub group_front : (text : List ℕ) (t : Kind × ℕ) → begins_with is_name_byte text ≡ false → begins_with (λ b. eqb b 34) text ≡ false → begins_with (λ b. eqb b 35) text ≡ true → IsFound text t → AtMost (spells Group) text t.1 → AtMost (spells Mark) text t.1 → IsLongestFront text t.0 t.1
+group_front text t no_name no_quote first h group mark = marked_front text t no_name no_quote h (record {
+  register = no_register text t.1 (no_other (λ b. eqb b 37) 35 text refl first);
+  function = no_function text t.1 (no_other (λ b. eqb b 64) 35 text refl first);
+  group = group;
+  metadata = no_metadata text t.1 (no_other (λ b. eqb b 33) 35 text refl first);
+  mark = mark;
+})
+
+pub mark_front : (text : List ℕ) (n : ℕ) → begins_with is_name_byte text ≡ false → begins_with (λ b. eqb b 34) text ≡ false → begins_with (λ b. eqb b 37) text ≡ false → begins_with (λ b. eqb b 64) text ≡ false → begins_with (λ b. eqb b 33) text ≡ false → begins_with (λ b. eqb b 35) text ≡ false → IsLongest (spells Mark) text n → IsLongestFront text Mark n
+mark_front text n no_name no_quote no_37 no_64 no_33 no_35 h = marked_front text (Mark, n) no_name no_quote (found_as Mark text n h) (record {
+  register = no_register text n no_37;
+  function = no_function text n no_64;
+  group = no_group text n no_35;
+  metadata = no_metadata text n no_33;
+  mark = itself (spells Mark) text n h;
+})
+
+-- ---- quotes stand only where one of the first two bytes is one
+
+digits_quotable : (bytes : List ℕ) → is_run is_digit bytes ≡ true → list_all is_quotable bytes ≡ true
+digits_quotable bytes i = list_all-along is_digit is_quotable bytes (λ b d. name_quotable b (digit_name b d)) (and_right (begins_with is_digit bytes) (list_all is_digit bytes) i)
+
+-- a name that begins with no quote has none
+no_quoted_name : (bytes : List ℕ) → begins_with (λ b. eqb b 34) bytes ≡ false → is_name bytes ≡ true → list_all is_quotable bytes ≡ true
+no_quoted_name bytes no_quote e = ⊎_elim
+    (λ (i : (begins_with begins_name bytes && list_all is_name_byte bytes) ≡ true). list_all-along is_name_byte is_quotable bytes name_quotable (and_right (begins_with begins_name bytes) (list_all is_name_byte bytes) i))
+    (λ (o : (is_run is_digit bytes ≡ true) ⊎ (is_quoted bytes ≡ true)). ⊎_elim
+    (λ (i : is_run is_digit bytes ≡ true). digits_quotable bytes i)
+    (λ (i : is_quoted bytes ≡ true). absurd (false≢true (sym no_quote ∙ ap (begins_with (λ b. eqb b 34)) (quoted_is bytes i).0)))
+    o)
+    (name_cases bytes e)
+
+-- a byte that is no quote, and a form behind it
+behind_quotable : (c : ℕ) (test : List ℕ → Bool) (bytes : List ℕ) → is_quotable c ≡ true → begins_with (λ b. eqb b 34) (drop 1 bytes) ≡ false → ((rest : List ℕ) → begins_with (λ b. eqb b 34) rest ≡ false → test rest ≡ true → list_all is_quotable rest ≡ true) → is_behind c test bytes ≡ true → list_all is_quotable bytes ≡ true
+behind_quotable c test [] good no_quote along e = refl
+behind_quotable c test (b ∷ rest) good no_quote along e = and_both (is_quotable b) (list_all is_quotable rest)
+    (ap is_quotable (eqb-true b c (and_left (eqb b c) (test rest) e)) ∙ good)
+    (along rest no_quote (and_right (eqb b c) (test rest) e))
+
+group_quotable : (bytes : List ℕ) → is_group bytes ≡ true → list_all is_quotable bytes ≡ true
+unfolding is_group is_quotable
+group_quotable [] e = refl
+group_quotable (b ∷ digits) e = and_both (is_quotable b) (list_all is_quotable digits)
+    (ap is_quotable (eqb-true b 35 (and_left (eqb b 35) (is_run is_digit digits) e)))
+    (digits_quotable digits (and_right (eqb b 35) (is_run is_digit digits) e))
+
+among_all : (test : List ℕ → Bool) (words : List (List ℕ)) (bytes : List ℕ) → list_all test words ≡ true → is_among words bytes ≡ true → test bytes ≡ true
+among_all test [] bytes all e = absurd (false≢true e)
+among_all test (word ∷ words) bytes all e = ⊎_elim
+    (λ (h : bytes_eq bytes word ≡ true). ap test ((bytes_eq-Decides bytes word).0 h) ∙ and_left (test word) (list_all test words) all)
+    (λ (h : is_among words bytes ≡ true). among_all test words bytes (and_right (test word) (list_all test words) all) h)
+    (or_true (bytes_eq bytes word) (is_among words bytes) e)
+
+second_taken : (text : List ℕ) (n : ℕ) → begins_with (λ b. eqb b 34) (drop 1 text) ≡ false → begins_with (λ b. eqb b 34) (drop 1 (take (suc n) text)) ≡ false
+second_taken [] n e = refl
+second_taken (b ∷ text) zero e = refl
+second_taken (b ∷ text) (suc n) e = front_begins (λ c. eqb c 34) text (suc n) (omega arith) ∙ e
+
+pub early_quotes : (text : List ℕ) (kind : Kind) (n : ℕ) → begins_with is_name_byte text ≡ false → begins_with (λ b. eqb b 34) text ≡ false → begins_with (λ b. eqb b 34) (drop 1 text) ≡ false → IsLongestFront text kind n → HoldsZero (take n text) → ⊥
+unfolding is_register is_function is_metadata is_quotable
+early_quotes text kind zero no_name first second h holds = short_holds_none [] (omega arith) holds
+early_quotes text kind (suc n) no_name first second h holds = quotable_holds_none (take (suc n) text) (quotable kind (h.found (omega arith))) holds
+  where
+    none : (passes : List ℕ → List ℕ → Bool) → IsLongest passes text 0 → passes (take (suc n) text) (drop (suc n) text) ≡ true → list_all is_quotable (take (suc n) text) ≡ true
+    none passes k e = absurd (let le : suc n ≤ 0 = k.longest (suc n) h.within e in omega arith)
+
+    quotable : (kind : Kind) → spells kind (take (suc n) text) (drop (suc n) text) ≡ true → list_all is_quotable (take (suc n) text) ≡ true
+    quotable End e = absurd (false≢true e)
+    quotable Other e = absurd (false≢true e)
+    quotable Label e = none (spells Label) (no_label text no_name first) e
+    quotable Word e = none (spells Word) (no_word text no_name) e
+    quotable Number e = none (spells Number) (no_number text no_name) e
+    quotable Register e = behind_quotable 37 is_name (take (suc n) text) refl (second_taken text n second) no_quoted_name e
+    quotable Function e = behind_quotable 64 is_name (take (suc n) text) refl (second_taken text n second) no_quoted_name e
+    quotable Group e = group_quotable (take (suc n) text) e
+    quotable Metadata e = behind_quotable 33 (list_all is_name_byte) (take (suc n) text) refl (second_taken text n second) (λ names _ all. list_all-along is_name_byte is_quotable names name_quotable all) e
+    quotable Quoted e = none (spells Quoted) (quoted_none text first) e
+    quotable Mark e = among_all (list_all is_quotable) marks (take (suc n) text) refl e
+
+pub no_early_quote : (text : List ℕ) (kind : Kind) (n : ℕ) → begins_with is_name_byte text ≡ false → (begins_with (λ b. eqb b 34) text || begins_with (λ b. eqb b 34) (drop 1 text)) ≡ false → IsLongestFront text kind n → HoldsZero (take n text) → ⊥
+no_early_quote text kind n no_name no_quote h holds = early_quotes text kind n no_name
+    (neither (begins_with (λ b. eqb b 34) text) (begins_with (λ b. eqb b 34) (drop 1 text)) no_quote).0
+    (neither (begins_with (λ b. eqb b 34) text) (begins_with (λ b. eqb b 34) (drop 1 text)) no_quote).1
+    h holds
+  where
+    neither : (a b : Bool) → (a || b) ≡ false → (a ≡ false) × (b ≡ false)
+    neither true b e = absurd (false≢true (sym e))
+    neither false b e = (refl, e)

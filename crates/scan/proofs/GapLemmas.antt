@@ -1,12 +1,14 @@
 -- What is skipped before a token is a gap.
-use Rattle.std.proofs.Common.{◌≡◌, ◌≢◌, ℕ, ◌+◌, ◌-◌, ◌<◌, ◌≤◌, Bool, true, false, eqb, List, [], ◌∷◌, ◌++◌, length, take, drop, refl, sym, ap, subst, ◌∙◌, ⊎_elim, ◌⊎◌, inl, inr, append_assoc, arith}
+use Rattle.std.proofs.Common.{◌≡◌, ◌≢◌, ℕ, ◌+◌, ◌-◌, ◌<◌, ◌≤◌, Bool, true, false, eqb, List, [], ◌∷◌, ◌++◌, length, take, drop, get_or, refl, sym, ap, subst, ◌∙◌, ⊎_elim, ◌⊎◌, inl, inr, append_assoc, add-one, eq-eqb, arith}
 use Rattle.std.proofs.lemmas.Bool.{eqb-true, false≢true}
 use Rattle.std.proofs.lemmas.List.{append-nil, length-append, length-drop, take_at, drop_at, drop-drop}
 use Rattle.scan.specs.Bytes.{is_blank, is_space, begins_with}
 use Rattle.scan.specs.Gaps.{IsInLine, IsGap, nothing, space, comment, IsLastGap}
-use Rattle.scan.specs.Lines.{between}
+use Rattle.std.proofs.lemmas.List.Sums.{count_by_more_yes, count_by_more_no}
+use Rattle.std.proofs.Math.Seq.{drop-cons}
+use Rattle.scan.specs.Lines.{between, feeds}
 use Rattle.scan.specs.Scanning.{in_gap, behind_gap}
-use Rattle.scan.proofs.Fronts.{which}
+use Rattle.scan.proofs.Fronts.{which, or_left}
 
 not_ten : (b : ℕ) → eqb b 10 ≡ false → b ≢ 10
 not_ten b e h = false≢true (sym e ∙ ap (λ c. eqb c 10) h)
@@ -74,8 +76,11 @@ skips_all false (b ∷ text) e = ⊎_elim
 
 -- ---- gaps are skipped
 
+differs : (b c : ℕ) → b ≢ c → eqb b c ≡ false
+differs b c h = ⊎_elim (λ (e : eqb b c ≡ true). absurd (h (eqb-true b c e))) (λ (e : eqb b c ≡ false). e) (which (eqb b c))
+
 is_ten : (b : ℕ) → b ≢ 10 → eqb b 10 ≡ false
-is_ten b h = ⊎_elim (λ (e : eqb b 10 ≡ true). absurd (h (eqb-true b 10 e))) (λ (e : eqb b 10 ≡ false). e) (which (eqb b 10))
+is_ten b h = differs b 10 h
 
 comment_skipped : (line rest : List ℕ) → IsInLine line → behind_gap true (line ++ 10 ∷ rest) ≡ behind_gap false rest
 comment_skipped [] rest h = refl
@@ -152,8 +157,45 @@ gap_to text place rest h e = found (subst (Skipped (drop place text)) (sym e) (s
           whole = ap (begins_with in_gap) (rest_is ∙ e) ∙ behind_gap-visible false (drop place text);
         }
 
-pub rest_fits : (text : List ℕ) (place : ℕ) (rest : List ℕ) → rest ≡ behind_gap false (drop place text) → length rest ≤ length text
-rest_fits text place rest e =
-    let s : Skipped (drop place text) (behind_gap false (drop place text)) = skipped (drop place text) in
-    let total : length text - place ≡ length s.gap + length (behind_gap false (drop place text)) = sym (length-drop place text) ∙ ap length s.text_is ∙ length-append s.gap (behind_gap false (drop place text)) in
-    omega (arith, ap length e)
+-- ---- a step of the loop over a gap
+
+dropped : (text : List ℕ) (i : ℕ) → i < length text → drop i text ≡ get_or text i 0 ∷ drop (i + 1) text
+dropped text i h = rw add-one (drop-cons text i 0 h)
+
+-- the step over the byte at a place, where the step over such a byte before any others is known
+step : (now later : Bool) (text : List ℕ) (i : ℕ) → i < length text → behind_gap now (get_or text i 0 ∷ drop (i + 1) text) ≡ behind_gap later (drop (i + 1) text) → behind_gap later (drop (i + 1) text) ≡ behind_gap now (drop i text)
+step now later text i h e = sym (ap (behind_gap now) (dropped text i h) ∙ e)
+
+pub step_feed : (now : Bool) (text : List ℕ) (i : ℕ) → i < length text → get_or text i 0 ≡ 10 → behind_gap false (drop (i + 1) text) ≡ behind_gap now (drop i text)
+unfolding is_space is_blank
+step_feed now text i h e = step now false text i h (ap (λ (b : ℕ). behind_gap now (b ∷ drop (i + 1) text)) e ∙ feed now (drop (i + 1) text))
+  where
+    feed : (now : Bool) (bytes : List ℕ) → behind_gap now (10 ∷ bytes) ≡ behind_gap false bytes
+    feed true bytes = refl
+    feed false bytes = refl
+
+pub step_comment : (text : List ℕ) (i : ℕ) → i < length text → get_or text i 0 ≢ 10 → behind_gap true (drop (i + 1) text) ≡ behind_gap true (drop i text)
+step_comment text i h e = step true true text i h (rw (is_ten (get_or text i 0) e) refl)
+
+pub step_opens : (text : List ℕ) (i : ℕ) → i < length text → get_or text i 0 ≡ 59 → behind_gap true (drop (i + 1) text) ≡ behind_gap false (drop i text)
+step_opens text i h e = step false true text i h (ap (λ (b : ℕ). behind_gap false (b ∷ drop (i + 1) text)) e)
+
+pub step_blank : (text : List ℕ) (i : ℕ) → i < length text → is_blank (get_or text i 0) ≡ true → behind_gap false (drop (i + 1) text) ≡ behind_gap false (drop i text)
+unfolding is_space
+step_blank text i h e = step false false text i h (blank (get_or text i 0) (drop (i + 1) text) e)
+  where
+    blank : (b : ℕ) (bytes : List ℕ) → is_blank b ≡ true → behind_gap false (b ∷ bytes) ≡ behind_gap false bytes
+    blank b bytes k = let space : is_space b ≡ true = or_left (is_blank b) (eqb b 10) k in rw (space_no_comment b space, space) refl
+
+pub gap_ends : (text : List ℕ) (i : ℕ) → i < length text → get_or text i 0 ≢ 10 → get_or text i 0 ≢ 59 → is_blank (get_or text i 0) ≡ false → drop i text ≡ behind_gap false (drop i text)
+unfolding is_space
+gap_ends text i h feed opens blank = dropped text i h ∙ sym (ends (get_or text i 0) (drop (i + 1) text) feed opens blank) ∙ ap (behind_gap false) (sym (dropped text i h))
+  where
+    ends : (b : ℕ) (bytes : List ℕ) → b ≢ 10 → b ≢ 59 → is_blank b ≡ false → behind_gap false (b ∷ bytes) ≡ b ∷ bytes
+    ends b bytes feed opens blank = rw (differs b 59 opens) (rw (blank, is_ten b feed) refl)
+
+pub feeds_more : (text : List ℕ) (i : ℕ) → i < length text → get_or text i 0 ≡ 10 → feeds (take (i + 1) text) ≡ feeds (take i text) + 1
+feeds_more text i h e = count_by_more_yes (λ b. eqb b 10) text i 0 h (eq-eqb (get_or text i 0) 10 e)
+
+pub feeds_same : (text : List ℕ) (i : ℕ) → i < length text → get_or text i 0 ≢ 10 → feeds (take (i + 1) text) ≡ feeds (take i text)
+feeds_same text i h e = count_by_more_no (λ b. eqb b 10) text i 0 h (is_ten (get_or text i 0) e)

@@ -60,8 +60,7 @@ impl<'a> Cursor<'a> {
         ensures bad { IfErr result (λ e. IsBadNext self.old.text self.old.at e.line) }
         ensures stays { OnErr result (self.new.at ≡ self.old.at) }
     {
-        let start = gap_end(self.text, self.at);
-        let passed = feeds(&self.text[self.at..start]);
+        let (start, passed) = gap_end(self.text, self.at);
         let before = self.feeds + passed;
         let Some((kind, length)) = front(&self.text[start..], operator && passed == 0) else {
             return Err(BadByte { line: before + 1 });

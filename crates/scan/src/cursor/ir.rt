@@ -10,7 +10,7 @@ use crate::gap::gap_end;
 use crate::ir::front::front;
 use crate::ir::token::Token;
 use crate::kept::{behind_group, rest_to_feed};
-use crate::line::{feeds, ir_token_line};
+use crate::line::ir_token_line;
 use crate::name::blanks_behind;
 use crate::span::Span;
 
@@ -31,8 +31,8 @@ impl<'a> Cursor<'a> {
         ensures bad { IfErr result (λ e. IsBadToken self.old.text self.old.at e.line) }
         ensures stays { OnErr result (self.new.at ≡ self.old.at) }
     {
-        let start = gap_end(self.text, self.at);
-        let before = self.feeds + feeds(&self.text[self.at..start]);
+        let (start, passed) = gap_end(self.text, self.at);
+        let before = self.feeds + passed;
         let Some((kind, length)) = front(&self.text[start..]) else {
             return Err(BadByte { line: before + 1 });
         };

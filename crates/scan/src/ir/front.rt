@@ -1,6 +1,6 @@
 //! What a module begins with, where it begins with no gap.
 
-ghost use Rattle.std.specs.Prelude.{◌≡◌, ◌⊎◌, ◌≤◌, ◌==◌, true, false, take, IfSome, IfNone, OnSome};
+ghost use Rattle.std.specs.Prelude.{◌≡◌, ◌⊎◌, ◌≤◌, ◌==◌, ◌||◌, true, false, take, drop, IfSome, IfNone, OnSome};
 ghost use Rattle.std.specs.List.{list_all};
 ghost use Rattle.scan.specs.Bytes as bytes;
 ghost use Rattle.scan.specs.Bytes.{begins_with};
@@ -55,11 +55,17 @@ fn marked_token(text: &[u8]) -> (Kind, usize)
     requires no_quote { begins_with (λ b. b == 34) text.now ≡ false }
     ensures { IsLongestFront text.now result.0 result.1 }
 {
-    let found = (Kind::Register, register(text));
-    let found = longer(found, (Kind::Function, function(text)));
-    let found = longer(found, (Kind::Group, group(text)));
-    let found = longer(found, (Kind::Metadata, metadata(text)));
-    longer(found, (Kind::Mark, mark(text)))
+    if begins_byte(text, b'%') {
+        (Kind::Register, register(text))
+    } else if begins_byte(text, b'@') {
+        (Kind::Function, function(text))
+    } else if begins_byte(text, b'!') {
+        (Kind::Metadata, metadata(text))
+    } else if begins_byte(text, b'#') {
+        longer((Kind::Group, group(text)), (Kind::Mark, mark(text)))
+    } else {
+        (Kind::Mark, mark(text))
+    }
 }
 
 /// The longest token that a text begins with whose first byte is none of names, of 0 bytes where it begins with none.
@@ -71,6 +77,16 @@ fn other_token(text: &[u8]) -> (Kind, usize)
         quoted_token(text)
     } else {
         marked_token(text)
+    }
+}
+
+/// Whether one of the first two bytes is a quote. A token whose first byte is none of names has quotes only then.
+fn has_early_quote(text: &[u8]) -> bool
+    ensures { result ≡ (begins_with (λ b. b == 34) text.now || begins_with (λ b. b == 34) (drop 1 text.now)) }
+{
+    match text {
+        [] => false,
+        [first, rest @ ..] => *first == b'"' || begins_byte(rest, b'"'),
     }
 }
 
@@ -89,7 +105,7 @@ fn longest_token(text: &[u8]) -> Option<(Kind, usize)>
         return None;
     }
     let found = other_token(text);
-    if holds_zero(&text[..found.1]) {
+    if has_early_quote(text) && holds_zero(&text[..found.1]) {
         None
     } else {
         Some(found)

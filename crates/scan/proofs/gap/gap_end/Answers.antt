@@ -1,12 +1,21 @@
-use Rattle.std.proofs.lemmas.List.{take_rest}
-use Rattle.scan.proofs.GapLemmas.{GapTo, gap_to, rest_fits}
-use Rattle.std.proofs.Common.{◌-◌, length}
+use Rattle.std.proofs.Common.{◌≡◌, ◌≤◌, ◌+◌, ◌-◌, ℕ, length, take, drop, ap, ◌∙◌, subst, arith}
+use Rattle.std.proofs.lemmas.List.{take_rest, length-drop}
+use Rattle.scan.specs.Lines.{feeds}
+use Rattle.scan.proofs.GapLemmas.{GapTo, gap_to}
 use Rattle.scan.proofs.gap.gap_end.Goals as goal
-
-pub overflow_sub-result : goal.overflow_sub-result
-overflow_sub-result c = rest_fits c.args.text.now c.args.place c.after_gap.result.now (rw take_rest at c.after_gap.ensures)
 
 pub returns : goal.returns
 returns c =
-    let g : GapTo c.args.text.now c.args.place (length c.args.text.now - length c.after_gap.result.now) = gap_to c.args.text.now c.args.place c.after_gap.result.now c.requires (rw take_rest at c.after_gap.ensures) in
-    record { order = g.order; gap = g.gap; last = g.last; whole = g.whole }
+    let run : ℕ = c.gap_run-run.result.0 in
+    let within : run ≤ length (drop c.args.place c.args.text.now) = rw take_rest at c.gap_run-run.ensures.within in
+    let there : length c.args.text.now - length (drop run (drop c.args.place c.args.text.now)) ≡ c.args.place + run = omega (arith, length-drop run (drop c.args.place c.args.text.now), length-drop c.args.place c.args.text.now, within, c.requires) in
+    let far : run ≡ c.args.place + run - c.args.place = omega arith in
+    let g : GapTo c.args.text.now c.args.place (c.args.place + run) = subst (GapTo c.args.text.now c.args.place) there
+    (gap_to c.args.text.now c.args.place (drop run (drop c.args.place c.args.text.now)) c.requires (rw take_rest at c.gap_run-run.ensures.behind)) in
+    record {
+      order = g.order;
+      gap = g.gap;
+      last = g.last;
+      whole = g.whole;
+      feeds = (rw take_rest at c.gap_run-run.ensures.feeds) ∙ ap (λ (n : ℕ). feeds (take n (drop c.args.place c.args.text.now))) far;
+    }

@@ -1,6 +1,0 @@
-use Rattle.std.proofs.Common.{◌≡◌, false, drop}
-use Rattle.scan.specs.Scanning.{behind_gap}
-use Rattle.scan.proofs.gap.after_gap.Given as goal
-
-abbrev pub invariant-loop-i : goal.invariant-loop-i
-invariant-loop-i l = behind_gap l.in_comment (drop l.i l.text) ≡ behind_gap false l.text
