@@ -1,11 +1,10 @@
 //! Blocks from tokens.
 
-ghost use Rattle.std.specs.Prelude.{◌≡◌};
 ghost use Rattle.ir_tokens.specs.Seen.{seen};
 ghost use Rattle.ir_statements.specs.Giving.{Gives};
 ghost use Rattle.ir_parse.specs.Parsing as parsing;
 
-use ir_raw::{RawBlock, RawIdentifier, RawInst};
+use ir_raw::{RawBlock, RawIdentifier};
 use ir_statements::{ParseError, Part, each, insts, tail, terminator};
 use ir_tokens::{Placed, Token, identifier};
 use lists::List;
@@ -31,15 +30,6 @@ fn label(alloc: Global, tokens: &mut &[Placed<'_>]) -> Result<Option<RawIdentifi
     }
 }
 
-/// The same instructions, in a list without room for more. A module has many short lists, which last until it is read.
-fn without_room(insts: List<RawInst>) -> List<RawInst>
-    ensures { result ≡ insts }
-{
-    let mut items = insts.into_vec();
-    items.shrink_to_fit();
-    List::from_vec(items)
-}
-
 /// A block, of which the label may be missing; another one is next where a label is.
 enum Block {}
 
@@ -62,7 +52,7 @@ impl Part for Block {
     #[tactic(auto, unfolding(crate::specs::Parsing::block_at))]
     fn read(alloc: Global, tokens: &mut &[Placed<'_>]) -> Result<RawBlock, ParseError> {
         let label = label(alloc, tokens)?;
-        let insts = without_room(insts(alloc, tokens)?);
+        let insts = insts(alloc, tokens)?;
         let (end_line, end) = terminator(alloc, tokens)?;
         tail(tokens)?;
         Ok(RawBlock {
