@@ -1,1 +1,2 @@
+pub use Rattle.circuits.specs.Circuit
 pub mod Graph

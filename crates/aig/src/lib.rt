@@ -9,6 +9,3 @@ mod laws;
 pub use gate::{Gate, Literal, Node};
 pub use graph::Aig;
 pub use laws::{gates_have_their_values, rests_tell_counts};
-
-#[cfg(test)]
-mod tests;

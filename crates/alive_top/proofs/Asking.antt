@@ -1,24 +1,16 @@
 -- Words ask for one task.
-use Rattle.std.proofs.Common.{◌≡◌, ℕ, List, Option, Some, None, sym, ◌∙◌}
-use Rattle.clap.specs.Words.{Row, Text}
+use Rattle.std.proofs.Common.{◌≡◌, ℕ, List, sym, ◌∙◌}
 use Rattle.command_line.specs.Laws.{SameCommand, WordsSayOneCommand}
-use Rattle.command_line.specs.Words.{SaysOf, IsWithinLimits}
 use Rattle.command_line.specs.declared.command.Command.{Command}
 use Rattle.command_line.specs.declared.command.Command.TheVariants as commands
-use Rattle.alive_top.specs.Tasks.{Task, Asks, IsReady, task_of}
+use Rattle.alive_top.specs.Task.{Task, Asks, task_of}
 
 -- a task is the same for all commands that say the same
 same_task : (x y : Command) → SameCommand x y → task_of x ≡ task_of y
-same_task (commands.Verify r v m) (commands.Verify s w n) h = let rules = h.0 in let widths = h.1 in let conflicts = h.2 in cc
-same_task (commands.Optimise r v m n) (commands.Optimise s w k l) h = let rules = h.0 in let source = h.1 in let conflicts = h.2 in let steps = h.3 in cc
-same_task (commands.Run s n a b) (commands.Run t m c d) h = let source = h.0 in let name = h.1 in let arguments = h.2 in let blocks = h.3 in cc
+same_task (commands.Verify r v) (commands.Verify s w) h = let rules = h.0 in let options = h.1 in cc
+same_task (commands.Optimise r v m) (commands.Optimise s w k) h = let rules = h.0 in let source = h.1 in let options = h.2 in cc
+same_task (commands.Run s n a b) (commands.Run t m c d) h = let source = h.0 in let name = h.1 in let arguments = h.2 in let options = h.3 in cc
 same_task x y h = absurd h
 
 pub asks_one : WordsSayOneCommand → (words : List (List ℕ)) (t u : Task) → Asks words t → Asks words u → t ≡ u
 asks_one law words t u h k = sym h.is ∙ (same_task h.command k.command (law words h.command k.command h.says k.says) ∙ k.is)
-
-pub ready : (said : Option (Text × List Row)) (command : Command) → SaysOf said command → IsWithinLimits command → IsReady command
-ready None command h l = absurd h
-ready (Some said) (commands.Verify rules widths conflicts) h l = l
-ready (Some said) (commands.Optimise rules source conflicts steps) h l = tt
-ready (Some said) (commands.Run source name arguments blocks) h l = tt

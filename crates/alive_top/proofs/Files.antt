@@ -1,56 +1,76 @@
 -- How far a task came where one of its files was not read or was refused, and where all were read.
-use Rattle.std.proofs.Common.{◌≡◌, ℕ, zero, suc, ◌<◌, ◌≤◌, List, [], ◌∷◌, Option, Some, None, refl, sym, subst, ◌∙◌, inl, inr, arith, ap}
-use Rattle.std.specs.Prelude.{IfSome, slice_get}
+use Rattle.std.proofs.Common.{◌≡◌, ℕ, ◌≤◌, List, [], ◌∷◌, Result, Ok, Err, Option, refl, sym, subst, ◌∙◌, inl, inr, arith, ap}
+use Rattle.std.specs.Prelude.{IfSome, take, ◌+◌}
+use Rattle.command_line.specs.declared.command.OptimiseOptions.{OptimiseOptions}
+use Rattle.command_line.specs.declared.command.RunOptions.{RunOptions}
+use Rattle.command_line.specs.declared.command.VerifyOptions.{VerifyOptions}
 use Rattle.outside.specs.Faults.{Rose}
-use Rattle.outside.specs.Files.{with_name}
-use Rattle.rule_core.specs.declared.rule.Rule.{Rule}
-use Rattle.module_work.specs.Running.{IsRun, IsMisnamed}
+use Rattle.outside.specs.Files.{FilesState, FilesFollow, with_name}
+use Rattle.verdict.specs.Rule.{Rule}
+use Rattle.alive_top.specs.Runs.{IsRun, IsMisnamed}
 use Rattle.alive_top.specs.declared.refusal.Refusal.{Refusal}
 use Rattle.alive_top.specs.declared.refusal.Refusal.TheVariants.{Rules, Module, Argument, Read, Memory}
 use Rattle.alive_top.specs.declared.status.Status.TheVariants.{RuleRefused, ModuleRefused}
+use Rattle.alive_top.specs.Answers.{IsReadAs, TextOf, FileOf, FileRefused, RefusedFor, IsDoneFor}
+use Rattle.alive_top.specs.Cause.{ComesTo, TextIsRefused, ReadFails, MemoryIsRefused}
+use Rattle.alive_top.specs.File.{File, Rules as RuleFile, NoRules, Source as ModuleFile, files_of, limit_of}
 use Rattle.alive_top.specs.Lines.{rules_line, module_line}
-use Rattle.alive_top.specs.Tasks.{Task, Verify, Optimise, Run, File, Takes, IsRuleText, Rules as RuleFile, NoRules, Source as ModuleFile, files_of}
-use Rattle.alive_top.specs.Asking.{Asked, asked, with_names, TakesAll, ComesTo, TextIsRefused, ReadFails, MemoryIsRefused}
-use Rattle.alive_top.specs.Results.{AsksOne, FileRefused, RefusedFor, RunRefused, IsDoneFor}
-use Rattle.alive_top.specs.Working.{Work, IsPrinted, IsVerifyWork, IsOptimiseWork, IsRunWork}
+use Rattle.alive_top.specs.Request.{AsksOne, with_names}
+use Rattle.alive_top.specs.Taken.{Takes, IsRuleText}
+use Rattle.alive_top.specs.Task.{Task, Verify, Optimise, Run}
+use Rattle.alive_top.specs.Texts.{IsTextOf}
+use Rattle.alive_top.specs.Work.{Work, IsPrinted, IsVerifyWork, IsOptimiseWork, IsRunWork}
+
+-- ---- one file
+
+-- a read of a file's text, and what that gives, is a read of the file and what it gives
+pub file_from_text : {T : Type 0} (old new : FilesState) (file : File) (text : List ℕ) (P : List ℕ → T → Type 0) (NoRun : List ℕ → Type 0) (result : Result T Refusal)
+    → IsTextOf old file text → AsksOne old new file.name → TextOf file.kind text (P text) (NoRun text) result → FileOf old new file P NoRun result
+file_from_text old new file text P NoRun (Ok x) is asks h = record { asks = asks; text = text; is_text = is; holds = h }
+file_from_text old new file text P NoRun (Err (Rules fault)) is asks h = record { asks = asks; text = text; is_text = is; holds = h }
+file_from_text old new file text P NoRun (Err (Module fault)) is asks h = record { asks = asks; text = text; is_text = is; holds = h }
+file_from_text old new file text P NoRun (Err Argument) is asks h = record { asks = asks; text = text; is_text = is; holds = h }
+file_from_text old new file text P NoRun (Err Memory) is asks h = inr asks
+file_from_text old new file text P NoRun (Err (Read name)) is asks h = absurd h
 
 -- why not all of these files were read and taken
-abbrev RefusedAmong : Asked → List File → Refusal → Type 0
-RefusedAmong a files (Rules fault) = TextIsRefused a files RuleRefused (rules_line fault)
-RefusedAmong a files (Module fault) = TextIsRefused a files ModuleRefused (module_line fault)
-RefusedAmong a files Argument = ⊥
-RefusedAmong a files (Read name) = ReadFails a files name.now
-RefusedAmong a files Memory = MemoryIsRefused a files
+abbrev RefusedAmong : FilesState → FilesState → List File → Refusal → Type 0
+RefusedAmong old new files (Rules fault) = TextIsRefused old new files RuleRefused (rules_line fault)
+RefusedAmong old new files (Module fault) = TextIsRefused old new files ModuleRefused (module_line fault)
+RefusedAmong old new files Argument = ⊥
+RefusedAmong old new files (Read name) = ReadFails old new files name.now
+RefusedAmong old new files Memory = MemoryIsRefused old new files
 
 -- those of a task
-for_task : (a : Asked) (task : Task) (refusal : Refusal) → RefusedAmong a (files_of task) refusal → RefusedFor a task refusal
-for_task a task (Rules fault) h = h
-for_task a task (Module fault) h = h
-for_task a task Argument h = absurd h
-for_task a task (Read name) h = h
-for_task a task Memory h = h
+for_task : (old new : FilesState) (task : Task) (refusal : Refusal) → RefusedAmong old new (files_of task) refusal → RefusedFor old new task refusal
+for_task old new task (Rules fault) h = h
+for_task old new task (Module fault) h = h
+for_task old new task Argument h = absurd h
+for_task old new task (Read name) h = h
+for_task old new task Memory h = h
 
 -- ---- the first file
 
 -- the first file was come to
-first_comes : (a : Asked) (file : File) (rest : List File) → AsksOne a file.name → ComesTo a (file ∷ rest) file
-first_comes a file rest asks = record { place = 0; is = refl; before = λ k f lt at. absurd (omega arith); asks = asks }
+first_comes : (old new : FilesState) (file : File) (rest : List File) → AsksOne old new file.name → ComesTo old new (file ∷ rest) file
+first_comes old new file rest asks = record { place = 0; is = refl; texts = []; before = tt; asks = asks }
 
-first_among : (a : Asked) (file : File) (rest : List File) (refusal : Refusal) → FileRefused a file refusal → RefusedAmong a (file ∷ rest) refusal
-first_among a file rest (Rules fault) h = record { file = file; comes = first_comes a file rest h.1; refuses = h.0 }
-first_among a file rest (Module fault) h = record { file = file; comes = first_comes a file rest h.1; refuses = h.0 }
-first_among a file rest Argument h = absurd h
-first_among a file rest (Read name) h = record { file = file; comes = first_comes a file rest h.2; named = h.1; rose = h.0 }
-first_among a file rest Memory h = record { count = 0; before = λ k f lt at. absurd (omega arith); asks = h }
+first_among : (old new : FilesState) (file : File) (rest : List File) (refusal : Refusal) → FileRefused old new file (λ _. ⊥) refusal → RefusedAmong old new (file ∷ rest) refusal
+first_among old new file rest (Rules fault) h = record { file = file; comes = first_comes old new file rest h.asks; text = h.text; is_text = h.is_text; refuses = h.holds }
+first_among old new file rest (Module fault) h = record { file = file; comes = first_comes old new file rest h.asks; text = h.text; is_text = h.is_text; refuses = h.holds }
+first_among old new file rest Argument h = h.holds
+first_among old new file rest (Read name) h = record { file = file; comes = first_comes old new file rest h.2; named = h.1; rose = h.0 }
+first_among old new file rest Memory h = record { count = 0; texts = []; before = tt; asks = h }
 
-pub first_refused : (a : Asked) (task : Task) (file : File) (rest : List File) (refusal : Refusal) → files_of task ≡ file ∷ rest → FileRefused a file refusal → RefusedFor a task refusal
-first_refused a task file rest refusal files h = for_task a task refusal (subst (λ (fs : List File). RefusedAmong a fs refusal) (sym files) (first_among a file rest refusal h))
+pub first_refused : (old new : FilesState) (task : Task) (file : File) (rest : List File) (refusal : Refusal) → files_of task ≡ file ∷ rest → FileRefused old new file (λ _. ⊥) refusal → RefusedFor old new task refusal
+first_refused old new task file rest refusal files h =
+    for_task old new task refusal (subst (λ (fs : List File). RefusedAmong old new fs refusal) (sym files) (first_among old new file rest refusal h))
+
+-- memory was refused behind the only file
+pub memory_behind : (old new : FilesState) (file : File) → AsksOne old new file.name → MemoryIsRefused old new (file ∷ [])
+memory_behind old new file asks = record { count = 0; texts = []; before = tt; asks = inr asks }
 
 -- ---- the second file, behind one that holds what it is read for
-
-takes_one : (told : List ℕ → Option (List ℕ)) (one two : File) → IfSome (told one.name) (Takes one.kind) → (k : ℕ) (file : File) → k < 1 → slice_get (one ∷ two ∷ []) k ≡ Some file → IfSome (told file.name) (Takes file.kind)
-takes_one told one two takes zero file lt at = subst (λ (f : File). IfSome (told f.name) (Takes f.kind)) (let e : one ≡ file = cc in e) takes
-takes_one told one two takes (suc k) file lt at = absurd (omega arith)
 
 asks_both : (before between after : Option (List (List ℕ))) (one two : File) → between ≡ with_name before one.name → after ≡ with_name between two.name → after ≡ with_names before (one ∷ two ∷ [])
 asks_both before between after one two e f = f ∙ ap (λ names. with_name names two.name) e
@@ -59,97 +79,108 @@ rose_since : (before between after : ℕ) → before ≤ between → Rose betwee
 rose_since before between after h (inl lt) = inl (omega arith)
 rose_since before between after h (inr last) = inr last
 
-second_among : (told : List ℕ → Option (List ℕ)) (before between after : Option (List (List ℕ))) (f g h : ℕ) (one two : File) (refusal : Refusal)
-    → f ≤ g → IfSome (told one.name) (Takes one.kind) → between ≡ with_name before one.name
-    → FileRefused (asked told between after g h) two refusal → RefusedAmong (asked told before after f h) (one ∷ two ∷ []) refusal
-second_among told before between after f g h one two (Rules fault) grew takes asks is = record {
-  file = two;
-  comes = record { place = 1; is = refl; before = takes_one told one two takes; asks = asks_both before between after one two asks is.1 };
-  refuses = is.0;
-}
-second_among told before between after f g h one two (Module fault) grew takes asks is = record {
-  file = two;
-  comes = record { place = 1; is = refl; before = takes_one told one two takes; asks = asks_both before between after one two asks is.1 };
-  refuses = is.0;
-}
-second_among told before between after f g h one two Argument grew takes asks is = absurd is
-second_among told before between after f g h one two (Read name) grew takes asks is = record {
-  file = two;
-  comes = record { place = 1; is = refl; before = takes_one told one two takes; asks = asks_both before between after one two asks is.2 };
-  named = is.1;
-  rose = rose_since f g h grew is.0;
-}
-second_among told before between after f g h one two Memory grew takes asks (inl none) = record { count = 1; before = takes_one told one two takes; asks = inl (none ∙ asks) }
-second_among told before between after f g h one two Memory grew takes asks (inr one_more) = record { count = 1; before = takes_one told one two takes; asks = inr (asks_both before between after one two asks one_more) }
+-- what is told later is told before
+text_before : (old new : FilesState) (file : File) (text : List ℕ) → FilesFollow old new → IsTextOf new file text → IsTextOf old file text
+text_before old new file text follow is =
+    subst (λ (told : List ℕ → Option (List ℕ)). IfSome (told file.name) (λ bytes. text ≡ take (limit_of file.kind + 1) bytes)) follow.told is
 
-pub second_refused : (told : List ℕ → Option (List ℕ)) (before between after : Option (List (List ℕ))) (f g h : ℕ) (task : Task) (one two : File) (refusal : Refusal)
-    → files_of task ≡ one ∷ two ∷ [] → f ≤ g → IfSome (told one.name) (Takes one.kind) → between ≡ with_name before one.name
-    → FileRefused (asked told between after g h) two refusal → RefusedFor (asked told before after f h) task refusal
-second_refused told before between after f g h task one two refusal files grew takes asks is =
-    for_task (asked told before after f h) task refusal (subst (λ (fs : List File). RefusedAmong (asked told before after f h) fs refusal) (sym files)
-    (second_among told before between after f g h one two refusal grew takes asks is))
+second_comes : (old mid new : FilesState) (one two : File) → IsReadAs old mid one (Takes one.kind) → AsksOne mid new two.name → ComesTo old new (one ∷ two ∷ []) two
+second_comes old mid new one two first asks = record {
+  place = 1;
+  is = refl;
+  texts = first.text ∷ [];
+  before = ((first.is_text, first.holds), tt);
+  asks = asks_both old.asked mid.asked new.asked one two first.asks asks;
+}
+
+second_among : (old mid new : FilesState) (one two : File) (refusal : Refusal)
+    → FilesFollow old mid → IsReadAs old mid one (Takes one.kind) → FileRefused mid new two (λ _. ⊥) refusal → RefusedAmong old new (one ∷ two ∷ []) refusal
+second_among old mid new one two (Rules fault) follow first h = record {
+  file = two;
+  comes = second_comes old mid new one two first h.asks;
+  text = h.text;
+  is_text = text_before old mid two h.text follow h.is_text;
+  refuses = h.holds;
+}
+second_among old mid new one two (Module fault) follow first h = record {
+  file = two;
+  comes = second_comes old mid new one two first h.asks;
+  text = h.text;
+  is_text = text_before old mid two h.text follow h.is_text;
+  refuses = h.holds;
+}
+second_among old mid new one two Argument follow first h = h.holds
+second_among old mid new one two (Read name) follow first h = record {
+  file = two;
+  comes = second_comes old mid new one two first h.2;
+  named = h.1;
+  rose = rose_since old.faults mid.faults new.faults follow.faults h.0;
+}
+second_among old mid new one two Memory follow first (inl none) =
+    record { count = 1; texts = first.text ∷ []; before = ((first.is_text, first.holds), tt); asks = inl (none ∙ first.asks) }
+second_among old mid new one two Memory follow first (inr asks) = record {
+  count = 1;
+  texts = first.text ∷ [];
+  before = ((first.is_text, first.holds), tt);
+  asks = inr (asks_both old.asked mid.asked new.asked one two first.asks asks);
+}
+
+pub second_refused : (old mid new : FilesState) (task : Task) (one two : File) (refusal : Refusal)
+    → files_of task ≡ one ∷ two ∷ [] → FilesFollow old mid → IsReadAs old mid one (Takes one.kind) → FileRefused mid new two (λ _. ⊥) refusal → RefusedFor old new task refusal
+second_refused old mid new task one two refusal files follow first h =
+    for_task old new task refusal (subst (λ (fs : List File). RefusedAmong old new fs refusal) (sym files) (second_among old mid new one two refusal follow first h))
+
+-- two reads, one behind the other
+pub follow_on : (old mid new : FilesState) → FilesFollow old mid → FilesFollow mid new → FilesFollow old new
+follow_on old mid new f g = record { told = g.told ∙ f.told; faults = omega (arith, f.faults, g.faults) }
 
 -- ---- all files
 
-takes_only : (a : Asked) (file : File) → IfSome (a.told file.name) (Takes file.kind) → TakesAll a (file ∷ [])
-takes_only a file takes zero other at = subst (λ (f : File). IfSome (a.told f.name) (Takes f.kind)) (let e : file ≡ other = cc in e) takes
-takes_only a file takes (suc k) other at = absurd cc
-
-takes_both : (a : Asked) (one two : File) → IfSome (a.told one.name) (Takes one.kind) → IfSome (a.told two.name) (Takes two.kind) → TakesAll a (one ∷ two ∷ [])
-takes_both a one two first second zero other at = subst (λ (f : File). IfSome (a.told f.name) (Takes f.kind)) (let e : one ≡ other = cc in e) first
-takes_both a one two first second (suc zero) other at = subst (λ (f : File). IfSome (a.told f.name) (Takes f.kind)) (let e : two ≡ other = cc in e) second
-takes_both a one two first second (suc (suc k)) other at = absurd cc
-
-some_rules : (o : Option (List ℕ)) (rules : List Rule) → IfSome o (λ bytes. IsRuleText bytes rules) → IfSome o (Takes RuleFile)
-some_rules None rules h = tt
-some_rules (Some bytes) rules h = (rules, h)
-
-printed_source : (o : Option (List ℕ)) (out report : List ℕ) → IfSome o (λ bytes. IsPrinted bytes out report) → IfSome o (Takes ModuleFile)
-printed_source None out report h = tt
-printed_source (Some bytes) out report h = (h.1.optimised.read, record { source = h.1.optimised.source; limit = h.0 })
-
-run_source : (o : Option (List ℕ)) (name : List ℕ) (arguments : List (List ℕ)) (blocks : ℕ) (text : List ℕ) → IfSome o (λ bytes. IsRun bytes name arguments blocks text) → IfSome o (Takes ModuleFile)
-run_source None name arguments blocks text h = tt
-run_source (Some bytes) name arguments blocks text h = (h.read, h.source)
-
-misnamed_source : (o : Option (List ℕ)) (name : List ℕ) (arguments : List (List ℕ)) → IfSome o (λ bytes. IsMisnamed bytes name arguments) → IfSome o (Takes ModuleFile)
-misnamed_source None name arguments h = tt
-misnamed_source (Some bytes) name arguments h = (h.read, h.source)
-
-pub verify_done : (a : Asked) (rules widths : List ℕ) (conflicts : ℕ) (list : List Rule) (work : Work)
-    → IfSome (a.told rules) (λ bytes. IsRuleText bytes list) → AsksOne a rules → IsVerifyWork list widths conflicts work → IsDoneFor a (Verify rules widths conflicts) work
-verify_done a rules widths conflicts list work is asks verified = record {
-  asks = asks;
-  takes = takes_only a (record { name = rules; kind = RuleFile }) (some_rules (a.told rules) list is);
-  is_work = (list, is, verified);
+pub verify_done : (old new : FilesState) (rules : List ℕ) (options : VerifyOptions) (list : List Rule) (work : Work)
+    → IsReadAs old new (record { name = rules; kind = RuleFile }) (λ text. IsRuleText text list) → IsVerifyWork list options work → IsDoneFor old new (Verify rules options) work
+verify_done old new rules options list work read verified = record {
+  asks = read.asks;
+  texts = read.text ∷ [];
+  taken = ((read.is_text, (list, read.holds)), tt);
+  is_work = (list, read.holds, verified);
 }
 
-pub optimise_done : (told : List ℕ → Option (List ℕ)) (before between after : Option (List (List ℕ))) (f h : ℕ) (rules source : List ℕ) (conflicts steps : ℕ) (work : Work)
-    → IfSome (told rules) (λ bytes. IsRuleText bytes []) → between ≡ with_name before rules
-    → after ≡ with_name between source → IsOptimiseWork (told source) work → IsDoneFor (asked told before after f h) (Optimise rules source conflicts steps) work
-optimise_done told before between after f h rules source conflicts steps work is first second written = record {
-  asks = asks_both before between after (record { name = rules; kind = NoRules }) (record { name = source; kind = ModuleFile }) first second;
-  takes = takes_both (asked told before after f h) (record { name = rules; kind = NoRules }) (record { name = source; kind = ModuleFile }) is (printed_source (told source) work.text work.report written.prints);
-  is_work = (is, written);
-}
+pub optimise_done : (old mid new : FilesState) (rules source : List ℕ) (options : OptimiseOptions) (work : Work)
+    → FilesFollow old mid → IsReadAs old mid (record { name = rules; kind = NoRules }) (λ text. IsRuleText text [])
+    → (read : IsReadAs mid new (record { name = source; kind = ModuleFile }) (λ text. IsPrinted text work.text work.report))
+    → IsOptimiseWork read.text work → IsDoneFor old new (Optimise rules source options) work
+optimise_done old mid new rules source options work follow first read written =
+    let one : File = record { name = rules; kind = NoRules } in
+    let two : File = record { name = source; kind = ModuleFile } in
+    let optimised = read.holds.1.optimised in
+    record {
+      asks = asks_both old.asked mid.asked new.asked one two first.asks read.asks;
+      texts = first.text ∷ read.text ∷ [];
+      taken = ((first.is_text, first.holds), ((text_before old mid two read.text follow read.is_text, (optimised.read, record { source = optimised.source; limit = read.holds.0 })), tt));
+      is_work = (first.holds, written);
+    }
 
 -- ---- a run
 
-pub run_done : (a : Asked) (source name : List ℕ) (arguments : List (List ℕ)) (blocks : ℕ) (work : Work) → AsksOne a source → IsRunWork (a.told source) name arguments blocks work → IsDoneFor a (Run source name arguments blocks) work
-run_done a source name arguments blocks work asks ran = record {
-  asks = asks;
-  takes = takes_only a (record { name = source; kind = ModuleFile }) (run_source (a.told source) name arguments blocks work.text ran.runs);
+pub run_done : (old new : FilesState) (source name : List ℕ) (arguments : List (List ℕ)) (options : RunOptions) (work : Work)
+    → (read : IsReadAs old new (record { name = source; kind = ModuleFile }) (λ text. IsRun text name arguments options.blocks work.text))
+    → IsRunWork read.text name arguments options work → IsDoneFor old new (Run source name arguments options) work
+run_done old new source name arguments options work read ran = record {
+  asks = read.asks;
+  texts = read.text ∷ [];
+  taken = ((read.is_text, (read.holds.read, read.holds.source)), tt);
   is_work = ran;
 }
 
-pub run_refused : (a : Asked) (source name : List ℕ) (arguments : List (List ℕ)) (blocks : ℕ) (refusal : Refusal)
-    → RunRefused a source name arguments refusal → RefusedFor a (Run source name arguments blocks) refusal
-run_refused a source name arguments blocks (Rules fault) h = absurd h
-run_refused a source name arguments blocks Argument h = record {
-  asks = h.1;
-  takes = takes_only a (record { name = source; kind = ModuleFile }) (misnamed_source (a.told source) name arguments h.0);
-  names_none = h.0;
+pub run_refused : (old new : FilesState) (source name : List ℕ) (arguments : List (List ℕ)) (options : RunOptions) (refusal : Refusal)
+    → FileRefused old new (record { name = source; kind = ModuleFile }) (λ text. IsMisnamed text name arguments) refusal → RefusedFor old new (Run source name arguments options) refusal
+run_refused old new source name arguments options (Rules fault) h = first_among old new (record { name = source; kind = ModuleFile }) [] (Rules fault) h
+run_refused old new source name arguments options (Module fault) h = first_among old new (record { name = source; kind = ModuleFile }) [] (Module fault) h
+run_refused old new source name arguments options (Read n) h = first_among old new (record { name = source; kind = ModuleFile }) [] (Read n) h
+run_refused old new source name arguments options Memory h = first_among old new (record { name = source; kind = ModuleFile }) [] Memory h
+run_refused old new source name arguments options Argument h = record {
+  asks = h.asks;
+  texts = h.text ∷ [];
+  taken = ((h.is_text, (h.holds.read, h.holds.source)), tt);
+  names_none = h.holds;
 }
-run_refused a source name arguments blocks (Module fault) h = first_among a (record { name = source; kind = ModuleFile }) [] (Module fault) h
-run_refused a source name arguments blocks (Read n) h = first_among a (record { name = source; kind = ModuleFile }) [] (Read n) h
-run_refused a source name arguments blocks Memory h = first_among a (record { name = source; kind = ModuleFile }) [] Memory h

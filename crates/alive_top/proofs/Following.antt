@@ -1,148 +1,120 @@
 -- What follows of how a call ends.
-use Rattle.std.proofs.Common.{◌≡◌, ℕ, zero, suc, ◌++◌, ◌⊎◌, Bool, true, false, IsTrue, ◌↔◌, List, [], ◌∷◌, Option, Some, None, refl, sym, subst, ap, ◌∙◌, inl, inr, ⊎_elim, append-nil}
-use Rattle.std.specs.Prelude.{IfSome, IsSomeAnd, slice_get, cond, codes, option_map}
+use Rattle.std.proofs.Common.{◌≡◌, ℕ, zero, suc, ◌++◌, ◌⊎◌, Bool, true, false, IsTrue, ◌↔◌, List, [], ◌∷◌, Option, Some, None, refl, sym, subst, ap, ap₂, ◌∙◌, inl, inr, ⊎_elim, append-nil, arith, length}
+use Rattle.std.specs.Prelude.{slice_get, cond, codes, option_map}
+use Rattle.std.specs.List.{AllZip}
+use Rattle.std.proofs.lemmas.Option.{slice_get_within}
 use Rattle.outside.specs.Faults.{Rose}
-use Rattle.rule_core.specs.declared.rule.Rule.{Rule}
+use Rattle.outside.specs.Files.{FilesState}
+use Rattle.outside.specs.Sink.{SinkState, Appends}
+use Rattle.verdict.specs.Rule.{Rule}
 use Rattle.clap.specs.Words.{Row, Text, first_of}
 use Rattle.command_line.specs.Laws.{WordsSayOneCommand}
-use Rattle.command_line.specs.Words.{list_of, SaysOf, command_and_rows}
+use Rattle.command_line.specs.Usage.{list_of}
+use Rattle.command_line.specs.Words.{SaysOf, command_and_rows}
 use Rattle.command_line.specs.Widths.{is_width_list}
 use Rattle.command_line.specs.declared.command.Command.{Command}
 use Rattle.command_line.specs.declared.command.Command.TheVariants as commands
-use Rattle.module_work.specs.Laws.{RunsAreNotMisnamed}
-use Rattle.module_work.specs.Running.{IsMisnamed}
+use Rattle.command_line.specs.declared.command.VerifyOptions.{VerifyOptions}
+use Rattle.alive_top.specs.OutcomeLaws.{RunsAreNotMisnamed}
 use Rattle.alive_top.specs.declared.status.Ended.{Ended}
 use Rattle.alive_top.specs.declared.status.Status.{Status}
 use Rattle.alive_top.specs.declared.status.Status.TheVariants.{Done, NotAll, Usage, RuleRefused, ModuleRefused, ReadFault, WriteFault, NoMemory, Argument}
-use Rattle.alive_top.specs.Tasks.{Task, Verify, Optimise, Run, File, Source, Asks, Takes, Refuses, IsRuleText, files_of}
-use Rattle.alive_top.specs.Asking.{Asked, NamesNoRun, TextIsRefused}
-use Rattle.alive_top.specs.Working.{Work, IsVerifyWork, IsRunWork}
-use Rattle.alive_top.specs.Endings.{Fed, Gained, WroteSome, Worked, EndsWith, EndsAtWords, Ends, IsWorked, IsNoRun, IsWorkOrNoMemory, AreGood, HasItsRun, IsNoCommand, IsUsage, HasVerified, HasOptimised, HasRun}
+use Rattle.alive_top.specs.Cause.{TextIsRefused}
+use Rattle.alive_top.specs.Done.{HasVerified, HasDone}
+use Rattle.alive_top.specs.Ends.{Worked, EndsWith, EndsAtWords, Ends, IsNoCommand, IsUsage}
+use Rattle.alive_top.specs.File.{File, files_of}
+use Rattle.alive_top.specs.NoRun.{NamesNoRun}
+use Rattle.alive_top.specs.Statuses.{IsDone, IsWorked, IsNoTask, IsNoRun, IsDoneOrNoMemory}
+use Rattle.alive_top.specs.Taken.{Takes, Refuses, IsRuleText}
+use Rattle.alive_top.specs.Task.{Task, Verify, Optimise, Run, Asks}
+use Rattle.alive_top.specs.Texts.{IsTextOf, AreTexts, AreTaken, OfSomeTexts, OfToldTexts, TakesEach, HasBadFile}
+use Rattle.alive_top.specs.Work.{Work, IsWorkOf, IsVerifyWork}
+use Rattle.alive_top.specs.Written.{WroteSome}
 use Rattle.alive_top.proofs.Asking.{asks_one}
+use Rattle.alive_top.proofs.Limits.{taken_is_told, told_is_text}
 use Rattle.alive_top.proofs.Taking.{TakenAreNotRefused}
 
--- ---- the task that the words ask for
+-- ---- statuses
 
--- at the words nothing was done
-no_work_at_words : (words : List (List ℕ)) (out err : Fed) (ended : Ended) (status : Status) → EndsAtWords words out err ended status → (status ≡ Usage) ⊎ (status ≡ NoMemory)
-no_work_at_words words out err ended Usage h = inl refl
-no_work_at_words words out err ended NoMemory h = inr refl
-no_work_at_words words out err ended status h = absurd h
+no_task_not_worked : (status : Status) → IsNoTask status → IsWorked status → ⊥
+no_task_not_worked Usage n w = w
+no_task_not_worked NoMemory n w = w
+no_task_not_worked status n w = n
 
-abbrev IsAtWords : Status → Type 0
-IsAtWords status = (status ≡ Usage) ⊎ (status ≡ NoMemory)
+done_is_worked : (status : Status) → IsDone status → IsWorked status
+done_is_worked Done d = tt
+done_is_worked NotAll d = tt
+done_is_worked status d = absurd d
 
--- a call ends as its task says, or at the words
-by_task : WordsSayOneCommand → (words : List (List ℕ)) (a : Asked) (out err : Fed) (ended : Ended) → Ends words a out err ended
-    → (task : Task) → Asks words task → EndsWith a task out err ended ended.status ⊎ IsAtWords ended.status
-by_task law words a out err ended (inl e) task asks = inl (subst (λ (t : Task). EndsWith a t out err ended ended.status) (asks_one law words e.0 task e.1 asks) e.2)
-by_task law words a out err ended (inr e) task asks = inr (no_work_at_words words out err ended ended.status e.1)
+-- ---- texts
 
-stopped_at_words : (status : Status) → IsAtWords status → (status ≡ Done) ⊎ (status ≡ NotAll) → ⊥
-stopped_at_words status (inl u) (inl d) = cc
-stopped_at_words status (inl u) (inr d) = cc
-stopped_at_words status (inr u) (inl d) = cc
-stopped_at_words status (inr u) (inr d) = cc
+zip_at : {A B : Type 0} (R : A → B → Type 0) (xs : List A) (ys : List B) (k : ℕ) (x : A) → AllZip R xs ys → slice_get xs k ≡ Some x → (y : B) × R x y
+zip_at R [] ys k x all at = absurd (omega (arith, slice_get_within [] k x at))
+zip_at R (z ∷ xs) [] k x all at = absurd all
+zip_at R (z ∷ xs) (y ∷ ys) zero x all at = (y, subst (λ w. R w y) (let e : z ≡ x = cc in e) all.0)
+zip_at R (z ∷ xs) (y ∷ ys) (suc k) x all at = zip_at R xs ys k x all.1 at
 
--- the work was done and written, with this status
-abbrev IsWrittenWith : Asked → Task → Fed → Fed → Ended → Status → Type 0
-IsWrittenWith a task out err ended status = Worked a task ended (λ work. (work.status ≡ status) × Gained out work.text × Gained err work.report)
+zip_both : {A B : Type 0} (R S : A → B → Type 0) (xs : List A) (ys : List B) → AllZip R xs ys → AllZip S xs ys → AllZip (λ x y. R x y × S x y) xs ys
+zip_both R S [] [] h k = tt
+zip_both R S [] (y ∷ ys) h k = absurd h
+zip_both R S (x ∷ xs) [] h k = absurd h
+zip_both R S (x ∷ xs) (y ∷ ys) h k = ((h.0, k.0), zip_both R S xs ys h.1 k.1)
 
-written_with : (a : Asked) (task : Task) (out err : Fed) (ended : Ended) → EndsWith a task out err ended ended.status ⊎ IsAtWords ended.status
-    → (ended.status ≡ Done) ⊎ (ended.status ≡ NotAll) → IsWrittenWith a task out err ended ended.status
-written_with a task out err ended (inl h) (inl d) = subst (IsWrittenWith a task out err ended) (sym d) (subst (EndsWith a task out err ended) d h)
-written_with a task out err ended (inl h) (inr n) = subst (IsWrittenWith a task out err ended) (sym n) (subst (EndsWith a task out err ended) n h)
-written_with a task out err ended (inr stopped) s = absurd (stopped_at_words ended.status stopped s)
+-- the bytes of these files are told, and these are they
+abbrev AreTold : FilesState → List File → List (List ℕ) → Type 0
+AreTold known files texts = AllZip (λ file text. known.told file.name ≡ Some text) files texts
 
-written : WordsSayOneCommand → (words : List (List ℕ)) (a : Asked) (out err : Fed) (ended : Ended) → Ends words a out err ended
-    → (task : Task) → Asks words task → (ended.status ≡ Done) ⊎ (ended.status ≡ NotAll) → IsWrittenWith a task out err ended ended.status
-written law words a out err ended e task asks s = written_with a task out err ended (by_task law words a out err ended e task asks) s
+taken_are_texts : (known : FilesState) (files : List File) (texts : List (List ℕ)) → AreTaken known files texts → AreTexts known files texts
+taken_are_texts known [] [] h = tt
+taken_are_texts known [] (text ∷ texts) h = absurd h
+taken_are_texts known (file ∷ files) [] h = absurd h
+taken_are_texts known (file ∷ files) (text ∷ texts) h = (h.0.0, taken_are_texts known files texts h.1)
 
--- ---- `verify`
+-- texts that are taken are all that is told
+taken_are_told : (known : FilesState) (files : List File) (texts bytes : List (List ℕ)) → AreTaken known files texts → AreTold known files bytes → texts ≡ bytes
+taken_are_told known [] [] [] h told = refl
+taken_are_told known [] [] (b ∷ bytes) h told = absurd told
+taken_are_told known [] (text ∷ texts) bytes h told = absurd h
+taken_are_told known (file ∷ files) [] bytes h told = absurd h
+taken_are_told known (file ∷ files) (text ∷ texts) [] h told = absurd told
+taken_are_told known (file ∷ files) (text ∷ texts) (b ∷ bytes) h told =
+    ap₂ (λ (x : List ℕ) (xs : List (List ℕ)). x ∷ xs) (taken_is_told known file text b h.0.0 h.0.1 told.0) (taken_are_told known files texts bytes h.1 told.1)
 
-work_verified : (bytes widths : List ℕ) (conflicts : ℕ) (list : List Rule) (out : Fed) (ended : Ended) (work : Work)
-    → IsRuleText bytes list → (w : IsVerifyWork list widths conflicts work) → ended.table ≡ work.table → Gained out work.text → ended.status ≡ work.status → HasVerified bytes widths conflicts out ended
-work_verified bytes widths conflicts list out ended work is w table gained status = record {
-  rules = list;
-  file = is;
-  verified = w.verified;
-  right = w.right;
-  table = table ∙ w.table;
-  text = subst (λ (text : List ℕ). Gained out text) w.text gained;
-  all = by w.verified.all_admitted (status ∙ w.status);
-}
-  where
-    by : (all : Bool) → ended.status ≡ cond all Done NotAll → (ended.status ≡ Done) ↔ IsTrue all
-    by true e = (λ _. refl, λ _. e)
-    by false e = (λ d. absurd (let f : Done ≡ NotAll = sym d ∙ e in cc), λ t. absurd cc)
+-- told bytes that are taken are not refused
+good_not_refused : TakenAreNotRefused → (known new : FilesState) (files : List File) (bytes : List (List ℕ))
+    → AreTold known files bytes → AllZip (λ file text. Takes file.kind text) files bytes → (status : Status) (line : List ℕ) → TextIsRefused known new files status line → ⊥
+good_not_refused torn known new files bytes told takes status line r =
+    let told_at = λ (file : File) (text : List ℕ). known.told file.name ≡ Some text in
+    let takes_at = λ (file : File) (text : List ℕ). Takes file.kind text in
+    let good = zip_at (λ file text. told_at file text × takes_at file text) files bytes r.comes.place r.file (zip_both told_at takes_at files bytes told takes) r.comes.is in
+    let same : r.text ≡ good.0 = told_is_text known r.file r.text good.0 r.is_text good.1.1 good.1.0 in
+    torn r.file.kind good.0 status line good.1.1 (subst (λ (text : List ℕ). Refuses r.file.kind text status line) same r.refuses)
 
-each_told : {P Q : List ℕ → Type 0} (o : Option (List ℕ)) → IfSome o P → ((bytes : List ℕ) → P bytes → Q bytes) → IfSome o Q
-each_told None p h = tt
-each_told (Some bytes) p h = h bytes p
+-- where the told bytes of a file are bad, the texts of all files aren't taken
+bad_not_taken : (known : FilesState) (task : Task) (texts : List (List ℕ)) → HasBadFile known task → AreTaken known (files_of task) texts → ⊥
+bad_not_taken known task texts b taken =
+    let read = zip_at (λ file text. IsTextOf known file text × Takes file.kind text) (files_of task) texts b.place b.file taken b.is in
+    b.bad (subst (λ (text : List ℕ). Takes b.file.kind text) (taken_is_told known b.file read.0 b.bytes read.1.0 read.1.1 b.told) read.1.1)
 
-pub verified : WordsSayOneCommand → (words : List (List ℕ)) (a : Asked) (out err : Fed) (ended : Ended) → Ends words a out err ended
-    → (rules widths : List ℕ) (conflicts : ℕ) → Asks words (Verify rules widths conflicts) → (ended.status ≡ Done) ⊎ (ended.status ≡ NotAll)
-    → IfSome (a.told rules) (λ bytes. HasVerified bytes widths conflicts out ended)
-verified law words a out err ended e rules widths conflicts asks s =
-    let w = written law words a out err ended e (Verify rules widths conflicts) asks s in
-    each_told (a.told rules) w.is_work.1 (λ bytes is. work_verified bytes widths conflicts w.is_work.0 out ended w.work is w.is_work.2 w.table w.wrote.1 (sym w.wrote.0))
+-- ---- runs that name nothing to run
 
--- ---- `optimise`
+-- the told bytes of such a run are those of a module
+no_run_takes : (task : Task) (bytes : List (List ℕ)) → NamesNoRun task bytes → TakesEach task bytes
+no_run_takes (Run file name arguments options) (source ∷ []) h = ((h.read, h.source), tt)
+no_run_takes (Run file name arguments options) [] h = absurd h
+no_run_takes (Run file name arguments options) (x ∷ y ∷ more) h = absurd h
+no_run_takes (Verify file options) bytes h = absurd h
+no_run_takes (Optimise file other options) bytes h = absurd h
 
-pub done_rules : WordsSayOneCommand → (words : List (List ℕ)) (a : Asked) (out err : Fed) (ended : Ended) → Ends words a out err ended
-    → (rules source : List ℕ) (conflicts steps : ℕ) → Asks words (Optimise rules source conflicts steps) → ended.status ≡ Done → IfSome (a.told rules) (λ bytes. IsRuleText bytes [])
-done_rules law words a out err ended e rules source conflicts steps asks d = (written law words a out err ended e (Optimise rules source conflicts steps) asks (inl d)).is_work.0
+-- and no work is done on them
+no_run_no_work : RunsAreNotMisnamed → (task : Task) (texts : List (List ℕ)) (work : Work) → IsWorkOf task texts work → NamesNoRun task texts → ⊥
+no_run_no_work law (Run file name arguments options) (source ∷ []) work is h = law source name arguments options.blocks work.text is.runs h
+no_run_no_work law (Run file name arguments options) [] work is h = h
+no_run_no_work law (Run file name arguments options) (x ∷ y ∷ more) work is h = h
+no_run_no_work law (Verify file options) texts work is h = h
+no_run_no_work law (Optimise file other options) texts work is h = h
 
-pub done_module : WordsSayOneCommand → (words : List (List ℕ)) (a : Asked) (out err : Fed) (ended : Ended) → Ends words a out err ended
-    → (rules source : List ℕ) (conflicts steps : ℕ) → Asks words (Optimise rules source conflicts steps) → ended.status ≡ Done → IfSome (a.told source) (λ bytes. HasOptimised bytes out err)
-done_module law words a out err ended e rules source conflicts steps asks d =
-    let w = written law words a out err ended e (Optimise rules source conflicts steps) asks (inl d) in
-    each_told (a.told source) w.is_work.1.prints (λ bytes p. record {
-      limit = p.0;
-      new = p.1.new;
-      tallies = p.1.tallies;
-      optimised = p.1.optimised;
-      text = subst (λ (text : List ℕ). Gained out text) p.1.out_is w.wrote.1;
-      report = subst (λ (text : List ℕ). Gained err text) p.1.report_is w.wrote.2;
-    })
-
--- ---- `run`
-
-nothing_more : (told : Option (List ℕ)) → option_map (λ bytes. bytes ++ []) told ≡ told
-nothing_more None = refl
-nothing_more (Some bytes) = ap (λ (b : List ℕ). Some b) (append-nil bytes)
-
-pub ran : WordsSayOneCommand → (words : List (List ℕ)) (a : Asked) (out err : Fed) (ended : Ended) → Ends words a out err ended
-    → (source name : List ℕ) (arguments : List (List ℕ)) (blocks : ℕ) → Asks words (Run source name arguments blocks) → ended.status ≡ Done
-    → IfSome (a.told source) (λ bytes. HasRun bytes name arguments blocks out err)
-ran law words a out err ended e source name arguments blocks asks d =
-    let w = written law words a out err ended e (Run source name arguments blocks) asks (inl d) in
-    let silent : Gained err [] = subst (λ (text : List ℕ). Gained err text) w.is_work.report w.wrote.2 in
-    each_told (a.told source) w.is_work.runs (λ bytes is. record {
-      text = w.work.text;
-      is_run = is;
-      wrote = w.wrote.1;
-      silent = silent ∙ nothing_more err.before;
-    })
-
-argument_with : (a : Asked) (task : Task) (out err : Fed) (ended : Ended) → EndsWith a task out err ended ended.status ⊎ IsAtWords ended.status → ended.status ≡ Argument → NamesNoRun a.told task
-argument_with a task out err ended (inl h) g = let is : EndsWith a task out err ended Argument = subst (EndsWith a task out err ended) g h in is.0.names_none
-argument_with a task out err ended (inr (inl u)) g = absurd cc
-argument_with a task out err ended (inr (inr n)) g = absurd cc
-
-pub argument : WordsSayOneCommand → (words : List (List ℕ)) (a : Asked) (out err : Fed) (ended : Ended) → Ends words a out err ended
-    → (task : Task) → Asks words task → ended.status ≡ Argument → NamesNoRun a.told task
-argument law words a out err ended e task asks g = argument_with a task out err ended (by_task law words a out err ended e task asks) g
-
--- ---- the other statuses
-
-pub usage : (words : List (List ℕ)) (a : Asked) (out err : Fed) (ended : Ended) → Ends words a out err ended → ended.status ≡ Usage → IsNoCommand words
-usage words a out err ended (inl e) u = absurd (let h : EndsWith a e.0 out err ended Usage = subst (EndsWith a e.0 out err ended) u e.2 in h)
-usage words a out err ended (inr e) u = by (let h : EndsAtWords words out err ended Usage = subst (EndsAtWords words out err ended) u e.1 in h.1)
-  where
-    by : {text : List ℕ} → IsUsage words text → IsNoCommand words
-    by (inl refuses) = inl refuses
-    by (inr bad) = inr (bad.0, bad.1)
+-- ---- what the words say
 
 -- the list of widths that `verify` was given is within its form, and the other commands were given none
 listed : (name : Text) (rows : List Row) (list : List ℕ) → name ≡ codes "verify" → list_of (Some (name, rows)) ≡ Some list → first_of (codes "widths") rows ≡ Some list
@@ -153,140 +125,204 @@ unlisted name other rows list is_none e g = let h : list_of (Some (other, rows))
 
 good_list : (said : Option (Text × List Row)) (command : Command) (list : List ℕ) → SaysOf said command → list_of said ≡ Some list → is_width_list list ≡ false → ⊥
 good_list None command list h g bad = h
-good_list (Some said) (commands.Verify rules widths conflicts) list h g bad =
+good_list (Some said) (commands.Verify rules options) list h g bad =
     let e = listed said.0 said.1 list h.0 g in
     let f = h.1.width_list.1 in
     let same : h.1.width_list.0 ≡ list = cc in
     let good = h.1.width_list.2.0 in
     cc
-good_list (Some said) (commands.Optimise rules source conflicts steps) list h g bad = unlisted said.0 (codes "optimise") said.1 list refl h.0 g
-good_list (Some said) (commands.Run source name arguments blocks) list h g bad = unlisted said.0 (codes "run") said.1 list refl h.0 g
+good_list (Some said) (commands.Optimise rules source options) list h g bad = unlisted said.0 (codes "optimise") said.1 list refl h.0 g
+good_list (Some said) (commands.Run source name arguments options) list h g bad = unlisted said.0 (codes "run") said.1 list refl h.0 g
 
 no_bad_list : (words : List (List ℕ)) (task : Task) → Asks words task → IsNoCommand words → ⊥
 no_bad_list words task asks (inl refuses) = let e : true ≡ false = sym asks.taken ∙ refuses in cc
 no_bad_list words task asks (inr bad) = good_list (command_and_rows words) asks.command bad.0 asks.says bad.1.0 bad.1.1
 
-pub no_command : (words : List (List ℕ)) (a : Asked) (out err : Fed) (ended : Ended) → Ends words a out err ended → IsNoCommand words → (ended.status ≡ Usage) ⊎ (ended.status ≡ NoMemory)
-no_command words a out err ended (inl e) refuses = absurd (no_bad_list words e.0 e.1 refuses)
-no_command words a out err ended (inr e) refuses = no_work_at_words words out err ended ended.status e.1
+-- ---- what a task has done
 
--- where bytes are told and not taken, the work is not done
-takes_told : (o : Option (List ℕ)) (P : List ℕ → Type 0) (Q : Type 0) → IfSome o P → IfSome o (λ bytes. ¬ P bytes → ¬ Q)
-takes_told None P Q h = tt
-takes_told (Some bytes) P Q h = λ refuses _. refuses h
+nothing_more : (told : Option (List ℕ)) → option_map (λ bytes. bytes ++ []) told ≡ told
+nothing_more None = refl
+nothing_more (Some bytes) = ap (λ (b : List ℕ). Some b) (append-nil bytes)
 
-always_told : {R : List ℕ → Type 0} (o : Option (List ℕ)) → ((bytes : List ℕ) → R bytes) → IfSome o R
-always_told None h = tt
-always_told (Some bytes) h = h bytes
+some_failed : (out out' err err' : SinkState) (text report : List ℕ) → WroteSome out out' err err' text report → Rose out.faults out'.faults ⊎ Rose err.faults err'.faults
+some_failed out out' err err' text report (inl w) = inl w.0.0
+some_failed out out' err err' text report (inr w) = inr w.1.0
 
-refused_with : (a : Asked) (task : Task) (out err : Fed) (ended : Ended) (status : Status) → EndsWith a task out err ended status
-    → (k : ℕ) (file : File) → slice_get (files_of task) k ≡ Some file → IfSome (a.told file.name) (λ bytes. ¬ Takes file.kind bytes → ¬ IsWorked status)
-refused_with a task out err ended Done h k file at = takes_told (a.told file.name) (Takes file.kind) (IsWorked Done) (h.takes k file at)
-refused_with a task out err ended NotAll h k file at = takes_told (a.told file.name) (Takes file.kind) (IsWorked NotAll) (h.takes k file at)
-refused_with a task out err ended WriteFault h k file at = takes_told (a.told file.name) (Takes file.kind) (IsWorked WriteFault) (h.takes k file at)
-refused_with a task out err ended status h k file at = always_told (a.told file.name) (λ bytes refuses w. w)
+module _ (out out' err err' : SinkState) (ended : Ended) (work : Work) (table : ended.table ≡ work.table) (status : work.status ≡ ended.status)
+    (wrote : Appends out out' work.text) (report : Appends err err' work.report) where
+  has_verified : (text : List ℕ) (options : VerifyOptions) (list : List Rule) → IsRuleText text list → (w : IsVerifyWork list options work) → HasVerified text options out out' ended
+  has_verified text options list is w = record {
+    rules = list;
+    file = is;
+    verified = w.verified;
+    right = w.right;
+    table = table ∙ w.table;
+    wrote = subst (λ (t : List ℕ). Appends out out' t) w.text wrote;
+    all = by w.verified.all_admitted (sym status ∙ w.status);
+  }
+    where
+      by : (all : Bool) → ended.status ≡ cond all Done NotAll → (ended.status ≡ Done) ↔ IsTrue all
+      by true e = (λ _. refl, λ _. e)
+      by false e = (λ d. absurd (let f : Done ≡ NotAll = sym d ∙ e in cc), λ t. absurd cc)
 
-worked_not_at_words : (status : Status) → IsAtWords status → IsWorked status → ⊥
-worked_not_at_words status (inl u) w = let h : IsWorked Usage = subst IsWorked u w in h
-worked_not_at_words status (inr n) w = let h : IsWorked NoMemory = subst IsWorked n w in h
+  has_done : (task : Task) (texts : List (List ℕ)) → IsWorkOf task texts work → HasDone task texts out out' err err' ended
+  has_done (Verify file options) (rules ∷ []) is = has_verified rules options is.0 is.1 is.2
+  has_done (Verify file options) [] is = absurd is
+  has_done (Verify file options) (x ∷ y ∷ more) is = absurd is
+  has_done (Optimise file other options) (rules ∷ source ∷ []) is = (
+    is.0,
+    record {
+      limit = is.1.prints.0;
+      new = is.1.prints.1.new;
+      counts = is.1.prints.1.counts;
+      limited = is.1.prints.1.limited;
+      optimised = is.1.prints.1.optimised;
+      wrote = subst (λ (t : List ℕ). Appends out out' t) is.1.prints.1.out_is wrote;
+      report = subst (λ (t : List ℕ). Appends err err' t) is.1.prints.1.report_is report;
+      status = sym status ∙ is.1.status;
+    },
+  )
+  has_done (Optimise file other options) [] is = absurd is
+  has_done (Optimise file other options) (x ∷ []) is = absurd is
+  has_done (Optimise file other options) (x ∷ y ∷ z ∷ more) is = absurd is
+  has_done (Run file name arguments options) (source ∷ []) is =
+      let silent : Appends err err' [] = subst (λ (t : List ℕ). Appends err err' t) is.report report in
+      record { line = work.text; is_run = is.runs; wrote = wrote; silent = silent ∙ nothing_more err.written; status = sym status ∙ is.status }
+  has_done (Run file name arguments options) [] is = absurd is
+  has_done (Run file name arguments options) (x ∷ y ∷ more) is = absurd is
 
-refused_by : (a : Asked) (task : Task) (out err : Fed) (ended : Ended) → EndsWith a task out err ended ended.status ⊎ IsAtWords ended.status
-    → (k : ℕ) (file : File) → slice_get (files_of task) k ≡ Some file → IfSome (a.told file.name) (λ bytes. ¬ Takes file.kind bytes → ¬ IsWorked ended.status)
-refused_by a task out err ended (inl h) k file at = refused_with a task out err ended ended.status h k file at
-refused_by a task out err ended (inr stopped) k file at = always_told (a.told file.name) (λ bytes refuses w. worked_not_at_words ended.status stopped w)
+-- ---- the clauses
 
-pub refused : WordsSayOneCommand → (words : List (List ℕ)) (a : Asked) (out err : Fed) (ended : Ended) → Ends words a out err ended
-    → (task : Task) → Asks words task → (k : ℕ) (file : File) → slice_get (files_of task) k ≡ Some file
-    → IfSome (a.told file.name) (λ bytes. ¬ Takes file.kind bytes → ¬ IsWorked ended.status)
-refused law words a out err ended e task asks k file at = refused_by a task out err ended (by_task law words a out err ended e task asks) k file at
+module _ (words : List (List ℕ)) (files files' : FilesState) (out out' err err' : SinkState) (ended : Ended) where
+  -- at the words nothing was done
+  no_task : (status : Status) → EndsAtWords words out out' err err' ended status → IsNoTask status
+  no_task Usage h = tt
+  no_task NoMemory h = tt
+  no_task status h = absurd h
 
-pub read_fault : (words : List (List ℕ)) (a : Asked) (out err : Fed) (ended : Ended) → Ends words a out err ended → ended.status ≡ ReadFault → Rose a.faults_before a.faults_after
-read_fault words a out err ended (inl e) r = let h : EndsWith a e.0 out err ended ReadFault = subst (EndsWith a e.0 out err ended) r e.2 in h.1.rose
-read_fault words a out err ended (inr e) r = absurd (let h : EndsAtWords words out err ended ReadFault = subst (EndsAtWords words out err ended) r e.1 in h)
+  -- a call ends as its task says, or at the words
+  by_task : WordsSayOneCommand → Ends words files files' out out' err err' ended → (task : Task) → Asks words task
+      → EndsWith task files files' out out' err err' ended ended.status ⊎ IsNoTask ended.status
+  by_task law (inl e) task asks = inr (no_task ended.status e.1)
+  by_task law (inr e) task asks = inl (subst (λ (t : Task). EndsWith t files files' out out' err err' ended ended.status) (asks_one law words e.0 task e.1 asks) e.2)
 
-some_failed : (out err : Fed) (text report : List ℕ) → WroteSome out err text report → Rose out.faults_before out.faults_after ⊎ Rose err.faults_before err.faults_after
-some_failed out err text report (inl w) = inl w.0.0
-some_failed out err text report (inr w) = inr w.1.0
+  -- the work was done and written, with this status
+  written_at : (task : Task) (status : Status) → EndsWith task files files' out out' err err' ended status → IsDone status
+      → Worked task files files' ended (λ work. (work.status ≡ status) × Appends out out' work.text × Appends err err' work.report)
+  written_at task Done h d = h
+  written_at task NotAll h d = h
+  written_at task status h d = absurd d
 
-pub write_fault : (words : List (List ℕ)) (a : Asked) (out err : Fed) (ended : Ended) → Ends words a out err ended → ended.status ≡ WriteFault → Rose out.faults_before out.faults_after ⊎ Rose err.faults_before err.faults_after
-write_fault words a out err ended (inl e) r = let h : EndsWith a e.0 out err ended WriteFault = subst (EndsWith a e.0 out err ended) r e.2 in some_failed out err _ _ h.wrote
-write_fault words a out err ended (inr e) r = absurd (let h : EndsAtWords words out err ended WriteFault = subst (EndsAtWords words out err ended) r e.1 in h)
+  done_by : (task : Task) → EndsWith task files files' out out' err err' ended ended.status ⊎ IsNoTask ended.status → IsDone ended.status
+      → OfSomeTexts files task (λ texts. HasDone task texts out out' err err' ended)
+  done_by task (inl h) d =
+      let w = written_at task ended.status h d in
+      (w.texts, taken_are_texts files (files_of task) w.texts w.taken, has_done out out' err err' ended w.work w.table w.wrote.0 w.wrote.1 w.wrote.2 task w.texts w.is_work)
+  done_by task (inr n) d = absurd (no_task_not_worked ended.status n (done_is_worked ended.status d))
 
--- ---- names and arguments that a module does not have
+  pub done : WordsSayOneCommand → Ends words files files' out out' err err' ended → (task : Task) → Asks words task → IsDone ended.status
+      → OfSomeTexts files task (λ texts. HasDone task texts out out' err err' ended)
+  done law e task asks d = done_by task (by_task law e task asks) d
 
-the_file : (one file : File) (k : ℕ) → slice_get (one ∷ []) k ≡ Some file → one ≡ file
-the_file one file zero at = cc
-the_file one file (suc k) at = absurd cc
+  only_usage : Ends words files files' out out' err err' ended → ended.status ≡ Usage → IsNoCommand words
+  only_usage (inl e) u = by (let h : EndsAtWords words out out' err err' ended Usage = subst (EndsAtWords words out out' err err' ended) u e.1 in h.1)
+    where
+      by : {text : List ℕ} → IsUsage words text → IsNoCommand words
+      by (inl refuses) = inl refuses
+      by (inr bad) = inr (bad.0, bad.1)
+  only_usage (inr e) u = absurd (let h : EndsWith e.0 files files' out out' err err' ended Usage = subst (EndsWith e.0 files files' out out' err err' ended) u e.2 in h)
 
--- the text of the module of a misnamed run is not refused
-not_refused : (a : Asked) (source name : List ℕ) (arguments : List (List ℕ)) (blocks : ℕ) (status : Status) (line : List ℕ) → TakenAreNotRefused
-    → TextIsRefused a (files_of (Run source name arguments blocks)) status line → IfSome (a.told source) (λ bytes. IsMisnamed bytes name arguments → ⊥)
-not_refused a source name arguments blocks status line torn r =
-    let file : File = record { name = source; kind = Source } in
-    let refuses : IfSome (a.told source) (λ bytes. Refuses Source bytes status line) =
-    subst (λ (f : File). IfSome (a.told f.name) (λ bytes. Refuses f.kind bytes status line)) (sym (the_file file r.file r.comes.place r.comes.is)) r.refuses
-    in
-    each_told (a.told source) refuses (λ bytes refuses mis. torn Source bytes status line (mis.read, mis.source) refuses)
+  no_command : Ends words files files' out out' err err' ended → IsNoCommand words → IsNoTask ended.status
+  no_command (inl e) refuses = no_task ended.status e.1
+  no_command (inr e) refuses = absurd (no_bad_list words e.0 e.1 refuses)
 
-misnamed_work : RunsAreNotMisnamed → (told : Option (List ℕ)) (name : List ℕ) (arguments : List (List ℕ)) (blocks : ℕ) (work : Work)
-    → IsRunWork told name arguments blocks work → IfSome told (λ bytes. IsMisnamed bytes name arguments → ⊥)
-misnamed_work law told name arguments blocks work is = each_told told is.runs (λ bytes run mis. law bytes name arguments blocks work.text run mis)
+  pub usage : Ends words files files' out out' err err' ended → (ended.status ≡ Usage → IsNoCommand words) × (IsNoCommand words → IsNoTask ended.status)
+  usage e = (only_usage e, no_command e)
 
-no_run_with : TakenAreNotRefused → RunsAreNotMisnamed → (a : Asked) (source name : List ℕ) (arguments : List (List ℕ)) (blocks : ℕ) (out err : Fed) (ended : Ended) (status : Status)
-    → EndsWith a (Run source name arguments blocks) out err ended status → IfSome (a.told source) (λ bytes. IsMisnamed bytes name arguments → IsNoRun status)
-no_run_with torn runs a source name arguments blocks out err ended Done h = misnamed_work runs (a.told source) name arguments blocks h.work h.is_work
-no_run_with torn runs a source name arguments blocks out err ended NotAll h = misnamed_work runs (a.told source) name arguments blocks h.work h.is_work
-no_run_with torn runs a source name arguments blocks out err ended WriteFault h = misnamed_work runs (a.told source) name arguments blocks h.work h.is_work
-no_run_with torn runs a source name arguments blocks out err ended RuleRefused h = not_refused a source name arguments blocks RuleRefused h.0 torn h.1
-no_run_with torn runs a source name arguments blocks out err ended ModuleRefused h = not_refused a source name arguments blocks ModuleRefused h.0 torn h.1
-no_run_with torn runs a source name arguments blocks out err ended Usage h = absurd h
-no_run_with torn runs a source name arguments blocks out err ended status h = always_told (a.told source) (λ bytes mis. tt)
+  refused_at : (task : Task) (status : Status) → EndsWith task files files' out out' err err' ended status → HasBadFile files task → IsWorked status → ⊥
+  refused_at task Done h bad w = bad_not_taken files task h.texts bad h.taken
+  refused_at task NotAll h bad w = bad_not_taken files task h.texts bad h.taken
+  refused_at task WriteFault h bad w = bad_not_taken files task h.texts bad h.taken
+  refused_at task status h bad w = w
 
-no_run_at_words : (status : Status) → IsAtWords status → (status ≡ Usage → ⊥) → IsNoRun status
-no_run_at_words status (inl u) command = absurd (command u)
-no_run_at_words status (inr n) command = subst IsNoRun (sym n) tt
+  refused_by : (task : Task) → EndsWith task files files' out out' err err' ended ended.status ⊎ IsNoTask ended.status → HasBadFile files task → IsWorked ended.status → ⊥
+  refused_by task (inl h) bad w = refused_at task ended.status h bad w
+  refused_by task (inr n) bad w = no_task_not_worked ended.status n w
 
-no_run_by : TakenAreNotRefused → RunsAreNotMisnamed → (a : Asked) (source name : List ℕ) (arguments : List (List ℕ)) (blocks : ℕ) (out err : Fed) (ended : Ended)
-    → EndsWith a (Run source name arguments blocks) out err ended ended.status ⊎ IsAtWords ended.status → (ended.status ≡ Usage → ⊥)
-    → IfSome (a.told source) (λ bytes. IsMisnamed bytes name arguments → IsNoRun ended.status)
-no_run_by torn runs a source name arguments blocks out err ended (inl h) command = no_run_with torn runs a source name arguments blocks out err ended ended.status h
-no_run_by torn runs a source name arguments blocks out err ended (inr stopped) command = always_told (a.told source) (λ bytes mis. no_run_at_words ended.status stopped command)
+  pub refused : WordsSayOneCommand → Ends words files files' out out' err err' ended → (task : Task) → Asks words task → HasBadFile files task → IsWorked ended.status → ⊥
+  refused law e task asks bad w = refused_by task (by_task law e task asks) bad w
 
-pub no_run : TakenAreNotRefused → RunsAreNotMisnamed → WordsSayOneCommand → (words : List (List ℕ)) (a : Asked) (out err : Fed) (ended : Ended) → Ends words a out err ended
-    → (source name : List ℕ) (arguments : List (List ℕ)) (blocks : ℕ) → Asks words (Run source name arguments blocks)
-    → IfSome (a.told source) (λ bytes. IsMisnamed bytes name arguments → IsNoRun ended.status)
-no_run torn runs law words a out err ended e source name arguments blocks asks =
-    no_run_by torn runs a source name arguments blocks out err ended (by_task law words a out err ended e (Run source name arguments blocks) asks)
-    (λ u. no_bad_list words (Run source name arguments blocks) asks (usage words a out err ended e u))
+  only_argument : (task : Task) → EndsWith task files files' out out' err err' ended ended.status ⊎ IsNoTask ended.status → ended.status ≡ Argument → OfSomeTexts files task (NamesNoRun task)
+  only_argument task (inl h) g =
+      let is : EndsWith task files files' out out' err err' ended Argument = subst (EndsWith task files files' out out' err err' ended) g h in
+      (is.0.texts, taken_are_texts files (files_of task) is.0.texts is.0.taken, is.0.names_none)
+  only_argument task (inr n) g = absurd (let h : IsNoTask Argument = subst IsNoTask g n in h)
 
--- ---- completeness
+  no_run_worked : RunsAreNotMisnamed → (task : Task) (texts : List (List ℕ)) (work : Work) → AreTaken files (files_of task) texts → IsWorkOf task texts work
+      → OfToldTexts files task (NamesNoRun task) → ⊥
+  no_run_worked law task texts work taken is h =
+      no_run_no_work law task texts work is (subst (NamesNoRun task) (sym (taken_are_told files (files_of task) texts h.0 taken h.1)) h.2)
 
-good_at : (o : Option (List ℕ)) (P Q : List ℕ → Type 0) → IsSomeAnd o P → IfSome o Q → ((bytes : List ℕ) → P bytes → Q bytes → ⊥) → ⊥
-good_at None P Q g r h = g
-good_at (Some bytes) P Q g r h = h bytes g r
+  no_run_at : TakenAreNotRefused → RunsAreNotMisnamed → (task : Task) (status : Status) → EndsWith task files files' out out' err err' ended status
+      → OfToldTexts files task (NamesNoRun task) → IsNoRun status
+  no_run_at torn law task Done h n = absurd (no_run_worked law task h.texts h.work h.taken h.is_work n)
+  no_run_at torn law task NotAll h n = absurd (no_run_worked law task h.texts h.work h.taken h.is_work n)
+  no_run_at torn law task WriteFault h n = absurd (no_run_worked law task h.texts h.work h.taken h.is_work n)
+  no_run_at torn law task RuleRefused h n = absurd (good_not_refused torn files files' (files_of task) n.0 n.1 (no_run_takes task n.0 n.2) RuleRefused h.0 h.1)
+  no_run_at torn law task ModuleRefused h n = absurd (good_not_refused torn files files' (files_of task) n.0 n.1 (no_run_takes task n.0 n.2) ModuleRefused h.0 h.1)
+  no_run_at torn law task Usage h n = absurd h
+  no_run_at torn law task Argument h n = tt
+  no_run_at torn law task ReadFault h n = tt
+  no_run_at torn law task NoMemory h n = tt
 
-complete_with : (a : Asked) (task : Task) (out err : Fed) (ended : Ended) (status : Status) → EndsWith a task out err ended status
-    → AreGood a.told (files_of task) × HasItsRun a.told task → (Rose a.faults_before a.faults_after → ⊥) → (Rose out.faults_before out.faults_after → ⊥) → (Rose err.faults_before err.faults_after → ⊥)
-    → TakenAreNotRefused → IsWorkOrNoMemory status
-complete_with a task out err ended Done h good r w v torn = tt
-complete_with a task out err ended NotAll h good r w v torn = tt
-complete_with a task out err ended NoMemory h good r w v torn = tt
-complete_with a task out err ended Usage h good r w v torn = absurd h
-complete_with a task out err ended Argument h good r w v torn = absurd (good.1 h.0.names_none)
-complete_with a task out err ended WriteFault h good r w v torn = absurd (⊎_elim w v (some_failed out err _ _ h.wrote))
-complete_with a task out err ended ReadFault h good r w v torn = absurd (r h.1.rose)
-complete_with a task out err ended RuleRefused h good r w v torn =
-    absurd (good_at (a.told h.1.file.name) _ _ (good.0 h.1.comes.place h.1.file h.1.comes.is) h.1.refuses (λ bytes takes refuses. torn h.1.file.kind bytes RuleRefused h.0 takes refuses))
-complete_with a task out err ended ModuleRefused h good r w v torn =
-    absurd (good_at (a.told h.1.file.name) _ _ (good.0 h.1.comes.place h.1.file h.1.comes.is) h.1.refuses (λ bytes takes refuses. torn h.1.file.kind bytes ModuleRefused h.0 takes refuses))
+  no_task_no_run : (status : Status) → IsNoTask status → (status ≡ Usage → ⊥) → IsNoRun status
+  no_task_no_run Usage n command = absurd (command refl)
+  no_task_no_run NoMemory n command = tt
+  no_task_no_run status n command = absurd n
 
-work_or_no_memory_at_words : (status : Status) → IsAtWords status → (status ≡ Usage → ⊥) → IsWorkOrNoMemory status
-work_or_no_memory_at_words status (inl u) refuses = absurd (refuses u)
-work_or_no_memory_at_words status (inr n) refuses = subst IsWorkOrNoMemory (sym n) tt
+  no_run_by : TakenAreNotRefused → RunsAreNotMisnamed → (task : Task) → EndsWith task files files' out out' err err' ended ended.status ⊎ IsNoTask ended.status
+      → (ended.status ≡ Usage → ⊥) → OfToldTexts files task (NamesNoRun task) → IsNoRun ended.status
+  no_run_by torn law task (inl h) command n = no_run_at torn law task ended.status h n
+  no_run_by torn law task (inr stopped) command n = no_task_no_run ended.status stopped command
 
-pub complete : TakenAreNotRefused → (words : List (List ℕ)) (a : Asked) (out err : Fed) (ended : Ended) → Ends words a out err ended
-    → (IsNoCommand words → ⊥) → ((task : Task) → Asks words task → AreGood a.told (files_of task) × HasItsRun a.told task)
-    → (Rose a.faults_before a.faults_after → ⊥) → (Rose out.faults_before out.faults_after → ⊥) → (Rose err.faults_before err.faults_after → ⊥) → IsWorkOrNoMemory ended.status
-complete torn words a out err ended (inl e) refuses good r w v = complete_with a e.0 out err ended ended.status e.2 (good e.0 e.1) r w v torn
-complete torn words a out err ended (inr e) refuses good r w v =
-    work_or_no_memory_at_words ended.status (no_work_at_words words out err ended ended.status e.1) (λ u. refuses (usage words a out err ended (inr e) u))
+  pub argument : TakenAreNotRefused → RunsAreNotMisnamed → WordsSayOneCommand → Ends words files files' out out' err err' ended → (task : Task) → Asks words task
+      → (ended.status ≡ Argument → OfSomeTexts files task (NamesNoRun task)) × (OfToldTexts files task (NamesNoRun task) → IsNoRun ended.status)
+  argument torn runs law e task asks = (
+    only_argument task (by_task law e task asks),
+    no_run_by torn runs task (by_task law e task asks) (λ u. no_bad_list words task asks (only_usage e u)),
+  )
+
+  pub read_fault : Ends words files files' out out' err err' ended → ended.status ≡ ReadFault → Rose files.faults files'.faults
+  read_fault (inl e) r = absurd (let h : EndsAtWords words out out' err err' ended ReadFault = subst (EndsAtWords words out out' err err' ended) r e.1 in h)
+  read_fault (inr e) r = let h : EndsWith e.0 files files' out out' err err' ended ReadFault = subst (EndsWith e.0 files files' out out' err err' ended) r e.2 in h.1.rose
+
+  pub write_fault : Ends words files files' out out' err err' ended → ended.status ≡ WriteFault → Rose out.faults out'.faults ⊎ Rose err.faults err'.faults
+  write_fault (inl e) r = absurd (let h : EndsAtWords words out out' err err' ended WriteFault = subst (EndsAtWords words out out' err err' ended) r e.1 in h)
+  write_fault (inr e) r =
+      let h : EndsWith e.0 files files' out out' err err' ended WriteFault = subst (EndsWith e.0 files files' out out' err err' ended) r e.2 in
+      some_failed out out' err err' h.work.text h.work.report h.wrote
+
+  complete_at : TakenAreNotRefused → (task : Task) (status : Status) → EndsWith task files files' out out' err err' ended status
+      → OfToldTexts files task (λ texts. TakesEach task texts × (NamesNoRun task texts → ⊥))
+      → (Rose files.faults files'.faults → ⊥) → (Rose out.faults out'.faults → ⊥) → (Rose err.faults err'.faults → ⊥) → IsDoneOrNoMemory status
+  complete_at torn task Done h good r w v = tt
+  complete_at torn task NotAll h good r w v = tt
+  complete_at torn task NoMemory h good r w v = tt
+  complete_at torn task Usage h good r w v = absurd h
+  complete_at torn task Argument h good r w v =
+      absurd (good.2.1 (subst (NamesNoRun task) (taken_are_told files (files_of task) h.0.texts good.0 h.0.taken good.1) h.0.names_none))
+  complete_at torn task WriteFault h good r w v = absurd (⊎_elim w v (some_failed out out' err err' h.work.text h.work.report h.wrote))
+  complete_at torn task ReadFault h good r w v = absurd (r h.1.rose)
+  complete_at torn task RuleRefused h good r w v = absurd (good_not_refused torn files files' (files_of task) good.0 good.1 good.2.0 RuleRefused h.0 h.1)
+  complete_at torn task ModuleRefused h good r w v = absurd (good_not_refused torn files files' (files_of task) good.0 good.1 good.2.0 ModuleRefused h.0 h.1)
+
+  done_at_words : (status : Status) → IsNoTask status → (status ≡ Usage → ⊥) → IsDoneOrNoMemory status
+  done_at_words Usage n refuses = absurd (refuses refl)
+  done_at_words NoMemory n refuses = tt
+  done_at_words status n refuses = absurd n
+
+  pub complete : TakenAreNotRefused → Ends words files files' out out' err err' ended
+      → (IsNoCommand words → ⊥) → ((task : Task) → Asks words task → OfToldTexts files task (λ texts. TakesEach task texts × (NamesNoRun task texts → ⊥)))
+      → (Rose files.faults files'.faults → ⊥) → (Rose out.faults out'.faults → ⊥) → (Rose err.faults err'.faults → ⊥) → IsDoneOrNoMemory ended.status
+  complete torn (inl e) refuses good r w v = done_at_words ended.status (no_task ended.status e.1) (λ u. refuses (only_usage (inl e) u))
+  complete torn (inr e) refuses good r w v = complete_at torn e.0 ended.status e.2 (good e.0 e.1) r w v

@@ -5,3 +5,9 @@ pub mod Asking
 pub mod Following
 pub mod Reading
 pub mod Taking
+pub mod ArgumentLemmas
+pub mod Countable
+pub mod LawLemmas
+pub mod Misnaming
+pub mod NamedLemmas
+pub mod RunningLemmas

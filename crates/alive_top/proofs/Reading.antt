@@ -1,10 +1,10 @@
 -- Errors that one step hands on to the next, and what rules are read.
 use Rattle.std.proofs.Common.{List}
 use Rattle.std.specs.Prelude.{All}
-use Rattle.rule_core.specs.declared.rule.Rule.{Rule}
-use Rattle.rule_core.specs.Checks.{IsRule}
-use Rattle.rule_typing.specs.Classes.{IsClassified}
-use Rattle.verifier.specs.Findings.{IsReadRule}
+use Rattle.verdict.specs.Rule.{Rule}
+use Rattle.verdict.specs.Checks.{IsRule}
+use Rattle.verdict.specs.Classes.{IsClassified}
+use Rattle.verdict.specs.Findings.{IsReadRule}
 
 -- each rule meets what a rule that is read meets
 pub read_rules : (rules : List Rule) → All IsRule rules → All IsClassified rules → All IsReadRule rules

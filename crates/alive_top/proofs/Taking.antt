@@ -3,20 +3,21 @@ use Rattle.std.proofs.Common.{◌≡◌, ℕ, ◌<◌, ◌≤◌, ◌⊎◌, Lis
 use Rattle.std.specs.Prelude.{slice_get}
 use Rattle.std.proofs.lemmas.Option.{slice_get_cases, slice_get_within}
 use Rattle.ir_reader.specs.Laws.{TextsHaveOneModuleOrFault}
-use Rattle.rule_core.specs.declared.rule.Rule.{Rule}
-use Rattle.rule_parse.specs.declared.raw.RawRule.{RawRule}
-use Rattle.rule_parse.specs.Laws.{TextsHaveOneReadingOrFault}
+use Rattle.verdict.specs.Rule.{Rule}
+use Rattle.rule_reader.specs.RawRule.{RawRule}
+use Rattle.rule_reader.specs.OneReading.{TextsHaveOneReadingOrFault}
 use Rattle.rule_reader.specs.declared.fault.RuleFault.{RuleFault}
-use Rattle.rule_reader.specs.Faults.{IsFault, AreRulesOf, IsFirstFault, too_long, of_text, of_rule}
+use Rattle.rule_reader.specs.Faults.{IsFault, AreRulesOf, IsFirstRuleFault, too_long, of_text, of_rule}
 use Rattle.alive_top.specs.declared.status.Status.{Status}
-use Rattle.alive_top.specs.Tasks.{Kind, Takes, Refuses, IsRuleText, HasRules, IsFirstName, Rules as RuleFile, NoRules, Source as ModuleFile}
+use Rattle.alive_top.specs.File.{Kind, Rules as RuleFile, NoRules, Source as ModuleFile}
+use Rattle.alive_top.specs.Taken.{Takes, Refuses, IsRuleText, HasRules, IsFirstName}
 
 -- it is so for each kind of file
 abbrev pub TakenAreNotRefused : Type 0
 TakenAreNotRefused = (kind : Kind) (bytes : List ℕ) (s : Status) (line : List ℕ) → Takes kind bytes → Refuses kind bytes s line → ⊥
 
 -- rules that were read pass each check
-passes : (raws : List RawRule) (rules : List Rule) (k : ℕ) (raw : RawRule) (fault : RuleFault) → AreRulesOf raws rules → slice_get raws k ≡ Some raw → IsFirstFault (take k raws) raw fault → ⊥
+passes : (raws : List RawRule) (rules : List Rule) (k : ℕ) (raw : RawRule) (fault : RuleFault) → AreRulesOf raws rules → slice_get raws k ≡ Some raw → IsFirstRuleFault (take k raws) raw fault → ⊥
 passes raws rules k raw fault are at first = by (slice_get_cases rules k).1
   where
     by : ((rule : Rule) × (k < length rules) × (slice_get rules k ≡ Some rule) × (get_or rules k rule ≡ rule)) ⊎ ((length rules ≤ k) × (slice_get rules k ≡ None)) → ⊥

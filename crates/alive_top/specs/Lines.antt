@@ -1,8 +1,8 @@
 -- The lines that say why a command's work was not done.
 use Rattle.std.specs.Prelude.{ℕ, List, ◌++◌, codes, decimal}
-use Rattle.ir_tokens.specs.declared.called.Identifier.{Identifier}
-use Rattle.ir_tokens.specs.declared.called.Identifier.TheVariants.{Named, Numbered}
-use Rattle.ir_lexemes.specs.Names.{name_text}
+use Rattle.ir_reader.specs.Identifier.{Identifier}
+use Rattle.ir_reader.specs.Identifier.TheVariants.{Named, Numbered}
+use Rattle.ir_printer.specs.NameText.{name_text}
 use Rattle.ir_reader.specs.declared.fault.IrFault.{IrFault}
 use Rattle.ir_reader.specs.declared.fault.IrFaultKind.{IrFaultKind}
 use Rattle.ir_reader.specs.declared.fault.IrFaultKind.TheVariants as ir

@@ -1,4 +1,4 @@
--- The exit status of each way to end.
+-- The exit status of each way to end, and which of them come where.
 use Rattle.std.specs.Prelude.{ℕ}
 use Rattle.alive_top.specs.declared.status.Status.{Status}
 use Rattle.alive_top.specs.declared.status.Status.TheVariants.{Done, NotAll, Usage, RuleRefused, ModuleRefused, ReadFault, WriteFault, NoMemory, Argument}
@@ -14,3 +14,36 @@ code_of ReadFault = 5
 code_of WriteFault = 6
 code_of NoMemory = 7
 code_of Argument = 8
+
+-- the work was done and written
+abbrev pub IsDone : Status → Type 0
+IsDone Done = Unit {0}
+IsDone NotAll = Unit {0}
+IsDone status = ⊥
+
+-- the work was done, and maybe not written whole
+abbrev pub IsWorked : Status → Type 0
+IsWorked Done = Unit {0}
+IsWorked NotAll = Unit {0}
+IsWorked WriteFault = Unit {0}
+IsWorked status = ⊥
+
+-- those that may come where the words are no command
+abbrev pub IsNoTask : Status → Type 0
+IsNoTask Usage = Unit {0}
+IsNoTask NoMemory = Unit {0}
+IsNoTask status = ⊥
+
+-- those that may come where a module has no function of a run's name, or the arguments do not fit it
+abbrev pub IsNoRun : Status → Type 0
+IsNoRun Argument = Unit {0}
+IsNoRun ReadFault = Unit {0}
+IsNoRun NoMemory = Unit {0}
+IsNoRun status = ⊥
+
+-- those that may come where nothing is wrong
+abbrev pub IsDoneOrNoMemory : Status → Type 0
+IsDoneOrNoMemory Done = Unit {0}
+IsDoneOrNoMemory NotAll = Unit {0}
+IsDoneOrNoMemory NoMemory = Unit {0}
+IsDoneOrNoMemory status = ⊥

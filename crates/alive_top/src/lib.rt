@@ -1,14 +1,28 @@
 //! The program as one call over values: from the words of a command line, the files and the sinks to a status.
 //!
-//! The definitions stand in `specs/`: `Tasks` says what the words ask for, `Working` what is written for it, and `Endings` how each
-//! status comes.
+//! The definitions stand in `specs/`: `Task` says what the words ask for, `Texts` what is read of its files, `Work` and `Done` what is
+//! written for them, and `Ends` how each status comes.
 #![tactic(auto)]
 
+mod argument;
+mod fault;
+mod laws;
+mod named;
+mod optimised;
+mod outcome;
 mod refusal;
+mod running;
 mod status;
 mod top;
 mod work;
 
+pub use fault::RunError;
+pub use laws::{
+    every_module_read_has_outcomes, every_module_written_has_outcomes,
+    every_run_has_its_function_and_arguments,
+};
+pub use optimised::{Texts, optimise};
+pub use running::run;
 pub use status::{Ended, Status};
 pub use top::alive;
 

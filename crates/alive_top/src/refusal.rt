@@ -5,8 +5,7 @@ ghost use Rattle.alive_top.specs.declared.refusal.Refusal.TheVariants.{Memory};
 ghost use Rattle.alive_top.specs.Lines.{kind_text, rules_line, register_text, ir_kind_text, module_line, read_fault_line};
 
 use ir_printer::push_name;
-use ir_reader::{IrFault, IrFaultKind};
-use ir_tokens::Identifier;
+use ir_reader::{Identifier, IrFault, IrFaultKind};
 use itoa::Buffer;
 use rule_reader::{RuleFault, RuleFaultKind};
 use std::alloc::{AllocError, Global};

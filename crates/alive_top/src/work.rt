@@ -1,32 +1,31 @@
 //! The work of each command, before anything is written.
 
 ghost use Rattle.std.specs.Prelude.{◌≡◌, ◌≤◌, ◌<◌, ◌+◌, ◌^◌, length, map, take, IfSome, [], IfOk, All, if◌then◌else◌};
-ghost use Rattle.verifier.specs.Findings.{IsReadRule};
-ghost use Rattle.module_work.specs.Running.{IsRun};
-ghost use Rattle.alive_top.specs.Asking.{asked};
-ghost use Rattle.alive_top.specs.Tasks.{Rules, NoRules, Source, Verify, Optimise, Run, task_of, IsReady, IsRuleText, HasRules, IsFirstName};
-ghost use Rattle.alive_top.specs.Working.{IsVerifyWork, IsPrinted};
-ghost use Rattle.alive_top.specs.Results.{ReadOf, TextOf, FileOf, RunOf, RunOfFile, TaskOf, seen_work};
+ghost use Rattle.command_line.specs.Limits.{most_conflicts, IsWithinLimits};
+ghost use Rattle.alive_top.specs.Runs.{IsRun, IsMisnamed};
+ghost use Rattle.outside.specs.Files.{FilesFollow};
+ghost use Rattle.verdict.specs.Findings.{IsReadRule};
+ghost use Rattle.alive_top.specs.Answers.{ReadOf, TextOf, FileOf, TaskOf, seen_work};
+ghost use Rattle.alive_top.specs.File.{Rules, NoRules, Source};
+ghost use Rattle.alive_top.specs.Taken.{IsRuleText, HasRules, IsFirstName};
+ghost use Rattle.alive_top.specs.Task.{Verify, Optimise, Run, task_of};
+ghost use Rattle.alive_top.specs.Work.{IsVerifyWork, IsPrinted};
 
+use crate::fault::RunError;
+use crate::optimised::Texts;
 use crate::refusal::Refusal;
 use crate::status::Status;
-use command_line::Command;
+use command_line::{Command, OptimiseOptions, RunOptions, VerifyOptions};
 use ir_reader::IrError;
 use lists::{List, Text};
-use module_work::{RunError, Texts};
-use ops::Width;
 use outside::{Files, ReadError};
-use rule_core::Rule;
-use rule_reader::{RuleError, RuleFault, RuleFaultKind, read_rules};
+use rule_reader::{Rule, RuleError, RuleFault, RuleFaultKind, read_rules};
 use scan::Cursor;
 use std::alloc::{AllocError, Global};
 use verdict::Table;
 
 /// The most bytes of a rule file.
 const RULES_LIMIT: usize = 1_048_576;
-
-/// The most bytes of a module.
-const SOURCE_LIMIT: usize = 1 << 24;
 
 /// What a command writes: a text for the output, and a report. Beside them the verdicts, and the status once both are written.
 #[derive(Drop)]
@@ -44,12 +43,9 @@ fn read<'a, F: Files>(
     name: &'a str,
     most: usize,
 ) -> Result<Vec<u8>, Refusal<'a>>
-    ensures answer { ReadOf
-        (asked (F.bytes_under files.old) (F.names_asked files.old) (F.names_asked files.new) (F.faults files.old) (F.faults files.new))
-        name.now
-        (λ read. IfSome (F.bytes_under files.old name.now) (λ told. read.items ≡ take most told)) result }
-    ensures told_stay { F.bytes_under files.new ≡ F.bytes_under files.old }
-    ensures faults_grow { F.faults files.old ≤ F.faults files.new }
+    ensures answer { ReadOf (F.state files.old) (F.state files.new) name.now
+        (λ read. IfSome ((F.state files.old).told name.now) (λ told. read.items ≡ take most told)) result }
+    ensures follow { FilesFollow (F.state files.old) (F.state files.new) }
 {
     match files.read(alloc, name, most) {
         Ok(bytes) => Ok(bytes),
@@ -60,7 +56,7 @@ fn read<'a, F: Files>(
 
 /// The rules of a text.
 fn rules_of<'a>(alloc: Global, bytes: &[u8]) -> Result<Vec<Rule>, Refusal<'a>>
-    ensures text { TextOf Rules bytes.now (λ rules. IsRuleText bytes.now rules.items) result }
+    ensures text { TextOf Rules bytes.now (λ rules. IsRuleText bytes.now rules.items) ⊥ result }
     ensures read { IfOk result (λ rules. All IsReadRule rules.items) }
 {
     match read_rules(alloc, bytes) {
@@ -88,7 +84,7 @@ fn first_name(alloc: Global, bytes: &[u8]) -> Result<RuleFault, AllocError>
 
 /// That a text is a rule file without rules.
 fn no_rules_of<'a>(alloc: Global, bytes: &[u8]) -> Result<(), Refusal<'a>>
-    ensures { TextOf NoRules bytes.now (λ none. IsRuleText bytes.now []) result }
+    ensures { TextOf NoRules bytes.now (λ none. IsRuleText bytes.now []) ⊥ result }
 {
     let rules = rules_of(alloc, bytes)?;
     if rules.is_empty() {
@@ -100,9 +96,9 @@ fn no_rules_of<'a>(alloc: Global, bytes: &[u8]) -> Result<(), Refusal<'a>>
 
 /// What is written for the text of a module.
 fn texts_of<'a>(alloc: Global, source: &[u8]) -> Result<Texts, Refusal<'a>>
-    ensures { TextOf Source source.now (λ texts. IsPrinted source.now texts.out.items texts.report.items) result }
+    ensures { TextOf Source source.now (λ texts. IsPrinted source.now texts.out.items texts.report.items) ⊥ result }
 {
-    match module_work::optimise(alloc, source) {
+    match crate::optimised::optimise(alloc, source) {
         Ok(texts) => Ok(texts),
         Err(IrError::Refused(fault)) => Err(Refusal::Module(fault)),
         Err(IrError::NoMemory) => Err(Refusal::Memory),
@@ -115,12 +111,10 @@ fn read_rule_file<'a, F: Files>(
     files: &mut F,
     name: &'a str,
 ) -> Result<Vec<Rule>, Refusal<'a>>
-    ensures answer { FileOf
-        (asked (F.bytes_under files.old) (F.names_asked files.old) (F.names_asked files.new) (F.faults files.old) (F.faults files.new))
-        (record { name = name.now; kind = Rules }) (λ bytes rules. IsRuleText bytes rules.items) result }
+    ensures answer { FileOf (F.state files.old) (F.state files.new) (record { name = name.now; kind = Rules })
+        (λ text rules. IsRuleText text rules.items) (λ _. ⊥) result }
     ensures read { IfOk result (λ rules. All IsReadRule rules.items) }
-    ensures told_stay { F.bytes_under files.new ≡ F.bytes_under files.old }
-    ensures faults_grow { F.faults files.old ≤ F.faults files.new }
+    ensures follow { FilesFollow (F.state files.old) (F.state files.new) }
 {
     let bytes = read(alloc, files, name, RULES_LIMIT + 1)?;
     rules_of(alloc, bytes.as_slice())
@@ -132,11 +126,9 @@ fn read_no_rules<'a, F: Files>(
     files: &mut F,
     name: &'a str,
 ) -> Result<(), Refusal<'a>>
-    ensures answer { FileOf
-        (asked (F.bytes_under files.old) (F.names_asked files.old) (F.names_asked files.new) (F.faults files.old) (F.faults files.new))
-        (record { name = name.now; kind = NoRules }) (λ bytes none. IsRuleText bytes []) result }
-    ensures told_stay { F.bytes_under files.new ≡ F.bytes_under files.old }
-    ensures faults_grow { F.faults files.old ≤ F.faults files.new }
+    ensures answer { FileOf (F.state files.old) (F.state files.new) (record { name = name.now; kind = NoRules })
+        (λ text none. IsRuleText text []) (λ _. ⊥) result }
+    ensures follow { FilesFollow (F.state files.old) (F.state files.new) }
 {
     let bytes = read(alloc, files, name, RULES_LIMIT + 1)?;
     no_rules_of(alloc, bytes.as_slice())
@@ -148,32 +140,25 @@ fn read_source<'a, F: Files>(
     files: &mut F,
     name: &'a str,
 ) -> Result<Texts, Refusal<'a>>
-    ensures answer { FileOf
-        (asked (F.bytes_under files.old) (F.names_asked files.old) (F.names_asked files.new) (F.faults files.old) (F.faults files.new))
-        (record { name = name.now; kind = Source }) (λ bytes texts. IsPrinted bytes texts.out.items texts.report.items) result }
-    ensures told_stay { F.bytes_under files.new ≡ F.bytes_under files.old }
-    ensures faults_grow { F.faults files.old ≤ F.faults files.new }
+    ensures answer { FileOf (F.state files.old) (F.state files.new) (record { name = name.now; kind = Source })
+        (λ text texts. IsPrinted text texts.out.items texts.report.items) (λ _. ⊥) result }
+    ensures follow { FilesFollow (F.state files.old) (F.state files.new) }
 {
-    let bytes = read(alloc, files, name, SOURCE_LIMIT + 1)?;
+    let bytes = read(alloc, files, name, ir_reader::MOST_BYTES + 1)?;
     texts_of(alloc, bytes.as_slice())
 }
 
 /// What is written for a list of rules. As many as no `u32` counts are refused as for want of memory; no text within 1 MiB has so
 /// many.
-fn verified(
-    alloc: Global,
-    rules: &[Rule],
-    widths: &List<Width>,
-    conflicts: u32,
-) -> Result<Work, AllocError>
+fn verified(alloc: Global, rules: &[Rule], options: &VerifyOptions) -> Result<Work, AllocError>
     requires rules { All IsReadRule rules.now }
-    requires conflicts { conflicts ≤ 1000000 }
-    ensures { IfOk result (λ work. IsVerifyWork rules.now widths.now conflicts (seen_work work)) }
+    requires conflicts { options.now.conflicts ≤ most_conflicts }
+    ensures { IfOk result (λ work. IsVerifyWork rules.now options.now (seen_work work)) }
 {
     if rules.len() > u32::MAX as usize {
         return Err(AllocError);
     }
-    let verified = verifier::verify(alloc, rules, widths, conflicts)?;
+    let verified = verdict::verify(alloc, rules, &options.widths, options.conflicts)?;
     Ok(Work {
         text: verified.text,
         report: Vec::new(alloc),
@@ -198,18 +183,14 @@ fn verify<'a, F: Files>(
     alloc: Global,
     files: &mut F,
     rules: &'a str,
-    widths: &List<Width>,
-    conflicts: u32,
+    options: &VerifyOptions,
 ) -> Result<Work, Refusal<'a>>
-    requires conflicts { conflicts ≤ 1000000 }
-    ensures answer { TaskOf
-        (asked (F.bytes_under files.old) (F.names_asked files.old) (F.names_asked files.new) (F.faults files.old) (F.faults files.new))
-        (Verify rules.now widths.now conflicts) result }
-    ensures told_stay { F.bytes_under files.new ≡ F.bytes_under files.old }
-    ensures faults_grow { F.faults files.old ≤ F.faults files.new }
+    requires conflicts { options.now.conflicts ≤ most_conflicts }
+    ensures answer { TaskOf (F.state files.old) (F.state files.new) (Verify rules.now options.now) result }
+    ensures follow { FilesFollow (F.state files.old) (F.state files.new) }
 {
     let list = read_rule_file(alloc, files, rules)?;
-    let work = verified(alloc, list.as_slice(), widths, conflicts)?;
+    let work = verified(alloc, list.as_slice(), options)?;
     Ok(work)
 }
 
@@ -219,14 +200,10 @@ fn optimise<'a, F: Files>(
     files: &mut F,
     rules: &'a str,
     source: &'a str,
-    conflicts: u32,
-    steps: u32,
+    options: OptimiseOptions,
 ) -> Result<Work, Refusal<'a>>
-    ensures answer { TaskOf
-        (asked (F.bytes_under files.old) (F.names_asked files.old) (F.names_asked files.new) (F.faults files.old) (F.faults files.new))
-        (Optimise rules.now source.now conflicts steps) result }
-    ensures told_stay { F.bytes_under files.new ≡ F.bytes_under files.old }
-    ensures faults_grow { F.faults files.old ≤ F.faults files.new }
+    ensures answer { TaskOf (F.state files.old) (F.state files.new) (Optimise rules.now source.now options) result }
+    ensures follow { FilesFollow (F.state files.old) (F.state files.new) }
 {
     read_no_rules(alloc, files, rules)?;
     let texts = read_source(alloc, files, source)?;
@@ -246,9 +223,10 @@ fn run_of<'a>(
     arguments: &[&str],
     blocks: u32,
 ) -> Result<Vec<u8>, Refusal<'a>>
-    ensures { RunOf source.now name.now (map (λ a. a.now) arguments.now) (λ text. IsRun source.now name.now (map (λ a. a.now) arguments.now) blocks text.items) result }
+    ensures { TextOf Source source.now (λ text. IsRun source.now name.now (map (λ a. a.now) arguments.now) blocks text.items)
+        (IsMisnamed source.now name.now (map (λ a. a.now) arguments.now)) result }
 {
-    match module_work::run(alloc, source, name.as_bytes(), arguments, blocks) {
+    match crate::running::run(alloc, source, name.as_bytes(), arguments, blocks) {
         Ok(text) => Ok(text),
         Err(RunError::Refused(fault)) => Err(Refusal::Module(fault)),
         Err(RunError::Argument) => Err(Refusal::Argument),
@@ -265,13 +243,12 @@ fn read_and_run<'a, F: Files>(
     arguments: &[&str],
     blocks: u32,
 ) -> Result<Vec<u8>, Refusal<'a>>
-    ensures answer { RunOfFile
-        (asked (F.bytes_under files.old) (F.names_asked files.old) (F.names_asked files.new) (F.faults files.old) (F.faults files.new))
-        source.now name.now (map (λ a. a.now) arguments.now) (λ bytes text. IsRun bytes name.now (map (λ a. a.now) arguments.now) blocks text.items) result }
-    ensures told_stay { F.bytes_under files.new ≡ F.bytes_under files.old }
-    ensures faults_grow { F.faults files.old ≤ F.faults files.new }
+    ensures answer { FileOf (F.state files.old) (F.state files.new) (record { name = source.now; kind = Source })
+        (λ text line. IsRun text name.now (map (λ a. a.now) arguments.now) blocks line.items)
+        (λ text. IsMisnamed text name.now (map (λ a. a.now) arguments.now)) result }
+    ensures follow { FilesFollow (F.state files.old) (F.state files.new) }
 {
-    let bytes = read(alloc, files, source, SOURCE_LIMIT + 1)?;
+    let bytes = read(alloc, files, source, ir_reader::MOST_BYTES + 1)?;
     run_of(alloc, bytes.as_slice(), name, arguments, blocks)
 }
 
@@ -282,15 +259,13 @@ fn run<'a, F: Files>(
     source: &'a str,
     name: &str,
     arguments: &[&str],
-    blocks: u32,
+    options: RunOptions,
 ) -> Result<Work, Refusal<'a>>
-    ensures answer { TaskOf
-        (asked (F.bytes_under files.old) (F.names_asked files.old) (F.names_asked files.new) (F.faults files.old) (F.faults files.new))
-        (Run source.now name.now (map (λ a. a.now) arguments.now) blocks) result }
-    ensures told_stay { F.bytes_under files.new ≡ F.bytes_under files.old }
-    ensures faults_grow { F.faults files.old ≤ F.faults files.new }
+    ensures answer { TaskOf (F.state files.old) (F.state files.new)
+        (Run source.now name.now (map (λ a. a.now) arguments.now) options) result }
+    ensures follow { FilesFollow (F.state files.old) (F.state files.new) }
 {
-    let text = read_and_run(alloc, files, source, name, arguments, blocks)?;
+    let text = read_and_run(alloc, files, source, name, arguments, options.blocks)?;
     Ok(Work {
         text,
         report: Vec::new(alloc),
@@ -305,30 +280,22 @@ pub(crate) fn perform<'a, F: Files>(
     command: Command<'a>,
     files: &mut F,
 ) -> Result<Work, Refusal<'a>>
-    requires { IsReady command }
-    ensures answer { TaskOf
-        (asked (F.bytes_under files.old) (F.names_asked files.old) (F.names_asked files.new) (F.faults files.old) (F.faults files.new))
-        (task_of command.entry) result }
-    ensures told_stay { F.bytes_under files.new ≡ F.bytes_under files.old }
-    ensures faults_grow { F.faults files.old ≤ F.faults files.new }
+    requires { IsWithinLimits command }
+    ensures answer { TaskOf (F.state files.old) (F.state files.new) (task_of command.entry) result }
+    ensures follow { FilesFollow (F.state files.old) (F.state files.new) }
 {
     match command {
-        Command::Verify {
-            rules,
-            widths,
-            conflicts,
-        } => verify(alloc, files, rules, &widths, conflicts),
+        Command::Verify { rules, options } => verify(alloc, files, rules, &options),
         Command::Optimise {
             rules,
             module,
-            conflicts,
-            steps,
-        } => optimise(alloc, files, rules, module, conflicts, steps),
+            options,
+        } => optimise(alloc, files, rules, module, options),
         Command::Run {
             module,
             name,
             arguments,
-            blocks,
-        } => run(alloc, files, module, name, arguments.as_slice(), blocks),
+            options,
+        } => run(alloc, files, module, name, arguments.as_slice(), options),
     }
 }

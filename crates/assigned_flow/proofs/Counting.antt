@@ -11,7 +11,7 @@ use Rattle.ir_core.specs.declared.instruction.Op.TheVariants.{Binary, Compare, S
 use Rattle.ir_core.specs.declared.terminator.Terminator.{Terminator}
 use Rattle.ir_core.specs.declared.terminator.Terminator.TheVariants as terminators
 use Rattle.ir_core.specs.Reads.{Read, reads_of, reads_at_end, reads_by, reads_in, reads_at}
-use Rattle.assigned_flow.specs.Counts.{HasFewEntries}
+use Rattle.assigned_flow.specs.FewEntries.{HasFewEntries}
 
 pub All_at : {X : Type 0} (P : X → Type 0) (xs : List X) (k : ℕ) → All P xs → IfSome (slice_get xs k) P
 All_at P [] k all = tt

@@ -1,6 +1,9 @@
+pub use Rattle.ir_core.specs.Assigned
+pub use Rattle.ir_core.specs.Blocks
+pub use Rattle.ir_core.specs.Reads
 pub mod Successors
 pub mod Passed
 pub mod Located
-pub mod Checked
-pub mod Telling
-pub mod Counts
+pub mod CheckedReads
+pub mod Errors
+pub mod FewEntries

@@ -4,10 +4,10 @@ ghost use Rattle.std.specs.Prelude.{◌≡◌, ◌<◌, ◌+◌, ◌^◌, ◌↔
 ghost use Rattle.ir_core.specs.Assigned.{IsAssigned, IsFirstUnassigned, ReadsAreAssigned};
 ghost use Rattle.ir_core.specs.Blocks.{Names};
 ghost use Rattle.ir_core.specs.Reads.{reads_at};
-ghost use Rattle.assigned_flow.specs.Checked.{AssignedBefore};
-ghost use Rattle.assigned_flow.specs.Counts.{HasFewEntries};
+ghost use Rattle.assigned_flow.specs.CheckedReads.{AssignedBefore};
+ghost use Rattle.assigned_flow.specs.FewEntries.{HasFewEntries};
 ghost use Rattle.assigned_flow.specs.Successors.{successors_of};
-ghost use Rattle.assigned_flow.specs.Telling.{IfUnassigned};
+ghost use Rattle.assigned_flow.specs.Errors.{IfUnassigned};
 
 use crate::assigned::Assigned;
 use crate::error::FlowError;

@@ -14,6 +14,3 @@ mod read;
 pub use assigned::Assigned;
 pub use check::check_assigned;
 pub use error::FlowError;
-
-#[cfg(test)]
-mod tests;

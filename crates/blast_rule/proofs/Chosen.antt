@@ -22,9 +22,10 @@ use Rattle.rule_core.specs.Readiness.{ValuesFit}
 use Rattle.rule_core.proofs.Members.{Contains-from_get, term_class_stands, measured_class_stands, witness_term}
 use Rattle.rule_core.proofs.Ready.{class_width}
 use Rattle.blast_value.specs.declared.held.Held.{Held}
-use Rattle.blast_rule.specs.declared.scope.Scope.{Scope}
-use Rattle.blast_rule.specs.Running.{held_at, shape, word_shape}
-use Rattle.blast_rule.specs.Terms.{HasWord, NodeIsHeld, TermsAreHeld, term_widths}
+use Rattle.blast_term.specs.declared.scope.Scope.{Scope}
+use Rattle.blast_term.specs.Scope.{held_at}
+use Rattle.blast_rule.specs.Runs.{shape, word_shape}
+use Rattle.blast_term.specs.Terms.{HasWord, NodeIsHeld, TermsAreHeld, term_widths}
 use Rattle.blast_rule.proofs.Ready.{width_at, get_taken}
 
 -- a place below the length is taken

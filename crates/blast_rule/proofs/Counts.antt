@@ -17,18 +17,20 @@ use Rattle.rule_core.specs.declared.rule.Op.TheVariants.{Binary, Compare, Select
 use Rattle.rule_core.specs.Typing.{IsTyping}
 use Rattle.rule_core.specs.Checks.{IsRule, MayBeFormula}
 use Rattle.rule_core.specs.declared.rule.Term.{Term}
-use Rattle.rule_core.specs.declared.rule.Node.{Node}
 use Rattle.rule_core.specs.declared.rule.Node.TheVariants as nodes
-use Rattle.rule_core.specs.declared.rule.Function.TheVariants.{Negate, Not, Log2, Abs}
+use Rattle.rule_core.specs.declared.rule.Function.TheVariants.{Not}
 use Rattle.rule_core.specs.declared.rule.Formula.{Formula}
 use Rattle.rule_core.specs.declared.rule.Formula.TheVariants as formulas_of
-use Rattle.rule_core.specs.Positions.{operands_of, operands_among, undef_in, undefs_among, terms_in, classes_of_statement, classes_of_term, IsStatementOf, IsTermOf}
+use Rattle.rule_core.specs.Positions.{operands_of, terms_in, classes_of_statement, classes_of_term, IsStatementOf, IsTermOf}
 use Rattle.rule_core.proofs.Members.{Contains-from_get, Contains-flat_map, source_statement, target_statement, term_class_stands, constant_term, witness_term}
 use Rattle.rule_core.proofs.Weights.{few_terms, few_formulas}
 use Rattle.blast_value.proofs.Counts.{shift-few}
-use Rattle.blast_rule.specs.Gates.{op_gates, statement_gates, node_gates, term_gates, terms_gates, numbers_gates, formula_gates, widths_of_terms, widths_of_witness, refusal_gates, root_width, most_gates, greatest_width, op_bound, node_bound, statement_bound, term_bound, formula_bound, choice_bound, rule_bound}
-use Rattle.blast_rule.specs.Terms.{ReadsTerms}
+use Rattle.blast_rule.specs.Gates.{op_gates, statement_gates, widths_of_terms, widths_of_witness, refusal_gates, root_width, most_gates, greatest_width, op_bound, statement_bound, rule_bound}
+use Rattle.blast_term.specs.Gates.{formula_gates, term_bound, formula_bound, choice_bound}
+use Rattle.blast_term.specs.Terms.{ReadsTerms}
 use Rattle.blast_rule.specs.Laws.{GatesAreFew, GatesAreBelow}
+use Rattle.blast_setting.proofs.Few.{few_undefs}
+use Rattle.blast_term.proofs.Counts.{node-low, terms-few}
 
 square_mono : (n k : ℕ) → n ≤ k → n * n ≤ k * k
 square_mono n k h = mul-le-mul h h
@@ -68,64 +70,8 @@ bound-few N op low =
       | _ ↦ omega arith
     ]
 
--- a node leaves room for its number and for whether it has one
-node-few : (N : ℕ) (node : Node) → 1 ≤ N → N ≤ 64 → node_gates N node + N + 1 ≤ node_bound node N
-node-few N (nodes.Literal z) some low = omega arith
-node-few N (nodes.Constant k) some low = omega arith
-node-few N (nodes.Register r) some low = omega arith
-node-few N (nodes.Undef k) some low = omega arith
-node-few N (nodes.Width r c) some low = omega arith
-node-few N (nodes.Unary Negate a) some low = omega arith
-node-few N (nodes.Unary Not a) some low = omega arith
-node-few N (nodes.Unary Log2 a) some low = omega arith
-node-few N (nodes.Unary Abs a) some low = omega arith
-node-few N (nodes.Binary Add a b) some low = omega arith
-node-few N (nodes.Binary Sub a b) some low = omega arith
-node-few N (nodes.Binary Mul a b) some low = let fewer : N - 1 ≤ N = omega arith in omega (arith, mul-le-mul_left (3 * N) fewer)
-node-few N (nodes.Binary UDiv a b) some low = omega arith
-node-few N (nodes.Binary SDiv a b) some low = omega arith
-node-few N (nodes.Binary URem a b) some low = omega arith
-node-few N (nodes.Binary SRem a b) some low = omega arith
-node-few N (nodes.Binary Shl a b) some low = omega (arith, shift-few N low)
-node-few N (nodes.Binary LShr a b) some low = omega (arith, shift-few N low)
-node-few N (nodes.Binary AShr a b) some low = omega (arith, shift-few N low)
-node-few N (nodes.Binary And a b) some low = omega arith
-node-few N (nodes.Binary Or a b) some low = omega arith
-node-few N (nodes.Binary Xor a b) some low = omega arith
-
-pub node-low : (N : ℕ) (node : Node) → N ≤ 64 → node_bound node N ≤ 266240
-node-low N node low =
-    let square : N * N ≤ 64 * 64 = mul-le-mul low low in
-    elim node as (λ n. node_bound n N ≤ 266240) [
-      | nodes.Binary op a b ↦ elim op as (λ o. node_bound (nodes.Binary o a b) N ≤ 266240) [
-        | Mul ↦ omega arith
-        | UDiv ↦ omega arith
-        | SDiv ↦ omega arith
-        | URem ↦ omega arith
-        | SRem ↦ omega arith
-        | _ ↦ omega arith
-      ]
-      | _ ↦ omega arith
-    ]
-
 unit_term : Term
 unit_term = record { class = 0; node = nodes.Constant 0 }
-
--- nodes, their numbers, and whether each has one
-terms-few : (typing : List ℕ) (terms : List Term) → All (λ t. (1 ≤ slice_index typing t.class) × (slice_index typing t.class ≤ 64)) terms
-    → terms_gates typing terms + numbers_gates (map (λ t. slice_index typing t.class) terms) + length (map (λ (t : Term). slice_index typing t.class) terms) ≤ sum_by (term_bound typing) terms
-terms-few typing [] all = omega arith
-terms-few typing (t ∷ terms) all =
-    let w : Term → ℕ = λ t. slice_index typing t.class in
-    let here = all 0 t (omega arith) in
-    omega (
-      arith,
-      node-few (w t) t.node here.0 here.1,
-      sum_by-cons (term_gates typing) t terms,
-      sum_by-cons select_gates (w t) (map w terms),
-      sum_by-cons (term_bound typing) t terms,
-      terms-few typing terms (All-tail (λ t. (1 ≤ slice_index typing t.class) × (slice_index typing t.class ≤ 64)) t terms all),
-    )
 
 -- what stands at a place, or 0, is no greater than what none is greater than
 index-low : (m : ℕ) (xs : List ℕ) (k : ℕ) → All (λ x. x ≤ m) xs → slice_index xs k ≤ m
@@ -133,25 +79,6 @@ index-low m [] zero all = omega arith
 index-low m [] (suc k) all = omega arith
 index-low m (x ∷ xs) zero all = All-head (λ x. x ≤ m) x xs all
 index-low m (x ∷ xs) (suc k) all = index-low m xs k (All-tail (λ x. x ≤ m) x xs all)
-
--- statements have at most three operands
-few_kept : {X Y : Type 0} (f : X → Option Y) (xs : List X) → length (filter_map f xs) ≤ length xs
-few_kept f [] = omega arith
-few_kept {X} {Y} f (x ∷ xs) = elim (f x) as (λ o. length (cons_option o (filter_map f xs)) ≤ suc (length xs)) [ None ↦ omega (arith, few_kept f xs) | Some y ↦ omega (arith, few_kept f xs) ]
-
-op_operands : (op : Op) → length (operands_of op) ≤ 3
-op_operands (Binary op flags a b) = omega arith
-op_operands (Compare pred a b) = omega arith
-op_operands (Select c a b) = omega arith
-op_operands (Convert cast a to) = omega arith
-op_operands (Copy a) = omega arith
-
-pub few_operands : (statements : List Statement) → length (operands_among statements) ≤ 3 * length statements
-few_operands [] = omega arith
-few_operands (s ∷ statements) = omega (arith, op_operands s.op, few_operands statements, length-append (operands_of s.op) (operands_among statements))
-
-pub few_undefs : (statements : List Statement) → length (undefs_among statements) ≤ 3 * length statements
-few_undefs statements = omega (arith, few_kept (λ (o : Operand). undef_in o.value) (operands_among statements), few_operands statements)
 
 -- the greatest of numbers is no smaller than each, and no greater than what none of them is greater than
 fold-above : (a : ℕ) (xs : List ℕ) → (a ≤ fold max a xs) × All (λ x. x ≤ fold max a xs) xs

@@ -17,7 +17,7 @@ use Rattle.rule_core.proofs.Ready.{class_width}
 use Rattle.blast_value.specs.declared.held.Held.{Held}
 use Rattle.blast_value.specs.Effect.{held_value}
 use Rattle.blast_rule.specs.Gates.{root_width}
-use Rattle.blast_rule.specs.Running.{shape}
+use Rattle.blast_rule.specs.Runs.{shape}
 use Rattle.blast_rule.proofs.Counts.{root_class}
 
 -- the source is its temporaries and the root's statement

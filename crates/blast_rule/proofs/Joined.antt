@@ -19,17 +19,18 @@ use Rattle.rule_core.proofs.Once.{follows_once}
 use Rattle.blast_value.specs.declared.held.Held.{Held}
 use Rattle.blast_value.specs.declared.held.Blasted.{Blasted}
 use Rattle.blast_value.specs.Effect.{held_value, effect_of, IsOwn, IsOwnEffect}
-use Rattle.blast_rule.specs.declared.scope.Scope.{Scope}
-use Rattle.blast_rule.specs.Halves.{AreTerms}
-use Rattle.blast_rule.specs.Parts.{number_held}
-use Rattle.blast_rule.specs.Running.{holds, seen, ending, IsGiven}
-use Rattle.blast_rule.specs.Terms.{MeansNames, numbers_chosen, number_chosen, term_widths}
-use Rattle.blast_rule.proofs.Kept.{AllOwn-kept, values-kept, numbers_held-kept, numbers_of-kept, effect_of-kept}
+use Rattle.blast_term.specs.declared.scope.Scope.{Scope}
+use Rattle.blast_rule.specs.Runs.{AreTerms}
+use Rattle.blast_value.specs.Words.{number_held}
+use Rattle.blast_term.specs.Scope.{holds, seen}
+use Rattle.blast_rule.specs.Runs.{ending, IsGiven}
+use Rattle.blast_term.specs.Terms.{MeansNames, numbers_chosen, number_chosen, term_widths}
+use Rattle.blast_value.proofs.Kept.{AllOwn-kept, values-kept, numbers_held-kept, numbers_of-kept, effect_of-kept}
 use Rattle.blast_rule.proofs.Scopes.{Reads, seen_of, given_of}
 use Rattle.blast_rule.proofs.Shapes.{width_at_place}
 use Rattle.blast_rule.proofs.Runs.{held_after}
 use Rattle.blast_rule.proofs.Steps.{source-gives, target-gives}
-use Rattle.blast_rule.proofs.Unchosen.{temporaries_same}
+use Rattle.rule_core.proofs.Unchosen.{temporaries_same}
 
 -- what holds where statements have ended
 ended : (undefined : Bool) (now held : Registry) → ending undefined now ≡ Holds held → now ≡ held

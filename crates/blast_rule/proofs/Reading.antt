@@ -21,12 +21,12 @@ use Rattle.rule_core.specs.Terms.{number_or_zero, value_at}
 use Rattle.circuits.specs.Word.{number_of}
 use Rattle.blast_value.specs.declared.held.Held.{Held}
 use Rattle.blast_value.specs.Effect.{held_value, IsOwn}
-use Rattle.blast_rule.specs.declared.scope.Scope.{Scope}
-use Rattle.blast_rule.specs.Running.{held_at, seen, shape, shapes, word_shape, word_value, given_shape, IsGiven, ScopeIsOwn}
-use Rattle.blast_rule.specs.Parts.{number_held}
-
-pub own_from_get : {X : Type 0} (P : X → Type 0) (xs : List X) (k : ℕ) (x : X) → All P xs → slice_get xs k ≡ Some x → P x
-own_from_get P xs k x all at = subst P (get_or_from_slice_get xs k x x at) (all k x (slice_get_within xs k x at))
+use Rattle.blast_term.specs.declared.scope.Scope.{Scope}
+use Rattle.blast_term.specs.Scope.{held_at, seen, ScopeIsOwn}
+use Rattle.blast_rule.specs.Runs.{shape, shapes, word_shape, given_shape, IsGiven}
+use Rattle.blast_value.specs.Words.{word_value}
+use Rattle.blast_value.specs.Words.{number_held}
+use Rattle.blast_term.proofs.Turns.{own_from_get}
 
 module _ {L : Type 0} (r : Scope L) where
   value_of-seen : (value : L → Bool) (reg : Register) → value_of (seen value r) reg ≡ option_map (held_value value) (held_at r reg)

@@ -15,11 +15,11 @@ use Rattle.rule_core.specs.Typing.{IsTyping}
 use Rattle.rule_core.specs.Checks.{IsRule, MayBeTerm, MayBeFormula}
 use Rattle.rule_core.proofs.Members.{Contains-from_get, term_class_stands, measured_class_stands, constant_term}
 use Rattle.rule_core.proofs.Ready.{class_width}
-use Rattle.blast_rule.specs.declared.scope.Scope.{Scope}
-use Rattle.blast_rule.specs.declared.named.Kind.TheVariants.{Constant}
-use Rattle.blast_rule.specs.Inputs.{constant_widths, named_width}
-use Rattle.blast_rule.specs.Terms.{HasWord, NodeIsHeld, TermsAreHeld, FormulaIsHeld, FormulasAreHeld, term_widths}
-use Rattle.blast_rule.proofs.Widths.{named_width-is, are_named, length-named_widths, named_widths-at}
+use Rattle.blast_term.specs.declared.scope.Scope.{Scope}
+use Rattle.blast_setting.specs.declared.named.Kind.TheVariants.{Constant}
+use Rattle.blast_setting.specs.Inputs.{constant_widths, named_width}
+use Rattle.blast_term.specs.Terms.{HasWord, NodeIsHeld, TermsAreHeld, FormulaIsHeld, FormulasAreHeld, term_widths}
+use Rattle.blast_setting.proofs.Widths.{named_width-is, are_named, length-named_widths, named_widths-at}
 
 -- the width of a node at a place
 pub width_at : (typing : List ℕ) (terms : List Term) (a N : ℕ) (x : Term) → slice_get terms a ≡ Some x → slice_get typing x.class ≡ Some N → slice_get (term_widths typing terms) a ≡ Some N

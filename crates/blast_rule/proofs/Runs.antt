@@ -16,8 +16,9 @@ use Rattle.blast_value.specs.declared.held.Held.{Held}
 use Rattle.blast_value.specs.declared.held.Blasted.{Blasted}
 use Rattle.blast_value.specs.Effect.{held_value, effect_of, IsOwn}
 use Rattle.blast_rule.specs.Gates.{run_gates, statement_gates}
-use Rattle.blast_rule.specs.Running.{shape, holds, ending}
-use Rattle.blast_rule.proofs.Kept.{values-kept}
+use Rattle.blast_rule.specs.Runs.{shape, ending}
+use Rattle.blast_term.specs.Scope.{holds}
+use Rattle.blast_value.proofs.Kept.{values-kept}
 use Rattle.blast_rule.proofs.Steps.{follows-push}
 
 -- what the register of a statement holds

@@ -7,9 +7,10 @@ use Rattle.rule_core.specs.Run.{Given}
 use Rattle.rule_core.specs.Terms.{number_or_zero}
 use Rattle.blast_value.specs.declared.held.Held.{Held}
 use Rattle.blast_value.specs.Effect.{IsOwn}
-use Rattle.blast_rule.specs.declared.scope.Scope.{Scope}
-use Rattle.blast_rule.specs.Parts.{number_held}
-use Rattle.blast_rule.specs.Running.{holds, seen, shape, shapes, word_shape, given_shape, IsGiven, ScopeIsOwn}
+use Rattle.blast_term.specs.declared.scope.Scope.{Scope}
+use Rattle.blast_value.specs.Words.{number_held}
+use Rattle.blast_term.specs.Scope.{holds, seen, ScopeIsOwn}
+use Rattle.blast_rule.specs.Runs.{shape, shapes, word_shape, given_shape, IsGiven}
 
 -- the scope reads these literals
 pub record Reads {L : Type 0} (s : Scope L) (inputs source target : List (Held L)) (constants choices terms : List (List L)) : Type 0 where

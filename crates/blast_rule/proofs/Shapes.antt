@@ -19,12 +19,12 @@ use Rattle.rule_core.proofs.Givens.{source_given, given_before_root, target_give
 use Rattle.rule_core.proofs.Witnesses.{choices_fit}
 use Rattle.blast_value.specs.declared.held.Held.{Held}
 use Rattle.blast_value.specs.Effect.{widths_of}
-use Rattle.blast_rule.specs.Inputs.{input_widths, constant_widths, undef_widths}
+use Rattle.blast_setting.specs.Inputs.{input_widths, constant_widths, undef_widths}
 use Rattle.blast_rule.specs.Gates.{widths_of_terms}
-use Rattle.blast_rule.specs.Running.{shape, word_shape}
-use Rattle.blast_rule.specs.Terms.{term_widths}
-use Rattle.blast_rule.proofs.Written.{FitAll}
-use Rattle.blast_rule.proofs.Settings.{IsNumberOf, inputs_fit, constants_fit, undefs_fit}
+use Rattle.blast_rule.specs.Runs.{shape, word_shape}
+use Rattle.blast_term.specs.Terms.{term_widths}
+use Rattle.blast_setting.proofs.Written.{FitAll}
+use Rattle.blast_setting.proofs.Settings.{IsNumberOf, inputs_fit, constants_fit, undefs_fit}
 
 -- what stands for things by their sizes has these widths
 module _ {M X : Type 0} (Fits : ℕ → X → Type 0) (size : M → ℕ) (stand : M → X) (fits : (m : M) → Fits (size m) (stand m)) where

@@ -26,10 +26,11 @@ use Rattle.blast_value.specs.declared.instruction.Instruction.TheVariants as ins
 use Rattle.blast_value.specs.Meaning.{Takes, HasEffect}
 use Rattle.blast_value.specs.Gates.{gates_of, greatest}
 use Rattle.blast_value.specs.Effect.{held_value, effect_of, widths_of, IsOwn, IsOwnEffect}
-use Rattle.blast_rule.specs.declared.scope.Scope.{Scope}
+use Rattle.blast_term.specs.declared.scope.Scope.{Scope}
 use Rattle.blast_rule.specs.Gates.{op_gates}
-use Rattle.blast_rule.specs.Running.{instruction_of, seen, shapes, given_shape, IsGiven, HoldsOperand}
-use Rattle.blast_rule.proofs.Kept.{held_value-kept}
+use Rattle.blast_rule.specs.Runs.{instruction_of, shapes, given_shape, IsGiven, HoldsOperand}
+use Rattle.blast_term.specs.Scope.{seen}
+use Rattle.blast_value.proofs.Kept.{held_value-kept}
 
 -- what is related to elements, one by one
 uncons : {A B : Type 0} (R : A → B → Type 0) (x : A) (xs : List A) (ys : List B) → AllZip R (x ∷ xs) ys → (y : B) × (rest : List B) × (ys ≡ y ∷ rest) × R x y × AllZip R xs rest

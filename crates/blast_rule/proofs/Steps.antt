@@ -8,7 +8,8 @@ use Rattle.ops.specs.declared.value.Effect.TheVariants as effects
 use Rattle.rule_core.specs.declared.rule.Rule.{Rule}
 use Rattle.rule_core.specs.declared.rule.Statement.{Statement}
 use Rattle.rule_core.specs.Run.{Held, Undefines, Holds, GoesOn, Leads, GivesLast, Given, given_by, at_start, temporaries_of, holding_source, holding_target, StatementGives, Follows, TemporariesEnd, SourceGives, TargetGoesOn, TargetGives, Ending}
-use Rattle.blast_rule.specs.Running.{ending}
+use Rattle.rule_core.proofs.Unchosen.{follows-stops}
+use Rattle.blast_rule.specs.Runs.{ending}
 
 -- the effect that an undefined bit and a value say
 abbrev pub effect : Bool → Value → Effect
@@ -36,22 +37,11 @@ module _ (typing : List ℕ) (given : Given) where
     ] goes,
   )
 
-  follows-stops : (holding : Held → Value → Held) (first more : List Statement) (start : Held) → Follows typing given holding first start Undefines → Follows typing given holding (first ++ more) start Undefines
-  follows-stops holding [] more start ran = cc
-  follows-stops holding (s ∷ first) more start (e, gives, goes) = (
-    e,
-    gives,
-    elim e as (λ d. GoesOn (λ v. Follows typing given holding first (holding start v) Undefines) d Undefines → GoesOn (λ v. Follows typing given holding (first ++ more) (holding start v) Undefines) d Undefines) [
-      | effects.Undefined ↦ λ stop. stop
-      | effects.Gives v ↦ λ next. follows-stops holding first more (holding start v) next
-    ] goes,
-  )
-
   -- one statement more
   pub follows-push : (holding : Held → Value → Held) (first : List Statement) (s : Statement) (start now after : Held) (before undefined : Bool) (v : Value)
       → Follows typing given holding first start (ending before now) → (before ≡ true → undefined ≡ true) → (before ≡ false → StatementGives typing given now s (effect undefined v)) → after ≡ holding now v
       → Follows typing given holding (first ++ s ∷ []) start (ending undefined after)
-  follows-push holding first s start now after true undefined v ran stays gives is = rw (stays refl) (follows-stops holding first (s ∷ []) start ran)
+  follows-push holding first s start now after true undefined v ran stays gives is = rw (stays refl) (follows-stops typing given holding first (s ∷ []) start ran)
   follows-push holding first s start now after false true v ran stays gives is = follows-append holding first (s ∷ []) start now Undefines ran (effects.Undefined, gives refl, refl)
   follows-push holding first s start now after false false v ran stays gives is = follows-append holding first (s ∷ []) start now (Holds after) ran (effects.Gives v, gives refl, ap Holds is)
 

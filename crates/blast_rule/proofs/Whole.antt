@@ -14,10 +14,9 @@ use Rattle.rule_core.specs.Valid.{Setting, SettingFits, HaveEffects}
 use Rattle.rule_core.specs.Laws.{RulesHaveOneOutcome}
 use Rattle.blast_value.specs.declared.held.Blasted.{Blasted}
 use Rattle.blast_value.specs.Effect.{effect_of, IsOwnEffect}
-use Rattle.blast_rule.specs.declared.setting_bits.SettingBits.{SettingBits}
-use Rattle.blast_rule.specs.Halves.{setting_held, SettingIsOwn}
-use Rattle.blast_rule.specs.Parts.{Refutes, number_held}
-use Rattle.blast_rule.proofs.Kept.{AllOwn-kept, AllAll-kept, values-kept, numbers_held-kept, effect_of-kept}
+use Rattle.blast_rule.specs.Parts.{Refutes}
+use Rattle.blast_value.specs.Words.{number_held}
+use Rattle.blast_value.proofs.Kept.{numbers_held-kept, effect_of-kept}
 
 falsity : IsTrue false → ⊥
 falsity h = cc
@@ -46,19 +45,7 @@ refutes one rule typing setting choices source target met refused b checked type
 )
 
 module _ {C L : Type 0} {has_literal : C → L → Type 0} {admits : C → List Bool → Type 0} {value : C → List Bool → L → Bool} {old new : C} (keeps : Keeps has_literal admits value old new) where
-  -- what stands for a setting is kept
-  pub setting-kept : (read : List Bool) → admits old read → (made : SettingBits L) → SettingIsOwn (has_literal old) made → setting_held (value new read) made ≡ setting_held (value old read) made
-  setting-kept read admitted made own =
-      rw (values-kept keeps read admitted made.inputs own.inputs, numbers_held-kept keeps read admitted made.constants own.constants, numbers_held-kept keeps read admitted made.target_undefs own.target_undefs) refl
-
-  pub setting_own-kept : (made : SettingBits L) → SettingIsOwn (has_literal old) made → SettingIsOwn (has_literal new) made
-  setting_own-kept made own = record {
-    inputs = AllOwn-kept keeps made.inputs own.inputs;
-    constants = AllAll-kept keeps made.constants own.constants;
-    target_undefs = AllAll-kept keeps made.target_undefs own.target_undefs;
-  }
-
-  -- and so are effects
+  -- effects are kept
   pub effects-kept : (read : List Bool) → admits old read → (rule : Rule) (typing : List ℕ) (setting : Setting) (choices : List (List L)) (source target : Blasted L) → All (All (has_literal old)) choices → IsOwnEffect (has_literal old) source → IsOwnEffect (has_literal old) target
       → HaveEffects rule typing setting (map (number_held (value old read)) choices) (effect_of (value old read) source) (effect_of (value old read) target)
       → HaveEffects rule typing setting (map (number_held (value new read)) choices) (effect_of (value new read) source) (effect_of (value new read) target)

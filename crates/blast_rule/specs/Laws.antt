@@ -1,31 +1,15 @@
--- Laws of what is read as a setting, and of the gates of a rule's circuit.
+-- Laws of settings that are read as counterexamples, and of the gates of a rule's circuit.
 use Rattle.std.specs.Prelude.{◌≡◌, ◌≤◌, ◌<◌, ◌^◌, ℕ, Bool, List, length}
 use Rattle.rule_core.specs.declared.rule.Rule.{Rule}
 use Rattle.rule_core.specs.Checks.{IsRule}
 use Rattle.rule_core.specs.Typing.{IsTyping}
-use Rattle.rule_core.specs.Valid.{Setting, SettingFits, IsValid}
-use Rattle.blast_rule.specs.Inputs.{input_bits}
-use Rattle.blast_rule.specs.Settings.{setting_of}
+use Rattle.rule_core.specs.Valid.{IsValid}
+use Rattle.blast_setting.specs.Inputs.{input_bits}
+use Rattle.blast_setting.specs.Settings.{setting_of}
 use Rattle.blast_rule.specs.Gates.{most_gates, rule_bound}
 use Rattle.blast_rule.specs.Parts.{Refutes}
 
--- whatever is read fits
-abbrev pub ReadSettingsFit : Type 0
-ReadSettingsFit =
-    (rule : Rule) (typing : List ℕ) (read : List Bool) → IsRule rule → IsTyping rule typing → SettingFits rule typing (setting_of rule typing read)
-
--- so many truth values are read as the setting
-pub record ReadsAs (rule : Rule) (typing : List ℕ) (setting : Setting) (read : List Bool) : Type 0 where
-  pub count : length read ≡ input_bits rule typing
-  pub is : setting_of rule typing read ≡ setting
-
--- each setting that fits is read from some list of `input_bits` truth values
-abbrev pub FittingSettingsAreRead : Type 0
-FittingSettingsAreRead =
-    (rule : Rule) (typing : List ℕ) (setting : Setting) → IsRule rule → IsTyping rule typing → SettingFits rule typing setting →
-    (read : List Bool) × ReadsAs rule typing setting read
-
--- so a rule is valid where no such list is read as a counterexample
+-- a rule is valid where no list of `input_bits` truth values is read as a counterexample
 abbrev pub RulesWithoutCounterexampleReadAreValid : Type 0
 RulesWithoutCounterexampleReadAreValid =
     (rule : Rule) (typing : List ℕ) → IsRule rule → IsTyping rule typing →

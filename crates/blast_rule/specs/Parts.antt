@@ -3,20 +3,17 @@ use Rattle.std.specs.Prelude.{◌≡◌, ℕ, Bool, List, length}
 use Rattle.std.specs.List.{All}
 use Rattle.ops.specs.Number.{Number}
 use Rattle.ops.specs.declared.value.Effect.{Effect}
-use Rattle.circuits.specs.Word.{number_of}
 use Rattle.rule_core.specs.declared.rule.Rule.{Rule}
 use Rattle.rule_core.specs.Valid.{Setting, IsCounterexample}
 use Rattle.blast_value.specs.Effect.{IsOwnEffect}
 use Rattle.blast_rule.specs.declared.rule_bits.RuleBits.{RuleBits}
+-- the number that a word of literals stands for, of the word's width
+pub use Rattle.blast_value.specs.Words.{number_held}
 
 -- the setting is a counterexample, for some choices of `Wit:` and some effects of the two halves
 abbrev pub Refutes : Rule → List ℕ → Setting → Type 0
 Refutes rule typing setting =
     (choices : List Number) × (source : Effect) × (target : Effect) × IsCounterexample rule typing setting choices source target
-
--- the number that a word of literals stands for, of the word's width
-abbrev pub number_held : {L : Type 0} → (L → Bool) → List L → Number
-number_held value word = record { width = length word; number = number_of value word }
 
 -- all the literals are a circuit's
 pub record AreOwn {L : Type 0} (has_literal : L → Type 0) (made : RuleBits L) : Type 0 where

@@ -6,8 +6,7 @@ ghost use Rattle.rule_core.specs.Positions.{classes_of_statement, operands_of};
 ghost use Rattle.rule_core.specs.Typing.{IsTyping};
 ghost use Rattle.blast_rule.specs.Gates.{most_gates, given_gates, witness_gates, halves_gates, run_gates, op_gates, root_width};
 
-use crate::term_gates::{choices_gates, formulas_gates, numbers_gates, terms_gates};
-use crate::width::width_of;
+use blast_term::{choices_gates, formulas_gates, numbers_gates, terms_gates, width_of};
 use blast_value::{Instruction, gates_of};
 use ops::Width;
 use rule_core::{Op, Rule, Statement, Typing};

@@ -5,14 +5,12 @@ ghost use Rattle.circuits.specs.Circuit.{Adds};
 ghost use Rattle.rule_core.specs.Checks.{IsRule};
 ghost use Rattle.rule_core.specs.Typing.{IsTyping};
 ghost use Rattle.rule_core.specs.Terms.{PreconditionHolds};
-ghost use Rattle.blast_rule.specs.Inputs.{constant_widths};
+ghost use Rattle.blast_setting.specs.Inputs.{constant_widths};
 ghost use Rattle.blast_rule.specs.Gates.{given_gates, widths_of_terms};
-ghost use Rattle.blast_rule.specs.Halves.{AreTerms};
-ghost use Rattle.blast_rule.specs.Parts.{number_held};
+ghost use Rattle.blast_rule.specs.Runs.{AreTerms};
+ghost use Rattle.blast_value.specs.Words.{number_held};
 
-use crate::formula::blast_precondition;
-use crate::scope::Scope;
-use crate::term::{blast_terms, numbers_or_zeros};
+use blast_term::{Scope, blast_precondition, blast_terms, numbers_or_zeros};
 use circuits::{Bits, Circuit};
 use lists::List;
 use ops::Width;

@@ -1,15 +1,5 @@
-//! The laws of settings that are read and of gates, each the contract of a function that does nothing.
-ghost use Rattle.blast_rule.specs.Laws.{ReadSettingsFit, FittingSettingsAreRead, RulesWithoutCounterexampleReadAreValid, GatesAreFew, GatesAreBelow};
-
-/// Whatever is read as a setting of a rule fits the rule and its typing.
-pub fn read_settings_fit()
-    ensures { ReadSettingsFit }
-{}
-
-/// Each setting that fits is read from some list of as many truth values as there are inputs of the circuit.
-pub fn fitting_settings_are_read()
-    ensures { FittingSettingsAreRead }
-{}
+//! The laws of settings that are read as counterexamples and of gates, each the contract of a function that does nothing.
+ghost use Rattle.blast_rule.specs.Laws.{RulesWithoutCounterexampleReadAreValid, GatesAreFew, GatesAreBelow};
 
 /// A rule is valid where no list of as many truth values as there are inputs of its circuit is read as a counterexample.
 pub fn rules_without_counterexample_read_are_valid()

@@ -4,13 +4,13 @@ ghost use Rattle.std.specs.List.{All, AllZip};
 ghost use Rattle.rule_core.specs.Run.{Given, OperandGives};
 ghost use Rattle.rule_core.specs.Readiness.{OperandIsReady};
 ghost use Rattle.blast_value.specs.Effect.{held_value, IsOwn};
-ghost use Rattle.blast_rule.specs.Running.{word_value, seen, shapes, given_shape, IsGiven, HoldsOperand, ScopeIsOwn};
+ghost use Rattle.blast_value.specs.Words.{word_value};
+ghost use Rattle.blast_term.specs.Scope.{seen, ScopeIsOwn};
+ghost use Rattle.blast_rule.specs.Runs.{shapes, given_shape, IsGiven, HoldsOperand};
 
-use crate::number::{number, residue, valued};
-use crate::scope::{Scope, at, copied, register_held, word_copied};
-use crate::width::width_of;
+use blast_term::{Scope, at, copied, number, of_word, register_held, residue, width_of};
 use blast_value::Held;
-use circuits::{Bits, Circuit};
+use circuits::Circuit;
 use lists::List;
 use ops::Width;
 use rule_core::{Argument, Operand};
@@ -63,21 +63,6 @@ pub(crate) fn operand_held<C: Circuit>(
         Argument::Undef(k) => of_word(alloc, c, at(scope.choices, k)),
         Argument::Term(n) => of_word(alloc, c, at(scope.terms, n)),
     }
-}
-
-/// The number of a word, once more.
-pub(crate) fn of_word<C: Circuit>(
-    alloc: Global,
-    c: &C,
-    word: &Bits<C::Literal>,
-) -> Result<Held<C::Literal>, AllocError>
-    requires { All (C.has_literal c.now) word.now }
-    ensures value { IfOk result (λ held. (inputs : Seq Bool) → C.admits c.now inputs →
-        held_value (C.value c.now inputs) held ≡ word_value (C.value c.now inputs) word.now) }
-    ensures bits { IfOk result (λ held. held.bits ≡ word.now) }
-    ensures own { IfOk result (IsOwn (C.has_literal c.now)) }
-{
-    Ok(valued(c, word_copied(alloc, word)?))
 }
 
 /// 1 for true, and 0 for false.

@@ -7,11 +7,11 @@ ghost use Rattle.rule_core.specs.Run.{Given, StatementGives};
 ghost use Rattle.rule_core.specs.Readiness.{StatementIsReady};
 ghost use Rattle.blast_value.specs.Effect.{effect_of, IsOwnEffect};
 ghost use Rattle.blast_rule.specs.Gates.{op_gates, statement_gates};
-ghost use Rattle.blast_rule.specs.Running.{instruction_of, seen, shapes, given_shape, IsGiven, ScopeIsOwn};
+ghost use Rattle.blast_rule.specs.Runs.{instruction_of, shapes, given_shape, IsGiven};
+ghost use Rattle.blast_term.specs.Scope.{seen, ScopeIsOwn};
 
 use crate::operand::{operand_held, operands_held};
-use crate::scope::Scope;
-use crate::width::width_of;
+use blast_term::{Scope, width_of};
 use blast_value::{Blasted, Held, Instruction, blast_value};
 use circuits::{Circuit, or};
 use ops::Width;

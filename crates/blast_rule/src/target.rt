@@ -10,11 +10,12 @@ ghost use Rattle.rule_core.specs.Valid.{InputsFit};
 ghost use Rattle.rule_core.specs.Readiness.{ValuesFit, GivenFits};
 ghost use Rattle.blast_value.specs.Effect.{effect_of, IsOwn, IsOwnEffect};
 ghost use Rattle.blast_rule.specs.Gates.{run_gates, root_width};
-ghost use Rattle.blast_rule.specs.Running.{holds, shape, given_shape, IsGiven, ScopeIsOwn, TargetRan};
+ghost use Rattle.blast_term.specs.Scope.{holds, ScopeIsOwn};
+ghost use Rattle.blast_rule.specs.Runs.{shape, given_shape, IsGiven, TargetRan};
 
-use crate::scope::Scope;
 use crate::statement::blast_next;
 use crate::temporaries::{Assigned, held_of};
+use blast_term::Scope;
 use blast_value::{Blasted, Held};
 use circuits::Circuit;
 use ops::Width;

@@ -9,10 +9,11 @@ ghost use Rattle.rule_core.specs.Valid.{InputsFit};
 ghost use Rattle.rule_core.specs.Readiness.{ValuesFit, GivenFits};
 ghost use Rattle.blast_value.specs.Effect.{IsOwn};
 ghost use Rattle.blast_rule.specs.Gates.{run_gates};
-ghost use Rattle.blast_rule.specs.Running.{shape, given_shape, IsGiven, ScopeIsOwn, TemporariesRan};
+ghost use Rattle.blast_rule.specs.Runs.{shape, given_shape, IsGiven, TemporariesRan};
+ghost use Rattle.blast_term.specs.Scope.{ScopeIsOwn};
 
-use crate::scope::Scope;
 use crate::statement::blast_next;
+use blast_term::Scope;
 use blast_value::{Blasted, Held};
 use circuits::Circuit;
 use ops::Width;

@@ -4,3 +4,4 @@ pub mod Effects
 pub mod Numbers
 pub mod Moves
 pub mod Operands
+pub mod Kept

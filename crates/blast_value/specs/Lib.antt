@@ -1,5 +1,9 @@
+pub use Rattle.circuits.specs.Circuit
+pub use Rattle.ops.specs.Instruction
+pub use Rattle.circuits.specs.Word
 pub mod Effect
 pub mod Families
 pub mod Gates
 pub mod Laws
 pub mod Meaning
+pub mod Words

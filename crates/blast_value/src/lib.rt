@@ -23,6 +23,3 @@ pub use gates::{gates_are_few, gates_of};
 pub use held::{Blasted, Held};
 pub use instruction::Instruction;
 pub use known::{constant, equals};
-
-#[cfg(test)]
-mod tests;

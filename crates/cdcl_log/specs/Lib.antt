@@ -1,3 +1,6 @@
+pub use Rattle.clauses.specs.ClauseSet
+pub use Rattle.clauses.specs.Literal
+pub use Rattle.clauses.specs.Propagation
 pub mod Found
 pub mod TrailEntries
 pub mod Propagated

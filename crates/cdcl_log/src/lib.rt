@@ -21,6 +21,3 @@ mod trail;
 
 pub use depth_first::search;
 pub use found::{Assignment, Found};
-
-#[cfg(test)]
-mod tests;

@@ -23,6 +23,3 @@ pub use eval::EvalCircuit;
 pub use resize::{cut, extend};
 pub use shift::{shift_left, shift_right};
 pub use word::{Bits, inverted, repeated, select};
-
-#[cfg(test)]
-mod tests;

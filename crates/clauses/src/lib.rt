@@ -12,6 +12,3 @@ pub use cnf::Cnf;
 pub use laws::{model_meets_log, refuted_has_no_model};
 pub use literal::{Clause, Lit, is_within};
 pub use step::{Log, Step, clause_in};
-
-#[cfg(test)]
-mod tests;

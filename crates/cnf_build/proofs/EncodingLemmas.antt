@@ -9,12 +9,12 @@ use Rattle.aig.specs.declared.gate.Gate.{Gate}
 use Rattle.aig.specs.Graph.{Graph, IsOwn, IsInOrder, value_of}
 use Rattle.cnf_build.specs.declared.definition.Definition.{Definition}
 use Rattle.cnf_build.specs.Definitions.{clauses_from}
-use Rattle.cnf_build.specs.Marks.{Marks, AreNeeded}
+use Rattle.cnf_build.specs.NeededGates.{NeededMarks, AreNeeded}
 use Rattle.cnf_build.specs.Names.{Names, lit_of, NamesFirst}
 use Rattle.cnf_build.proofs.Standing.{Encodes, StandsFor-from}
 use Rattle.cnf_build.proofs.NamesLemmas.{IsSound-named, root_within}
 
-module _ (graph : Graph) (root : Literal) (marks : Marks) (names : Names) (order : IsInOrder graph.inputs graph.gates) (own : IsOwn graph root) where
+module _ (graph : Graph) (root : Literal) (marks : NeededMarks) (names : Names) (order : IsInOrder graph.inputs graph.gates) (own : IsOwn graph root) where
   module _ (gates : List Gate) (gates_are : gates ≡ graph.gates) (needed : AreNeeded gates root marks) (named : NamesFirst gates marks (length gates) names) (same_inputs : names.inputs ≡ graph.inputs) (inputs : ℕ) (inputs_are : inputs ≡ graph.inputs) (ds : List Definition) (ds_are : ds ≡ names.definitions) (l : Lit) (l_is : l ≡ lit_of names root) where
     needed' : AreNeeded graph.gates root marks
     needed' = subst (λ gs. AreNeeded gs root marks) gates_are needed

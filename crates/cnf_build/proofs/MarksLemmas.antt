@@ -10,7 +10,7 @@ use Rattle.aig.specs.declared.gate.Literal.{Literal}
 use Rattle.aig.specs.declared.gate.Gate.{Gate}
 use Rattle.aig.specs.declared.gate.Gate.TheVariants.{And, Xor, Mux}
 use Rattle.aig.specs.Graph.{IsAmong, OperandsAmong}
-use Rattle.cnf_build.specs.Marks.{Marks, OutputBelow, OperandsBelow, IsMarked, IsCovered, with_node, with_operands, IsOperand, IsAskedFor, AreNeeded}
+use Rattle.cnf_build.specs.NeededGates.{NeededMarks, OutputBelow, OperandsBelow, IsMarked, IsCovered, with_node, with_operands, IsOperand, IsAskedFor, AreNeeded}
 
 -- an own node of a graph is, if it is a gate, one of the graph's
 pub OutputBelow-from_IsAmong : (inputs count : ℕ) (node : Node) → IsAmong inputs count node → OutputBelow count node
@@ -52,23 +52,23 @@ operand_below k node (Mux c a b) own is =
     ]
 
 -- the new marks are the old ones and those of these nodes
-pub record Adds (nodes : Node → Type 0) (old new : Marks) : Type 0 where
+pub record Adds (nodes : Node → Type 0) (old new : NeededMarks) : Type 0 where
   pub count : length new.gates ≡ length old.gates
   pub kept : (node : Node) → IsMarked old node → IsMarked new node
   pub added : (node : Node) → nodes node → IsCovered new node
   pub only : (node : Node) → IsMarked new node → IsMarked old node ⊎ nodes node
 
-covered_kept : (old new : Marks) → ((node : Node) → IsMarked old node → IsMarked new node) → (node : Node) → IsCovered old node → IsCovered new node
+covered_kept : (old new : NeededMarks) → ((node : Node) → IsMarked old node → IsMarked new node) → (node : Node) → IsCovered old node → IsCovered new node
 covered_kept old new kept One is = kept One is
 covered_kept old new kept (Input k) is = tt
 covered_kept old new kept (Output k) is = kept (Output k) is
 
-added_here : (marks : Marks) (node : Node) → OutputBelow (length marks.gates) node → IsCovered (with_node marks node) node
+added_here : (marks : NeededMarks) (node : Node) → OutputBelow (length marks.gates) node → IsCovered (with_node marks node) node
 added_here marks One below = refl
 added_here marks (Input k) below = tt
 added_here marks (Output k) below = get_or-set_same marks.gates k true false below
 
-kept_with : (marks : Marks) (x : Node) → OutputBelow (length marks.gates) x → (node : Node) → IsMarked marks node → IsMarked (with_node marks x) node
+kept_with : (marks : NeededMarks) (x : Node) → OutputBelow (length marks.gates) x → (node : Node) → IsMarked marks node → IsMarked (with_node marks x) node
 kept_with marks One below One is = refl
 kept_with marks One below (Input j) is = is
 kept_with marks One below (Output j) is = is
@@ -81,7 +81,7 @@ kept_with marks (Output k) below (Output j) is =
       | inr ne ↦ get_or-set_other marks.gates k j true false ne ∙ is
     ]
 
-only_with : (marks : Marks) (x node : Node) → IsMarked (with_node marks x) node → IsMarked marks node ⊎ (x ≡ node)
+only_with : (marks : NeededMarks) (x node : Node) → IsMarked (with_node marks x) node → IsMarked marks node ⊎ (x ≡ node)
 only_with marks One One is = inr refl
 only_with marks One (Input j) is = inl is
 only_with marks One (Output j) is = inl is
@@ -94,12 +94,12 @@ only_with marks (Output k) (Output j) is =
       | inr ne ↦ inl (sym (get_or-set_other marks.gates k j true false ne) ∙ is)
     ]
 
-count_with : (marks : Marks) (x : Node) → length (with_node marks x).gates ≡ length marks.gates
+count_with : (marks : NeededMarks) (x : Node) → length (with_node marks x).gates ≡ length marks.gates
 count_with marks One = refl
 count_with marks (Input k) = refl
 count_with marks (Output k) = length-set marks.gates k true
 
-pub Adds-node : (marks : Marks) (x : Node) → OutputBelow (length marks.gates) x → Adds (λ node. x ≡ node) marks (with_node marks x)
+pub Adds-node : (marks : NeededMarks) (x : Node) → OutputBelow (length marks.gates) x → Adds (λ node. x ≡ node) marks (with_node marks x)
 Adds-node marks x below =
     record {
       count = count_with marks x;
@@ -108,7 +108,7 @@ Adds-node marks x below =
       only = only_with marks x;
     }
 
-Adds-both : (P Q : Node → Type 0) (a b c : Marks) → Adds P a b → Adds Q b c → Adds (λ node. P node ⊎ Q node) a c
+Adds-both : (P Q : Node → Type 0) (a b c : NeededMarks) → Adds P a b → Adds Q b c → Adds (λ node. P node ⊎ Q node) a c
 Adds-both P Q a b c p q =
     record {
       count = q.count ∙ p.count;
@@ -125,16 +125,16 @@ Adds-both P Q a b c p q =
           ];
     }
 
-below_with : (marks : Marks) (x node : Node) → OutputBelow (length marks.gates) node → OutputBelow (length (with_node marks x).gates) node
+below_with : (marks : NeededMarks) (x node : Node) → OutputBelow (length marks.gates) node → OutputBelow (length (with_node marks x).gates) node
 below_with marks x node below = subst (λ k. OutputBelow k node) (sym (count_with marks x)) below
 
-two_nodes : (marks : Marks) (x y : Node) → OutputBelow (length marks.gates) x → OutputBelow (length marks.gates) y → Adds (λ node. (x ≡ node) ⊎ (y ≡ node)) marks (with_node (with_node marks x) y)
+two_nodes : (marks : NeededMarks) (x y : Node) → OutputBelow (length marks.gates) x → OutputBelow (length marks.gates) y → Adds (λ node. (x ≡ node) ⊎ (y ≡ node)) marks (with_node (with_node marks x) y)
 two_nodes marks x y p q =
     let first = with_node marks x in
     Adds-both (λ node. x ≡ node) (λ node. y ≡ node) marks first (with_node first y) (Adds-node marks x p)
     (Adds-node first y (below_with marks x y q))
 
-pub Adds-operands : (marks : Marks) (gate : Gate) → OperandsBelow (length marks.gates) gate → Adds (λ node. IsOperand node gate) marks (with_operands marks gate)
+pub Adds-operands : (marks : NeededMarks) (gate : Gate) → OperandsBelow (length marks.gates) gate → Adds (λ node. IsOperand node gate) marks (with_operands marks gate)
 Adds-operands marks (And a b) own = two_nodes marks a.node b.node own.0 own.1
 Adds-operands marks (Xor a b) own = two_nodes marks a.node b.node own.0 own.1
 Adds-operands marks (Mux c a b) own =
@@ -146,7 +146,7 @@ Adds-operands marks (Mux c a b) own =
 -- the pass
 
 -- what holds where the gates from this place on are done
-pub record MarkedFrom (gates : List Gate) (root : Literal) (from : ℕ) (marks : Marks) : Type 0 where
+pub record MarkedFrom (gates : List Gate) (root : Literal) (from : ℕ) (marks : NeededMarks) : Type 0 where
   pub count : length marks.gates ≡ length gates
   pub root_covered : IsCovered marks root.node
   pub closed :
@@ -165,7 +165,7 @@ none_marked n (Output k) is =
 
 pub MarkedFrom-start : (gates : List Gate) (root : Literal) → OutputBelow (length gates) root.node → MarkedFrom gates root (length gates) (with_node (record { one = false; gates = replicate (length gates) false }) root.node)
 MarkedFrom-start gates root below =
-    let none : Marks = record { one = false; gates = replicate (length gates) false } in
+    let none : NeededMarks = record { one = false; gates = replicate (length gates) false } in
     let count : length none.gates ≡ length gates = length-replicate (length gates) false in
     let adds = Adds-node none root.node (subst (λ k. OutputBelow k root.node) (sym count) below) in
     record {
@@ -179,14 +179,14 @@ MarkedFrom-start gates root below =
           ];
     }
 
-asked_more : (gates : List Gate) (root : Literal) (old new : Marks) → ((node : Node) → IsMarked old node → IsMarked new node) → (node : Node) → IsAskedFor gates root old node → IsAskedFor gates root new node
+asked_more : (gates : List Gate) (root : Literal) (old new : NeededMarks) → ((node : Node) → IsMarked old node → IsMarked new node) → (node : Node) → IsAskedFor gates root old node → IsAskedFor gates root new node
 asked_more gates root old new kept node is =
     elim is [
       | inl e ↦ inl e
       | inr w ↦ inr (w.0, w.1, w.2, kept (Output w.0) w.3, w.4)
     ]
 
-pub MarkedFrom-marked : (gates : List Gate) (root : Literal) (k : ℕ) (gate : Gate) (old new : Marks) → slice_get gates k ≡ Some gate → OperandsBelow k gate → IsMarked old (Output k) → MarkedFrom gates root (k + 1) old → Adds (λ node. IsOperand node gate) old new → MarkedFrom gates root k new
+pub MarkedFrom-marked : (gates : List Gate) (root : Literal) (k : ℕ) (gate : Gate) (old new : NeededMarks) → slice_get gates k ≡ Some gate → OperandsBelow k gate → IsMarked old (Output k) → MarkedFrom gates root (k + 1) old → Adds (λ node. IsOperand node gate) old new → MarkedFrom gates root k new
 MarkedFrom-marked gates root k gate old new at below marked m adds =
     record {
       count = adds.count ∙ m.count;
@@ -211,7 +211,7 @@ MarkedFrom-marked gates root k gate old new at below marked m adds =
           ];
     }
 
-pub MarkedFrom-skipped : (gates : List Gate) (root : Literal) (k : ℕ) (marks : Marks) → get_or marks.gates k false ≡ false → MarkedFrom gates root (k + 1) marks → MarkedFrom gates root k marks
+pub MarkedFrom-skipped : (gates : List Gate) (root : Literal) (k : ℕ) (marks : NeededMarks) → get_or marks.gates k false ≡ false → MarkedFrom gates root (k + 1) marks → MarkedFrom gates root k marks
 MarkedFrom-skipped gates root k marks free m =
     record {
       count = m.count;
@@ -224,7 +224,7 @@ MarkedFrom-skipped gates root k marks free m =
       asked_for = m.asked_for;
     }
 
-pub AreNeeded-from : (gates : List Gate) (root : Literal) (marks : Marks) → MarkedFrom gates root 0 marks → AreNeeded gates root marks
+pub AreNeeded-from : (gates : List Gate) (root : Literal) (marks : NeededMarks) → MarkedFrom gates root 0 marks → AreNeeded gates root marks
 AreNeeded-from gates root marks m =
     record {
       count = m.count;

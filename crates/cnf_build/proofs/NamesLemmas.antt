@@ -18,7 +18,7 @@ use Rattle.aig.proofs.GraphLemmas.{value_of_gate}
 use Rattle.cnf_build.specs.declared.definition.Definition.{Definition}
 use Rattle.cnf_build.specs.declared.definition.Definition.TheVariants as definitions
 use Rattle.cnf_build.specs.Definitions.{definition_value, IsSmaller, IsOverSmaller}
-use Rattle.cnf_build.specs.Marks.{Marks, IsMarked, IsCovered, IsOperand, IsClosed, AreNeeded}
+use Rattle.cnf_build.specs.NeededGates.{NeededMarks, IsMarked, IsCovered, IsOperand, IsClosed, AreNeeded}
 use Rattle.cnf_build.specs.Names.{Names, variable_of, lit_of, definition_of, with_constant, with_gate, HasDefinition, NamesFirst}
 use Rattle.cnf_build.proofs.OneDefinition.{IsOperandOf}
 use Rattle.cnf_build.proofs.DefinitionLists.{Solves, Solves-at}
@@ -74,7 +74,7 @@ definition_of-grown names more ds inputs k le (Mux c a b) own =
 
 -- the start
 
-pub NamesFirst-start : (inputs : ℕ) (all : List Gate) (marks : Marks) (b : Bool) → marks.one ≡ b → NamesFirst all marks 0 (with_constant (record { inputs = inputs; numbers = []; definitions = [] }) b)
+pub NamesFirst-start : (inputs : ℕ) (all : List Gate) (marks : NeededMarks) (b : Bool) → marks.one ≡ b → NamesFirst all marks 0 (with_constant (record { inputs = inputs; numbers = []; definitions = [] }) b)
 NamesFirst-start inputs all marks true is =
     record {
       length_numbers = refl;
@@ -99,7 +99,7 @@ NamesFirst-start inputs all marks false is =
     }
 
 -- a covered node's variable is smaller than the next
-pub IsSmaller-next : (all : List Gate) (marks : Marks) (count : ℕ) (names : Names) → count ≤ length all → NamesFirst all marks count names → (node : Node) (negated : Bool) → IsAmong names.inputs count node → IsCovered marks node → IsSmaller (names.inputs + 1 + length names.definitions) (record { variable = variable_of names node; negated = negated })
+pub IsSmaller-next : (all : List Gate) (marks : NeededMarks) (count : ℕ) (names : Names) → count ≤ length all → NamesFirst all marks count names → (node : Node) (negated : Bool) → IsAmong names.inputs count node → IsCovered marks node → IsSmaller (names.inputs + 1 + length names.definitions) (record { variable = variable_of names node; negated = negated })
 IsSmaller-next all marks count names le f One negated own is =
     let at = f.one_defined is in
     let within = slice_get_within names.definitions at.0 definitions.One at.2 in
@@ -114,7 +114,7 @@ IsSmaller-next all marks count names le f (Output i) negated own is =
     let number = at.1 in
     (omega arith, omega arith)
 
-IsOverSmaller-next : (all : List Gate) (marks : Marks) (count : ℕ) (names : Names) → count ≤ length all → NamesFirst all marks count names → (gate : Gate) → OperandsAmong names.inputs count gate → ((node : Node) → IsOperand node gate → IsCovered marks node) → IsOverSmaller (names.inputs + 1 + length names.definitions) (definition_of names gate)
+IsOverSmaller-next : (all : List Gate) (marks : NeededMarks) (count : ℕ) (names : Names) → count ≤ length all → NamesFirst all marks count names → (gate : Gate) → OperandsAmong names.inputs count gate → ((node : Node) → IsOperand node gate → IsCovered marks node) → IsOverSmaller (names.inputs + 1 + length names.definitions) (definition_of names gate)
 IsOverSmaller-next all marks count names le f (And a b) own is = (
   IsSmaller-next all marks count names le f a.node a.negated own.0 (is a.node (inl refl)),
   IsSmaller-next all marks count names le f b.node b.negated own.1 (is b.node (inr refl)),
@@ -131,7 +131,7 @@ IsOverSmaller-next all marks count names le f (Mux c a b) own is = (
 
 -- one gate more
 
-module _ (all : List Gate) (marks : Marks) (k : ℕ) (names : Names) (gate : Gate) (order : IsInOrder names.inputs all) (closed : IsClosed all marks) (at : slice_get all k ≡ Some gate) (f : NamesFirst all marks k names) where
+module _ (all : List Gate) (marks : NeededMarks) (k : ℕ) (names : Names) (gate : Gate) (order : IsInOrder names.inputs all) (closed : IsClosed all marks) (at : slice_get all k ≡ Some gate) (f : NamesFirst all marks k names) where
   -- what is defined stays so
   older_defined : (more : List ℕ) (ds : List Definition) → ((j : ℕ) (d : Definition) → slice_get names.definitions j ≡ Some d → slice_get ds j ≡ Some d) → (node : Node) (d : Definition) → IsAmong names.inputs k node → HasDefinition names node d → HasDefinition (grown names more ds) node d
   older_defined more ds kept node d own has =
@@ -238,7 +238,7 @@ module _ (all : List Gate) (marks : Marks) (k : ℕ) (names : Names) (gate : Gat
             ];
       }
 
-pub NamesFirst-next : (all : List Gate) (marks : Marks) (k : ℕ) (names : Names) (gate : Gate) → IsInOrder names.inputs all → IsClosed all marks → slice_get all k ≡ Some gate → NamesFirst all marks k names → (b : Bool) → get_or marks.gates k false ≡ b → NamesFirst all marks (k + 1) (with_gate names gate b)
+pub NamesFirst-next : (all : List Gate) (marks : NeededMarks) (k : ℕ) (names : Names) (gate : Gate) → IsInOrder names.inputs all → IsClosed all marks → slice_get all k ≡ Some gate → NamesFirst all marks k names → (b : Bool) → get_or marks.gates k false ≡ b → NamesFirst all marks (k + 1) (with_gate names gate b)
 NamesFirst-next all marks k names gate order closed at f true is = NamesFirst-named all marks k names gate order closed at f is
 NamesFirst-next all marks k names gate order closed at f false is = NamesFirst-skipped all marks k names gate order closed at f is
 
@@ -248,7 +248,7 @@ inputs-with_gate names gate false = refl
 
 -- values
 
-module _ (graph : Graph) (root : Literal) (marks : Marks) (names : Names) (order : IsInOrder graph.inputs graph.gates) (own : IsOwn graph root) (needed : AreNeeded graph.gates root marks) (same_inputs : names.inputs ≡ graph.inputs) (f : NamesFirst graph.gates marks (length graph.gates) names) where
+module _ (graph : Graph) (root : Literal) (marks : NeededMarks) (names : Names) (order : IsInOrder graph.inputs graph.gates) (own : IsOwn graph root) (needed : AreNeeded graph.gates root marks) (same_inputs : names.inputs ≡ graph.inputs) (f : NamesFirst graph.gates marks (length graph.gates) names) where
   module _ (u : ℕ → Bool) (variables : List ℕ) (count : length variables ≡ graph.inputs) (first : EachIndex variables (λ k. slice_index variables k ≡ k + 1)) (s : Solves u (names.inputs + 1) names.definitions) where
     values : List Bool
     values = map u variables

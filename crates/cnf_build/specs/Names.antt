@@ -10,7 +10,7 @@ use Rattle.aig.specs.Graph.{IsAmong}
 use Rattle.cnf_build.specs.declared.definition.Definition.{Definition}
 use Rattle.cnf_build.specs.declared.definition.Definition.TheVariants as definitions
 use Rattle.cnf_build.specs.Definitions.{AreOverSmaller}
-use Rattle.cnf_build.specs.Marks.{Marks, IsMarked}
+use Rattle.cnf_build.specs.NeededGates.{NeededMarks, IsMarked}
 
 -- how many inputs there are, a number for each gate, and definitions of the variables after the inputs, in order
 pub record Names : Type 0 where
@@ -56,7 +56,7 @@ HasDefinition names node d =
     (j : ℕ) × (variable_of names node ≡ names.inputs + 1 + j) × (slice_get names.definitions j ≡ Some d)
 
 -- the constant and the first gates, so many, are named where they are marked, and nothing else is
-pub record NamesFirst (all : List Gate) (marks : Marks) (count : ℕ) (names : Names) : Type 0 where
+pub record NamesFirst (all : List Gate) (marks : NeededMarks) (count : ℕ) (names : Names) : Type 0 where
   pub length_numbers : length names.numbers ≡ count
   pub length_definitions : length names.definitions ≤ count + 1
   pub one_defined : marks.one ≡ true → HasDefinition names One definitions.One

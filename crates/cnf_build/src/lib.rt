@@ -12,6 +12,3 @@ mod needed;
 mod tseitin;
 
 pub use encoding::clauses_of;
-
-#[cfg(test)]
-mod tests;

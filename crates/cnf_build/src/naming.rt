@@ -28,7 +28,7 @@ impl Model for Naming {
 
 impl Naming {
     ghost use Rattle.cnf_build.specs.Names.{lit_of, definition_of, with_gate, with_constant, NamesFirst};
-    ghost use Rattle.cnf_build.specs.Marks.{IsClosed};
+    ghost use Rattle.cnf_build.specs.NeededGates.{IsClosed};
 
     /// Names what is needed of a graph with so many inputs and these gates.
     pub(crate) fn of(

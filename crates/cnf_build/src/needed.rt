@@ -14,15 +14,15 @@ pub(crate) struct Needed {
 }
 
 impl Model for Needed {
-    ghost use Rattle.cnf_build.specs.Marks.{Marks};
+    ghost use Rattle.cnf_build.specs.NeededGates.{NeededMarks};
 
-    ghost Value = { Marks };
+    ghost Value = { NeededMarks };
 
     ghost view = { λ n. record { one = n.one; gates = n.gates.items } };
 }
 
 impl Needed {
-    ghost use Rattle.cnf_build.specs.Marks.{OutputBelow, OperandsBelow, with_node, with_operands, AreNeeded};
+    ghost use Rattle.cnf_build.specs.NeededGates.{OutputBelow, OperandsBelow, with_node, with_operands, AreNeeded};
 
     /// What the root needs of these gates.
     pub(crate) fn by(alloc: Global, gates: &[Gate], root: Literal) -> Result<Self, AllocError>
@@ -58,7 +58,7 @@ impl Needed {
         self.gates[place]
     }
 
-    /// Marks the literal's node, if it isn't an input.
+    /// NeededMarks the literal's node, if it isn't an input.
     fn mark(&mut self, literal: Literal)
         requires { OutputBelow (length self.old.gates) literal.node }
         ensures { self.new ≡ with_node self.old literal.node }
@@ -70,7 +70,7 @@ impl Needed {
         }
     }
 
-    /// Marks the nodes of the gate's operands.
+    /// NeededMarks the nodes of the gate's operands.
     fn mark_operands(&mut self, gate: Gate)
         requires { OperandsBelow (length self.old.gates) gate }
         ensures { self.new ≡ with_operands self.old gate }

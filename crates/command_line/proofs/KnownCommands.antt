@@ -12,7 +12,8 @@ use Rattle.clap.proofs.OnLiterals.{clap_on_literals}
 use Rattle.clap.proofs.ValueTestLemmas.{accepts-Accepts}
 use Rattle.clap.proofs.WalkLemmas.{both}
 use Rattle.command_line.specs.Definition.{program, verify_shape, optimise_shape, run_shape}
-use Rattle.command_line.specs.Reading.{HasVerify, HasOptimise, HasRun, IsKnown}
+use Rattle.command_line.specs.Arguments.{HasVerify, HasOptimise, HasRun, IsKnown}
+use Rattle.command_line.specs.Limits.{most_conflicts, most_steps, most_blocks}
 use Rattle.command_line.specs.Words.{are_taken, command_and_rows}
 use Rattle.command_line.proofs.RowsFit.{ArePlain, leaf_values}
 
@@ -47,7 +48,7 @@ verify_values words ok =
     record {
       rules_file = ap is_some rules.first;
       width_list = ap is_some widths.first;
-      most_conflicts = (conflicts.text, conflicts.first, conflicts.one, accepts-Accepts false (Unsigned 0 1000000) conflicts.text conflicts.pass);
+      most_conflicts = (conflicts.text, conflicts.first, conflicts.one, accepts-Accepts false (Unsigned 0 most_conflicts) conflicts.text conflicts.pass);
     }
 
 optimise_values : (words : List Text) → pass.level_passes optimise_leaf [] nothing_held words false ≡ true → HasOptimise (rows_after optimise_leaf.rules [] words)
@@ -60,8 +61,8 @@ optimise_values words ok =
     record {
       rules_file = ap is_some rules.first;
       module_file = ap is_some module_file.first;
-      most_conflicts = (conflicts.text, conflicts.first, conflicts.one, accepts-Accepts false (Unsigned 0 1000000) conflicts.text conflicts.pass);
-      most_steps = (steps.text, steps.first, steps.one, accepts-Accepts false (Unsigned 0 100000) steps.text steps.pass);
+      most_conflicts = (conflicts.text, conflicts.first, conflicts.one, accepts-Accepts false (Unsigned 0 most_conflicts) conflicts.text conflicts.pass);
+      most_steps = (steps.text, steps.first, steps.one, accepts-Accepts false (Unsigned 0 most_steps) steps.text steps.pass);
     }
 
 run_values : (words : List Text) → pass.level_passes run_leaf [] nothing_held words false ≡ true → HasRun (rows_after run_leaf.rules [] words)
@@ -73,7 +74,7 @@ run_values words ok =
     record {
       module_file = ap is_some module_file.first;
       function_name = ap is_some name.first;
-      most_blocks = (blocks.text, blocks.first, blocks.one, accepts-Accepts false (Unsigned 0 100000000) blocks.text blocks.pass);
+      most_blocks = (blocks.text, blocks.first, blocks.one, accepts-Accepts false (Unsigned 0 most_blocks) blocks.text blocks.pass);
     }
 
 -- a command is named, and it is known

@@ -5,7 +5,7 @@ use Rattle.clap.specs.Words.{ReadsOne, Text, one_text, rows_of}
 use Rattle.clap.specs.declared.parser.matches.Found.{Found}
 use Rattle.clap.proofs.WalkLemmas.{one_text-rows}
 use Rattle.command_line.specs.Words.{number_said}
-use Rattle.command_line.specs.Reading.{HasNumberUpTo}
+use Rattle.command_line.specs.Arguments.{HasNumberUpTo}
 
 pub number_read : (E : Type 0) (G : Text → Result ℕ E → Type 0) (found : Found) (id : Text) (read : Option ℕ)
     → ((t : Text) → one_text found id ≡ Some t → ReadsOne G t read) → ((t : Text) (r : Result ℕ E) → G t r → ParsesUnsigned 32 10 t r)

@@ -6,7 +6,7 @@ use Rattle.clap.specs.declared.error.kind.ErrorKind.TheVariants.{OutOfMemory}
 use Rattle.clap.specs.declared.parser.matches.ArgMatches.{ArgMatches}
 use Rattle.clap.proofs.OnLiterals.{clap_on_literals}
 use Rattle.command_line.specs.Definition.{program}
-use Rattle.command_line.specs.Reading.{IsUntaken}
+use Rattle.command_line.specs.Arguments.{IsUntaken}
 use Rattle.command_line.specs.Words.{are_taken, command_and_rows}
 use Rattle.command_line.specs.declared.command.CommandError.{CommandError}
 use Rattle.command_line.specs.declared.command.CommandError.TheVariants.{Usage, NoMemory}

@@ -10,7 +10,7 @@ use Rattle.std.proofs.lemmas.Result.{OkIff-at_ok}
 use Rattle.std.proofs.lemmas.Bool.{le-leb}
 use borrow.Author.Tests.{leb-true}
 use Rattle.command_line.specs.Widths.{items, names, is_width_list, widths_named, is_width, is_hyphen, is_item, last_of_item, number, up_to}
-use Rattle.command_line.specs.Parsing.{begins_with_zero_or_plus, is_in, is_in_some, span_in, span_of, width_of}
+use Rattle.command_line.specs.Spans.{begins_with_zero_or_plus, is_in, is_in_some, span_in, span_of, width_of}
 use Rattle.command_line.specs.declared.widths.Span.{Span}
 use Rattle.std.specs.Borrow.{Bor}
 use Rattle.std.proofs.lemmas.List.{take_more, map-append}

@@ -4,6 +4,7 @@ use Rattle.clap.specs.Words.{App, Rule, Shape, Text, new_rule}
 use Rattle.clap.specs.Simple.{new_shape}
 use Rattle.clap.specs.declared.builder.action.ArgAction.TheVariants.{Append}
 use Rattle.clap.specs.declared.builder.value_parser.ValueParser.TheVariants.{Unsigned}
+use Rattle.command_line.specs.Limits.{most_conflicts, most_steps, most_blocks}
 
 -- an argument that has to be given: by its place, and not by an option
 abbrev pub required_argument : Text → Rule
@@ -35,10 +36,10 @@ abbrev pub widths_argument : Rule
 widths_argument = option_argument (codes "widths") (codes "1-8,16,32,64")
 
 abbrev pub conflicts_argument : Rule
-conflicts_argument = number_argument (codes "conflicts") 1000000 (codes "20000")
+conflicts_argument = number_argument (codes "conflicts") most_conflicts (codes "20000")
 
 abbrev pub steps_argument : Rule
-steps_argument = number_argument (codes "steps") 100000 (codes "10000")
+steps_argument = number_argument (codes "steps") most_steps (codes "10000")
 
 abbrev pub name_argument : Rule
 name_argument = required_argument (codes "name")
@@ -47,7 +48,7 @@ abbrev pub arguments_argument : Rule
 arguments_argument = repeated_argument (codes "arguments")
 
 abbrev pub blocks_argument : Rule
-blocks_argument = number_argument (codes "blocks") 100000000 (codes "1000000")
+blocks_argument = number_argument (codes "blocks") most_blocks (codes "1000000")
 
 -- `verify RULES [--widths LIST] [--conflicts N]`
 abbrev pub verify_shape : Shape
@@ -70,7 +71,7 @@ run_shape = record (new_shape (codes "run")) {
 -- the program, which has to be given one of these commands
 abbrev pub program : App
 program = record {
-  top = record (new_shape (codes "faeldmoy")) {
+  top = record (new_shape (codes "alive")) {
     is_leaf = false;
     has_version = true;
     disable_help_subcommand = true;

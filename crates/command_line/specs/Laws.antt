@@ -5,12 +5,12 @@ use Rattle.command_line.specs.Words.{Says}
 use Rattle.command_line.specs.declared.command.Command.{Command}
 use Rattle.command_line.specs.declared.command.Command.TheVariants.{Verify, Optimise, Run}
 
--- the same command, of the same files, widths, numbers, name and arguments
+-- the same command, of the same files, name, arguments and options
 abbrev pub SameCommand : Command → Command → Type 0
-SameCommand (Verify rules widths conflicts) (Verify rules' widths' conflicts') = (rules.now ≡ rules'.now) × (widths ≡ widths') × (conflicts ≡ conflicts')
-SameCommand (Optimise rules source conflicts steps) (Optimise rules' source' conflicts' steps') = (rules.now ≡ rules'.now) × (source.now ≡ source'.now) × (conflicts ≡ conflicts') × (steps ≡ steps')
-SameCommand (Run source name arguments blocks) (Run source' name' arguments' blocks') =
-    (source.now ≡ source'.now) × (name.now ≡ name'.now) × (map (λ argument. argument.now) arguments ≡ map (λ argument. argument.now) arguments') × (blocks ≡ blocks')
+SameCommand (Verify rules options) (Verify rules' options') = (rules.now ≡ rules'.now) × (options ≡ options')
+SameCommand (Optimise rules source options) (Optimise rules' source' options') = (rules.now ≡ rules'.now) × (source.now ≡ source'.now) × (options ≡ options')
+SameCommand (Run source name arguments options) (Run source' name' arguments' options') =
+    (source.now ≡ source'.now) × (name.now ≡ name'.now) × (map (λ argument. argument.now) arguments ≡ map (λ argument. argument.now) arguments') × (options ≡ options')
 SameCommand _ _ = ⊥
 
 -- words say one command

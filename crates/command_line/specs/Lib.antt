@@ -1,7 +1,9 @@
-pub mod Building
+pub mod Arguments
 pub mod Definition
 pub mod Laws
-pub mod Parsing
-pub mod Reading
+pub mod Leaf
+pub mod Limits
+pub mod Spans
+pub mod Usage
 pub mod Widths
 pub mod Words

@@ -7,18 +7,16 @@ use std::alloc::AllocError;
 /// A command, with the names of its files as they stand among the words.
 #[derive(Drop)]
 pub enum Command<'a> {
-    /// Decides each rule of a file at the widths, which stand in ascending order and each once.
+    /// Decides each rule of a file.
     Verify {
         rules: &'a str,
-        widths: List<Width>,
-        conflicts: u32,
+        options: VerifyOptions,
     },
     /// Rewrites a module by the rules of a file.
     Optimise {
         rules: &'a str,
         module: &'a str,
-        conflicts: u32,
-        steps: u32,
+        options: OptimiseOptions,
     },
     /// Runs the function of this name, which stands without its `@`, on these arguments.
     Run {
@@ -26,9 +24,33 @@ pub enum Command<'a> {
         name: &'a str,
         /// The words that follow the name, in order and as they stand.
         arguments: List<&'a str>,
-        /// The most blocks that a run may enter, up to 100,000,000.
-        blocks: u32,
+        options: RunOptions,
     },
+}
+
+/// The options of `verify`.
+#[derive(Debug, Drop)]
+pub struct VerifyOptions {
+    /// The widths that types may have, in ascending order and each once.
+    pub widths: List<Width>,
+    /// The most clauses that a search may learn.
+    pub conflicts: u32,
+}
+
+/// The options of `optimise`.
+#[derive(Clone, Copy, Debug)]
+pub struct OptimiseOptions {
+    /// The most clauses that a search may learn.
+    pub conflicts: u32,
+    /// The most rewrites of a function.
+    pub steps: u32,
+}
+
+/// The options of `run`.
+#[derive(Clone, Copy, Debug)]
+pub struct RunOptions {
+    /// The most blocks that a run may enter.
+    pub blocks: u32,
 }
 
 /// Why words are no command.

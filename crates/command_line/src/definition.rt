@@ -3,11 +3,21 @@
 ghost use Rattle.std.specs.Prelude.{◌≡◌, false, IfOk, codes};
 ghost use Rattle.clap.specs.Words.{app_of, rule_of};
 ghost use Rattle.command_line.specs.Definition.{required_argument, repeated_argument, option_argument, number_argument, verify_shape, optimise_shape, run_shape, program};
-ghost use Rattle.command_line.specs.Building.{IsLeaf};
+ghost use Rattle.command_line.specs.Leaf.{IsLeaf};
+ghost use Rattle.command_line.specs.Limits.{most_conflicts};
 
 use clap::builder::ValueParser;
 use clap::{Arg, ArgAction, Command};
 use std::alloc::{AllocError, Global};
+
+/// The most clauses that a search may learn.
+const MOST_CONFLICTS: u64 = 1_000_000;
+
+/// The most rewrites of a function.
+const MOST_STEPS: u64 = 100_000;
+
+/// The most blocks that a run may enter.
+const MOST_BLOCKS: u64 = 100_000_000;
 
 /// An argument that has to be given, by its place.
 fn required_argument<'a>(alloc: Global, name: &'a str, shown: &'a str, help: &'a str) -> Arg<'a>
@@ -78,13 +88,13 @@ fn module_argument<'a>(alloc: Global) -> Arg<'a>
 }
 
 fn conflicts_argument<'a>(alloc: Global) -> Arg<'a>
-    ensures rule { rule_of result ≡ number_argument (codes "conflicts") 1000000 (codes "20000") }
+    ensures rule { rule_of result ≡ number_argument (codes "conflicts") most_conflicts (codes "20000") }
     ensures local { result.global ≡ false }
 {
     number_argument(
         alloc,
         "conflicts",
-        1_000_000,
+        MOST_CONFLICTS,
         "20000",
         "The most clauses that the search for a counterexample learns",
     )
@@ -115,7 +125,7 @@ fn optimise<'a>(alloc: Global) -> Result<Command<'a>, AllocError>
     let steps = number_argument(
         alloc,
         "steps",
-        100_000,
+        MOST_STEPS,
         "10000",
         "The most rewrites of a function",
     );
@@ -141,7 +151,7 @@ fn run<'a>(alloc: Global) -> Result<Command<'a>, AllocError>
     let blocks = number_argument(
         alloc,
         "blocks",
-        100_000_000,
+        MOST_BLOCKS,
         "1000000",
         "The most blocks that are entered",
     );
@@ -160,7 +170,7 @@ pub(crate) fn definition<'a>(alloc: Global) -> Result<Command<'a>, AllocError>
     let verify = verify(alloc)?;
     let optimise = optimise(alloc)?;
     let run = run(alloc)?;
-    let command = Command::new(alloc, "faeldmoy")
+    let command = Command::new(alloc, "alive")
         .about("Verifies rewrite rules, optimises LLVM IR by them, and runs it")
         .version("0.1.0")
         .subcommand_required(true)

@@ -7,9 +7,6 @@ mod laws;
 mod read;
 mod widths;
 
-pub use command::{Command, CommandError};
+pub use command::{Command, CommandError, OptimiseOptions, RunOptions, VerifyOptions};
 pub use laws::words_say_one_command;
 pub use read::read_command;
-
-#[cfg(test)]
-mod tests;

@@ -3,10 +3,12 @@
 ghost use Rattle.std.specs.Prelude.{◌≡◌, ◌⊎◌, ◌≤◌, ℕ, List, Some, true, false, map, codes, string_bytes, IfOk, OnOk, IfErr, IsErrAnd, is_some};
 ghost use Rattle.clap.specs.Words.{first_of, rows_of, found_of, kind_of, subcommand_rows_of};
 ghost use Rattle.clap.specs.declared.error.kind.ErrorKind.TheVariants.{OutOfMemory};
-ghost use Rattle.command_line.specs.Words.{are_taken, command_and_rows, Says, SaysOf, IsWithinLimits, HasNumber, HasTexts, HasBadList, IsUsageOf, IsRefusalOf, refusal_of_list};
-ghost use Rattle.command_line.specs.Reading.{HasValue, HasNumberUpTo, HasVerify, HasOptimise, HasRun, IsKnown, IsUntaken, RefusesGiven, RefusesList};
+ghost use Rattle.command_line.specs.Limits.{IsWithinLimits};
+ghost use Rattle.command_line.specs.Usage.{HasBadList, IsUsageOf, IsRefusalOf, refusal_of_list};
+ghost use Rattle.command_line.specs.Words.{are_taken, command_and_rows, Says, SaysOf, HasNumber, HasTexts};
+ghost use Rattle.command_line.specs.Arguments.{HasValue, HasNumberUpTo, HasVerify, HasOptimise, HasRun, IsKnown, IsUntaken, RefusesGiven, RefusesList};
 
-use crate::command::{Command, CommandError};
+use crate::command::{Command, CommandError, OptimiseOptions, RunOptions, VerifyOptions};
 use crate::definition::definition;
 use crate::widths::read_widths;
 use clap::error::ErrorKind;
@@ -94,8 +96,10 @@ fn read_verify<'a>(alloc: Global, found: &ArgMatches<'a>) -> Result<Command<'a>,
     };
     Ok(Command::Verify {
         rules: text_of(found, "rules"),
-        widths,
-        conflicts: number_of(found, "conflicts"),
+        options: VerifyOptions {
+            widths,
+            conflicts: number_of(found, "conflicts"),
+        },
     })
 }
 
@@ -108,8 +112,10 @@ fn read_optimise<'a>(found: &ArgMatches<'a>) -> Command<'a>
     Command::Optimise {
         rules: text_of(found, "rules"),
         module: text_of(found, "module"),
-        conflicts: number_of(found, "conflicts"),
-        steps: number_of(found, "steps"),
+        options: OptimiseOptions {
+            conflicts: number_of(found, "conflicts"),
+            steps: number_of(found, "steps"),
+        },
     }
 }
 
@@ -123,7 +129,9 @@ fn read_run<'a>(alloc: Global, found: &ArgMatches<'a>) -> Result<Command<'a>, Al
         module: text_of(found, "module"),
         name: text_of(found, "name"),
         arguments: texts_of(alloc, found, "arguments")?,
-        blocks: number_of(found, "blocks"),
+        options: RunOptions {
+            blocks: number_of(found, "blocks"),
+        },
     })
 }
 

@@ -3,7 +3,7 @@
 ghost use Rattle.std.specs.Prelude.{◌≡◌, ◌≤◌, ◌++◌, ◌∷◌, [], OnOk, true, false, map, filter, IfOk, MatchOption};
 ghost use Rattle.std.specs.List.{list_all};
 ghost use Rattle.command_line.specs.Widths.{items, is_item, first_of_item, last_of_item, is_width_list, up_to, IsWidthList};
-ghost use Rattle.command_line.specs.Parsing.{begins_with_zero_or_plus, width_of, span_in, span_of, is_in_some};
+ghost use Rattle.command_line.specs.Spans.{begins_with_zero_or_plus, width_of, span_in, span_of, is_in_some};
 
 use lists::List;
 use ops::Width;

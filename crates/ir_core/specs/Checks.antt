@@ -1,6 +1,7 @@
 -- What each function and each module that is read meets, check by check (LangRef, "Well-Formedness", "Identifiers", "phi",
 -- "switch", and the types that each instruction asks for).
 use Rattle.std.specs.Prelude.{◌≡◌, ℕ, ◌<◌, ◌↔◌, List, length, Option, Some, IsSome, All, Contains, slice_get}
+use Rattle.ops.specs.Conversion.{CastFits}
 use Rattle.ops.specs.Flags.{FlagsFit}
 use Rattle.ops.specs.Number.{Number}
 use Rattle.ops.specs.declared.conversion.Cast.{Cast}
@@ -43,17 +44,11 @@ IsKnown f operands.Undef = Unit {0}
 IsKnown f operands.Poison = Unit {0}
 
 -- a register or a number that is read has the width at which it is read
-abbrev pub HasWidth : Function → ℕ → Operand → Type 0
-HasWidth f width (operands.Register r) = width_of f r ≡ Some width
-HasWidth f width (operands.Number n) = n.width ≡ width
-HasWidth f width operands.Undef = Unit {0}
-HasWidth f width operands.Poison = Unit {0}
-
--- a cast goes to a strictly smaller or to a strictly larger width
-abbrev pub CastFits : Cast → ℕ → ℕ → Type 0
-CastFits Trunc from to = to < from
-CastFits ZExt from to = from < to
-CastFits SExt from to = from < to
+abbrev pub OperandHasWidth : Function → ℕ → Operand → Type 0
+OperandHasWidth f width (operands.Register r) = width_of f r ≡ Some width
+OperandHasWidth f width (operands.Number n) = n.width ≡ width
+OperandHasWidth f width operands.Undef = Unit {0}
+OperandHasWidth f width operands.Poison = Unit {0}
 
 -- the types that an instruction asks for beside those of its operands, and its flags
 abbrev pub IsTyped : ℕ → Op → Type 0
@@ -96,7 +91,7 @@ pub record IsFormed (f : Function) : Type 0 where
   pub registers : (b k i : ℕ) (r : Read) → IsRead f b k i r → IsKnown f r.operand
   pub blocks : (b c : ℕ) → Names f b c → c < length f.blocks
   -- TypeClash, and Duplicate of cases
-  pub operands : (b k i : ℕ) (r : Read) → IsRead f b k i r → HasWidth f r.width r.operand
+  pub operands : (b k i : ℕ) (r : Read) → IsRead f b k i r → OperandHasWidth f r.width r.operand
   pub insts : (b k : ℕ) (inst : Inst) → IsInst f b k inst → IsTyped inst.width inst.op
   pub cases : (b : ℕ) (block : Block) → IsBlock f b block → CasesFit block.end
   -- BadPhi: phis stand first, and have the entries that they need

@@ -9,7 +9,7 @@ use Rattle.ops.specs.Value.{IsValueOf}
 use Rattle.ops.specs.declared.value.Value.{Value}
 use Rattle.ops.specs.declared.value.Effect.TheVariants as effects
 use Rattle.ir_core.specs.Blocks.{IsBlock, Names, targets_of}
-use Rattle.ir_core.specs.Checks.{IsFormed, IsInst, IsPhi, IsTyped, HasWidth}
+use Rattle.ir_core.specs.Checks.{IsFormed, IsInst, IsPhi, IsTyped, OperandHasWidth}
 use Rattle.ir_core.specs.Names.{width_of}
 use Rattle.ir_core.specs.Reads.{Read, read, end_of, reads_of, reads_at_end}
 use Rattle.ir_core.specs.Run.{Registers, holding, Ending, Undefines, Returns, Goes, IfPhi, OnlyZero, switch_target, OpGives, PhiGives, EndGives, Follows, Enters, Passes, RunsFrom}
@@ -35,7 +35,7 @@ use Rattle.ir_meaning.proofs.Totality.{AreEnterable, HasEntry, NoPhis, is_phi_or
 
 -- ---- what fits
 
-op_fits_by : (f : Function) (b k w : ℕ) (op : Op) → ((i : ℕ) (r : Read) → slice_get (reads_of f b k w op) i ≡ Some r → HasWidth f r.width r.operand) → IsTyped w op → ¬ IsPhi op → OpFits f w op
+op_fits_by : (f : Function) (b k w : ℕ) (op : Op) → ((i : ℕ) (r : Read) → slice_get (reads_of f b k w op) i ≡ Some r → OperandHasWidth f r.width r.operand) → IsTyped w op → ¬ IsPhi op → OpFits f w op
 op_fits_by f b k w (Binary op flags x y) reads typed no_phi = (typed, reads 0 (read b k w x) refl, reads 1 (read b k w y) refl)
 op_fits_by f b k w (Compare pred compared x y) reads typed no_phi = (typed, reads 0 (read b k compared x) refl, reads 1 (read b k compared y) refl)
 op_fits_by f b k w (Select c x y) reads typed no_phi = (reads 0 (read b k 1 c) refl, reads 1 (read b k w x) refl, reads 2 (read b k w y) refl)
@@ -49,7 +49,7 @@ op_fits f formed b k block inst is_block is_inst no_phi =
     (λ i r h. formed.operands b k i r (reads_inst f b k block inst is_block is_inst i r h))
     (formed.insts b k inst (record { block = block; is_block = is_block; is_inst = is_inst })) no_phi
 
-end_fits_by : (f : Function) (b k : ℕ) (t : Terminator) → ((i : ℕ) (r : Read) → slice_get (reads_at_end f b k t) i ≡ Some r → HasWidth f r.width r.operand) → EndFits f t
+end_fits_by : (f : Function) (b k : ℕ) (t : Terminator) → ((i : ℕ) (r : Read) → slice_get (reads_at_end f b k t) i ≡ Some r → OperandHasWidth f r.width r.operand) → EndFits f t
 end_fits_by f b k (terminators.Return a) reads = reads 0 (read b k f.width a) refl
 end_fits_by f b k (terminators.Jump to) reads = tt
 end_fits_by f b k (terminators.Branch c to other) reads = reads 0 (read b k 1 c) refl
@@ -61,7 +61,7 @@ end_fits f formed b block is_block =
     end_fits_by f b (length block.insts) block.end (λ i r h. formed.operands b (length block.insts) i r (reads_end f b block is_block i r h))
 
 -- an entry's operand has the width of the phi
-pub entry_fits : (f : Function) → IsFormed f → (b k : ℕ) (block : Block) (inst : Inst) (entries : List (Operand × ℕ)) (a : Operand) (c : ℕ) → IsBlock f b block → slice_get block.insts k ≡ Some inst → inst.op ≡ Phi entries → Contains entries (a, c) → HasWidth f inst.width a
+pub entry_fits : (f : Function) → IsFormed f → (b k : ℕ) (block : Block) (inst : Inst) (entries : List (Operand × ℕ)) (a : Operand) (c : ℕ) → IsBlock f b block → slice_get block.insts k ≡ Some inst → inst.op ≡ Phi entries → Contains entries (a, c) → OperandHasWidth f inst.width a
 entry_fits f formed b k block inst entries a c is_block is_inst is_phi has =
     let found = phi_read f b k block inst entries a c is_block is_inst is_phi has in
     formed.operands b k found.0 (read c (end_of f c) inst.width a) found.1

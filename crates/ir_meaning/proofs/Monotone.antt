@@ -9,7 +9,7 @@ use Rattle.ops.specs.declared.value.Value.{Value}
 use Rattle.ops.specs.declared.value.Value.TheVariants as values
 use Rattle.ops.specs.declared.value.Effect.{Effect}
 use Rattle.ops.specs.declared.value.Effect.TheVariants as effects
-use Rattle.ir_core.specs.Checks.{HasWidth}
+use Rattle.ir_core.specs.Checks.{OperandHasWidth}
 use Rattle.ir_core.specs.Reads.{read}
 use Rattle.ir_core.specs.Run.{Registers, OperandGives, Freezes, AnyNumber}
 use Rattle.ir_core.specs.declared.function.Function.{Function}
@@ -38,7 +38,7 @@ frozen_allows w values.Poison (values.Bits n) v' allows fits h =
     (v', (n.number, fits.1, h ∙ ap (λ (k : ℕ). values.Bits (record { width = k; number = n.number })) fits.0), itself v')
 frozen_allows w (values.Bits n) x' v' allows fits h = (values.Bits n, refl, subst (λ x. Freezes AnyNumber w x v') allows h)
 
-freeze_allows : (f : Function) (held held' : Registers) → HoldAllowing held held' → HoldWidths f held' → (w : ℕ) (a : Operand) → HasWidth f w a → (x' v' : Value) → OperandGives AnyNumber held' w a x' → Freezes AnyNumber w x' v'
+freeze_allows : (f : Function) (held held' : Registers) → HoldAllowing held held' → HoldWidths f held' → (w : ℕ) (a : Operand) → OperandHasWidth f w a → (x' v' : Value) → OperandGives AnyNumber held' w a x' → Freezes AnyNumber w x' v'
     → (x : Value) × (v : Value) × OperandGives AnyNumber held w a x × Freezes AnyNumber w x v × AllowsValue v v'
 freeze_allows f held held' more widths w (operands.Register r) has x' v' h freezes =
     let x = more r x' h in

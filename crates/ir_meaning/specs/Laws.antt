@@ -3,7 +3,7 @@ use Rattle.std.specs.Prelude.{◌≡◌, ℕ, List, Option, Some, slice_get}
 use Rattle.ops.specs.Value.{AllowsValue, AllowsEffect, IsValueOf}
 use Rattle.ops.specs.declared.value.Value.{Value}
 use Rattle.ops.specs.declared.value.Effect.{Effect}
-use Rattle.ir_core.specs.Checks.{MeetsChecks, HasWidth}
+use Rattle.ir_core.specs.Checks.{MeetsChecks, OperandHasWidth}
 use Rattle.ir_core.specs.Names.{width_of}
 use Rattle.ir_core.specs.Reads.{Read, reads_of}
 use Rattle.ir_core.specs.Refines.{AreArguments}
@@ -34,7 +34,7 @@ HoldWidths f held = (r : Register) (width : ℕ) (v : Value) → width_of f r �
 
 -- each operand of an instruction of this width has the width at which it is read
 abbrev pub OperandsHaveWidths : Function → ℕ → Op → Type 0
-OperandsHaveWidths f width op = (b k i : ℕ) (r : Read) → slice_get (reads_of f b k width op) i ≡ Some r → HasWidth f r.width r.operand
+OperandsHaveWidths f width op = (b k i : ℕ) (r : Read) → slice_get (reads_of f b k width op) i ≡ Some r → OperandHasWidth f r.width r.operand
 
 -- Where registers hold values that allow others, an instruction may have an effect that allows each effect that it has there. The
 -- widths are asked for since `freeze` gives a number of its width in place of poison.

@@ -3,7 +3,8 @@ use Rattle.std.specs.Prelude.{◌≡◌, ℕ, List, Contains, Option, None, Some
 use Rattle.ops.specs.Flags.{FlagsFit}
 use Rattle.ops.specs.declared.value.Value.{Value}
 use Rattle.ir_core.specs.Blocks.{Names}
-use Rattle.ir_core.specs.Checks.{CastFits, HasWidth}
+use Rattle.ir_core.specs.Checks.{OperandHasWidth}
+use Rattle.ops.specs.Conversion.{CastFits}
 use Rattle.ir_core.specs.Run.{Registers, Ending, Undefines, Returns, Goes, OnlyZero, OperandGives, going_by}
 use Rattle.ir_core.specs.declared.function.Function.{Function}
 use Rattle.ir_core.specs.declared.instruction.Op.{Op}
@@ -33,19 +34,19 @@ IsEntered f (Some c) b = Names f c b
 
 -- the operation is no phi, and its operands, flags and types fit a result of the width
 abbrev pub OpFits : Function → ℕ → Op → Type 0
-OpFits f width (Binary op flags x y) = FlagsFit op flags × HasWidth f width x × HasWidth f width y
-OpFits f width (Compare pred compared x y) = (width ≡ 1) × HasWidth f compared x × HasWidth f compared y
-OpFits f width (Select c x y) = HasWidth f 1 c × HasWidth f width x × HasWidth f width y
-OpFits f width (Convert cast from x) = CastFits cast from width × HasWidth f from x
-OpFits f width (Freeze x) = HasWidth f width x
+OpFits f width (Binary op flags x y) = FlagsFit op flags × OperandHasWidth f width x × OperandHasWidth f width y
+OpFits f width (Compare pred compared x y) = (width ≡ 1) × OperandHasWidth f compared x × OperandHasWidth f compared y
+OpFits f width (Select c x y) = OperandHasWidth f 1 c × OperandHasWidth f width x × OperandHasWidth f width y
+OpFits f width (Convert cast from x) = CastFits cast from width × OperandHasWidth f from x
+OpFits f width (Freeze x) = OperandHasWidth f width x
 OpFits f width (Phi entries) = ⊥
 
 -- the terminator's operand fits
 abbrev pub EndFits : Function → Terminator → Type 0
-EndFits f (terminators.Return a) = HasWidth f f.width a
+EndFits f (terminators.Return a) = OperandHasWidth f f.width a
 EndFits f (terminators.Jump to) = Unit {0}
-EndFits f (terminators.Branch c to other) = HasWidth f 1 c
-EndFits f (terminators.Switch a width other cases) = HasWidth f width a
+EndFits f (terminators.Branch c to other) = OperandHasWidth f 1 c
+EndFits f (terminators.Switch a width other cases) = OperandHasWidth f width a
 EndFits f terminators.Unreachable = Unit {0}
 
 -- the run goes on at one of these blocks, if it goes on

@@ -30,7 +30,7 @@ pub(crate) fn instruction(f: &Function, table: &Table, width: Width, op: &Op) ->
             Effect::Gives(compare(*pred, *compared, left, right))
         }
         Op::Select(c, x, y) => {
-            let condition = operand(f, table, one_bit(), *c);
+            let condition = operand(f, table, Width::ONE, *c);
             let chosen = operand(f, table, width, *x);
             let other = operand(f, table, width, *y);
             Effect::Gives(choose(condition, chosen, other))
@@ -53,15 +53,5 @@ fn frozen(width: Width, value: Value) -> Value
     match value {
         Value::Poison => zero(width),
         Value::Bits(_) => value,
-    }
-}
-
-/// The width of conditions.
-pub(crate) fn one_bit() -> Width
-    ensures { result ≡ 1 }
-{
-    match Width::new(1) {
-        Some(width) => width,
-        None => unreachable!(),
     }
 }

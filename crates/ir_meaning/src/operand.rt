@@ -3,7 +3,7 @@
 ghost use Rattle.std.specs.Prelude.{◌≡◌};
 ghost use Rattle.ops.specs.Integer.{bits};
 ghost use Rattle.ops.specs.Value.{IsValueOf};
-ghost use Rattle.ir_core.specs.Checks.{HasWidth};
+ghost use Rattle.ir_core.specs.Checks.{OperandHasWidth};
 ghost use Rattle.ir_core.specs.Run.{OnlyZero, OperandGives};
 ghost use Rattle.ir_meaning.specs.Table.{IsTable, held_of};
 
@@ -14,7 +14,7 @@ use ops::{Value, Width, Word};
 /// What an operand of the function gives at the width: what its register holds, or the literal, where `undef` is 0.
 pub(crate) fn operand(f: &Function, table: &Table, width: Width, operand: Operand) -> Value
     requires table { IsTable f.now table.now.firsts.items table.now.values.items }
-    requires width { HasWidth f.now width operand }
+    requires width { OperandHasWidth f.now width operand }
     ensures gives { OperandGives OnlyZero (held_of f.now table.now.values.items) width operand result }
     ensures width { IsValueOf width result }
 {

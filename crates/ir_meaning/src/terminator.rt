@@ -1,13 +1,12 @@
 //! How terminators end a pass through a block.
 
 ghost use Rattle.std.specs.Prelude.{◌≡◌, []};
-ghost use Rattle.ir_core.specs.Checks.{HasWidth};
+ghost use Rattle.ir_core.specs.Checks.{OperandHasWidth};
 ghost use Rattle.ir_core.specs.Blocks.{targets_of};
 ghost use Rattle.ir_core.specs.Run.{EndGives, OnlyZero, Registers, returning, switch_target};
 ghost use Rattle.ir_meaning.specs.Step.{EndFits, GoesBy, GoesTo, ending_of};
 ghost use Rattle.ir_meaning.specs.Table.{IsTable, held_of};
 
-use crate::instruction::one_bit;
 use crate::noundef::{has_noundef, is_indefinite};
 use crate::operand::operand;
 use crate::table::Table;
@@ -38,7 +37,7 @@ pub(crate) fn end(f: &Function, table: &Table, end: &Terminator) -> Step
             returning(noundef, *a, operand(f, table, f.width, *a))
         }
         Terminator::Jump(to) => Step::Goes(*to),
-        Terminator::Branch(c, to, other) => match number(f, table, one_bit(), *c) {
+        Terminator::Branch(c, to, other) => match number(f, table, Width::ONE, *c) {
             None => Step::Undefined,
             Some(1) => Step::Goes(*to),
             Some(_) => Step::Goes(*other),
@@ -67,7 +66,7 @@ fn returning(noundef: bool, a: Operand, value: Value) -> Step
 /// The number that the operand gives, and `None` where that is indefinite: poison, or by the literal `undef`.
 fn number(f: &Function, table: &Table, width: Width, a: Operand) -> Option<u64>
     requires table { IsTable f.now table.now.firsts.items table.now.values.items }
-    requires width { HasWidth f.now width a }
+    requires width { OperandHasWidth f.now width a }
     ensures { GoesBy (held_of f.now table.now.values.items) width a result }
 {
     match (a, operand(f, table, width, a)) {

@@ -3,23 +3,23 @@ use Rattle.std.proofs.Common.{ℕ, List, [], ◌∷◌, ◌++◌, Option, Some, 
 use Rattle.ops.specs.declared.opcode.Opcode.{Opcode}
 use Rattle.ops.specs.declared.opcode.Flags.{Flags}
 use Rattle.ir_tokens.specs.Tokens.{Token, Placed}
-use Rattle.ir_raw.specs.declared.raw.RawEntry.{RawEntry}
-use Rattle.ir_raw.specs.declared.raw.RawEntry.TheVariants as entries
-use Rattle.ir_raw.specs.declared.raw.RawFunction.{RawFunction}
-use Rattle.ir_raw.specs.declared.raw.RawParameter.{RawParameter}
-use Rattle.ir_raw.specs.declared.raw.RawIdentifier.{RawIdentifier}
-use Rattle.ir_raw.specs.declared.raw.RawBlock.{RawBlock}
-use Rattle.ir_raw.specs.declared.raw.RawInst.{RawInst}
-use Rattle.ir_raw.specs.declared.raw.RawOp.{RawOp}
-use Rattle.ir_raw.specs.declared.raw.RawOp.TheVariants.{Binary, Compare, Select, Convert, Freeze, Phi}
-use Rattle.ir_raw.specs.declared.raw.TypedOperand.{TypedOperand}
-use Rattle.ir_raw.specs.declared.raw.RawOperand.{RawOperand}
-use Rattle.ir_raw.specs.declared.raw.RawIncoming.{RawIncoming}
-use Rattle.ir_raw.specs.declared.raw.RawTerminator.{RawTerminator}
-use Rattle.ir_raw.specs.declared.raw.RawTerminator.TheVariants.{Return, Unreachable, Jump, Branch, Switch}
-use Rattle.ir_raw.specs.declared.raw.RawCase.{RawCase}
-use Rattle.ir_statements.specs.Grammar.{Attachment, SpellsRegister, SpellsTarget, SpellsType, SpellsOperand, SpellsTyped, Tail, SpellsFlags, SpellsIncoming, SpellsOp, SpellsInst, SpellsCase, SpellsCases, SpellsTerminator}
-use Rattle.ir_statements.specs.Parts.{Part, IsOn, Is, Nothing, ◌⨾◌, Maybe, Each, Comma, Separated, Repeated}
+use Rattle.ir_tokens.specs.declared.raw.RawEntry.{RawEntry}
+use Rattle.ir_tokens.specs.declared.raw.RawEntry.TheVariants as entries
+use Rattle.ir_tokens.specs.declared.raw.RawFunction.{RawFunction}
+use Rattle.ir_tokens.specs.declared.raw.RawParameter.{RawParameter}
+use Rattle.ir_tokens.specs.declared.raw.RawIdentifier.{RawIdentifier}
+use Rattle.ir_tokens.specs.declared.raw.RawBlock.{RawBlock}
+use Rattle.ir_tokens.specs.declared.raw.RawInst.{RawInst}
+use Rattle.ir_tokens.specs.declared.raw.RawOp.{RawOp}
+use Rattle.ir_tokens.specs.declared.raw.RawOp.TheVariants.{Binary, Compare, Select, Convert, Freeze, Phi}
+use Rattle.ir_tokens.specs.declared.raw.TypedOperand.{TypedOperand}
+use Rattle.ir_tokens.specs.declared.raw.RawOperand.{RawOperand}
+use Rattle.ir_tokens.specs.declared.raw.RawIncoming.{RawIncoming}
+use Rattle.ir_tokens.specs.declared.raw.RawTerminator.{RawTerminator}
+use Rattle.ir_tokens.specs.declared.raw.RawTerminator.TheVariants.{Return, Unreachable, Jump, Branch, Switch}
+use Rattle.ir_tokens.specs.declared.raw.RawCase.{RawCase}
+use Rattle.ir_instructions.specs.Grammar.{Attachment, SpellsRegister, SpellsTarget, SpellsType, SpellsOperand, SpellsTyped, Tail, SpellsFlags, SpellsIncoming, SpellsOp, SpellsInst, SpellsCase, SpellsCases, SpellsTerminator}
+use Rattle.ir_instructions.specs.Parts.{Part, IsOn, Is, Nothing, ◌⨾◌, Maybe, Each, Comma, Separated, Repeated}
 use Rattle.ir_parse.specs.Grammar.{SpellsItem, of_word, of_word_and_group, of_number, of_group, of_quoted, of_key_and_value, SpellsLabel, SpellsBlock, SpellsLabelledBlock, SpellsBlocks, SpellsParameter, SpellsParameterList, SpellsParameters, SpellsName, SpellsBody, SpellsFunction, SpellsEntry}
 
 -- a part stays one where more tokens stand behind

@@ -1,16 +1,16 @@
 -- What is read of items is spelled so.
 use Rattle.std.proofs.Common.{◌≡◌, ℕ, Bool, true, false, cond, List, [], ◌∷◌, ◌++◌, Ok, refl, subst}
 use Rattle.ir_tokens.specs.Tokens.{Placed, KeptGroup, Word, Number, Group, Quoted}
-use Rattle.ir_statements.specs.Parsing.{is_mark, mark_at}
-use Rattle.ir_statements.specs.Parts.{Is, Each}
-use Rattle.ir_statements.specs.Readers.{◌>>=◌}
-use Rattle.ir_statements.specs.Marks as marks
+use Rattle.ir_instructions.specs.InstructionReaders.{is_mark, mark_at}
+use Rattle.ir_instructions.specs.Parts.{Is, Each}
+use Rattle.ir_instructions.specs.Readers.{◌>>=◌}
+use Rattle.ir_instructions.specs.Punctuation as marks
 use Rattle.ir_parse.specs.Grammar.{SpellsItem, of_word, of_word_and_group, of_number, of_group, of_quoted, of_key_and_value}
 use Rattle.ir_parse.specs.Items.{is_item_word}
-use Rattle.ir_parse.specs.Parsing.{begins_item, quoted_value_at, quoted_item_at, word_item_at, item_at, items_at, no_word_at, last_items_at}
-use Rattle.ir_statements.proofs.Loops.{each-is, all_read}
-use Rattle.ir_statements.proofs.Steps.{Reads, bind_ok, read_as}
-use Rattle.ir_statements.proofs.Readings.{mark_at-is}
+use Rattle.ir_parse.specs.ModuleReaders.{begins_item, quoted_value_at, quoted_item_at, word_item_at, item_at, items_at, no_word_at, last_items_at}
+use Rattle.ir_instructions.proofs.Loops.{each-is, all_read}
+use Rattle.ir_instructions.proofs.Steps.{Reads, bind_ok, read_as}
+use Rattle.ir_instructions.proofs.Readings.{mark_at-is}
 
 quoted_value_at-is : (key : List ℕ) → Reads (quoted_value_at key) (λ item tokens rest. (value : List ℕ) × (item ≡ key ++ marks.equals ∷ value) × Is (Quoted value) tokens rest)
 unfolding quoted_value_at

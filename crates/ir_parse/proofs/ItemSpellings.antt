@@ -1,17 +1,17 @@
 -- What is spelled of items is read, where what follows may follow.
 use Rattle.std.proofs.Common.{◌≡◌, ℕ, true, false, eqb, List, [], ◌∷◌, Ok, refl}
 use Rattle.ir_tokens.specs.Tokens.{Placed, KeptGroup, Register, Metadata, Mark}
-use Rattle.ir_statements.specs.Parsing.{is_mark}
-use Rattle.ir_statements.specs.Parts.{Each}
+use Rattle.ir_instructions.specs.InstructionReaders.{is_mark}
+use Rattle.ir_instructions.specs.Parts.{Each}
 use Rattle.ir_parse.specs.Grammar.{SpellsItem, of_word, of_word_and_group, of_number, of_group, of_quoted, of_key_and_value}
-use Rattle.ir_parse.specs.Parsing.{begins_item, quoted_value_at, quoted_item_at, word_item_at, item_at, items_at, no_word_at, last_items_at}
-use Rattle.ir_statements.proofs.Loops.{each-of}
+use Rattle.ir_parse.specs.ModuleReaders.{begins_item, quoted_value_at, quoted_item_at, word_item_at, item_at, items_at, no_word_at, last_items_at}
+use Rattle.ir_instructions.proofs.Loops.{each-of}
 use Rattle.ir_parse.proofs.TakingParts.{item-takes}
-use Rattle.ir_statements.specs.Grammar.{SpellsType}
-use Rattle.ir_statements.specs.Marks as marks
+use Rattle.ir_instructions.specs.Grammar.{SpellsType}
+use Rattle.ir_instructions.specs.Punctuation as marks
 use Rattle.ir_parse.specs.Items.{is_item_word}
-use Rattle.ir_statements.proofs.Spellings.{mark_at-of}
-use Rattle.ir_statements.proofs.WordLemmas.{type_in-of}
+use Rattle.ir_instructions.proofs.Spellings.{mark_at-of}
+use Rattle.ir_instructions.proofs.WordLemmas.{type_in-of}
 
 -- no item begins a type
 pub type_begins_no_item : (width : ℕ) (tokens rest : List Placed) → SpellsType width tokens rest → begins_item tokens ≡ false

@@ -1,16 +1,16 @@
 -- Behind a part fewer tokens are left, or no more.
 use Rattle.std.proofs.Common.{ℕ, List, [], ◌∷◌, Option, Some, None}
 use Rattle.std.specs.Prelude.{IsSome}
-use Rattle.ir_raw.specs.declared.raw.RawEntry.{RawEntry}
-use Rattle.ir_raw.specs.declared.raw.RawEntry.TheVariants as entries
-use Rattle.ir_raw.specs.declared.raw.RawFunction.{RawFunction}
-use Rattle.ir_raw.specs.declared.raw.RawParameter.{RawParameter}
-use Rattle.ir_raw.specs.declared.raw.RawIdentifier.{RawIdentifier}
-use Rattle.ir_raw.specs.declared.raw.RawBlock.{RawBlock}
-use Rattle.ir_statements.specs.Grammar.{SpellsRegister, Attachment}
-use Rattle.ir_statements.specs.Parts.{◌⨾◌, Maybe, Each, Comma}
+use Rattle.ir_tokens.specs.declared.raw.RawEntry.{RawEntry}
+use Rattle.ir_tokens.specs.declared.raw.RawEntry.TheVariants as entries
+use Rattle.ir_tokens.specs.declared.raw.RawFunction.{RawFunction}
+use Rattle.ir_tokens.specs.declared.raw.RawParameter.{RawParameter}
+use Rattle.ir_tokens.specs.declared.raw.RawIdentifier.{RawIdentifier}
+use Rattle.ir_tokens.specs.declared.raw.RawBlock.{RawBlock}
+use Rattle.ir_instructions.specs.Grammar.{SpellsRegister, Attachment}
+use Rattle.ir_instructions.specs.Parts.{◌⨾◌, Maybe, Each, Comma}
 use Rattle.ir_parse.specs.Grammar.{SpellsLabel, SpellsItem, of_word, of_word_and_group, of_number, of_group, of_quoted, of_key_and_value, SpellsBlock, SpellsLabelledBlock, SpellsBlocks, SpellsParameter, SpellsParameterList, SpellsParameters, SpellsBody, SpellsName, SpellsFunction, SpellsEntry}
-use Rattle.ir_statements.proofs.Shorter.{Shorter, NoLonger, weaker, begins, both, on_line, token, a_token, no_part, maybe, each, repeated, a_register, a_type, attachment-shorter, tail, separated, terminator, insts}
+use Rattle.ir_instructions.proofs.Shorter.{Shorter, NoLonger, weaker, begins, both, on_line, token, a_token, no_part, maybe, each, repeated, a_register, a_type, attachment-shorter, tail, separated, terminator, insts}
 
 label : (l : RawIdentifier) → Shorter (SpellsLabel l)
 label l tokens rest (written, same, is) = on_line l.line _ tokens rest is

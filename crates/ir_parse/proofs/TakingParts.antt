@@ -1,8 +1,8 @@
 -- Each part that may stand any number of times takes a token at least.
-use Rattle.ir_statements.specs.Parsing.{is_mark}
-use Rattle.ir_statements.specs.Readers.{TakesSome}
-use Rattle.ir_statements.specs.Marks as marks
-use Rattle.ir_parse.specs.Parsing.{is_label, begins_item, item_at, block_at, further_parameter_at, begins_entry, entry_at}
+use Rattle.ir_instructions.specs.InstructionReaders.{is_mark}
+use Rattle.ir_instructions.specs.Readers.{TakesSome}
+use Rattle.ir_instructions.specs.Punctuation as marks
+use Rattle.ir_parse.specs.ModuleReaders.{is_label, begins_item, item_at, block_at, further_parameter_at, begins_entry, entry_at}
 use Rattle.ir_parse.proofs.FunctionReadings.{block_is_labelled, further_parameter_at-is, entry_at-is}
 use Rattle.ir_parse.proofs.ItemReadings.{item_at-is}
 use Rattle.ir_parse.proofs.ShorterParts.{item-shorter, block-shorter, further_parameter-shorter, entry-shorter}

@@ -5,18 +5,18 @@ use Rattle.std.proofs.lemmas.Bool.{leb-true, leb-false}
 use Rattle.ir_tokens.specs.Laws.{TextsHaveOneListOfTokens}
 use Rattle.ir_tokens.specs.Order.{AreTokens}
 use Rattle.ir_tokens.specs.Tokens.{Placed}
-use Rattle.ir_statements.specs.declared.fault.Misfit.TheVariants.{TooLong}
-use Rattle.ir_statements.specs.declared.fault.ParseError.{ParseError}
-use Rattle.ir_statements.specs.declared.fault.ParseError.TheVariants.{Refused, NoMemory}
-use Rattle.ir_statements.specs.declared.fault.TextFault.{TextFault}
-use Rattle.ir_raw.specs.declared.raw.RawModule.{RawModule}
-use Rattle.ir_statements.specs.Giving.{Gives}
-use Rattle.ir_statements.specs.Readers.{fault}
+use Rattle.ir_instructions.specs.declared.fault.Misfit.TheVariants.{TooLong}
+use Rattle.ir_instructions.specs.declared.fault.ParseError.{ParseError}
+use Rattle.ir_instructions.specs.declared.fault.ParseError.TheVariants.{Refused, NoMemory}
+use Rattle.ir_instructions.specs.declared.fault.TextFault.{TextFault}
+use Rattle.ir_tokens.specs.declared.raw.RawModule.{RawModule}
+use Rattle.ir_instructions.specs.Gives.{Gives}
+use Rattle.ir_instructions.specs.Readers.{fault}
 use Rattle.ir_parse.specs.Laws.{TextsHaveOneReadingOrFault}
-use Rattle.ir_parse.specs.Parsing.{module_of}
-use Rattle.ir_parse.specs.Refusing.{IfRefused}
+use Rattle.ir_parse.specs.ModuleReaders.{module_of}
+use Rattle.ir_parse.specs.Errors.{IfRefused}
 use Rattle.ir_parse.specs.Text.{most_bytes, IsRaw, IsTextFault, too_long, misfit}
-use Rattle.ir_statements.proofs.Steps.{ok_is}
+use Rattle.ir_instructions.proofs.Steps.{ok_is}
 use Rattle.ir_parse.proofs.FunctionReadings.{module_of-is}
 use Rattle.ir_parse.proofs.FunctionSpellings.{module_of-of}
 

@@ -6,17 +6,17 @@ use Rattle.std.specs.Prelude.{◌≡◌, ℕ, List, [], ◌∷◌, ◌++◌, IsT
 use Rattle.ir_tokens.specs.declared.called.Identifier.TheVariants.{Named}
 use Rattle.ir_tokens.specs.Identifiers.{identifier_of}
 use Rattle.ir_tokens.specs.Tokens.{Placed, End, Kept, KeptGroup, Label, Word, Number, Function, Group, Quoted, Mark}
-use Rattle.ir_raw.specs.declared.raw.RawModule.{RawModule}
-use Rattle.ir_raw.specs.declared.raw.RawEntry.{RawEntry}
-use Rattle.ir_raw.specs.declared.raw.RawEntry.TheVariants as entries
-use Rattle.ir_raw.specs.declared.raw.RawFunction.{RawFunction}
-use Rattle.ir_raw.specs.declared.raw.RawParameter.{RawParameter}
-use Rattle.ir_raw.specs.declared.raw.RawIdentifier.{RawIdentifier}
-use Rattle.ir_raw.specs.declared.raw.RawBlock.{RawBlock}
-use Rattle.ir_statements.specs.Parts.{Part, IsOn, Is, Nothing, Never, ◌⨾◌, Maybe, Each, Separated, Repeated}
+use Rattle.ir_tokens.specs.declared.raw.RawModule.{RawModule}
+use Rattle.ir_tokens.specs.declared.raw.RawEntry.{RawEntry}
+use Rattle.ir_tokens.specs.declared.raw.RawEntry.TheVariants as entries
+use Rattle.ir_tokens.specs.declared.raw.RawFunction.{RawFunction}
+use Rattle.ir_tokens.specs.declared.raw.RawParameter.{RawParameter}
+use Rattle.ir_tokens.specs.declared.raw.RawIdentifier.{RawIdentifier}
+use Rattle.ir_tokens.specs.declared.raw.RawBlock.{RawBlock}
+use Rattle.ir_instructions.specs.Parts.{Part, IsOn, Is, Nothing, Never, ◌⨾◌, Maybe, Each, Separated, Repeated}
 use Rattle.ir_parse.specs.Items.{is_item_word}
-use Rattle.ir_statements.specs.Grammar.{Attachment, SpellsInst, SpellsRegister, SpellsTerminator, SpellsType, Tail}
-use Rattle.ir_statements.specs.Marks as marks
+use Rattle.ir_instructions.specs.Grammar.{Attachment, SpellsInst, SpellsRegister, SpellsTerminator, SpellsType, Tail}
+use Rattle.ir_instructions.specs.Punctuation as marks
 
 -- ---- items
 

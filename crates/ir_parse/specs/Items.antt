@@ -2,9 +2,9 @@
 use Rattle.std.specs.Prelude.{ℕ, Bool, true, false, not, ◌&&◌, List, [], ◌∷◌, codes}
 use Rattle.std.specs.List.{list_any}
 use Rattle.std.specs.Str.{bytes_eq}
-use Rattle.ir_statements.specs.declared.word.TypeWord.{TypeWord}
-use Rattle.ir_statements.specs.declared.word.TypeWord.TheVariants as types
-use Rattle.ir_statements.specs.Words.{type_in}
+use Rattle.ir_instructions.specs.declared.word.TypeWord.{TypeWord}
+use Rattle.ir_instructions.specs.declared.word.TypeWord.TheVariants as types
+use Rattle.ir_instructions.specs.Keywords.{type_in}
 
 -- words that are no items, beside those of integer types
 abbrev pub left_out_types : List (List ℕ)

@@ -1,10 +1,10 @@
 -- What holds of every text.
 use Rattle.std.specs.Prelude.{◌≡◌, ◌↔◌, ◌⊎◌, ℕ, ◌≤◌, List, length, Ok}
 use Rattle.ir_tokens.specs.Tokens.{Placed}
-use Rattle.ir_statements.specs.declared.fault.TextFault.{TextFault}
-use Rattle.ir_raw.specs.declared.raw.RawModule.{RawModule}
+use Rattle.ir_instructions.specs.declared.fault.TextFault.{TextFault}
+use Rattle.ir_tokens.specs.declared.raw.RawModule.{RawModule}
 use Rattle.ir_parse.specs.Grammar.{SpellsModule}
-use Rattle.ir_parse.specs.Parsing.{module_of}
+use Rattle.ir_parse.specs.ModuleReaders.{module_of}
 use Rattle.ir_parse.specs.Text.{most_bytes, IsRaw, IsTextFault}
 
 -- reading from left to right answers a module exactly where the grammar spells it

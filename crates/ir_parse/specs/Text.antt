@@ -2,12 +2,12 @@
 use Rattle.std.specs.Prelude.{◌≡◌, ℕ, ◌<◌, ◌≤◌, ◌^◌, List, length, Err}
 use Rattle.ir_tokens.specs.Order.{AreTokens}
 use Rattle.ir_tokens.specs.Tokens.{Placed}
-use Rattle.ir_statements.specs.declared.fault.Misfit.TheVariants.{TooLong}
-use Rattle.ir_statements.specs.declared.fault.TextFault.{TextFault}
-use Rattle.ir_raw.specs.declared.raw.RawModule.{RawModule}
-use Rattle.ir_statements.specs.Readers.{fault}
+use Rattle.ir_instructions.specs.declared.fault.Misfit.TheVariants.{TooLong}
+use Rattle.ir_instructions.specs.declared.fault.TextFault.{TextFault}
+use Rattle.ir_tokens.specs.declared.raw.RawModule.{RawModule}
+use Rattle.ir_instructions.specs.Readers.{fault}
 use Rattle.ir_parse.specs.Grammar.{SpellsModule}
-use Rattle.ir_parse.specs.Parsing.{module_of}
+use Rattle.ir_parse.specs.ModuleReaders.{module_of}
 
 -- the most bytes of a text that is read
 abbrev pub most_bytes : ℕ

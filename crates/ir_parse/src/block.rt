@@ -1,17 +1,16 @@
 //! Blocks from tokens.
 
-ghost use Rattle.ir_tokens.specs.Seen.{seen};
-ghost use Rattle.ir_statements.specs.Giving.{Gives};
-ghost use Rattle.ir_parse.specs.Parsing as parsing;
+ghost use Rattle.ir_tokens.specs.SeenTokens.{seen};
+ghost use Rattle.ir_instructions.specs.Gives.{Gives};
+ghost use Rattle.ir_parse.specs.ModuleReaders as parsing;
 
-use ir_raw::{RawBlock, RawIdentifier};
-use ir_statements::{ParseError, Part, each, insts, tail, terminator};
-use ir_tokens::{Placed, Token, identifier};
+use ir_instructions::{ParseError, Part, each, insts, tail, terminator};
+use ir_tokens::{Placed, RawBlock, RawIdentifier, Token, identifier};
 use lists::List;
 use std::alloc::Global;
 
 /// A label, if there is one.
-#[tactic(auto, unfolding(crate::specs::Parsing::label_at))]
+#[tactic(auto, unfolding(crate::specs::ModuleReaders::label_at))]
 fn label(alloc: Global, tokens: &mut &[Placed<'_>]) -> Result<Option<RawIdentifier>, ParseError>
     ensures { Gives (λ x. (x, seen tokens.new.now)) result (parsing.label_at (seen tokens.old.now)) }
 {
@@ -34,7 +33,7 @@ fn label(alloc: Global, tokens: &mut &[Placed<'_>]) -> Result<Option<RawIdentifi
 enum Block {}
 
 impl Part for Block {
-    ghost use Rattle.ir_parse.specs.Parsing.{is_label, block_at};
+    ghost use Rattle.ir_parse.specs.ModuleReaders.{is_label, block_at};
 
     ghost begins = { is_label };
 
@@ -49,7 +48,7 @@ impl Part for Block {
         }
     }
 
-    #[tactic(auto, unfolding(crate::specs::Parsing::block_at))]
+    #[tactic(auto, unfolding(crate::specs::ModuleReaders::block_at))]
     fn read(alloc: Global, tokens: &mut &[Placed<'_>]) -> Result<RawBlock, ParseError> {
         let label = label(alloc, tokens)?;
         let insts = insts(alloc, tokens)?;
@@ -65,7 +64,7 @@ impl Part for Block {
 }
 
 /// The blocks of a function: one or more.
-#[tactic(auto, unfolding(crate::specs::Parsing::blocks_at))]
+#[tactic(auto, unfolding(crate::specs::ModuleReaders::blocks_at))]
 pub(crate) fn blocks(
     alloc: Global,
     tokens: &mut &[Placed<'_>],

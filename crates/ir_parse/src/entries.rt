@@ -1,22 +1,21 @@
 //! The entries of a module from tokens.
 
-ghost use Rattle.ir_tokens.specs.Seen.{seen};
-ghost use Rattle.ir_statements.specs.Giving.{Gives};
-ghost use Rattle.ir_parse.specs.Parsing as parsing;
+ghost use Rattle.ir_tokens.specs.SeenTokens.{seen};
+ghost use Rattle.ir_instructions.specs.Gives.{Gives};
+ghost use Rattle.ir_parse.specs.ModuleReaders as parsing;
 
 use crate::function::function;
-use ir_raw::{RawEntry, RawModule};
-use ir_statements::{ParseError, Part, Place, copied, each, left_out, unexpected};
-use ir_tokens::{Placed, Token};
+use ir_instructions::{ParseError, Part, Place, copied, each, left_out, unexpected};
+use ir_tokens::{Placed, RawEntry, RawModule, Token};
 use lists::List;
+use ops::keywords::is;
 use std::alloc::Global;
-use words::is;
 
 /// An entry of a module; another one is next before the end of the text.
 enum ModuleEntry {}
 
 impl Part for ModuleEntry {
-    ghost use Rattle.ir_parse.specs.Parsing.{begins_entry, entry_at};
+    ghost use Rattle.ir_parse.specs.ModuleReaders.{begins_entry, entry_at};
 
     ghost begins = { begins_entry };
 
@@ -31,7 +30,7 @@ impl Part for ModuleEntry {
         }
     }
 
-    #[tactic(auto, unfolding(crate::specs::Parsing::entry_at))]
+    #[tactic(auto, unfolding(crate::specs::ModuleReaders::entry_at))]
     fn read(alloc: Global, tokens: &mut &[Placed<'_>]) -> Result<RawEntry, ParseError> {
         match *tokens {
             [Placed { line, token }, rest @ ..] => match *token {
@@ -62,7 +61,7 @@ pub fn entry(alloc: Global, tokens: &mut &[Placed<'_>]) -> Result<RawEntry, Pars
 }
 
 /// The entries of a module.
-#[tactic(auto, unfolding(crate::specs::Parsing::entries_at))]
+#[tactic(auto, unfolding(crate::specs::ModuleReaders::entries_at))]
 fn entries(alloc: Global, tokens: &mut &[Placed<'_>]) -> Result<List<RawEntry>, ParseError>
     ensures { Gives (λ x. (x, seen tokens.new.now)) result (parsing.entries_at (seen tokens.old.now)) }
 {

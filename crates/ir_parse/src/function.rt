@@ -1,20 +1,19 @@
 //! Functions from tokens. (LLVM Language Reference, "Functions".)
 
-ghost use Rattle.ir_tokens.specs.Seen.{seen};
-ghost use Rattle.ir_statements.specs.Giving.{Gives};
-ghost use Rattle.ir_parse.specs.Parsing as parsing;
+ghost use Rattle.ir_tokens.specs.SeenTokens.{seen};
+ghost use Rattle.ir_instructions.specs.Gives.{Gives};
+ghost use Rattle.ir_parse.specs.ModuleReaders as parsing;
 
 use crate::block::blocks;
 use crate::item::{items, last_items};
 use crate::parameter::parameters;
-use ir_raw::{RawBlock, RawFunction};
-use ir_statements::{ParseError, attachments, integer_type, left_out, mark, misplaced};
-use ir_tokens::{Identifier, Placed, Token, identifier};
+use ir_instructions::{ParseError, attachments, integer_type, left_out, mark, misplaced};
+use ir_tokens::{Identifier, Placed, RawBlock, RawFunction, Token, identifier};
 use lists::{List, Text};
 use std::alloc::Global;
 
 /// The name of a function, with its line; a number is left out.
-#[tactic(auto, unfolding(crate::specs::Parsing::function_name_at))]
+#[tactic(auto, unfolding(crate::specs::ModuleReaders::function_name_at))]
 fn function_name(alloc: Global, tokens: &mut &[Placed<'_>]) -> Result<(usize, Text), ParseError>
     ensures { Gives (λ x. (x, seen tokens.new.now)) result (parsing.function_name_at (seen tokens.old.now)) }
 {
@@ -34,7 +33,7 @@ fn function_name(alloc: Global, tokens: &mut &[Placed<'_>]) -> Result<(usize, Te
 }
 
 /// The body of a function in its braces, and the attachments before it.
-#[tactic(auto, unfolding(crate::specs::Parsing::body_at))]
+#[tactic(auto, unfolding(crate::specs::ModuleReaders::body_at))]
 fn body(alloc: Global, tokens: &mut &[Placed<'_>]) -> Result<List<RawBlock>, ParseError>
     ensures { Gives (λ x. (x, seen tokens.new.now)) result (parsing.body_at (seen tokens.old.now)) }
 {
@@ -46,7 +45,7 @@ fn body(alloc: Global, tokens: &mut &[Placed<'_>]) -> Result<List<RawBlock>, Par
 }
 
 /// A function, behind its `define`.
-#[tactic(auto, unfolding(crate::specs::Parsing::function_at))]
+#[tactic(auto, unfolding(crate::specs::ModuleReaders::function_at))]
 pub(crate) fn function(alloc: Global, tokens: &mut &[Placed<'_>]) -> Result<RawFunction, ParseError>
     ensures { Gives (λ x. (x, seen tokens.new.now)) result (parsing.function_at (seen tokens.old.now)) }
 {

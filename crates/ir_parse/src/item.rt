@@ -1,13 +1,13 @@
 //! Items of headers from tokens.
 
 ghost use Rattle.std.specs.Prelude.{◌≡◌, ◌∷◌, ◌++◌, IfOk};
-ghost use Rattle.ir_tokens.specs.Seen.{seen};
-ghost use Rattle.ir_statements.specs.Giving.{Gives};
-ghost use Rattle.ir_statements.specs.Marks as marks;
-ghost use Rattle.ir_parse.specs.Parsing as parsing;
+ghost use Rattle.ir_tokens.specs.SeenTokens.{seen};
+ghost use Rattle.ir_instructions.specs.Gives.{Gives};
+ghost use Rattle.ir_instructions.specs.Punctuation as marks;
+ghost use Rattle.ir_parse.specs.ModuleReaders as parsing;
 
 use crate::word::is_item_word;
-use ir_statements::{
+use ir_instructions::{
     ParseError, Part, Place, copied, each, is_mark, left_out, mark, misplaced, unexpected,
 };
 use ir_tokens::{Placed, Token};
@@ -34,7 +34,7 @@ fn pair(alloc: Global, key: &[u8], value: &[u8]) -> Result<Text, AllocError>
 }
 
 /// The value of a key, behind the `=`.
-#[tactic(auto, unfolding(crate::specs::Parsing::quoted_value_at))]
+#[tactic(auto, unfolding(crate::specs::ModuleReaders::quoted_value_at))]
 fn quoted_value(alloc: Global, key: &[u8], tokens: &mut &[Placed<'_>]) -> Result<Text, ParseError>
     ensures { Gives (λ x. (x, seen tokens.new.now)) result (parsing.quoted_value_at key.now (seen tokens.old.now)) }
 {
@@ -51,7 +51,7 @@ fn quoted_value(alloc: Global, key: &[u8], tokens: &mut &[Placed<'_>]) -> Result
 }
 
 /// The group that is kept behind a word, with the word before it, or the word alone.
-#[tactic(auto, unfolding(crate::specs::Parsing::word_item_at))]
+#[tactic(auto, unfolding(crate::specs::ModuleReaders::word_item_at))]
 fn word_item(alloc: Global, word: &[u8], tokens: &mut &[Placed<'_>]) -> Result<Text, ParseError>
     ensures { Gives (λ x. (x, seen tokens.new.now)) result (parsing.word_item_at word.now (seen tokens.old.now)) }
 {
@@ -68,7 +68,7 @@ fn word_item(alloc: Global, word: &[u8], tokens: &mut &[Placed<'_>]) -> Result<T
 }
 
 /// A quoted text, and its value where a `=` is behind it.
-#[tactic(auto, unfolding(crate::specs::Parsing::quoted_item_at))]
+#[tactic(auto, unfolding(crate::specs::ModuleReaders::quoted_item_at))]
 fn quoted_item(alloc: Global, key: &[u8], tokens: &mut &[Placed<'_>]) -> Result<Text, ParseError>
     ensures { Gives (λ x. (x, seen tokens.new.now)) result (parsing.quoted_item_at key.now (seen tokens.old.now)) }
 {
@@ -84,7 +84,7 @@ fn quoted_item(alloc: Global, key: &[u8], tokens: &mut &[Placed<'_>]) -> Result<
 enum Item {}
 
 impl Part for Item {
-    ghost use Rattle.ir_parse.specs.Parsing.{begins_item, item_at};
+    ghost use Rattle.ir_parse.specs.ModuleReaders.{begins_item, item_at};
 
     ghost begins = { begins_item };
 
@@ -103,7 +103,7 @@ impl Part for Item {
         }
     }
 
-    #[tactic(auto, unfolding(crate::specs::Parsing::item_at))]
+    #[tactic(auto, unfolding(crate::specs::ModuleReaders::item_at))]
     fn read(alloc: Global, tokens: &mut &[Placed<'_>]) -> Result<Text, ParseError> {
         match *tokens {
             [Placed { token, .. }, rest @ ..] => match *token {
@@ -127,7 +127,7 @@ impl Part for Item {
 }
 
 /// Items.
-#[tactic(auto, unfolding(crate::specs::Parsing::items_at))]
+#[tactic(auto, unfolding(crate::specs::ModuleReaders::items_at))]
 pub(crate) fn items(alloc: Global, tokens: &mut &[Placed<'_>]) -> Result<List<Text>, ParseError>
     ensures { Gives (λ x. (x, seen tokens.new.now)) result (parsing.items_at (seen tokens.old.now)) }
 {
@@ -135,7 +135,7 @@ pub(crate) fn items(alloc: Global, tokens: &mut &[Placed<'_>]) -> Result<List<Te
 }
 
 /// That no word is next. One that is no item is left out.
-#[tactic(auto, unfolding(crate::specs::Parsing::no_word_at))]
+#[tactic(auto, unfolding(crate::specs::ModuleReaders::no_word_at))]
 fn no_word(alloc: Global, tokens: &[Placed<'_>]) -> Result<(), ParseError>
     ensures { Gives (λ x. (x, seen tokens.now)) result (parsing.no_word_at (seen tokens.now)) }
 {
@@ -149,7 +149,7 @@ fn no_word(alloc: Global, tokens: &[Placed<'_>]) -> Result<(), ParseError>
 }
 
 /// Items that no word follows.
-#[tactic(auto, unfolding(crate::specs::Parsing::last_items_at))]
+#[tactic(auto, unfolding(crate::specs::ModuleReaders::last_items_at))]
 pub(crate) fn last_items(
     alloc: Global,
     tokens: &mut &[Placed<'_>],

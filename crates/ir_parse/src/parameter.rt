@@ -1,18 +1,17 @@
 //! Parameters from tokens.
 
-ghost use Rattle.ir_tokens.specs.Seen.{seen};
-ghost use Rattle.ir_statements.specs.Giving.{Gives};
-ghost use Rattle.ir_parse.specs.Parsing as parsing;
+ghost use Rattle.ir_tokens.specs.SeenTokens.{seen};
+ghost use Rattle.ir_instructions.specs.Gives.{Gives};
+ghost use Rattle.ir_parse.specs.ModuleReaders as parsing;
 
 use crate::item::last_items;
-use ir_raw::{RawIdentifier, RawParameter};
-use ir_statements::{ParseError, Part, each, integer_type, is_mark, mark};
-use ir_tokens::{Placed, Token, identifier};
+use ir_instructions::{ParseError, Part, each, integer_type, is_mark, mark};
+use ir_tokens::{Placed, RawIdentifier, RawParameter, Token, identifier};
 use lists::List;
 use std::alloc::Global;
 
 /// The name of a parameter, if it has one.
-#[tactic(auto, unfolding(crate::specs::Parsing::parameter_name_at))]
+#[tactic(auto, unfolding(crate::specs::ModuleReaders::parameter_name_at))]
 fn parameter_name(
     alloc: Global,
     tokens: &mut &[Placed<'_>],
@@ -35,7 +34,7 @@ fn parameter_name(
 }
 
 /// A parameter.
-#[tactic(auto, unfolding(crate::specs::Parsing::parameter_at))]
+#[tactic(auto, unfolding(crate::specs::ModuleReaders::parameter_at))]
 fn parameter(alloc: Global, tokens: &mut &[Placed<'_>]) -> Result<RawParameter, ParseError>
     ensures { Gives (λ x. (x, seen tokens.new.now)) result (parsing.parameter_at (seen tokens.old.now)) }
 {
@@ -49,9 +48,9 @@ fn parameter(alloc: Global, tokens: &mut &[Placed<'_>]) -> Result<RawParameter, 
 enum FurtherParameter {}
 
 impl Part for FurtherParameter {
-    ghost use Rattle.ir_statements.specs.Marks as marks;
-    ghost use Rattle.ir_statements.specs.Parsing.{is_mark};
-    ghost use Rattle.ir_parse.specs.Parsing.{further_parameter_at};
+    ghost use Rattle.ir_instructions.specs.Punctuation as marks;
+    ghost use Rattle.ir_instructions.specs.InstructionReaders.{is_mark};
+    ghost use Rattle.ir_parse.specs.ModuleReaders.{further_parameter_at};
 
     ghost begins = { is_mark marks.comma };
 
@@ -63,7 +62,7 @@ impl Part for FurtherParameter {
         is_mark(b',', tokens)
     }
 
-    #[tactic(auto, unfolding(crate::specs::Parsing::further_parameter_at))]
+    #[tactic(auto, unfolding(crate::specs::ModuleReaders::further_parameter_at))]
     fn read(alloc: Global, tokens: &mut &[Placed<'_>]) -> Result<RawParameter, ParseError> {
         mark(b',', tokens)?;
         parameter(alloc, tokens)
@@ -71,7 +70,7 @@ impl Part for FurtherParameter {
 }
 
 /// Parameters: one or more.
-#[tactic(auto, unfolding(crate::specs::Parsing::some_parameters_at))]
+#[tactic(auto, unfolding(crate::specs::ModuleReaders::some_parameters_at))]
 fn some_parameters(
     alloc: Global,
     tokens: &mut &[Placed<'_>],
@@ -84,7 +83,7 @@ fn some_parameters(
 }
 
 /// Parameters, before the `)`: any number.
-#[tactic(auto, unfolding(crate::specs::Parsing::parameter_list_at))]
+#[tactic(auto, unfolding(crate::specs::ModuleReaders::parameter_list_at))]
 fn parameter_list(
     alloc: Global,
     tokens: &mut &[Placed<'_>],
@@ -99,7 +98,7 @@ fn parameter_list(
 }
 
 /// The parameters of a function, in their brackets.
-#[tactic(auto, unfolding(crate::specs::Parsing::parameters_at))]
+#[tactic(auto, unfolding(crate::specs::ModuleReaders::parameters_at))]
 pub(crate) fn parameters(
     alloc: Global,
     tokens: &mut &[Placed<'_>],

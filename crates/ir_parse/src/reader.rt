@@ -1,13 +1,12 @@
 //! The module of a text as written.
 
 ghost use Rattle.std.specs.Prelude.{◌≤◌, length, IfOk, OnOk, IfErr};
-ghost use Rattle.ir_parse.specs.Refusing.{IfRefused};
+ghost use Rattle.ir_parse.specs.Errors.{IfRefused};
 ghost use Rattle.ir_parse.specs.Text.{most_bytes, IsRaw, IsTextFault};
 
 use crate::entries::raw_module;
-use ir_raw::RawModule;
-use ir_statements::{Misfit, ParseError, refused};
-use ir_tokens::tokens_of;
+use ir_instructions::{Misfit, ParseError, refused};
+use ir_tokens::{RawModule, tokens_of};
 use std::alloc::Global;
 
 /// The most bytes of a text that is read.

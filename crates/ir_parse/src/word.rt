@@ -5,8 +5,8 @@ ghost use Rattle.std.specs.List.{list_any};
 ghost use Rattle.std.specs.Str.{bytes_eq};
 ghost use Rattle.ir_parse.specs.Items as items;
 
-use ir_statements::{TypeWord, type_of};
-use words::is;
+use ir_instructions::{TypeWord, type_of};
+use ops::keywords::is;
 
 /// Whether a word is one of these.
 fn is_among(word: &[u8], words: &[&str]) -> bool

@@ -1,19 +1,15 @@
--- The text of entries, as far as they are printed, and their report.
+-- The text of entries, as far as they are printed.
 use Rattle.std.proofs.Common.{◌≡◌, ℕ, zero, suc, ◌+◌, ◌<◌, List, [], ◌∷◌, ◌++◌, length, take, get_or, Some, refl, sym, ap, subst, ◌∙◌, append_assoc, add-one}
-use Rattle.std.specs.Prelude.{slice_get, codes, All}
-use Rattle.std.specs.Fmt.{digits}
-use Rattle.std.specs.List.{flat_map}
+use Rattle.std.specs.Prelude.{slice_get, All}
 use Rattle.std.proofs.lemmas.Option.{slice_get-get_or, slice_get_within, get_or_from_slice_get}
 use Rattle.ir_core.specs.declared.module.Module.{Module}
 use Rattle.ir_core.specs.declared.module.Entry.{Entry}
 use Rattle.ir_core.specs.declared.module.Entry.TheVariants as entries
 use Rattle.ir_core.specs.declared.function.Function.{Function}
 use Rattle.ir_text.specs.Laws.{HasFewThings}
-use Rattle.ir_text.specs.Printing.{between_text, entry_text, entries_text, function_name_text}
-use Rattle.ir_text.specs.Report.{function_report, entries_report}
-use Rattle.ir_printer.specs.Few.{EntryHasFewNames}
+use Rattle.ir_text.specs.PrintedText.{between_text, entry_text, entries_text}
+use Rattle.ir_printer.specs.FewNames.{EntryHasFewNames}
 use Rattle.ir_printer.specs.Gaps.{gap_before}
-use Rattle.ir_printer.specs.Tallies.{no_step, unchanged, entry_report}
 
 -- one entry more, and what stands before it
 push : (es : List Entry) (i : ℕ) (x : Entry) → slice_get es i ≡ Some x → entries_text (take (suc i) es) ≡ entries_text (take i es) ++ (gap_before es i ++ entry_text x)
@@ -38,14 +34,3 @@ pub few_things : (m : Module) → All EntryHasFewNames m.entries → HasFewThing
 few_things m all k f at =
     let e : Entry = entries.Function f in
     subst EntryHasFewNames (get_or_from_slice_get m.entries k e e at) (all k e (slice_get_within m.entries k e at))
-
--- the line of a function of which nothing was rewritten
-pub line_is : (f : Function) → function_report f no_step ≡ function_name_text f.name ++ codes ": 0 rewrites\n"
-unfolding function_report digits
-line_is f = simp append_assoc refl
-
--- the lines of all entries
-pub lines_are : (es : List Entry) → flat_map entry_report es ≡ entries_report es (unchanged es)
-lines_are [] = refl
-lines_are (entries.Kept line ∷ es) = lines_are es
-lines_are (entries.Function f ∷ es) = ap (λ (l : List ℕ). function_report f no_step ++ l) (lines_are es)

@@ -10,9 +10,9 @@ use Rattle.ir_core.specs.declared.function.Block.{Block}
 use Rattle.ir_core.specs.declared.function.Function.{Function}
 use Rattle.ir_core.specs.declared.operand.Register.{Register}
 use Rattle.ir_core.specs.declared.operand.Register.TheVariants as registers
-use Rattle.ir_text.specs.Printing.{block_identifier}
+use Rattle.ir_text.specs.PrintedText.{block_identifier}
 use Rattle.ir_printer.specs.declared.identifier.Identifier.{Identifier as Stored}
-use Rattle.ir_printer.specs.Few.{HasFewNames}
+use Rattle.ir_printer.specs.FewNames.{HasFewNames}
 use Rattle.ir_printer.specs.Series.{seen, next_after, Adds, AreBlockStarts}
 
 -- the identifiers of names, and then of further ones
@@ -90,7 +90,7 @@ none_or_some [] i none lt = omega arith
 none_or_some (x ∷ xs) i none lt = let some = slice_get-get_or (x ∷ xs) i x lt in cc
 
 -- a list has nothing past its end
-none_past : {X : Type 0} (xs : List X) (i : ℕ) → slice_get xs i ≡ None → length xs ≤ i
+pub none_past : {X : Type 0} (xs : List X) (i : ℕ) → slice_get xs i ≡ None → length xs ≤ i
 none_past xs i none = elim (cases_lt i (length xs)) [
   | inl lt ↦ absurd (none_or_some xs i none lt)
   | inr le ↦ le

@@ -8,7 +8,7 @@ use Rattle.std.proofs.lemmas.List.Concat.{flat_map-append}
 use Rattle.std.proofs.lemmas.List.FromFn.{length-enumerate_from, get_or-enumerate_from}
 use Rattle.ir_core.specs.declared.function.Function.{Function}
 use Rattle.ir_core.specs.declared.operand.Operand.{Operand}
-use Rattle.ir_text.specs.Printing.{type_text, operand_text, typed_text}
+use Rattle.ir_text.specs.PrintedText.{type_text, operand_text, typed_text}
 
 -- the text of the first items, and then that of one more
 pub each_more : {X : Type 0} (text : X → List ℕ) (start before after : List ℕ) (xs : List X) (i : ℕ) (x : X) → i < length xs → x ≡ get_or xs i x → before ≡ start ++ flat_map text (take i xs) → after ≡ before ++ text x

@@ -1,7 +1,7 @@
 -- What stands before an entry of a module.
 use Rattle.std.specs.Prelude.{ℕ, zero, suc, List, [], Option, Some, slice_get}
 use Rattle.ir_core.specs.declared.module.Entry.{Entry}
-use Rattle.ir_text.specs.Printing.{between_text}
+use Rattle.ir_text.specs.PrintedText.{between_text}
 
 -- what stands between two entries, where both are there
 abbrev pub gap_between : Option Entry → Option Entry → List ℕ

@@ -1,4 +1,13 @@
-pub mod Few
+pub use Rattle.scan.specs.Bytes
+pub use Rattle.ir_core.specs.Checks
+pub use Rattle.ir_reader.specs.Faults
+pub use Rattle.ir_text.specs.Forms
+pub use Rattle.ir_text.specs.Laws
+pub use Rattle.ir_text.specs.NameText
+pub use Rattle.ir_text.specs.NumberText
+pub use Rattle.ir_text.specs.PrintedText
+pub use Rattle.ir_text.specs.Report
+pub mod FewNames
 pub mod Gaps
 pub mod Series
-pub mod Tallies
+pub mod Rest

@@ -2,7 +2,7 @@
 
 ghost use Rattle.std.specs.Prelude.{◌≡◌, ◌++◌, OnOk};
 ghost use Rattle.std.specs.List.{flat_map, enumerate_from};
-ghost use Rattle.ir_text.specs.Printing.{first_head_text, head_text, inst_text, block_text};
+ghost use Rattle.ir_text.specs.PrintedText.{first_head_text, head_text, inst_text, block_text};
 
 use crate::identifier::Identifier;
 use crate::identifiers::Identifiers;
@@ -14,7 +14,7 @@ use lists::Text;
 use std::alloc::AllocError;
 
 /// Adds what stands before the first block: its label, if it has a name.
-#[tactic(auto, unfolding(ir_text::specs::Printing::first_head_text))]
+#[tactic(auto, unfolding(ir_text::specs::PrintedText::first_head_text))]
 fn push_first_head(out: &mut Vec<u8>, name: &Option<Text>) -> Result<(), AllocError>
     ensures { OnOk result (out.new.items ≡ out.old.items ++ first_head_text name.now) }
 {
@@ -25,7 +25,7 @@ fn push_first_head(out: &mut Vec<u8>, name: &Option<Text>) -> Result<(), AllocEr
 }
 
 /// Adds what stands before the block at a place.
-#[tactic(auto, unfolding(ir_text::specs::Printing::head_text))]
+#[tactic(auto, unfolding(ir_text::specs::PrintedText::head_text))]
 fn push_head(
     out: &mut Vec<u8>,
     called: &Identifiers<'_>,
@@ -59,7 +59,7 @@ fn push_insts(
 }
 
 /// Adds the lines of the block at a place.
-#[tactic(auto, unfolding(ir_text::specs::Printing::block_text))]
+#[tactic(auto, unfolding(ir_text::specs::PrintedText::block_text))]
 fn push_block(
     out: &mut Vec<u8>,
     called: &Identifiers<'_>,

@@ -2,7 +2,7 @@
 
 ghost use Rattle.std.specs.Prelude.{◌≡◌, ◌==◌, if◌then◌else◌, [], ◌++◌, codes, OnOk};
 ghost use Rattle.std.specs.List.{flat_map, join_by, enumerate_from};
-ghost use Rattle.ir_text.specs.Printing.{type_text, function_name_text, item_text, parameter_text, header_text};
+ghost use Rattle.ir_text.specs.PrintedText.{type_text, function_name_text, item_text, parameter_text, header_text};
 
 use crate::identifiers::Identifiers;
 use crate::name::{push_function_name, push_parameter_name};
@@ -12,7 +12,7 @@ use lists::Text;
 use std::alloc::AllocError;
 
 /// Adds an item of a header, behind a space.
-#[tactic(auto, unfolding(ir_text::specs::Printing::item_text))]
+#[tactic(auto, unfolding(ir_text::specs::PrintedText::item_text))]
 fn push_item(out: &mut Vec<u8>, item: &Text) -> Result<(), AllocError>
     ensures { OnOk result (out.new.items ≡ out.old.items ++ item_text item.now) }
 {
@@ -30,7 +30,7 @@ fn push_items(out: &mut Vec<u8>, items: &[Text]) -> Result<(), AllocError>
 }
 
 /// Adds the parameter at a place, behind a comma where it is not the first.
-#[tactic(auto, unfolding(ir_text::specs::Printing::parameter_text))]
+#[tactic(auto, unfolding(ir_text::specs::PrintedText::parameter_text))]
 fn push_parameter(
     out: &mut Vec<u8>,
     called: &Identifiers<'_>,
@@ -81,7 +81,7 @@ fn push_start(out: &mut Vec<u8>, function: &Function) -> Result<(), AllocError>
 }
 
 /// Adds the first line of a function.
-#[tactic(auto, unfolding(ir_text::specs::Printing::header_text))]
+#[tactic(auto, unfolding(ir_text::specs::PrintedText::header_text))]
 pub(crate) fn push_header(out: &mut Vec<u8>, called: &Identifiers<'_>) -> Result<(), AllocError>
     ensures { OnOk result (out.new.items ≡ out.old.items ++ header_text called.now.function.now) }
 {

@@ -3,7 +3,7 @@
 ghost use Rattle.std.specs.Prelude.{◌≡◌, ◌≤◌, ◌∷◌, [], ◌++◌, length, map, slice_get, option_map, IfOk, OnOk};
 ghost use Rattle.std.specs.List.{flat_map};
 ghost use Rattle.ir_core.specs.Names.{identifiers_from, identifiers_of, identifier_of, block_names};
-ghost use Rattle.ir_text.specs.Printing.{block_identifier};
+ghost use Rattle.ir_text.specs.PrintedText.{block_identifier};
 ghost use Rattle.ir_printer.specs.Series.{seen, Adds, AreBlockStarts};
 
 use crate::identifier::Identifier;

@@ -2,7 +2,7 @@
 
 ghost use Rattle.std.specs.Prelude.{◌≡◌, ◌==◌, if◌then◌else◌, [], ◌++◌, codes, OnOk};
 ghost use Rattle.std.specs.List.{join_by};
-ghost use Rattle.ir_text.specs.Printing.{incoming_text, op_text, inst_text};
+ghost use Rattle.ir_text.specs.PrintedText.{incoming_text, op_text, inst_text};
 
 use crate::identifiers::Identifiers;
 use crate::name::{push_block_name, push_result};
@@ -13,7 +13,7 @@ use ir_core::{Inst, Op, Operand};
 use ops::{Cast, Flags, Opcode, Pred, Width};
 use std::alloc::AllocError;
 
-#[tactic(auto, unfolding(ir_text::specs::Printing::op_text))]
+#[tactic(auto, unfolding(ir_text::specs::PrintedText::op_text))]
 fn push_binary(
     out: &mut Vec<u8>,
     called: &Identifiers<'_>,
@@ -35,7 +35,7 @@ fn push_binary(
 }
 
 /// Adds a comparison of operands of the width.
-#[tactic(auto, unfolding(ir_text::specs::Printing::op_text))]
+#[tactic(auto, unfolding(ir_text::specs::PrintedText::op_text))]
 fn push_compare(
     out: &mut Vec<u8>,
     called: &Identifiers<'_>,
@@ -56,7 +56,7 @@ fn push_compare(
     push_operand(out, called, right)
 }
 
-#[tactic(auto, unfolding(ir_text::specs::Printing::op_text))]
+#[tactic(auto, unfolding(ir_text::specs::PrintedText::op_text))]
 fn push_select(
     out: &mut Vec<u8>,
     called: &Identifiers<'_>,
@@ -77,7 +77,7 @@ fn push_select(
 }
 
 /// Adds a conversion from one width to another.
-#[tactic(auto, unfolding(ir_text::specs::Printing::op_text))]
+#[tactic(auto, unfolding(ir_text::specs::PrintedText::op_text))]
 fn push_convert(
     out: &mut Vec<u8>,
     called: &Identifiers<'_>,
@@ -97,7 +97,7 @@ fn push_convert(
 }
 
 /// Adds what a phi gives behind a block, behind a comma where it is not the first.
-#[tactic(auto, unfolding(ir_text::specs::Printing::incoming_text))]
+#[tactic(auto, unfolding(ir_text::specs::PrintedText::incoming_text))]
 fn push_incoming(
     out: &mut Vec<u8>,
     called: &Identifiers<'_>,
@@ -133,7 +133,7 @@ fn push_all_incoming(
     Ok(())
 }
 
-#[tactic(auto, unfolding(ir_text::specs::Printing::op_text))]
+#[tactic(auto, unfolding(ir_text::specs::PrintedText::op_text))]
 fn push_phi(
     out: &mut Vec<u8>,
     called: &Identifiers<'_>,
@@ -149,7 +149,7 @@ fn push_phi(
     push_all_incoming(out, called, entries)
 }
 
-#[tactic(auto, unfolding(ir_text::specs::Printing::op_text))]
+#[tactic(auto, unfolding(ir_text::specs::PrintedText::op_text))]
 fn push_freeze(
     out: &mut Vec<u8>,
     called: &Identifiers<'_>,
@@ -192,7 +192,7 @@ fn push_op(
 }
 
 /// Adds the line of an instruction, by its block and its place there.
-#[tactic(auto, unfolding(ir_text::specs::Printing::inst_text))]
+#[tactic(auto, unfolding(ir_text::specs::PrintedText::inst_text))]
 pub(crate) fn push_inst(
     out: &mut Vec<u8>,
     called: &Identifiers<'_>,

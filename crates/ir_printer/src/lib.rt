@@ -18,6 +18,3 @@ pub use module::print_module;
 pub use name::push_name;
 pub use number::push_number;
 pub use report::print_report;
-
-#[cfg(test)]
-mod tests;

@@ -2,11 +2,11 @@
 
 ghost use Rattle.std.specs.Prelude.{◌≡◌, ◌<◌, ◌++◌, length, IfOk, OnOk};
 ghost use Rattle.ir_core.specs.Checks.{ModuleMeetsChecks};
-ghost use Rattle.ir_forms.specs.Forms.{ModuleHasForms};
+ghost use Rattle.ir_text.specs.Forms.{ModuleHasForms};
 ghost use Rattle.ir_reader.specs.Faults.{IsModuleText};
 ghost use Rattle.ir_text.specs.Laws.{HasFewThings};
-ghost use Rattle.ir_text.specs.Printing.{function_text, entry_text, between_text, text_of};
-ghost use Rattle.ir_printer.specs.Few.{HasFewNames, EntryHasFewNames};
+ghost use Rattle.ir_text.specs.PrintedText.{function_text, entry_text, between_text, text_of};
+ghost use Rattle.ir_printer.specs.FewNames.{HasFewNames, EntryHasFewNames};
 ghost use Rattle.ir_printer.specs.Gaps.{gap_before};
 
 use crate::block::push_blocks;
@@ -16,7 +16,7 @@ use ir_core::{Entry, Function, Module};
 use std::alloc::{AllocError, Global};
 
 /// Adds the lines of a function.
-#[tactic(auto, unfolding(ir_text::specs::Printing::function_text))]
+#[tactic(auto, unfolding(ir_text::specs::PrintedText::function_text))]
 fn push_function(alloc: Global, out: &mut Vec<u8>, function: &Function) -> Result<(), AllocError>
     ensures text { OnOk result (out.new.items ≡ out.old.items ++ function_text function.now) }
     ensures few { OnOk result (HasFewNames function.now) }
@@ -28,7 +28,7 @@ fn push_function(alloc: Global, out: &mut Vec<u8>, function: &Function) -> Resul
 }
 
 /// Adds the lines of an entry.
-#[tactic(auto, unfolding(ir_text::specs::Printing::entry_text))]
+#[tactic(auto, unfolding(ir_text::specs::PrintedText::entry_text))]
 fn push_entry(alloc: Global, out: &mut Vec<u8>, entry: &Entry) -> Result<(), AllocError>
     ensures text { OnOk result (out.new.items ≡ out.old.items ++ entry_text entry.now) }
     ensures few { OnOk result (EntryHasFewNames entry.now) }
@@ -43,7 +43,7 @@ fn push_entry(alloc: Global, out: &mut Vec<u8>, entry: &Entry) -> Result<(), All
 }
 
 /// Adds what stands between two entries.
-#[tactic(auto, unfolding(ir_text::specs::Printing::between_text))]
+#[tactic(auto, unfolding(ir_text::specs::PrintedText::between_text))]
 fn push_between(out: &mut Vec<u8>, entry: &Entry, next: &Entry) -> Result<(), AllocError>
     ensures { OnOk result (out.new.items ≡ out.old.items ++ between_text entry.now next.now) }
 {
@@ -74,7 +74,7 @@ pub fn print_module(alloc: Global, m: &Module) -> Result<Vec<u8>, AllocError>
     ensures reads { IfOk result (λ text. ModuleHasForms m.now → ModuleMeetsChecks m.now
         → IsModuleText text.items m.now) }
 {
-    ir_canonical::printed_texts_read();
+    ir_round_trip::printed_texts_read();
     let entries = m.entries.as_slice();
     let mut out = Vec::new(alloc);
     for (place, entry) in entries.iter().enumerate() {

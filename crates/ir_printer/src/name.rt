@@ -2,8 +2,8 @@
 
 ghost use Rattle.std.specs.Prelude.{◌≡◌, ◌<◌, ◌==◌, ◌++◌, ◌||◌, ◌&&◌, not, option_map, OnOk};
 ghost use Rattle.scan.specs.Bytes.{is_printable};
-ghost use Rattle.ir_lexemes.specs.Names.{hex_digit, escaped, quoted_text, name_text};
-ghost use Rattle.ir_text.specs.Printing.{identifier_text, register_text, block_name_text, function_name_text, label_text};
+ghost use Rattle.ir_text.specs.NameText.{hex_digit, escaped, quoted_text, name_text};
+ghost use Rattle.ir_text.specs.PrintedText.{identifier_text, register_text, block_name_text, function_name_text, label_text};
 ghost use Rattle.ir_printer.specs.Series.{seen};
 
 use crate::identifier::Identifier;
@@ -17,7 +17,7 @@ use std::alloc::AllocError;
 /// and every other between quotes.
 ///
 /// The only error is want of memory.
-#[tactic(auto, unfolding(ir_lexemes::specs::Names::name_text))]
+#[tactic(auto, unfolding(ir_text::specs::NameText::name_text))]
 pub fn push_name(out: &mut Vec<u8>, name: &[u8]) -> Result<(), AllocError>
     ensures { OnOk result (out.new.items ≡ out.old.items ++ name_text name.now) }
 {
@@ -29,7 +29,7 @@ pub fn push_name(out: &mut Vec<u8>, name: &[u8]) -> Result<(), AllocError>
 }
 
 /// Adds a name between quotes.
-#[tactic(auto, unfolding(ir_lexemes::specs::Names::quoted_text))]
+#[tactic(auto, unfolding(ir_text::specs::NameText::quoted_text))]
 fn push_quoted(out: &mut Vec<u8>, name: &[u8]) -> Result<(), AllocError>
     ensures { OnOk result (out.new.items ≡ out.old.items ++ quoted_text name.now) }
 {
@@ -42,7 +42,7 @@ fn push_quoted(out: &mut Vec<u8>, name: &[u8]) -> Result<(), AllocError>
 }
 
 /// Adds a byte of a name as it stands between quotes.
-#[tactic(auto, unfolding(ir_lexemes::specs::Names::escaped))]
+#[tactic(auto, unfolding(ir_text::specs::NameText::escaped))]
 fn push_escaped(out: &mut Vec<u8>, byte: u8) -> Result<(), AllocError>
     ensures { OnOk result (out.new.items ≡ out.old.items ++ escaped byte) }
 {
@@ -65,7 +65,7 @@ fn stands_for_itself(byte: u8) -> bool
 }
 
 /// The hexadecimal digit of a number below 16.
-#[tactic(auto, unfolding(ir_lexemes::specs::Names::hex_digit))]
+#[tactic(auto, unfolding(ir_text::specs::NameText::hex_digit))]
 fn hex_digit(number: u8) -> u8
     requires { number < 16 }
     ensures { result ≡ hex_digit number }
@@ -78,7 +78,7 @@ fn hex_digit(number: u8) -> u8
 }
 
 /// Adds what a register or a block is called, without the `%`.
-#[tactic(auto, unfolding(ir_text::specs::Printing::identifier_text))]
+#[tactic(auto, unfolding(ir_text::specs::PrintedText::identifier_text))]
 fn push_identifier(out: &mut Vec<u8>, identifier: Option<Identifier<'_>>) -> Result<(), AllocError>
     ensures { OnOk result (out.new.items
         ≡ out.old.items ++ identifier_text (option_map seen identifier.entry)) }
@@ -91,7 +91,7 @@ fn push_identifier(out: &mut Vec<u8>, identifier: Option<Identifier<'_>>) -> Res
 }
 
 /// Adds a register.
-#[tactic(auto, unfolding(ir_text::specs::Printing::register_text))]
+#[tactic(auto, unfolding(ir_text::specs::PrintedText::register_text))]
 pub(crate) fn push_register(
     out: &mut Vec<u8>,
     called: &Identifiers<'_>,
@@ -105,7 +105,7 @@ pub(crate) fn push_register(
 }
 
 /// Adds the register of a result, by its block and its place there.
-#[tactic(auto, unfolding(ir_text::specs::Printing::register_text))]
+#[tactic(auto, unfolding(ir_text::specs::PrintedText::register_text))]
 pub(crate) fn push_result(
     out: &mut Vec<u8>,
     called: &Identifiers<'_>,
@@ -120,7 +120,7 @@ pub(crate) fn push_result(
 }
 
 /// Adds the register of a parameter, by its place.
-#[tactic(auto, unfolding(ir_text::specs::Printing::register_text))]
+#[tactic(auto, unfolding(ir_text::specs::PrintedText::register_text))]
 pub(crate) fn push_parameter_name(
     out: &mut Vec<u8>,
     called: &Identifiers<'_>,
@@ -134,7 +134,7 @@ pub(crate) fn push_parameter_name(
 }
 
 /// Adds a block where it is named.
-#[tactic(auto, unfolding(ir_text::specs::Printing::block_name_text))]
+#[tactic(auto, unfolding(ir_text::specs::PrintedText::block_name_text))]
 pub(crate) fn push_block_name(
     out: &mut Vec<u8>,
     called: &Identifiers<'_>,
@@ -148,7 +148,7 @@ pub(crate) fn push_block_name(
 }
 
 /// Adds the line of a label.
-#[tactic(auto, unfolding(ir_text::specs::Printing::label_text))]
+#[tactic(auto, unfolding(ir_text::specs::PrintedText::label_text))]
 pub(crate) fn push_label(
     out: &mut Vec<u8>,
     identifier: Option<Identifier<'_>>,
@@ -161,7 +161,7 @@ pub(crate) fn push_label(
 }
 
 /// Adds the name of a function, behind its `@`.
-#[tactic(auto, unfolding(ir_text::specs::Printing::function_name_text))]
+#[tactic(auto, unfolding(ir_text::specs::PrintedText::function_name_text))]
 pub(crate) fn push_function_name(out: &mut Vec<u8>, name: &[u8]) -> Result<(), AllocError>
     ensures { OnOk result (out.new.items ≡ out.old.items ++ function_name_text name.now) }
 {

@@ -1,8 +1,8 @@
 //! Prints numbers and types (LangRef, "Simple Constants", "Integer Type").
 
 ghost use Rattle.std.specs.Prelude.{◌≡◌, ◌++◌, OnOk, decimal};
-ghost use Rattle.ir_lexemes.specs.Numbers.{number_text};
-ghost use Rattle.ir_text.specs.Printing.{type_text};
+ghost use Rattle.ir_text.specs.NumberText.{number_text};
+ghost use Rattle.ir_text.specs.PrintedText.{type_text};
 
 use itoa::Buffer;
 use ops::{Width, Word};
@@ -17,7 +17,7 @@ pub(crate) fn push_decimal(out: &mut Vec<u8>, number: u64) -> Result<(), AllocEr
 }
 
 /// Adds a type.
-#[tactic(auto, unfolding(ir_text::specs::Printing::type_text))]
+#[tactic(auto, unfolding(ir_text::specs::PrintedText::type_text))]
 pub(crate) fn push_type(out: &mut Vec<u8>, width: Width) -> Result<(), AllocError>
     ensures { OnOk result (out.new.items ≡ out.old.items ++ type_text width) }
 {
@@ -28,7 +28,7 @@ pub(crate) fn push_type(out: &mut Vec<u8>, width: Width) -> Result<(), AllocErro
 /// Adds a number of an integer type as it is printed: read in two's complement, and one bit as `true` or `false`.
 ///
 /// The only error is want of memory.
-#[tactic(auto, unfolding(ir_lexemes::specs::Numbers::number_text))]
+#[tactic(auto, unfolding(ir_text::specs::NumberText::number_text))]
 pub fn push_number(out: &mut Vec<u8>, number: Word) -> Result<(), AllocError>
     ensures { OnOk result (out.new.items ≡ out.old.items ++ number_text number) }
 {

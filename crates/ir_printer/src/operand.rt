@@ -1,7 +1,7 @@
 //! Prints operands.
 
 ghost use Rattle.std.specs.Prelude.{◌≡◌, ◌++◌, OnOk};
-ghost use Rattle.ir_text.specs.Printing.{operand_text, typed_text};
+ghost use Rattle.ir_text.specs.PrintedText.{operand_text, typed_text};
 
 use crate::identifiers::Identifiers;
 use crate::name::push_register;
@@ -11,7 +11,7 @@ use ops::Width;
 use std::alloc::AllocError;
 
 /// Adds an operand.
-#[tactic(auto, unfolding(ir_text::specs::Printing::operand_text))]
+#[tactic(auto, unfolding(ir_text::specs::PrintedText::operand_text))]
 pub(crate) fn push_operand(
     out: &mut Vec<u8>,
     called: &Identifiers<'_>,
@@ -29,7 +29,7 @@ pub(crate) fn push_operand(
 }
 
 /// Adds an operand behind its type.
-#[tactic(auto, unfolding(ir_text::specs::Printing::typed_text))]
+#[tactic(auto, unfolding(ir_text::specs::PrintedText::typed_text))]
 pub(crate) fn push_typed(
     out: &mut Vec<u8>,
     called: &Identifiers<'_>,

@@ -1,41 +1,82 @@
 //! Prints the report on a module.
 
-ghost use Rattle.std.specs.Prelude.{◌≡◌, ◌++◌, IfOk, OnOk};
+ghost use Rattle.std.specs.Prelude.{◌≡◌, ◌++◌, [], ◌∷◌, if◌then◌else◌, codes, List as Seq, IfOk, OnOk};
+ghost use Rattle.ir_core.specs.declared.module.Entry.{Entry as any_entry};
 ghost use Rattle.ir_text.specs.Report.{function_report, report_of};
-ghost use Rattle.ir_printer.specs.Tallies.{no_step, unchanged, entry_report};
+ghost use Rattle.ir_printer.specs.Rest.{rest_of_report};
 
 use crate::name::push_function_name;
+use crate::number::push_decimal;
 use ir_core::{Entry, Function, Module};
 use std::alloc::{AllocError, Global};
 
-/// Adds the line of a function of which nothing was rewritten.
-#[tactic(auto, using(std::proofs::lemmas::Grind::common_steps, crate::proofs::Entries::line_is))]
-fn push_line(out: &mut Vec<u8>, function: &Function) -> Result<(), AllocError>
-    ensures { OnOk result (out.new.items ≡ out.old.items ++ function_report function.now no_step) }
+/// What stands behind the count in the line of a function.
+fn behind_count(is_limited: bool) -> &'static [u8]
+    ensures { result.now ≡ codes " rewrites" ++ (if is_limited then codes ", limit" else []) ++ codes "\n" }
 {
-    push_function_name(out, function.name.as_slice())?;
-    out.extend_from_slice(b": 0 rewrites\n")
-}
-
-/// Adds the line of an entry: a kept line has none.
-fn push_entry(out: &mut Vec<u8>, entry: &Entry) -> Result<(), AllocError>
-    ensures { OnOk result (out.new.items ≡ out.old.items ++ entry_report entry.now) }
-{
-    match entry {
-        Entry::Kept(_) => Ok(()),
-        Entry::Function(function) => push_line(out, function),
+    if is_limited {
+        b" rewrites, limit\n"
+    } else {
+        b" rewrites\n"
     }
 }
 
-/// The report on a module of which nothing was rewritten: a line for each function.
+/// Adds the line of a function.
+#[tactic(auto, unfolding(ir_text::specs::Report::function_report))]
+fn push_line(
+    out: &mut Vec<u8>,
+    function: &Function,
+    rewrites: u32,
+    is_limited: bool,
+) -> Result<(), AllocError>
+    ensures { OnOk result (out.new.items ≡ out.old.items ++ function_report function.now rewrites is_limited) }
+{
+    push_function_name(out, function.name.as_slice())?;
+    out.extend_from_slice(b": ")?;
+    push_decimal(out, u64::from(rewrites))?;
+    out.extend_from_slice(behind_count(is_limited))
+}
+
+/// Adds the line of an entry, if it is a function, whose place among the functions this is; gives the place of the next one.
+fn push_entry(
+    out: &mut Vec<u8>,
+    entry: &Entry,
+    counts: &[u32],
+    limited: &[bool],
+    place: usize,
+) -> Result<usize, AllocError>
+    ensures { IfOk result (λ next. (es : Seq any_entry)
+        → out.new.items ++ rest_of_report es counts.now limited.now next
+        ≡ out.old.items ++ rest_of_report (entry.now ∷ es) counts.now limited.now place) }
+{
+    let Entry::Function(function) = entry else {
+        return Ok(place);
+    };
+    let Some(rewrites) = counts.get(place).copied() else {
+        return Ok(place);
+    };
+    let Some(is_limited) = limited.get(place).copied() else {
+        return Ok(place);
+    };
+    push_line(out, function, rewrites, is_limited)?;
+    Ok(place + 1)
+}
+
+/// The report on a module: a line for each function, with how often it was rewritten and whether it is limited.
 ///
 /// The only error is want of memory.
-pub fn print_report(alloc: Global, m: &Module) -> Result<Vec<u8>, AllocError>
-    ensures { IfOk result (λ text. text.items ≡ report_of m.now (unchanged m.now.entries)) }
+pub fn print_report(
+    alloc: Global,
+    m: &Module,
+    counts: &[u32],
+    limited: &[bool],
+) -> Result<Vec<u8>, AllocError>
+    ensures { IfOk result (λ text. text.items ≡ report_of m.now counts.now limited.now) }
 {
     let mut out = Vec::new(alloc);
+    let mut place = 0;
     for entry in m.entries.as_slice() {
-        push_entry(&mut out, entry)?;
+        place = push_entry(&mut out, entry, counts, limited, place)?;
     }
     Ok(out)
 }

@@ -2,7 +2,7 @@
 
 ghost use Rattle.std.specs.Prelude.{◌≡◌, ◌++◌, OnOk};
 ghost use Rattle.std.specs.List.{flat_map};
-ghost use Rattle.ir_text.specs.Printing.{target_text, case_text, end_text};
+ghost use Rattle.ir_text.specs.PrintedText.{target_text, case_text, end_text};
 
 use crate::identifiers::Identifiers;
 use crate::name::push_block_name;
@@ -13,7 +13,7 @@ use ops::{Width, Word};
 use std::alloc::AllocError;
 
 /// Adds a block to which control may go.
-#[tactic(auto, unfolding(ir_text::specs::Printing::target_text))]
+#[tactic(auto, unfolding(ir_text::specs::PrintedText::target_text))]
 fn push_target(out: &mut Vec<u8>, called: &Identifiers<'_>, block: u32) -> Result<(), AllocError>
     ensures { OnOk result (out.new.items
         ≡ out.old.items ++ target_text called.now.function.now block) }
@@ -22,7 +22,7 @@ fn push_target(out: &mut Vec<u8>, called: &Identifiers<'_>, block: u32) -> Resul
     push_block_name(out, called, block)
 }
 
-#[tactic(auto, unfolding(ir_text::specs::Printing::end_text))]
+#[tactic(auto, unfolding(ir_text::specs::PrintedText::end_text))]
 fn push_branch(
     out: &mut Vec<u8>,
     called: &Identifiers<'_>,
@@ -42,7 +42,7 @@ fn push_branch(
 }
 
 /// Adds the line of a case of a `switch`.
-#[tactic(auto, unfolding(ir_text::specs::Printing::case_text))]
+#[tactic(auto, unfolding(ir_text::specs::PrintedText::case_text))]
 fn push_case(
     out: &mut Vec<u8>,
     called: &Identifiers<'_>,
@@ -75,7 +75,7 @@ fn push_cases(
 }
 
 /// Adds a `switch` on an operand of the width.
-#[tactic(auto, unfolding(ir_text::specs::Printing::end_text))]
+#[tactic(auto, unfolding(ir_text::specs::PrintedText::end_text))]
 fn push_switch(
     out: &mut Vec<u8>,
     called: &Identifiers<'_>,
@@ -97,7 +97,7 @@ fn push_switch(
 }
 
 /// Adds a terminator, without the indent and the end of its line.
-#[tactic(auto, unfolding(ir_text::specs::Printing::end_text))]
+#[tactic(auto, unfolding(ir_text::specs::PrintedText::end_text))]
 pub(crate) fn push_end(
     out: &mut Vec<u8>,
     called: &Identifiers<'_>,

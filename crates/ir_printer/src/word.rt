@@ -1,15 +1,15 @@
 //! Prints the words of instructions (LangRef, "Instruction Reference").
 
 ghost use Rattle.std.specs.Prelude.{◌≡◌, ◌++◌, OnOk};
-ghost use Rattle.words.specs.Words.{opcode_word, pred_word, cast_word};
-ghost use Rattle.ir_text.specs.Printing.{flags_text};
+ghost use Rattle.ops.specs.Keywords.{opcode_keyword, predicate_keyword, cast_keyword};
+ghost use Rattle.ir_text.specs.PrintedText.{flags_text};
 
 use ops::{Cast, Flags, Opcode, Pred};
 use std::alloc::AllocError;
 
 /// Adds the word of a binary operation.
 pub(crate) fn push_opcode(out: &mut Vec<u8>, opcode: Opcode) -> Result<(), AllocError>
-    ensures { OnOk result (out.new.items ≡ out.old.items ++ opcode_word opcode) }
+    ensures { OnOk result (out.new.items ≡ out.old.items ++ opcode_keyword opcode) }
 {
     let word: &[u8] = match opcode {
         Opcode::Add => b"add",
@@ -31,7 +31,7 @@ pub(crate) fn push_opcode(out: &mut Vec<u8>, opcode: Opcode) -> Result<(), Alloc
 
 /// Adds the word of a predicate.
 pub(crate) fn push_pred(out: &mut Vec<u8>, pred: Pred) -> Result<(), AllocError>
-    ensures { OnOk result (out.new.items ≡ out.old.items ++ pred_word pred) }
+    ensures { OnOk result (out.new.items ≡ out.old.items ++ predicate_keyword pred) }
 {
     let word: &[u8] = match pred {
         Pred::Eq => b"eq",
@@ -50,7 +50,7 @@ pub(crate) fn push_pred(out: &mut Vec<u8>, pred: Pred) -> Result<(), AllocError>
 
 /// Adds the word of a conversion.
 pub(crate) fn push_cast(out: &mut Vec<u8>, cast: Cast) -> Result<(), AllocError>
-    ensures { OnOk result (out.new.items ≡ out.old.items ++ cast_word cast) }
+    ensures { OnOk result (out.new.items ≡ out.old.items ++ cast_keyword cast) }
 {
     let word: &[u8] = match cast {
         Cast::Trunc => b"trunc",
@@ -61,7 +61,7 @@ pub(crate) fn push_cast(out: &mut Vec<u8>, cast: Cast) -> Result<(), AllocError>
 }
 
 /// Adds flags, each behind a space.
-#[tactic(auto, unfolding(ir_text::specs::Printing::flags_text))]
+#[tactic(auto, unfolding(ir_text::specs::PrintedText::flags_text))]
 pub(crate) fn push_flags(out: &mut Vec<u8>, flags: Flags) -> Result<(), AllocError>
     ensures { OnOk result (out.new.items ≡ out.old.items ++ flags_text flags) }
 {

@@ -1,15 +1,15 @@
 -- One entry more, and the end of a text.
 use Rattle.std.proofs.Common.{◌≡◌, ℕ, ◌<◌, true, false, Bool, List, [], ◌∷◌, ◌++◌, refl, sym, subst, append_assoc}
 use Rattle.ir_tokens.specs.declared.reader.TokenReader.{TokenReader}
-use Rattle.ir_tokens.specs.Reading.{HasPassed, HasCome}
+use Rattle.ir_tokens.specs.ReaderPlaces.{HasPassed, HasCome}
 use Rattle.ir_tokens.specs.Tokens.{Placed, End}
-use Rattle.ir_raw.specs.declared.raw.RawEntry.{RawEntry}
-use Rattle.ir_statements.specs.Parts.{Part, Each, Is}
+use Rattle.ir_tokens.specs.declared.raw.RawEntry.{RawEntry}
+use Rattle.ir_instructions.specs.Parts.{Part, Each, Is}
 use Rattle.ir_reader.specs.declared.following.NextEntry.{NextEntry}
 use Rattle.ir_reader.specs.declared.following.NextEntry.TheVariants as nexts
-use Rattle.ir_reader.specs.Advancing.{HasRead, Follows, IsWhole, IsEnd}
+use Rattle.ir_reader.specs.EntriesRead.{HasRead, Follows, IsWhole, IsEnd}
 use Rattle.ir_parse.specs.Grammar.{SpellsEntry}
-use Rattle.ir_parse.specs.Parsing.{is_end}
+use Rattle.ir_parse.specs.ModuleReaders.{is_end}
 use Rattle.ir_parse.proofs.Framing.{entry}
 
 each_push : {A : Type 0} (P : A → Part) (xs : List A) (x : A) (tokens between rest : List Placed) → Each P xs tokens between → P x between rest → Each P (xs ++ x ∷ []) tokens rest

@@ -12,23 +12,23 @@ use Rattle.ir_core.specs.declared.operand.Operand.{Operand}
 use Rattle.ir_core.specs.Checks.{IsInst, IsPhi, EntriesFit, MeetsChecks, ModuleMeetsChecks}
 use Rattle.ir_tokens.specs.declared.called.Identifier.{Identifier as Called}
 use Rattle.ir_tokens.specs.Tokens.{Placed}
-use Rattle.ir_raw.specs.declared.raw.RawModule.{RawModule}
-use Rattle.ir_raw.specs.declared.raw.RawEntry.{RawEntry}
-use Rattle.ir_raw.specs.declared.raw.RawEntry.TheVariants as raw_entries
-use Rattle.ir_raw.specs.declared.raw.RawFunction.{RawFunction}
-use Rattle.ir_raw.specs.declared.raw.RawBlock.{RawBlock}
-use Rattle.ir_raw.specs.declared.raw.RawOp.{RawOp}
-use Rattle.ir_raw.specs.declared.raw.RawOp.TheVariants as ops
-use Rattle.ir_statements.specs.Grammar.{SpellsIncoming, SpellsOp, SpellsInst}
-use Rattle.ir_statements.specs.Parts.{Part, Separated}
+use Rattle.ir_tokens.specs.declared.raw.RawModule.{RawModule}
+use Rattle.ir_tokens.specs.declared.raw.RawEntry.{RawEntry}
+use Rattle.ir_tokens.specs.declared.raw.RawEntry.TheVariants as raw_entries
+use Rattle.ir_tokens.specs.declared.raw.RawFunction.{RawFunction}
+use Rattle.ir_tokens.specs.declared.raw.RawBlock.{RawBlock}
+use Rattle.ir_tokens.specs.declared.raw.RawOp.{RawOp}
+use Rattle.ir_tokens.specs.declared.raw.RawOp.TheVariants as ops
+use Rattle.ir_instructions.specs.Grammar.{SpellsIncoming, SpellsOp, SpellsInst}
+use Rattle.ir_instructions.specs.Parts.{Part, Separated}
 use Rattle.ir_parse.specs.Grammar.{SpellsBlock, SpellsBlocks, SpellsLabelledBlock, SpellsEntry}
 use Rattle.ir_parse.specs.Text.{IsRaw}
-use Rattle.ir_statements.proofs.OwnFlags.{own_flags}
+use Rattle.ir_instructions.proofs.OwnFlags.{own_flags}
 use Rattle.ir_resolve.specs.declared.fault.FaultKind.TheVariants.{Duplicate, TypeClash}
 use Rattle.ir_resolve.specs.Faults.{HasNoFault}
 use Rattle.ir_resolve.specs.Means.{Means, IncomingMeans, OpMeans, InstMeans}
 use Rattle.ir_resolve.specs.Written.{Thing, Calls}
-use Rattle.ir_resolve.specs.Formed.{IsWellWrittenOp, IsWellWritten, IsResolved as IsNamed}
+use Rattle.ir_resolve.specs.Formed.{IsWellWrittenOp, IsWellWritten, IsWellNamed as IsNamed}
 use Rattle.ir_resolve.proofs.Resolved.{resolved}
 use Rattle.ir_reader.specs.Phis.{OnlyPhisBefore, OpFits}
 use Rattle.ir_reader.specs.Faults.{IsFunctionOf, functions_of, IsEntryOf, IsModuleText}

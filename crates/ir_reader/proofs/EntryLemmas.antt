@@ -5,11 +5,11 @@ use Rattle.std.specs.Bool.{then_some}
 use Rattle.indexmap.specs.IndexSet.{IndexSet, contains}
 use Rattle.ir_core.specs.declared.function.Function.{Function}
 use Rattle.ir_core.specs.Blocks.{Names}
-use Rattle.ir_raw.specs.declared.raw.RawFunction.{RawFunction}
-use Rattle.ir_raw.specs.declared.raw.RawBlock.{RawBlock}
-use Rattle.ir_resolve.specs.Firsts.{IsFirst}
+use Rattle.ir_tokens.specs.declared.raw.RawFunction.{RawFunction}
+use Rattle.ir_tokens.specs.declared.raw.RawBlock.{RawBlock}
+use Rattle.ir_resolve.specs.FirstLines.{IsFirst}
 use Rattle.ir_resolve.proofs.Firsts.{first_same, first_if}
-use Rattle.ir_reader.specs.Kinds.{EntryPredHere}
+use Rattle.ir_reader.specs.FlowFaults.{EntryPredHere}
 use Rattle.ir_reader.specs.Predecessors.{ArePredecessors}
 use Rattle.ir_reader.proofs.Places.{same_at}
 

@@ -12,25 +12,25 @@ use Rattle.ir_core.specs.declared.operand.Register.{Register}
 use Rattle.ir_core.specs.Assigned.{ReadsAreAssigned, IsFirstUnassigned}
 use Rattle.ir_core.specs.Blocks.{Names}
 use Rattle.ir_core.specs.Checks.{IsInst}
-use Rattle.ir_raw.specs.declared.raw.RawModule.{RawModule}
-use Rattle.ir_raw.specs.declared.raw.RawEntry.{RawEntry}
-use Rattle.ir_raw.specs.declared.raw.RawEntry.TheVariants as raw_entries
-use Rattle.ir_raw.specs.declared.raw.RawFunction.{RawFunction}
-use Rattle.ir_raw.specs.declared.raw.RawBlock.{RawBlock}
-use Rattle.ir_raw.specs.declared.raw.RawInst.{RawInst}
-use Rattle.ir_statements.specs.declared.fault.Misfit.TheVariants.{TooLong}
-use Rattle.ir_statements.specs.declared.fault.TextFault.{TextFault}
-use Rattle.ir_statements.specs.Readers.{fault}
+use Rattle.ir_tokens.specs.declared.raw.RawModule.{RawModule}
+use Rattle.ir_tokens.specs.declared.raw.RawEntry.{RawEntry}
+use Rattle.ir_tokens.specs.declared.raw.RawEntry.TheVariants as raw_entries
+use Rattle.ir_tokens.specs.declared.raw.RawFunction.{RawFunction}
+use Rattle.ir_tokens.specs.declared.raw.RawBlock.{RawBlock}
+use Rattle.ir_tokens.specs.declared.raw.RawInst.{RawInst}
+use Rattle.ir_instructions.specs.declared.fault.Misfit.TheVariants.{TooLong}
+use Rattle.ir_instructions.specs.declared.fault.TextFault.{TextFault}
+use Rattle.ir_instructions.specs.Readers.{fault}
 use Rattle.ir_parse.specs.Text.{most_bytes, IsRaw, too_long}
 use Rattle.ir_parse.specs.Laws.{TextsHaveOneReadingOrFault}
 use Rattle.ir_resolve.specs.Laws.{FunctionsHaveOneMeaningOrFault}
 use Rattle.ir_resolve.proofs.Deciding.{FirstOf, first_moved, first_on, first_by_place, first_at, dec_not}
 use Rattle.ir_reader.specs.declared.fault.IrFault.{IrFault}
 use Rattle.ir_reader.specs.declared.fault.IrFaultKind.TheVariants as kinds
-use Rattle.ir_reader.specs.Refusing.{of_text_fault, of_name_fault}
+use Rattle.ir_reader.specs.Errors.{of_text_fault, of_name_fault}
 use Rattle.ir_reader.specs.Phis.{OpFits, PhisFit}
-use Rattle.ir_reader.specs.Kinds.{BadPhiHere, BadPhiAt, EntryPredHere, EntryPredAt}
-use Rattle.ir_reader.specs.Faults.{IsResolved, EntryIsFree, IsFunctionOf, IsFirstFault, of_names, bad_phi, entry_pred, unassigned, functions_of, IsEntryOf, IsFaultOfEntry, IsFaultOfEntries, IsModuleText, IsFault, of_text, of_entries}
+use Rattle.ir_reader.specs.FlowFaults.{BadPhiHere, BadPhiAt, EntryPredHere, EntryPredAt}
+use Rattle.ir_reader.specs.Faults.{ResolvesTo, EntryIsFree, IsFunctionOf, IsFaultOfFunction, of_names, bad_phi, entry_pred, unassigned, functions_of, IsEntryOf, IsFaultOfEntry, IsFaultOfEntries, IsModuleText, IsFault, of_text, of_entries}
 use Rattle.ir_reader.proofs.Places.{there}
 use Rattle.ir_reader.proofs.Meaning.{written_read}
 use Rattle.ir_reader.proofs.Checking.{phis_fit, entry_free}
@@ -82,9 +82,9 @@ module _ (raw : RawFunction) (f : Function) where
 
 module _ (earlier : List RawFunction) (raw : RawFunction) where
   abbrev HasFunctionOrFault : Type 0
-  HasFunctionOrFault = ((f : Function) × IsFunctionOf earlier raw f) ⊎ ((fault : IrFault) × IsFirstFault earlier raw fault)
+  HasFunctionOrFault = ((f : Function) × IsFunctionOf earlier raw f) ⊎ ((fault : IrFault) × IsFaultOfFunction earlier raw fault)
 
-  module _ (f : Function) (resolved : IsResolved earlier raw f) where
+  module _ (f : Function) (resolved : ResolvesTo earlier raw f) where
     reads_checked : PhisFit f → EntryIsFree f → ReadsAreAssigned f ⊎ ((register : Register) × (b : ℕ) × (k : ℕ) × (i : ℕ) × IsFirstUnassigned f register b k i) → HasFunctionOrFault
     reads_checked fit free (inl assigned) = inl (f, record { resolved = resolved; phis = fit; entry = free; assigned = assigned })
     reads_checked fit free (inr (register, b, k, i, first)) =

@@ -7,15 +7,16 @@ use Rattle.std.proofs.lemmas.Option.{slice_get_within}
 use Rattle.ir_core.specs.declared.module.Entry.{Entry}
 use Rattle.ir_core.specs.declared.module.Module.{Module}
 use Rattle.ir_tokens.specs.declared.reader.TokenReader.{TokenReader}
-use Rattle.ir_tokens.specs.Reading.{StandsIn}
-use Rattle.ir_raw.specs.declared.raw.RawEntry.{RawEntry}
-use Rattle.ir_raw.specs.declared.raw.RawFunction.{RawFunction}
-use Rattle.ir_reader.specs.Advancing.{HasRead}
+use Rattle.ir_tokens.specs.ReaderPlaces.{StandsIn}
+use Rattle.ir_tokens.specs.declared.raw.RawEntry.{RawEntry}
+use Rattle.ir_tokens.specs.declared.raw.RawFunction.{RawFunction}
+use Rattle.ir_reader.specs.EntriesRead.{HasRead}
 use Rattle.ir_parse.specs.Grammar.{SpellsEntry}
 use Rattle.ir_parse.specs.Text.{IsRaw}
-use Rattle.ir_resolve.specs.Kinds.{HasNameOf}
+use Rattle.ir_resolve.specs.FaultKinds.{HasNameOf}
 use Rattle.ir_reader.specs.Faults.{functions_of, IsEntryOf, IsModuleText}
-use Rattle.ir_reader.specs.Marks.{MarksEntry, HasBlock, IsNameOf}
+use Rattle.ir_reader.specs.RepeatedNames.{MarksEntry, IsNameOf}
+use Rattle.ir_reader.specs.HasBlock.{HasBlock}
 use Rattle.ir_reader.proofs.Places.{at_push, append_right}
 use Rattle.ir_reader.proofs.Reading.{AreFirstEntries, first_entries_more, all_entries, each_spelled, has_block}
 use Rattle.ir_reader.proofs.Repeats.{name_push, own_mark}

@@ -8,23 +8,23 @@ use Rattle.ir_core.specs.declared.module.Entry.TheVariants as entries
 use Rattle.ir_core.specs.declared.function.Function.{Function}
 use Rattle.ir_core.specs.declared.operand.Register.{Register}
 use Rattle.ir_core.specs.Assigned.{IsFirstUnassigned, IsBefore, ReadsAreAssigned}
-use Rattle.ir_raw.specs.declared.raw.RawModule.{RawModule}
-use Rattle.ir_raw.specs.declared.raw.RawEntry.{RawEntry}
-use Rattle.ir_raw.specs.declared.raw.RawEntry.TheVariants as raw_entries
-use Rattle.ir_raw.specs.declared.raw.RawFunction.{RawFunction}
-use Rattle.ir_raw.specs.declared.raw.RawValue.TheVariants as values
+use Rattle.ir_tokens.specs.declared.raw.RawModule.{RawModule}
+use Rattle.ir_tokens.specs.declared.raw.RawEntry.{RawEntry}
+use Rattle.ir_tokens.specs.declared.raw.RawEntry.TheVariants as raw_entries
+use Rattle.ir_tokens.specs.declared.raw.RawFunction.{RawFunction}
+use Rattle.ir_tokens.specs.declared.raw.RawValue.TheVariants as values
 use Rattle.ir_parse.specs.Laws.{TextsHaveOneReadingOrFault}
 use Rattle.ir_parse.specs.Text.{most_bytes}
 use Rattle.ir_resolve.specs.Laws.{FunctionsHaveOneMeaningOrFault}
-use Rattle.ir_resolve.specs.Firsts.{IsFirstLine}
-use Rattle.ir_resolve.specs.Reading.{Typed}
+use Rattle.ir_resolve.specs.FirstLines.{IsFirstLine}
+use Rattle.ir_resolve.specs.TypedReads.{Typed}
 use Rattle.ir_reader.specs.declared.fault.IrFault.{IrFault}
 use Rattle.ir_reader.specs.declared.fault.IrFaultKind.TheVariants as kinds
-use Rattle.ir_reader.specs.Refusing.{of_text_fault, of_name_fault}
+use Rattle.ir_reader.specs.Errors.{of_text_fault, of_name_fault}
 use Rattle.ir_reader.specs.Phis.{PhisFit}
 use Rattle.ir_reader.specs.Operands.{written_at}
-use Rattle.ir_reader.specs.Kinds.{BadPhiAt, EntryPredAt, IsUnassignedFault}
-use Rattle.ir_reader.specs.Faults.{IsResolved, EntryIsFree, IsFunctionOf, IsFirstFault, of_names, bad_phi, entry_pred, unassigned, functions_of, IsEntryOf, AreEntriesOf, IsFaultOfEntry, IsFaultOfEntries, IsModuleText, IsFault, of_text, of_entries}
+use Rattle.ir_reader.specs.FlowFaults.{BadPhiAt, EntryPredAt, IsUnassignedFault}
+use Rattle.ir_reader.specs.Faults.{ResolvesTo, EntryIsFree, IsFunctionOf, IsFaultOfFunction, of_names, bad_phi, entry_pred, unassigned, functions_of, IsEntryOf, AreEntriesOf, IsFaultOfEntry, IsFaultOfEntries, IsModuleText, IsFault, of_text, of_entries}
 use Rattle.ir_reader.specs.Laws.{TextsHaveOneModuleOrFault}
 use Rattle.ir_reader.proofs.Places.{order, same_at, there}
 use Rattle.ir_reader.proofs.Existence.{module_or_fault}
@@ -80,20 +80,20 @@ abbrev entry_fault : ℕ → IrFault
 entry_fault line = record { line = line; kind = kinds.EntryPred }
 
 module _ (law : FunctionsHaveOneMeaningOrFault) (earlier : List RawFunction) (raw : RawFunction) where
-  one_resolved : (f g : Function) → IsResolved earlier raw f → IsResolved earlier raw g → f ≡ g
+  one_resolved : (f g : Function) → ResolvesTo earlier raw f → ResolvesTo earlier raw g → f ≡ g
   one_resolved f g p q = law.one_meaning earlier raw f g p.0 p.1 q.1
 
   -- what is said of one function that is meant is said of the other
-  moved : {line : ℕ} (f g : Function) (At : Function → ℕ → Type 0) → IsResolved earlier raw f → IsResolved earlier raw g → IsFirstLine (At f) line → IsFirstLine (At g) line
+  moved : {line : ℕ} (f g : Function) (At : Function → ℕ → Type 0) → ResolvesTo earlier raw f → ResolvesTo earlier raw g → IsFirstLine (At f) line → IsFirstLine (At g) line
   moved {line} f g At p q h = subst (λ k. IsFirstLine (At k) line) (one_resolved f g p q) h
 
-  first_phi : {line : ℕ} (f g : Function) → IsResolved earlier raw f → IsResolved earlier raw g → IsFirstLine (BadPhiAt raw f) line → ¬ PhisFit g
+  first_phi : {line : ℕ} (f g : Function) → ResolvesTo earlier raw f → ResolvesTo earlier raw g → IsFirstLine (BadPhiAt raw f) line → ¬ PhisFit g
   first_phi {line} f g p q h fit = no_bad_phi raw g line fit (moved f g (BadPhiAt raw) p q h).0
 
-  first_entry : {line : ℕ} (f g : Function) → IsResolved earlier raw f → IsResolved earlier raw g → IsFirstLine (EntryPredAt raw f) line → ¬ EntryIsFree g
+  first_entry : {line : ℕ} (f g : Function) → ResolvesTo earlier raw f → ResolvesTo earlier raw g → IsFirstLine (EntryPredAt raw f) line → ¬ EntryIsFree g
   first_entry {line} f g p q h free = no_entry_pred raw g line free (moved f g (EntryPredAt raw) p q h).0
 
-  one_first_fault : (a b : IrFault) → IsFirstFault earlier raw a → IsFirstFault earlier raw b → a ≡ b
+  one_first_fault : (a b : IrFault) → IsFaultOfFunction earlier raw a → IsFaultOfFunction earlier raw b → a ≡ b
   one_first_fault a b (of_names {fault = m} p) (of_names {fault = n} q) = ap of_name_fault (law.one_fault earlier raw m n p q)
   one_first_fault a b (of_names {fault = m} p) (bad_phi g s q) = absurd (law.not_both earlier raw m s.0 p)
   one_first_fault a b (of_names {fault = m} p) (entry_pred g s fit q) = absurd (law.not_both earlier raw m s.0 p)
@@ -111,7 +111,7 @@ module _ (law : FunctionsHaveOneMeaningOrFault) (earlier : List RawFunction) (ra
   one_first_fault a b (unassigned f r fit free p) (entry_pred g s fit' q) = absurd (first_entry g f s r q free)
   one_first_fault a b (unassigned f r fit free p) (unassigned g s fit' free' q) = one_unassigned raw g a b (subst (λ h. IsUnassignedFault raw h a) (one_resolved f g r s) p) q
 
-  not_fault : (f : Function) (fault : IrFault) → IsFunctionOf earlier raw f → ¬ IsFirstFault earlier raw fault
+  not_fault : (f : Function) (fault : IrFault) → IsFunctionOf earlier raw f → ¬ IsFaultOfFunction earlier raw fault
   not_fault f fault p (of_names {fault = n} q) = law.not_both earlier raw n p.resolved.0 q
   not_fault f fault p (bad_phi g s q) = first_phi g f s p.resolved q p.phis
   not_fault f fault p (entry_pred g s fit q) = first_entry g f s p.resolved q p.entry

@@ -16,13 +16,3 @@ pub mod Answered
 pub mod Existence
 pub mod LawLemmas
 pub mod CheckLemmas
-pub mod Every
-pub mod KeptForms
-pub mod TokenForms
-pub mod NameForms
-pub mod ItemForms
-pub mod StatementForms
-pub mod TextForms
-pub mod MeantForms
-pub mod ModuleForms
-pub mod ReadForms

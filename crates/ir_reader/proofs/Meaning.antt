@@ -18,26 +18,26 @@ use Rattle.ir_core.specs.Assigned.{IsFirstUnassigned}
 use Rattle.ir_core.specs.Blocks.{targets_of, IsBlock, Names}
 use Rattle.ir_core.specs.Reads.{Read, read, end_of, reads_of, reads_at_end, reads_by, reads_at}
 use Rattle.ir_tokens.specs.declared.called.Identifier.{Identifier as Called}
-use Rattle.ir_raw.specs.declared.raw.RawFunction.{RawFunction}
-use Rattle.ir_raw.specs.declared.raw.RawBlock.{RawBlock}
-use Rattle.ir_raw.specs.declared.raw.RawOp.{RawOp}
-use Rattle.ir_raw.specs.declared.raw.RawOp.TheVariants as ops
-use Rattle.ir_raw.specs.declared.raw.RawTerminator.{RawTerminator}
-use Rattle.ir_raw.specs.declared.raw.RawTerminator.TheVariants as terminators
-use Rattle.ir_raw.specs.declared.raw.RawOperand.{RawOperand}
-use Rattle.ir_raw.specs.declared.raw.RawValue.{RawValue}
-use Rattle.ir_raw.specs.declared.raw.RawValue.TheVariants as values
-use Rattle.ir_raw.specs.declared.raw.RawIncoming.{RawIncoming}
-use Rattle.ir_raw.specs.declared.raw.RawCase.{RawCase}
+use Rattle.ir_tokens.specs.declared.raw.RawFunction.{RawFunction}
+use Rattle.ir_tokens.specs.declared.raw.RawBlock.{RawBlock}
+use Rattle.ir_tokens.specs.declared.raw.RawOp.{RawOp}
+use Rattle.ir_tokens.specs.declared.raw.RawOp.TheVariants as ops
+use Rattle.ir_tokens.specs.declared.raw.RawTerminator.{RawTerminator}
+use Rattle.ir_tokens.specs.declared.raw.RawTerminator.TheVariants as terminators
+use Rattle.ir_tokens.specs.declared.raw.RawOperand.{RawOperand}
+use Rattle.ir_tokens.specs.declared.raw.RawValue.{RawValue}
+use Rattle.ir_tokens.specs.declared.raw.RawValue.TheVariants as values
+use Rattle.ir_tokens.specs.declared.raw.RawIncoming.{RawIncoming}
+use Rattle.ir_tokens.specs.declared.raw.RawCase.{RawCase}
 use Rattle.ir_resolve.specs.Written.{Thing, Calls}
-use Rattle.ir_resolve.specs.Reading.{Typed, typed, read_by, read_at_end}
+use Rattle.ir_resolve.specs.TypedReads.{Typed, typed, read_by, read_at_end}
 use Rattle.ir_resolve.specs.Means.{Means, ValueMeans, BlockMeans, IncomingMeans, OpMeans, InstMeans, CaseMeans, EndMeans, BlockIsOf}
 use Rattle.ir_reader.specs.declared.fault.IrFaultKind.TheVariants as kinds
 use Rattle.ir_reader.specs.declared.fault.IrFault.{IrFault}
 use Rattle.ir_reader.specs.declared.fault.IrError.{IrError}
 use Rattle.ir_reader.specs.declared.fault.IrError.TheVariants as errors
-use Rattle.ir_reader.specs.Refusing.{IfRefused}
-use Rattle.ir_reader.specs.Kinds.{IsUnassignedFault}
+use Rattle.ir_reader.specs.Errors.{IfRefused}
+use Rattle.ir_reader.specs.FlowFaults.{IsUnassignedFault}
 use Rattle.ir_reader.specs.Operands.{written_by, written_at}
 use Rattle.ir_reader.proofs.Places.{same_at, there, somewhere, zip_left, zip_right, zip_length}
 

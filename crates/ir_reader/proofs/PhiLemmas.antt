@@ -20,13 +20,13 @@ use Rattle.ir_core.specs.declared.instruction.Op.TheVariants.{Binary, Compare, S
 use Rattle.ir_core.specs.declared.operand.Operand.{Operand}
 use Rattle.ir_core.specs.Blocks.{IsBlock, Names}
 use Rattle.ir_core.specs.Checks.{IsPhi}
-use Rattle.ir_raw.specs.declared.raw.RawFunction.{RawFunction}
-use Rattle.ir_raw.specs.declared.raw.RawBlock.{RawBlock}
-use Rattle.ir_raw.specs.declared.raw.RawInst.{RawInst}
-use Rattle.ir_resolve.specs.Firsts.{IsFirst}
+use Rattle.ir_tokens.specs.declared.raw.RawFunction.{RawFunction}
+use Rattle.ir_tokens.specs.declared.raw.RawBlock.{RawBlock}
+use Rattle.ir_tokens.specs.declared.raw.RawInst.{RawInst}
+use Rattle.ir_resolve.specs.FirstLines.{IsFirst}
 use Rattle.ir_resolve.proofs.Firsts.{first_same, first_if}
 use Rattle.ir_reader.specs.Phis.{OpFits}
-use Rattle.ir_reader.specs.Kinds.{BadPhiHere}
+use Rattle.ir_reader.specs.FlowFaults.{BadPhiHere}
 use Rattle.ir_reader.specs.Predecessors.{ArePredecessors, EntriesFitIn, OpFitsIn, FirstArePhis, BadPhiIn}
 use Rattle.ir_reader.proofs.Places.{order, same_at, contained}
 

@@ -5,22 +5,23 @@ use Rattle.ir_core.specs.declared.module.Entry.{Entry}
 use Rattle.ir_core.specs.declared.module.Entry.TheVariants as entries
 use Rattle.ir_core.specs.declared.function.Function.{Function}
 use Rattle.ir_tokens.specs.Tokens.{Placed}
-use Rattle.ir_raw.specs.declared.raw.RawModule.{RawModule}
-use Rattle.ir_raw.specs.declared.raw.RawEntry.{RawEntry}
-use Rattle.ir_raw.specs.declared.raw.RawEntry.TheVariants as raw_entries
-use Rattle.ir_raw.specs.declared.raw.RawFunction.{RawFunction}
-use Rattle.ir_raw.specs.declared.raw.RawBlock.{RawBlock}
-use Rattle.ir_statements.specs.declared.fault.ParseError.{ParseError}
-use Rattle.ir_statements.specs.declared.fault.ParseError.TheVariants as parse_errors
+use Rattle.ir_tokens.specs.declared.raw.RawModule.{RawModule}
+use Rattle.ir_tokens.specs.declared.raw.RawEntry.{RawEntry}
+use Rattle.ir_tokens.specs.declared.raw.RawEntry.TheVariants as raw_entries
+use Rattle.ir_tokens.specs.declared.raw.RawFunction.{RawFunction}
+use Rattle.ir_tokens.specs.declared.raw.RawBlock.{RawBlock}
+use Rattle.ir_instructions.specs.declared.fault.ParseError.{ParseError}
+use Rattle.ir_instructions.specs.declared.fault.ParseError.TheVariants as parse_errors
 use Rattle.ir_parse.specs.Grammar.{SpellsEntry, SpellsBlocks}
-use Rattle.ir_statements.specs.Parts.{Part, Each}
-use Rattle.ir_parse.specs.Refusing.{IfRefused as IfMisread}
+use Rattle.ir_instructions.specs.Parts.{Part, Each}
+use Rattle.ir_parse.specs.Errors.{IfRefused as IfMisread}
 use Rattle.ir_parse.specs.Text.{most_bytes, IsRaw, IsTextFault}
 use Rattle.ir_reader.specs.declared.fault.IrError.{IrError}
 use Rattle.ir_reader.specs.declared.fault.IrError.TheVariants as errors
-use Rattle.ir_reader.specs.Refusing.{IfRefused, of_parse_error}
+use Rattle.ir_reader.specs.Errors.{IfRefused, of_parse_error}
 use Rattle.ir_reader.specs.Faults.{functions_of, IsEntryOf, AreEntriesOf, IsFunctionOf, IsFaultOfEntry, IsFaultOfEntries, IsFault, of_text, of_entries}
-use Rattle.ir_reader.specs.Marks.{MarksEntry, HasBlock, HaveBlocks}
+use Rattle.ir_reader.specs.RepeatedNames.{MarksEntry}
+use Rattle.ir_reader.specs.HasBlock.{HasBlock, HaveBlocks}
 use Rattle.ir_reader.proofs.Places.{same_at, at_push, there}
 
 -- ---- each function has a block

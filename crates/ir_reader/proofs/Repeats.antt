@@ -9,12 +9,12 @@ use Rattle.std.proofs.lemmas.List.Folds.{list_any-append}
 use Rattle.std.proofs.lemmas.Slice.Eq.{bytes_eq-Decides}
 use Rattle.std.specs.Prelude.{Vec}
 use Rattle.indexmap.specs.IndexSet.{insert_key}
-use Rattle.ir_raw.specs.declared.raw.RawEntry.{RawEntry}
-use Rattle.ir_raw.specs.declared.raw.RawEntry.TheVariants as raw_entries
-use Rattle.ir_raw.specs.declared.raw.RawFunction.{RawFunction}
-use Rattle.ir_resolve.specs.Kinds.{HasNameOf}
+use Rattle.ir_tokens.specs.declared.raw.RawEntry.{RawEntry}
+use Rattle.ir_tokens.specs.declared.raw.RawEntry.TheVariants as raw_entries
+use Rattle.ir_tokens.specs.declared.raw.RawFunction.{RawFunction}
+use Rattle.ir_resolve.specs.FaultKinds.{HasNameOf}
 use Rattle.ir_reader.specs.Faults.{functions_of}
-use Rattle.ir_reader.specs.Marks.{MarksEntry, MarksRepeated, IsNameOf}
+use Rattle.ir_reader.specs.RepeatedNames.{MarksEntry, MarksRepeated, IsNameOf}
 use Rattle.ir_reader.proofs.Places.{same_at, at_append, at_push, append_left, append_right}
 
 functions_of-append : (xs ys : List RawEntry) → functions_of (xs ++ ys) ≡ functions_of xs ++ functions_of ys

@@ -1,7 +1,7 @@
 -- What is counted in 32 bits.
 use Rattle.std.specs.Prelude.{◌<◌, ◌^◌, length, All}
 use Rattle.ir_core.specs.declared.function.Function.{Function}
-use Rattle.assigned_flow.specs.Counts.{HasFewEntries}
+use Rattle.assigned_flow.specs.FewEntries.{HasFewEntries}
 
 -- there are fewer than 2^32 blocks, instructions in each, and entries of each phi
 pub record IsCountable (f : Function) : Type 0 where

@@ -6,27 +6,27 @@ use Rattle.ir_core.specs.declared.module.Entry.TheVariants as entries
 use Rattle.ir_core.specs.declared.function.Function.{Function}
 use Rattle.ir_core.specs.Assigned.{ReadsAreAssigned}
 use Rattle.ir_core.specs.Blocks.{Names}
-use Rattle.ir_raw.specs.declared.raw.RawModule.{RawModule}
-use Rattle.ir_raw.specs.declared.raw.RawEntry.{RawEntry}
-use Rattle.ir_raw.specs.declared.raw.RawEntry.TheVariants as raw_entries
-use Rattle.ir_raw.specs.declared.raw.RawFunction.{RawFunction}
-use Rattle.ir_statements.specs.declared.fault.TextFault.{TextFault}
+use Rattle.ir_tokens.specs.declared.raw.RawModule.{RawModule}
+use Rattle.ir_tokens.specs.declared.raw.RawEntry.{RawEntry}
+use Rattle.ir_tokens.specs.declared.raw.RawEntry.TheVariants as raw_entries
+use Rattle.ir_tokens.specs.declared.raw.RawFunction.{RawFunction}
+use Rattle.ir_instructions.specs.declared.fault.TextFault.{TextFault}
 use Rattle.ir_parse.specs.Text.{most_bytes, IsRaw, IsTextFault}
 use Rattle.ir_resolve.specs.declared.fault.Fault.{Fault}
-use Rattle.ir_resolve.specs.Faults.{HasNoFault, IsFirstFault as IsFirstNameFault}
-use Rattle.ir_resolve.specs.Firsts.{IsFirstLine}
+use Rattle.ir_resolve.specs.Faults.{HasNoFault, IsFirstNameFault}
+use Rattle.ir_resolve.specs.FirstLines.{IsFirstLine}
 use Rattle.ir_resolve.specs.Means.{Means}
 use Rattle.ir_reader.specs.declared.fault.IrFaultKind.TheVariants as kinds
 use Rattle.ir_reader.specs.declared.fault.IrFault.{IrFault}
-use Rattle.ir_reader.specs.Refusing.{of_text_fault, of_name_fault}
+use Rattle.ir_reader.specs.Errors.{of_text_fault, of_name_fault}
 use Rattle.ir_reader.specs.Phis.{PhisFit}
-use Rattle.ir_reader.specs.Kinds.{BadPhiAt, EntryPredAt, IsUnassignedFault}
+use Rattle.ir_reader.specs.FlowFaults.{BadPhiAt, EntryPredAt, IsUnassignedFault}
 
 -- ---- functions
 
 -- a function as written, these being the earlier ones, has no fault of names or types, and means the function
-abbrev pub IsResolved : List RawFunction → RawFunction → Function → Type 0
-IsResolved earlier raw f = HasNoFault earlier raw × Means raw f
+abbrev pub ResolvesTo : List RawFunction → RawFunction → Function → Type 0
+ResolvesTo earlier raw f = HasNoFault earlier raw × Means raw f
 
 -- no terminator names the first block
 abbrev pub EntryIsFree : Function → Type 0
@@ -34,20 +34,20 @@ EntryIsFree f = (b : ℕ) → ¬ Names f b 0
 
 -- it passes each check, and is the function
 pub record IsFunctionOf (earlier : List RawFunction) (raw : RawFunction) (f : Function) : Type 0 where
-  pub resolved : IsResolved earlier raw f
+  pub resolved : ResolvesTo earlier raw f
   pub phis : PhisFit f
   pub entry : EntryIsFree f
   pub assigned : ReadsAreAssigned f
 
 -- The first fault of a function as written: of names or types; else, of the function that is meant, a phi that doesn't fit; else a
 -- terminator that names the first block; else the first register that isn't assigned where it is read, as it is written there.
-pub data IsFirstFault (earlier : List RawFunction) (raw : RawFunction) : IrFault → Type 0 where
-  of_names : {fault : Fault} → IsFirstNameFault earlier raw fault → IsFirstFault earlier raw (of_name_fault fault)
-  bad_phi : {line : ℕ} (f : Function) → IsResolved earlier raw f
-      → IsFirstLine (BadPhiAt raw f) line → IsFirstFault earlier raw (record { line = line; kind = kinds.BadPhi })
-  entry_pred : {line : ℕ} (f : Function) → IsResolved earlier raw f → PhisFit f
-      → IsFirstLine (EntryPredAt raw f) line → IsFirstFault earlier raw (record { line = line; kind = kinds.EntryPred })
-  unassigned : {fault : IrFault} (f : Function) → IsResolved earlier raw f → PhisFit f → EntryIsFree f → IsUnassignedFault raw f fault → IsFirstFault earlier raw fault
+pub data IsFaultOfFunction (earlier : List RawFunction) (raw : RawFunction) : IrFault → Type 0 where
+  of_names : {fault : Fault} → IsFirstNameFault earlier raw fault → IsFaultOfFunction earlier raw (of_name_fault fault)
+  bad_phi : {line : ℕ} (f : Function) → ResolvesTo earlier raw f
+      → IsFirstLine (BadPhiAt raw f) line → IsFaultOfFunction earlier raw (record { line = line; kind = kinds.BadPhi })
+  entry_pred : {line : ℕ} (f : Function) → ResolvesTo earlier raw f → PhisFit f
+      → IsFirstLine (EntryPredAt raw f) line → IsFaultOfFunction earlier raw (record { line = line; kind = kinds.EntryPred })
+  unassigned : {fault : IrFault} (f : Function) → ResolvesTo earlier raw f → PhisFit f → EntryIsFree f → IsUnassignedFault raw f fault → IsFaultOfFunction earlier raw fault
 
 -- ---- modules
 
@@ -78,7 +78,7 @@ pub record IsModuleText (text : List ℕ) (m : Module) : Type 0 where
 -- an entry as written, these being the functions before it, has this as its first fault
 abbrev pub IsFaultOfEntry : List RawFunction → RawEntry → IrFault → Type 0
 IsFaultOfEntry earlier (raw_entries.Kept written) fault = ⊥
-IsFaultOfEntry earlier (raw_entries.Function raw) fault = IsFirstFault earlier raw fault
+IsFaultOfEntry earlier (raw_entries.Function raw) fault = IsFaultOfFunction earlier raw fault
 
 -- the first fault of entries: that of the first one that has one
 pub record IsFaultOfEntries (written : List RawEntry) (fault : IrFault) : Type 0 where

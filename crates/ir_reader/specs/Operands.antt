@@ -1,9 +1,9 @@
 -- The operands of a function as written, by their places. A terminator's place is the number of instructions before it.
 use Rattle.std.specs.Prelude.{ℕ, ◌==◌, if◌then◌else◌, List, [], length, Option, None, Some, slice_get}
-use Rattle.ir_raw.specs.declared.raw.RawFunction.{RawFunction}
-use Rattle.ir_raw.specs.declared.raw.RawBlock.{RawBlock}
-use Rattle.ir_raw.specs.declared.raw.RawInst.{RawInst}
-use Rattle.ir_resolve.specs.Reading.{Typed, read_by, read_at_end}
+use Rattle.ir_tokens.specs.declared.raw.RawFunction.{RawFunction}
+use Rattle.ir_tokens.specs.declared.raw.RawBlock.{RawBlock}
+use Rattle.ir_tokens.specs.declared.raw.RawInst.{RawInst}
+use Rattle.ir_resolve.specs.TypedReads.{Typed, read_by, read_at_end}
 
 -- those at place k of this block
 abbrev pub written_by : ℕ → RawBlock → Option RawInst → List Typed

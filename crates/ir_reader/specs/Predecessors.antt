@@ -8,7 +8,7 @@ use Rattle.ir_core.specs.declared.instruction.Op.{Op}
 use Rattle.ir_core.specs.declared.instruction.Op.TheVariants.{Binary, Compare, Select, Convert, Freeze, Phi}
 use Rattle.ir_core.specs.declared.operand.Operand.{Operand}
 use Rattle.ir_core.specs.Checks.{IsPhi}
-use Rattle.ir_raw.specs.declared.raw.RawInst.{RawInst}
+use Rattle.ir_tokens.specs.declared.raw.RawInst.{RawInst}
 use Rattle.ir_core.specs.Blocks.{targets_of, Names}
 
 module _ {S : Type 0} where

@@ -1,7 +1,7 @@
 //! What is counted in 32 bits.
 
 ghost use Rattle.std.specs.Prelude.{◌<◌, ◌^◌, length, All, IsTrue};
-ghost use Rattle.assigned_flow.specs.Counts.{HasFewEntries};
+ghost use Rattle.assigned_flow.specs.FewEntries.{HasFewEntries};
 ghost use Rattle.ir_reader.specs.Counts.{IsCountable};
 
 use ir_core::{Block, Function, Inst, Op};

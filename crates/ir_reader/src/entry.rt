@@ -1,14 +1,14 @@
 //! The check that no terminator names the first block.
 
 ghost use Rattle.std.specs.Prelude.{◌≡◌, ◌<◌, ◌^◌, length};
-ghost use Rattle.ir_resolve.specs.Firsts.{IsFirst};
-ghost use Rattle.ir_reader.specs.Kinds.{EntryPredAt};
+ghost use Rattle.ir_resolve.specs.FirstLines.{IsFirst};
+ghost use Rattle.ir_reader.specs.FlowFaults.{EntryPredAt};
 ghost use Rattle.ir_reader.specs.Predecessors.{ArePredecessors};
 ghost use Rattle.ir_core.specs.declared.function.Function.{Function};
 
 use crate::least::lesser;
 use indexmap::IndexSet;
-use ir_raw::RawFunction;
+use ir_tokens::RawFunction;
 
 /// The first line of a terminator, that of its first word, that names the first block. What is told of predecessors is that of the
 /// function that is meant.

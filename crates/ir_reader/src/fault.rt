@@ -90,7 +90,7 @@ pub(crate) fn refused(line: usize, kind: IrFaultKind) -> IrError
 
 impl From<ParseError> for IrError {
     ghost use Rattle.std.specs.Prelude.{◌≡◌};
-    ghost use Rattle.ir_reader.specs.Refusing.{of_parse_error};
+    ghost use Rattle.ir_reader.specs.Errors.{of_parse_error};
 
     ghost from_gives = { λ error e. e ≡ of_parse_error error };
 
@@ -104,7 +104,7 @@ impl From<ParseError> for IrError {
 
 impl From<Misfit> for IrFaultKind {
     ghost use Rattle.std.specs.Prelude.{◌≡◌};
-    ghost use Rattle.ir_reader.specs.Refusing.{kind_of_misfit};
+    ghost use Rattle.ir_reader.specs.Errors.{kind_of_misfit};
 
     ghost from_gives = { λ misfit kind. kind ≡ kind_of_misfit misfit };
 
@@ -122,7 +122,7 @@ impl From<Misfit> for IrFaultKind {
 
 impl From<ResolveError> for IrError {
     ghost use Rattle.std.specs.Prelude.{◌≡◌};
-    ghost use Rattle.ir_reader.specs.Refusing.{of_resolve_error};
+    ghost use Rattle.ir_reader.specs.Errors.{of_resolve_error};
 
     ghost from_gives = { λ error e. e ≡ of_resolve_error error };
 
@@ -136,7 +136,7 @@ impl From<ResolveError> for IrError {
 
 impl From<FaultKind> for IrFaultKind {
     ghost use Rattle.std.specs.Prelude.{◌≡◌};
-    ghost use Rattle.ir_reader.specs.Refusing.{kind_of_fault};
+    ghost use Rattle.ir_reader.specs.Errors.{kind_of_fault};
 
     ghost from_gives = { λ kind mapped. mapped ≡ kind_of_fault kind };
 

@@ -1,15 +1,14 @@
 //! A text that is read entry by entry.
 
 ghost use Rattle.std.specs.Prelude.{◌≡◌, ℕ, List as Seq, IfOk};
-ghost use Rattle.ir_raw.specs.declared.raw.RawEntry.{RawEntry as written_entry};
-ghost use Rattle.ir_tokens.specs.Reading.{StandsIn};
-ghost use Rattle.ir_tokens.specs.Seen.{seen};
-ghost use Rattle.ir_reader.specs.Advancing.{HasRead, Follows, IsWhole, IsEnd};
-ghost use Rattle.ir_parse.specs.Parsing.{is_end};
+ghost use Rattle.ir_tokens.specs.declared.raw.RawEntry.{RawEntry as written_entry};
+ghost use Rattle.ir_tokens.specs.ReaderPlaces.{StandsIn};
+ghost use Rattle.ir_tokens.specs.SeenTokens.{seen};
+ghost use Rattle.ir_reader.specs.EntriesRead.{HasRead, Follows, IsWhole, IsEnd};
+ghost use Rattle.ir_parse.specs.ModuleReaders.{is_end};
 
 use ir_parse::{ParseError, entry};
-use ir_raw::RawEntry;
-use ir_tokens::{Placed, Token, TokenReader};
+use ir_tokens::{Placed, RawEntry, Token, TokenReader};
 use std::alloc::{AllocError, Global};
 
 /// What is next in a text.

@@ -1,10 +1,10 @@
 //! A function of a module, check by check.
 
 ghost use Rattle.std.specs.Prelude.{◌<◌, List as Seq, length, IfOk, IfErr};
-ghost use Rattle.ir_raw.specs.declared.raw.RawFunction.{RawFunction as written_function};
-ghost use Rattle.ir_resolve.specs.Faults.{Marks};
-ghost use Rattle.ir_reader.specs.Refusing.{IfRefused};
-ghost use Rattle.ir_reader.specs.Faults.{IsFunctionOf, IsFirstFault};
+ghost use Rattle.ir_tokens.specs.declared.raw.RawFunction.{RawFunction as written_function};
+ghost use Rattle.ir_resolve.specs.Faults.{MarksFunction};
+ghost use Rattle.ir_reader.specs.Errors.{IfRefused};
+ghost use Rattle.ir_reader.specs.Faults.{IsFunctionOf, IsFaultOfFunction};
 
 use crate::assigned::check_reads;
 use crate::count::is_countable;
@@ -13,8 +13,8 @@ use crate::fault::{IrError, IrFaultKind, refused};
 use crate::phis::bad_phi;
 use crate::predecessors::predecessors;
 use ir_core::Function;
-use ir_raw::RawFunction;
 use ir_resolve::resolve;
+use ir_tokens::RawFunction;
 use std::alloc::Global;
 
 /// The function that is meant, or the first fault.
@@ -24,8 +24,8 @@ pub(crate) fn function(
     is_repeated: bool,
 ) -> Result<Function, IrError>
     requires { 0 < length raw.now.blocks }
-    ensures ok { IfOk result (λ f. (earlier : Seq written_function) → Marks is_repeated earlier raw.now → IsFunctionOf earlier raw.now f) }
-    ensures refused { IfErr result (λ e. IfRefused e (λ fault. (earlier : Seq written_function) → Marks is_repeated earlier raw.now → IsFirstFault earlier raw.now fault)) }
+    ensures ok { IfOk result (λ f. (earlier : Seq written_function) → MarksFunction is_repeated earlier raw.now → IsFunctionOf earlier raw.now f) }
+    ensures refused { IfErr result (λ e. IfRefused e (λ fault. (earlier : Seq written_function) → MarksFunction is_repeated earlier raw.now → IsFaultOfFunction earlier raw.now fault)) }
 {
     let f = resolve(alloc, raw, is_repeated)?;
     if !is_countable(&f) {

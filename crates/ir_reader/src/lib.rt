@@ -3,7 +3,7 @@
 //! A text is read in three steps: bytes to a module as written (`ir_parse`), each of its functions to one whose registers and
 //! blocks are known by place (`ir_resolve`), and the checks of that function: its phis (`phis`), that no terminator names its first
 //! block (`entry`), and that registers are assigned where they are read (`assigned`). The definitions stand in `specs/`: `Phis` and
-//! `Kinds` say where a function has which fault, `Operands` what is written at a place, and `Faults` which texts are modules and
+//! `FlowFaults` say where a function has which fault, `Operands` what is written at a place, and `Faults` which texts are modules and
 //! which fault is the first.
 #![tactic(auto)]
 
@@ -24,8 +24,7 @@ mod text;
 mod written;
 
 pub use fault::{IrError, IrFault, IrFaultKind};
+pub use ir_parse::MOST_BYTES;
+pub use ir_tokens::Identifier;
 pub use laws::every_text_has_one_module_or_one_fault;
 pub use reader::read_module;
-
-#[cfg(test)]
-mod tests;

@@ -5,15 +5,15 @@ ghost use Rattle.indexmap.specs.IndexMap.{get};
 ghost use Rattle.indexmap.specs.IndexSet.{contains};
 ghost use Rattle.ir_core.specs.declared.operand.Operand.{Operand as operand_read};
 ghost use Rattle.ir_core.specs.Checks.{IsPhi};
-ghost use Rattle.ir_resolve.specs.Firsts.{IsFirst};
+ghost use Rattle.ir_resolve.specs.FirstLines.{IsFirst};
 ghost use Rattle.ir_resolve.specs.Means.{Means};
-ghost use Rattle.ir_reader.specs.Kinds.{BadPhiAt};
+ghost use Rattle.ir_reader.specs.FlowFaults.{BadPhiAt};
 ghost use Rattle.ir_reader.specs.Predecessors.{ArePredecessors, EntriesFitIn, OpFitsIn, BadPhiIn};
 
 use crate::least::lesser;
 use indexmap::{IndexMap, IndexSet};
 use ir_core::{Function, Inst, Op, Operand};
-use ir_raw::{RawFunction, RawInst};
+use ir_tokens::{RawFunction, RawInst};
 use ops::Word;
 use std::alloc::{AllocError, Global};
 

@@ -2,11 +2,11 @@
 
 ghost use Rattle.std.specs.Prelude.{◌≤◌, List as Seq, length, IfOk, OnOk, IfErr};
 ghost use Rattle.ir_core.specs.Checks.{ModuleMeetsChecks};
-ghost use Rattle.ir_forms.specs.Forms.{ModuleHasForms};
 ghost use Rattle.ir_parse.specs.Text.{most_bytes};
-ghost use Rattle.ir_raw.specs.declared.raw.RawFunction.{RawFunction as written_function};
-ghost use Rattle.ir_reader.specs.Refusing.{IfRefused};
-ghost use Rattle.ir_reader.specs.Marks.{MarksEntry, HasBlock, HaveBlocks};
+ghost use Rattle.ir_tokens.specs.declared.raw.RawFunction.{RawFunction as written_function};
+ghost use Rattle.ir_reader.specs.Errors.{IfRefused};
+ghost use Rattle.ir_reader.specs.RepeatedNames.{MarksEntry};
+ghost use Rattle.ir_reader.specs.HasBlock.{HasBlock, HaveBlocks};
 ghost use Rattle.ir_reader.specs.Faults.{IsEntryOf, AreEntriesOf, IsFaultOfEntry, IsFaultOfEntries, IsModuleText, IsFault};
 
 use crate::fault::IrError;
@@ -16,13 +16,12 @@ use crate::repeated::repeated_names;
 use crate::text::text;
 use ir_core::{Entry, Module};
 use ir_parse::parse;
-use ir_raw::RawEntry;
+use ir_tokens::RawEntry;
 use lists::List;
 use std::alloc::Global;
 
 /// The module of a text, or the text's first fault: its length, then the first token that does not fit, and then function by function
-/// the first kind of [`IrFaultKind`](crate::IrFaultKind) in their order that the function has, at its first line. The module's names,
-/// items, numbers and kept lines have the forms that its printed text needs, so as to be read as the module.
+/// the first kind of [`IrFaultKind`](crate::IrFaultKind) in their order that the function has, at its first line.
 ///
 /// It takes as many steps as the text has bytes, but for the search in tables of names, numbers and blocks, and but for
 /// [`check_assigned`](assigned_flow::check_assigned), whose worst case is told there.
@@ -31,9 +30,7 @@ pub fn read_module(alloc: Global, bytes: &[u8]) -> Result<Module, IrError>
     ensures limit { OnOk result (length bytes.now ≤ most_bytes) }
     ensures refused { IfErr result (λ e. IfRefused e (IsFault bytes.now)) }
     ensures checks { IfOk result ModuleMeetsChecks }
-    ensures forms { IfOk result ModuleHasForms }
 {
-    ir_lexemes::lexemes_are_tokens();
     module_of(alloc, bytes)
 }
 

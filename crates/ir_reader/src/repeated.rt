@@ -1,10 +1,10 @@
 //! Names of functions that an earlier one has.
 
 ghost use Rattle.std.specs.Prelude.{◌↔◌, ◌⊎◌, ℕ, List as Seq, IfOk, OnOk, IsTrue};
-ghost use Rattle.ir_reader.specs.Marks.{MarksRepeated, IsNameOf, HasText};
+ghost use Rattle.ir_reader.specs.RepeatedNames.{MarksRepeated, IsNameOf, HasText};
 
 use indexmap::IndexSet;
-use ir_raw::RawEntry;
+use ir_tokens::RawEntry;
 use std::alloc::{AllocError, Global};
 
 /// For each entry, whether it is a function whose name an earlier one has.

@@ -2,10 +2,10 @@
 
 ghost use Rattle.std.specs.Prelude.{◌≡◌, ℕ, [], ◌∷◌, option_map, slice_get};
 ghost use Rattle.std.specs.Option.{option_copied};
-ghost use Rattle.ir_resolve.specs.Reading.{typed, read_by, read_at_end};
+ghost use Rattle.ir_resolve.specs.TypedReads.{typed, read_by, read_at_end};
 ghost use Rattle.ir_reader.specs.Operands.{written_at};
 
-use ir_raw::{RawFunction, RawOp, RawOperand, RawTerminator};
+use ir_tokens::{RawFunction, RawOp, RawOperand, RawTerminator};
 
 /// One of the operands that are written at a place of a block; the terminator's place is the number of instructions.
 pub(crate) fn operand(raw: &RawFunction, block: u32, place: u32, index: u32) -> Option<&RawOperand>

@@ -2,10 +2,10 @@
 use Rattle.std.proofs.Common.{◌≡◌, ℕ, ◌+◌, ◌<◌, ◌≤◌, List, [], ◌∷◌, ◌++◌, take, length, get_or, sym, ap, ◌∙◌, append_assoc, append-nil}
 use Rattle.std.specs.List.{flat_map}
 use Rattle.std.proofs.lemmas.List.{take_more, take_all}
-use Rattle.ir_raw.specs.declared.raw.RawInst.{RawInst}
-use Rattle.ir_raw.specs.declared.raw.RawIdentifier.{RawIdentifier}
+use Rattle.ir_tokens.specs.declared.raw.RawInst.{RawInst}
+use Rattle.ir_tokens.specs.declared.raw.RawIdentifier.{RawIdentifier}
 use Rattle.ir_resolve.specs.declared.uses.Uses.{Uses}
-use Rattle.ir_resolve.specs.Reading.{Typed, read_by, named_by}
+use Rattle.ir_resolve.specs.TypedReads.{Typed, read_by, named_by}
 use Rattle.ir_resolve.specs.Uses.{seen_reads, seen_targets, Adds}
 
 pub adds_none : (a : Uses) → Adds a a [] []

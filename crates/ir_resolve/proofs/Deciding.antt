@@ -5,8 +5,8 @@ use Rattle.std.specs.Cmp.Lexicographic.{pointwise, bytes_decides}
 use Rattle.std.proofs.Math.Decide.{map_dec}
 use Rattle.std.proofs.lemmas.Bool.{cases_eq, false≢true}
 use Rattle.std.proofs.lemmas.Option.{slice_get_within, same_Some}
-use Rattle.ir_resolve.specs.Firsts.{IsFirst, SomeAt, lesser}
-use Rattle.ir_resolve.specs.Kinds.{SomeHas, RepeatsHere, Repeats}
+use Rattle.ir_resolve.specs.FirstLines.{IsFirst, SomeAt, lesser}
+use Rattle.ir_resolve.specs.FaultKinds.{SomeHas, RepeatsHere, Repeats}
 use Rattle.ir_resolve.proofs.Firsts.{Before, first_same, first_either, first_more_place, first_all_places}
 use Rattle.ir_resolve.proofs.Checked.{contained_behind}
 

@@ -1,16 +1,16 @@
 -- A function as written has a first fault, or none and means a function.
 use Rattle.std.proofs.Common.{◌⊎◌, inl, inr, ℕ, ◌<◌, List, None, Some}
 use Rattle.ir_core.specs.declared.function.Function.{Function}
-use Rattle.ir_raw.specs.declared.raw.RawFunction.{RawFunction}
+use Rattle.ir_tokens.specs.declared.raw.RawFunction.{RawFunction}
 use Rattle.ir_resolve.specs.declared.fault.Fault.{Fault}
 use Rattle.ir_resolve.specs.declared.fault.FaultKind.{FaultKind}
 use Rattle.ir_resolve.specs.declared.fault.FaultKind.TheVariants.{Numbering, Duplicate, Unknown, TypeClash}
 use Rattle.ir_resolve.specs.Written.{written_names}
-use Rattle.ir_resolve.specs.Kinds.{Repeats, HasName, IsWrittenOn}
+use Rattle.ir_resolve.specs.FaultKinds.{Repeats, HasName, IsWrittenOn}
 use Rattle.ir_resolve.specs.Means.{Means}
-use Rattle.ir_resolve.specs.Faults.{rank, HasFaultAt, HasNoFault, IsFirstFault}
+use Rattle.ir_resolve.specs.Faults.{rank, HasFaultAt, HasNoFault, IsFirstNameFault}
 use Rattle.ir_resolve.specs.Views.{Known}
-use Rattle.ir_resolve.specs.Tabulating.{Tabulates}
+use Rattle.ir_resolve.specs.NameTable.{Tabulates}
 use Rattle.ir_resolve.proofs.Meaning.{means}
 use Rattle.ir_resolve.proofs.Checked.{ready}
 use Rattle.ir_resolve.proofs.Refusals.{clear_none, clear_1, clear_2, clear_3, clear_all}
@@ -21,7 +21,7 @@ use Rattle.ir_resolve.proofs.Meant.{some_function}
 
 module _ (earlier : List RawFunction) (raw : RawFunction) where
   abbrev HasMeaningOrFault : Type 0
-  HasMeaningOrFault = (HasNoFault earlier raw × ((f : Function) × Means raw f)) ⊎ ((fault : Fault) × IsFirstFault earlier raw fault)
+  HasMeaningOrFault = (HasNoFault earlier raw × ((f : Function) × Means raw f)) ⊎ ((fault : Fault) × IsFirstNameFault earlier raw fault)
 
   -- a kind of faults, where those before it are none: its first line is that of the first fault, or what follows where it is none
   checked : (kind : FaultKind) → FirstOf (HasFaultAt earlier raw kind) → ((other : FaultKind) (line : ℕ) → rank other < rank kind → ¬ HasFaultAt earlier raw other line)

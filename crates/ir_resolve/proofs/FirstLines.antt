@@ -7,30 +7,30 @@ use Rattle.std.proofs.lemmas.Option.{slice_get_within, same_Some}
 use Rattle.ops.specs.Number.{Number}
 use Rattle.ops.specs.declared.conversion.Cast.{Cast}
 use Rattle.ops.specs.declared.conversion.Cast.TheVariants.{Trunc, ZExt, SExt}
-use Rattle.ir_core.specs.Checks.{CastFits}
+use Rattle.ops.specs.Conversion.{CastFits}
 use Rattle.ir_core.specs.Names.{Identifier, Named, Numbered}
 use Rattle.ir_core.specs.declared.operand.Register.{Register}
 use Rattle.ir_tokens.specs.declared.called.Identifier.{Identifier as Called}
 use Rattle.ir_tokens.specs.declared.called.Identifier.TheVariants as called
-use Rattle.ir_raw.specs.declared.raw.RawFunction.{RawFunction}
-use Rattle.ir_raw.specs.declared.raw.RawBlock.{RawBlock}
-use Rattle.ir_raw.specs.declared.raw.RawIdentifier.{RawIdentifier}
-use Rattle.ir_raw.specs.declared.raw.RawInst.{RawInst}
-use Rattle.ir_raw.specs.declared.raw.RawOp.{RawOp}
-use Rattle.ir_raw.specs.declared.raw.RawOp.TheVariants as ops
-use Rattle.ir_raw.specs.declared.raw.RawTerminator.{RawTerminator}
-use Rattle.ir_raw.specs.declared.raw.RawTerminator.TheVariants as terminators
-use Rattle.ir_raw.specs.declared.raw.RawValue.{RawValue}
-use Rattle.ir_raw.specs.declared.raw.RawValue.TheVariants as values
-use Rattle.ir_raw.specs.declared.raw.RawCase.{RawCase}
+use Rattle.ir_tokens.specs.declared.raw.RawFunction.{RawFunction}
+use Rattle.ir_tokens.specs.declared.raw.RawBlock.{RawBlock}
+use Rattle.ir_tokens.specs.declared.raw.RawIdentifier.{RawIdentifier}
+use Rattle.ir_tokens.specs.declared.raw.RawInst.{RawInst}
+use Rattle.ir_tokens.specs.declared.raw.RawOp.{RawOp}
+use Rattle.ir_tokens.specs.declared.raw.RawOp.TheVariants as ops
+use Rattle.ir_tokens.specs.declared.raw.RawTerminator.{RawTerminator}
+use Rattle.ir_tokens.specs.declared.raw.RawTerminator.TheVariants as terminators
+use Rattle.ir_tokens.specs.declared.raw.RawValue.{RawValue}
+use Rattle.ir_tokens.specs.declared.raw.RawValue.TheVariants as values
+use Rattle.ir_tokens.specs.declared.raw.RawCase.{RawCase}
 use Rattle.ir_resolve.specs.declared.names.definition.Entity.{Entity}
 use Rattle.ir_resolve.specs.declared.names.definition.Entity.TheVariants as entities
-use Rattle.ir_resolve.specs.Firsts.{SomeAt, lesser}
+use Rattle.ir_resolve.specs.FirstLines.{SomeAt, lesser}
 use Rattle.ir_resolve.specs.Written.{written_names, called_in}
-use Rattle.ir_resolve.specs.Reading.{Typed, cases_of, reads_of, targets_of}
-use Rattle.ir_resolve.specs.Kinds.{IsMisnumbered, MisnumbersHere, NumberingAt, Repeats, HasName, IsWrittenOn, literal_of, HasNumber, IsCaseOn, HasNameOf, DuplicateAt, IsUnknownValue, IsUnknownBlock, UnknownIn, UnknownAt, LiteralClashes, ValueClashes, ReadClashesIn, OpClashesAt, CaseClashes, EndClashesAt, BlockClashesAt, TypeClashAt}
+use Rattle.ir_resolve.specs.TypedReads.{Typed, cases_of, reads_of, targets_of}
+use Rattle.ir_resolve.specs.FaultKinds.{IsMisnumbered, MisnumbersHere, NumberingAt, Repeats, HasName, IsWrittenOn, literal_of, HasNumber, IsCaseOn, HasNameOf, DuplicateAt, IsUnknownValue, IsUnknownBlock, UnknownIn, UnknownAt, LiteralClashes, ValueClashes, ReadClashesIn, OpClashesAt, CaseClashes, EndClashesAt, BlockClashesAt, TypeClashAt}
 use Rattle.ir_resolve.specs.Views.{Known, CallsIn, CallsRegisterIn, entity_in, register_of, block_of}
-use Rattle.ir_resolve.specs.Tabulating.{Tabulates}
+use Rattle.ir_resolve.specs.NameTable.{Tabulates}
 use Rattle.ir_resolve.proofs.Places.{place_of_contained, contained_at}
 use Rattle.ir_resolve.proofs.Unknowns.{value_unknown, block_unknown}
 use Rattle.ir_resolve.proofs.Checked.{unknown_first, clash_first}

@@ -4,7 +4,7 @@ use Rattle.std.specs.Bool.{then_some}
 use Rattle.std.proofs.lemmas.Bool.{cases_lt, leb-true, leb-false, false≢true}
 use Rattle.std.proofs.lemmas.List.{take_more, map_more, take_all}
 use Rattle.std.proofs.lemmas.List.Elements.{Contains-append_left, Contains-push, Contains-push_cases}
-use Rattle.ir_resolve.specs.Firsts.{IsFirst, IsFirstLine, SomeAt, lesser}
+use Rattle.ir_resolve.specs.FirstLines.{IsFirst, IsFirstLine, SomeAt, lesser}
 
 pub first_same : (P Q : ℕ → Type 0) → ((line : ℕ) → P line → Q line) → ((line : ℕ) → Q line → P line) → (found : Option ℕ) → IsFirst P found → IsFirst Q found
 first_same P Q there back None none = λ line q. none line (back line q)

@@ -10,7 +10,8 @@ use Rattle.ops.specs.declared.conversion.Cast.{Cast}
 use Rattle.ops.specs.declared.conversion.Cast.TheVariants.{Trunc, ZExt, SExt}
 use Rattle.ir_tokens.specs.declared.called.Identifier.{Identifier as Called}
 use Rattle.ir_core.specs.Names.{Name, block_names}
-use Rattle.ir_core.specs.Checks.{CasesDiffer, CastFits, IsTyped, CasesFit}
+use Rattle.ir_core.specs.Checks.{CasesDiffer, IsTyped, CasesFit}
+use Rattle.ops.specs.Conversion.{CastFits}
 use Rattle.ir_core.specs.Blocks.{targets_of}
 use Rattle.ir_core.specs.Reads.{Read, read, end_of, reads_of, reads_at_end}
 use Rattle.ir_core.specs.declared.function.Function.{Function}
@@ -23,21 +24,21 @@ use Rattle.ir_core.specs.declared.operand.Operand.{Operand}
 use Rattle.ir_core.specs.declared.operand.Operand.TheVariants as operands
 use Rattle.ir_core.specs.declared.terminator.Terminator.{Terminator}
 use Rattle.ir_core.specs.declared.terminator.Terminator.TheVariants as ends
-use Rattle.ir_raw.specs.declared.raw.RawParameter.{RawParameter}
-use Rattle.ir_raw.specs.declared.raw.RawIdentifier.{RawIdentifier}
-use Rattle.ir_raw.specs.declared.raw.RawBlock.{RawBlock}
-use Rattle.ir_raw.specs.declared.raw.RawInst.{RawInst}
-use Rattle.ir_raw.specs.declared.raw.RawOp.{RawOp}
-use Rattle.ir_raw.specs.declared.raw.RawOp.TheVariants as ops
-use Rattle.ir_raw.specs.declared.raw.RawTerminator.{RawTerminator}
-use Rattle.ir_raw.specs.declared.raw.RawTerminator.TheVariants as terminators
-use Rattle.ir_raw.specs.declared.raw.RawValue.{RawValue}
-use Rattle.ir_raw.specs.declared.raw.RawValue.TheVariants as values
-use Rattle.ir_raw.specs.declared.raw.RawOperand.{RawOperand}
-use Rattle.ir_raw.specs.declared.raw.RawCase.{RawCase}
+use Rattle.ir_tokens.specs.declared.raw.RawParameter.{RawParameter}
+use Rattle.ir_tokens.specs.declared.raw.RawIdentifier.{RawIdentifier}
+use Rattle.ir_tokens.specs.declared.raw.RawBlock.{RawBlock}
+use Rattle.ir_tokens.specs.declared.raw.RawInst.{RawInst}
+use Rattle.ir_tokens.specs.declared.raw.RawOp.{RawOp}
+use Rattle.ir_tokens.specs.declared.raw.RawOp.TheVariants as ops
+use Rattle.ir_tokens.specs.declared.raw.RawTerminator.{RawTerminator}
+use Rattle.ir_tokens.specs.declared.raw.RawTerminator.TheVariants as terminators
+use Rattle.ir_tokens.specs.declared.raw.RawValue.{RawValue}
+use Rattle.ir_tokens.specs.declared.raw.RawValue.TheVariants as values
+use Rattle.ir_tokens.specs.declared.raw.RawOperand.{RawOperand}
+use Rattle.ir_tokens.specs.declared.raw.RawCase.{RawCase}
 use Rattle.ir_resolve.specs.Written.{Thing, given, written_in}
-use Rattle.ir_resolve.specs.Reading.{Typed, read_by, read_at_end, named_at_end, cases_of}
-use Rattle.ir_resolve.specs.Kinds.{literal_of, result_width, Repeats, HasNumber, IsCaseOn, OpClashesAt, EndClashesAt}
+use Rattle.ir_resolve.specs.TypedReads.{Typed, read_by, read_at_end, named_at_end, cases_of}
+use Rattle.ir_resolve.specs.FaultKinds.{literal_of, result_width, Repeats, HasNumber, IsCaseOn, OpClashesAt, EndClashesAt}
 use Rattle.ir_resolve.specs.Means.{ValueMeans, BlockMeans, IncomingMeans, OpMeans, InstMeans, CaseMeans, EndMeans, BlockIsOf, ParameterMeans}
 use Rattle.ir_resolve.specs.Formed.{IsWellWrittenOp}
 use Rattle.ir_resolve.proofs.Places.{contained_at, before_place}

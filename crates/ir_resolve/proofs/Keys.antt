@@ -4,12 +4,12 @@ use Rattle.std.specs.Prelude.{slice_get, option_map}
 use Rattle.std.proofs.lemmas.List.{length-map}
 use Rattle.std.proofs.lemmas.Option.{slice_get-map, slice_get-get_or}
 use Rattle.ir_core.specs.Names.{Name, identifiers_from}
-use Rattle.ir_raw.specs.declared.raw.RawIdentifier.{RawIdentifier}
+use Rattle.ir_tokens.specs.declared.raw.RawIdentifier.{RawIdentifier}
 use Rattle.ir_resolve.specs.declared.names.key.Key.{Key}
 use Rattle.ir_resolve.specs.declared.names.definition.Definition.{Definition}
-use Rattle.ir_resolve.specs.Firsts.{IsFirst}
+use Rattle.ir_resolve.specs.FirstLines.{IsFirst}
 use Rattle.ir_resolve.specs.Written.{given, called_in}
-use Rattle.ir_resolve.specs.Kinds.{IsMisnumbered, MisnumbersHere}
+use Rattle.ir_resolve.specs.FaultKinds.{IsMisnumbered, MisnumbersHere}
 use Rattle.ir_resolve.specs.Views.{seen, seen_written, AreKeysOf}
 use Rattle.ir_resolve.proofs.Firsts.{first_same}
 

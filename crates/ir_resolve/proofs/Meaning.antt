@@ -12,21 +12,21 @@ use Rattle.ir_core.specs.declared.operand.Operand.{Operand}
 use Rattle.ir_core.specs.declared.operand.Operand.TheVariants as operands
 use Rattle.ir_core.specs.declared.terminator.Terminator.{Terminator}
 use Rattle.ir_core.specs.declared.terminator.Terminator.TheVariants as ends
-use Rattle.ir_raw.specs.declared.raw.RawFunction.{RawFunction}
-use Rattle.ir_raw.specs.declared.raw.RawBlock.{RawBlock}
-use Rattle.ir_raw.specs.declared.raw.RawInst.{RawInst}
-use Rattle.ir_raw.specs.declared.raw.RawOp.{RawOp}
-use Rattle.ir_raw.specs.declared.raw.RawOp.TheVariants as ops
-use Rattle.ir_raw.specs.declared.raw.RawTerminator.{RawTerminator}
-use Rattle.ir_raw.specs.declared.raw.RawTerminator.TheVariants as terminators
-use Rattle.ir_raw.specs.declared.raw.RawValue.{RawValue}
-use Rattle.ir_raw.specs.declared.raw.RawValue.TheVariants as values
-use Rattle.ir_raw.specs.declared.raw.RawIncoming.{RawIncoming}
-use Rattle.ir_raw.specs.declared.raw.RawCase.{RawCase}
+use Rattle.ir_tokens.specs.declared.raw.RawFunction.{RawFunction}
+use Rattle.ir_tokens.specs.declared.raw.RawBlock.{RawBlock}
+use Rattle.ir_tokens.specs.declared.raw.RawInst.{RawInst}
+use Rattle.ir_tokens.specs.declared.raw.RawOp.{RawOp}
+use Rattle.ir_tokens.specs.declared.raw.RawOp.TheVariants as ops
+use Rattle.ir_tokens.specs.declared.raw.RawTerminator.{RawTerminator}
+use Rattle.ir_tokens.specs.declared.raw.RawTerminator.TheVariants as terminators
+use Rattle.ir_tokens.specs.declared.raw.RawValue.{RawValue}
+use Rattle.ir_tokens.specs.declared.raw.RawValue.TheVariants as values
+use Rattle.ir_tokens.specs.declared.raw.RawIncoming.{RawIncoming}
+use Rattle.ir_tokens.specs.declared.raw.RawCase.{RawCase}
 use Rattle.ir_resolve.specs.Written.{Thing, Value, Block, Calls}
 use Rattle.ir_resolve.specs.Means.{ValueMeans, IncomingMeans, OpMeans, InstMeans, CaseMeans, EndMeans, BlockIsOf, MeansBy, Means}
 use Rattle.ir_resolve.specs.Views.{Known, CallsIn}
-use Rattle.ir_resolve.specs.Tabulating.{Tabulates}
+use Rattle.ir_resolve.specs.NameTable.{Tabulates}
 
 zip_weaker : {X Y : Type 0} (R S : X → Y → Type 0) → ((x : X) (y : Y) → R x y → S x y) → (xs : List X) (ys : List Y) → AllZip R xs ys → AllZip S xs ys
 zip_weaker R S f [] [] all = tt

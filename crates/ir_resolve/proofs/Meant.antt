@@ -13,26 +13,26 @@ use Rattle.ir_core.specs.declared.operand.Operand.{Operand}
 use Rattle.ir_core.specs.declared.operand.Operand.TheVariants as operands
 use Rattle.ir_core.specs.declared.terminator.Terminator.{Terminator}
 use Rattle.ir_core.specs.declared.terminator.Terminator.TheVariants as ends
-use Rattle.ir_raw.specs.declared.raw.RawFunction.{RawFunction}
-use Rattle.ir_raw.specs.declared.raw.RawParameter.{RawParameter}
-use Rattle.ir_raw.specs.declared.raw.RawBlock.{RawBlock}
-use Rattle.ir_raw.specs.declared.raw.RawInst.{RawInst}
-use Rattle.ir_raw.specs.declared.raw.RawOp.{RawOp}
-use Rattle.ir_raw.specs.declared.raw.RawOp.TheVariants as ops
-use Rattle.ir_raw.specs.declared.raw.RawTerminator.{RawTerminator}
-use Rattle.ir_raw.specs.declared.raw.RawTerminator.TheVariants as terminators
-use Rattle.ir_raw.specs.declared.raw.RawValue.{RawValue}
-use Rattle.ir_raw.specs.declared.raw.RawValue.TheVariants as values
-use Rattle.ir_raw.specs.declared.raw.RawIncoming.{RawIncoming}
-use Rattle.ir_raw.specs.declared.raw.RawCase.{RawCase}
+use Rattle.ir_tokens.specs.declared.raw.RawFunction.{RawFunction}
+use Rattle.ir_tokens.specs.declared.raw.RawParameter.{RawParameter}
+use Rattle.ir_tokens.specs.declared.raw.RawBlock.{RawBlock}
+use Rattle.ir_tokens.specs.declared.raw.RawInst.{RawInst}
+use Rattle.ir_tokens.specs.declared.raw.RawOp.{RawOp}
+use Rattle.ir_tokens.specs.declared.raw.RawOp.TheVariants as ops
+use Rattle.ir_tokens.specs.declared.raw.RawTerminator.{RawTerminator}
+use Rattle.ir_tokens.specs.declared.raw.RawTerminator.TheVariants as terminators
+use Rattle.ir_tokens.specs.declared.raw.RawValue.{RawValue}
+use Rattle.ir_tokens.specs.declared.raw.RawValue.TheVariants as values
+use Rattle.ir_tokens.specs.declared.raw.RawIncoming.{RawIncoming}
+use Rattle.ir_tokens.specs.declared.raw.RawCase.{RawCase}
 use Rattle.ir_resolve.specs.declared.names.definition.Entity.{Entity}
 use Rattle.ir_resolve.specs.declared.names.definition.Entity.TheVariants as entities
 use Rattle.ir_resolve.specs.Written.{given}
-use Rattle.ir_resolve.specs.Reading.{typed, read_by, named_by}
-use Rattle.ir_resolve.specs.Kinds.{literal_of, result_width, IsUnknownValue, IsUnknownBlock}
+use Rattle.ir_resolve.specs.TypedReads.{typed, read_by, named_by}
+use Rattle.ir_resolve.specs.FaultKinds.{literal_of, result_width, IsUnknownValue, IsUnknownBlock}
 use Rattle.ir_resolve.specs.Means.{ValueMeans, BlockMeans, IncomingMeans, OpMeans, InstMeans, CaseMeans, EndMeans, BlockIsOf, ParameterMeans, MeansBy}
 use Rattle.ir_resolve.specs.Views.{Known, CallsIn, entity_in}
-use Rattle.ir_resolve.specs.Known.{ReadsAreKnown, TargetsAreKnown, IsReadyInst, IsReadyEnd, IsReadyBlock}
+use Rattle.ir_resolve.specs.KnownNames.{ReadsAreKnown, TargetsAreKnown, IsReadyInst, IsReadyEnd, IsReadyBlock}
 
 -- where each has one that goes with it, so has the list; each of whichever these hold
 some_zip : {X Y : Type 0} (R : X → Y → Type 0) → ((x : X) → (y : Y) × R x y) → (xs : List X) → (ys : List Y) × AllZip R xs ys

@@ -19,29 +19,29 @@ use Rattle.ir_core.specs.declared.operand.Operand.TheVariants as operands
 use Rattle.ir_core.specs.declared.operand.Register.{Register}
 use Rattle.ir_core.specs.declared.terminator.Terminator.{Terminator}
 use Rattle.ir_core.specs.declared.terminator.Terminator.TheVariants as ends
-use Rattle.ir_raw.specs.declared.raw.RawFunction.{RawFunction}
-use Rattle.ir_raw.specs.declared.raw.RawParameter.{RawParameter}
-use Rattle.ir_raw.specs.declared.raw.RawBlock.{RawBlock}
-use Rattle.ir_raw.specs.declared.raw.RawInst.{RawInst}
-use Rattle.ir_raw.specs.declared.raw.RawOp.{RawOp}
-use Rattle.ir_raw.specs.declared.raw.RawOp.TheVariants as ops
-use Rattle.ir_raw.specs.declared.raw.RawTerminator.{RawTerminator}
-use Rattle.ir_raw.specs.declared.raw.RawTerminator.TheVariants as terminators
-use Rattle.ir_raw.specs.declared.raw.RawValue.{RawValue}
-use Rattle.ir_raw.specs.declared.raw.RawValue.TheVariants as values
-use Rattle.ir_raw.specs.declared.raw.RawIncoming.{RawIncoming}
-use Rattle.ir_raw.specs.declared.raw.RawCase.{RawCase}
+use Rattle.ir_tokens.specs.declared.raw.RawFunction.{RawFunction}
+use Rattle.ir_tokens.specs.declared.raw.RawParameter.{RawParameter}
+use Rattle.ir_tokens.specs.declared.raw.RawBlock.{RawBlock}
+use Rattle.ir_tokens.specs.declared.raw.RawInst.{RawInst}
+use Rattle.ir_tokens.specs.declared.raw.RawOp.{RawOp}
+use Rattle.ir_tokens.specs.declared.raw.RawOp.TheVariants as ops
+use Rattle.ir_tokens.specs.declared.raw.RawTerminator.{RawTerminator}
+use Rattle.ir_tokens.specs.declared.raw.RawTerminator.TheVariants as terminators
+use Rattle.ir_tokens.specs.declared.raw.RawValue.{RawValue}
+use Rattle.ir_tokens.specs.declared.raw.RawValue.TheVariants as values
+use Rattle.ir_tokens.specs.declared.raw.RawIncoming.{RawIncoming}
+use Rattle.ir_tokens.specs.declared.raw.RawCase.{RawCase}
 use Rattle.ir_resolve.specs.declared.fault.Fault.{Fault}
 use Rattle.ir_resolve.specs.declared.fault.FaultKind.{FaultKind}
 use Rattle.ir_resolve.specs.declared.fault.FaultKind.TheVariants.{Numbering, Duplicate, Unknown, TypeClash}
-use Rattle.ir_resolve.specs.Firsts.{IsFirstLine}
+use Rattle.ir_resolve.specs.FirstLines.{IsFirstLine}
 use Rattle.ir_resolve.specs.Written.{Thing, Value, Block, written_names, identifiers_of, Calls}
-use Rattle.ir_resolve.specs.Kinds.{literal_of, Repeats, HasName, IsWrittenOn}
+use Rattle.ir_resolve.specs.FaultKinds.{literal_of, Repeats, HasName, IsWrittenOn}
 use Rattle.ir_resolve.specs.Means.{ValueMeans, IncomingMeans, OpMeans, InstMeans, CaseMeans, EndMeans, BlockIsOf, ParameterMeans, MeansBy, Means}
-use Rattle.ir_resolve.specs.Faults.{rank, HasFaultAt, HasNoFault, IsFirstFault}
+use Rattle.ir_resolve.specs.Faults.{rank, HasFaultAt, HasNoFault, IsFirstNameFault}
 use Rattle.ir_resolve.specs.Views.{Known}
 use Rattle.ir_resolve.specs.Definitions.{Defined, definitions_of}
-use Rattle.ir_resolve.specs.Tabulating.{Tabulates}
+use Rattle.ir_resolve.specs.NameTable.{Tabulates}
 use Rattle.ir_resolve.proofs.Standing.{some_same}
 use Rattle.ir_resolve.proofs.Forming.{literal_meant}
 use Rattle.ir_resolve.proofs.Tabling.{tabulates}
@@ -234,7 +234,7 @@ same_rank Unknown Unknown h = refl
 same_rank TypeClash TypeClash h = refl
 same_rank a b h = absurd (omega arith)
 
-pub one_fault : (earlier : List RawFunction) (raw : RawFunction) (a b : Fault) → IsFirstFault earlier raw a → IsFirstFault earlier raw b → a ≡ b
+pub one_fault : (earlier : List RawFunction) (raw : RawFunction) (a b : Fault) → IsFirstNameFault earlier raw a → IsFirstNameFault earlier raw b → a ≡ b
 one_fault earlier raw a b p q =
     let kinds : rank a.kind ≡ rank b.kind =
     elim (cases_lt (rank a.kind) (rank b.kind)) [
@@ -249,5 +249,5 @@ one_fault earlier raw a b p q =
     let line : a.line ≡ b.line = omega arith in
     ap (λ l. record a { line = l }) line ∙ ap (λ k. record b { kind = k }) kind
 
-pub not_both : (earlier : List RawFunction) (raw : RawFunction) (fault : Fault) → HasNoFault earlier raw → ¬ IsFirstFault earlier raw fault
+pub not_both : (earlier : List RawFunction) (raw : RawFunction) (fault : Fault) → HasNoFault earlier raw → ¬ IsFirstNameFault earlier raw fault
 not_both earlier raw fault none p = none fault.kind fault.line p.line.0

@@ -3,21 +3,21 @@ use Rattle.std.proofs.Common.{◌≡◌, ◌⊎◌, ℕ, ◌<◌, Bool, true, fa
 use Rattle.std.specs.Bool.{then_some}
 use Rattle.std.proofs.lemmas.Bool.{false≢true}
 use Rattle.std.specs.List.{zip}
-use Rattle.ir_raw.specs.declared.raw.RawFunction.{RawFunction}
+use Rattle.ir_tokens.specs.declared.raw.RawFunction.{RawFunction}
 use Rattle.ir_resolve.specs.declared.fault.FaultKind.{FaultKind}
 use Rattle.ir_resolve.specs.declared.fault.FaultKind.TheVariants.{Numbering, Duplicate, Unknown, TypeClash}
 use Rattle.ir_resolve.specs.declared.fault.ResolveError.{ResolveError}
 use Rattle.ir_resolve.specs.declared.fault.ResolveError.TheVariants as errors
 use Rattle.ir_resolve.specs.declared.names.key.Key.{Key}
 use Rattle.ir_resolve.specs.declared.names.definition.Definition.{Definition}
-use Rattle.ir_resolve.specs.Firsts.{IsFirst, IsFirstLine, SomeAt, lesser}
+use Rattle.ir_resolve.specs.FirstLines.{IsFirst, IsFirstLine, SomeAt, lesser}
 use Rattle.ir_resolve.specs.Written.{written_names, called_in, identifiers_of}
-use Rattle.ir_resolve.specs.Reading.{cases_of}
-use Rattle.ir_resolve.specs.Kinds.{Repeats, HasName, IsWrittenOn, HasNumber, IsCaseOn, HasNameOf, MisnumbersHere, NumberingAt, DuplicateAt, UnknownAt, TypeClashAt}
+use Rattle.ir_resolve.specs.TypedReads.{cases_of}
+use Rattle.ir_resolve.specs.FaultKinds.{Repeats, HasName, IsWrittenOn, HasNumber, IsCaseOn, HasNameOf, MisnumbersHere, NumberingAt, DuplicateAt, UnknownAt, TypeClashAt}
 use Rattle.ir_resolve.specs.Views.{seen, seen_written, seen_definition, AreKeysOf, Known}
 use Rattle.ir_resolve.specs.Definitions.{Defined, definitions_of}
-use Rattle.ir_resolve.specs.Tabulating.{IsFaultOfUses, unknown, clash}
-use Rattle.ir_resolve.specs.Faults.{rank, HasFaultAt, HasNoFault, IsFirstFault, Marks, IfRefused}
+use Rattle.ir_resolve.specs.NameTable.{IsFaultOfUses, unknown, clash}
+use Rattle.ir_resolve.specs.Faults.{rank, HasFaultAt, HasNoFault, IsFirstNameFault, MarksFunction, IfRefused}
 use Rattle.ir_resolve.proofs.Firsts.{first_either, first_if}
 use Rattle.ir_resolve.proofs.Tables.{none_of}
 use Rattle.ir_resolve.proofs.Standing.{written_definitions}
@@ -59,7 +59,7 @@ name_none function name case rest found rest_is found_is none =
     let outer = none_of function rest (sym found_is ∙ none) in
     (none_of name case (sym rest_is ∙ outer.1)).0
 
-pub duplicate_first : (earlier : List RawFunction) (raw : RawFunction) (is_repeated : Bool) (function name case rest found : Option ℕ) → Marks is_repeated earlier raw → function ≡ then_some is_repeated raw.line
+pub duplicate_first : (earlier : List RawFunction) (raw : RawFunction) (is_repeated : Bool) (function name case rest found : Option ℕ) → MarksFunction is_repeated earlier raw → function ≡ then_some is_repeated raw.line
     → IsFirst (Repeats HasName IsWrittenOn (written_names raw)) name → IsFirst (SomeAt raw.blocks (λ block. Repeats HasNumber IsCaseOn (cases_of block.end))) case → rest ≡ lesser name case → found ≡ lesser function rest
     → IsFirst (DuplicateAt earlier raw) found
 duplicate_first earlier raw is_repeated function name case rest found marks is first_name first_case rest_is found_is =
@@ -72,11 +72,11 @@ duplicate_first earlier raw is_repeated function name case rest found marks is f
 -- ---- refusals
 
 pub refused_at : (raw : RawFunction) (is_repeated : Bool) (kind : FaultKind) (line : ℕ) (e : ResolveError) → e ≡ errors.Refused (record { line = line; kind = kind })
-    → ((earlier : List RawFunction) → Marks is_repeated earlier raw → (other : FaultKind) (l : ℕ) → rank other < rank kind → ¬ HasFaultAt earlier raw other l)
-    → ((earlier : List RawFunction) → Marks is_repeated earlier raw → IsFirstLine (HasFaultAt earlier raw kind) line)
-    → IfRefused e (λ fault. (earlier : List RawFunction) → Marks is_repeated earlier raw → IsFirstFault earlier raw fault)
+    → ((earlier : List RawFunction) → MarksFunction is_repeated earlier raw → (other : FaultKind) (l : ℕ) → rank other < rank kind → ¬ HasFaultAt earlier raw other l)
+    → ((earlier : List RawFunction) → MarksFunction is_repeated earlier raw → IsFirstLine (HasFaultAt earlier raw kind) line)
+    → IfRefused e (λ fault. (earlier : List RawFunction) → MarksFunction is_repeated earlier raw → IsFirstNameFault earlier raw fault)
 refused_at raw is_repeated kind line e is clear first =
-    subst (λ e. IfRefused e (λ fault. (earlier : List RawFunction) → Marks is_repeated earlier raw → IsFirstFault earlier raw fault)) (sym is)
+    subst (λ e. IfRefused e (λ fault. (earlier : List RawFunction) → MarksFunction is_repeated earlier raw → IsFirstNameFault earlier raw fault)) (sym is)
     (λ earlier marks. record { line = first earlier marks; first = clear earlier marks })
 
 -- no kind comes before the first
@@ -111,14 +111,14 @@ module _ (earlier : List RawFunction) (raw : RawFunction) (no_numbering : (line 
       clear_all no_clash TypeClash l = no_clash l
 
 -- one of these lists of earlier functions has the mark
-pub marked : (is_repeated : Bool) (raw : RawFunction) → (earlier : List RawFunction) × Marks is_repeated earlier raw
+pub marked : (is_repeated : Bool) (raw : RawFunction) → (earlier : List RawFunction) × MarksFunction is_repeated earlier raw
 marked true raw = (raw ∷ [], (λ t. (0, raw, refl, refl), λ has. refl))
 marked false raw = ([], (λ t. absurd (false≢true t), λ (k, other, at, name). cc))
 
 -- a fault of what is read and named is the first, where numbers are those of the series and nothing is given twice
 pub uses_refused : (raw : RawFunction) (is_repeated : Bool) (e : ResolveError) → ((line : ℕ) → ¬ NumberingAt raw line)
-    → ((earlier : List RawFunction) → Marks is_repeated earlier raw → (line : ℕ) → ¬ DuplicateAt earlier raw line)
-    → IfRefused e (IsFaultOfUses raw) → IfRefused e (λ fault. (earlier : List RawFunction) → Marks is_repeated earlier raw → IsFirstFault earlier raw fault)
+    → ((earlier : List RawFunction) → MarksFunction is_repeated earlier raw → (line : ℕ) → ¬ DuplicateAt earlier raw line)
+    → IfRefused e (IsFaultOfUses raw) → IfRefused e (λ fault. (earlier : List RawFunction) → MarksFunction is_repeated earlier raw → IsFirstNameFault earlier raw fault)
 uses_refused raw is_repeated errors.NoMemory numbered once fault_of_uses = tt
 uses_refused raw is_repeated (errors.Refused fault) numbered once (unknown kind first) = λ earlier marks. record {
   line = subst (λ k. IsFirstLine (HasFaultAt earlier raw k) fault.line) (sym kind) first;

@@ -6,10 +6,10 @@ use Rattle.std.proofs.lemmas.Option.{slice_get-map}
 use Rattle.ir_tokens.specs.declared.called.Identifier.{Identifier as Called}
 use Rattle.ir_tokens.specs.declared.called.Identifier.TheVariants as called
 use Rattle.ir_core.specs.Names.{Identifier, Named, Numbered}
-use Rattle.ir_raw.specs.declared.raw.RawIdentifier.{RawIdentifier}
-use Rattle.ir_resolve.specs.Firsts.{IsFirst}
+use Rattle.ir_tokens.specs.declared.raw.RawIdentifier.{RawIdentifier}
+use Rattle.ir_resolve.specs.FirstLines.{IsFirst}
 use Rattle.ir_resolve.specs.Written.{name_in, given, called_in}
-use Rattle.ir_resolve.specs.Kinds.{SomeHas, RepeatsHere, HasName, IsWrittenOn}
+use Rattle.ir_resolve.specs.FaultKinds.{SomeHas, RepeatsHere, HasName, IsWrittenOn}
 use Rattle.ir_resolve.specs.Views.{Is}
 use Rattle.ir_resolve.proofs.Places.{place_before, before_place}
 use Rattle.ir_resolve.proofs.Series.{named_from, named_back, numbered_lt}

@@ -4,8 +4,8 @@ use Rattle.std.specs.Prelude.{slice_get}
 use Rattle.std.proofs.lemmas.List.{take_more}
 use Rattle.std.proofs.lemmas.List.Elements.{Contains-append_left, Contains-push, Contains-push_cases}
 use Rattle.std.proofs.lemmas.Option.{slice_get_read}
-use Rattle.ir_resolve.specs.Firsts.{IsFirst}
-use Rattle.ir_resolve.specs.Kinds.{SomeHas, RepeatsHere}
+use Rattle.ir_resolve.specs.FirstLines.{IsFirst}
+use Rattle.ir_resolve.specs.FaultKinds.{SomeHas, RepeatsHere}
 use Rattle.ir_resolve.proofs.Firsts.{first_same}
 
 module _ {X K : Type 0} (Has : X → K → Type 0) where

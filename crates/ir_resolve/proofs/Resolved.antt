@@ -8,7 +8,7 @@ use Rattle.std.proofs.lemmas.List.Elements.{Contains-append_left, Contains-appen
 use Rattle.ops.specs.Number.{Number}
 use Rattle.ir_tokens.specs.declared.called.Identifier.{Identifier as Called}
 use Rattle.ir_core.specs.Names.{Named, block_names, names_of, width_of}
-use Rattle.ir_core.specs.Checks.{NamesDiffer, IsKnown, HasWidth, IsInst, IsTyped, CasesFit}
+use Rattle.ir_core.specs.Checks.{NamesDiffer, IsKnown, OperandHasWidth, IsInst, IsTyped, CasesFit}
 use Rattle.ir_core.specs.Blocks.{IsBlock, Names, targets_of}
 use Rattle.ir_core.specs.Reads.{Read, IsRead, reads_of, reads_at_end, reads_by, reads_in}
 use Rattle.ir_core.specs.declared.function.Function.{Function}
@@ -18,17 +18,17 @@ use Rattle.ir_core.specs.declared.operand.Operand.{Operand}
 use Rattle.ir_core.specs.declared.operand.Operand.TheVariants as operands
 use Rattle.ir_core.specs.declared.operand.Register.{Register}
 use Rattle.ir_core.specs.declared.operand.Register.TheVariants as registers
-use Rattle.ir_raw.specs.declared.raw.RawFunction.{RawFunction}
-use Rattle.ir_raw.specs.declared.raw.RawBlock.{RawBlock}
-use Rattle.ir_raw.specs.declared.raw.RawInst.{RawInst}
-use Rattle.ir_raw.specs.declared.raw.RawValue.{RawValue}
-use Rattle.ir_raw.specs.declared.raw.RawValue.TheVariants as values
-use Rattle.ir_resolve.specs.Firsts.{SomeAt}
+use Rattle.ir_tokens.specs.declared.raw.RawFunction.{RawFunction}
+use Rattle.ir_tokens.specs.declared.raw.RawBlock.{RawBlock}
+use Rattle.ir_tokens.specs.declared.raw.RawInst.{RawInst}
+use Rattle.ir_tokens.specs.declared.raw.RawValue.{RawValue}
+use Rattle.ir_tokens.specs.declared.raw.RawValue.TheVariants as values
+use Rattle.ir_resolve.specs.FirstLines.{SomeAt}
 use Rattle.ir_resolve.specs.Written.{Calls, given, written_in, written_names}
-use Rattle.ir_resolve.specs.Reading.{Typed, read_by, read_at_end, named_at_end, cases_of, read_in, reads_of as all_reads}
-use Rattle.ir_resolve.specs.Kinds.{literal_of, Repeats, HasName, IsWrittenOn, HasNumber, IsCaseOn, RegisterHasWidth, CallsRegister, TypeClashAt}
+use Rattle.ir_resolve.specs.TypedReads.{Typed, read_by, read_at_end, named_at_end, cases_of, read_in, reads_of as all_reads}
+use Rattle.ir_resolve.specs.FaultKinds.{literal_of, Repeats, HasName, IsWrittenOn, HasNumber, IsCaseOn, RegisterHasWidth, CallsRegister, TypeClashAt}
 use Rattle.ir_resolve.specs.Means.{ValueMeans, BlockMeans, InstMeans, BlockIsOf, ParameterMeans, Means}
-use Rattle.ir_resolve.specs.Formed.{IsWellWrittenOp, IsWellWritten, IsResolved}
+use Rattle.ir_resolve.specs.Formed.{IsWellWrittenOp, IsWellWritten, IsWellNamed}
 use Rattle.ir_resolve.proofs.Places.{place_of_contained, contained_at}
 use Rattle.ir_resolve.proofs.Series.{named_from}
 use Rattle.ir_resolve.proofs.Tabling.{width_of_register, once}
@@ -68,7 +68,7 @@ module _ (raw : RawFunction) (f : Function) (m : Means raw f) where
   -- a value that fits the width that is written for it is known, and has the width
 
   value_fits : (v : RawValue) (a : Operand) (width : ℕ) → ValueMeans (Calls raw) v a → ((n : Number) → literal_of v ≡ Some n → n.width ≡ width)
-      → ((x : Called) (r : Register) (other : ℕ) → v ≡ values.Register x → CallsRegister raw x r other → other ≡ width) → IsKnown f a × HasWidth f width a
+      → ((x : Called) (r : Register) (other : ℕ) → v ≡ values.Register x → CallsRegister raw x r other → other ≡ width) → IsKnown f a × OperandHasWidth f width a
   value_fits v (operands.Number n) width means literal register = (tt, literal n (literal_meant (Calls raw) v n means))
   value_fits v operands.Undef width means literal register = (tt, tt)
   value_fits v operands.Poison width means literal register = (tt, tt)
@@ -108,11 +108,11 @@ module _ (raw : RawFunction) (f : Function) (m : Means raw f) where
         let (w, w_at, means) = pair_of_second (BlockIsOf (Calls raw)) raw.blocks f.blocks b block m.blocks is in
         written_at_place b k i r block w (contained_at raw.blocks b w w_at) means (slice_get block.insts k) refl at
 
-    read_fits : (b k i : ℕ) (r : Read) → IsRead f b k i r → IsKnown f r.operand × HasWidth f r.width r.operand
+    read_fits : (b k i : ℕ) (r : Read) → IsRead f b k i r → IsKnown f r.operand × OperandHasWidth f r.width r.operand
     read_fits b k i r at =
         let (t, there, means) = written_in_block b k i r (slice_get f.blocks b) refl at in
         let line = t.operand.line in
-        subst (λ width. IsKnown f r.operand × HasWidth f width r.operand) means.1
+        subst (λ width. IsKnown f r.operand × OperandHasWidth f width r.operand) means.1
         (value_fits t.operand.value r.operand t.width means.0
         (λ n is. same_unless n.width t.width (λ apart. no_clash line (inl (t, there, (inl (n, is, apart), refl)))))
         (λ x register other is calls. same_unless other t.width (λ apart. no_clash line (inl (t, there, (inr (x, register, other, is, calls, apart), refl))))))
@@ -140,7 +140,7 @@ module _ (raw : RawFunction) (f : Function) (m : Means raw f) where
       omega (arith, same_length (BlockIsOf (Calls raw)) raw.blocks f.blocks m.blocks)
 
 pub resolved : (raw : RawFunction) (f : Function) → Means raw f → ((line : ℕ) → ¬ Repeats HasName IsWrittenOn (written_names raw) line)
-    → ((line : ℕ) → ¬ SomeAt raw.blocks (λ block. Repeats HasNumber IsCaseOn (cases_of block.end)) line) → ((line : ℕ) → ¬ TypeClashAt raw line) → IsWellWritten raw → IsResolved f
+    → ((line : ℕ) → ¬ SomeAt raw.blocks (λ block. Repeats HasNumber IsCaseOn (cases_of block.end)) line) → ((line : ℕ) → ¬ TypeClashAt raw line) → IsWellWritten raw → IsWellNamed f
 resolved raw f m no_repeat no_case no_clash w = record {
   some_block = let some : 0 < length raw.blocks = w.some_block in omega (arith, same_length (BlockIsOf (Calls raw)) raw.blocks f.blocks m.blocks);
   names = names_differ raw f m no_repeat;

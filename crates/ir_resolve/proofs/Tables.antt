@@ -8,8 +8,8 @@ use Rattle.ir_core.specs.Names.{Identifier}
 use Rattle.ir_resolve.specs.declared.names.key.Key.{Key}
 use Rattle.ir_resolve.specs.declared.names.definition.Entity.{Entity}
 use Rattle.ir_resolve.specs.declared.names.definition.Definition.{Definition}
-use Rattle.ir_resolve.specs.Firsts.{IsFirst, lesser}
-use Rattle.ir_resolve.specs.Kinds.{SomeHas, RepeatsHere, HasName, IsWrittenOn}
+use Rattle.ir_resolve.specs.FirstLines.{IsFirst, lesser}
+use Rattle.ir_resolve.specs.FaultKinds.{SomeHas, RepeatsHere, HasName, IsWrittenOn}
 use Rattle.ir_resolve.specs.Views.{seen, seen_written, AreKeysOf, Known, same, Is}
 use Rattle.ir_resolve.proofs.Repeats.{known_more}
 use Rattle.ir_resolve.proofs.Lookups.{known_then}

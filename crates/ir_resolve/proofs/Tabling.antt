@@ -11,15 +11,15 @@ use Rattle.ir_tokens.specs.declared.called.Identifier.{Identifier as Called}
 use Rattle.ir_core.specs.Names.{Identifier, Named, Numbered}
 use Rattle.ir_core.specs.declared.operand.Register.{Register}
 use Rattle.ir_core.specs.declared.operand.Register.TheVariants as registers
-use Rattle.ir_raw.specs.declared.raw.RawFunction.{RawFunction}
-use Rattle.ir_raw.specs.declared.raw.RawIdentifier.{RawIdentifier}
+use Rattle.ir_tokens.specs.declared.raw.RawFunction.{RawFunction}
+use Rattle.ir_tokens.specs.declared.raw.RawIdentifier.{RawIdentifier}
 use Rattle.ir_resolve.specs.declared.names.definition.Entity.{Entity}
 use Rattle.ir_resolve.specs.declared.names.definition.Entity.TheVariants as entities
 use Rattle.ir_resolve.specs.Written.{Thing, Value, Block, written_names, called_in, given, identifiers_of, HasThing, place_of, identifier, Calls}
-use Rattle.ir_resolve.specs.Kinds.{result_width, Repeats, HasName, IsWrittenOn, RegisterHasWidth, CallsRegister}
+use Rattle.ir_resolve.specs.FaultKinds.{result_width, Repeats, HasName, IsWrittenOn, RegisterHasWidth, CallsRegister}
 use Rattle.ir_resolve.specs.Views.{Known, same, entity_in, CallsIn, CallsRegisterIn}
 use Rattle.ir_resolve.specs.Definitions.{Defined, parameter_defined, definitions_of, parameters_defined, blocks_defined}
-use Rattle.ir_resolve.specs.Tabulating.{Tabulates}
+use Rattle.ir_resolve.specs.NameTable.{Tabulates}
 use Rattle.ir_resolve.proofs.Places.{before_place}
 use Rattle.ir_resolve.proofs.Series.{numbered_lt}
 use Rattle.ir_resolve.proofs.Renaming.{name_of_id}

@@ -2,13 +2,13 @@
 use Rattle.std.proofs.Common.{◌≡◌, ◌↔◌, ℕ, Bool, true, false, not, IsTrue, List, Option, None, Some, is_some, refl, sym, ap, subst, ◌∙◌}
 use Rattle.ir_tokens.specs.declared.called.Identifier.{Identifier as Called}
 use Rattle.ir_core.specs.declared.operand.Register.{Register}
-use Rattle.ir_raw.specs.declared.raw.RawIdentifier.{RawIdentifier}
-use Rattle.ir_raw.specs.declared.raw.RawValue.{RawValue}
-use Rattle.ir_raw.specs.declared.raw.RawValue.TheVariants as values
+use Rattle.ir_tokens.specs.declared.raw.RawIdentifier.{RawIdentifier}
+use Rattle.ir_tokens.specs.declared.raw.RawValue.{RawValue}
+use Rattle.ir_tokens.specs.declared.raw.RawValue.TheVariants as values
 use Rattle.ir_resolve.specs.declared.names.definition.Entity.{Entity}
 use Rattle.ir_resolve.specs.declared.names.definition.Entity.TheVariants as entities
-use Rattle.ir_resolve.specs.Reading.{Typed}
-use Rattle.ir_resolve.specs.Kinds.{IsUnknownValue, IsUnknownBlock}
+use Rattle.ir_resolve.specs.TypedReads.{Typed}
+use Rattle.ir_resolve.specs.FaultKinds.{IsUnknownValue, IsUnknownBlock}
 use Rattle.ir_resolve.specs.Views.{Known, entity_in, register_of, block_of, CallsRegisterIn, CallsIn}
 
 -- what is read is no register that is there, and stands on the line; the same of a block

@@ -1,13 +1,13 @@
 -- Which fault of a function as written is its first.
 use Rattle.std.specs.Prelude.{◌↔◌, ℕ, ◌<◌, Bool, IsTrue, List}
-use Rattle.ir_raw.specs.declared.raw.RawFunction.{RawFunction}
+use Rattle.ir_tokens.specs.declared.raw.RawFunction.{RawFunction}
 use Rattle.ir_resolve.specs.declared.fault.FaultKind.{FaultKind}
 use Rattle.ir_resolve.specs.declared.fault.FaultKind.TheVariants.{Numbering, Duplicate, Unknown, TypeClash}
 use Rattle.ir_resolve.specs.declared.fault.Fault.{Fault}
 use Rattle.ir_resolve.specs.declared.fault.ResolveError.{ResolveError}
 use Rattle.ir_resolve.specs.declared.fault.ResolveError.TheVariants as errors
-use Rattle.ir_resolve.specs.Firsts.{IsFirstLine}
-use Rattle.ir_resolve.specs.Kinds.{NumberingAt, HasNameOf, DuplicateAt, UnknownAt, TypeClashAt}
+use Rattle.ir_resolve.specs.FirstLines.{IsFirstLine}
+use Rattle.ir_resolve.specs.FaultKinds.{NumberingAt, HasNameOf, DuplicateAt, UnknownAt, TypeClashAt}
 
 -- how many kinds come before
 abbrev pub rank : FaultKind → ℕ
@@ -27,13 +27,13 @@ abbrev pub HasNoFault : List RawFunction → RawFunction → Type 0
 HasNoFault earlier raw = (kind : FaultKind) (line : ℕ) → ¬ HasFaultAt earlier raw kind line
 
 -- the first fault of a function: of the first kind that it has, at the first line
-pub record IsFirstFault (earlier : List RawFunction) (raw : RawFunction) (fault : Fault) : Type 0 where
+pub record IsFirstNameFault (earlier : List RawFunction) (raw : RawFunction) (fault : Fault) : Type 0 where
   pub line : IsFirstLine (HasFaultAt earlier raw fault.kind) fault.line
   pub first : (kind : FaultKind) (line : ℕ) → rank kind < rank fault.kind → ¬ HasFaultAt earlier raw kind line
 
 -- the mark says whether one of the earlier functions has the function's name
-abbrev pub Marks : Bool → List RawFunction → RawFunction → Type 0
-Marks is_repeated earlier raw = IsTrue is_repeated ↔ HasNameOf earlier raw.name
+abbrev pub MarksFunction : Bool → List RawFunction → RawFunction → Type 0
+MarksFunction is_repeated earlier raw = IsTrue is_repeated ↔ HasNameOf earlier raw.name
 
 -- it holds of the fault, if the error is no want of memory
 abbrev pub IfRefused : ResolveError → (Fault → Type 0) → Type 0

@@ -6,14 +6,14 @@ use Rattle.ir_core.specs.declared.function.Function.{Function}
 use Rattle.ir_core.specs.declared.function.Block.{Block}
 use Rattle.ir_core.specs.declared.instruction.Inst.{Inst}
 use Rattle.ir_core.specs.Blocks.{IsBlock, Names}
-use Rattle.ir_core.specs.Checks.{NamesDiffer, IsKnown, HasWidth, IsInst, IsTyped, CasesFit}
+use Rattle.ir_core.specs.Checks.{NamesDiffer, IsKnown, OperandHasWidth, IsInst, IsTyped, CasesFit}
 use Rattle.ir_core.specs.Names.{names_of}
 use Rattle.ir_core.specs.Reads.{Read, IsRead}
-use Rattle.ir_raw.specs.declared.raw.RawFunction.{RawFunction}
-use Rattle.ir_raw.specs.declared.raw.RawBlock.{RawBlock}
-use Rattle.ir_raw.specs.declared.raw.RawInst.{RawInst}
-use Rattle.ir_raw.specs.declared.raw.RawOp.{RawOp}
-use Rattle.ir_raw.specs.declared.raw.RawOp.TheVariants.{Binary, Compare, Select, Convert, Freeze, Phi}
+use Rattle.ir_tokens.specs.declared.raw.RawFunction.{RawFunction}
+use Rattle.ir_tokens.specs.declared.raw.RawBlock.{RawBlock}
+use Rattle.ir_tokens.specs.declared.raw.RawInst.{RawInst}
+use Rattle.ir_tokens.specs.declared.raw.RawOp.{RawOp}
+use Rattle.ir_tokens.specs.declared.raw.RawOp.TheVariants.{Binary, Compare, Select, Convert, Freeze, Phi}
 
 -- the flags of an operation are its own, and a phi has an entry
 abbrev pub IsWellWrittenOp : RawOp → Type 0
@@ -30,11 +30,11 @@ pub record IsWellWritten (raw : RawFunction) : Type 0 where
   pub insts : (block : RawBlock) (inst : RawInst) → Contains raw.blocks block → Contains block.insts inst → IsWellWrittenOp inst.op
 
 -- the checks of a function by names, widths and cases
-pub record IsResolved (f : Function) : Type 0 where
+pub record IsWellNamed (f : Function) : Type 0 where
   pub some_block : 0 < length f.blocks
   pub names : NamesDiffer (names_of f)
   pub registers : (b k i : ℕ) (r : Read) → IsRead f b k i r → IsKnown f r.operand
   pub blocks : (b c : ℕ) → Names f b c → c < length f.blocks
-  pub operands : (b k i : ℕ) (r : Read) → IsRead f b k i r → HasWidth f r.width r.operand
+  pub operands : (b k i : ℕ) (r : Read) → IsRead f b k i r → OperandHasWidth f r.width r.operand
   pub insts : (b k : ℕ) (inst : Inst) → IsInst f b k inst → IsTyped inst.width inst.op
   pub cases : (b : ℕ) (block : Block) → IsBlock f b block → CasesFit block.end

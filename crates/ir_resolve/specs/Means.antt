@@ -13,20 +13,20 @@ use Rattle.ir_core.specs.declared.operand.Operand.{Operand}
 use Rattle.ir_core.specs.declared.operand.Operand.TheVariants as operands
 use Rattle.ir_core.specs.declared.terminator.Terminator.{Terminator}
 use Rattle.ir_core.specs.declared.terminator.Terminator.TheVariants as ends
-use Rattle.ir_raw.specs.declared.raw.RawFunction.{RawFunction}
-use Rattle.ir_raw.specs.declared.raw.RawParameter.{RawParameter}
-use Rattle.ir_raw.specs.declared.raw.RawBlock.{RawBlock}
-use Rattle.ir_raw.specs.declared.raw.RawInst.{RawInst}
-use Rattle.ir_raw.specs.declared.raw.RawOp.{RawOp}
-use Rattle.ir_raw.specs.declared.raw.RawOp.TheVariants as ops
-use Rattle.ir_raw.specs.declared.raw.RawTerminator.{RawTerminator}
-use Rattle.ir_raw.specs.declared.raw.RawTerminator.TheVariants as terminators
-use Rattle.ir_raw.specs.declared.raw.RawValue.{RawValue}
-use Rattle.ir_raw.specs.declared.raw.RawValue.TheVariants as values
-use Rattle.ir_raw.specs.declared.raw.RawIncoming.{RawIncoming}
-use Rattle.ir_raw.specs.declared.raw.RawCase.{RawCase}
+use Rattle.ir_tokens.specs.declared.raw.RawFunction.{RawFunction}
+use Rattle.ir_tokens.specs.declared.raw.RawParameter.{RawParameter}
+use Rattle.ir_tokens.specs.declared.raw.RawBlock.{RawBlock}
+use Rattle.ir_tokens.specs.declared.raw.RawInst.{RawInst}
+use Rattle.ir_tokens.specs.declared.raw.RawOp.{RawOp}
+use Rattle.ir_tokens.specs.declared.raw.RawOp.TheVariants as ops
+use Rattle.ir_tokens.specs.declared.raw.RawTerminator.{RawTerminator}
+use Rattle.ir_tokens.specs.declared.raw.RawTerminator.TheVariants as terminators
+use Rattle.ir_tokens.specs.declared.raw.RawValue.{RawValue}
+use Rattle.ir_tokens.specs.declared.raw.RawValue.TheVariants as values
+use Rattle.ir_tokens.specs.declared.raw.RawIncoming.{RawIncoming}
+use Rattle.ir_tokens.specs.declared.raw.RawCase.{RawCase}
 use Rattle.ir_resolve.specs.Written.{Thing, Value, Block, Calls, given}
-use Rattle.ir_resolve.specs.Kinds.{literal_of, result_width}
+use Rattle.ir_resolve.specs.FaultKinds.{literal_of, result_width}
 
 -- Where these names call these things:
 module _ (CallsThing : Called → Thing → Type 0) where

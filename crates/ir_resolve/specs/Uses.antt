@@ -1,9 +1,9 @@
 -- What the code keeps of what a function reads and names.
 use Rattle.std.specs.Prelude.{◌≡◌, List, map, ◌++◌}
-use Rattle.ir_raw.specs.declared.raw.RawIdentifier.{RawIdentifier}
+use Rattle.ir_tokens.specs.declared.raw.RawIdentifier.{RawIdentifier}
 use Rattle.ir_resolve.specs.declared.uses.Read.{Read}
 use Rattle.ir_resolve.specs.declared.uses.Uses.{Uses}
-use Rattle.ir_resolve.specs.Reading.{Typed, typed}
+use Rattle.ir_resolve.specs.TypedReads.{Typed, typed}
 
 abbrev pub seen_read : Read → Typed
 seen_read r = typed r.width r.operand.now

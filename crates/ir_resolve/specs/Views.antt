@@ -7,7 +7,7 @@ use Rattle.indexmap.specs.IndexMap.{IndexMap}
 use Rattle.ir_tokens.specs.declared.called.Identifier.{Identifier as Called}
 use Rattle.ir_core.specs.Names.{Identifier, Named, Numbered}
 use Rattle.ir_core.specs.declared.operand.Register.{Register}
-use Rattle.ir_raw.specs.declared.raw.RawIdentifier.{RawIdentifier}
+use Rattle.ir_tokens.specs.declared.raw.RawIdentifier.{RawIdentifier}
 use Rattle.ir_resolve.specs.declared.names.key.Key.{Key}
 use Rattle.ir_resolve.specs.declared.names.key.Key.TheVariants as keys
 use Rattle.ir_resolve.specs.declared.names.definition.Entity.{Entity}

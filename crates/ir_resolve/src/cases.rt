@@ -2,14 +2,14 @@
 
 ghost use Rattle.std.specs.Prelude.{◌≡◌, ◌↔◌, ◌⊎◌, ℕ, IsTrue, IfOk, OnOk, nat_eq};
 ghost use Rattle.indexmap.specs.IndexSet.{contains};
-ghost use Rattle.ir_resolve.specs.Firsts.{IsFirst, SomeAt};
-ghost use Rattle.ir_resolve.specs.Reading.{cases_of};
-ghost use Rattle.ir_resolve.specs.Kinds.{Repeats, HasNumber, IsCaseOn};
+ghost use Rattle.ir_resolve.specs.FirstLines.{IsFirst, SomeAt};
+ghost use Rattle.ir_resolve.specs.TypedReads.{cases_of};
+ghost use Rattle.ir_resolve.specs.FaultKinds.{Repeats, HasNumber, IsCaseOn};
 
 use crate::least::lesser;
 use crate::literal::literal;
 use indexmap::IndexSet;
-use ir_raw::{RawBlock, RawCase, RawTerminator};
+use ir_tokens::{RawBlock, RawCase, RawTerminator};
 use std::alloc::{AllocError, Global};
 
 /// The cases that a terminator has.

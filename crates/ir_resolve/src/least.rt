@@ -1,7 +1,7 @@
 //! The least of lines.
 
 ghost use Rattle.std.specs.Prelude.{◌≡◌};
-ghost use Rattle.ir_resolve.specs.Firsts.{lesser};
+ghost use Rattle.ir_resolve.specs.FirstLines.{lesser};
 
 /// The lesser of two lines, where both are there, and else the one that is.
 pub(crate) fn lesser(one: Option<usize>, other: Option<usize>) -> Option<usize>

@@ -1,7 +1,7 @@
 //! Functions whose registers and blocks are known by place, from functions as written, or the first fault of one.
 //!
-//! The definitions stand in `specs/`: `Written` says what names and numbers call, `Reading` what is read and which blocks are
-//! named, `Means` which function is meant, `Kinds` where a function as written has a fault of which kind, and `Faults` which of
+//! The definitions stand in `specs/`: `Written` says what names and numbers call, `TypedReads` what is read and which blocks are
+//! named, `Means` which function is meant, `FaultKinds` where a function as written has a fault of which kind, and `Faults` which of
 //! these is its first.
 #![tactic(auto)]
 
@@ -20,6 +20,3 @@ mod uses;
 pub use fault::{Fault, FaultKind, ResolveError};
 pub use laws::every_function_has_one_meaning_or_one_fault;
 pub use resolution::resolve;
-
-#[cfg(test)]
-mod tests;

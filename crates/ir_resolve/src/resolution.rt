@@ -1,15 +1,15 @@
 //! Functions by places, from functions as written.
 
 ghost use Rattle.std.specs.Prelude.{◌≡◌, ℕ, None, List as Seq, IfOk, OnOk, IfErr};
-ghost use Rattle.ir_raw.specs.declared.raw.RawFunction.{RawFunction as written_function};
-ghost use Rattle.ir_resolve.specs.Firsts.{IsFirst};
+ghost use Rattle.ir_tokens.specs.declared.raw.RawFunction.{RawFunction as written_function};
+ghost use Rattle.ir_resolve.specs.FirstLines.{IsFirst};
 ghost use Rattle.ir_resolve.specs.Written.{written_names};
 ghost use Rattle.ir_resolve.specs.Means.{Means};
-ghost use Rattle.ir_resolve.specs.Kinds.{Repeats, HasName, IsWrittenOn, NumberingAt, DuplicateAt, UnknownAt, TypeClashAt};
+ghost use Rattle.ir_resolve.specs.FaultKinds.{Repeats, HasName, IsWrittenOn, NumberingAt, DuplicateAt, UnknownAt, TypeClashAt};
 ghost use Rattle.ir_resolve.specs.Views.{known_by};
-ghost use Rattle.ir_resolve.specs.Tabulating.{Tabulates, IsFaultOfUses};
-ghost use Rattle.ir_resolve.specs.Formed.{IsWellWritten, IsResolved};
-ghost use Rattle.ir_resolve.specs.Faults.{HasNoFault, IsFirstFault, Marks, IfRefused};
+ghost use Rattle.ir_resolve.specs.NameTable.{Tabulates, IsFaultOfUses};
+ghost use Rattle.ir_resolve.specs.Formed.{IsWellWritten, IsWellNamed};
+ghost use Rattle.ir_resolve.specs.Faults.{HasNoFault, IsFirstNameFault, MarksFunction, IfRefused};
 
 use crate::building::build;
 use crate::cases::repeated_case;
@@ -20,7 +20,7 @@ use crate::types::{block_clash, read_clash};
 use crate::unknown::unknown;
 use crate::uses::Uses;
 use ir_core::Function;
-use ir_raw::RawFunction;
+use ir_tokens::RawFunction;
 use std::alloc::{AllocError, Global};
 
 /// The first line of a duplicate: a name of a function, of a register or a block, or a number of a case that is there again. Of
@@ -33,7 +33,7 @@ fn duplicate(
 ) -> Result<Option<usize>, AllocError>
     requires { IsFirst (Repeats HasName IsWrittenOn (written_names raw.now)) repeated_name }
     ensures first { IfOk result (λ found. (earlier : Seq written_function) →
-        Marks is_repeated earlier raw.now → IsFirst (DuplicateAt earlier raw.now) found) }
+        MarksFunction is_repeated earlier raw.now → IsFirst (DuplicateAt earlier raw.now) found) }
     ensures none { IfOk result (λ found. found ≡ None → repeated_name ≡ None) }
 {
     let repeated_function = is_repeated.then_some(raw.line);
@@ -46,9 +46,9 @@ fn named(alloc: Global, raw: &RawFunction, is_repeated: bool) -> Result<Names<'_
     ensures table { IfOk result (λ names. Tabulates raw.now (known_by names)) }
     ensures numbered { OnOk result ((line : ℕ) → ¬ NumberingAt raw.now line) }
     ensures once { OnOk result ((earlier : Seq written_function) →
-        Marks is_repeated earlier raw.now → (line : ℕ) → ¬ DuplicateAt earlier raw.now line) }
+        MarksFunction is_repeated earlier raw.now → (line : ℕ) → ¬ DuplicateAt earlier raw.now line) }
     ensures refused { IfErr result (λ e. IfRefused e (λ fault. (earlier : Seq written_function) →
-        Marks is_repeated earlier raw.now → IsFirstFault earlier raw.now fault)) }
+        MarksFunction is_repeated earlier raw.now → IsFirstNameFault earlier raw.now fault)) }
 {
     let definitions = definitions(alloc, raw)?;
     let keys = keys(alloc, definitions.as_slice())?;
@@ -95,12 +95,12 @@ pub fn resolve(
 ) -> Result<Function, ResolveError>
     ensures means { IfOk result (Means raw.now) }
     ensures faultless { OnOk result ((earlier : Seq written_function) →
-        Marks is_repeated earlier raw.now → HasNoFault earlier raw.now) }
+        MarksFunction is_repeated earlier raw.now → HasNoFault earlier raw.now) }
     ensures refused { IfErr result (λ e. IfRefused e (λ fault. (earlier : Seq written_function) →
-        Marks is_repeated earlier raw.now → IsFirstFault earlier raw.now fault)) }
+        MarksFunction is_repeated earlier raw.now → IsFirstNameFault earlier raw.now fault)) }
 
     // What is read meets these checks, where it is written as the grammar has it.
-    ensures formed { IfOk result (λ f. IsWellWritten raw.now → IsResolved f) }
+    ensures formed { IfOk result (λ f. IsWellWritten raw.now → IsWellNamed f) }
 {
     let names = named(alloc, raw, is_repeated)?;
     check_uses(alloc, &names, raw)?;

@@ -1,9 +1,9 @@
 //! Types that do not fit.
 
 ghost use Rattle.std.specs.Prelude.{◌≡◌, ◌↔◌, map, IsTrue};
-ghost use Rattle.ir_core.specs.Checks.{CastFits};
-ghost use Rattle.ir_resolve.specs.Firsts.{IsFirst, SomeAt};
-ghost use Rattle.ir_resolve.specs.Kinds.{LiteralClashes, ValueClashes, ReadClashesIn, OpClashesAt, CaseClashes, EndClashesAt, BlockClashesAt};
+ghost use Rattle.ops.specs.Conversion.{CastFits};
+ghost use Rattle.ir_resolve.specs.FirstLines.{IsFirst, SomeAt};
+ghost use Rattle.ir_resolve.specs.FaultKinds.{LiteralClashes, ValueClashes, ReadClashesIn, OpClashesAt, CaseClashes, EndClashesAt, BlockClashesAt};
 ghost use Rattle.ir_resolve.specs.Views.{known_by, CallsRegisterIn};
 ghost use Rattle.ir_resolve.specs.Uses.{seen_read};
 
@@ -11,7 +11,7 @@ use crate::least::lesser;
 use crate::literal::literal;
 use crate::names::{Names, register};
 use crate::uses::Read;
-use ir_raw::{RawBlock, RawCase, RawInst, RawOp, RawTerminator, RawValue};
+use ir_tokens::{RawBlock, RawCase, RawInst, RawOp, RawTerminator, RawValue};
 use ops::{Cast, Width};
 
 /// Whether the value is a literal of another width.

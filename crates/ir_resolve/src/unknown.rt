@@ -1,16 +1,15 @@
 //! Names of registers and blocks that a function does not have.
 
 ghost use Rattle.std.specs.Prelude.{◌≡◌, ◌↔◌, map, IsTrue};
-ghost use Rattle.ir_resolve.specs.Firsts.{IsFirst, SomeAt};
-ghost use Rattle.ir_resolve.specs.Kinds.{IsUnknownValue, IsUnknownBlock, UnknownIn};
+ghost use Rattle.ir_resolve.specs.FirstLines.{IsFirst, SomeAt};
+ghost use Rattle.ir_resolve.specs.FaultKinds.{IsUnknownValue, IsUnknownBlock, UnknownIn};
 ghost use Rattle.ir_resolve.specs.Views.{known_by, CallsIn};
 ghost use Rattle.ir_resolve.specs.Uses.{seen_read, seen_reads, seen_targets};
 
 use crate::least::lesser;
 use crate::names::{Names, block, register};
 use crate::uses::{Read, Uses};
-use ir_raw::{RawIdentifier, RawValue};
-use ir_tokens::Identifier;
+use ir_tokens::{Identifier, RawIdentifier, RawValue};
 
 /// Whether the value names a register that is not there.
 fn is_unknown(names: &Names<'_>, value: &RawValue) -> bool

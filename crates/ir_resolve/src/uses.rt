@@ -1,10 +1,10 @@
 //! What a function as written reads, and which blocks it names.
 
 ghost use Rattle.std.specs.Prelude.{◌≡◌, [], ◌∷◌, map, OnOk, IfOk};
-ghost use Rattle.ir_resolve.specs.Reading.{typed, read_by, named_by, read_at_end, named_at_end, read_in, named_in, reads_of, targets_of};
+ghost use Rattle.ir_resolve.specs.TypedReads.{typed, read_by, named_by, read_at_end, named_at_end, read_in, named_in, reads_of, targets_of};
 ghost use Rattle.ir_resolve.specs.Uses.{seen_reads, seen_targets, Adds};
 
-use ir_raw::{
+use ir_tokens::{
     RawBlock, RawCase, RawFunction, RawIdentifier, RawIncoming, RawOp, RawOperand, RawTerminator,
 };
 use ops::Width;

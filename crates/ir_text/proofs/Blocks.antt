@@ -13,20 +13,20 @@ use Rattle.ir_core.specs.Blocks.{IsBlock, targets_of}
 use Rattle.ir_core.specs.Checks.{CasesFit, IsInst}
 use Rattle.ir_core.specs.Names.{Name, names_of, block_place}
 use Rattle.ir_core.specs.Reads.{Read, reads_of, reads_at, reads_by, reads_in, reads_at_end, IsRead}
-use Rattle.ir_raw.specs.declared.raw.RawBlock.{RawBlock}
-use Rattle.ir_raw.specs.declared.raw.RawIdentifier.{RawIdentifier}
-use Rattle.ir_raw.specs.declared.raw.RawInst.{RawInst}
-use Rattle.ir_statements.specs.Grammar.{SpellsInst}
-use Rattle.ir_statements.specs.Parts.{Maybe}
+use Rattle.ir_tokens.specs.declared.raw.RawBlock.{RawBlock}
+use Rattle.ir_tokens.specs.declared.raw.RawIdentifier.{RawIdentifier}
+use Rattle.ir_tokens.specs.declared.raw.RawInst.{RawInst}
+use Rattle.ir_instructions.specs.Grammar.{SpellsInst}
+use Rattle.ir_instructions.specs.Parts.{Maybe}
 use Rattle.ir_parse.specs.Grammar.{SpellsLabel, SpellsBlock}
 use Rattle.ir_resolve.specs.Means.{InstMeans, EndMeans, BlockIsOf}
 use Rattle.ir_resolve.specs.Written.{Block, given}
 use Rattle.ir_resolve.proofs.Places.{contained_at}
 use Rattle.ir_resolve.proofs.Series.{named_from}
 use Rattle.ir_resolve.proofs.Standing.{some_same}
-use Rattle.ir_forms.specs.Forms.{CasesHaveForms, NumberFits}
-use Rattle.ir_text.specs.Printing.{block_identifier, identifier_text, label_text, head_text, first_head_text, inst_text, end_text, block_text}
-use Rattle.ir_text.specs.Writes.{Identifies, BlockTypesFit, EndTypesFit, TypesFit}
+use Rattle.ir_text.specs.Forms.{CasesHaveForms, NumberFits}
+use Rattle.ir_text.specs.PrintedText.{block_identifier, identifier_text, label_text, head_text, first_head_text, inst_text, end_text, block_text}
+use Rattle.ir_text.specs.CanonicalModule.{Identifies, BlockTypesFit, EndTypesFit, TypesFit}
 use Rattle.ir_text.proofs.Prints.{Body, Prints, Reads, prints_as, prints_map, prints_nothing, prints_next, prints_lines, behind_space, before_space}
 use Rattle.ir_text.proofs.Tokens.{label_in_body, feed, indent, line_ends}
 use Rattle.ir_text.proofs.Calling.{IsPrintable, IsCalled, is_called, block_named}

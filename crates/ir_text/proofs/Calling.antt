@@ -20,10 +20,10 @@ use Rattle.ir_core.specs.Names.{Name, Identifier, Named, Numbered, identifiers_f
 use Rattle.ir_resolve.specs.Written.{name_in, identifier}
 use Rattle.ir_resolve.proofs.Places.{contained_at}
 use Rattle.ir_resolve.proofs.Standing.{get_right, get_left, some_same, mapped}
-use Rattle.ir_forms.specs.Forms.{IsName, FunctionHasForms}
-use Rattle.ir_lexemes.specs.Lexemes.{IsNameText}
-use Rattle.ir_lexemes.proofs.NameForms.{AreNameBytes, name_text_form, name_text_calls, decimal_form, decimal_calls}
-use Rattle.ir_text.specs.Printing.{identifier_text}
+use Rattle.ir_text.specs.Forms.{IsName, FunctionHasForms}
+use Rattle.ir_text.specs.Lexemes.{IsNameText}
+use Rattle.ir_text.proofs.NameForms.{AreNameBytes, name_text_form, name_text_calls, decimal_form, decimal_calls}
+use Rattle.ir_text.specs.PrintedText.{identifier_text}
 
 -- what is known of a function that is printed
 pub record IsPrintable (f : Function) : Type 0 where

@@ -13,16 +13,16 @@ use Rattle.ir_core.specs.declared.terminator.Terminator.{Terminator}
 use Rattle.ir_core.specs.declared.terminator.Terminator.TheVariants as ends
 use Rattle.ir_core.specs.Blocks.{IsBlock, targets_of}
 use Rattle.ir_core.specs.Reads.{Read, read, reads_at_end}
-use Rattle.ir_raw.specs.declared.raw.RawCase.{RawCase}
-use Rattle.ir_raw.specs.declared.raw.RawTerminator.{RawTerminator}
-use Rattle.ir_raw.specs.declared.raw.RawTerminator.TheVariants.{Return, Unreachable, Jump, Branch, Switch}
-use Rattle.ir_statements.specs.Grammar.{SpellsCase, SpellsTerminator}
-use Rattle.ir_statements.specs.Parts.{Part}
+use Rattle.ir_tokens.specs.declared.raw.RawCase.{RawCase}
+use Rattle.ir_tokens.specs.declared.raw.RawTerminator.{RawTerminator}
+use Rattle.ir_tokens.specs.declared.raw.RawTerminator.TheVariants.{Return, Unreachable, Jump, Branch, Switch}
+use Rattle.ir_instructions.specs.Grammar.{SpellsCase, SpellsTerminator}
+use Rattle.ir_instructions.specs.Parts.{Part}
 use Rattle.ir_resolve.specs.Means.{CaseMeans, EndMeans}
-use Rattle.ir_forms.specs.Forms.{IsWidth, NumberFits}
-use Rattle.ir_lexemes.proofs.Placing.{space_stops}
-use Rattle.ir_text.specs.Printing.{case_text, end_text}
-use Rattle.ir_text.specs.Writes.{Identifies, EndTypesFit}
+use Rattle.ir_text.specs.Forms.{IsWidth, NumberFits}
+use Rattle.ir_text.proofs.Placing.{space_stops}
+use Rattle.ir_text.specs.PrintedText.{case_text, end_text}
+use Rattle.ir_text.specs.CanonicalModule.{Identifies, EndTypesFit}
 use Rattle.ir_text.proofs.Prints.{Body, Prints, Reads, prints_map, prints_weak, prints_then, prints_next, prints_lines, behind_space, opens_with}
 use Rattle.ir_text.proofs.Tokens.{in_body, word_in_body, open_in_body, close_in_body, blank, indent, spaced, mark_line_ends, line_ends, comma_space}
 use Rattle.ir_text.proofs.Calling.{IsPrintable}

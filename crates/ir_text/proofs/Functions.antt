@@ -13,18 +13,18 @@ use Rattle.ir_core.specs.declared.function.Block.{Block as CoreBlock}
 use Rattle.ir_core.specs.declared.instruction.Inst.{Inst}
 use Rattle.ir_core.specs.Blocks.{IsBlock}
 use Rattle.ir_core.specs.Names.{identifiers_of, block_names, block_place}
-use Rattle.ir_raw.specs.declared.raw.RawFunction.{RawFunction}
-use Rattle.ir_raw.specs.declared.raw.RawParameter.{RawParameter}
-use Rattle.ir_raw.specs.declared.raw.RawBlock.{RawBlock}
-use Rattle.ir_raw.specs.declared.raw.RawInst.{RawInst}
-use Rattle.ir_raw.specs.declared.raw.RawIdentifier.{RawIdentifier}
-use Rattle.ir_statements.specs.Parts.{Each}
+use Rattle.ir_tokens.specs.declared.raw.RawFunction.{RawFunction}
+use Rattle.ir_tokens.specs.declared.raw.RawParameter.{RawParameter}
+use Rattle.ir_tokens.specs.declared.raw.RawBlock.{RawBlock}
+use Rattle.ir_tokens.specs.declared.raw.RawInst.{RawInst}
+use Rattle.ir_tokens.specs.declared.raw.RawIdentifier.{RawIdentifier}
+use Rattle.ir_instructions.specs.Parts.{Each}
 use Rattle.ir_parse.specs.Grammar.{SpellsBlock, SpellsLabelledBlock, SpellsBlocks, SpellsFunction}
 use Rattle.ir_resolve.specs.Means.{ParameterMeans, BlockIsOf}
 use Rattle.ir_resolve.specs.Written.{identifier, written_in, written_names}
 use Rattle.ir_resolve.proofs.Standing.{get_cases, mapped, some_same}
-use Rattle.ir_text.specs.Printing.{block_text, function_text}
-use Rattle.ir_text.specs.Writes.{Identifies, BlockTypesFit, WritesFunction}
+use Rattle.ir_text.specs.PrintedText.{block_text, function_text}
+use Rattle.ir_text.specs.CanonicalModule.{Identifies, BlockTypesFit, WritesFunction}
 use Rattle.ir_text.proofs.Prints.{Fresh, Body, Prints, Reads, prints_map, prints_next, prints_lines}
 use Rattle.ir_text.proofs.Tokens.{body_ends, ends_line, feed}
 use Rattle.ir_text.proofs.Calling.{IsPrintable}

@@ -13,7 +13,7 @@ use Rattle.ops.specs.declared.comparison.Pred.TheVariants.{Eq, Ne, Ugt, Uge, Ult
 use Rattle.ops.specs.declared.conversion.Cast.{Cast}
 use Rattle.ops.specs.declared.conversion.Cast.TheVariants.{Trunc, ZExt, SExt}
 use Rattle.ops.specs.Flags.{FlagsFit}
-use Rattle.words.specs.Words.{opcode_word, cast_word, pred_word}
+use Rattle.ops.specs.Keywords.{opcode_keyword, cast_keyword, predicate_keyword}
 use Rattle.ir_tokens.specs.Tokens.{Word}
 use Rattle.ir_core.specs.declared.function.Function.{Function}
 use Rattle.ir_core.specs.declared.function.Block.{Block as CoreBlock}
@@ -23,23 +23,23 @@ use Rattle.ir_core.specs.declared.instruction.Op.TheVariants as core
 use Rattle.ir_core.specs.declared.operand.Operand.{Operand}
 use Rattle.ir_core.specs.declared.operand.Register.TheVariants as registers
 use Rattle.ir_core.specs.Blocks.{IsBlock}
-use Rattle.ir_core.specs.Checks.{HasWidth, IsTyped}
+use Rattle.ir_core.specs.Checks.{OperandHasWidth, IsTyped}
 use Rattle.ir_core.specs.Names.{place_of}
 use Rattle.ir_core.specs.Reads.{Read, read, reads_of, end_of}
-use Rattle.ir_raw.specs.declared.raw.RawInst.{RawInst}
-use Rattle.ir_raw.specs.declared.raw.RawOp.{RawOp}
-use Rattle.ir_raw.specs.declared.raw.RawOp.TheVariants as ops
-use Rattle.ir_raw.specs.declared.raw.RawIncoming.{RawIncoming}
-use Rattle.ir_statements.specs.Grammar.{SpellsType, SpellsOperand, SpellsFlags, SpellsIncoming, SpellsOp, SpellsInst}
-use Rattle.ir_statements.specs.Parts.{Is, ◌⨾◌, Each, Comma, Separated}
-use Rattle.ir_statements.proofs.WrittenFlags.{words_of_flags, spells_flags}
-use Rattle.ir_resolve.specs.Kinds.{result_width}
+use Rattle.ir_tokens.specs.declared.raw.RawInst.{RawInst}
+use Rattle.ir_tokens.specs.declared.raw.RawOp.{RawOp}
+use Rattle.ir_tokens.specs.declared.raw.RawOp.TheVariants as ops
+use Rattle.ir_tokens.specs.declared.raw.RawIncoming.{RawIncoming}
+use Rattle.ir_instructions.specs.Grammar.{SpellsType, SpellsOperand, SpellsFlags, SpellsIncoming, SpellsOp, SpellsInst}
+use Rattle.ir_instructions.specs.Parts.{Is, ◌⨾◌, Each, Comma, Separated}
+use Rattle.ir_instructions.proofs.WrittenFlags.{words_of_flags, spells_flags}
+use Rattle.ir_resolve.specs.FaultKinds.{result_width}
 use Rattle.ir_resolve.specs.Means.{IncomingMeans, OpMeans, InstMeans}
 use Rattle.ir_resolve.specs.Written.{Value}
-use Rattle.ir_forms.specs.Forms.{IsWidth, ReadHasForms}
-use Rattle.ir_lexemes.proofs.Placing.{space_stops, comma_stops}
-use Rattle.ir_text.specs.Printing.{operand_text, typed_text, flags_text, incoming_text, op_text, inst_text}
-use Rattle.ir_text.specs.Writes.{Identifies, TypesFit}
+use Rattle.ir_text.specs.Forms.{IsWidth, ReadHasForms}
+use Rattle.ir_text.proofs.Placing.{space_stops, comma_stops}
+use Rattle.ir_text.specs.PrintedText.{operand_text, typed_text, flags_text, incoming_text, op_text, inst_text}
+use Rattle.ir_text.specs.CanonicalModule.{Identifies, TypesFit}
 use Rattle.ir_text.proofs.Prints.{Body, Prints, Reads, prints_map, prints_weak, prints_nothing, prints_then, prints_next, prints_lines, behind_space, Opens, opens_with, opens_none, opens_first, opens_each}
 use Rattle.ir_text.proofs.Tokens.{in_body, word_in_body, equals_in_body, open_in_body, close_in_body, blank, indent, spaced, mark_spaced, line_ends, comma_space}
 use Rattle.ir_text.proofs.Calling.{IsPrintable, is_called, result_named}
@@ -47,7 +47,7 @@ use Rattle.ir_text.proofs.Operands.{type_prints, register_called, block_name_pri
 
 -- ---- words
 
-opcode_is_word : (op : Opcode) → is_word (opcode_word op) ≡ true
+opcode_is_word : (op : Opcode) → is_word (opcode_keyword op) ≡ true
 unfolding is_word begins_word begins_name is_letter is_name_byte
 opcode_is_word Add = refl
 opcode_is_word Sub = refl
@@ -63,7 +63,7 @@ opcode_is_word And = refl
 opcode_is_word Or = refl
 opcode_is_word Xor = refl
 
-pred_is_word : (pred : Pred) → is_word (pred_word pred) ≡ true
+pred_is_word : (pred : Pred) → is_word (predicate_keyword pred) ≡ true
 unfolding is_word begins_word begins_name is_letter is_name_byte
 pred_is_word Eq = refl
 pred_is_word Ne = refl
@@ -76,7 +76,7 @@ pred_is_word Sge = refl
 pred_is_word Slt = refl
 pred_is_word Sle = refl
 
-cast_is_word : (cast : Cast) → is_word (cast_word cast) ≡ true
+cast_is_word : (cast : Cast) → is_word (cast_keyword cast) ≡ true
 unfolding is_word begins_word begins_name is_letter is_name_byte
 cast_is_word Trunc = refl
 cast_is_word ZExt = refl
@@ -122,7 +122,7 @@ flags_open flags = opens_first _ _ (opens_first _ _ (flag_opens flags.nuw (codes
 
 -- what is read has its width, and its form
 pub record ReadFits (f : Function) (r : Read) : Type 0 where
-  pub has : HasWidth f r.width r.operand
+  pub has : OperandHasWidth f r.width r.operand
   pub form : ReadHasForms r
 
 read_prints : (f : Function) → IsPrintable f → (r : Read) → ReadFits f r → Prints Body Body false (Reads (SpellsOperand r.width) (MeansOperand f) r.operand) (operand_text f r.operand)
@@ -171,7 +171,7 @@ op_prints f fits b k width (core.Binary op flags x y) ok reads typed phi =
     (ops.Binary op flags width a c, (m4, word, (m3, flag, (m5, type, (m2, spell, (m1, comma, spells))))), ((refl, refl, mean, means), refl, tt)))
     (prints_next
     (prints_then
-    (prints_next (spaced tt (prints_then (word_in_body (opcode_word op) (opcode_is_word op)) (flags_print op flags typed) (flags_open flags))) (read_typed f fits (read b k width x) (reads 0 (read b k width x) refl)))
+    (prints_next (spaced tt (prints_then (word_in_body (opcode_keyword op) (opcode_is_word op)) (flags_print op flags typed) (flags_open flags))) (read_typed f fits (read b k width x) (reads 0 (read b k width x) refl)))
     comma_space opens_comma)
     (read_prints f fits (read b k width y) (reads 1 (read b k width y) refl)))
 op_prints f fits b k width (core.Compare pred compared x y) ok reads typed phi =
@@ -179,7 +179,7 @@ op_prints f fits b k width (core.Compare pred compared x y) ok reads typed phi =
     (ops.Compare pred compared a c, (m4, word, (m3, is, (m5, type, (m2, spell, (m1, comma, spells))))), ((refl, refl, mean, means), typed, tt)))
     (prints_next
     (prints_then
-    (prints_next (spaced tt (prints_next (word_spaced (codes "icmp") refl) (word_in_body (pred_word pred) (pred_is_word pred)))) (read_typed f fits (read b k compared x) (reads 0 (read b k compared x) refl)))
+    (prints_next (spaced tt (prints_next (word_spaced (codes "icmp") refl) (word_in_body (predicate_keyword pred) (pred_is_word pred)))) (read_typed f fits (read b k compared x) (reads 0 (read b k compared x) refl)))
     comma_space opens_comma)
     (read_prints f fits (read b k compared y) (reads 1 (read b k compared y) refl)))
 op_prints f fits b k width (core.Select c x y) ok reads typed phi =
@@ -199,7 +199,7 @@ op_prints f fits b k width (core.Convert cast from x) ok reads typed phi =
     prints_map _ (λ tokens rest (m1, (m2, (m3, word, (m4, type, (a, spell, mean))), to), type_to). (ops.Convert cast from a width, (m3, word, (m4, type, (m2, spell, (m1, to, type_to)))), ((refl, refl, mean), refl, tt)))
     (prints_next
     (prints_then
-    (prints_next (word_spaced (cast_word cast) (cast_is_word cast)) (read_typed f fits (read b k from x) (reads 0 (read b k from x) refl)))
+    (prints_next (word_spaced (cast_keyword cast) (cast_is_word cast)) (read_typed f fits (read b k from x) (reads 0 (read b k from x) refl)))
     (behind_space (codes " ") blank tt (word_spaced (codes "to") refl)) (opens_with 32 (codes "to ") space_stops))
     (type_prints in_body width ok))
 op_prints f fits b k width (core.Freeze x) ok reads typed phi =

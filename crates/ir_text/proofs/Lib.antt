@@ -1,3 +1,16 @@
+pub mod Composing
+pub mod Ending
+pub mod Feeds
+pub mod Forms
+pub mod KeptLines
+pub mod Lexing
+pub mod NameForms
+pub mod NumberForms
+pub mod Placing
+pub mod Shapes
+pub mod Spelled
+pub mod Standing
+pub mod Zeros
 mod Streams
 mod Prints
 mod Tokens

@@ -12,17 +12,17 @@ use Rattle.ir_core.specs.declared.module.Module.{Module}
 use Rattle.ir_core.specs.declared.module.Entry.{Entry}
 use Rattle.ir_core.specs.declared.module.Entry.TheVariants as entries
 use Rattle.ir_core.specs.Checks.{ModuleMeetsChecks}
-use Rattle.ir_raw.specs.declared.raw.RawEntry.TheVariants as raw_entries
-use Rattle.ir_statements.specs.Parts.{Each}
+use Rattle.ir_tokens.specs.declared.raw.RawEntry.TheVariants as raw_entries
+use Rattle.ir_instructions.specs.Parts.{Each}
 use Rattle.ir_parse.specs.Grammar.{SpellsEntry}
-use Rattle.ir_forms.specs.Forms.{IsKeptText, EntryHasForms, ModuleHasForms}
-use Rattle.ir_lexemes.specs.Lexemes.{placed_from}
-use Rattle.ir_lexemes.proofs.Lexing.{lexemes_are_tokens}
-use Rattle.ir_lexemes.proofs.Placing.{first_line}
-use Rattle.ir_lexemes.proofs.Standing.{gap_is}
+use Rattle.ir_text.specs.Forms.{IsKeptText, EntryHasForms, ModuleHasForms}
+use Rattle.ir_text.specs.Lexemes.{placed_from}
+use Rattle.ir_text.proofs.Lexing.{lexemes_are_tokens}
+use Rattle.ir_text.proofs.Placing.{first_line}
+use Rattle.ir_text.proofs.Standing.{gap_is}
 use Rattle.ir_text.specs.Laws.{HasFewThings, PrintedTextsSpell}
-use Rattle.ir_text.specs.Printing.{entry_text, between_text, entries_text, text_of}
-use Rattle.ir_text.specs.Writes.{WritesEntry}
+use Rattle.ir_text.specs.PrintedText.{entry_text, between_text, entries_text, text_of}
+use Rattle.ir_text.specs.CanonicalModule.{WritesEntry}
 use Rattle.ir_text.proofs.Streams.{Streams, streams_as, streams_end}
 use Rattle.ir_text.proofs.Prints.{Fresh, Prints, Reads, prints_map, prints_nothing, prints_next, before_space}
 use Rattle.ir_text.proofs.Tokens.{kept_prints}

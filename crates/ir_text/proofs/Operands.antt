@@ -11,22 +11,22 @@ use Rattle.ir_core.specs.declared.operand.Operand.{Operand}
 use Rattle.ir_core.specs.declared.operand.Operand.TheVariants as operands
 use Rattle.ir_core.specs.declared.operand.Register.{Register}
 use Rattle.ir_core.specs.Blocks.{IsBlock}
-use Rattle.ir_core.specs.Checks.{HasWidth}
+use Rattle.ir_core.specs.Checks.{OperandHasWidth}
 use Rattle.ir_core.specs.Names.{Name, identifier_of as core_identifier_of, place_of, block_place}
-use Rattle.ir_raw.specs.declared.raw.RawIdentifier.{RawIdentifier}
-use Rattle.ir_raw.specs.declared.raw.RawOperand.{RawOperand}
-use Rattle.ir_raw.specs.declared.raw.RawValue.{RawValue}
-use Rattle.ir_raw.specs.declared.raw.RawValue.TheVariants as values
-use Rattle.ir_statements.specs.Grammar.{SpellsRegister, SpellsTarget, SpellsType, SpellsOperand, IsCaseValue}
-use Rattle.ir_statements.specs.Parts.{◌⨾◌}
-use Rattle.ir_resolve.specs.Kinds.{literal_of}
+use Rattle.ir_tokens.specs.declared.raw.RawIdentifier.{RawIdentifier}
+use Rattle.ir_tokens.specs.declared.raw.RawOperand.{RawOperand}
+use Rattle.ir_tokens.specs.declared.raw.RawValue.{RawValue}
+use Rattle.ir_tokens.specs.declared.raw.RawValue.TheVariants as values
+use Rattle.ir_instructions.specs.Grammar.{SpellsRegister, SpellsTarget, SpellsType, SpellsOperand, IsCaseValue}
+use Rattle.ir_instructions.specs.Parts.{◌⨾◌}
+use Rattle.ir_resolve.specs.FaultKinds.{literal_of}
 use Rattle.ir_resolve.specs.Means.{ValueMeans}
 use Rattle.ir_resolve.specs.Written.{Thing, Value, Block, name_in}
-use Rattle.ir_forms.specs.Forms.{IsWidth, NumberFits, OperandFits}
-use Rattle.ir_lexemes.specs.Numbers.{number_text}
-use Rattle.ir_lexemes.proofs.NumberForms.{decimal_digits, decimal_value-decimal, type_form, number_form, number_reads}
-use Rattle.ir_text.specs.Printing.{block_identifier, identifier_text, register_text, block_name_text, target_text, type_text, operand_text, typed_text}
-use Rattle.ir_text.specs.Writes.{Identifies}
+use Rattle.ir_text.specs.Forms.{IsWidth, NumberFits, OperandFits}
+use Rattle.ir_text.specs.NumberText.{number_text}
+use Rattle.ir_text.proofs.NumberForms.{decimal_digits, decimal_value-decimal, type_form, number_form, number_reads}
+use Rattle.ir_text.specs.PrintedText.{block_identifier, identifier_text, register_text, block_name_text, target_text, type_text, operand_text, typed_text}
+use Rattle.ir_text.specs.CanonicalModule.{Identifies}
 use Rattle.ir_text.proofs.Prints.{Mode, Body, Prints, Reads, prints_as, prints_map, prints_next}
 use Rattle.ir_text.proofs.Tokens.{Inside, in_body, word_inside, word_in_body, number_in_body, register_inside, spaced}
 use Rattle.ir_text.proofs.Calling.{IsPrintable, IsCalled, is_called, block_named, register_named}
@@ -127,7 +127,7 @@ literal_means f values.False n is = is
 literal_means f values.Undef n is = is
 literal_means f values.Poison n is = is
 
-pub operand_prints : (f : Function) → IsPrintable f → (width : ℕ) (a : Operand) → HasWidth f width a → IsWidth width → OperandFits a → Prints Body Body false (Reads (SpellsOperand width) (MeansOperand f) a) (operand_text f a)
+pub operand_prints : (f : Function) → IsPrintable f → (width : ℕ) (a : Operand) → OperandHasWidth f width a → IsWidth width → OperandFits a → Prints Body Body false (Reads (SpellsOperand width) (MeansOperand f) a) (operand_text f a)
 unfolding operand_text is_word begins_word begins_name is_letter is_name_byte
 operand_prints f fits width (operands.Register r) has ok number =
     let (name, at) = register_named f r width has in
@@ -143,7 +143,7 @@ operand_prints f fits width operands.Poison has ok number =
     prints_map (Reads (SpellsOperand width) (MeansOperand f) operands.Poison) (λ tokens rest (line, is). (record { line = line; value = values.Poison }, (Word (codes "poison"), refl, is), tt)) (word_in_body (codes "poison") refl)
 
 -- an operand behind its type
-pub typed_prints : (f : Function) → IsPrintable f → (width : ℕ) (a : Operand) → HasWidth f width a → IsWidth width → OperandFits a
+pub typed_prints : (f : Function) → IsPrintable f → (width : ℕ) (a : Operand) → OperandHasWidth f width a → IsWidth width → OperandFits a
     → Prints Body Body false (SpellsType width ⨾ Reads (SpellsOperand width) (MeansOperand f) a) (typed_text f width a)
 unfolding typed_text
 typed_prints f fits width a has ok number = prints_next (spaced tt (type_prints in_body width ok)) (operand_prints f fits width a has ok number)

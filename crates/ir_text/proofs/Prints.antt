@@ -9,8 +9,8 @@ use Rattle.ir_tokens.specs.declared.place.Place.{Place}
 use Rattle.ir_tokens.specs.declared.place.Place.TheVariants.{AtEntry, InHeader, InBody}
 use Rattle.ir_tokens.specs.Places.{place_behind}
 use Rattle.ir_tokens.specs.Tokens.{Placed, Token}
-use Rattle.ir_statements.specs.Parts.{Part, Is, Nothing, ◌⨾◌, Each}
-use Rattle.ir_lexemes.specs.Lexemes.{goes_on, bytes_of, takes_line, HasForm, MayStand}
+use Rattle.ir_instructions.specs.Parts.{Part, Is, Nothing, ◌⨾◌, Each}
+use Rattle.ir_text.specs.Lexemes.{goes_on, bytes_of, takes_line, HasForm, MayStand}
 use Rattle.ir_text.proofs.Streams.{Streams, streams_as, behind_gap, with_token}
 
 -- ---- places

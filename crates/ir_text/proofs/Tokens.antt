@@ -11,10 +11,10 @@ use Rattle.ir_tokens.specs.Numbers.{is_number}
 use Rattle.ir_tokens.specs.Order.{AreTokens}
 use Rattle.ir_tokens.specs.Places.{place_behind}
 use Rattle.ir_tokens.specs.Tokens.{End, Kept, KeptGroup, Label, Word, Number, Register, Function, Group, Quoted, Mark}
-use Rattle.ir_statements.specs.Parts.{Part, Is, ◌⨾◌, Comma}
-use Rattle.ir_statements.specs.Marks as marks
-use Rattle.ir_lexemes.specs.Lexemes.{takes_line, IsNameText, HasForm, MayStand}
-use Rattle.ir_lexemes.proofs.Placing.{itself_in_body, itself_in_header, itself_behind_no_word, itself_at_entry, define_begins_none, later_line, same_line, space_stops, feed_stops}
+use Rattle.ir_instructions.specs.Parts.{Part, Is, ◌⨾◌, Comma}
+use Rattle.ir_instructions.specs.Punctuation as marks
+use Rattle.ir_text.specs.Lexemes.{takes_line, IsNameText, HasForm, MayStand}
+use Rattle.ir_text.proofs.Placing.{itself_in_body, itself_in_header, itself_behind_no_word, itself_at_entry, define_begins_none, later_line, same_line, space_stops, feed_stops}
 use Rattle.ir_text.proofs.Streams.{Streams, streams_as, behind_gap, with_token}
 use Rattle.ir_text.proofs.Prints.{Mode, Fresh, Used, Header, Called, Body, Stands, TakesGap, Stop, Prints, prints_token, before_space}
 

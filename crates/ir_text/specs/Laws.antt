@@ -1,15 +1,27 @@
--- What holds of printed texts.
-use Rattle.std.specs.Prelude.{◌≡◌, ℕ, ◌<◌, ◌^◌, length, Some, slice_get}
+-- What holds of texts that are written token by token, and of printed texts.
+use Rattle.std.specs.Prelude.{◌≡◌, ℕ, ◌<◌, ◌^◌, List, [], ◌∷◌, ◌++◌, length, Some, slice_get}
+use Rattle.scan.specs.Gaps.{IsLastGap}
+use Rattle.scan.specs.Lines.{last_line}
+use Rattle.ir_tokens.specs.declared.place.Place.{Place}
+use Rattle.ir_tokens.specs.Order.{TokensFrom}
+use Rattle.ir_tokens.specs.Tokens.{End}
+use Rattle.ir_text.specs.Lexemes.{Lexeme, AreLexemes, placed_from, spelled}
 use Rattle.ir_core.specs.Checks.{ModuleMeetsChecks}
 use Rattle.ir_core.specs.Names.{names_of}
 use Rattle.ir_core.specs.declared.function.Function.{Function}
 use Rattle.ir_core.specs.declared.module.Module.{Module}
 use Rattle.ir_core.specs.declared.module.Entry.TheVariants as entries
-use Rattle.ir_raw.specs.declared.raw.RawModule.{RawModule}
+use Rattle.ir_tokens.specs.declared.raw.RawModule.{RawModule}
 use Rattle.ir_parse.specs.Text.{IsRaw}
-use Rattle.ir_forms.specs.Forms.{ModuleHasForms}
-use Rattle.ir_text.specs.Printing.{text_of}
-use Rattle.ir_text.specs.Writes.{WritesModule}
+use Rattle.ir_text.specs.Forms.{ModuleHasForms}
+use Rattle.ir_text.specs.PrintedText.{text_of}
+use Rattle.ir_text.specs.CanonicalModule.{WritesModule}
+
+-- lexemes that are read as their tokens, and a gap behind them, are a text of these tokens
+abbrev pub LexemesAreTokens : Type 0
+LexemesAreTokens =
+    (place : Place) (lexemes : List Lexeme) (gap : List ℕ) → AreLexemes place 1 lexemes gap → IsLastGap gap
+    → TokensFrom (spelled lexemes ++ gap) place 0 (placed_from 1 lexemes ++ (last_line (spelled lexemes ++ gap), End) ∷ [])
 
 -- each function of the module has fewer than 2 ^ 64 parameters, blocks and results
 abbrev pub HasFewThings : Module → Type 0

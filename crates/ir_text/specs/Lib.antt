@@ -1,4 +1,8 @@
-pub mod Laws
-pub mod Printing
+pub mod Forms
+pub mod Lexemes
+pub mod NameText
+pub mod NumberText
+pub mod PrintedText
 pub mod Report
-pub mod Writes
+pub mod CanonicalModule
+pub mod Laws

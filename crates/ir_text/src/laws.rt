@@ -1,5 +1,10 @@
-//! The law of printed texts, the contract of a function that does nothing.
-ghost use Rattle.ir_text.specs.Laws.{PrintedTextsSpell};
+//! The laws of texts that are written, each the contract of a function that does nothing.
+ghost use Rattle.ir_text.specs.Laws.{LexemesAreTokens, PrintedTextsSpell};
+
+/// A text that is written token by token is read as these tokens.
+pub fn lexemes_are_tokens()
+    ensures { LexemesAreTokens }
+{}
 
 /// The printed text of a module spells the module, written canonically.
 pub fn printed_texts_spell_their_module()

@@ -4,8 +4,8 @@ use Rattle.std.proofs.lemmas.Bool.{false≢true}
 use Rattle.std.proofs.lemmas.List.{length-take, length-drop, length-append}
 use Rattle.std.proofs.lemmas.List.Sums.{prefix_len-le-length}
 use Rattle.std.proofs.lemmas.List.Folds.{length-prefix_len}
-use Rattle.scan.specs.declared.ir.token.Kind.{Kind}
-use Rattle.scan.specs.declared.ir.token.Kind.TheVariants as kinds
+use Rattle.scan.specs.declared.ir.token.TokenKind.{TokenKind}
+use Rattle.scan.specs.declared.ir.token.TokenKind.TheVariants as kinds
 use Rattle.scan.specs.declared.ir.token.Token.{Token as Scanned}
 use Rattle.scan.specs.declared.span.Span.{Span}
 use Rattle.scan.specs.IrTokens.{Begins, BeginsNoToken, IsLongestToken}
@@ -22,12 +22,12 @@ use Rattle.ir_tokens.specs.Tokens.{Placed, token_of, is_last}
 
 -- ---- a token by itself
 
-begins_some : (text bytes : List ℕ) (kind : Kind) (n : ℕ) → is_last (token_of kind bytes) ≡ false → Begins text kind n → 0 < n
+begins_some : (text bytes : List ℕ) (kind : TokenKind) (n : ℕ) → is_last (token_of kind bytes) ≡ false → Begins text kind n → 0 < n
 begins_some text bytes kind n more h = ⊎_elim
     (λ (t : IsLongestToken text kind n). longest_some text kind n t)
     (λ (o : ((kind ≡ kinds.Other) × BeginsNoToken text × (n ≡ 1)) ⊎ ((kind ≡ kinds.End) × (text ≡ []) × (n ≡ 0))). ⊎_elim
     (λ (x : (kind ≡ kinds.Other) × BeginsNoToken text × (n ≡ 1)). omega (arith, x.2))
-    (λ (x : (kind ≡ kinds.End) × (text ≡ []) × (n ≡ 0)). absurd (false≢true (sym more ∙ ap (λ (k : Kind). is_last (token_of k bytes)) x.0)))
+    (λ (x : (kind ≡ kinds.End) × (text ≡ []) × (n ≡ 0)). absurd (false≢true (sym more ∙ ap (λ (k : TokenKind). is_last (token_of k bytes)) x.0)))
     o)
     (seen text kind n h)
 

@@ -4,15 +4,15 @@ use Rattle.std.specs.List.{list_any}
 use Rattle.std.proofs.lemmas.Bool.{false≢true}
 use Rattle.std.proofs.lemmas.List.{length-take, nil_from_length}
 use Rattle.scan.specs.declared.bad_byte.BadByte.{BadByte}
-use Rattle.scan.specs.declared.ir.token.Kind.{Kind}
-use Rattle.scan.specs.declared.ir.token.Kind.TheVariants as kinds
+use Rattle.scan.specs.declared.ir.token.TokenKind.{TokenKind}
+use Rattle.scan.specs.declared.ir.token.TokenKind.TheVariants as kinds
 use Rattle.scan.specs.declared.ir.token.Token.{Token}
 use Rattle.scan.specs.Bytes.{begins_with, is_bad}
 use Rattle.scan.specs.IrTokens.{Begins, BeginsBadly, HoldsZero, IsLongestFront, IsLongestToken, line_at, spells}
 use Rattle.scan.specs.Laws.{IsNextOfModule}
 use Rattle.scan.specs.Lines.{feeds}
 use Rattle.scan.specs.Quoted.{in_quotes, unquoted}
-use Rattle.scan.specs.Scanning.{behind_gap, in_gap}
+use Rattle.scan.specs.GapFronts.{behind_gap, in_gap}
 use Rattle.scan.proofs.Fronts.{which}
 use Rattle.scan.proofs.GapLemmas.{GapTo, gap_to}
 use Rattle.scan.proofs.ModulePlaces.{next_bad, next_token}
@@ -23,13 +23,13 @@ use Rattle.scan.proofs.QuotedLemmas.{zero_contained, zero_found}
 -- ---- the longest front that is a token
 
 -- bytes are a token of some kind or of none
-abbrev SomeKind : (Kind → Bool) → Type 0
-SomeKind is = ((kind : Kind) × (is kind ≡ true)) ⊎ ((kind : Kind) → is kind ≡ false)
+abbrev SomeKind : (TokenKind → Bool) → Type 0
+SomeKind is = ((kind : TokenKind) × (is kind ≡ true)) ⊎ ((kind : TokenKind) → is kind ≡ false)
 
-unless : (is : Kind → Bool) (kind : Kind) → (is kind ≡ false → SomeKind is) → SomeKind is
+unless : (is : TokenKind → Bool) (kind : TokenKind) → (is kind ≡ false → SomeKind is) → SomeKind is
 unless is kind others = ⊎_elim (λ (yes : is kind ≡ true). inl (kind, yes)) others (which (is kind))
 
-some_kind : (is : Kind → Bool) → SomeKind is
+some_kind : (is : TokenKind → Bool) → SomeKind is
 some_kind is =
     unless is kinds.End (λ end. unless is kinds.Other (λ other. unless is kinds.Label (λ label. unless is kinds.Word (λ word. unless is kinds.Number (λ number.
     unless is kinds.Register (λ register. unless is kinds.Function (λ function. unless is kinds.Group (λ group. unless is kinds.Metadata (λ metadata.
@@ -49,11 +49,11 @@ some_kind is =
 
 -- none longer than k bytes
 record LongestUpTo (text : List ℕ) (k : ℕ) : Type 0 where
-  kind : Kind
+  kind : TokenKind
   n : ℕ
   within : n ≤ k
   found : 0 < n → spells kind (take n text) (drop n text) ≡ true
-  longest : (other : Kind) (m : ℕ) → m ≤ k → spells other (take m text) (drop m text) ≡ true → m ≤ n
+  longest : (other : TokenKind) (m : ℕ) → m ≤ k → spells other (take m text) (drop m text) ≡ true → m ≤ n
 
 below_or_same : (m k : ℕ) → m ≤ suc k → (m ≤ k) ⊎ (m ≡ suc k)
 below_or_same m k le = grind arith
@@ -61,9 +61,9 @@ below_or_same m k le = grind arith
 longest_up_to : (text : List ℕ) (k : ℕ) → LongestUpTo text k
 longest_up_to text zero = record { kind = kinds.Mark; n = 0; within = omega arith; found = λ some. absurd (omega arith); longest = λ other m le is. le }
 longest_up_to text (suc k) = let shorter : LongestUpTo text k = longest_up_to text k in ⊎_elim
-    (λ (h : (kind : Kind) × (spells kind (take (suc k) text) (drop (suc k) text) ≡ true)).
+    (λ (h : (kind : TokenKind) × (spells kind (take (suc k) text) (drop (suc k) text) ≡ true)).
     record { kind = h.0; n = suc k; within = omega arith; found = λ some. h.1; longest = λ other m le is. le })
-    (λ (none : (kind : Kind) → spells kind (take (suc k) text) (drop (suc k) text) ≡ false). record {
+    (λ (none : (kind : TokenKind) → spells kind (take (suc k) text) (drop (suc k) text) ≡ false). record {
       kind = shorter.kind;
       n = shorter.n;
       within = let le = shorter.within in omega arith;
@@ -76,7 +76,7 @@ longest_up_to text (suc k) = let shorter : LongestUpTo text k = longest_up_to te
     (some_kind (λ kind. spells kind (take (suc k) text) (drop (suc k) text)))
 
 abbrev Longest : List ℕ → Type 0
-Longest text = (kind : Kind) × (n : ℕ) × IsLongestFront text kind n
+Longest text = (kind : TokenKind) × (n : ℕ) × IsLongestFront text kind n
 
 longest : (text : List ℕ) → Longest text
 longest text = let l : LongestUpTo text (length text) = longest_up_to text (length text) in (l.kind, l.n, record { within = l.within; found = l.found; longest = l.longest })
@@ -91,13 +91,13 @@ holds_or_not bytes = ⊎_elim
 
 -- badly, or with a token, a byte that begins none, or the end
 abbrev Begun : List ℕ → Type 0
-Begun text = BeginsBadly text ⊎ ((kind : Kind) × (n : ℕ) × Begins text kind n × ¬ HoldsZero (take n text))
+Begun text = BeginsBadly text ⊎ ((kind : TokenKind) × (n : ℕ) × Begins text kind n × ¬ HoldsZero (take n text))
 
 zero_or_more : (n : ℕ) → (n ≡ 0) ⊎ (n ≢ 0)
 zero_or_more zero = inl refl
 zero_or_more (suc n) = inr (omega arith)
 
-begun_with : (text : List ℕ) (kind : Kind) (n : ℕ) → IsLongestToken text kind n → Begun text
+begun_with : (text : List ℕ) (kind : TokenKind) (n : ℕ) → IsLongestToken text kind n → Begun text
 begun_with text kind n h = ⊎_elim
     (λ (zero : HoldsZero (take n text)). inl (inr (kind, n, h, zero)))
     (λ (none : ¬ HoldsZero (take n text)). inr (kind, n, begins_token text kind n h, none))
@@ -124,7 +124,7 @@ next_exists text at le =
     let behind : Behind text at start = record { order = gap.order; gap = gap.gap; last = gap.last } in
     ⊎_elim
     (λ (bad : BeginsBadly (drop start text)). (Err (record { line = feeds (take start text) + 1 }), next_bad text at start (feeds (take start text)) behind refl bad))
-    (λ (b : (kind : Kind) × (n : ℕ) × Begins (drop start text) kind n × ¬ HoldsZero (take n (drop start text))). (
+    (λ (b : (kind : TokenKind) × (n : ℕ) × Begins (drop start text) kind n × ¬ HoldsZero (take n (drop start text))). (
       Ok (record { kind = b.0; line = line_at b.0 text start; span = record { start = start; end = start + b.1 } }),
       next_token text at start b.1 (line_at b.0 text start) b.0 behind b.2 b.3 refl,
     ))

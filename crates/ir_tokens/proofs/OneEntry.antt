@@ -6,7 +6,7 @@ use Rattle.std.proofs.lemmas.List.Sums.{fold-append}
 use Rattle.ir_tokens.specs.declared.place.Place.{Place}
 use Rattle.ir_tokens.specs.declared.place.Place.TheVariants.{AtEntry, InHeader, InBody}
 use Rattle.ir_tokens.specs.Places.{place_behind}
-use Rattle.ir_tokens.specs.Reading.{place_behind_all, MayBegin, IsOneEntry}
+use Rattle.ir_tokens.specs.ReaderPlaces.{place_behind_all, MayBegin, IsOneEntry}
 use Rattle.ir_tokens.specs.Tokens.{Placed}
 
 -- no entry may begin behind any of these tokens, from a place on, and the reader stands behind them

@@ -4,7 +4,7 @@ use Rattle.ir_tokens.specs.declared.place.Place.{Place}
 use Rattle.ir_tokens.specs.declared.reader.TokenReader.{TokenReader}
 use Rattle.ir_tokens.specs.Order.{IsTokenAt, AreTokens, last}
 use Rattle.ir_tokens.specs.Places.{place_behind}
-use Rattle.ir_tokens.specs.Reading.{StandsIn, HasPassed}
+use Rattle.ir_tokens.specs.ReaderPlaces.{StandsIn, HasPassed}
 use Rattle.ir_tokens.specs.Tokens.{Placed, is_last}
 use Rattle.ir_tokens.proofs.Reading.{SoFar, token_read}
 

@@ -1,8 +1,11 @@
+pub use Rattle.scan.specs.Bytes
+pub use Rattle.scan.specs.IrTokens
+pub use Rattle.scan.specs.Quoted
 pub mod Identifiers
 pub mod Laws
 pub mod Numbers
 pub mod Order
 pub mod Places
-pub mod Reading
-pub mod Seen
+pub mod ReaderPlaces
+pub mod SeenTokens
 pub mod Tokens

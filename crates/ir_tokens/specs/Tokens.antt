@@ -1,7 +1,7 @@
 -- The tokens of a module's text, each with its line.
 use Rattle.std.specs.Prelude.{ℕ, ◌-◌, List, [], ◌∷◌, length, take, drop, Bool, true, false}
-use Rattle.scan.specs.declared.ir.token.Kind.{Kind}
-use Rattle.scan.specs.declared.ir.token.Kind.TheVariants as kinds
+use Rattle.scan.specs.declared.ir.token.TokenKind.{TokenKind}
+use Rattle.scan.specs.declared.ir.token.TokenKind.TheVariants as kinds
 
 -- a token, with its bytes
 pub data Token : Type 0 where
@@ -42,7 +42,7 @@ mark_of [] = Other
 mark_of (b ∷ bytes) = Mark b
 
 -- the token of a kind and its bytes, where it goes no further
-abbrev pub token_of : Kind → List ℕ → Token
+abbrev pub token_of : TokenKind → List ℕ → Token
 token_of kinds.End bytes = End
 token_of kinds.Other bytes = Other
 token_of kinds.Label bytes = Label (take (length bytes - 1) bytes)

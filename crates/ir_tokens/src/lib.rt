@@ -7,6 +7,7 @@ mod laws;
 mod naming;
 mod number;
 mod place;
+mod raw;
 mod reader;
 mod token;
 mod tokens;
@@ -17,9 +18,10 @@ pub use laws::every_text_has_one_list_of_tokens;
 pub use naming::identifier;
 pub use number::constant;
 pub use place::{Extent, Place};
+pub use raw::{
+    RawBlock, RawCase, RawEntry, RawFunction, RawIdentifier, RawIncoming, RawInst, RawModule,
+    RawOp, RawOperand, RawParameter, RawTerminator, RawValue, TypedOperand,
+};
 pub use reader::TokenReader;
 pub use token::{Placed, Token};
 pub use tokens::tokens_of;
-
-#[cfg(test)]
-mod tests;

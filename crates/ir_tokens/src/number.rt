@@ -1,10 +1,9 @@
 //! Numbers as written.
 
-ghost use Rattle.std.specs.Prelude.{◌≡◌, ◌<◌, ◌≤◌, ◌^◌, ◌-◌, pos, unsigned_abs, SomeIff, IfSome, IfNone};
-ghost use Rattle.ops.specs.Integer.{residue};
+ghost use Rattle.std.specs.Prelude.{◌≡◌, ◌<◌, ◌≤◌, ◌^◌, unsigned_abs, SomeIff, IfSome, IfNone};
 ghost use Rattle.ir_tokens.specs.Numbers as numbers;
 
-use ops::{Width, Word};
+use ops::{Width, Word, residue};
 
 /// The number that decimal digits spell, where it is below 2^64.
 pub(crate) fn decimal_number(digits: &[u8]) -> Option<u64>
@@ -16,30 +15,6 @@ pub(crate) fn decimal_number(digits: &[u8]) -> Option<u64>
         number = number.checked_mul(10)?.checked_add(value)?;
     }
     Some(number)
-}
-
-/// How many numbers there are of `width` bits.
-fn modulus(width: Width) -> i128
-    ensures number { result ≡ pos (2 ^ width) }
-    ensures width { width ≤ 64 }
-{
-    (1u128 << width.bits()) as i128
-}
-
-/// How many of them are negative in two's complement.
-fn half_modulus(width: Width) -> i128
-    ensures { result ≡ pos (2 ^ (width - 1)) }
-{
-    (1u128 << (width.bits() - 1)) as i128
-}
-
-/// The number modulo 2^N.
-#[tactic(auto, unfolding(ops::specs::Integer::residue))]
-fn residue(width: Width, number: i128) -> u64
-    ensures residue { result ≡ residue width number }
-    ensures fits { result < 2 ^ width }
-{
-    number.rem_euclid(modulus(width)) as u64
 }
 
 /// The number that digits spell, maybe behind a `-`, where it has at most 64 bits besides the sign.
@@ -60,8 +35,8 @@ fn number(digits: &[u8]) -> Option<i128>
 pub fn constant(digits: &[u8], width: Width) -> Option<Word>
     ensures { result ≡ numbers.constant_of digits.now width }
 {
-    let least = -half_modulus(width);
-    let past = modulus(width);
+    let least = -width.half_modulus();
+    let past = width.modulus();
     let number = number(digits)?;
     if least <= number && number < past {
         Word::new(width, residue(width, number))

@@ -2,7 +2,7 @@
 
 ghost use Rattle.std.specs.Prelude.{◌≡◌};
 ghost use Rattle.ir_tokens.specs.Places as places;
-ghost use Rattle.ir_tokens.specs.Seen.{seen_placed};
+ghost use Rattle.ir_tokens.specs.SeenTokens.{seen_placed};
 
 use crate::bytes::{is, is_among};
 use crate::token::{Placed, Token};

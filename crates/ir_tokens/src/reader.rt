@@ -1,8 +1,8 @@
 //! The tokens of a text, entry by entry.
 
 ghost use Rattle.std.specs.Prelude.{◌≡◌, ◌<◌, ℕ, List as Seq, [], ◌++◌, OnOk, IfOk, false};
-ghost use Rattle.ir_tokens.specs.Reading.{StandsIn, HasPassed, HasCome, IsOneEntry};
-ghost use Rattle.ir_tokens.specs.Seen.{seen};
+ghost use Rattle.ir_tokens.specs.ReaderPlaces.{StandsIn, HasPassed, HasCome, IsOneEntry};
+ghost use Rattle.ir_tokens.specs.SeenTokens.{seen};
 ghost use Rattle.ir_tokens.specs.Tokens.{Placed as PlacedToken};
 
 use crate::place::{Place, place_behind};

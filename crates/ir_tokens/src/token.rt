@@ -1,11 +1,11 @@
 //! Tokens.
 
 ghost use Rattle.std.specs.Prelude.{◌≡◌};
-ghost use Rattle.ir_tokens.specs.Seen.{seen_token};
+ghost use Rattle.ir_tokens.specs.SeenTokens.{seen_token};
 ghost use Rattle.ir_tokens.specs.Tokens as relation;
 
 use crate::bytes::{without_first, without_last};
-use scan::Kind;
+use scan::TokenKind;
 
 /// A token of a module, with its line.
 #[derive(Clone, Copy, Debug, PartialEq, Eq)]
@@ -49,21 +49,21 @@ pub enum Token<'a> {
 }
 
 /// The token of a kind and its bytes, where it goes no further.
-pub(crate) fn token_of(kind: Kind, bytes: &[u8]) -> Token<'_>
+pub(crate) fn token_of(kind: TokenKind, bytes: &[u8]) -> Token<'_>
     ensures { seen_token result ≡ relation.token_of kind bytes.now }
 {
     match kind {
-        Kind::End => Token::End,
-        Kind::Other => Token::Other,
-        Kind::Label => Token::Label(without_last(bytes)),
-        Kind::Word => Token::Word(bytes),
-        Kind::Number => Token::Number(bytes),
-        Kind::Register => Token::Register(without_first(bytes)),
-        Kind::Function => Token::Function(without_first(bytes)),
-        Kind::Group => Token::Group(bytes),
-        Kind::Metadata => Token::Metadata(without_first(bytes)),
-        Kind::Quoted => Token::Quoted(bytes),
-        Kind::Mark => mark(bytes),
+        TokenKind::End => Token::End,
+        TokenKind::Other => Token::Other,
+        TokenKind::Label => Token::Label(without_last(bytes)),
+        TokenKind::Word => Token::Word(bytes),
+        TokenKind::Number => Token::Number(bytes),
+        TokenKind::Register => Token::Register(without_first(bytes)),
+        TokenKind::Function => Token::Function(without_first(bytes)),
+        TokenKind::Group => Token::Group(bytes),
+        TokenKind::Metadata => Token::Metadata(without_first(bytes)),
+        TokenKind::Quoted => Token::Quoted(bytes),
+        TokenKind::Mark => mark(bytes),
     }
 }
 

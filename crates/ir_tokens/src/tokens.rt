@@ -2,7 +2,7 @@
 
 ghost use Rattle.std.specs.Prelude.{◌≡◌, ◌≤◌, length, IfOk};
 ghost use Rattle.ir_tokens.specs.Order.{IsTokenAt, AreTokens};
-ghost use Rattle.ir_tokens.specs.Seen.{seen, seen_placed};
+ghost use Rattle.ir_tokens.specs.SeenTokens.{seen, seen_placed};
 
 use crate::place::{Extent, Place, extent_of, place_behind};
 use crate::token::{Placed, Token, is_last, token_of};

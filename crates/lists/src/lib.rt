@@ -6,6 +6,3 @@ mod short_list;
 
 pub use list::{List, Text};
 pub use short_list::ShortList;
-
-#[cfg(test)]
-mod tests;

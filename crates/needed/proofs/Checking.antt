@@ -17,11 +17,12 @@ use Rattle.ir_core.specs.declared.terminator.Terminator.{Terminator}
 use Rattle.ir_core.specs.declared.terminator.Terminator.TheVariants as terminators
 use Rattle.ir_core.specs.Assigned.{IsAssigned}
 use Rattle.ir_core.specs.Blocks.{targets_of, IsBlock, Names, HasInst}
-use Rattle.ir_core.specs.Checks.{IsInst, NamesDiffer, IsKnown, HasWidth, IsTyped, CasesFit, IsPhi, EntriesFit, IsFormed, MeetsChecks}
+use Rattle.ir_core.specs.Checks.{IsInst, NamesDiffer, IsKnown, OperandHasWidth, IsTyped, CasesFit, IsPhi, EntriesFit, IsFormed, MeetsChecks}
 use Rattle.ir_core.specs.Names.{block_names, names_of, width_of}
 use Rattle.ir_core.specs.Reads.{Read, read, IsRead, end_of, reads_of, reads_at_end, reads_by, reads_in, reads_at}
 use Rattle.ir_core.specs.Walks.{IsWalk}
-use Rattle.needed.specs.Cleaning.{Marks, KeepsNeeded, kept_before, moved_register, moved_operand, moved_op, moved_inst, moved_end, kept_first, kept_insts, kept_block, kept_blocks, kept_function, IsCleaned}
+use Rattle.needed.specs.KeptFunction.{KeptMarks, kept_before, moved_register, moved_operand, moved_op, moved_inst, moved_end, kept_first, kept_insts, kept_block, kept_blocks, kept_function}
+use Rattle.needed.specs.Cleaned.{KeepsNeeded, IsCleaned}
 use Rattle.needed.proofs.Counting.{count-monotone, count-below, below_or, mapped, contained_at, contains_at, length-kept, kept_at, IsKept, kept_back, get-block, block_at, block_back}
 use Rattle.needed.proofs.Reading.{reads_at-inst, reads_at-end, Stays, OperandStays, ReadsStay, inst_reads_stay, end_reads_stay}
 
@@ -72,7 +73,7 @@ differ_part none d = d
 differ_part (with {xs = xs} {ys = ys} x p) d = differ_with x xs ys (part_member p) (differ_part p (differ_tail x ys d)) d
 differ_part (without {ys = ys} y p) d = differ_part p (differ_tail y ys d)
 
-insts_part : (kept : Marks) (b k : ℕ) (insts : List Inst) → Part (map (λ (i : Inst). i.name) (kept_insts kept b k insts)) (map (λ (i : Inst). i.name) insts)
+insts_part : (kept : KeptMarks) (b k : ℕ) (insts : List Inst) → Part (map (λ (i : Inst). i.name) (kept_insts kept b k insts)) (map (λ (i : Inst). i.name) insts)
 insts_part kept b k [] = none
 insts_part kept b k (i ∷ insts) = by (kept b k) (insts_part kept b (suc k) insts)
   where
@@ -80,11 +81,11 @@ insts_part kept b k (i ∷ insts) = by (kept b k) (insts_part kept b (suc k) ins
     by true p = with i.name p
     by false p = without i.name p
 
-blocks_part : (kept : Marks) (b : ℕ) (blocks : List Block) → Part (flat_map block_names (kept_blocks kept b blocks)) (flat_map block_names blocks)
+blocks_part : (kept : KeptMarks) (b : ℕ) (blocks : List Block) → Part (flat_map block_names (kept_blocks kept b blocks)) (flat_map block_names blocks)
 blocks_part kept b [] = none
 blocks_part kept b (block ∷ blocks) = part_append (with block.name (insts_part kept b 0 block.insts)) (blocks_part kept (suc b) blocks)
 
-names_part : (kept : Marks) (f : Function) → Part (names_of (kept_function kept f)) (names_of f)
+names_part : (kept : KeptMarks) (f : Function) → Part (names_of (kept_function kept f)) (names_of f)
 names_part kept f = part_append (part_same (map (λ p. p.name) f.parameters)) (blocks_part kept 0 f.blocks)
 
 -- ---- options
@@ -100,23 +101,23 @@ chained : {A B : Type 0} (f : A → Option B) (o : Option A) (y : B) → option_
 chained f None y h = absurd cc
 chained f (Some x) y h = (x, refl, h)
 
-length-kept_blocks : (kept : Marks) (b : ℕ) (blocks : List Block) → length (kept_blocks kept b blocks) ≡ length blocks
+length-kept_blocks : (kept : KeptMarks) (b : ℕ) (blocks : List Block) → length (kept_blocks kept b blocks) ≡ length blocks
 length-kept_blocks kept b [] = refl
 length-kept_blocks kept b (x ∷ blocks) = ap suc (length-kept_blocks kept (suc b) blocks)
 
 -- ---- what the cleaned function reads
 
-abbrev moved_read : Marks → Read → Read
+abbrev moved_read : KeptMarks → Read → Read
 moved_read kept r = record { operand = moved_operand kept r.operand; width = r.width; block = r.block; place = kept_before kept r.block r.place }
 
-targets-moved : (kept : Marks) (t : Terminator) → targets_of (moved_end kept t) ≡ targets_of t
+targets-moved : (kept : KeptMarks) (t : Terminator) → targets_of (moved_end kept t) ≡ targets_of t
 targets-moved kept (terminators.Return a) = refl
 targets-moved kept (terminators.Jump to) = refl
 targets-moved kept (terminators.Branch c to other) = refl
 targets-moved kept (terminators.Switch a width other cases) = refl
 targets-moved kept terminators.Unreachable = refl
 
-typed-moved : (kept : Marks) (w : ℕ) (op : Op) → IsTyped w op → IsTyped w (moved_op kept op)
+typed-moved : (kept : KeptMarks) (w : ℕ) (op : Op) → IsTyped w op → IsTyped w (moved_op kept op)
 typed-moved kept w (Binary op flags x y) h = h
 typed-moved kept w (Compare pred compared x y) h = h
 typed-moved kept w (Select c x y) h = h
@@ -124,7 +125,7 @@ typed-moved kept w (Convert cast from x) h = h
 typed-moved kept w (Freeze x) h = h
 typed-moved kept w (Phi entries) h = h
 
-phi-moved : (kept : Marks) (op : Op) → IsPhi op → IsPhi (moved_op kept op)
+phi-moved : (kept : KeptMarks) (op : Op) → IsPhi op → IsPhi (moved_op kept op)
 phi-moved kept (Binary op flags x y) h = h
 phi-moved kept (Compare pred compared x y) h = h
 phi-moved kept (Select c x y) h = h
@@ -132,7 +133,7 @@ phi-moved kept (Convert cast from x) h = h
 phi-moved kept (Freeze x) h = h
 phi-moved kept (Phi entries) h = h
 
-phi-back : (kept : Marks) (op : Op) → IsPhi (moved_op kept op) → IsPhi op
+phi-back : (kept : KeptMarks) (op : Op) → IsPhi (moved_op kept op) → IsPhi op
 phi-back kept (Binary op flags x y) h = h
 phi-back kept (Compare pred compared x y) h = h
 phi-back kept (Select c x y) h = h
@@ -140,17 +141,17 @@ phi-back kept (Convert cast from x) h = h
 phi-back kept (Freeze x) h = h
 phi-back kept (Phi entries) h = h
 
-cases-moved : (kept : Marks) (t : Terminator) → CasesFit t → CasesFit (moved_end kept t)
+cases-moved : (kept : KeptMarks) (t : Terminator) → CasesFit t → CasesFit (moved_end kept t)
 cases-moved kept (terminators.Return a) h = h
 cases-moved kept (terminators.Jump to) h = h
 cases-moved kept (terminators.Branch c to other) h = h
 cases-moved kept (terminators.Switch a width other cases) h = h
 cases-moved kept terminators.Unreachable h = h
 
-abbrev moved_entries : Marks → List (Operand × ℕ) → List (Operand × ℕ)
+abbrev moved_entries : KeptMarks → List (Operand × ℕ) → List (Operand × ℕ)
 moved_entries kept entries = map (λ (e : Operand × ℕ). (moved_operand kept e.0, e.1)) entries
 
-entries_back : (kept : Marks) (op : Op) (new : List (Operand × ℕ)) → moved_op kept op ≡ Phi new → (entries : List (Operand × ℕ)) × (op ≡ Phi entries) × (moved_entries kept entries ≡ new)
+entries_back : (kept : KeptMarks) (op : Op) (new : List (Operand × ℕ)) → moved_op kept op ≡ Phi new → (entries : List (Operand × ℕ)) × (op ≡ Phi entries) × (moved_entries kept entries ≡ new)
 entries_back kept (Binary op flags x y) new e = absurd cc
 entries_back kept (Compare pred compared x y) new e = absurd cc
 entries_back kept (Select c x y) new e = absurd cc
@@ -159,13 +160,13 @@ entries_back kept (Freeze x) new e = absurd cc
 entries_back kept (Phi entries) new e = (entries, refl, cc)
 
 -- an operand that is a register was one
-register_back : (kept : Marks) (a : Operand) (new : Register) → moved_operand kept a ≡ operands.Register new → (r : Register) × (a ≡ operands.Register r) × (moved_register kept r ≡ new)
+register_back : (kept : KeptMarks) (a : Operand) (new : Register) → moved_operand kept a ≡ operands.Register new → (r : Register) × (a ≡ operands.Register r) × (moved_register kept r ≡ new)
 register_back kept (operands.Register r) new e = (r, refl, cc)
 register_back kept (operands.Number n) new e = absurd cc
 register_back kept operands.Undef new e = absurd cc
 register_back kept operands.Poison new e = absurd cc
 
-module _ (f : Function) (m : MeetsChecks f) (kept : Marks) (needed : KeepsNeeded f kept) where
+module _ (f : Function) (m : MeetsChecks f) (kept : KeptMarks) (needed : KeepsNeeded f kept) where
   abbrev cleaned : Function
   cleaned = kept_function kept f
 
@@ -248,7 +249,7 @@ module _ (f : Function) (m : MeetsChecks f) (kept : Marks) (needed : KeepsNeeded
   known_on operands.Undef s h = h
   known_on operands.Poison s h = h
 
-  has_width_on : (w : ℕ) (a : Operand) → OperandStays kept a → HasWidth f w a → HasWidth cleaned w (moved_operand kept a)
+  has_width_on : (w : ℕ) (a : Operand) → OperandStays kept a → OperandHasWidth f w a → OperandHasWidth cleaned w (moved_operand kept a)
   has_width_on w (operands.Register r) s h = width_on r w s h
   has_width_on w (operands.Number n) s h = h
   has_width_on w operands.Undef s h = h
@@ -394,7 +395,7 @@ module _ (f : Function) (m : MeetsChecks f) (kept : Marks) (needed : KeepsNeeded
     names = differ_part (names_part kept f) m.formed.names;
     registers = λ b k i r h. let back : ReadBack b i r = read_back b k i r h in subst (λ (x : Read). IsKnown cleaned x.operand) back.moved (known_on back.old.operand back.stays (m.formed.registers b back.place i back.old back.is_read));
     blocks = λ b c h. let lt : c < length f.blocks = m.formed.blocks b c (names_back b c h) in omega (arith, lt, length-kept_blocks kept 0 f.blocks);
-    operands = λ b k i r h. let back : ReadBack b i r = read_back b k i r h in subst (λ (x : Read). HasWidth cleaned x.width x.operand) back.moved (has_width_on back.old.width back.old.operand back.stays (m.formed.operands b back.place i back.old back.is_read));
+    operands = λ b k i r h. let back : ReadBack b i r = read_back b k i r h in subst (λ (x : Read). OperandHasWidth cleaned x.width x.operand) back.moved (has_width_on back.old.width back.old.operand back.stays (m.formed.operands b back.place i back.old back.is_read));
     insts = λ b k new h. let back : InstBack b k new = inst_back b k new h in subst (λ (x : Inst). IsTyped x.width x.op) back.moved (typed-moved kept back.inst.width back.inst.op (m.formed.insts b back.place back.inst back.is_inst));
     cases = λ b new h. let was : (block : Block) × IsBlock f b block × (kept_block kept b block ≡ new) = block_back kept f b new h in subst (λ (x : Block). CasesFit x.end) was.2 (cases-moved kept was.0.end (m.formed.cases b was.0 was.1));
     phis_first = phis_first_on;

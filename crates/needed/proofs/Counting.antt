@@ -7,17 +7,17 @@ use Rattle.ir_core.specs.declared.function.Function.{Function}
 use Rattle.ir_core.specs.declared.function.Block.{Block}
 use Rattle.ir_core.specs.declared.instruction.Inst.{Inst}
 use Rattle.ir_core.specs.Blocks.{IsBlock}
-use Rattle.needed.specs.Cleaning.{Marks, kept_before, moved_inst, kept_first, kept_insts, kept_block, kept_blocks, kept_function}
+use Rattle.needed.specs.KeptFunction.{KeptMarks, kept_before, moved_inst, kept_first, kept_insts, kept_block, kept_blocks, kept_function}
 
 -- ---- how many are kept
 
-pub count-kept : (kept : Marks) (b k : ℕ) → kept b k ≡ true → kept_before kept b (suc k) ≡ suc (kept_before kept b k)
+pub count-kept : (kept : KeptMarks) (b k : ℕ) → kept b k ≡ true → kept_before kept b (suc k) ≡ suc (kept_before kept b k)
 count-kept kept b k e = ap (λ c. cond c 1 0 + kept_before kept b k) e ∙ omega arith
 
-pub count-dropped : (kept : Marks) (b k : ℕ) → kept b k ≡ false → kept_before kept b (suc k) ≡ kept_before kept b k
+pub count-dropped : (kept : KeptMarks) (b k : ℕ) → kept b k ≡ false → kept_before kept b (suc k) ≡ kept_before kept b k
 count-dropped kept b k e = ap (λ c. cond c 1 0 + kept_before kept b k) e ∙ omega arith
 
-pub count-monotone : (kept : Marks) (b j k : ℕ) → j ≤ k → kept_before kept b j ≤ kept_before kept b k
+pub count-monotone : (kept : KeptMarks) (b j k : ℕ) → j ≤ k → kept_before kept b j ≤ kept_before kept b k
 count-monotone kept b j zero le = let none : j ≡ 0 = omega arith in subst (λ i. kept_before kept b i ≤ 0) (sym none) (omega arith)
 count-monotone kept b j (suc k) le =
     let before : j ≤ k → kept_before kept b j ≤ kept_before kept b k = λ h. count-monotone kept b j k h in
@@ -27,7 +27,7 @@ count-monotone kept b j (suc k) le =
     by before (inl same) = subst (λ i. kept_before kept b j ≤ kept_before kept b i) same (omega arith)
     by before (inr ne) = let h : kept_before kept b j ≤ kept_before kept b k = before (omega arith) in omega arith
 
-pub count-below : (kept : Marks) (b j k : ℕ) → j < k → kept b j ≡ true → kept_before kept b j < kept_before kept b k
+pub count-below : (kept : KeptMarks) (b j k : ℕ) → j < k → kept b j ≡ true → kept_before kept b j < kept_before kept b k
 count-below kept b j k lt e =
     let one : kept_before kept b (suc j) ≡ suc (kept_before kept b j) = count-kept kept b j e in
     let rest : kept_before kept b (suc j) ≤ kept_before kept b k = count-monotone kept b (suc j) k (omega arith) in
@@ -40,7 +40,7 @@ below_or (suc j) zero = inr (omega arith)
 below_or (suc j) (suc k) = elim (below_or j k) [ inl less ↦ inl (omega arith) | inr more ↦ inr (omega arith) ]
 
 -- two that are kept stand at different places
-pub same_place : (kept : Marks) (b j k : ℕ) → kept b j ≡ true → kept b k ≡ true → kept_before kept b j ≡ kept_before kept b k → j ≡ k
+pub same_place : (kept : KeptMarks) (b j k : ℕ) → kept b j ≡ true → kept b k ≡ true → kept_before kept b j ≡ kept_before kept b k → j ≡ k
 same_place kept b j k at_j at_k same =
     elim (below_or j k) [
       | inl less ↦ absurd (let lt : kept_before kept b j < kept_before kept b k = count-below kept b j k less at_j in omega arith)
@@ -54,7 +54,7 @@ cond_le : (c : Bool) → cond c 1 0 ≤ 1
 cond_le true = omega arith
 cond_le false = omega arith
 
-pub kept_before_le : (kept : Marks) (b k : ℕ) → kept_before kept b k ≤ k
+pub kept_before_le : (kept : KeptMarks) (b k : ℕ) → kept_before kept b k ≤ k
 kept_before_le kept b zero = omega arith
 kept_before_le kept b (suc k) = let h : kept_before kept b k ≤ k = kept_before_le kept b k in let one : cond (kept b k) 1 0 ≤ 1 = cond_le (kept b k) in omega arith
 
@@ -87,7 +87,7 @@ rest_next all k x rest h i = ap (slice_get all) (omega arith) ∙ h (suc i)
 
 -- ---- where kept instructions stand
 
-pub length-kept : (kept : Marks) (b k : ℕ) (insts : List Inst) → length (kept_insts kept b k insts) + kept_before kept b k ≡ kept_before kept b (k + length insts)
+pub length-kept : (kept : KeptMarks) (b k : ℕ) (insts : List Inst) → length (kept_insts kept b k insts) + kept_before kept b k ≡ kept_before kept b (k + length insts)
 length-kept kept b k [] = let e : k ≡ k + 0 = omega arith in omega (arith, ap (kept_before kept b) e)
 length-kept kept b k (i ∷ insts) = by (kept b k) refl (length-kept kept b (suc k) insts)
   where
@@ -96,7 +96,7 @@ length-kept kept b k (i ∷ insts) = by (kept b k) refl (length-kept kept b (suc
     by false e h = let next : suc k + length insts ≡ k + suc (length insts) = omega arith in omega (arith, h, count-dropped kept b k e, ap (kept_before kept b) next)
 
 -- an instruction that is kept stands behind the kept ones before it
-pub kept_at : (kept : Marks) (b k : ℕ) (insts : List Inst) (j c : ℕ) (i : Inst) → slice_get insts j ≡ Some i → kept b (k + j) ≡ true → c + kept_before kept b k ≡ kept_before kept b (k + j) → slice_get (kept_insts kept b k insts) c ≡ Some (moved_inst kept i)
+pub kept_at : (kept : KeptMarks) (b k : ℕ) (insts : List Inst) (j c : ℕ) (i : Inst) → slice_get insts j ≡ Some i → kept b (k + j) ≡ true → c + kept_before kept b k ≡ kept_before kept b (k + j) → slice_get (kept_insts kept b k insts) c ≡ Some (moved_inst kept i)
 kept_at kept b k [] j c i h keep at = absurd cc
 kept_at kept b k (x ∷ insts) zero c i h keep at =
     let here : k + 0 ≡ k = omega arith in
@@ -122,7 +122,7 @@ kept_at kept b k (x ∷ insts) (suc j) c i h keep at =
         rest c (omega (arith, none, same, at))
 
 -- an instruction that is left is an old one that is kept, with its registers where they stand then
-pub record IsKept (kept : Marks) (b k : ℕ) (insts : List Inst) (c : ℕ) (new : Inst) : Type 0 where
+pub record IsKept (kept : KeptMarks) (b k : ℕ) (insts : List Inst) (c : ℕ) (new : Inst) : Type 0 where
   pub place : ℕ
   pub inst : Inst
   pub at : slice_get insts place ≡ Some inst
@@ -130,12 +130,12 @@ pub record IsKept (kept : Marks) (b k : ℕ) (insts : List Inst) (c : ℕ) (new 
   pub count : c + kept_before kept b k ≡ kept_before kept b (k + place)
   pub moved : moved_inst kept inst ≡ new
 
-kept_later : (kept : Marks) (b k : ℕ) (x : Inst) (insts : List Inst) (c d : ℕ) (new : Inst) → d + kept_before kept b k ≡ c + kept_before kept b (suc k) → IsKept kept b (suc k) insts c new → IsKept kept b k (x ∷ insts) d new
+kept_later : (kept : KeptMarks) (b k : ℕ) (x : Inst) (insts : List Inst) (c d : ℕ) (new : Inst) → d + kept_before kept b k ≡ c + kept_before kept b (suc k) → IsKept kept b (suc k) insts c new → IsKept kept b k (x ∷ insts) d new
 kept_later kept b k x insts c d new same h =
     let next : suc k + h.place ≡ k + suc h.place = omega arith in
     record { place = suc h.place; inst = h.inst; at = h.at; keep = ap (kept b) (sym next) ∙ h.keep; count = same ∙ h.count ∙ ap (kept_before kept b) next; moved = h.moved }
 
-pub kept_back : (kept : Marks) (b k : ℕ) (insts : List Inst) (c : ℕ) (new : Inst) → slice_get (kept_insts kept b k insts) c ≡ Some new → IsKept kept b k insts c new
+pub kept_back : (kept : KeptMarks) (b k : ℕ) (insts : List Inst) (c : ℕ) (new : Inst) → slice_get (kept_insts kept b k insts) c ≡ Some new → IsKept kept b k insts c new
 kept_back kept b k [] c new h = absurd cc
 kept_back kept b k (x ∷ insts) c new h = by (kept b k) refl c h (λ d. kept_back kept b (suc k) insts d new)
   where
@@ -148,16 +148,16 @@ kept_back kept b k (x ∷ insts) c new h = by (kept b k) refl c h (λ d. kept_ba
 
 -- ---- blocks
 
-get-kept_blocks : (kept : Marks) (b : ℕ) (blocks : List Block) (n : ℕ) → slice_get (kept_blocks kept b blocks) n ≡ option_map (kept_block kept (b + n)) (slice_get blocks n)
+get-kept_blocks : (kept : KeptMarks) (b : ℕ) (blocks : List Block) (n : ℕ) → slice_get (kept_blocks kept b blocks) n ≡ option_map (kept_block kept (b + n)) (slice_get blocks n)
 get-kept_blocks kept b [] n = refl
 get-kept_blocks kept b (x ∷ blocks) zero = let here : b ≡ b + 0 = omega arith in ap (λ c. Some (kept_block kept c x)) here
 get-kept_blocks kept b (x ∷ blocks) (suc n) = let next : suc b + n ≡ b + suc n = omega arith in get-kept_blocks kept (suc b) blocks n ∙ ap (λ c. option_map (kept_block kept c) (slice_get blocks n)) next
 
-pub get-block : (kept : Marks) (f : Function) (b : ℕ) → slice_get (kept_blocks kept 0 f.blocks) b ≡ option_map (kept_block kept b) (slice_get f.blocks b)
+pub get-block : (kept : KeptMarks) (f : Function) (b : ℕ) → slice_get (kept_blocks kept 0 f.blocks) b ≡ option_map (kept_block kept b) (slice_get f.blocks b)
 get-block kept f b = let same : 0 + b ≡ b = omega arith in get-kept_blocks kept 0 f.blocks b ∙ ap (λ c. option_map (kept_block kept c) (slice_get f.blocks b)) same
 
-pub block_at : (kept : Marks) (f : Function) (b : ℕ) (block : Block) → IsBlock f b block → IsBlock (kept_function kept f) b (kept_block kept b block)
+pub block_at : (kept : KeptMarks) (f : Function) (b : ℕ) (block : Block) → IsBlock f b block → IsBlock (kept_function kept f) b (kept_block kept b block)
 block_at kept f b block h = get-block kept f b ∙ ap (option_map (kept_block kept b)) h
 
-pub block_back : (kept : Marks) (f : Function) (b : ℕ) (new : Block) → IsBlock (kept_function kept f) b new → (block : Block) × IsBlock f b block × (kept_block kept b block ≡ new)
+pub block_back : (kept : KeptMarks) (f : Function) (b : ℕ) (new : Block) → IsBlock (kept_function kept f) b new → (block : Block) × IsBlock f b block × (kept_block kept b block ≡ new)
 block_back kept f b new h = mapped (kept_block kept b) (slice_get f.blocks b) new (sym (get-block kept f b) ∙ h)

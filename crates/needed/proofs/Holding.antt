@@ -27,7 +27,7 @@ use Rattle.ir_core.specs.Reads.{Read, read, end_of, reads_of}
 use Rattle.ir_core.specs.Refines.{AreArguments}
 use Rattle.ir_core.specs.Run.{Registers, arguments, holding, OperandGives, Freezes, OpGives, PhiGives, AnyNumber}
 use Rattle.ir_core.specs.Walks.{IsWalk}
-use Rattle.needed.specs.Cleaning.{Marks, kept_before, moved_register, moved_operand, moved_op}
+use Rattle.needed.specs.KeptFunction.{KeptMarks, kept_before, moved_register, moved_operand, moved_op}
 use Rattle.needed.proofs.Counting.{same_place, mapped, contained_at, contains_at}
 use Rattle.needed.proofs.Reading.{Stays, OperandStays, ReadsStay}
 
@@ -166,16 +166,16 @@ op_gives f b k w held (Phi entries) h n = absurd (n tt)
 -- ---- the same is held in the cleaned function
 
 -- registers that stay hold the same in the old function and in the cleaned one
-pub record Agree (kept : Marks) (held new : Registers) : Type 0 where
+pub record Agree (kept : KeptMarks) (held new : Registers) : Type 0 where
   pub parameters : (p : ℕ) → held (registers.Parameter p) ≡ new (registers.Parameter p)
   pub results : (b k : ℕ) → kept b k ≡ true → held (registers.Result b k) ≡ new (registers.Result b (kept_before kept b k))
 
-agree : (kept : Marks) (held new : Registers) (r : Register) → Agree kept held new → Stays kept r → held r ≡ new (moved_register kept r)
+agree : (kept : KeptMarks) (held new : Registers) (r : Register) → Agree kept held new → Stays kept r → held r ≡ new (moved_register kept r)
 agree kept held new (registers.Parameter p) h s = h.parameters p
 agree kept held new (registers.Result b k) h s = h.results b k s
 
 -- after an instruction that is kept
-pub agree_kept : (kept : Marks) (b k : ℕ) (held new : Registers) (v : Value) → kept b k ≡ true → Agree kept held new → Agree kept (holding held b k v) (holding new b (kept_before kept b k) v)
+pub agree_kept : (kept : KeptMarks) (b k : ℕ) (held new : Registers) (v : Value) → kept b k ≡ true → Agree kept held new → Agree kept (holding held b k v) (holding new b (kept_before kept b k) v)
 agree_kept kept b k held new v keep h = record { parameters = h.parameters; results = results }
   where
     place : (d j : ℕ) → kept d j ≡ true → d ≡ b → kept_before kept d j ≡ kept_before kept b k → j ≡ k
@@ -194,7 +194,7 @@ agree_kept kept b k held new v keep h = record { parameters = h.parameters; resu
         ]
 
 -- after one that is not
-pub agree_dropped : (kept : Marks) (b k : ℕ) (held new : Registers) (v : Value) → kept b k ≡ false → Agree kept held new → Agree kept (holding held b k v) new
+pub agree_dropped : (kept : KeptMarks) (b k : ℕ) (held new : Registers) (v : Value) → kept b k ≡ false → Agree kept held new → Agree kept (holding held b k v) new
 agree_dropped kept b k held new v gone h = record { parameters = h.parameters; results = results }
   where
     results : (d j : ℕ) → kept d j ≡ true → holding held b k v (registers.Result d j) ≡ new (registers.Result d (kept_before kept d j))
@@ -206,13 +206,13 @@ agree_dropped kept b k held new v gone h = record { parameters = h.parameters; r
 
 -- ---- what operands and instructions give in the cleaned function they give in the old one
 
-pub operand_back : (kept : Marks) (held new : Registers) (w : ℕ) (a : Operand) (v : Value) → Agree kept held new → OperandStays kept a → OperandGives AnyNumber new w (moved_operand kept a) v → OperandGives AnyNumber held w a v
+pub operand_back : (kept : KeptMarks) (held new : Registers) (w : ℕ) (a : Operand) (v : Value) → Agree kept held new → OperandStays kept a → OperandGives AnyNumber new w (moved_operand kept a) v → OperandGives AnyNumber held w a v
 operand_back kept held new w (operands.Register r) v h s g = agree kept held new r h s ∙ g
 operand_back kept held new w (operands.Number n) v h s g = g
 operand_back kept held new w operands.Undef v h s g = g
 operand_back kept held new w operands.Poison v h s g = g
 
-pub op_back : (f : Function) (kept : Marks) (b k w : ℕ) (held new : Registers) (op : Op) (e : Effect) → Agree kept held new → ReadsStay kept (reads_of f b k w op) → OpGives AnyNumber new w (moved_op kept op) e → OpGives AnyNumber held w op e
+pub op_back : (f : Function) (kept : KeptMarks) (b k w : ℕ) (held new : Registers) (op : Op) (e : Effect) → Agree kept held new → ReadsStay kept (reads_of f b k w op) → OpGives AnyNumber new w (moved_op kept op) e → OpGives AnyNumber held w op e
 op_back f kept b k w held new (Binary op flags x y) e h s g =
     (g.0, g.1, operand_back kept held new w x g.0 h (s 0 (read b k w x) refl) g.2, operand_back kept held new w y g.1 h (s 1 (read b k w y) refl) g.3, g.4)
 op_back f kept b k w held new (Compare pred compared x y) e h s g =
@@ -223,7 +223,7 @@ op_back f kept b k w held new (Convert cast from x) e h s g = (g.0, operand_back
 op_back f kept b k w held new (Freeze x) e h s g = (g.0, g.1, operand_back kept held new w x g.0 h (s 0 (read b k w x) refl) g.2, g.3, g.4)
 op_back f kept b k w held new (Phi entries) e h s g = g
 
-pub phi_back : (f : Function) (kept : Marks) (from : Option ℕ) (b k w : ℕ) (held new : Registers) (entries : List (Operand × ℕ)) (v : Value) → Agree kept held new → ReadsStay kept (reads_of f b k w (Phi entries))
+pub phi_back : (f : Function) (kept : KeptMarks) (from : Option ℕ) (b k w : ℕ) (held new : Registers) (entries : List (Operand × ℕ)) (v : Value) → Agree kept held new → ReadsStay kept (reads_of f b k w (Phi entries))
     → PhiGives AnyNumber new from w (map (λ e. (moved_operand kept e.0, e.1)) entries) v → PhiGives AnyNumber held from w entries v
 phi_back f kept from b k w held new entries v h s g =
     let move : Operand × ℕ → Operand × ℕ = λ e. (moved_operand kept e.0, e.1) in

@@ -10,9 +10,9 @@ use Rattle.std.proofs.lemmas.List.Sums.{count_by_more_yes, count_by_more_no}
 use Rattle.ir_core.specs.declared.operand.Operand.TheVariants as operands
 use Rattle.ir_core.specs.declared.operand.Register.{Register}
 use Rattle.ir_core.specs.declared.operand.Register.TheVariants as registers
-use Rattle.needed.specs.Cleaning.{Marks, kept_before, moved_register}
-use Rattle.needed.specs.Numbering.{number_of, marks_by, IsNumbered}
-use Rattle.needed.specs.Marking.{AreCounts}
+use Rattle.needed.specs.KeptFunction.{KeptMarks, kept_before, moved_register}
+use Rattle.needed.specs.InstNumbers.{number_of, marks_by, IsNumbered}
+use Rattle.needed.specs.NeededMarks.{AreCounts}
 use Rattle.needed.proofs.Counting.{count-kept, count-dropped}
 use Rattle.needed.proofs.MarkLemmas.{get_or-read}
 
@@ -95,7 +95,7 @@ place_read firsts counts marks register b k first all before c is numbered here 
     let number : number_of firsts b k ≡ first + k = ap (λ x. x + k) same in
     omega (arith, at_all, at_first, count-place firsts marks b k (omega arith), ap (marked_before marks) number, ap (marked_before marks) same)
 
-pub place_is : (kept : Marks) (register : Register) (b k place : ℕ) → register ≡ registers.Result b k → place ≡ kept_before kept b k → registers.Result b place ≡ moved_register kept register
+pub place_is : (kept : KeptMarks) (register : Register) (b k place : ℕ) → register ≡ registers.Result b k → place ≡ kept_before kept b k → registers.Result b place ≡ moved_register kept register
 place_is kept register b k place is e = ap (λ x. registers.Result b x) e ∙ sym (ap (moved_register kept) is)
 
 -- ---- a list that is changed item by item

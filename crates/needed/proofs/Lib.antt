@@ -9,8 +9,3 @@ pub mod MarkLemmas
 pub mod SearchLemmas
 pub mod KeptLemmas
 pub mod Settling
-pub mod Instructions
-pub mod KeptNames
-pub mod KeptReads
-pub mod FormedFunctions
-pub mod FormedModules

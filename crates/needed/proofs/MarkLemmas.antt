@@ -11,8 +11,8 @@ use Rattle.ir_core.specs.declared.operand.Operand.{Operand}
 use Rattle.ir_core.specs.declared.operand.Operand.TheVariants as operands
 use Rattle.ir_core.specs.declared.operand.Register.TheVariants as registers
 use Rattle.needed.specs.declared.search.Search.{Search}
-use Rattle.needed.specs.Numbering.{number_of, IsNumbered}
-use Rattle.needed.specs.Marking.{IsMarked, unmarked, Marked}
+use Rattle.needed.specs.InstNumbers.{number_of, IsNumbered}
+use Rattle.needed.specs.NeededMarks.{IsMarked, unmarked, Marked}
 use Rattle.needed.proofs.Counting.{contained_at, contains_first}
 
 abbrev pub result_of : ℕ → ℕ → Operand

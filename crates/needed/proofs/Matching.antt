@@ -28,7 +28,8 @@ use Rattle.ir_core.specs.Reads.{read, end_of, reads_of, reads_at_end}
 use Rattle.ir_core.specs.Refines.{AreArguments, AllowsOutcome, Refines}
 use Rattle.ir_core.specs.Run.{Registers, arguments, has_noundef, breaks_noundef, Ending, Undefines, Returns, Goes, returning, going_by, branch_target, switch_target, GoesOn, Leads, IfPhi, OpGives, PhiGives, EndGives, Follows, Enters, Passes, RunsFrom, Starts, holding, AnyNumber, OperandGives}
 use Rattle.ir_core.specs.Walks.{IsWalk}
-use Rattle.needed.specs.Cleaning.{Marks, KeepsNeeded, kept_before, moved_operand, moved_op, moved_inst, moved_end, kept_first, kept_insts, kept_block, kept_blocks, kept_function, IsCleaned}
+use Rattle.needed.specs.KeptFunction.{KeptMarks, kept_before, moved_operand, moved_op, moved_inst, moved_end, kept_first, kept_insts, kept_block, kept_blocks, kept_function}
+use Rattle.needed.specs.Cleaned.{KeepsNeeded, IsCleaned}
 use Rattle.needed.proofs.Counting.{count-kept, count-dropped, contained_at, contains_at, contains_first, contains_later, rest_here, rest_next, block_back}
 use Rattle.needed.proofs.Reading.{IsThere, own_place, ReadsStay, inst_reads_stay, end_reads_stay, inst_reads_assigned}
 use Rattle.needed.proofs.Holding.{IsHeld, Held, assigned_held, held_next, held_on, held_first, OperandHeld, operand_held, ReadsHeld, operand_gives, op_gives, Agree, agree_kept, agree_dropped, operand_back, op_back, phi_back}
@@ -51,7 +52,7 @@ no_phi_to P Q (Convert cast from x) n q = q
 no_phi_to P Q (Freeze x) n q = q
 no_phi_to P Q (Phi entries) n q = absurd (n tt)
 
-no_phi_from : (kept : Marks) (P : List (Operand × ℕ) → Type 0) (Q : Type 0) (op : Op) → ¬ IsPhi op → IfPhi P Q (moved_op kept op) → Q
+no_phi_from : (kept : KeptMarks) (P : List (Operand × ℕ) → Type 0) (Q : Type 0) (op : Op) → ¬ IsPhi op → IfPhi P Q (moved_op kept op) → Q
 no_phi_from kept P Q (Binary op flags x y) n q = q
 no_phi_from kept P Q (Compare pred compared x y) n q = q
 no_phi_from kept P Q (Select c x y) n q = q
@@ -91,7 +92,7 @@ branch_targets : (to other : ℕ) (is : Bool) → Contains (to ∷ other ∷ [])
 branch_targets to other true = contains_first to (other ∷ [])
 branch_targets to other false = contains_later to (other ∷ []) other (contains_first other [])
 
-returning-moved : (kept : Marks) (nd : Bool) (a : Operand) (v : Value) → returning nd (moved_operand kept a) v ≡ returning nd a v
+returning-moved : (kept : KeptMarks) (nd : Bool) (a : Operand) (v : Value) → returning nd (moved_operand kept a) v ≡ returning nd a v
 returning-moved kept nd (operands.Register r) v = refl
 returning-moved kept nd (operands.Number n) v = refl
 returning-moved kept nd operands.Undef v = refl
@@ -101,13 +102,13 @@ first_of_some : {A : Type 0} (xs : List A) → 0 < length xs → (x : A) × (sli
 first_of_some [] lt = absurd (omega arith)
 first_of_some (x ∷ xs) lt = (x, refl)
 
-block_names-kept : (kept : Marks) (b : ℕ) (blocks : List Block) → map (λ (x : Block). x.name) (kept_blocks kept b blocks) ≡ map (λ (x : Block). x.name) blocks
+block_names-kept : (kept : KeptMarks) (b : ℕ) (blocks : List Block) → map (λ (x : Block). x.name) (kept_blocks kept b blocks) ≡ map (λ (x : Block). x.name) blocks
 block_names-kept kept b [] = refl
 block_names-kept kept b (x ∷ blocks) = ap (λ names. x.name ∷ names) (block_names-kept kept (suc b) blocks)
 
 -- ---- the cleaned function
 
-module _ (f : Function) (m : MeetsChecks f) (kept : Marks) (needed : KeepsNeeded f kept) where
+module _ (f : Function) (m : MeetsChecks f) (kept : KeptMarks) (needed : KeepsNeeded f kept) where
   abbrev cleaned : Function
   cleaned = kept_function kept f
 

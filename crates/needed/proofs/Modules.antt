@@ -7,7 +7,7 @@ use Rattle.ir_core.specs.declared.module.Entry.TheVariants as entries
 use Rattle.ir_core.specs.declared.function.Function.{Function}
 use Rattle.ir_core.specs.Checks.{MeetsChecks}
 use Rattle.ir_core.specs.Refines.{EntryRefines, EntriesRefine}
-use Rattle.needed.specs.Cleaning.{IsCleaned, EntryCleaned, EntriesCleaned}
+use Rattle.needed.specs.Cleaned.{IsCleaned, EntryCleaned, EntriesCleaned}
 use Rattle.needed.specs.Laws.{CleanedModulesRefine, CleanedModulesMeetChecks}
 use Rattle.needed.proofs.Matching.{cleaned_refines}
 use Rattle.needed.proofs.Checking.{cleaned_meets}

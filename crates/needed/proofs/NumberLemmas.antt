@@ -8,7 +8,7 @@ use Rattle.std.proofs.lemmas.Option.{slice_get_within, slice_get_read, get_or_fr
 use Rattle.ir_core.specs.declared.function.Function.{Function}
 use Rattle.ir_core.specs.declared.function.Block.{Block}
 use Rattle.ir_core.specs.Blocks.{HasInst}
-use Rattle.needed.specs.Numbering.{insts_before, AreNumbers, number_of}
+use Rattle.needed.specs.InstNumbers.{insts_before, AreNumbers, number_of}
 use Rattle.needed.proofs.Counting.{below_or}
 
 pub get_or-pushed : {A : Type 0} (xs : List A) (x d : A) → get_or (xs ++ x ∷ []) (length xs) d ≡ x

@@ -16,7 +16,9 @@ use Rattle.ir_core.specs.Assigned.{IsAssigned, ReadIsAssigned}
 use Rattle.ir_core.specs.Blocks.{IsBlock, HasInst}
 use Rattle.ir_core.specs.Checks.{IsPhi, MeetsChecks}
 use Rattle.ir_core.specs.Reads.{Read, read, IsRead, end_of, reads_of, reads_at_end, reads_by, reads_in, reads_at}
-use Rattle.needed.specs.Cleaning.{IsNeeded, Marks, KeepsNeeded}
+use Rattle.needed.specs.Needed.{IsNeeded}
+use Rattle.needed.specs.KeptFunction.{KeptMarks}
+use Rattle.needed.specs.Cleaned.{KeepsNeeded}
 
 pub reads_at-inst : (f : Function) (b k : ℕ) (block : Block) (inst : Inst) → IsBlock f b block → slice_get block.insts k ≡ Some inst → reads_at f b k ≡ reads_of f b k inst.width inst.op
 reads_at-inst f b k block inst at here = ap (reads_in f b k) at ∙ ap (reads_by f b k block) here
@@ -62,21 +64,21 @@ own_place f b k w (Phi entries) other = absurd (other tt)
 -- ---- what is kept
 
 -- the register stays: a parameter, or the result of an instruction that is kept
-abbrev pub Stays : Marks → Register → Type 0
+abbrev pub Stays : KeptMarks → Register → Type 0
 Stays kept (registers.Parameter p) = Unit {0}
 Stays kept (registers.Result b k) = kept b k ≡ true
 
-abbrev pub OperandStays : Marks → Operand → Type 0
+abbrev pub OperandStays : KeptMarks → Operand → Type 0
 OperandStays kept (operands.Register r) = Stays kept r
 OperandStays kept (operands.Number n) = Unit {0}
 OperandStays kept operands.Undef = Unit {0}
 OperandStays kept operands.Poison = Unit {0}
 
 -- what is read stays
-abbrev pub ReadsStay : Marks → List Read → Type 0
+abbrev pub ReadsStay : KeptMarks → List Read → Type 0
 ReadsStay kept reads = (i : ℕ) (r : Read) → slice_get reads i ≡ Some r → OperandStays kept r.operand
 
-module _ (f : Function) (m : MeetsChecks f) (kept : Marks) (needed : KeepsNeeded f kept) where
+module _ (f : Function) (m : MeetsChecks f) (kept : KeptMarks) (needed : KeepsNeeded f kept) where
   register_stays : (r : Register) (b k : ℕ) → IsNeeded f r → IsAssigned f r b k → Stays kept r
   register_stays (registers.Parameter p) b k n a = tt
   register_stays (registers.Result d j) b k n a = (needed d j a.0).1 n

@@ -1,9 +1,9 @@
 -- The walk to what is needed.
-use Rattle.std.proofs.Common.{◌≡◌, ℕ, zero, suc, ◌+◌, ◌<◌, ◌==◌, Bool, true, false, cond, ◌⊎◌, inl, inr, List, [], ◌∷◌, ◌++◌, length, get_or, Option, None, Some, refl, sym, ap, subst, ◌∙◌, arith, All, Contains, map, replicate}
+use Rattle.std.proofs.Common.{◌≡◌, ℕ, zero, suc, ◌+◌, ◌<◌, true, false, ◌⊎◌, inl, inr, List, [], ◌∷◌, ◌++◌, length, get_or, Option, None, Some, refl, sym, ap, subst, ◌∙◌, arith, All, Contains, map, replicate}
 use Rattle.std.specs.Prelude.{slice_get, option_map, option_and_then, IsSome}
-use Rattle.std.proofs.lemmas.Bool.{cases_eq, eqb-true}
-use Rattle.std.proofs.lemmas.List.Elements.{All-get_or, Contains-append_left, Contains-append_right, Contains-append_cases}
-use Rattle.std.proofs.lemmas.Option.{slice_get-map, slice_get_within, slice_get-get_or, get_or_from_slice_get}
+use Rattle.std.proofs.lemmas.Bool.{cases_eq}
+use Rattle.std.proofs.lemmas.List.Elements.{Contains-append_left, Contains-append_right, Contains-append_cases}
+use Rattle.std.proofs.lemmas.Option.{slice_get-map, slice_get_within, slice_get-get_or}
 use Rattle.ir_core.specs.declared.function.Function.{Function}
 use Rattle.ir_core.specs.declared.function.Block.{Block}
 use Rattle.ir_core.specs.declared.instruction.Inst.{Inst}
@@ -17,11 +17,12 @@ use Rattle.ir_core.specs.declared.terminator.Terminator.{Terminator}
 use Rattle.ir_core.specs.declared.terminator.Terminator.TheVariants as terminators
 use Rattle.ir_core.specs.Blocks.{IsBlock, HasInst}
 use Rattle.ir_core.specs.Checks.{IsKnown}
-use Rattle.ir_core.specs.Reads.{Read, read, IsRead, end_of, reads_of, reads_at_end, reads_by, reads_in, reads_at}
-use Rattle.needed.specs.Cleaning.{IsNeeded, by_end, by_inst, ReadsRegister, KeepsNeeded}
+use Rattle.ir_core.specs.Reads.{Read, read, IsRead, end_of, reads_of, reads_at_end, reads_in, reads_at}
+use Rattle.needed.specs.Needed.{IsNeeded, by_end, by_inst, ReadsRegister}
+use Rattle.needed.specs.Cleaned.{KeepsNeeded}
 use Rattle.needed.specs.Operands.{operands_of, operands_at_end}
-use Rattle.needed.specs.Numbering.{AreNumbers, number_of, IsNumbered, BlockIsNumbered, marks_by}
-use Rattle.needed.specs.Marking.{IsMarked, Marked, IsSound, IsSearched}
+use Rattle.needed.specs.InstNumbers.{AreNumbers, number_of, IsNumbered, BlockIsNumbered, marks_by}
+use Rattle.needed.specs.NeededMarks.{IsMarked, Marked, IsSound, IsSearched}
 use Rattle.needed.specs.declared.search.Search.{Search}
 use Rattle.needed.proofs.Counting.{mapped, contained_at, contains_at}
 use Rattle.needed.proofs.Reading.{reads_at-inst, reads_at-end, end_of-is}
@@ -275,36 +276,3 @@ blocks_numbered f known firsts count n b d lt = record {
 
     at : slice_get f.blocks b ≡ Some (get_or f.blocks b d)
     at = slice_get-get_or f.blocks b d lt
-
--- what holds of all holds of the one at a place
-all_at : {A : Type 0} (P : A → Type 0) (xs : List A) (i : ℕ) (x : A) → All P xs → slice_get xs i ≡ Some x → P x
-all_at P xs i x h at = subst P (get_or_from_slice_get xs i x x at) (All-get_or P xs i x (slice_get_within xs i x at) h)
-
--- what is read is known where all operands are
-pub known_by_operands : (f : Function) → All (λ (block : Block). All (λ (i : Inst). All (IsKnown f) (operands_of i.op)) block.insts) f.blocks → All (λ (block : Block). All (IsKnown f) (operands_at_end block.end)) f.blocks → AllKnown f
-known_by_operands f insts ends b k i r h = in_block (slice_get f.blocks b) refl h
-  where
-    operand_known : (reads : List Operand) → All (IsKnown f) reads → Reads f b k reads → IsKnown f r.operand
-    operand_known reads all is =
-        all_at (IsKnown f) reads i r.operand all (ap (λ l. slice_get l i) (sym is) ∙ slice_get-map (λ (x : Read). x.operand) (reads_at f b k) i ∙ ap (option_map (λ (x : Read). x.operand)) h)
-
-    at_end : (block : Block) → slice_get f.blocks b ≡ Some block → (is : Bool) → (k == length block.insts) ≡ is → slice_get (cond is (reads_at_end f b k block.end) []) i ≡ Some r → IsKnown f r.operand
-    at_end block e true same found =
-        let place : end_of f b ≡ k = end_of-is f b block e ∙ sym (eqb-true k (length block.insts) same) in
-        operand_known (operands_at_end block.end) (all_at (λ (x : Block). All (IsKnown f) (operands_at_end x.end)) f.blocks b block ends e) (subst (λ n. Reads f b n (operands_at_end block.end)) place (end_reads f b block e))
-    at_end block e false same found = absurd cc
-
-    at_place : (block : Block) → slice_get f.blocks b ≡ Some block → (o : Option Inst) → slice_get block.insts k ≡ o → slice_get (reads_by f b k block o) i ≡ Some r → IsKnown f r.operand
-    at_place block e (Some inst) here found =
-        let in_insts : All (λ (i : Inst). All (IsKnown f) (operands_of i.op)) block.insts = all_at (λ (x : Block). All (λ (i : Inst). All (IsKnown f) (operands_of i.op)) x.insts) f.blocks b block insts e in
-        operand_known (operands_of inst.op) (all_at (λ (i : Inst). All (IsKnown f) (operands_of i.op)) block.insts k inst in_insts here) (inst_reads f b k block inst e here)
-    at_place block e None here found = at_end block e (k == length block.insts) refl found
-
-    in_block : (o : Option Block) → slice_get f.blocks b ≡ o → slice_get (reads_in f b k o) i ≡ Some r → IsKnown f r.operand
-    in_block None e found = absurd cc
-    in_block (Some block) e found = at_place block e (slice_get block.insts k) refl found
-
-pub known_values : (f : Function) (entries : List (Operand × ℕ)) → All (λ (e : Operand × ℕ). IsKnown f e.0) entries → All (IsKnown f) (map (λ (e : Operand × ℕ). e.0) entries)
-known_values f [] h k d lt = absurd (omega arith)
-known_values f (e ∷ entries) h zero d lt = h 0 e (omega arith)
-known_values f (e ∷ entries) h (suc k) d lt = known_values f entries (λ i x inside. h (suc i) x (omega arith)) k d (omega arith)

@@ -4,16 +4,16 @@ use Rattle.std.proofs.Math.ListN.{set, length-set}
 use Rattle.std.proofs.Math.Seq.{drop-cons}
 use Rattle.std.proofs.lemmas.List.{drop-set-lt, get_or-set_same, drop_all}
 use Rattle.ir_core.specs.declared.instruction.Inst.{Inst}
-use Rattle.needed.specs.Cleaning.{Marks, kept_first, kept_insts, moved_inst}
+use Rattle.needed.specs.KeptFunction.{KeptMarks, kept_first, kept_insts, moved_inst}
 
 -- the first `count` are what is kept of the first `place`, and from there on all are as they were
-pub record Settled (kept : Marks) (b : ℕ) (all : List Inst) (place count : ℕ) (items : List Inst) : Type 0 where
+pub record Settled (kept : KeptMarks) (b : ℕ) (all : List Inst) (place count : ℕ) (items : List Inst) : Type 0 where
   pub settled : take count items ++ kept_insts kept b place (drop place items) ≡ kept_insts kept b 0 all
   pub low : count ≤ place
   pub size : length items ≡ length all
   pub rest : drop place items ≡ drop place all
 
-pub none_settled : (kept : Marks) (b : ℕ) (all : List Inst) → Settled kept b all 0 0 all
+pub none_settled : (kept : KeptMarks) (b : ℕ) (all : List Inst) → Settled kept b all 0 0 all
 none_settled kept b all = record { settled = refl; low = omega arith; size = refl; rest = refl }
 
 -- item p becomes y, and changes places with item c
@@ -60,7 +60,7 @@ heads_and_tails items all place d within size rest =
     let same : get_or items place d ∷ drop (suc place) items ≡ get_or all place d ∷ drop (suc place) all = sym (drop-cons items place d within) ∙ rest ∙ drop-cons all place d (omega arith) in
     (cc, cc)
 
-pub next_was : (kept : Marks) (b : ℕ) (all items : List Inst) (place count : ℕ) (inst : Inst) → Settled kept b all place count items → place < length items → inst ≡ get_or items place inst → inst ≡ get_or all place inst
+pub next_was : (kept : KeptMarks) (b : ℕ) (all items : List Inst) (place count : ℕ) (inst : Inst) → Settled kept b all place count items → place < length items → inst ≡ get_or items place inst → inst ≡ get_or all place inst
 next_was kept b all items place count inst s within here = here ∙ (heads_and_tails items all place inst within s.size s.rest).0
 
 tails_next : (items all : List Inst) (place : ℕ) → place < length items → length items ≡ length all → drop place items ≡ drop place all → drop (place + 1) items ≡ drop (place + 1) all
@@ -68,7 +68,7 @@ tails_next items all place within size rest =
     let next : suc place ≡ place + 1 = omega arith in
     ap (λ (n : ℕ). drop n items) (sym next) ∙ (heads_and_tails items all place (first_of items place within) within size rest).1 ∙ ap (λ (n : ℕ). drop n all) next
 
-pub settled_more : (kept : Marks) (b : ℕ) (all items was more : List Inst) (place count : ℕ) (inst moved : Inst) → Settled kept b all place count items → place < length items
+pub settled_more : (kept : KeptMarks) (b : ℕ) (all items was more : List Inst) (place count : ℕ) (inst moved : Inst) → Settled kept b all place count items → place < length items
     → kept b place ≡ true → inst ≡ get_or items place inst → moved ≡ moved_inst kept inst → was ≡ set items place moved
     → more ≡ set (set was count (get_or was place moved)) place (get_or was count moved) → Settled kept b all (place + 1) (count + 1) more
 settled_more kept b all items was more place count inst moved s within keep here moved_is written swapped =
@@ -100,7 +100,7 @@ settled_more kept b all items was more place count inst moved s within keep here
       rest = backs ∙ tails_next items all place within s.size s.rest;
     }
 
-pub settled_other : (kept : Marks) (b : ℕ) (all items : List Inst) (place count : ℕ) → Settled kept b all place count items → place < length items → kept b place ≡ false → Settled kept b all (place + 1) count items
+pub settled_other : (kept : KeptMarks) (b : ℕ) (all items : List Inst) (place count : ℕ) → Settled kept b all place count items → place < length items → kept b place ≡ false → Settled kept b all (place + 1) count items
 settled_other kept b all items place count s within gone =
     let low = s.low in
     let inst : Inst = get_or items place (first_of items place within) in
@@ -117,7 +117,7 @@ settled_other kept b all items place count s within gone =
     }
 
 -- all are settled
-pub settled_all : (kept : Marks) (b : ℕ) (all items : List Inst) (place count : ℕ) → Settled kept b all place count items → length all ≤ place → take count items ≡ kept_insts kept b 0 all
+pub settled_all : (kept : KeptMarks) (b : ℕ) (all items : List Inst) (place count : ℕ) → Settled kept b all place count items → length all ≤ place → take count items ≡ kept_insts kept b 0 all
 settled_all kept b all items place count s le =
     let size = s.size in
     let none : drop place items ≡ [] = drop_all place items (omega arith) in

@@ -3,8 +3,7 @@ use Rattle.ir_core.specs.declared.module.Module.{Module}
 use Rattle.ir_core.specs.declared.function.Function.{Function}
 use Rattle.ir_core.specs.Checks.{MeetsChecks, ModuleMeetsChecks}
 use Rattle.ir_core.specs.Refines.{Refines, ModuleRefines}
-use Rattle.ir_forms.specs.Forms.{FunctionHasForms, ModuleHasForms}
-use Rattle.needed.specs.Cleaning.{IsCleaned, ModuleCleaned}
+use Rattle.needed.specs.Cleaned.{IsCleaned, ModuleCleaned}
 
 -- a cleaned function may stand in the place of the old one
 abbrev pub CleanedFunctionsRefine : Type 0
@@ -21,12 +20,3 @@ CleanedModulesRefine = (m n : Module) → ModuleMeetsChecks m → ModuleCleaned 
 -- and meets all checks of a module too
 abbrev pub CleanedModulesMeetChecks : Type 0
 CleanedModulesMeetChecks = (m n : Module) → ModuleMeetsChecks m → ModuleCleaned m n → ModuleMeetsChecks n
-
--- A cleaned function has the forms that the old one has, so that its printed text reads as it. No check is asked for: names, types
--- and numbers stay as they are.
-abbrev pub CleanedFunctionsHaveForms : Type 0
-CleanedFunctionsHaveForms = (f g : Function) → FunctionHasForms f → IsCleaned f g → FunctionHasForms g
-
--- and so has a cleaned module
-abbrev pub CleanedModulesHaveForms : Type 0
-CleanedModulesHaveForms = (m n : Module) → ModuleHasForms m → ModuleCleaned m n → ModuleHasForms n

@@ -1,6 +1,10 @@
-pub mod Cleaning
+pub use Rattle.ir_core.specs.Checks
+pub use Rattle.ir_core.specs.Reads
+pub mod Needed
+pub mod KeptFunction
+pub mod Cleaned
 pub mod Laws
 pub mod Operands
-pub mod Numbering
-pub mod Marking
-pub mod KeptMarks
+pub mod InstNumbers
+pub mod NeededMarks
+pub mod KeptTables

@@ -3,10 +3,10 @@
 ghost use Rattle.std.specs.Prelude.{◌≡◌, ◌+◌, ◌<◌, ◌≤◌, ◌^◌, ℕ, length, All, OnOk, OnErr, slice_index_or};
 ghost use Rattle.ir_core.specs.Checks.{IsKnown};
 ghost use Rattle.ir_core.specs.Reads.{Read, IsRead};
-ghost use Rattle.ir_forms.specs.Forms.{FunctionHasForms};
-ghost use Rattle.needed.specs.Cleaning.{IsCleaned, kept_block, kept_blocks};
-ghost use Rattle.needed.specs.KeptMarks.{marks_of};
-ghost use Rattle.needed.specs.Numbering.{AreNumbers, BlockIsNumbered};
+ghost use Rattle.needed.specs.KeptFunction.{kept_block, kept_blocks};
+ghost use Rattle.needed.specs.Cleaned.{IsCleaned};
+ghost use Rattle.needed.specs.KeptTables.{marks_of};
+ghost use Rattle.needed.specs.InstNumbers.{AreNumbers, BlockIsNumbered};
 
 use crate::kept::Kept;
 use crate::moving::{kept_insts, moved_end};
@@ -54,7 +54,6 @@ pub fn clean(alloc: Global, f: &mut Function) -> Result<(), AllocError>
     // A register that is read is one of the function.
     requires registers { (b k i : ℕ) (r : Read) → IsRead f.old b k i r → IsKnown f.old r.operand }
     ensures ok { OnOk result (IsCleaned f.old f.new) }
-    ensures forms { OnOk result (FunctionHasForms f.old → FunctionHasForms f.new) }
     ensures err { OnErr result (f.new ≡ f.old) }
 {
     let kept = Kept::needed(alloc, f)?;

@@ -3,9 +3,9 @@
 ghost use Rattle.std.specs.Prelude.{◌<◌, ◌^◌, ℕ, length, All, IfOk};
 ghost use Rattle.ir_core.specs.Checks.{IsKnown};
 ghost use Rattle.ir_core.specs.Reads.{Read, IsRead};
-ghost use Rattle.needed.specs.Cleaning.{KeepsNeeded};
-ghost use Rattle.needed.specs.Marking.{AreCounts};
-ghost use Rattle.needed.specs.Numbering.{AreNumbers, marks_by};
+ghost use Rattle.needed.specs.Cleaned.{KeepsNeeded};
+ghost use Rattle.needed.specs.NeededMarks.{AreCounts};
+ghost use Rattle.needed.specs.InstNumbers.{AreNumbers, marks_by};
 
 use crate::numbers::Numbers;
 use crate::search::needed;

@@ -1,8 +1,8 @@
 //! The instructions that are kept move to where they stand then.
 
 ghost use Rattle.std.specs.Prelude.{◌≡◌, ◌+◌, ◌<◌, ◌≤◌, length, All, map, slice_index_or};
-ghost use Rattle.needed.specs.Cleaning as clean;
-ghost use Rattle.needed.specs.KeptMarks.{marks_of, HasPlace, HavePlaces};
+ghost use Rattle.needed.specs.KeptFunction as clean;
+ghost use Rattle.needed.specs.KeptTables.{marks_of, HasPlace, HavePlaces};
 ghost use Rattle.needed.specs.Operands.{operands_of, operands_at_end};
 
 use crate::kept::Kept;

@@ -1,7 +1,7 @@
 //! The instructions of a function, numbered block after block.
 
 ghost use Rattle.std.specs.Prelude.{◌<◌, ◌^◌, length, All, IfOk};
-ghost use Rattle.needed.specs.Numbering.{AreNumbers};
+ghost use Rattle.needed.specs.InstNumbers.{AreNumbers};
 
 use ir_core::Function;
 use std::alloc::{AllocError, Global};

@@ -3,9 +3,9 @@
 ghost use Rattle.std.specs.Prelude.{◌≡◌, [], ◌∷◌, ℕ, length, All, IfOk, OnOk, map};
 ghost use Rattle.ir_core.specs.Checks.{IsKnown};
 ghost use Rattle.ir_core.specs.Reads.{Read, IsRead};
-ghost use Rattle.needed.specs.Cleaning.{KeepsNeeded};
-ghost use Rattle.needed.specs.Marking.{Marked, IsSearched};
-ghost use Rattle.needed.specs.Numbering.{AreNumbers, IsNumbered, marks_by};
+ghost use Rattle.needed.specs.Cleaned.{KeepsNeeded};
+ghost use Rattle.needed.specs.NeededMarks.{Marked, IsSearched};
+ghost use Rattle.needed.specs.InstNumbers.{AreNumbers, IsNumbered, marks_by};
 ghost use Rattle.needed.specs.Operands.{operands_of, operands_at_end};
 
 use crate::numbers::Numbers;
@@ -22,7 +22,7 @@ pub(crate) struct Search {
 }
 
 impl Search {
-    /// Marks the instruction whose result the register is.
+    /// KeptMarks the instruction whose result the register is.
     fn mark_register(&mut self, numbers: &Numbers, register: Register) -> Result<(), AllocError>
         requires { IsNumbered numbers.now.firsts.items (length self.old.marks.items) (Operand.Register register) }
         ensures { OnOk result (
@@ -38,7 +38,7 @@ impl Search {
         Ok(())
     }
 
-    /// Marks the instruction whose result an operand reads.
+    /// KeptMarks the instruction whose result an operand reads.
     fn mark(&mut self, numbers: &Numbers, operand: Operand) -> Result<(), AllocError>
         requires { IsNumbered numbers.now.firsts.items (length self.old.marks.items) operand }
         ensures { OnOk result (Marked numbers.now.firsts.items (operand ∷ []) self.old self.new) }
@@ -49,7 +49,7 @@ impl Search {
         }
     }
 
-    /// Marks the instructions whose results these operands read.
+    /// KeptMarks the instructions whose results these operands read.
     fn mark_all(&mut self, numbers: &Numbers, operands: &[Operand]) -> Result<(), AllocError>
         requires { All (IsNumbered numbers.now.firsts.items (length self.old.marks.items)) operands.now }
         ensures { OnOk result (Marked numbers.now.firsts.items operands.now self.old self.new) }
@@ -60,7 +60,7 @@ impl Search {
         Ok(())
     }
 
-    /// Marks the instructions whose results the operands of these entries read.
+    /// KeptMarks the instructions whose results the operands of these entries read.
     fn mark_entries(
         &mut self,
         numbers: &Numbers,
@@ -76,7 +76,7 @@ impl Search {
         Ok(())
     }
 
-    /// Marks the instructions whose results an instruction reads.
+    /// KeptMarks the instructions whose results an instruction reads.
     fn mark_op(&mut self, numbers: &Numbers, op: &Op) -> Result<(), AllocError>
         requires { All (IsNumbered numbers.now.firsts.items (length self.old.marks.items)) (operands_of op.now) }
         ensures { OnOk result (
@@ -90,7 +90,7 @@ impl Search {
         }
     }
 
-    /// Marks the instructions whose results a terminator reads.
+    /// KeptMarks the instructions whose results a terminator reads.
     fn mark_end(&mut self, numbers: &Numbers, end: &Terminator) -> Result<(), AllocError>
         requires { All (IsNumbered numbers.now.firsts.items (length self.old.marks.items)) (operands_at_end end.now) }
         ensures { OnOk result (

@@ -4,3 +4,5 @@ pub mod Signed
 pub mod Undefined
 pub mod Values
 pub mod Widths
+pub mod FlagKeywordLemmas
+pub mod KeywordLemmas

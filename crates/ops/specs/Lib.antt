@@ -9,3 +9,5 @@ pub mod Laws
 pub mod Number
 pub mod Shifts
 pub mod Value
+pub mod FlagKeywords
+pub mod Keywords

@@ -4,7 +4,7 @@ ghost use Rattle.std.specs.Prelude.{◌≡◌, ◌<◌, ◌^◌};
 ghost use Rattle.ops.specs.Division.{udiv, urem, sdiv, srem, has_no_quotient, exactly, unsigned_poison, signed_poison};
 ghost use Rattle.ops.specs.Integer.{minus_one};
 
-use crate::integer::{residue, signed};
+use crate::integer::{minus_one, residue, signed};
 use crate::opcode::Flags;
 use crate::value::{Effect, Value};
 use crate::width::Width;
@@ -98,13 +98,6 @@ fn has_no_quotient(width: Width, a: u64, b: u64) -> bool
     ensures { result ≡ has_no_quotient width a b }
 {
     b == 0 || b == minus_one(width) && i128::from(a) == width.half_modulus()
-}
-
-/// The number of `width` bits that is -1 in two's complement.
-fn minus_one(width: Width) -> u64
-    ensures { result ≡ minus_one width }
-{
-    (width.modulus() - 1) as u64
 }
 
 /// The number, or poison where it was to be exact and a remainder is left.

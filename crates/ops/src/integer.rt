@@ -1,7 +1,7 @@
 //! Numbers of an integer type, without a sign and in two's complement. (LLVM Language Reference, "Integer Type".)
 
 ghost use Rattle.std.specs.Prelude.{◌≡◌, ◌<◌, ◌≤ℤ◌, ◌<ℤ◌, ◌-◌, ◌^◌, pos, neg_ℤ};
-ghost use Rattle.ops.specs.Integer.{signed, fits_signed, fits_unsigned, residue};
+ghost use Rattle.ops.specs.Integer.{signed, fits_signed, fits_unsigned, minus_one, residue};
 
 use crate::width::Width;
 
@@ -39,9 +39,17 @@ pub(crate) fn fits_signed(width: Width, number: i128) -> bool
 
 /// The number modulo 2 to the power of `width`.
 #[tactic(auto, unfolding(crate::specs::Integer::residue))]
-pub(crate) fn residue(width: Width, number: i128) -> u64
+pub fn residue(width: Width, number: i128) -> u64
     ensures residue { result ≡ residue width number }
     ensures fits { result < 2 ^ width }
 {
     number.rem_euclid(width.modulus()) as u64
+}
+
+/// The number of `width` bits that is -1 in two's complement.
+pub fn minus_one(width: Width) -> u64
+    ensures number { result ≡ minus_one width }
+    ensures fits { result < 2 ^ width }
+{
+    (width.modulus() - 1) as u64
 }

@@ -8,6 +8,7 @@ mod conversion;
 mod division;
 mod instruction;
 mod integer;
+pub mod keywords;
 mod laws;
 mod opcode;
 mod shift;
@@ -18,6 +19,7 @@ mod word;
 pub use comparison::{Pred, choose, compare};
 pub use conversion::{Cast, convert};
 pub use instruction::evaluate;
+pub use integer::{minus_one, residue};
 pub use laws::{
     allowing_is_reflexive, allowing_is_transitive, instructions_are_monotone,
     instructions_keep_widths, undefined_is_of_divisions,
@@ -26,6 +28,3 @@ pub use opcode::{Flags, Opcode};
 pub use value::{Effect, Value};
 pub use width::Width;
 pub use word::Word;
-
-#[cfg(test)]
-mod tests;

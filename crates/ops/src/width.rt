@@ -26,7 +26,7 @@ impl Model for Width {
 
 impl Width {
     /// One bit.
-    pub(crate) const ONE: Width = Width { bits: 1 };
+    pub const ONE: Width = Width { bits: 1 };
 
     /// The width of `n` bits, or `None` where `n` is not from 1 to 64.
     pub fn new(n: u32) -> Option<Width>
@@ -50,14 +50,14 @@ impl Width {
     }
 
     /// How many numbers this many bits can hold: 2 to the power of their count.
-    pub(crate) fn modulus(self) -> i128
+    pub fn modulus(self) -> i128
         ensures { result ≡ pos (2 ^ self) }
     {
         (1u128 << self.bits) as i128
     }
 
     /// Half of that: the least number whose highest bit is set.
-    pub(crate) fn half_modulus(self) -> i128
+    pub fn half_modulus(self) -> i128
         ensures { result ≡ pos (2 ^ (self - 1)) }
     {
         (1u128 << (self.bits - 1)) as i128

@@ -51,7 +51,7 @@ impl Word {
     }
 
     /// The number as one of `iN`, in which it fits.
-    pub(crate) fn fitting(width: Width, number: u64) -> Word
+    pub fn fitting(width: Width, number: u64) -> Word
         requires { number < 2 ^ width }
         ensures { result ≡ record { width = width; number = number } }
     {
@@ -59,7 +59,7 @@ impl Word {
     }
 
     /// The number 1 of `i1` for true, and 0 for false.
-    pub(crate) fn truth(holds: bool) -> Word
+    pub fn truth(holds: bool) -> Word
         ensures { result ≡ record { width = 1; number = (if holds then 1 else 0) } }
     {
         Word {

@@ -1,7 +1,20 @@
--- What a call of `read` does to the names asked for.
-use Rattle.std.specs.Prelude.{ℕ, List, [], ◌∷◌, ◌++◌, Option, option_map, Result, Ok, Err}
+-- What a caller knows of files, and what a call of `read` does to it.
+use Rattle.std.specs.Prelude.{◌≡◌, ℕ, ◌≤◌, List, [], ◌∷◌, ◌++◌, Option, option_map, Result, Ok, Err}
 use Rattle.outside.specs.declared.errors.ReadError.{ReadError}
 use Rattle.outside.specs.declared.errors.ReadError.TheVariants.{Failed, NoMemory}
+
+pub record FilesState : Type 0 where
+  -- the bytes under each name, where they are told
+  pub told : List ℕ → Option (List ℕ)
+  -- the names asked for so far, in order, where they are told
+  pub asked : Option (List (List ℕ))
+  -- how many faults there were; the count stands still at 2 ^ 64 - 1
+  pub faults : ℕ
+
+-- What is told under each name stays, and the count does not fall.
+pub record FilesFollow (old new : FilesState) : Type 0 where
+  pub told : new.told ≡ old.told
+  pub faults : old.faults ≤ new.faults
 
 -- the names asked for, where they are told, and then one more
 abbrev pub with_name : Option (List (List ℕ)) → List ℕ → Option (List (List ℕ))

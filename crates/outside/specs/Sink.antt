@@ -1,10 +1,20 @@
--- What a call of `put` does to the bytes written.
+-- What a caller knows of a sink, and what a call of `put` does to it.
 use Rattle.std.specs.Prelude.{◌≡◌, ℕ, ◌≤◌, List, ◌++◌, take, length, Option, option_map}
 
+pub record SinkState : Type 0 where
+  -- all bytes written so far, where they are told
+  pub written : Option (List ℕ)
+  -- how many faults there were; the count stands still at 2 ^ 64 - 1
+  pub faults : ℕ
+
+-- The count does not fall.
+abbrev pub SinkFollows : SinkState → SinkState → Type 0
+SinkFollows old new = old.faults ≤ new.faults
+
 -- Where the bytes are told, they are the old ones and then the piece.
-abbrev pub Appends : Option (List ℕ) → Option (List ℕ) → List ℕ → Type 0
-Appends old new piece = new ≡ option_map (λ told. told ++ piece) old
+abbrev pub Appends : SinkState → SinkState → List ℕ → Type 0
+Appends old new piece = new.written ≡ option_map (λ told. told ++ piece) old.written
 
 -- The same for a prefix of the piece, maybe all of it.
-abbrev pub AppendsPrefix : Option (List ℕ) → Option (List ℕ) → List ℕ → Type 0
+abbrev pub AppendsPrefix : SinkState → SinkState → List ℕ → Type 0
 AppendsPrefix old new piece = (count : ℕ) × (count ≤ length piece) × Appends old new (take count piece)

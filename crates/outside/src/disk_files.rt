@@ -82,11 +82,7 @@ fn read_file<R: rt::Files>(
 }
 
 impl<R: rt::Files> Files for DiskFiles<R> {
-    ghost bytes_under = { λ _ _. None };
-
-    ghost names_asked = { λ _. None };
-
-    ghost faults = { λ files. files.faults };
+    ghost state = { λ files. record { told = λ _. None; asked = None; faults = files.faults } };
 
     fn read(&mut self, alloc: Global, name: &str, most: usize) -> Result<Vec<u8>, ReadError>
         ensures within { IfOk result (λ read. vec_len read ≤ most) }

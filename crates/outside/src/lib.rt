@@ -25,6 +25,3 @@ pub use stored_file::StoredFile;
 pub use stream_sink::StreamSink;
 pub use sure_files::SureFiles;
 pub use sure_sink::SureSink;
-
-#[cfg(test)]
-mod tests;

@@ -83,11 +83,7 @@ impl MemoryFiles {
 }
 
 impl Files for MemoryFiles {
-    ghost bytes_under = { λ files. bytes_of files.held };
-
-    ghost names_asked = { λ files. Some files.asked };
-
-    ghost faults = { λ files. files.faults };
+    ghost state = { λ files. record { told = bytes_of files.held; asked = Some files.asked; faults = files.faults } };
 
     fn read(&mut self, alloc: Global, name: &str, most: usize) -> Result<Vec<u8>, ReadError>
         ensures bytes { IfOk result (λ read. IfSome (bytes_of self.old.held name.now) (λ held. read.items ≡ take most held)) }

@@ -97,9 +97,7 @@ fn front(bytes: &[u8], most: usize) -> &[u8]
 }
 
 impl Sink for MemorySink {
-    ghost written = { λ sink. Some sink.written };
-
-    ghost faults = { λ sink. sink.faults };
+    ghost state = { λ sink. record { written = Some sink.written; faults = sink.faults } };
 
     fn put(&mut self, piece: &[u8]) -> Result<(), Failed>
         ensures ok { OnOk result (self.new ≡ took self.old piece.now) }

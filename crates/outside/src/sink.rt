@@ -1,8 +1,8 @@
 //! What sinks are.
 
-ghost use Rattle.std.specs.Prelude.{◌≤◌, ℕ, List, Option, OnOk, OnErr};
+ghost use Rattle.std.specs.Prelude.{OnOk, OnErr};
 ghost use Rattle.outside.specs.Faults.{Rose};
-ghost use Rattle.outside.specs.Sink.{Appends, AppendsPrefix};
+ghost use Rattle.outside.specs.Sink.{SinkState, SinkFollows, Appends, AppendsPrefix};
 
 use crate::errors::Failed;
 
@@ -10,16 +10,13 @@ use crate::errors::Failed;
 ///
 /// A piece may fail to be written, and that is told by a count of faults that never falls.
 pub trait Sink {
-    /// All bytes written so far, where they are told.
-    ghost written: { Self → Option (List ℕ) };
-
-    /// How many faults there were. It stands still at 2 ^ 64 - 1.
-    ghost faults: { Self → ℕ };
+    /// The bytes written so far, where they are told, and the count of faults.
+    ghost state: { Self → SinkState };
 
     /// Writes a piece: all of it, or at a fault a prefix. It takes no memory.
     fn put(&mut self, piece: &[u8]) -> Result<(), Failed>
-        ensures ok { OnOk result (Appends (written self.old) (written self.new) piece.now) }
-        ensures prefix { OnErr result (AppendsPrefix (written self.old) (written self.new) piece.now) }
-        ensures faults_grow { faults self.old ≤ faults self.new }
-        ensures failed { OnErr result (Rose (faults self.old) (faults self.new)) };
+        ensures ok { OnOk result (Appends (state self.old) (state self.new) piece.now) }
+        ensures prefix { OnErr result (AppendsPrefix (state self.old) (state self.new) piece.now) }
+        ensures failed { OnErr result (Rose (state self.old).faults (state self.new).faults) }
+        ensures follows { SinkFollows (state self.old) (state self.new) };
 }

@@ -59,9 +59,7 @@ fn write_piece<W: Write>(stream: &mut W, piece: &[u8]) -> Result<(), Failed>
 }
 
 impl<W: Write> Sink for StreamSink<W> {
-    ghost written = { λ _. None };
-
-    ghost faults = { λ sink. sink.faults };
+    ghost state = { λ sink. record { written = None; faults = sink.faults } };
 
     fn put(&mut self, piece: &[u8]) -> Result<(), Failed>
         // A stream that tells what it holds, as one in memory, has gained exactly the piece.

@@ -54,11 +54,7 @@ impl SureFiles {
 }
 
 impl Files for SureFiles {
-    ghost bytes_under = { λ files. bytes_or_none files.held };
-
-    ghost names_asked = { λ files. Some files.asked };
-
-    ghost faults = { λ _. 0 };
+    ghost state = { λ files. record { told = bytes_or_none files.held; asked = Some files.asked; faults = 0 } };
 
     fn read(&mut self, alloc: Global, name: &str, most: usize) -> Result<Vec<u8>, ReadError>
         ensures bytes { IfOk result (λ read. IfSome (bytes_or_none self.old.held name.now) (λ told. read.items ≡ take most told)) }

@@ -10,9 +10,7 @@ use crate::sink::Sink;
 pub struct SureSink;
 
 impl Sink for SureSink {
-    ghost written = { λ _. None };
-
-    ghost faults = { λ _. 0 };
+    ghost state = { λ _. record { written = None; faults = 0 } };
 
     fn put(&mut self, _piece: &[u8]) -> Result<(), Failed>
         ensures { IsOk result }

@@ -7,6 +7,3 @@ mod values;
 
 pub use precondition::holds;
 pub use values::term;
-
-#[cfg(test)]
-mod tests;

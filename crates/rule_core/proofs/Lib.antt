@@ -3,16 +3,11 @@ pub mod Fits
 pub mod Givens
 pub mod Members
 pub mod Once
-pub mod OneByOne
-pub mod OneClass
 pub mod Outcomes
-pub mod Quotient
 pub mod Ready
 pub mod Returns
 pub mod Runs
-pub mod Sample
 pub mod Turns
-pub mod Typed
 pub mod Unchosen
 pub mod Weights
 pub mod Witnesses

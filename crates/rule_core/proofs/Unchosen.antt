@@ -1,4 +1,4 @@
--- The source's temporaries run the same whatever its `undef`s are chosen to be.
+-- Statements without an `undef` run the same whatever the `undef`s are chosen to be.
 use Rattle.std.proofs.Common.{◌≡◌, ℕ, suc, ◌-◌, ◌<◌, List, [], ◌∷◌, ◌++◌, length, drop, Some, refl, subst, arith}
 use Rattle.std.specs.Prelude.{slice_get, Contains}
 use Rattle.std.proofs.lemmas.List.{take-append-drop}
@@ -15,10 +15,23 @@ use Rattle.rule_core.specs.declared.rule.Argument.{Argument}
 use Rattle.rule_core.specs.declared.rule.Argument.TheVariants as arguments
 use Rattle.rule_core.specs.Positions.{operands_of}
 use Rattle.rule_core.specs.Checks.{IsRule, SourceMayRead}
-use Rattle.rule_core.specs.Run.{Held, Undefines, GoesOn, given_by, at_start, temporaries_of, holding_source, ArgumentGives, OperandGives, OpGives, Follows, TemporariesEnd, SourceGives}
+use Rattle.rule_core.specs.Run.{Held, Ending, Undefines, GoesOn, Given, given_by, at_start, temporaries_of, holding_source, ArgumentGives, OperandGives, OpGives, Follows, TemporariesEnd, SourceGives}
 use Rattle.rule_core.proofs.Members.{Contains-from_get}
 use Rattle.rule_core.proofs.Givens.{get_taken}
 use Rattle.rule_core.proofs.Once.{follows_once}
+
+-- statements that end in undefined behaviour do so with others behind them
+pub follows-stops : (typing : List ℕ) (given : Given) (holding : Held → Value → Held) (first more : List Statement) (start : Held) → Follows typing given holding first start Undefines
+    → Follows typing given holding (first ++ more) start Undefines
+follows-stops typing given holding [] more start ran = cc
+follows-stops typing given holding (s ∷ first) more start (e, gives, goes) = (
+  e,
+  gives,
+  elim e as (λ d. GoesOn (λ v. Follows typing given holding first (holding start v) Undefines) d Undefines → GoesOn (λ v. Follows typing given holding (first ++ more) (holding start v) Undefines) d Undefines) [
+    | effects.Undefined ↦ λ stop. stop
+    | effects.Gives v ↦ λ next. follows-stops typing given holding first more (holding start v) next
+  ] goes,
+)
 
 -- it is no `undef`
 NoUndef : Argument → Type 0
@@ -53,29 +66,34 @@ module _ (rule : Rule) (typing : List ℕ) (constants choices : List Number) whe
   op_same held N (Convert cast a to) e none (M, x, at, p, is) = (M, x, at, operand_same held a x (none a (Contains-from_get (a ∷ []) 0 a refl)) p, is)
   op_same held N (Copy a) e none (x, p, is) = (x, operand_same held a x (none a (Contains-from_get (a ∷ []) 0 a refl)) p, is)
 
-  -- statements without an `undef` that end in undefined behaviour do so with others behind them
-  follows_same : (statements rest : List Statement) (held : Held) → ((k : ℕ) (s : Statement) → slice_get statements k ≡ Some s → (o : Operand) → Contains (operands_of s.op) o → NoUndef o.value)
-      → Follows typing (given_by typing constants [] rule) holding_source statements held Undefines → Follows typing (given_by typing constants choices rule) holding_source (statements ++ rest) held Undefines
-  follows_same [] rest held none is = cc
-  follows_same (s ∷ statements) rest held none (e, (N, width, gives), goes) =
+  follows_same : (statements : List Statement) (held : Held) (end : Ending) → ((k : ℕ) (s : Statement) → slice_get statements k ≡ Some s → (o : Operand) → Contains (operands_of s.op) o → NoUndef o.value)
+      → Follows typing (given_by typing constants [] rule) holding_source statements held end → Follows typing (given_by typing constants choices rule) holding_source statements held end
+  follows_same [] held end none is = is
+  follows_same (s ∷ statements) held end none (e, (N, width, gives), goes) =
       let same = op_same held N s.op e (none 0 s refl) gives in
-      elim e as (λ e. OpGives typing (given_by typing constants choices rule) held N s.op e → GoesOn (λ v. Follows typing (given_by typing constants [] rule) holding_source statements (holding_source held v) Undefines) e Undefines
-      → Follows typing (given_by typing constants choices rule) holding_source (s ∷ (statements ++ rest)) held Undefines) [
-        | effects.Undefined ↦ λ gives goes. (effects.Undefined, (N, width, gives), refl)
-        | effects.Gives v ↦ λ gives goes. (effects.Gives v, (N, width, gives), follows_same statements rest (holding_source held v) (λ k. none (suc k)) goes)
+      elim e as (λ e. OpGives typing (given_by typing constants choices rule) held N s.op e → GoesOn (λ v. Follows typing (given_by typing constants [] rule) holding_source statements (holding_source held v) end) e end
+      → Follows typing (given_by typing constants choices rule) holding_source (s ∷ statements) held end) [
+        | effects.Undefined ↦ λ gives goes. (effects.Undefined, (N, width, gives), goes)
+        | effects.Gives v ↦ λ gives goes. (effects.Gives v, (N, width, gives), follows_same statements (holding_source held v) end (λ k. none (suc k)) goes)
       ] same goes
 
-  -- so the source does where its temporaries do
-  pub undefined_source : IsRule rule → (inputs : List Value) (e : Effect) → TemporariesEnd typing constants rule inputs Undefines → SourceGives typing constants choices rule inputs e → e ≡ effects.Undefined
+  -- so do the source's temporaries
+  pub temporaries_same : IsRule rule → (held : Held) (end : Ending) → Follows typing (given_by typing constants [] rule) holding_source (temporaries_of rule) held end
+      → Follows typing (given_by typing constants choices rule) holding_source (temporaries_of rule) held end
   unfolding NoUndef
+  temporaries_same checked held end ran =
+      follows_same (temporaries_of rule) held end (λ k s at o among j is.
+      let whole = get_taken rule.source (length rule.source - 1) k s at in
+      let root : suc k ≡ length rule.source = subst (SourceMayRead rule k) is (checked.source_reads k s o whole.0 among) in
+      let before : k < length rule.source - 1 = whole.1 in
+      absurd (omega arith)) ran
+
+  -- and the source has undefined behaviour where they have it
+  pub undefined_source : IsRule rule → (inputs : List Value) (e : Effect) → TemporariesEnd typing constants rule inputs Undefines → SourceGives typing constants choices rule inputs e → e ≡ effects.Undefined
   undefined_source checked inputs e ends (end, follows, leads) =
       let count : ℕ = length rule.source - 1 in
-      let none : (k : ℕ) (s : Statement) → slice_get (temporaries_of rule) k ≡ Some s → (o : Operand) → Contains (operands_of s.op) o → NoUndef o.value = λ k s at o among j is.
-      let whole = get_taken rule.source count k s at in
-      let root : suc k ≡ length rule.source = subst (SourceMayRead rule k) is (checked.source_reads k s o whole.0 among) in
-      let before : k < count = whole.1 in
-      absurd (omega arith) in
-      let runs = follows_same (temporaries_of rule) (drop count rule.source) (at_start inputs) none ends in
-      let all : Follows typing (given_by typing constants choices rule) holding_source rule.source (at_start inputs) Undefines = rw (take-append-drop count rule.source) at runs in
-      let same : end ≡ Undefines = follows_once typing (given_by typing constants choices rule) holding_source rule.source (at_start inputs) end Undefines follows all in
+      let given = given_by typing constants choices rule in
+      let runs = follows-stops typing given holding_source (temporaries_of rule) (drop count rule.source) (at_start inputs) (temporaries_same checked (at_start inputs) Undefines ends) in
+      let all : Follows typing given holding_source rule.source (at_start inputs) Undefines = rw (take-append-drop count rule.source) at runs in
+      let same : end ≡ Undefines = follows_once typing given holding_source rule.source (at_start inputs) end Undefines follows all in
       rw same at leads

@@ -48,10 +48,10 @@ IsBeforeRoot rule (registers.Source j) = suc j < length rule.source
 IsBeforeRoot rule (registers.Target j) = ⊥
 
 -- a register of which a target statement may name the width: one of these, or what a target statement but the root's assigns
-abbrev pub HasWidth : Rule → Register → Type 0
-HasWidth rule (registers.Input i) = i < length rule.inputs
-HasWidth rule (registers.Source j) = suc j < length rule.source
-HasWidth rule (registers.Target j) = suc j < length rule.target
+abbrev pub HasKnownWidth : Rule → Register → Type 0
+HasKnownWidth rule (registers.Input i) = i < length rule.inputs
+HasKnownWidth rule (registers.Source j) = suc j < length rule.source
+HasKnownWidth rule (registers.Target j) = suc j < length rule.target
 
 -- node n of the constant terms may be this one: its operands are earlier nodes, and no register and no `undef` stands in it
 abbrev pub MayBeTerm : Rule → ℕ → Node → Type 0
@@ -59,7 +59,7 @@ MayBeTerm rule n (nodes.Literal z) = Unit {0}
 MayBeTerm rule n (nodes.Constant k) = k < length rule.constants
 MayBeTerm rule n (nodes.Register r) = ⊥
 MayBeTerm rule n (nodes.Undef k) = ⊥
-MayBeTerm rule n (nodes.Width r c) = HasWidth rule r
+MayBeTerm rule n (nodes.Width r c) = HasKnownWidth rule r
 MayBeTerm rule n (nodes.Unary function a) = a < n
 MayBeTerm rule n (nodes.Binary op a b) = (a < n) × (b < n)
 

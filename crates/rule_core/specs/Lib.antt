@@ -1,3 +1,5 @@
+pub use Rattle.ops.specs.Integer
+pub use Rattle.ops.specs.Value
 pub mod Checks
 pub mod Positions
 pub mod Terms
@@ -6,4 +8,3 @@ pub mod Typing
 pub mod Valid
 pub mod Laws
 pub mod Readiness
-pub mod Sample

@@ -22,6 +22,3 @@ pub use rule::{
 pub use run::{run_source, run_target};
 pub use term::{exponent, term_value};
 pub use typing::{class_at, positions, width_at};
-
-#[cfg(test)]
-mod tests;

@@ -10,9 +10,9 @@ ghost use Rattle.rule_core.specs.Valid.{InputsFit, ConstantsFit, SourceChoicesFi
 ghost use Rattle.rule_core.specs.Readiness.{seen, shown, OperandIsReady, StatementIsReady, ValuesFit, GivenFits, SourceRan, TargetRan};
 
 use crate::rule::{Argument, Op, Operand, Register, Rule, Statement, Typing};
-use crate::term::{fitting, number_or_zero, residue, term_value};
+use crate::term::{number_or_zero, term_value};
 use lists::List;
-use ops::{Effect, Value, Width, Word, choose, compare, convert, evaluate};
+use ops::{Effect, Value, Width, Word, choose, compare, convert, evaluate, residue};
 use std::alloc::{AllocError, Global};
 
 /// What the registers hold: the inputs, and what the statements so far have assigned.
@@ -230,8 +230,8 @@ fn operand_value(given: Given, held: Held, operand: Operand) -> Value
     let width = width_of(given, operand.class);
     match operand.value {
         Argument::Register(register) => register_value(held, register),
-        Argument::Literal(literal) => Value::Bits(fitting(width, residue(width, literal))),
-        Argument::Truth(truth) => Value::Bits(fitting(width, if truth { 1 } else { 0 })),
+        Argument::Literal(literal) => Value::Bits(Word::fitting(width, residue(width, literal))),
+        Argument::Truth(truth) => Value::Bits(Word::fitting(width, if truth { 1 } else { 0 })),
         Argument::Constant(k) => Value::Bits(number_at(given.constants, k)),
         Argument::Undef(k) => Value::Bits(number_at(given.choices, k)),
         Argument::Term(n) => Value::Bits(or_zero(width, value_at(given.terms, n))),
@@ -260,7 +260,7 @@ fn or_zero(width: Width, value: Value) -> Word
     requires { IsValueOf width value }
     ensures { result ≡ record { width = width; number = number_or_zero value } }
 {
-    fitting(width, number_or_zero(value))
+    Word::fitting(width, number_or_zero(value))
 }
 
 /// What a register holds.

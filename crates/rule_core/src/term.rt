@@ -9,7 +9,7 @@ ghost use Rattle.rule_core.specs.Terms.{of_constants, value_given, within, expon
 ghost use Rattle.rule_core.specs.Readiness.{TermIsReady};
 
 use crate::rule::{Function, Node, Term};
-use ops::{Effect, Flags, Opcode, Value, Width, Word, evaluate};
+use ops::{Effect, Flags, Opcode, Value, Width, Word, evaluate, minus_one, residue};
 
 /// No flags: a term's operators have none.
 const NO_FLAGS: Flags = Flags {
@@ -26,7 +26,7 @@ pub fn term_value(typing: &[Width], constants: &[Word], before: &[Value], term: 
 {
     let width = typing[term.class as usize];
     match term.node {
-        Node::Literal(literal) => Value::Bits(fitting(width, residue(width, literal))),
+        Node::Literal(literal) => Value::Bits(Word::fitting(width, residue(width, literal))),
         Node::Constant(k) => Value::Bits(constants[k as usize]),
         Node::Width(_, class) => within(width, typing[class as usize].bits()),
         Node::Unary(function, operand) => match before[operand as usize] {
@@ -55,14 +55,14 @@ fn function_value(function: Function, width: Width, a: Word) -> Value
             Opcode::Sub,
             NO_FLAGS,
             width,
-            Value::Bits(fitting(width, 0)),
+            Value::Bits(Word::fitting(width, 0)),
             Value::Bits(a),
         )),
         Function::Not => value_given(evaluate(
             Opcode::Xor,
             NO_FLAGS,
             width,
-            Value::Bits(minus_one(width)),
+            Value::Bits(Word::fitting(width, minus_one(width))),
             Value::Bits(a),
         )),
         Function::Log2 => logarithm(width, a),
@@ -91,13 +91,6 @@ fn within(width: Width, number: u32) -> Value
     }
 }
 
-/// The number that is -1 in two's complement.
-fn minus_one(width: Width) -> Word
-    ensures { result ≡ record { width = width; number = 2 ^ width - 1 } }
-{
-    fitting(width, ((1u128 << width.bits()) - 1) as u64)
-}
-
 /// The exponent below N of which the number is the power of two, if there is one.
 pub fn exponent(a: Word) -> Option<u32>
     ensures { result ≡ exponent a.width a.number }
@@ -117,7 +110,7 @@ fn logarithm(width: Width, a: Word) -> Value
     ensures width { IsValueOf width result }
 {
     match exponent(a) {
-        Some(k) => Value::Bits(fitting(width, u64::from(k))),
+        Some(k) => Value::Bits(Word::fitting(width, u64::from(k))),
         None => Value::Poison,
     }
 }
@@ -130,7 +123,7 @@ fn absolute(width: Width, a: Word) -> Word
     if a.number() < 1u64 << (width.bits() - 1) {
         a
     } else {
-        fitting(
+        Word::fitting(
             width,
             ((1u128 << width.bits()) - u128::from(a.number())) as u64,
         )
@@ -145,22 +138,4 @@ pub(crate) fn number_or_zero(value: Value) -> u64
         Value::Poison => 0,
         Value::Bits(word) => word.number(),
     }
-}
-
-/// The literal modulo 2^N.
-#[tactic(auto, unfolding(ops::specs::Integer::residue))]
-pub(crate) fn residue(width: Width, literal: i128) -> u64
-    ensures residue { result ≡ residue width literal }
-    ensures fits { result < 2 ^ width }
-{
-    let modulus = (1u128 << width.bits()) as i128;
-    literal.rem_euclid(modulus) as u64
-}
-
-/// The number as one of `iN`, in which it fits.
-pub(crate) fn fitting(width: Width, number: u64) -> Word
-    requires { number < 2 ^ width }
-    ensures { result ≡ record { width = width; number = number } }
-{
-    Word::wrapped(width, number)
 }

@@ -7,7 +7,7 @@ use Rattle.std.proofs.lemmas.Bool.{eqb-true}
 use Rattle.ops.specs.declared.opcode.Opcode.{Opcode}
 use Rattle.rule_core.specs.declared.rule.Function.{Function}
 use Rattle.rule_core.specs.declared.rule.Function.TheVariants.{Negate, Not, Log2, Abs}
-use Rattle.words.specs.Flags.{flag_in}
+use Rattle.ops.specs.FlagKeywords.{flag_in}
 use Rattle.scan.specs.Bytes.{is_digit}
 use Rattle.scan.specs.RuleTokens.{is_constant}
 use Rattle.scan.proofs.Fronts.{and_left}
@@ -17,13 +17,13 @@ use Rattle.rule_terms.specs.declared.place.TermPlace.TheVariants.{Constant}
 use Rattle.rule_terms.specs.declared.raw.RawNode.{RawNode}
 use Rattle.rule_terms.specs.declared.raw.RawNode.TheVariants as raw_nodes
 use Rattle.rule_terms.specs.Grammar.{SpellsLeaf, SpellsTerm, leaf, width, parenthesised, called, prefixed, tighter, joined}
-use Rattle.rule_terms.specs.Words.{IsCalled}
+use Rattle.rule_terms.specs.Keywords.{IsCalled}
 use Rattle.rule_parse.specs.declared.half.Half.{Half}
 use Rattle.rule_parse.specs.declared.half.Half.TheVariants.{Source, Target}
 use Rattle.rule_parse.specs.declared.raw.RawArgument.{RawArgument}
 use Rattle.rule_parse.specs.declared.raw.RawArgument.TheVariants as arguments
 use Rattle.rule_parse.specs.Grammar.{SpellsTermOperand, SpellsArgument}
-use Rattle.rule_parse.specs.Words.{operation_in}
+use Rattle.rule_parse.specs.Keywords.{operation_in}
 
 -- a word that is no type, no opcode and no flag
 pub record IsOperandWord (word : List ℕ) : Type 0 where

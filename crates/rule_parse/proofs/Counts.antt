@@ -3,9 +3,9 @@ use Rattle.std.proofs.Common.{◌≡◌, ℕ, zero, suc, ◌+◌, ◌≤◌, Boo
 use Rattle.std.specs.Prelude.{◌⊎◌, ◌||◌, if◌then◌else◌}
 use Rattle.std.specs.List.{list_any}
 use Rattle.rule_tokens.specs.Tokens.{Token, Line, Excess}
-use Rattle.rule_parse.specs.Counted.{counted, last_rule, counted_at_end, IsWithinLimit}
-use Rattle.rule_parse.specs.Laws.{TokensAreKeptUpToTheLimit}
-use Rattle.rule_parse.specs.Limited.{is_counted, ends_before_line, begins_rule, one_less, room_behind, or_excess, limited_to}
+use Rattle.rule_parse.specs.NodeCounts.{counted, last_rule, counted_at_end, IsWithinLimit}
+use Rattle.rule_parse.specs.OneReading.{TokensAreKeptUpToTheLimit}
+use Rattle.rule_parse.specs.CutTokens.{is_counted, ends_before_line, begins_rule, one_less, room_behind, or_excess, limited_to}
 use Rattle.rule_parse.specs.Limits.{most_nodes}
 
 -- ---- counting along the tokens

@@ -3,7 +3,7 @@ use Rattle.std.proofs.Common.{◌≡◌, ℕ, zero, suc, ◌+◌, ◌≤◌, Boo
 use Rattle.std.specs.Prelude.{codes, if◌then◌else◌}
 use Rattle.scan.specs.RuleTokens.{is_among}
 use Rattle.rule_tokens.specs.Tokens.{Token, Line, Head, Register, Word, Number, Arrow, Mark, Excess}
-use Rattle.rule_parse.specs.Limited.{is_node_word, plain_marks, ends_before_line, one_less, room_behind, or_excess, limited_to}
+use Rattle.rule_parse.specs.CutTokens.{is_node_word, plain_marks, ends_before_line, one_less, room_behind, or_excess, limited_to}
 
 -- ---- one token
 

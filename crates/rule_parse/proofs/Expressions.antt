@@ -2,8 +2,8 @@
 use Rattle.std.proofs.Common.{◌≡◌, ℕ, zero, suc, ◌≤◌, true, false, List, [], ◌∷◌, ◌++◌, length, drop, Ok, refl, sym, ap, ◌∙◌, ⊎_elim, append_assoc, length-append, arith}
 use Rattle.std.specs.Prelude.{codes}
 use Rattle.std.proofs.lemmas.List.{append-nil}
-use Rattle.rule_tokens.specs.Giving.{◌>>=◌}
-use Rattle.rule_tokens.specs.Reading.{line_end}
+use Rattle.rule_tokens.specs.Gives.{◌>>=◌}
+use Rattle.rule_tokens.specs.PartReaders.{line_end}
 use Rattle.rule_tokens.specs.Tokens.{Token, Line, Mark}
 use Rattle.rule_tokens.proofs.Ends.{EndsLine, line_end-of}
 use Rattle.rule_tokens.proofs.Steps.{done, bind_ok, bound, read_as, chosen}
@@ -12,11 +12,11 @@ use Rattle.rule_terms.specs.declared.place.TermPlace.TheVariants.{Witness}
 use Rattle.rule_terms.specs.declared.raw.RawNode.{RawNode}
 use Rattle.rule_terms.specs.Chains.{next_is, chain_of}
 use Rattle.rule_terms.specs.Grammar.{most_nested, EndsTerm}
-use Rattle.rule_terms.specs.Parsing.{term_at}
-use Rattle.rule_terms.specs.Words.{operator_in}
+use Rattle.rule_terms.specs.TermReaders.{term_at}
+use Rattle.rule_terms.specs.Keywords.{operator_in}
 use Rattle.rule_terms.proofs.ChainLemmas.{Shortens, next_is-is}
 use Rattle.rule_parse.specs.Grammar.{SpellsExpression, SpellsMoreExpressions, SpellsExpressions}
-use Rattle.rule_parse.specs.Parsing.{expression_at, more_expressions, expressions_at}
+use Rattle.rule_parse.specs.RuleReaders.{expression_at, more_expressions, expressions_at}
 use Rattle.rule_parse.proofs.OpSpellings.{line_ends_term}
 use Rattle.rule_terms.proofs.Spellings.{term_at-is, term_at-of}
 

@@ -3,9 +3,9 @@ use Rattle.std.proofs.Common.{◌≡◌, ℕ, ◌+◌, ◌<◌, ◌≤◌, Bool,
 use Rattle.std.proofs.lemmas.List.{append-nil, map-append, drop_more, drop_all}
 use Rattle.rule_tokens.specs.declared.token.Token.{Token as Scanned}
 use Rattle.rule_tokens.specs.declared.token.Token.TheVariants as scanned
-use Rattle.rule_tokens.specs.Seen.{seen, seen_token}
+use Rattle.rule_tokens.specs.SeenTokens.{seen, seen_token}
 use Rattle.rule_tokens.specs.Tokens.{Token, Excess}
-use Rattle.rule_parse.specs.Limited.{ends_before_line, room_behind, limited_to}
+use Rattle.rule_parse.specs.CutTokens.{ends_before_line, room_behind, limited_to}
 
 pub kept-more : (kept after tokens : List Scanned) (room left i : ℕ) (begins behind : Bool) (d : Scanned) (total : List Token) → i < length tokens
     → Some left ≡ room_behind room begins (seen_token (get_or tokens i d)) → behind ≡ ends_before_line (seen_token (get_or tokens i d)) → after ≡ kept ++ get_or tokens i d ∷ []

@@ -3,8 +3,8 @@ use Rattle.std.proofs.Common.{◌≡◌, ℕ, zero, suc, ◌+◌, ◌-◌, ◌<�
 use Rattle.std.proofs.lemmas.List.{append-nil}
 use Rattle.ops.specs.declared.opcode.Opcode.{Opcode}
 use Rattle.ops.specs.declared.opcode.Flags.{Flags}
-use Rattle.words.specs.declared.flag.Flag.{Flag}
-use Rattle.words.specs.Flags.{has_flag, with_flag}
+use Rattle.ops.specs.declared.keywords.flag.Flag.{Flag}
+use Rattle.ops.specs.FlagKeywords.{has_flag, with_flag}
 use Rattle.rule_tokens.specs.declared.fault.ParseError.{ParseError}
 use Rattle.rule_tokens.specs.declared.fault.ParseError.TheVariants.{Refused, NoMemory}
 use Rattle.rule_tokens.specs.declared.fault.Misfit.TheVariants.{Syntax, TooMany}
@@ -12,9 +12,9 @@ use Rattle.rule_tokens.specs.declared.fault.TextFault.{TextFault}
 use Rattle.rule_parse.specs.declared.half.Half.{Half}
 use Rattle.rule_parse.specs.declared.raw.RawRule.{RawRule}
 use Rattle.rule_parse.specs.declared.raw.RawStatement.{RawStatement}
-use Rattle.rule_tokens.specs.Giving.{◌>>=◌, Fails}
-use Rattle.rule_tokens.specs.Reading.{Read, fault}
-use Rattle.rule_parse.specs.Parsing.{next_flag, flags_at, IsNoStatement, statement_at, statements_at, rule_at, rules_at, all_rules}
+use Rattle.rule_tokens.specs.Gives.{◌>>=◌, Fails}
+use Rattle.rule_tokens.specs.PartReaders.{Read, fault}
+use Rattle.rule_parse.specs.RuleReaders.{next_flag, flags_at, IsNoStatement, statement_at, statements_at, rule_at, rules_at, all_rules}
 use Rattle.rule_tokens.specs.Tokens.{Token, Line, Register}
 use Rattle.rule_parse.proofs.Readings.{rule_at-shorter}
 

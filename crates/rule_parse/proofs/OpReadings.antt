@@ -7,11 +7,11 @@ use Rattle.ops.specs.declared.opcode.Flags.{Flags}
 use Rattle.ops.specs.declared.comparison.Pred.{Pred}
 use Rattle.ops.specs.declared.conversion.Cast.{Cast}
 use Rattle.ops.specs.Flags.{no_flags, flags_of}
-use Rattle.words.specs.declared.flag.Flag.{Flag}
-use Rattle.words.specs.Words.{opcode_word, cast_word, pred_word, pred_in}
-use Rattle.words.specs.Flags.{AddsFlags, flag_word, has_flag, with_flag}
-use Rattle.words.proofs.WordLemmas.{same_word, pred_in-is}
-use Rattle.words.proofs.FlagLemmas.{flag_in-is}
+use Rattle.ops.specs.declared.keywords.flag.Flag.{Flag}
+use Rattle.ops.specs.Keywords.{opcode_keyword, cast_keyword, predicate_keyword, pred_in}
+use Rattle.ops.specs.FlagKeywords.{AddsFlags, flag_keyword, has_flag, with_flag}
+use Rattle.ops.proofs.KeywordLemmas.{same_word, pred_in-is}
+use Rattle.ops.proofs.FlagKeywordLemmas.{flag_in-is}
 use Rattle.rule_tokens.specs.declared.fault.Misfit.TheVariants.{Syntax}
 use Rattle.rule_parse.specs.declared.half.Half.{Half}
 use Rattle.rule_parse.specs.declared.half.Half.TheVariants.{Source, Target}
@@ -27,16 +27,16 @@ use Rattle.rule_terms.specs.declared.place.TermPlace.TheVariants.{Constant}
 use Rattle.rule_terms.specs.declared.raw.RawNode.{RawNode}
 use Rattle.rule_terms.specs.declared.raw.RawNode.TheVariants as raw_nodes
 use Rattle.rule_terms.specs.Grammar.{most_nested, SpellsWholeTerm}
-use Rattle.rule_terms.specs.Parsing.{mark_at, term_at}
-use Rattle.rule_tokens.specs.Giving.{◌>>=◌}
-use Rattle.rule_tokens.specs.Spelling.{SpellsType}
+use Rattle.rule_terms.specs.TermReaders.{mark_at, term_at}
+use Rattle.rule_tokens.specs.Gives.{◌>>=◌}
+use Rattle.rule_tokens.specs.TypeTokens.{SpellsType}
 use Rattle.rule_parse.specs.Grammar.{SpellsArgument, SpellsUntyped, SpellsOperand, SpellsPair, SpellsFlags, SpellsTo, SpellsOp}
 use Rattle.rule_tokens.specs.Numbers.{literal_value}
-use Rattle.rule_tokens.specs.Reading.{fault, name_within, type_at, maybe_type, line_end}
-use Rattle.rule_parse.specs.Parsing.{register_at, known_or_misplaced, source_word, term_argument_at, argument_at, typed_at, operand_at, to_at, next_flag, flag_or_end, flags_at, pair_at, binary_at, pred_at, compare_at, select_at, convert_at, copy_at, operation_at, other_at, op_word, op_at}
+use Rattle.rule_tokens.specs.PartReaders.{fault, name_within, type_at, maybe_type, line_end}
+use Rattle.rule_parse.specs.RuleReaders.{register_at, known_or_misplaced, source_word, term_argument_at, argument_at, typed_at, operand_at, to_at, next_flag, flag_or_end, flags_at, pair_at, binary_at, pred_at, compare_at, select_at, convert_at, copy_at, operation_at, other_at, op_word, op_at}
 use Rattle.rule_tokens.specs.Parts.{Is, Comma, ◌⨾◌, Maybe}
 use Rattle.rule_tokens.specs.Tokens.{Token, Register, Word, Number, Mark}
-use Rattle.rule_parse.specs.Words.{operation_word, operation_in, source_word_in, argument_of}
+use Rattle.rule_parse.specs.Keywords.{operation_word, operation_in, source_word_in, argument_of}
 use Rattle.rule_tokens.proofs.Steps.{done, bind_ok, bound, read_as, passed, refused_not, not_left_out, chosen}
 use Rattle.rule_tokens.proofs.Takes.{Takes, taken_to, both, nothing, one, word_as, name_within-is, type_at-is, maybe_type-is, line_end-is}
 use Rattle.rule_parse.proofs.Pieces.{operation_in-is, source_word_in-is}
@@ -162,13 +162,13 @@ to_at-is line tokens x e = ends_line line tokens x e
 -- ---- flags
 
 -- a token that is one of the instruction's flags
-flag_token : (op : Opcode) (token : Token) (rest : List Token) (flag : Flag) → next_flag op (token ∷ rest) ≡ Some flag → (token ≡ Word (flag_word flag)) × (has_flag (flags_of op) flag ≡ true)
+flag_token : (op : Opcode) (token : Token) (rest : List Token) (flag : Flag) → next_flag op (token ∷ rest) ≡ Some flag → (token ≡ Word (flag_keyword flag)) × (has_flag (flags_of op) flag ≡ true)
 flag_token op (Word word) rest flag e = let is = flag_in-is op word flag e in (ap Word is.0, is.1)
 flag_token op token rest flag e = absurd cc
 
 -- flags before, and flags behind these
 abbrev AddsRead : Opcode → Flags → List Token → Flags × List Token → Type 0
-AddsRead op before tokens x = (written : List Flag) × AddsFlags op before written x.0 × (tokens ≡ map (λ flag. Word (flag_word flag)) written ++ x.1)
+AddsRead op before tokens x = (written : List Flag) × AddsFlags op before written x.0 × (tokens ≡ map (λ flag. Word (flag_keyword flag)) written ++ x.1)
 
 flag_or_end-is : (op : Opcode) (line : ℕ) (before : Flags) (token : Token) (rest : List Token) (x : Flags × List Token) (found : Option Flag) → next_flag op (token ∷ rest) ≡ found → flag_or_end line before found (λ flags. flags_at op line flags rest) (token ∷ rest) ≡ Ok x
     → ((flags : Flags) → flags_at op line flags rest ≡ Ok x → AddsRead op flags rest x) → AddsRead op before (token ∷ rest) x
@@ -177,7 +177,7 @@ flag_or_end-is op line before token rest x (Some flag) f e others =
     let new = refused_not (has_flag before flag) _ x (fault line Syntax) e in
     let more = others (with_flag before flag) new.1 in
     let is = flag_token op token rest flag f in
-    (flag ∷ more.0, (is.1, new.0, more.1), ap (λ (t : Token). t ∷ rest) is.0 ∙ ap (λ (ts : List Token). Word (flag_word flag) ∷ ts) more.2)
+    (flag ∷ more.0, (is.1, new.0, more.1), ap (λ (t : Token). t ∷ rest) is.0 ∙ ap (λ (ts : List Token). Word (flag_keyword flag) ∷ ts) more.2)
 
 flags_read : (op : Opcode) (line : ℕ) (before : Flags) (tokens : List Token) (x : Flags × List Token) → flags_at op line before tokens ≡ Ok x → AddsRead op before tokens x
 unfolding flags_at
@@ -188,7 +188,7 @@ flags_read op line before (token ∷ rest) x e =
 flags_at-is : (op : Opcode) (line : ℕ) (tokens : List Token) (x : Flags × List Token) → flags_at op line no_flags tokens ≡ Ok x → Takes (SpellsFlags op x.0) tokens x.1
 flags_at-is op line tokens x e =
     let f = flags_read op line no_flags tokens x e in
-    record { own = map (λ (flag : Flag). Word (flag_word flag)) f.0; is_own = (f.0, f.1, refl); whole = f.2 }
+    record { own = map (λ (flag : Flag). Word (flag_keyword flag)) f.0; is_own = (f.0, f.1, refl); whole = f.2 }
 
 -- ---- what a statement computes
 
@@ -207,19 +207,19 @@ pair_at-is half line tokens x e =
 abbrev IsOpBehind : Half → List ℕ → List Token → RawOp × List Token → Type 0
 IsOpBehind half word tokens x = Takes (SpellsOp half x.0) (Word word ∷ tokens) x.1
 
-binary_at-is : (half : Half) (line : ℕ) (op : Opcode) (word : List ℕ) (tokens : List Token) (x : RawOp × List Token) → word ≡ opcode_word op → binary_at half line op tokens ≡ Ok x → IsOpBehind half word tokens x
+binary_at-is : (half : Half) (line : ℕ) (op : Opcode) (word : List ℕ) (tokens : List Token) (x : RawOp × List Token) → word ≡ opcode_keyword op → binary_at half line op tokens ≡ Ok x → IsOpBehind half word tokens x
 unfolding binary_at
 binary_at-is half line op word tokens x is e =
     bound (flags_at op line no_flags tokens) _ _ e (λ flags f e1.
     bound (pair_at half line flags.1) _ _ e1 (λ pair p e2.
     read_as (IsOpBehind half word tokens) (Binary op flags.0 pair.0.0 pair.0.1, pair.1) x e2
-    (both (word_as word (opcode_word op) tokens is) (both (flags_at-is op line tokens flags f) (pair_at-is half line flags.1 pair p)))))
+    (both (word_as word (opcode_keyword op) tokens is) (both (flags_at-is op line tokens flags f) (pair_at-is half line flags.1 pair p)))))
 
-pred_at-is : (line : ℕ) (tokens : List Token) (x : Pred × List Token) → pred_at line tokens ≡ Ok x → Takes (Is (Word (pred_word x.0))) tokens x.1
+pred_at-is : (line : ℕ) (tokens : List Token) (x : Pred × List Token) → pred_at line tokens ≡ Ok x → Takes (Is (Word (predicate_keyword x.0))) tokens x.1
 unfolding pred_at
 pred_at-is line (Word word ∷ rest) x e =
     let n = not_left_out line word (pred_in word) rest x e in
-    taken_to (word_as word (pred_word x.0) rest (pred_in-is word x.0 n.0)) n.1
+    taken_to (word_as word (predicate_keyword x.0) rest (pred_in-is word x.0 n.0)) n.1
 pred_at-is line tokens x e = absurd cc
 
 compare_at-is : (half : Half) (line : ℕ) (word : List ℕ) (tokens : List Token) (x : RawOp × List Token) → word ≡ codes "icmp" → compare_at half line tokens ≡ Ok x → IsOpBehind half word tokens x
@@ -243,13 +243,13 @@ select_at-is half line word tokens x is e =
     (both (word_as word (codes "select") tokens is) (both (operand_at-is half line tokens a p) (both (comma_at-is line a.1 b q) (both (operand_at-is half line b c r)
     (both (comma_at-is line c.1 d s) (taken_to (operand_at-is half line d f t) (line_end-is line f.1 rest ends)))))))))))))
 
-convert_at-is : (half : Half) (line : ℕ) (cast : Cast) (word : List ℕ) (tokens : List Token) (x : RawOp × List Token) → word ≡ cast_word cast → convert_at half line cast tokens ≡ Ok x → IsOpBehind half word tokens x
+convert_at-is : (half : Half) (line : ℕ) (cast : Cast) (word : List ℕ) (tokens : List Token) (x : RawOp × List Token) → word ≡ cast_keyword cast → convert_at half line cast tokens ≡ Ok x → IsOpBehind half word tokens x
 unfolding convert_at
 convert_at-is half line cast word tokens x is e =
     bound (operand_at half line tokens) _ _ e (λ from p e1.
     bound (to_at line from.1) _ _ e1 (λ to q e2.
     read_as (IsOpBehind half word tokens) (Convert cast from.0 to.0, to.1) x e2
-    (both (word_as word (cast_word cast) tokens is) (both (operand_at-is half line tokens from p) (to_at-is line from.1 to q)))))
+    (both (word_as word (cast_keyword cast) tokens is) (both (operand_at-is half line tokens from p) (to_at-is line from.1 to q)))))
 
 copy_at-is : (line : ℕ) (tokens : List Token) (x : RawOp × List Token) → copy_at line tokens ≡ Ok x → Takes (SpellsOp Target x.0) tokens x.1
 unfolding copy_at

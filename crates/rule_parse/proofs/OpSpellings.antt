@@ -5,11 +5,11 @@ use Rattle.ops.specs.declared.opcode.Opcode.{Opcode}
 use Rattle.ops.specs.declared.opcode.Flags.{Flags}
 use Rattle.ops.specs.declared.comparison.Pred.{Pred}
 use Rattle.ops.specs.Flags.{no_flags}
-use Rattle.words.specs.declared.flag.Flag.{Flag}
-use Rattle.words.specs.Words.{pred_word}
-use Rattle.words.specs.Flags.{AddsFlags, flag_word, with_flag}
-use Rattle.words.proofs.WordLemmas.{pred_in-of}
-use Rattle.words.proofs.FlagLemmas.{flag_in-of}
+use Rattle.ops.specs.declared.keywords.flag.Flag.{Flag}
+use Rattle.ops.specs.Keywords.{predicate_keyword}
+use Rattle.ops.specs.FlagKeywords.{AddsFlags, flag_keyword, with_flag}
+use Rattle.ops.proofs.KeywordLemmas.{pred_in-of}
+use Rattle.ops.proofs.FlagKeywordLemmas.{flag_in-of}
 use Rattle.scan.specs.RuleTokens.{is_constant}
 use Rattle.rule_parse.specs.declared.half.Half.{Half}
 use Rattle.rule_parse.specs.declared.half.Half.TheVariants.{Source, Target}
@@ -19,17 +19,17 @@ use Rattle.rule_parse.specs.declared.raw.RawOperand.{RawOperand}
 use Rattle.rule_parse.specs.declared.raw.RawArgument.{RawArgument}
 use Rattle.rule_parse.specs.declared.raw.RawArgument.TheVariants as arguments
 use Rattle.rule_parse.specs.declared.word.Operation.TheVariants as operations
-use Rattle.rule_tokens.specs.Spelling.{SpellsType}
+use Rattle.rule_tokens.specs.TypeTokens.{SpellsType}
 use Rattle.rule_parse.specs.Grammar.{SpellsTermOperand, SpellsArgument, SpellsUntyped, SpellsOperand, SpellsPair, SpellsFlags, SpellsTo, SpellsOp}
-use Rattle.rule_tokens.specs.Reading.{maybe_type}
-use Rattle.rule_parse.specs.Parsing.{source_word, term_argument_at, argument_at, typed_at, operand_at, to_at, next_flag, flags_at, pair_at, binary_at, pred_at, compare_at, select_at, convert_at, copy_at, op_at}
+use Rattle.rule_tokens.specs.PartReaders.{maybe_type}
+use Rattle.rule_parse.specs.RuleReaders.{source_word, term_argument_at, argument_at, typed_at, operand_at, to_at, next_flag, flags_at, pair_at, binary_at, pred_at, compare_at, select_at, convert_at, copy_at, op_at}
 use Rattle.rule_tokens.specs.Parts.{Maybe, Comma}
 use Rattle.rule_tokens.specs.Tokens.{Token, Line, Register, Word, Number, Mark}
-use Rattle.rule_parse.specs.Words.{truth_word, source_word_in}
+use Rattle.rule_parse.specs.Keywords.{truth_word, source_word_in}
 use Rattle.rule_terms.specs.declared.place.TermPlace.TheVariants.{Constant}
 use Rattle.rule_terms.specs.Grammar.{most_nested, EndsTerm}
-use Rattle.rule_terms.specs.Parsing.{mark_at, term_at}
-use Rattle.rule_terms.specs.Words.{operator_in}
+use Rattle.rule_terms.specs.TermReaders.{mark_at, term_at}
+use Rattle.rule_terms.specs.Keywords.{operator_in}
 use Rattle.rule_terms.proofs.Starts.{mark_at-of}
 use Rattle.rule_tokens.specs.Limits.{most_name_bytes}
 use Rattle.rule_terms.proofs.Spellings.{term_at-of}
@@ -142,7 +142,7 @@ unfolding flags_at
 flags_done op line before [] none = refl
 flags_done op line before (token ∷ rest) none = rw none refl
 
-flags_added : (op : Opcode) (line : ℕ) (written : List Flag) (before after : Flags) (rest : List Token) → AddsFlags op before written after → next_flag op rest ≡ None → flags_at op line before (map (λ flag. Word (flag_word flag)) written ++ rest) ≡ Ok (after, rest)
+flags_added : (op : Opcode) (line : ℕ) (written : List Flag) (before after : Flags) (rest : List Token) → AddsFlags op before written after → next_flag op rest ≡ None → flags_at op line before (map (λ flag. Word (flag_keyword flag)) written ++ rest) ≡ Ok (after, rest)
 unfolding flags_at
 flags_added op line [] before after rest adds none = rw adds (flags_done op line after rest none)
 flags_added op line (flag ∷ written) before after rest (takes, new, adds) none =
@@ -175,7 +175,7 @@ pair_begins : (op : Opcode) (half : Half) (a b : RawOperand) (own rest : List To
 pair_begins op half a b own rest (t1, o1, (front, back, type, argument, is), others, is1) =
     rw (is1, append_assoc t1 o1 rest, is, append_assoc front back (o1 ++ rest)) (begins_no_flag op a.written front back (o1 ++ rest) type (argument_begins half a.value back argument))
 
-pred_at-of : (line : ℕ) (pred : Pred) (rest : List Token) → pred_at line (Word (pred_word pred) ∷ rest) ≡ Ok (pred, rest)
+pred_at-of : (line : ℕ) (pred : Pred) (rest : List Token) → pred_at line (Word (predicate_keyword pred) ∷ rest) ≡ Ok (pred, rest)
 unfolding pred_at
 pred_at-of line pred rest = rw (pred_in-of pred) refl
 

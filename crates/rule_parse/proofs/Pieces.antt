@@ -5,8 +5,8 @@ use Rattle.std.specs.Str.{bytes_eq}
 use Rattle.ops.specs.declared.opcode.Opcode.{Opcode}
 use Rattle.ops.specs.declared.opcode.Opcode.TheVariants.{Add, Sub, Mul, UDiv, SDiv, URem, SRem, Shl, LShr, AShr, And, Or, Xor}
 use Rattle.ops.specs.declared.conversion.Cast.TheVariants.{Trunc, ZExt, SExt}
-use Rattle.words.specs.Flags.{flag_in}
-use Rattle.words.proofs.WordLemmas.{same_word, found-passes}
+use Rattle.ops.specs.FlagKeywords.{flag_in}
+use Rattle.ops.proofs.KeywordLemmas.{same_word, found-passes}
 use Rattle.scan.specs.Bytes.{is_digit, are_digits}
 use Rattle.scan.proofs.Fronts.{which}
 use Rattle.rule_parse.specs.declared.half.Half.TheVariants.{Source}
@@ -17,7 +17,7 @@ use Rattle.rule_parse.specs.declared.word.Operation.TheVariants.{Binary, Compare
 use Rattle.rule_parse.specs.Grammar.{SpellsArgument}
 use Rattle.rule_tokens.specs.Numbers.{IsWrittenType}
 use Rattle.rule_tokens.specs.Tokens.{Word}
-use Rattle.rule_parse.specs.Words.{operation_word, operations, operation_in, source_word_in}
+use Rattle.rule_parse.specs.Keywords.{operation_word, operations, operation_in, source_word_in}
 use Rattle.rule_tokens.proofs.Steps.{chosen}
 
 -- ---- operations and truths

@@ -2,7 +2,7 @@
 use Rattle.std.proofs.Common.{◌≡◌, ℕ, zero, suc, ◌<◌, ◌≤◌, Bool, true, false, cond, List, [], ◌∷◌, ◌++◌, length, Option, Some, None, Ok, Err, refl, sym, ap, subst, ◌∙◌, ⊎_elim, append_assoc, length-append, arith}
 use Rattle.std.specs.Prelude.{codes}
 use Rattle.std.specs.Str.{bytes_eq}
-use Rattle.words.proofs.WordLemmas.{same_word}
+use Rattle.ops.proofs.KeywordLemmas.{same_word}
 use Rattle.rule_tokens.specs.declared.fault.Misfit.TheVariants.{Syntax}
 use Rattle.rule_parse.specs.declared.half.Half.{Half}
 use Rattle.rule_parse.specs.declared.half.Half.TheVariants.{Source, Target}
@@ -10,16 +10,16 @@ use Rattle.rule_parse.specs.declared.raw.RawRule.{RawRule}
 use Rattle.rule_parse.specs.declared.raw.RawStatement.{RawStatement}
 use Rattle.rule_parse.specs.declared.raw.RawPrecondition.{RawPrecondition}
 use Rattle.rule_parse.specs.declared.raw.RawWitness.{RawWitness}
-use Rattle.rule_terms.specs.FormulaReading.{formula_at}
-use Rattle.rule_terms.specs.Parsing.{mark_at}
+use Rattle.rule_terms.specs.FormulaReaders.{formula_at}
+use Rattle.rule_terms.specs.TermReaders.{mark_at}
 use Rattle.rule_terms.proofs.Starts.{mark_at-is}
 use Rattle.rule_tokens.specs.Parts.{Maybe}
-use Rattle.rule_tokens.specs.Giving.{◌>>=◌}
+use Rattle.rule_tokens.specs.Gives.{◌>>=◌}
 use Rattle.rule_parse.specs.Grammar.{SpellsStatement, SpellsStatements, SpellsHalf, SpellsPrecondition, SpellsWitness, SpellsRule, SpellsRules}
 use Rattle.rule_parse.specs.Limits.{most_statements}
 use Rattle.rule_tokens.specs.Limits.{most_name_bytes}
-use Rattle.rule_tokens.specs.Reading.{fault, name_within}
-use Rattle.rule_parse.specs.Parsing.{op_at, statement_at, statements_at, name_text, name_at, behind_precondition, precondition_at, expressions_at, behind_witness, witness_at, source_at, arrow_at, target_at, rule_at, rules_at}
+use Rattle.rule_tokens.specs.PartReaders.{fault, name_within}
+use Rattle.rule_parse.specs.RuleReaders.{op_at, statement_at, statements_at, name_text, name_at, behind_precondition, precondition_at, expressions_at, behind_witness, witness_at, source_at, arrow_at, target_at, rule_at, rules_at}
 use Rattle.rule_tokens.specs.Tokens.{Token, Line, Head, Name, Register, Arrow, Mark}
 use Rattle.rule_tokens.proofs.Takes.{Takes, nothing, name_within-is, line_end-is}
 use Rattle.rule_parse.proofs.Expressions.{expressions_at-is}

@@ -12,7 +12,7 @@ use Rattle.rule_tokens.specs.Parts.{Maybe}
 use Rattle.rule_parse.specs.Grammar.{SpellsOp, SpellsStatements, SpellsHalf, SpellsPrecondition, SpellsWitness, SpellsRule, SpellsRules}
 use Rattle.rule_parse.specs.Limits.{most_statements}
 use Rattle.rule_tokens.specs.Limits.{most_name_bytes}
-use Rattle.rule_parse.specs.Parsing.{statement_at, statements_at, IsNoStatement, name_text, name_at, precondition_at, witness_at, source_at, arrow_at, target_at, rule_at, rules_at}
+use Rattle.rule_parse.specs.RuleReaders.{statement_at, statements_at, IsNoStatement, name_text, name_at, precondition_at, witness_at, source_at, arrow_at, target_at, rule_at, rules_at}
 use Rattle.rule_tokens.specs.Tokens.{Token, Line, Head, Name, Register, Arrow, Mark}
 use Rattle.rule_tokens.proofs.Ends.{EndsLine, name_within-of, line_end-of}
 use Rattle.rule_parse.proofs.Expressions.{expressions_at-of}

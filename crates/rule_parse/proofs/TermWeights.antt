@@ -17,11 +17,11 @@ use Rattle.rule_terms.specs.declared.raw.RawFormula.{RawFormula}
 use Rattle.rule_terms.specs.declared.raw.RawFormula.TheVariants as formulas
 use Rattle.rule_terms.specs.Grammar.{last_place, SpellsLeaf, SpellsTerm, leaf, width, parenthesised, called, prefixed, tighter, joined}
 use Rattle.rule_terms.specs.Formulas.{Standing, Level, SpellsFormula, compares, tests, one_use, turns, encloses, member, both, members, either}
-use Rattle.rule_terms.specs.FormulaWords.{comparison_mark}
+use Rattle.rule_terms.specs.FormulaKeywords.{comparison_mark}
 use Rattle.rule_terms.proofs.Predicates.{predicates}
-use Rattle.rule_terms.specs.Words.{operator_mark, IsPrefix, IsCalled, IsChoice}
-use Rattle.rule_parse.specs.Inside.{terms_of_formula}
-use Rattle.rule_parse.specs.Limited.{is_node_word, plain_marks}
+use Rattle.rule_terms.specs.Keywords.{operator_mark, IsPrefix, IsCalled, IsChoice}
+use Rattle.rule_parse.specs.Contents.{terms_of_formula}
+use Rattle.rule_parse.specs.CutTokens.{is_node_word, plain_marks}
 use Rattle.rule_parse.specs.Weight.{node_weight, formula_weight}
 use Rattle.rule_parse.proofs.Cuts.{Weighs, join, at_least, word, number, register, node_word, operator, enclosed}
 

@@ -7,12 +7,12 @@ use Rattle.rule_tokens.specs.declared.fault.ParseError.{ParseError}
 use Rattle.rule_tokens.specs.declared.fault.ParseError.TheVariants.{Refused, NoMemory}
 use Rattle.rule_tokens.specs.declared.fault.TextFault.{TextFault}
 use Rattle.rule_parse.specs.declared.raw.RawRule.{RawRule}
-use Rattle.rule_tokens.specs.Giving.{Gives}
+use Rattle.rule_tokens.specs.Gives.{Gives}
 use Rattle.rule_parse.specs.Grammar.{SpellsRules}
-use Rattle.rule_parse.specs.Laws.{TextsHaveOneReadingOrFault}
-use Rattle.rule_parse.specs.Limited.{limited}
-use Rattle.rule_parse.specs.Parsing.{all_rules}
-use Rattle.rule_tokens.specs.Refusing.{IfRefused}
+use Rattle.rule_parse.specs.OneReading.{TextsHaveOneReadingOrFault}
+use Rattle.rule_parse.specs.CutTokens.{limited}
+use Rattle.rule_parse.specs.RuleReaders.{all_rules}
+use Rattle.rule_tokens.specs.Errors.{IfRefused}
 use Rattle.rule_parse.specs.Text.{IsWritten, IsTextFault}
 use Rattle.rule_tokens.specs.Tokens.{Token, AreTokens}
 use Rattle.rule_tokens.proofs.Readers.{one_reading, has_tokens}

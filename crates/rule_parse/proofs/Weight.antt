@@ -4,13 +4,13 @@ use Rattle.std.specs.Prelude.{codes, sum_by, flat_map, slice_get}
 use Rattle.std.specs.Option.{option_map_or}
 use Rattle.std.proofs.lemmas.List.Sums.{sum_by-cons, sum_by-append}
 use Rattle.std.proofs.lemmas.Grind.{flat_map-append}
-use Rattle.words.specs.declared.flag.Flag.{Flag}
-use Rattle.words.specs.Words.{opcode_word, cast_word, pred_word}
-use Rattle.words.specs.Flags.{flag_word}
+use Rattle.ops.specs.declared.keywords.flag.Flag.{Flag}
+use Rattle.ops.specs.Keywords.{opcode_keyword, cast_keyword, predicate_keyword}
+use Rattle.ops.specs.FlagKeywords.{flag_keyword}
 use Rattle.scan.specs.Bytes.{is_digit}
 use Rattle.scan.specs.RuleTokens.{is_constant, is_choice, ends_primary}
 use Rattle.rule_tokens.specs.Parts.{Maybe}
-use Rattle.rule_tokens.specs.Spelling.{SpellsType}
+use Rattle.rule_tokens.specs.TypeTokens.{SpellsType}
 use Rattle.rule_tokens.specs.Tokens.{Token, Line, Head, Name, Word, Arrow, Mark}
 use Rattle.rule_terms.specs.declared.raw.RawNode.{RawNode}
 use Rattle.rule_terms.specs.declared.raw.RawNode.TheVariants as nodes
@@ -26,12 +26,12 @@ use Rattle.rule_parse.specs.declared.raw.RawOperand.{RawOperand}
 use Rattle.rule_parse.specs.declared.raw.RawArgument.{RawArgument}
 use Rattle.rule_parse.specs.declared.raw.RawArgument.TheVariants as arguments
 use Rattle.rule_parse.specs.Grammar.{SpellsTermOperand, SpellsArgument, SpellsOperand, SpellsPair, SpellsTo, SpellsOp, SpellsStatements, SpellsPrecondition, SpellsMoreExpressions, SpellsExpressions, SpellsWitness, SpellsRule, SpellsRules}
-use Rattle.rule_parse.specs.Inside.{arguments_of, arguments_among, terms_of_argument, terms_of_formula, target_terms, terms_of, expressions_of, formula_of}
-use Rattle.rule_parse.specs.Laws.{WrittenRulesAreSmall}
-use Rattle.rule_parse.specs.Limited.{is_node_word, ends_before_line, room_behind, or_excess, limited_to, limited}
+use Rattle.rule_parse.specs.Contents.{arguments_of, arguments_among, terms_of_argument, terms_of_formula, target_terms, terms_of, expressions_of, formula_of}
+use Rattle.rule_parse.specs.OneReading.{WrittenRulesAreSmall}
+use Rattle.rule_parse.specs.CutTokens.{is_node_word, ends_before_line, room_behind, or_excess, limited_to, limited}
 use Rattle.rule_parse.specs.Limits.{most_nodes}
 use Rattle.rule_parse.specs.Weight.{argument_weight, node_weight, raw_weight}
-use Rattle.rule_parse.specs.Words.{truth_word, argument_of}
+use Rattle.rule_parse.specs.Keywords.{truth_word, argument_of}
 use Rattle.rule_parse.proofs.Cuts.{step, Weighs, nothing, join, light, at_least, word, mark, number, register, node_word, assigned, behind_one, precondition_led, witness_led, arrow_led}
 use Rattle.rule_parse.proofs.TermWeights.{constant_counts, nodes_weight, nodes_weight-is, term_weighs, formulas_weight, formulas_weight-is, formula_weighs}
 
@@ -91,9 +91,9 @@ pair_weighs half a b own (front, behind, left, (comma, back, is_comma, right, at
 
 -- ---- operations
 
-flags_weigh : (flags : List Flag) → Weighs 0 (map (λ (flag : Flag). Word (flag_word flag)) flags)
+flags_weigh : (flags : List Flag) → Weighs 0 (map (λ (flag : Flag). Word (flag_keyword flag)) flags)
 flags_weigh [] = nothing
-flags_weigh (flag ∷ flags) = join 0 0 (Word (flag_word flag) ∷ []) (map (λ (flag : Flag). Word (flag_word flag)) flags) (word (flag_word flag)) (flags_weigh flags)
+flags_weigh (flag ∷ flags) = join 0 0 (Word (flag_keyword flag) ∷ []) (map (λ (flag : Flag). Word (flag_keyword flag)) flags) (word (flag_keyword flag)) (flags_weigh flags)
 
 behind_word : (w : ℕ) (text : List ℕ) (own front back : List Token) → front ≡ Word text ∷ [] → Weighs w back → own ≡ front ++ back → Weighs w own
 behind_word w text own front back is b whole = rw (whole, is) (light w (Word text ∷ []) back (word text) b)
@@ -109,10 +109,10 @@ arguments_weight (a ∷ more) = one_weight a + arguments_weight more
 op_weighs : (half : Half) (op : RawOp) (own : List Token) → SpellsOp half op own → Weighs (arguments_weight (arguments_of op)) own
 op_weighs half (Binary op flags a b) own (f, k, is, (g, h, (written, adds, spelled), pair, at), whole) =
     at_least _ (one_weight a.value + one_weight b.value) own (omega arith)
-    (behind_word _ (opcode_word op) own f k is (rw (at, spelled) (light _ (map (λ (flag : Flag). Word (flag_word flag)) written) h (flags_weigh written) (pair_weighs half a b h pair))) whole)
+    (behind_word _ (opcode_keyword op) own f k is (rw (at, spelled) (light _ (map (λ (flag : Flag). Word (flag_keyword flag)) written) h (flags_weigh written) (pair_weighs half a b h pair))) whole)
 op_weighs half (Compare pred a b) own (f, k, is, (g, h, is_pred, pair, at), whole) =
     at_least _ (one_weight a.value + one_weight b.value) own (omega arith)
-    (behind_word _ (codes "icmp") own f k is (behind_word _ (pred_word pred) k g h is_pred (pair_weighs half a b h pair) at) whole)
+    (behind_word _ (codes "icmp") own f k is (behind_word _ (predicate_keyword pred) k g h is_pred (pair_weighs half a b h pair) at) whole)
 op_weighs half (Select c a b) own (f, k, is, (x, k1, is_c, (m1, k2, comma1, (y, k3, is_a, (m2, z, comma2, is_b, w4), w3), w2), w1), whole) =
     at_least _ (one_weight c.value + (one_weight a.value + one_weight b.value)) own (omega arith)
     (behind_word _ (codes "select") own f k is
@@ -123,7 +123,7 @@ op_weighs half (Select c a b) own (f, k, is, (x, k1, is_c, (m1, k2, comma1, (y, 
     whole)
 op_weighs half (Convert cast a to) own (f, k, is, (x, y, is_a, is_to, at), whole) =
     at_least _ (one_weight a.value + 0) own (omega arith)
-    (behind_word _ (cast_word cast) own f k is (rw at (join (one_weight a.value) 0 x y (operand_weighs half a x is_a) (to_weighs to y is_to))) whole)
+    (behind_word _ (cast_keyword cast) own f k is (rw at (join (one_weight a.value) 0 x y (operand_weighs half a x is_a) (to_weighs to y is_to))) whole)
 op_weighs Source (Copy a) own is = absurd is
 op_weighs Target (Copy a) own is = at_least _ (one_weight a.value) own (omega arith) (operand_weighs Target a own is)
 

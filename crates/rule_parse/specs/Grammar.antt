@@ -3,9 +3,9 @@ use Rattle.std.specs.Prelude.{◌≡◌, IsTrue, ℕ, ◌≤◌, List, [], ◌�
 use Rattle.ops.specs.declared.opcode.Opcode.{Opcode}
 use Rattle.ops.specs.declared.opcode.Flags.{Flags}
 use Rattle.ops.specs.Flags.{no_flags}
-use Rattle.words.specs.declared.flag.Flag.{Flag}
-use Rattle.words.specs.Words.{opcode_word, cast_word, pred_word}
-use Rattle.words.specs.Flags.{AddsFlags, flag_word}
+use Rattle.ops.specs.declared.keywords.flag.Flag.{Flag}
+use Rattle.ops.specs.Keywords.{opcode_keyword, cast_keyword, predicate_keyword}
+use Rattle.ops.specs.FlagKeywords.{AddsFlags, flag_keyword}
 use Rattle.scan.specs.RuleTokens.{is_constant}
 use Rattle.rule_terms.specs.declared.raw.RawNode.{RawNode}
 use Rattle.rule_terms.specs.declared.place.TermPlace.TheVariants.{Constant, Witness}
@@ -24,11 +24,11 @@ use Rattle.rule_parse.specs.declared.raw.RawArgument.{RawArgument}
 use Rattle.rule_parse.specs.declared.raw.RawArgument.TheVariants as arguments
 use Rattle.rule_parse.specs.Limits.{most_statements}
 use Rattle.rule_tokens.specs.Limits.{most_name_bytes}
-use Rattle.rule_tokens.specs.Spelling.{SpellsType}
+use Rattle.rule_tokens.specs.TypeTokens.{SpellsType}
 use Rattle.rule_tokens.specs.Numbers.{literal_value}
 use Rattle.rule_tokens.specs.Parts.{Part, Is, Comma, Nothing, Never, ◌⨾◌, Maybe}
 use Rattle.rule_tokens.specs.Tokens.{Token, Line, Head, Name, Register, Word, Number, Arrow, Mark}
-use Rattle.rule_parse.specs.Words.{truth_word, argument_of}
+use Rattle.rule_parse.specs.Keywords.{truth_word, argument_of}
 
 -- a term of constants that is this operand
 abbrev pub SpellsTermOperand : RawArgument → Part
@@ -62,7 +62,7 @@ SpellsPair half a b = SpellsOperand half a ⨾ Comma ⨾ SpellsUntyped half b
 
 -- flag*, each once, in any order
 abbrev pub SpellsFlags : Opcode → Flags → Part
-SpellsFlags op flags tokens = (written : List Flag) × AddsFlags op no_flags written flags × (tokens ≡ map (λ flag. Word (flag_word flag)) written)
+SpellsFlags op flags tokens = (written : List Flag) × AddsFlags op no_flags written flags × (tokens ≡ map (λ flag. Word (flag_keyword flag)) written)
 
 -- 'to' type
 abbrev pub SpellsTo : ℕ → Part
@@ -74,11 +74,11 @@ SpellsTo width = Is (Word (codes "to")) ⨾ SpellsType width
 --     | ('trunc' | 'zext' | 'sext') [type] o ['to' type]
 -- and in the target a copy: [type] o
 abbrev pub SpellsOp : Half → RawOp → Part
-SpellsOp half (Binary op flags a b) = Is (Word (opcode_word op)) ⨾ SpellsFlags op flags ⨾ SpellsPair half a b
-SpellsOp half (Compare pred a b) = Is (Word (codes "icmp")) ⨾ Is (Word (pred_word pred)) ⨾ SpellsPair half a b
+SpellsOp half (Binary op flags a b) = Is (Word (opcode_keyword op)) ⨾ SpellsFlags op flags ⨾ SpellsPair half a b
+SpellsOp half (Compare pred a b) = Is (Word (codes "icmp")) ⨾ Is (Word (predicate_keyword pred)) ⨾ SpellsPair half a b
 SpellsOp half (Select condition if_true if_false) =
     Is (Word (codes "select")) ⨾ SpellsOperand half condition ⨾ Comma ⨾ SpellsOperand half if_true ⨾ Comma ⨾ SpellsOperand half if_false
-SpellsOp half (Convert cast a to) = Is (Word (cast_word cast)) ⨾ SpellsOperand half a ⨾ Maybe SpellsTo to
+SpellsOp half (Convert cast a to) = Is (Word (cast_keyword cast)) ⨾ SpellsOperand half a ⨾ Maybe SpellsTo to
 SpellsOp Source (Copy a) = Never
 SpellsOp Target (Copy a) = SpellsOperand Target a
 

@@ -1,10 +1,11 @@
-pub mod Counted
+pub use Rattle.rule_tokens.specs.Errors
+pub mod NodeCounts
 pub mod Grammar
-pub mod Inside
-pub mod Laws
-pub mod Limited
+pub mod Contents
+pub mod OneReading
+pub mod CutTokens
 pub mod Limits
-pub mod Parsing
+pub mod RuleReaders
 pub mod Text
 pub mod Weight
-pub mod Words
+pub mod Keywords

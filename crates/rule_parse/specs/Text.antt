@@ -3,8 +3,8 @@ use Rattle.std.specs.Prelude.{◌≡◌, ℕ, List, Err}
 use Rattle.rule_tokens.specs.declared.fault.TextFault.{TextFault}
 use Rattle.rule_parse.specs.declared.raw.RawRule.{RawRule}
 use Rattle.rule_parse.specs.Grammar.{SpellsRules}
-use Rattle.rule_parse.specs.Limited.{limited}
-use Rattle.rule_parse.specs.Parsing.{all_rules}
+use Rattle.rule_parse.specs.CutTokens.{limited}
+use Rattle.rule_parse.specs.RuleReaders.{all_rules}
 use Rattle.rule_tokens.specs.Tokens.{Token, AreTokens}
 
 -- the text is that of these rules

@@ -7,7 +7,7 @@ use Rattle.rule_terms.specs.declared.raw.RawNode.{RawNode}
 use Rattle.rule_terms.specs.declared.raw.RawNode.TheVariants as raw_nodes
 use Rattle.rule_terms.specs.declared.raw.RawFormula.{RawFormula}
 use Rattle.rule_terms.specs.declared.raw.RawFormula.TheVariants as raw_formulas
-use Rattle.rule_parse.specs.Inside.{arguments_among, terms_of, expressions_of, formula_of}
+use Rattle.rule_parse.specs.Contents.{arguments_among, terms_of, expressions_of, formula_of}
 
 -- an operand is one; the nodes of a term are counted as those of terms
 abbrev pub argument_weight : RawArgument → ℕ

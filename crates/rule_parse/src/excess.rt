@@ -1,20 +1,20 @@
 //! The limit of how many operands, literals, names, operators and functions stand in a rule.
 
 ghost use Rattle.std.specs.Prelude.{◌≡◌, IfOk};
-ghost use Rattle.rule_parse.specs.Limited as spelled;
-ghost use Rattle.rule_tokens.specs.Seen.{seen, seen_token};
+ghost use Rattle.rule_parse.specs.CutTokens as spelled;
+ghost use Rattle.rule_tokens.specs.SeenTokens.{seen, seen_token};
 
+use ops::keywords::is;
 use rule_terms::is_among;
 use rule_tokens::Token;
 use scan::{RuleKind, ends_primary};
 use std::alloc::{AllocError, Global};
-use words::is;
 
 /// The most operands, literals, names, operators and functions of a rule.
 const MOST_NODES: u32 = 256;
 
 /// Whether a word is an operand, a function or a predicate of `Pre:`.
-#[tactic(auto, unfolding(crate::specs::Limited::is_node_word))]
+#[tactic(auto, unfolding(crate::specs::CutTokens::is_node_word))]
 fn is_node_word(word: &[u8]) -> bool
     ensures { result ≡ spelled.is_node_word word.now }
 {

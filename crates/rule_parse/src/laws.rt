@@ -1,5 +1,5 @@
 //! The laws of rule files, each the contract of a function that does nothing.
-ghost use Rattle.rule_parse.specs.Laws.{RulesAreReadAsSpelled, TextsHaveOneReadingOrFault, TokensAreKeptUpToTheLimit, WrittenRulesAreSmall};
+ghost use Rattle.rule_parse.specs.OneReading.{RulesAreReadAsSpelled, TextsHaveOneReadingOrFault, TokensAreKeptUpToTheLimit, WrittenRulesAreSmall};
 
 /// Reading from left to right answers rules exactly where the grammar spells them.
 pub fn rules_are_read_as_they_are_spelled()

@@ -27,6 +27,3 @@ pub use reader::parse_rules;
 pub use rule_terms::{RawFormula, RawNode, RawTerm};
 pub use rule_tokens::{Misfit, ParseError, TextFault};
 pub use word::Operation;
-
-#[cfg(test)]
-mod tests;

@@ -2,21 +2,21 @@
 
 ghost use Rattle.std.specs.Prelude.{◌≡◌, drop, IfSome, IfNone};
 ghost use Rattle.ops.specs.Flags.{no_flags};
-ghost use Rattle.rule_tokens.specs.Giving.{Gives};
-ghost use Rattle.rule_parse.specs.Parsing as parsing;
-ghost use Rattle.rule_tokens.specs.Seen.{seen};
+ghost use Rattle.rule_tokens.specs.Gives.{Gives};
+ghost use Rattle.rule_parse.specs.RuleReaders as parsing;
+ghost use Rattle.rule_tokens.specs.SeenTokens.{seen};
 
 use crate::half::Half;
 use crate::operand::{operand, result_type, typed};
 use crate::raw::{RawOp, RawOperand};
 use crate::word::{Operation, operation_of};
+use ops::keywords::{Flag, flag_of, has_flag, predicate_of, with_flag};
 use ops::{Cast, Flags, Opcode, Pred};
 use rule_terms::mark;
 use rule_tokens::{
     Misfit, ParseError, Token, line_end, misplaced, misplaced_word, refused, unexpected,
 };
 use std::alloc::Global;
-use words::{Flag, flag_of, has_flag, predicate_of, with_flag};
 
 /// The flag of the instruction that is next, if one is; goes behind it.
 fn flag(opcode: Opcode, tokens: &mut &[Token<'_>]) -> Option<Flag>
@@ -47,7 +47,7 @@ fn flags(opcode: Opcode, line: usize, tokens: &mut &[Token<'_>]) -> Result<Flags
 }
 
 /// Two operands of one type, and that the line ends behind them.
-#[tactic(auto, unfolding(crate::specs::Parsing::pair_at))]
+#[tactic(auto, unfolding(crate::specs::RuleReaders::pair_at))]
 fn pair(
     alloc: Global,
     half: Half,
@@ -64,7 +64,7 @@ fn pair(
 }
 
 /// A binary operation, behind its opcode.
-#[tactic(auto, unfolding(crate::specs::Parsing::binary_at))]
+#[tactic(auto, unfolding(crate::specs::RuleReaders::binary_at))]
 fn binary(
     alloc: Global,
     half: Half,
@@ -80,7 +80,7 @@ fn binary(
 }
 
 /// A predicate.
-#[tactic(auto, unfolding(crate::specs::Parsing::pred_at))]
+#[tactic(auto, unfolding(crate::specs::RuleReaders::pred_at))]
 fn predicate(alloc: Global, line: usize, tokens: &mut &[Token<'_>]) -> Result<Pred, ParseError>
     ensures { Gives (λ x. (x, seen tokens.new.now)) result (parsing.pred_at line (seen tokens.old.now)) }
 {
@@ -97,7 +97,7 @@ fn predicate(alloc: Global, line: usize, tokens: &mut &[Token<'_>]) -> Result<Pr
 }
 
 /// A comparison, behind `icmp`.
-#[tactic(auto, unfolding(crate::specs::Parsing::compare_at))]
+#[tactic(auto, unfolding(crate::specs::RuleReaders::compare_at))]
 fn comparison(
     alloc: Global,
     half: Half,
@@ -112,7 +112,7 @@ fn comparison(
 }
 
 /// A choice, behind `select`.
-#[tactic(auto, unfolding(crate::specs::Parsing::select_at))]
+#[tactic(auto, unfolding(crate::specs::RuleReaders::select_at))]
 fn selection(
     alloc: Global,
     half: Half,
@@ -131,7 +131,7 @@ fn selection(
 }
 
 /// A cast, behind its opcode.
-#[tactic(auto, unfolding(crate::specs::Parsing::convert_at))]
+#[tactic(auto, unfolding(crate::specs::RuleReaders::convert_at))]
 fn conversion(
     alloc: Global,
     half: Half,
@@ -147,7 +147,7 @@ fn conversion(
 }
 
 /// A copy.
-#[tactic(auto, unfolding(crate::specs::Parsing::copy_at))]
+#[tactic(auto, unfolding(crate::specs::RuleReaders::copy_at))]
 fn copy(alloc: Global, line: usize, tokens: &mut &[Token<'_>]) -> Result<RawOp, ParseError>
     ensures { Gives (λ x. (x, seen tokens.new.now)) result (parsing.copy_at line (seen tokens.old.now)) }
 {
@@ -190,7 +190,7 @@ fn other(
 }
 
 /// What a statement computes, behind its `=`.
-#[tactic(auto, unfolding(crate::specs::Parsing::op_at))]
+#[tactic(auto, unfolding(crate::specs::RuleReaders::op_at))]
 pub(crate) fn op(
     alloc: Global,
     half: Half,

@@ -1,11 +1,11 @@
 //! Types and operands from tokens, and what stands behind them.
 
 ghost use Rattle.std.specs.Prelude.{◌≡◌, IfOk};
-ghost use Rattle.rule_tokens.specs.Giving.{Gives};
-ghost use Rattle.rule_tokens.specs.Seen.{seen};
+ghost use Rattle.rule_tokens.specs.Gives.{Gives};
+ghost use Rattle.rule_tokens.specs.SeenTokens.{seen};
 ghost use Rattle.rule_parse.specs.declared.half.Half.TheVariants as halves;
-ghost use Rattle.rule_parse.specs.Parsing as parsing;
-ghost use Rattle.rule_parse.specs.Words as spelled;
+ghost use Rattle.rule_parse.specs.RuleReaders as parsing;
+ghost use Rattle.rule_parse.specs.Keywords as spelled;
 
 use crate::half::Half;
 use crate::limit::MOST_NESTED;
@@ -13,16 +13,16 @@ use crate::raw::{RawArgument, RawOperand};
 use crate::word::source_word_of;
 use lists::Text;
 use ops::Width;
+use ops::keywords::is;
 use rule_terms::{RawNode, RawTerm, TermPlace, is_constant, term};
 use rule_tokens::{
     Misfit, ParseError, Token, integer_type, line_end, literal, maybe_type, misplaced_word,
     name_within, refused, unexpected,
 };
 use std::alloc::{AllocError, Global};
-use words::is;
 
 /// A word of the source: a constant, a truth or `undef`.
-#[tactic(auto, unfolding(crate::specs::Parsing::source_word))]
+#[tactic(auto, unfolding(crate::specs::RuleReaders::source_word))]
 fn source_word(alloc: Global, line: usize, word: &[u8]) -> Result<RawArgument, ParseError>
     ensures { Gives (λ x. x) result (parsing.source_word line word.now) }
 {
@@ -36,7 +36,7 @@ fn source_word(alloc: Global, line: usize, word: &[u8]) -> Result<RawArgument, P
 }
 
 /// An operand of the source without its type.
-#[tactic(auto, unfolding(crate::specs::Parsing::argument_at))]
+#[tactic(auto, unfolding(crate::specs::RuleReaders::argument_at))]
 fn source_argument(
     alloc: Global,
     line: usize,
@@ -62,7 +62,7 @@ fn source_argument(
 }
 
 /// A term as an operand: a literal or a constant alone is known as such.
-#[tactic(auto, unfolding(crate::specs::Words::argument_of))]
+#[tactic(auto, unfolding(crate::specs::Keywords::argument_of))]
 fn argument_of(alloc: Global, term: RawTerm) -> Result<RawArgument, AllocError>
     ensures { IfOk result (λ x. x ≡ spelled.argument_of term) }
 {
@@ -89,7 +89,7 @@ fn term_argument(
 }
 
 /// An operand of the target without its type.
-#[tactic(auto, unfolding(crate::specs::Parsing::argument_at))]
+#[tactic(auto, unfolding(crate::specs::RuleReaders::argument_at))]
 fn target_argument(
     alloc: Global,
     line: usize,
@@ -126,7 +126,7 @@ fn argument(
 }
 
 /// An operand, behind the type that is written before it.
-#[tactic(auto, unfolding(crate::specs::Parsing::typed_at))]
+#[tactic(auto, unfolding(crate::specs::RuleReaders::typed_at))]
 pub(crate) fn typed(
     alloc: Global,
     half: Half,
@@ -154,7 +154,7 @@ pub(crate) fn operand(
 }
 
 /// The type behind a `to`, if one is written, and that the line ends there.
-#[tactic(auto, unfolding(crate::specs::Parsing::to_at))]
+#[tactic(auto, unfolding(crate::specs::RuleReaders::to_at))]
 pub(crate) fn result_type(
     alloc: Global,
     line: usize,

@@ -1,18 +1,18 @@
 //! Preconditions from the tokens of a text.
 
 ghost use Rattle.std.specs.Prelude.{◌≡◌};
-ghost use Rattle.rule_tokens.specs.Giving.{Gives};
-ghost use Rattle.rule_tokens.specs.Seen.{seen};
-ghost use Rattle.rule_parse.specs.Parsing as parsing;
+ghost use Rattle.rule_tokens.specs.Gives.{Gives};
+ghost use Rattle.rule_tokens.specs.SeenTokens.{seen};
+ghost use Rattle.rule_parse.specs.RuleReaders as parsing;
 
 use crate::raw::RawPrecondition;
+use ops::keywords::is;
 use rule_terms::formula;
 use rule_tokens::{ParseError, Token};
 use std::alloc::Global;
-use words::is;
 
 /// The precondition, if one is next; goes behind it.
-#[tactic(auto, unfolding(crate::specs::Parsing::precondition_at))]
+#[tactic(auto, unfolding(crate::specs::RuleReaders::precondition_at))]
 pub(crate) fn precondition(
     alloc: Global,
     tokens: &mut &[Token<'_>],

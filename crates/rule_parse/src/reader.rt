@@ -2,7 +2,7 @@
 
 ghost use Rattle.std.specs.Prelude.{IfOk, IfErr};
 ghost use Rattle.rule_parse.specs.Text.{IsWritten, IsTextFault};
-ghost use Rattle.rule_tokens.specs.Refusing.{IfRefused};
+ghost use Rattle.rule_tokens.specs.Errors.{IfRefused};
 
 use crate::excess::limited;
 use crate::raw::RawRule;

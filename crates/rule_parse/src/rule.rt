@@ -1,10 +1,10 @@
 //! Rules from the tokens of a text: each part of a rule stands on a line of its own.
 
 ghost use Rattle.std.specs.Prelude.{◌≡◌, ◌∷◌, IfSome, IfNone};
-ghost use Rattle.rule_tokens.specs.Giving.{Gives, Refuses};
-ghost use Rattle.rule_parse.specs.Parsing as parsing;
-ghost use Rattle.rule_parse.specs.Parsing.{IsNoStatement};
-ghost use Rattle.rule_tokens.specs.Seen.{seen};
+ghost use Rattle.rule_tokens.specs.Gives.{Gives, Refuses};
+ghost use Rattle.rule_parse.specs.RuleReaders as parsing;
+ghost use Rattle.rule_parse.specs.RuleReaders.{IsNoStatement};
+ghost use Rattle.rule_tokens.specs.SeenTokens.{seen};
 ghost use Rattle.rule_tokens.specs.Tokens.{Line, Register};
 
 use crate::half::Half;
@@ -13,9 +13,9 @@ use crate::raw::{RawRule, RawStatement};
 use crate::statement::statement;
 use crate::witness::witness;
 use lists::{List, Text};
+use ops::keywords::is;
 use rule_tokens::{Misfit, ParseError, Token, line_end, name_within, refused, unexpected};
 use std::alloc::Global;
-use words::is;
 
 /// The most statements of a half.
 const MOST_STATEMENTS: usize = 32;
@@ -45,7 +45,7 @@ fn name_text(alloc: Global, line: usize, tokens: &mut &[Token<'_>]) -> Result<Te
 }
 
 /// The line of a rule's name, and the name.
-#[tactic(auto, unfolding(crate::specs::Parsing::name_at))]
+#[tactic(auto, unfolding(crate::specs::RuleReaders::name_at))]
 fn name(alloc: Global, last: usize, tokens: &mut &[Token<'_>]) -> Result<(usize, Text), ParseError>
     ensures { Gives (λ x. (x, seen tokens.new.now)) result (parsing.name_at last (seen tokens.old.now)) }
 {
@@ -96,7 +96,7 @@ fn statements(
 }
 
 /// The source: one statement or more.
-#[tactic(auto, unfolding(crate::specs::Parsing::source_at))]
+#[tactic(auto, unfolding(crate::specs::RuleReaders::source_at))]
 fn source(
     alloc: Global,
     last: usize,
@@ -111,7 +111,7 @@ fn source(
 }
 
 /// The line of the `=>`.
-#[tactic(auto, unfolding(crate::specs::Parsing::arrow_at))]
+#[tactic(auto, unfolding(crate::specs::RuleReaders::arrow_at))]
 fn arrow(last: usize, tokens: &mut &[Token<'_>]) -> Result<(), ParseError>
     ensures { Gives (λ _. seen tokens.new.now) result (parsing.arrow_at last (seen tokens.old.now)) }
 {
@@ -125,7 +125,7 @@ fn arrow(last: usize, tokens: &mut &[Token<'_>]) -> Result<(), ParseError>
 }
 
 /// The target: one statement or more.
-#[tactic(auto, unfolding(crate::specs::Parsing::target_at))]
+#[tactic(auto, unfolding(crate::specs::RuleReaders::target_at))]
 fn target(
     alloc: Global,
     last: usize,
@@ -140,7 +140,7 @@ fn target(
 }
 
 /// The first rule of a text.
-#[tactic(auto, unfolding(crate::specs::Parsing::rule_at))]
+#[tactic(auto, unfolding(crate::specs::RuleReaders::rule_at))]
 fn rule(alloc: Global, last: usize, tokens: &mut &[Token<'_>]) -> Result<RawRule, ParseError>
     ensures { Gives (λ x. (x, seen tokens.new.now)) result (parsing.rule_at last (seen tokens.old.now)) }
 {

@@ -1,9 +1,9 @@
 //! One statement from the tokens of its line.
 
 ghost use Rattle.std.specs.Prelude.{◌≡◌};
-ghost use Rattle.rule_tokens.specs.Giving.{Gives};
-ghost use Rattle.rule_parse.specs.Parsing as parsing;
-ghost use Rattle.rule_tokens.specs.Seen.{seen};
+ghost use Rattle.rule_tokens.specs.Gives.{Gives};
+ghost use Rattle.rule_parse.specs.RuleReaders as parsing;
+ghost use Rattle.rule_tokens.specs.SeenTokens.{seen};
 
 use crate::half::Half;
 use crate::op::op;
@@ -13,7 +13,7 @@ use rule_tokens::{ParseError, Token, name_within};
 use std::alloc::Global;
 
 /// The statement of a register, behind it.
-#[tactic(auto, unfolding(crate::specs::Parsing::statement_at))]
+#[tactic(auto, unfolding(crate::specs::RuleReaders::statement_at))]
 pub(crate) fn statement(
     alloc: Global,
     half: Half,

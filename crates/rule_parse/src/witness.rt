@@ -1,17 +1,17 @@
 //! Witnesses from the tokens of a text.
 
 ghost use Rattle.std.specs.Prelude.{◌≡◌};
-ghost use Rattle.rule_tokens.specs.Giving.{Gives};
-ghost use Rattle.rule_tokens.specs.Seen.{seen};
-ghost use Rattle.rule_parse.specs.Parsing as parsing;
+ghost use Rattle.rule_tokens.specs.Gives.{Gives};
+ghost use Rattle.rule_tokens.specs.SeenTokens.{seen};
+ghost use Rattle.rule_parse.specs.RuleReaders as parsing;
 
 use crate::limit::MOST_NESTED;
 use crate::raw::RawWitness;
 use lists::List;
+use ops::keywords::is;
 use rule_terms::{RawTerm, TermPlace, takes, term};
 use rule_tokens::{ParseError, Token, line_end};
 use std::alloc::Global;
-use words::is;
 
 /// An expression of a witness, behind others.
 fn expression(
@@ -43,7 +43,7 @@ fn more_expressions(
 }
 
 /// Expressions with `,` between them; the line ends behind them.
-#[tactic(auto, unfolding(crate::specs::Parsing::expressions_at))]
+#[tactic(auto, unfolding(crate::specs::RuleReaders::expressions_at))]
 fn expressions(
     alloc: Global,
     line: usize,
@@ -59,7 +59,7 @@ fn expressions(
 }
 
 /// The witness, if one is next; goes behind it.
-#[tactic(auto, unfolding(crate::specs::Parsing::witness_at))]
+#[tactic(auto, unfolding(crate::specs::RuleReaders::witness_at))]
 pub(crate) fn witness(
     alloc: Global,
     tokens: &mut &[Token<'_>],

@@ -1,11 +1,11 @@
 //! Words of rules.
 
 ghost use Rattle.std.specs.Prelude.{◌≡◌};
-ghost use Rattle.rule_parse.specs.Words as spelled;
+ghost use Rattle.rule_parse.specs.Keywords as spelled;
 
 use crate::raw::RawArgument;
+use ops::keywords::{cast_name, is, opcode_name};
 use ops::{Cast, Opcode};
-use words::{cast_name, is, opcode_name};
 
 /// An operation that a statement begins with.
 #[derive(Clone, Copy, Debug)]
@@ -49,7 +49,7 @@ const OPERATIONS: [Operation; 18] = [
 ];
 
 /// The operation whose opcode a word is.
-#[tactic(auto, unfolding(crate::specs::Words::operation_in))]
+#[tactic(auto, unfolding(crate::specs::Keywords::operation_in))]
 pub(crate) fn operation_of(word: &[u8]) -> Option<Operation>
     ensures { result ≡ spelled.operation_in word.now }
 {
@@ -60,7 +60,7 @@ pub(crate) fn operation_of(word: &[u8]) -> Option<Operation>
 }
 
 /// What a word of the source is as an operand, where it is no constant: a truth or `undef`.
-#[tactic(auto, unfolding(crate::specs::Words::source_word_in))]
+#[tactic(auto, unfolding(crate::specs::Keywords::source_word_in))]
 pub(crate) fn source_word_of(word: &[u8]) -> Option<RawArgument>
     ensures { result ≡ spelled.source_word_in word.now }
 {

@@ -3,9 +3,9 @@ use Rattle.std.proofs.Common.{◌≡◌, ◌⊎◌, inl, inr, ℕ, suc, ◌-◌,
 use Rattle.std.specs.Prelude.{slice_get, IsTrue, Bool}
 use Rattle.rule_parse.specs.declared.raw.RawRule.{RawRule}
 use Rattle.rule_parse.specs.declared.raw.RawStatement.{RawStatement}
-use Rattle.rule_reader.specs.Naming.{AssignsAt, IsTemporary, IsRoot}
+use Rattle.rule_reader.specs.Meaning.{AssignsAt, IsTemporary, IsRoot}
 use Rattle.rule_reader.specs.WellFormed.{IsWellFormed}
-use Rattle.rule_reader.specs.Kinds.{StandsAt, HasNameOf, AssignsAgain, DuplicateAt, MissesRoot, RootMissingAt}
+use Rattle.rule_reader.specs.FaultKinds.{StandsAt, HasNameOf, AssignsAgain, DuplicateAt, MissesRoot, RootMissingAt}
 use Rattle.rule_reader.specs.Faults.{IsFirst, IsFirstLine}
 use Rattle.rule_reader.proofs.Places.{same_at, there}
 use Rattle.rule_reader.proofs.Firsts.{first_here, first_left, first_right, first_none_of, lines_before}

@@ -19,12 +19,12 @@ use Rattle.rule_reader.specs.declared.place.Place.{Place}
 use Rattle.rule_reader.specs.declared.place.Place.TheVariants as places
 use Rattle.rule_reader.specs.declared.place.Half.{Half}
 use Rattle.rule_reader.specs.declared.place.Half.TheVariants as halves
-use Rattle.rule_parse.specs.Inside.{arguments_of, arguments_among, terms_of_argument, terms_of_formula, formula_of, target_terms, terms_of}
-use Rattle.rule_reader.specs.Naming.{nodes_in, past_all, no_counts, in_half, TermsMean}
+use Rattle.rule_parse.specs.Contents.{arguments_of, arguments_among, terms_of_argument, terms_of_formula, formula_of, target_terms, terms_of}
+use Rattle.rule_reader.specs.Meaning.{nodes_in, past_all, no_counts, in_half, TermsMean}
 use Rattle.rule_terms.specs.Nodes.{IsBehindOperands}
 use Rattle.rule_reader.specs.WellFormed.{AreInLineOrder, IsTerm, IsWellFormed}
-use Rattle.rule_reader.specs.Kinds.{Each, ArgumentIsBound, TermIsBound, NodeIsBound}
-use Rattle.rule_reader.specs.Resolving.{half_of, place_in, IsPlaceOf, HalfIsBound, AreFew, IsWhole, AreReady, NodeFits, HasReadyTerm, AddsTerms}
+use Rattle.rule_reader.specs.FaultKinds.{Each, ArgumentIsBound, TermIsBound, NodeIsBound}
+use Rattle.rule_reader.specs.KnownRules.{half_of, place_in, IsPlaceOf, HalfIsBound, AreFew, IsWhole, AreReady, NodeFits, HasReadyTerm, AddsTerms}
 use Rattle.rule_reader.proofs.Places.{read_at}
 use Rattle.rule_reader.proofs.Members.{each_at, each_of}
 use Rattle.rule_reader.proofs.Counting.{few_at, ready, arguments_more}

@@ -31,18 +31,18 @@ use Rattle.rule_core.specs.declared.rule.Node.{Node}
 use Rattle.rule_core.specs.declared.rule.Node.TheVariants as nodes
 use Rattle.rule_core.specs.declared.rule.Formula.{Formula}
 use Rattle.rule_core.specs.declared.rule.Formula.TheVariants as formulas
-use Rattle.rule_core.specs.Checks.{IsRule, SourceMayRead, TargetMayRead, HasWidth, IsBeforeRoot, MayBeTerm, MayBeWitness, MayBeFormula, MayStandInSource as MayBeInSource, FlagsFitOp, IsNoUndefCopy, UndefsInOrder, StandsAt as StandsInRule, names_of}
+use Rattle.rule_core.specs.Checks.{IsRule, SourceMayRead, TargetMayRead, HasKnownWidth, IsBeforeRoot, MayBeTerm, MayBeWitness, MayBeFormula, MayStandInSource as MayBeInSource, FlagsFitOp, IsNoUndefCopy, UndefsInOrder, StandsAt as StandsInRule, names_of}
 use Rattle.rule_core.specs.Positions.{operands_of as operands_meant, operands_among, undefs_among}
 use Rattle.rule_core.proofs.Members.{Contains-from_get}
 use Rattle.rule_reader.specs.declared.counts.Counts.{Counts}
 use Rattle.rule_reader.specs.declared.names.Names.{Names}
 use Rattle.rule_reader.specs.declared.place.Place.TheVariants as places
-use Rattle.rule_parse.specs.Inside.{arguments_of, arguments_among, formula_of, expressions_of, target_terms, terms_of, terms_of_formula}
-use Rattle.rule_reader.specs.Naming.{nodes_in, past, no_counts, in_half, with_counts, with_nodes, with_terms, last_nodes, UsesAt, IsRoot, AssignsAt, IsInput, ArgumentMeans, OpMeans, StatementMeans, NodeMeans, FormulaMeans, HasName, HalfMeans, Means, names_of_rule}
+use Rattle.rule_parse.specs.Contents.{arguments_of, arguments_among, formula_of, expressions_of, target_terms, terms_of, terms_of_formula}
+use Rattle.rule_reader.specs.Meaning.{nodes_in, past, no_counts, in_half, with_counts, with_nodes, with_terms, last_nodes, UsesAt, IsRoot, AssignsAt, IsInput, ArgumentMeans, OpMeans, StatementMeans, NodeMeans, FormulaMeans, HasName, HalfMeans, Means, names_of_rule}
 use Rattle.rule_terms.specs.Nodes.{IsBehindOperands}
 use Rattle.rule_reader.specs.WellFormed.{IsHalf, IsWellFormed, IsBehindFormulas, MayStandInTerm, MayStandInSource, FlagsFitOp as FlagsFitRaw}
-use Rattle.rule_reader.specs.Kinds.{MayUse, NodeIsBound, TermIsBound, ArgumentIsBound, FormulaIsBound, RootMissingAt, UnusedTempAt, UndefInsideAt, WitnessCountAt, IsUndefCopy}
-use Rattle.rule_reader.specs.Resolving.{NamesAreThere}
+use Rattle.rule_reader.specs.FaultKinds.{MayUse, NodeIsBound, TermIsBound, ArgumentIsBound, FormulaIsBound, RootMissingAt, UnusedTempAt, UndefInsideAt, WitnessCountAt, IsUndefCopy}
+use Rattle.rule_reader.specs.KnownRules.{NamesAreThere}
 use Rattle.rule_reader.proofs.Places.{order, same_at, there, map_at, somewhere, zip_right}
 use Rattle.rule_reader.proofs.SameWeight.{same_weight}
 use Rattle.rule_reader.proofs.There.{IsThere, term_there}
@@ -313,15 +313,15 @@ module _ (raw : RawRule) (rule : Rule) (well : IsWellFormed raw) (bound : IsBoun
     | inr (j, lt, e) ↦ subst (IsBeforeRoot rule) (sym e) (subst (λ n. suc j < n) (sym source_length) lt)
   ]
 
-  has_width : (name : List ℕ) (r : Register) → IsThere raw (raw_nodes.Width name) → HasName raw own r name → HasWidth rule r
+  has_width : (name : List ℕ) (r : Register) → IsThere raw (raw_nodes.Width name) → HasName raw own r name → HasKnownWidth rule r
   has_width name r (inl (k, inside, may)) has = elim (target_register raw own bound.plain means.names k name r (λ not. not may) has) [
-    | inl (i, lt, e) ↦ subst (HasWidth rule) (sym e) lt
-    | inr (inl (j, lt, e)) ↦ subst (HasWidth rule) (sym e) (subst (λ n. suc j < n) (sym source_length) lt)
-    | inr (inr (j, lt, e)) ↦ subst (HasWidth rule) (sym e) (let within : suc j < length raw.target = omega arith in subst (λ n. suc j < n) (sym target_length) within)
+    | inl (i, lt, e) ↦ subst (HasKnownWidth rule) (sym e) lt
+    | inr (inl (j, lt, e)) ↦ subst (HasKnownWidth rule) (sym e) (subst (λ n. suc j < n) (sym source_length) lt)
+    | inr (inr (j, lt, e)) ↦ subst (HasKnownWidth rule) (sym e) (let within : suc j < length raw.target = omega arith in subst (λ n. suc j < n) (sym target_length) within)
   ]
   has_width name r (inr may) has = elim (before_root_register raw own bound.plain means.names name r may has) [
-    | inl (i, lt, e) ↦ subst (HasWidth rule) (sym e) lt
-    | inr (j, lt, e) ↦ subst (HasWidth rule) (sym e) (subst (λ n. suc j < n) (sym source_length) lt)
+    | inl (i, lt, e) ↦ subst (HasKnownWidth rule) (sym e) lt
+    | inr (j, lt, e) ↦ subst (HasKnownWidth rule) (sym e) (subst (λ n. suc j < n) (sym source_length) lt)
   ]
 
   may_be_term : (n b k : ℕ) (w : RawNode) (m : Node) → b + k ≡ n → NodeMeans raw own b w m → IsBehindOperands k w → MayStandInTerm w → IsThere raw w → MayBeTerm rule n m

@@ -5,9 +5,9 @@ use Rattle.std.proofs.lemmas.Bool.{false≢true}
 use Rattle.rule_core.specs.Checks.{IsRule}
 use Rattle.rule_reader.specs.declared.fault.RuleError.{RuleError}
 use Rattle.rule_reader.specs.declared.fault.RuleError.TheVariants as errors
-use Rattle.rule_reader.specs.Refusing.{IfRefused}
+use Rattle.rule_reader.specs.Errors.{IfRefused}
 use Rattle.rule_reader.specs.WellFormed.{IsWellFormed}
-use Rattle.rule_reader.specs.Marks.{Marks}
+use Rattle.rule_reader.specs.RepeatedNames.{MarksRule}
 use Rattle.std.proofs.lemmas.Option.{slice_get_within}
 use Rattle.rule_parse.specs.declared.raw.RawRule.{RawRule}
 use Rattle.rule_parse.specs.declared.raw.RawStatement.{RawStatement}
@@ -17,9 +17,9 @@ use Rattle.rule_typing.specs.declared.classes.ClassFault.TheVariants as class_fa
 use Rattle.rule_typing.specs.Classes.{IsClassified}
 use Rattle.rule_typing.specs.Faults.{IsFault as IsFaultOfClasses, HasTooManyClasses, HasNoTyping, HasOpenClass}
 use Rattle.rule_reader.specs.declared.fault.RuleFault.{RuleFault}
-use Rattle.rule_reader.specs.Naming.{Means}
-use Rattle.rule_reader.specs.Kinds.{ClassesAt, DuplicateAt, UnboundAt, RootMissingAt, RedefinesAt, UnusedTempAt, UndefInsideAt, WitnessCountAt}
-use Rattle.rule_reader.specs.Faults.{Check, Duplicate, Unbound, RootMissing, Redefines, UnusedTemp, UndefInside, WitnessCount, ManyClasses, NoType, OpenType, rank, kind_of, class_check, FailsAt, IsFirstLine, IsFirstFault, IsRuleOf}
+use Rattle.rule_reader.specs.Meaning.{Means}
+use Rattle.rule_reader.specs.FaultKinds.{ClassesAt, DuplicateAt, UnboundAt, RootMissingAt, RedefinesAt, UnusedTempAt, UndefInsideAt, WitnessCountAt}
+use Rattle.rule_reader.specs.Faults.{Check, Duplicate, Unbound, RootMissing, Redefines, UnusedTemp, UndefInside, WitnessCount, ManyClasses, NoType, OpenType, rank, kind_of, class_check, FailsAt, IsFirstLine, IsFirstRuleFault, IsRuleOf}
 use Rattle.rule_reader.specs.ClassFaults.{IsClassifiedAs, IsClassFault}
 use Rattle.rule_reader.proofs.Checked.{IsBound, checked_rule}
 use Rattle.rule_reader.proofs.There.{names_there}
@@ -64,7 +64,7 @@ module _ (earlier : List RawRule) (raw : RawRule) where
     | inr (inr behind) ↦ absurd (omega arith)
   ]
 
-  pub first_fault : (c : Check) (fault : RuleFault) → Clear (rank c) → fault.kind ≡ kind_of c → IsFirstLine (FailsAt earlier raw c) fault.line → IsFirstFault earlier raw fault
+  pub first_fault : (c : Check) (fault : RuleFault) → Clear (rank c) → fault.kind ≡ kind_of c → IsFirstLine (FailsAt earlier raw c) fault.line → IsFirstRuleFault earlier raw fault
   first_fault c fault clear kind line = record { check = c; kind = kind; line = line; first = clear }
 
   -- none of the checks of registers fails
@@ -100,7 +100,7 @@ module _ (earlier : List RawRule) (raw : RawRule) where
   class_line : (rule : Rule) (HasFault : Rule → Type 0) (line : ℕ) → Means raw rule → IsClassified rule → HasFault rule → line ≡ raw.line → IsFirstLine (ClassesAt raw HasFault) line
   class_line rule HasFault line means classes has is = (((rule, means, classes, has), sym is), λ other h. omega (arith, h.1))
 
-  class_fault : (classified : Rule) (fault : RuleFault) → Clear 7 → Means raw classified → IsClassified classified → fault.line ≡ raw.line → (f : ClassFault) → IsFaultOfClasses classified f → fault.kind ≡ kind_of (class_check f) → IsFirstFault earlier raw fault
+  class_fault : (classified : Rule) (fault : RuleFault) → Clear 7 → Means raw classified → IsClassified classified → fault.line ≡ raw.line → (f : ClassFault) → IsFaultOfClasses classified f → fault.kind ≡ kind_of (class_check f) → IsFirstRuleFault earlier raw fault
   class_fault classified fault clear meant classes line class_faults.TooMany is kind =
       first_fault ManyClasses fault clear kind (class_line classified HasTooManyClasses fault.line meant classes is line)
   class_fault classified fault clear meant classes line class_faults.NoType is kind =
@@ -113,19 +113,19 @@ module _ (earlier : List RawRule) (raw : RawRule) where
       let clear_9 = clear_more NoType clear_8 (λ l. no_class_fault classified HasNoTyping l bound meant classes is.1) in
       first_fault OpenType fault clear_9 kind (class_line classified HasOpenClass fault.line meant classes is.2 line)
 
-  pub fault_of_classes : (rule : Rule) (fault : RuleFault) → Clear 7 → Means raw rule → IsClassFault rule raw.line fault → IsFirstFault earlier raw fault
+  pub fault_of_classes : (rule : Rule) (fault : RuleFault) → Clear 7 → Means raw rule → IsClassFault rule raw.line fault → IsFirstRuleFault earlier raw fault
   fault_of_classes rule fault clear means found =
       class_fault found.classified fault clear (same_meaning raw rule found.classified (sym found.rest) means) found.classes found.line found.class_fault found.is_fault found.kind
 
 -- some earlier rules for which a mark is right
-pub some_earlier : (is_repeated : Bool) (raw : RawRule) → (earlier : List RawRule) × Marks is_repeated earlier raw
+pub some_earlier : (is_repeated : Bool) (raw : RawRule) → (earlier : List RawRule) × MarksRule is_repeated earlier raw
 some_earlier true raw = (raw ∷ [], (λ _. (0, raw, refl, refl), λ _. refl))
 some_earlier false raw = ([], (λ t. absurd (false≢true t), λ (k, other, at, is). absurd (let lt : k < 0 = slice_get_within [] k other at in omega arith)))
 
 -- what is said of all earlier rules for which the mark is right
 module _ (raw : RawRule) (is_repeated : Bool) where
   abbrev pub ForEarlier : (List RawRule → Type 0) → Type 0
-  ForEarlier P = (earlier : List RawRule) → Marks is_repeated earlier raw → P earlier
+  ForEarlier P = (earlier : List RawRule) → MarksRule is_repeated earlier raw → P earlier
 
   pub checked_so_far : (rule : Rule) → IsWellFormed raw → ForEarlier (λ earlier. Clear earlier raw 7) → Means raw rule → IsRule rule
   checked_so_far rule well clear means = let (earlier, marks) = some_earlier is_repeated raw in checked_rule raw rule well (bound_of earlier raw (clear earlier marks)) means
@@ -134,16 +134,16 @@ module _ (raw : RawRule) (is_repeated : Bool) where
   classified_ok rule (Ok classified) clear means is = λ earlier marks. rule_of earlier raw rule classified (clear earlier marks) means is
   classified_ok rule (Err e) clear means is = tt
 
-  pub classified_refused : (rule : Rule) (found : Result Rule RuleError) → ForEarlier (λ earlier. Clear earlier raw 7) → Means raw rule → IfErr found (λ e. IfRefused e (IsClassFault rule raw.line)) → IfErr found (λ e. IfRefused e (λ fault. ForEarlier (λ earlier. IsFirstFault earlier raw fault)))
+  pub classified_refused : (rule : Rule) (found : Result Rule RuleError) → ForEarlier (λ earlier. Clear earlier raw 7) → Means raw rule → IfErr found (λ e. IfRefused e (IsClassFault rule raw.line)) → IfErr found (λ e. IfRefused e (λ fault. ForEarlier (λ earlier. IsFirstRuleFault earlier raw fault)))
   classified_refused rule (Ok classified) clear means is = tt
   classified_refused rule (Err (errors.Refused fault)) clear means is = λ earlier marks. fault_of_classes earlier raw rule fault (clear earlier marks) means is
   classified_refused rule (Err errors.NoMemory) clear means is = tt
 
   -- the refusal where a check fails
   pub refused_at : (check : Check) (line : ℕ) (e : RuleError) → e ≡ errors.Refused (record { line = line; kind = kind_of check }) → ForEarlier (λ earlier. Clear earlier raw (rank check)) → ForEarlier (λ earlier. IsFirstLine (FailsAt earlier raw check) line)
-      → IfRefused e (λ fault. ForEarlier (λ earlier. IsFirstFault earlier raw fault))
+      → IfRefused e (λ fault. ForEarlier (λ earlier. IsFirstRuleFault earlier raw fault))
   refused_at check line e is clear first =
-      subst (λ x. IfRefused x (λ fault. ForEarlier (λ earlier. IsFirstFault earlier raw fault))) (sym is)
+      subst (λ x. IfRefused x (λ fault. ForEarlier (λ earlier. IsFirstRuleFault earlier raw fault))) (sym is)
       (λ earlier marks. first_fault earlier raw check (record { line = line; kind = kind_of check }) (clear earlier marks) refl (first earlier marks))
 
   pub clear_1 : ForEarlier (λ earlier. (line : ℕ) → ¬ DuplicateAt earlier raw line) → ForEarlier (λ earlier. Clear earlier raw 1)

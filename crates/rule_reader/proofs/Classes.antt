@@ -18,11 +18,11 @@ use Rattle.rule_core.specs.declared.rule.Term.{Term}
 use Rattle.rule_core.specs.declared.rule.Node.{Node}
 use Rattle.rule_core.specs.declared.rule.Node.TheVariants as nodes
 use Rattle.rule_core.specs.Positions.{classes_of_statement, classes_of_term}
-use Rattle.rule_typing.specs.Relabelling.{numbered_op, numbered_statement, numbered_statements, numbered_node, numbered_term, numbered_terms, numbered}
+use Rattle.rule_typing.specs.Relabelled.{numbered_op, numbered_statement, numbered_statements, numbered_node, numbered_term, numbered_terms, numbered}
 use Rattle.rule_reader.specs.declared.names.Names.{Names}
 use Rattle.rule_reader.specs.declared.counts.Counts.{Counts}
-use Rattle.rule_parse.specs.Inside.{arguments_of, terms_of, expressions_of, formula_of}
-use Rattle.rule_reader.specs.Naming.{past, past_all, no_counts, with_counts, with_nodes, AreNames, ArgumentMeans, OperandMeans, OpMeans, StatementMeans, NodeMeans, PreconditionMeans, HalfMeans, TermsMean, Means, names_of_rule}
+use Rattle.rule_parse.specs.Contents.{arguments_of, terms_of, expressions_of, formula_of}
+use Rattle.rule_reader.specs.Meaning.{past, past_all, no_counts, with_counts, with_nodes, AreNames, ArgumentMeans, OperandMeans, OpMeans, StatementMeans, NodeMeans, PreconditionMeans, HalfMeans, TermsMean, Means, names_of_rule}
 
 -- what a class number stands in place of
 abbrev with_class : Operand → ℕ → Operand

@@ -13,10 +13,10 @@ use Rattle.rule_core.specs.declared.rule.Statement.{Statement}
 use Rattle.rule_reader.specs.declared.names.Names.{Names}
 use Rattle.rule_reader.specs.declared.counts.Counts.{Counts}
 use Rattle.rule_reader.specs.declared.place.Place.{Place}
-use Rattle.rule_parse.specs.Inside.{arguments_of, arguments_among}
-use Rattle.rule_reader.specs.Naming.{past, past_all, no_counts, in_half, with_counts, StatementMeans, HalfMeans}
-use Rattle.rule_reader.specs.Kinds.{Each, ArgumentIsBound}
-use Rattle.rule_reader.specs.Resolving.{AreFew, IsWhole, AreReady}
+use Rattle.rule_parse.specs.Contents.{arguments_of, arguments_among}
+use Rattle.rule_reader.specs.Meaning.{past, past_all, no_counts, in_half, with_counts, StatementMeans, HalfMeans}
+use Rattle.rule_reader.specs.FaultKinds.{Each, ArgumentIsBound}
+use Rattle.rule_reader.specs.KnownRules.{AreFew, IsWhole, AreReady}
 use Rattle.rule_reader.proofs.Places.{zip_push}
 
 few_one : (c : Counts) (a : RawArgument) → AreFew (past c a) → AreFew c

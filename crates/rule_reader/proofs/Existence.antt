@@ -3,14 +3,14 @@ use Rattle.std.proofs.Common.{◌≡◌, ◌⊎◌, inl, inr, ℕ, zero, suc, �
 use Rattle.std.proofs.lemmas.Bool.{cases_lt}
 use Rattle.rule_parse.specs.declared.raw.RawRule.{RawRule}
 use Rattle.rule_parse.specs.Text.{IsWritten}
-use Rattle.rule_parse.specs.Laws.{TextsHaveOneReadingOrFault}
+use Rattle.rule_parse.specs.OneReading.{TextsHaveOneReadingOrFault}
 use Rattle.rule_core.specs.declared.rule.Rule.{Rule}
 use Rattle.rule_typing.specs.Laws.{RulesHaveClasses}
 use Rattle.rule_reader.specs.declared.fault.RuleFault.{RuleFault}
 use Rattle.rule_reader.specs.declared.fault.RuleFaultKind.TheVariants as kinds
 use Rattle.rule_reader.specs.WellFormed.{IsWellFormed}
-use Rattle.rule_reader.specs.Refusing.{kind_of_misfit}
-use Rattle.rule_reader.specs.Faults.{Check, Duplicate, Unbound, RootMissing, Redefines, UnusedTemp, UndefInside, WitnessCount, rank, kind_of, class_check, FailsAt, IsFirstFault, IsRuleOf, IsRuleFile, IsFault, too_long, of_text, of_rule}
+use Rattle.rule_reader.specs.Errors.{kind_of_misfit}
+use Rattle.rule_reader.specs.Faults.{Check, Duplicate, Unbound, RootMissing, Redefines, UnusedTemp, UndefInside, WitnessCount, rank, kind_of, class_check, FailsAt, IsFirstRuleFault, IsRuleOf, IsRuleFile, IsFault, too_long, of_text, of_rule}
 use Rattle.rule_reader.proofs.Checked.{checked_rule}
 use Rattle.rule_reader.proofs.Checking.{Clear, clear_none, clear_more, first_fault, bound_of, rule_of, fault_of_classes}
 use Rattle.rule_reader.proofs.Classes.{same_meaning}
@@ -24,7 +24,7 @@ use Rattle.rule_reader.proofs.Written.{written_well_formed}
 
 module _ (earlier : List RawRule) (raw : RawRule) (well : IsWellFormed raw) where
   abbrev HasFault : Type 0
-  HasFault = (fault : RuleFault) × IsFirstFault earlier raw fault
+  HasFault = (fault : RuleFault) × IsFirstRuleFault earlier raw fault
 
   -- one more check fails or passes
   checked_next : (check : Check) → FirstOf (FailsAt earlier raw check) → HasFault ⊎ Clear earlier raw (rank check) → HasFault ⊎ Clear earlier raw (suc (rank check))

@@ -6,12 +6,12 @@ use Rattle.rule_parse.specs.declared.raw.RawStatement.{RawStatement}
 use Rattle.rule_typing.proofs.Deciding.{dec_both, dec_either, dec_not, dec_number, dec_place}
 use Rattle.rule_reader.specs.declared.place.Place.TheVariants as places
 use Rattle.rule_reader.specs.WellFormed.{AreInLineOrder, IsWellFormed}
-use Rattle.rule_reader.specs.Kinds.{FormulaIsBound, TermIsBound, StandsAt, HasNameOf, AssignsAgain, DuplicateAt, StatementUnbound, PreconditionUnbound, WitnessUnbound, UnboundAt, MissesRoot, RootMissingAt, Redefines, RedefinesAt, IsUnused, UnusedTempAt, ReadsUndefInside, IsUndefCopy, UndefInsideAt, WitnessCountAt, witness_line}
+use Rattle.rule_reader.specs.FaultKinds.{FormulaIsBound, TermIsBound, StandsAt, HasNameOf, AssignsAgain, DuplicateAt, StatementUnbound, PreconditionUnbound, WitnessUnbound, UnboundAt, MissesRoot, RootMissingAt, Redefines, RedefinesAt, IsUnused, UnusedTempAt, ReadsUndefInside, IsUndefCopy, UndefInsideAt, WitnessCountAt, witness_line}
 use Rattle.rule_reader.specs.Faults.{IsFirst}
 use Rattle.rule_parse.specs.declared.raw.RawPrecondition.{RawPrecondition}
 use Rattle.rule_parse.specs.declared.raw.RawWitness.{RawWitness}
-use Rattle.rule_parse.specs.Inside.{expressions_of}
-use Rattle.rule_reader.specs.Naming.{in_half}
+use Rattle.rule_parse.specs.Contents.{expressions_of}
+use Rattle.rule_reader.specs.Meaning.{in_half}
 use Rattle.rule_reader.proofs.Stable.{same_number}
 use Rattle.rule_reader.proofs.Places.{there}
 use Rattle.rule_reader.proofs.Firsts.{NoneBefore, first_here, first_none, none_more, first_left, first_right, first_none_of, lines_before}

@@ -4,7 +4,7 @@ use Rattle.std.specs.Prelude.{slice_get}
 use Rattle.std.proofs.lemmas.Option.{slice_get_within}
 use Rattle.rule_parse.specs.declared.raw.RawStatement.{RawStatement}
 use Rattle.rule_reader.specs.WellFormed.{AreInLineOrder}
-use Rattle.rule_reader.specs.Kinds.{StandsAt}
+use Rattle.rule_reader.specs.FaultKinds.{StandsAt}
 use Rattle.rule_reader.specs.Faults.{IsFirstLine}
 use Rattle.rule_reader.proofs.Places.{order, same_at}
 

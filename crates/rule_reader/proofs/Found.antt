@@ -9,8 +9,8 @@ use Rattle.rule_core.specs.declared.rule.Register.TheVariants as registers
 use Rattle.rule_core.proofs.Members.{Contains-from_get}
 use Rattle.rule_reader.specs.declared.names.Names.{Names}
 use Rattle.rule_reader.specs.declared.place.Place.TheVariants as places
-use Rattle.rule_reader.specs.Naming.{AssignsAt, AreInputs, IsInput, IsConstant, IsRoot, AreNames, HasName}
-use Rattle.rule_reader.specs.Resolving.{Finds}
+use Rattle.rule_reader.specs.Meaning.{AssignsAt, AreInputs, IsInput, IsConstant, IsRoot, AreNames, HasName}
+use Rattle.rule_reader.specs.KnownRules.{Finds}
 
 module _ (source : List RawStatement) (names : Names) (are : AreNames source names) (name : List ℕ) where
   pub input_of : Contains names.inputs name → IsInput source name

@@ -12,8 +12,8 @@ use Rattle.rule_parse.specs.declared.raw.RawOp.TheVariants.{Binary, Compare, Sel
 use Rattle.rule_parse.specs.declared.raw.RawArgument.{RawArgument}
 use Rattle.rule_core.proofs.Members.{Contains-from_get, get-append_left}
 use Rattle.rule_reader.specs.declared.names.Names.{Names}
-use Rattle.rule_parse.specs.Inside.{arguments_of, arguments_among}
-use Rattle.rule_reader.specs.Naming.{GivenAt, AreFirstGiven, GivesInput, GivesConstant, AreNames}
+use Rattle.rule_parse.specs.Contents.{arguments_of, arguments_among}
+use Rattle.rule_reader.specs.Meaning.{GivenAt, AreFirstGiven, GivesInput, GivesConstant, AreNames}
 use Rattle.rule_reader.specs.Inputs.{Adds, AddsNames, AreNamesAmong, AddsUses}
 use Rattle.rule_reader.proofs.Places.{at_append, there}
 

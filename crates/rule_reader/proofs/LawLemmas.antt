@@ -4,12 +4,12 @@ use Rattle.std.specs.Prelude.{slice_get}
 use Rattle.std.proofs.lemmas.Option.{slice_get_within}
 use Rattle.rule_parse.specs.declared.raw.RawRule.{RawRule}
 use Rattle.rule_tokens.specs.declared.fault.TextFault.{TextFault}
-use Rattle.rule_parse.specs.Laws.{TextsHaveOneReadingOrFault}
+use Rattle.rule_parse.specs.OneReading.{TextsHaveOneReadingOrFault}
 use Rattle.rule_core.specs.declared.rule.Rule.{Rule}
 use Rattle.rule_typing.specs.Laws.{RulesHaveClasses}
 use Rattle.rule_reader.specs.declared.fault.RuleFault.{RuleFault}
-use Rattle.rule_reader.specs.Refusing.{kind_of_misfit}
-use Rattle.rule_reader.specs.Faults.{rank, kind_of, FailsAt, Passes, IsFirstFault, AreRulesOf, IsRuleFile, IsFault, too_long, of_text, of_rule}
+use Rattle.rule_reader.specs.Errors.{kind_of_misfit}
+use Rattle.rule_reader.specs.Faults.{rank, kind_of, FailsAt, Passes, IsFirstRuleFault, AreRulesOf, IsRuleFile, IsFault, too_long, of_text, of_rule}
 use Rattle.rule_reader.specs.Laws.{TextsHaveOneListOrFault}
 use Rattle.rule_reader.proofs.Places.{order, same_at, there}
 use Rattle.rule_reader.proofs.Checking.{same_check, bound_of}
@@ -37,7 +37,7 @@ same_fault f g p q =
     let e : ◌≡◌ {A = RuleFault} (record { line = f.line; kind = f.kind }) (record { line = g.line; kind = g.kind }) = cc in e
 
 -- a rule has one first fault
-one_first : (earlier : List RawRule) (raw : RawRule) (f g : RuleFault) → IsFirstFault earlier raw f → IsFirstFault earlier raw g → f ≡ g
+one_first : (earlier : List RawRule) (raw : RawRule) (f g : RuleFault) → IsFirstRuleFault earlier raw f → IsFirstRuleFault earlier raw g → f ≡ g
 one_first earlier raw f g p q = elim (order (rank p.check) (rank q.check)) [
   | inl lt ↦ absurd (q.first p.check f.line lt p.line.0)
   | inr (inl e) ↦
@@ -51,19 +51,19 @@ one_first earlier raw f g p q = elim (order (rank p.check) (rank q.check)) [
 ]
 
 -- a rule with a fault passes not all checks
-not_passed : (earlier : List RawRule) (raw : RawRule) (f : RuleFault) → IsFirstFault earlier raw f → Passes earlier raw → ⊥
+not_passed : (earlier : List RawRule) (raw : RawRule) (f : RuleFault) → IsFirstRuleFault earlier raw f → Passes earlier raw → ⊥
 not_passed earlier raw f first passes = passes first.check f.line first.line.0
 
 -- all rules before a place pass
 abbrev PassBefore : List RawRule → ℕ → Type 0
 PassBefore raws k = (j : ℕ) (earlier : RawRule) → j < k → slice_get raws j ≡ Some earlier → Passes (take j raws) earlier
 
-one_of_rules : (raws : List RawRule) (j k : ℕ) (v w : RawRule) (f g : RuleFault) → slice_get raws j ≡ Some v → slice_get raws k ≡ Some w → PassBefore raws j → PassBefore raws k → IsFirstFault (take j raws) v f → IsFirstFault (take k raws) w g → f ≡ g
+one_of_rules : (raws : List RawRule) (j k : ℕ) (v w : RawRule) (f g : RuleFault) → slice_get raws j ≡ Some v → slice_get raws k ≡ Some w → PassBefore raws j → PassBefore raws k → IsFirstRuleFault (take j raws) v f → IsFirstRuleFault (take k raws) w g → f ≡ g
 one_of_rules raws j k v w f g at at' pass pass' first first' = elim (order j k) [
   | inl lt ↦ absurd (not_passed (take j raws) v f first (pass' j v lt at))
   | inr (inl e) ↦
       let same : v ≡ w = same_at raws k v w (subst (λ n. slice_get raws n ≡ Some v) e at) at' in
-      one_first (take k raws) w f g (subst (λ n. IsFirstFault (take n raws) w f) e (subst (λ r. IsFirstFault (take j raws) r f) same first)) first'
+      one_first (take k raws) w f g (subst (λ n. IsFirstRuleFault (take n raws) w f) e (subst (λ r. IsFirstRuleFault (take j raws) r f) same first)) first'
   | inr (inr gt) ↦ absurd (not_passed (take k raws) w g first' (pass k w gt at'))
 ]
 
@@ -84,7 +84,7 @@ module _ (law : TextsHaveOneReadingOrFault) where
   one_fault text f _ (of_rule raws k raw short written at pass first) (of_text {fault = g} short' is) = absurd (law.not_both text raws g written is)
   one_fault text f g (of_rule raws j v short written at pass first) (of_rule raws' k w short' written' at' pass' first') =
       let same : raws' ≡ raws = law.one_reading text raws' raws written' written in
-      one_of_rules raws j k v w f g at (subst (λ l. slice_get l k ≡ Some w) same at') pass (subst (λ l. PassBefore l k) same pass') first (subst (λ l. IsFirstFault (take k l) w g) same first')
+      one_of_rules raws j k v w f g at (subst (λ l. slice_get l k ≡ Some w) same at') pass (subst (λ l. PassBefore l k) same pass') first (subst (λ l. IsFirstRuleFault (take k l) w g) same first')
 
   not_both : (text : List ℕ) (rules : List Rule) (f : RuleFault) → length text ≤ 1048576 → IsRuleFile text rules → IsFault text f → ⊥
   not_both text rules _ short file (too_long long) = absurd (omega arith)

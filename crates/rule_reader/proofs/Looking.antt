@@ -6,7 +6,7 @@ use Rattle.std.proofs.lemmas.Bool.{false≢true}
 use Rattle.std.proofs.lemmas.Option.{slice_get_within, slice_get-get_or}
 use Rattle.std.proofs.lemmas.Slice.Eq.{bytes_eq-Decides}
 use Rattle.rule_parse.specs.declared.raw.RawStatement.{RawStatement}
-use Rattle.rule_reader.specs.Naming.{AssignsAt, IsRoot}
+use Rattle.rule_reader.specs.Meaning.{AssignsAt, IsRoot}
 use Rattle.rule_reader.proofs.Places.{order, same_at, read_at, map_at, somewhere}
 
 pub equal_names : (a b : List ℕ) (r : Bool) → r ≡ bytes_eq a b → r ≡ true → a ≡ b

@@ -20,8 +20,8 @@ use Rattle.rule_core.specs.Checks.{names_of}
 use Rattle.rule_core.specs.Positions.{operands_of as operands_meant, operands_among, undef_in}
 use Rattle.rule_reader.specs.declared.names.Names.{Names}
 use Rattle.rule_reader.specs.declared.counts.Counts.{Counts}
-use Rattle.rule_parse.specs.Inside.{arguments_of, arguments_among}
-use Rattle.rule_reader.specs.Naming.{past, past_all, no_counts, with_counts, AssignsAt, ArgumentMeans, OpMeans, StatementMeans, HalfMeans}
+use Rattle.rule_parse.specs.Contents.{arguments_of, arguments_among}
+use Rattle.rule_reader.specs.Meaning.{past, past_all, no_counts, with_counts, AssignsAt, ArgumentMeans, OpMeans, StatementMeans, HalfMeans}
 use Rattle.rule_reader.proofs.Places.{at_map, map_at, zip_left, zip_right, zip_append}
 
 -- a statement that assigns the register

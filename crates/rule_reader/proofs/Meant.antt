@@ -35,12 +35,12 @@ use Rattle.rule_reader.specs.declared.counts.Counts.{Counts}
 use Rattle.rule_reader.specs.declared.place.Place.{Place}
 use Rattle.rule_reader.specs.declared.place.Place.TheVariants as places
 use Rattle.rule_reader.specs.declared.place.Half.TheVariants as halves
-use Rattle.rule_parse.specs.Inside.{arguments_of, arguments_among, terms_of, terms_of_formula, expressions_of, formula_of, target_terms}
-use Rattle.rule_reader.specs.Naming.{nodes_in, past, past_all, no_counts, with_counts, with_nodes, with_terms, last_nodes, AssignsAt, IsConstant, AreNames, HasName, ArgumentMeans, OperandMeans, OpMeans, StatementMeans, NodeMeans, FormulaMeans, Means}
+use Rattle.rule_parse.specs.Contents.{arguments_of, arguments_among, terms_of, terms_of_formula, expressions_of, formula_of, target_terms}
+use Rattle.rule_reader.specs.Meaning.{nodes_in, past, past_all, no_counts, with_counts, with_nodes, with_terms, last_nodes, AssignsAt, IsConstant, AreNames, HasName, ArgumentMeans, OperandMeans, OpMeans, StatementMeans, NodeMeans, FormulaMeans, Means}
 use Rattle.rule_reader.specs.WellFormed.{IsTerm, IsWellFormed}
 use Rattle.rule_reader.specs.Inputs.{AddsNames, AreNamesAmong}
-use Rattle.rule_reader.specs.Kinds.{Each, MayUse, ArgumentIsBound, NodeIsBound, TermIsBound, FormulaIsBound, UnboundAt}
-use Rattle.rule_reader.specs.Resolving.{IsWhole, NamesAreThere}
+use Rattle.rule_reader.specs.FaultKinds.{Each, MayUse, ArgumentIsBound, NodeIsBound, TermIsBound, FormulaIsBound, UnboundAt}
+use Rattle.rule_reader.specs.KnownRules.{IsWhole, NamesAreThere}
 use Rattle.rule_reader.proofs.InputLemmas.{no_names, more_names, all_names}
 use Rattle.rule_reader.proofs.Places.{somewhere}
 use Rattle.rule_reader.proofs.Members.{each_in, each_at, each_of}

@@ -4,7 +4,7 @@ use Rattle.std.proofs.lemmas.List.{take_more, take_all}
 use Rattle.std.proofs.lemmas.Option.{same_Some}
 use Rattle.std.specs.Prelude.{slice_get, Contains, flat_map}
 use Rattle.rule_core.proofs.Members.{Contains-from_get, Contains-flat_map}
-use Rattle.rule_reader.specs.Kinds.{Each}
+use Rattle.rule_reader.specs.FaultKinds.{Each}
 use Rattle.rule_reader.proofs.Places.{at_append, somewhere, read_at}
 
 -- what stands at a place of what elements are mapped to is of one of them

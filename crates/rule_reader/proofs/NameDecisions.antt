@@ -15,9 +15,9 @@ use Rattle.rule_terms.specs.declared.raw.RawFormula.TheVariants as formulas
 use Rattle.rule_typing.proofs.Deciding.{dec_both, dec_either, dec_not, dec_number, dec_place, dec_one}
 use Rattle.rule_reader.specs.declared.place.Place.{Place}
 use Rattle.rule_reader.specs.declared.place.Place.TheVariants as places
-use Rattle.rule_parse.specs.Inside.{arguments_of, arguments_among}
-use Rattle.rule_reader.specs.Naming.{in_half, Uses, UsesAt, AssignsAt, IsInput, IsTemporary, IsRoot, IsConstant}
-use Rattle.rule_reader.specs.Kinds.{Each, MayUse, NodeIsBound, TermIsBound, ArgumentIsBound, OpIsBound, FormulaIsBound, ReadsUndefInside, IsUndefCopy, IsUnused}
+use Rattle.rule_parse.specs.Contents.{arguments_of, arguments_among}
+use Rattle.rule_reader.specs.Meaning.{in_half, Uses, UsesAt, AssignsAt, IsInput, IsTemporary, IsRoot, IsConstant}
+use Rattle.rule_reader.specs.FaultKinds.{Each, MayUse, NodeIsBound, TermIsBound, ArgumentIsBound, OpIsBound, FormulaIsBound, ReadsUndefInside, IsUndefCopy, IsUnused}
 use Rattle.rule_reader.proofs.Stable.{same_name}
 
 pub dec_name : (a b : List ℕ) → Dec (a ≡ b)

@@ -13,9 +13,9 @@ use Rattle.rule_core.specs.declared.rule.Term.{Term}
 use Rattle.rule_core.specs.declared.rule.Formula.{Formula}
 use Rattle.rule_core.proofs.Members.{Contains-from_get}
 use Rattle.rule_reader.specs.declared.names.Names.{Names}
-use Rattle.rule_parse.specs.Inside.{terms_of_formula}
-use Rattle.rule_reader.specs.Naming.{nodes_in, with_nodes, with_terms, last_nodes, NodeMeans, TermsMean, FormulaMeans}
-use Rattle.rule_reader.specs.Resolving.{AddsTerms}
+use Rattle.rule_parse.specs.Contents.{terms_of_formula}
+use Rattle.rule_reader.specs.Meaning.{nodes_in, with_nodes, with_terms, last_nodes, NodeMeans, TermsMean, FormulaMeans}
+use Rattle.rule_reader.specs.KnownRules.{AddsTerms}
 use Rattle.rule_reader.proofs.Places.{at_append, at_map, zip_push, zip_length, zip_append}
 
 pub nodes_append : (xs ys : List (List RawNode)) → nodes_in (xs ++ ys) ≡ nodes_in xs + nodes_in ys

@@ -31,14 +31,14 @@ use Rattle.rule_core.specs.declared.rule.Formula.TheVariants as formulas
 use Rattle.rule_core.specs.Positions.{operands_of as operands_meant, classes_of_statement, classes_of_node, classes_of_term, classes_of}
 use Rattle.rule_core.proofs.Members.{Contains-from_get}
 use Rattle.rule_typing.specs.Classes.{Joined, SameClass, IsClassified}
-use Rattle.rule_typing.specs.Relabelling.{numbered_op, numbered_statement, numbered_statements, numbered_node, numbered_term, numbered_terms, numbered}
+use Rattle.rule_typing.specs.Relabelled.{numbered_op, numbered_statement, numbered_statements, numbered_node, numbered_term, numbered_terms, numbered}
 use Rattle.rule_reader.specs.declared.names.Names.{Names}
 use Rattle.rule_reader.specs.declared.counts.Counts.{Counts}
 use Rattle.rule_reader.specs.declared.place.Place.{Place}
 use Rattle.rule_reader.specs.declared.place.Place.TheVariants as places
-use Rattle.rule_parse.specs.Inside.{arguments_of, terms_of, expressions_of, formula_of, target_terms, terms_of_formula}
-use Rattle.rule_reader.specs.Naming.{nodes_in, past, past_all, no_counts, with_counts, with_nodes, with_terms, GivenAt, AreFirstGiven, GivesInput, GivesConstant, IsRoot, AreNames, ArgumentMeans, OperandMeans, OpMeans, StatementMeans, NodeMeans, FormulaMeans, HalfMeans, TermsMean, PreconditionMeans, Means, names_of_rule}
-use Rattle.rule_reader.specs.Kinds.{Each, MayUse, ArgumentIsBound, NodeIsBound, TermIsBound}
+use Rattle.rule_parse.specs.Contents.{arguments_of, terms_of, expressions_of, formula_of, target_terms, terms_of_formula}
+use Rattle.rule_reader.specs.Meaning.{nodes_in, past, past_all, no_counts, with_counts, with_nodes, with_terms, GivenAt, AreFirstGiven, GivesInput, GivesConstant, IsRoot, AreNames, ArgumentMeans, OperandMeans, OpMeans, StatementMeans, NodeMeans, FormulaMeans, HalfMeans, TermsMean, PreconditionMeans, Means, names_of_rule}
+use Rattle.rule_reader.specs.FaultKinds.{Each, MayUse, ArgumentIsBound, NodeIsBound, TermIsBound}
 use Rattle.rule_reader.proofs.Places.{order, somewhere, there}
 use Rattle.rule_reader.proofs.Members.{each_in}
 use Rattle.rule_reader.proofs.Nodes.{node_at}

@@ -9,15 +9,15 @@ use Rattle.rule_core.specs.Checks.{IsRule, AreDistinct}
 use Rattle.rule_typing.specs.Classes.{IsClassified}
 use Rattle.rule_typing.specs.Faults.{HasNoFault}
 use Rattle.rule_parse.specs.Text.{IsTextFault}
-use Rattle.rule_tokens.specs.Refusing.{IfRefused as IfTextRefused}
+use Rattle.rule_tokens.specs.Errors.{IfRefused as IfTextRefused}
 use Rattle.rule_tokens.specs.declared.fault.ParseError.{ParseError}
 use Rattle.rule_tokens.specs.declared.fault.ParseError.TheVariants as parse_errors
 use Rattle.rule_reader.specs.declared.fault.RuleError.{RuleError}
 use Rattle.rule_reader.specs.declared.fault.RuleError.TheVariants as errors
-use Rattle.rule_reader.specs.Refusing.{IfRefused, Becomes}
-use Rattle.rule_reader.specs.Marks.{Marks, MarksRepeated}
+use Rattle.rule_reader.specs.Errors.{IfRefused, Becomes}
+use Rattle.rule_reader.specs.RepeatedNames.{MarksRule, MarksRepeated}
 use Rattle.rule_reader.specs.WellFormed.{IsWellFormed}
-use Rattle.rule_reader.specs.Faults.{ManyClasses, NoType, OpenType, Duplicate, Passes, IsRuleOf, IsFirstFault, AreRulesOf, IsFault, of_text, of_rule}
+use Rattle.rule_reader.specs.Faults.{ManyClasses, NoType, OpenType, Duplicate, Passes, IsRuleOf, IsFirstRuleFault, AreRulesOf, IsFault, of_text, of_rule}
 use Rattle.rule_reader.proofs.Places.{order, same_at, at_append, take_at, at_map, there}
 use Rattle.rule_reader.proofs.Checked.{checked_rule}
 use Rattle.rule_reader.proofs.Checking.{bound_of}
@@ -101,10 +101,10 @@ text_fault text (parse_errors.Refused fault) f short is becomes = subst (λ x. I
 text_fault text parse_errors.NoMemory f short is becomes = subst (λ x. IfRefused x (IsFault text)) (sym becomes) tt
 
 pub rule_fault : (text : List ℕ) (raws : List RawRule) (place : ℕ) (raw : RawRule) (rules : List Rule) (mark : Bool) (e : RuleError) → length text ≤ 1048576 → IsWritten text raws → AreFirstRules raws place rules → slice_get raws place ≡ Some raw
-    → Marks mark (take place raws) raw → IfRefused e (λ fault. (earlier : List RawRule) → Marks mark earlier raw → IsFirstFault earlier raw fault) → IfRefused e (IsFault text)
+    → MarksRule mark (take place raws) raw → IfRefused e (λ fault. (earlier : List RawRule) → MarksRule mark earlier raw → IsFirstRuleFault earlier raw fault) → IfRefused e (IsFault text)
 rule_fault text raws place raw rules mark (errors.Refused fault) short written first at marks is = of_rule raws place raw short written at (first_rules_pass raws place rules first) (is (take place raws) marks)
 rule_fault text raws place raw rules mark errors.NoMemory short written first at marks is = tt
 
 -- the mark of a rule, where the code sees the rules as a list of its own
-pub mark_at : (raws seen : List RawRule) (marks : List Bool) (place : ℕ) (raw : RawRule) (mark : Bool) → seen ≡ raws → MarksRepeated seen marks → slice_get raws place ≡ Some raw → slice_get marks place ≡ Some mark → Marks mark (take place raws) raw
+pub mark_at : (raws seen : List RawRule) (marks : List Bool) (place : ℕ) (raw : RawRule) (mark : Bool) → seen ≡ raws → MarksRepeated seen marks → slice_get raws place ≡ Some raw → slice_get marks place ≡ Some mark → MarksRule mark (take place raws) raw
 mark_at raws seen marks place raw mark is repeated at at' = (subst (λ l. MarksRepeated l marks) is repeated).each place raw mark at at'

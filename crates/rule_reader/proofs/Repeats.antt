@@ -6,8 +6,8 @@ use Rattle.std.proofs.lemmas.Bool.{false≢true}
 use Rattle.std.proofs.lemmas.Option.{slice_get_within}
 use Rattle.std.proofs.lemmas.Slice.Eq.{bytes_eq-Decides}
 use Rattle.rule_parse.specs.declared.raw.RawRule.{RawRule}
-use Rattle.rule_reader.specs.Kinds.{HasNameOf}
-use Rattle.rule_reader.specs.Marks.{Marks, MarksRepeated}
+use Rattle.rule_reader.specs.FaultKinds.{HasNameOf}
+use Rattle.rule_reader.specs.RepeatedNames.{MarksRule, MarksRepeated}
 use Rattle.rule_reader.proofs.Places.{order, same_at, at_take, take_at, at_append}
 
 -- whether there is a value says whether one of the rules has the name
@@ -43,7 +43,7 @@ known_none name = (λ t. absurd (false≢true t), λ (k, other, at, is). absurd 
 -- marks of the first rules
 pub record MarksFirst (rules : List RawRule) (i : ℕ) (marks : List Bool) : Type 0 where
   pub count : length marks ≡ i
-  pub each : (k : ℕ) (raw : RawRule) (mark : Bool) → slice_get rules k ≡ Some raw → slice_get marks k ≡ Some mark → Marks mark (take k rules) raw
+  pub each : (k : ℕ) (raw : RawRule) (mark : Bool) → slice_get rules k ≡ Some raw → slice_get marks k ≡ Some mark → MarksRule mark (take k rules) raw
 
 pub marks_none : (rules : List RawRule) → MarksFirst rules 0 []
 marks_none rules = record { count = refl; each = λ k raw mark at at'. absurd (let lt : k < 0 = slice_get_within [] k mark at' in omega arith) }
@@ -51,7 +51,7 @@ marks_none rules = record { count = refl; each = λ k raw mark at at'. absurd (l
 pub marks_more : (rules : List RawRule) (i : ℕ) (rule : RawRule) (marks marks' : List Bool) (mark : Bool) (o : Option (Unit {0})) (key : List ℕ) → slice_get rules i ≡ Some rule → MarksFirst rules i marks → marks' ≡ marks ++ mark ∷ []
     → mark ≡ is_some o → key ≡ rule.name → Known o (take i rules) key → MarksFirst rules (i + 1) marks'
 marks_more rules i rule marks marks' mark o key here first more is key_is known =
-    let own : Marks mark (take i rules) rule =
+    let own : MarksRule mark (take i rules) rule =
     subst (λ n. (IsTrue mark → HasNameOf (take i rules) n) × (HasNameOf (take i rules) n → IsTrue mark)) key_is
     (subst (λ b. (IsTrue b → HasNameOf (take i rules) key) × (HasNameOf (take i rules) key → IsTrue b)) (sym is) known) in
     record {
@@ -64,7 +64,7 @@ marks_more rules i rule marks marks' mark o key here first more is key_is known 
             let k_is : k ≡ i = omega (arith, first.count) in
             let same : rule ≡ raw = same_at rules i rule raw here (subst (λ n. slice_get rules n ≡ Some raw) k_is at) in
             let mark_is : mark ≡ m = same_at (mark ∷ []) 0 mark m refl (subst (λ n. slice_get (mark ∷ []) n ≡ Some m) first_place last) in
-            subst (λ b. Marks b (take k rules) raw) mark_is (subst (λ r. Marks mark (take k rules) r) same (subst (λ n. Marks mark (take n rules) rule) (sym k_is) own))
+            subst (λ b. MarksRule b (take k rules) raw) mark_is (subst (λ r. MarksRule mark (take k rules) r) same (subst (λ n. MarksRule mark (take n rules) rule) (sym k_is) own))
       ];
     }
 

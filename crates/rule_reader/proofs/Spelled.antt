@@ -2,7 +2,7 @@
 -- A half is known by what its copies are.
 use Rattle.std.proofs.Common.{◌≡◌, ℕ, ◌≤◌, List, [], ◌∷◌, length, subst}
 use Rattle.std.specs.Prelude.{Contains, flat_map}
-use Rattle.words.proofs.FlagLemmas.{own_flags}
+use Rattle.ops.proofs.FlagKeywordLemmas.{own_flags}
 use Rattle.rule_tokens.specs.Parts.{Part}
 use Rattle.rule_tokens.specs.Tokens.{Token}
 use Rattle.rule_terms.specs.declared.raw.RawNode.{RawNode}
@@ -15,9 +15,9 @@ use Rattle.rule_parse.specs.declared.raw.RawOperand.{RawOperand}
 use Rattle.rule_parse.specs.declared.raw.RawArgument.{RawArgument}
 use Rattle.rule_parse.specs.declared.raw.RawArgument.TheVariants.{Literal, Constant, Term}
 use Rattle.rule_parse.specs.Grammar.{SpellsArgument, SpellsOperand, SpellsUntyped, SpellsPair, SpellsOp, SpellsStatements, SpellsHalf, SpellsTermOperand}
-use Rattle.rule_parse.specs.Words.{argument_of}
-use Rattle.rule_reader.specs.Kinds.{Each}
-use Rattle.rule_parse.specs.Inside.{arguments_of, arguments_among, terms_of_argument}
+use Rattle.rule_parse.specs.Keywords.{argument_of}
+use Rattle.rule_reader.specs.FaultKinds.{Each}
+use Rattle.rule_parse.specs.Contents.{arguments_of, arguments_among, terms_of_argument}
 use Rattle.rule_reader.specs.WellFormed.{MayStandInSource, FlagsFitOp}
 use Rattle.rule_reader.proofs.Members.{each_in, each_append}
 use Rattle.rule_reader.proofs.SpelledTerms.{IsConstantNode, IsConstantTerm, constant_term}

@@ -18,8 +18,8 @@ use Rattle.rule_terms.proofs.Predicates.{predicates}
 use Rattle.rule_parse.specs.declared.raw.RawPrecondition.{RawPrecondition}
 use Rattle.rule_parse.specs.declared.raw.RawWitness.{RawWitness}
 use Rattle.rule_parse.specs.Grammar.{SpellsPrecondition, SpellsMoreExpressions, SpellsExpressions, SpellsWitness}
-use Rattle.rule_reader.specs.Kinds.{Each}
-use Rattle.rule_parse.specs.Inside.{terms_of_formula}
+use Rattle.rule_reader.specs.FaultKinds.{Each}
+use Rattle.rule_parse.specs.Contents.{terms_of_formula}
 use Rattle.rule_reader.specs.WellFormed.{IsTerm, MayStandInTerm, IsBehindFormulas}
 use Rattle.rule_reader.proofs.Members.{each_append, each_push}
 

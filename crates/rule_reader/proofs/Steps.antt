@@ -12,11 +12,11 @@ use Rattle.rule_core.specs.declared.rule.Term.{Term}
 use Rattle.rule_core.proofs.Members.{Contains-from_get}
 use Rattle.rule_reader.specs.declared.names.Names.{Names}
 use Rattle.rule_reader.specs.declared.place.Place.TheVariants as places
-use Rattle.rule_parse.specs.Inside.{arguments_of, terms_of_argument, terms_of_formula, formula_of, target_terms, terms_of, expressions_of}
-use Rattle.rule_reader.specs.Naming.{nodes_in, last_nodes, TermsMean}
+use Rattle.rule_parse.specs.Contents.{arguments_of, terms_of_argument, terms_of_formula, formula_of, target_terms, terms_of, expressions_of}
+use Rattle.rule_reader.specs.Meaning.{nodes_in, last_nodes, TermsMean}
 use Rattle.rule_reader.specs.WellFormed.{IsTerm, IsWellFormed}
-use Rattle.rule_reader.specs.Kinds.{Each, FormulaIsBound, TermIsBound}
-use Rattle.rule_reader.specs.Resolving.{TermIsReady, HasReadyTerms, AddsTerms}
+use Rattle.rule_reader.specs.FaultKinds.{Each, FormulaIsBound, TermIsBound}
+use Rattle.rule_reader.specs.KnownRules.{TermIsReady, HasReadyTerms, AddsTerms}
 use Rattle.rule_reader.proofs.Places.{read_at}
 use Rattle.rule_reader.proofs.Members.{each_at, each_of}
 use Rattle.rule_reader.proofs.Nodes.{nodes_append, terms_length, adds_both, formula_terms_more, last_nodes_push}

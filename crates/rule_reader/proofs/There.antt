@@ -15,11 +15,11 @@ use Rattle.rule_parse.specs.declared.raw.RawWitness.{RawWitness}
 use Rattle.rule_typing.proofs.Deciding.{stable}
 use Rattle.rule_reader.specs.declared.place.Place.TheVariants as places
 use Rattle.rule_core.proofs.Members.{Contains-from_get}
-use Rattle.rule_parse.specs.Inside.{arguments_of, arguments_among, formula_of, target_terms, terms_of, terms_of_argument, terms_of_formula}
-use Rattle.rule_reader.specs.Kinds.{Each, NodeIsBound, ArgumentIsBound, FormulaIsBound, TermIsBound, UnboundAt}
+use Rattle.rule_parse.specs.Contents.{arguments_of, arguments_among, formula_of, target_terms, terms_of, terms_of_argument, terms_of_formula}
+use Rattle.rule_reader.specs.FaultKinds.{Each, NodeIsBound, ArgumentIsBound, FormulaIsBound, TermIsBound, UnboundAt}
 use Rattle.rule_reader.proofs.Places.{at_append, somewhere}
 use Rattle.rule_reader.proofs.Members.{each_in, each_at, flat_at}
-use Rattle.rule_reader.specs.Resolving.{NamesAreThere}
+use Rattle.rule_reader.specs.KnownRules.{NamesAreThere}
 use Rattle.rule_reader.proofs.NameDecisions.{dec_each, dec_formula, dec_term, dec_op}
 
 module _ (raw : RawRule) (none : (line : ℕ) → ¬ UnboundAt raw line) where

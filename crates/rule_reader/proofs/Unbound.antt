@@ -8,7 +8,7 @@ use Rattle.rule_parse.specs.declared.raw.RawPrecondition.{RawPrecondition}
 use Rattle.rule_parse.specs.declared.raw.RawWitness.{RawWitness}
 use Rattle.rule_reader.specs.declared.place.Place.TheVariants as places
 use Rattle.rule_reader.specs.WellFormed.{IsWellFormed}
-use Rattle.rule_reader.specs.Kinds.{Each, FormulaIsBound, TermIsBound, StandsAt, StatementUnbound, PreconditionUnbound, WitnessUnbound, UnboundAt, ReadsUndefInside, IsUndefCopy, UndefInsideAt}
+use Rattle.rule_reader.specs.FaultKinds.{Each, FormulaIsBound, TermIsBound, StandsAt, StatementUnbound, PreconditionUnbound, WitnessUnbound, UnboundAt, ReadsUndefInside, IsUndefCopy, UndefInsideAt}
 use Rattle.rule_reader.specs.Faults.{IsFirst, IsFirstLine}
 use Rattle.rule_reader.proofs.Places.{there}
 use Rattle.rule_reader.proofs.Firsts.{first_left, first_right, first_none_of, lines_before}

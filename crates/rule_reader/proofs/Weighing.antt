@@ -10,11 +10,11 @@ use Rattle.rule_parse.specs.declared.raw.RawArgument.TheVariants.{Register, Lite
 use Rattle.rule_terms.specs.declared.raw.RawNode.{RawNode}
 use Rattle.rule_terms.specs.declared.raw.RawNode.TheVariants as raw_nodes
 use Rattle.rule_reader.specs.declared.counts.Counts.{Counts}
-use Rattle.rule_parse.specs.Inside.{arguments_of, arguments_among, formula_of, terms_of_argument, terms_of_formula, target_terms, terms_of, expressions_of}
-use Rattle.rule_reader.specs.Naming.{nodes_in, past, past_all, no_counts, in_half}
+use Rattle.rule_parse.specs.Contents.{arguments_of, arguments_among, formula_of, terms_of_argument, terms_of_formula, target_terms, terms_of, expressions_of}
+use Rattle.rule_reader.specs.Meaning.{nodes_in, past, past_all, no_counts, in_half}
 use Rattle.rule_parse.specs.Weight.{argument_weight, node_weight}
 use Rattle.rule_reader.specs.WellFormed.{IsWellFormed}
-use Rattle.rule_reader.specs.Resolving.{AreFew}
+use Rattle.rule_reader.specs.KnownRules.{AreFew}
 use Rattle.rule_core.proofs.Members.{Contains-from_get}
 use Rattle.rule_reader.proofs.Places.{somewhere}
 use Rattle.rule_reader.proofs.Members.{flat_at, Contains-behind}

@@ -16,8 +16,8 @@ use Rattle.rule_parse.specs.Text.{IsWritten}
 use Rattle.rule_parse.specs.Weight.{raw_weight}
 use Rattle.rule_parse.proofs.Weight.{small_rules}
 use Rattle.rule_tokens.specs.Tokens.{Token, Line, Head, Arrow, AtToken}
-use Rattle.rule_reader.specs.Kinds.{Each}
-use Rattle.rule_parse.specs.Inside.{arguments_of, terms_of_formula, formula_of, target_terms, terms_of, expressions_of}
+use Rattle.rule_reader.specs.FaultKinds.{Each}
+use Rattle.rule_parse.specs.Contents.{arguments_of, terms_of_formula, formula_of, target_terms, terms_of, expressions_of}
 use Rattle.rule_reader.specs.WellFormed.{AreInLineOrder, MayStandInSource, IsHalf, IsTerm, IsWellFormed}
 use Rattle.rule_reader.proofs.Members.{each_in, each_append, each_flat}
 use Rattle.rule_reader.proofs.LineOrder.{Ascend, skip, up_from, none_at, ordered, headed}

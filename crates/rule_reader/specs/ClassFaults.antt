@@ -4,7 +4,7 @@ use Rattle.rule_core.specs.declared.rule.Rule.{Rule}
 use Rattle.rule_typing.specs.declared.classes.ClassFault.{ClassFault}
 use Rattle.rule_typing.specs.Classes.{IsClassified}
 use Rattle.rule_typing.specs.Faults.{IsFault, HasNoFault}
-use Rattle.rule_typing.specs.Relabelling.{numbered}
+use Rattle.rule_typing.specs.Relabelled.{numbered}
 use Rattle.rule_core.specs.Checks.{IsRule}
 use Rattle.rule_reader.specs.declared.fault.RuleFault.{RuleFault}
 use Rattle.rule_reader.specs.Faults.{kind_of, class_check}

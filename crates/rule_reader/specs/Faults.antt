@@ -11,9 +11,9 @@ use Rattle.rule_typing.specs.Faults.{HasTooManyClasses, HasNoTyping, HasOpenClas
 use Rattle.rule_reader.specs.declared.fault.RuleFaultKind.{RuleFaultKind}
 use Rattle.rule_reader.specs.declared.fault.RuleFaultKind.TheVariants as kinds
 use Rattle.rule_reader.specs.declared.fault.RuleFault.{RuleFault}
-use Rattle.rule_reader.specs.Refusing.{kind_of_misfit}
-use Rattle.rule_reader.specs.Naming.{Means}
-use Rattle.rule_reader.specs.Kinds.{DuplicateAt, UnboundAt, RootMissingAt, RedefinesAt, UnusedTempAt, UndefInsideAt, WitnessCountAt, ClassesAt}
+use Rattle.rule_reader.specs.Errors.{kind_of_misfit}
+use Rattle.rule_reader.specs.Meaning.{Means}
+use Rattle.rule_reader.specs.FaultKinds.{DuplicateAt, UnboundAt, RootMissingAt, RedefinesAt, UnusedTempAt, UndefInsideAt, WitnessCountAt, ClassesAt}
 
 -- the checks of a rule, in their order
 pub data Check : Type 0 where
@@ -87,7 +87,7 @@ IsFirst Holds None = (line : ℕ) → ¬ Holds line
 IsFirst Holds (Some line) = IsFirstLine Holds line
 
 -- the first fault of a rule: that of the first check that fails, at the first line
-pub record IsFirstFault (earlier : List RawRule) (raw : RawRule) (fault : RuleFault) : Type 0 where
+pub record IsFirstRuleFault (earlier : List RawRule) (raw : RawRule) (fault : RuleFault) : Type 0 where
   pub check : Check
   pub kind : fault.kind ≡ kind_of check
   pub line : IsFirstLine (FailsAt earlier raw check) fault.line
@@ -117,4 +117,4 @@ pub data IsFault (text : List ℕ) : RuleFault → Type 0 where
   of_rule : {fault : RuleFault} (raws : List RawRule) (k : ℕ) (raw : RawRule)
       → length text ≤ 1_048_576 → IsWritten text raws → slice_get raws k ≡ Some raw
       → ((j : ℕ) (earlier : RawRule) → j < k → slice_get raws j ≡ Some earlier → Passes (take j raws) earlier)
-      → IsFirstFault (take k raws) raw fault → IsFault text fault
+      → IsFirstRuleFault (take k raws) raw fault → IsFault text fault

@@ -3,7 +3,7 @@ use Rattle.std.specs.Prelude.{◌≡◌, ◌⊎◌, ℕ, List, [], ◌∷◌, �
 use Rattle.rule_parse.specs.declared.raw.RawStatement.{RawStatement}
 use Rattle.rule_parse.specs.declared.raw.RawArgument.{RawArgument}
 use Rattle.rule_reader.specs.declared.names.Names.{Names}
-use Rattle.rule_reader.specs.Naming.{AreFirstGiven, GivesInput, GivesConstant}
+use Rattle.rule_reader.specs.Meaning.{AreFirstGiven, GivesInput, GivesConstant}
 
 -- a name is added where it is new
 abbrev pub AddsNew : List (List ℕ) → List ℕ → List (List ℕ) → Type 0

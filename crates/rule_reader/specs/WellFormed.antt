@@ -13,8 +13,8 @@ use Rattle.rule_terms.specs.declared.raw.RawNode.TheVariants as raw_nodes
 use Rattle.rule_terms.specs.declared.raw.RawFormula.{RawFormula}
 use Rattle.rule_terms.specs.declared.raw.RawFormula.TheVariants as raw_formulas
 use Rattle.rule_terms.specs.Nodes.{IsBehindOperands}
-use Rattle.rule_parse.specs.Inside.{arguments_of, formula_of, terms_of, expressions_of}
-use Rattle.rule_reader.specs.Naming.{Uses}
+use Rattle.rule_parse.specs.Contents.{arguments_of, formula_of, terms_of, expressions_of}
+use Rattle.rule_reader.specs.Meaning.{Uses}
 use Rattle.rule_parse.specs.Weight.{raw_weight}
 
 -- no statement stands on a line before that of an earlier one

@@ -3,9 +3,9 @@
 ghost use Rattle.std.specs.Prelude.{◌≡◌, ◌⊎◌, ◌↔◌, ◌<◌, List, Some, length, slice_get, IsTrue};
 ghost use Rattle.rule_parse.specs.declared.raw.RawRule.{RawRule as written_rule};
 ghost use Rattle.rule_parse.specs.declared.raw.RawStatement.{RawStatement as written_statement};
-ghost use Rattle.rule_reader.specs.Naming.{AreInputs, IsInput, IsTemporary};
+ghost use Rattle.rule_reader.specs.Meaning.{AreInputs, IsInput, IsTemporary};
 ghost use Rattle.rule_reader.specs.WellFormed.{AreInLineOrder, IsWellFormed};
-ghost use Rattle.rule_reader.specs.Kinds.{StandsAt, HasNameOf, AssignsAgain, DuplicateAt, RootMissingAt, RedefinesAt, UsesFrom, IsUnused, UnusedTempAt};
+ghost use Rattle.rule_reader.specs.FaultKinds.{StandsAt, HasNameOf, AssignsAgain, DuplicateAt, RootMissingAt, RedefinesAt, UsesFrom, IsUnused, UnusedTempAt};
 ghost use Rattle.rule_reader.specs.Faults.{IsFirst};
 
 use crate::registers::{is_among, is_assigned, is_root, uses};

@@ -1,9 +1,9 @@
 //! How many `undef`s and nodes of terms stand in a part of a half.
 
 ghost use Rattle.std.specs.Prelude.{◌≡◌};
-ghost use Rattle.rule_parse.specs.Inside.{arguments_of};
-ghost use Rattle.rule_reader.specs.Naming.{past, past_all, in_half};
-ghost use Rattle.rule_reader.specs.Resolving.{half_of, AreFew};
+ghost use Rattle.rule_parse.specs.Contents.{arguments_of};
+ghost use Rattle.rule_reader.specs.Meaning.{past, past_all, in_half};
+ghost use Rattle.rule_reader.specs.KnownRules.{half_of, AreFew};
 ghost use Rattle.rule_reader.specs.WellFormed.{IsWellFormed};
 
 use crate::place::Half;

@@ -87,7 +87,7 @@ pub(crate) fn refused(line: usize, kind: RuleFaultKind) -> RuleError
 }
 
 impl From<ParseError> for RuleError {
-    ghost use Rattle.rule_reader.specs.Refusing.{Becomes};
+    ghost use Rattle.rule_reader.specs.Errors.{Becomes};
 
     ghost from_gives = { Becomes };
 
@@ -101,7 +101,7 @@ impl From<ParseError> for RuleError {
 
 impl From<Misfit> for RuleFaultKind {
     ghost use Rattle.std.specs.Prelude.{◌≡◌};
-    ghost use Rattle.rule_reader.specs.Refusing.{kind_of_misfit};
+    ghost use Rattle.rule_reader.specs.Errors.{kind_of_misfit};
 
     ghost from_gives = { λ misfit kind. kind ≡ kind_of_misfit misfit };
 

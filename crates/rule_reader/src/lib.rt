@@ -2,7 +2,7 @@
 //!
 //! A text is read in two steps: bytes to rules as written (`rule_parse`), and those to rules whose names are known by place: each
 //! check of a rule in its turn (`checks`, `bound`, `undefs`), and then what it means (`resolve`, `terms`, `precondition`, `witness`).
-//! What the second step means stands in `specs/`: `Naming` says which rule is meant, `Kinds` where a rule has which fault, and
+//! What the second step means stands in `specs/`: `Meaning` says which rule is meant, `FaultKinds` where a rule has which fault, and
 //! `Faults` which fault is the first.
 #![tactic(auto)]
 
@@ -25,6 +25,5 @@ mod witness;
 pub use fault::{RuleError, RuleFault, RuleFaultKind};
 pub use laws::every_text_has_one_list_or_one_fault;
 pub use reader::read_rules;
-
-#[cfg(test)]
-mod tests;
+pub use rule_core::Rule;
+pub use rule_parse::every_text_has_one_reading_or_one_fault;

@@ -1,8 +1,8 @@
 //! The inputs and the constants of a source.
 
 ghost use Rattle.std.specs.Prelude.{IfOk, OnOk};
-ghost use Rattle.rule_parse.specs.Inside.{arguments_of};
-ghost use Rattle.rule_reader.specs.Naming.{AreNames};
+ghost use Rattle.rule_parse.specs.Contents.{arguments_of};
+ghost use Rattle.rule_reader.specs.Meaning.{AreNames};
 ghost use Rattle.rule_reader.specs.Inputs.{AddsNew, AddsNames, AddsUses};
 
 use crate::registers::{is_among, is_assigned};

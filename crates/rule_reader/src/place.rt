@@ -1,7 +1,7 @@
 //! Where in a rule a name is used.
 
 ghost use Rattle.std.specs.Prelude.{◌≡◌};
-ghost use Rattle.rule_reader.specs.Resolving.{half_of, place_in};
+ghost use Rattle.rule_reader.specs.KnownRules.{half_of, place_in};
 
 use rule_parse::{RawRule, RawStatement};
 

@@ -1,11 +1,11 @@
 //! Preconditions whose names are known by place, from formulas as written.
 
 ghost use Rattle.std.specs.Prelude.{◌≡◌, ◌+◌, ◌≤◌, ◌∷◌, [], suc, length, IfOk, OnOk};
-ghost use Rattle.rule_parse.specs.Inside.{formula_of, target_terms, terms_of, terms_of_formula};
-ghost use Rattle.rule_reader.specs.Naming.{nodes_in, AreNames, FormulaMeans, TermsMean, PreconditionMeans, IsTemporary, AssignsAt};
+ghost use Rattle.rule_parse.specs.Contents.{formula_of, target_terms, terms_of, terms_of_formula};
+ghost use Rattle.rule_reader.specs.Meaning.{nodes_in, AreNames, FormulaMeans, TermsMean, PreconditionMeans, IsTemporary, AssignsAt};
 ghost use Rattle.rule_reader.specs.WellFormed.{IsWellFormed};
-ghost use Rattle.rule_reader.specs.Kinds.{Each, FormulaIsBound};
-ghost use Rattle.rule_reader.specs.Resolving.{TermIsReady, HasReadyTerms, AddsTerms};
+ghost use Rattle.rule_reader.specs.FaultKinds.{Each, FormulaIsBound};
+ghost use Rattle.rule_reader.specs.KnownRules.{TermIsReady, HasReadyTerms, AddsTerms};
 
 use crate::names::Names;
 use crate::place::Place;

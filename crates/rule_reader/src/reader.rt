@@ -6,10 +6,10 @@ ghost use Rattle.rule_core.specs.Checks.{IsRule, AreDistinct};
 ghost use Rattle.rule_typing.specs.Classes.{IsClassified};
 ghost use Rattle.rule_typing.specs.Faults.{HasNoFault};
 ghost use Rattle.rule_reader.specs.WellFormed.{IsWellFormed};
-ghost use Rattle.rule_reader.specs.Marks.{Marks};
+ghost use Rattle.rule_reader.specs.RepeatedNames.{MarksRule};
 ghost use Rattle.rule_reader.specs.ClassFaults.{IsClassifiedAs, IsClassFault};
-ghost use Rattle.rule_reader.specs.Refusing.{IfRefused};
-ghost use Rattle.rule_reader.specs.Faults.{IsRuleOf, IsFirstFault, IsRuleFile, IsFault};
+ghost use Rattle.rule_reader.specs.Errors.{IfRefused};
+ghost use Rattle.rule_reader.specs.Faults.{IsRuleOf, IsFirstRuleFault, IsRuleFile, IsFault};
 
 use crate::bound::unbound;
 use crate::checks::{duplicate, redefined, root_missing, unused};
@@ -57,8 +57,8 @@ pub fn read_rules(alloc: Global, bytes: &[u8]) -> Result<Vec<Rule>, RuleError>
 /// The rule that is meant, or its first fault.
 fn checked(alloc: Global, raw: &RawRule, is_repeated: bool) -> Result<Rule, RuleError>
     requires { IsWellFormed raw.now }
-    ensures ok { IfOk result (λ rule. (earlier : Seq written_rule) → Marks is_repeated earlier raw.now → IsRuleOf earlier raw.now rule) }
-    ensures refused { IfErr result (λ e. IfRefused e (λ fault. (earlier : Seq written_rule) → Marks is_repeated earlier raw.now → IsFirstFault earlier raw.now fault)) }
+    ensures ok { IfOk result (λ rule. (earlier : Seq written_rule) → MarksRule is_repeated earlier raw.now → IsRuleOf earlier raw.now rule) }
+    ensures refused { IfErr result (λ e. IfRefused e (λ fault. (earlier : Seq written_rule) → MarksRule is_repeated earlier raw.now → IsFirstRuleFault earlier raw.now fault)) }
 {
     if let Some(line) = duplicate(raw, is_repeated) {
         return Err(refused(line, RuleFaultKind::Duplicate));

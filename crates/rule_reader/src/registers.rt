@@ -2,7 +2,7 @@
 
 ghost use Rattle.std.specs.Prelude.{◌≡◌, ◌↔◌, ◌<◌, ◌≤◌, ℕ, Contains, IfSome, IfNone, IsTrue, Some, length, slice_get};
 ghost use Rattle.rule_parse.specs.declared.raw.RawArgument.TheVariants.{Register as register};
-ghost use Rattle.rule_reader.specs.Naming.{Uses, AssignsAt, IsRoot};
+ghost use Rattle.rule_reader.specs.Meaning.{Uses, AssignsAt, IsRoot};
 
 use lists::Text;
 use rule_parse::{RawArgument, RawOp, RawOperand, RawStatement};

@@ -1,7 +1,7 @@
 //! Names of rules that an earlier rule has.
 
 ghost use Rattle.std.specs.Prelude.{IfOk};
-ghost use Rattle.rule_reader.specs.Marks.{MarksRepeated};
+ghost use Rattle.rule_reader.specs.RepeatedNames.{MarksRepeated};
 
 use indexmap::IndexMap;
 use rule_parse::RawRule;

@@ -1,11 +1,11 @@
 //! Statements whose names are known by place, from statements as written, whose names are all there to use.
 
 ghost use Rattle.std.specs.Prelude.{◌≡◌, ◌≤◌, ℕ, [], ◌∷◌, length, Contains, Some, slice_get, IfOk, MatchOption};
-ghost use Rattle.rule_parse.specs.Inside.{arguments_of};
-ghost use Rattle.rule_reader.specs.Naming.{in_half, AreNames, IsConstant, IsConstantOf, HasName, ArgumentMeans, OperandMeans, OpMeans, HalfMeans, Means};
+ghost use Rattle.rule_parse.specs.Contents.{arguments_of};
+ghost use Rattle.rule_reader.specs.Meaning.{in_half, AreNames, IsConstant, IsConstantOf, HasName, ArgumentMeans, OperandMeans, OpMeans, HalfMeans, Means};
 ghost use Rattle.rule_reader.specs.WellFormed.{IsWellFormed};
-ghost use Rattle.rule_reader.specs.Kinds.{MayUse};
-ghost use Rattle.rule_reader.specs.Resolving.{half_of, IsPlaceOf, Finds, HalfIsBound, NamesAreThere, AreReady};
+ghost use Rattle.rule_reader.specs.FaultKinds.{MayUse};
+ghost use Rattle.rule_reader.specs.KnownRules.{half_of, IsPlaceOf, Finds, HalfIsBound, NamesAreThere, AreReady};
 
 use crate::counts::Counts;
 use crate::names::Names;

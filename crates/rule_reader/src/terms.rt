@@ -1,11 +1,11 @@
 //! Terms whose names are known by place, from terms as written, whose names are all there to use.
 
 ghost use Rattle.std.specs.Prelude.{◌≡◌, ◌+◌, ◌≤◌, ◌∷◌, [], length, flat_map, sum_by, IfOk, OnOk};
-ghost use Rattle.rule_parse.specs.Inside.{arguments_of, terms_of_argument, target_terms};
-ghost use Rattle.rule_reader.specs.Naming.{nodes_in, AreNames, NodeMeans, TermsMean};
+ghost use Rattle.rule_parse.specs.Contents.{arguments_of, terms_of_argument, target_terms};
+ghost use Rattle.rule_reader.specs.Meaning.{nodes_in, AreNames, NodeMeans, TermsMean};
 ghost use Rattle.rule_reader.specs.WellFormed.{IsWellFormed};
-ghost use Rattle.rule_reader.specs.Kinds.{Each, NodeIsBound};
-ghost use Rattle.rule_reader.specs.Resolving.{HalfIsBound, IsPlaceOf, NodeFits, TermIsReady, HasReadyTerm, AddsTerms};
+ghost use Rattle.rule_reader.specs.FaultKinds.{Each, NodeIsBound};
+ghost use Rattle.rule_reader.specs.KnownRules.{HalfIsBound, IsPlaceOf, NodeFits, TermIsReady, HasReadyTerm, AddsTerms};
 
 use crate::names::Names;
 use crate::place::{Half, Place};

@@ -3,9 +3,9 @@
 ghost use Rattle.std.specs.Prelude.{◌≡◌, ◌↔◌, ◌<◌, List, Some, Contains, length, slice_get, IsTrue};
 ghost use Rattle.rule_parse.specs.declared.raw.RawStatement.{RawStatement as written_statement};
 ghost use Rattle.rule_parse.specs.declared.raw.RawArgument.TheVariants.{Undef as undef};
-ghost use Rattle.rule_parse.specs.Inside.{arguments_of, expressions_of};
+ghost use Rattle.rule_parse.specs.Contents.{arguments_of, expressions_of};
 ghost use Rattle.rule_reader.specs.WellFormed.{AreInLineOrder, IsWellFormed};
-ghost use Rattle.rule_reader.specs.Kinds.{StandsAt, ReadsUndefInside, IsUndefCopy, UndefInsideAt, WitnessCountAt, witness_line};
+ghost use Rattle.rule_reader.specs.FaultKinds.{StandsAt, ReadsUndefInside, IsUndefCopy, UndefInsideAt, WitnessCountAt, witness_line};
 ghost use Rattle.rule_reader.specs.Faults.{IsFirst};
 
 use crate::counts::undefs_in;

@@ -1,10 +1,10 @@
 //! The choices of the source's `undef`s by place, from the expressions of `Wit:` as written.
 
 ghost use Rattle.std.specs.Prelude.{◌≡◌, IfOk};
-ghost use Rattle.rule_parse.specs.Inside.{expressions_of};
-ghost use Rattle.rule_reader.specs.Naming.{last_nodes, AreNames, TermsMean};
+ghost use Rattle.rule_parse.specs.Contents.{expressions_of};
+ghost use Rattle.rule_reader.specs.Meaning.{last_nodes, AreNames, TermsMean};
 ghost use Rattle.rule_reader.specs.WellFormed.{IsWellFormed};
-ghost use Rattle.rule_reader.specs.Kinds.{Each, TermIsBound};
+ghost use Rattle.rule_reader.specs.FaultKinds.{Each, TermIsBound};
 
 use crate::names::Names;
 use crate::place::Place;

@@ -3,8 +3,8 @@ use Rattle.std.proofs.Common.{◌≡◌, ℕ, zero, suc, ◌<◌, ◌≤◌, Boo
 use Rattle.rule_tokens.specs.declared.fault.ParseError.{ParseError}
 use Rattle.rule_tokens.specs.declared.fault.ParseError.TheVariants.{Refused, NoMemory}
 use Rattle.rule_tokens.specs.declared.fault.TextFault.{TextFault}
-use Rattle.rule_tokens.specs.Giving.{◌>>=◌, Fails}
-use Rattle.rule_tokens.specs.Reading.{Read}
+use Rattle.rule_tokens.specs.Gives.{◌>>=◌, Fails}
+use Rattle.rule_tokens.specs.PartReaders.{Read}
 use Rattle.rule_tokens.specs.Tokens.{Token, Mark}
 use Rattle.rule_tokens.proofs.Takes.{mark_is}
 use Rattle.rule_terms.specs.Chains.{Reader, next_is, chain_of, chain_at}

@@ -4,13 +4,13 @@ use Rattle.ops.specs.declared.opcode.Opcode.{Opcode}
 use Rattle.rule_tokens.specs.declared.fault.ParseError.{ParseError}
 use Rattle.rule_tokens.specs.declared.fault.ParseError.TheVariants.{Refused, NoMemory}
 use Rattle.rule_tokens.specs.declared.fault.TextFault.{TextFault}
-use Rattle.rule_tokens.specs.Giving.{◌>>=◌, Fails, Gives}
-use Rattle.rule_tokens.specs.Reading.{Read}
+use Rattle.rule_tokens.specs.Gives.{◌>>=◌, Fails, Gives}
+use Rattle.rule_tokens.specs.PartReaders.{Read}
 use Rattle.rule_tokens.specs.Tokens.{Token}
 use Rattle.rule_terms.specs.declared.place.TermPlace.{TermPlace}
 use Rattle.rule_terms.specs.declared.raw.RawNode.{RawNode}
 use Rattle.rule_terms.specs.declared.start.Start.{Start}
-use Rattle.rule_terms.specs.Parsing.{Reader, start_at, operator_at, join, joined_or_end, chain_at, whole_chain_at, behind_at, operand_at, begun_at, shallow_in, primary_at}
+use Rattle.rule_terms.specs.TermReaders.{Reader, start_at, operator_at, join, joined_or_end, chain_at, whole_chain_at, behind_at, operand_at, begun_at, shallow_in, primary_at}
 use Rattle.rule_terms.proofs.Meanings.{operator_at-is}
 
 -- fewer tokens are left behind what is read

@@ -9,8 +9,8 @@ use Rattle.rule_terms.specs.declared.place.TermPlace.{TermPlace}
 use Rattle.rule_terms.specs.declared.raw.RawNode.{RawNode}
 use Rattle.rule_terms.specs.Grammar.{EndsTerm}
 use Rattle.rule_terms.specs.Laws.{TermsAreReadAsSpelled}
-use Rattle.rule_terms.specs.Parsing.{Reader, operator_at, join, joined_or_end, chain_at, behind_at, operand_at, primary_at, term_at}
-use Rattle.rule_terms.specs.Words.{operator_in, level_of, loosest}
+use Rattle.rule_terms.specs.TermReaders.{Reader, operator_at, join, joined_or_end, chain_at, behind_at, operand_at, primary_at, term_at}
+use Rattle.rule_terms.specs.Keywords.{operator_in, level_of, loosest}
 use Rattle.rule_terms.proofs.Chains.{Shortens}
 use Rattle.rule_terms.proofs.Meanings.{operator_at-is}
 use Rattle.rule_terms.proofs.Readings.{operand_shorter}

@@ -6,13 +6,13 @@ use Rattle.std.specs.Str.{bytes_eq}
 use Rattle.std.proofs.lemmas.List.Folds.{list_any-append}
 use Rattle.ops.specs.declared.comparison.Pred.{Pred}
 use Rattle.scan.proofs.Fronts.{and_left}
-use Rattle.words.specs.Words.{predicates}
-use Rattle.words.proofs.WordLemmas.{same_word, found-passes}
+use Rattle.ops.specs.Keywords.{predicates}
+use Rattle.ops.proofs.KeywordLemmas.{same_word, found-passes}
 use Rattle.rule_tokens.specs.declared.fault.ParseError.{ParseError}
 use Rattle.rule_tokens.specs.declared.fault.ParseError.TheVariants.{Refused, NoMemory}
-use Rattle.rule_tokens.specs.Giving.{◌>>=◌, Fails}
+use Rattle.rule_tokens.specs.Gives.{◌>>=◌, Fails}
 use Rattle.rule_tokens.specs.Limits.{most_name_bytes}
-use Rattle.rule_tokens.specs.Reading.{name_within, line_end}
+use Rattle.rule_tokens.specs.PartReaders.{name_within, line_end}
 use Rattle.rule_tokens.specs.Tokens.{Token, Register, Word, Mark}
 use Rattle.rule_tokens.proofs.Steps.{done, bind_ok, bound, read_as, chosen, guarded}
 use Rattle.rule_tokens.proofs.Takes.{Takes, name_within-is, line_end-is}
@@ -25,10 +25,10 @@ use Rattle.rule_terms.specs.declared.formula_word.Predicate.{Predicate}
 use Rattle.rule_terms.specs.declared.formula_word.Predicate.TheVariants.{IsPowerOfTwo, IsSignBit}
 use Rattle.rule_terms.specs.Chains.{Reader, next_is, chain_of}
 use Rattle.rule_terms.specs.Formulas.{Standing, Outermost, Within, Level, Member, Members, Alternatives, joined, SpellsFormula, SpellsWholeFormula, compares, tests, one_use, turns, encloses, member, both, members, either}
-use Rattle.rule_terms.specs.FormulaReading.{comparison_or_fault, comparison_at, compares_at, deeper, tests_at, register_at, one_use_at, joins, members_of, more_alternatives, alternatives_of, begun_at, too_deep, member_at, outer_member_at, asks_one_use, or_alternatives, formula_at, opening_at, mark_opening, word_opening, opens_formula}
-use Rattle.rule_terms.specs.FormulaWords.{comparison_mark, comparison_in, predicate_word, predicate_node, predicate_in}
+use Rattle.rule_terms.specs.FormulaReaders.{comparison_or_fault, comparison_at, compares_at, deeper, tests_at, register_at, one_use_at, joins, members_of, more_alternatives, alternatives_of, begun_at, too_deep, member_at, outer_member_at, asks_one_use, or_alternatives, formula_at, opening_at, mark_opening, word_opening, opens_formula}
+use Rattle.rule_terms.specs.FormulaKeywords.{comparison_mark, comparison_in, predicate_word, predicate_node, predicate_in}
 use Rattle.rule_terms.specs.Grammar.{most_nested, last_place}
-use Rattle.rule_terms.specs.Parsing.{mark_at, term_at}
+use Rattle.rule_terms.specs.TermReaders.{mark_at, term_at}
 use Rattle.rule_terms.proofs.ChainLemmas.{Shortens, next_is-is}
 use Rattle.rule_terms.proofs.Spellings.{term_at-is}
 use Rattle.rule_terms.proofs.Starts.{mark_at-is}

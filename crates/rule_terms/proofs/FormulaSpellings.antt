@@ -15,9 +15,9 @@ use Rattle.scan.specs.RuleTokens.{is_constant}
 use Rattle.scan.proofs.Fronts.{and_left}
 use Rattle.std.specs.List.{list_all}
 use Rattle.std.specs.Prelude.{◌==◌}
-use Rattle.rule_tokens.specs.Giving.{◌>>=◌}
+use Rattle.rule_tokens.specs.Gives.{◌>>=◌}
 use Rattle.rule_tokens.specs.Limits.{most_name_bytes}
-use Rattle.rule_tokens.specs.Reading.{line_end}
+use Rattle.rule_tokens.specs.PartReaders.{line_end}
 use Rattle.rule_tokens.specs.Tokens.{Token, Line, Register, Word, Number, Mark}
 use Rattle.rule_tokens.proofs.Ends.{EndsLine, name_within-of, line_end-of}
 use Rattle.rule_terms.specs.declared.place.TermPlace.TheVariants.{Constant}
@@ -32,17 +32,17 @@ use Rattle.rule_terms.specs.declared.formula_word.Sign.{Sign}
 use Rattle.rule_terms.specs.declared.formula_word.Sign.TheVariants as signs
 use Rattle.rule_terms.specs.Chains.{Reader, next_is, chain_at}
 use Rattle.rule_terms.specs.Formulas.{Standing, Outermost, Within, Level, Member, Members, Alternatives, joined, SpellsFormula, SpellsWholeFormula, compares, tests, one_use, turns, encloses, member, both, members, either}
-use Rattle.rule_terms.specs.FormulaReading.{sign_of, word_sign, opens_behind, opens_formula, comparison_at, compares_at, tests_at, one_use_at, joins, more_members, members_of, more_alternatives, alternatives_of, member_at, outer_member_at, asks_one_use, or_alternatives, formula_at, opening_at}
-use Rattle.rule_terms.specs.FormulaWords.{comparison_mark, comparison_in, predicate_word, predicate_node, predicate_in}
+use Rattle.rule_terms.specs.FormulaReaders.{sign_of, word_sign, opens_behind, opens_formula, comparison_at, compares_at, tests_at, one_use_at, joins, more_members, members_of, more_alternatives, alternatives_of, member_at, outer_member_at, asks_one_use, or_alternatives, formula_at, opening_at}
+use Rattle.rule_terms.specs.FormulaKeywords.{comparison_mark, comparison_in, predicate_word, predicate_node, predicate_in}
 use Rattle.rule_terms.specs.Grammar.{most_nested, last_place, EndsTerm, SpellsLeaf, SpellsTerm, SpellsWholeTerm, leaf, width, parenthesised, called, prefixed, tighter, joined as joined_term}
-use Rattle.rule_terms.specs.Words.{operator_mark, operator_in, IsCalled, IsPrefix}
+use Rattle.rule_terms.specs.Keywords.{operator_mark, operator_in, IsCalled, IsPrefix}
 use Rattle.rule_terms.proofs.ChainLemmas.{Shortens, chain-more, chain-done}
 use Rattle.rule_terms.proofs.FormulaReadings.{member_at-is, outer_member_at-is, members_of-is, joins_shortens, operator_made, turned_made, stands_outermost}
 use Rattle.std.proofs.Common.{zero-add}
 use Rattle.std.proofs.lemmas.Bool.{false≢true}
 use Rattle.std.proofs.lemmas.List.Folds.{list_any-append}
 use Rattle.scan.proofs.Fronts.{which}
-use Rattle.words.proofs.WordLemmas.{same_word}
+use Rattle.ops.proofs.KeywordLemmas.{same_word}
 use Rattle.rule_tokens.specs.declared.fault.TextFault.{TextFault}
 use Rattle.rule_terms.proofs.Readings.{spells_some}
 use Rattle.rule_terms.proofs.Spellings.{term_at-of}

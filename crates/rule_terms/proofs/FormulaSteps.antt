@@ -3,17 +3,17 @@ use Rattle.std.proofs.Common.{◌≡◌, ℕ, zero, suc, List, [], ◌∷◌, �
 use Rattle.std.specs.Prelude.{codes}
 use Rattle.rule_tokens.specs.declared.fault.ParseError.{ParseError}
 use Rattle.rule_tokens.specs.declared.fault.ParseError.TheVariants.{Refused, NoMemory}
-use Rattle.rule_tokens.specs.Giving.{Fails, Gives}
+use Rattle.rule_tokens.specs.Gives.{Fails, Gives}
 use Rattle.rule_terms.specs.declared.raw.RawFormula.TheVariants.{Not}
 use Rattle.rule_terms.specs.Grammar.{last_place}
-use Rattle.rule_terms.specs.Parsing.{mark_at}
+use Rattle.rule_terms.specs.TermReaders.{mark_at}
 use Rattle.rule_tokens.specs.declared.fault.TextFault.{TextFault}
 use Rattle.rule_tokens.specs.Tokens.{Token}
 use Rattle.rule_tokens.proofs.Steps.{ok_is}
 use Rattle.rule_terms.specs.declared.raw.RawFormula.{RawFormula}
 use Rattle.rule_terms.specs.declared.formula_word.Opening.TheVariants.{Turns, Encloses, Tests, Compares}
 use Rattle.rule_terms.specs.declared.formula_word.Predicate.{Predicate}
-use Rattle.rule_terms.specs.FormulaReading.{deeper, alternatives_of, turns_at, encloses_at, tests_at, compares_at, member_at, opening_at}
+use Rattle.rule_terms.specs.FormulaReaders.{deeper, alternatives_of, turns_at, encloses_at, tests_at, compares_at, member_at, opening_at}
 
 pub member-turns : (nesting line inside : ℕ) (before : List RawFormula) (tokens : List Token) → Turns ≡ opening_at tokens → deeper line nesting ≡ Ok inside → member_at nesting line before tokens ≡ turns_at (member_at inside line) before (drop 1 tokens)
 unfolding member_at

@@ -7,7 +7,7 @@ use Rattle.std.proofs.lemmas.Bool.{eqb-true, eq-eqb}
 use Rattle.ops.specs.declared.opcode.Opcode.{Opcode}
 use Rattle.ops.specs.declared.opcode.Opcode.TheVariants.{Add, Sub, Mul, UDiv, SDiv, URem, SRem, Shl, LShr, AShr, And, Or, Xor}
 use Rattle.rule_core.specs.declared.rule.Function.TheVariants.{Negate, Not, Log2, Abs}
-use Rattle.words.proofs.WordLemmas.{same_word, found-passes}
+use Rattle.ops.proofs.KeywordLemmas.{same_word, found-passes}
 use Rattle.scan.specs.Bytes.{begins_with, is_digit, are_digits}
 use Rattle.scan.specs.RuleTokens.{is_constant}
 use Rattle.scan.proofs.Fronts.{and_left, and_right}
@@ -18,8 +18,8 @@ use Rattle.rule_terms.specs.declared.place.TermPlace.{TermPlace}
 use Rattle.rule_terms.specs.declared.place.TermPlace.TheVariants as places
 use Rattle.rule_terms.specs.declared.word.Meaning.{Meaning}
 use Rattle.rule_terms.specs.declared.word.Meaning.TheVariants as meanings
-use Rattle.rule_terms.specs.Parsing.{of_level, operator_at}
-use Rattle.rule_terms.specs.Words.{operator_mark, operators, operator_in, level_of, IsCalled, IsChoice, choice_in, choice_meaning, name_in, meaning_in}
+use Rattle.rule_terms.specs.TermReaders.{of_level, operator_at}
+use Rattle.rule_terms.specs.Keywords.{operator_mark, operators, operator_in, level_of, IsCalled, IsChoice, choice_in, choice_meaning, name_in, meaning_in}
 
 -- ---- operators of two operands
 

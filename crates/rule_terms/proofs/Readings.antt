@@ -11,8 +11,8 @@ use Rattle.rule_terms.specs.declared.raw.RawNode.TheVariants as raw_nodes
 use Rattle.rule_terms.specs.declared.start.Start.{Start}
 use Rattle.rule_terms.specs.declared.start.Start.TheVariants.{Leaf, Prefix, Parenthesis, Call, Width}
 use Rattle.rule_terms.specs.Grammar.{last_place, SpellsTerm, leaf, width, parenthesised, called, prefixed, tighter, joined}
-use Rattle.rule_terms.specs.Parsing.{Reader, mark_at, start_at, measured_at, operator_at, join, joined_or_end, chain_at, behind_at, operand_at, add_unary, inside_at, begun_at, shallow_in, primary_at}
-use Rattle.rule_terms.specs.Words.{operator_mark, loosest}
+use Rattle.rule_terms.specs.TermReaders.{Reader, mark_at, start_at, measured_at, operator_at, join, joined_or_end, chain_at, behind_at, operand_at, add_unary, inside_at, begun_at, shallow_in, primary_at}
+use Rattle.rule_terms.specs.Keywords.{operator_mark, loosest}
 use Rattle.rule_terms.proofs.Meanings.{IsNext, operator_at-is}
 use Rattle.rule_terms.proofs.Starts.{Starts, mark_at-is, measured_at-is, start_at-is}
 

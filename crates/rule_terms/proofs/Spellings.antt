@@ -5,15 +5,15 @@ use Rattle.std.proofs.lemmas.Bool.{ne_eqb}
 use Rattle.ops.specs.declared.opcode.Opcode.{Opcode}
 use Rattle.rule_core.specs.declared.rule.Function.{Function}
 use Rattle.rule_tokens.specs.declared.fault.TextFault.{TextFault}
-use Rattle.rule_tokens.specs.Giving.{◌>>=◌}
+use Rattle.rule_tokens.specs.Gives.{◌>>=◌}
 use Rattle.rule_tokens.specs.Tokens.{Token, Register, Word, Mark}
 use Rattle.rule_terms.specs.declared.place.TermPlace.{TermPlace}
 use Rattle.rule_terms.specs.declared.raw.RawNode.{RawNode}
 use Rattle.rule_terms.specs.declared.raw.RawNode.TheVariants as raw_nodes
 use Rattle.rule_terms.specs.declared.start.Start.TheVariants.{Leaf, Prefix, Parenthesis, Call, Width}
 use Rattle.rule_terms.specs.Grammar.{last_place, SpellsTerm, leaf, width, parenthesised, called, prefixed, tighter, joined, SpellsWholeTerm, EndsTerm}
-use Rattle.rule_terms.specs.Parsing.{Reader, mark_at, start_at, operator_at, join, whole_chain_at, behind_at, operand_at, add_unary, inside_at, primary_at, term_at, rest_of_term_at}
-use Rattle.rule_terms.specs.Words.{operator_mark, operator_in, level_of, loosest}
+use Rattle.rule_terms.specs.TermReaders.{Reader, mark_at, start_at, operator_at, join, whole_chain_at, behind_at, operand_at, add_unary, inside_at, primary_at, term_at, rest_of_term_at}
+use Rattle.rule_terms.specs.Keywords.{operator_mark, operator_in, level_of, loosest}
 use Rattle.rule_terms.proofs.Chains.{chain-more, chain-done}
 use Rattle.rule_terms.proofs.Meanings.{operator_in-of, operator_at-of}
 use Rattle.rule_terms.proofs.Readings.{Adds, join_made, unary_made, operand_shorter, operand_at-is, behind_at-is, primary_at-is}

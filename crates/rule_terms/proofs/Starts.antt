@@ -2,12 +2,12 @@
 use Rattle.std.proofs.Common.{◌≡◌, ℕ, ◌≤◌, true, false, cond, List, [], ◌∷◌, ◌++◌, length, Option, Some, None, Ok, refl, sym, ap, subst, ◌∙◌, ⊎_elim}
 use Rattle.std.specs.Prelude.{codes}
 use Rattle.std.specs.Str.{bytes_eq}
-use Rattle.words.proofs.WordLemmas.{same_word}
+use Rattle.ops.proofs.KeywordLemmas.{same_word}
 use Rattle.rule_core.specs.declared.rule.Function.TheVariants.{Negate, Not, Log2, Abs}
 use Rattle.rule_tokens.specs.declared.fault.Misfit.TheVariants.{Syntax}
 use Rattle.rule_tokens.specs.Limits.{most_name_bytes}
 use Rattle.rule_tokens.specs.Numbers.{literal_value}
-use Rattle.rule_tokens.specs.Reading.{fault, name_within}
+use Rattle.rule_tokens.specs.PartReaders.{fault, name_within}
 use Rattle.rule_tokens.specs.Tokens.{Token, Register, Word, Number, Mark}
 use Rattle.rule_tokens.proofs.Ends.{name_within-of}
 use Rattle.rule_tokens.proofs.Steps.{bound, read_as, tested, chosen}
@@ -21,8 +21,8 @@ use Rattle.rule_terms.specs.declared.start.Start.TheVariants.{Leaf, Prefix, Pare
 use Rattle.rule_terms.specs.declared.word.Meaning.{Meaning}
 use Rattle.rule_terms.specs.declared.word.Meaning.TheVariants as meanings
 use Rattle.rule_terms.specs.Grammar.{SpellsLeaf}
-use Rattle.rule_terms.specs.Parsing.{mark_at, register_in, word_at, opening_in, opening_at, start_at, measured_at}
-use Rattle.rule_terms.specs.Words.{IsPrefix, IsCalled, meaning_in}
+use Rattle.rule_terms.specs.TermReaders.{mark_at, register_in, word_at, opening_in, opening_at, start_at, measured_at}
+use Rattle.rule_terms.specs.Keywords.{IsPrefix, IsCalled, meaning_in}
 use Rattle.rule_terms.proofs.Meanings.{Means, meaning_in-is, meaning_in-of}
 
 -- the tokens begin so, in front of the rest

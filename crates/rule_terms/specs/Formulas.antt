@@ -11,7 +11,7 @@ use Rattle.rule_terms.specs.declared.place.TermPlace.TheVariants.{Constant}
 use Rattle.rule_terms.specs.Grammar.{most_nested, last_place, SpellsWholeTerm}
 use Rattle.ops.specs.declared.comparison.Pred.{Pred}
 use Rattle.rule_tokens.specs.Parts.{Part}
-use Rattle.rule_terms.specs.FormulaWords.{comparison_mark, predicate_word, predicate_node}
+use Rattle.rule_terms.specs.FormulaKeywords.{comparison_mark, predicate_word, predicate_node}
 
 -- where a formula stands: it is the whole one or a member of its outermost `&&`, or it stands in parentheses, behind `!` or beside `||`
 pub data Standing : Type 0 where

@@ -11,7 +11,7 @@ use Rattle.rule_terms.specs.declared.place.TermPlace.{TermPlace}
 use Rattle.rule_terms.specs.declared.place.TermPlace.TheVariants.{Witness}
 use Rattle.rule_terms.specs.declared.raw.RawNode.{RawNode}
 use Rattle.rule_terms.specs.declared.raw.RawNode.TheVariants.{Literal, Constant, Register, Undef, Width, Unary, Binary}
-use Rattle.rule_terms.specs.Words.{operator_mark, operator_in, level_of, loosest, IsPrefix, IsCalled, IsChoice}
+use Rattle.rule_terms.specs.Keywords.{operator_mark, operator_in, level_of, loosest, IsPrefix, IsCalled, IsChoice}
 
 -- the most open parentheses and pending operators of one operand at a token
 abbrev pub most_nested : ℕ

@@ -4,7 +4,7 @@ use Rattle.rule_tokens.specs.Tokens.{Token}
 use Rattle.rule_terms.specs.declared.place.TermPlace.{TermPlace}
 use Rattle.rule_terms.specs.declared.raw.RawNode.{RawNode}
 use Rattle.rule_terms.specs.Grammar.{SpellsWholeTerm, EndsTerm}
-use Rattle.rule_terms.specs.Parsing.{term_at}
+use Rattle.rule_terms.specs.TermReaders.{term_at}
 
 -- Reading from left to right answers nodes and the tokens behind exactly where the grammar spells the nodes by the tokens before those,
 -- and no operator is next behind them.

@@ -1,9 +1,13 @@
+pub use Rattle.rule_tokens.specs.Gives
+pub use Rattle.rule_tokens.specs.Numbers
+pub use Rattle.scan.specs.RuleTokens
+pub use Rattle.rule_tokens.specs.SeenTokens
 pub mod Chains
-pub mod FormulaReading
-pub mod FormulaWords
+pub mod FormulaReaders
+pub mod FormulaKeywords
 pub mod Formulas
 pub mod Grammar
 pub mod Laws
 pub mod Nodes
-pub mod Parsing
-pub mod Words
+pub mod TermReaders
+pub mod Keywords

@@ -4,9 +4,9 @@
 
 ghost use Rattle.std.specs.Prelude.{◌≡◌, drop, length};
 ghost use Rattle.std.specs.List.{list_any};
-ghost use Rattle.rule_tokens.specs.Giving.{Gives};
-ghost use Rattle.rule_tokens.specs.Seen.{seen};
-ghost use Rattle.rule_terms.specs.FormulaReading as reading;
+ghost use Rattle.rule_tokens.specs.Gives.{Gives};
+ghost use Rattle.rule_tokens.specs.SeenTokens.{seen};
+ghost use Rattle.rule_terms.specs.FormulaReaders as reading;
 ghost use Rattle.rule_terms.specs.Grammar.{last_place};
 
 use crate::formula_word::{Opening, Predicate, comparison_of, opening_of, predicate_node};
@@ -17,9 +17,9 @@ use crate::start::mark;
 use crate::take::takes;
 use lists::{List, Text};
 use ops::Pred;
+use ops::keywords::is;
 use rule_tokens::{Misfit, ParseError, Token, line_end, name_within, refused, unexpected};
 use std::alloc::Global;
-use words::is;
 
 /// The most open parentheses and pending operators of one operand at a token.
 const MOST_NESTED: u32 = 32;
@@ -46,7 +46,7 @@ fn last_place(nodes: &List<RawFormula>) -> u32
 }
 
 /// A comparison.
-#[tactic(auto, unfolding(crate::specs::FormulaReading::comparison_at))]
+#[tactic(auto, unfolding(crate::specs::FormulaReaders::comparison_at))]
 fn comparison(line: usize, tokens: &mut &[Token<'_>]) -> Result<Pred, ParseError>
     ensures { Gives (λ x. (x, seen tokens.new.now)) result (reading.comparison_at line (seen tokens.old.now)) }
 {
@@ -63,7 +63,7 @@ fn comparison(line: usize, tokens: &mut &[Token<'_>]) -> Result<Pred, ParseError
 }
 
 /// Two terms and a comparison between them.
-#[tactic(auto, unfolding(crate::specs::FormulaReading::compares_at))]
+#[tactic(auto, unfolding(crate::specs::FormulaReaders::compares_at))]
 fn compares(
     alloc: Global,
     nesting: u32,
@@ -81,7 +81,7 @@ fn compares(
 }
 
 /// A term in parentheses, behind its predicate.
-#[tactic(auto, unfolding(crate::specs::FormulaReading::tests_at))]
+#[tactic(auto, unfolding(crate::specs::FormulaReaders::tests_at))]
 fn tests(
     alloc: Global,
     predicate: Predicate,
@@ -114,7 +114,7 @@ fn register(alloc: Global, line: usize, tokens: &mut &[Token<'_>]) -> Result<Tex
 }
 
 /// A register in parentheses, behind `hasOneUse`.
-#[tactic(auto, unfolding(crate::specs::FormulaReading::one_use_at))]
+#[tactic(auto, unfolding(crate::specs::FormulaReaders::one_use_at))]
 fn one_use(
     alloc: Global,
     line: usize,
@@ -244,7 +244,7 @@ fn more_alternatives(
 }
 
 /// A member of the outermost `&&`.
-#[tactic(auto, unfolding(crate::specs::FormulaReading::outer_member_at))]
+#[tactic(auto, unfolding(crate::specs::FormulaReaders::outer_member_at))]
 fn outer_member(
     alloc: Global,
     line: usize,
@@ -294,7 +294,7 @@ fn asks_one_use(nodes: &[RawFormula]) -> bool
 /// # Errors
 ///
 /// Refused: the fault of the first token that does not fit. NoMemory: there was no memory.
-#[tactic(auto, unfolding(crate::specs::FormulaReading::formula_at))]
+#[tactic(auto, unfolding(crate::specs::FormulaReaders::formula_at))]
 pub fn formula(
     alloc: Global,
     line: usize,

@@ -3,14 +3,14 @@
 ghost use Rattle.std.specs.Prelude.{◌≡◌};
 ghost use Rattle.std.specs.List.{list_any};
 ghost use Rattle.std.specs.Str.{bytes_eq};
-ghost use Rattle.rule_terms.specs.FormulaReading as reading;
-ghost use Rattle.rule_terms.specs.FormulaWords as spelled;
-ghost use Rattle.rule_tokens.specs.Seen.{seen, seen_token};
+ghost use Rattle.rule_terms.specs.FormulaReaders as reading;
+ghost use Rattle.rule_terms.specs.FormulaKeywords as spelled;
+ghost use Rattle.rule_tokens.specs.SeenTokens.{seen, seen_token};
 
 use crate::raw::{RawFormula, RawTerm};
 use ops::Pred;
+use ops::keywords::is;
 use rule_tokens::Token;
-use words::is;
 
 /// A predicate of one term.
 #[derive(Clone, Copy, Debug)]
@@ -75,7 +75,7 @@ fn comparison_name(pred: Pred) -> &'static str
 }
 
 /// The predicate of a comparison.
-#[tactic(auto, unfolding(crate::specs::FormulaWords::comparison_in))]
+#[tactic(auto, unfolding(crate::specs::FormulaKeywords::comparison_in))]
 pub(crate) fn comparison_of(mark: &[u8]) -> Option<Pred>
     ensures { result ≡ spelled.comparison_in mark.now }
 {
@@ -86,7 +86,7 @@ pub(crate) fn comparison_of(mark: &[u8]) -> Option<Pred>
 }
 
 /// The predicate of one term that a word is.
-#[tactic(auto, unfolding(crate::specs::FormulaWords::predicate_in))]
+#[tactic(auto, unfolding(crate::specs::FormulaKeywords::predicate_in))]
 pub(crate) fn predicate_of(word: &[u8]) -> Option<Predicate>
     ensures { result ≡ spelled.predicate_in word.now }
 {
@@ -160,7 +160,7 @@ fn sign_of(token: &Token<'_>) -> Sign
 }
 
 /// Whether a formula, and no term, stands in the parentheses that are open here.
-#[tactic(auto, unfolding(crate::specs::FormulaReading::opens_formula))]
+#[tactic(auto, unfolding(crate::specs::FormulaReaders::opens_formula))]
 pub(crate) fn opens_formula(tokens: &[Token<'_>]) -> bool
     ensures { result ≡ reading.opens_formula 0 (seen tokens.now) }
 {
@@ -185,7 +185,7 @@ pub(crate) fn opens_formula(tokens: &[Token<'_>]) -> bool
 }
 
 /// How a member of a formula begins.
-#[tactic(auto, unfolding(crate::specs::FormulaReading::opening_at))]
+#[tactic(auto, unfolding(crate::specs::FormulaReaders::opening_at))]
 pub(crate) fn opening_of(tokens: &[Token<'_>]) -> Opening
     ensures { result ≡ reading.opening_at (seen tokens.now) }
 {

@@ -20,6 +20,3 @@ pub use reading::{rest_of_term, term};
 pub use start::{Start, mark};
 pub use take::takes;
 pub use word::{Meaning, is_constant, operator_of};
-
-#[cfg(test)]
-mod tests;

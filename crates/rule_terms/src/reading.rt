@@ -1,10 +1,10 @@
 //! Terms from the tokens of a line. Operators of one level are read in a loop; only what is nested, and the levels, recurse.
 
 ghost use Rattle.std.specs.Prelude.{◌≡◌, length, Some, None, IfSome, IfNone, OnOk};
-ghost use Rattle.rule_tokens.specs.Giving.{Gives};
-ghost use Rattle.rule_tokens.specs.Seen.{seen};
+ghost use Rattle.rule_tokens.specs.Gives.{Gives};
+ghost use Rattle.rule_tokens.specs.SeenTokens.{seen};
 ghost use Rattle.rule_terms.specs.Grammar.{last_place};
-ghost use Rattle.rule_terms.specs.Parsing as parsing;
+ghost use Rattle.rule_terms.specs.TermReaders as parsing;
 
 use crate::place::TermPlace;
 use crate::raw::{RawNode, RawTerm};
@@ -46,7 +46,7 @@ fn push_unary(function: Function, nodes: &mut RawTerm) -> Result<(), AllocError>
 }
 
 /// The operator of the level that is next, if one is; goes behind it.
-#[tactic(auto, unfolding(crate::specs::Parsing::operator_at))]
+#[tactic(auto, unfolding(crate::specs::TermReaders::operator_at))]
 fn operator(level: u32, tokens: &mut &[Token<'_>]) -> Option<Opcode>
     ensures some { IfSome result (λ op. parsing.operator_at level (seen tokens.old.now) ≡ Some (op, seen tokens.new.now)) }
     ensures none { IfNone result (parsing.operator_at level (seen tokens.old.now) ≡ None) }
@@ -181,7 +181,7 @@ fn primary(
 
 /// The term that stands here; goes behind it. At most `nesting` parentheses and operators of one operand are open at a token, and the
 /// next one is `TooMany`. It takes as many steps as the term has tokens.
-#[tactic(auto, unfolding(crate::specs::Parsing::term_at))]
+#[tactic(auto, unfolding(crate::specs::TermReaders::term_at))]
 pub fn term(
     alloc: Global,
     place: TermPlace,
@@ -198,7 +198,7 @@ pub fn term(
 }
 
 /// The term that begins with these nodes, which are those of an operand in parentheses, and goes on here; goes behind it.
-#[tactic(auto, unfolding(crate::specs::Parsing::rest_of_term_at))]
+#[tactic(auto, unfolding(crate::specs::TermReaders::rest_of_term_at))]
 pub fn rest_of_term(
     alloc: Global,
     place: TermPlace,

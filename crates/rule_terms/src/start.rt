@@ -1,20 +1,20 @@
 //! What an operand of a term begins with.
 
 ghost use Rattle.std.specs.Prelude.{◌≡◌};
-ghost use Rattle.rule_tokens.specs.Giving.{Gives};
-ghost use Rattle.rule_tokens.specs.Seen.{seen};
-ghost use Rattle.rule_terms.specs.Parsing as parsing;
+ghost use Rattle.rule_tokens.specs.Gives.{Gives};
+ghost use Rattle.rule_tokens.specs.SeenTokens.{seen};
+ghost use Rattle.rule_terms.specs.TermReaders as parsing;
 
 use crate::place::TermPlace;
 use crate::raw::RawNode;
 use crate::word::{Meaning, meaning_of};
 use lists::Text;
+use ops::keywords::is;
 use rule_core::Function;
 use rule_tokens::{
     Misfit, ParseError, Token, literal, misplaced_word, name_within, refused, unexpected,
 };
 use std::alloc::Global;
-use words::is;
 
 /// What an operand begins with.
 #[derive(Debug, Drop)]
@@ -32,7 +32,7 @@ pub enum Start {
 }
 
 /// The mark that has to stand here.
-#[tactic(auto, unfolding(crate::specs::Parsing::mark_at))]
+#[tactic(auto, unfolding(crate::specs::TermReaders::mark_at))]
 pub fn mark(wanted: &str, line: usize, tokens: &mut &[Token<'_>]) -> Result<(), ParseError>
     ensures { Gives (λ _. seen tokens.new.now) result (parsing.mark_at wanted.now line (seen tokens.old.now)) }
 {
@@ -91,7 +91,7 @@ fn word(
 }
 
 /// What a mark begins: a parenthesis, or an operator of one operand.
-#[tactic(auto, unfolding(crate::specs::Parsing::opening_in))]
+#[tactic(auto, unfolding(crate::specs::TermReaders::opening_in))]
 fn opening_of(mark: &[u8]) -> Option<Start>
     ensures { result ≡ parsing.opening_in mark.now }
 {
@@ -107,7 +107,7 @@ fn opening_of(mark: &[u8]) -> Option<Start>
 }
 
 /// What the operand begins with that stands here; goes behind it.
-#[tactic(auto, unfolding(crate::specs::Parsing::start_at))]
+#[tactic(auto, unfolding(crate::specs::TermReaders::start_at))]
 pub(crate) fn begin(
     alloc: Global,
     place: TermPlace,
@@ -141,7 +141,7 @@ pub(crate) fn begin(
 }
 
 /// The register of a `width(`, and the parenthesis behind it.
-#[tactic(auto, unfolding(crate::specs::Parsing::measured_at))]
+#[tactic(auto, unfolding(crate::specs::TermReaders::measured_at))]
 pub(crate) fn measured(
     alloc: Global,
     line: usize,

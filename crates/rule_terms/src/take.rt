@@ -1,11 +1,11 @@
 //! Marks that are next.
 
 ghost use Rattle.std.specs.Prelude.{◌≡◌, drop, if◌then◌else◌};
-ghost use Rattle.rule_tokens.specs.Seen.{seen};
+ghost use Rattle.rule_tokens.specs.SeenTokens.{seen};
 ghost use Rattle.rule_terms.specs.Chains as reading;
 
+use ops::keywords::is;
 use rule_tokens::Token;
-use words::is;
 
 /// Whether the mark is next; goes behind it, if it is.
 pub fn takes(mark: &str, tokens: &mut &[Token<'_>]) -> bool

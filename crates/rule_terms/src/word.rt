@@ -3,13 +3,13 @@
 ghost use Rattle.std.specs.Prelude.{◌≡◌, ◌-◌, ◌^◌, min};
 ghost use Rattle.scan.specs.RuleTokens as tokens;
 ghost use Rattle.rule_tokens.specs.Numbers.{decimal_value};
-ghost use Rattle.rule_terms.specs.Words as spelled;
+ghost use Rattle.rule_terms.specs.Keywords as spelled;
 
 use crate::place::TermPlace;
 use ops::Opcode;
+use ops::keywords::is;
 use rule_core::Function;
 use rule_tokens::{all_digits, are_digits, magnitude};
-use words::is;
 
 fn operator_mark(opcode: Opcode) -> &'static str
     ensures { result.now ≡ spelled.operator_mark opcode }
@@ -62,7 +62,7 @@ const OPERATORS: [Opcode; 13] = [
 ];
 
 /// The operator of two operands that a mark is.
-#[tactic(auto, unfolding(crate::specs::Words::operator_in))]
+#[tactic(auto, unfolding(crate::specs::Keywords::operator_in))]
 pub fn operator_of(mark: &[u8]) -> Option<Opcode>
     ensures { result ≡ spelled.operator_in mark.now }
 {
@@ -94,7 +94,7 @@ fn place_of(digits: &[u8]) -> u32
 }
 
 /// The place of the target's `undef` that a word is: 0 for `t1`.
-#[tactic(auto, unfolding(crate::specs::Words::choice_in))]
+#[tactic(auto, unfolding(crate::specs::Keywords::choice_in))]
 fn choice_of(word: &[u8]) -> Option<u32>
     ensures { result ≡ spelled.choice_in word.now }
 {
@@ -119,7 +119,7 @@ pub enum Meaning {
 }
 
 /// What a name means in an operand's place.
-#[tactic(auto, unfolding(crate::specs::Words::name_in))]
+#[tactic(auto, unfolding(crate::specs::Keywords::name_in))]
 fn name_meaning(place: TermPlace, word: &[u8]) -> Option<Meaning>
     ensures { result ≡ spelled.name_in place word.now }
 {
@@ -136,7 +136,7 @@ fn name_meaning(place: TermPlace, word: &[u8]) -> Option<Meaning>
 }
 
 /// What a word means in an operand's place.
-#[tactic(auto, unfolding(crate::specs::Words::meaning_in))]
+#[tactic(auto, unfolding(crate::specs::Keywords::meaning_in))]
 pub(crate) fn meaning_of(place: TermPlace, word: &[u8]) -> Option<Meaning>
     ensures { result ≡ spelled.meaning_in place word.now }
 {

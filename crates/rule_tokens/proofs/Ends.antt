@@ -2,8 +2,8 @@
 use Rattle.std.proofs.Common.{◌≡◌, ℕ, ◌≤◌, List, [], ◌∷◌, ◌++◌, length, Ok, refl}
 use Rattle.std.proofs.lemmas.Bool.{le-leb}
 use Rattle.rule_tokens.specs.Limits.{most_name_bytes}
-use Rattle.rule_tokens.specs.Reading.{name_within, type_at, line_end}
-use Rattle.rule_tokens.specs.Spelling.{SpellsType}
+use Rattle.rule_tokens.specs.PartReaders.{name_within, type_at, line_end}
+use Rattle.rule_tokens.specs.TypeTokens.{SpellsType}
 use Rattle.rule_tokens.specs.Tokens.{Token, Line}
 use Rattle.rule_tokens.proofs.Types.{type_in-of}
 

@@ -10,7 +10,7 @@ use Rattle.scan.specs.Laws.{IsNext}
 use Rattle.scan.specs.Lines.{between, feeds}
 use Rattle.scan.specs.Longest.{IsLongestOf}
 use Rattle.scan.specs.RuleTokens.{kind_of, Begins, line_at, in_operator_place}
-use Rattle.scan.specs.Scanning.{behind_gap, in_gap}
+use Rattle.scan.specs.GapFronts.{behind_gap, in_gap}
 use Rattle.scan.proofs.Fronts.{which}
 use Rattle.scan.proofs.GapLemmas.{GapTo, gap_to}
 use Rattle.scan.proofs.KindLemmas.{begins_token, begins_other}

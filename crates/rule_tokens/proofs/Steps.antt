@@ -3,8 +3,8 @@ use Rattle.std.proofs.Common.{◌≡◌, ℕ, Bool, true, false, cond, List, Opt
 use Rattle.rule_tokens.specs.declared.fault.ParseError.{ParseError}
 use Rattle.rule_tokens.specs.declared.fault.ParseError.TheVariants.{Refused, NoMemory}
 use Rattle.rule_tokens.specs.declared.fault.TextFault.{TextFault}
-use Rattle.rule_tokens.specs.Giving.{◌>>=◌, Fails, Refuses}
-use Rattle.rule_tokens.specs.Reading.{or_left_out}
+use Rattle.rule_tokens.specs.Gives.{◌>>=◌, Fails, Refuses}
+use Rattle.rule_tokens.specs.PartReaders.{or_left_out}
 use Rattle.rule_tokens.specs.Tokens.{Token}
 
 abbrev pub done : {A : Type 0} → A → Result A TextFault

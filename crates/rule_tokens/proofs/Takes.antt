@@ -2,13 +2,13 @@
 use Rattle.std.proofs.Common.{◌≡◌, ℕ, ◌≤◌, true, leb, List, [], ◌∷◌, ◌++◌, length, Option, Some, None, Ok, refl, sym, ap, subst, ◌∙◌, append_assoc}
 use Rattle.std.specs.Str.{bytes_eq}
 use Rattle.std.proofs.lemmas.Bool.{leb-true}
-use Rattle.words.proofs.WordLemmas.{same_word}
+use Rattle.ops.proofs.KeywordLemmas.{same_word}
 use Rattle.rule_tokens.specs.declared.fault.Misfit.TheVariants.{TooMany}
 use Rattle.rule_tokens.specs.Limits.{most_name_bytes}
 use Rattle.rule_tokens.specs.Numbers.{type_in}
 use Rattle.rule_tokens.specs.Parts.{Part, Is, Nothing, ◌⨾◌, Maybe}
-use Rattle.rule_tokens.specs.Reading.{fault, name_within, type_at, type_or_word, maybe_type, line_end}
-use Rattle.rule_tokens.specs.Spelling.{SpellsType}
+use Rattle.rule_tokens.specs.PartReaders.{fault, name_within, type_at, type_or_word, maybe_type, line_end}
+use Rattle.rule_tokens.specs.TypeTokens.{SpellsType}
 use Rattle.rule_tokens.specs.Tokens.{Token, Line, Word, Mark}
 use Rattle.rule_tokens.proofs.Steps.{ok_is, tested, not_left_out}
 use Rattle.rule_tokens.proofs.Types.{type_in-is}

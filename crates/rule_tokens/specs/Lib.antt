@@ -1,9 +1,11 @@
-pub mod Giving
+pub use Rattle.scan.specs.Bytes
+pub use Rattle.scan.specs.Names
+pub mod Gives
 pub mod Limits
 pub mod Numbers
 pub mod Parts
-pub mod Reading
-pub mod Refusing
-pub mod Seen
-pub mod Spelling
+pub mod PartReaders
+pub mod Errors
+pub mod SeenTokens
+pub mod TypeTokens
 pub mod Tokens

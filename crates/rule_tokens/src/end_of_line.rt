@@ -1,8 +1,8 @@
 //! The ends of lines.
 
-ghost use Rattle.rule_tokens.specs.Giving.{Gives};
-ghost use Rattle.rule_tokens.specs.Reading as reading;
-ghost use Rattle.rule_tokens.specs.Seen.{seen};
+ghost use Rattle.rule_tokens.specs.Gives.{Gives};
+ghost use Rattle.rule_tokens.specs.PartReaders as reading;
+ghost use Rattle.rule_tokens.specs.SeenTokens.{seen};
 
 use crate::fault::ParseError;
 use crate::refusal::unexpected;

@@ -1,7 +1,7 @@
 //! Names as written.
 
-ghost use Rattle.rule_tokens.specs.Giving.{Gives};
-ghost use Rattle.rule_tokens.specs.Reading as reading;
+ghost use Rattle.rule_tokens.specs.Gives.{Gives};
+ghost use Rattle.rule_tokens.specs.PartReaders as reading;
 
 use crate::fault::{Misfit, ParseError};
 use crate::refusal::refused;
@@ -12,7 +12,7 @@ use std::alloc::Global;
 const MOST_NAME_BYTES: usize = 200;
 
 /// A name of at most 200 bytes.
-#[tactic(auto, unfolding(crate::specs::Reading::name_within))]
+#[tactic(auto, unfolding(crate::specs::PartReaders::name_within))]
 pub fn name_within(alloc: Global, line: usize, name: &[u8]) -> Result<Text, ParseError>
     ensures { Gives (λ x. x) result (reading.name_within line name.now) }
 {

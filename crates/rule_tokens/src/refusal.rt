@@ -1,15 +1,15 @@
 //! Faults of tokens, by where they stand.
 
 ghost use Rattle.rule_tokens.specs.declared.fault.Misfit.TheVariants as misfits;
-ghost use Rattle.rule_tokens.specs.Giving.{Refuses};
-ghost use Rattle.rule_tokens.specs.Reading as reading;
-ghost use Rattle.rule_tokens.specs.Seen.{seen};
+ghost use Rattle.rule_tokens.specs.Gives.{Refuses};
+ghost use Rattle.rule_tokens.specs.PartReaders as reading;
+ghost use Rattle.rule_tokens.specs.SeenTokens.{seen};
 
 use crate::fault::{Misfit, ParseError, TextFault};
 use crate::token::Token;
 use lists::Text;
+use ops::keywords::is;
 use std::alloc::Global;
-use words::is;
 
 /// A fault on a line.
 pub fn refused(line: usize, kind: Misfit) -> ParseError

@@ -3,14 +3,14 @@
 ghost use Rattle.std.specs.Prelude.{◌≡◌, ◌≢◌, ◌≤◌, ◌+◌, ◌++◌, [], length, IfOk, IfErr, OnOk, IfSome, IfNone, OnSome};
 ghost use Rattle.scan.specs.declared.rule_token.RuleKind.TheVariants as kinds;
 ghost use Rattle.scan.specs.Names.{IsBadInRest, rest_of_line};
-ghost use Rattle.rule_tokens.specs.Seen.{seen, seen_token};
+ghost use Rattle.rule_tokens.specs.SeenTokens.{seen, seen_token};
 ghost use Rattle.rule_tokens.specs.Tokens as relation;
 ghost use Rattle.rule_tokens.specs.Tokens.{AreTokens, IsNameToken, token_on};
 
 use crate::token::Token;
+use ops::keywords::is;
 use scan::{BadByte, Cursor, RuleKind, ends_primary};
 use std::alloc::{AllocError, Global};
-use words::is;
 
 /// The tokens of a text, and its last line.
 #[derive(Debug, Drop)]

@@ -1,9 +1,9 @@
 //! Types as written.
 
 ghost use Rattle.std.specs.Prelude.{◌≡◌};
-ghost use Rattle.rule_tokens.specs.Giving.{Gives};
-ghost use Rattle.rule_tokens.specs.Reading as reading;
-ghost use Rattle.rule_tokens.specs.Seen.{seen};
+ghost use Rattle.rule_tokens.specs.Gives.{Gives};
+ghost use Rattle.rule_tokens.specs.PartReaders as reading;
+ghost use Rattle.rule_tokens.specs.SeenTokens.{seen};
 
 use crate::fault::ParseError;
 use crate::number::written_type;
@@ -13,7 +13,7 @@ use ops::Width;
 use std::alloc::Global;
 
 /// A type.
-#[tactic(auto, unfolding(crate::specs::Reading::type_at))]
+#[tactic(auto, unfolding(crate::specs::PartReaders::type_at))]
 pub fn integer_type(
     alloc: Global,
     line: usize,
@@ -34,7 +34,7 @@ pub fn integer_type(
 }
 
 /// The type that is next, if one is; goes behind it.
-#[tactic(auto, unfolding(crate::specs::Reading::maybe_type))]
+#[tactic(auto, unfolding(crate::specs::PartReaders::maybe_type))]
 pub fn maybe_type(tokens: &mut &[Token<'_>]) -> Option<Width>
     ensures { (result, seen tokens.new.now) ≡ reading.maybe_type (seen tokens.old.now) }
 {

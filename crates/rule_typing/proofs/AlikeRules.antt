@@ -19,8 +19,8 @@ use Rattle.rule_core.specs.declared.rule.Node.TheVariants as nodes
 use Rattle.rule_core.specs.declared.rule.Formula.{Formula}
 use Rattle.rule_core.specs.declared.rule.Formula.TheVariants as formulas
 use Rattle.rule_core.specs.Positions.{operands_of, operands_among, operands_in, terms_in, undef_in, undefs_among}
-use Rattle.rule_core.specs.Checks.{IsRule, SourceMayRead, TargetMayRead, IsBeforeRoot, HasWidth, MayBeTerm, MayBeWitness, MayBeFormula, FlagsFitOp, MayStandInSource, IsNoUndefCopy, UndefsInOrder, argument_weight, node_weight, term_weight, formula_weight, weight_of, names_of, ReadsOnly, StandsAt, AreDistinct}
-use Rattle.rule_typing.specs.Relabelling.{mapped_op, mapped_statement, mapped_node, mapped_term}
+use Rattle.rule_core.specs.Checks.{IsRule, SourceMayRead, TargetMayRead, IsBeforeRoot, HasKnownWidth, MayBeTerm, MayBeWitness, MayBeFormula, FlagsFitOp, MayStandInSource, IsNoUndefCopy, UndefsInOrder, argument_weight, node_weight, term_weight, formula_weight, weight_of, names_of, ReadsOnly, StandsAt, AreDistinct}
+use Rattle.rule_typing.specs.Relabelled.{mapped_op, mapped_statement, mapped_node, mapped_term}
 use Rattle.rule_typing.proofs.Images.{same_get, same_among}
 use Rattle.rule_typing.proofs.Relabelled.{AreAlike, mapped_operand, operands-mapped_op, operands-mapped}
 
@@ -176,7 +176,7 @@ module _ (r s : Rule) (inputs : length r.inputs ≡ length s.inputs) (constants 
   before_root (registers.Source j) may = omega arith
   before_root (registers.Target j) may = may
 
-  has_width : (x : Register) → HasWidth r x → HasWidth s x
+  has_width : (x : Register) → HasKnownWidth r x → HasKnownWidth s x
   has_width (registers.Input i) may = omega arith
   has_width (registers.Source j) may = omega arith
   has_width (registers.Target j) may = omega arith

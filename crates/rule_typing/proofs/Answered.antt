@@ -4,8 +4,8 @@ use Rattle.std.specs.Prelude.{slice_get, Contains}
 use Rattle.rule_core.specs.declared.rule.Rule.{Rule}
 use Rattle.rule_typing.specs.declared.widths.Widths.{Widths}
 use Rattle.rule_typing.specs.Classes.{IsClassified, HasClasses}
-use Rattle.rule_typing.specs.Enumeration.{MayChoose, ComesBefore, AreAllTypings}
-use Rattle.rule_typing.specs.Solving.{HasExactly, Solves}
+use Rattle.rule_typing.specs.AllTypings.{MayChoose, ComesBefore, AreAllTypings}
+use Rattle.rule_typing.specs.Solutions.{HasExactly, Solves}
 use Rattle.rule_typing.proofs.Decided.{dec_solves, dec_before}
 use Rattle.rule_typing.proofs.Deciding.{dec_both}
 use Rattle.rule_typing.proofs.Found.{AreFound, behind_more, order_more, solve_more, rest_more}

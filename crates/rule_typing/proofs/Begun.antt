@@ -6,7 +6,7 @@ use Rattle.std.proofs.lemmas.List.{get_or_past, get_or_push, get_or_append_left}
 use Rattle.std.proofs.lemmas.Option.{slice_get-get_or, slice_get_within, same_Some}
 use Rattle.rule_core.specs.declared.rule.Rule.{Rule}
 use Rattle.rule_typing.specs.declared.widths.Widths.{Widths}
-use Rattle.rule_typing.specs.Solving.{Has, IsLeast, GoesOn, AreOf, SolvesFrom, SolvesBehind, AreLeast}
+use Rattle.rule_typing.specs.Solutions.{Has, IsLeast, GoesOn, AreOf, SolvesFrom, SolvesBehind, AreLeast}
 
 -- of each set the least width that may stand there
 abbrev pub AreFirst : List Widths → List ℕ → ℕ → List ℕ → Type 0

@@ -13,8 +13,8 @@ use Rattle.rule_core.specs.declared.rule.Op.TheVariants.{Convert}
 use Rattle.rule_core.specs.declared.rule.Operand.{Operand}
 use Rattle.rule_core.specs.Positions.{operands_of, classes_of, IsStatementOf, Smaller, truncated, zero_extended, sign_extended}
 use Rattle.rule_core.proofs.Members.{operand_stands, class_stands}
-use Rattle.rule_typing.specs.Fixing.{smaller_line, IsBelow, IsBroken, CastFits}
-use Rattle.rule_typing.specs.Solving.{MeetsSmaller}
+use Rattle.rule_typing.specs.FixedWidths.{smaller_line, IsBelow, IsBroken, MeetsCastLine}
+use Rattle.rule_typing.specs.Solutions.{MeetsSmaller}
 use Rattle.rule_typing.proofs.Among.{each_half}
 use Rattle.rule_typing.proofs.Deciding.{dec_each}
 use Rattle.rule_typing.proofs.FixedLines.{at_cast, each_cast}
@@ -47,9 +47,9 @@ in_source rule line (s, among, is) = at_cast rule s s.op line.0 line.1 (Contains
 pub in_target : (rule : Rule) (line : ℕ × ℕ) → (s : Statement) × Contains rule.target s × (smaller_line s.class s.op ≡ Some line) → Smaller rule line.0 line.1
 in_target rule line (s, among, is) = at_cast rule s s.op line.0 line.1 (Contains-append_right rule.source rule.target s among) refl is
 
-pub none_broken : (rule : Rule) (widths : List ℕ) (answer : Option (ℕ × ℕ)) → ((s : Statement) → Contains rule.source s → CastFits widths s) → IfNone answer ((s : Statement) → Contains rule.target s → CastFits widths s) → IfNone answer (MeetsSmaller rule widths)
+pub none_broken : (rule : Rule) (widths : List ℕ) (answer : Option (ℕ × ℕ)) → ((s : Statement) → Contains rule.source s → MeetsCastLine widths s) → IfNone answer ((s : Statement) → Contains rule.target s → MeetsCastLine widths s) → IfNone answer (MeetsSmaller rule widths)
 none_broken rule widths (Some line) source target = tt
-none_broken rule widths None source target = (each_cast rule widths).0 ((each_half (CastFits widths) rule).0 (source, target))
+none_broken rule widths None source target = (each_cast rule widths).0 ((each_half (MeetsCastLine widths) rule).0 (source, target))
 
 -- the classes of a cast stand in the rule
 of_operand : (rule : Rule) (s : Statement) (cast : Cast) (a : Operand) (to : Option ℕ) → IsStatementOf rule s → s.op ≡ Convert cast a to → Contains (classes_of rule) a.class
@@ -81,7 +81,7 @@ dec_line widths (Some line) = map_dec
     (dec_below widths line.0 line.1)
 
 pub dec_lines : (rule : Rule) (widths : List ℕ) → Dec (MeetsSmaller rule widths)
-dec_lines rule widths = map_dec (each_cast rule widths).0 (each_cast rule widths).1 (dec_each (CastFits widths) (rule.source ++ rule.target) (λ s. dec_line widths (smaller_line s.class s.op)))
+dec_lines rule widths = map_dec (each_cast rule widths).0 (each_cast rule widths).1 (dec_each (MeetsCastLine widths) (rule.source ++ rule.target) (λ s. dec_line widths (smaller_line s.class s.op)))
 
 -- whether there is no broken line says whether all are met
 pub all_met : (rule : Rule) (widths : List ℕ) (line : Option (ℕ × ℕ)) (answer : Bool) → is_some line ≡ not answer → IfSome line (λ l. Smaller rule l.0 l.1 × IsBroken widths l.0 l.1) → IfNone line (MeetsSmaller rule widths) → IsTrue answer ↔ MeetsSmaller rule widths

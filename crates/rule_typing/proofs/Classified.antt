@@ -11,7 +11,7 @@ use Rattle.rule_core.specs.declared.rule.Node.{Node}
 use Rattle.rule_core.specs.declared.rule.Node.TheVariants as nodes
 use Rattle.rule_core.specs.Positions.{Line, operands_of, terms_in, classes_of, classes_of_statement, classes_of_node, classes_of_term}
 use Rattle.rule_core.specs.Checks.{IsRule, node_weight, term_weight}
-use Rattle.rule_typing.specs.Relabelling.{mapped, numbered, IsRenumbered}
+use Rattle.rule_typing.specs.Relabelled.{mapped, numbered, IsRenumbered}
 use Rattle.rule_typing.specs.Classes.{Joined, line, itself, turned, along, IsInOrder, IsClassified}
 use Rattle.rule_typing.specs.Splits.{IsMerged}
 use Rattle.rule_typing.proofs.Images.{get_from_map}

@@ -8,9 +8,9 @@ use Rattle.rule_core.specs.declared.rule.Rule.{Rule}
 use Rattle.rule_core.specs.Typing.{IsTyping}
 use Rattle.rule_typing.specs.declared.widths.Widths.{Widths}
 use Rattle.rule_typing.specs.Classes.{IsClassified, HasClasses}
-use Rattle.rule_typing.specs.Enumeration.{ComesBefore}
-use Rattle.rule_typing.specs.Fitting.{MayHaveWidth}
-use Rattle.rule_typing.specs.Solving.{Has, Solves}
+use Rattle.rule_typing.specs.AllTypings.{ComesBefore}
+use Rattle.rule_typing.specs.FittingWidths.{MayHaveWidth}
+use Rattle.rule_typing.specs.Solutions.{Has, Solves}
 use Rattle.rule_typing.proofs.Deciding.{dec_both, dec_either, dec_number}
 use Rattle.rule_typing.proofs.CastLines.{dec_lines}
 use Rattle.rule_typing.proofs.Listing.{Listing, listed}

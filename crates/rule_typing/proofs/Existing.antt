@@ -6,7 +6,7 @@ use Rattle.std.proofs.lemmas.Option.{slice_get-get_or}
 use Rattle.rule_core.specs.declared.rule.Rule.{Rule}
 use Rattle.rule_core.specs.Positions.{classes_of}
 use Rattle.rule_typing.specs.declared.relabelling.Renaming.TheVariants.{Swap}
-use Rattle.rule_typing.specs.Relabelling.{mapped, renamed, numbered, IsRenumbered}
+use Rattle.rule_typing.specs.Relabelled.{mapped, renamed, numbered, IsRenumbered}
 use Rattle.rule_typing.specs.Classes.{IsClassified, IsInOrder, HasClasses}
 use Rattle.rule_typing.specs.Laws.{RulesHaveClasses}
 use Rattle.rule_typing.proofs.Classified.{rest, classified}

@@ -10,8 +10,8 @@ use Rattle.rule_core.specs.declared.rule.Op.TheVariants.{Binary, Compare, Select
 use Rattle.rule_core.specs.declared.rule.Operand.{Operand}
 use Rattle.rule_core.specs.Positions.{operands_of, operands_in, classes_of, IsStatementOf, Fixed, comparison, condition, cast_to, written, truth, Smaller, truncated, zero_extended, sign_extended}
 use Rattle.rule_core.proofs.Members.{operand_stands, class_stands}
-use Rattle.rule_typing.specs.Fixing.{fixed_line, FixesWidth, StatementFixes, smaller_line, CastFits}
-use Rattle.rule_typing.specs.Solving.{MeetsSmaller}
+use Rattle.rule_typing.specs.FixedWidths.{fixed_line, FixesWidth, StatementFixes, smaller_line, MeetsCastLine}
+use Rattle.rule_typing.specs.Solutions.{MeetsSmaller}
 use Rattle.rule_typing.proofs.Images.{from_flat_map}
 use Rattle.rule_typing.proofs.MappedLines.{operand_class}
 
@@ -68,7 +68,7 @@ at_cast rule s (Convert SExt a to) c d stands is e = subst (λ (p : ℕ × ℕ).
 at_cast rule s (Copy a) c d stands is e = cc
 
 -- widths meet what casts demand exactly where they meet the line of each statement
-pub each_cast : (rule : Rule) (widths : List ℕ) → ((s : Statement) → IsStatementOf rule s → CastFits widths s) ↔ MeetsSmaller rule widths
+pub each_cast : (rule : Rule) (widths : List ℕ) → ((s : Statement) → IsStatementOf rule s → MeetsCastLine widths s) ↔ MeetsSmaller rule widths
 each_cast rule widths = (
   λ each c d N M below at at'. let (s, stands, is) = of_smaller rule c d below in each s stands c d is N M at at',
   λ meets s stands c d is N M at at'. meets c d N M (at_cast rule s s.op c d stands refl is) at at',

@@ -6,8 +6,8 @@ use Rattle.std.proofs.lemmas.List.Elements.{Contains-push, Contains-push_cases, 
 use Rattle.std.proofs.lemmas.Option.{slice_get-get_or}
 use Rattle.rule_core.specs.declared.rule.Rule.{Rule}
 use Rattle.rule_typing.specs.declared.widths.Widths.{Widths}
-use Rattle.rule_typing.specs.Enumeration.{ComesBefore, IsFirstOf}
-use Rattle.rule_typing.specs.Solving.{Solves, SolvesBehind, FindsLeast}
+use Rattle.rule_typing.specs.AllTypings.{ComesBefore, IsFirstOf}
+use Rattle.rule_typing.specs.Solutions.{Solves, SolvesBehind, FindsLeast}
 use Rattle.rule_typing.proofs.Order.{same_or_before, before_along}
 
 -- a list comes behind all of these

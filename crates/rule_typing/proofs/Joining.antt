@@ -5,7 +5,7 @@ use Rattle.std.proofs.lemmas.Bool.{cases_lt}
 use Rattle.rule_core.specs.declared.rule.Rule.{Rule}
 use Rattle.rule_core.specs.Positions.{Line, classes_of}
 use Rattle.rule_typing.specs.declared.relabelling.Renaming.TheVariants.{Merge}
-use Rattle.rule_typing.specs.Relabelling.{mapped, renamed}
+use Rattle.rule_typing.specs.Relabelled.{mapped, renamed}
 use Rattle.rule_typing.specs.Splits.{IsMerged}
 use Rattle.rule_typing.proofs.Relabelled.{classes_of-mapped}
 use Rattle.rule_typing.proofs.MappedLines.{line_classes}

@@ -24,7 +24,6 @@ pub mod Order
 pub mod Past
 pub mod Raised
 pub mod Relabelled
-pub mod Sample
 pub mod Seams
 pub mod Sets
 pub mod Slots
@@ -34,4 +33,3 @@ pub mod Typed
 pub mod Walks
 pub mod WidthDecisions
 pub mod SplitLines
-pub mod TermSample

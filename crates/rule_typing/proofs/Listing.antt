@@ -4,7 +4,7 @@ use Rattle.std.specs.Prelude.{slice_get, slice_index, Contains, AllPairs}
 use Rattle.std.proofs.lemmas.Bool.{cases_lt}
 use Rattle.std.proofs.lemmas.List.Elements.{Contains-append_left, Contains-append_right, Contains-append_cases}
 use Rattle.std.proofs.lemmas.Option.{slice_get_within, slice_get-get_or, get_or_from_slice_get}
-use Rattle.rule_typing.specs.Enumeration.{ComesBefore}
+use Rattle.rule_typing.specs.AllTypings.{ComesBefore}
 use Rattle.rule_typing.proofs.Images.{Contains-map, from_map, get_from_map, get-append_cases}
 
 -- each comes before the later ones

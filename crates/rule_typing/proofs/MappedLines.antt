@@ -23,7 +23,7 @@ use Rattle.rule_core.specs.Positions.{operands_of, operands_among, operands_in, 
 use Rattle.rule_core.proofs.Members.{source_statement, target_statement, operand_stands, class_stands, operand_class_stands, term_class_stands, measured_class_stands, constant_term, witness_term as witness_node}
 use Rattle.rule_typing.specs.declared.half.Half.{Half}
 use Rattle.rule_typing.specs.declared.half.Half.TheVariants as halves
-use Rattle.rule_typing.specs.Relabelling.{mapped_op, mapped_statement, mapped_node, mapped_term, mapped}
+use Rattle.rule_typing.specs.Relabelled.{mapped_op, mapped_statement, mapped_node, mapped_term, mapped}
 use Rattle.rule_typing.specs.Splits.{paired, op_pairs, statement_pairs, node_class, chosen_class, term_class, operand_pairs, node_pairs, term_pairs, formula_pairs, PairOf, name_of, operand_naming, node_naming, term_naming, NamingOf, assigned_class, last_class, root_class, IsRead}
 use Rattle.rule_typing.proofs.Images.{Contains-map, from_map, from_option_map, from_flat_map}
 use Rattle.rule_typing.proofs.Relabelled.{mapped_operand, statements_mapped, terms_mapped, operands-mapped}

@@ -8,7 +8,7 @@ use Rattle.rule_core.specs.declared.rule.Rule.{Rule}
 use Rattle.rule_core.specs.Positions.{Line}
 use Rattle.rule_core.specs.Checks.{IsRule}
 use Rattle.rule_typing.specs.declared.relabelling.Renaming.TheVariants.{Merge}
-use Rattle.rule_typing.specs.Relabelling.{mapped, renamed}
+use Rattle.rule_typing.specs.Relabelled.{mapped, renamed}
 use Rattle.rule_typing.specs.Classes.{Joined, line, itself, turned, along}
 use Rattle.rule_typing.specs.Splits.{IsMerged}
 use Rattle.rule_typing.proofs.Relabelled.{mapped-id, mapped-mapped, alike_mapped}

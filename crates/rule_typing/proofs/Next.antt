@@ -4,8 +4,8 @@ use Rattle.std.specs.Prelude.{slice_get, slice_index}
 use Rattle.std.proofs.lemmas.Bool.{cases_eq, cases_lt}
 use Rattle.rule_core.specs.declared.rule.Rule.{Rule}
 use Rattle.rule_typing.specs.declared.widths.Widths.{Widths}
-use Rattle.rule_typing.specs.Enumeration.{ComesBefore}
-use Rattle.rule_typing.specs.Solving.{Has, Solves, SolvesBehind, AreLeast}
+use Rattle.rule_typing.specs.AllTypings.{ComesBefore}
+use Rattle.rule_typing.specs.Solutions.{Has, Solves, SolvesBehind, AreLeast}
 use Rattle.rule_typing.proofs.Order.{DifferAt, before_from, differ_from, same_or_before}
 
 module _ (rule : Rule) (sets : List Widths) (typing : List ℕ) (solves : Solves rule sets typing) where

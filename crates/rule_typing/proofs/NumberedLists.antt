@@ -4,7 +4,7 @@ use Rattle.std.specs.Prelude.{slice_get, slice_set, flat_map}
 use Rattle.std.proofs.lemmas.List.{take_all, drop_all, append-nil}
 use Rattle.std.proofs.lemmas.List.Folds.{length-flat_map-take}
 use Rattle.rule_core.proofs.Members.{get-append_left, get-append_right}
-use Rattle.rule_typing.specs.Relabelling.{numbered_from}
+use Rattle.rule_typing.specs.Relabelled.{numbered_from}
 use Rattle.rule_typing.proofs.Images.{get-append_cases}
 use Rattle.rule_typing.proofs.Seams.{seam_length, seam_get, seam_next}
 

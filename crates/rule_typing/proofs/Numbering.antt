@@ -11,7 +11,7 @@ use Rattle.rule_core.specs.Checks.{IsRule}
 use Rattle.rule_core.specs.Positions.{classes_of}
 use Rattle.rule_core.proofs.Members.{get-append_left}
 use Rattle.rule_typing.specs.declared.relabelling.Renaming.TheVariants.{Swap}
-use Rattle.rule_typing.specs.Relabelling.{mapped, renamed, IsRenumbered}
+use Rattle.rule_typing.specs.Relabelled.{mapped, renamed, IsRenumbered}
 use Rattle.rule_typing.specs.Classes.{IsInOrder}
 use Rattle.rule_typing.proofs.Images.{get-append_cases}
 use Rattle.rule_typing.proofs.NumberedLists.{none_there}

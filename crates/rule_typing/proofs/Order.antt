@@ -2,8 +2,8 @@
 use Rattle.std.proofs.Common.{◌≡◌, ◌⊎◌, inl, inr, ℕ, zero, suc, ◌<◌, List, [], ◌∷◌, length, refl, ◌∙◌, arith}
 use Rattle.std.specs.Prelude.{slice_index}
 use Rattle.std.proofs.lemmas.Bool.{cases_lt}
-use Rattle.rule_typing.specs.Enumeration.{ComesBefore}
-use Rattle.rule_typing.specs.Solving.{AtMost}
+use Rattle.rule_typing.specs.AllTypings.{ComesBefore}
+use Rattle.rule_typing.specs.Solutions.{AtMost}
 
 -- they are alike before a place, where the second is larger
 abbrev pub Alike : ℕ → List ℕ → List ℕ → Type 0

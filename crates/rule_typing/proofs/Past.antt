@@ -15,7 +15,7 @@ use Rattle.rule_core.specs.declared.rule.Node.TheVariants as nodes
 use Rattle.rule_core.specs.Positions.{classes_of, classes_of_node}
 use Rattle.rule_core.proofs.Members.{Contains-from_get}
 use Rattle.rule_typing.specs.Classes.{IsClassified, HasClasses}
-use Rattle.rule_typing.specs.Fitting.{IsPast}
+use Rattle.rule_typing.specs.FittingWidths.{IsPast}
 
 past_none : IsPast [] 0
 past_none = record { past = λ c (k, within, is). absurd (omega arith); least = λ c less. absurd (omega arith) }

@@ -7,7 +7,7 @@ use Rattle.std.proofs.lemmas.Option.{slice_get-get_or, slice_get_within, same_So
 use Rattle.rule_core.specs.declared.rule.Rule.{Rule}
 use Rattle.rule_core.specs.Positions.{Smaller}
 use Rattle.rule_typing.specs.declared.widths.Widths.{Widths}
-use Rattle.rule_typing.specs.Solving.{Has, IsLeast, AreOf, AtMost, SolvesFrom}
+use Rattle.rule_typing.specs.Solutions.{Has, IsLeast, AreOf, AtMost, SolvesFrom}
 use Rattle.rule_typing.proofs.CastLines.{of_below}
 
 -- a set's width is raised

@@ -13,7 +13,7 @@ use Rattle.rule_core.specs.declared.rule.Term.{Term}
 use Rattle.rule_core.specs.declared.rule.Node.{Node}
 use Rattle.rule_core.specs.declared.rule.Node.TheVariants as nodes
 use Rattle.rule_core.specs.Positions.{operands_of, operands_among, operands_in, terms_in, classes_of_statement, classes_of_node, classes_of_term, classes_of}
-use Rattle.rule_typing.specs.Relabelling.{mapped_op, mapped_statement, mapped_node, mapped_term, mapped, numbered_op, numbered_statement, numbered_statements, numbered_node, numbered_term, numbered_terms, positions_of, positions_among, numbered}
+use Rattle.rule_typing.specs.Relabelled.{mapped_op, mapped_statement, mapped_node, mapped_term, mapped, numbered_op, numbered_statement, numbered_statements, numbered_node, numbered_term, numbered_terms, positions_of, positions_among, numbered}
 use Rattle.rule_typing.proofs.NumberedLists.{none_there, AreFrom, from_both, count-numbered, classes-numbered, numbered_image, numbered_anew}
 
 -- an operand whose class c is f c

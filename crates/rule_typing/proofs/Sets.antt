@@ -6,7 +6,7 @@ use Rattle.std.proofs.lemmas.List.{get_or-replicate, take_more, length-replicate
 use Rattle.std.proofs.lemmas.List.Elements.{Contains-push, Contains-push_cases, Contains-append_left}
 use Rattle.std.proofs.lemmas.Option.{slice_get_within, get_or_from_slice_get, same_Some}
 use Rattle.rule_typing.specs.declared.widths.Widths.{Widths}
-use Rattle.rule_typing.specs.Solving.{Has, HasExactly}
+use Rattle.rule_typing.specs.Solutions.{Has, HasExactly}
 use Rattle.rule_typing.proofs.Images.{get-append_cases}
 
 -- nothing is true in a list of `false`

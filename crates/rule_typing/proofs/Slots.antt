@@ -9,8 +9,8 @@ use Rattle.rule_core.specs.declared.rule.Rule.{Rule}
 use Rattle.rule_core.specs.Typing.{IsTyping}
 use Rattle.rule_typing.specs.declared.widths.Widths.{Widths}
 use Rattle.rule_typing.specs.Classes.{IsClassified, HasClasses}
-use Rattle.rule_typing.specs.Fitting.{MayHaveWidth}
-use Rattle.rule_typing.specs.Solving.{Has, HasExactly, IsLeast, GoesOn, AreOf, SolvesFrom, AreLeast}
+use Rattle.rule_typing.specs.FittingWidths.{MayHaveWidth}
+use Rattle.rule_typing.specs.Solutions.{Has, HasExactly, IsLeast, GoesOn, AreOf, SolvesFrom, AreLeast}
 use Rattle.rule_typing.proofs.Begun.{AreFirst, AreFirstOf, first_of, none_behind}
 use Rattle.rule_typing.proofs.Found.{behind_nothing}
 use Rattle.rule_typing.proofs.Solved.{typing_of, solves_of, typing_may}

@@ -7,9 +7,9 @@ use Rattle.rule_core.specs.Positions.{Fixed}
 use Rattle.rule_core.specs.Typing.{IsTyping}
 use Rattle.rule_typing.specs.declared.widths.Widths.{Widths}
 use Rattle.rule_typing.specs.Classes.{IsClassified, HasClasses}
-use Rattle.rule_typing.specs.Fitting.{MayHaveWidth}
-use Rattle.rule_typing.specs.Enumeration.{MayChoose, IsListed}
-use Rattle.rule_typing.specs.Solving.{HasExactly, MeetsSmaller, Solves}
+use Rattle.rule_typing.specs.FittingWidths.{MayHaveWidth}
+use Rattle.rule_typing.specs.AllTypings.{MayChoose, IsListed}
+use Rattle.rule_typing.specs.Solutions.{HasExactly, MeetsSmaller, Solves}
 use Rattle.rule_typing.proofs.Begun.{some_at}
 use Rattle.rule_typing.proofs.Typed.{typed, count_widths, may_have}
 

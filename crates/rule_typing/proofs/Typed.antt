@@ -13,10 +13,10 @@ use Rattle.rule_core.specs.declared.rule.Node.TheVariants as nodes
 use Rattle.rule_core.specs.Positions.{operands_of, classes_of_statement, classes_of_node, classes_of_term, classes_of, Line, Fixed, Smaller}
 use Rattle.rule_core.specs.Typing.{IsTyping}
 use Rattle.rule_core.proofs.Members.{Contains-from_get, get-append_left, get-append_right}
-use Rattle.rule_typing.specs.Relabelling.{mapped_op, mapped_statement, mapped_node, mapped_term, mapped, numbered_op, numbered_statement, numbered_statements, numbered_node, numbered_term, numbered_terms, positions_of, positions_among, numbered}
+use Rattle.rule_typing.specs.Relabelled.{mapped_op, mapped_statement, mapped_node, mapped_term, mapped, numbered_op, numbered_statement, numbered_statements, numbered_node, numbered_term, numbered_terms, positions_of, positions_among, numbered}
 use Rattle.rule_typing.specs.Classes.{IsClassified, HasClasses, line}
-use Rattle.rule_typing.specs.Fitting.{MayHaveWidth}
-use Rattle.rule_typing.specs.Solving.{MeetsSmaller}
+use Rattle.rule_typing.specs.FittingWidths.{MayHaveWidth}
+use Rattle.rule_typing.specs.Solutions.{MeetsSmaller}
 use Rattle.rule_typing.proofs.NumberedLists.{Gives, gives_left, gives_right, restored_list}
 use Rattle.rule_typing.proofs.Relabelled.{classes_apart, class_is_position, count_positions}
 use Rattle.rule_typing.proofs.MappedLines.{from_line_map, line_classes}

@@ -15,8 +15,8 @@ use Rattle.rule_core.specs.declared.rule.Node.{Node}
 use Rattle.rule_core.specs.declared.rule.Node.TheVariants as nodes
 use Rattle.rule_core.specs.Positions.{operands_of, operands_in, terms_in, Fixed}
 use Rattle.rule_core.specs.Typing.{FitsLiteral}
-use Rattle.rule_typing.specs.Fixing.{fixed_line, FixesWidth, StatementFixes}
-use Rattle.rule_typing.specs.Fitting.{FitsIn, TermFits, MayHaveWidth}
+use Rattle.rule_typing.specs.FixedWidths.{fixed_line, FixesWidth, StatementFixes}
+use Rattle.rule_typing.specs.FittingWidths.{FitsIn, TermFits, MayHaveWidth}
 use Rattle.rule_typing.proofs.Deciding.{dec_both, dec_either, dec_not, stable, dec_number, dec_one, dec_each}
 use Rattle.rule_typing.proofs.FixedLines.{of_fixed, fixed_of}
 

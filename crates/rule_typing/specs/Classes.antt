@@ -6,7 +6,7 @@ use Rattle.rule_core.specs.declared.rule.Operand.{Operand}
 use Rattle.rule_core.specs.declared.rule.Argument.{Argument}
 use Rattle.rule_core.specs.declared.rule.Argument.TheVariants as arguments
 use Rattle.rule_core.specs.Positions.{operands_of, classes_of, Line}
-use Rattle.rule_typing.specs.Relabelling.{numbered}
+use Rattle.rule_typing.specs.Relabelled.{numbered}
 
 -- Two classes are joined where lines of the table lead from one to the other: the least equivalence that joins what one line joins.
 pub data Joined (rule : Rule) : ℕ → ℕ → Type 0 where

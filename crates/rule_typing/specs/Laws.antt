@@ -4,7 +4,7 @@ use Rattle.rule_core.specs.declared.rule.Rule.{Rule}
 use Rattle.rule_typing.specs.declared.classes.ClassFault.{ClassFault}
 use Rattle.rule_typing.specs.Classes.{IsClassified}
 use Rattle.rule_typing.specs.Faults.{IsFault, HasNoFault}
-use Rattle.rule_typing.specs.Relabelling.{numbered}
+use Rattle.rule_typing.specs.Relabelled.{numbered}
 
 -- a rule that differs in its classes alone keeps them, and they have no fault or one
 abbrev pub RulesHaveClasses : Type 0

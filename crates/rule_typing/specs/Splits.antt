@@ -19,7 +19,7 @@ use Rattle.rule_core.specs.Positions.{operands_of, operands_among, terms_in, Nam
 use Rattle.rule_typing.specs.declared.half.Half.{Half}
 use Rattle.rule_typing.specs.declared.half.Half.TheVariants as halves
 use Rattle.rule_typing.specs.Classes.{Joined}
-use Rattle.rule_typing.specs.Relabelling.{mapped}
+use Rattle.rule_typing.specs.Relabelled.{mapped}
 
 -- ---- lines that are no name's: pairs of classes
 

@@ -3,8 +3,8 @@
 ghost use Rattle.std.specs.Prelude.{◌≡◌, ◌↔◌, Some, IsTrue, IfSome, IfNone, Contains};
 ghost use Rattle.rule_core.specs.declared.rule.Statement.{Statement};
 ghost use Rattle.rule_core.specs.Positions.{Smaller};
-ghost use Rattle.rule_typing.specs.Fixing.{smaller_line, IsBelow, IsBroken, CastFits};
-ghost use Rattle.rule_typing.specs.Solving.{MeetsSmaller};
+ghost use Rattle.rule_typing.specs.FixedWidths.{smaller_line, IsBelow, IsBroken, MeetsCastLine};
+ghost use Rattle.rule_typing.specs.Solutions.{MeetsSmaller};
 
 use ops::{Cast, Width};
 use rule_core::{Op, Rule, Statement};
@@ -30,7 +30,7 @@ pub(crate) fn broken_line(rule: &Rule, widths: &[Width]) -> Option<(u32, u32)>
 /// The same for the lines of statements.
 fn broken_by_statements(statements: &[Statement], widths: &[Width]) -> Option<(u32, u32)>
     ensures some { IfSome result (λ line. ((s : Statement) × Contains statements.now s × (smaller_line s.class s.op ≡ Some line)) × IsBroken widths.now line.0 line.1) }
-    ensures none { IfNone result ((s : Statement) → Contains statements.now s → CastFits widths.now s) }
+    ensures none { IfNone result ((s : Statement) → Contains statements.now s → MeetsCastLine widths.now s) }
 {
     for statement in statements {
         if let Some(line) = broken_by_statement(statement, widths) {
@@ -43,7 +43,7 @@ fn broken_by_statements(statements: &[Statement], widths: &[Width]) -> Option<(u
 /// The same for the line of one statement, if it is a cast.
 fn broken_by_statement(statement: &Statement, widths: &[Width]) -> Option<(u32, u32)>
     ensures some { IfSome result (λ line. (smaller_line statement.now.class statement.now.op ≡ Some line) × IsBroken widths.now line.0 line.1) }
-    ensures none { IfNone result (CastFits widths.now statement.now) }
+    ensures none { IfNone result (MeetsCastLine widths.now statement.now) }
 {
     let (smaller, greater) = match smaller_line(statement.class, statement.op) {
         None => return None,

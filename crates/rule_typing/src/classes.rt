@@ -3,7 +3,7 @@
 ghost use Rattle.std.specs.Prelude.{◌≡◌, ◌≤◌, ◌<◌, ◌^◌, ◌↔◌, ℕ, length, OnOk, IfErr, Contains};
 ghost use Rattle.rule_core.specs.Checks.{IsRule};
 ghost use Rattle.rule_core.specs.Positions.{Line, classes_of};
-ghost use Rattle.rule_typing.specs.Relabelling.{numbered, IsRenumbered};
+ghost use Rattle.rule_typing.specs.Relabelled.{numbered, IsRenumbered};
 ghost use Rattle.rule_typing.specs.Splits.{IsMerged};
 ghost use Rattle.rule_typing.specs.Classes.{IsClassified, IsInOrder, HasClasses};
 ghost use Rattle.rule_typing.specs.Faults.{IsFault, HasNoFault};

@@ -4,8 +4,8 @@ ghost use Rattle.std.specs.Prelude.{◌≡◌, ◌≤◌, ◌<◌, ℕ, List as 
 ghost use Rattle.rule_core.specs.Positions.{classes_of};
 ghost use Rattle.rule_typing.specs.declared.widths.Widths.{Widths};
 ghost use Rattle.rule_typing.specs.Classes.{IsClassified, HasClasses};
-ghost use Rattle.rule_typing.specs.Enumeration.{IsAnswer, MayChoose, ComesBefore, IsFirstOf};
-ghost use Rattle.rule_typing.specs.Solving.{Has, HasExactly, IsLeast, GoesOn, FindsLeast, Solves, SolvesBehind};
+ghost use Rattle.rule_typing.specs.AllTypings.{IsAnswer, MayChoose, ComesBefore, IsFirstOf};
+ghost use Rattle.rule_typing.specs.Solutions.{Has, HasExactly, IsLeast, GoesOn, FindsLeast, Solves, SolvesBehind};
 
 use crate::answer::Typings;
 use crate::fits::class_count;

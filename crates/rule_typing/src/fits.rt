@@ -4,7 +4,7 @@ ghost use Rattle.std.specs.Prelude.{◌≡◌, ◌≤◌, ◌↔◌, ℕ, IsTrue
 ghost use Rattle.rule_core.specs.Positions.{operands_of, operands_in, terms_in, classes_of_statement, classes_of_term};
 ghost use Rattle.rule_core.specs.Typing.{IsTyping, FitsLiteral};
 ghost use Rattle.rule_typing.specs.Classes.{IsClassified, HasClasses};
-ghost use Rattle.rule_typing.specs.Fitting.{FitsIn, LiteralsFit, TermFits, TermsFit, MayHaveWidth, IsPast};
+ghost use Rattle.rule_typing.specs.FittingWidths.{FitsIn, LiteralsFit, TermFits, TermsFit, MayHaveWidth, IsPast};
 
 use crate::casts::casts_fit;
 use crate::fixed::other_fixed_width;

@@ -4,7 +4,7 @@ ghost use Rattle.std.specs.Prelude.{◌≡◌, ◌≢◌, ◌↔◌, ℕ, Bool, 
 ghost use Rattle.rule_core.specs.declared.rule.Statement.{Statement};
 ghost use Rattle.rule_core.specs.declared.rule.Argument.TheVariants as arguments;
 ghost use Rattle.rule_core.specs.Positions.{Fixed};
-ghost use Rattle.rule_typing.specs.Fixing.{fixed_line, FixesWidth, OperandFixes, StatementFixes};
+ghost use Rattle.rule_typing.specs.FixedWidths.{fixed_line, FixesWidth, OperandFixes, StatementFixes};
 
 use crate::operands::Operands;
 use ops::Width;
@@ -72,8 +72,8 @@ fn fixed_line(result_class: u32, op: Op) -> Option<(u32, Width)>
 {
     match op {
         Op::Binary(_, _, _, _) => None,
-        Op::Compare(_, _, _) => Some((result_class, one_bit())),
-        Op::Select(condition, _, _) => Some((condition.class, one_bit())),
+        Op::Compare(_, _, _) => Some((result_class, Width::ONE)),
+        Op::Select(condition, _, _) => Some((condition.class, Width::ONE)),
         Op::Convert(_, _, None) => None,
         Op::Convert(_, _, Some(width)) => Some((result_class, width)),
         Op::Copy(_) => None,
@@ -112,7 +112,7 @@ fn fixed_by_value(value: Argument) -> Option<Width>
     ensures { (N : ℕ) → (result ≡ Some N) ↔ (((b : Bool) × (value ≡ arguments.Truth b)) × (N ≡ 1)) }
 {
     match value {
-        Argument::Truth(_) => Some(one_bit()),
+        Argument::Truth(_) => Some(Width::ONE),
         Argument::Register(_) | Argument::Constant(_) | Argument::Undef(_) => None,
         Argument::Literal(_) | Argument::Term(_) => None,
     }
@@ -124,13 +124,4 @@ fn unless(width: Option<Width>, but: &Option<Width>) -> Option<Width>
     ensures none { IfNone result ((N : ℕ) → width ≡ Some N → but.now ≡ Some N) }
 {
     if width == *but { None } else { width }
-}
-
-fn one_bit() -> Width
-    ensures { result ≡ 1 }
-{
-    match Width::new(1) {
-        Some(width) => width,
-        None => unreachable!(),
-    }
 }

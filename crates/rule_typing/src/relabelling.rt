@@ -2,7 +2,7 @@
 
 ghost use Rattle.std.specs.Prelude.{◌≡◌, ◌+◌, ◌<◌, ◌^◌, length, map, flat_map};
 ghost use Rattle.rule_core.specs.Positions.{operands_of, classes_of_statement, classes_of_term, classes_of};
-ghost use Rattle.rule_typing.specs.Relabelling.{mapped_op, mapped_statement, mapped_node, mapped_term, mapped, numbered_op, numbered_statement, numbered_statements, numbered_term, numbered_terms, numbered, renamed};
+ghost use Rattle.rule_typing.specs.Relabelled.{mapped_op, mapped_statement, mapped_node, mapped_term, mapped, numbered_op, numbered_statement, numbered_statements, numbered_term, numbered_terms, numbered, renamed};
 
 use lists::List;
 use rule_core::{Node, Op, Operand, Rule, Statement, Term};

@@ -5,7 +5,7 @@ ghost use Rattle.std.specs.Bool.{OnTrue, OnFalse};
 ghost use Rattle.rule_core.specs.Typing.{IsTyping};
 ghost use Rattle.rule_core.specs.Positions.{classes_of};
 ghost use Rattle.rule_typing.specs.Classes.{IsClassified, HasClasses};
-ghost use Rattle.rule_typing.specs.Solving.{AreOf, SolvesFrom, AreLeast};
+ghost use Rattle.rule_typing.specs.Solutions.{AreOf, SolvesFrom, AreLeast};
 
 use crate::casts::broken_line;
 use crate::widths::{Widths, widths_of_class};
@@ -19,11 +19,8 @@ pub(crate) fn has_typing(rule: &Rule, count: usize) -> bool
     requires few { count ≤ 8 }
     ensures { IsTrue result ↔ ((typing : Seq ℕ) × IsTyping rule.now typing) }
 {
-    let Some(one) = Width::new(1) else {
-        unreachable!();
-    };
     let mut sets = [Widths::none(); 8];
-    let mut widths = [one; 8];
+    let mut widths = [Width::ONE; 8];
     for class in 0..count {
         let set = widths_of_class(rule, class);
         let Some(width) = set.above(0) else {

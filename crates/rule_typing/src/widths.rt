@@ -3,9 +3,9 @@
 ghost use Rattle.std.specs.Prelude.{◌≡◌, ◌≤◌, ◌<◌, ◌⊎◌, ℕ};
 ghost use Rattle.std.specs.Prelude.{Contains};
 ghost use Rattle.rule_core.specs.Positions.{Fixed};
-ghost use Rattle.rule_typing.specs.Fitting.{MayHaveWidth};
-ghost use Rattle.rule_typing.specs.Enumeration.{MayChoose};
-ghost use Rattle.rule_typing.specs.Solving.{Has, HasExactly, IsLeast};
+ghost use Rattle.rule_typing.specs.FittingWidths.{MayHaveWidth};
+ghost use Rattle.rule_typing.specs.AllTypings.{MayChoose};
+ghost use Rattle.rule_typing.specs.Solutions.{Has, HasExactly, IsLeast};
 
 use crate::fits::class_fits;
 use crate::fixed::fixed_width;

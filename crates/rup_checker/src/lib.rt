@@ -9,6 +9,3 @@ mod open_literals;
 mod table;
 
 pub use checker::{check, check_refutation};
-
-#[cfg(test)]
-mod tests;

@@ -1,25 +1,26 @@
 -- Which tokens of a module a first byte leaves.
-use Rattle.std.proofs.Common.{◌≡◌, ℕ, zero, suc, ◌+◌, ◌<◌, ◌≤◌, Bool, true, false, eqb, not, ◌&&◌, ◌||◌, List, [], ◌∷◌, length, take, drop, get_or, refl, sym, ap, subst, ◌∙◌, ⊎_elim, ◌⊎◌, inl, inr, arith}
+use Rattle.std.proofs.Common.{◌≡◌, ℕ, zero, suc, ◌+◌, ◌<◌, ◌≤◌, max, Bool, true, false, eqb, not, ◌&&◌, ◌||◌, List, [], ◌∷◌, length, take, drop, get_or, refl, sym, ap, subst, ◌∙◌, ⊎_elim, ◌⊎◌, inl, inr, arith}
 use Rattle.std.specs.List.{list_all, prefix_len, Contains}
 use Rattle.std.proofs.lemmas.List.{length-drop, drop_all, at_drop_more}
 use Rattle.std.proofs.lemmas.List.Folds.{list_all_more}
 use Rattle.std.specs.Str.{bytes_eq}
 use Rattle.std.proofs.lemmas.Bool.{false≢true, eqb-true}
 use Rattle.std.proofs.lemmas.Slice.Eq.{bytes_eq-Decides}
-use Rattle.scan.specs.declared.ir.token.Kind.{Kind}
-use Rattle.scan.specs.declared.ir.token.Kind.TheVariants.{End, Other, Label, Word, Number, Register, Function, Group, Metadata, Quoted, Mark}
+use Rattle.std.proofs.Math.Nat.{max-zero, zero-max}
+use Rattle.scan.specs.declared.ir.token.TokenKind.{TokenKind}
+use Rattle.scan.specs.declared.ir.token.TokenKind.TheVariants.{End, Other, Label, Word, Number, Register, Function, Group, Metadata, Quoted, Mark}
 use Rattle.scan.specs.Bytes.{is_bad, is_digit, is_letter, begins_name, begins_word, is_name_byte, begins_with, is_run}
 use Rattle.scan.specs.Longest.{IsLongest}
 use Rattle.scan.specs.Quoted.{is_quotable, is_quoted, in_quotes, unquoted}
 use Rattle.scan.specs.RuleTokens.{is_among, is_negative, is_literal}
 use Rattle.scan.specs.IrTokens.{is_plain_name, is_name, is_behind, is_word, is_number, is_register, is_function, is_group, is_metadata, marks, spells, IsLongestFront, BeginsBadly, HoldsZero}
-use Rattle.scan.proofs.Fronts.{which, and_left, and_right, and_both, or_left, or_right, or_true, front_begins, marked_none, begun_none}
+use Rattle.scan.proofs.Fronts.{which, and_left, and_right, and_both, or_left, or_right, or_true, front_begins, marked_none, begun_none, begun_longest}
 use Rattle.scan.proofs.LawLemmas.{is_good, digit_good, among_begins}
 use Rattle.scan.proofs.PlaceLemmas.{begins_some}
 use Rattle.scan.proofs.NameLemmas.{begins_other, name_longest, name_cases, quoted_none, quoted_is, no_quotes}
 use Rattle.scan.proofs.ModuleFronts.{behind_fails, label_none, digit_name, list_all-along, literal_names, number_run}
 use Rattle.scan.proofs.ModuleTokens.{IsFound, AtMost, found_as, longest_front, longest_token, short_holds_none}
-use Rattle.scan.proofs.ModuleKinds.{other_than, name_byte_good}
+use Rattle.scan.proofs.ModuleKinds.{no_digit, other_than, name_byte_good}
 
 -- ---- names, and the words and numbers among them
 
@@ -62,10 +63,49 @@ name_bytes bytes first e = ⊎_elim
     o)
     (name_cases bytes e)
 
+-- ---- the longest name, by the first byte
+
+begins_no_digit : (text : List ℕ) → begins_with is_digit text ≡ false → prefix_len is_digit text ≡ 0
+begins_no_digit [] fails = refl
+begins_no_digit (b ∷ text) fails = rw fails refl
+
+-- a digit begins no plain name
+no_plain : (b : ℕ) → is_digit b ≡ true → begins_name b ≡ false
+unfolding begins_word is_digit
+no_plain b digit = ⊎_elim
+    (λ (h : begins_name b ≡ true). absurd (false≢true (sym (no_digit b (rw (h, other_than is_digit b 45 refl digit) refl)) ∙ digit)))
+    (λ (h : begins_name b ≡ false). h)
+    (which (begins_name b))
+
+begins_no_plain : (text : List ℕ) → begins_with is_digit text ≡ true → begins_with begins_name text ≡ false
+begins_no_plain [] digit = refl
+begins_no_plain (b ∷ text) digit = no_plain b digit
+
+no_plain_name : (text : List ℕ) → begins_with begins_name text ≡ false → IsLongest (λ bytes _. is_plain_name bytes) text 0
+unfolding is_plain_name
+no_plain_name text fails = begun_none begins_name is_name_byte text fails
+
+pub digits_longest : (text : List ℕ) (n : ℕ) → begins_with is_digit text ≡ true → n ≡ prefix_len is_digit text → IsLongest (λ bytes _. is_name bytes) text n
+unfolding is_digit
+digits_longest text n digit run = subst (λ (m : ℕ). IsLongest (λ bytes _. is_name bytes) text m) (max-zero (max 0 n) ∙ zero-max n)
+    (name_longest text 0 n 0 (no_plain_name text (begins_no_plain text digit)) run (quoted_none text (begins_other is_digit 34 text refl digit)))
+
+pub plain_longest : (text : List ℕ) (n : ℕ) → begins_with is_digit text ≡ false → begins_with begins_name text ≡ true → n ≡ prefix_len is_name_byte text → IsLongest (λ bytes _. is_name bytes) text n
+unfolding is_plain_name begins_name is_letter
+plain_longest text n no_digits plain run = subst (λ (m : ℕ). IsLongest (λ bytes _. is_name bytes) text m) (max-zero (max n 0) ∙ max-zero n)
+    (name_longest text n 0 0
+    (subst (λ (m : ℕ). IsLongest (λ bytes _. is_plain_name bytes) text m) (sym run) (begun_longest begins_name is_name_byte text plain))
+    (sym (begins_no_digit text no_digits))
+    (quoted_none text (begins_other begins_name 34 text refl plain)))
+
+pub quoted_longest : (text : List ℕ) (n : ℕ) → begins_with is_digit text ≡ false → begins_with begins_name text ≡ false → IsLongest (λ bytes _. is_quoted bytes) text n → IsLongest (λ bytes _. is_name bytes) text n
+quoted_longest text n no_digits no_plains quoted = subst (λ (m : ℕ). IsLongest (λ bytes _. is_name bytes) text m) (zero-max n)
+    (name_longest text 0 0 n (no_plain_name text no_plains) (sym (begins_no_digit text no_digits)) quoted)
+
 -- ---- a text whose first byte is one of names
 
 -- no front of the kind is longer
-abbrev pub NoLonger : Kind → List ℕ → ℕ → Type 0
+abbrev pub NoLonger : TokenKind → List ℕ → ℕ → Type 0
 NoLonger kind text most = (m : ℕ) → m ≤ length text → spells kind (take m text) (drop m text) ≡ true → m ≤ most
 
 -- no mark begins so
@@ -84,7 +124,7 @@ no_mark p text fails first = record {
     none zero l e = omega arith
     none (suc m) l e = absurd (differ text first (sym (front_begins (λ b. not (p b)) text (suc m) (omega arith)) ∙ among_begins (λ b. not (p b)) marks (take (suc m) text) fails e))
 
-plain_front : (text : List ℕ) (t : Kind × ℕ) → begins_with is_name_byte text ≡ true → IsFound text t → NoLonger Label text t.1 → NoLonger Word text t.1 → NoLonger Number text t.1 → IsLongestFront text t.0 t.1
+plain_front : (text : List ℕ) (t : TokenKind × ℕ) → begins_with is_name_byte text ≡ true → IsFound text t → NoLonger Label text t.1 → NoLonger Word text t.1 → NoLonger Number text t.1 → IsLongestFront text t.0 t.1
 unfolding is_register is_function is_group is_metadata is_name_byte begins_name is_letter is_digit
 plain_front text t first h label word number = record { within = h.within; found = h.found; longest = longest }
   where
@@ -94,7 +134,7 @@ plain_front text t first h label word number = record { within = h.within; found
     none : (passes : List ℕ → List ℕ → Bool) → IsLongest passes text 0 → (m : ℕ) → m ≤ length text → passes (take m text) (drop m text) ≡ true → m ≤ t.1
     none passes k m l e = omega (arith, k.longest m l e)
 
-    longest : (kind : Kind) (m : ℕ) → m ≤ length text → spells kind (take m text) (drop m text) ≡ true → m ≤ t.1
+    longest : (kind : TokenKind) (m : ℕ) → m ≤ length text → spells kind (take m text) (drop m text) ≡ true → m ≤ t.1
     longest End m l e = absurd (false≢true e)
     longest Other m l e = absurd (false≢true e)
     longest Label m l e = label m l e
@@ -173,7 +213,7 @@ names_stand (b ∷ text) e = ⊎_elim
     good : (b : ℕ) → is_name_byte b ≡ true → is_good b ≡ true
     good b e = ⊎_elim (name_byte_good b) (digit_good b) (or_true (begins_name b) (is_digit b) e)
 
-pub zero_badly : (text : List ℕ) (kind : Kind) (n : ℕ) → IsLongestFront text kind n → HoldsZero (take n text) → BeginsBadly text
+pub zero_badly : (text : List ℕ) (kind : TokenKind) (n : ℕ) → IsLongestFront text kind n → HoldsZero (take n text) → BeginsBadly text
 zero_badly text kind zero h holds = absurd (short_holds_none [] (omega arith) holds)
 zero_badly text kind (suc n) h holds = inr (kind, suc n, longest_token text kind (suc n) h (omega arith), holds)
 
@@ -224,7 +264,7 @@ no_label text fails no_quote = label_none text 0 (inl refl) (name_longest text 0
     no_run [] fails = refl
     no_run (b ∷ text) fails = rw fails refl
 
-pub quote_front : (text : List ℕ) (t : Kind × ℕ) → begins_with (λ b. eqb b 34) text ≡ true → IsFound text t → AtMost (spells Label) text t.1 → AtMost (spells Quoted) text t.1 → IsLongestFront text t.0 t.1
+pub quote_front : (text : List ℕ) (t : TokenKind × ℕ) → begins_with (λ b. eqb b 34) text ≡ true → IsFound text t → AtMost (spells Label) text t.1 → AtMost (spells Quoted) text t.1 → IsLongestFront text t.0 t.1
 unfolding is_register is_function is_group is_metadata is_name_byte begins_name is_letter is_digit
 quote_front text t quote h label quoted =
     let no_name : begins_with is_name_byte text ≡ false = no_other is_name_byte 34 text refl quote in
@@ -256,7 +296,7 @@ record MarkedAtMost (text : List ℕ) (most : ℕ) : Type 0 where
   metadata : AtMost (spells Metadata) text most
   mark : AtMost (spells Mark) text most
 
-marked_front : (text : List ℕ) (t : Kind × ℕ) → begins_with is_name_byte text ≡ false → begins_with (λ b. eqb b 34) text ≡ false → IsFound text t → MarkedAtMost text t.1 → IsLongestFront text t.0 t.1
+marked_front : (text : List ℕ) (t : TokenKind × ℕ) → begins_with is_name_byte text ≡ false → begins_with (λ b. eqb b 34) text ≡ false → IsFound text t → MarkedAtMost text t.1 → IsLongestFront text t.0 t.1
 marked_front text t no_name no_quote h marked = longest_front text t h (record {
   label = none_longer (spells Label) text t.1 (no_label text no_name no_quote);
   word = none_longer (spells Word) text t.1 (no_word text no_name);
@@ -313,7 +353,7 @@ metadata_front text n no_name no_quote first h = marked_front text (Metadata, n)
   mark = none_longer (spells Mark) text n (no_mark (λ b. eqb b 33) text refl first);
 })
 
-pub group_front : (text : List ℕ) (t : Kind × ℕ) → begins_with is_name_byte text ≡ false → begins_with (λ b. eqb b 34) text ≡ false → begins_with (λ b. eqb b 35) text ≡ true → IsFound text t → AtMost (spells Group) text t.1 → AtMost (spells Mark) text t.1 → IsLongestFront text t.0 t.1
+pub group_front : (text : List ℕ) (t : TokenKind × ℕ) → begins_with is_name_byte text ≡ false → begins_with (λ b. eqb b 34) text ≡ false → begins_with (λ b. eqb b 35) text ≡ true → IsFound text t → AtMost (spells Group) text t.1 → AtMost (spells Mark) text t.1 → IsLongestFront text t.0 t.1
 group_front text t no_name no_quote first h group mark = marked_front text t no_name no_quote h (record {
   register = no_register text t.1 (no_other (λ b. eqb b 37) 35 text refl first);
   function = no_function text t.1 (no_other (λ b. eqb b 64) 35 text refl first);
@@ -372,7 +412,7 @@ second_taken [] n e = refl
 second_taken (b ∷ text) zero e = refl
 second_taken (b ∷ text) (suc n) e = front_begins (λ c. eqb c 34) text (suc n) (omega arith) ∙ e
 
-pub early_quotes : (text : List ℕ) (kind : Kind) (n : ℕ) → begins_with is_name_byte text ≡ false → begins_with (λ b. eqb b 34) text ≡ false → begins_with (λ b. eqb b 34) (drop 1 text) ≡ false → IsLongestFront text kind n → HoldsZero (take n text) → ⊥
+pub early_quotes : (text : List ℕ) (kind : TokenKind) (n : ℕ) → begins_with is_name_byte text ≡ false → begins_with (λ b. eqb b 34) text ≡ false → begins_with (λ b. eqb b 34) (drop 1 text) ≡ false → IsLongestFront text kind n → HoldsZero (take n text) → ⊥
 unfolding is_register is_function is_metadata is_quotable
 early_quotes text kind zero no_name first second h holds = short_holds_none [] (omega arith) holds
 early_quotes text kind (suc n) no_name first second h holds = quotable_holds_none (take (suc n) text) (quotable kind (h.found (omega arith))) holds
@@ -380,7 +420,7 @@ early_quotes text kind (suc n) no_name first second h holds = quotable_holds_non
     none : (passes : List ℕ → List ℕ → Bool) → IsLongest passes text 0 → passes (take (suc n) text) (drop (suc n) text) ≡ true → list_all is_quotable (take (suc n) text) ≡ true
     none passes k e = absurd (let le : suc n ≤ 0 = k.longest (suc n) h.within e in omega arith)
 
-    quotable : (kind : Kind) → spells kind (take (suc n) text) (drop (suc n) text) ≡ true → list_all is_quotable (take (suc n) text) ≡ true
+    quotable : (kind : TokenKind) → spells kind (take (suc n) text) (drop (suc n) text) ≡ true → list_all is_quotable (take (suc n) text) ≡ true
     quotable End e = absurd (false≢true e)
     quotable Other e = absurd (false≢true e)
     quotable Label e = none (spells Label) (no_label text no_name first) e
@@ -393,7 +433,7 @@ early_quotes text kind (suc n) no_name first second h holds = quotable_holds_non
     quotable Quoted e = none (spells Quoted) (quoted_none text first) e
     quotable Mark e = among_all (list_all is_quotable) marks (take (suc n) text) refl e
 
-pub no_early_quote : (text : List ℕ) (kind : Kind) (n : ℕ) → begins_with is_name_byte text ≡ false → (begins_with (λ b. eqb b 34) text || begins_with (λ b. eqb b 34) (drop 1 text)) ≡ false → IsLongestFront text kind n → HoldsZero (take n text) → ⊥
+pub no_early_quote : (text : List ℕ) (kind : TokenKind) (n : ℕ) → begins_with is_name_byte text ≡ false → (begins_with (λ b. eqb b 34) text || begins_with (λ b. eqb b 34) (drop 1 text)) ≡ false → IsLongestFront text kind n → HoldsZero (take n text) → ⊥
 no_early_quote text kind n no_name no_quote h holds = early_quotes text kind n no_name
     (neither (begins_with (λ b. eqb b 34) text) (begins_with (λ b. eqb b 34) (drop 1 text)) no_quote).0
     (neither (begins_with (λ b. eqb b 34) text) (begins_with (λ b. eqb b 34) (drop 1 text)) no_quote).1

@@ -7,7 +7,7 @@ use Rattle.scan.specs.Gaps.{IsInLine, IsGap, nothing, space, comment, IsLastGap}
 use Rattle.std.proofs.lemmas.List.Sums.{count_by_more_yes, count_by_more_no}
 use Rattle.std.proofs.Math.Seq.{drop-cons}
 use Rattle.scan.specs.Lines.{between, feeds}
-use Rattle.scan.specs.Scanning.{in_gap, behind_gap}
+use Rattle.scan.specs.GapFronts.{in_gap, behind_gap}
 use Rattle.scan.proofs.Fronts.{which, or_left}
 
 not_ten : (b : ℕ) → eqb b 10 ≡ false → b ≢ 10
@@ -177,15 +177,24 @@ step_feed now text i h e = step now false text i h (ap (λ (b : ℕ). behind_gap
 pub step_comment : (text : List ℕ) (i : ℕ) → i < length text → get_or text i 0 ≢ 10 → behind_gap true (drop (i + 1) text) ≡ behind_gap true (drop i text)
 step_comment text i h e = step true true text i h (rw (is_ten (get_or text i 0) e) refl)
 
-pub step_opens : (text : List ℕ) (i : ℕ) → i < length text → get_or text i 0 ≡ 59 → behind_gap true (drop (i + 1) text) ≡ behind_gap false (drop i text)
-step_opens text i h e = step false true text i h (ap (λ (b : ℕ). behind_gap false (b ∷ drop (i + 1) text)) e)
-
-pub step_blank : (text : List ℕ) (i : ℕ) → i < length text → is_blank (get_or text i 0) ≡ true → behind_gap false (drop (i + 1) text) ≡ behind_gap false (drop i text)
-unfolding is_space
-step_blank text i h e = step false false text i h (blank (get_or text i 0) (drop (i + 1) text) e)
+pub step_opens : (now : Bool) (text : List ℕ) (i : ℕ) → i < length text → get_or text i 0 ≡ 59 → behind_gap true (drop (i + 1) text) ≡ behind_gap now (drop i text)
+step_opens now text i h e = step now true text i h (ap (λ (b : ℕ). behind_gap now (b ∷ drop (i + 1) text)) e ∙ opens now (drop (i + 1) text))
   where
-    blank : (b : ℕ) (bytes : List ℕ) → is_blank b ≡ true → behind_gap false (b ∷ bytes) ≡ behind_gap false bytes
-    blank b bytes k = let space : is_space b ≡ true = or_left (is_blank b) (eqb b 10) k in rw (space_no_comment b space, space) refl
+    opens : (now : Bool) (bytes : List ℕ) → behind_gap now (59 ∷ bytes) ≡ behind_gap true bytes
+    opens true bytes = refl
+    opens false bytes = refl
+
+pub blank_no_feed : (b : ℕ) → is_blank b ≡ true → b ≢ 10
+unfolding is_blank
+blank_no_feed b blank e = false≢true (subst (λ (n : ℕ). is_blank n ≡ true) e blank)
+
+pub step_blank : (now : Bool) (text : List ℕ) (i : ℕ) → i < length text → is_blank (get_or text i 0) ≡ true → behind_gap now (drop (i + 1) text) ≡ behind_gap now (drop i text)
+unfolding is_space
+step_blank now text i h blank = step now now text i h (over now (get_or text i 0) (drop (i + 1) text) blank)
+  where
+    over : (now : Bool) (b : ℕ) (bytes : List ℕ) → is_blank b ≡ true → behind_gap now (b ∷ bytes) ≡ behind_gap now bytes
+    over true b bytes k = rw (is_ten b (blank_no_feed b k)) refl
+    over false b bytes k = let space : is_space b ≡ true = or_left (is_blank b) (eqb b 10) k in rw (space_no_comment b space, space) refl
 
 pub gap_ends : (text : List ℕ) (i : ℕ) → i < length text → get_or text i 0 ≢ 10 → get_or text i 0 ≢ 59 → is_blank (get_or text i 0) ≡ false → drop i text ≡ behind_gap false (drop i text)
 unfolding is_space

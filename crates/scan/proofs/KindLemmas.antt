@@ -4,7 +4,7 @@ use Rattle.std.proofs.lemmas.Bool.{ltb-true, ltb-false}
 use Rattle.scan.specs.declared.rule_token.RuleKind.{RuleKind}
 use Rattle.scan.specs.declared.rule_token.RuleKind.TheVariants.{End, Other, Head, Register, Word, Number, Arrow, Mark}
 use Rattle.scan.specs.Bytes.{is_bad, begins_with}
-use Rattle.scan.specs.Scanning.{in_gap}
+use Rattle.scan.specs.GapFronts.{in_gap}
 use Rattle.scan.specs.Longest.{IsLongest, IsLongestOf}
 use Rattle.scan.specs.RuleTokens.{is_mark, is_placed_operator, is_unsigned_operator, is_remainder, is_register, is_rule_word, is_negative, is_literal, kind_of, IsLongestToken, Begins}
 use Rattle.scan.proofs.Fronts.{which}

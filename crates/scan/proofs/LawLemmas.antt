@@ -13,7 +13,7 @@ use Rattle.scan.specs.declared.rule_token.RuleKind.TheVariants.{End, Other, Head
 use Rattle.scan.specs.Bytes.{is_blank, is_space, is_printable, is_bad, is_digit, is_letter, is_run, is_run_behind, begins_with, is_register_byte, is_word_byte}
 use Rattle.scan.specs.Gaps.{IsGap, IsLastGap}
 use Rattle.scan.specs.Lines.{between, line_of}
-use Rattle.scan.specs.Scanning.{in_gap, behind_gap}
+use Rattle.scan.specs.GapFronts.{in_gap, behind_gap}
 use Rattle.scan.specs.RuleTokens.{is_among, marks, heads, arrows, is_mark, is_placed_operator, is_unsigned_operator, is_remainder, is_register, is_rule_word, is_negative, is_literal, kind_of, IsLongestToken, BeginsNoToken, Begins, IsGapBefore, line_at, in_operator_place, IsNextRuleToken, IsBadNext}
 use Rattle.scan.specs.Laws.{OneTokenAtAPlace}
 use Rattle.scan.proofs.Fronts.{which, and_left, and_right, or_true}

@@ -4,8 +4,8 @@ use Rattle.std.specs.Str.{bytes_eq}
 use Rattle.std.specs.List.{list_all, AllByRecursion}
 use Rattle.std.proofs.lemmas.Bool.{false≢true, eqb-true, leb-true}
 use Rattle.std.proofs.lemmas.Slice.Eq.{bytes_eq-Decides}
-use Rattle.scan.specs.declared.ir.token.Kind.{Kind}
-use Rattle.scan.specs.declared.ir.token.Kind.TheVariants.{End, Other, Label, Word, Number, Register, Function, Group, Metadata, Quoted, Mark}
+use Rattle.scan.specs.declared.ir.token.TokenKind.{TokenKind}
+use Rattle.scan.specs.declared.ir.token.TokenKind.TheVariants.{End, Other, Label, Word, Number, Register, Function, Group, Metadata, Quoted, Mark}
 use Rattle.scan.specs.Bytes.{is_blank, is_space, is_printable, is_bad, is_digit, is_letter, begins_name, begins_word, is_name_byte, begins_with, is_run}
 use Rattle.scan.specs.Quoted.{in_quotes, is_quoted}
 use Rattle.scan.specs.IrTokens.{is_name, is_behind, is_label, is_word, is_number, is_register, is_function, is_group, is_metadata, marks, spells}
@@ -64,7 +64,7 @@ name_end bytes e = ⊎_elim
 -- ---- the kind by the last byte and the first
 
 -- the kind of token that the bytes are, by their last byte and their first
-abbrev kind_by_first : List ℕ → Kind
+abbrev kind_by_first : List ℕ → TokenKind
 kind_by_first [] = Other
 kind_by_first (b ∷ rest) =
     cond (eqb b 37) Register
@@ -76,14 +76,14 @@ kind_by_first (b ∷ rest) =
     (cond (begins_name b) Word
     (cond (eqb b 35) (cond (begins_with is_digit rest) Group Mark) Mark)))))))
 
-abbrev kind_by_ends : List ℕ → Kind
+abbrev kind_by_ends : List ℕ → TokenKind
 kind_by_ends bytes = cond (ends_colon bytes) Label (kind_by_first bytes)
 
-by_first : (bytes : List ℕ) (kind : Kind) → ends_colon bytes ≡ false → kind_by_first bytes ≡ kind → kind_by_ends bytes ≡ kind
+by_first : (bytes : List ℕ) (kind : TokenKind) → ends_colon bytes ≡ false → kind_by_first bytes ≡ kind → kind_by_ends bytes ≡ kind
 by_first bytes kind e f = rw e f
 
 -- a byte, and a name or a run behind it
-named : (c : ℕ) (kind : Kind) (bytes : List ℕ) → eqb c 58 ≡ false → ((rest : List ℕ) → kind_by_first (c ∷ rest) ≡ kind) → is_behind c is_name bytes ≡ true → kind_by_ends bytes ≡ kind
+named : (c : ℕ) (kind : TokenKind) (bytes : List ℕ) → eqb c 58 ≡ false → ((rest : List ℕ) → kind_by_first (c ∷ rest) ≡ kind) → is_behind c is_name bytes ≡ true → kind_by_ends bytes ≡ kind
 named c kind [] no_colon is e = absurd (false≢true e)
 named c kind (b ∷ name) no_colon is e =
     let first : b ≡ c = eqb-true b c (and_left (eqb b c) (is_name name) e) in
@@ -116,7 +116,7 @@ number_kind bytes rest e =
     negative_is (b ∷ digits) h = ap (λ (c : ℕ). kind_by_first (c ∷ digits)) (eqb-true b 45 (and_left (eqb b 45) (is_run is_digit digits) h))
 
 -- a word begins with no digit
-no_digit : (b : ℕ) → begins_word b ≡ true → is_digit b ≡ false
+pub no_digit : (b : ℕ) → begins_word b ≡ true → is_digit b ≡ false
 unfolding begins_word begins_name is_digit is_letter
 no_digit b e = ⊎_elim
     (λ (h : is_digit b ≡ true).
@@ -184,14 +184,14 @@ quoted_kind bytes e =
     by_first bytes Quoted (ap ends_colon is ∙ ends_push (34 ∷ in_quotes bytes) 34) (ap kind_by_first is)
 
 -- each of the words is of the kind
-words_are : (kind : Kind) (words : List (List ℕ)) (bytes : List ℕ) → AllByRecursion (λ word. kind_by_ends word ≡ kind) words → is_among words bytes ≡ true → kind_by_ends bytes ≡ kind
+words_are : (kind : TokenKind) (words : List (List ℕ)) (bytes : List ℕ) → AllByRecursion (λ word. kind_by_ends word ≡ kind) words → is_among words bytes ≡ true → kind_by_ends bytes ≡ kind
 words_are kind [] bytes all e = absurd (false≢true e)
 words_are kind (word ∷ words) bytes all e = ⊎_elim
     (λ (h : bytes_eq bytes word ≡ true). ap kind_by_ends ((bytes_eq-Decides bytes word).0 h) ∙ all.0)
     (λ (h : is_among words bytes ≡ true). words_are kind words bytes all.1 h)
     (or_true (bytes_eq bytes word) (is_among words bytes) e)
 
-kind_is : (kind : Kind) (bytes rest : List ℕ) → spells kind bytes rest ≡ true → kind_by_ends bytes ≡ kind
+kind_is : (kind : TokenKind) (bytes rest : List ℕ) → spells kind bytes rest ≡ true → kind_by_ends bytes ≡ kind
 unfolding is_label is_register is_function begins_name is_letter is_digit
 kind_is End bytes rest e = absurd (false≢true e)
 kind_is Other bytes rest e = absurd (false≢true e)
@@ -205,7 +205,7 @@ kind_is Metadata bytes rest e = metadata_kind bytes e
 kind_is Quoted bytes rest e = quoted_kind bytes e
 kind_is Mark bytes rest e = words_are Mark marks bytes (refl, (refl, (refl, (refl, (refl, (refl, (refl, (refl, (refl, (refl, tt)))))))))) e
 
-pub one_kind : (a b : Kind) (bytes rest : List ℕ) → spells a bytes rest ≡ true → spells b bytes rest ≡ true → a ≡ b
+pub one_kind : (a b : TokenKind) (bytes rest : List ℕ) → spells a bytes rest ≡ true → spells b bytes rest ≡ true → a ≡ b
 one_kind a b bytes rest h k = sym (kind_is a bytes rest h) ∙ kind_is b bytes rest k
 
 -- ---- a token begins with a byte that may stand and is in no gap
@@ -240,7 +240,7 @@ behind_good : (c : ℕ) (test : List ℕ → Bool) (bytes : List ℕ) → is_goo
 behind_good c test [] good e = absurd (false≢true e)
 behind_good c test (b ∷ bytes) good e = ap is_good (eqb-true b c (and_left (eqb b c) (test bytes) e)) ∙ good
 
-pub token_good : (kind : Kind) (bytes rest : List ℕ) → spells kind bytes rest ≡ true → begins_with is_good bytes ≡ true
+pub token_good : (kind : TokenKind) (bytes rest : List ℕ) → spells kind bytes rest ≡ true → begins_with is_good bytes ≡ true
 unfolding is_label is_word is_number is_negative begins_word is_register is_function is_group is_metadata is_good is_bad is_printable is_space is_blank
 token_good End bytes rest e = absurd (false≢true e)
 token_good Other bytes rest e = absurd (false≢true e)

@@ -2,14 +2,14 @@
 use Rattle.std.proofs.Common.{◌≡◌, ℕ, ◌-◌, ◌<◌, ◌≤◌, true, false, List, [], Ok, Err, length, take, drop, refl, sym, ap, subst, ◌∙◌, ⊎_elim, ◌⊎◌, inl, inr, arith}
 use Rattle.std.proofs.lemmas.Bool.{false≢true}
 use Rattle.std.proofs.lemmas.List.{length-drop}
-use Rattle.scan.specs.declared.ir.token.Kind.{Kind}
-use Rattle.scan.specs.declared.ir.token.Kind.TheVariants.{End, Other, Label, Word, Number, Register, Function, Group, Metadata, Quoted, Mark}
+use Rattle.scan.specs.declared.ir.token.TokenKind.{TokenKind}
+use Rattle.scan.specs.declared.ir.token.TokenKind.TheVariants.{End, Other, Label, Word, Number, Register, Function, Group, Metadata, Quoted, Mark}
 use Rattle.scan.specs.declared.ir.token.Token.{Token}
 use Rattle.scan.specs.Bytes.{is_bad, begins_with}
 use Rattle.scan.specs.Gaps.{IsGap, IsLastGap}
 use Rattle.scan.specs.Laws.{OneModuleTokenAtAPlace}
 use Rattle.scan.specs.Lines.{between, line_of}
-use Rattle.scan.specs.Scanning.{in_gap}
+use Rattle.scan.specs.GapFronts.{in_gap}
 use Rattle.scan.specs.IrTokens.{spells, IsLongestToken, BeginsNoToken, Begins, BeginsBadly, HoldsZero, IsGapBefore, line_at, IsNextToken, IsBadToken}
 use Rattle.scan.proofs.ModuleKinds.{one_kind, token_good}
 use Rattle.scan.proofs.ModuleTokens.{begins_token}
@@ -18,10 +18,10 @@ use Rattle.scan.proofs.LawLemmas.{is_good, good_front, good_is, bad_no_gap, bad_
 
 -- ---- what stands there begins with a byte that may stand and is in no gap
 
-longest_good : (text : List ℕ) (kind : Kind) (n : ℕ) → IsLongestToken text kind n → begins_with is_good text ≡ true
+longest_good : (text : List ℕ) (kind : TokenKind) (n : ℕ) → IsLongestToken text kind n → begins_with is_good text ≡ true
 longest_good text kind n h = good_front is_good text n (token_good kind (take n text) (drop n text) h.of_kind)
 
-seen_good : (text : List ℕ) (kind : Kind) (n : ℕ) → Begins text kind n → (begins_with is_good text ≡ true) ⊎ ((kind ≡ End) × (text ≡ []))
+seen_good : (text : List ℕ) (kind : TokenKind) (n : ℕ) → Begins text kind n → (begins_with is_good text ≡ true) ⊎ ((kind ≡ End) × (text ≡ []))
 unfolding is_good
 seen_good text kind n h = ⊎_elim
     (λ (t : IsLongestToken text kind n). inl (longest_good text kind n t))
@@ -31,7 +31,7 @@ seen_good text kind n h = ⊎_elim
     o)
     (seen text kind n h)
 
-gap_of : (kind : Kind) (gap : List ℕ) → IsGapBefore kind gap → IsGap gap ⊎ (IsLastGap gap × (kind ≡ End))
+gap_of : (kind : TokenKind) (gap : List ℕ) → IsGapBefore kind gap → IsGap gap ⊎ (IsLastGap gap × (kind ≡ End))
 gap_of End gap h = inr (h, refl)
 gap_of Other gap h = inl h
 gap_of Label gap h = inl h
@@ -44,8 +44,8 @@ gap_of Metadata gap h = inl h
 gap_of Quoted gap h = inl h
 gap_of Mark gap h = inl h
 
-end_is : (text : List ℕ) (kind : Kind) (n : ℕ) → Begins text kind n → kind ≡ End → text ≡ []
-end_is text kind n h e = (subst (λ (k : Kind). Begins text k n) e h).0
+end_is : (text : List ℕ) (kind : TokenKind) (n : ℕ) → Begins text kind n → kind ≡ End → text ≡ []
+end_is text kind n h e = (subst (λ (k : TokenKind). Begins text k n) e h).0
 
 stood_token : (text : List ℕ) (place : ℕ) (t : Token) → IsNextToken text place t → Stood text place t.span.start
 stood_token text place t h =
@@ -75,7 +75,7 @@ stood_bad text place line h =
 
 -- ---- only one thing stands there
 
-begins_one : (text : List ℕ) (a b : Kind) (n m : ℕ) → Begins text a n → Begins text b m → (a ≡ b) × (n ≡ m)
+begins_one : (text : List ℕ) (a b : TokenKind) (n m : ℕ) → Begins text a n → Begins text b m → (a ≡ b) × (n ≡ m)
 begins_one text a b n m h k = ⊎_elim
     (λ (s : IsLongestToken text a n). ⊎_elim
     (λ (t : IsLongestToken text b m). both s t)
@@ -94,7 +94,7 @@ begins_one text a b n m h k = ⊎_elim
         let same : n ≡ m = omega arith in
         (one_kind a b (take m text) (drop m text) (subst (λ (i : ℕ). spells a (take i text) (drop i text) ≡ true) same s.of_kind) t.of_kind, same)
 
-    not_longest : (c : Kind) (i : ℕ) → IsLongestToken text c i → (d : Kind) (j : ℕ) → ((d ≡ Other) × BeginsNoToken text × (j ≡ 1)) ⊎ ((d ≡ End) × (text ≡ []) × (j ≡ 0)) → ⊥
+    not_longest : (c : TokenKind) (i : ℕ) → IsLongestToken text c i → (d : TokenKind) (j : ℕ) → ((d ≡ Other) × BeginsNoToken text × (j ≡ 1)) ⊎ ((d ≡ End) × (text ≡ []) × (j ≡ 0)) → ⊥
     not_longest c i s d j (inl t) = false≢true (sym (t.1.no_token c i s.within) ∙ s.of_kind)
     not_longest c i s d j (inr t) = omega (arith, longest_some text c i s, s.within, ap length t.1)
 
@@ -104,16 +104,16 @@ begins_one text a b n m h k = ⊎_elim
     others (inl s) (inr t) = absurd (false≢true (sym (ap (begins_with _) t.1) ∙ s.1.visible))
     others (inr s) (inl t) = absurd (false≢true (sym (ap (begins_with _) s.1) ∙ t.1.visible))
 
-abbrev token_of : Kind → ℕ → ℕ → ℕ → Token
+abbrev token_of : TokenKind → ℕ → ℕ → ℕ → Token
 token_of kind line start end = record { kind = kind; line = line; span = record { start = start; end = end } }
 
 same_token : (t u : Token) → t.kind ≡ u.kind → t.line ≡ u.line → t.span.start ≡ u.span.start → t.span.end ≡ u.span.end → t ≡ u
 same_token t u k l s e =
-    ap (λ (x : Kind). token_of x t.line t.span.start t.span.end) k ∙ ap (λ (x : ℕ). token_of u.kind x t.span.start t.span.end) l
+    ap (λ (x : TokenKind). token_of x t.line t.span.start t.span.end) k ∙ ap (λ (x : ℕ). token_of u.kind x t.span.start t.span.end) l
     ∙ ap (λ (x : ℕ). token_of u.kind u.line x t.span.end) s ∙ ap (λ (x : ℕ). token_of u.kind u.line u.span.start x) e
 
 -- what begins badly begins with no token without a byte 0
-begins_not_both : (text : List ℕ) (kind : Kind) (n : ℕ) → Begins text kind n → (HoldsZero (take n text) → ⊥) → BeginsBadly text → ⊥
+begins_not_both : (text : List ℕ) (kind : TokenKind) (n : ℕ) → Begins text kind n → (HoldsZero (take n text) → ⊥) → BeginsBadly text → ⊥
 begins_not_both text kind n h no_zero (inl bad) = ⊎_elim
     (λ (g : begins_with is_good text ≡ true). false≢true (sym (good_is text g).1 ∙ bad))
     (λ (e : (kind ≡ End) × (text ≡ [])). false≢true (sym (ap (begins_with is_bad) e.1) ∙ bad))
@@ -135,7 +135,7 @@ one_module_token text place (Ok t) (Ok u) within h k = ap Ok (same_tokens t u h 
         let start : t.span.start ≡ u.span.start = one_start text place t.span.start u.span.start (stood_token text place t h) (stood_token text place u k) in
         let moved : Begins (drop t.span.start text) u.kind (u.span.end - u.span.start) = subst (λ (i : ℕ). Begins (drop i text) u.kind (u.span.end - u.span.start)) (sym start) k.token in
         let one : (t.kind ≡ u.kind) × (t.span.end - t.span.start ≡ u.span.end - u.span.start) = begins_one (drop t.span.start text) t.kind u.kind _ _ h.token moved in
-        same_token t u one.0 (h.line ∙ ap (λ (k : Kind). line_at k text t.span.start) one.0 ∙ ap (line_at u.kind text) start ∙ sym k.line) start (omega (arith, one.1, h.order.1, k.order.1))
+        same_token t u one.0 (h.line ∙ ap (λ (k : TokenKind). line_at k text t.span.start) one.0 ∙ ap (line_at u.kind text) start ∙ sym k.line) start (omega (arith, one.1, h.order.1, k.order.1))
 one_module_token text place (Ok t) (Err e) within h k = absurd (not_both text place t e.line h k)
 one_module_token text place (Err e) (Ok t) within h k = absurd (not_both text place t e.line k h)
 one_module_token text place (Err e) (Err f) within h k =

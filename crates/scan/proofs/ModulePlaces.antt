@@ -2,8 +2,8 @@
 use Rattle.std.proofs.Common.{◌≡◌, ◌≢◌, ℕ, zero, suc, ◌+◌, ◌-◌, ◌<◌, ◌≤◌, List, [], length, take, drop, refl, sym, ap, subst, ◌∙◌, ⊎_elim, ◌⊎◌, inl, inr, arith}
 use Rattle.std.proofs.lemmas.Bool.{false≢true}
 use Rattle.std.proofs.lemmas.List.{length-drop}
-use Rattle.scan.specs.declared.ir.token.Kind.{Kind}
-use Rattle.scan.specs.declared.ir.token.Kind.TheVariants.{End, Other, Label, Word, Number, Register, Function, Group, Metadata, Quoted, Mark}
+use Rattle.scan.specs.declared.ir.token.TokenKind.{TokenKind}
+use Rattle.scan.specs.declared.ir.token.TokenKind.TheVariants.{End, Other, Label, Word, Number, Register, Function, Group, Metadata, Quoted, Mark}
 use Rattle.scan.specs.Bytes.{is_bad}
 use Rattle.scan.specs.Gaps.{IsGap, IsLastGap}
 use Rattle.scan.specs.Lines.{between, feeds}
@@ -14,10 +14,10 @@ use Rattle.scan.proofs.PlaceLemmas.{Behind, begins_some}
 -- ---- what a text begins with
 
 -- a token, or a byte that begins none, or the end
-abbrev pub IsSeen : List ℕ → Kind → ℕ → Type 0
+abbrev pub IsSeen : List ℕ → TokenKind → ℕ → Type 0
 IsSeen text kind n = IsLongestToken text kind n ⊎ (((kind ≡ Other) × BeginsNoToken text × (n ≡ 1)) ⊎ ((kind ≡ End) × (text ≡ []) × (n ≡ 0)))
 
-pub seen : (text : List ℕ) (kind : Kind) (n : ℕ) → Begins text kind n → IsSeen text kind n
+pub seen : (text : List ℕ) (kind : TokenKind) (n : ℕ) → Begins text kind n → IsSeen text kind n
 seen text End n h = inr (inr (refl, h.0, h.1))
 seen text Other n h = inr (inl (refl, h.0, h.1))
 seen text Label n h = inl h
@@ -31,14 +31,14 @@ seen text Quoted n h = inl h
 seen text Mark n h = inl h
 
 -- a token is not the end, and has a byte
-pub no_end : (text : List ℕ) (kind : Kind) (n : ℕ) → IsLongestToken text kind n → kind ≢ End
-no_end text kind n h e = false≢true (ap (λ (k : Kind). spells k (take n text) (drop n text)) (sym e) ∙ h.of_kind)
+pub no_end : (text : List ℕ) (kind : TokenKind) (n : ℕ) → IsLongestToken text kind n → kind ≢ End
+no_end text kind n h e = false≢true (ap (λ (k : TokenKind). spells k (take n text) (drop n text)) (sym e) ∙ h.of_kind)
 
-pub longest_some : (text : List ℕ) (kind : Kind) (n : ℕ) → IsLongestToken text kind n → 0 < n
+pub longest_some : (text : List ℕ) (kind : TokenKind) (n : ℕ) → IsLongestToken text kind n → 0 < n
 longest_some text kind zero h = absurd (false≢true (sym (spells-empty kind text) ∙ h.of_kind))
 longest_some text kind (suc n) h = omega arith
 
-pub end_or_not : (text : List ℕ) (kind : Kind) (n : ℕ) → Begins text kind n → (n ≤ length text) × (((kind ≢ End) × (0 < length text)) ⊎ ((kind ≡ End) × (length text ≡ 0)))
+pub end_or_not : (text : List ℕ) (kind : TokenKind) (n : ℕ) → Begins text kind n → (n ≤ length text) × (((kind ≢ End) × (0 < length text)) ⊎ ((kind ≡ End) × (length text ≡ 0)))
 end_or_not text kind n h = ⊎_elim
     (λ (t : IsLongestToken text kind n). (t.within, inl (no_end text kind n t, omega (arith, t.within, longest_some text kind n t))))
     (λ (o : ((kind ≡ Other) × BeginsNoToken text × (n ≡ 1)) ⊎ ((kind ≡ End) × (text ≡ []) × (n ≡ 0))). ⊎_elim
@@ -49,7 +49,7 @@ end_or_not text kind n h = ⊎_elim
     o)
     (seen text kind n h)
 
-gap_before : (kind : Kind) (gap : List ℕ) → (kind ≢ End → IsGap gap) → (kind ≡ End → IsLastGap gap) → IsGapBefore kind gap
+gap_before : (kind : TokenKind) (gap : List ℕ) → (kind ≢ End → IsGap gap) → (kind ≡ End → IsLastGap gap) → IsGapBefore kind gap
 gap_before End gap g l = l refl
 gap_before Other gap g l = g (λ e. cc)
 gap_before Label gap g l = g (λ e. cc)
@@ -65,7 +65,7 @@ gap_before Mark gap g l = g (λ e. cc)
 -- ---- at a place
 
 -- what stands there is within the text, and is its end or not
-pub ends_or_not : (text : List ℕ) (start : ℕ) (kind : Kind) (n : ℕ) → start ≤ length text → Begins (drop start text) kind n → (start + n ≤ length text) × (((kind ≢ End) × (start < length text)) ⊎ ((kind ≡ End) × (start ≡ length text)))
+pub ends_or_not : (text : List ℕ) (start : ℕ) (kind : TokenKind) (n : ℕ) → start ≤ length text → Begins (drop start text) kind n → (start + n ≤ length text) × (((kind ≢ End) × (start < length text)) ⊎ ((kind ≡ End) × (start ≡ length text)))
 ends_or_not text start kind n l h =
     let e = end_or_not (drop start text) kind n h in (
       omega (arith, e.0, length-drop start text),
@@ -89,7 +89,7 @@ next_bad text place start before b e bad = record {
   line_is = omega (arith, e);
 }
 
-pub next_token : (text : List ℕ) (place start n line : ℕ) (kind : Kind) → Behind text place start → Begins (drop start text) kind n → (HoldsZero (take n (drop start text)) → ⊥) → line ≡ line_at kind text start → IsNextToken text place (record { kind = kind; line = line; span = record { start = start; end = start + n } })
+pub next_token : (text : List ℕ) (place start n line : ℕ) (kind : TokenKind) → Behind text place start → Begins (drop start text) kind n → (HoldsZero (take n (drop start text)) → ⊥) → line ≡ line_at kind text start → IsNextToken text place (record { kind = kind; line = line; span = record { start = start; end = start + n } })
 next_token text place start n line kind b h no_zero l = record {
   order = (b.order.0, omega arith, ends.0);
   gap = gap_before kind (between text place start)

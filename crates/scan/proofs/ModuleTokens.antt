@@ -2,10 +2,10 @@
 use Rattle.std.proofs.Common.{◌≡◌, ◌≢◌, ℕ, zero, suc, ◌<◌, ◌≤◌, Bool, true, false, eqb, not, ◌||◌, List, [], ◌∷◌, length, take, drop, refl, sym, subst, ⊎_elim, ◌⊎◌, inl, inr, arith}
 use Rattle.std.specs.List.{Contains}
 use Rattle.std.proofs.lemmas.Bool.{false≢true}
-use Rattle.scan.specs.declared.ir.token.Kind.{Kind}
-use Rattle.scan.specs.declared.ir.token.Kind.TheVariants.{End, Other, Label, Word, Number, Register, Function, Group, Metadata, Quoted, Mark}
+use Rattle.scan.specs.declared.ir.token.TokenKind.{TokenKind}
+use Rattle.scan.specs.declared.ir.token.TokenKind.TheVariants.{End, Other, Label, Word, Number, Register, Function, Group, Metadata, Quoted, Mark}
 use Rattle.scan.specs.Bytes.{is_bad, begins_with}
-use Rattle.scan.specs.Scanning.{in_gap}
+use Rattle.scan.specs.GapFronts.{in_gap}
 use Rattle.scan.specs.Longest.{IsLongest}
 use Rattle.scan.specs.Quoted.{in_quotes, unquoted, is_quoted}
 use Rattle.scan.specs.IrTokens.{is_name, is_plain_name, is_label, is_word, is_number, is_register, is_function, is_group, is_metadata, spells, IsLongestToken, IsLongestFront, Begins, HoldsZero}
@@ -15,14 +15,14 @@ use Rattle.scan.proofs.Fronts.{which}
 -- ---- the longest of all kinds
 
 -- the first bytes are of the kind, if there are any
-pub record IsFound (text : List ℕ) (t : Kind × ℕ) : Type 0 where
+pub record IsFound (text : List ℕ) (t : TokenKind × ℕ) : Type 0 where
   pub within : t.1 ≤ length text
   pub found : 0 < t.1 → spells t.0 (take t.1 text) (drop t.1 text) ≡ true
 
-pub found_as : (kind : Kind) (text : List ℕ) (n : ℕ) → IsLongest (spells kind) text n → IsFound text (kind, n)
+pub found_as : (kind : TokenKind) (text : List ℕ) (n : ℕ) → IsLongest (spells kind) text n → IsFound text (kind, n)
 found_as kind text n h = record { within = h.within; found = h.found }
 
-pub found_longer : (text : List ℕ) (a b t : Kind × ℕ) → (t ≡ a) ⊎ (t ≡ b) → IsFound text a → IsFound text b → IsFound text t
+pub found_longer : (text : List ℕ) (a b t : TokenKind × ℕ) → (t ≡ a) ⊎ (t ≡ b) → IsFound text a → IsFound text b → IsFound text t
 found_longer text a b t (inl e) h k = subst (IsFound text) (sym e) h
 found_longer text a b t (inr e) h k = subst (IsFound text) (sym e) k
 
@@ -46,10 +46,10 @@ pub record AllAtMost (text : List ℕ) (most : ℕ) : Type 0 where
 at_most : (passes : List ℕ → List ℕ → Bool) (text : List ℕ) (most : ℕ) → AtMost passes text most → (m : ℕ) → m ≤ length text → passes (take m text) (drop m text) ≡ true → m ≤ most
 at_most passes text most h m l e = let le : m ≤ h.length_of = h.longest.longest m l e in omega (arith, h.fits)
 
-pub longest_front : (text : List ℕ) (t : Kind × ℕ) → IsFound text t → AllAtMost text t.1 → IsLongestFront text t.0 t.1
+pub longest_front : (text : List ℕ) (t : TokenKind × ℕ) → IsFound text t → AllAtMost text t.1 → IsLongestFront text t.0 t.1
 longest_front text t h all = record { within = h.within; found = h.found; longest = longest }
   where
-    longest : (kind : Kind) (m : ℕ) → m ≤ length text → spells kind (take m text) (drop m text) ≡ true → m ≤ t.1
+    longest : (kind : TokenKind) (m : ℕ) → m ≤ length text → spells kind (take m text) (drop m text) ≡ true → m ≤ t.1
     longest End m l e = absurd (false≢true e)
     longest Other m l e = absurd (false≢true e)
     longest Label m l e = at_most (spells Label) text t.1 all.label m l e
@@ -65,7 +65,7 @@ longest_front text t h all = record { within = h.within; found = h.found; longes
 -- ---- what a text begins with
 
 -- no byte is no token
-pub spells-empty : (kind : Kind) (rest : List ℕ) → spells kind [] rest ≡ false
+pub spells-empty : (kind : TokenKind) (rest : List ℕ) → spells kind [] rest ≡ false
 unfolding is_label is_name is_plain_name is_word is_number is_negative is_register is_function is_group is_metadata is_quoted
 spells-empty End rest = refl
 spells-empty Other rest = refl
@@ -79,10 +79,10 @@ spells-empty Metadata rest = refl
 spells-empty Quoted rest = refl
 spells-empty Mark rest = refl
 
-pub longest_token : (text : List ℕ) (kind : Kind) (n : ℕ) → IsLongestFront text kind n → n ≢ 0 → IsLongestToken text kind n
+pub longest_token : (text : List ℕ) (kind : TokenKind) (n : ℕ) → IsLongestFront text kind n → n ≢ 0 → IsLongestToken text kind n
 longest_token text kind n h some = record { within = h.within; of_kind = h.found (omega arith); longest = h.longest }
 
-pub begins_token : (text : List ℕ) (kind : Kind) (n : ℕ) → IsLongestToken text kind n → Begins text kind n
+pub begins_token : (text : List ℕ) (kind : TokenKind) (n : ℕ) → IsLongestToken text kind n → Begins text kind n
 begins_token text End n h = absurd (false≢true h.of_kind)
 begins_token text Other n h = absurd (false≢true h.of_kind)
 begins_token text Label n h = h
@@ -95,14 +95,14 @@ begins_token text Metadata n h = h
 begins_token text Quoted n h = h
 begins_token text Mark n h = h
 
-pub begins_other : (text : List ℕ) (kind : Kind) (n : ℕ) → IsLongestFront text kind n → n ≡ 0 → length text ≢ 0 → begins_with is_bad text ≡ false → begins_with in_gap text ≡ false → Begins text Other 1
+pub begins_other : (text : List ℕ) (kind : TokenKind) (n : ℕ) → IsLongestFront text kind n → n ≡ 0 → length text ≢ 0 → begins_with is_bad text ≡ false → begins_with in_gap text ≡ false → Begins text Other 1
 begins_other text kind n h none some good no_gap = (record { visible = visible text some good no_gap; no_token = no_token }, refl)
   where
     visible : (text : List ℕ) → length text ≢ 0 → begins_with is_bad text ≡ false → begins_with in_gap text ≡ false → begins_with (λ b. not (is_bad b || in_gap b)) text ≡ true
     visible [] some good no_gap = absurd (some refl)
     visible (b ∷ text) some good no_gap = rw (good, no_gap) refl
 
-    no_token : (other : Kind) (m : ℕ) → m ≤ length text → spells other (take m text) (drop m text) ≡ false
+    no_token : (other : TokenKind) (m : ℕ) → m ≤ length text → spells other (take m text) (drop m text) ≡ false
     no_token other zero l = spells-empty other text
     no_token other (suc m) l = ⊎_elim
         (λ (e : spells other (take (suc m) text) (drop (suc m) text) ≡ true). absurd (let le : suc m ≤ n = h.longest other (suc m) l e in omega arith))

@@ -5,11 +5,11 @@ use Rattle.std.specs.List.{list_all}
 use Rattle.std.proofs.lemmas.Bool.{false≢true, eqb-true}
 use Rattle.std.proofs.lemmas.Slice.Eq.{bytes_eq-Decides}
 use Rattle.std.proofs.lemmas.List.Folds.{list_all-append}
-use Rattle.scan.specs.declared.ir.token.Kind.{Kind}
-use Rattle.scan.specs.declared.ir.token.Kind.TheVariants.{End, Other, Label, Word, Number, Register, Function, Group, Metadata, Quoted, Mark}
+use Rattle.scan.specs.declared.ir.token.TokenKind.{TokenKind}
+use Rattle.scan.specs.declared.ir.token.TokenKind.TheVariants.{End, Other, Label, Word, Number, Register, Function, Group, Metadata, Quoted, Mark}
 use Rattle.scan.specs.Bytes.{is_blank, is_space, is_printable, is_bad, is_digit, is_letter, begins_name, begins_word, is_name_byte, begins_with, is_run}
 use Rattle.scan.specs.Quoted.{is_quotable, in_quotes, is_quoted}
-use Rattle.scan.specs.Scanning.{in_gap}
+use Rattle.scan.specs.GapFronts.{in_gap}
 use Rattle.scan.specs.Lines.{between, feeds}
 use Rattle.scan.specs.RuleTokens.{is_among, is_literal}
 use Rattle.scan.specs.IrTokens.{is_name, is_behind, is_label, is_word, is_number, is_register, is_function, is_group, is_metadata, marks, spells, IsLongestToken, BeginsNoToken, Begins}
@@ -76,7 +76,7 @@ among_on_line (word ∷ words) bytes all e = ⊎_elim
     (λ (h : is_among words bytes ≡ true). among_on_line words bytes (and_right (on_line word) (list_all on_line words) all) h)
     (or_true (bytes_eq bytes word) (is_among words bytes) e)
 
-token_on_line : (kind : Kind) (bytes rest : List ℕ) → spells kind bytes rest ≡ true → on_line bytes ≡ true
+token_on_line : (kind : TokenKind) (bytes rest : List ℕ) → spells kind bytes rest ≡ true → on_line bytes ≡ true
 unfolding is_label is_word is_number is_literal is_register is_function is_group is_metadata is_name_byte begins_name is_letter is_digit
 token_on_line End bytes rest e = absurd (false≢true e)
 token_on_line Other bytes rest e = absurd (false≢true e)
@@ -95,7 +95,7 @@ token_on_line Quoted bytes rest e = quoted_on_line bytes e
 token_on_line Mark bytes rest e = among_on_line marks bytes refl e
 
 -- what a text begins with has no line feed
-begins_on_line : (text : List ℕ) (kind : Kind) (n : ℕ) → Begins text kind n → feeds (take n text) ≡ 0
+begins_on_line : (text : List ℕ) (kind : TokenKind) (n : ℕ) → Begins text kind n → feeds (take n text) ≡ 0
 unfolding is_bad is_printable is_space is_blank
 begins_on_line text kind n h = ⊎_elim
     (λ (t : IsLongestToken text kind n). no_feeds (take n text) (token_on_line kind (take n text) (drop n text) t.of_kind))
@@ -109,7 +109,7 @@ begins_on_line text kind n h = ⊎_elim
     other_on_line [] e = refl
     other_on_line (b ∷ text) e = and_both (not (eqb b 10)) true (ap not (other_than (λ c. not (is_bad c || in_gap c)) b 10 refl e)) refl
 
-pub token_feeds : (text : List ℕ) (start : ℕ) (kind : Kind) (n : ℕ) → Begins (drop start text) kind n → feeds (between text start (start + n)) ≡ 0
+pub token_feeds : (text : List ℕ) (start : ℕ) (kind : TokenKind) (n : ℕ) → Begins (drop start text) kind n → feeds (between text start (start + n)) ≡ 0
 token_feeds text start kind n h =
     let count : start + n - start ≡ n = omega arith in
     ap (λ (m : ℕ). feeds (take m (drop start text))) count ∙ begins_on_line (drop start text) kind n h

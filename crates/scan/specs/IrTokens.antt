@@ -1,12 +1,12 @@
 -- The tokens of modules of LLVM IR, and which bytes spell them (language reference, "Identifiers").
 use Rattle.std.specs.Prelude.{◌≡◌, ℕ, ◌-◌, ◌≤◌, ◌<◌, ◌==◌, Bool, true, false, not, ◌&&◌, ◌||◌, ◌⊎◌, List, [], ◌∷◌, length, take, drop, slice_index, codes}
 use Rattle.std.specs.List.{list_all, Contains}
-use Rattle.scan.specs.declared.ir.token.Kind.{Kind}
-use Rattle.scan.specs.declared.ir.token.Kind.TheVariants.{End, Other, Label, Word, Number, Register, Function, Group, Metadata, Quoted, Mark}
+use Rattle.scan.specs.declared.ir.token.TokenKind.{TokenKind}
+use Rattle.scan.specs.declared.ir.token.TokenKind.TheVariants.{End, Other, Label, Word, Number, Register, Function, Group, Metadata, Quoted, Mark}
 use Rattle.scan.specs.declared.ir.token.Token.{Token}
 use Rattle.scan.specs.Bytes.{is_bad, is_digit, begins_name, begins_word, is_name_byte, begins_with, is_run_behind, are_digits}
 use Rattle.scan.specs.Gaps.{IsGap, IsLastGap}
-use Rattle.scan.specs.Scanning.{in_gap}
+use Rattle.scan.specs.GapFronts.{in_gap}
 use Rattle.scan.specs.Lines.{between, line_of, last_line}
 use Rattle.scan.specs.Quoted.{is_quoted, in_quotes, unquoted}
 use Rattle.scan.specs.RuleTokens.{is_among, is_negative}
@@ -66,7 +66,7 @@ marks =
     codes "=" ∷ codes "," ∷ codes "(" ∷ codes ")" ∷ codes "{" ∷ codes "}" ∷ codes "[" ∷ codes "]" ∷ codes "<" ∷ codes "#" ∷ []
 
 -- the bytes are a token of the kind before the rest; no bytes are of two kinds
-abbrev pub spells : Kind → List ℕ → List ℕ → Bool
+abbrev pub spells : TokenKind → List ℕ → List ℕ → Bool
 spells End text rest = false
 spells Other text rest = false
 spells Label text rest = is_label text
@@ -82,24 +82,24 @@ spells Mark text rest = is_among marks text
 -- ---- what a text begins with
 
 -- the first n bytes are a token of the kind, and no more first bytes are a token
-pub record IsLongestToken (text : List ℕ) (kind : Kind) (n : ℕ) : Type 0 where
+pub record IsLongestToken (text : List ℕ) (kind : TokenKind) (n : ℕ) : Type 0 where
   pub within : n ≤ length text
   pub of_kind : spells kind (take n text) (drop n text) ≡ true
-  pub longest : (other : Kind) (m : ℕ) → m ≤ length text → spells other (take m text) (drop m text) ≡ true → m ≤ n
+  pub longest : (other : TokenKind) (m : ℕ) → m ≤ length text → spells other (take m text) (drop m text) ≡ true → m ≤ n
 
 -- the same, where n is 0 if no first bytes are a token
-pub record IsLongestFront (text : List ℕ) (kind : Kind) (n : ℕ) : Type 0 where
+pub record IsLongestFront (text : List ℕ) (kind : TokenKind) (n : ℕ) : Type 0 where
   pub within : n ≤ length text
   pub found : 0 < n → spells kind (take n text) (drop n text) ≡ true
-  pub longest : (other : Kind) (m : ℕ) → m ≤ length text → spells other (take m text) (drop m text) ≡ true → m ≤ n
+  pub longest : (other : TokenKind) (m : ℕ) → m ≤ length text → spells other (take m text) (drop m text) ≡ true → m ≤ n
 
 -- a byte that may stand begins no token
 pub record BeginsNoToken (text : List ℕ) : Type 0 where
   pub visible : begins_with (λ b. not (is_bad b || in_gap b)) text ≡ true
-  pub no_token : (kind : Kind) (m : ℕ) → m ≤ length text → spells kind (take m text) (drop m text) ≡ false
+  pub no_token : (kind : TokenKind) (m : ℕ) → m ≤ length text → spells kind (take m text) (drop m text) ≡ false
 
 -- The text begins with this, of n bytes: the longest token, the end, or one byte that begins no token. It begins with no gap.
-abbrev pub Begins : List ℕ → Kind → ℕ → Type 0
+abbrev pub Begins : List ℕ → TokenKind → ℕ → Type 0
 Begins text End n = (text ≡ []) × (n ≡ 0)
 Begins text Other n = BeginsNoToken text × (n ≡ 1)
 Begins text kind n = IsLongestToken text kind n
@@ -110,15 +110,15 @@ HoldsZero text = Contains (unquoted (in_quotes text)) 0
 
 -- the text begins with a byte that may not stand, or with a token that has a byte 0 in quotes
 abbrev pub BeginsBadly : List ℕ → Type 0
-BeginsBadly text = (begins_with is_bad text ≡ true) ⊎ ((kind : Kind) × (n : ℕ) × IsLongestToken text kind n × HoldsZero (take n text))
+BeginsBadly text = (begins_with is_bad text ≡ true) ⊎ ((kind : TokenKind) × (n : ℕ) × IsLongestToken text kind n × HoldsZero (take n text))
 
 -- what may stand before it
-abbrev pub IsGapBefore : Kind → List ℕ → Type 0
+abbrev pub IsGapBefore : TokenKind → List ℕ → Type 0
 IsGapBefore End gap = IsLastGap gap
 IsGapBefore kind gap = IsGap gap
 
 -- its line
-abbrev pub line_at : Kind → List ℕ → ℕ → ℕ
+abbrev pub line_at : TokenKind → List ℕ → ℕ → ℕ
 line_at End text start = last_line text
 line_at kind text start = line_of text start
 

@@ -9,4 +9,4 @@ pub mod Names
 pub mod Places
 pub mod Quoted
 pub mod RuleTokens
-pub mod Scanning
+pub mod GapFronts

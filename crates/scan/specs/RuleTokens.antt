@@ -7,7 +7,7 @@ use Rattle.scan.specs.declared.rule_token.RuleKind.TheVariants.{End, Other, Head
 use Rattle.scan.specs.declared.rule_token.RuleToken.{RuleToken}
 use Rattle.scan.specs.Bytes.{is_blank, is_bad, is_digit, is_letter, is_name_byte, is_word_byte, is_register_byte, begins_with, is_run_behind, are_digits}
 use Rattle.scan.specs.Gaps.{IsGap, IsLastGap}
-use Rattle.scan.specs.Scanning.{in_gap}
+use Rattle.scan.specs.GapFronts.{in_gap}
 use Rattle.scan.specs.Lines.{between, feeds, line_of, last_line}
 
 -- the bytes are one of the words

@@ -65,12 +65,12 @@ pub(crate) fn is_word_start(byte: u8) -> bool
     begins_name(byte) && byte != b'-'
 }
 
-/// Whether a byte may stand in a name. Lower-case letters and digits are asked for first, since most bytes of names are such.
+/// Whether a byte may stand in a name. Lower-case letters are asked for first, since most bytes of names are such.
 #[tactic(auto, unfolding(crate::specs::Bytes::is_name_byte, crate::specs::Bytes::begins_name, crate::specs::Bytes::is_letter))]
 pub(crate) fn is_name_byte(byte: u8) -> bool
     ensures { result ≡ bytes.is_name_byte byte }
 {
-    byte.is_ascii_lowercase() || is_digit(byte) || begins_name(byte)
+    byte.is_ascii_lowercase() || begins_name(byte) || is_digit(byte)
 }
 
 /// Whether a byte may stand in a word of a rule.

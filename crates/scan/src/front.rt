@@ -5,7 +5,7 @@ ghost use Rattle.scan.specs.Bytes as bytes;
 ghost use Rattle.scan.specs.Bytes.{begins_with};
 ghost use Rattle.scan.specs.Longest.{IsLongestOf};
 ghost use Rattle.scan.specs.RuleTokens.{kind_of, Begins};
-ghost use Rattle.scan.specs.Scanning.{in_gap};
+ghost use Rattle.scan.specs.GapFronts.{in_gap};
 
 use crate::begins::begins_bad;
 use crate::length::{arrow, head, mark, number, register, word};

@@ -5,7 +5,7 @@ ghost use Rattle.scan.specs.Bytes.{begins_with};
 ghost use Rattle.scan.specs.Gaps.{IsGap, IsLastGap};
 ghost use Rattle.scan.specs.Lines as lines;
 ghost use Rattle.scan.specs.Lines.{between};
-ghost use Rattle.scan.specs.Scanning.{behind_gap, in_gap};
+ghost use Rattle.scan.specs.GapFronts.{behind_gap, in_gap};
 
 use crate::bytes::is_blank;
 
@@ -19,15 +19,15 @@ fn gap_run(text: &[u8]) -> (usize, usize)
     let mut in_comment = false;
     let mut feeds = 0;
     for (i, byte) in text.iter().enumerate() {
-        if *byte == b'\n' {
-            in_comment = false;
-            feeds += 1;
-        } else if !in_comment {
-            if *byte == b';' {
-                in_comment = true;
-            } else if !is_blank(*byte) {
-                return (i, feeds);
+        match *byte {
+            blank if is_blank(blank) => {}
+            b'\n' => {
+                in_comment = false;
+                feeds += 1;
             }
+            b';' => in_comment = true,
+            _ if in_comment => {}
+            _ => return (i, feeds),
         }
     }
     (text.len(), feeds)

@@ -4,6 +4,4 @@ pub(crate) mod front;
 mod length;
 mod name;
 pub(crate) mod quoted;
-#[cfg(test)]
-mod tests;
 pub(crate) mod token;

@@ -21,7 +21,7 @@ mod span;
 pub use bad_byte::BadByte;
 pub use cursor::Cursor;
 pub use ir::quoted::unescaped;
-pub use ir::token::{Kind, Token};
+pub use ir::token::{Token, TokenKind};
 pub use laws::{
     every_bracket_is_closed_once, every_place_has_one_rule_token,
     every_place_of_a_module_has_one_token,
@@ -29,6 +29,3 @@ pub use laws::{
 pub use primary::ends_primary;
 pub use rule_token::{RuleKind, RuleToken};
 pub use span::Span;
-
-#[cfg(test)]
-mod tests;

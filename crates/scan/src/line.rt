@@ -2,12 +2,12 @@
 
 ghost use Rattle.std.specs.Prelude.{◌≡◌, ◌≢◌, ◌<◌, ◌⊎◌, length, take};
 ghost use Rattle.scan.specs.declared.rule_token.RuleKind.TheVariants as kinds;
-ghost use Rattle.scan.specs.declared.ir.token.Kind.TheVariants as ir_kinds;
+ghost use Rattle.scan.specs.declared.ir.token.TokenKind.TheVariants as ir_kinds;
 ghost use Rattle.scan.specs.IrTokens as ir;
 ghost use Rattle.scan.specs.Lines as lines;
 ghost use Rattle.scan.specs.RuleTokens.{line_at};
 
-use crate::ir::token::Kind;
+use crate::ir::token::TokenKind;
 use crate::rule_token::RuleKind;
 
 /// How many line feeds there are.
@@ -37,13 +37,13 @@ pub(crate) fn token_line(kind: RuleKind, text: &[u8], start: usize, before: usiz
 }
 
 /// The same for a token of a module.
-pub(crate) fn ir_token_line(kind: Kind, text: &[u8], start: usize, before: usize) -> usize
+pub(crate) fn ir_token_line(kind: TokenKind, text: &[u8], start: usize, before: usize) -> usize
     requires before { before ≡ lines.feeds (take start text.now) }
     requires within { ((kind ≢ ir_kinds.End) × (start < length text.now)) ⊎ ((kind ≡ ir_kinds.End) × (start ≡ length text.now)) }
     ensures { result ≡ ir.line_at kind text.now start }
 {
     match kind {
-        Kind::End if ends_line(text) => before,
+        TokenKind::End if ends_line(text) => before,
         _ => before + 1,
     }
 }

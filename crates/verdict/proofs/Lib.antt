@@ -2,3 +2,5 @@ pub mod Chain
 pub mod Examples
 pub mod InputBits
 pub mod Widths
+pub mod Lines
+pub mod Findings

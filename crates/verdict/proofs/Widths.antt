@@ -17,7 +17,7 @@ use Rattle.rule_core.proofs.Members.{class_stands, term_class_stands, source_sta
 use Rattle.rule_core.proofs.Unchosen.{undefined_source}
 use Rattle.blast_rule.specs.Gates.{root_width}
 use Rattle.blast_rule.specs.Parts.{number_held}
-use Rattle.verdict.specs.Reading.{IsWide}
+use Rattle.verdict.specs.WideWords.{IsWide}
 
 -- it is the width of an integer type
 abbrev IsWidth : ℕ → Type 0

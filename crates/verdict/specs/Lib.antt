@@ -1,3 +1,15 @@
+pub use Rattle.rule_core.specs.declared.rule.Rule
+pub use Rattle.rule_typing.specs.Classes
+pub use Rattle.rule_core.specs.Checks
+pub use Rattle.clauses.specs.ClauseSet
+pub use Rattle.cdcl_log.specs.Found
+pub use Rattle.rule_core.specs.Typing
 pub mod Honest
-pub mod Reading
+pub mod WideWords
 pub mod Laws
+pub mod Texts
+pub mod Findings
+pub mod Additions
+pub mod Verified
+pub mod Limits
+pub mod Table

@@ -4,10 +4,16 @@
 #![tactic(auto)]
 
 mod decision;
+mod example;
 mod laws;
 mod reading;
+mod text;
 mod verdict;
+mod verification;
+mod words;
 
 pub use decision::decide;
 pub use laws::few_bits_are_decided;
+pub use text::{push_too_many, push_verdict};
 pub use verdict::{Row, Table, Tried, Verdict};
+pub use verification::{MOST_TYPINGS, Verified, verify};

@@ -4,7 +4,7 @@ ghost use Rattle.std.specs.Prelude.{◌≡◌, ◌≤◌, ◌<◌, ◌^◌, Bool
 ghost use Rattle.circuits.specs.Word.{bit, number};
 ghost use Rattle.blast_value.specs.Effect.{effect_of};
 ghost use Rattle.blast_rule.specs.Parts.{number_held};
-ghost use Rattle.verdict.specs.Reading.{IsWide};
+ghost use Rattle.verdict.specs.WideWords.{IsWide};
 
 use blast_value::Blasted;
 use circuits::Bits;

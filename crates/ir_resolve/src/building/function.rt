@@ -4,14 +4,14 @@ ghost use Rattle.std.specs.Prelude.{◌≡◌, IfOk};
 ghost use Rattle.std.specs.List.{AllZip, AllByRecursion};
 ghost use Rattle.ir_resolve.specs.Means.{ParameterMeans, BlockIsOf, MeansBy};
 ghost use Rattle.ir_resolve.specs.Views.{known_by, CallsIn};
-ghost use Rattle.ir_resolve.specs.Known.{IsReadyBlock};
+ghost use Rattle.ir_resolve.specs.KnownNames.{IsReadyBlock};
 
 use crate::building::instruction::insts;
 use crate::building::terminator::terminator;
 use crate::building::text::{name_given, text, texts};
 use crate::names::Names;
 use ir_core::{Block, Function, Parameter};
-use ir_raw::{RawBlock, RawFunction, RawParameter};
+use ir_tokens::{RawBlock, RawFunction, RawParameter};
 use lists::List;
 use std::alloc::{AllocError, Global};
 

@@ -2,17 +2,17 @@
 
 ghost use Rattle.std.specs.Prelude.{map, IfOk};
 ghost use Rattle.std.specs.List.{AllZip, AllByRecursion};
-ghost use Rattle.ir_resolve.specs.Reading.{read_by, named_by};
-ghost use Rattle.ir_resolve.specs.Kinds.{IsUnknownValue};
+ghost use Rattle.ir_resolve.specs.TypedReads.{read_by, named_by};
+ghost use Rattle.ir_resolve.specs.FaultKinds.{IsUnknownValue};
 ghost use Rattle.ir_resolve.specs.Means.{IncomingMeans, OpMeans, InstMeans};
 ghost use Rattle.ir_resolve.specs.Views.{known_by, CallsIn};
-ghost use Rattle.ir_resolve.specs.Known.{ReadsAreKnown, TargetsAreKnown, IsReadyInst};
+ghost use Rattle.ir_resolve.specs.KnownNames.{ReadsAreKnown, TargetsAreKnown, IsReadyInst};
 
 use crate::building::operand::{operand, target};
 use crate::building::text::name;
 use crate::names::{Names, result_width};
 use ir_core::{Inst, Op, Operand};
-use ir_raw::{RawIncoming, RawInst, RawOp};
+use ir_tokens::{RawIncoming, RawInst, RawOp};
 use lists::List;
 use std::alloc::{AllocError, Global};
 

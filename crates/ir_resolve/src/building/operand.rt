@@ -1,14 +1,13 @@
 //! Operands and the names of blocks, which are there.
 
-ghost use Rattle.ir_resolve.specs.Kinds.{IsUnknownValue, IsUnknownBlock};
+ghost use Rattle.ir_resolve.specs.FaultKinds.{IsUnknownValue, IsUnknownBlock};
 ghost use Rattle.ir_resolve.specs.Means.{ValueMeans, BlockMeans};
 ghost use Rattle.ir_resolve.specs.Views.{known_by, CallsIn};
 
-use crate::literal::truth;
 use crate::names::{Names, block, register};
 use ir_core::Operand;
-use ir_raw::RawValue;
-use ir_tokens::Identifier;
+use ir_tokens::{Identifier, RawValue};
+use ops::Word;
 
 /// What a value is.
 pub(crate) fn operand(names: &Names<'_>, value: &RawValue) -> Operand
@@ -21,8 +20,8 @@ pub(crate) fn operand(names: &Names<'_>, value: &RawValue) -> Operand
             None => unreachable!(),
         },
         RawValue::Number(word) => Operand::Number(*word),
-        RawValue::True => Operand::Number(truth(true)),
-        RawValue::False => Operand::Number(truth(false)),
+        RawValue::True => Operand::Number(Word::truth(true)),
+        RawValue::False => Operand::Number(Word::truth(false)),
         RawValue::Undef => Operand::Undef,
         RawValue::Poison => Operand::Poison,
     }

@@ -2,16 +2,16 @@
 
 ghost use Rattle.std.specs.Prelude.{◌≡◌, ◌≢◌, None, map, IfOk};
 ghost use Rattle.std.specs.List.{AllZip, AllByRecursion};
-ghost use Rattle.ir_resolve.specs.Kinds.{literal_of};
+ghost use Rattle.ir_resolve.specs.FaultKinds.{literal_of};
 ghost use Rattle.ir_resolve.specs.Means.{CaseMeans, EndMeans};
 ghost use Rattle.ir_resolve.specs.Views.{known_by, CallsIn};
-ghost use Rattle.ir_resolve.specs.Known.{TargetsAreKnown, IsReadyEnd};
+ghost use Rattle.ir_resolve.specs.KnownNames.{TargetsAreKnown, IsReadyEnd};
 
 use crate::building::operand::{operand, target};
 use crate::literal::literal;
 use crate::names::Names;
 use ir_core::Terminator;
-use ir_raw::{RawCase, RawTerminator, RawValue};
+use ir_tokens::{RawCase, RawTerminator, RawValue};
 use lists::List;
 use ops::Word;
 use std::alloc::{AllocError, Global};

@@ -4,8 +4,7 @@ ghost use Rattle.std.specs.Prelude.{◌≡◌, IfOk, Some};
 ghost use Rattle.std.specs.Option.{option_copied};
 ghost use Rattle.ir_resolve.specs.Written.{name_in, given};
 
-use ir_raw::RawIdentifier;
-use ir_tokens::Identifier;
+use ir_tokens::{Identifier, RawIdentifier};
 use lists::{List, Text};
 use std::alloc::{AllocError, Global};
 

@@ -1,14 +1,13 @@
 //! The parameters, blocks and results of a function as written.
 
 ghost use Rattle.std.specs.Prelude.{◌≡◌, ◌++◌, map, IfOk, OnOk, IfErr};
-ghost use Rattle.ir_resolve.specs.Kinds.{result_width as width_of_result};
+ghost use Rattle.ir_resolve.specs.FaultKinds.{result_width as width_of_result};
 ghost use Rattle.ir_resolve.specs.Views.{seen_definition};
 ghost use Rattle.ir_resolve.specs.Definitions.{parameters_defined, results_defined, blocks_defined, definitions_of};
 
 use crate::fault::ResolveError;
-use crate::literal::one_bit;
 use ir_core::Register;
-use ir_raw::{RawBlock, RawFunction, RawIdentifier, RawInst, RawOp, RawParameter};
+use ir_tokens::{RawBlock, RawFunction, RawIdentifier, RawInst, RawOp, RawParameter};
 use ops::Width;
 use std::alloc::Global;
 
@@ -42,7 +41,7 @@ pub(crate) fn result_width(op: &RawOp) -> Width
 {
     match op {
         RawOp::Binary(_, _, width, _, _) => *width,
-        RawOp::Compare(_, _, _, _) => one_bit(),
+        RawOp::Compare(_, _, _, _) => Width::ONE,
         RawOp::Select(_, first, _) => first.width,
         RawOp::Convert(_, _, _, to) => *to,
         RawOp::Freeze(width, _) => *width,

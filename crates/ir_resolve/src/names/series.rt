@@ -3,16 +3,15 @@
 ghost use Rattle.std.specs.Prelude.{◌≡◌, ℕ, [], ◌∷◌, map, IfOk};
 ghost use Rattle.std.specs.Option.{option_copied};
 ghost use Rattle.ir_core.specs.Names.{identifiers_from};
-ghost use Rattle.ir_resolve.specs.Firsts.{IsFirst};
+ghost use Rattle.ir_resolve.specs.FirstLines.{IsFirst};
 ghost use Rattle.ir_resolve.specs.Written.{given};
-ghost use Rattle.ir_resolve.specs.Kinds.{IsMisnumbered, MisnumbersHere};
+ghost use Rattle.ir_resolve.specs.FaultKinds.{IsMisnumbered, MisnumbersHere};
 ghost use Rattle.ir_resolve.specs.Views.{seen, seen_written, AreKeysOf};
 
 use crate::least::lesser;
 use crate::names::definition::Definition;
 use crate::names::key::Key;
-use ir_raw::RawIdentifier;
-use ir_tokens::Identifier;
+use ir_tokens::{Identifier, RawIdentifier};
 use std::alloc::{AllocError, Global};
 
 /// How it is called for which this is written, where the next number of the series is this one.

@@ -4,8 +4,8 @@ ghost use Rattle.std.specs.Prelude.{◌≡◌, [], ◌∷◌, ◌++◌, ◌||◌
 ghost use Rattle.std.specs.List.{zip};
 ghost use Rattle.std.specs.Option.{option_copied};
 ghost use Rattle.ir_core.specs.Names.{Identifier as identifier};
-ghost use Rattle.ir_resolve.specs.Firsts.{IsFirst};
-ghost use Rattle.ir_resolve.specs.Kinds.{Repeats, HasName, IsWrittenOn};
+ghost use Rattle.ir_resolve.specs.FirstLines.{IsFirst};
+ghost use Rattle.ir_resolve.specs.FaultKinds.{Repeats, HasName, IsWrittenOn};
 ghost use Rattle.ir_resolve.specs.Views.{seen, seen_written, known_by, AreKeysOf, knows, same, entity_in, register_of, block_of};
 
 use crate::least::lesser;
@@ -13,8 +13,7 @@ use crate::names::definition::{Definition, Entity};
 use crate::names::key::Key;
 use indexmap::IndexMap;
 use ir_core::Register;
-use ir_raw::RawIdentifier;
-use ir_tokens::Identifier;
+use ir_tokens::{Identifier, RawIdentifier};
 use std::alloc::{AllocError, Global};
 
 /// What each name and number calls.

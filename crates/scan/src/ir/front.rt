@@ -6,16 +6,16 @@ ghost use Rattle.scan.specs.Bytes as bytes;
 ghost use Rattle.scan.specs.Bytes.{begins_with};
 ghost use Rattle.scan.specs.IrTokens.{IsLongestFront, Begins, BeginsBadly, HoldsZero};
 ghost use Rattle.scan.specs.Quoted.{is_quotable};
-ghost use Rattle.scan.specs.Scanning.{in_gap};
+ghost use Rattle.scan.specs.GapFronts.{in_gap};
 
 use crate::begins::{begins_bad, begins_byte, begins_module_word, begins_name_byte};
 use crate::ir::length::{function, group, label, mark, metadata, number, register};
 use crate::ir::name::{name, quoted};
 use crate::ir::quoted::holds_zero;
-use crate::ir::token::Kind;
+use crate::ir::token::TokenKind;
 
 /// The longer of two fronts of a text, the first where they are equally long.
-fn longer(first: (Kind, usize), second: (Kind, usize)) -> (Kind, usize)
+fn longer(first: (TokenKind, usize), second: (TokenKind, usize)) -> (TokenKind, usize)
     ensures one { (result ≡ first) ⊎ (result ≡ second) }
     ensures first { first.1 ≤ result.1 }
     ensures second { second.1 ≤ result.1 }
@@ -25,51 +25,57 @@ fn longer(first: (Kind, usize), second: (Kind, usize)) -> (Kind, usize)
 
 /// The longest label, word or number that a text begins with whose first byte is one of names, of 0 bytes where it begins with
 /// none. It is as long as the longest name, but for the `:` of a label.
-fn plain_token(text: &[u8]) -> (Kind, usize)
+fn plain_token(text: &[u8]) -> (TokenKind, usize)
     requires { begins_with bytes.is_name_byte text.now ≡ true }
     ensures longest { IsLongestFront text.now result.0 result.1 }
     ensures plain { list_all is_quotable (take result.1 text.now) ≡ true }
 {
     let name = name(text);
     if name > 0 && begins_byte(&text[name..], b':') {
-        (Kind::Label, name + 1)
+        (TokenKind::Label, name + 1)
     } else if begins_module_word(text) {
-        (Kind::Word, name)
+        (TokenKind::Word, name)
     } else {
-        (Kind::Number, number(text))
+        (TokenKind::Number, number(text))
     }
 }
 
 /// The longest label or quoted text that a text begins with whose first byte is a quote, of 0 bytes where it begins with none.
-fn quoted_token(text: &[u8]) -> (Kind, usize)
+fn quoted_token(text: &[u8]) -> (TokenKind, usize)
     requires { begins_with (λ b. b == 34) text.now ≡ true }
     ensures { IsLongestFront text.now result.0 result.1 }
 {
-    longer((Kind::Label, label(text)), (Kind::Quoted, quoted(text)))
+    longer(
+        (TokenKind::Label, label(text)),
+        (TokenKind::Quoted, quoted(text)),
+    )
 }
 
 /// The longest token that a text begins with whose first byte is neither one of names nor a quote, of 0 bytes where it begins
 /// with none.
-fn marked_token(text: &[u8]) -> (Kind, usize)
+fn marked_token(text: &[u8]) -> (TokenKind, usize)
     requires no_name { begins_with bytes.is_name_byte text.now ≡ false }
     requires no_quote { begins_with (λ b. b == 34) text.now ≡ false }
     ensures { IsLongestFront text.now result.0 result.1 }
 {
     if begins_byte(text, b'%') {
-        (Kind::Register, register(text))
+        (TokenKind::Register, register(text))
     } else if begins_byte(text, b'@') {
-        (Kind::Function, function(text))
+        (TokenKind::Function, function(text))
     } else if begins_byte(text, b'!') {
-        (Kind::Metadata, metadata(text))
+        (TokenKind::Metadata, metadata(text))
     } else if begins_byte(text, b'#') {
-        longer((Kind::Group, group(text)), (Kind::Mark, mark(text)))
+        longer(
+            (TokenKind::Group, group(text)),
+            (TokenKind::Mark, mark(text)),
+        )
     } else {
-        (Kind::Mark, mark(text))
+        (TokenKind::Mark, mark(text))
     }
 }
 
 /// The longest token that a text begins with whose first byte is none of names, of 0 bytes where it begins with none.
-fn other_token(text: &[u8]) -> (Kind, usize)
+fn other_token(text: &[u8]) -> (TokenKind, usize)
     requires { begins_with bytes.is_name_byte text.now ≡ false }
     ensures { IsLongestFront text.now result.0 result.1 }
 {
@@ -92,7 +98,7 @@ fn has_early_quote(text: &[u8]) -> bool
 
 /// The longest token that the text begins with, of 0 bytes where it begins with none; none where the first byte may not stand,
 /// or quotes of the token hold a byte 0.
-fn longest_token(text: &[u8]) -> Option<(Kind, usize)>
+fn longest_token(text: &[u8]) -> Option<(TokenKind, usize)>
     ensures bad { IfNone result (BeginsBadly text.now) }
     ensures good { OnSome result (begins_with bytes.is_bad text.now ≡ false) }
     ensures token { IfSome result (λ t. IsLongestFront text.now t.0 t.1) }
@@ -114,18 +120,18 @@ fn longest_token(text: &[u8]) -> Option<(Kind, usize)>
 
 /// What the text begins with, and how many bytes it has; none where the first byte may not stand, or quotes of the token hold
 /// a byte 0.
-pub(crate) fn front(text: &[u8]) -> Option<(Kind, usize)>
+pub(crate) fn front(text: &[u8]) -> Option<(TokenKind, usize)>
     requires { begins_with in_gap text.now ≡ false }
     ensures bad { IfNone result (BeginsBadly text.now) }
     ensures token { IfSome result (λ t. Begins text.now t.0 t.1) }
     ensures no_zero { IfSome result (λ t. ¬ HoldsZero (take t.1 text.now)) }
 {
     if text.is_empty() {
-        return Some((Kind::End, 0));
+        return Some((TokenKind::End, 0));
     }
     let found = longest_token(text)?;
     if found.1 == 0 {
-        Some((Kind::Other, 1))
+        Some((TokenKind::Other, 1))
     } else {
         Some(found)
     }

@@ -5,19 +5,8 @@ ghost use Rattle.scan.specs.IrTokens as tokens;
 ghost use Rattle.scan.specs.Longest.{IsLongest};
 ghost use Rattle.scan.specs.Quoted as quoted;
 
-use crate::begins::{begins_byte, begins_plain_name, behind};
+use crate::begins::{begins_byte, begins_digit, begins_plain_name, behind};
 use crate::run::{digit_run, name_run, quotable_run};
-
-/// Bytes of names of which the first is no digit.
-fn plain_name(text: &[u8]) -> usize
-    ensures { IsLongest (λ bytes _. tokens.is_plain_name bytes) text.now result }
-{
-    if begins_plain_name(text) {
-        name_run(text)
-    } else {
-        0
-    }
-}
 
 /// A quoted text, with its quotes.
 pub(crate) fn quoted(text: &[u8]) -> usize
@@ -38,5 +27,11 @@ pub(crate) fn quoted(text: &[u8]) -> usize
 pub(crate) fn name(text: &[u8]) -> usize
     ensures { IsLongest (λ bytes _. tokens.is_name bytes) text.now result }
 {
-    plain_name(text).max(digit_run(text)).max(quoted(text))
+    if begins_digit(text) {
+        digit_run(text)
+    } else if begins_plain_name(text) {
+        name_run(text)
+    } else {
+        quoted(text)
+    }
 }

@@ -4,7 +4,7 @@ use crate::span::Span;
 
 /// What kind of token stands in a module. The names and the literals are those of the language reference, "Identifiers".
 #[derive(Clone, Copy, Debug, PartialEq, Eq)]
-pub enum Kind {
+pub enum TokenKind {
     /// The end of the text.
     End,
     /// A printable byte that begins no token.
@@ -32,7 +32,7 @@ pub enum Kind {
 /// A token of a module.
 #[derive(Clone, Copy, Debug, PartialEq, Eq)]
 pub struct Token {
-    pub kind: Kind,
+    pub kind: TokenKind,
     /// The line that it stands on, counted from 1; at the end of the text the last line.
     pub line: usize,
     /// Its bytes, with `%`, `@`, `#`, `!`, `:` and quotes; none at the end of the text.

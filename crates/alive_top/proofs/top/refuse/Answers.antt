@@ -1,32 +1,30 @@
 use Rattle.std.proofs.Common.{◌≡◌, ◌⊎◌, ℕ, List, Result, Ok, Err, subst, inl, inr}
 use Rattle.std.specs.Prelude.{MatchResult, IfOk}
+use Rattle.outside.specs.Sink.{SinkState}
 use Rattle.alive_top.specs.declared.status.Status.{Status}
 use Rattle.alive_top.specs.declared.status.Status.TheVariants.{RuleRefused, ModuleRefused, ReadFault}
 use Rattle.alive_top.specs.Lines.{rules_line, module_line, read_fault_line}
-use Rattle.alive_top.specs.Endings.{Fed, fed, Took}
-use Rattle.alive_top.specs.Writing.{Says, SaysMemory}
+use Rattle.alive_top.specs.Puts.{Says, SaysMemory}
+use Rattle.alive_top.specs.Written.{Took}
 use Rattle.alive_top.proofs.top.refuse.Goals as goal
 
 -- a line that was made is the wanted one
-made : {A B : Type 0} (r : Result A B) (items : A → List ℕ) (wanted : List ℕ) (err : Fed) (status given : Status)
-    → MatchResult r (λ m. Says err status (items m) given) (λ _. SaysMemory err given) → IfOk r (λ m. items m ≡ wanted) → Says err status wanted given ⊎ SaysMemory err given
-made (Ok m) items wanted err status given h e = inl (h.0, subst (λ (line : List ℕ). Took err line) e h.1)
-made (Err x) items wanted err status given h e = inr h
+made : {A B : Type 0} (r : Result A B) (items : A → List ℕ) (wanted : List ℕ) (err err' : SinkState) (status given : Status)
+    → MatchResult r (λ m. Says err err' status (items m) given) (λ _. SaysMemory err err' given) → IfOk r (λ m. items m ≡ wanted) → Says err err' status wanted given ⊎ SaysMemory err err' given
+made (Ok m) items wanted err err' status given h e = inl (h.0, subst (λ (line : List ℕ). Took err err' line) e h.1)
+made (Err x) items wanted err err' status given h e = inr h
 
 pub returns-in-Rules-clause-answer : goal.returns-in-Rules-clause-answer
 returns-in-Rules-clause-answer g c =
-    let err = g.E.Sink in
-    let sink = fed (err.written c.args.err.now) (err.written c.put_made.new.err) (err.faults c.args.err.now) (err.faults c.put_made.new.err) in
-    rw c.in-Rules.is (made c.rules_line.result (λ m. m.items) (rules_line c.in-Rules.fault) sink RuleRefused c.put_made.result c.put_made.ensures.answer c.rules_line.ensures)
+    let state = g.E.Sink.state in
+    rw c.in-Rules.is (made c.rules_line.result (λ m. m.items) (rules_line c.in-Rules.fault) (state c.args.err.now) (state c.put_made.new.err) RuleRefused c.put_made.result c.put_made.ensures.answer c.rules_line.ensures)
 
 pub returns-in-Module-clause-answer : goal.returns-in-Module-clause-answer
 returns-in-Module-clause-answer g c =
-    let err = g.E.Sink in
-    let sink = fed (err.written c.args.err.now) (err.written c.put_made-in-Module.new.err) (err.faults c.args.err.now) (err.faults c.put_made-in-Module.new.err) in
-    rw c.in-Module.is (made c.module_line.result (λ m. m.items) (module_line c.in-Module.fault) sink ModuleRefused c.put_made-in-Module.result c.put_made-in-Module.ensures.answer c.module_line.ensures)
+    let state = g.E.Sink.state in
+    rw c.in-Module.is (made c.module_line.result (λ m. m.items) (module_line c.in-Module.fault) (state c.args.err.now) (state c.put_made-in-Module.new.err) ModuleRefused c.put_made-in-Module.result c.put_made-in-Module.ensures.answer c.module_line.ensures)
 
 pub returns-in-Read-clause-answer : goal.returns-in-Read-clause-answer
 returns-in-Read-clause-answer g c =
-    let err = g.E.Sink in
-    let sink = fed (err.written c.args.err.now) (err.written c.put_made-in-Read.new.err) (err.faults c.args.err.now) (err.faults c.put_made-in-Read.new.err) in
-    rw c.in-Read.is (made c.read_fault_line.result (λ m. m.items) (read_fault_line c.in-Read.name.now) sink ReadFault c.put_made-in-Read.result c.put_made-in-Read.ensures.answer c.read_fault_line.ensures)
+    let state = g.E.Sink.state in
+    rw c.in-Read.is (made c.read_fault_line.result (λ m. m.items) (read_fault_line c.in-Read.name.now) (state c.args.err.now) (state c.put_made-in-Read.new.err) ReadFault c.put_made-in-Read.result c.put_made-in-Read.ensures.answer c.read_fault_line.ensures)

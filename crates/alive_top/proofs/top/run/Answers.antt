@@ -1,17 +1,27 @@
 use Rattle.std.proofs.Common.{refl, sym, subst}
-use Rattle.alive_top.specs.Tasks.{task_of}
-use Rattle.alive_top.specs.Asking.{asked}
-use Rattle.alive_top.specs.Endings.{fed, EndsWith}
-use Rattle.alive_top.proofs.Endings.{refused_ends}
+use Rattle.alive_top.specs.Task.{task_of}
+use Rattle.alive_top.specs.Ends.{EndsWith}
+use Rattle.alive_top.specs.Answers.{seen_work}
+use Rattle.alive_top.proofs.Endings.{refused_ends, written_ends, written_worked}
 use Rattle.alive_top.proofs.top.run.Goals as goal
+
+pub returns-in-Ok-clause-ends : goal.returns-in-Ok-clause-ends
+returns-in-Ok-clause-ends g c =
+    written_ends (task_of c.args.command) (g.F.Files.state c.args.files.now) (g.F.Files.state c.perform.new.files)
+    (g.O.Sink.state c.args.out.now) (g.O.Sink.state c.write-status.new.out) (g.E.Sink.state c.args.err.now) (g.E.Sink.state c.write-status.new.err)
+    (record { status = c.write-status.result; table = c.in-Ok.work.table }) (seen_work c.in-Ok.work) c.write-status.result c.in-Ok.ensures.answer refl c.write-status.ensures.answer
+
+pub returns-in-Ok-clause-untouched : goal.returns-in-Ok-clause-untouched
+returns-in-Ok-clause-untouched g c = λ stays. absurd (stays
+    (written_worked (task_of c.args.command) (g.F.Files.state c.args.files.now) (g.F.Files.state c.perform.new.files)
+    (g.O.Sink.state c.args.out.now) (g.O.Sink.state c.write-status.new.out) (g.E.Sink.state c.args.err.now) (g.E.Sink.state c.write-status.new.err)
+    (record { status = c.write-status.result; table = c.in-Ok.work.table }) (seen_work c.in-Ok.work) c.write-status.result c.in-Ok.ensures.answer c.write-status.ensures.answer))
 
 pub returns-in-Err-clause-ends : goal.returns-in-Err-clause-ends
 returns-in-Err-clause-ends g c =
-    let files = g.F.Files in
-    let out = g.O.Sink in
-    let err = g.E.Sink in
-    let a = asked (files.bytes_under c.args.files.now) (files.names_asked c.args.files.now) (files.names_asked c.perform.new.files) (files.faults c.args.files.now) (files.faults c.perform.new.files) in
-    let out_fed = fed (out.written c.args.out.now) (out.written c.args.out.now) (out.faults c.args.out.now) (out.faults c.args.out.now) in
-    let err_fed = fed (err.written c.args.err.now) (err.written c.refuse.new.err) (err.faults c.args.err.now) (err.faults c.refuse.new.err) in
-    subst (EndsWith a (task_of c.args.command) out_fed err_fed c.ended.result) (sym c.ended.ensures.status)
-    (refused_ends a (task_of c.args.command) out_fed err_fed c.ended.result c.in-Err.refusal c.refuse.result c.in-Err.ensures.answer refl c.ended.ensures.none c.refuse.ensures.answer)
+    let files = g.F.Files.state in
+    let out = g.O.Sink.state c.args.out.now in
+    let err = g.E.Sink.state in
+    subst (EndsWith (task_of c.args.command) (files c.args.files.now) (files c.perform.new.files) out out (err c.args.err.now) (err c.refuse.new.err) c.ended.result) (sym c.ended.ensures.status)
+    (refused_ends (task_of c.args.command) (files c.args.files.now) (files c.perform.new.files) out out (err c.args.err.now) (err c.refuse.new.err) c.ended.result
+    c.in-Err.refusal c.refuse.result c.in-Err.ensures.answer refl c.ended.ensures.none c.refuse.ensures.answer)

@@ -1,7 +1,9 @@
 use Rattle.std.proofs.Common.{◌≡◌, length, ap, arith}
 use Rattle.rule_core.proofs.Weights.{few_terms}
-use Rattle.blast_rule.specs.Gates.{terms_gates, choices_gates, widths_of_witness}
-use Rattle.blast_rule.proofs.Counts.{few_undefs, expressions_within, places_within}
+use Rattle.blast_term.specs.Gates.{terms_gates, choices_gates}
+use Rattle.blast_rule.specs.Gates.{widths_of_witness}
+use Rattle.blast_setting.proofs.Few.{few_undefs}
+use Rattle.blast_rule.proofs.Counts.{expressions_within, places_within}
 use Rattle.blast_rule.proofs.gates.witness_gates.Goals as goal
 
 pub terms_gates-requires-clause-few : goal.terms_gates-requires-clause-few

@@ -8,12 +8,13 @@ use Rattle.rule_core.specs.Valid.{Setting, HaveEffects}
 use Rattle.rule_core.proofs.Ready.{source_next}
 use Rattle.rule_core.proofs.Givens.{Contains-take}
 use Rattle.blast_value.specs.Effect.{IsOwn, effect_of}
-use Rattle.blast_rule.specs.declared.scope.Scope.{Scope}
+use Rattle.blast_term.specs.declared.scope.Scope.{Scope}
 use Rattle.blast_rule.specs.Gates.{run_gates, statement_gates, witness_gates}
-use Rattle.blast_rule.specs.Halves.{setting_held, AreTerms}
-use Rattle.blast_rule.specs.Parts.{number_held}
-use Rattle.blast_rule.specs.Running.{shape}
-use Rattle.blast_rule.proofs.Kept.{AllOwn-kept, AllAll-kept, IsOwnEffect-kept, numbers_held-kept}
+use Rattle.blast_setting.specs.SettingBits.{setting_held}
+use Rattle.blast_rule.specs.Runs.{AreTerms}
+use Rattle.blast_value.specs.Words.{number_held}
+use Rattle.blast_rule.specs.Runs.{shape}
+use Rattle.blast_value.proofs.Kept.{AllOwn-kept, AllAll-kept, IsOwnEffect-kept, numbers_held-kept}
 use Rattle.blast_rule.proofs.Scopes.{Reads, given_shape_of, seen_of}
 use Rattle.blast_rule.proofs.Shapes.{inputs_stand, constants_stand, undefs_stand, before_root_stands, source_stands, target_stands}
 use Rattle.blast_rule.proofs.Chosen.{witness_terms_held}

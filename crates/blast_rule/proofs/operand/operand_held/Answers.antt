@@ -6,8 +6,9 @@ use mir.Syntax.{w128}
 use Rattle.std.proofs.lemmas.Result.{IfOk-weaker}
 use Rattle.std.proofs.lemmas.Option.{slice_get_within, same_Some}
 use Rattle.blast_value.specs.Effect.{IsOwn}
-use Rattle.blast_rule.proofs.Reading.{register_ready, register_gives, held_at-own, width_told, literal_gives, truth_gives, digit-below, is_some, some_bits, constant_at, choice_at, term_at, constant_gives, choice_gives, term_gives, own_from_get}
-use Rattle.blast_rule.specs.Running.{seen}
+use Rattle.blast_rule.proofs.Reading.{register_ready, register_gives, held_at-own, width_told, literal_gives, truth_gives, digit-below, is_some, some_bits, constant_at, choice_at, term_at, constant_gives, choice_gives, term_gives}
+use Rattle.blast_term.proofs.Turns.{own_from_get}
+use Rattle.blast_term.specs.Scope.{seen}
 use Rattle.blast_rule.proofs.operand.operand_held.Goals as goal
 
 pub width_of-width-requires : goal.width_of-width-requires

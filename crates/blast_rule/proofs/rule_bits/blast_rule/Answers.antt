@@ -1,12 +1,14 @@
 use Rattle.std.proofs.Common.{◌≡◌, map, drop, sym, ap, ◌∙◌}
 use Rattle.circuits.proofs.Kept.{Keeps-trans, Adds-trans}
 use Rattle.blast_rule.specs.Gates.{given_gates, witness_gates, halves_gates, refusal_gates, root_width}
-use Rattle.blast_rule.specs.Halves.{setting_held, AreTerms}
-use Rattle.blast_rule.specs.Parts.{number_held}
-use Rattle.blast_rule.specs.Settings.{setting_of}
-use Rattle.blast_rule.proofs.Kept.{AllAll-kept, IsOwnEffect-kept, effect_of-kept}
-use Rattle.blast_rule.proofs.Settings.{read_fits}
-use Rattle.blast_rule.proofs.Whole.{refutes, setting-kept, setting_own-kept, effects-kept, gates_within, first_within, second_within, third_within, fourth_within}
+use Rattle.blast_setting.specs.SettingBits.{setting_held}
+use Rattle.blast_rule.specs.Runs.{AreTerms}
+use Rattle.blast_value.specs.Words.{number_held}
+use Rattle.blast_setting.specs.Settings.{setting_of}
+use Rattle.blast_value.proofs.Kept.{AllAll-kept, IsOwnEffect-kept, effect_of-kept}
+use Rattle.blast_setting.proofs.Settings.{read_fits}
+use Rattle.blast_rule.proofs.Whole.{refutes, effects-kept, gates_within, first_within, second_within, third_within, fourth_within}
+use Rattle.blast_setting.proofs.Made.{setting-kept, setting_own-kept}
 use Rattle.blast_rule.proofs.rule_bits.blast_rule.Goals as goal
 
 pub blast_given-requires-clause-widths : goal.blast_given-requires-clause-widths

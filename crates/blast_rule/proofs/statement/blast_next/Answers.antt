@@ -2,8 +2,8 @@ use Rattle.std.proofs.Common.{◌≡◌, false, sym, subst, ◌∙◌}
 use Rattle.circuits.proofs.Kept.{Adds-trans, Keeps-trans}
 use Rattle.rule_core.specs.Run.{StatementGives}
 use Rattle.blast_value.specs.Effect.{effect_of}
-use Rattle.blast_rule.specs.Running.{seen}
-use Rattle.blast_rule.proofs.Kept.{seen-kept}
+use Rattle.blast_term.specs.Scope.{seen}
+use Rattle.blast_term.proofs.Kept.{seen-kept}
 use Rattle.blast_rule.proofs.Statements.{effect-next}
 use Rattle.blast_rule.proofs.statement.blast_next.Goals as goal
 

@@ -4,8 +4,10 @@ use Rattle.std.proofs.lemmas.List.Elements.{All-push}
 use Rattle.circuits.proofs.Kept.{Adds-trans, Adds-weaken}
 use Rattle.rule_core.proofs.Ready.{target_next}
 use Rattle.blast_value.specs.Effect.{IsOwn}
-use Rattle.blast_rule.specs.Running.{shape, given_shape}
-use Rattle.blast_rule.proofs.Kept.{AllOwn-kept, scope_own-kept, given-kept}
+use Rattle.blast_rule.specs.Runs.{shape, given_shape}
+use Rattle.blast_value.proofs.Kept.{AllOwn-kept}
+use Rattle.blast_term.proofs.Kept.{scope_own-kept}
+use Rattle.blast_rule.proofs.Kept.{given-kept}
 use Rattle.blast_rule.proofs.Runs.{run_gates-more, run_gates-within, shapes_fit-push, stands, target_more, held_after}
 use Rattle.blast_rule.proofs.target.blast_statements.Goals as goal
 

@@ -6,8 +6,10 @@ use Rattle.rule_core.specs.Run.{temporaries_of}
 use Rattle.rule_core.proofs.Ready.{source_next}
 use Rattle.rule_core.proofs.Givens.{Contains-take}
 use Rattle.blast_value.specs.Effect.{IsOwn}
-use Rattle.blast_rule.specs.Running.{shape, given_shape}
-use Rattle.blast_rule.proofs.Kept.{AllOwn-kept, scope_own-kept, given-kept}
+use Rattle.blast_rule.specs.Runs.{shape, given_shape}
+use Rattle.blast_value.proofs.Kept.{AllOwn-kept}
+use Rattle.blast_term.proofs.Kept.{scope_own-kept}
+use Rattle.blast_rule.proofs.Kept.{given-kept}
 use Rattle.blast_rule.proofs.Runs.{run_gates-more, run_gates-fewer, shapes_fit-push, stands, own_none, source_more, held_after}
 use Rattle.blast_rule.proofs.temporaries.blast_temporaries.Goals as goal
 

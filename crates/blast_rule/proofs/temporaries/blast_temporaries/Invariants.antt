@@ -5,7 +5,8 @@ use Rattle.rule_core.specs.Run.{Given, Follows, holding_source}
 use Rattle.rule_core.specs.Readiness.{ValuesFit}
 use Rattle.blast_value.specs.Effect.{IsOwn}
 use Rattle.blast_rule.specs.Gates.{run_gates}
-use Rattle.blast_rule.specs.Running.{shape, holds, ending, IsGiven}
+use Rattle.blast_rule.specs.Runs.{shape, ending, IsGiven}
+use Rattle.blast_term.specs.Scope.{holds}
 use Rattle.blast_rule.proofs.temporaries.blast_temporaries.Given as goal
 
 abbrev pub invariant-loop-place : goal.invariant-loop-place

@@ -3,7 +3,7 @@ use Rattle.std.proofs.lemmas.Result.{IfOk-weaker}
 use Rattle.clap.specs.Words.{App, app_of, with_subcommand}
 use Rattle.clap.proofs.SimpleLemmas.{plain_fields}
 use Rattle.command_line.specs.Definition.{program, verify_shape, optimise_shape, run_shape}
-use Rattle.command_line.specs.Building.{IsLeaf}
+use Rattle.command_line.specs.Leaf.{IsLeaf}
 use Rattle.command_line.proofs.definition.definition.Goals as goal
 
 pub returns : goal.returns

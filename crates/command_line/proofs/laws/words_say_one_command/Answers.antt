@@ -1,10 +1,13 @@
-use Rattle.std.proofs.Common.{◌≡◌, ◌∙◌, ◌==◌, ℕ, false, List, Option, Some, None, ap, sym, slice_index, codes, refl, arith}
+use Rattle.std.proofs.Common.{◌≡◌, ◌∙◌, ◌==◌, ℕ, false, List, Option, Some, None, ap, ap₂, sym, slice_index, codes, refl, arith}
 use Rattle.std.proofs.lemmas.Bool.Decides.{nat_tests}
 use Rattle.command_line.specs.Widths.{widths_named}
 use Rattle.clap.specs.Words.{Row, Text}
 use Rattle.command_line.specs.Words.{SaysOf, command_and_rows}
 use Rattle.command_line.specs.Laws.{SameCommand}
 use Rattle.command_line.specs.declared.command.Command.{Command}
+use Rattle.command_line.specs.declared.command.OptimiseOptions.{OptimiseOptions}
+use Rattle.command_line.specs.declared.command.RunOptions.{RunOptions}
+use Rattle.command_line.specs.declared.command.VerifyOptions.{VerifyOptions}
 use Rattle.command_line.specs.declared.command.Command.TheVariants.{Verify, Optimise, Run}
 use Rattle.command_line.proofs.laws.words_say_one_command.Goals as goal
 
@@ -27,25 +30,31 @@ verify_run e = names_differ (codes "verify") (codes "run") 118 114 refl refl ref
 optimise_run : {A : Type 0} → codes "optimise" ≡ codes "run" → A
 optimise_run e = names_differ (codes "optimise") (codes "run") 111 114 refl refl refl e
 
+verify_options : (x y : VerifyOptions) → x.widths ≡ y.widths → x.conflicts ≡ y.conflicts → x ≡ y
+verify_options x y widths conflicts = ap₂ (λ (w : List ℕ) (n : ℕ). record { widths = w; conflicts = n }) widths conflicts
+
+optimise_options : (x y : OptimiseOptions) → x.conflicts ≡ y.conflicts → x.steps ≡ y.steps → x ≡ y
+optimise_options x y conflicts steps = ap₂ (λ (m n : ℕ). record { conflicts = m; steps = n }) conflicts steps
+
+run_options : (x y : RunOptions) → x.blocks ≡ y.blocks → x ≡ y
+run_options x y blocks = ap (λ (n : ℕ). record { blocks = n }) blocks
+
 one : (said : Option (Text × List Row)) (a b : Command) → SaysOf said a → SaysOf said b → SameCommand a b
 one None a b h k = absurd h
-one (Some said) (Verify rules widths conflicts) (Verify rules' widths' conflicts') h k =
+one (Some said) (Verify rules options) (Verify rules' options') h k =
     let x = h.1.width_list in
-    let y = k.1.width_list in (
-      same h.1.rules_file k.1.rules_file,
-      x.2.1 ∙ (ap widths_named (same x.1 y.1) ∙ sym y.2.1),
-      same h.1.most_conflicts k.1.most_conflicts,
-    )
-one (Some said) (Optimise rules source conflicts steps) (Optimise rules' source' conflicts' steps') h k =
-    (same h.1.rules_file k.1.rules_file, same h.1.module_file k.1.module_file, same h.1.most_conflicts k.1.most_conflicts, same h.1.most_steps k.1.most_steps)
-one (Some said) (Run source name arguments blocks) (Run source' name' arguments' blocks') h k =
-    (same h.1.module_file k.1.module_file, same h.1.function_name k.1.function_name, sym h.1.function_arguments ∙ k.1.function_arguments, same h.1.most_blocks k.1.most_blocks)
-one (Some said) (Verify rules widths conflicts) (Optimise rules' source' conflicts' steps') h k = verify_optimise (sym h.0 ∙ k.0)
-one (Some said) (Optimise rules source conflicts steps) (Verify rules' widths' conflicts') h k = verify_optimise (sym k.0 ∙ h.0)
-one (Some said) (Verify rules widths conflicts) (Run source name arguments blocks) h k = verify_run (sym h.0 ∙ k.0)
-one (Some said) (Run source name arguments blocks) (Verify rules widths conflicts) h k = verify_run (sym k.0 ∙ h.0)
-one (Some said) (Optimise rules source conflicts steps) (Run source' name arguments blocks) h k = optimise_run (sym h.0 ∙ k.0)
-one (Some said) (Run source name arguments blocks) (Optimise rules source' conflicts steps) h k = optimise_run (sym k.0 ∙ h.0)
+    let y = k.1.width_list in
+    (same h.1.rules_file k.1.rules_file, verify_options options options' (x.2.1 ∙ (ap widths_named (same x.1 y.1) ∙ sym y.2.1)) (same h.1.most_conflicts k.1.most_conflicts))
+one (Some said) (Optimise rules source options) (Optimise rules' source' options') h k =
+    (same h.1.rules_file k.1.rules_file, same h.1.module_file k.1.module_file, optimise_options options options' (same h.1.most_conflicts k.1.most_conflicts) (same h.1.most_steps k.1.most_steps))
+one (Some said) (Run source name arguments options) (Run source' name' arguments' options') h k =
+    (same h.1.module_file k.1.module_file, same h.1.function_name k.1.function_name, sym h.1.function_arguments ∙ k.1.function_arguments, run_options options options' (same h.1.most_blocks k.1.most_blocks))
+one (Some said) (Verify rules options) (Optimise rules' source' options') h k = verify_optimise (sym h.0 ∙ k.0)
+one (Some said) (Optimise rules source options) (Verify rules' options') h k = verify_optimise (sym k.0 ∙ h.0)
+one (Some said) (Verify rules options) (Run source name arguments options') h k = verify_run (sym h.0 ∙ k.0)
+one (Some said) (Run source name arguments options) (Verify rules' options') h k = verify_run (sym k.0 ∙ h.0)
+one (Some said) (Optimise rules source options) (Run source' name arguments options') h k = optimise_run (sym h.0 ∙ k.0)
+one (Some said) (Run source name arguments options) (Optimise rules source' options') h k = optimise_run (sym k.0 ∙ h.0)
 
 pub returns : goal.returns
 returns c = record { one = λ words a b h k. one (command_and_rows words) a b h k }

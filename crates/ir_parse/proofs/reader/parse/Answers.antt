@@ -1,6 +1,6 @@
 use Rattle.std.proofs.Common.{◌≤◌, length, arith}
 use Rattle.ir_tokens.specs.Order.{AreTokens}
-use Rattle.ir_tokens.specs.Seen.{seen}
+use Rattle.ir_tokens.specs.SeenTokens.{seen}
 use Rattle.ir_parse.specs.Text.{most_bytes}
 use Rattle.ir_parse.proofs.Verdicts.{answers}
 use Rattle.ir_parse.proofs.reader.parse.Goals as goal

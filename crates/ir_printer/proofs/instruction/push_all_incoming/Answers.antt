@@ -1,5 +1,5 @@
 use Rattle.std.proofs.Common.{codes}
-use Rattle.ir_text.specs.Printing.{incoming_text}
+use Rattle.ir_text.specs.PrintedText.{incoming_text}
 use Rattle.ir_printer.proofs.Printed.{join_more}
 use Rattle.ir_printer.proofs.instruction.push_all_incoming.Goals as goal
 

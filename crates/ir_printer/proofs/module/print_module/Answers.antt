@@ -1,6 +1,6 @@
 use Rattle.std.proofs.Common.{subst}
 use Rattle.std.proofs.lemmas.List.Elements.{All-more}
-use Rattle.ir_printer.specs.Few.{EntryHasFewNames}
+use Rattle.ir_printer.specs.FewNames.{EntryHasFewNames}
 use Rattle.ir_printer.proofs.Entries.{entries_more}
 use Rattle.ir_printer.proofs.module.print_module.Goals as goal
 

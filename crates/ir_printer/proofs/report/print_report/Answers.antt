@@ -1,10 +1,10 @@
-use Rattle.std.proofs.Common.{ap, ◌∙◌}
-use Rattle.std.specs.List.{flat_map}
-use Rattle.std.proofs.lemmas.List.{take_all}
-use Rattle.ir_printer.specs.Tallies.{entry_report}
-use Rattle.ir_printer.proofs.Entries.{lines_are}
+use Rattle.std.proofs.Common.{◌++◌, sym, ap, ◌∙◌, append-nil}
+use Rattle.std.proofs.lemmas.List.{drop_all}
+use Rattle.ir_printer.specs.Rest.{rest_of_report}
 use Rattle.ir_printer.proofs.report.print_report.Goals as goal
 
 pub returns : goal.returns
 returns c =
-    c.loop-entry.invariant ∙ ap (flat_map entry_report) (take_all c.loop-entry.entry-index c.as_slice-entry-items.result.now c.loop-entry-test.false ∙ c.as_slice-entry-items.ensures) ∙ lines_are c.args.m.now.entries
+    let out = c.loop-entry.out.items in
+    let rest = ap (λ es. out ++ rest_of_report es c.args.counts.now c.args.limited.now c.loop-entry.place) (drop_all c.loop-entry.entry-index c.as_slice-entry-items.result.now c.loop-entry-test.false) in
+    sym (append-nil out) ∙ sym rest ∙ c.loop-entry.invariant ∙ ap (λ es. rest_of_report es c.args.counts.now c.args.limited.now 0) c.as_slice-entry-items.ensures

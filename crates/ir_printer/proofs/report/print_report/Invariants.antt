@@ -1,7 +1,7 @@
-use Rattle.std.proofs.Common.{◌≡◌, take}
-use Rattle.std.specs.List.{flat_map}
-use Rattle.ir_printer.specs.Tallies.{entry_report}
+use Rattle.std.proofs.Common.{◌≡◌, ◌++◌, drop}
+use Rattle.ir_printer.specs.Rest.{rest_of_report}
 use Rattle.ir_printer.proofs.report.print_report.Given as goal
 
 abbrev pub invariant-loop-entry : goal.invariant-loop-entry
-invariant-loop-entry l = l.out.items ≡ flat_map entry_report (take l.entry-index l.entry-items)
+invariant-loop-entry l =
+    l.out.items ++ rest_of_report (drop l.entry-index l.entry-items) l.counts l.limited l.place ≡ rest_of_report l.entry-items l.counts l.limited 0

@@ -1,8 +1,8 @@
 -- the first line of a terminator so far
 use Rattle.ir_core.specs.declared.function.Function.{Function}
-use Rattle.ir_resolve.specs.Firsts.{IsFirst}
+use Rattle.ir_resolve.specs.FirstLines.{IsFirst}
 use Rattle.ir_resolve.proofs.Firsts.{Before}
-use Rattle.ir_reader.specs.Kinds.{EntryPredHere}
+use Rattle.ir_reader.specs.FlowFaults.{EntryPredHere}
 use Rattle.ir_reader.specs.Predecessors.{ArePredecessors}
 use Rattle.ir_reader.proofs.entry.named_entry.Given as goal
 

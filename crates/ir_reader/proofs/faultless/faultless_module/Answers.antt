@@ -2,8 +2,8 @@ use Rattle.std.proofs.Common.{◌∙◌, ◌<◌, ◌≤◌, [], length, refl, s
 use Rattle.std.specs.List.{list_any}
 use Rattle.std.specs.Str.{bytes_eq}
 use Rattle.std.proofs.lemmas.Bool.{false≢true}
-use Rattle.ir_reader.specs.Advancing.{Follows}
-use Rattle.ir_reader.specs.Marks.{HasText}
+use Rattle.ir_reader.specs.EntriesRead.{Follows}
+use Rattle.ir_reader.specs.RepeatedNames.{HasText}
 use Rattle.ir_reader.proofs.GoingOn.{block_behind, goes_on, is_module}
 use Rattle.ir_reader.proofs.Reading.{AreFirstEntries, first_entries_none}
 use Rattle.ir_reader.proofs.Repeats.{name_none}

@@ -1,6 +1,6 @@
 -- what is read so far is meant so far
 use Rattle.std.proofs.Common.{◌-◌, length}
-use Rattle.ir_reader.specs.Marks.{HasText}
+use Rattle.ir_reader.specs.RepeatedNames.{HasText}
 use Rattle.ir_reader.proofs.GoingOn.{GoesOn}
 use Rattle.ir_reader.proofs.faultless.faultless_module.Given as goal
 

@@ -1,5 +1,5 @@
 use Rattle.std.proofs.Common.{◌∙◌, sym}
-use Rattle.ir_tokens.specs.Seen.{seen}
+use Rattle.ir_tokens.specs.SeenTokens.{seen}
 use Rattle.ir_reader.proofs.Advancing.{end_is}
 use Rattle.ir_reader.proofs.following.end.Goals as goal
 

@@ -1,7 +1,7 @@
 use Rattle.std.proofs.Common.{subst}
 use Rattle.std.proofs.lemmas.Result.{IfOk-weaker}
-use Rattle.ir_tokens.specs.Seen.{seen}
-use Rattle.ir_reader.specs.Advancing.{IsWhole, IsEnd}
+use Rattle.ir_tokens.specs.SeenTokens.{seen}
+use Rattle.ir_reader.specs.EntriesRead.{IsWhole, IsEnd}
 use Rattle.ir_reader.proofs.Advancing.{Came, entry_follows, end_follows}
 use Rattle.ir_reader.proofs.following.next_entry.Goals as goal
 

@@ -1,7 +1,7 @@
 use Rattle.std.proofs.Common.{◌≡◌, [], length, ◌∙◌, sym, ap, Ok}
 use Rattle.std.proofs.lemmas.List.{nil_from_length}
 use Rattle.std.proofs.lemmas.Bool.{eqb-true}
-use Rattle.ir_tokens.specs.Seen.{seen}
+use Rattle.ir_tokens.specs.SeenTokens.{seen}
 use Rattle.ir_parse.proofs.FunctionReadings.{entry_at-is}
 use Rattle.ir_reader.proofs.following.whole_entry.Goals as goal
 

@@ -1,6 +1,6 @@
 -- the first line of a phi so far, and whether the instructions so far are phis
 use Rattle.std.proofs.Common.{◌↔◌, IsTrue}
-use Rattle.ir_resolve.specs.Firsts.{IsFirst}
+use Rattle.ir_resolve.specs.FirstLines.{IsFirst}
 use Rattle.ir_resolve.proofs.Firsts.{Before}
 use Rattle.ir_reader.specs.Predecessors.{BadPhiIn, FirstArePhis}
 use Rattle.ir_reader.proofs.phis.bad_phi_in.Given as goal

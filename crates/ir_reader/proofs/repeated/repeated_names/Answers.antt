@@ -2,7 +2,7 @@ use Rattle.std.proofs.Common.{ap, sym, subst, ◌∙◌, arith}
 use Rattle.std.specs.List.{list_any}
 use Rattle.std.specs.Str.{bytes_eq}
 use Rattle.std.proofs.lemmas.Bool.{false≢true}
-use Rattle.ir_reader.specs.Marks.{HasText}
+use Rattle.ir_reader.specs.RepeatedNames.{HasText}
 use Rattle.ir_reader.proofs.Places.{read_at}
 use Rattle.ir_reader.proofs.Repeats.{MarksFirst, name_none, mark_known, known_more, marks_none, marks_more, marks_all}
 use Rattle.ir_reader.proofs.repeated.repeated_names.Goals as goal

@@ -1,8 +1,8 @@
 -- the names of the functions so far, and their marks
 use Rattle.std.proofs.Common.{◌↔◌, ℕ, List, take}
-use Rattle.ir_resolve.specs.Kinds.{HasNameOf}
+use Rattle.ir_resolve.specs.FaultKinds.{HasNameOf}
 use Rattle.ir_reader.specs.Faults.{functions_of}
-use Rattle.ir_reader.specs.Marks.{HasText}
+use Rattle.ir_reader.specs.RepeatedNames.{HasText}
 use Rattle.ir_reader.proofs.Repeats.{MarksFirst}
 use Rattle.ir_reader.proofs.repeated.repeated_names.Given as goal
 

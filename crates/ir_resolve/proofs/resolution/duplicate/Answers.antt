@@ -1,7 +1,7 @@
 use Rattle.std.proofs.Common.{subst}
-use Rattle.ir_resolve.specs.Firsts.{IsFirst, SomeAt}
-use Rattle.ir_resolve.specs.Reading.{cases_of}
-use Rattle.ir_resolve.specs.Kinds.{Repeats, HasNumber, IsCaseOn}
+use Rattle.ir_resolve.specs.FirstLines.{IsFirst, SomeAt}
+use Rattle.ir_resolve.specs.TypedReads.{cases_of}
+use Rattle.ir_resolve.specs.FaultKinds.{Repeats, HasNumber, IsCaseOn}
 use Rattle.ir_resolve.proofs.Refusals.{duplicate_first, name_none}
 use Rattle.ir_resolve.proofs.resolution.duplicate.Goals as goal
 

@@ -1,8 +1,8 @@
 use Rattle.std.proofs.Common.{None, Some, subst}
 use Rattle.ir_resolve.specs.declared.fault.FaultKind.TheVariants.{Numbering, Duplicate}
-use Rattle.ir_resolve.specs.Firsts.{IsFirst}
+use Rattle.ir_resolve.specs.FirstLines.{IsFirst}
 use Rattle.ir_resolve.specs.Written.{written_names}
-use Rattle.ir_resolve.specs.Kinds.{DuplicateAt, Repeats, HasName, IsWrittenOn}
+use Rattle.ir_resolve.specs.FaultKinds.{DuplicateAt, Repeats, HasName, IsWrittenOn}
 use Rattle.ir_resolve.specs.Views.{known_by}
 use Rattle.ir_resolve.proofs.Tabling.{tabulates}
 use Rattle.ir_resolve.proofs.Refusals.{refused_at, clear_none, clear_1, misnumbered_first, repeated_first, table_is}

@@ -1,5 +1,5 @@
 use Rattle.std.proofs.Common.{arith}
-use Rattle.ir_resolve.specs.Kinds.{BlockClashesAt}
+use Rattle.ir_resolve.specs.FaultKinds.{BlockClashesAt}
 use Rattle.ir_resolve.proofs.Firsts.{first_more, first_all}
 use Rattle.ir_resolve.proofs.types.block_clash.Goals as goal
 

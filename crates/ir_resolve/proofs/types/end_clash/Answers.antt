@@ -1,6 +1,6 @@
 use Rattle.std.proofs.Common.{◌≡◌, subst}
-use Rattle.ir_resolve.specs.Firsts.{IsFirst, SomeAt}
-use Rattle.ir_resolve.specs.Kinds.{CaseClashes}
+use Rattle.ir_resolve.specs.FirstLines.{IsFirst, SomeAt}
+use Rattle.ir_resolve.specs.FaultKinds.{CaseClashes}
 use Rattle.ir_resolve.proofs.types.end_clash.Goals as goal
 
 pub returns-in-Switch : goal.returns-in-Switch

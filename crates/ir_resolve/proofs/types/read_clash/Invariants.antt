@@ -1,6 +1,6 @@
 use Rattle.std.proofs.Common.{map, take}
-use Rattle.ir_resolve.specs.Firsts.{IsFirst}
-use Rattle.ir_resolve.specs.Kinds.{ReadClashesIn}
+use Rattle.ir_resolve.specs.FirstLines.{IsFirst}
+use Rattle.ir_resolve.specs.FaultKinds.{ReadClashesIn}
 use Rattle.ir_resolve.specs.Views.{known_by, CallsRegisterIn}
 use Rattle.ir_resolve.specs.Uses.{seen_read}
 use Rattle.ir_resolve.proofs.types.read_clash.Given as goal

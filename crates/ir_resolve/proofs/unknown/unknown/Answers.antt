@@ -1,5 +1,5 @@
 use Rattle.std.proofs.Common.{map, subst}
-use Rattle.ir_resolve.specs.Firsts.{IsFirst, SomeAt}
+use Rattle.ir_resolve.specs.FirstLines.{IsFirst, SomeAt}
 use Rattle.ir_resolve.specs.Views.{known_by}
 use Rattle.ir_resolve.specs.Uses.{seen_read, seen_reads, seen_targets}
 use Rattle.ir_resolve.proofs.Firsts.{first_either}

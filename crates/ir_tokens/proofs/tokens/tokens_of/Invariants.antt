@@ -1,5 +1,5 @@
 use Rattle.std.proofs.Common.{◌≡◌, ◌-◌, ◌≤◌, length}
-use Rattle.ir_tokens.specs.Seen.{seen}
+use Rattle.ir_tokens.specs.SeenTokens.{seen}
 use Rattle.ir_tokens.proofs.Reading.{SoFar}
 use Rattle.ir_tokens.proofs.tokens.tokens_of.Given as goal
 

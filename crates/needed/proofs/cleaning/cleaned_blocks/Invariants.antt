@@ -1,5 +1,5 @@
-use Rattle.needed.specs.Cleaning.{kept_blocks}
-use Rattle.needed.specs.Numbering.{marks_by}
+use Rattle.needed.specs.KeptFunction.{kept_blocks}
+use Rattle.needed.specs.InstNumbers.{marks_by}
 use Rattle.needed.proofs.KeptLemmas.{Written}
 use Rattle.needed.proofs.cleaning.cleaned_blocks.Given as goal
 

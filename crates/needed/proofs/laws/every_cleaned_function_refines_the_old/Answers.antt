@@ -1,5 +1,4 @@
 use Rattle.needed.proofs.Matching.{cleaned_refines}
-use Rattle.needed.proofs.FormedFunctions.{cleaned_have_forms}
 use Rattle.needed.proofs.Checking.{cleaned_meets}
 use Rattle.needed.proofs.laws.every_cleaned_function_refines_the_old.Goals as goal
 
@@ -8,6 +7,3 @@ returns-clause-refines c = cleaned_refines
 
 pub returns-clause-checks : goal.returns-clause-checks
 returns-clause-checks c = cleaned_meets
-
-pub returns-clause-forms : goal.returns-clause-forms
-returns-clause-forms c = cleaned_have_forms

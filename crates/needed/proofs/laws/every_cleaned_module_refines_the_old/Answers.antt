@@ -1,4 +1,3 @@
-use Rattle.needed.proofs.FormedModules.{cleaned_modules}
 use Rattle.needed.proofs.Modules.{modules_refine, modules_meet}
 use Rattle.needed.proofs.laws.every_cleaned_module_refines_the_old.Goals as goal
 
@@ -7,6 +6,3 @@ returns-clause-refines c = modules_refine
 
 pub returns-clause-checks : goal.returns-clause-checks
 returns-clause-checks c = modules_meet
-
-pub returns-clause-forms : goal.returns-clause-forms
-returns-clause-forms c = cleaned_modules

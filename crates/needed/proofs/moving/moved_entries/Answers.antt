@@ -1,7 +1,7 @@
 use Rattle.std.proofs.Common.{◌≡◌, ◌<◌, ℕ, List, length, get_or, map, refl, subst, arith}
 use Rattle.ir_core.specs.declared.operand.Operand.{Operand}
-use Rattle.needed.specs.Cleaning.{moved_operand}
-use Rattle.needed.specs.Numbering.{IsNumbered, marks_by}
+use Rattle.needed.specs.KeptFunction.{moved_operand}
+use Rattle.needed.specs.InstNumbers.{IsNumbered, marks_by}
 use Rattle.needed.proofs.MarkLemmas.{numbered_entry}
 use Rattle.needed.proofs.KeptLemmas.{next_as_before}
 use Rattle.needed.proofs.moving.moved_entries.Goals as goal

@@ -1,6 +1,6 @@
 use Rattle.std.proofs.Common.{◌≡◌, ◌++◌, drop}
-use Rattle.rule_tokens.specs.Seen.{seen}
-use Rattle.rule_parse.specs.Limited.{limited_to, limited}
+use Rattle.rule_tokens.specs.SeenTokens.{seen}
+use Rattle.rule_parse.specs.CutTokens.{limited_to, limited}
 use Rattle.rule_parse.proofs.excess.limited.Given as goal
 
 -- what was kept, and what is still limited

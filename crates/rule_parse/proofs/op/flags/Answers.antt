@@ -1,5 +1,5 @@
 use Rattle.std.proofs.Common.{sym, ◌∙◌}
-use Rattle.rule_tokens.specs.Seen.{seen}
+use Rattle.rule_tokens.specs.SeenTokens.{seen}
 use Rattle.rule_tokens.proofs.Steps.{fails}
 use Rattle.rule_parse.proofs.Loops.{flags-more, flags-again}
 use Rattle.rule_parse.proofs.OpSpellings.{flags_done}

@@ -1,7 +1,7 @@
 use Rattle.std.proofs.Common.{◌≡◌, length}
 use Rattle.ops.specs.Flags.{no_flags}
-use Rattle.rule_parse.specs.Parsing.{flags_at}
-use Rattle.rule_tokens.specs.Seen.{seen}
+use Rattle.rule_parse.specs.RuleReaders.{flags_at}
+use Rattle.rule_tokens.specs.SeenTokens.{seen}
 use Rattle.rule_parse.proofs.op.flags.Given as goal
 
 abbrev pub invariant-loop-flag : goal.invariant-loop-flag

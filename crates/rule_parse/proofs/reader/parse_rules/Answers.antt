@@ -1,9 +1,9 @@
 use Rattle.std.proofs.Common.{◌≡◌, List, subst}
-use Rattle.rule_tokens.specs.Giving.{Gives}
-use Rattle.rule_tokens.specs.Seen.{seen}
+use Rattle.rule_tokens.specs.Gives.{Gives}
+use Rattle.rule_tokens.specs.SeenTokens.{seen}
 use Rattle.rule_tokens.specs.Tokens.{Token, AreTokens}
-use Rattle.rule_parse.specs.Limited.{limited}
-use Rattle.rule_parse.specs.Parsing.{all_rules}
+use Rattle.rule_parse.specs.CutTokens.{limited}
+use Rattle.rule_parse.specs.RuleReaders.{all_rules}
 use Rattle.rule_parse.proofs.Verdicts.{answers}
 use Rattle.rule_parse.proofs.reader.parse_rules.Goals as goal
 

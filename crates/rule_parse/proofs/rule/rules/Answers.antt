@@ -2,7 +2,7 @@ use Rattle.std.proofs.Common.{◌≡◌, ◌≢◌, ◌∙◌, sym, length, arit
 use Rattle.std.proofs.lemmas.Bool.{eqb-true, eqb-false}
 use Rattle.std.proofs.lemmas.List.{length-map}
 use Rattle.std.proofs.lemmas.Result.{err_from_is_err_and}
-use Rattle.rule_tokens.specs.Seen.{seen_token, seen}
+use Rattle.rule_tokens.specs.SeenTokens.{seen_token, seen}
 use Rattle.rule_parse.proofs.Readings.{rule_at-shorter}
 use Rattle.rule_parse.proofs.Loops.{rules-more, rules-fault, rules-done}
 use Rattle.rule_parse.proofs.rule.rules.Goals as goal

@@ -1,6 +1,6 @@
 use Rattle.std.proofs.Common.{◌≡◌, length}
-use Rattle.rule_parse.specs.Parsing.{all_rules}
-use Rattle.rule_tokens.specs.Seen.{seen}
+use Rattle.rule_parse.specs.RuleReaders.{all_rules}
+use Rattle.rule_tokens.specs.SeenTokens.{seen}
 use Rattle.rule_parse.proofs.Loops.{with_rules}
 use Rattle.rule_parse.proofs.rule.rules.Given as goal
 

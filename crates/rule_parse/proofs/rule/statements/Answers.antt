@@ -1,6 +1,6 @@
 use Rattle.std.proofs.Common.{◌<◌, [], ◌∷◌, length, arith, length-append}
 use Rattle.std.proofs.lemmas.Result.{err_from_is_err_and}
-use Rattle.rule_tokens.specs.Seen.{seen}
+use Rattle.rule_tokens.specs.SeenTokens.{seen}
 use Rattle.rule_tokens.proofs.Steps.{fails}
 use Rattle.rule_parse.proofs.Loops.{statements-more, statements-fault, statements-full, statements-done}
 use Rattle.rule_parse.proofs.rule.statements.Goals as goal

@@ -1,6 +1,6 @@
 use Rattle.std.proofs.Common.{◌≡◌, ◌-◌, ◌≤◌, length}
-use Rattle.rule_parse.specs.Parsing.{statements_at}
-use Rattle.rule_tokens.specs.Seen.{seen}
+use Rattle.rule_parse.specs.RuleReaders.{statements_at}
+use Rattle.rule_tokens.specs.SeenTokens.{seen}
 use Rattle.rule_parse.proofs.Loops.{with_front}
 use Rattle.rule_parse.proofs.rule.statements.Given as goal
 

@@ -1,8 +1,8 @@
 use Rattle.std.proofs.lemmas.Result.{err_from_is_err_and}
 use Rattle.std.specs.Prelude.{codes}
-use Rattle.rule_tokens.specs.Seen.{seen}
+use Rattle.rule_tokens.specs.SeenTokens.{seen}
 use Rattle.rule_terms.proofs.ChainLemmas.{taken-more, taken-fault, taken-done, taken-smaller}
-use Rattle.rule_parse.specs.Parsing.{expression_at}
+use Rattle.rule_parse.specs.RuleReaders.{expression_at}
 use Rattle.rule_parse.proofs.Expressions.{expression_shortens}
 use Rattle.rule_parse.proofs.witness.more_expressions.Goals as goal
 

@@ -1,6 +1,6 @@
 use Rattle.std.proofs.Common.{◌≡◌, length}
-use Rattle.rule_tokens.specs.Seen.{seen}
-use Rattle.rule_parse.specs.Parsing.{more_expressions}
+use Rattle.rule_tokens.specs.SeenTokens.{seen}
+use Rattle.rule_parse.specs.RuleReaders.{more_expressions}
 use Rattle.rule_parse.proofs.witness.more_expressions.Given as goal
 
 abbrev pub invariant-loop-alloc : goal.invariant-loop-alloc

@@ -1,7 +1,7 @@
 -- those so far are bound
 use Rattle.std.proofs.Common.{take}
 use Rattle.rule_reader.specs.declared.place.Place.TheVariants as places
-use Rattle.rule_reader.specs.Kinds.{Each, TermIsBound}
+use Rattle.rule_reader.specs.FaultKinds.{Each, TermIsBound}
 use Rattle.rule_reader.proofs.bound.expressions_are_bound.Given as goal
 
 abbrev pub invariant-loop-expression : goal.invariant-loop-expression

@@ -1,6 +1,6 @@
 -- those so far are bound
 use Rattle.std.proofs.Common.{take}
-use Rattle.rule_reader.specs.Kinds.{Each, FormulaIsBound}
+use Rattle.rule_reader.specs.FaultKinds.{Each, FormulaIsBound}
 use Rattle.rule_reader.proofs.bound.formula_is_bound.Given as goal
 
 abbrev pub invariant-loop-node : goal.invariant-loop-node

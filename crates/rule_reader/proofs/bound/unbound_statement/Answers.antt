@@ -1,8 +1,8 @@
 use Rattle.std.proofs.Common.{arith, ap}
 use Rattle.std.proofs.Common.{length}
-use Rattle.rule_reader.specs.Kinds.{StatementUnbound}
-use Rattle.rule_reader.specs.Resolving.{half_of, place_in}
-use Rattle.rule_reader.specs.Kinds.{OpIsBound}
+use Rattle.rule_reader.specs.FaultKinds.{StatementUnbound}
+use Rattle.rule_reader.specs.KnownRules.{half_of, place_in}
+use Rattle.rule_reader.specs.FaultKinds.{OpIsBound}
 use Rattle.std.proofs.Common.{subst}
 use Rattle.rule_reader.proofs.Firsts.{first_here, first_none, none_more}
 use Rattle.rule_reader.proofs.Looking.{says, denies}

@@ -1,6 +1,6 @@
 -- of the statements so far none names what is not there
-use Rattle.rule_reader.specs.Kinds.{StatementUnbound}
-use Rattle.rule_reader.specs.Resolving.{half_of, place_in}
+use Rattle.rule_reader.specs.FaultKinds.{StatementUnbound}
+use Rattle.rule_reader.specs.KnownRules.{half_of, place_in}
 use Rattle.rule_reader.proofs.Firsts.{NoneBefore}
 use Rattle.rule_reader.proofs.bound.unbound_statement.Given as goal
 

@@ -1,5 +1,5 @@
 -- no statement so far is one
-use Rattle.rule_reader.specs.Kinds.{AssignsAgain}
+use Rattle.rule_reader.specs.FaultKinds.{AssignsAgain}
 use Rattle.rule_reader.proofs.Firsts.{NoneBefore}
 use Rattle.rule_reader.proofs.checks.assigned_again.Given as goal
 

@@ -2,7 +2,7 @@
 use Rattle.std.proofs.Common.{◌≡◌, ℕ, ◌<◌, ◌≤◌, Some}
 use Rattle.std.specs.Prelude.{slice_get}
 use Rattle.rule_parse.specs.declared.raw.RawStatement.{RawStatement}
-use Rattle.rule_reader.specs.Naming.{Uses}
+use Rattle.rule_reader.specs.Meaning.{Uses}
 use Rattle.rule_reader.proofs.checks.is_used_from.Given as goal
 
 abbrev pub invariant-loop-later : goal.invariant-loop-later

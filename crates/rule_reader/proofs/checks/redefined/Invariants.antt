@@ -1,5 +1,5 @@
 -- no statement so far is one
-use Rattle.rule_reader.specs.Kinds.{Redefines}
+use Rattle.rule_reader.specs.FaultKinds.{Redefines}
 use Rattle.rule_reader.proofs.Firsts.{NoneBefore}
 use Rattle.rule_reader.proofs.checks.redefined.Given as goal
 

@@ -1,5 +1,5 @@
 -- no statement so far is one
-use Rattle.rule_reader.specs.Kinds.{IsUnused}
+use Rattle.rule_reader.specs.FaultKinds.{IsUnused}
 use Rattle.rule_reader.proofs.Firsts.{NoneBefore}
 use Rattle.rule_reader.proofs.checks.unused.Given as goal
 

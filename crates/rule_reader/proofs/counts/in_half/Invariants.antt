@@ -1,7 +1,7 @@
 -- so many stand in the statements so far
 use Rattle.std.proofs.Common.{◌≡◌, take}
-use Rattle.rule_parse.specs.Inside.{arguments_among}
-use Rattle.rule_reader.specs.Naming.{past_all, no_counts}
+use Rattle.rule_parse.specs.Contents.{arguments_among}
+use Rattle.rule_reader.specs.Meaning.{past_all, no_counts}
 use Rattle.rule_reader.proofs.counts.in_half.Given as goal
 
 abbrev pub invariant-loop-statement : goal.invariant-loop-statement

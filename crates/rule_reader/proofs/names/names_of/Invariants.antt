@@ -1,6 +1,6 @@
 -- the names among what the statements so far read
 use Rattle.std.proofs.Common.{take}
-use Rattle.rule_parse.specs.Inside.{arguments_among}
+use Rattle.rule_parse.specs.Contents.{arguments_among}
 use Rattle.rule_reader.specs.Inputs.{AreNamesAmong}
 use Rattle.rule_reader.proofs.names.names_of.Given as goal
 

@@ -1,7 +1,7 @@
 -- the nodes so far, and those of their terms
 use Rattle.std.proofs.Common.{take}
-use Rattle.rule_parse.specs.Inside.{target_terms}
-use Rattle.rule_reader.specs.Naming.{nodes_in, TermsMean}
+use Rattle.rule_parse.specs.Contents.{target_terms}
+use Rattle.rule_reader.specs.Meaning.{nodes_in, TermsMean}
 use Rattle.rule_reader.proofs.Nodes.{FormulasMean}
 use Rattle.rule_reader.proofs.Steps.{upto}
 use Rattle.rule_reader.proofs.precondition.formula.Given as goal

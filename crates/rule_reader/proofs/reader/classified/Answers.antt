@@ -1,6 +1,6 @@
 use Rattle.std.proofs.Common.{refl, subst, sym}
 use Rattle.rule_reader.specs.ClassFaults.{IsClassFault}
-use Rattle.rule_reader.specs.Refusing.{IfRefused}
+use Rattle.rule_reader.specs.Errors.{IfRefused}
 use Rattle.rule_reader.proofs.reader.classified.Goals as goal
 
 pub returns-in-Err-clause-refused : goal.returns-in-Err-clause-refused

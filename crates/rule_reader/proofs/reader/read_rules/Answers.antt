@@ -1,6 +1,6 @@
 use Rattle.std.proofs.Common.{subst, sym, arith, take}
 use Rattle.std.proofs.lemmas.Result.{err_from_is_err_and}
-use Rattle.rule_reader.specs.Refusing.{IfRefused}
+use Rattle.rule_reader.specs.Errors.{IfRefused}
 use Rattle.rule_reader.specs.Faults.{IsFault, too_long}
 use Rattle.rule_reader.proofs.Places.{read_at}
 use Rattle.rule_reader.proofs.Written.{written_well_formed}

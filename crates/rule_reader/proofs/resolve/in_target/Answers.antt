@@ -1,5 +1,5 @@
 use Rattle.std.proofs.Common.{subst}
-use Rattle.rule_reader.specs.Naming.{IsRoot}
+use Rattle.rule_reader.specs.Meaning.{IsRoot}
 use Rattle.rule_reader.proofs.Looking.{denies}
 use Rattle.rule_reader.proofs.Found.{found_in_target}
 use Rattle.rule_reader.proofs.resolve.in_target.Goals as goal

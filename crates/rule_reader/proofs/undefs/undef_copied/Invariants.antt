@@ -1,5 +1,5 @@
 -- none of the statements so far copies an `undef`
-use Rattle.rule_reader.specs.Kinds.{IsUndefCopy}
+use Rattle.rule_reader.specs.FaultKinds.{IsUndefCopy}
 use Rattle.rule_reader.proofs.Firsts.{NoneBefore}
 use Rattle.rule_reader.proofs.undefs.undef_copied.Given as goal
 

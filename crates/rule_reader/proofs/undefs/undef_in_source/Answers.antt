@@ -1,5 +1,5 @@
 use Rattle.std.proofs.Common.{arith}
-use Rattle.rule_reader.specs.Kinds.{ReadsUndefInside}
+use Rattle.rule_reader.specs.FaultKinds.{ReadsUndefInside}
 use Rattle.rule_reader.proofs.Places.{read_at}
 use Rattle.rule_reader.proofs.Firsts.{first_here, first_none, none_more}
 use Rattle.rule_reader.proofs.Looking.{says, denies}

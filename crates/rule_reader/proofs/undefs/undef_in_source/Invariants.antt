@@ -1,5 +1,5 @@
 -- none of the statements so far reads an `undef` inside
-use Rattle.rule_reader.specs.Kinds.{ReadsUndefInside}
+use Rattle.rule_reader.specs.FaultKinds.{ReadsUndefInside}
 use Rattle.rule_reader.proofs.Firsts.{NoneBefore}
 use Rattle.rule_reader.proofs.undefs.undef_in_source.Given as goal
 

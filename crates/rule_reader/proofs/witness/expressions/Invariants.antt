@@ -1,6 +1,6 @@
 -- the nodes of the expressions so far, and the last one of each
 use Rattle.std.proofs.Common.{◌≡◌, take}
-use Rattle.rule_reader.specs.Naming.{TermsMean, last_nodes}
+use Rattle.rule_reader.specs.Meaning.{TermsMean, last_nodes}
 use Rattle.rule_reader.proofs.witness.expressions.Given as goal
 
 abbrev pub invariant-loop-written : goal.invariant-loop-written

@@ -1,8 +1,8 @@
 use Rattle.std.proofs.lemmas.Result.{err_from_is_err_and}
 use Rattle.std.specs.Prelude.{codes}
-use Rattle.rule_tokens.specs.Seen.{seen}
+use Rattle.rule_tokens.specs.SeenTokens.{seen}
 use Rattle.rule_terms.specs.declared.raw.RawFormula.TheVariants as raw
-use Rattle.rule_terms.specs.FormulaReading.{joins, members_of, member_at}
+use Rattle.rule_terms.specs.FormulaReaders.{joins, members_of, member_at}
 use Rattle.rule_terms.specs.Formulas.{Within, Member, Members}
 use Rattle.rule_terms.proofs.ChainLemmas.{taken-more, taken-fault, taken-done, taken-smaller}
 use Rattle.rule_terms.proofs.FormulaReadings.{member_at-is, members_of-is, joins_shortens, reads_shorten, joins-read, joins-fault}

@@ -1,6 +1,6 @@
 use Rattle.std.proofs.Common.{◌≡◌, ◌+◌, ◌*◌, length}
-use Rattle.rule_tokens.specs.Seen.{seen}
-use Rattle.rule_terms.specs.FormulaReading.{member_at, more_members, more_alternatives}
+use Rattle.rule_tokens.specs.SeenTokens.{seen}
+use Rattle.rule_terms.specs.FormulaReaders.{member_at, more_members, more_alternatives}
 use Rattle.rule_terms.proofs.formula_reading.+formula.Given as goal
 
 -- one level of nesting counts more than all levels of operators

@@ -1,6 +1,6 @@
 use Rattle.std.proofs.Common.{◌≡◌, length}
-use Rattle.rule_tokens.specs.Seen.{seen}
-use Rattle.rule_terms.specs.FormulaReading.{outer_member_at, more_members}
+use Rattle.rule_tokens.specs.SeenTokens.{seen}
+use Rattle.rule_terms.specs.FormulaReaders.{outer_member_at, more_members}
 use Rattle.rule_terms.proofs.formula_reading.more_outer_members.Given as goal
 
 abbrev pub invariant-loop-alloc : goal.invariant-loop-alloc

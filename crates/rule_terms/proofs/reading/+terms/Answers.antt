@@ -1,7 +1,7 @@
 use Rattle.std.proofs.Common.{◌≡◌, suc, ◌-◌, sym, ◌∙◌, ap, length, arith}
 use Rattle.std.proofs.lemmas.Result.{err_from_is_err_and}
-use Rattle.rule_tokens.specs.Seen.{seen}
-use Rattle.rule_terms.specs.Parsing.{operand_at, primary_at}
+use Rattle.rule_tokens.specs.SeenTokens.{seen}
+use Rattle.rule_terms.specs.TermReaders.{operand_at, primary_at}
 use Rattle.rule_terms.proofs.Chains.{chain-more, chain-fault, chain-done, behind_at-tightest, behind-begun, behind-fault, primary-fault, primary-begun, primary-shallow}
 use Rattle.rule_terms.proofs.Meanings.{operator_at-is}
 use Rattle.rule_terms.proofs.Readings.{operand_shorter}

@@ -1,6 +1,6 @@
 use Rattle.std.proofs.Common.{◌≡◌, ◌+◌, ◌*◌, ◌-◌, length}
-use Rattle.rule_tokens.specs.Seen.{seen}
-use Rattle.rule_terms.specs.Parsing.{behind_at, operand_at, primary_at, whole_chain_at}
+use Rattle.rule_tokens.specs.SeenTokens.{seen}
+use Rattle.rule_terms.specs.TermReaders.{behind_at, operand_at, primary_at, whole_chain_at}
 use Rattle.rule_terms.proofs.reading.+terms.Given as goal
 
 -- one level more counts 2, and one nested more as much as all levels

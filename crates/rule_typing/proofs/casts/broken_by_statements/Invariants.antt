@@ -1,6 +1,6 @@
-use Rattle.rule_typing.specs.Fixing.{CastFits}
+use Rattle.rule_typing.specs.FixedWidths.{MeetsCastLine}
 use Rattle.rule_typing.proofs.Among.{SoFar}
 use Rattle.rule_typing.proofs.casts.broken_by_statements.Given as goal
 
 abbrev pub invariant-loop-statement : goal.invariant-loop-statement
-invariant-loop-statement l = SoFar (CastFits l.widths) l.statements l.statement-index
+invariant-loop-statement l = SoFar (MeetsCastLine l.widths) l.statements l.statement-index

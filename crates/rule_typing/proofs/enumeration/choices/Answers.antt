@@ -1,8 +1,8 @@
 use Rattle.std.proofs.Common.{◌≡◌, length, subst, arith}
 use Rattle.std.proofs.lemmas.List.{length_push}
 use Rattle.rule_typing.specs.Classes.{HasClasses}
-use Rattle.rule_typing.specs.Enumeration.{MayChoose}
-use Rattle.rule_typing.specs.Solving.{HasExactly}
+use Rattle.rule_typing.specs.AllTypings.{MayChoose}
+use Rattle.rule_typing.specs.Solutions.{HasExactly}
 use Rattle.rule_typing.proofs.Sets.{each_push}
 use Rattle.rule_typing.proofs.enumeration.choices.Goals as goal
 

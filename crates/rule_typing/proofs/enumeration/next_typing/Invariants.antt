@@ -1,6 +1,6 @@
 use Rattle.std.proofs.Common.{ℕ, ◌<◌, ◌≤◌, List, length, take}
 use Rattle.std.specs.Prelude.{slice_index}
-use Rattle.rule_typing.specs.Solving.{SolvesBehind}
+use Rattle.rule_typing.specs.Solutions.{SolvesBehind}
 use Rattle.rule_typing.proofs.enumeration.next_typing.Given as goal
 
 abbrev pub invariant-loop-place : goal.invariant-loop-place

@@ -2,7 +2,7 @@ use Rattle.std.proofs.Common.{◌≡◌, ◌↔◌, ◌≤◌, ℕ, Some, sym, a
 use Rattle.std.proofs.lemmas.Option.{same_Some}
 use Rattle.rule_core.specs.declared.rule.Rule.{Rule}
 use Rattle.rule_core.specs.Positions.{operands_in, terms_in, Fixed}
-use Rattle.rule_typing.specs.Fitting.{LiteralsFit, TermsFit, MayHaveWidth}
+use Rattle.rule_typing.specs.FittingWidths.{LiteralsFit, TermsFit, MayHaveWidth}
 use Rattle.rule_typing.proofs.Among.{says}
 use Rattle.rule_typing.proofs.fits.class_fits.Goals as goal
 

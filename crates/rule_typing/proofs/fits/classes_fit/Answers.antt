@@ -3,7 +3,7 @@ use Rattle.std.specs.Prelude.{slice_get}
 use Rattle.std.proofs.lemmas.Bool.{cases_eq}
 use Rattle.std.proofs.lemmas.Option.{get_or_from_slice_get, slice_get_within}
 use Rattle.rule_core.specs.declared.rule.Rule.{Rule}
-use Rattle.rule_typing.specs.Fitting.{MayHaveWidth}
+use Rattle.rule_typing.specs.FittingWidths.{MayHaveWidth}
 use Rattle.rule_typing.proofs.Among.{holds}
 use Rattle.rule_typing.proofs.fits.classes_fit.Goals as goal
 

@@ -1,6 +1,6 @@
 use Rattle.rule_core.specs.declared.rule.Statement.{Statement}
 use Rattle.rule_core.specs.Positions.{classes_of_statement}
-use Rattle.rule_typing.specs.Relabelling.{numbered_statement}
+use Rattle.rule_typing.specs.Relabelled.{numbered_statement}
 use Rattle.rule_typing.proofs.NumberedLists.{AreNumbered}
 use Rattle.rule_typing.proofs.relabelling.number_statements.Given as goal
 

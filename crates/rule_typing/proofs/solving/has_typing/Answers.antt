@@ -1,15 +1,15 @@
 use Rattle.std.proofs.Common.{◌<◌, length, arith, length-take}
 use Rattle.std.proofs.lemmas.List.{length-set}
 use Rattle.std.proofs.lemmas.Bool.{false≢true}
-use Rattle.rule_typing.specs.Solving.{HasExactly}
-use Rattle.rule_typing.specs.Fitting.{MayHaveWidth}
+use Rattle.rule_typing.specs.Solutions.{HasExactly}
+use Rattle.rule_typing.specs.FittingWidths.{MayHaveWidth}
 use Rattle.rule_typing.proofs.Slots.{exact_more, least_more, slots_of, answered, no_width}
 use Rattle.rule_typing.proofs.solving.has_typing.Goals as goal
 
-pub returns-in_default-above : goal.returns-in_default-above
-returns-in_default-above c = (
+pub returns-in_default : goal.returns-in_default
+returns-in_default c = (
   λ yes. absurd (false≢true yes),
-  λ (typing, is). absurd (no_width c.args.rule.now c.args.count c.loop-class.class c.widths_of_class-set.result c.requires.count c.loop-class-test.true c.widths_of_class-set.ensures c.in_default-above.ensures typing is),
+  λ (typing, is). absurd (no_width c.args.rule.now c.args.count c.loop-class.class c.widths_of_class-set.result c.requires.count c.loop-class-test.true c.widths_of_class-set.ensures c.in_default.ensures typing is),
 )
 
 pub loop-class-preserved : goal.loop-class-preserved
@@ -18,9 +18,9 @@ loop-class-preserved c =
     let widths_within : c.loop-class.class < length c.loop-class.widths = omega (arith, c.loop-class-test.true, c.requires.few, c.loop-class.invariant.widths_count) in
     record {
       sets_count = omega (arith, length-set c.loop-class.sets c.loop-class.class c.widths_of_class-set.result, c.loop-class.invariant.sets_count);
-      widths_count = omega (arith, length-set c.loop-class.widths c.loop-class.class c.in-Some-above.width, c.loop-class.invariant.widths_count);
+      widths_count = omega (arith, length-set c.loop-class.widths c.loop-class.class c.in-Some.width, c.loop-class.invariant.widths_count);
       exact = exact_more (λ k set. HasExactly set (MayHaveWidth c.args.rule.now k)) c.loop-class.sets c.loop-class.class c.widths_of_class-set.result sets_within c.widths_of_class-set.ensures c.loop-class.invariant.exact;
-      least = least_more c.loop-class.sets c.loop-class.widths c.loop-class.class c.in-Some-above.width c.widths_of_class-set.result sets_within widths_within c.in-Some-above.ensures c.loop-class.invariant.least;
+      least = least_more c.loop-class.sets c.loop-class.widths c.loop-class.class c.in-Some.width c.widths_of_class-set.result sets_within widths_within c.in-Some.ensures c.loop-class.invariant.least;
     }
 
 pub settle-requires-clause-classes : goal.settle-requires-clause-classes

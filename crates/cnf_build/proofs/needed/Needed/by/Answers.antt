@@ -1,7 +1,7 @@
 use Rattle.std.proofs.Common.{◌≡◌, ◌+◌, ◌-◌, ◌<◌, ◌≤◌, false, length, get_or, sym, subst, arith}
 use Rattle.std.proofs.lemmas.Option.{slice_get-get_or}
 use Rattle.aig.specs.declared.gate.Node.TheVariants.{Output}
-use Rattle.cnf_build.specs.Marks.{IsOperand, IsMarked}
+use Rattle.cnf_build.specs.NeededGates.{IsOperand, IsMarked}
 use Rattle.cnf_build.proofs.MarksLemmas.{MarkedFrom, Adds, Adds-operands, OperandsBelow-more, MarkedFrom-marked, MarkedFrom-skipped, AreNeeded-from, any_gate}
 use Rattle.cnf_build.proofs.needed.Needed.by.Goals as goal
 

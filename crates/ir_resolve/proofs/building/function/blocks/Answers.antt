@@ -3,7 +3,7 @@ use Rattle.std.specs.List.{AllZip, AllByRecursion}
 use Rattle.ir_resolve.specs.Written.{given}
 use Rattle.ir_resolve.specs.Means.{InstMeans, BlockIsOf}
 use Rattle.ir_resolve.specs.Views.{known_by, CallsIn}
-use Rattle.ir_resolve.specs.Known.{IsReadyInst, IsReadyBlock}
+use Rattle.ir_resolve.specs.KnownNames.{IsReadyInst, IsReadyBlock}
 use Rattle.ir_resolve.proofs.Zips.{zip_more, zip_all, each_at}
 use Rattle.ir_resolve.proofs.building.function.blocks.Goals as goal
 

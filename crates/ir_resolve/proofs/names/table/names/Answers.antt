@@ -3,7 +3,7 @@ use Rattle.std.proofs.lemmas.List.{length-map, take_all}
 use Rattle.std.specs.List.{zip}
 use Rattle.std.proofs.lemmas.Option.{slice_get_within}
 use Rattle.ir_resolve.specs.declared.names.definition.Entity.{Entity}
-use Rattle.ir_resolve.specs.Kinds.{RepeatsHere, HasName, IsWrittenOn}
+use Rattle.ir_resolve.specs.FaultKinds.{RepeatsHere, HasName, IsWrittenOn}
 use Rattle.ir_resolve.specs.Views.{seen, seen_written, known_by, knows}
 use Rattle.ir_resolve.proofs.Firsts.{first_more_place, first_all_places}
 use Rattle.ir_resolve.proofs.Keys.{length-keys}

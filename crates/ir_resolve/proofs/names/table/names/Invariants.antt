@@ -2,8 +2,8 @@
 use Rattle.std.proofs.Common.{◌≡◌, ◌↔◌, map, take, None, IsTrue}
 use Rattle.std.specs.List.{zip}
 use Rattle.ir_core.specs.Names.{Identifier}
-use Rattle.ir_resolve.specs.Firsts.{IsFirst}
-use Rattle.ir_resolve.specs.Kinds.{SomeHas, RepeatsHere, HasName, IsWrittenOn}
+use Rattle.ir_resolve.specs.FirstLines.{IsFirst}
+use Rattle.ir_resolve.specs.FaultKinds.{SomeHas, RepeatsHere, HasName, IsWrittenOn}
 use Rattle.ir_resolve.specs.Views.{seen, seen_written, known_by, knows, Is}
 use Rattle.ir_resolve.proofs.Firsts.{Before}
 use Rattle.ir_resolve.proofs.names.table.names.Given as goal

@@ -1,6 +1,6 @@
 use Rattle.std.proofs.Common.{take}
 use Rattle.std.specs.List.{flat_map}
-use Rattle.ir_resolve.specs.Reading.{read_by, named_by}
+use Rattle.ir_resolve.specs.TypedReads.{read_by, named_by}
 use Rattle.ir_resolve.specs.Uses.{Adds}
 use Rattle.ir_resolve.proofs.uses.Uses.add_block.Given as goal
 

@@ -1,5 +1,5 @@
 use Rattle.std.proofs.Common.{map, take}
-use Rattle.ir_resolve.specs.Reading.{typed}
+use Rattle.ir_resolve.specs.TypedReads.{typed}
 use Rattle.ir_resolve.specs.Uses.{Adds}
 use Rattle.ir_resolve.proofs.uses.Uses.add_incoming.Given as goal
 

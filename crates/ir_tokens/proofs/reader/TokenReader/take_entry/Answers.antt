@@ -1,7 +1,7 @@
 use Rattle.std.proofs.Common.{◌∙◌, ◌<◌, ◌≤◌, ◌++◌, true, false, length, sym, ap, subst, arith}
 use Rattle.std.proofs.lemmas.List.{append-nil, map_push}
-use Rattle.ir_tokens.specs.Reading.{MayBegin}
-use Rattle.ir_tokens.specs.Seen.{seen, seen_placed}
+use Rattle.ir_tokens.specs.ReaderPlaces.{MayBegin}
+use Rattle.ir_tokens.specs.SeenTokens.{seen, seen_placed}
 use Rattle.ir_tokens.proofs.Moving.{token_moves, token_within}
 use Rattle.ir_tokens.proofs.OneEntry.{Within, none_taken, none_begins, ends_with, goes_on_with}
 use Rattle.ir_tokens.proofs.Passing.{token_passed, last_passed}

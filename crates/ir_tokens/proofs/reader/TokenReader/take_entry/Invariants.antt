@@ -1,7 +1,7 @@
 -- the tokens that were taken stand behind those in front, and behind none of them an entry may begin
 use Rattle.std.proofs.Common.{◌≤◌, ℕ, List, ◌++◌, ◌-◌, length}
-use Rattle.ir_tokens.specs.Reading.{StandsIn, HasPassed}
-use Rattle.ir_tokens.specs.Seen.{seen}
+use Rattle.ir_tokens.specs.ReaderPlaces.{StandsIn, HasPassed}
+use Rattle.ir_tokens.specs.SeenTokens.{seen}
 use Rattle.ir_tokens.specs.Tokens.{Placed}
 use Rattle.ir_tokens.proofs.OneEntry.{Within}
 use Rattle.ir_tokens.proofs.Reading.{SoFar}

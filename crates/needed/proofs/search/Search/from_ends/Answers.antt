@@ -1,7 +1,7 @@
 use Rattle.std.proofs.Common.{◌≡◌, Some, length, ap, subst, arith}
 use Rattle.std.specs.Prelude.{slice_get}
 use Rattle.ir_core.specs.Reads.{end_of}
-use Rattle.needed.specs.Marking.{IsSearched}
+use Rattle.needed.specs.NeededMarks.{IsSearched}
 use Rattle.needed.specs.Operands.{operands_at_end}
 use Rattle.needed.proofs.NumberLemmas.{item_read}
 use Rattle.needed.proofs.SearchLemmas.{reads_numbered, end_reads, search_end, numbered_for}

@@ -1,4 +1,4 @@
-use Rattle.needed.specs.Marking.{IsSearched}
+use Rattle.needed.specs.NeededMarks.{IsSearched}
 use Rattle.needed.proofs.search.Search.from_ends.Given as goal
 
 -- the walk has come to the terminators before the index

@@ -1,5 +1,5 @@
 use Rattle.std.proofs.Common.{take}
-use Rattle.needed.specs.Marking.{Marked}
+use Rattle.needed.specs.NeededMarks.{Marked}
 use Rattle.needed.proofs.search.Search.mark_all.Given as goal
 
 -- what the operands before the index read is marked

@@ -1,9 +1,0 @@
-use Rattle.std.proofs.Common.{◌≡◌, length}
-use Rattle.std.specs.List.{All}
-use Rattle.circuits.specs.Circuit.{Keeps}
-use Rattle.aig.proofs.tests.words.word.Given as goal
-
-abbrev pub invariant-loop-i : goal.invariant-loop-i
-invariant-loop-i g l =
-    let m = g.C.Circuit in
-    Keeps m.has_literal m.admits m.value l.initial.circuit l.circuit × All (m.has_literal l.circuit) l.word × (length l.word ≡ l._i)

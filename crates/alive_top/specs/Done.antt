@@ -1,0 +1,56 @@
+-- What a task has done where it was done and written.
+use Rattle.std.specs.Prelude.{◌≡◌, ◌≤◌, ◌↔◌, ℕ, IsTrue, List, [], ◌∷◌, length, Bool}
+use Rattle.outside.specs.Sink.{SinkState, Appends}
+use Rattle.command_line.specs.declared.command.RunOptions.{RunOptions}
+use Rattle.command_line.specs.declared.command.VerifyOptions.{VerifyOptions}
+use Rattle.ir_core.specs.declared.module.Module.{Module}
+use Rattle.ir_reader.specs.Text.{most_bytes}
+use Rattle.ir_printer.specs.PrintedText.{text_of}
+use Rattle.ir_printer.specs.Report.{report_of}
+use Rattle.alive_top.specs.Optimised.{IsOptimised}
+use Rattle.alive_top.specs.Runs.{IsRun}
+use Rattle.verdict.specs.Rule.{Rule}
+use Rattle.verdict.specs.declared.verification.Verified.{Verified}
+use Rattle.verdict.specs.Verified.{IsVerified}
+use Rattle.alive_top.specs.declared.status.Ended.{Ended}
+use Rattle.alive_top.specs.declared.status.Status.TheVariants.{Done}
+use Rattle.alive_top.specs.Taken.{IsRuleText}
+use Rattle.alive_top.specs.Task.{Task, Verify, Optimise, Run}
+
+-- `verify` decided the rules of a text, handed back their verdicts and wrote the texts of them. All are admitted exactly with status 0.
+pub record HasVerified (text : List ℕ) (options : VerifyOptions) (out out' : SinkState) (ended : Ended) : Type 0 where
+  pub rules : List Rule
+  pub file : IsRuleText text rules
+  pub verified : Verified
+  pub right : IsVerified rules options.widths options.conflicts verified
+  pub table : ended.table ≡ verified.table
+  pub wrote : Appends out out' verified.text.items
+  pub all : (ended.status ≡ Done) ↔ IsTrue verified.all_admitted
+
+-- `optimise` wrote the module that may stand in the place of that of a text, and a report.
+pub record HasOptimised (text : List ℕ) (out out' err err' : SinkState) (ended : Ended) : Type 0 where
+  pub limit : length text ≤ most_bytes
+  pub new : Module
+  pub counts : List ℕ
+  pub limited : List Bool
+  pub optimised : IsOptimised text new counts limited
+  pub wrote : Appends out out' (text_of new)
+  pub report : Appends err err' (report_of new counts limited)
+  pub status : ended.status ≡ Done
+
+-- `run` wrote how far the run of the named function of the module of a text came, or what it returned.
+pub record HasRun (text name : List ℕ) (arguments : List (List ℕ)) (options : RunOptions) (out out' err err' : SinkState) (ended : Ended) : Type 0 where
+  pub line : List ℕ
+  pub is_run : IsRun text name arguments options.blocks line
+  pub wrote : Appends out out' line
+  pub silent : err'.written ≡ err.written
+  pub status : ended.status ≡ Done
+
+-- what the task has done on the texts of its files
+abbrev pub HasDone : Task → List (List ℕ) → SinkState → SinkState → SinkState → SinkState → Ended → Type 0
+HasDone (Verify file options) (rules ∷ []) out out' err err' ended = HasVerified rules options out out' ended
+HasDone (Optimise file file' options) (rules ∷ source ∷ []) out out' err err' ended =
+    IsRuleText rules [] × HasOptimised source out out' err err' ended
+HasDone (Run file name arguments options) (source ∷ []) out out' err err' ended =
+    HasRun source name arguments options out out' err err' ended
+HasDone task texts out out' err err' ended = ⊥

@@ -1,0 +1,74 @@
+-- How each status comes: what was read, what was written and which counts of faults rose.
+use Rattle.std.specs.Prelude.{◌≡◌, ℕ, false, ◌⊎◌, List, []}
+use Rattle.outside.specs.Files.{FilesState}
+use Rattle.outside.specs.Sink.{SinkState, Appends}
+use Rattle.command_line.specs.Usage.{HasBadList, refusal_of_list}
+use Rattle.command_line.specs.Words.{are_taken}
+use Rattle.alive_top.specs.declared.status.Ended.{Ended}
+use Rattle.alive_top.specs.declared.status.Status.{Status}
+use Rattle.alive_top.specs.declared.status.Status.TheVariants.{Done, NotAll, Usage, RuleRefused, ModuleRefused, ReadFault, WriteFault, NoMemory, Argument}
+use Rattle.alive_top.specs.Cause.{TextIsRefused, ReadFails, MemoryIsRefused, ArgumentIsRefused}
+use Rattle.alive_top.specs.File.{files_of}
+use Rattle.alive_top.specs.Lines.{read_fault_line, argument_line, memory_line}
+use Rattle.alive_top.specs.Request.{AsksNone, AsksAll}
+use Rattle.alive_top.specs.Task.{Task, Asks}
+use Rattle.alive_top.specs.Texts.{AreTaken}
+use Rattle.alive_top.specs.Work.{Work, IsWorkOf}
+use Rattle.alive_top.specs.Written.{Took, WroteSome}
+
+-- The work of the task was done: all its files were read and hold what they are read for, the table is the work's, and its text and
+-- report were written so.
+pub record Worked (task : Task) (files files' : FilesState) (ended : Ended) (Wrote : Work → Type 0) : Type 0 where
+  pub asks : AsksAll files files' (files_of task)
+  pub texts : List (List ℕ)
+  pub taken : AreTaken files (files_of task) texts
+  pub work : Work
+  pub is_work : IsWorkOf task texts work
+  pub table : ended.table ≡ work.table
+  pub wrote : Wrote work
+
+-- nothing was written but a line on the error stream, and no verdict is handed back
+pub record Refused (out out' err err' : SinkState) (ended : Ended) (line : List ℕ) : Type 0 where
+  pub out_stays : out' ≡ out
+  pub takes_line : Took err err' line
+  pub no_verdicts : ended.table ≡ []
+
+-- how each status comes under a task, in the order of the causes
+abbrev pub EndsWith : Task → FilesState → FilesState → SinkState → SinkState → SinkState → SinkState → Ended → Status → Type 0
+EndsWith task files files' out out' err err' ended Usage = ⊥
+EndsWith task files files' out out' err err' ended ReadFault =
+    (name : List ℕ) × ReadFails files files' (files_of task) name × Refused out out' err err' ended (read_fault_line name)
+EndsWith task files files' out out' err err' ended RuleRefused =
+    (line : List ℕ) × TextIsRefused files files' (files_of task) RuleRefused line × Refused out out' err err' ended line
+EndsWith task files files' out out' err err' ended ModuleRefused =
+    (line : List ℕ) × TextIsRefused files files' (files_of task) ModuleRefused line × Refused out out' err err' ended line
+EndsWith task files files' out out' err err' ended Argument =
+    ArgumentIsRefused files files' task × Refused out out' err err' ended argument_line
+EndsWith task files files' out out' err err' ended Done =
+    Worked task files files' ended (λ work. (work.status ≡ Done) × Appends out out' work.text × Appends err err' work.report)
+EndsWith task files files' out out' err err' ended NotAll =
+    Worked task files files' ended (λ work. (work.status ≡ NotAll) × Appends out out' work.text × Appends err err' work.report)
+EndsWith task files files' out out' err err' ended WriteFault =
+    Worked task files files' ended (λ work. WroteSome out out' err err' work.text work.report)
+EndsWith task files files' out out' err err' ended NoMemory =
+    MemoryIsRefused files files' (files_of task) × Refused out out' err err' ended memory_line
+
+-- the words are no command: `clap` does not take them, or the list of widths is outside its form
+abbrev pub IsNoCommand : List (List ℕ) → Type 0
+IsNoCommand words = (are_taken words ≡ false) ⊎ ((list : List ℕ) × HasBadList words list)
+
+-- and this text says so: `clap`'s where it does not take them, and else one that names the list
+abbrev pub IsUsage : List (List ℕ) → List ℕ → Type 0
+IsUsage words text = (are_taken words ≡ false) ⊎ ((list : List ℕ) × HasBadList words list × (text ≡ refusal_of_list list))
+
+-- how each status comes where no command was read from the words, or memory was refused for it
+abbrev pub EndsAtWords : List (List ℕ) → SinkState → SinkState → SinkState → SinkState → Ended → Status → Type 0
+EndsAtWords words out out' err err' ended Usage = (text : List ℕ) × IsUsage words text × Refused out out' err err' ended text
+EndsAtWords words out out' err err' ended NoMemory = Refused out out' err err' ended memory_line
+EndsAtWords words out out' err err' ended status = ⊥
+
+-- how a call ends
+abbrev pub Ends : List (List ℕ) → FilesState → FilesState → SinkState → SinkState → SinkState → SinkState → Ended → Type 0
+Ends words files files' out out' err err' ended =
+    (AsksNone files files' × EndsAtWords words out out' err err' ended ended.status)
+    ⊎ ((task : Task) × Asks words task × EndsWith task files files' out out' err err' ended ended.status)

@@ -1,0 +1,32 @@
+-- The puts of lines and texts, and the statuses that they leave.
+use Rattle.std.specs.Prelude.{◌≡◌, ◌⊎◌, ℕ, List}
+use Rattle.outside.specs.Sink.{SinkState, Appends}
+use Rattle.alive_top.specs.declared.refusal.Refusal.{Refusal}
+use Rattle.alive_top.specs.declared.refusal.Refusal.TheVariants.{Rules, Module, Argument, Read, Memory}
+use Rattle.alive_top.specs.declared.status.Status.{Status}
+use Rattle.alive_top.specs.declared.status.Status.TheVariants as statuses
+use Rattle.alive_top.specs.Lines.{rules_line, module_line, read_fault_line, argument_line, memory_line}
+use Rattle.alive_top.specs.Work.{Work}
+use Rattle.alive_top.specs.Written.{Took, WroteSome}
+
+-- the line was put, and this is the status
+abbrev pub Says : SinkState → SinkState → Status → List ℕ → Status → Type 0
+Says err err' status line given = (given ≡ status) × Took err err' line
+
+-- the line on memory was
+abbrev pub SaysMemory : SinkState → SinkState → Status → Type 0
+SaysMemory err err' given = Says err err' statuses.NoMemory memory_line given
+
+-- how a refusal ends: by its line, or by that on memory where there was none for its own
+abbrev pub RefusedAs : Refusal → SinkState → SinkState → Status → Type 0
+RefusedAs (Rules fault) err err' given = Says err err' statuses.RuleRefused (rules_line fault) given ⊎ SaysMemory err err' given
+RefusedAs (Module fault) err err' given = Says err err' statuses.ModuleRefused (module_line fault) given ⊎ SaysMemory err err' given
+RefusedAs Argument err err' given = Says err err' statuses.Argument argument_line given
+RefusedAs (Read name) err err' given = Says err err' statuses.ReadFault (read_fault_line name.now) given ⊎ SaysMemory err err' given
+RefusedAs Memory err err' given = SaysMemory err err' given
+
+-- how the writing of a work ends
+abbrev pub WrittenAs : Work → SinkState → SinkState → SinkState → SinkState → Status → Type 0
+WrittenAs work out out' err err' given =
+    ((given ≡ work.status) × Appends out out' work.text × Appends err err' work.report)
+    ⊎ ((given ≡ statuses.WriteFault) × WroteSome out out' err err' work.text work.report)

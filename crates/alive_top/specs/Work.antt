@@ -1,0 +1,55 @@
+-- The work of each task: what is written, the verdicts that are handed back, and the status.
+use Rattle.std.specs.Prelude.{◌≡◌, ℕ, ◌≤◌, List, [], ◌∷◌, length, if◌then◌else◌}
+use Rattle.command_line.specs.declared.command.RunOptions.{RunOptions}
+use Rattle.command_line.specs.declared.command.VerifyOptions.{VerifyOptions}
+use Rattle.verdict.specs.Rule.{Rule}
+use Rattle.alive_top.specs.Optimised.{Prints}
+use Rattle.alive_top.specs.Runs.{IsRun}
+use Rattle.ir_reader.specs.Text.{most_bytes}
+use Rattle.verdict.specs.declared.verdict.Row.{Row}
+use Rattle.verdict.specs.declared.verification.Verified.{Verified}
+use Rattle.verdict.specs.Verified.{IsVerified}
+use Rattle.alive_top.specs.declared.status.Status.{Status}
+use Rattle.alive_top.specs.declared.status.Status.TheVariants.{Done, NotAll}
+use Rattle.alive_top.specs.Taken.{IsRuleText}
+use Rattle.alive_top.specs.Task.{Task, Verify, Optimise, Run}
+
+-- a text for the output, a report for the error stream, a table of verdicts, and the status once both are written
+pub record Work : Type 0 where
+  pub text : List ℕ
+  pub report : List ℕ
+  pub table : List Row
+  pub status : Status
+
+-- `verify` decides the rules of its file: their verdicts are the table, and their texts the output.
+pub record IsVerifyWork (rules : List Rule) (options : VerifyOptions) (work : Work) : Type 0 where
+  pub verified : Verified
+  pub right : IsVerified rules options.widths options.conflicts verified
+  pub text : work.text ≡ verified.text.items
+  pub report : work.report ≡ []
+  pub table : work.table ≡ verified.table
+  pub status : work.status ≡ (if verified.all_admitted then Done else NotAll)
+
+-- what is printed for the text of a module, which is not too long, and the report on it
+abbrev pub IsPrinted : List ℕ → List ℕ → List ℕ → Type 0
+IsPrinted source out report = (length source ≤ most_bytes) × Prints source out report
+
+-- `optimise` writes the module that may stand in the place of the one read, and a report. It decides no rule yet.
+pub record IsOptimiseWork (source : List ℕ) (work : Work) : Type 0 where
+  pub prints : IsPrinted source work.text work.report
+  pub table : work.table ≡ []
+  pub status : work.status ≡ Done
+
+-- `run` writes how far the run of the named function came, or what it returned.
+pub record IsRunWork (source name : List ℕ) (arguments : List (List ℕ)) (options : RunOptions) (work : Work) : Type 0 where
+  pub runs : IsRun source name arguments options.blocks work.text
+  pub report : work.report ≡ []
+  pub table : work.table ≡ []
+  pub status : work.status ≡ Done
+
+-- the work of a task on the texts of its files
+abbrev pub IsWorkOf : Task → List (List ℕ) → Work → Type 0
+IsWorkOf (Verify file options) (rules ∷ []) work = (list : List Rule) × IsRuleText rules list × IsVerifyWork list options work
+IsWorkOf (Optimise file file' options) (rules ∷ source ∷ []) work = IsRuleText rules [] × IsOptimiseWork source work
+IsWorkOf (Run file name arguments options) (source ∷ []) work = IsRunWork source name arguments options work
+IsWorkOf task texts work = ⊥

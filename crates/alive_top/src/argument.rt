@@ -1,0 +1,78 @@
+//! The values that the arguments of a run say.
+
+ghost use Rattle.std.specs.Prelude.{◌≡◌, ◌≤◌, map, IfOk, IfErr};
+ghost use Rattle.alive_top.specs.Arguments.{begins_as_none};
+ghost use Rattle.alive_top.specs.Arguments.{AreSaid, DoNotFit, decimal_said, value_said};
+ghost use Rattle.alive_top.specs.RunErrors.{IfTextRefused};
+
+use crate::fault::RunError;
+use ir_core::Parameter;
+use lists::List;
+use ops::{Value, Width, Word};
+use std::alloc::Global;
+
+/// Whether a text begins as no decimal does, though `parse` may read it: with a plus sign, or with a zero before other bytes.
+fn begins_as_none(text: &str) -> bool
+    ensures { result ≡ begins_as_none text.now }
+{
+    let bytes = text.as_bytes();
+    match bytes.first() {
+        Some(b'+') => true,
+        Some(b'0') => bytes.len() > 1,
+        _ => false,
+    }
+}
+
+/// The number of the width that a decimal writes, without a leading zero but for 0 itself.
+fn decimal_said(width: Width, text: &str) -> Option<Value>
+    requires { width ≤ 64 }
+    ensures { result ≡ decimal_said width text.now }
+{
+    if begins_as_none(text) {
+        return None;
+    }
+    match text.parse::<u64>() {
+        Ok(number) => Word::new(width, number).map(Value::Bits),
+        Err(_) => None,
+    }
+}
+
+/// The value of the width that a word says: `poison`, at i1 `true` and `false`, and a decimal.
+fn value_said(width: Width, text: &str) -> Option<Value>
+    ensures { result ≡ value_said width text.now }
+{
+    if text == "poison" {
+        return Some(Value::Poison);
+    }
+    let is_truth = width.bits() == 1;
+    if is_truth && text == "true" {
+        return Some(Value::Bits(Word::wrapped(width, 1)));
+    }
+    if is_truth && text == "false" {
+        return Some(Value::Bits(Word::wrapped(width, 0)));
+    }
+    decimal_said(width, text)
+}
+
+/// The values that words say for parameters, or `Argument` where they don't fit.
+pub(crate) fn values_said(
+    alloc: Global,
+    parameters: &[Parameter],
+    words: &[&str],
+) -> Result<List<Value>, RunError>
+    ensures ok { IfOk result (AreSaid parameters.now (map (λ w. w.now) words.now)) }
+    ensures argument { IfErr result (λ e. e ≡ RunError.Argument → DoNotFit parameters.now (map (λ w. w.now) words.now)) }
+    ensures refused { IfErr result (λ e. IfTextRefused e (λ _. ⊥)) }
+{
+    if words.len() != parameters.len() {
+        return Err(RunError::Argument);
+    }
+    let mut values = List::new(alloc);
+    for (place, parameter) in parameters.iter().enumerate() {
+        match value_said(parameter.width, words[place]) {
+            Some(value) => values.push(value)?,
+            None => return Err(RunError::Argument),
+        }
+    }
+    Ok(values)
+}

@@ -1,7 +1,0 @@
-use Rattle.blast_rule.proofs.Making.{Made}
-use Rattle.blast_rule.proofs.inputs.make_number.Given as goal
-
-abbrev pub invariant-loop : goal.invariant-loop
-invariant-loop g l =
-    let m = g.C.Circuit in
-    Made m.has_literal m.admits m.value m.inputs_made m.gates_made l.initial.c l.c l.bits l.counter

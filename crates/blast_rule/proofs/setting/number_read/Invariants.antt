@@ -1,6 +1,0 @@
-use Rattle.std.proofs.Common.{◌≡◌, ◌^◌, ◌<◌, take}
-use Rattle.circuits.specs.Word.{number}
-use Rattle.blast_rule.proofs.setting.number_read.Given as goal
-
-abbrev pub invariant-loop-i : goal.invariant-loop-i
-invariant-loop-i l = record { value : l.number ≡ number (take l.i l.bits); fits : l.number < 2 ^ l.i }

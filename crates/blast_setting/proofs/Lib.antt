@@ -1,0 +1,9 @@
+pub mod Words
+pub mod Widths
+pub mod Written
+pub mod Settings
+pub mod Making
+pub mod Made
+pub mod ReadOn
+pub mod Few
+pub mod Undefs

@@ -1,0 +1,154 @@
+-- What is read as a setting fits, and each setting that fits is read.
+use Rattle.std.proofs.Common.{◌≡◌, ℕ, ◌+◌, ◌<◌, List, [], ◌∷◌, ◌++◌, length, length-append, take, sum_by, Bool, Some, refl, sym, ap, subst, ◌∙◌, arith, get_or}
+use Rattle.std.specs.Prelude.{slice_get}
+use Rattle.std.proofs.lemmas.List.{take_more}
+use Rattle.std.proofs.lemmas.List.Sums.{sum_by_push, sum_by-cons}
+use Rattle.std.proofs.lemmas.Option.{slice_get_within, get_or_from_slice_get, same_Some}
+use Rattle.ops.specs.Number.{Number}
+use Rattle.ops.specs.Value.{IsValueOf}
+use Rattle.ops.specs.declared.value.Value.{Value}
+use Rattle.ops.specs.declared.value.Value.TheVariants.{Bits}
+use Rattle.rule_core.specs.declared.rule.Rule.{Rule}
+use Rattle.rule_core.specs.declared.rule.Statement.{Statement}
+use Rattle.rule_core.specs.Typing.{IsTyping}
+use Rattle.rule_core.specs.Checks.{IsRule}
+use Rattle.rule_core.specs.Positions.{Names, undefs_among}
+use Rattle.rule_core.specs.Valid.{Setting, InputsFit, ConstantsFit, TargetChoicesFit}
+use Rattle.blast_setting.specs.declared.named.Kind.{Kind}
+use Rattle.blast_setting.specs.declared.named.Kind.TheVariants.{Input, Constant, Undef}
+use Rattle.blast_setting.specs.Inputs.{named_width, named_widths, input_widths, constant_widths, undef_widths, value_bits, number_bits}
+use Rattle.blast_setting.specs.Names.{AreNamed}
+use Rattle.blast_setting.specs.Settings.{value_read, number_read, values_read, numbers_read, behind_inputs, behind_constants}
+use Rattle.blast_setting.specs.Laws.{ReadSettingsFit, FittingSettingsAreRead}
+use Rattle.blast_setting.proofs.Widths.{half_of, name_of, count_of, half_operand, naming, operand_width, named_width-is, are_named, length-named_widths, named_widths-at}
+use Rattle.blast_setting.proofs.Written.{FitAll, written, length-written, read-written, value_read-fits, number_written, length-number_written, read-number_written, number_read-fits, all_written, length-all_written, read-all_written, behind-all_written, all_read-fit, length-all_read}
+
+abbrev pub IsNumberOf : ℕ → Number → Type 0
+IsNumberOf N n = IsValueOf N (Bits n)
+
+module _ {X : Type 0} (Fits : ℕ → X → Type 0) (rule : Rule) (typing : List ℕ) (kind : Kind) (checked : IsRule rule) (typed : IsTyping rule typing) (xs : List X) where
+  -- what has the widths of a kind fits at each position that names one
+  pub fit_widths : FitAll Fits (named_widths typing (half_of rule kind) kind (count_of rule kind)) xs
+      → (k c N : ℕ) (x : X) → Names rule (name_of kind k) c → slice_get typing c ≡ Some N → slice_get xs k ≡ Some x → Fits N x
+  fit_widths fit k c N x names at there =
+      let within : k < count_of rule kind = omega (arith, slice_get_within xs k x there, fit.0, length-named_widths typing (half_of rule kind) kind (count_of rule kind)) in
+      let is = named_width-is rule typing kind k c N typed (are_named rule typing kind checked typed k within) names at in
+      subst (λ M. Fits M x) is (fit.1 k (named_width typing (half_of rule kind) kind k) x (named_widths-at typing (half_of rule kind) kind (count_of rule kind) k within) there)
+
+  -- and the other way round
+  pub widths_fit : length xs ≡ count_of rule kind → ((k c N : ℕ) (x : X) → Names rule (name_of kind k) c → slice_get typing c ≡ Some N → slice_get xs k ≡ Some x → Fits N x)
+      → FitAll Fits (named_widths typing (half_of rule kind) kind (count_of rule kind)) xs
+  widths_fit count fit = (
+    count ∙ sym (length-named_widths typing (half_of rule kind) kind (count_of rule kind)),
+    λ k N x at there.
+        let within : k < count_of rule kind = omega (arith, slice_get_within xs k x there, count) in
+        let named = are_named rule typing kind checked typed k within in
+        let o = named.operand in
+        let w = operand_width rule typing o.0 typed (half_operand rule kind o.0 o.1) in
+        let names = naming rule kind k o.0 o.1 o.2 in
+        let is = named_width-is rule typing kind k o.0.class w.0 typed named names w.1 in
+        let same : N ≡ w.0 = same_Some N (named_width typing (half_of rule kind) kind k) (sym at ∙ named_widths-at typing (half_of rule kind) kind (count_of rule kind) k within) ∙ is in
+        subst (λ M. Fits M x) (sym same) (fit k o.0.class w.0 x names w.1 there),
+  )
+
+module _ (rule : Rule) (typing : List ℕ) (checked : IsRule rule) (typed : IsTyping rule typing) where
+  pub inputs_fit : (values : List Value) → FitAll IsValueOf (input_widths rule typing) values → InputsFit rule typing values
+  inputs_fit values fit = record {
+    count = fit.0 ∙ length-named_widths typing rule.source Input (length rule.inputs);
+    widths = fit_widths IsValueOf rule typing Input checked typed values fit;
+  }
+
+  pub constants_fit : (numbers : List Number) → FitAll IsNumberOf (constant_widths rule typing) numbers → ConstantsFit rule typing numbers
+  constants_fit numbers fit = record {
+    count = fit.0 ∙ length-named_widths typing rule.source Constant (length rule.constants);
+    widths = fit_widths IsNumberOf rule typing Constant checked typed numbers fit;
+  }
+
+  pub undefs_fit : (numbers : List Number) → FitAll IsNumberOf (undef_widths rule typing) numbers → TargetChoicesFit rule typing numbers
+  undefs_fit numbers fit = record {
+    count = fit.0 ∙ length-named_widths typing rule.target Undef (count_of rule Undef);
+    widths = fit_widths IsNumberOf rule typing Undef checked typed numbers fit;
+  }
+
+all_numbers-fit : (widths : List ℕ) (read : List Bool) → FitAll IsNumberOf widths (numbers_read widths read)
+all_numbers-fit widths read = (
+  length-all_read number_read number_bits IsNumberOf number_written length-number_written read-number_written number_read-fits widths read,
+  all_read-fit number_read number_bits IsNumberOf number_written length-number_written read-number_written number_read-fits widths read,
+)
+
+pub read_fits : ReadSettingsFit
+read_fits rule typing read checked typed =
+    record {
+      inputs = inputs_fit rule typing checked typed (values_read (input_widths rule typing) read) (
+        length-all_read value_read value_bits IsValueOf written length-written read-written value_read-fits (input_widths rule typing) read,
+        all_read-fit value_read value_bits IsValueOf written length-written read-written value_read-fits (input_widths rule typing) read,
+      );
+      constants = constants_fit rule typing checked typed (numbers_read (constant_widths rule typing) (behind_inputs rule typing read)) (all_numbers-fit (constant_widths rule typing) (behind_inputs rule typing read));
+      target_undefs = undefs_fit rule typing checked typed (numbers_read (undef_widths rule typing) (behind_constants rule typing read)) (all_numbers-fit (undef_widths rule typing) (behind_constants rule typing read));
+    }
+
+-- three lists are a setting
+pub same_setting : (setting : Setting) (inputs : List Value) (constants undefs : List Number) → inputs ≡ setting.inputs → constants ≡ setting.constants → undefs ≡ setting.target_undefs
+    → record { inputs = inputs; constants = constants; target_undefs = undefs } ≡ setting
+same_setting setting inputs constants undefs first second third = rw (first, second, third) refl
+
+pub fitting_are_read : FittingSettingsAreRead
+fitting_are_read rule typing setting checked typed fits =
+    let iw = input_widths rule typing in
+    let cw = constant_widths rule typing in
+    let uw = undef_widths rule typing in
+    let i_fit = widths_fit IsValueOf rule typing Input checked typed setting.inputs fits.inputs.count fits.inputs.widths in
+    let c_fit = widths_fit IsNumberOf rule typing Constant checked typed setting.constants fits.constants.count fits.constants.widths in
+    let u_fit = widths_fit IsNumberOf rule typing Undef checked typed setting.target_undefs fits.target_undefs.count fits.target_undefs.widths in
+    let first = all_written value_read value_bits IsValueOf written length-written read-written value_read-fits iw setting.inputs in
+    let second = all_written number_read number_bits IsNumberOf number_written length-number_written read-number_written number_read-fits cw setting.constants in
+    let third = all_written number_read number_bits IsNumberOf number_written length-number_written read-number_written number_read-fits uw setting.target_undefs in
+    let read : List Bool = first ++ (second ++ (third ++ [])) in
+    let behind : behind_inputs rule typing read ≡ second ++ (third ++ []) =
+    behind-all_written value_read value_bits IsValueOf written length-written read-written value_read-fits iw setting.inputs (second ++ (third ++ [])) i_fit.0 in
+    let behind_both : behind_constants rule typing read ≡ third ++ [] =
+    rw behind (behind-all_written number_read number_bits IsNumberOf number_written length-number_written read-number_written number_read-fits cw setting.constants (third ++ []) c_fit.0) in (
+      read,
+      record {
+        count = omega (
+          arith,
+          length-append first (second ++ (third ++ [])),
+          length-append second (third ++ []),
+          length-append third [],
+          length-all_written value_read value_bits IsValueOf written length-written read-written value_read-fits iw setting.inputs i_fit.0,
+          length-all_written number_read number_bits IsNumberOf number_written length-number_written read-number_written number_read-fits cw setting.constants c_fit.0,
+          length-all_written number_read number_bits IsNumberOf number_written length-number_written read-number_written number_read-fits uw setting.target_undefs u_fit.0,
+        );
+        is = same_setting setting _ _ _
+            (read-all_written value_read value_bits IsValueOf written length-written read-written value_read-fits iw setting.inputs (second ++ (third ++ [])) i_fit)
+            (ap (numbers_read cw) behind ∙ read-all_written number_read number_bits IsNumberOf number_written length-number_written read-number_written number_read-fits cw setting.constants (third ++ []) c_fit)
+            (ap (numbers_read uw) behind_both ∙ read-all_written number_read number_bits IsNumberOf number_written length-number_written read-number_written number_read-fits uw setting.target_undefs [] u_fit);
+      },
+    )
+
+-- the truth values of one more
+pub sum-named_widths : (size : ℕ → ℕ) (typing : List ℕ) (kind : Kind) (statements : List _) (count k : ℕ) → k < count
+    → sum_by size (take (k + 1) (named_widths typing statements kind count)) ≡ sum_by size (take k (named_widths typing statements kind count)) + size (named_width typing statements kind k)
+sum-named_widths size typing kind statements count k within =
+    let widths = named_widths typing statements kind count in
+    let width : get_or widths k 0 ≡ named_width typing statements kind k = get_or_from_slice_get widths k (named_width typing statements kind k) 0 (named_widths-at typing statements kind count k within) in
+    ap (λ (ws : List ℕ). sum_by size ws) (take_more widths k 0 (omega (arith, length-named_widths typing statements kind count)))
+    ∙ sum_by_push size (take k widths) (get_or widths k 0) ∙ ap (λ n. sum_by size (take k widths) + size n) width
+
+-- what is told of the half, the count and the widths where they are these
+pub are_named_as : (rule : Rule) (typing : List ℕ) (kind : Kind) → IsRule rule → IsTyping rule typing → (ts : List ℕ) (statements : List Statement) (count : ℕ)
+    → ts ≡ typing → statements ≡ half_of rule kind → count ≡ count_of rule kind → AreNamed ts statements kind count
+are_named_as rule typing kind checked typed ts statements count same half all = rw (same, half, all) (are_named rule typing kind checked typed)
+
+pub widths_as : (rule : Rule) (typing : List ℕ) (kind : Kind) (ts : List ℕ) (statements : List Statement) (count : ℕ)
+    → ts ≡ typing → statements ≡ half_of rule kind → count ≡ count_of rule kind → named_widths ts statements kind count ≡ named_widths typing (half_of rule kind) kind (count_of rule kind)
+widths_as rule typing kind ts statements count same half all = rw (same, half, all) refl
+
+-- values have one truth value more than numbers
+pub sum-values : (widths : List ℕ) → sum_by value_bits widths ≡ sum_by number_bits widths + length widths
+sum-values [] = refl
+sum-values (N ∷ widths) = omega (arith, sum_by-cons value_bits N widths, sum_by-cons number_bits N widths, sum-values widths)
+
+-- how many `undef`s the target has, where these are its statements
+pub undefs_as : (rule : Rule) (statements : List Statement) (count : ℕ) → count ≡ length (undefs_among statements) → statements ≡ rule.target → count ≡ count_of rule Undef
+undefs_as rule statements count told half = told ∙ ap (λ (ss : List Statement). length (undefs_among ss)) half

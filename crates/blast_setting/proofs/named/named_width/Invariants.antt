@@ -1,0 +1,9 @@
+use Rattle.std.proofs.Common.{◌≡◌, drop}
+use Rattle.std.specs.List.{find}
+use Rattle.rule_core.specs.Positions.{operands_among}
+use Rattle.blast_setting.proofs.Widths.{test}
+use Rattle.blast_setting.proofs.named.named_width.Given as goal
+
+abbrev pub invariant-loop-statement : goal.invariant-loop-statement
+invariant-loop-statement l =
+    find (test l.kind l.k) (operands_among l.statements) ≡ find (test l.kind l.k) (operands_among (drop l.statement-index l.statements))

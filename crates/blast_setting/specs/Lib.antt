@@ -1,0 +1,11 @@
+pub use Rattle.rule_core.specs.Checks
+pub use Rattle.circuits.specs.Circuit
+pub use Rattle.blast_value.specs.Effect
+pub use Rattle.rule_core.specs.Typing
+pub use Rattle.circuits.specs.Word
+pub use Rattle.blast_value.specs.Words
+pub mod Inputs
+pub mod Names
+pub mod Settings
+pub mod SettingBits
+pub mod Laws

@@ -1,0 +1,16 @@
+-- What lets widths be told: an operand names each thing, and the classes of operands have widths.
+use Rattle.std.specs.Prelude.{◌≡◌, ℕ, ◌<◌, List, length}
+use Rattle.rule_core.specs.declared.rule.Statement.{Statement}
+use Rattle.rule_core.specs.declared.rule.Operand.{Operand}
+use Rattle.rule_core.specs.Positions.{IsOperandAmong}
+use Rattle.blast_setting.specs.declared.named.Kind.{Kind}
+use Rattle.blast_setting.specs.Inputs.{argument_of}
+
+-- an operand of the statements names the k-th one of its kind
+pub record IsNamed (typing : List ℕ) (statements : List Statement) (kind : Kind) (k : ℕ) : Type 0 where
+  pub operand : (o : Operand) × IsOperandAmong statements o × (o.value ≡ argument_of kind k)
+  pub classes : (o : Operand) → IsOperandAmong statements o → o.class < length typing
+
+-- and so are the first ones of the kind, so many
+abbrev pub AreNamed : List ℕ → List Statement → Kind → ℕ → Type 0
+AreNamed typing statements kind count = (k : ℕ) → k < count → IsNamed typing statements kind k

@@ -1,0 +1,71 @@
+-- How many gates the nodes of terms have at most.
+use Rattle.std.proofs.Common.{ℕ, ◌+◌, ◌-◌, ◌*◌, ◌≤◌, List, [], ◌∷◌, length, map, arith}
+use Rattle.std.specs.Prelude.{slice_index, sum_by}
+use Rattle.std.specs.List.{All}
+use Rattle.circuits.specs.Gates.{select_gates}
+use Rattle.std.proofs.Math.Nat.{mul-le-mul_left, mul-le-mul}
+use Rattle.std.proofs.lemmas.List.Elements.{All-tail}
+use Rattle.std.proofs.lemmas.List.Sums.{sum_by-cons}
+use Rattle.ops.specs.declared.opcode.Opcode.TheVariants.{Add, Sub, Mul, UDiv, SDiv, URem, SRem, Shl, LShr, AShr, And, Or, Xor}
+use Rattle.rule_core.specs.declared.rule.Term.{Term}
+use Rattle.rule_core.specs.declared.rule.Node.{Node}
+use Rattle.rule_core.specs.declared.rule.Node.TheVariants as nodes
+use Rattle.rule_core.specs.declared.rule.Function.TheVariants.{Negate, Not, Log2, Abs}
+use Rattle.blast_value.proofs.Counts.{shift-few}
+use Rattle.blast_term.specs.Gates.{node_gates, term_gates, terms_gates, numbers_gates, node_bound, term_bound}
+
+-- a node leaves room for its number and for whether it has one
+node-few : (N : ℕ) (node : Node) → 1 ≤ N → N ≤ 64 → node_gates N node + N + 1 ≤ node_bound node N
+node-few N (nodes.Literal z) some low = omega arith
+node-few N (nodes.Constant k) some low = omega arith
+node-few N (nodes.Register r) some low = omega arith
+node-few N (nodes.Undef k) some low = omega arith
+node-few N (nodes.Width r c) some low = omega arith
+node-few N (nodes.Unary Negate a) some low = omega arith
+node-few N (nodes.Unary Not a) some low = omega arith
+node-few N (nodes.Unary Log2 a) some low = omega arith
+node-few N (nodes.Unary Abs a) some low = omega arith
+node-few N (nodes.Binary Add a b) some low = omega arith
+node-few N (nodes.Binary Sub a b) some low = omega arith
+node-few N (nodes.Binary Mul a b) some low = let fewer : N - 1 ≤ N = omega arith in omega (arith, mul-le-mul_left (3 * N) fewer)
+node-few N (nodes.Binary UDiv a b) some low = omega arith
+node-few N (nodes.Binary SDiv a b) some low = omega arith
+node-few N (nodes.Binary URem a b) some low = omega arith
+node-few N (nodes.Binary SRem a b) some low = omega arith
+node-few N (nodes.Binary Shl a b) some low = omega (arith, shift-few N low)
+node-few N (nodes.Binary LShr a b) some low = omega (arith, shift-few N low)
+node-few N (nodes.Binary AShr a b) some low = omega (arith, shift-few N low)
+node-few N (nodes.Binary And a b) some low = omega arith
+node-few N (nodes.Binary Or a b) some low = omega arith
+node-few N (nodes.Binary Xor a b) some low = omega arith
+
+pub node-low : (N : ℕ) (node : Node) → N ≤ 64 → node_bound node N ≤ 266240
+node-low N node low =
+    let square : N * N ≤ 64 * 64 = mul-le-mul low low in
+    elim node as (λ n. node_bound n N ≤ 266240) [
+      | nodes.Binary op a b ↦ elim op as (λ o. node_bound (nodes.Binary o a b) N ≤ 266240) [
+        | Mul ↦ omega arith
+        | UDiv ↦ omega arith
+        | SDiv ↦ omega arith
+        | URem ↦ omega arith
+        | SRem ↦ omega arith
+        | _ ↦ omega arith
+      ]
+      | _ ↦ omega arith
+    ]
+
+-- nodes, their numbers, and whether each has one
+pub terms-few : (typing : List ℕ) (terms : List Term) → All (λ t. (1 ≤ slice_index typing t.class) × (slice_index typing t.class ≤ 64)) terms
+    → terms_gates typing terms + numbers_gates (map (λ t. slice_index typing t.class) terms) + length (map (λ (t : Term). slice_index typing t.class) terms) ≤ sum_by (term_bound typing) terms
+terms-few typing [] all = omega arith
+terms-few typing (t ∷ terms) all =
+    let w : Term → ℕ = λ t. slice_index typing t.class in
+    let here = all 0 t (omega arith) in
+    omega (
+      arith,
+      node-few (w t) t.node here.0 here.1,
+      sum_by-cons (term_gates typing) t terms,
+      sum_by-cons select_gates (w t) (map w terms),
+      sum_by-cons (term_bound typing) t terms,
+      terms-few typing terms (All-tail (λ t. (1 ≤ slice_index typing t.class) × (slice_index typing t.class ≤ 64)) t terms all),
+    )

@@ -1,0 +1,75 @@
+use Rattle.std.proofs.Common.{◌≡◌, ◌^◌, ◌<◌, ◌∙◌, if◌then◌else◌, Some, None, length, map, take, not, ◌&&◌, ap, subst, arith}
+use Rattle.std.proofs.lemmas.List.{length-map, length-take, take_all}
+use Rattle.circuits.specs.Word.{number, number_of}
+use Rattle.circuits.proofs.Kept.{Adds-refl, Adds-trans, Adds-weaken, Keeps-trans, All-kept, map-kept, own_at}
+use Rattle.circuits.proofs.Words.{number-below, number-take_more}
+use Rattle.rule_core.specs.Terms.{exponent}
+use Rattle.blast_term.proofs.Powers.{scanned-none, scanned-more, scanned-exponent, number-if}
+use Rattle.blast_term.proofs.power.place.Goals as goal
+
+pub loop-i-init : goal.loop-i-init
+loop-i-init g c = (
+  Adds-refl,
+  c.one-none.ensures.own,
+  c.zero-one.ensures.own,
+  c.in_ok-bits.ensures.own,
+  c.in_ok-bits.ensures.width,
+  λ inputs admitted. scanned-none _ _ _ (c.one-none.ensures.value inputs admitted) (c.zero-one.ensures.value inputs admitted),
+)
+
+pub loop-i-preserved : goal.loop-i-preserved
+loop-i-preserved g c =
+    let m = g.C.Circuit in
+    let before = c.loop-i.invariant in
+    let i = c.loop-i.i in
+    let bit = c.index-word-i.result in
+    let k0 = before.0.keeps in
+    let k1 = c.select.ensures.adds.keeps in
+    let k2 = c.mux.ensures.adds.keeps in
+    let k3 = c.and.ensures.adds.keeps in
+    let inside : i < length c.args.word.now = c.loop-i-test.true in
+    let own_bit = own_at (m.has_literal c.args.c.now) c.args.word.now i bit c.requires.own inside c.index-word-i.is in
+    let own_loop = k0.literals bit own_bit in
+    let own_select = k1.literals bit own_loop in (
+      Adds-weaken (Adds-trans before.0 (Adds-trans c.select.ensures.adds (Adds-trans c.mux.ensures.adds c.and.ensures.adds))) (omega (arith, c.as_slice.ensures, ap length c.as_slice.ensures, c.in_ok-here.ensures.width, c.requires.few)),
+      c.in_ok-none.ensures.own,
+      k3.literals c.in_ok-one.one c.in_ok-one.ensures.own,
+      All-kept (Keeps-trans k2 k3) c.in_ok-bits-2.bits c.in_ok-bits-2.ensures.own,
+      c.in_ok-bits-2.ensures.width ∙ ap length c.as_slice.ensures ∙ c.in_ok-here.ensures.width,
+      λ inputs admitted.
+          let a0 = k0.admitted inputs admitted in
+          let a1 = k1.admitted inputs a0 in
+          let a2 = k2.admitted inputs a1 in
+          let start = m.value c.args.c.now inputs in
+          let at_loop = m.value c.loop-i.c inputs in
+          let bit_loop : at_loop bit ≡ start bit = k0.values inputs bit admitted own_bit in
+          let bit_select : m.value c.select.new.c inputs bit ≡ start bit = k1.values inputs bit a0 own_loop ∙ bit_loop in
+          let bit_mux : m.value c.mux.new.self inputs bit ≡ start bit = k2.values inputs bit a1 own_select ∙ bit_select in
+          let none_select = k1.values inputs c.loop-i.none a0 before.1 in
+          let none_mux = k2.values inputs c.loop-i.none a1 (k1.literals c.loop-i.none before.1) ∙ none_select in
+          let one_select = k1.values inputs c.loop-i.one a0 before.2 in
+          let kept = map-kept (Keeps-trans k2 k3) inputs a1 c.in_ok-bits-2.bits c.in_ok-bits-2.ensures.own in
+          let is_k : number_of (m.value c.and.new.self inputs) c.in_ok-bits-2.bits ≡ (if start bit then i else number_of at_loop c.loop-i.bits) =
+          ap number (kept ∙ rw (c.as_slice.ensures, c.as_slice-in-loop-i.ensures, bit_loop) at (c.in_ok-bits-2.ensures.values inputs a0))
+          ∙ number-if (start bit) (map at_loop c.in_ok-here.here) (map at_loop c.loop-i.bits)
+          ∙ ap (λ n. if start bit then n else number_of at_loop c.loop-i.bits) (c.in_ok-here.ensures.number inputs a0) in
+          let is_one : m.value c.and.new.self inputs c.in_ok-one.one ≡ (if start bit then at_loop c.loop-i.none else at_loop c.loop-i.one) =
+          k3.values inputs c.in_ok-one.one a2 c.in_ok-one.ensures.own ∙ rw (bit_select, none_select, one_select) at (c.in_ok-one.ensures.value inputs a1) in
+          let is_none : m.value c.and.new.self inputs c.in_ok-none.none ≡ (at_loop c.loop-i.none && not (start bit)) =
+          rw (none_mux, c.not.ensures.value inputs a2, bit_mux) at (c.in_ok-none.ensures.value inputs a2) in
+          let short : length (map start (take i c.args.word.now)) ≡ i = length-map (take i c.args.word.now) start ∙ omega (arith, length-take i c.args.word.now) in
+          let below = subst (λ n. number (map start (take i c.args.word.now)) < 2 ^ n) short (number-below (map start (take i c.args.word.now))) in
+          scanned-more i _ _ _ _ _ _ (start bit) _ _ (before.5 inputs admitted) below (number-take_more start c.args.word.now i bit inside c.index-word-i.is) is_k is_one is_none,
+    )
+
+pub returns-clause-value : goal.returns-clause-value
+returns-clause-value g c = λ inputs admitted.
+    let m = g.C.Circuit in
+    let start = m.value c.args.c.now inputs in
+    let now = m.value c.loop-i.c inputs in
+    let word = c.args.word.now in
+    let end : c.loop-i.i ≡ length word = omega (arith, c.loop-i-test.false, c.loop-i.auto.i-end) in
+    let whole : take c.loop-i.i word ≡ word = take_all c.loop-i.i word c.loop-i-test.false in
+    let found = scanned-exponent _ _ _ _ _ (c.loop-i.invariant.5 inputs admitted) in
+    subst (λ n. exponent n (number_of start word) ≡ (if now c.loop-i.one then Some (number_of now c.loop-i.bits) else None)) end
+    (subst (λ w. exponent c.loop-i.i (number_of start w) ≡ (if now c.loop-i.one then Some (number_of now c.loop-i.bits) else None)) whole found)

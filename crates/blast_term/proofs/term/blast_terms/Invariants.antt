@@ -1,0 +1,18 @@
+use Rattle.std.proofs.Common.{◌≡◌, Bool, List, map, take}
+use Rattle.std.specs.List.{All}
+use Rattle.circuits.specs.Circuit.{Adds}
+use Rattle.rule_core.specs.Terms.{Meanings, values_of}
+use Rattle.blast_value.specs.Effect.{held_value, widths_of, IsOwn}
+use Rattle.blast_term.specs.Gates.{terms_gates}
+use Rattle.blast_term.specs.Terms.{MeansNames, term_widths}
+use Rattle.blast_term.proofs.term.blast_terms.Given as goal
+
+abbrev pub invariant-loop-term : goal.invariant-loop-term
+invariant-loop-term g l =
+    let m = g.C.Circuit in record {
+      values : (inputs : List Bool) (names : Meanings) → m.admits l.initial.c inputs → MeansNames (m.value l.initial.c inputs) l.scope names →
+          map (held_value (m.value l.c inputs)) l.held.items ≡ values_of l.typing names (take l.term-index l.terms);
+      widths : widths_of l.held.items ≡ term_widths l.typing (take l.term-index l.terms);
+      own : All (IsOwn (m.has_literal l.c)) l.held.items;
+      adds : Adds m.has_literal m.admits m.value m.inputs_made m.gates_made l.initial.c l.c (terms_gates l.typing (take l.term-index l.terms));
+    }

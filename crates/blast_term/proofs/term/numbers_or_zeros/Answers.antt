@@ -1,0 +1,50 @@
+use Rattle.std.proofs.Common.{◌+◌, ◌<◌, ◌∷◌, [], length, map, take, sym, ap, ◌∙◌, arith}
+use Rattle.std.specs.List.{All}
+use Rattle.std.proofs.lemmas.List.{map-append}
+use Rattle.std.proofs.lemmas.List.Elements.{All-push}
+use Rattle.circuits.specs.Word.{number_of}
+use Rattle.circuits.proofs.Kept.{Adds-trans, Adds-weaken, own_at}
+use Rattle.rule_core.specs.Terms.{number_or_zero}
+use Rattle.blast_value.specs.declared.held.Held.{Held}
+use Rattle.blast_value.specs.Effect.{held_value, IsOwn}
+use Rattle.blast_value.proofs.Kept.{AllAll-kept, numbers_of-kept, held_value-kept, IsOwn-kept}
+use Rattle.blast_term.proofs.Turns.{map-more, numbers_gates-more, numbers_gates-fewer}
+use Rattle.blast_term.proofs.term.numbers_or_zeros.Goals as goal
+
+pub number_or_zero-requires : goal.number_or_zero-requires
+number_or_zero-requires g c =
+    IsOwn-kept c.loop-value.invariant.adds.keeps c.value-item.result (own_at (IsOwn (g.C.Circuit.has_literal c.args.c.now)) c.args.held.now c.loop-value.value-index c.value-item.result c.requires (omega arith) c.value-item.is)
+
+pub returns-in_err-word-clause-adds : goal.returns-in_err-word-clause-adds
+returns-in_err-word-clause-adds g c =
+    let more = numbers_gates-more c.args.held.now c.loop-value.value-index c.value-item.result (omega arith) c.value-item.is in
+    Adds-weaken (Adds-trans c.loop-value.invariant.adds c.number_or_zero.ensures.adds) (omega (arith, more, numbers_gates-fewer c.args.held.now (c.loop-value.value-index + 1)))
+
+pub returns-in_err-push-clause-adds : goal.returns-in_err-push-clause-adds
+returns-in_err-push-clause-adds g c =
+    let more = numbers_gates-more c.args.held.now c.loop-value.value-index c.value-item.result (omega arith) c.value-item.is in
+    Adds-weaken (Adds-trans c.loop-value.invariant.adds c.number_or_zero.ensures.adds) (omega (arith, more, numbers_gates-fewer c.args.held.now (c.loop-value.value-index + 1)))
+
+pub loop-value-preserved : goal.loop-value-preserved
+loop-value-preserved g c =
+    let m = g.C.Circuit in
+    let before = c.loop-value.invariant in
+    let i = c.loop-value.value-index in
+    let within : i < length c.args.held.now = omega arith in
+    let h = c.value-item.result in
+    let keeps = c.number_or_zero.ensures.adds.keeps in
+    let words = c.loop-value.words.items in
+    let word = c.in_ok-word.word in
+    let own_h = own_at (IsOwn (m.has_literal c.args.c.now)) c.args.held.now i h c.requires within c.value-item.is in
+    rw c.in_ok-push.ensures.items record {
+      numbers = λ inputs admitted.
+          let now_admitted = before.adds.keeps.admitted inputs admitted in
+          let start = m.value c.args.c.now inputs in
+          let old = numbers_of-kept keeps inputs now_admitted words before.own ∙ before.numbers inputs admitted in
+          let new = c.in_ok-word.ensures.number inputs now_admitted ∙ ap number_or_zero (held_value-kept before.adds.keeps inputs admitted h own_h) in
+          map-append (number_of (m.value c.number_or_zero.new.c inputs)) words (word ∷ []) ∙ rw (old, new)
+          (sym (ap (map number_or_zero) (map-more (held_value start) c.args.held.now i h within c.value-item.is) ∙ map-append number_or_zero (map (held_value start) (take i c.args.held.now)) (held_value start h ∷ [])));
+      widths = map-append length words (word ∷ []) ∙ rw (before.widths, c.in_ok-word.ensures.width) (sym (map-more (λ (x : Held _). length x.bits) c.args.held.now i h within c.value-item.is));
+      own = All-push (All (m.has_literal c.number_or_zero.new.c)) words word (AllAll-kept keeps words before.own) c.in_ok-word.ensures.own;
+      adds = Adds-weaken (Adds-trans before.adds c.number_or_zero.ensures.adds) (omega (arith, numbers_gates-more c.args.held.now i h within c.value-item.is));
+    }

@@ -1,0 +1,10 @@
+use Rattle.std.proofs.Common.{◌≡◌, ◌*◌, ◌≤◌, take}
+use Rattle.blast_term.specs.Gates.{formulas_gates}
+use Rattle.blast_term.specs.Terms.{term_widths}
+use Rattle.blast_term.proofs.term_gates.formulas_gates.Given as goal
+
+abbrev pub invariant-loop-formula : goal.invariant-loop-formula
+invariant-loop-formula l = record {
+  value : l.gates ≡ formulas_gates (term_widths l.typing l.terms) (take l.formula-index l.formulas);
+  few : l.gates ≤ 514 * l.formula-index;
+}

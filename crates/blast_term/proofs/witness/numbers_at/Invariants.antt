@@ -1,0 +1,19 @@
+use Rattle.std.proofs.Common.{◌≡◌, Bool, List, length, map, take}
+use Rattle.std.specs.Prelude.{slice_index}
+use Rattle.std.specs.List.{All}
+use Rattle.circuits.specs.Circuit.{Adds}
+use Rattle.blast_value.specs.Effect.{held_value, widths_of}
+use Rattle.blast_term.specs.Gates.{choices_gates}
+use Rattle.blast_value.specs.Words.{number_held}
+use Rattle.blast_term.specs.Terms.{number_chosen}
+use Rattle.blast_term.proofs.witness.numbers_at.Given as goal
+
+abbrev pub invariant-loop-place : goal.invariant-loop-place
+invariant-loop-place g l =
+    let m = g.C.Circuit in record {
+      numbers : (inputs : List Bool) → m.admits l.initial.c inputs →
+          map (number_held (m.value l.c inputs)) l.words ≡ map (number_chosen (widths_of l.values) (map (held_value (m.value l.initial.c inputs)) l.values)) (take l.place-index l.places);
+      widths : map length l.words ≡ map (slice_index (widths_of l.values)) (take l.place-index l.places);
+      own : All (All (m.has_literal l.c)) l.words;
+      adds : Adds m.has_literal m.admits m.value m.inputs_made m.gates_made l.initial.c l.c (choices_gates (widths_of l.values) (take l.place-index l.places));
+    }

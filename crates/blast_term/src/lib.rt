@@ -1,0 +1,23 @@
+//! The constant terms of a rule, the expressions of its `Wit:` and its precondition in circuits, written once for every lawful circuit.
+//!
+//! The only error of a call is want of memory. A call that is refused may leave gates, no more than it may add; the older literals
+//! keep their values, and it makes no input.
+#![tactic(auto)]
+
+mod formula;
+mod function;
+mod numbers;
+mod power;
+mod scope;
+mod term;
+mod term_gates;
+mod width;
+mod witness;
+
+pub use formula::blast_precondition;
+pub use numbers::{number, of_word, residue};
+pub use scope::{Scope, at, copied, register_held};
+pub use term::{blast_terms, numbers_or_zeros};
+pub use term_gates::{choices_gates, formulas_gates, numbers_gates, terms_gates};
+pub use width::width_of;
+pub use witness::blast_witness;

@@ -1,0 +1,82 @@
+//! Powers of two: whether exactly one bit is set, and which.
+ghost use Rattle.std.specs.Prelude.{◌≡◌, ◌^◌, ◌≤◌, Bool, if◌then◌else◌, List as Seq, Some, None, length, IfOk};
+ghost use Rattle.std.specs.List.{All};
+ghost use Rattle.circuits.specs.Circuit.{Adds};
+ghost use Rattle.circuits.specs.Word.{number_of};
+ghost use Rattle.rule_core.specs.Terms.{exponent};
+ghost use Rattle.blast_term.specs.Gates.{power_gates};
+
+use blast_value::constant;
+use circuits::{Bits, Circuit, extend, select};
+use std::alloc::{AllocError, Global};
+
+/// The exponent of a power of two.
+#[derive(Drop)]
+pub(crate) struct Exponent<L> {
+    /// Whether exactly one bit is set.
+    pub(crate) exists: L,
+    /// The exponent, where it is.
+    pub(crate) bits: Bits<L>,
+}
+
+/// How many bits tell a place among those of a number.
+const PLACE_BITS: usize = 6;
+
+/// The exponent of which a word's number is the power of two. It adds at most eight gates a bit.
+pub(crate) fn blast_exponent<C: Circuit>(
+    alloc: Global,
+    c: &mut C,
+    word: &Bits<C::Literal>,
+) -> Result<Exponent<C::Literal>, AllocError>
+    requires least { 1 ≤ length word.now }
+    requires most { length word.now ≤ 64 }
+    requires own { All (C.has_literal c.old) word.now }
+    ensures value { IfOk result (λ made. (inputs : Seq Bool) → C.admits c.old inputs →
+        exponent (length word.now) (number_of (C.value c.old inputs) word.now)
+        ≡ (if C.value c.new inputs made.exists then Some (number_of (C.value c.new inputs) made.bits) else None)) }
+    ensures width { IfOk result (λ made. length made.bits ≡ length word.now) }
+    ensures own_exists { IfOk result (λ made. C.has_literal c.new made.exists) }
+    ensures own_bits { IfOk result (λ made. All (C.has_literal c.new) made.bits) }
+    ensures adds { Adds C.has_literal C.admits C.value C.inputs_made C.gates_made c.old c.new
+        (power_gates (length word.now)) }
+{
+    let width = word.len();
+    let found = place(alloc, c, word.as_slice(), width.min(PLACE_BITS))?;
+    let zero = c.zero();
+    Ok(Exponent {
+        exists: found.exists,
+        bits: extend(alloc, c, &found.bits, width, zero)?,
+    })
+}
+
+/// The place of the only bit that is set, in so many bits.
+fn place<C: Circuit>(
+    alloc: Global,
+    c: &mut C,
+    word: &[C::Literal],
+    width: usize,
+) -> Result<Exponent<C::Literal>, AllocError>
+    requires few { width ≤ 6 }
+    requires enough { length word.now ≤ 2 ^ width }
+    requires own { All (C.has_literal c.old) word.now }
+    ensures value { IfOk result (λ made. (inputs : Seq Bool) → C.admits c.old inputs →
+        exponent (length word.now) (number_of (C.value c.old inputs) word.now)
+        ≡ (if C.value c.new inputs made.exists then Some (number_of (C.value c.new inputs) made.bits) else None)) }
+    ensures width { IfOk result (λ made. length made.bits ≡ width) }
+    ensures own_exists { IfOk result (λ made. C.has_literal c.new made.exists) }
+    ensures own_bits { IfOk result (λ made. All (C.has_literal c.new) made.bits) }
+    ensures adds { Adds C.has_literal C.admits C.value C.inputs_made C.gates_made c.old c.new
+        (power_gates (length word.now)) }
+{
+    let mut none = c.one();
+    let mut one = c.zero();
+    let mut bits = constant(alloc, c, 0, width)?;
+    for i in 0..word.len() {
+        let bit = word[i];
+        let here = constant(alloc, c, i as u64, width)?;
+        bits = select(alloc, c, bit, here.as_slice(), bits.as_slice())?;
+        one = c.mux(alloc, bit, none, one)?;
+        none = c.and(alloc, none, c.not(bit))?;
+    }
+    Ok(Exponent { exists: one, bits })
+}

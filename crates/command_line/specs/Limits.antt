@@ -1,0 +1,22 @@
+-- The limits of the options.
+use Rattle.std.specs.Prelude.{ℕ, ◌≤◌}
+use Rattle.command_line.specs.declared.command.Command.{Command}
+use Rattle.command_line.specs.declared.command.Command.TheVariants.{Verify, Optimise, Run}
+
+-- the most clauses that a search may learn
+abbrev pub most_conflicts : ℕ
+most_conflicts = 1000000
+
+-- the most rewrites of a function
+abbrev pub most_steps : ℕ
+most_steps = 100000
+
+-- the most blocks that a run may enter
+abbrev pub most_blocks : ℕ
+most_blocks = 100000000
+
+-- the numbers are within their limits
+abbrev pub IsWithinLimits : Command → Type 0
+IsWithinLimits (Verify rules options) = options.conflicts ≤ most_conflicts
+IsWithinLimits (Optimise rules source options) = (options.conflicts ≤ most_conflicts) × (options.steps ≤ most_steps)
+IsWithinLimits (Run source name arguments options) = options.blocks ≤ most_blocks

@@ -1,8 +1,0 @@
-use Rattle.std.proofs.Common.{◌≡◌, length}
-use Rattle.std.specs.List.{All}
-use Rattle.deciding_tests.proofs.tests.words.constant.Given as goal
-
-abbrev pub invariant-loop-value : goal.invariant-loop-value
-invariant-loop-value g l =
-    let m = g.C.Circuit in
-    All (m.has_literal l.circuit) l.word × (length l.word ≡ l.value-index)

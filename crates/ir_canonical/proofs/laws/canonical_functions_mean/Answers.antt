@@ -1,5 +1,0 @@
-use Rattle.ir_canonical.proofs.Functions.{functions_mean}
-use Rattle.ir_canonical.proofs.laws.canonical_functions_mean.Goals as goal
-
-pub returns : goal.returns
-returns c = functions_mean

@@ -1,5 +1,0 @@
-use Rattle.ir_canonical.proofs.Modules.{modules_read}
-use Rattle.ir_canonical.proofs.laws.canonical_modules_read.Goals as goal
-
-pub returns : goal.returns
-returns c = modules_read

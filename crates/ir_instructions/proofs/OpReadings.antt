@@ -1,0 +1,180 @@
+-- What is read of instructions is spelled so.
+use Rattle.std.proofs.Common.{◌≡◌, ℕ, suc, length, Bool, true, false, cond, List, [], ◌∷◌, Option, Some, None, Ok, Err, refl, sym, ap, subst}
+use Rattle.std.specs.Prelude.{codes}
+use Rattle.ops.specs.declared.opcode.Opcode.{Opcode}
+use Rattle.ops.specs.declared.opcode.Flags.{Flags}
+use Rattle.ops.specs.declared.conversion.Cast.{Cast}
+use Rattle.ops.specs.Flags.{no_flags}
+use Rattle.ops.specs.declared.keywords.flag.Flag.{Flag}
+use Rattle.ops.specs.Keywords.{predicate_keyword, pred_in}
+use Rattle.ops.specs.FlagKeywords.{AddsFlags, flag_keyword, has_flag, with_flag, flag_in}
+use Rattle.ops.proofs.KeywordLemmas.{pred_in-is}
+use Rattle.ops.proofs.FlagKeywordLemmas.{flag_in-is}
+use Rattle.ir_tokens.specs.Tokens.{Placed, Word}
+use Rattle.ir_instructions.specs.declared.fault.Misfit.TheVariants.{Syntax}
+use Rattle.ir_tokens.specs.declared.raw.RawOp.{RawOp}
+use Rattle.ir_tokens.specs.declared.raw.RawOp.TheVariants.{Binary, Compare, Select, Convert, Freeze, Phi}
+use Rattle.ir_instructions.specs.declared.word.Operation.{Operation}
+use Rattle.ir_instructions.specs.declared.word.Operation.TheVariants as operations
+use Rattle.ir_instructions.specs.Grammar.{SpellsFlags, SpellsIncoming, SpellsOp, SpellsInst}
+use Rattle.ir_instructions.specs.InstructionReaders.{is_register, mark_at, keyword_at, register_at, type_at, operand_at, typed_at, tail_at, is_flag, add_flag, flag_at, flags_at, binary_at, pred_at, compare_at, select_at, convert_at, freeze_at, incoming_at, begins_incoming, further_incoming_at, incomings_at, phi_at, operation_at, op_at, inst_at, insts_at}
+use Rattle.ir_instructions.specs.Parts.{Part, Is, ◌⨾◌, Each, Comma, Separated}
+use Rattle.ir_instructions.specs.Readers.{or_left_out, fault}
+use Rattle.ir_instructions.specs.Keywords.{operation_word, operation_in}
+use Rattle.ir_instructions.proofs.Loops.{Adds, repeat-is, each-is, all_read}
+use Rattle.ir_instructions.proofs.Readings.{mark_at-is, keyword_at-is, register_at-is, type_at-is, operand_at-is, typed_at-is, tail_at-is}
+use Rattle.ir_instructions.proofs.Steps.{Reads, bind_ok, read_as, not_left_out, same_front}
+use Rattle.ir_instructions.proofs.WordLemmas.{operation_in-is}
+use Rattle.ir_instructions.specs.Punctuation as marks
+
+-- ---- flags
+
+-- flags before, and flags behind these
+abbrev AddsRead : Opcode → Flags → List Placed → Flags → List Placed → Type 0
+AddsRead op before tokens after rest = (written : List Flag) × AddsFlags op before written after × Each (λ flag. Is (Word (flag_keyword flag))) written tokens rest
+
+add_flag-is : (op : Opcode) (before : Flags) (line : ℕ) (word : List ℕ) (found : Option Flag) (rest : List Placed) (x : Flags × List Placed) (after : Flags) (behind : List Placed) → flag_in op word ≡ found → add_flag before line found rest ≡ Ok x → AddsRead op x.0 x.1 after behind → AddsRead op before ((line, Word word) ∷ rest) after behind
+add_flag-is op before line word (Some flag) rest x after behind f e = added (has_flag before flag) refl e
+  where
+    added : (b : Bool) → has_flag before flag ≡ b → cond b (Err (fault line Syntax)) (Ok (with_flag before flag, rest)) ≡ Ok x → AddsRead op x.0 x.1 after behind → AddsRead op before ((line, Word word) ∷ rest) after behind
+    added true h e = absurd cc
+    added false h e =
+        let is = flag_in-is op word flag f in
+        read_as (λ y. AddsRead op y.0 y.1 after behind → AddsRead op before ((line, Word word) ∷ rest) after behind) (with_flag before flag, rest) x e
+        (λ (written, adds, each). (flag ∷ written, (is.1, h, adds), (rest, (line, ap (λ (w : List ℕ). (line, Word w) ∷ rest) is.0), each)))
+add_flag-is op before line word None rest x after behind f e = absurd cc
+
+flag_at-is : (op : Opcode) (before : Flags) (tokens : List Placed) (x : Flags × List Placed) (after : Flags) (rest : List Placed) → is_flag op tokens ≡ true → flag_at op before tokens ≡ Ok x → AddsRead op x.0 x.1 after rest → AddsRead op before tokens after rest
+unfolding flag_at
+flag_at-is op before ((line, Word word) ∷ others) x after rest next e = add_flag-is op before line word (flag_in op word) others x after rest refl e
+flag_at-is op before tokens x after rest next e = absurd cc
+
+flags_at-is : (op : Opcode) → Reads (flags_at op) (SpellsFlags op)
+unfolding flags_at
+flags_at-is op tokens x e =
+    let r = repeat-is (is_flag op) (flag_at op) (AddsRead op) (λ a ts. ([], refl, refl)) (flag_at-is op) (suc (length tokens)) no_flags tokens x e in
+    r.0
+
+-- ---- instructions
+
+-- an instruction that is read behind its opcode
+abbrev ReadsOp : Operation → ℕ → List Placed → RawOp × List Placed → Type 0
+ReadsOp operation line tokens x = SpellsOp x.0 ((line, Word (operation_word operation)) ∷ tokens) x.1
+
+binary_at-is : (op : Opcode) (line : ℕ) (tokens : List Placed) (x : RawOp × List Placed) → binary_at op tokens ≡ Ok x → ReadsOp (operations.Binary op) line tokens x
+unfolding binary_at
+binary_at-is op line tokens x e =
+    let a = bind_ok (flags_at op tokens) _ _ e in
+    let b = bind_ok (type_at a.0.1) _ _ a.2 in
+    let c = bind_ok (operand_at b.0.0 b.0.1) _ _ b.2 in
+    let d = bind_ok (mark_at marks.comma c.0.1) _ _ c.2 in
+    let f = bind_ok (operand_at b.0.0 d.0.1) _ _ d.2 in
+    read_as (ReadsOp (operations.Binary op) line tokens) (Binary op a.0.0 b.0.0 c.0.0 f.0.0, f.0.1) x f.2
+    (tokens, (line, refl), (a.0.1, flags_at-is op tokens a.0 a.1, (b.0.1, type_at-is a.0.1 b.0 b.1, (c.0.1, operand_at-is b.0.0 b.0.1 c.0 c.1, (d.0.1, mark_at-is marks.comma c.0.1 d.0 d.1, operand_at-is b.0.0 d.0.1 f.0 f.1)))))
+
+pred_at-is : Reads pred_at (λ pred. Is (Word (predicate_keyword pred)))
+unfolding pred_at
+pred_at-is ((line, Word word) ∷ rest) x e =
+    let named = not_left_out line word (pred_in word) rest x e in
+    (line, same_front line word (predicate_keyword x.0) rest x.1 (pred_in-is word x.0 named.0) named.1)
+pred_at-is tokens x e = absurd cc
+
+compare_at-is : (line : ℕ) (tokens : List Placed) (x : RawOp × List Placed) → compare_at tokens ≡ Ok x → ReadsOp operations.Compare line tokens x
+unfolding compare_at
+compare_at-is line tokens x e =
+    let a = bind_ok (pred_at tokens) _ _ e in
+    let b = bind_ok (type_at a.0.1) _ _ a.2 in
+    let c = bind_ok (operand_at b.0.0 b.0.1) _ _ b.2 in
+    let d = bind_ok (mark_at marks.comma c.0.1) _ _ c.2 in
+    let f = bind_ok (operand_at b.0.0 d.0.1) _ _ d.2 in
+    read_as (ReadsOp operations.Compare line tokens) (Compare a.0.0 b.0.0 c.0.0 f.0.0, f.0.1) x f.2
+    (tokens, (line, refl), (a.0.1, pred_at-is tokens a.0 a.1, (b.0.1, type_at-is a.0.1 b.0 b.1, (c.0.1, operand_at-is b.0.0 b.0.1 c.0 c.1, (d.0.1, mark_at-is marks.comma c.0.1 d.0 d.1, operand_at-is b.0.0 d.0.1 f.0 f.1)))))
+
+select_at-is : (line : ℕ) (tokens : List Placed) (x : RawOp × List Placed) → select_at tokens ≡ Ok x → ReadsOp operations.Select line tokens x
+unfolding select_at
+select_at-is line tokens x e =
+    let a = bind_ok (typed_at tokens) _ _ e in
+    let b = bind_ok (mark_at marks.comma a.0.1) _ _ a.2 in
+    let c = bind_ok (typed_at b.0.1) _ _ b.2 in
+    let d = bind_ok (mark_at marks.comma c.0.1) _ _ c.2 in
+    let f = bind_ok (typed_at d.0.1) _ _ d.2 in
+    read_as (ReadsOp operations.Select line tokens) (Select a.0.0 c.0.0 f.0.0, f.0.1) x f.2
+    (tokens, (line, refl), (a.0.1, typed_at-is tokens a.0 a.1, (b.0.1, mark_at-is marks.comma a.0.1 b.0 b.1, (c.0.1, typed_at-is b.0.1 c.0 c.1, (d.0.1, mark_at-is marks.comma c.0.1 d.0 d.1, typed_at-is d.0.1 f.0 f.1)))))
+
+convert_at-is : (cast : Cast) (line : ℕ) (tokens : List Placed) (x : RawOp × List Placed) → convert_at cast tokens ≡ Ok x → ReadsOp (operations.Convert cast) line tokens x
+unfolding convert_at
+convert_at-is cast line tokens x e =
+    let a = bind_ok (typed_at tokens) _ _ e in
+    let b = bind_ok (keyword_at (codes "to") a.0.1) _ _ a.2 in
+    let c = bind_ok (type_at b.0.1) _ _ b.2 in
+    let typed = typed_at-is tokens a.0 a.1 in
+    read_as (ReadsOp (operations.Convert cast) line tokens) (Convert cast a.0.0.width a.0.0.operand c.0.0, c.0.1) x c.2
+    (tokens, (line, refl), (typed.0, typed.1, (a.0.1, typed.2, (b.0.1, keyword_at-is (codes "to") a.0.1 b.0 b.1, type_at-is b.0.1 c.0 c.1))))
+
+freeze_at-is : (line : ℕ) (tokens : List Placed) (x : RawOp × List Placed) → freeze_at tokens ≡ Ok x → ReadsOp operations.Freeze line tokens x
+unfolding freeze_at
+freeze_at-is line tokens x e =
+    let a = bind_ok (typed_at tokens) _ _ e in
+    read_as (ReadsOp operations.Freeze line tokens) (Freeze a.0.0.width a.0.0.operand, a.0.1) x a.2 (tokens, (line, refl), typed_at-is tokens a.0 a.1)
+
+incoming_at-is : (width : ℕ) → Reads (incoming_at width) (SpellsIncoming width)
+unfolding incoming_at
+incoming_at-is width tokens x e =
+    let a = bind_ok (mark_at marks.open_bracket tokens) _ _ e in
+    let b = bind_ok (operand_at width a.0.1) _ _ a.2 in
+    let c = bind_ok (mark_at marks.comma b.0.1) _ _ b.2 in
+    let d = bind_ok (register_at c.0.1) _ _ c.2 in
+    let f = bind_ok (mark_at marks.close_bracket d.0.1) _ _ d.2 in
+    read_as (λ y. SpellsIncoming width y.0 tokens y.1) (record { value = b.0.0; block = d.0.0 }, f.0.1) x f.2
+    (a.0.1, mark_at-is marks.open_bracket tokens a.0 a.1, (b.0.1, operand_at-is width a.0.1 b.0 b.1, (c.0.1, mark_at-is marks.comma b.0.1 c.0 c.1, (d.0.1, register_at-is c.0.1 d.0 d.1, mark_at-is marks.close_bracket d.0.1 f.0 f.1))))
+
+pub further_incoming_at-is : (width : ℕ) → Reads (further_incoming_at width) (λ i. Comma ⨾ SpellsIncoming width i)
+unfolding further_incoming_at
+further_incoming_at-is width tokens x e =
+    let a = bind_ok (mark_at marks.comma tokens) _ _ e in
+    (a.0.1, mark_at-is marks.comma tokens a.0 a.1, incoming_at-is width a.0.1 x a.2)
+
+-- the first, and others with a `,` before each
+pub separated : {A : Type 0} (P : A → Part) (first : A) (tokens middle : List Placed) (all : List A) (rest : List Placed) → P first tokens middle → Adds (λ y. Comma ⨾ P y) (first ∷ []) middle all rest → Separated P all tokens rest
+separated P first tokens middle all rest one (others, same, each) = subst (λ xs. Separated P xs tokens rest) (sym same) (middle, one, each)
+
+phi_at-is : (line : ℕ) (tokens : List Placed) (x : RawOp × List Placed) → phi_at tokens ≡ Ok x → ReadsOp operations.Phi line tokens x
+unfolding phi_at
+phi_at-is line tokens x e =
+    let a = bind_ok (type_at tokens) _ _ e in
+    let b = bind_ok (incoming_at a.0.0 a.0.1) _ _ a.2 in
+    let c = bind_ok (incomings_at a.0.0 (b.0.0 ∷ []) b.0.1) _ _ b.2 in
+    let each = each-is begins_incoming (further_incoming_at a.0.0) (λ i. Comma ⨾ SpellsIncoming a.0.0 i) (λ ts y next f. further_incoming_at-is a.0.0 ts y f) (b.0.0 ∷ []) b.0.1 c.0 c.1 in
+    read_as (ReadsOp operations.Phi line tokens) (Phi a.0.0 c.0.0, c.0.1) x c.2
+    (tokens, (line, refl), (a.0.1, type_at-is tokens a.0 a.1, separated (SpellsIncoming a.0.0) b.0.0 a.0.1 b.0.1 c.0.0 c.0.1 (incoming_at-is a.0.0 a.0.1 b.0 b.1) each.0))
+
+operation_at-is : (operation : Operation) (line : ℕ) (tokens : List Placed) (x : RawOp × List Placed) → operation_at operation tokens ≡ Ok x → ReadsOp operation line tokens x
+operation_at-is (operations.Binary op) line tokens x e = binary_at-is op line tokens x e
+operation_at-is operations.Compare line tokens x e = compare_at-is line tokens x e
+operation_at-is operations.Select line tokens x e = select_at-is line tokens x e
+operation_at-is (operations.Convert cast) line tokens x e = convert_at-is cast line tokens x e
+operation_at-is operations.Freeze line tokens x e = freeze_at-is line tokens x e
+operation_at-is operations.Phi line tokens x e = phi_at-is line tokens x e
+
+op_at-is : Reads op_at SpellsOp
+unfolding op_at
+op_at-is ((line, Word word) ∷ rest) x e =
+    let a = bind_ok (or_left_out line word (operation_in word) rest) _ _ e in
+    let named = not_left_out line word (operation_in word) rest a.0 a.1 in
+    subst (λ ts. SpellsOp x.0 ts x.1) (sym (same_front line word (operation_word a.0.0) rest a.0.1 (operation_in-is word a.0.0 named.0) named.1)) (operation_at-is a.0.0 line a.0.1 x a.2)
+op_at-is tokens x e = absurd cc
+
+pub inst_at-is : Reads inst_at SpellsInst
+unfolding inst_at
+inst_at-is tokens x e =
+    let a = bind_ok (register_at tokens) _ _ e in
+    let b = bind_ok (mark_at marks.equals a.0.1) _ _ a.2 in
+    let c = bind_ok (op_at b.0.1) _ _ b.2 in
+    let d = bind_ok (tail_at c.0.1) _ _ c.2 in
+    read_as (λ y. SpellsInst y.0 tokens y.1) (record { result = a.0.0; op = c.0.0 }, d.0.1) x d.2
+    (a.0.1, register_at-is tokens a.0 a.1, (b.0.1, mark_at-is marks.equals a.0.1 b.0 b.1, (c.0.1, op_at-is b.0.1 c.0 c.1, tail_at-is c.0.1 d.0 d.1)))
+
+pub insts_at-is : Reads insts_at (Each SpellsInst)
+unfolding insts_at
+insts_at-is tokens x e =
+    let r = each-is is_register inst_at SpellsInst (λ ts y next f. inst_at-is ts y f) [] tokens x e in all_read SpellsInst tokens x.0 x.1 r.0

@@ -1,0 +1,160 @@
+-- What is spelled of instructions and terminators is read, where what follows may follow.
+use Rattle.std.proofs.Common.{◌≡◌, ℕ, true, false, List, [], ◌∷◌, Ok, refl, ◌∙◌}
+use Rattle.std.specs.Prelude.{codes}
+use Rattle.ops.specs.declared.opcode.Opcode.{Opcode}
+use Rattle.ops.specs.declared.opcode.Flags.{Flags}
+use Rattle.ops.specs.declared.comparison.Pred.{Pred}
+use Rattle.ops.specs.Flags.{no_flags}
+use Rattle.ops.specs.declared.keywords.flag.Flag.{Flag}
+use Rattle.ops.specs.Keywords.{predicate_keyword}
+use Rattle.ops.specs.FlagKeywords.{AddsFlags, flag_keyword, with_flag}
+use Rattle.ops.proofs.KeywordLemmas.{pred_in-of}
+use Rattle.ops.proofs.FlagKeywordLemmas.{flag_in-of}
+use Rattle.ir_tokens.specs.Tokens.{Placed, Word, Mark}
+use Rattle.ir_tokens.specs.declared.raw.RawIncoming.{RawIncoming}
+use Rattle.ir_tokens.specs.declared.raw.RawInst.{RawInst}
+use Rattle.ir_tokens.specs.declared.raw.RawOp.{RawOp}
+use Rattle.ir_tokens.specs.declared.raw.RawOp.TheVariants.{Binary, Compare, Select, Convert, Freeze, Phi}
+use Rattle.ir_tokens.specs.declared.raw.RawTerminator.{RawTerminator}
+use Rattle.ir_tokens.specs.declared.raw.RawTerminator.TheVariants.{Return, Unreachable, Jump, Branch, Switch}
+use Rattle.ir_tokens.specs.declared.raw.RawCase.{RawCase}
+use Rattle.ir_instructions.specs.declared.word.Operation.TheVariants as operations
+use Rattle.ir_instructions.specs.declared.word.Ending.TheVariants as endings
+use Rattle.ir_instructions.specs.Grammar.{Tail, SpellsType, SpellsFlags, SpellsIncoming, SpellsOp, SpellsInst, SpellsCase, SpellsCases, SpellsTerminator}
+use Rattle.ir_instructions.specs.InstructionReaders.{is_mark, is_register, is_flag, flag_at, flags_at, binary_at, pred_at, compare_at, select_at, convert_at, freeze_at, incoming_at, begins_incoming, further_incoming_at, incomings_at, phi_at, op_at, inst_at, insts_at, return_at, jump_at, conditional_at, branch_at, begins_case, case_at, cases_at, switch_at, terminator_at}
+use Rattle.ir_instructions.specs.Parts.{Part, Is, ◌⨾◌, Each, Comma, Separated}
+use Rattle.ir_instructions.specs.Readers.{repeat_at}
+use Rattle.ir_instructions.specs.Punctuation as marks
+use Rattle.ir_instructions.proofs.Loops.{ReadsEach, each-of, repeat-more, repeat-done}
+use Rattle.ir_instructions.proofs.Spellings.{mark_at-of, keyword_at-of, register_at-of, target_at-of, type_at-of, type_begins_no_flag, type_is_no_keyword, operand_at-of, case_value_at-of, typed_at-of, tail_at-of}
+use Rattle.ir_instructions.proofs.Takings.{flag-takes, incoming-takes, inst-takes, case-takes}
+use Rattle.ir_instructions.proofs.WordLemmas.{operation_in-of, ending_in-of}
+
+-- ---- flags
+
+flags_are_read : (op : Opcode) (written : List Flag) (before after : Flags) (tokens rest : List Placed) → AddsFlags op before written after → Each (λ flag. Is (Word (flag_keyword flag))) written tokens rest → is_flag op rest ≡ false → repeat_at (is_flag op) (flag_at op) before tokens ≡ Ok (after, rest)
+unfolding flag_at
+flags_are_read op [] before after tokens rest adds each none = rw (adds, each) (repeat-done (is_flag op) (flag_at op) after rest none)
+flags_are_read op (flag ∷ written) before after tokens rest (takes, new, adds) (middle, (line, is), each) none =
+    let next : is_flag op tokens ≡ true = rw (is, flag_in-of op flag takes) refl in
+    let one : flag_at op before tokens ≡ Ok (with_flag before flag, middle) = rw (is, flag_in-of op flag takes, new) refl in
+    repeat-more (is_flag op) (flag_at op) (flag-takes op) before tokens (with_flag before flag, middle) next one
+    ∙ flags_are_read op written (with_flag before flag) after middle rest adds each none
+
+flags_at-of : (op : Opcode) (flags : Flags) (tokens rest : List Placed) → SpellsFlags op flags tokens rest → is_flag op rest ≡ false → flags_at op tokens ≡ Ok (flags, rest)
+unfolding flags_at
+flags_at-of op flags tokens rest (written, adds, each) none = flags_are_read op written no_flags flags tokens rest adds each none
+
+-- ---- instructions
+
+pred_at-of : (pred : Pred) (tokens rest : List Placed) → Is (Word (predicate_keyword pred)) tokens rest → pred_at tokens ≡ Ok (pred, rest)
+unfolding pred_at
+pred_at-of pred tokens rest (line, is) = rw (is, pred_in-of pred) refl
+
+incoming_at-of : (width : ℕ) (i : RawIncoming) (tokens rest : List Placed) → SpellsIncoming width i tokens rest → incoming_at width tokens ≡ Ok (i, rest)
+unfolding incoming_at
+incoming_at-of width i tokens rest (t1, opens, (t2, value, (t3, comma, (t4, block, closes)))) =
+    rw (mark_at-of marks.open_bracket tokens t1 opens, operand_at-of width i.value t1 t2 value, mark_at-of marks.comma t2 t3 comma, register_at-of i.block t3 t4 block, mark_at-of marks.close_bracket t4 rest closes) refl
+
+abbrev Further : ℕ → RawIncoming → Part
+Further width i = Comma ⨾ SpellsIncoming width i
+
+further_is_next : (width : ℕ) (i : RawIncoming) (tokens rest : List Placed) → Further width i tokens rest → begins_incoming tokens ≡ true
+further_is_next width i tokens rest (t1, (line, is), (t2, (next, opens), behind)) = rw (is, opens) refl
+
+further_is_read : (width : ℕ) (i : RawIncoming) (tokens rest : List Placed) → Further width i tokens rest → Unit {0} → further_incoming_at width tokens ≡ Ok (i, rest)
+unfolding further_incoming_at
+further_is_read width i tokens rest (t1, comma, incoming) may = rw (mark_at-of marks.comma tokens t1 comma) (incoming_at-of width i t1 rest incoming)
+
+phi_at-of : (width : ℕ) (incomings : List RawIncoming) (tokens t1 rest : List Placed) → SpellsType width tokens t1 → Separated (SpellsIncoming width) incomings t1 rest → begins_incoming rest ≡ false → phi_at tokens ≡ Ok (Phi width incomings, rest)
+unfolding phi_at
+phi_at-of width [] tokens t1 rest type never none = absurd never
+phi_at-of width (first ∷ others) tokens t1 rest type (t2, one, each) none =
+    let more : incomings_at width (first ∷ []) t2 ≡ Ok (first ∷ others, rest) =
+    each-of begins_incoming (further_incoming_at width) (Further width) (λ behind. Unit {0})
+    (record { takes = incoming-takes width; next = further_is_next width; follows = λ x ts r h. tt; reads = further_is_read width }) others (first ∷ []) t2 rest each none tt in
+    rw (type_at-of width tokens t1 type, incoming_at-of width first t1 t2 one, more) refl
+
+op_at-of : (o : RawOp) (tokens rest : List Placed) → SpellsOp o tokens rest → begins_incoming rest ≡ false → op_at tokens ≡ Ok (o, rest)
+unfolding op_at binary_at compare_at select_at convert_at freeze_at
+op_at-of (Binary op flags width a b) tokens rest (t1, (line, is), (t2, fs, (t3, type, (t4, left, (t5, comma, right))))) none =
+    rw (is, operation_in-of (operations.Binary op), flags_at-of op flags t1 t2 fs (type_begins_no_flag op width t2 t3 type), type_at-of width t2 t3 type, operand_at-of width a t3 t4 left, mark_at-of marks.comma t4 t5 comma, operand_at-of width b t5 rest right) refl
+op_at-of (Compare pred width a b) tokens rest (t1, (line, is), (t2, p, (t3, type, (t4, left, (t5, comma, right))))) none =
+    rw (is, operation_in-of operations.Compare, pred_at-of pred t1 t2 p, type_at-of width t2 t3 type, operand_at-of width a t3 t4 left, mark_at-of marks.comma t4 t5 comma, operand_at-of width b t5 rest right) refl
+op_at-of (Select condition if_true if_false) tokens rest (t1, (line, is), (t2, c, (t3, comma, (t4, yes_part, (t5, comma', no_part))))) none =
+    rw (is, operation_in-of operations.Select, typed_at-of condition t1 t2 c, mark_at-of marks.comma t2 t3 comma, typed_at-of if_true t3 t4 yes_part, mark_at-of marks.comma t4 t5 comma', typed_at-of if_false t5 rest no_part) refl
+op_at-of (Convert cast from a to) tokens rest (t1, (line, is), (t2, type, (t3, operand, (t4, keyword, type')))) none =
+    rw (is, operation_in-of (operations.Convert cast), typed_at-of (record { width = from; operand = a }) t1 t3 (t2, type, operand), keyword_at-of (codes "to") t3 t4 keyword, type_at-of to t4 rest type') refl
+op_at-of (Freeze width a) tokens rest (t1, (line, is), (t2, type, operand)) none =
+    rw (is, operation_in-of operations.Freeze, typed_at-of (record { width = width; operand = a }) t1 rest (t2, type, operand)) refl
+op_at-of (Phi width incomings) tokens rest (t1, (line, is), (t2, type, separated)) none =
+    rw (is, operation_in-of operations.Phi) (phi_at-of width incomings t1 t2 rest type separated none)
+
+-- no incoming value begins attachments, or what no `,` begins
+no_comma_no_incoming : (tokens : List Placed) → is_mark marks.comma tokens ≡ false → begins_incoming tokens ≡ false
+no_comma_no_incoming ((line, Mark mark) ∷ rest) none = rw none refl
+no_comma_no_incoming tokens none = refl
+
+tail_begins_no_incoming : (tokens rest : List Placed) → Tail tokens rest → is_mark marks.comma rest ≡ false → begins_incoming tokens ≡ false
+tail_begins_no_incoming tokens rest ([], same) none = rw same (no_comma_no_incoming rest none)
+tail_begins_no_incoming tokens rest (once ∷ times, (middle, (t1, (line, is), (name, number, plain, digits, (t2, (next, metadata), behind))), more)) none = rw (is, metadata) refl
+
+-- no `,` follows
+abbrev pub HasNoTail : List Placed → Type 0
+HasNoTail tokens = is_mark marks.comma tokens ≡ false
+
+inst_at-of : (i : RawInst) (tokens rest : List Placed) → SpellsInst i tokens rest → HasNoTail rest → inst_at tokens ≡ Ok (i, rest)
+unfolding inst_at
+inst_at-of i tokens rest (t1, register, (t2, equals, (t3, op, tail))) none =
+    rw (register_at-of i.result tokens t1 register, mark_at-of marks.equals t1 t2 equals, op_at-of i.op t2 t3 op (tail_begins_no_incoming t3 rest tail none), tail_at-of t3 rest tail none) refl
+
+pub inst_is_next : (i : RawInst) (tokens rest : List Placed) → SpellsInst i tokens rest → is_register tokens ≡ true
+inst_is_next i tokens rest (t1, (written, same, is), behind) = rw is refl
+
+inst_may_follow : (i : RawInst) (tokens rest : List Placed) → SpellsInst i tokens rest → HasNoTail tokens
+inst_may_follow i tokens rest (t1, (written, same, is), behind) = rw is refl
+
+pub insts_at-of : (insts : List RawInst) (tokens rest : List Placed) → Each SpellsInst insts tokens rest → is_register rest ≡ false → HasNoTail rest → insts_at tokens ≡ Ok (insts, rest)
+unfolding insts_at
+insts_at-of insts tokens rest each none may =
+    each-of is_register inst_at SpellsInst HasNoTail (record { takes = inst-takes; next = inst_is_next; follows = inst_may_follow; reads = inst_at-of }) insts [] tokens rest each none may
+
+-- ---- terminators
+
+case_at-of : (c : RawCase) (tokens rest : List Placed) → SpellsCase c tokens rest → Unit {0} → case_at tokens ≡ Ok (c, rest)
+unfolding case_at
+case_at-of c tokens rest (case, (t1, type, (t2, value, (t3, comma, target)))) may =
+    rw (type_at-of c.width tokens t1 type, case_value_at-of c.width c.value t1 t2 case value, mark_at-of marks.comma t2 t3 comma, target_at-of c.target t3 rest target) refl
+
+case_is_next : (c : RawCase) (tokens rest : List Placed) → SpellsCase c tokens rest → begins_case tokens ≡ true
+case_is_next c tokens rest (case, (t1, (word, type, (line, is)), behind)) = rw is refl
+
+cases_at-of : (cases : List RawCase) (tokens rest : List Placed) → SpellsCases cases tokens rest → cases_at tokens ≡ Ok (cases, rest)
+unfolding cases_at
+cases_at-of cases tokens rest (t1, opens, (t2, each, (line, closes))) =
+    let r : ReadsEach begins_case case_at SpellsCase (λ ts. Unit {0}) = record { takes = case-takes; next = case_is_next; follows = λ x ts r h. tt; reads = case_at-of } in
+    rw (
+      mark_at-of marks.open_bracket tokens t1 opens,
+      each-of begins_case case_at SpellsCase (λ ts. Unit {0}) r cases [] t1 t2 each (rw closes refl) tt,
+      mark_at-of marks.close_bracket t2 rest (line, closes),
+    ) refl
+
+pub terminator_at-of : (line : ℕ) (t : RawTerminator) (tokens rest : List Placed) → SpellsTerminator line t tokens rest → terminator_at tokens ≡ Ok ((line, t), rest)
+unfolding terminator_at return_at jump_at conditional_at branch_at switch_at
+terminator_at-of line (Return width a) tokens rest (t1, is, (t2, type, operand)) =
+    rw (is, ending_in-of endings.Return, typed_at-of (record { width = width; operand = a }) t1 rest (t2, type, operand)) refl
+terminator_at-of line Unreachable tokens rest is = rw (is, ending_in-of endings.Unreachable) refl
+terminator_at-of line (Jump to) tokens rest (t1, is, (t2, (next, keyword), register)) =
+    rw (is, ending_in-of endings.Branch, keyword, target_at-of to ((next, Word (codes "label")) ∷ t2) rest (t2, (next, refl), register)) refl
+terminator_at-of line (Branch width a if_true if_false) tokens rest (t1, is, (t2, type, (t3, operand, (t4, comma, (t5, first, (t6, comma', second)))))) =
+    rw (is, ending_in-of endings.Branch, type_is_no_keyword width t1 t2 type, typed_at-of (record { width = width; operand = a }) t1 t3 (t2, type, operand), mark_at-of marks.comma t3 t4 comma, target_at-of if_true t4 t5 first, mark_at-of marks.comma t5 t6 comma', target_at-of if_false t6 rest second) refl
+terminator_at-of line (Switch width a default cases) tokens rest (t1, is, (t2, type, (t3, operand, (t4, comma, (t5, target, cs))))) =
+    rw (is, ending_in-of endings.Switch, typed_at-of (record { width = width; operand = a }) t1 t3 (t2, type, operand), mark_at-of marks.comma t3 t4 comma, target_at-of default t4 t5 target, cases_at-of cases t5 rest cs) refl
+
+-- a word begins a terminator
+pub terminator_begins : (line : ℕ) (t : RawTerminator) (tokens rest : List Placed) → SpellsTerminator line t tokens rest → (word : List ℕ) × (behind : List Placed) × (tokens ≡ (line, Word word) ∷ behind)
+terminator_begins line (Return width a) tokens rest (t1, is, behind) = (codes "ret", t1, is)
+terminator_begins line Unreachable tokens rest is = (codes "unreachable", rest, is)
+terminator_begins line (Jump to) tokens rest (t1, is, behind) = (codes "br", t1, is)
+terminator_begins line (Branch width a if_true if_false) tokens rest (t1, is, behind) = (codes "br", t1, is)
+terminator_begins line (Switch width a default cases) tokens rest (t1, is, behind) = (codes "switch", t1, is)

@@ -1,0 +1,142 @@
+-- Behind a part fewer tokens are left, or no more.
+use Rattle.std.proofs.Common.{◌≡◌, ◌<◌, ◌≤◌, ℕ, List, [], ◌∷◌, length, Option, Some, None, ap, arith}
+use Rattle.ops.specs.declared.opcode.Opcode.{Opcode}
+use Rattle.ops.specs.declared.opcode.Flags.{Flags}
+use Rattle.ir_tokens.specs.Tokens.{Token, Placed}
+use Rattle.ir_tokens.specs.declared.raw.RawIdentifier.{RawIdentifier}
+use Rattle.ir_tokens.specs.declared.raw.RawInst.{RawInst}
+use Rattle.ir_tokens.specs.declared.raw.RawOp.{RawOp}
+use Rattle.ir_tokens.specs.declared.raw.RawOp.TheVariants.{Binary, Compare, Select, Convert, Freeze, Phi}
+use Rattle.ir_tokens.specs.declared.raw.TypedOperand.{TypedOperand}
+use Rattle.ir_tokens.specs.declared.raw.RawOperand.{RawOperand}
+use Rattle.ir_tokens.specs.declared.raw.RawIncoming.{RawIncoming}
+use Rattle.ir_tokens.specs.declared.raw.RawTerminator.{RawTerminator}
+use Rattle.ir_tokens.specs.declared.raw.RawTerminator.TheVariants.{Return, Unreachable, Jump, Branch, Switch}
+use Rattle.ir_tokens.specs.declared.raw.RawCase.{RawCase}
+use Rattle.ir_instructions.specs.Grammar.{SpellsRegister, SpellsTarget, SpellsType, SpellsOperand, SpellsTyped, Attachment, Tail, SpellsFlags, SpellsIncoming, SpellsOp, SpellsInst, SpellsCase, SpellsCases, SpellsTerminator}
+use Rattle.ir_instructions.specs.Parts.{Part, IsOn, Is, ◌⨾◌, Maybe, Each, Comma, Separated, Repeated}
+
+abbrev pub Shorter : Part → Type 0
+Shorter P = (tokens rest : List Placed) → P tokens rest → length rest < length tokens
+
+abbrev pub NoLonger : Part → Type 0
+NoLonger P = (tokens rest : List Placed) → P tokens rest → length rest ≤ length tokens
+
+-- ---- one part behind another
+
+pub weaker : (P : Part) → Shorter P → NoLonger P
+weaker P p tokens rest h = let fewer : length rest < length tokens = p tokens rest h in omega arith
+
+pub begins : (P Q : Part) → Shorter P → NoLonger Q → Shorter (P ⨾ Q)
+begins P Q p q tokens rest (middle, h, k) =
+    let fewer : length middle < length tokens = p tokens middle h in
+    let more : length rest ≤ length middle = q middle rest k in omega arith
+
+pub both : (P Q : Part) → NoLonger P → NoLonger Q → NoLonger (P ⨾ Q)
+both P Q p q tokens rest (middle, h, k) =
+    let fewer : length middle ≤ length tokens = p tokens middle h in
+    let more : length rest ≤ length middle = q middle rest k in omega arith
+
+pub on_line : (line : ℕ) (token : Token) → Shorter (IsOn line token)
+on_line line token tokens rest is = omega (arith, ap length is)
+
+pub token : (t : Token) → Shorter (Is t)
+token t tokens rest (line, is) = on_line line t tokens rest is
+
+pub a_token : (t : Token) → NoLonger (Is t)
+a_token t = weaker (Is t) (token t)
+
+pub no_part : NoLonger (λ tokens rest. tokens ≡ rest)
+no_part tokens rest same = omega (arith, ap length same)
+
+pub maybe : {A : Type 0} (P : A → Part) → ((x : A) → NoLonger (P x)) → (o : Option A) → NoLonger (Maybe P o)
+maybe P p None = no_part
+maybe P p (Some x) = p x
+
+pub each : {A : Type 0} (P : A → Part) → ((x : A) → NoLonger (P x)) → (xs : List A) → NoLonger (Each P xs)
+each P p [] = no_part
+each P p (x ∷ xs) = both (P x) (Each P xs) (p x) (each P p xs)
+
+pub repeated : (P : Part) → NoLonger P → NoLonger (Repeated P)
+repeated P p tokens rest (times, h) = each (λ once. P) (λ once. p) times tokens rest h
+
+-- ---- names, types and values
+
+register : (r : RawIdentifier) → Shorter (SpellsRegister r)
+register r tokens rest (written, same, is) = on_line r.line _ tokens rest is
+
+pub a_register : (r : RawIdentifier) → NoLonger (SpellsRegister r)
+a_register r = weaker (SpellsRegister r) (register r)
+
+target : (r : RawIdentifier) → NoLonger (SpellsTarget r)
+target r = both _ _ (a_token _) (a_register r)
+
+type : (width : ℕ) → Shorter (SpellsType width)
+type width tokens rest (word, is, one) = token _ tokens rest one
+
+pub a_type : (width : ℕ) → NoLonger (SpellsType width)
+a_type width = weaker (SpellsType width) (type width)
+
+operand : (width : ℕ) (a : RawOperand) → NoLonger (SpellsOperand width a)
+operand width a = weaker (SpellsOperand width a) (λ tokens rest (t, value, is). on_line a.line t tokens rest is)
+
+typed : (t : TypedOperand) → NoLonger (SpellsTyped t)
+typed t = both _ _ (a_type t.width) (operand t.width t.operand)
+
+-- ---- attachments and items
+
+pub attachment-shorter : Shorter Attachment
+attachment-shorter tokens rest (name, number, n, m, both_tokens) = begins _ _ (token _) (a_token _) tokens rest both_tokens
+
+pub tail_attachment-shorter : Shorter (Comma ⨾ Attachment)
+tail_attachment-shorter = begins Comma Attachment (token _) (weaker Attachment attachment-shorter)
+
+pub tail : NoLonger Tail
+tail = repeated (Comma ⨾ Attachment) (weaker (Comma ⨾ Attachment) tail_attachment-shorter)
+
+-- ---- instructions and terminators
+
+flags : (op : Opcode) (fs : Flags) → NoLonger (SpellsFlags op fs)
+flags op fs tokens rest (written, adds, h) = each _ (λ flag. a_token _) written tokens rest h
+
+incoming : (width : ℕ) (i : RawIncoming) → NoLonger (SpellsIncoming width i)
+incoming width i = both _ _ (a_token _) (both _ _ (operand width i.value) (both _ _ (a_token _) (both _ _ (a_register i.block) (a_token _))))
+
+pub further_incoming-shorter : (width : ℕ) (i : RawIncoming) → Shorter (Comma ⨾ SpellsIncoming width i)
+further_incoming-shorter width i = begins Comma (SpellsIncoming width i) (token _) (incoming width i)
+
+pub separated : {A : Type 0} (P : A → Part) → ((x : A) → NoLonger (P x)) → (xs : List A) → NoLonger (Separated P xs)
+separated P p [] tokens rest h = absurd h
+separated P p (x ∷ xs) tokens rest h = both (P x) (Each (λ y. Comma ⨾ P y) xs) (p x) (each (λ y. Comma ⨾ P y) (λ y. both Comma (P y) (a_token _) (p y)) xs) tokens rest h
+
+op : (o : RawOp) → NoLonger (SpellsOp o)
+op (Binary opcode fs width a b) = both _ _ (a_token _) (both _ _ (flags opcode fs) (both _ _ (a_type width) (both _ _ (operand width a) (both _ _ (a_token _) (operand width b)))))
+op (Compare pred width a b) = both _ _ (a_token _) (both _ _ (a_token _) (both _ _ (a_type width) (both _ _ (operand width a) (both _ _ (a_token _) (operand width b)))))
+op (Select condition if_true if_false) = both _ _ (a_token _) (both _ _ (typed condition) (both _ _ (a_token _) (both _ _ (typed if_true) (both _ _ (a_token _) (typed if_false)))))
+op (Convert cast from a to) = both _ _ (a_token _) (both _ _ (a_type from) (both _ _ (operand from a) (both _ _ (a_token _) (a_type to))))
+op (Freeze width a) = both _ _ (a_token _) (both _ _ (a_type width) (operand width a))
+op (Phi width incomings) = both _ _ (a_token _) (both _ _ (a_type width) (separated (SpellsIncoming width) (incoming width) incomings))
+
+pub inst-shorter : (i : RawInst) → Shorter (SpellsInst i)
+inst-shorter i = begins _ _ (register i.result) (both _ _ (a_token _) (both _ _ (op i.op) tail))
+
+pub case-shorter : (c : RawCase) → Shorter (SpellsCase c)
+case-shorter c tokens rest (value, h) = begins _ _ (type c.width) (both _ _ (operand c.width c.value) (both _ _ (a_token _) (target c.target))) tokens rest h
+
+word : (line : ℕ) (t : Token) → NoLonger (IsOn line t)
+word line t = weaker (IsOn line t) (on_line line t)
+
+cases : (cs : List RawCase) → NoLonger (SpellsCases cs)
+cases cs = both _ _ (a_token _) (both _ _ (each SpellsCase (λ c. weaker (SpellsCase c) (case-shorter c)) cs) (a_token _))
+
+pub terminator : (line : ℕ) (t : RawTerminator) → NoLonger (SpellsTerminator line t)
+terminator line (Return width a) = both _ _ (word line _) (both _ _ (a_type width) (operand width a))
+terminator line Unreachable = word line _
+terminator line (Jump to) = both _ _ (word line _) (target to)
+terminator line (Branch width a if_true if_false) =
+    both _ _ (word line _) (both _ _ (a_type width) (both _ _ (operand width a) (both _ _ (a_token _) (both _ _ (target if_true) (both _ _ (a_token _) (target if_false))))))
+terminator line (Switch width a default cs) =
+    both _ _ (word line _) (both _ _ (a_type width) (both _ _ (operand width a) (both _ _ (a_token _) (both _ _ (target default) (cases cs)))))
+
+pub insts : (is : List RawInst) → NoLonger (Each SpellsInst is)
+insts is = each SpellsInst (λ i. weaker (SpellsInst i) (inst-shorter i)) is

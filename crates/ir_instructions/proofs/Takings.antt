@@ -1,0 +1,44 @@
+-- Each part that may stand any number of times takes a token at least.
+use Rattle.std.proofs.Common.{◌≡◌, ℕ, Bool, true, false, cond, List, ◌∷◌, Option, Some, None, Ok, Err, refl, arith}
+use Rattle.ops.specs.declared.opcode.Opcode.{Opcode}
+use Rattle.ops.specs.declared.opcode.Flags.{Flags}
+use Rattle.ops.specs.declared.keywords.flag.Flag.{Flag}
+use Rattle.ops.specs.FlagKeywords.{has_flag, with_flag, flag_in}
+use Rattle.ir_tokens.specs.Tokens.{Placed, Word}
+use Rattle.ir_instructions.specs.declared.fault.Misfit.TheVariants.{Syntax}
+use Rattle.ir_instructions.specs.InstructionReaders.{is_mark, is_register, is_metadata, attachment_at, tail_attachment_at, is_flag, add_flag, flag_at, begins_incoming, further_incoming_at, inst_at, begins_case, case_at}
+use Rattle.ir_instructions.specs.Readers.{TakesSome, fault}
+use Rattle.ir_instructions.specs.Punctuation as marks
+use Rattle.ir_instructions.proofs.OpReadings.{further_incoming_at-is, inst_at-is}
+use Rattle.ir_instructions.proofs.Readings.{attachment_at-is, tail_attachment_at-is}
+use Rattle.ir_instructions.proofs.Shorter.{attachment-shorter, tail_attachment-shorter, further_incoming-shorter, inst-shorter, case-shorter}
+use Rattle.ir_instructions.proofs.Steps.{read_as}
+use Rattle.ir_instructions.proofs.TerminatorReadings.{case_at-is}
+
+pub attachment-takes : TakesSome is_metadata attachment_at
+attachment-takes tokens x next e = attachment-shorter tokens x.1 (attachment_at-is tokens x e)
+
+pub tail-takes : TakesSome (is_mark marks.comma) tail_attachment_at
+tail-takes tokens x next e = tail_attachment-shorter tokens x.1 (tail_attachment_at-is tokens x e)
+
+added_takes : (before : Flags) (line : ℕ) (found : Option Flag) (rest : List Placed) (x : Flags × List Placed) → add_flag before line found rest ≡ Ok x → rest ≡ x.1
+added_takes before line (Some flag) rest x e = added (has_flag before flag) e
+  where
+    added : (b : Bool) → cond b (Err (fault line Syntax)) (Ok (with_flag before flag, rest)) ≡ Ok x → rest ≡ x.1
+    added true e = absurd cc
+    added false e = read_as (λ y. rest ≡ y.1) (with_flag before flag, rest) x e refl
+added_takes before line None rest x e = absurd cc
+
+pub flag-takes : (op : Opcode) (before : Flags) → TakesSome (is_flag op) (flag_at op before)
+unfolding flag_at
+flag-takes op before ((line, Word word) ∷ rest) x next e = rw (added_takes before line (flag_in op word) rest x e) (omega arith)
+flag-takes op before tokens x next e = absurd cc
+
+pub incoming-takes : (width : ℕ) → TakesSome begins_incoming (further_incoming_at width)
+incoming-takes width tokens x next e = further_incoming-shorter width x.0 tokens x.1 (further_incoming_at-is width tokens x e)
+
+pub inst-takes : TakesSome is_register inst_at
+inst-takes tokens x next e = inst-shorter x.0 tokens x.1 (inst_at-is tokens x e)
+
+pub case-takes : TakesSome begins_case case_at
+case-takes tokens x next e = case-shorter x.0 tokens x.1 (case_at-is tokens x e)

@@ -1,0 +1,11 @@
+use Rattle.std.proofs.Common.{◌≡◌, length}
+use Rattle.ir_tokens.specs.SeenTokens.{seen}
+use Rattle.ir_instructions.specs.InstructionReaders.{is_metadata, attachment_at}
+use Rattle.ir_instructions.specs.Readers.{repeat_at}
+use Rattle.ir_instructions.proofs.attachment.attachments.Given as goal
+
+abbrev pub invariant-attachments : goal.invariant-attachments
+invariant-attachments l = repeat_at is_metadata (λ before. attachment_at) tt (seen l.tokens.now) ≡ repeat_at is_metadata (λ before. attachment_at) tt (seen l.fn.tokens.now)
+
+abbrev pub decreases-attachments : goal.decreases-attachments
+decreases-attachments l = length (seen l.tokens.now)

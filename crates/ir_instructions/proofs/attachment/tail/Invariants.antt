@@ -1,0 +1,12 @@
+use Rattle.std.proofs.Common.{◌≡◌, length}
+use Rattle.ir_tokens.specs.SeenTokens.{seen}
+use Rattle.ir_instructions.specs.InstructionReaders.{is_mark, tail_attachment_at}
+use Rattle.ir_instructions.specs.Readers.{repeat_at}
+use Rattle.ir_instructions.specs.Punctuation as marks
+use Rattle.ir_instructions.proofs.attachment.tail.Given as goal
+
+abbrev pub invariant-attachments : goal.invariant-attachments
+invariant-attachments l = repeat_at (is_mark marks.comma) (λ before. tail_attachment_at) tt (seen l.tokens.now) ≡ repeat_at (is_mark marks.comma) (λ before. tail_attachment_at) tt (seen l.fn.tokens.now)
+
+abbrev pub decreases-attachments : goal.decreases-attachments
+decreases-attachments l = length (seen l.tokens.now)

@@ -1,0 +1,10 @@
+use Rattle.std.proofs.Common.{◌≡◌, length}
+use Rattle.ir_tokens.specs.SeenTokens.{seen}
+use Rattle.ir_instructions.specs.Readers.{each_at}
+use Rattle.ir_instructions.proofs.part.each.Given as goal
+
+abbrev pub invariant-parts : goal.invariant-parts
+invariant-parts g l = each_at g.P.Part.begins g.P.Part.reader l.parts (seen l.tokens.now) ≡ each_at g.P.Part.begins g.P.Part.reader l.fn.front (seen l.fn.tokens.now)
+
+abbrev pub decreases-parts : goal.decreases-parts
+decreases-parts g l = length (seen l.tokens.now)

@@ -1,0 +1,130 @@
+-- What instructions and terminators are in a text: each part as it is written, and the tokens that spell it (LLVM Language Reference,
+-- "Instruction Reference", "Metadata"). Attachments of metadata are dropped.
+use Rattle.std.specs.Prelude.{◌≡◌, ℕ, List, Some, IsTrue, codes}
+use Rattle.ops.specs.declared.opcode.Opcode.{Opcode}
+use Rattle.ops.specs.declared.opcode.Flags.{Flags}
+use Rattle.ops.specs.Flags.{no_flags}
+use Rattle.ops.specs.declared.keywords.flag.Flag.{Flag}
+use Rattle.ops.specs.Keywords.{opcode_keyword, cast_keyword, predicate_keyword}
+use Rattle.ops.specs.FlagKeywords.{AddsFlags, flag_keyword}
+use Rattle.scan.specs.IrTokens.{is_plain_name}
+use Rattle.ir_tokens.specs.Identifiers.{identifier_of}
+use Rattle.ir_tokens.specs.Numbers.{constant_of, is_number}
+use Rattle.ir_tokens.specs.Tokens.{Token, Word, Number, Register, Metadata, Mark}
+use Rattle.ir_tokens.specs.declared.raw.RawIdentifier.{RawIdentifier}
+use Rattle.ir_tokens.specs.declared.raw.RawInst.{RawInst}
+use Rattle.ir_tokens.specs.declared.raw.RawOp.{RawOp}
+use Rattle.ir_tokens.specs.declared.raw.RawOp.TheVariants.{Binary, Compare, Select, Convert, Freeze, Phi}
+use Rattle.ir_tokens.specs.declared.raw.TypedOperand.{TypedOperand}
+use Rattle.ir_tokens.specs.declared.raw.RawOperand.{RawOperand}
+use Rattle.ir_tokens.specs.declared.raw.RawValue.{RawValue}
+use Rattle.ir_tokens.specs.declared.raw.RawValue.TheVariants as values
+use Rattle.ir_tokens.specs.declared.raw.RawIncoming.{RawIncoming}
+use Rattle.ir_tokens.specs.declared.raw.RawTerminator.{RawTerminator}
+use Rattle.ir_tokens.specs.declared.raw.RawTerminator.TheVariants.{Return, Unreachable, Jump, Branch, Switch}
+use Rattle.ir_tokens.specs.declared.raw.RawCase.{RawCase}
+use Rattle.ir_instructions.specs.Parts.{Part, IsOn, Is, ◌⨾◌, Each, Comma, Separated, Repeated}
+use Rattle.ir_instructions.specs.Keywords.{IsTypeWord}
+use Rattle.ir_instructions.specs.Punctuation as marks
+
+-- ---- names, types and values
+
+-- REGISTER
+abbrev pub SpellsRegister : RawIdentifier → Part
+SpellsRegister r tokens rest = (written : List ℕ) × (r.identifier ≡ identifier_of written) × IsOn r.line (Register written) tokens rest
+
+-- target := 'label' REGISTER
+abbrev pub SpellsTarget : RawIdentifier → Part
+SpellsTarget target = Is (Word (codes "label")) ⨾ SpellsRegister target
+
+-- type
+abbrev pub SpellsType : ℕ → Part
+SpellsType width tokens rest = (word : List ℕ) × IsTypeWord word width × Is (Word word) tokens rest
+
+-- val := REGISTER | NUMBER | 'true' | 'false' | 'undef' | 'poison'
+abbrev pub IsValueToken : ℕ → RawValue → Token → Type 0
+IsValueToken width (values.Register name) token = (written : List ℕ) × (name ≡ identifier_of written) × (token ≡ Register written)
+IsValueToken width (values.Number number) token = (digits : List ℕ) × (constant_of digits width ≡ Some number) × (token ≡ Number digits)
+IsValueToken width values.True token = token ≡ Word (codes "true")
+IsValueToken width values.False token = token ≡ Word (codes "false")
+IsValueToken width values.Undef token = token ≡ Word (codes "undef")
+IsValueToken width values.Poison token = token ≡ Word (codes "poison")
+
+abbrev pub SpellsOperand : ℕ → RawOperand → Part
+SpellsOperand width a tokens rest = (token : Token) × IsValueToken width a.value token × IsOn a.line token tokens rest
+
+-- type val
+abbrev pub SpellsTyped : TypedOperand → Part
+SpellsTyped t = SpellsType t.width ⨾ SpellsOperand t.width t.operand
+
+-- ---- attachments
+
+-- attachment := '!'name '!'number
+abbrev pub Attachment : Part
+Attachment tokens rest = (name number : List ℕ) × IsTrue (is_plain_name name) × IsTrue (is_number number) × (Is (Metadata name) ⨾ Is (Metadata number)) tokens rest
+
+-- tail := (',' attachment)*
+abbrev pub Tail : Part
+Tail = Repeated (Comma ⨾ Attachment)
+
+-- ---- instructions
+
+-- flag*, each once, in any order
+abbrev pub SpellsFlags : Opcode → Flags → Part
+SpellsFlags op flags tokens rest = (written : List Flag) × AddsFlags op no_flags written flags × Each (λ flag. Is (Word (flag_keyword flag))) written tokens rest
+
+-- incoming := '[' val ',' REGISTER ']'
+abbrev pub SpellsIncoming : ℕ → RawIncoming → Part
+SpellsIncoming width i = Is (Mark marks.open_bracket) ⨾ SpellsOperand width i.value ⨾ Comma ⨾ SpellsRegister i.block ⨾ Is (Mark marks.close_bracket)
+
+-- op := binop flag* type val ',' val
+--     | 'icmp' pred type val ',' val
+--     | 'select' type val ',' type val ',' type val
+--     | ('trunc' | 'zext' | 'sext') type val 'to' type
+--     | 'freeze' type val
+--     | 'phi' type incoming (',' incoming)*
+abbrev pub SpellsOp : RawOp → Part
+SpellsOp (Binary op flags width a b) =
+    Is (Word (opcode_keyword op)) ⨾ SpellsFlags op flags ⨾ SpellsType width ⨾ SpellsOperand width a ⨾ Comma ⨾ SpellsOperand width b
+SpellsOp (Compare pred width a b) =
+    Is (Word (codes "icmp")) ⨾ Is (Word (predicate_keyword pred)) ⨾ SpellsType width ⨾ SpellsOperand width a ⨾ Comma ⨾ SpellsOperand width b
+SpellsOp (Select condition if_true if_false) = Is (Word (codes "select")) ⨾ SpellsTyped condition ⨾ Comma ⨾ SpellsTyped if_true ⨾ Comma ⨾ SpellsTyped if_false
+SpellsOp (Convert cast from a to) = Is (Word (cast_keyword cast)) ⨾ SpellsType from ⨾ SpellsOperand from a ⨾ Is (Word (codes "to")) ⨾ SpellsType to
+SpellsOp (Freeze width a) = Is (Word (codes "freeze")) ⨾ SpellsType width ⨾ SpellsOperand width a
+SpellsOp (Phi width incomings) = Is (Word (codes "phi")) ⨾ SpellsType width ⨾ Separated (SpellsIncoming width) incomings
+
+-- inst := REGISTER '=' op tail
+abbrev pub SpellsInst : RawInst → Part
+SpellsInst i = SpellsRegister i.result ⨾ Is (Mark marks.equals) ⨾ SpellsOp i.op ⨾ Tail
+
+-- ---- terminators
+
+-- a case has a number, `true` or `false`
+abbrev pub IsCaseValue : RawValue → Type 0
+IsCaseValue (values.Number number) = Unit {0}
+IsCaseValue values.True = Unit {0}
+IsCaseValue values.False = Unit {0}
+IsCaseValue value = ⊥
+
+-- case := type (NUMBER | 'true' | 'false') ',' target
+abbrev pub SpellsCase : RawCase → Part
+SpellsCase c tokens rest = IsCaseValue c.value.value × (SpellsType c.width ⨾ SpellsOperand c.width c.value ⨾ Comma ⨾ SpellsTarget c.target) tokens rest
+
+-- cases := '[' case* ']'
+abbrev pub SpellsCases : List RawCase → Part
+SpellsCases cases = Is (Mark marks.open_bracket) ⨾ Each SpellsCase cases ⨾ Is (Mark marks.close_bracket)
+
+-- term := 'ret' type val
+--     | 'unreachable'
+--     | 'br' target
+--     | 'br' type val ',' target ',' target
+--     | 'switch' type val ',' target cases
+-- of which the first word is on this line
+abbrev pub SpellsTerminator : ℕ → RawTerminator → Part
+SpellsTerminator line (Return width a) = IsOn line (Word (codes "ret")) ⨾ SpellsType width ⨾ SpellsOperand width a
+SpellsTerminator line Unreachable = IsOn line (Word (codes "unreachable"))
+SpellsTerminator line (Jump target) = IsOn line (Word (codes "br")) ⨾ SpellsTarget target
+SpellsTerminator line (Branch width a if_true if_false) =
+    IsOn line (Word (codes "br")) ⨾ SpellsType width ⨾ SpellsOperand width a ⨾ Comma ⨾ SpellsTarget if_true ⨾ Comma ⨾ SpellsTarget if_false
+SpellsTerminator line (Switch width a default cases) =
+    IsOn line (Word (codes "switch")) ⨾ SpellsType width ⨾ SpellsOperand width a ⨾ Comma ⨾ SpellsTarget default ⨾ SpellsCases cases

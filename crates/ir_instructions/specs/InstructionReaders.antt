@@ -1,0 +1,325 @@
+-- Reading instructions and terminators from left to right: each reader answers what it reads, or the fault of the first token that
+-- does not fit.
+use Rattle.std.specs.Prelude.{ℕ, ◌==◌, Bool, true, false, not, if◌then◌else◌, List, [], ◌∷◌, Option, None, Some, is_some, Result, Ok, Err, codes}
+use Rattle.std.specs.Str.{bytes_eq}
+use Rattle.ops.specs.declared.opcode.Opcode.{Opcode}
+use Rattle.ops.specs.declared.opcode.Flags.{Flags}
+use Rattle.ops.specs.declared.comparison.Pred.{Pred}
+use Rattle.ops.specs.declared.conversion.Cast.{Cast}
+use Rattle.ops.specs.Flags.{no_flags}
+use Rattle.ops.specs.Number.{Number as Numeral}
+use Rattle.ops.specs.declared.keywords.flag.Flag.{Flag}
+use Rattle.ops.specs.Keywords.{pred_in}
+use Rattle.ops.specs.FlagKeywords.{flag_in, has_flag, with_flag}
+use Rattle.scan.specs.IrTokens.{is_plain_name}
+use Rattle.ir_tokens.specs.Identifiers.{identifier_of}
+use Rattle.ir_tokens.specs.Numbers.{constant_of, is_number}
+use Rattle.ir_tokens.specs.Tokens.{Placed, Word, Number, Register, Metadata, Mark}
+use Rattle.ir_instructions.specs.declared.fault.Misfit.TheVariants.{Syntax, LeftOut, ConstRange}
+use Rattle.ir_instructions.specs.declared.fault.Misfit.TheVariants as misfits
+use Rattle.ir_instructions.specs.declared.fault.TextFault.{TextFault}
+use Rattle.ir_instructions.specs.declared.place.Place.TheVariants as places
+use Rattle.ir_tokens.specs.declared.raw.RawIdentifier.{RawIdentifier}
+use Rattle.ir_tokens.specs.declared.raw.RawInst.{RawInst}
+use Rattle.ir_tokens.specs.declared.raw.RawOp.{RawOp}
+use Rattle.ir_tokens.specs.declared.raw.RawOp.TheVariants.{Binary, Compare, Select, Convert, Freeze, Phi}
+use Rattle.ir_tokens.specs.declared.raw.TypedOperand.{TypedOperand}
+use Rattle.ir_tokens.specs.declared.raw.RawOperand.{RawOperand}
+use Rattle.ir_tokens.specs.declared.raw.RawValue.TheVariants as values
+use Rattle.ir_tokens.specs.declared.raw.RawIncoming.{RawIncoming}
+use Rattle.ir_tokens.specs.declared.raw.RawTerminator.{RawTerminator}
+use Rattle.ir_tokens.specs.declared.raw.RawTerminator.TheVariants.{Return, Unreachable, Jump, Branch, Switch}
+use Rattle.ir_tokens.specs.declared.raw.RawCase.{RawCase}
+use Rattle.ir_instructions.specs.declared.word.TypeWord.{TypeWord}
+use Rattle.ir_instructions.specs.declared.word.TypeWord.TheVariants as types
+use Rattle.ir_instructions.specs.declared.word.Operation.{Operation}
+use Rattle.ir_instructions.specs.declared.word.Operation.TheVariants as operations
+use Rattle.ir_instructions.specs.declared.word.Ending.{Ending}
+use Rattle.ir_instructions.specs.declared.word.Ending.TheVariants as endings
+use Rattle.ir_instructions.specs.Readers.{Reader, fault, unexpected, ◌>>=◌, done, given, or_left_out, repeat_at, each_at}
+use Rattle.ir_instructions.specs.Keywords.{type_in, operation_in, truth_in, value_in, ending_in}
+use Rattle.ir_instructions.specs.Punctuation as marks
+
+-- ---- what stands next
+
+-- the mark
+abbrev pub is_mark : ℕ → List Placed → Bool
+is_mark wanted ((line, Mark mark) ∷ rest) = mark == wanted
+is_mark wanted tokens = false
+
+-- the word
+abbrev pub is_keyword : List ℕ → List Placed → Bool
+is_keyword wanted ((line, Word word) ∷ rest) = bytes_eq word wanted
+is_keyword wanted tokens = false
+
+abbrev pub is_register : List Placed → Bool
+is_register ((line, Register name) ∷ rest) = true
+is_register tokens = false
+
+abbrev pub is_metadata : List Placed → Bool
+is_metadata ((line, Metadata text) ∷ rest) = true
+is_metadata tokens = false
+
+-- ---- one token
+
+-- this mark
+unfoldable pub mark_at : ℕ → Reader (Unit {0})
+mark_at wanted ((line, Mark mark) ∷ rest) = if mark == wanted then Ok (tt, rest) else Err (fault line Syntax)
+mark_at wanted tokens = Err (unexpected places.Fixed tokens)
+
+-- this word
+unfoldable pub keyword_at : List ℕ → Reader (Unit {0})
+keyword_at wanted ((line, Word word) ∷ rest) = if bytes_eq word wanted then Ok (tt, rest) else Err (fault line Syntax)
+keyword_at wanted tokens = Err (unexpected places.Fixed tokens)
+
+abbrev pub identified : ℕ → List ℕ → RawIdentifier
+identified line written = record { line = line; identifier = identifier_of written }
+
+unfoldable pub register_at : Reader RawIdentifier
+register_at ((line, Register written) ∷ rest) = Ok (identified line written, rest)
+register_at tokens = Err (unexpected places.Fixed tokens)
+
+-- `label` and a register
+unfoldable pub target_at : Reader RawIdentifier
+target_at = do
+  _ ← keyword_at (codes "label")
+  register_at
+
+-- a type
+abbrev pub type_word : ℕ → List ℕ → TypeWord → Reader ℕ
+type_word line word types.Other rest = Err (fault line (LeftOut word))
+type_word line word types.OutOfRange rest = Err (fault line misfits.Width)
+type_word line word (types.Integer width) rest = Ok (width, rest)
+
+unfoldable pub type_at : Reader ℕ
+type_at ((line, Word word) ∷ rest) = type_word line word (type_in word) rest
+type_at tokens = Err (unexpected places.Type tokens)
+
+-- ---- operands
+
+-- a number at a width, if it fits
+abbrev pub number_value : ℕ → Option Numeral → Result RawOperand TextFault
+number_value line (Some number) = Ok (record { line = line; value = values.Number number })
+number_value line None = Err (fault line ConstRange)
+
+-- a value of a type of this width
+unfoldable pub operand_at : ℕ → Reader RawOperand
+operand_at width ((line, Register written) ∷ rest) = Ok (record { line = line; value = values.Register (identifier_of written) }, rest)
+operand_at width ((line, Number digits) ∷ rest) = given (number_value line (constant_of digits width)) rest
+operand_at width ((line, Word word) ∷ rest) = (or_left_out line word (value_in word) >>= λ value. done (record { line = line; value = value })) rest
+operand_at width tokens = Err (unexpected places.Choice tokens)
+
+-- a value of a case
+unfoldable pub case_value_at : ℕ → Reader RawOperand
+case_value_at width ((line, Number digits) ∷ rest) = given (number_value line (constant_of digits width)) rest
+case_value_at width ((line, Word word) ∷ rest) = (or_left_out line word (truth_in word) >>= λ value. done (record { line = line; value = value })) rest
+case_value_at width tokens = Err (unexpected places.Choice tokens)
+
+-- a type and a value
+unfoldable pub typed_at : Reader TypedOperand
+typed_at = do
+  width ← type_at
+  operand ← operand_at width
+  done (record { width = width; operand = operand })
+
+-- ---- attachments
+
+-- metadata whose name or number passes the test
+unfoldable pub metadata_at : (List ℕ → Bool) → Reader (Unit {0})
+metadata_at test ((line, Metadata text) ∷ rest) = if test text then Ok (tt, rest) else Err (fault line Syntax)
+metadata_at test tokens = Err (unexpected places.Fixed tokens)
+
+unfoldable pub attachment_at : Reader (Unit {0})
+attachment_at = do
+  _ ← metadata_at is_plain_name
+  metadata_at is_number
+
+unfoldable pub attachments_at : Reader (Unit {0})
+attachments_at = repeat_at is_metadata (λ before. attachment_at) tt
+
+unfoldable pub tail_attachment_at : Reader (Unit {0})
+tail_attachment_at = do
+  _ ← mark_at marks.comma
+  attachment_at
+
+unfoldable pub tail_at : Reader (Unit {0})
+tail_at = repeat_at (is_mark marks.comma) (λ before. tail_attachment_at) tt
+
+-- ---- instructions
+
+-- a flag of the instruction
+abbrev pub is_flag : Opcode → List Placed → Bool
+is_flag op ((line, Word word) ∷ rest) = is_some (flag_in op word)
+is_flag op tokens = false
+
+-- the flags before, and a flag that is new
+abbrev pub add_flag : Flags → ℕ → Option Flag → Reader Flags
+add_flag before line (Some flag) rest = if has_flag before flag then Err (fault line Syntax) else Ok (with_flag before flag, rest)
+add_flag before line None rest = Err (fault line Syntax)
+
+unfoldable pub flag_at : Opcode → Flags → Reader Flags
+flag_at op before ((line, Word word) ∷ rest) = add_flag before line (flag_in op word) rest
+flag_at op before tokens = Err (unexpected places.Fixed tokens)
+
+unfoldable pub flags_at : Opcode → Reader Flags
+flags_at op = repeat_at (is_flag op) (flag_at op) no_flags
+
+unfoldable pub binary_at : Opcode → Reader RawOp
+binary_at op = do
+  flags ← flags_at op
+  width ← type_at
+  left ← operand_at width
+  _ ← mark_at marks.comma
+  right ← operand_at width
+  done (Binary op flags width left right)
+
+unfoldable pub pred_at : Reader Pred
+pred_at ((line, Word word) ∷ rest) = or_left_out line word (pred_in word) rest
+pred_at tokens = Err (unexpected places.Choice tokens)
+
+unfoldable pub compare_at : Reader RawOp
+compare_at = do
+  pred ← pred_at
+  width ← type_at
+  left ← operand_at width
+  _ ← mark_at marks.comma
+  right ← operand_at width
+  done (Compare pred width left right)
+
+unfoldable pub select_at : Reader RawOp
+select_at = do
+  condition ← typed_at
+  _ ← mark_at marks.comma
+  if_true ← typed_at
+  _ ← mark_at marks.comma
+  if_false ← typed_at
+  done (Select condition if_true if_false)
+
+unfoldable pub convert_at : Cast → Reader RawOp
+convert_at cast = do
+  from ← typed_at
+  _ ← keyword_at (codes "to")
+  to ← type_at
+  done (Convert cast from.width from.operand to)
+
+unfoldable pub freeze_at : Reader RawOp
+freeze_at = do
+  typed ← typed_at
+  done (Freeze typed.width typed.operand)
+
+unfoldable pub incoming_at : ℕ → Reader RawIncoming
+incoming_at width = do
+  _ ← mark_at marks.open_bracket
+  value ← operand_at width
+  _ ← mark_at marks.comma
+  block ← register_at
+  _ ← mark_at marks.close_bracket
+  done (record { value = value; block = block })
+
+-- a `,` goes on with incoming values, unless an attachment is behind it
+abbrev pub begins_incoming : List Placed → Bool
+begins_incoming ((line, Mark mark) ∷ rest) = if mark == marks.comma then not (is_metadata rest) else false
+begins_incoming tokens = false
+
+unfoldable pub further_incoming_at : ℕ → Reader RawIncoming
+further_incoming_at width = do
+  _ ← mark_at marks.comma
+  incoming_at width
+
+-- incoming values behind those in front
+abbrev pub incomings_at : ℕ → List RawIncoming → Reader (List RawIncoming)
+incomings_at width front = each_at begins_incoming (further_incoming_at width) front
+
+unfoldable pub phi_at : Reader RawOp
+phi_at = do
+  width ← type_at
+  first ← incoming_at width
+  incomings ← incomings_at width (first ∷ [])
+  done (Phi width incomings)
+
+-- an instruction of this opcode, behind it
+abbrev pub operation_at : Operation → Reader RawOp
+operation_at (operations.Binary op) = binary_at op
+operation_at operations.Compare = compare_at
+operation_at operations.Select = select_at
+operation_at (operations.Convert cast) = convert_at cast
+operation_at operations.Freeze = freeze_at
+operation_at operations.Phi = phi_at
+
+unfoldable pub op_at : Reader RawOp
+op_at ((line, Word word) ∷ rest) = (or_left_out line word (operation_in word) >>= operation_at) rest
+op_at tokens = Err (unexpected places.Choice tokens)
+
+unfoldable pub inst_at : Reader RawInst
+inst_at = do
+  result ← register_at
+  _ ← mark_at marks.equals
+  op ← op_at
+  _ ← tail_at
+  done (record { result = result; op = op })
+
+unfoldable pub insts_at : Reader (List RawInst)
+insts_at = each_at is_register inst_at []
+
+-- ---- terminators
+
+unfoldable pub return_at : Reader RawTerminator
+return_at = do
+  typed ← typed_at
+  done (Return typed.width typed.operand)
+
+unfoldable pub jump_at : Reader RawTerminator
+jump_at = do
+  target ← target_at
+  done (Jump target)
+
+unfoldable pub conditional_at : Reader RawTerminator
+conditional_at = do
+  typed ← typed_at
+  _ ← mark_at marks.comma
+  if_true ← target_at
+  _ ← mark_at marks.comma
+  if_false ← target_at
+  done (Branch typed.width typed.operand if_true if_false)
+
+unfoldable pub branch_at : Reader RawTerminator
+branch_at tokens = if is_keyword (codes "label") tokens then jump_at tokens else conditional_at tokens
+
+unfoldable pub case_at : Reader RawCase
+case_at = do
+  width ← type_at
+  value ← case_value_at width
+  _ ← mark_at marks.comma
+  target ← target_at
+  done (record { width = width; value = value; target = target })
+
+-- another case, before the `]`
+abbrev pub begins_case : List Placed → Bool
+begins_case tokens = not (is_mark marks.close_bracket tokens)
+
+unfoldable pub cases_at : Reader (List RawCase)
+cases_at = do
+  _ ← mark_at marks.open_bracket
+  cases ← each_at begins_case case_at []
+  _ ← mark_at marks.close_bracket
+  done cases
+
+unfoldable pub switch_at : Reader RawTerminator
+switch_at = do
+  typed ← typed_at
+  _ ← mark_at marks.comma
+  default ← target_at
+  cases ← cases_at
+  done (Switch typed.width typed.operand default cases)
+
+-- a terminator that begins with this word, behind it
+abbrev pub ending_at : Ending → Reader RawTerminator
+ending_at endings.Return = return_at
+ending_at endings.Unreachable = done Unreachable
+ending_at endings.Branch = branch_at
+ending_at endings.Switch = switch_at
+
+-- the line of the first word, and the terminator
+unfoldable pub terminator_at : Reader (ℕ × RawTerminator)
+terminator_at ((line, Word word) ∷ rest) = (or_left_out line word (ending_in word) >>= ending_at >>= λ end. done (line, end)) rest
+terminator_at tokens = Err (unexpected places.Instruction tokens)

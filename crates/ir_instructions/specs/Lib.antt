@@ -1,0 +1,13 @@
+pub use Rattle.scan.specs.Bytes
+pub use Rattle.scan.specs.IrTokens
+pub use Rattle.ir_tokens.specs.Numbers
+pub use Rattle.ir_tokens.specs.SeenTokens
+pub use Rattle.ir_tokens.specs.Tokens
+pub mod Gives
+pub mod Grammar
+pub mod Punctuation
+pub mod InstructionReaders
+pub mod Parts
+pub mod Places
+pub mod Readers
+pub mod Keywords

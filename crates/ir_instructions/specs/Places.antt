@@ -1,0 +1,53 @@
+-- Which tokens are left out of the language, by the place where they stand. A token that fits at its place is no matter here.
+use Rattle.std.specs.Prelude.{ℕ, ◌==◌, Bool, true, false, ◌||◌, if◌then◌else◌, List, [], ◌∷◌, take, codes}
+use Rattle.ir_instructions.specs.declared.fault.Misfit.{Misfit}
+use Rattle.ir_instructions.specs.declared.fault.Misfit.TheVariants.{BadByte, Syntax, LeftOut}
+use Rattle.ir_instructions.specs.declared.place.Place.{Place}
+use Rattle.ir_instructions.specs.declared.place.Place.TheVariants as places
+use Rattle.ir_instructions.specs.Punctuation as marks
+use Rattle.ir_tokens.specs.Tokens.{Token, End, Other, Bad, Kept, KeptGroup, Label, Word, Number, Register, Function, Group, Metadata, Quoted, Mark}
+
+-- it is a word
+abbrev pub is_word : Token → Bool
+is_word (Word word) = true
+is_word token = false
+
+-- `<`, `{` or `[`: a vector, a structure or an array begins
+abbrev pub begins_type : Token → Bool
+begins_type (Mark mark) = (mark == marks.less) || (mark == marks.open_brace) || (mark == marks.open_bracket)
+begins_type token = false
+
+-- `#`: a record of debug information begins
+abbrev pub begins_record : Token → Bool
+begins_record (Mark mark) = mark == marks.hash
+begins_record token = false
+
+-- the language goes on with such a token there, but it is left out
+unfoldable pub leaves_out : Place → Token → Bool
+leaves_out places.Entry token = true
+leaves_out places.Type token = is_word token || begins_type token
+leaves_out places.Instruction token = is_word token || begins_record token
+leaves_out places.Choice token = is_word token
+leaves_out places.Fixed token = false
+
+-- how what is left out is named: the word, or the first byte
+unfoldable pub shown : Token → List ℕ
+shown (Word word) = word
+shown (Kept text) = take 1 text
+shown (KeptGroup text) = take 1 text
+shown (Label text) = take 1 text
+shown (Number digits) = take 1 digits
+shown (Register name) = codes "%"
+shown (Function name) = codes "@"
+shown (Group text) = codes "#"
+shown (Metadata text) = codes "!"
+shown (Quoted text) = take 1 text
+shown (Mark mark) = mark ∷ []
+shown token = []
+
+-- why a token does not fit
+unfoldable pub misfit : Place → Token → Misfit
+misfit place Bad = BadByte
+misfit place Other = Syntax
+misfit place End = Syntax
+misfit place token = if leaves_out place token then LeftOut (shown token) else Syntax

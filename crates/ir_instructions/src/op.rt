@@ -1,0 +1,293 @@
+//! Instructions from tokens. (LLVM Language Reference, "Instruction Reference".)
+
+ghost use Rattle.std.specs.Prelude.{◌≡◌};
+ghost use Rattle.ir_tokens.specs.SeenTokens.{seen};
+ghost use Rattle.ir_instructions.specs.Gives.{Gives};
+ghost use Rattle.ir_instructions.specs.InstructionReaders as parsing;
+
+use crate::attachment::{is_metadata, tail};
+use crate::fault::{Misfit, ParseError};
+use crate::operand::{integer_type, operand, typed};
+use crate::part::{Part, each};
+use crate::place::{Place, left_out, misplaced, refused, unexpected};
+use crate::token::{keyword, mark, register};
+use crate::word::{Operation, operation_of};
+use ir_tokens::{Placed, RawIncoming, RawInst, RawOp, Token};
+use lists::List;
+use ops::keywords::{flag_of, has_flag, predicate_of, with_flag};
+use ops::{Cast, Flags, Opcode, Pred, Width};
+use std::alloc::Global;
+
+/// Whether a flag of the instruction is next.
+fn is_flag(opcode: Opcode, tokens: &[Placed<'_>]) -> bool
+    ensures { result ≡ parsing.is_flag opcode (seen tokens.now) }
+{
+    match tokens {
+        [Placed { token, .. }, ..] => match *token {
+            Token::Word(word) => flag_of(opcode, word).is_some(),
+            _ => false,
+        },
+        [] => false,
+    }
+}
+
+/// The flags before, and another that is not among them.
+#[tactic(auto, unfolding(crate::specs::InstructionReaders::flag_at))]
+fn flag(opcode: Opcode, before: Flags, tokens: &mut &[Placed<'_>]) -> Result<Flags, ParseError>
+    ensures { Gives (λ x. (x, seen tokens.new.now)) result (parsing.flag_at opcode before (seen tokens.old.now)) }
+{
+    match *tokens {
+        [Placed { line, token }, rest @ ..] => match *token {
+            Token::Word(word) => match flag_of(opcode, word) {
+                Some(flag) => {
+                    if has_flag(before, flag) {
+                        Err(refused(*line, Misfit::Syntax))
+                    } else {
+                        *tokens = rest;
+                        Ok(with_flag(before, flag))
+                    }
+                }
+                None => Err(refused(*line, Misfit::Syntax)),
+            },
+            _ => Err(misplaced(*tokens)),
+        },
+        [] => Err(misplaced(*tokens)),
+    }
+}
+
+/// The flags of an instruction, in any order.
+#[tactic(auto, unfolding(crate::specs::InstructionReaders::flags_at))]
+fn flags(opcode: Opcode, tokens: &mut &[Placed<'_>]) -> Result<Flags, ParseError>
+    ensures { Gives (λ x. (x, seen tokens.new.now)) result (parsing.flags_at opcode (seen tokens.old.now)) }
+{
+    let mut flags = Flags::NONE;
+    'flags: while is_flag(opcode, *tokens) {
+        flags = flag(opcode, flags, tokens)?;
+    }
+    Ok(flags)
+}
+
+/// A binary operation, behind its opcode.
+#[tactic(auto, unfolding(crate::specs::InstructionReaders::binary_at))]
+fn binary(alloc: Global, opcode: Opcode, tokens: &mut &[Placed<'_>]) -> Result<RawOp, ParseError>
+    ensures { Gives (λ x. (x, seen tokens.new.now)) result (parsing.binary_at opcode (seen tokens.old.now)) }
+{
+    let flags = flags(opcode, tokens)?;
+    let width = integer_type(alloc, tokens)?;
+    let left = operand(alloc, width, tokens)?;
+    mark(b',', tokens)?;
+    let right = operand(alloc, width, tokens)?;
+    Ok(RawOp::Binary(opcode, flags, width, left, right))
+}
+
+/// A predicate.
+#[tactic(auto, unfolding(crate::specs::InstructionReaders::pred_at))]
+fn predicate(alloc: Global, tokens: &mut &[Placed<'_>]) -> Result<Pred, ParseError>
+    ensures { Gives (λ x. (x, seen tokens.new.now)) result (parsing.pred_at (seen tokens.old.now)) }
+{
+    match *tokens {
+        [Placed { line, token }, rest @ ..] => match *token {
+            Token::Word(word) => match predicate_of(word) {
+                Some(pred) => {
+                    *tokens = rest;
+                    Ok(pred)
+                }
+                None => Err(left_out(alloc, *line, word)),
+            },
+            _ => Err(unexpected(alloc, Place::Choice, *tokens)),
+        },
+        [] => Err(unexpected(alloc, Place::Choice, *tokens)),
+    }
+}
+
+/// A comparison, behind `icmp`.
+#[tactic(auto, unfolding(crate::specs::InstructionReaders::compare_at))]
+fn comparison(alloc: Global, tokens: &mut &[Placed<'_>]) -> Result<RawOp, ParseError>
+    ensures { Gives (λ x. (x, seen tokens.new.now)) result (parsing.compare_at (seen tokens.old.now)) }
+{
+    let pred = predicate(alloc, tokens)?;
+    let width = integer_type(alloc, tokens)?;
+    let left = operand(alloc, width, tokens)?;
+    mark(b',', tokens)?;
+    let right = operand(alloc, width, tokens)?;
+    Ok(RawOp::Compare(pred, width, left, right))
+}
+
+/// A choice, behind `select`.
+#[tactic(auto, unfolding(crate::specs::InstructionReaders::select_at))]
+fn selection(alloc: Global, tokens: &mut &[Placed<'_>]) -> Result<RawOp, ParseError>
+    ensures { Gives (λ x. (x, seen tokens.new.now)) result (parsing.select_at (seen tokens.old.now)) }
+{
+    let condition = typed(alloc, tokens)?;
+    mark(b',', tokens)?;
+    let if_true = typed(alloc, tokens)?;
+    mark(b',', tokens)?;
+    let if_false = typed(alloc, tokens)?;
+    Ok(RawOp::Select(condition, if_true, if_false))
+}
+
+/// A cast, behind its opcode.
+#[tactic(auto, unfolding(crate::specs::InstructionReaders::convert_at))]
+fn conversion(alloc: Global, cast: Cast, tokens: &mut &[Placed<'_>]) -> Result<RawOp, ParseError>
+    ensures { Gives (λ x. (x, seen tokens.new.now)) result (parsing.convert_at cast (seen tokens.old.now)) }
+{
+    let from = typed(alloc, tokens)?;
+    keyword("to", tokens)?;
+    let to = integer_type(alloc, tokens)?;
+    Ok(RawOp::Convert(cast, from.width, from.operand, to))
+}
+
+/// A `freeze`, behind that word.
+#[tactic(auto, unfolding(crate::specs::InstructionReaders::freeze_at))]
+fn freezing(alloc: Global, tokens: &mut &[Placed<'_>]) -> Result<RawOp, ParseError>
+    ensures { Gives (λ x. (x, seen tokens.new.now)) result (parsing.freeze_at (seen tokens.old.now)) }
+{
+    let typed = typed(alloc, tokens)?;
+    Ok(RawOp::Freeze(typed.width, typed.operand))
+}
+
+/// An incoming value of a `phi` with its block.
+#[tactic(auto, unfolding(crate::specs::InstructionReaders::incoming_at))]
+fn incoming(
+    alloc: Global,
+    width: Width,
+    tokens: &mut &[Placed<'_>],
+) -> Result<RawIncoming, ParseError>
+    ensures { Gives (λ x. (x, seen tokens.new.now)) result (parsing.incoming_at width (seen tokens.old.now)) }
+{
+    mark(b'[', tokens)?;
+    let value = operand(alloc, width, tokens)?;
+    mark(b',', tokens)?;
+    let block = register(alloc, tokens)?;
+    mark(b']', tokens)?;
+    Ok(RawIncoming { value, block })
+}
+
+/// Whether another incoming value is next: a `,`, and no attachment behind it.
+fn begins_incoming(tokens: &[Placed<'_>]) -> bool
+    ensures { result ≡ parsing.begins_incoming (seen tokens.now) }
+{
+    match tokens {
+        [Placed { token, .. }, rest @ ..] => match *token {
+            Token::Mark(mark) => mark == b',' && !is_metadata(rest),
+            _ => false,
+        },
+        [] => false,
+    }
+}
+
+/// Another incoming value, behind a `,`.
+#[tactic(auto, unfolding(crate::specs::InstructionReaders::further_incoming_at))]
+fn further_incoming(
+    alloc: Global,
+    width: Width,
+    tokens: &mut &[Placed<'_>],
+) -> Result<RawIncoming, ParseError>
+    ensures { Gives (λ x. (x, seen tokens.new.now)) result (parsing.further_incoming_at width (seen tokens.old.now)) }
+{
+    mark(b',', tokens)?;
+    incoming(alloc, width, tokens)
+}
+
+/// The incoming values in front, and behind them others.
+fn incomings(
+    alloc: Global,
+    width: Width,
+    front: List<RawIncoming>,
+    tokens: &mut &[Placed<'_>],
+) -> Result<List<RawIncoming>, ParseError>
+    ensures { Gives (λ x. (x, seen tokens.new.now)) result (parsing.incomings_at width front (seen tokens.old.now)) }
+{
+    let mut incomings = front;
+    'incomings: while begins_incoming(*tokens) {
+        incomings.push(further_incoming(alloc, width, tokens)?)?;
+    }
+    Ok(incomings)
+}
+
+/// A `phi`, behind that word.
+#[tactic(auto, unfolding(crate::specs::InstructionReaders::phi_at))]
+fn phi(alloc: Global, tokens: &mut &[Placed<'_>]) -> Result<RawOp, ParseError>
+    ensures { Gives (λ x. (x, seen tokens.new.now)) result (parsing.phi_at (seen tokens.old.now)) }
+{
+    let width = integer_type(alloc, tokens)?;
+    let mut front = List::new(alloc);
+    front.push(incoming(alloc, width, tokens)?)?;
+    let incomings = incomings(alloc, width, front, tokens)?;
+    Ok(RawOp::Phi(width, incomings))
+}
+
+/// What an instruction computes, behind its opcode.
+fn behind_opcode(
+    alloc: Global,
+    operation: Operation,
+    tokens: &mut &[Placed<'_>],
+) -> Result<RawOp, ParseError>
+    ensures { Gives (λ x. (x, seen tokens.new.now)) result (parsing.operation_at operation (seen tokens.old.now)) }
+{
+    match operation {
+        Operation::Binary(opcode) => binary(alloc, opcode, tokens),
+        Operation::Compare => comparison(alloc, tokens),
+        Operation::Select => selection(alloc, tokens),
+        Operation::Convert(cast) => conversion(alloc, cast, tokens),
+        Operation::Freeze => freezing(alloc, tokens),
+        Operation::Phi => phi(alloc, tokens),
+    }
+}
+
+/// What an instruction computes.
+#[tactic(auto, unfolding(crate::specs::InstructionReaders::op_at))]
+fn op(alloc: Global, tokens: &mut &[Placed<'_>]) -> Result<RawOp, ParseError>
+    ensures { Gives (λ x. (x, seen tokens.new.now)) result (parsing.op_at (seen tokens.old.now)) }
+{
+    match *tokens {
+        [Placed { line, token }, rest @ ..] => match *token {
+            Token::Word(word) => match operation_of(word) {
+                Some(operation) => {
+                    *tokens = rest;
+                    behind_opcode(alloc, operation, tokens)
+                }
+                None => Err(left_out(alloc, *line, word)),
+            },
+            _ => Err(unexpected(alloc, Place::Choice, *tokens)),
+        },
+        [] => Err(unexpected(alloc, Place::Choice, *tokens)),
+    }
+}
+
+/// An instruction, as a part of a block.
+enum Instruction {}
+
+impl Part for Instruction {
+    ghost use Rattle.ir_instructions.specs.InstructionReaders.{is_register, inst_at};
+
+    ghost begins = { is_register };
+
+    ghost reader = { inst_at };
+
+    type Value = RawInst;
+
+    fn is_next(tokens: &[Placed<'_>]) -> bool {
+        match tokens {
+            [Placed { token, .. }, ..] => matches!(*token, Token::Register(_)),
+            [] => false,
+        }
+    }
+
+    #[tactic(auto, unfolding(crate::specs::InstructionReaders::inst_at))]
+    fn read(alloc: Global, tokens: &mut &[Placed<'_>]) -> Result<RawInst, ParseError> {
+        let result = register(alloc, tokens)?;
+        mark(b'=', tokens)?;
+        let op = op(alloc, tokens)?;
+        tail(tokens)?;
+        Ok(RawInst { result, op })
+    }
+}
+
+/// Instructions.
+#[tactic(auto, unfolding(crate::specs::InstructionReaders::insts_at))]
+pub fn insts(alloc: Global, tokens: &mut &[Placed<'_>]) -> Result<List<RawInst>, ParseError>
+    ensures { Gives (λ x. (x, seen tokens.new.now)) result (parsing.insts_at (seen tokens.old.now)) }
+{
+    each::<Instruction>(alloc, List::new(alloc), tokens)
+}

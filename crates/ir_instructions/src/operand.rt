@@ -1,0 +1,118 @@
+//! Types and values from tokens.
+
+ghost use Rattle.ir_tokens.specs.Numbers.{constant_of};
+ghost use Rattle.ir_tokens.specs.SeenTokens.{seen};
+ghost use Rattle.ir_instructions.specs.Gives.{Gives};
+ghost use Rattle.ir_instructions.specs.InstructionReaders as parsing;
+
+use crate::fault::{Misfit, ParseError};
+use crate::place::{Place, left_out, refused, unexpected};
+use crate::word::{TypeWord, truth_of, type_of, value_of};
+use ir_tokens::{Placed, RawOperand, RawValue, Token, TypedOperand, constant, identifier};
+use ops::Width;
+use std::alloc::Global;
+
+/// An integer type.
+#[tactic(auto, unfolding(crate::specs::InstructionReaders::type_at))]
+pub fn integer_type(alloc: Global, tokens: &mut &[Placed<'_>]) -> Result<Width, ParseError>
+    ensures { Gives (λ x. (x, seen tokens.new.now)) result (parsing.type_at (seen tokens.old.now)) }
+{
+    match *tokens {
+        [Placed { line, token }, rest @ ..] => match *token {
+            Token::Word(word) => match type_of(word) {
+                TypeWord::Integer(width) => {
+                    *tokens = rest;
+                    Ok(width)
+                }
+                TypeWord::OutOfRange => Err(refused(*line, Misfit::Width)),
+                TypeWord::Other => Err(left_out(alloc, *line, word)),
+            },
+            _ => Err(unexpected(alloc, Place::Type, *tokens)),
+        },
+        [] => Err(unexpected(alloc, Place::Type, *tokens)),
+    }
+}
+
+/// The value of a number at a width.
+fn number(line: usize, digits: &[u8], width: Width) -> Result<RawOperand, ParseError>
+    ensures { Gives (λ x. x) result (parsing.number_value line (constant_of digits.now width)) }
+{
+    match constant(digits, width) {
+        Some(number) => Ok(RawOperand {
+            line,
+            value: RawValue::Number(number),
+        }),
+        None => Err(refused(line, Misfit::ConstRange)),
+    }
+}
+
+/// A value of a type of this width.
+#[tactic(auto, unfolding(crate::specs::InstructionReaders::operand_at))]
+pub(crate) fn operand(
+    alloc: Global,
+    width: Width,
+    tokens: &mut &[Placed<'_>],
+) -> Result<RawOperand, ParseError>
+    ensures { Gives (λ x. (x, seen tokens.new.now)) result (parsing.operand_at width (seen tokens.old.now)) }
+{
+    match *tokens {
+        [Placed { line, token }, rest @ ..] => match *token {
+            Token::Register(written) => {
+                *tokens = rest;
+                let value = RawValue::Register(identifier(alloc, written)?);
+                Ok(RawOperand { line: *line, value })
+            }
+            Token::Number(digits) => {
+                *tokens = rest;
+                number(*line, digits, width)
+            }
+            Token::Word(word) => match value_of(word) {
+                Some(value) => {
+                    *tokens = rest;
+                    Ok(RawOperand { line: *line, value })
+                }
+                None => Err(left_out(alloc, *line, word)),
+            },
+            _ => Err(unexpected(alloc, Place::Choice, *tokens)),
+        },
+        [] => Err(unexpected(alloc, Place::Choice, *tokens)),
+    }
+}
+
+/// The value of a case: a number, `true` or `false`.
+#[tactic(auto, unfolding(crate::specs::InstructionReaders::case_value_at))]
+pub(crate) fn case_value(
+    alloc: Global,
+    width: Width,
+    tokens: &mut &[Placed<'_>],
+) -> Result<RawOperand, ParseError>
+    ensures { Gives (λ x. (x, seen tokens.new.now)) result (parsing.case_value_at width (seen tokens.old.now)) }
+{
+    match *tokens {
+        [Placed { line, token }, rest @ ..] => match *token {
+            Token::Number(digits) => {
+                *tokens = rest;
+                number(*line, digits, width)
+            }
+            Token::Word(word) => match truth_of(word) {
+                Some(value) => {
+                    *tokens = rest;
+                    Ok(RawOperand { line: *line, value })
+                }
+                None => Err(left_out(alloc, *line, word)),
+            },
+            _ => Err(unexpected(alloc, Place::Choice, *tokens)),
+        },
+        [] => Err(unexpected(alloc, Place::Choice, *tokens)),
+    }
+}
+
+/// A type and a value of it.
+#[tactic(auto, unfolding(crate::specs::InstructionReaders::typed_at))]
+pub(crate) fn typed(alloc: Global, tokens: &mut &[Placed<'_>]) -> Result<TypedOperand, ParseError>
+    ensures { Gives (λ x. (x, seen tokens.new.now)) result (parsing.typed_at (seen tokens.old.now)) }
+{
+    let width = integer_type(alloc, tokens)?;
+    let operand = operand(alloc, width, tokens)?;
+    Ok(TypedOperand { width, operand })
+}

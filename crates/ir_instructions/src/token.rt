@@ -1,0 +1,109 @@
+//! Readers of one token.
+
+ghost use Rattle.std.specs.Prelude.{◌≡◌};
+ghost use Rattle.ir_tokens.specs.SeenTokens.{seen};
+ghost use Rattle.ir_instructions.specs.Gives.{Gives};
+ghost use Rattle.ir_instructions.specs.InstructionReaders as parsing;
+
+use crate::fault::{Misfit, ParseError};
+use crate::place::{misplaced, refused};
+use ir_tokens::{Placed, RawIdentifier, Token, identifier};
+use ops::keywords::is;
+use std::alloc::Global;
+
+/// Whether this mark is next.
+pub fn is_mark(wanted: u8, tokens: &[Placed<'_>]) -> bool
+    ensures { result ≡ parsing.is_mark wanted (seen tokens.now) }
+{
+    match tokens {
+        [Placed { token, .. }, ..] => matches!(*token, Token::Mark(mark) if mark == wanted),
+        [] => false,
+    }
+}
+
+/// Whether this word is next.
+pub(crate) fn is_keyword(wanted: &str, tokens: &[Placed<'_>]) -> bool
+    ensures { result ≡ parsing.is_keyword wanted.now (seen tokens.now) }
+{
+    match tokens {
+        [Placed { token, .. }, ..] => match *token {
+            Token::Word(word) => is(word, wanted),
+            _ => false,
+        },
+        [] => false,
+    }
+}
+
+/// A mark.
+#[tactic(auto, unfolding(crate::specs::InstructionReaders::mark_at))]
+pub fn mark(wanted: u8, tokens: &mut &[Placed<'_>]) -> Result<(), ParseError>
+    ensures { Gives (λ x. (x, seen tokens.new.now)) result (parsing.mark_at wanted (seen tokens.old.now)) }
+{
+    match *tokens {
+        [Placed { line, token }, rest @ ..] => match *token {
+            Token::Mark(mark) => {
+                if mark == wanted {
+                    *tokens = rest;
+                    Ok(())
+                } else {
+                    Err(refused(*line, Misfit::Syntax))
+                }
+            }
+            _ => Err(misplaced(*tokens)),
+        },
+        [] => Err(misplaced(*tokens)),
+    }
+}
+
+/// A word that has to stand here.
+#[tactic(auto, unfolding(crate::specs::InstructionReaders::keyword_at))]
+pub(crate) fn keyword(wanted: &str, tokens: &mut &[Placed<'_>]) -> Result<(), ParseError>
+    ensures { Gives (λ x. (x, seen tokens.new.now)) result (parsing.keyword_at wanted.now (seen tokens.old.now)) }
+{
+    match *tokens {
+        [Placed { line, token }, rest @ ..] => match *token {
+            Token::Word(word) => {
+                if is(word, wanted) {
+                    *tokens = rest;
+                    Ok(())
+                } else {
+                    Err(refused(*line, Misfit::Syntax))
+                }
+            }
+            _ => Err(misplaced(*tokens)),
+        },
+        [] => Err(misplaced(*tokens)),
+    }
+}
+
+/// A register.
+#[tactic(auto, unfolding(crate::specs::InstructionReaders::register_at))]
+pub(crate) fn register(
+    alloc: Global,
+    tokens: &mut &[Placed<'_>],
+) -> Result<RawIdentifier, ParseError>
+    ensures { Gives (λ x. (x, seen tokens.new.now)) result (parsing.register_at (seen tokens.old.now)) }
+{
+    match *tokens {
+        [Placed { line, token }, rest @ ..] => match *token {
+            Token::Register(written) => {
+                *tokens = rest;
+                Ok(RawIdentifier {
+                    line: *line,
+                    identifier: identifier(alloc, written)?,
+                })
+            }
+            _ => Err(misplaced(*tokens)),
+        },
+        [] => Err(misplaced(*tokens)),
+    }
+}
+
+/// `label` and a register: where a terminator goes.
+#[tactic(auto, unfolding(crate::specs::InstructionReaders::target_at))]
+pub(crate) fn target(alloc: Global, tokens: &mut &[Placed<'_>]) -> Result<RawIdentifier, ParseError>
+    ensures { Gives (λ x. (x, seen tokens.new.now)) result (parsing.target_at (seen tokens.old.now)) }
+{
+    keyword("label", tokens)?;
+    register(alloc, tokens)
+}

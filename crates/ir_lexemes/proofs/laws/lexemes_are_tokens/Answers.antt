@@ -1,5 +1,0 @@
-use Rattle.ir_lexemes.proofs.Lexing as lexing
-use Rattle.ir_lexemes.proofs.laws.lexemes_are_tokens.Goals as goal
-
-pub returns : goal.returns
-returns c = lexing.lexemes_are_tokens

@@ -1,4 +1,0 @@
-pub mod Laws
-pub mod Lexemes
-pub mod Names
-pub mod Numbers

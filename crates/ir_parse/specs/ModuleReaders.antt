@@ -1,0 +1,194 @@
+-- Reading the parts of a module from left to right: each reader answers what it reads, or the fault of the first token that does not
+-- fit.
+use Rattle.std.specs.Prelude.{ℕ, Bool, true, false, not, if◌then◌else◌, List, [], ◌∷◌, ◌++◌, Option, None, Some, Result, Ok, Err, codes}
+use Rattle.std.specs.Str.{bytes_eq}
+use Rattle.ir_tokens.specs.declared.called.Identifier.{Identifier}
+use Rattle.ir_tokens.specs.declared.called.Identifier.TheVariants.{Named, Numbered}
+use Rattle.ir_tokens.specs.Identifiers.{identifier_of}
+use Rattle.ir_tokens.specs.Tokens.{Placed, End, Kept, KeptGroup, Label, Word, Number, Register, Function, Group, Quoted}
+use Rattle.ir_instructions.specs.declared.fault.Misfit.TheVariants.{LeftOut}
+use Rattle.ir_instructions.specs.declared.fault.TextFault.{TextFault}
+use Rattle.ir_instructions.specs.declared.place.Place.TheVariants as places
+use Rattle.ir_tokens.specs.declared.raw.RawModule.{RawModule}
+use Rattle.ir_tokens.specs.declared.raw.RawEntry.{RawEntry}
+use Rattle.ir_tokens.specs.declared.raw.RawEntry.TheVariants as entries
+use Rattle.ir_tokens.specs.declared.raw.RawFunction.{RawFunction}
+use Rattle.ir_tokens.specs.declared.raw.RawParameter.{RawParameter}
+use Rattle.ir_tokens.specs.declared.raw.RawIdentifier.{RawIdentifier}
+use Rattle.ir_tokens.specs.declared.raw.RawBlock.{RawBlock}
+use Rattle.ir_instructions.specs.Readers.{Read, Reader, fault, unexpected, ◌>>=◌, done, each_at}
+use Rattle.ir_parse.specs.Items.{is_item_word}
+use Rattle.ir_instructions.specs.InstructionReaders.{attachments_at, identified, insts_at, is_mark, mark_at, tail_at, terminator_at, type_at}
+use Rattle.ir_instructions.specs.Punctuation as marks
+
+-- ---- what stands next
+
+abbrev pub is_label : List Placed → Bool
+is_label ((line, Label name) ∷ rest) = true
+is_label tokens = false
+
+abbrev pub is_end : List Placed → Bool
+is_end ((line, End) ∷ rest) = true
+is_end tokens = false
+
+-- ---- items
+
+abbrev pub begins_item : List Placed → Bool
+begins_item ((line, Word word) ∷ rest) = is_item_word word
+begins_item ((line, Number digits) ∷ rest) = true
+begins_item ((line, Group text) ∷ rest) = true
+begins_item ((line, Quoted text) ∷ rest) = true
+begins_item tokens = false
+
+-- the value behind a key and its `=`
+unfoldable pub quoted_value_at : List ℕ → Reader (List ℕ)
+quoted_value_at key ((line, Quoted value) ∷ rest) = Ok (key ++ marks.equals ∷ value, rest)
+quoted_value_at key tokens = Err (unexpected places.Fixed tokens)
+
+-- an item that begins with a word, behind it
+unfoldable pub word_item_at : List ℕ → Reader (List ℕ)
+word_item_at word ((line, KeptGroup group) ∷ rest) = Ok (word ++ group, rest)
+word_item_at word tokens = Ok (word, tokens)
+
+-- one that begins with a quoted text, behind it
+unfoldable pub quoted_item_at : List ℕ → Reader (List ℕ)
+quoted_item_at key tokens = if is_mark marks.equals tokens then (mark_at marks.equals >>= λ _. quoted_value_at key) tokens else Ok (key, tokens)
+
+-- an item, as it is printed
+unfoldable pub item_at : Reader (List ℕ)
+item_at ((line, Word word) ∷ rest) = word_item_at word rest
+item_at ((line, Number digits) ∷ rest) = Ok (digits, rest)
+item_at ((line, Group text) ∷ rest) = Ok (text, rest)
+item_at ((line, Quoted key) ∷ rest) = quoted_item_at key rest
+item_at tokens = Err (unexpected places.Choice tokens)
+
+unfoldable pub items_at : Reader (List (List ℕ))
+items_at = each_at begins_item item_at []
+
+-- no word; one that is no item is left out
+unfoldable pub no_word_at : Reader (Unit {0})
+no_word_at ((line, Word word) ∷ rest) = Err (fault line (LeftOut word))
+no_word_at tokens = Ok (tt, tokens)
+
+-- items that no word follows
+unfoldable pub last_items_at : Reader (List (List ℕ))
+last_items_at = do
+  items ← items_at
+  _ ← no_word_at
+  done items
+
+-- ---- functions
+
+-- a label, if there is one
+unfoldable pub label_at : Reader (Option RawIdentifier)
+label_at ((line, Label written) ∷ rest) = Ok (Some (identified line written), rest)
+label_at tokens = Ok (None, tokens)
+
+unfoldable pub block_at : Reader RawBlock
+block_at = do
+  label ← label_at
+  insts ← insts_at
+  end ← terminator_at
+  _ ← tail_at
+  done (record { label = label; insts = insts; end = end.1; end_line = end.0 })
+
+-- blocks, where the label may be missing in the first
+unfoldable pub blocks_at : Reader (List RawBlock)
+blocks_at = do
+  first ← block_at
+  each_at is_label block_at (first ∷ [])
+
+-- the name of a parameter, if it has one
+unfoldable pub parameter_name_at : Reader (Option RawIdentifier)
+parameter_name_at ((line, Register written) ∷ rest) = Ok (Some (identified line written), rest)
+parameter_name_at tokens = Ok (None, tokens)
+
+unfoldable pub parameter_at : Reader RawParameter
+parameter_at = do
+  width ← type_at
+  items ← last_items_at
+  name ← parameter_name_at
+  done (record { width = width; items = items; name = name })
+
+unfoldable pub further_parameter_at : Reader RawParameter
+further_parameter_at = do
+  _ ← mark_at marks.comma
+  parameter_at
+
+unfoldable pub some_parameters_at : Reader (List RawParameter)
+some_parameters_at = do
+  first ← parameter_at
+  each_at (is_mark marks.comma) further_parameter_at (first ∷ [])
+
+unfoldable pub parameter_list_at : Reader (List RawParameter)
+parameter_list_at tokens = if is_mark marks.close_paren tokens then Ok ([], tokens) else some_parameters_at tokens
+
+unfoldable pub parameters_at : Reader (List RawParameter)
+parameters_at = do
+  _ ← mark_at marks.open_paren
+  parameters ← parameter_list_at
+  _ ← mark_at marks.close_paren
+  done parameters
+
+-- a function's name; a number in its place is left out
+abbrev pub named_function : ℕ → Identifier → Reader (ℕ × List ℕ)
+named_function line (Named name) rest = Ok ((line, name), rest)
+named_function line (Numbered n) rest = Err (fault line (LeftOut (codes "@")))
+
+unfoldable pub function_name_at : Reader (ℕ × List ℕ)
+function_name_at ((line, Function written) ∷ rest) = named_function line (identifier_of written) rest
+function_name_at tokens = Err (unexpected places.Fixed tokens)
+
+-- attachments, and the blocks of a function in its braces
+unfoldable pub body_at : Reader (List RawBlock)
+body_at = do
+  _ ← attachments_at
+  _ ← mark_at marks.open_brace
+  blocks ← blocks_at
+  _ ← mark_at marks.close_brace
+  done blocks
+
+-- a function behind its `define`
+unfoldable pub function_at : Reader RawFunction
+function_at = do
+  before ← items_at
+  width ← type_at
+  name ← function_name_at
+  parameters ← parameters_at
+  after ← last_items_at
+  blocks ← body_at
+  done (
+      record {
+        line = name.0;
+        name = name.1;
+        before = before;
+        width = width;
+        parameters = parameters;
+        after = after;
+        blocks = blocks;
+      }
+      )
+
+-- ---- modules
+
+unfoldable pub entry_at : Reader RawEntry
+entry_at ((line, Kept text) ∷ rest) = Ok (entries.Kept text, rest)
+entry_at ((line, Word word) ∷ rest) =
+    if bytes_eq word (codes "define") then (function_at >>= λ f. done (entries.Function f)) rest else Err (fault line (LeftOut word))
+entry_at tokens = Err (unexpected places.Entry tokens)
+
+-- an entry, before the end of the text
+abbrev pub begins_entry : List Placed → Bool
+begins_entry tokens = not (is_end tokens)
+
+-- the entries of a module
+unfoldable pub entries_at : Reader (List RawEntry)
+entries_at = each_at begins_entry entry_at []
+
+-- the module of these tokens
+abbrev pub module_from : Read (List RawEntry) → Result RawModule TextFault
+module_from (Ok x) = Ok (record { entries = x.0 })
+module_from (Err e) = Err e
+
+abbrev pub module_of : List Placed → Result RawModule TextFault
+module_of tokens = module_from (entries_at tokens)

@@ -1,0 +1,50 @@
+-- The kinds of faults that a function may have when its registers and blocks are known by place: for each, the lines at which it has
+-- it. The line is that of what is written at the place.
+use Rattle.std.specs.Prelude.{◌≡◌, ℕ, Some, slice_get}
+use Rattle.ir_core.specs.Assigned.{IsFirstUnassigned}
+use Rattle.ir_core.specs.declared.operand.Register.{Register}
+use Rattle.ir_tokens.specs.declared.called.Identifier.{Identifier as Called}
+use Rattle.ir_tokens.specs.declared.raw.RawValue.TheVariants as values
+use Rattle.ir_resolve.specs.TypedReads.{Typed}
+use Rattle.ir_reader.specs.declared.fault.IrFaultKind.TheVariants as kinds
+use Rattle.ir_reader.specs.declared.fault.IrFault.{IrFault}
+use Rattle.ir_reader.specs.Operands.{written_at}
+use Rattle.ir_core.specs.declared.function.Function.{Function}
+use Rattle.ir_core.specs.declared.instruction.Inst.{Inst}
+use Rattle.ir_core.specs.Blocks.{Names}
+use Rattle.ir_core.specs.Checks.{IsInst}
+use Rattle.ir_tokens.specs.declared.raw.RawFunction.{RawFunction}
+use Rattle.ir_tokens.specs.declared.raw.RawBlock.{RawBlock}
+use Rattle.ir_tokens.specs.declared.raw.RawInst.{RawInst}
+use Rattle.ir_resolve.specs.Written.{IsWrittenInst}
+use Rattle.ir_reader.specs.Phis.{OpFits}
+
+-- BadPhi: instruction k of block b is a phi that doesn't fit, and its register stands on the line
+abbrev pub BadPhiHere : RawFunction → Function → ℕ → ℕ → ℕ → Type 0
+BadPhiHere raw f b k line =
+    ((inst : Inst) × IsInst f b k inst × ¬ OpFits f b k inst.op)
+    × ((written : RawInst) × IsWrittenInst raw b k written × (written.result.line ≡ line))
+
+abbrev pub BadPhiAt : RawFunction → Function → ℕ → Type 0
+BadPhiAt raw f line = (b : ℕ) × (k : ℕ) × BadPhiHere raw f b k line
+
+-- EntryPred: the terminator of block b names the first block, and its first word stands on the line
+abbrev pub EntryPredHere : RawFunction → Function → ℕ → ℕ → Type 0
+EntryPredHere raw f b line = Names f b 0 × ((block : RawBlock) × (slice_get raw.blocks b ≡ Some block) × (block.end_line ≡ line))
+
+abbrev pub EntryPredAt : RawFunction → Function → ℕ → Type 0
+EntryPredAt raw f line = (b : ℕ) × EntryPredHere raw f b line
+
+-- Unassigned: the first register that isn't assigned where it is read, as it is written there, on the line of that operand, with the
+-- block in which it is written
+pub record IsUnassignedFault (raw : RawFunction) (f : Function) (fault : IrFault) : Type 0 where
+  pub register : Register
+  pub b : ℕ
+  pub k : ℕ
+  pub i : ℕ
+  pub first : IsFirstUnassigned f register b k i
+  pub operand : Typed
+  pub is_written : slice_get (written_at raw b k) i ≡ Some operand
+  pub name : Called
+  pub is_named : operand.operand.value ≡ values.Register name
+  pub is_fault : fault ≡ record { line = operand.operand.line; kind = kinds.Unassigned name b }

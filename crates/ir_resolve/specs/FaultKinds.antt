@@ -1,0 +1,170 @@
+-- The kinds of faults that a function as written may have before it is known by places: for each, the lines at which it has it.
+use Rattle.std.specs.Prelude.{◌≡◌, ◌≢◌, ◌⊎◌, ℕ, List, take, Option, Some, None, Contains, slice_get}
+use Rattle.ops.specs.Number.{Number}
+use Rattle.ops.specs.Conversion.{CastFits}
+use Rattle.ir_core.specs.Names.{Identifier, Numbered}
+use Rattle.ir_core.specs.declared.operand.Register.{Register}
+use Rattle.ir_core.specs.declared.operand.Register.TheVariants as registers
+use Rattle.ir_tokens.specs.declared.called.Identifier.TheVariants as called
+use Rattle.ir_tokens.specs.declared.raw.RawFunction.{RawFunction}
+use Rattle.ir_tokens.specs.declared.raw.RawParameter.{RawParameter}
+use Rattle.ir_tokens.specs.declared.raw.RawBlock.{RawBlock}
+use Rattle.ir_tokens.specs.declared.raw.RawInst.{RawInst}
+use Rattle.ir_tokens.specs.declared.raw.RawOp.{RawOp}
+use Rattle.ir_tokens.specs.declared.raw.RawOp.TheVariants as ops
+use Rattle.ir_tokens.specs.declared.raw.RawTerminator.{RawTerminator}
+use Rattle.ir_tokens.specs.declared.raw.RawTerminator.TheVariants as terminators
+use Rattle.ir_tokens.specs.declared.raw.RawValue.{RawValue}
+use Rattle.ir_tokens.specs.declared.raw.RawValue.TheVariants as values
+use Rattle.ir_tokens.specs.declared.raw.RawIdentifier.{RawIdentifier}
+use Rattle.ir_tokens.specs.declared.raw.RawCase.{RawCase}
+use Rattle.ir_tokens.specs.declared.called.Identifier.{Identifier as Called}
+use Rattle.ir_resolve.specs.FirstLines.{SomeAt}
+use Rattle.ir_resolve.specs.Written.{Thing, Value, Block, written_names, called_in, IsWrittenInst, Calls}
+use Rattle.ir_resolve.specs.TypedReads.{Typed, reads_of, targets_of, cases_of}
+
+-- ---- Numbering
+
+-- For this thing a number is written on the line, and it is called otherwise.
+abbrev pub IsMisnumbered : Option RawIdentifier → Identifier → ℕ → Type 0
+IsMisnumbered written identifier line = (w : RawIdentifier) × (n : ℕ)
+    × (written ≡ Some w) × (w.identifier ≡ called.Numbered n) × (identifier ≢ Numbered n) × (w.line ≡ line)
+
+-- for thing p of those for which this is written
+abbrev pub MisnumbersHere : List (Option RawIdentifier) → ℕ → ℕ → Type 0
+MisnumbersHere written p line = (w : Option RawIdentifier) × (i : Identifier)
+    × (slice_get written p ≡ Some w) × (slice_get (called_in written) p ≡ Some i) × IsMisnumbered w i line
+
+abbrev pub NumberingAt : RawFunction → ℕ → Type 0
+NumberingAt raw line = (p : ℕ) × MisnumbersHere (written_names raw) p line
+
+-- ---- Duplicate
+
+-- what one of these has
+abbrev pub SomeHas : {X K : Type 0} → (X → K → Type 0) → List X → K → Type 0
+SomeHas {X} Has xs k = (x : X) × Contains xs x × Has x k
+
+-- thing j has what one before it has, and stands on the line
+abbrev pub RepeatsHere : {X K : Type 0} → (X → K → Type 0) → (X → ℕ → Type 0) → List X → ℕ → ℕ → Type 0
+RepeatsHere {X} {K} Has StandsOn xs j line = (x : X) × (k : K) × (slice_get xs j ≡ Some x) × Has x k × SomeHas Has (take j xs) k × StandsOn x line
+
+abbrev pub Repeats : {X K : Type 0} → (X → K → Type 0) → (X → ℕ → Type 0) → List X → ℕ → Type 0
+Repeats Has StandsOn xs line = (j : ℕ) × RepeatsHere Has StandsOn xs j line
+
+-- the name is written, and on the line
+abbrev pub HasName : Option RawIdentifier → List ℕ → Type 0
+HasName written name = (w : RawIdentifier) × (written ≡ Some w) × (w.identifier ≡ called.Named name)
+
+abbrev pub IsWrittenOn : Option RawIdentifier → ℕ → Type 0
+IsWrittenOn written line = (w : RawIdentifier) × (written ≡ Some w) × (w.line ≡ line)
+
+-- the number that a literal stands for, with its width; `true` and `false` are the numbers of i1
+abbrev pub literal_of : RawValue → Option Number
+literal_of (values.Number n) = Some n
+literal_of values.True = Some (record { width = 1; number = 1 })
+literal_of values.False = Some (record { width = 1; number = 0 })
+literal_of (values.Register x) = None
+literal_of values.Undef = None
+literal_of values.Poison = None
+
+-- a case of a switch has the number, and stands on the line
+abbrev pub HasNumber : RawCase → ℕ → Type 0
+HasNumber c number = (n : Number) × (literal_of c.value.value ≡ Some n) × (n.number ≡ number)
+
+abbrev pub IsCaseOn : RawCase → ℕ → Type 0
+IsCaseOn c line = c.value.line ≡ line
+
+-- one of the functions has the name
+abbrev pub HasNameOf : List RawFunction → List ℕ → Type 0
+HasNameOf functions name = (k : ℕ) × (other : RawFunction) × (slice_get functions k ≡ Some other) × (other.name ≡ name)
+
+-- an earlier function has the function's name, a name is given twice, or a switch has two cases of one number
+abbrev pub DuplicateAt : List RawFunction → RawFunction → ℕ → Type 0
+DuplicateAt earlier raw line =
+    (HasNameOf earlier raw.name × (raw.line ≡ line))
+    ⊎ (Repeats HasName IsWrittenOn (written_names raw) line
+    ⊎ SomeAt raw.blocks (λ block. Repeats HasNumber IsCaseOn (cases_of block.end)) line)
+
+-- ---- Unknown
+
+-- Where these names call these registers and blocks: a value names a register, and there is none of that name
+abbrev pub IsUnknownValue : (Called → Thing → Type 0) → RawValue → Type 0
+IsUnknownValue CallsThing value = (x : Called) × (value ≡ values.Register x) × ((r : Register) → ¬ CallsThing x (Value r))
+
+-- there is no block of the name
+abbrev pub IsUnknownBlock : (Called → Thing → Type 0) → Called → Type 0
+IsUnknownBlock CallsThing x = (b : ℕ) → ¬ CallsThing x (Block b)
+
+-- one of these operands reads a register that is none, or one of these names is that of no block
+abbrev pub UnknownIn : (Called → Thing → Type 0) → List Typed → List RawIdentifier → ℕ → Type 0
+UnknownIn CallsThing reads targets line =
+    SomeAt reads (λ t at. IsUnknownValue CallsThing t.operand.value × (t.operand.line ≡ at)) line
+    ⊎ SomeAt targets (λ w at. IsUnknownBlock CallsThing w.identifier × (w.line ≡ at)) line
+
+abbrev pub UnknownAt : RawFunction → ℕ → Type 0
+UnknownAt raw = UnknownIn (Calls raw) (reads_of raw) (targets_of raw)
+
+-- ---- TypeClash
+
+-- the width of what an instruction gives, as written; that of a select is its first arm's
+abbrev pub result_width : RawOp → ℕ
+result_width (ops.Binary op flags width a b) = width
+result_width (ops.Compare pred width a b) = 1
+result_width (ops.Select c a b) = a.width
+result_width (ops.Convert cast from a to) = to
+result_width (ops.Freeze width a) = width
+result_width (ops.Phi width incoming) = width
+
+-- a register has the width
+abbrev pub RegisterHasWidth : RawFunction → Register → ℕ → Type 0
+RegisterHasWidth raw (registers.Parameter k) width = (p : RawParameter) × (slice_get raw.parameters k ≡ Some p) × (p.width ≡ width)
+RegisterHasWidth raw (registers.Result d j) width = (inst : RawInst) × IsWrittenInst raw d j inst × (result_width inst.op ≡ width)
+
+-- a name calls the register, which has the width
+abbrev pub CallsRegister : RawFunction → Called → Register → ℕ → Type 0
+CallsRegister raw x r width = Calls raw x (Value r) × RegisterHasWidth raw r width
+
+-- a literal has another width
+abbrev pub LiteralClashes : ℕ → RawValue → Type 0
+LiteralClashes width value = (n : Number) × (literal_of value ≡ Some n) × (n.width ≢ width)
+
+-- Where these names call these registers of these widths: a value doesn't fit the width that is written for it, since it is a
+-- literal or a register of another width
+abbrev pub ValueClashes : (Called → Register → ℕ → Type 0) → ℕ → RawValue → Type 0
+ValueClashes CallsThis width value =
+    LiteralClashes width value
+    ⊎ ((x : Called) × (r : Register) × (other : ℕ) × (value ≡ values.Register x) × CallsThis x r other × (other ≢ width))
+
+-- one of these operands does not fit
+abbrev pub ReadClashesIn : (Called → Register → ℕ → Type 0) → List Typed → ℕ → Type 0
+ReadClashesIn CallsThis reads = SomeAt reads (λ t at. ValueClashes CallsThis t.width t.operand.value × (t.operand.line ≡ at))
+
+-- the types that are written in an instruction don't go together: a condition that is no i1, arms of two types, or a cast that is
+-- not to a strictly smaller or larger type; on the line of that operand, of the second arm, or of what is cast
+abbrev pub OpClashesAt : RawOp → ℕ → Type 0
+OpClashesAt (ops.Select c a b) line = ((c.width ≢ 1) × (c.operand.line ≡ line)) ⊎ ((a.width ≢ b.width) × (b.operand.line ≡ line))
+OpClashesAt (ops.Convert cast from a to) line = ¬ CastFits cast from to × (a.line ≡ line)
+OpClashesAt (ops.Binary op flags width a b) line = ⊥
+OpClashesAt (ops.Compare pred width a b) line = ⊥
+OpClashesAt (ops.Freeze width a) line = ⊥
+OpClashesAt (ops.Phi width incoming) line = ⊥
+
+-- a case has another type than the switch, or its value is no number, or none of its type
+abbrev pub CaseClashes : ℕ → RawCase → Type 0
+CaseClashes width c = (c.width ≢ width) ⊎ ((literal_of c.value.value ≡ None) ⊎ LiteralClashes c.width c.value.value)
+
+-- the same of a terminator in a function of the width: a returned type that is not the function's, a condition that is no i1, or a
+-- case that clashes
+abbrev pub EndClashesAt : ℕ → RawTerminator → ℕ → Type 0
+EndClashesAt returned (terminators.Return width a) line = (width ≢ returned) × (a.line ≡ line)
+EndClashesAt returned (terminators.Branch width c to other) line = (width ≢ 1) × (c.line ≡ line)
+EndClashesAt returned (terminators.Switch width a other cases) line = SomeAt cases (λ c at. CaseClashes width c × (c.value.line ≡ at)) line
+EndClashesAt returned terminators.Unreachable line = ⊥
+EndClashesAt returned (terminators.Jump to) line = ⊥
+
+-- the same of a block
+abbrev pub BlockClashesAt : ℕ → RawBlock → ℕ → Type 0
+BlockClashesAt returned block line = SomeAt block.insts (λ i. OpClashesAt i.op) line ⊎ EndClashesAt returned block.end line
+
+abbrev pub TypeClashAt : RawFunction → ℕ → Type 0
+TypeClashAt raw line = ReadClashesIn (CallsRegister raw) (reads_of raw) line ⊎ SomeAt raw.blocks (BlockClashesAt raw.width) line

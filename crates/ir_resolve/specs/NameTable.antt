@@ -1,0 +1,21 @@
+-- A table of names that has exactly what a function has.
+use Rattle.std.specs.Prelude.{◌≡◌, ◌↔◌, ℕ, List}
+use Rattle.ir_tokens.specs.declared.called.Identifier.{Identifier as Called}
+use Rattle.ir_core.specs.declared.operand.Register.{Register}
+use Rattle.ir_tokens.specs.declared.raw.RawFunction.{RawFunction}
+use Rattle.ir_resolve.specs.declared.fault.Fault.{Fault}
+use Rattle.ir_resolve.specs.declared.fault.FaultKind.TheVariants.{Unknown, TypeClash}
+use Rattle.ir_resolve.specs.FirstLines.{IsFirstLine}
+use Rattle.ir_resolve.specs.Written.{Thing, Calls}
+use Rattle.ir_resolve.specs.FaultKinds.{CallsRegister, UnknownAt, TypeClashAt}
+use Rattle.ir_resolve.specs.Views.{Known, CallsIn, CallsRegisterIn}
+
+-- a name or number calls the same things and registers in the table and in the function
+pub record Tabulates (raw : RawFunction) (known : List Known) : Type 0 where
+  pub things : (x : Called) (thing : Thing) → CallsIn known x thing ↔ Calls raw x thing
+  pub registers : (x : Called) (r : Register) (width : ℕ) → CallsRegisterIn known x r width ↔ CallsRegister raw x r width
+
+-- the first fault of what is read and named: first what is unknown, and then types
+pub data IsFaultOfUses (raw : RawFunction) (fault : Fault) : Type 0 where
+  unknown : fault.kind ≡ Unknown → IsFirstLine (UnknownAt raw) fault.line → IsFaultOfUses raw fault
+  clash : fault.kind ≡ TypeClash → ((line : ℕ) → ¬ UnknownAt raw line) → IsFirstLine (TypeClashAt raw) fault.line → IsFaultOfUses raw fault

@@ -1,0 +1,31 @@
+-- What a cleaned function has, the old one has: its blocks, and of their instructions those that are kept.
+use Rattle.std.proofs.Common.{◌≡◌, ℕ, ◌+◌, true, Some, sym, ap, subst, ◌∙◌, arith}
+use Rattle.std.specs.Prelude.{slice_get}
+use Rattle.ir_core.specs.declared.function.Function.{Function}
+use Rattle.ir_core.specs.declared.function.Block.{Block}
+use Rattle.ir_core.specs.declared.instruction.Inst.{Inst}
+use Rattle.ir_core.specs.Blocks.{IsBlock}
+use Rattle.ir_core.specs.Checks.{IsInst}
+use Rattle.needed.specs.KeptFunction.{KeptMarks, moved_inst, kept_block}
+use Rattle.needed.specs.Cleaned.{IsCleaned}
+use Rattle.needed.proofs.Counting.{IsKept, kept_back, block_back}
+
+-- block b of a cleaned function is the old one with its kept instructions
+pub block_of_old : (f g : Function) (c : IsCleaned f g) (b : ℕ) (new : Block) → IsBlock g b new → (block : Block) × IsBlock f b block × (kept_block c.0 b block ≡ new)
+block_of_old f g c b new h = block_back c.0 f b new (subst (λ (x : Function). IsBlock x b new) c.2 h)
+
+-- an instruction of a cleaned function
+pub record IsOld (f : Function) (kept : KeptMarks) (b : ℕ) (new : Inst) : Type 0 where
+  pub place : ℕ
+  pub inst : Inst
+  pub is_inst : IsInst f b place inst
+  pub keep : kept b place ≡ true
+  pub moved : moved_inst kept inst ≡ new
+
+-- it is one of the old that is kept, with its operands moved
+pub inst_of_old : (f g : Function) (c : IsCleaned f g) (b k : ℕ) (new : Inst) → IsInst g b k new → IsOld f c.0 b new
+inst_of_old f g c b k new h =
+    let was : (block : Block) × IsBlock f b block × (kept_block c.0 b block ≡ h.block) = block_of_old f g c b h.block h.is_block in
+    let i : IsKept c.0 b 0 was.0.insts k new = kept_back c.0 b 0 was.0.insts k new (subst (λ (x : Block). slice_get x.insts k ≡ Some new) (sym was.2) h.is_inst) in
+    let same : 0 + i.place ≡ i.place = omega arith in
+    record { place = i.place; inst = i.inst; is_inst = record { block = was.0; is_block = was.1; is_inst = i.at }; keep = ap (c.0 b) (sym same) ∙ i.keep; moved = i.moved }

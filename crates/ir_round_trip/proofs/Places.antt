@@ -1,0 +1,36 @@
+-- What stands where in what is read and named in a function as written.
+use Rattle.std.proofs.Common.{◌≡◌, inl, inr, ℕ, suc, List, [], ◌∷◌, ◌++◌, Some, refl}
+use Rattle.std.specs.Prelude.{slice_get, Contains}
+use Rattle.std.specs.List.{flat_map}
+use Rattle.ir_tokens.specs.declared.raw.RawFunction.{RawFunction}
+use Rattle.ir_tokens.specs.declared.raw.RawBlock.{RawBlock}
+use Rattle.ir_tokens.specs.declared.raw.RawInst.{RawInst}
+use Rattle.ir_tokens.specs.declared.raw.RawOp.{RawOp}
+use Rattle.ir_tokens.specs.declared.raw.RawTerminator.{RawTerminator}
+use Rattle.ir_reader.proofs.Places.{at_append, somewhere}
+
+-- what stands in the lists that are made of things, one behind the other, stands in one of them
+made_at : {X Y : Type 0} (g : X → List Y) (xs : List X) (p : ℕ) (y : Y) → slice_get (flat_map g xs) p ≡ Some y → (x : X) × ((k : ℕ) × (slice_get xs k ≡ Some x)) × ((q : ℕ) × (slice_get (g x) q ≡ Some y))
+made_at g [] p y at = cc
+made_at g (x ∷ xs) p y at = elim (at_append (g x) (flat_map g xs) p y at) [
+  | inl here ↦ (x, (0, refl), (p, here))
+  | inr (q, is, behind) ↦ let (z, (k, there), found) = made_at g xs q y behind in (z, (suc k, there), found)
+]
+
+-- what stands in one of the instructions of a block of the function, or in its terminator
+module _ {Y : Type 0} (by_op : RawOp → List Y) (at_end : RawTerminator → List Y) where
+  pub data StandsIn (raw : RawFunction) (y : Y) : Type 0 where
+    in_inst : (b k q : ℕ) (block : RawBlock) (inst : RawInst) → slice_get raw.blocks b ≡ Some block → slice_get block.insts k ≡ Some inst → slice_get (by_op inst.op) q ≡ Some y → StandsIn raw y
+    in_end : (b q : ℕ) (block : RawBlock) → slice_get raw.blocks b ≡ Some block → slice_get (at_end block.end) q ≡ Some y → StandsIn raw y
+
+  abbrev in_block : RawBlock → List Y
+  in_block block = flat_map (λ (i : RawInst). by_op i.op) block.insts ++ at_end block.end
+
+  pub stands_in : (raw : RawFunction) (y : Y) → Contains (flat_map in_block raw.blocks) y → StandsIn raw y
+  stands_in raw y among =
+      let (p, at) = somewhere (flat_map in_block raw.blocks) y among in
+      let (block, (b, is), (q, here)) = made_at in_block raw.blocks p y at in
+      elim (at_append (flat_map (λ (i : RawInst). by_op i.op) block.insts) (at_end block.end) q y here) [
+        | inl first ↦ let (inst, (k, inst_at), (j, y_at)) = made_at (λ (i : RawInst). by_op i.op) block.insts q y first in in_inst b k j block inst is inst_at y_at
+        | inr (j, place, last) ↦ in_end b j block is last
+      ]

@@ -1,5 +1,0 @@
-use Rattle.ir_statements.proofs.Takings.{inst-takes}
-use Rattle.ir_statements.proofs.op.insts.Goals as goal
-
-pub each-requires : goal.each-requires
-each-requires c = inst-takes

@@ -1,5 +1,0 @@
-use Rattle.ir_statements.proofs.Takings.{case-takes}
-use Rattle.ir_statements.proofs.terminators.cases.Goals as goal
-
-pub each-requires : goal.each-requires
-each-requires c = case-takes

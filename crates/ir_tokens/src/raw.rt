@@ -1,0 +1,146 @@
+//! Modules as they are written: what has a name is known by it, and each type and number is read.
+
+use crate::Identifier;
+use lists::{List, Text};
+use ops::{Cast, Flags, Opcode, Pred, Width, Word};
+
+/// A module as written.
+#[derive(Debug, Drop)]
+pub struct RawModule {
+    /// In text order.
+    pub entries: List<RawEntry>,
+}
+
+/// An entry of a module as written.
+#[derive(Debug, Drop)]
+pub enum RawEntry {
+    /// A line that is kept as it is.
+    Kept(Text),
+    Function(RawFunction),
+}
+
+/// A function with its body as written.
+#[derive(Debug, Drop)]
+pub struct RawFunction {
+    /// The line of its name, counted from 1.
+    pub line: usize,
+    /// The name, without the `@`.
+    pub name: Text,
+    /// The items before the type, each as it is printed: linkage, attributes of what is returned and the like.
+    pub before: List<Text>,
+    /// The width of what it returns.
+    pub width: Width,
+    pub parameters: List<RawParameter>,
+    /// The items behind the parameters, each as it is printed: attributes of the function and the like.
+    pub after: List<Text>,
+    /// One or more; the first is entered when the function is called.
+    pub blocks: List<RawBlock>,
+}
+
+/// A parameter as written.
+#[derive(Debug, Drop)]
+pub struct RawParameter {
+    pub width: Width,
+    /// The items behind the type, each as it is printed.
+    pub items: List<Text>,
+    pub name: Option<RawIdentifier>,
+}
+
+/// The name or the number of a register or of a block, with the line that it stands on, counted from 1.
+#[derive(Debug, Drop)]
+pub struct RawIdentifier {
+    pub line: usize,
+    /// Without the `%` before it or the `:` behind it.
+    pub identifier: Identifier,
+}
+
+/// A basic block as written.
+#[derive(Debug, Drop)]
+pub struct RawBlock {
+    /// Missing in the first block of a function at most.
+    pub label: Option<RawIdentifier>,
+    pub insts: List<RawInst>,
+    pub end: RawTerminator,
+    /// The line of the first word of the terminator, counted from 1.
+    pub end_line: usize,
+}
+
+/// An instruction as written, with the register that it assigns.
+#[derive(Debug, Drop)]
+pub struct RawInst {
+    pub result: RawIdentifier,
+    pub op: RawOp,
+}
+
+/// What an instruction computes, as written. (LLVM Language Reference, "Instruction Reference".)
+#[derive(Debug, Drop)]
+pub enum RawOp {
+    /// A binary operation with its flags; the width is that of both operands.
+    Binary(Opcode, Flags, Width, RawOperand, RawOperand),
+    /// `icmp`; the width is that of both operands.
+    Compare(Pred, Width, RawOperand, RawOperand),
+    /// `select`: the condition, what it gives where the condition is true, and what where it is false.
+    Select(TypedOperand, TypedOperand, TypedOperand),
+    /// A cast from a width to another.
+    Convert(Cast, Width, RawOperand, Width),
+    /// `freeze`.
+    Freeze(Width, RawOperand),
+    /// `phi`, with one incoming value or more.
+    Phi(Width, List<RawIncoming>),
+}
+
+/// An operand with the width that is written before it.
+#[derive(Debug, Drop)]
+pub struct TypedOperand {
+    pub width: Width,
+    pub operand: RawOperand,
+}
+
+/// An operand as written, with its line, counted from 1.
+#[derive(Debug, Drop)]
+pub struct RawOperand {
+    pub line: usize,
+    pub value: RawValue,
+}
+
+/// A value as written.
+#[derive(Debug, Drop)]
+pub enum RawValue {
+    Register(Identifier),
+    /// A number, modulo 2^N at the width N that is written before it.
+    Number(Word),
+    True,
+    False,
+    Undef,
+    Poison,
+}
+
+/// A value of a `phi`, and the block that control comes from.
+#[derive(Debug, Drop)]
+pub struct RawIncoming {
+    pub value: RawOperand,
+    pub block: RawIdentifier,
+}
+
+/// How a block ends, as written. (LLVM Language Reference, "Terminator Instructions".)
+#[derive(Debug, Drop)]
+pub enum RawTerminator {
+    /// `ret` of an operand of a width.
+    Return(Width, RawOperand),
+    Unreachable,
+    /// `br` to a block.
+    Jump(RawIdentifier),
+    /// `br` on a condition of a width: to the first block where it is true, and to the second where it is false.
+    Branch(Width, RawOperand, RawIdentifier, RawIdentifier),
+    /// `switch` on an operand of a width: where to go in no case, and the cases.
+    Switch(Width, RawOperand, RawIdentifier, List<RawCase>),
+}
+
+/// A case of a `switch` as written.
+#[derive(Debug, Drop)]
+pub struct RawCase {
+    pub width: Width,
+    /// A number, `true` or `false`.
+    pub value: RawOperand,
+    pub target: RawIdentifier,
+}

@@ -1,0 +1,269 @@
+-- Readers that go on by what stands next.
+use Rattle.std.proofs.Common.{◌≡◌, ℕ, Bool, true, false, cond, List, [], ◌∷◌, ◌++◌, Ok, Err, refl, sym, subst, ◌∙◌, ◌⊎◌, inl, inr}
+use Rattle.ir_tokens.specs.Tokens.{Token, Placed, Word, Group}
+use Rattle.ir_instructions.specs.declared.fault.Misfit.{Misfit}
+use Rattle.ir_instructions.specs.declared.fault.TextFault.{TextFault}
+use Rattle.ir_instructions.specs.declared.word.Ending.{Ending}
+use Rattle.ir_instructions.specs.Places.{begins_record}
+use Rattle.ir_instructions.specs.Readers.{Read, Reader}
+use Rattle.ir_instructions.specs.Keywords.{ending_word}
+use Rattle.ir_viable_prefixes.proofs.Outcomes.{Follow, Next, next_map, StopsAt, Halts, CompletesBegun, Sample, Fit, RefusesAt, Bad, Why, Reasons, ReasonsIf, OutcomeIf, Outcome, Good, GoodIf}
+use Rattle.ir_viable_prefixes.specs.Misfits.{RepeatsFlag}
+use Rattle.ir_viable_prefixes.proofs.Reasons.{an_end, a_group, Like, like_map, NoRecord, NoGroup, Maps, reason_map}
+
+-- the test asks for the next token alone
+abbrev pub AsksNext : (List Placed → Bool) → Type 0
+AsksNext test = (l k : ℕ) (t : Token) (a b : List Placed) → test ((l, t) ∷ a) ≡ test ((k, t) ∷ b)
+
+-- tokens of which the test says so
+abbrev pub Tested : (List Placed → Bool) → Bool → Follow
+Tested test b t = test ((0, t) ∷ []) ≡ b
+
+pub tested_next : (test : List Placed → Bool) → AsksNext test → (b : Bool) (tokens : List Placed) → Next (Tested test b) tokens → test tokens ≡ b
+tested_next test asks b [] h = absurd h
+tested_next test asks b ((l, t) ∷ tokens) h = asks l 0 t tokens [] ∙ h
+
+same_test : (test : List Placed → Bool) → AsksNext test → (front : List Placed) (l k : ℕ) (t : Token) (a b : List Placed) → test (front ++ (l, t) ∷ a) ≡ test (front ++ (k, t) ∷ b)
+same_test test asks [] l k t a b = asks l k t a b
+same_test test asks ((i, u) ∷ front) l k t a b = asks i i u (front ++ (l, t) ∷ a) (front ++ (k, t) ∷ b)
+
+-- behind a front that is not empty, the test says the same
+pub begun_test : (test : List Placed → Bool) → AsksNext test → (b : Bool) (front rest tokens : List Placed) → test (front ++ rest) ≡ b → (front ≡ [] → test tokens ≡ b) → test (front ++ tokens) ≡ b
+begun_test test asks b [] rest tokens h none = none refl
+begun_test test asks b ((i, u) ∷ front) rest tokens h none = asks i i u (front ++ tokens) (front ++ rest) ∙ h
+
+-- where the test says so of a token, it does of those of its sort
+abbrev pub Opens : (List Placed → Bool) → Bool → Type 0 → Type 0
+Opens test b U = (t u : Token) → Tested test b t → Like U t u → Tested test b u
+
+-- where it says so of the mark of a record, it does of the words of terminators, or the reader takes a group; and it does of groups where
+-- it does of a terminator
+abbrev pub OpensRecords : {A : Type 0} → (List Placed → Bool) → Bool → Follow → Reader A → Follow → Type 0
+OpensRecords test b E S F = (t : Token) → begins_record t ≡ true → Tested test b t → NoRecord (Fit E S F []) (Tested test b) × (Tested test b an_end → NoGroup (Tested test b))
+
+-- what may stand next in the one place may in another
+pub opens_wider : {A : Type 0} (test : List Placed → Bool) (b : Bool) (D E : Follow) (S : Reader A) (F : Follow) → ((t : Token) → D t → E t) → OpensRecords test b D S F → OpensRecords test b E S F
+opens_wider test b D E S F enters opens t begins h = (by (opens t begins h).0, (opens t begins h).1)
+  where
+    by : NoRecord (Fit D S F []) (Tested test b) → NoRecord (Fit E S F []) (Tested test b)
+    by (inl fit) = inl (fit.0, λ none. enters a_group (fit.1 none))
+    by (inr says) = inr says
+
+-- it says of the mark of a record what it says of the words of terminators and of groups
+abbrev pub SaysOfRecords : (List Placed → Bool) → Type 0
+SaysOfRecords test = (b : Bool) (t : Token) → begins_record t ≡ true → Tested test b t → ((ending : Ending) → Tested test b (Word (ending_word ending))) × NoGroup (Tested test b)
+
+-- what fits one, fits the other
+pub fits_transferred : {A : Type 0} (test : List Placed → Bool) → AsksNext test → (b : Bool) (R S : Reader A) → ((tokens : List Placed) → test tokens ≡ b → S tokens ≡ R tokens)
+    → (D E F : Follow) → ((t : Token) → D t → Tested test b t) → ((t : Token) → D t → E t) → (tokens : List Placed) → test tokens ≡ b
+    → (front : List Placed) (u : Placed) (behind : List Placed) → tokens ≡ front ++ u ∷ behind → (t : Token) → Fit D R F front t → Fit E S F front t
+fits_transferred test asks b R S agree D E F within enters tokens next [] u behind there t (c, entered) =
+    ((c.0, c.1, λ ts f. agree ((0, t) ∷ (c.1 ++ ts)) (asks 0 0 t (c.1 ++ ts) [] ∙ within t (entered refl)) ∙ c.2 ts f), λ none. enters t (entered refl))
+fits_transferred test asks b R S agree D E F within enters tokens next ((l, v) ∷ front) u behind there t (c, entered) = (
+  (
+    c.0,
+    c.1,
+    λ ts f.
+        agree ((l, v) ∷ (front ++ (0, t) ∷ (c.1 ++ ts))) (asks l l v (front ++ (0, t) ∷ (c.1 ++ ts)) (front ++ u ∷ behind) ∙ subst (λ (ts : List Placed). test ts ≡ b) there next) ∙ c.2 ts f,
+  ),
+  λ none. absurd cc,
+)
+
+-- What holds of a reader holds of one that does the same where the test says so.
+pub transfer : {A : Type 0} (test : List Placed → Bool) → AsksNext test → (b : Bool) (R S : Reader A) → ((tokens : List Placed) → test tokens ≡ b → S tokens ≡ R tokens)
+    → (U U' Z : Type 0) → (U → U') → Opens test b U → (D E F : Follow) → OpensRecords test b E S F → (V W : Why) → ((t : Token) → D t → Tested test b t) → ((t : Token) → D t → E t)
+    → (tokens : List Placed) → ((front : List Placed) (l : ℕ) (t : Token) (behind : List Placed) → tokens ≡ front ++ (l, t) ∷ behind → (kind : Misfit) → V front t kind → W front t kind)
+    → test tokens ≡ b → (r : Read A) → OutcomeIf U D R F Z V tokens r → OutcomeIf U' E S F Z W tokens r
+transfer {A} test asks b R S agree U U' Z voiced opens D E F records V W within enters tokens lift next (Ok x) o = record {
+  front = o.front;
+  there = o.there;
+  ended = o.ended;
+  stopped = here x.1 o.there o.stopped;
+  follows = λ t f line more.
+      agree (o.front ++ (line, t) ∷ more)
+      (begun_test test asks b o.front x.1 ((line, t) ∷ more) (subst (λ (ts : List Placed). test ts ≡ b) o.there next) (λ none. asks line 0 t more [] ∙ within t (o.nothing none t f)))
+      ∙ o.follows t f line more;
+  halts = halts_here x.1 o.front o.there o.halts o.words;
+  records = records_here x.1 o.front o.there o.records;
+  groups = λ end. groups_here x.1 o.front o.there (o.groups end) (λ none. within an_end (o.nothing none an_end end));
+  nothing = λ none t f. enters t (o.nothing none t f);
+  words = λ none. voiced_next x.1 (o.words none);
+}
+  where
+    moved : (front : List Placed) (u : Token) (line : ℕ) (more : List Placed) → test (front ++ (line, u) ∷ more) ≡ b
+        → (R (front ++ (line, u) ∷ more) ≡ Ok (x.0, (line, u) ∷ more)) ⊎ ((e : TextFault) × (R (front ++ (line, u) ∷ more) ≡ Err e))
+        → (S (front ++ (line, u) ∷ more) ≡ Ok (x.0, (line, u) ∷ more)) ⊎ ((e : TextFault) × (S (front ++ (line, u) ∷ more) ≡ Err e))
+    moved front u line more h (inl one) = inl (agree (front ++ (line, u) ∷ more) h ∙ one)
+    moved front u line more h (inr (e, one)) = inr (e, agree (front ++ (line, u) ∷ more) h ∙ one)
+
+    voiced_next : (rest : List Placed) → Next (λ t. (u : Token) → Like Z t u → Like U t u) rest → Next (λ t. (u : Token) → Like Z t u → Like U' t u) rest
+    voiced_next [] h = absurd h
+    voiced_next ((l, t) ∷ rest) h = λ u like. like_map voiced (h u like)
+
+    halts_here : (rest front : List Placed) → tokens ≡ front ++ rest → Next (λ t. (u : Token) → Like Z t u → Halts R front x.0 u) rest → (front ≡ [] → Next (λ t. (u : Token) → Like Z t u → Like U t u) rest) → Next (λ t. (u : Token) → Like Z t u → Halts S front x.0 u) rest
+    halts_here [] front there h w = absurd h
+    halts_here ((l, t) ∷ rest) [] there h w = λ u like line more.
+        let now : Tested test b t = asks 0 l t [] rest ∙ subst (λ (ts : List Placed). test ts ≡ b) there next in
+        moved [] u line more (asks line 0 u more [] ∙ opens t u now (w refl u like)) (h u like line more)
+    halts_here ((l, t) ∷ rest) ((i, v) ∷ front) there h w = λ u like line more.
+        moved ((i, v) ∷ front) u line more (asks i i v (front ++ (line, u) ∷ more) (front ++ (l, t) ∷ rest) ∙ subst (λ (ts : List Placed). test ts ≡ b) there next) (h u like line more)
+
+    both_records : (l : ℕ) (t : Token) (rest : List Placed) → tokens ≡ (l, t) ∷ rest → NoRecord (Fit D R F []) (Halts R [] x.0) → NoRecord (Fit E S F []) (Tested test b) → NoRecord (Fit E S F []) (Halts S [] x.0)
+    both_records l t rest there h (inl fit) = inl fit
+    both_records l t rest there (inl fit) (inr says) = inl (fits_transferred test asks b R S agree D E F within enters tokens next [] (l, t) rest there a_group fit)
+    both_records l t rest there (inr h) (inr says) =
+        inr (λ ending line more. moved [] (Word (ending_word ending)) line more (asks line 0 (Word (ending_word ending)) more [] ∙ says ending) (h ending line more))
+
+    then_records : (l : ℕ) (t : Token) (rest : List Placed) (i : ℕ) (v : Token) (front : List Placed) → tokens ≡ (i, v) ∷ (front ++ (l, t) ∷ rest) → NoRecord (Fit D R F ((i, v) ∷ front)) (Halts R ((i, v) ∷ front) x.0) → NoRecord (Fit E S F ((i, v) ∷ front)) (Halts S ((i, v) ∷ front) x.0)
+    then_records l t rest i v front there (inl fit) = inl (fits_transferred test asks b R S agree D E F within enters tokens next ((i, v) ∷ front) (l, t) rest there a_group fit)
+    then_records l t rest i v front there (inr h) =
+        inr (λ ending line more.
+        moved ((i, v) ∷ front) (Word (ending_word ending)) line more (asks i i v (front ++ (line, Word (ending_word ending)) ∷ more) (front ++ (l, t) ∷ rest) ∙ subst (λ (ts : List Placed). test ts ≡ b) there next) (h ending line more))
+
+    records_here : (rest front : List Placed) → tokens ≡ front ++ rest → Next (λ t. begins_record t ≡ true → NoRecord (Fit D R F front) (Halts R front x.0)) rest → Next (λ t. begins_record t ≡ true → NoRecord (Fit E S F front) (Halts S front x.0)) rest
+    records_here [] front there h = absurd h
+    records_here ((l, t) ∷ rest) [] there h = λ begins. both_records l t rest there (h begins) (records t begins (asks 0 l t [] rest ∙ subst (λ (ts : List Placed). test ts ≡ b) there next)).0
+    records_here ((l, t) ∷ rest) ((i, v) ∷ front) there h = λ begins. then_records l t rest i v front there (h begins)
+
+    groups_here : (rest front : List Placed) → tokens ≡ front ++ rest → Next (λ t. begins_record t ≡ true → NoGroup (Halts R front x.0)) rest → (front ≡ [] → Tested test b an_end) → Next (λ t. begins_record t ≡ true → NoGroup (Halts S front x.0)) rest
+    groups_here [] front there h end = absurd h
+    groups_here ((l, t) ∷ rest) [] there h end = λ begins text line more.
+        moved [] (Group text) line more (asks line 0 (Group text) more [] ∙ (records t begins (asks 0 l t [] rest ∙ subst (λ (ts : List Placed). test ts ≡ b) there next)).1 (end refl) text) (h begins text line more)
+    groups_here ((l, t) ∷ rest) ((i, v) ∷ front) there h end = λ begins text line more.
+        moved ((i, v) ∷ front) (Group text) line more (asks i i v (front ++ (line, Group text) ∷ more) (front ++ (l, t) ∷ rest) ∙ subst (λ (ts : List Placed). test ts ≡ b) there next) (h begins text line more)
+
+    here : (rest : List Placed) → tokens ≡ o.front ++ rest → Next (StopsAt R o.front x.0) rest → Next (StopsAt S o.front x.0) rest
+    here [] there h = absurd h
+    here ((l, t) ∷ rest) there h = λ line more.
+        agree (o.front ++ (line, t) ∷ more) (same_test test asks o.front line l t more rest ∙ subst (λ (ts : List Placed). test ts ≡ b) there next) ∙ h line more
+transfer {A} test asks b R S agree U U' Z voiced opens D E F records V W within enters tokens lift next (Err e) o = record {
+  front = o.front;
+  token = o.token;
+  behind = o.behind;
+  there = o.there;
+  refused = λ more.
+      agree (o.front ++ (e.line, o.token) ∷ more)
+      (same_test test asks o.front e.line e.line o.token more o.behind ∙ subst (λ (ts : List Placed). test ts ≡ b) o.there next)
+      ∙ o.refused more;
+  completes = completes o.front o.there o.completes;
+  why = lift o.front e.line o.token o.behind o.there e.kind o.why;
+}
+  where
+    completes : (front : List Placed) → tokens ≡ front ++ (e.line, o.token) ∷ o.behind → CompletesBegun R F front → CompletesBegun S F front
+    completes [] there c = tt
+    completes ((i, u) ∷ front) there c = (
+      c.0,
+      c.1,
+      λ ts f.
+          agree ((i, u) ∷ (front ++ (c.1 ++ ts))) (asks i i u (front ++ (c.1 ++ ts)) (front ++ (e.line, o.token) ∷ o.behind) ∙ subst (λ (ts : List Placed). test ts ≡ b) there next)
+          ∙ c.2 ts f,
+    )
+
+pub bad_transferred : {A : Type 0} (test : List Placed → Bool) → AsksNext test → (b : Bool) (R S : Reader A) → ((tokens : List Placed) → test tokens ≡ b → S tokens ≡ R tokens)
+    → (U U' : Type 0) → (U → U') → Opens test b U → (tokens : List Placed) → test tokens ≡ b
+    → (front : List Placed) (l : ℕ) (t : Token) (behind : List Placed) → tokens ≡ front ++ (l, t) ∷ behind → (u : Token) → Bad U R front t u → Bad U' S front t u
+bad_transferred test asks b R S agree U U' voiced opens tokens next [] l t behind there u (refused, like) = (
+  λ line more.
+      let now : Tested test b t = asks 0 l t [] behind ∙ subst (λ (ts : List Placed). test ts ≡ b) there next in
+      let r = refused line more in
+      (r.0, agree ((line, u) ∷ more) (asks line 0 u more [] ∙ opens t u now (like refl)) ∙ r.1),
+  λ none. like_map voiced (like refl),
+)
+bad_transferred test asks b R S agree U U' voiced opens tokens next ((i, v) ∷ front) l t behind there u (refused, like) = (
+  λ line more.
+      let r = refused line more in
+      (r.0, agree ((i, v) ∷ (front ++ (line, u) ∷ more)) (asks i i v (front ++ (line, u) ∷ more) (front ++ (l, t) ∷ behind) ∙ subst (λ (ts : List Placed). test ts ≡ b) there next) ∙ r.1),
+  λ none. absurd cc,
+)
+
+records_transferred : {A : Type 0} (test : List Placed → Bool) → AsksNext test → (b : Bool) (R S : Reader A) → ((tokens : List Placed) → test tokens ≡ b → S tokens ≡ R tokens)
+    → (D E F : Follow) → OpensRecords test b E S F → ((t : Token) → D t → Tested test b t) → ((t : Token) → D t → E t) → (tokens : List Placed) → test tokens ≡ b
+    → (front : List Placed) (l : ℕ) (t : Token) (behind : List Placed) → tokens ≡ front ++ (l, t) ∷ behind → begins_record t ≡ true → NoRecord (Fit D R F front) (RefusesAt R front) → NoRecord (Fit E S F front) (RefusesAt S front)
+records_transferred test asks b R S agree D E F opens within enters tokens next front l t behind there begins (inl fit) = inl (fits_transferred test asks b R S agree D E F within enters tokens next front (l, t) behind there a_group fit)
+records_transferred test asks b R S agree D E F opens within enters tokens next [] l t behind there begins (inr refused) = by (opens t begins (asks 0 l t [] behind ∙ subst (λ (ts : List Placed). test ts ≡ b) there next)).0
+  where
+    by : NoRecord (Fit E S F []) (Tested test b) → NoRecord (Fit E S F []) (RefusesAt S [])
+    by (inl fit) = inl fit
+    by (inr says) =
+        inr (λ ending line more.
+        let r = refused ending line more in
+        (r.0, agree ((line, Word (ending_word ending)) ∷ more) (asks line 0 (Word (ending_word ending)) more [] ∙ says ending) ∙ r.1))
+records_transferred test asks b R S agree D E F opens within enters tokens next ((i, v) ∷ front) l t behind there begins (inr refused) =
+    inr (λ ending line more.
+    let r = refused ending line more in
+    (r.0, agree ((i, v) ∷ (front ++ (line, Word (ending_word ending)) ∷ more)) (asks i i v (front ++ (line, Word (ending_word ending)) ∷ more) (front ++ (l, t) ∷ behind) ∙ subst (λ (ts : List Placed). test ts ≡ b) there next) ∙ r.1))
+
+groups_transferred : {A : Type 0} (test : List Placed → Bool) → AsksNext test → (b : Bool) (R S : Reader A) → ((tokens : List Placed) → test tokens ≡ b → S tokens ≡ R tokens)
+    → (D E F : Follow) → OpensRecords test b E S F → ((t : Token) → D t → Tested test b t) → (tokens : List Placed) → test tokens ≡ b
+    → (front : List Placed) (l : ℕ) (t : Token) (behind : List Placed) → tokens ≡ front ++ (l, t) ∷ behind → begins_record t ≡ true → Fit D R F front an_end → NoGroup (RefusesAt R front) → NoGroup (RefusesAt S front)
+groups_transferred test asks b R S agree D E F opens within tokens next [] l t behind there begins end refused text line more =
+    let says = (opens t begins (asks 0 l t [] behind ∙ subst (λ (ts : List Placed). test ts ≡ b) there next)).1 (within an_end (end.1 refl)) text in
+    let r = refused text line more in
+    (r.0, agree ((line, Group text) ∷ more) (asks line 0 (Group text) more [] ∙ says) ∙ r.1)
+groups_transferred test asks b R S agree D E F opens within tokens next ((i, v) ∷ front) l t behind there begins end refused text line more =
+    let r = refused text line more in
+    (r.0, agree ((i, v) ∷ (front ++ (line, Group text) ∷ more)) (asks i i v (front ++ (line, Group text) ∷ more) (front ++ (l, t) ∷ behind) ∙ subst (λ (ts : List Placed). test ts ≡ b) there next) ∙ r.1)
+
+pub maps_transferred : {A : Type 0} (test : List Placed → Bool) → AsksNext test → (b : Bool) (R S : Reader A) → ((tokens : List Placed) → test tokens ≡ b → S tokens ≡ R tokens)
+    → (U U' : Type 0) → (U → U') → Opens test b U → (D E F : Follow) → OpensRecords test b E S F → ((t : Token) → D t → Tested test b t) → ((t : Token) → D t → E t) → (tokens : List Placed) → test tokens ≡ b
+    → (front : List Placed) (l : ℕ) (t : Token) (behind : List Placed) → tokens ≡ front ++ (l, t) ∷ behind
+    → Maps (Fit D R F front) (Fit E S F front) (Bad U R front) (Bad U' S front) (RepeatsFlag front) (RepeatsFlag front) (RefusesAt R front) (RefusesAt S front) t
+maps_transferred test asks b R S agree U U' voiced opens D E F records within enters tokens next front l t behind there = record {
+  fits = λ v fit. fits_transferred test asks b R S agree D E F within enters tokens next front (l, t) behind there v fit;
+  bad = λ u bad. bad_transferred test asks b R S agree U U' voiced opens tokens next front l t behind there u bad;
+  repeats = λ w r. r;
+  records = λ begins none. records_transferred test asks b R S agree D E F records within enters tokens next front l t behind there begins none;
+  groups = λ begins end refused. groups_transferred test asks b R S agree D E F records within tokens next front l t behind there begins end refused;
+}
+
+pub reasons_transferred : {A : Type 0} (test : List Placed → Bool) → AsksNext test → (b : Bool) (R S : Reader A) → ((tokens : List Placed) → test tokens ≡ b → S tokens ≡ R tokens)
+    → (U U' Z : Type 0) → (U → U') → Opens test b U → (D E F : Follow) → OpensRecords test b E S F → ((t : Token) → D t → Tested test b t) → ((t : Token) → D t → E t) → (tokens : List Placed) → test tokens ≡ b → (r : Read A)
+    → OutcomeIf U D R F Z (ReasonsIf U D R F) tokens r → OutcomeIf U' E S F Z (ReasonsIf U' E S F) tokens r
+reasons_transferred test asks b R S agree U U' Z voiced opens D E F records within enters tokens next r o =
+    transfer test asks b R S agree U U' Z voiced opens D E F records (ReasonsIf U D R F) (ReasonsIf U' E S F) within enters tokens
+    (λ front l t behind there kind why. reason_map _ _ _ _ _ _ _ _ t (maps_transferred test asks b R S agree U U' voiced opens D E F records within enters tokens next front l t behind there) kind why)
+    next r o
+
+-- ---- one of two
+
+abbrev pub And : Follow → Follow → Follow
+And E F t = E t × F t
+
+abbrev pub Either : {A : Type 0} → (List Placed → Bool) → Reader A → Reader A → Reader A
+Either test R S tokens = cond (test tokens) (R tokens) (S tokens)
+
+pub either_outcome : {A : Type 0} (U : Type 0) (E F : Follow) (R S : Reader A) (test : List Placed → Bool) → AsksNext test → Opens test true U → Opens test false (Unit {0}) → SaysOfRecords test → (tokens : List Placed)
+    → (test tokens ≡ true → OutcomeIf U (And E (Tested test true)) R F (Unit {0}) (ReasonsIf U (And E (Tested test true)) R F) tokens (R tokens))
+    → (test tokens ≡ false → Outcome (And E (Tested test false)) S F (Reasons (And E (Tested test false)) S F) tokens (S tokens))
+    → Outcome E (Either test R S) F (Reasons E (Either test R S) F) tokens (Either test R S tokens)
+either_outcome U E F R S test asks yes_opens no_opens records tokens r s = by (test tokens) refl
+  where
+    by : (b : Bool) → test tokens ≡ b → Outcome E (Either test R S) F (Reasons E (Either test R S) F) tokens (cond b (R tokens) (S tokens))
+    by true next = reasons_transferred test asks true R (Either test R S) (λ ts h. rw h refl) U (Unit {0}) (Unit {0}) (λ v. tt) yes_opens (And E (Tested test true)) E F (λ t begins says. let r = records true t begins says in (inr r.0, λ end. r.1)) (λ t d. d.1) (λ t d. d.0) tokens next (R tokens) (r next)
+    by false next = reasons_transferred test asks false S (Either test R S) (λ ts h. rw h refl) (Unit {0}) (Unit {0}) (Unit {0}) (λ v. tt) no_opens (And E (Tested test false)) E F (λ t begins says. let r = records false t begins says in (inr r.0, λ end. r.1)) (λ t d. d.1) (λ t d. d.0) tokens next (S tokens) (s next)
+
+-- a sample of the first is one of both
+pub either_sample : {A : Type 0} (E F : Follow) (R S : Reader A) (test : List Placed → Bool) → AsksNext test → Sample (And E (Tested test true)) R F → Sample E (Either test R S) F
+either_sample E F R S test asks r = (
+  r.0,
+  r.1,
+  λ ts f.
+      let h = r.2 ts f in
+      (rw (tested_next test asks true (r.1 ++ ts) (next_map (And E (Tested test true)) (Tested test true) (r.1 ++ ts) (λ t p. p.1) h.1)) h.0, next_map (And E (Tested test true)) E (r.1 ++ ts) (λ t p. p.0) h.1),
+)
+
+pub either-good : {A : Type 0} {U : Type 0} {E F : Follow} {R S : Reader A} (test : List Placed → Bool) → AsksNext test → Opens test true U → Opens test false (Unit {0}) → SaysOfRecords test → GoodIf U (And E (Tested test true)) R F (Unit {0}) → Good (And E (Tested test false)) S F → Good E (Either test R S) F
+either-good {A} {U} {E} {F} {R} {S} test asks yes_opens no_opens records r s = record {
+  sample = either_sample E F R S test asks r.sample;
+  outcome = λ tokens e. either_outcome U E F R S test asks yes_opens no_opens records tokens (λ next. r.outcome tokens e) (λ next. s.outcome tokens e);
+}
+
+-- ---- the same reader
+
+pub same-good : {A : Type 0} {V W : Type 0} {E F : Follow} {R S : Reader A} → ((tokens : List Placed) → S tokens ≡ R tokens) → GoodIf V E R F W → GoodIf V E S F W
+same-good {A} {V} {W} {E} {F} {R} {S} same r = record {
+  sample = (r.sample.0, r.sample.1, λ ts f. let h = r.sample.2 ts f in (same (r.sample.1 ++ ts) ∙ h.0, h.1));
+  outcome = λ tokens e.
+      subst (OutcomeIf V E S F W (ReasonsIf V E S F) tokens) (sym (same tokens))
+      (reasons_transferred (λ ts. true) (λ l k t a b. refl) true R S (λ ts h. same ts) V V W (λ v. v) (λ t u h like. refl) E E F (λ t begins h. (inr (λ ending. refl), λ end text. refl)) (λ t d. refl) (λ t d. d) tokens refl (R tokens) (r.outcome tokens e));
+}

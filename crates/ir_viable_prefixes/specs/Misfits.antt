@@ -1,0 +1,91 @@
+-- Why a token does not fit behind tokens that do, said by which other tokens fit there.
+use Rattle.std.specs.Prelude.{◌≡◌, ◌↔◌, ℕ, false, true, List, [], ◌∷◌, ◌++◌, None, IsSome}
+use Rattle.ops.specs.declared.comparison.Pred.{Pred}
+use Rattle.ir_tokens.specs.Numbers.{constant_of}
+use Rattle.ir_tokens.specs.Tokens.{Token, Placed, End, Bad, Word, Number, Function, Group, is_last}
+use Rattle.ir_tokens.specs.declared.raw.RawValue.{RawValue}
+use Rattle.ir_instructions.specs.declared.fault.Misfit.{Misfit}
+use Rattle.ir_instructions.specs.declared.fault.Misfit.TheVariants.{TooLong, BadByte, Syntax, LeftOut, Width, ConstRange}
+use Rattle.ir_instructions.specs.declared.word.Ending.{Ending}
+use Rattle.ops.specs.declared.keywords.flag.Flag.{Flag}
+use Rattle.ir_instructions.specs.declared.word.Operation.{Operation}
+use Rattle.ir_instructions.specs.declared.word.TypeWord.TheVariants.{OutOfRange}
+use Rattle.ir_instructions.specs.Grammar.{IsValueToken}
+use Rattle.ir_instructions.specs.Parts.{Is, Each}
+use Rattle.ir_instructions.specs.Places.{begins_record, begins_type, shown}
+use Rattle.ir_instructions.specs.Keywords.{IsTypeWord, ending_word, operation_word, type_in}
+use Rattle.ops.specs.Keywords.{predicate_keyword}
+use Rattle.ops.specs.FlagKeywords.{flag_keyword}
+use Rattle.ir_viable_prefixes.specs.Fits.{FitsBehind}
+
+-- a type, an opcode, a predicate, a flag, a value, or the first word of a terminator
+pub data IsNoun (word : List ℕ) : Type 0 where
+  type : (width : ℕ) → IsTypeWord word width → IsNoun word
+  opcode : (operation : Operation) → word ≡ operation_word operation → IsNoun word
+  predicate : (pred : Pred) → word ≡ predicate_keyword pred → IsNoun word
+  flag : (flag : Flag) → word ≡ flag_keyword flag → IsNoun word
+  value : (width : ℕ) (value : RawValue) → IsValueToken width value (Word word) → IsNoun word
+  terminator : (ending : Ending) → word ≡ ending_word ending → IsNoun word
+
+abbrev pub NounFits : List Placed → Type 0
+NounFits front = (word : List ℕ) × IsNoun word × FitsBehind front (Word word)
+
+abbrev pub TypeFits : List Placed → Type 0
+TypeFits front = (word : List ℕ) × (width : ℕ) × IsTypeWord word width × FitsBehind front (Word word)
+
+abbrev pub TerminatorFits : List Placed → Type 0
+TerminatorFits front = (ending : Ending) × FitsBehind front (Word (ending_word ending))
+
+-- a group of attributes fits, as it does among the items of a header and nowhere else
+abbrev pub AttributesFit : List Placed → Type 0
+AttributesFit front = (text : List ℕ) × FitsBehind front (Group text)
+
+-- Another token of its sort fits: a noun in place of a word, a type in place of a mark that begins a type, or another function.
+pub data AnotherFits (front : List Placed) : Token → Type 0 where
+  of_word : (word : List ℕ) → NounFits front → AnotherFits front (Word word)
+  of_mark : (token : Token) → begins_type token ≡ true → TypeFits front → AnotherFits front token
+  of_function : (written other : List ℕ) → FitsBehind front (Function other) → AnotherFits front (Function written)
+
+-- A token is left out where another of its sort fits; the mark of a record of debug information where a terminator fits, but not as an
+-- item of a header may; and every token where the text may end, since an entry may begin there.
+pub data IsLeftOut (front : List Placed) (token : Token) : Type 0 where
+  another : AnotherFits front token → IsLeftOut front token
+  mark_of_record : begins_record token ≡ true → TerminatorFits front → ¬ AttributesFit front → IsLeftOut front token
+  entry : is_last token ≡ false → FitsBehind front End → IsLeftOut front token
+
+-- Flags stand last, of which the first is this word: an instruction has a flag once, though a type or another flag fits there.
+abbrev pub RepeatsFlag : List Placed → List ℕ → Type 0
+RepeatsFlag front word =
+    (before behind : List Placed) × (flag : Flag) × (flags : List Flag) × (front ≡ before ++ behind) × (word ≡ flag_keyword flag)
+    × Each (λ f. Is (Word (flag_keyword f))) (flag ∷ flags) behind []
+
+abbrev pub IsRepeated : List Placed → Token → Type 0
+IsRepeated front token = (word : List ℕ) × (token ≡ Word word) × RepeatsFlag front word
+
+-- It is no bad byte; no other token of its sort fits, unless it repeats a flag; a terminator fits in place of the mark of a record only
+-- as an item of a header may; no other number fits in place of a number; and the text may not end there, unless the token is a last one.
+pub record IsNothingElse (front : List Placed) (token : Token) : Type 0 where
+  pub no_bad_byte : ¬ (token ≡ Bad)
+  pub another : AnotherFits front token → IsRepeated front token
+  pub mark_of_record : begins_record token ≡ true → TerminatorFits front → AttributesFit front
+  pub number : (digits other : List ℕ) → token ≡ Number digits → ¬ FitsBehind front (Number other)
+  pub entry : is_last token ≡ false → ¬ FitsBehind front End
+
+-- A word is a type but for its width, where a type fits.
+abbrev pub IsWrongWidth : List Placed → Token → Type 0
+IsWrongWidth front token = (word : List ℕ) × (token ≡ Word word) × (type_in word ≡ OutOfRange) × TypeFits front
+
+-- A number is out of the range of a width, where exactly the numbers in its range fit.
+abbrev pub IsWrongNumber : List Placed → Token → Type 0
+IsWrongNumber front token =
+    (digits : List ℕ) × (width : ℕ) × (token ≡ Number digits) × (constant_of digits width ≡ None)
+    × ((other : List ℕ) → FitsBehind front (Number other) ↔ IsSome (constant_of other width))
+
+-- What a kind of fault says of the token, which does not fit behind the others.
+abbrev pub IsMisfit : List Placed → Token → Misfit → Type 0
+IsMisfit front token TooLong = ⊥
+IsMisfit front token BadByte = token ≡ Bad
+IsMisfit front token Width = IsWrongWidth front token
+IsMisfit front token ConstRange = IsWrongNumber front token
+IsMisfit front token (LeftOut text) = (text ≡ shown token) × IsLeftOut front token × ¬ IsWrongWidth front token
+IsMisfit front token Syntax = IsNothingElse front token

@@ -1,0 +1,11 @@
+//! The laws of faults, each the contract of a function that does nothing.
+ghost use Rattle.ir_viable_prefixes.specs.Laws.{FaultsAreWhereTextsDoNotFit};
+
+/// A text is refused at the first token with which its tokens begin no text of the grammar, for a kind of reason that says which other tokens
+/// fit there; and one whose tokens all fit is not refused.
+pub fn faults_are_where_texts_do_not_fit()
+    ensures { FaultsAreWhereTextsDoNotFit }
+{
+    ir_parse::modules_are_read_as_they_are_spelled();
+    ir_tokens::every_text_has_one_list_of_tokens();
+}

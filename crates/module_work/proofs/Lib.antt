@@ -1,6 +1,0 @@
-pub mod ArgumentLemmas
-pub mod CleaningLemmas
-pub mod LawLemmas
-pub mod Misnaming
-pub mod NamedLemmas
-pub mod RunningLemmas

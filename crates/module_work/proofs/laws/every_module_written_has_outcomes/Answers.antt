@@ -1,5 +1,0 @@
-use Rattle.module_work.proofs.LawLemmas.{module_has_outcomes}
-use Rattle.module_work.proofs.laws.every_module_written_has_outcomes.Goals as goal
-
-pub returns : goal.returns
-returns c = λ bytes new tallies is. module_has_outcomes c.every_function_has_outcomes.ensures new is.checks

@@ -1,0 +1,11 @@
+//! The keywords of instructions, which rules and modules of LLVM IR share. (LLVM Language Reference, "Instruction Reference".)
+
+mod flag;
+mod instruction;
+mod predicate;
+mod spelling;
+
+pub use flag::{Flag, flag_of, has_flag, with_flag};
+pub use instruction::{cast_name, opcode_name};
+pub use predicate::predicate_of;
+pub use spelling::is;

@@ -1,0 +1,31 @@
+-- What holds of every text.
+use Rattle.std.specs.Prelude.{◌≡◌, ◌↔◌, ◌⊎◌, ℕ, ◌≤◌, List, Some, Ok, slice_get}
+use Rattle.rule_tokens.specs.declared.fault.TextFault.{TextFault}
+use Rattle.rule_parse.specs.declared.raw.RawRule.{RawRule}
+use Rattle.rule_parse.specs.NodeCounts.{IsWithinLimit, IsCut}
+use Rattle.rule_parse.specs.Grammar.{SpellsRules}
+use Rattle.rule_parse.specs.CutTokens.{limited}
+use Rattle.rule_parse.specs.Limits.{most_nodes}
+use Rattle.rule_parse.specs.RuleReaders.{all_rules}
+use Rattle.rule_parse.specs.Text.{IsWritten, IsTextFault}
+use Rattle.rule_parse.specs.Weight.{raw_weight}
+use Rattle.rule_tokens.specs.Tokens.{Token}
+
+-- reading from left to right answers rules exactly where the grammar spells them
+abbrev pub RulesAreReadAsSpelled : Type 0
+RulesAreReadAsSpelled = (last : ℕ) (tokens : List Token) (raws : List RawRule) → (all_rules last tokens ≡ Ok raws) ↔ SpellsRules raws tokens
+
+-- a text has one list of rules or one fault, and never both
+pub record TextsHaveOneReadingOrFault : Type 0 where
+  pub some : (text : List ℕ) → ((raws : List RawRule) × IsWritten text raws) ⊎ ((fault : TextFault) × IsTextFault text fault)
+  pub one_reading : (text : List ℕ) (a b : List RawRule) → IsWritten text a → IsWritten text b → a ≡ b
+  pub one_fault : (text : List ℕ) (a b : TextFault) → IsTextFault text a → IsTextFault text b → a ≡ b
+  pub not_both : (text : List ℕ) (raws : List RawRule) (fault : TextFault) → IsWritten text raws → IsTextFault text fault → ⊥
+
+-- no rule has more operands, literals, names, operators and functions than the limit
+abbrev pub WrittenRulesAreSmall : Type 0
+WrittenRulesAreSmall = (text : List ℕ) (raws : List RawRule) → IsWritten text raws → (k : ℕ) (raw : RawRule) → slice_get raws k ≡ Some raw → raw_weight raw ≤ most_nodes
+
+-- tokens are kept whole, where no rule has more than the limit, or else up to the first token with which one has
+abbrev pub TokensAreKeptUpToTheLimit : Type 0
+TokensAreKeptUpToTheLimit = (tokens : List Token) → (IsWithinLimit tokens × (limited tokens ≡ tokens)) ⊎ IsCut tokens (limited tokens)

@@ -1,0 +1,157 @@
+-- The kinds of faults of a rule: for each, the lines at which a rule as written has it.
+use Rattle.std.specs.Prelude.{◌≡◌, ◌≢◌, ◌⊎◌, ℕ, suc, ◌<◌, ◌≤◌, List, [], ◌∷◌, length, Some, Contains, slice_get}
+use Rattle.std.specs.Option.{option_map_or}
+use Rattle.rule_parse.specs.declared.raw.RawRule.{RawRule}
+use Rattle.rule_parse.specs.declared.raw.RawPrecondition.{RawPrecondition}
+use Rattle.rule_parse.specs.declared.raw.RawWitness.{RawWitness}
+use Rattle.rule_parse.specs.declared.raw.RawStatement.{RawStatement}
+use Rattle.rule_parse.specs.declared.raw.RawOp.{RawOp}
+use Rattle.rule_parse.specs.declared.raw.RawOp.TheVariants as raw_ops
+use Rattle.rule_parse.specs.declared.raw.RawArgument.{RawArgument}
+use Rattle.rule_parse.specs.declared.raw.RawArgument.TheVariants as raw_arguments
+use Rattle.rule_terms.specs.declared.raw.RawNode.{RawNode}
+use Rattle.rule_terms.specs.declared.raw.RawNode.TheVariants as raw_nodes
+use Rattle.rule_terms.specs.declared.raw.RawFormula.{RawFormula}
+use Rattle.rule_terms.specs.declared.raw.RawFormula.TheVariants as raw_formulas
+use Rattle.rule_core.specs.declared.rule.Rule.{Rule}
+use Rattle.rule_typing.specs.Classes.{IsClassified}
+use Rattle.rule_reader.specs.declared.place.Place.{Place}
+use Rattle.rule_reader.specs.declared.place.Place.TheVariants as places
+use Rattle.rule_parse.specs.Contents.{arguments_of, expressions_of}
+use Rattle.rule_reader.specs.Meaning.{in_half, Uses, AssignsAt, IsInput, IsTemporary, IsRoot, IsConstant, Means}
+
+-- it holds of each element
+abbrev pub Each : {X : Type 0} → (X → Type 0) → List X → Type 0
+Each P [] = Unit {0}
+Each P (x ∷ xs) = P x × Each P xs
+
+-- one of the statements, of which Q holds at its place, stands on the line
+abbrev pub StandsAt : List RawStatement → (ℕ → RawStatement → Type 0) → ℕ → Type 0
+StandsAt statements Q line = (k : ℕ) × (s : RawStatement) × (slice_get statements k ≡ Some s) × Q k s × (s.line ≡ line)
+
+-- one of the rules has the name
+abbrev pub HasNameOf : List RawRule → List ℕ → Type 0
+HasNameOf rules name = (k : ℕ) × (other : RawRule) × (slice_get rules k ≡ Some other) × (other.name ≡ name)
+
+-- the statement assigns what an earlier one does
+abbrev pub AssignsAgain : List RawStatement → ℕ → RawStatement → Type 0
+AssignsAgain statements k s = (j : ℕ) × (j < k) × AssignsAt statements j s.name
+
+-- Duplicate: an earlier rule has the rule's name, or a half assigns a register again
+abbrev pub DuplicateAt : List RawRule → RawRule → ℕ → Type 0
+DuplicateAt earlier raw line =
+    (HasNameOf earlier raw.name × (raw.line ≡ line))
+    ⊎ (StandsAt raw.source (AssignsAgain raw.source) line ⊎ StandsAt raw.target (AssignsAgain raw.target) line)
+
+-- What stands at a place may use the register. In a source statement it is an input, or an earlier statement assigns it. In a target
+-- statement it is not the root, and it is an input, a temporary of the source, or what an earlier statement assigns. In `Pre:` and
+-- `Wit:` it is an input or a temporary of the source.
+abbrev pub MayUse : RawRule → Place → List ℕ → Type 0
+MayUse raw (places.Source k) name = IsInput raw.source name ⊎ ((j : ℕ) × (j < k) × AssignsAt raw.source j name)
+MayUse raw (places.Target k) name =
+    ¬ IsRoot raw.source name
+    × (IsInput raw.source name ⊎ (IsTemporary raw.source name ⊎ ((j : ℕ) × (j < k) × AssignsAt raw.target j name)))
+MayUse raw places.Heading name = IsInput raw.source name ⊎ IsTemporary raw.source name
+
+-- What a node of a term at a place names is there to use: a register, also one whose width is asked for, a constant, or an `undef` of
+-- the target.
+abbrev pub NodeIsBound : RawRule → Place → RawNode → Type 0
+NodeIsBound raw place (raw_nodes.Constant name) = IsConstant raw.source name
+NodeIsBound raw place (raw_nodes.Register name) = MayUse raw place name
+NodeIsBound raw place (raw_nodes.Undef k) = k < (in_half raw.target).undefs
+NodeIsBound raw place (raw_nodes.Width name) = MayUse raw place name
+NodeIsBound raw place node = Unit {0}
+
+abbrev pub TermIsBound : RawRule → Place → List RawNode → Type 0
+TermIsBound raw place term = Each (NodeIsBound raw place) term
+
+-- and what an operand names
+abbrev pub ArgumentIsBound : RawRule → Place → RawArgument → Type 0
+ArgumentIsBound raw place (raw_arguments.Register name) = MayUse raw place name
+ArgumentIsBound raw place (raw_arguments.Constant name) = IsConstant raw.source name
+ArgumentIsBound raw place (raw_arguments.Term t) = TermIsBound raw place t
+ArgumentIsBound raw place argument = Unit {0}
+
+-- and what a node of a formula names; one use is asked of a temporary of the source
+abbrev pub FormulaIsBound : RawRule → RawFormula → Type 0
+FormulaIsBound raw (raw_formulas.Compare pred a b) = TermIsBound raw places.Heading a × TermIsBound raw places.Heading b
+FormulaIsBound raw (raw_formulas.IsPowerOfTwo a) = TermIsBound raw places.Heading a
+FormulaIsBound raw (raw_formulas.IsSignBit a) = TermIsBound raw places.Heading a
+FormulaIsBound raw (raw_formulas.HasOneUse name) = IsTemporary raw.source name
+FormulaIsBound raw formula = Unit {0}
+
+-- all that the operation of a statement names is there
+abbrev pub OpIsBound : RawRule → Place → RawOp → Type 0
+OpIsBound raw place op = Each (ArgumentIsBound raw place) (arguments_of op)
+
+-- something in `Pre:` is not there, whose line this is
+abbrev pub PreconditionUnbound : RawRule → ℕ → Type 0
+PreconditionUnbound raw line = (p : RawPrecondition) × (raw.precondition ≡ Some p) × ¬ Each (FormulaIsBound raw) p.formula × (p.line ≡ line)
+
+-- or in `Wit:`
+abbrev pub WitnessUnbound : RawRule → ℕ → Type 0
+WitnessUnbound raw line = (w : RawWitness) × (raw.witness ≡ Some w) × ¬ Each (TermIsBound raw places.Heading) w.expressions × (w.line ≡ line)
+
+-- or in a statement, the place of whose half At says
+abbrev pub StatementUnbound : RawRule → (ℕ → Place) → ℕ → RawStatement → Type 0
+StatementUnbound raw At k s = ¬ OpIsBound raw (At k) s.op
+
+-- Unbound: one of these
+abbrev pub UnboundAt : RawRule → ℕ → Type 0
+UnboundAt raw line =
+    PreconditionUnbound raw line
+    ⊎ (WitnessUnbound raw line
+    ⊎ (StandsAt raw.source (StatementUnbound raw (λ k. places.Source k)) line ⊎ StandsAt raw.target (StatementUnbound raw (λ k. places.Target k)) line))
+
+-- the statement is the last one of the target, and does not assign the root
+abbrev pub MissesRoot : RawRule → ℕ → RawStatement → Type 0
+MissesRoot raw k s = (suc k ≡ length raw.target) × ¬ IsRoot raw.source s.name
+
+-- RootMissing
+abbrev pub RootMissingAt : RawRule → ℕ → Type 0
+RootMissingAt raw line = StandsAt raw.target (MissesRoot raw) line
+
+-- the statement assigns an input or a temporary of the source
+abbrev pub Redefines : List RawStatement → ℕ → RawStatement → Type 0
+Redefines source k s = IsInput source s.name ⊎ IsTemporary source s.name
+
+-- Redefines: a statement of the target does
+abbrev pub RedefinesAt : RawRule → ℕ → Type 0
+RedefinesAt raw line = StandsAt raw.target (Redefines raw.source) line
+
+-- a statement from the place on uses the register
+abbrev pub UsesFrom : List RawStatement → ℕ → List ℕ → Type 0
+UsesFrom statements place name = (k : ℕ) × (s : RawStatement) × (place ≤ k) × (slice_get statements k ≡ Some s) × Uses s.op name
+
+-- the statement is not the last one of the source, and no later one uses what it assigns
+abbrev pub IsUnused : List RawStatement → ℕ → RawStatement → Type 0
+IsUnused source k s = (suc k < length source) × ¬ UsesFrom source (suc k) s.name
+
+-- UnusedTemp
+abbrev pub UnusedTempAt : List RawStatement → ℕ → Type 0
+UnusedTempAt source line = StandsAt source (IsUnused source) line
+
+-- the statement is not the last one of the source, and reads an `undef`
+abbrev pub ReadsUndefInside : List RawStatement → ℕ → RawStatement → Type 0
+ReadsUndefInside source k s = (suc k < length source) × Contains (arguments_of s.op) raw_arguments.Undef
+
+-- the operation is a copy of `undef`
+abbrev pub IsUndefCopy : RawOp → Type 0
+IsUndefCopy (raw_ops.Copy a) = a.value ≡ raw_arguments.Undef
+IsUndefCopy op = ⊥
+
+-- UndefInside: one in the source, or a copy in the target
+abbrev pub UndefInsideAt : RawRule → ℕ → Type 0
+UndefInsideAt raw line = StandsAt raw.source (ReadsUndefInside raw.source) line ⊎ StandsAt raw.target (λ k s. IsUndefCopy s.op) line
+
+-- the line of `Wit:`, and where there is none that of the name
+abbrev pub witness_line : RawRule → ℕ
+witness_line raw = option_map_or (λ w. w.line) raw.witness raw.line
+
+-- WitnessCount: `Wit:` does not have as many expressions as the source has `undef`s
+abbrev pub WitnessCountAt : RawRule → ℕ → Type 0
+WitnessCountAt raw line = (length (expressions_of raw) ≢ (in_half raw.source).undefs) × (witness_line raw ≡ line)
+
+-- the faults of classes, which are those of the rule that is meant, at the line of its name
+abbrev pub ClassesAt : RawRule → (Rule → Type 0) → ℕ → Type 0
+ClassesAt raw HasFault line = ((rule : Rule) × Means raw rule × IsClassified rule × HasFault rule) × (raw.line ≡ line)

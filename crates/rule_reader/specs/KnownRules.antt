@@ -1,0 +1,89 @@
+-- What is found for a name, and what is known of a rule whose names are all there to use.
+use Rattle.std.specs.Prelude.{◌≡◌, ◌+◌, ◌≤◌, ℕ, List, [], ◌∷◌, ◌++◌, length, Option, None, Some, slice_get}
+use Rattle.rule_parse.specs.declared.raw.RawRule.{RawRule}
+use Rattle.rule_parse.specs.declared.raw.RawStatement.{RawStatement}
+use Rattle.rule_parse.specs.declared.raw.RawArgument.{RawArgument}
+use Rattle.rule_parse.specs.declared.raw.RawArgument.TheVariants as raw_arguments
+use Rattle.rule_terms.specs.declared.raw.RawNode.{RawNode}
+use Rattle.rule_terms.specs.declared.raw.RawNode.TheVariants as raw_nodes
+use Rattle.rule_terms.specs.declared.raw.RawFormula.{RawFormula}
+use Rattle.rule_core.specs.declared.rule.Register.{Register}
+use Rattle.rule_core.specs.declared.rule.Term.{Term}
+use Rattle.rule_reader.specs.declared.names.Names.{Names}
+use Rattle.rule_reader.specs.declared.counts.Counts.{Counts}
+use Rattle.rule_reader.specs.declared.place.Place.{Place}
+use Rattle.rule_reader.specs.declared.place.Place.TheVariants as places
+use Rattle.rule_reader.specs.declared.place.Half.{Half}
+use Rattle.rule_reader.specs.declared.place.Half.TheVariants as halves
+use Rattle.rule_parse.specs.Contents.{formula_of, terms_of_formula, expressions_of}
+use Rattle.rule_reader.specs.Meaning.{past, HasName, TermsMean}
+use Rattle.rule_reader.specs.WellFormed.{IsTerm}
+use Rattle.rule_reader.specs.FaultKinds.{Each, MayUse, ArgumentIsBound, OpIsBound, FormulaIsBound, TermIsBound}
+
+-- the statements of a half
+abbrev pub half_of : Half → RawRule → List RawStatement
+half_of halves.Source raw = raw.source
+half_of halves.Target raw = raw.target
+
+-- the place of statement k of a half
+abbrev pub place_in : Half → ℕ → Place
+place_in halves.Source k = places.Source k
+place_in halves.Target k = places.Target k
+
+-- none where the register may not be used, and else the register of that name
+abbrev pub Finds : RawRule → Names → Place → List ℕ → Option Register → Type 0
+Finds raw names place name None = ¬ MayUse raw place name
+Finds raw names place name (Some r) = MayUse raw place name × HasName raw names r name
+
+-- all that the statements of a half name is there to use
+abbrev pub HalfIsBound : RawRule → Half → Type 0
+HalfIsBound raw half = (k : ℕ) (s : RawStatement) → slice_get (half_of half raw) k ≡ Some s → OpIsBound raw (place_in half k) s.op
+
+-- and all that the rule names
+pub record NamesAreThere (raw : RawRule) : Type 0 where
+  pub precondition : Each (FormulaIsBound raw) (formula_of raw)
+  pub witness : Each (TermIsBound raw places.Heading) (expressions_of raw)
+  pub source : HalfIsBound raw halves.Source
+  pub target : HalfIsBound raw halves.Target
+
+-- so few `undef`s and nodes are counted
+abbrev pub AreFew : Counts → Type 0
+AreFew counts = (counts.undefs ≤ 256) × (counts.nodes ≤ 256)
+
+-- an argument that is a term is one
+abbrev pub IsWhole : RawArgument → Type 0
+IsWhole (raw_arguments.Term t) = IsTerm t
+IsWhole argument = Unit {0}
+
+-- arguments of a place mean something, where so much stands before them
+abbrev pub AreReady : RawRule → Place → Counts → List RawArgument → Type 0
+AreReady raw place before [] = Unit {0}
+AreReady raw place before (a ∷ arguments) = (ArgumentIsBound raw place a × IsWhole a × AreFew (past before a)) × AreReady raw place (past before a) arguments
+
+-- operands of a node are so many nodes on, and these are few
+abbrev pub NodeFits : ℕ → RawNode → Type 0
+NodeFits before (raw_nodes.Unary function a) = before + a ≤ 256
+NodeFits before (raw_nodes.Binary op a b) = (before + a ≤ 256) × (before + b ≤ 256)
+NodeFits before node = Unit {0}
+
+-- The nodes of terms become those of these terms behind them too.
+abbrev pub AddsTerms : RawRule → Names → List Term → List (List RawNode) → List Term → Type 0
+AddsTerms raw names before more after = (written : List (List RawNode)) → TermsMean raw names written before → TermsMean raw names (written ++ more) after
+
+-- the statement of the place is one of the rule
+abbrev pub IsPlaceOf : RawRule → Place → Type 0
+IsPlaceOf raw (places.Source k) = k ≤ length raw.source
+IsPlaceOf raw (places.Target k) = k ≤ length raw.target
+IsPlaceOf raw places.Heading = Unit {0}
+
+-- the terms of an argument may be written at a place
+abbrev pub TermIsReady : RawRule → Place → List RawNode → Type 0
+TermIsReady raw place t = TermIsBound raw place t × IsTerm t
+
+abbrev pub HasReadyTerm : RawRule → Place → RawArgument → Type 0
+HasReadyTerm raw place (raw_arguments.Term t) = TermIsReady raw place t
+HasReadyTerm raw place argument = Unit {0}
+
+-- and those of a node of a formula
+abbrev pub HasReadyTerms : RawRule → RawFormula → Type 0
+HasReadyTerms raw f = FormulaIsBound raw f × Each IsTerm (terms_of_formula f)

@@ -1,0 +1,184 @@
+-- Reading a formula from left to right. Its nodes are read behind those that were read before.
+use Rattle.std.specs.Prelude.{ℕ, zero, suc, Bool, true, false, ◌&&◌, if◌then◌else◌, List, [], ◌∷◌, ◌++◌, length, drop, Option, Some, None, Result, Ok, Err, codes}
+use Rattle.std.specs.List.{list_any}
+use Rattle.std.specs.Str.{bytes_eq}
+use Rattle.scan.specs.RuleTokens.{is_among}
+use Rattle.ops.specs.declared.comparison.Pred.{Pred}
+use Rattle.rule_tokens.specs.declared.fault.Misfit.TheVariants.{Syntax, TooMany}
+use Rattle.rule_tokens.specs.declared.fault.TextFault.{TextFault}
+use Rattle.rule_tokens.specs.Gives.{◌>>=◌}
+use Rattle.rule_tokens.specs.PartReaders.{Read, fault, unexpected, name_within, line_end}
+use Rattle.rule_tokens.specs.Tokens.{Token, Line, Register, Word, Mark}
+use Rattle.rule_terms.specs.declared.raw.RawFormula.{RawFormula}
+use Rattle.rule_terms.specs.declared.raw.RawFormula.TheVariants.{Compare, HasOneUse, Not, And, Or}
+use Rattle.rule_terms.specs.declared.formula_word.Opening.{Opening}
+use Rattle.rule_terms.specs.declared.formula_word.Opening.TheVariants.{Turns, Encloses, Tests, Compares}
+use Rattle.rule_terms.specs.declared.formula_word.Predicate.{Predicate}
+use Rattle.rule_terms.specs.declared.formula_word.Sign.{Sign}
+use Rattle.rule_terms.specs.declared.formula_word.Sign.TheVariants as signs
+use Rattle.rule_terms.specs.declared.place.TermPlace.TheVariants.{Constant}
+use Rattle.rule_terms.specs.Chains.{Reader, chain_at}
+use Rattle.rule_terms.specs.Grammar.{most_nested, last_place}
+use Rattle.rule_terms.specs.TermReaders.{mark_at, term_at}
+use Rattle.rule_terms.specs.FormulaKeywords.{comparison_in, predicate_in, predicate_node, formula_marks, formula_words}
+
+-- ---- what begins here
+
+-- what a token says of the parentheses that it stands in
+abbrev pub mark_sign : List ℕ → Sign
+mark_sign mark =
+    if bytes_eq mark (codes "(") then signs.Opens
+    else (if bytes_eq mark (codes ")") then signs.Closes
+    else (if is_among formula_marks mark then signs.InFormula else signs.Plain))
+
+abbrev pub word_sign : List ℕ → Sign
+word_sign word = if is_among formula_words word then signs.InFormula else signs.Plain
+
+abbrev pub sign_of : Token → Sign
+sign_of (Line number) = signs.LineEnds
+sign_of (Mark mark) = mark_sign mark
+sign_of (Word word) = word_sign word
+sign_of token = signs.Plain
+
+-- A formula, and no term, stands in parentheses that are open here, behind so many more that are: a token that stands in formulas
+-- alone comes before they end, or the line.
+abbrev pub opens_behind : Sign → ℕ → (ℕ → Bool) → Bool
+opens_behind signs.Opens depth rest = rest (suc depth)
+opens_behind signs.Closes zero rest = false
+opens_behind signs.Closes (suc depth) rest = rest depth
+opens_behind signs.LineEnds depth rest = false
+opens_behind signs.InFormula depth rest = true
+opens_behind signs.Plain depth rest = rest depth
+
+unfoldable pub opens_formula : ℕ → List Token → Bool
+opens_formula depth [] = false
+opens_formula depth (token ∷ tokens) = opens_behind (sign_of token) depth (λ more. opens_formula more tokens)
+
+-- how a member of a formula begins
+abbrev pub mark_opening : List ℕ → List Token → Opening
+mark_opening mark rest =
+    if bytes_eq mark (codes "!") then Turns
+    else (if bytes_eq mark (codes "(") && opens_formula 0 rest then Encloses else Compares)
+
+abbrev pub word_opening : Option Predicate → Opening
+word_opening (Some predicate) = Tests predicate
+word_opening None = Compares
+
+unfoldable pub opening_at : List Token → Opening
+opening_at (Mark mark ∷ rest) = mark_opening mark rest
+opening_at (Word word ∷ rest) = word_opening (predicate_in word)
+opening_at tokens = Compares
+
+-- ---- members
+
+-- the comparison
+abbrev pub comparison_or_fault : ℕ → Option Pred → List Token → Read Pred
+comparison_or_fault line (Some pred) rest = Ok (pred, rest)
+comparison_or_fault line None rest = Err (fault line Syntax)
+
+unfoldable pub comparison_at : ℕ → List Token → Read Pred
+comparison_at line (Mark mark ∷ rest) = comparison_or_fault line (comparison_in mark) rest
+comparison_at line tokens = Err (unexpected line tokens)
+
+-- two terms and a comparison between them
+unfoldable pub compares_at : ℕ → ℕ → Reader (List RawFormula)
+compares_at nesting line before tokens = do
+  left ← term_at Constant nesting line tokens
+  pred ← comparison_at line left.1
+  right ← term_at Constant nesting line pred.1
+  Ok (before ++ Compare pred.0 left.0 right.0 ∷ [], right.1)
+
+-- one level of nesting more, if the limit leaves it
+abbrev pub deeper : ℕ → ℕ → Result ℕ TextFault
+deeper line zero = Err (fault line TooMany)
+deeper line (suc nesting) = Ok nesting
+
+-- a term in parentheses, behind a predicate
+unfoldable pub tests_at : Predicate → ℕ → ℕ → Reader (List RawFormula)
+tests_at predicate nesting line before tokens = do
+  opened ← mark_at (codes "(") line tokens
+  inside ← deeper line nesting
+  term ← term_at Constant inside line opened
+  rest ← mark_at (codes ")") line term.1
+  Ok (before ++ predicate_node predicate term.0 ∷ [], rest)
+
+-- a register in parentheses, behind `hasOneUse`
+abbrev pub register_at : ℕ → List Token → Read (List ℕ)
+register_at line (Register name ∷ rest) = name_within line name >>= λ held. Ok (held, rest)
+register_at line tokens = Err (unexpected line tokens)
+
+unfoldable pub one_use_at : ℕ → Reader (List RawFormula)
+one_use_at line before tokens = do
+  opened ← mark_at (codes "(") line tokens
+  register ← register_at line opened
+  rest ← mark_at (codes ")") line register.1
+  Ok (before ++ HasOneUse register.0 ∷ [], rest)
+
+-- ---- formulas
+
+-- the part behind, joined with what was read before
+abbrev pub joins : (ℕ → ℕ → RawFormula) → Reader (List RawFormula) → Reader (List RawFormula)
+joins operator part before tokens = part before tokens >>= λ x. Ok (x.0 ++ operator (last_place (length before)) (last_place (length x.0)) ∷ [], x.1)
+
+-- members joined by `&&`, and those behind the first one
+abbrev pub more_members : Reader (List RawFormula) → Reader (List RawFormula)
+more_members member before tokens = chain_at (codes "&&") (joins And member) before tokens
+
+abbrev pub members_of : Reader (List RawFormula) → Reader (List RawFormula)
+members_of member before tokens = member before tokens >>= λ first. more_members member first.0 first.1
+
+-- these joined by `||`
+abbrev pub more_alternatives : Reader (List RawFormula) → Reader (List RawFormula)
+more_alternatives member before tokens = chain_at (codes "||") (joins Or (members_of member)) before tokens
+
+abbrev pub alternatives_of : Reader (List RawFormula) → Reader (List RawFormula)
+alternatives_of member before tokens = members_of member before tokens >>= λ first. more_alternatives member first.0 first.1
+
+-- behind `!`, and behind `(`
+abbrev pub turns_at : Reader (List RawFormula) → Reader (List RawFormula)
+turns_at inside before tokens = inside before tokens >>= λ x. Ok (x.0 ++ Not (last_place (length x.0)) ∷ [], x.1)
+
+abbrev pub encloses_at : ℕ → Reader (List RawFormula) → Reader (List RawFormula)
+encloses_at line inside before tokens = do
+  formula ← alternatives_of inside before tokens
+  rest ← mark_at (codes ")") line formula.1
+  Ok (formula.0, rest)
+
+-- a member that begins so, where `inside` reads those one level further in
+abbrev pub begun_at : Opening → ℕ → ℕ → Reader (List RawFormula) → Reader (List RawFormula)
+begun_at Turns nesting line inside before tokens = turns_at inside before (drop 1 tokens)
+begun_at Encloses nesting line inside before tokens = encloses_at line inside before (drop 1 tokens)
+begun_at (Tests predicate) nesting line inside before tokens = tests_at predicate nesting line before (drop 1 tokens)
+begun_at Compares nesting line inside before tokens = compares_at nesting line before tokens
+
+-- no level further in is left
+abbrev pub too_deep : ℕ → Reader (List RawFormula)
+too_deep line before tokens = Err (fault line TooMany)
+
+-- a member, where so many levels of nesting are left
+unfoldable pub member_at : ℕ → ℕ → Reader (List RawFormula)
+member_at zero line before tokens = begun_at (opening_at tokens) zero line (too_deep line) before tokens
+member_at (suc nesting) line before tokens = begun_at (opening_at tokens) (suc nesting) line (member_at nesting line) before tokens
+
+-- a member of the outermost `&&`
+unfoldable pub outer_member_at : ℕ → Reader (List RawFormula)
+outer_member_at line before (Word word ∷ rest) = if bytes_eq word (codes "hasOneUse") then one_use_at line before rest else member_at most_nested line before (Word word ∷ rest)
+outer_member_at line before tokens = member_at most_nested line before tokens
+
+-- `hasOneUse` is among the nodes
+abbrev pub asks_one_use : RawFormula → Bool
+asks_one_use (HasOneUse name) = true
+asks_one_use node = false
+
+-- `||` may only go on with what has no `hasOneUse` in it
+abbrev pub or_alternatives : ℕ → Bool → Reader (List RawFormula)
+or_alternatives line true before tokens = Ok (before, tokens)
+or_alternatives line false before tokens = more_alternatives (member_at most_nested line) before tokens
+
+-- the formula of a precondition, behind its head, and the end of its line
+unfoldable pub formula_at : ℕ → List Token → Read (List RawFormula)
+formula_at line tokens = do
+  first ← members_of (outer_member_at line) [] tokens
+  whole ← or_alternatives line (list_any asks_one_use first.0) first.0 first.1
+  rest ← line_end line whole.1
+  Ok (whole.0, rest)

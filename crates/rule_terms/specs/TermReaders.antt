@@ -1,0 +1,156 @@
+-- Reading terms from left to right: the nodes that were there before and those that are read, and the tokens behind, or the fault of
+-- the first token that does not fit.
+use Rattle.std.specs.Prelude.{ℕ, zero, suc, ◌==◌, if◌then◌else◌, List, [], ◌∷◌, ◌++◌, length, Option, None, Some, Result, Ok, Err, codes}
+use Rattle.std.specs.Str.{bytes_eq}
+use Rattle.ops.specs.declared.opcode.Opcode.{Opcode}
+use Rattle.rule_core.specs.declared.rule.Function.{Function}
+use Rattle.rule_core.specs.declared.rule.Function.TheVariants.{Negate, Not}
+use Rattle.rule_tokens.specs.declared.fault.Misfit.TheVariants.{Syntax, TooMany}
+use Rattle.rule_tokens.specs.declared.fault.TextFault.{TextFault}
+use Rattle.rule_tokens.specs.Gives.{◌>>=◌}
+use Rattle.rule_tokens.specs.Numbers.{literal_value}
+use Rattle.rule_tokens.specs.PartReaders.{Read, fault, unexpected, misplaced_word, name_within}
+use Rattle.rule_tokens.specs.Tokens.{Token, Register, Word, Number, Mark}
+use Rattle.rule_terms.specs.declared.place.TermPlace.{TermPlace}
+use Rattle.rule_terms.specs.declared.place.TermPlace.TheVariants as places
+use Rattle.rule_terms.specs.declared.raw.RawNode.{RawNode}
+use Rattle.rule_terms.specs.declared.raw.RawNode.TheVariants as nodes
+use Rattle.rule_terms.specs.declared.start.Start.{Start}
+use Rattle.rule_terms.specs.declared.start.Start.TheVariants.{Leaf, Prefix, Parenthesis, Call, Width}
+use Rattle.rule_terms.specs.declared.word.Meaning.{Meaning}
+use Rattle.rule_terms.specs.declared.word.Meaning.TheVariants as meanings
+use Rattle.rule_terms.specs.Grammar.{last_place}
+use Rattle.rule_terms.specs.Keywords.{operator_in, level_of, loosest, meaning_in}
+
+-- ---- marks
+
+-- this mark, and the tokens behind it
+unfoldable pub mark_at : List ℕ → ℕ → List Token → Result (List Token) TextFault
+mark_at wanted line (Mark mark ∷ rest) = if bytes_eq mark wanted then Ok rest else Err (fault line Syntax)
+mark_at wanted line tokens = Err (unexpected line tokens)
+
+-- ---- what an operand begins with, and the tokens behind it
+
+-- a register, which stands in a witness alone
+abbrev pub register_in : TermPlace → ℕ → List ℕ → Result Start TextFault
+register_in places.Constant line name = Err (fault line Syntax)
+register_in places.Witness line name = name_within line name >>= λ held. Ok (Leaf (nodes.Register held))
+
+-- a word with a meaning
+abbrev pub word_at : ℕ → List ℕ → Option Meaning → List Token → Read Start
+word_at line word (Some meanings.Width) rest = mark_at (codes "(") line rest >>= λ behind. Ok (Width, behind)
+word_at line word (Some (meanings.Call function)) rest = mark_at (codes "(") line rest >>= λ behind. Ok (Call function, behind)
+word_at line word (Some meanings.Constant) rest = name_within line word >>= λ name. Ok (Leaf (nodes.Constant name), rest)
+word_at line word (Some (meanings.Choice place)) rest = name_within line word >>= λ name. Ok (Leaf (nodes.Undef place), rest)
+word_at line word None rest = Err (misplaced_word line word)
+
+-- a parenthesis, or an operator of one operand
+unfoldable pub opening_in : List ℕ → Option Start
+opening_in mark =
+    if bytes_eq mark (codes "(") then Some Parenthesis
+    else (if bytes_eq mark (codes "-") then Some (Prefix Negate)
+    else (if bytes_eq mark (codes "~") then Some (Prefix Not) else None))
+
+abbrev pub opening_at : ℕ → Option Start → List Token → Read Start
+opening_at line (Some start) rest = Ok (start, rest)
+opening_at line None rest = Err (fault line Syntax)
+
+unfoldable pub start_at : TermPlace → ℕ → List Token → Read Start
+start_at place line (Number text ∷ rest) = Ok (Leaf (nodes.Literal (literal_value text)), rest)
+start_at place line (Register name ∷ rest) = register_in place line name >>= λ start. Ok (start, rest)
+start_at place line (Word word ∷ rest) = word_at line word (meaning_in place word) rest
+start_at place line (Mark mark ∷ rest) = opening_at line (opening_in mark) rest
+start_at place line tokens = Err (unexpected line tokens)
+
+-- ---- operators of two operands
+
+-- behind these nodes and before these tokens: all nodes, and the tokens behind
+abbrev pub Reader : Type 0
+Reader = List RawNode → List Token → Read (List RawNode)
+
+-- the operator of the level that is next, and the tokens behind it
+abbrev pub of_level : ℕ → Option Opcode → List Token → Option (Opcode × List Token)
+of_level level None rest = None
+of_level level (Some op) rest = if level_of op == level then Some (op, rest) else None
+
+unfoldable pub operator_at : ℕ → List Token → Option (Opcode × List Token)
+operator_at level (Mark mark ∷ rest) = of_level level (operator_in mark) rest
+operator_at level tokens = None
+
+-- an operator behind its operands
+abbrev pub join : Opcode → List RawNode → List RawNode → List RawNode
+join op left both = both ++ nodes.Binary op (last_place (length left)) (last_place (length both)) ∷ []
+
+-- an operator and its right operand, and what goes on behind them
+abbrev pub joined_or_end : Reader → Reader → List RawNode → List Token → Option (Opcode × List Token) → Read (List RawNode)
+joined_or_end operand others left tokens None = Ok (left, tokens)
+joined_or_end operand others left tokens (Some next) = operand left next.1 >>= λ both. others (join next.0 left both.0) both.1
+
+-- Operators of one level and their right operands, as long as one is next. The number bounds how many; more than that of the tokens
+-- is enough.
+unfoldable pub chain_at : Reader → ℕ → ℕ → Reader
+chain_at operand level zero left tokens = Ok (left, tokens)
+chain_at operand level (suc many) left tokens = joined_or_end operand (λ ls ts. chain_at operand level many ls ts) left tokens (operator_at level tokens)
+
+abbrev pub whole_chain_at : Reader → ℕ → Reader
+whole_chain_at operand level left tokens = chain_at operand level (suc (length tokens)) left tokens
+
+-- what goes on with an operand, up to the level; `primary` reads an operand of the level 0
+unfoldable pub behind_at : Reader → ℕ → Reader
+behind_at primary zero left tokens = Ok (left, tokens)
+behind_at primary (suc level) left tokens =
+    behind_at primary level left tokens
+    >>= λ first. whole_chain_at (λ ns ts. primary ns ts >>= λ x. behind_at primary level x.0 x.1) (suc level) first.0 first.1
+
+-- an operand of the level
+abbrev pub operand_at : Reader → ℕ → Reader
+operand_at primary level before tokens = primary before tokens >>= λ x. behind_at primary level x.0 x.1
+
+-- ---- operands of the level 0
+
+abbrev pub add_unary : Function → List RawNode → List RawNode
+add_unary function before = before ++ nodes.Unary function (last_place (length before)) ∷ []
+
+-- a term and the parenthesis behind it
+abbrev pub inside_at : ℕ → Reader → Reader
+inside_at line primary before tokens = do
+  inside ← operand_at primary loosest before tokens
+  behind ← mark_at (codes ")") line inside.1
+  Ok (inside.0, behind)
+
+-- the register of `width`, and the parenthesis behind it
+unfoldable pub measured_at : ℕ → List Token → Read (List ℕ)
+measured_at line (Register name ∷ rest) = do
+  held ← name_within line name
+  behind ← mark_at (codes ")") line rest
+  Ok (held, behind)
+measured_at line tokens = Err (unexpected line tokens)
+
+-- behind its beginning, where the primaries in it are read so
+abbrev pub begun_at : ℕ → Reader → List RawNode → Start → List Token → Read (List RawNode)
+begun_at line primary before (Leaf node) rest = Ok (before ++ node ∷ [], rest)
+begun_at line primary before (Prefix function) rest = primary before rest >>= λ x. Ok (add_unary function x.0, x.1)
+begun_at line primary before Parenthesis rest = inside_at line primary before rest
+begun_at line primary before (Call function) rest = inside_at line primary before rest >>= λ x. Ok (add_unary function x.0, x.1)
+begun_at line primary before Width rest = measured_at line rest >>= λ x. Ok (before ++ nodes.Width x.0 ∷ [], x.1)
+
+-- the same where nothing more may be nested
+abbrev pub shallow_in : ℕ → List RawNode → Start → Result (List RawNode) TextFault
+shallow_in line before (Leaf node) = Ok (before ++ node ∷ [])
+shallow_in line before start = Err (fault line TooMany)
+
+-- an operand of the level 0, with so many more nested at most
+unfoldable pub primary_at : TermPlace → ℕ → ℕ → Reader
+primary_at place line zero before tokens = start_at place line tokens >>= λ start. shallow_in line before start.0 >>= λ nodes. Ok (nodes, start.1)
+primary_at place line (suc nesting) before tokens =
+    start_at place line tokens >>= λ start. begun_at line (λ ns ts. primary_at place line nesting ns ts) before start.0 start.1
+
+-- ---- terms
+
+-- a term
+unfoldable pub term_at : TermPlace → ℕ → ℕ → List Token → Read (List RawNode)
+term_at place nesting line tokens = operand_at (primary_at place line nesting) loosest [] tokens
+
+-- a term that begins with an operand of the level 0 of these nodes
+unfoldable pub rest_of_term_at : TermPlace → ℕ → ℕ → List RawNode → List Token → Read (List RawNode)
+rest_of_term_at place nesting line first tokens = behind_at (primary_at place line nesting) loosest first tokens

@@ -1,0 +1,85 @@
+-- Words that are no nouns.
+use Rattle.std.proofs.Common.{◌≡◌, ℕ, Bool, true, false, List, Option, Some, None, refl, ap, subst, ◌∙◌}
+use Rattle.std.specs.Prelude.{codes}
+use Rattle.std.specs.Str.{bytes_eq}
+use Rattle.ops.specs.declared.opcode.Opcode.{Opcode}
+use Rattle.ops.specs.declared.keywords.flag.Flag.{Flag}
+use Rattle.ops.specs.declared.keywords.flag.Flag.TheVariants.{Nuw, Nsw, Exact}
+use Rattle.ops.specs.Keywords.{pred_in}
+use Rattle.ops.specs.FlagKeywords.{flag_in, flag_keyword}
+use Rattle.ops.proofs.KeywordLemmas.{same_word, pred_in-of}
+use Rattle.ops.proofs.FlagKeywordLemmas.{flag_in-is}
+use Rattle.scan.specs.Bytes.{is_digit}
+use Rattle.scan.specs.RuleTokens.{is_among, is_constant}
+use Rattle.rule_tokens.specs.Numbers.{type_in}
+use Rattle.rule_tokens.proofs.Types.{type_in-of}
+use Rattle.rule_terms.specs.declared.place.TermPlace.TheVariants.{Witness}
+use Rattle.rule_terms.specs.declared.word.Meaning.TheVariants.{Constant, Choice, Call, Width}
+use Rattle.rule_terms.specs.FormulaKeywords.{formula_words}
+use Rattle.rule_terms.specs.Keywords.{choice_in, name_in, meaning_in}
+use Rattle.rule_terms.proofs.Meanings.{meaning_in-of}
+use Rattle.rule_parse.specs.Keywords.{operation_in, source_word_in}
+use Rattle.rule_parse.proofs.Pieces.{operation_in-of}
+use Rattle.rule_viable_prefixes.specs.Misfits as kinds
+use Rattle.rule_viable_prefixes.specs.Misfits.{IsNoun}
+
+abbrev IsNone : {A : Type 0} → Option A → Type 0
+IsNone {A} o = (x : A) → o ≡ Some x → ⊥
+
+-- a word that no reader knows
+record IsUnknown (word : List ℕ) : Type 0 where
+  no_opcode : IsNone (operation_in word)
+  no_predicate : IsNone (pred_in word)
+  no_type : IsNone (type_in word)
+  no_operand : IsNone (source_word_in word)
+  no_term : IsNone (meaning_in Witness word)
+
+not_noun : (word : List ℕ) → IsUnknown word → IsNoun word → ⊥
+unfolding source_word_in
+not_noun word u (kinds.opcode operation is) = u.no_opcode operation (ap operation_in is ∙ operation_in-of operation)
+not_noun word u (kinds.predicate pred is) = u.no_predicate pred (ap pred_in is ∙ pred_in-of pred)
+not_noun word u (kinds.type width is) = u.no_type width (type_in-of word width is)
+not_noun word u (kinds.constant is) = u.no_term Constant (meaning_in-of Witness Constant word is)
+not_noun word u (kinds.truth true is) = u.no_operand _ (ap source_word_in is)
+not_noun word u (kinds.truth false is) = u.no_operand _ (ap source_word_in is)
+not_noun word u (kinds.undef is) = u.no_operand _ (ap source_word_in is)
+not_noun word u (kinds.choice place is) = u.no_term (Choice place) (meaning_in-of Witness (Choice place) word (refl, is))
+not_noun word u (kinds.function function is) = u.no_term (Call function) (meaning_in-of Witness (Call function) word is)
+not_noun word u (kinds.width is) = u.no_term Width (meaning_in-of Witness Width word is)
+
+pub not_this : (noun word : List ℕ) → (IsNoun word → ⊥) → IsNoun noun → bytes_eq noun word ≡ false
+not_this noun word never is = by (bytes_eq noun word) refl
+  where
+    by : (b : Bool) → bytes_eq noun word ≡ b → bytes_eq noun word ≡ false
+    by false h = h
+    by true h = absurd (never (subst IsNoun (same_word noun word h) is))
+
+no_flag_noun : (flag : Flag) → IsNoun (flag_keyword flag) → ⊥
+unfolding operation_in pred_in type_in source_word_in meaning_in name_in choice_in is_constant is_digit
+no_flag_noun Nuw is = not_noun (codes "nuw") (record { no_opcode = λ x e. absurd cc; no_predicate = λ x e. absurd cc; no_type = λ x e. absurd cc; no_operand = λ x e. absurd cc; no_term = λ x e. absurd cc }) is
+no_flag_noun Nsw is = not_noun (codes "nsw") (record { no_opcode = λ x e. absurd cc; no_predicate = λ x e. absurd cc; no_type = λ x e. absurd cc; no_operand = λ x e. absurd cc; no_term = λ x e. absurd cc }) is
+no_flag_noun Exact is = not_noun (codes "exact") (record { no_opcode = λ x e. absurd cc; no_predicate = λ x e. absurd cc; no_type = λ x e. absurd cc; no_operand = λ x e. absurd cc; no_term = λ x e. absurd cc }) is
+
+pub no_flag_in : (op : Opcode) (noun : List ℕ) → IsNoun noun → flag_in op noun ≡ None
+no_flag_in op noun is = by (flag_in op noun) refl
+  where
+    by : (found : Option Flag) → flag_in op noun ≡ found → flag_in op noun ≡ None
+    by None f = f
+    by (Some flag) f = absurd (no_flag_noun flag (subst IsNoun (flag_in-is op noun flag f).0 is))
+
+pub not_to : (noun : List ℕ) → IsNoun noun → bytes_eq noun (codes "to") ≡ false
+unfolding operation_in pred_in type_in source_word_in meaning_in name_in choice_in is_constant is_digit
+not_to noun is = not_this noun (codes "to") (not_noun (codes "to") (record { no_opcode = λ x e. absurd cc; no_predicate = λ x e. absurd cc; no_type = λ x e. absurd cc; no_operand = λ x e. absurd cc; no_term = λ x e. absurd cc })) is
+
+pub not_in_formulas : (noun : List ℕ) → IsNoun noun → is_among formula_words noun ≡ false
+unfolding operation_in pred_in type_in source_word_in meaning_in name_in choice_in is_constant is_digit
+not_in_formulas noun is =
+    rw (
+      not_this noun (codes "isPowerOf2") (not_noun (codes "isPowerOf2") (record { no_opcode = λ x e. absurd cc; no_predicate = λ x e. absurd cc; no_type = λ x e. absurd cc; no_operand = λ x e. absurd cc; no_term = λ x e. absurd cc })) is,
+      not_this noun (codes "isSignBit") (not_noun (codes "isSignBit") (record { no_opcode = λ x e. absurd cc; no_predicate = λ x e. absurd cc; no_type = λ x e. absurd cc; no_operand = λ x e. absurd cc; no_term = λ x e. absurd cc })) is,
+      not_this noun (codes "hasOneUse") (not_noun (codes "hasOneUse") (record { no_opcode = λ x e. absurd cc; no_predicate = λ x e. absurd cc; no_type = λ x e. absurd cc; no_operand = λ x e. absurd cc; no_term = λ x e. absurd cc })) is,
+    ) refl
+
+pub constant_noun : IsNoun (codes "C")
+unfolding is_constant
+constant_noun = kinds.constant refl

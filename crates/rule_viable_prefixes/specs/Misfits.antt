@@ -1,0 +1,120 @@
+-- Why a token does not fit behind tokens that do, said by which other tokens fit in its place.
+use Rattle.std.specs.Prelude.{◌≡◌, ◌≢◌, ◌⊎◌, ℕ, ◌<◌, ◌≤◌, Bool, IsTrue, List, ◌∷◌, ◌++◌, length, map, codes}
+use Rattle.ops.specs.declared.comparison.Pred.{Pred}
+use Rattle.ops.specs.declared.keywords.flag.Flag.{Flag}
+use Rattle.ops.specs.FlagKeywords.{flag_keyword}
+use Rattle.ops.specs.Keywords.{predicate_keyword}
+use Rattle.scan.specs.RuleTokens.{is_constant}
+use Rattle.rule_core.specs.declared.rule.Function.{Function}
+use Rattle.rule_tokens.specs.declared.fault.Misfit.{Misfit}
+use Rattle.rule_tokens.specs.declared.fault.Misfit.TheVariants.{BadByte, Syntax, LeftOut, TooMany}
+use Rattle.rule_tokens.specs.Limits.{most_name_bytes}
+use Rattle.rule_tokens.specs.Numbers.{IsWrittenType}
+use Rattle.rule_tokens.specs.Tokens.{Token, Head, Name, Register, Word, Number, Arrow, Mark, Bad, Excess}
+use Rattle.rule_terms.specs.declared.formula_word.Predicate.{Predicate}
+use Rattle.rule_terms.specs.FormulaKeywords.{predicate_word}
+use Rattle.rule_terms.specs.Keywords.{IsPrefix, IsCalled, IsChoice}
+use Rattle.rule_parse.specs.declared.word.Operation.{Operation}
+use Rattle.rule_parse.specs.Keywords.{operation_word, truth_word}
+
+-- which tokens fit in the place of the one that does not
+abbrev pub Fitting : Type 1
+Fitting = Token → Type 0
+
+-- ---- words
+
+-- An opcode, a predicate of `icmp`, a type, an operand or a function. The predicates of `Pre:` are none, since a constant may stand
+-- where they do, and neither are flags and `to`.
+pub data IsNoun (word : List ℕ) : Type 0 where
+  opcode : (operation : Operation) → word ≡ operation_word operation → IsNoun word
+  predicate : (pred : Pred) → word ≡ predicate_keyword pred → IsNoun word
+  type : (width : ℕ) → IsWrittenType word width → IsNoun word
+  constant : IsTrue (is_constant word) → IsNoun word
+  truth : (truth : Bool) → word ≡ truth_word truth → IsNoun word
+  undef : word ≡ codes "undef" → IsNoun word
+  choice : (place : ℕ) → IsChoice word place → IsNoun word
+  function : (function : Function) → IsCalled function word → IsNoun word
+  width : word ≡ codes "width" → IsNoun word
+
+abbrev pub NounFits : Fitting → Type 0
+NounFits fits = (word : List ℕ) × IsNoun word × fits (Word word)
+
+-- ---- what nests
+
+-- tokens behind which something more is nested
+pub data Nests : Token → Type 0 where
+  parenthesis : Nests (Mark (codes "("))
+  sign : (function : Function) (mark : List ℕ) → IsPrefix function mark → Nests (Mark mark)
+  function : (function : Function) (word : List ℕ) → IsCalled function word → Nests (Word word)
+  width : Nests (Word (codes "width"))
+  negation : Nests (Mark (codes "!"))
+  test : (predicate : Predicate) → Nests (Word (predicate_word predicate))
+
+-- One of them may not stand where an operand of one token may: it is nested too deep.
+abbrev pub IsTooDeep : Fitting → Token → Type 0
+IsTooDeep fits token = Nests token × fits (Number (codes "0"))
+
+-- ---- words that are told as `Syntax` though a noun fits
+
+-- flags stand last, of which the first is this word
+abbrev pub RepeatsFlag : List Token → List ℕ → Type 0
+RepeatsFlag front word =
+    (before : List Token) × (flag : Flag) × (flags : List Flag) × (word ≡ flag_keyword flag)
+    × (front ≡ before ++ map (λ f. Word (flag_keyword f)) (flag ∷ flags))
+
+pub data IsExcused (fits : Fitting) (front : List Token) (word : List ℕ) : Type 0 where
+  -- it is a word of `Pre:` that may stand elsewhere: `%r = hasOneUse`
+  one_use : word ≡ codes "hasOneUse" → IsExcused fits front word
+  -- the instruction has the flag already: `%r = add nuw nuw`
+  repeated : RepeatsFlag front word → IsExcused fits front word
+  -- a function or a predicate is nested too deep: `log2 +` behind 32 `(`
+  nested : IsTooDeep fits (Word word) → IsExcused fits front word
+
+-- ---- limits
+
+-- a name of more than 200 bytes, where another of its sort with at most 200 fits
+abbrev pub IsTooLong : Fitting → (List ℕ → Token) → (List ℕ → Type 0) → List ℕ → Type 0
+IsTooLong fits token IsOfSort name =
+    (short : List ℕ) × (most_name_bytes < length name) × (length short ≤ most_name_bytes) × IsOfSort name × IsOfSort short × fits (token short)
+
+-- a half of the rule may end: the arrow fits, or another rule
+abbrev pub HalfEnds : Fitting → Type 0
+HalfEnds fits = fits Arrow ⊎ fits (Head (codes "Name:"))
+
+-- With the token a limit is passed.
+pub data IsTooMany (fits : Fitting) : Token → Type 0 where
+  -- a rule has too many operands, literals, names, operators and functions
+  nodes : IsTooMany fits Excess
+  name : (name : List ℕ) → IsTooLong fits Name (λ text. 1 ≤ length text) name → IsTooMany fits (Name name)
+  register : (name : List ℕ) → IsTooLong fits Register (λ text. Unit {0}) name → IsTooMany fits (Register name)
+  constant : (name : List ℕ) → IsTooLong fits Word (λ word. IsTrue (is_constant word)) name → IsTooMany fits (Word name)
+  choice : (name : List ℕ) → IsTooLong fits Word (λ word. (place : ℕ) × IsChoice word place) name → IsTooMany fits (Word name)
+  -- the register of one more statement, where the half may end
+  statement : (name : List ℕ) → HalfEnds fits → IsTooMany fits (Register name)
+  nesting : (token : Token) → IsTooDeep fits token → IsTooMany fits token
+
+-- ---- kinds
+
+-- What a kind says of the token itself: it is a byte that may not stand; with it a limit is passed; it is a word that is left out, and
+-- a noun fits in its place; or it is none of the tokens that end what is read.
+abbrev pub Says : Fitting → Token → Misfit → Type 0
+Says fits token BadByte = token ≡ Bad
+Says fits token TooMany = IsTooMany fits token
+Says fits token (LeftOut left) = (token ≡ Word left) × NounFits fits
+Says fits token Syntax = (token ≢ Bad) × (token ≢ Excess)
+
+-- what the kind of a fault at the first of these tokens is where no word is left out and no other limit is passed
+abbrev pub kind_at : List Token → Misfit
+kind_at (Bad ∷ tokens) = BadByte
+kind_at (Excess ∷ tokens) = TooMany
+kind_at tokens = Syntax
+
+-- A function or a predicate that is nested too deep, with no `(` behind it, is told as the token behind it is: `log2 +` behind 32 `(`.
+abbrev pub IsReadOn : Fitting → Token → List Token → Misfit → Type 0
+IsReadOn fits token behind kind =
+    (word : List ℕ) × (token ≡ Word word) × IsTooDeep fits token × ((more : List Token) → behind ≢ Mark (codes "(") ∷ more) × (kind ≡ kind_at behind)
+
+-- what the kind of a fault says of its token, before these others
+pub data IsMisfit (fits : Fitting) (token : Token) (behind : List Token) (kind : Misfit) : Type 0 where
+  itself : Says fits token kind → IsMisfit fits token behind kind
+  read_on : IsReadOn fits token behind kind → IsMisfit fits token behind kind

@@ -1,0 +1,10 @@
+//! The laws of faults, each the contract of a function that does nothing.
+ghost use Rattle.rule_viable_prefixes.specs.Laws.{FaultsAreWhereTextsDoNotFit};
+
+/// A text is refused at the first token with which its tokens begin no rules of the grammar, or at its end if they all begin some
+/// and spell none. One whose tokens spell rules is not refused.
+pub fn faults_are_where_texts_do_not_fit()
+    ensures { FaultsAreWhereTextsDoNotFit }
+{
+    scan::every_place_has_one_rule_token();
+}

@@ -1,0 +1,152 @@
+//! Command lines, and what they say.
+
+use command_line::{Command, CommandError, read_command};
+use ops::Width;
+use std::alloc::Global;
+use std::test::Fail;
+
+/// A text with widths behind it.
+fn with_widths(alloc: Global, mut text: String, widths: &[Width]) -> Result<String, Fail> {
+    for width in widths {
+        text.push_str(format!(in alloc; " {}", width.bits())?.as_str())?;
+    }
+    Ok(text)
+}
+
+/// A text with words behind it.
+fn with_words(alloc: Global, mut text: String, words: &[&str]) -> Result<String, Fail> {
+    for word in words {
+        text.push_str(format!(in alloc; " {word}")?.as_str())?;
+    }
+    Ok(text)
+}
+
+/// A command as a text.
+fn shown(alloc: Global, command: &Command<'_>) -> Result<String, Fail> {
+    match command {
+        Command::Verify { rules, options } => with_widths(
+            alloc,
+            format!(in alloc; "verify {rules} {}:", options.conflicts)?,
+            options.widths.as_slice(),
+        ),
+        Command::Optimise {
+            rules,
+            module,
+            options,
+        } => Ok(format!(in alloc;
+            "optimise {rules} {module} {} {}",
+            options.conflicts, options.steps
+        )?),
+        Command::Run {
+            module,
+            name,
+            arguments,
+            options,
+        } => with_words(
+            alloc,
+            format!(in alloc; "run {module} {name} {}:", options.blocks)?,
+            arguments.as_slice(),
+        ),
+    }
+}
+
+/// What the words behind the program's name say, as a text: `clap`'s texts are `usage` alone.
+fn said(alloc: Global, words: &[&str]) -> Result<String, Fail> {
+    let mut all = Vec::new(alloc);
+    all.push(String::from_str(alloc, "alive")?)?;
+    for word in words {
+        all.push(String::from_str(alloc, word)?)?;
+    }
+    match read_command(alloc, all.as_slice()) {
+        Ok(command) => shown(alloc, &command),
+        Err(CommandError::Usage(text)) => {
+            if text.as_slice().starts_with(b"error: widths ") {
+                Ok(String::from_utf8(text).ok().ok_or("a text")?)
+            } else {
+                Ok(String::from_str(alloc, "usage")?)
+            }
+        }
+        Err(CommandError::NoMemory) => Ok(String::from_str(alloc, "memory")?),
+    }
+}
+
+const TABLE: &[(&[&str], &str)] = &[
+    (&["verify", "r"], "verify r 20000: 1 2 3 4 5 6 7 8 16 32 64"),
+    (
+        &["verify", "--widths", "3,1-2,2", "r", "--conflicts=0"],
+        "verify r 0: 1 2 3",
+    ),
+    (
+        &["verify", "--conflicts", "1000000", "r", "--widths=64"],
+        "verify r 1000000: 64",
+    ),
+    (&["verify", "r", "--conflicts", "1000001"], "usage"),
+    (&["verify", "r", "--conflicts", "ten"], "usage"),
+    (&["verify", "r", "--widths", "0-3"], "error: widths 0-3\n"),
+    (&["verify", "r", "--widths", "5-4"], "error: widths 5-4\n"),
+    (
+        &["verify", "r", "--widths", "1-3,,4"],
+        "error: widths 1-3,,4\n",
+    ),
+    (&["verify", "r", "--widths", "01"], "error: widths 01\n"),
+    (&["verify", "r", "--widths", "+1"], "error: widths +1\n"),
+    (
+        &["verify", "r", "--widths", "64-65"],
+        "error: widths 64-65\n",
+    ),
+    (&["verify", "r", "--widths", ""], "error: widths \n"),
+    (
+        &["verify", "r", "--widths", "1-2-3"],
+        "error: widths 1-2-3\n",
+    ),
+    (&["optimise", "r", "m"], "optimise r m 20000 10000"),
+    (
+        &["optimise", "r", "--steps", "100000", "m"],
+        "optimise r m 20000 100000",
+    ),
+    (
+        &["optimise", "--steps", "0", "--conflicts", "7", "r", "m"],
+        "optimise r m 7 0",
+    ),
+    (&["optimise", "r", "m", "--steps", "100001"], "usage"),
+    (&["optimise", "r"], "usage"),
+    (&["optimise", "r", "m", "--widths", "1"], "usage"),
+    (&["optimise", "r", "m", "n"], "usage"),
+    (&["run", "m", "f"], "run m f 1000000:"),
+    (
+        &["run", "--blocks", "10", "m", "swap", "2"],
+        "run m swap 10: 2",
+    ),
+    (
+        &["run", "--blocks=4", "m", "f", "1", "poison"],
+        "run m f 4: 1 poison",
+    ),
+    (
+        &["run", "m", "f", "3", "--blocks", "0", "1", "3"],
+        "run m f 0: 3 1 3",
+    ),
+    (
+        &["run", "--blocks=100000000", "m", "f", "-", "--", "-1"],
+        "run m f 100000000: - -1",
+    ),
+    (
+        &["run", "verify", "help", "run"],
+        "run verify help 1000000: run",
+    ),
+    (&["run", "m"], "usage"),
+    (&["run", "m", "f", "-1"], "usage"),
+    (&["run", "m", "f", "--blocks", "100000001"], "usage"),
+    (&["--help"], "usage"),
+    (&["--version"], "usage"),
+    (&["help"], "usage"),
+    (&[], "usage"),
+];
+
+#[test]
+fn command_lines_say_their_commands(rt: HostRuntime) -> Result<(), Fail> {
+    for (words, expected) in TABLE {
+        let text = said(rt.alloc(), words)?;
+        assert_eq!(rt; text.as_str(), *expected);
+    }
+    Ok(())
+}

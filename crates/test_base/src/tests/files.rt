@@ -1,0 +1,109 @@
+//! Each kind of files and sinks once, by the bounds of the traits alone, and what the adapters do at faults.
+
+use outside::{
+    DiskFiles, Failed, FailingPut, Files, MemoryFiles, MemorySink, ReadError, Sink, StreamSink,
+    SureFiles, SureSink,
+};
+use std::alloc::Global;
+use std::io;
+use std::io::Write;
+use std::test::Fail;
+
+/// How many `x` a read gives.
+fn read_count<F: Files>(
+    alloc: Global,
+    files: &mut F,
+    name: &str,
+    most: usize,
+) -> Result<usize, ReadError> {
+    let read = files.read(alloc, name, most)?;
+    Ok(read.iter().filter(|byte| **byte == b'x').count())
+}
+
+fn put_piece<O: Sink>(sink: &mut O) -> Result<(), Failed> {
+    sink.put(b"piece\n")
+}
+
+/// A stream that fails in one way.
+#[derive(Clone, Copy, Debug)]
+enum Faulty {
+    TakesNothing,
+    FailsAtWrite,
+    FailsAtFlush,
+}
+
+impl Write for Faulty {
+    fn write(&mut self, buf: &[u8]) -> io::Result<usize> {
+        match self {
+            Faulty::TakesNothing => Ok(0),
+            Faulty::FailsAtWrite => Err(io::Error::from(io::ErrorKind::BrokenPipe)),
+            Faulty::FailsAtFlush => Ok(buf.len().min(2)),
+        }
+    }
+
+    fn flush(&mut self) -> io::Result<()> {
+        match self {
+            Faulty::FailsAtFlush => Err(io::Error::from(io::ErrorKind::BrokenPipe)),
+            _ => Ok(()),
+        }
+    }
+}
+
+fn memory_count(alloc: Global) -> Result<usize, ReadError> {
+    let mut files = MemoryFiles::new(alloc);
+    files.add(alloc, "a", b"xxxxx")?;
+    files.fail_at(1)?;
+    read_count(alloc, &mut files, "a", 4)
+}
+
+fn sure_count(alloc: Global) -> Result<usize, ReadError> {
+    let mut files = SureFiles::new(alloc);
+    files.add(alloc, "a", b"xxxxx")?;
+    read_count(alloc, &mut files, "a", 4)
+}
+
+#[test]
+fn files_are_read_up_to_the_most(rt: HostRuntime) -> Result<(), Fail> {
+    assert_eq!(rt; memory_count(rt.alloc()), Ok(4));
+    assert_eq!(rt; sure_count(rt.alloc()), Ok(4));
+    let path = "outside_test.tmp";
+    let text = vec![in rt.alloc(); b'x'; 10_000]?;
+    std::fs::write(&rt, path, text.as_slice())?;
+    let mut files = DiskFiles::new(rt);
+    for (name, most, want) in [
+        (path, 0, Ok(0)),
+        (path, 4096, Ok(4096)),
+        (path, 9_999, Ok(9_999)),
+        (path, 20_000, Ok(10_000)),
+        (".", 5, Err(ReadError::Failed)),
+        ("bad\0name", 5, Err(ReadError::Failed)),
+    ] {
+        assert_eq!(rt;
+            read_count(rt.alloc(), &mut files, name, most),
+            want,
+            "{name}"
+        );
+    }
+    assert_eq!(rt; files.faults(), 2);
+    std::fs::remove_file(&rt, path)?;
+    Ok(())
+}
+
+#[test]
+fn sinks_take_whole_pieces_or_fail(rt: HostRuntime) -> Result<(), Fail> {
+    let mut held = MemorySink::with_room(rt.alloc(), 8)?;
+    held.fail_at(FailingPut { number: 1, most: 1 })?;
+    assert_eq!(rt; put_piece(&mut held), Ok(()));
+    assert_eq!(rt; put_piece(&mut SureSink), Ok(()));
+    assert_eq!(rt; put_piece(&mut StreamSink::new(rt.stdout())), Ok(()));
+    for stream in [
+        Faulty::TakesNothing,
+        Faulty::FailsAtWrite,
+        Faulty::FailsAtFlush,
+    ] {
+        let mut sink = StreamSink::new(stream);
+        assert_eq!(rt; put_piece(&mut sink), Err(Failed), "{stream:?}");
+        assert_eq!(rt; sink.faults(), 1, "{stream:?}");
+    }
+    Ok(())
+}

@@ -1,0 +1,385 @@
+//! Instructions and what they give. The numbers come from the Language Reference, worked out over whole numbers.
+
+ghost use Rattle.std.specs.Prelude.{◌≡◌};
+ghost use Rattle.ops.specs.Value.{HasWidth};
+
+use Cast::{SExt, Trunc, ZExt};
+use Cell::{Half, Is, Poison, Quarter, Undefined, Width as Bits};
+use Opcode::{AShr, Add, And, LShr, Mul, Or, SDiv, SRem, Shl, Sub, UDiv, URem, Xor};
+use Pred::{Eq, Ne, Sge, Sgt, Sle, Slt, Uge, Ugt, Ule, Ult};
+use ops::{
+    Cast, Effect, Flags, Opcode, Pred, Value, Width, Word, choose, compare, convert, evaluate,
+};
+use std::process::Abort;
+
+const NONE: Flags = Flags::NONE;
+
+const WRAP: Flags = Flags::WRAP;
+
+const EXACT: Flags = Flags::EXACT;
+
+const NUW: Flags = Flags {
+    nuw: true,
+    nsw: false,
+    exact: false,
+};
+
+const NSW: Flags = Flags {
+    nuw: false,
+    nsw: true,
+    exact: false,
+};
+
+// An operand or an effect at a width of N bits. A number is taken modulo 2^N.
+#[derive(Clone, Copy)]
+enum Cell {
+    Undefined,
+    Poison,
+    Is(i64),
+    // 2^(N-1) and as much more.
+    Half(i64),
+    // 2^(N-2) and as much more.
+    Quarter(i64),
+    // N and as much more.
+    Width(i64),
+}
+
+// An instruction, its flags, its operands and its effect.
+type Row = (Opcode, Flags, Cell, Cell, Cell);
+
+static ONE_BIT: [Row; 36] = [
+    (Add, NONE, Is(1), Is(1), Is(0)),
+    (Add, NUW, Is(1), Is(0), Is(1)),
+    (Add, NUW, Is(1), Is(1), Poison),
+    (Add, NSW, Is(0), Is(1), Is(1)),
+    (Add, NSW, Is(1), Is(1), Poison),
+    (Sub, NONE, Is(0), Is(1), Is(1)),
+    (Sub, NUW, Is(1), Is(1), Is(0)),
+    (Sub, NUW, Is(0), Is(1), Poison),
+    (Sub, NSW, Is(1), Is(1), Is(0)),
+    (Sub, NSW, Is(0), Is(1), Poison),
+    (Mul, NUW, Is(1), Is(1), Is(1)),
+    (Mul, NSW, Is(0), Is(1), Is(0)),
+    (Mul, NSW, Is(1), Is(1), Poison),
+    (UDiv, EXACT, Is(1), Is(1), Is(1)),
+    (UDiv, NONE, Is(1), Is(0), Undefined),
+    (UDiv, NONE, Poison, Is(1), Poison),
+    (SDiv, EXACT, Is(0), Is(1), Is(0)),
+    (SDiv, NONE, Is(0), Is(0), Undefined),
+    (SDiv, NONE, Is(1), Is(1), Undefined),
+    (SDiv, NONE, Poison, Is(1), Undefined),
+    (URem, NONE, Is(1), Is(1), Is(0)),
+    (URem, NONE, Is(1), Is(0), Undefined),
+    (URem, NONE, Poison, Is(1), Poison),
+    (SRem, NONE, Is(0), Is(1), Is(0)),
+    (SRem, NONE, Is(0), Is(0), Undefined),
+    (SRem, NONE, Is(1), Is(1), Undefined),
+    (SRem, NONE, Poison, Is(1), Undefined),
+    (Shl, WRAP, Is(1), Is(0), Is(1)),
+    (Shl, NONE, Is(1), Is(1), Poison),
+    (LShr, EXACT, Is(1), Is(0), Is(1)),
+    (LShr, NONE, Is(1), Is(1), Poison),
+    (AShr, EXACT, Is(1), Is(0), Is(1)),
+    (AShr, NONE, Is(1), Is(1), Poison),
+    (And, NONE, Is(1), Is(0), Is(0)),
+    (Or, NONE, Is(1), Is(0), Is(1)),
+    (Xor, NONE, Is(1), Is(1), Is(0)),
+];
+
+static TWO_BITS: [Row; 47] = [
+    (Add, NUW, Is(-2), Is(1), Is(-1)),
+    (Add, NUW, Is(-1), Is(1), Poison),
+    (Add, NSW, Is(0), Is(1), Is(1)),
+    (Add, NSW, Is(1), Is(1), Poison),
+    (Add, NSW, Is(-2), Is(-1), Poison),
+    (Sub, NUW, Is(1), Is(1), Is(0)),
+    (Sub, NUW, Is(0), Is(1), Poison),
+    (Sub, NSW, Is(-1), Is(1), Is(-2)),
+    (Sub, NSW, Is(-2), Is(1), Poison),
+    (Mul, NUW, Is(1), Is(-1), Is(-1)),
+    (Mul, NUW, Is(-2), Is(-2), Poison),
+    (Mul, NSW, Is(1), Is(-2), Is(-2)),
+    (Mul, NSW, Is(-2), Is(-1), Poison),
+    (UDiv, EXACT, Is(-2), Is(-2), Is(1)),
+    (UDiv, EXACT, Is(-1), Is(-2), Poison),
+    (UDiv, NONE, Is(-1), Is(0), Undefined),
+    (SDiv, NONE, Is(1), Is(-2), Is(0)),
+    (SDiv, EXACT, Is(1), Is(-2), Poison),
+    (SDiv, EXACT, Is(-2), Is(-2), Is(1)),
+    (SDiv, NONE, Is(-2), Is(-1), Undefined),
+    (SDiv, NONE, Is(1), Is(-1), Is(-1)),
+    (URem, NONE, Is(-1), Is(-2), Is(1)),
+    (URem, NONE, Is(1), Is(0), Undefined),
+    (SRem, NONE, Is(1), Is(-2), Is(1)),
+    (SRem, NONE, Is(-1), Is(-2), Is(-1)),
+    (SRem, NONE, Is(-2), Is(-1), Undefined),
+    (SRem, NONE, Is(1), Is(-1), Is(0)),
+    (Shl, NONE, Is(1), Is(1), Is(-2)),
+    (Shl, NONE, Is(1), Is(-2), Poison),
+    (Shl, NONE, Is(1), Is(-1), Poison),
+    (Shl, NUW, Is(1), Is(1), Is(-2)),
+    (Shl, NUW, Is(-2), Is(1), Poison),
+    (Shl, NSW, Is(-1), Is(1), Is(-2)),
+    (Shl, NSW, Is(1), Is(1), Poison),
+    (LShr, NONE, Is(-1), Is(1), Is(1)),
+    (LShr, NONE, Is(-1), Is(-2), Poison),
+    (LShr, NONE, Is(-1), Is(-1), Poison),
+    (LShr, EXACT, Is(-2), Is(1), Is(1)),
+    (LShr, EXACT, Is(-1), Is(1), Poison),
+    (AShr, NONE, Is(-1), Is(1), Is(-1)),
+    (AShr, NONE, Is(-1), Is(-2), Poison),
+    (AShr, NONE, Is(-1), Is(-1), Poison),
+    (AShr, EXACT, Is(-2), Is(1), Is(-1)),
+    (AShr, EXACT, Is(-1), Is(1), Poison),
+    (And, NONE, Is(-2), Is(-1), Is(-2)),
+    (Or, NONE, Is(-2), Is(1), Is(-1)),
+    (Xor, NONE, Is(-2), Is(-1), Is(1)),
+];
+
+// At each width of seven bits or more.
+static EDGES: [Row; 99] = [
+    (Add, NUW, Is(-2), Is(1), Is(-1)),
+    (Add, NUW, Is(-1), Is(1), Poison),
+    (Add, NSW, Half(-2), Is(1), Half(-1)),
+    (Add, NSW, Half(-1), Is(1), Poison),
+    (Add, NSW, Half(0), Is(-1), Poison),
+    (Add, WRAP, Half(-1), Half(0), Is(-1)),
+    (Add, NONE, Half(-1), Is(1), Half(0)),
+    (Sub, NUW, Is(1), Is(1), Is(0)),
+    (Sub, NUW, Is(0), Is(1), Poison),
+    (Sub, NSW, Half(1), Is(1), Half(0)),
+    (Sub, NSW, Half(0), Is(1), Poison),
+    (Sub, NSW, Is(0), Half(0), Poison),
+    (Sub, NONE, Is(0), Is(1), Is(-1)),
+    (Mul, NUW, Half(-1), Is(2), Is(-2)),
+    (Mul, NUW, Half(0), Is(2), Poison),
+    (Mul, NSW, Half(-1), Is(-1), Half(1)),
+    (Mul, NSW, Half(0), Is(-1), Poison),
+    (Mul, NSW, Quarter(-1), Is(2), Half(-2)),
+    (Mul, NSW, Quarter(0), Is(2), Poison),
+    (Mul, NONE, Is(-1), Is(-1), Is(1)),
+    (UDiv, NONE, Half(0), Half(-1), Is(1)),
+    (UDiv, NONE, Is(-1), Is(2), Half(-1)),
+    (UDiv, EXACT, Half(0), Is(2), Quarter(0)),
+    (UDiv, EXACT, Half(1), Is(2), Poison),
+    (UDiv, EXACT, Is(-1), Is(0), Undefined),
+    (SDiv, NONE, Is(7), Is(2), Is(3)),
+    (SDiv, NONE, Is(-7), Is(2), Is(-3)),
+    (SDiv, NONE, Is(7), Is(-2), Is(-3)),
+    (SDiv, NONE, Is(-7), Is(-2), Is(3)),
+    (SDiv, EXACT, Is(-6), Is(2), Is(-3)),
+    (SDiv, EXACT, Is(-7), Is(2), Poison),
+    (SDiv, EXACT, Is(-6), Is(4), Poison),
+    (SDiv, NONE, Half(0), Is(1), Half(0)),
+    (SDiv, NONE, Half(0), Is(-1), Undefined),
+    (SDiv, NONE, Half(1), Is(-1), Half(-1)),
+    (SDiv, EXACT, Half(0), Is(0), Undefined),
+    (URem, NONE, Is(-1), Half(0), Half(-1)),
+    (URem, NONE, Half(0), Is(-1), Half(0)),
+    (URem, NONE, Is(0), Is(0), Undefined),
+    (SRem, NONE, Is(7), Is(2), Is(1)),
+    (SRem, NONE, Is(-7), Is(2), Is(-1)),
+    (SRem, NONE, Is(7), Is(-2), Is(1)),
+    (SRem, NONE, Is(-7), Is(-2), Is(-1)),
+    (SRem, NONE, Half(0), Is(-1), Undefined),
+    (SRem, NONE, Half(1), Is(-1), Is(0)),
+    (SRem, NONE, Half(0), Is(0), Undefined),
+    (Shl, NONE, Is(-1), Bits(-1), Half(0)),
+    (Shl, NONE, Is(1), Bits(0), Poison),
+    (Shl, NONE, Is(1), Is(-1), Poison),
+    (Shl, NUW, Half(-1), Is(1), Is(-2)),
+    (Shl, NUW, Half(0), Is(1), Poison),
+    (Shl, NUW, Is(1), Bits(-1), Half(0)),
+    (Shl, NUW, Is(4), Bits(-1), Poison),
+    (Shl, NSW, Quarter(-1), Is(1), Half(-2)),
+    (Shl, NSW, Quarter(0), Is(1), Poison),
+    (Shl, NSW, Is(-1), Bits(-1), Half(0)),
+    (Shl, NSW, Is(1), Bits(-1), Poison),
+    (Shl, NSW, Is(6), Bits(-2), Poison),
+    (Shl, NSW, Half(1), Is(1), Poison),
+    (LShr, NONE, Is(-1), Bits(-1), Is(1)),
+    (LShr, NONE, Is(-1), Bits(0), Poison),
+    (LShr, NONE, Is(-1), Is(-1), Poison),
+    (LShr, EXACT, Half(0), Bits(-1), Is(1)),
+    (LShr, EXACT, Half(2), Bits(-1), Poison),
+    (LShr, EXACT, Is(2), Is(2), Poison),
+    (AShr, NONE, Half(1), Bits(-1), Is(-1)),
+    (AShr, NONE, Half(-1), Bits(-1), Is(0)),
+    (AShr, NONE, Is(-1), Bits(0), Poison),
+    (AShr, NONE, Is(-1), Is(-1), Poison),
+    (AShr, EXACT, Half(0), Bits(-1), Is(-1)),
+    (AShr, EXACT, Half(2), Bits(-1), Poison),
+    (AShr, EXACT, Is(-12), Is(2), Is(-3)),
+    (AShr, EXACT, Is(-2), Is(2), Poison),
+    (And, NONE, Half(1), Is(-2), Half(0)),
+    (Or, NONE, Half(1), Is(6), Half(7)),
+    (Xor, NONE, Half(1), Is(-1), Half(-2)),
+    (Add, NONE, Poison, Is(0), Poison),
+    (Sub, NONE, Is(0), Poison, Poison),
+    (Mul, NONE, Is(0), Poison, Poison),
+    (UDiv, NONE, Poison, Is(-1), Poison),
+    (UDiv, NONE, Poison, Is(0), Undefined),
+    (UDiv, NONE, Is(0), Poison, Undefined),
+    (SDiv, NONE, Poison, Is(1), Poison),
+    (SDiv, NONE, Poison, Is(-1), Undefined),
+    (SDiv, NONE, Poison, Is(0), Undefined),
+    (SDiv, NONE, Is(1), Poison, Undefined),
+    (URem, NONE, Poison, Is(-1), Poison),
+    (URem, NONE, Poison, Is(0), Undefined),
+    (URem, NONE, Poison, Poison, Undefined),
+    (SRem, NONE, Poison, Is(1), Poison),
+    (SRem, NONE, Poison, Is(-1), Undefined),
+    (SRem, NONE, Poison, Is(0), Undefined),
+    (SRem, NONE, Is(1), Poison, Undefined),
+    (Shl, NONE, Is(0), Poison, Poison),
+    (LShr, NONE, Poison, Is(-1), Poison),
+    (AShr, NONE, Poison, Is(0), Poison),
+    (And, NONE, Is(0), Poison, Poison),
+    (Or, NONE, Poison, Is(-1), Poison),
+    (Xor, NONE, Poison, Poison, Poison),
+];
+
+// A cast, the widths from and to, a number and what it becomes.
+static CASTS: [(Cast, u32, u32, i64, i64); 28] = [
+    (Trunc, 2, 1, 1, -1),
+    (Trunc, 2, 1, -1, -1),
+    (Trunc, 2, 1, -2, 0),
+    (Trunc, 8, 7, 1, 1),
+    (Trunc, 8, 7, -1, -1),
+    (Trunc, 8, 7, -128, 0),
+    (Trunc, 64, 1, 1, -1),
+    (Trunc, 64, 1, -1, -1),
+    (Trunc, 64, 1, -9223372036854775808, 0),
+    (Trunc, 64, 63, 1, 1),
+    (Trunc, 64, 63, -1, -1),
+    (Trunc, 64, 63, -9223372036854775808, 0),
+    (ZExt, 1, 2, -1, 1),
+    (ZExt, 7, 8, 1, 1),
+    (ZExt, 7, 8, -1, 127),
+    (ZExt, 7, 8, -64, 64),
+    (ZExt, 1, 64, -1, 1),
+    (ZExt, 63, 64, 1, 1),
+    (ZExt, 63, 64, -1, 9223372036854775807),
+    (ZExt, 63, 64, -4611686018427387904, 4611686018427387904),
+    (SExt, 1, 2, -1, -1),
+    (SExt, 7, 8, 1, 1),
+    (SExt, 7, 8, -1, -1),
+    (SExt, 7, 8, -64, -64),
+    (SExt, 1, 64, -1, -1),
+    (SExt, 63, 64, 1, 1),
+    (SExt, 63, 64, -1, -1),
+    (SExt, 63, 64, -4611686018427387904, -4611686018427387904),
+];
+
+static PREDICATES: [Pred; 10] = [Eq, Ne, Ugt, Uge, Ult, Ule, Sgt, Sge, Slt, Sle];
+
+// The least width at which the row holds, two operands and the predicates that hold of them.
+static COMPARISONS: [(u32, Cell, Cell, &[Pred]); 5] = [
+    (1, Is(0), Is(-1), &[Ne, Ult, Ule, Sgt, Sge]),
+    (1, Half(0), Half(-1), &[Ne, Ugt, Uge, Slt, Sle]),
+    (1, Is(-1), Is(-1), &[Eq, Uge, Ule, Sge, Sle]),
+    (2, Half(-2), Half(-1), &[Ne, Ult, Ule, Slt, Sle]),
+    (2, Half(1), Half(0), &[Ne, Ugt, Uge, Sgt, Sge]),
+];
+
+fn width(rt: &impl Abort, bits: u32) -> Width
+    ensures { result ≡ bits }
+{
+    Width::new(bits).expect(rt, "a width")
+}
+
+fn number(width: Width, number: i64) -> Value
+    ensures { HasWidth result width }
+{
+    Value::Bits(Word::wrapped(width, number.cast_unsigned()))
+}
+
+// The cell as an operand.
+fn value(width: Width, cell: Cell) -> Value
+    ensures { HasWidth result width }
+{
+    let highest = 1u64 << 63;
+    let bits = width.bits();
+    let (base, more) = match cell {
+        Cell::Undefined | Cell::Poison => return Value::Poison,
+        Cell::Is(more) => (0, more),
+        Cell::Half(more) => (highest >> (64 - bits), more),
+        Cell::Quarter(more) => ((highest >> 1) >> (64 - bits), more),
+        Cell::Width(more) => (u64::from(bits), more),
+    };
+    Value::Bits(Word::wrapped(width, base.wrapping_add(more.cast_unsigned())))
+}
+
+fn effect(width: Width, cell: Cell) -> Effect {
+    match cell {
+        Cell::Undefined => Effect::Undefined,
+        _ => Effect::Gives(value(width, cell)),
+    }
+}
+
+fn instructions_give(rt: &impl Abort, bits: u32, rows: &[Row]) {
+    let width = width(rt, bits);
+    for (row, &(op, flags, a, b, expected)) in rows.iter().enumerate() {
+        assert!(rt; op.takes(flags), "row {row}");
+        let found = evaluate(op, flags, width, value(width, a), value(width, b));
+        assert_eq!(rt; found, effect(width, expected), "row {row} at i{bits}");
+    }
+}
+
+#[test]
+fn instructions_give_the_worked_effects(rt: HostRuntime) {
+    instructions_give(&rt, 1, &ONE_BIT);
+    instructions_give(&rt, 2, &TWO_BITS);
+    for bits in [7, 8, 63, 64] {
+        instructions_give(&rt, bits, &EDGES);
+    }
+}
+
+fn comparisons_give(rt: &impl Abort, bits: u32, pred: Pred) {
+    let bit = width(rt, 1);
+    let width = width(rt, bits);
+    for (row, &(least, a, b, holding)) in COMPARISONS.iter().enumerate() {
+        if least <= bits {
+            let found = compare(pred, width, value(width, a), value(width, b));
+            let expected = number(bit, i64::from(holding.contains(&pred)));
+            assert_eq!(rt; found, expected, "row {row} at i{bits}");
+        }
+    }
+}
+
+#[test]
+fn casts_comparisons_and_choices_give_the_worked_values(rt: HostRuntime) {
+    for &(cast, from, to, a, expected) in &CASTS {
+        let (from, to) = (width(&rt, from), width(&rt, to));
+        assert!(rt;
+            (cast == Trunc && to.bits() < from.bits()) || (cast != Trunc && from.bits() < to.bits())
+        );
+        assert_eq!(rt;
+            convert(cast, from, to, number(from, a)),
+            number(to, expected),
+            "{cast:?} of {a}"
+        );
+        assert_eq!(rt;
+            convert(cast, from, to, Value::Poison),
+            Value::Poison,
+            "{cast:?}"
+        );
+    }
+    for pred in PREDICATES {
+        for bits in [1, 2, 7, 8, 63, 64] {
+            comparisons_give(&rt, bits, pred);
+        }
+    }
+    let bit = width(&rt, 1);
+    let byte = width(&rt, 8);
+    let (yes, no) = (number(bit, 1), number(bit, 0));
+    let (one, two) = (number(byte, 1), number(byte, 2));
+    assert_eq!(rt; compare(Eq, byte, Value::Poison, one), Value::Poison);
+    assert_eq!(rt; compare(Ne, byte, one, Value::Poison), Value::Poison);
+    assert_eq!(rt; choose(yes, one, two), one);
+    assert_eq!(rt; choose(no, one, two), two);
+    assert_eq!(rt; choose(yes, one, Value::Poison), one);
+    assert_eq!(rt; choose(no, Value::Poison, two), two);
+    assert_eq!(rt; choose(no, one, Value::Poison), Value::Poison);
+    assert_eq!(rt; choose(Value::Poison, one, one), Value::Poison);
+}

@@ -1,0 +1,88 @@
+//! How large the clause sets of single gates and small graphs are.
+ghost use Rattle.std.specs.Prelude.{IfOk};
+
+use aig::Aig;
+use circuits::Circuit;
+use clauses::Cnf;
+use cnf_build::clauses_of;
+use std::alloc::{AllocError, Global};
+use std::test::Fail;
+
+/// A root over the inputs a, b and c.
+#[derive(Clone, Copy, Debug)]
+enum Root {
+    And,
+    Xor,
+    Mux,
+    /// Not both of a and b.
+    NotBoth,
+    One,
+    /// The input b alone.
+    Input,
+    /// Both of a and the constant that is true.
+    AndOne,
+    /// Whether a, b and c have an odd sum.
+    Odd,
+}
+
+/// Builds three inputs, a gate that no root names, and the root.
+fn build<C: Circuit>(alloc: Global, circuit: &mut C, root: Root) -> Result<C::Literal, AllocError>
+    ensures { IfOk result (λ made. C.has_literal circuit.new made) }
+{
+    let a = circuit.input(alloc)?;
+    let b = circuit.input(alloc)?;
+    let c = circuit.input(alloc)?;
+    circuit.and(alloc, b, c)?;
+    match root {
+        Root::And => circuit.and(alloc, a, b),
+        Root::Xor => circuit.xor(alloc, a, b),
+        Root::Mux => circuit.mux(alloc, a, b, c),
+        Root::NotBoth => {
+            let both = circuit.and(alloc, a, b)?;
+            Ok(circuit.not(both))
+        }
+        Root::One => Ok(circuit.one()),
+        Root::Input => Ok(b),
+        Root::AndOne => {
+            let one = circuit.one();
+            circuit.and(alloc, a, one)
+        }
+        Root::Odd => {
+            let odd = circuit.xor(alloc, a, b)?;
+            circuit.xor(alloc, odd, c)
+        }
+    }
+}
+
+/// The root's clause set, if its graph has three inputs and at most three gates.
+fn encoded(alloc: Global, root: Root) -> Result<Option<Cnf>, AllocError> {
+    let mut aig = Aig::new(alloc);
+    let literal = build(alloc, &mut aig, root)?;
+    if aig.input_count() != 3 || aig.gates().len() > 3 {
+        return Ok(None);
+    }
+    Ok(Some(clauses_of(alloc, &aig, literal)?))
+}
+
+/// A root, and how many variables and clauses its set has: variables for the inputs, for the gates that the root
+/// needs, and for the constant where it is used.
+const SIZES: [(Root, u32, u32); 8] = [
+    (Root::And, 4, 4),
+    (Root::Xor, 4, 5),
+    (Root::Mux, 4, 5),
+    (Root::NotBoth, 4, 4),
+    (Root::One, 4, 2),
+    (Root::Input, 3, 1),
+    (Root::AndOne, 5, 5),
+    (Root::Odd, 5, 9),
+];
+
+#[test]
+fn sets_name_only_what_is_needed(rt: HostRuntime) -> Result<(), Fail> {
+    for (root, variables, clauses) in SIZES {
+        let set = encoded(rt.alloc(), root)?.ok_or("too many inputs or gates")?;
+        assert_eq!(rt; set.count, variables, "{root:?}");
+        assert_eq!(rt; set.clause_count(), clauses, "{root:?}");
+    }
+    Ok(())
+}

@@ -1,0 +1,7 @@
+//! Texts of modules, and what becomes of them, worked out by hand.
+
+mod assigned;
+mod refused;
+mod runs;
+mod tokens;
+mod written;

@@ -1,0 +1,148 @@
+//! Twelve rules, read and decided, whose verdicts another program found by enumerating their settings.
+ghost use Rattle.std.specs.Prelude.{IfOk, All};
+ghost use Rattle.verdict.specs.Findings.{IsReadRule};
+
+use lists::List;
+use ops::Width;
+use rule_core::Rule;
+use rule_reader::read_rules;
+use std::alloc::Global;
+use std::test::Fail;
+use verdict::{Verdict, Verified, verify};
+
+const RULES: &str = "Name: or-as-add-1
+%a = and i1 %x, %y
+%o = or i1 %x, %y
+%r = add i1 %a, %o
+=>
+%r = add i1 %x, %y
+
+Name: or-as-xor-1
+%a = and i1 %x, %y
+%o = or i1 %x, %y
+%r = sub i1 %o, %a
+=>
+%r = xor i1 %x, %y
+
+Name: and-or-absorb-1
+%o = or i1 %x, %y
+%r = and i1 %x, %o
+=>
+%r = i1 %x
+
+Name: sub-self-3
+%r = sub i3 %x, %x
+=>
+%r = i3 0
+
+Name: wrong-or-as-add-3
+%r = or i3 %x, %y
+=>
+%r = add i3 %x, %y
+
+Name: wrong-distribute-3
+%o = add i3 %x, %y
+%r = and i3 %o, %z
+=>
+%a = and i3 %x, %z
+%b = and i3 %y, %z
+%r = add i3 %a, %b
+
+Name: drops-poison-3
+%a = and i3 %x, 0
+%r = or i3 %a, %y
+=>
+%r = i3 %y
+
+Name: low-bit-3
+%a = sub i3 0, %x
+%r = and i3 %a, %x
+=>
+%m = add i3 %x, -1
+%n = xor i3 %m, -1
+%r = and i3 %n, %x
+
+Name: not-as-neg-5
+%n = xor i5 %x, -1
+%r = add i5 %n, 1
+=>
+%r = sub i5 0, %x
+
+Name: wrong-distribute-5
+%o = add i5 %x, %y
+%r = and i5 %o, %z
+=>
+%a = and i5 %x, %z
+%b = and i5 %y, %z
+%r = add i5 %a, %b
+
+Name: add-sub-5
+%a = add i5 %x, %y
+%r = sub i5 %a, %x
+=>
+%r = i5 %y
+
+Name: neg-neg-8
+%n = sub i8 0, %x
+%r = sub i8 0, %n
+=>
+%r = i8 %x
+";
+
+/// The verdict on each rule.
+const VERDICTS: [&str; 12] = [
+    "admitted", "admitted", "admitted", "admitted", "refuted", "refuted", "admitted", "admitted",
+    "admitted", "refuted", "admitted", "admitted",
+];
+
+/// The most rules that are decided here.
+const MOST_RULES: usize = 100;
+
+/// The rules of a text.
+pub(crate) fn rules_of(alloc: Global, text: &[u8]) -> Result<Vec<Rule>, Fail>
+    ensures { IfOk result (λ rules. All IsReadRule rules.items) }
+{
+    match read_rules(alloc, text) {
+        Ok(rules) => Ok(rules),
+        Err(_) => Err("no rule file")?,
+    }
+}
+
+/// The verdicts on the rules of a text over widths.
+pub(crate) fn verified(alloc: Global, text: &[u8], widths: &List<Width>) -> Result<Verified, Fail> {
+    let rules = rules_of(alloc, text)?;
+    if rules.len() > MOST_RULES {
+        return Err("too many rules")?;
+    }
+    Ok(verify(alloc, rules.as_slice(), widths, 20_000)?)
+}
+
+/// The widths from one to another.
+pub(crate) fn widths(alloc: Global, least: u32, most: u32) -> Result<List<Width>, Fail> {
+    let mut widths = List::new(alloc);
+    for bits in least..=most {
+        widths.push(Width::new(bits).ok_or("no width")?)?;
+    }
+    Ok(widths)
+}
+
+/// What the program calls a verdict.
+fn word(verdict: &Verdict) -> &'static str {
+    match verdict {
+        Verdict::Admitted => "admitted",
+        Verdict::Refuted(_) => "refuted",
+        Verdict::WitnessFails(_) => "witness fails",
+        Verdict::Budget(_) => "budget",
+    }
+}
+
+#[test]
+fn rules_have_their_verdicts(rt: HostRuntime) -> Result<(), Fail> {
+    let verified = verified(rt.alloc(), RULES.as_bytes(), &List::new(rt.alloc()))?;
+    let rows = verified.table.as_slice();
+    assert_eq!(rt; rows.len(), VERDICTS.len());
+    for (row, verdict) in rows.iter().zip(&VERDICTS) {
+        assert_eq!(rt; word(&row.verdict), *verdict, "rule {}", row.rule);
+    }
+    Ok(())
+}

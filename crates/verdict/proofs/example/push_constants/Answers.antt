@@ -1,0 +1,15 @@
+use Rattle.std.proofs.Common.{rules}
+use Rattle.verdict.specs.Texts.{line_text, constants_text}
+use Rattle.ops.specs.declared.value.Value.TheVariants.{Bits}
+use Rattle.verdict.proofs.Lines.{pair_more, pairs_end}
+use Rattle.verdict.proofs.example.push_constants.Goals as goal
+
+pub loop-name-preserved : goal.loop-name-preserved
+unfolding constants_text
+loop-name-preserved c =
+    pair_more (λ line. line_text line.0 (Bits line.1)) c.loop-name.name-iterator c.next.new.self c.next.result (c.in-Some.name, c.in-Some.number) c.loop-name.out.items c.push_line.new.out.items _ c.in-Some.is c.next.ensures.steps c.loop-name.invariant (search rules)
+
+pub returns : goal.returns
+unfolding constants_text
+returns c =
+    pairs_end (λ line. line_text line.0 (Bits line.1)) c.loop-name.name-iterator c.next.new.self c.next.result c.loop-name.out.items _ c.in-None.is c.next.ensures.steps c.loop-name.invariant

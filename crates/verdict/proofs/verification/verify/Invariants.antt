@@ -1,0 +1,6 @@
+use Rattle.std.proofs.Common.{take}
+use Rattle.verdict.specs.Verified.{IsVerified}
+use Rattle.verdict.proofs.verification.verify.Given as goal
+
+abbrev pub invariant-loop-place : goal.invariant-loop-place
+invariant-loop-place l = IsVerified (take l.place l.rules) l.widths l.conflicts l.verified

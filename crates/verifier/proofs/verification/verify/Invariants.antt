@@ -1,6 +1,0 @@
-use Rattle.std.proofs.Common.{take}
-use Rattle.verifier.specs.Verified.{IsVerified}
-use Rattle.verifier.proofs.verification.verify.Given as goal
-
-abbrev pub invariant-loop-place : goal.invariant-loop-place
-invariant-loop-place l = IsVerified (take l.place l.rules) l.widths l.conflicts l.verified

@@ -1,6 +1,0 @@
-use Rattle.std.proofs.Common.{◌≡◌, ◌++◌, take, decimal, map}
-use Rattle.std.specs.List.{join_with_byte}
-use Rattle.verifier.proofs.words.push_widths.Given as goal
-
-abbrev pub invariant-loop-place : goal.invariant-loop-place
-invariant-loop-place l = l.out.items ≡ l.fn.out.items ++ join_with_byte 32 (map decimal (take l.place l.widths))

@@ -1,4 +1,0 @@
-pub mod Texts
-pub mod Findings
-pub mod Additions
-pub mod Verified
