@@ -7,6 +7,7 @@ use Rattle.ops.specs.Number.{Number}
 use Rattle.ops.specs.declared.value.Value.TheVariants.{Poison}
 use Rattle.ops.specs.declared.value.Effect.{Effect}
 use Rattle.ops.specs.declared.value.Effect.TheVariants as effects
+use Rattle.circuits.specs.declared.state.State.{Ghosts}
 use Rattle.circuits.specs.Circuit.{Keeps}
 use Rattle.circuits.proofs.Kept.{Keeps-trans}
 use Rattle.rule_core.specs.declared.rule.Rule.{Rule}
@@ -46,71 +47,71 @@ choices_same rule typing setting held (n ∷ places) =
     let width : slice_index (term_widths typing rule.witness_terms) n ≡ witness_width rule typing n = width_at_place typing rule.witness_terms n in
     rw (width, rest) refl
 
-module _ {C L : Type 0} {has_literal : C → L → Type 0} {admits : C → List Bool → Type 0} {value : C → List Bool → L → Bool} {a b : C} (keeps : Keeps has_literal admits value a b) (read : List Bool) (admitted : admits a read)
+module _ {C L : Type 0} {state : Ghosts C L} {a b : C} (keeps : Keeps state a b) (read : List Bool) (admitted : state.admits a read)
     (rule : Rule) (typing : List ℕ) (checked : IsRule rule) (inputs source : List (Held L)) (constants undefs terms : List (List L)) (u : L)
-    (own_inputs : All (IsOwn (has_literal a)) inputs) (own_constants : All (All (has_literal a)) constants) (own_undefs : All (All (has_literal a)) undefs) where
+    (own_inputs : All (IsOwn (state.has_literal a)) inputs) (own_constants : All (All (state.has_literal a)) constants) (own_undefs : All (All (state.has_literal a)) undefs) where
   abbrev at : Setting
-  at = record { inputs = map (held_value (value a read)) inputs; constants = map (number_held (value a read)) constants; target_undefs = map (number_held (value a read)) undefs }
+  at = record { inputs = map (held_value (state.value a read)) inputs; constants = map (number_held (state.value a read)) constants; target_undefs = map (number_held (state.value a read)) undefs }
 
   -- how the temporaries end
   abbrev Ran : Type 0
-  Ran = Follows typing (given_by typing at.constants [] rule) holding_source (temporaries_of rule) (holds (value b read) inputs [] []) (ending (value b read u) (holds (value b read) inputs source []))
+  Ran = Follows typing (given_by typing at.constants [] rule) holding_source (temporaries_of rule) (holds (state.value b read) inputs [] []) (ending (state.value b read u) (holds (state.value b read) inputs source []))
 
-  pub temporaries_end : Ran → TemporariesEnd typing at.constants rule at.inputs (ending (value b read u) (holds (value b read) inputs source []))
-  temporaries_end ran = subst (λ vs. Follows typing (given_by typing at.constants [] rule) holding_source (temporaries_of rule) (at_start vs) (ending (value b read u) (holds (value b read) inputs source [])))
+  pub temporaries_end : Ran → TemporariesEnd typing at.constants rule at.inputs (ending (state.value b read u) (holds (state.value b read) inputs source []))
+  temporaries_end ran = subst (λ vs. Follows typing (given_by typing at.constants [] rule) holding_source (temporaries_of rule) (at_start vs) (ending (state.value b read u) (holds (state.value b read) inputs source [])))
       (values-kept keeps read admitted inputs own_inputs) ran
 
   -- and what `Wit:` chooses then
-  pub chooses : Ran → (before : Scope L) → Reads before inputs source [] constants undefs terms → (words : List Number) → ((names : Meanings) → MeansNames (value b read) before names → words ≡ numbers_chosen typing names rule) → Chooses rule typing at words
+  pub chooses : Ran → (before : Scope L) → Reads before inputs source [] constants undefs terms → (words : List Number) → ((names : Meanings) → MeansNames (state.value b read) before names → words ≡ numbers_chosen typing names rule) → Chooses rule typing at words
   chooses ran before reads words numbers held ends =
-      let once = follows_once typing (given_by typing at.constants [] rule) holding_source (temporaries_of rule) (at_start at.inputs) (ending (value b read u) (holds (value b read) inputs source [])) (Holds held) (temporaries_end ran) ends in
-      let is : holds (value b read) inputs source [] ≡ held = ended (value b read u) (holds (value b read) inputs source []) held once in
-      let same : seen (value b read) before ≡ held = seen_of before inputs source [] constants undefs terms reads (value b read) ∙ is in
+      let once = follows_once typing (given_by typing at.constants [] rule) holding_source (temporaries_of rule) (at_start at.inputs) (ending (state.value b read u) (holds (state.value b read) inputs source [])) (Holds held) (temporaries_end ran) ends in
+      let is : holds (state.value b read) inputs source [] ≡ held = ended (state.value b read u) (holds (state.value b read) inputs source []) held once in
+      let same : seen (state.value b read) before ≡ held = seen_of before inputs source [] constants undefs terms reads (state.value b read) ∙ is in
       numbers (meanings_at at held) (record {
-        constants = sym (ap (map (number_held (value b read))) reads.constants_are ∙ numbers_held-kept keeps read admitted constants own_constants);
-        undefs = sym (ap (map (number_held (value b read))) reads.choices_are ∙ numbers_held-kept keeps read admitted undefs own_undefs);
+        constants = sym (ap (map (number_held (state.value b read))) reads.constants_are ∙ numbers_held-kept keeps read admitted constants own_constants);
+        undefs = sym (ap (map (number_held (state.value b read))) reads.choices_are ∙ numbers_held-kept keeps read admitted undefs own_undefs);
         registers = λ r. ap (λ (h : Registry). unwrap_or (value_of h r) Poison) (sym same);
       }) ∙ choices_same rule typing at held rule.witnesses
 
   -- what statements are given beside registers
-  pub is_given : (s : Scope L) (held_inputs held_source held_target : List (Held L)) (words : List (List L)) → Reads s held_inputs held_source held_target constants words terms → (choices : List Number) → choices ≡ map (number_held (value b read)) words
-      → AreTerms (value a read) rule typing at.constants terms → All (All (has_literal a)) terms → IsGiven (value b read) s (given_by typing at.constants choices rule)
+  pub is_given : (s : Scope L) (held_inputs held_source held_target : List (Held L)) (words : List (List L)) → Reads s held_inputs held_source held_target constants words terms → (choices : List Number) → choices ≡ map (number_held (state.value b read)) words
+      → AreTerms (state.value a read) rule typing at.constants terms → All (All (state.has_literal a)) terms → IsGiven (state.value b read) s (given_by typing at.constants choices rule)
   is_given s held_inputs held_source held_target words reads choices is terms_are own_terms =
-      given_of s held_inputs held_source held_target constants words terms reads (value b read) (given_by typing at.constants choices rule)
+      given_of s held_inputs held_source held_target constants words terms reads (state.value b read) (given_by typing at.constants choices rule)
       (sym (numbers_held-kept keeps read admitted constants own_constants)) is (sym terms_are ∙ sym (numbers_of-kept keeps read admitted terms own_terms))
 
-  module _ {m d e : C} (second : Keeps has_literal admits value b m) (third : Keeps has_literal admits value m d) (fourth : Keeps has_literal admits value d e) (own_source : All (IsOwn (has_literal b)) source) (own_u : has_literal b u) (ran : Ran) where
-    b_admitted : admits b read
+  module _ {m d e : C} (second : Keeps state b m) (third : Keeps state m d) (fourth : Keeps state d e) (own_source : All (IsOwn (state.has_literal b)) source) (own_u : state.has_literal b u) (ran : Ran) where
+    b_admitted : state.admits b read
     b_admitted = keeps.admitted read admitted
 
-    d_admitted : admits d read
+    d_admitted : state.admits d read
     d_admitted = third.admitted read (second.admitted read b_admitted)
 
     -- the source's effect is its root's after the temporaries
-    pub source_effect : (choices : List Number) (root : Statement) (made : Blasted L) → rule.source ≡ temporaries_of rule ++ root ∷ [] → IsOwnEffect (has_literal d) made → (value m read u ≡ true → value d read made.undefined ≡ true)
-        → (value m read u ≡ false → StatementGives typing (given_by typing at.constants choices rule) (holds (value d read) inputs source []) root (effect_of (value d read) made))
-        → SourceGives typing at.constants choices rule at.inputs (effect_of (value e read) made)
+    pub source_effect : (choices : List Number) (root : Statement) (made : Blasted L) → rule.source ≡ temporaries_of rule ++ root ∷ [] → IsOwnEffect (state.has_literal d) made → (state.value m read u ≡ true → state.value d read made.undefined ≡ true)
+        → (state.value m read u ≡ false → StatementGives typing (given_by typing at.constants choices rule) (holds (state.value d read) inputs source []) root (effect_of (state.value d read) made))
+        → SourceGives typing at.constants choices rule at.inputs (effect_of (state.value e read) made)
     source_effect choices root made parts own stays gives =
         let next = Keeps-trans second third in
-        let u_same : value m read u ≡ value b read u = second.values read u b_admitted own_u in
+        let u_same : state.value m read u ≡ state.value b read u = second.values read u b_admitted own_u in
         let inputs_same = values-kept next read b_admitted inputs (AllOwn-kept keeps inputs own_inputs) in
         let source_same = values-kept next read b_admitted source own_source in
         let whole = values-kept (Keeps-trans keeps next) read admitted inputs own_inputs in
-        let now : Registry = holds (value d read) inputs source [] in
-        let ran_now : Follows typing (given_by typing at.constants [] rule) holding_source (temporaries_of rule) (at_start (map (held_value (value d read)) inputs)) (ending (value b read u) now) = rw (inputs_same, source_same) ran in
-        let effect_now = source-gives typing at.constants choices rule (map (held_value (value d read)) inputs) (map (held_value (value d read)) source) root (value b read u) (value d read made.undefined) (held_value (value d read) (held_after made)) parts
-        (temporaries_same rule typing at.constants choices checked (at_start (map (held_value (value d read)) inputs)) (ending (value b read u) now) ran_now)
+        let now : Registry = holds (state.value d read) inputs source [] in
+        let ran_now : Follows typing (given_by typing at.constants [] rule) holding_source (temporaries_of rule) (at_start (map (held_value (state.value d read)) inputs)) (ending (state.value b read u) now) = rw (inputs_same, source_same) ran in
+        let effect_now = source-gives typing at.constants choices rule (map (held_value (state.value d read)) inputs) (map (held_value (state.value d read)) source) root (state.value b read u) (state.value d read made.undefined) (held_value (state.value d read) (held_after made)) parts
+        (temporaries_same rule typing at.constants choices checked (at_start (map (held_value (state.value d read)) inputs)) (ending (state.value b read u) now) ran_now)
         (λ is. stays (u_same ∙ is)) (λ is. gives (u_same ∙ is)) in
         subst (λ e'. SourceGives typing at.constants choices rule at.inputs e') (sym (effect_of-kept fourth read d_admitted made own))
-        (subst (λ vs. SourceGives typing at.constants choices rule vs (effect_of (value d read) made)) whole effect_now)
+        (subst (λ vs. SourceGives typing at.constants choices rule vs (effect_of (state.value d read) made)) whole effect_now)
 
     -- and the target's is that of its statements
-    pub target_effect : (after : Effect) (made : Blasted L) → TargetGoesOn typing at.constants at.target_undefs rule (holds (value m read) inputs source []) after → effect_of (value e read) made ≡ (if value d read u then effects.Undefined else after)
-        → TargetGives typing at.constants at.target_undefs rule at.inputs (effect_of (value e read) made)
+    pub target_effect : (after : Effect) (made : Blasted L) → TargetGoesOn typing at.constants at.target_undefs rule (holds (state.value m read) inputs source []) after → effect_of (state.value e read) made ≡ (if state.value d read u then effects.Undefined else after)
+        → TargetGives typing at.constants at.target_undefs rule at.inputs (effect_of (state.value e read) made)
     target_effect after made goes is =
-        let u_same : value d read u ≡ value b read u = (Keeps-trans second third).values read u b_admitted own_u in
+        let u_same : state.value d read u ≡ state.value b read u = (Keeps-trans second third).values read u b_admitted own_u in
         let inputs_same = values-kept second read b_admitted inputs (AllOwn-kept keeps inputs own_inputs) in
         let source_same = values-kept second read b_admitted source own_source in
-        let goes_on : TargetGoesOn typing at.constants at.target_undefs rule (holds (value b read) inputs source []) after = rw (inputs_same, source_same) at goes in
-        target-gives typing at.constants at.target_undefs rule at.inputs (holds (value b read) inputs source []) (value b read u) after (effect_of (value e read) made) (temporaries_end ran) goes_on
+        let goes_on : TargetGoesOn typing at.constants at.target_undefs rule (holds (state.value b read) inputs source []) after = rw (inputs_same, source_same) at goes in
+        target-gives typing at.constants at.target_undefs rule at.inputs (holds (state.value b read) inputs source []) (state.value b read u) after (effect_of (state.value e read) made) (temporaries_end ran) goes_on
         (is ∙ ap (λ x. if x then effects.Undefined else after) u_same)

@@ -1,5 +1,6 @@
 -- What a circuit that keeps its older literals keeps of what statements read beside registers.
 use Rattle.std.proofs.Common.{Bool, List, sym, ◌∙◌}
+use Rattle.circuits.specs.declared.state.State.{Ghosts}
 use Rattle.circuits.specs.Circuit.{Keeps}
 use Rattle.rule_core.specs.Run.{Given}
 use Rattle.blast_value.proofs.Kept.{numbers_held-kept, numbers_of-kept}
@@ -7,8 +8,8 @@ use Rattle.blast_term.specs.declared.scope.Scope.{Scope}
 use Rattle.blast_term.specs.Scope.{ScopeIsOwn}
 use Rattle.blast_rule.specs.Runs.{IsGiven}
 
-module _ {C L : Type 0} {has_literal : C → L → Type 0} {admits : C → List Bool → Type 0} {value : C → List Bool → L → Bool} {old new : C} (keeps : Keeps has_literal admits value old new) where
-  pub given-kept : (inputs : List Bool) → admits old inputs → (s : Scope L) (given : Given) → ScopeIsOwn (has_literal old) s → IsGiven (value old inputs) s given → IsGiven (value new inputs) s given
+module _ {C L : Type 0} {state : Ghosts C L} {old new : C} (keeps : Keeps state old new) where
+  pub given-kept : (inputs : List Bool) → state.admits old inputs → (s : Scope L) (given : Given) → ScopeIsOwn (state.has_literal old) s → IsGiven (state.value old inputs) s given → IsGiven (state.value new inputs) s given
   given-kept inputs admitted s given own is = record {
     constants = is.constants ∙ sym (numbers_held-kept keeps inputs admitted s.constants.now own.constants);
     choices = is.choices ∙ sym (numbers_held-kept keeps inputs admitted s.choices.now own.choices);

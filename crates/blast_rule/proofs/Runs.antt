@@ -7,6 +7,7 @@ use Rattle.std.proofs.lemmas.List.Sums.{sum_by_push, sum_by-cons}
 use Rattle.std.proofs.lemmas.Nat.{pow_pos}
 use Rattle.std.proofs.lemmas.Option.{same_Some, slice_get-get_or, slice_get_within, get_or_from_slice_get}
 use Rattle.ops.specs.Value.{IsValueOf}
+use Rattle.circuits.specs.declared.state.State.{Ghosts}
 use Rattle.circuits.specs.Circuit.{Keeps}
 use Rattle.rule_core.specs.declared.rule.Statement.{Statement}
 use Rattle.rule_core.specs.Run.{Given, StatementGives, Follows, holding_source, holding_target}
@@ -53,9 +54,9 @@ shapes_fit-push typing statements items i s held fit count at width =
 pub stands : (statements slice : List Statement) (i : ℕ) (s : Statement) → slice ≡ statements → i < length statements → s ≡ get_or slice i s → slice_get statements i ≡ Some s
 stands statements slice i s same within is = slice_get-get_or statements i s within ∙ ap (λ x. Some x) (sym (rw same at is))
 
-module _ {C L : Type 0} {has_literal : C → L → Type 0} {admits : C → List Bool → Type 0} {value : C → List Bool → L → Bool} {now next : C} (keeps : Keeps has_literal admits value now next) (read : List Bool) (admitted : admits now read)
-    (inputs source : List (Held L)) (own_inputs : All (IsOwn (has_literal now)) inputs) (own_source : All (IsOwn (has_literal now)) source) where
-  pub holds-kept : (target : List (Held L)) → All (IsOwn (has_literal now)) target → holds (value next read) inputs source target ≡ holds (value now read) inputs source target
+module _ {C L : Type 0} {state : Ghosts C L} {now next : C} (keeps : Keeps state now next) (read : List Bool) (admitted : state.admits now read)
+    (inputs source : List (Held L)) (own_inputs : All (IsOwn (state.has_literal now)) inputs) (own_source : All (IsOwn (state.has_literal now)) source) where
+  pub holds-kept : (target : List (Held L)) → All (IsOwn (state.has_literal now)) target → holds (state.value next read) inputs source target ≡ holds (state.value now read) inputs source target
   holds-kept target own = rw (values-kept keeps read admitted inputs own_inputs, values-kept keeps read admitted source own_source, values-kept keeps read admitted target own) refl
 
 -- registers that hold nothing are a circuit's
@@ -66,30 +67,30 @@ pub own_last : {X : Type 0} (P : X → Type 0) (xs : List X) (x : X) → All P x
 own_last P xs x all at = subst P (get_or_from_slice_get xs (length xs - 1) x x at) (all (length xs - 1) x (slice_get_within xs (length xs - 1) x at))
 
 -- a statement after those that have run
-module _ {C L : Type 0} {has_literal : C → L → Type 0} {admits : C → List Bool → Type 0} {value : C → List Bool → L → Bool} {now next : C} (keeps : Keeps has_literal admits value now next) (read : List Bool) (admitted : admits now read)
+module _ {C L : Type 0} {state : Ghosts C L} {now next : C} (keeps : Keeps state now next) (read : List Bool) (admitted : state.admits now read)
     (typing : List ℕ) (given : Given) (statements : List Statement) (i : ℕ) (s : Statement) (within : i < length statements) (is : s ≡ get_or statements i s) (inputs items : List (Held L)) (before : L) (made : Blasted L)
-    (own_inputs : All (IsOwn (has_literal now)) inputs) (own_items : All (IsOwn (has_literal now)) items)
-    (stays : value now read before ≡ true → value next read made.undefined ≡ true) where
+    (own_inputs : All (IsOwn (state.has_literal now)) inputs) (own_items : All (IsOwn (state.has_literal now)) items)
+    (stays : state.value now read before ≡ true → state.value next read made.undefined ≡ true) where
   more : take (i + 1) statements ≡ take i statements ++ s ∷ []
   more = take_more statements i s within ∙ ap (λ x. take i statements ++ x ∷ []) (sym is)
 
-  pub source_more : Follows typing given holding_source (take i statements) (holds (value now read) inputs [] []) (ending (value now read before) (holds (value now read) inputs items []))
-      → (value now read before ≡ false → StatementGives typing given (holds (value next read) inputs items []) s (effect_of (value next read) made))
-      → Follows typing given holding_source (take (i + 1) statements) (holds (value next read) inputs [] []) (ending (value next read made.undefined) (holds (value next read) inputs (items ++ held_after made ∷ []) []))
+  pub source_more : Follows typing given holding_source (take i statements) (holds (state.value now read) inputs [] []) (ending (state.value now read before) (holds (state.value now read) inputs items []))
+      → (state.value now read before ≡ false → StatementGives typing given (holds (state.value next read) inputs items []) s (effect_of (state.value next read) made))
+      → Follows typing given holding_source (take (i + 1) statements) (holds (state.value next read) inputs [] []) (ending (state.value next read made.undefined) (holds (state.value next read) inputs (items ++ held_after made ∷ []) []))
   source_more ran gives =
-      let ran' = rw (← holds-kept keeps read admitted inputs [] own_inputs (own_none (IsOwn (has_literal now))) [] (own_none (IsOwn (has_literal now))), ← holds-kept keeps read admitted inputs items own_inputs own_items [] (own_none (IsOwn (has_literal now)))) at ran in
+      let ran' = rw (← holds-kept keeps read admitted inputs [] own_inputs (own_none (IsOwn (state.has_literal now))) [] (own_none (IsOwn (state.has_literal now))), ← holds-kept keeps read admitted inputs items own_inputs own_items [] (own_none (IsOwn (state.has_literal now)))) at ran in
       rw more
-      (follows-push typing given holding_source (take i statements) s (holds (value next read) inputs [] []) (holds (value next read) inputs items []) (holds (value next read) inputs (items ++ held_after made ∷ []) [])
-      (value now read before) (value next read made.undefined) (held_value (value next read) (held_after made)) ran' stays gives
-      (rw (map-append (held_value (value next read)) items (held_after made ∷ [])) refl))
+      (follows-push typing given holding_source (take i statements) s (holds (state.value next read) inputs [] []) (holds (state.value next read) inputs items []) (holds (state.value next read) inputs (items ++ held_after made ∷ []) [])
+      (state.value now read before) (state.value next read made.undefined) (held_value (state.value next read) (held_after made)) ran' stays gives
+      (rw (map-append (held_value (state.value next read)) items (held_after made ∷ [])) refl))
 
-  pub target_more : (source : List (Held L)) → All (IsOwn (has_literal now)) source
-      → Follows typing given holding_target (take i statements) (holds (value now read) inputs source []) (ending (value now read before) (holds (value now read) inputs source items))
-      → (value now read before ≡ false → StatementGives typing given (holds (value next read) inputs source items) s (effect_of (value next read) made))
-      → Follows typing given holding_target (take (i + 1) statements) (holds (value next read) inputs source []) (ending (value next read made.undefined) (holds (value next read) inputs source (items ++ held_after made ∷ [])))
+  pub target_more : (source : List (Held L)) → All (IsOwn (state.has_literal now)) source
+      → Follows typing given holding_target (take i statements) (holds (state.value now read) inputs source []) (ending (state.value now read before) (holds (state.value now read) inputs source items))
+      → (state.value now read before ≡ false → StatementGives typing given (holds (state.value next read) inputs source items) s (effect_of (state.value next read) made))
+      → Follows typing given holding_target (take (i + 1) statements) (holds (state.value next read) inputs source []) (ending (state.value next read made.undefined) (holds (state.value next read) inputs source (items ++ held_after made ∷ [])))
   target_more source own_source ran gives =
-      let ran' = rw (← holds-kept keeps read admitted inputs source own_inputs own_source [] (own_none (IsOwn (has_literal now))), ← holds-kept keeps read admitted inputs source own_inputs own_source items own_items) at ran in
+      let ran' = rw (← holds-kept keeps read admitted inputs source own_inputs own_source [] (own_none (IsOwn (state.has_literal now))), ← holds-kept keeps read admitted inputs source own_inputs own_source items own_items) at ran in
       rw more
-      (follows-push typing given holding_target (take i statements) s (holds (value next read) inputs source []) (holds (value next read) inputs source items) (holds (value next read) inputs source (items ++ held_after made ∷ []))
-      (value now read before) (value next read made.undefined) (held_value (value next read) (held_after made)) ran' stays gives
-      (rw (map-append (held_value (value next read)) items (held_after made ∷ [])) refl))
+      (follows-push typing given holding_target (take i statements) s (holds (state.value next read) inputs source []) (holds (state.value next read) inputs source items) (holds (state.value next read) inputs source (items ++ held_after made ∷ []))
+      (state.value now read before) (state.value next read made.undefined) (held_value (state.value next read) (held_after made)) ran' stays gives
+      (rw (map-append (held_value (state.value next read)) items (held_after made ∷ [])) refl))

@@ -10,6 +10,7 @@ use Rattle.ops.specs.declared.value.Value.{Value}
 use Rattle.ops.specs.declared.value.Value.TheVariants.{Poison}
 use Rattle.ops.specs.declared.value.Effect.{Effect}
 use Rattle.ops.specs.declared.value.Effect.TheVariants as effects
+use Rattle.circuits.specs.declared.state.State.{Ghosts}
 use Rattle.circuits.specs.Circuit.{Keeps}
 use Rattle.circuits.specs.Word.{number_of}
 use Rattle.rule_core.specs.declared.rule.Statement.{Statement}
@@ -152,11 +153,11 @@ pub copy_gives : (typing : List ℕ) (given : Given) (held : Registry) (s : Stat
     → s.op ≡ Copy a → OperandGives typing given held a x → e ≡ effects.Gives x → StatementGives typing given held s e
 copy_gives typing given held s N at a x e is gives same = (N, at, subst (λ o. OpGives typing given held N o e) (sym is) (x, gives, same))
 
-module _ {C L : Type 0} {has_literal : C → L → Type 0} {admits : C → List Bool → Type 0} {value : C → List Bool → L → Bool} {old new : C} (keeps : Keeps has_literal admits value old new) (inputs : List Bool) (admitted : admits old inputs) where
+module _ {C L : Type 0} {state : Ghosts C L} {old new : C} (keeps : Keeps state old new) (inputs : List Bool) (admitted : state.admits old inputs) where
   -- an effect stays, where its undefined bit is either of it and of one that is false
-  pub effect-next : (made : Blasted L) (before undefined : L) → IsOwnEffect (has_literal old) made → value old inputs before ≡ false → value new inputs undefined ≡ (value old inputs before || value old inputs made.undefined)
-      → effect_of (value new inputs) (record { bits = made.bits; poison = made.poison; undefined = undefined }) ≡ effect_of (value old inputs) made
+  pub effect-next : (made : Blasted L) (before undefined : L) → IsOwnEffect (state.has_literal old) made → state.value old inputs before ≡ false → state.value new inputs undefined ≡ (state.value old inputs before || state.value old inputs made.undefined)
+      → effect_of (state.value new inputs) (record { bits = made.bits; poison = made.poison; undefined = undefined }) ≡ effect_of (state.value old inputs) made
   effect-next made before undefined own none is =
-      let same : value new inputs undefined ≡ value old inputs made.undefined = is ∙ ap (λ b. b || value old inputs made.undefined) none in
+      let same : state.value new inputs undefined ≡ state.value old inputs made.undefined = is ∙ ap (λ b. b || state.value old inputs made.undefined) none in
       let held : Held L = record { bits = made.bits; poison = made.poison } in
       rw (same, held_value-kept keeps inputs admitted held (record { bits = own.bits; poison = own.poison })) refl

@@ -5,6 +5,7 @@ use Rattle.std.specs.List.{All}
 use Rattle.ops.specs.Number.{Number}
 use Rattle.ops.specs.Value.{AllowsEffect}
 use Rattle.ops.specs.declared.value.Effect.{Effect}
+use Rattle.circuits.specs.declared.state.State.{Ghosts}
 use Rattle.circuits.specs.Circuit.{Keeps}
 use Rattle.rule_core.specs.declared.rule.Rule.{Rule}
 use Rattle.rule_core.specs.Typing.{IsTyping}
@@ -44,11 +45,11 @@ refutes one rule typing setting choices source target met refused b checked type
       (is.1 (λ allowed. counter.refused (subst (λ e. AllowsEffect e t) (here.0 ∙ sym there.0) (subst (AllowsEffect source) (here.1 ∙ sym there.1) allowed))))),
 )
 
-module _ {C L : Type 0} {has_literal : C → L → Type 0} {admits : C → List Bool → Type 0} {value : C → List Bool → L → Bool} {old new : C} (keeps : Keeps has_literal admits value old new) where
+module _ {C L : Type 0} {state : Ghosts C L} {old new : C} (keeps : Keeps state old new) where
   -- effects are kept
-  pub effects-kept : (read : List Bool) → admits old read → (rule : Rule) (typing : List ℕ) (setting : Setting) (choices : List (List L)) (source target : Blasted L) → All (All (has_literal old)) choices → IsOwnEffect (has_literal old) source → IsOwnEffect (has_literal old) target
-      → HaveEffects rule typing setting (map (number_held (value old read)) choices) (effect_of (value old read) source) (effect_of (value old read) target)
-      → HaveEffects rule typing setting (map (number_held (value new read)) choices) (effect_of (value new read) source) (effect_of (value new read) target)
+  pub effects-kept : (read : List Bool) → state.admits old read → (rule : Rule) (typing : List ℕ) (setting : Setting) (choices : List (List L)) (source target : Blasted L) → All (All (state.has_literal old)) choices → IsOwnEffect (state.has_literal old) source → IsOwnEffect (state.has_literal old) target
+      → HaveEffects rule typing setting (map (number_held (state.value old read)) choices) (effect_of (state.value old read) source) (effect_of (state.value old read) target)
+      → HaveEffects rule typing setting (map (number_held (state.value new read)) choices) (effect_of (state.value new read) source) (effect_of (state.value new read) target)
   effects-kept read admitted rule typing setting choices source target own own_source own_target have =
       rw (numbers_held-kept keeps read admitted choices own, effect_of-kept keeps read admitted source own_source, effect_of-kept keeps read admitted target own_target) have
 

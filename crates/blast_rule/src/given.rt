@@ -46,7 +46,7 @@ pub(crate) fn blast_given<C: Circuit>(
     ensures widths { IfOk result (λ made. map length made.terms ≡ widths_of_terms rule.now typing.now) }
     ensures own_terms { IfOk result (λ made. All (All (C.has_literal c.new)) made.terms) }
     ensures own_met { IfOk result (λ made. C.has_literal c.new made.met) }
-    ensures adds { Adds C.has_literal C.admits C.value C.inputs_made C.gates_made c.old c.new
+    ensures adds { Adds C.State c.old c.new
         (given_gates rule.now typing.now) }
 {
     let scope = Scope {

@@ -59,7 +59,7 @@ pub(crate) fn blast_halves<C: Circuit>(
     ensures own_choices { IfOk result (λ made. All (All (C.has_literal c.new)) made.choices) }
     ensures own_source { IfOk result (λ made. IsOwnEffect (C.has_literal c.new) made.source) }
     ensures own_target { IfOk result (λ made. IsOwnEffect (C.has_literal c.new) made.target) }
-    ensures adds { Adds C.has_literal C.admits C.value C.inputs_made C.gates_made c.old c.new
+    ensures adds { Adds C.State c.old c.new
         (witness_gates rule.now typing.now + halves_gates rule.now typing.now) }
 {
     let start = scope_of(setting, terms);
@@ -118,7 +118,7 @@ fn after<C: Circuit>(
         ≡ (if C.value c.old inputs before then Undefined else effect_of (C.value c.old inputs) effect)) }
     ensures bits { IfOk result (λ made. made.bits ≡ effect.bits) }
     ensures own { IfOk result (IsOwnEffect (C.has_literal c.new)) }
-    ensures adds { Adds C.has_literal C.admits C.value C.inputs_made C.gates_made c.old c.new 1 }
+    ensures adds { Adds C.State c.old c.new 1 }
 {
     let undefined = or(alloc, c, before, effect.undefined)?;
     Ok(Blasted {

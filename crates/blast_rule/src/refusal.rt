@@ -24,7 +24,7 @@ pub(crate) fn refusal<C: Circuit>(
         IsTrue (C.value c.new inputs refused)
         ↔ ¬ AllowsEffect (effect_of (C.value c.old inputs) source.now) (effect_of (C.value c.old inputs) target.now)) }
     ensures own { IfOk result (λ refused. C.has_literal c.new refused) }
-    ensures adds { Adds C.has_literal C.admits C.value C.inputs_made C.gates_made c.old c.new
+    ensures adds { Adds C.State c.old c.new
         (refusal_gates (length source.now.bits)) }
 {
     let same = equal(alloc, c, &source.bits, &target.bits)?;

@@ -61,7 +61,7 @@ pub fn blast_rule<C: Circuit>(
     ensures inputs { OnOk result ((inputs : Seq Bool) → C.admits c.old inputs →
         drop (C.inputs_made c.new) inputs ≡ drop (input_bits rule.now typing.now) inputs) }
     ensures gates { C.gates_made c.new ≤ C.gates_made c.old + most_gates rule.now typing.now }
-    ensures keeps { Keeps C.has_literal C.admits C.value c.old c.new }
+    ensures keeps { Keeps C.State c.old c.new }
 {
     rule_core::every_rule_has_one_outcome();
     let typing = typing.as_slice();

@@ -38,7 +38,7 @@ pub(crate) fn blast_next<C: Circuit>(
         C.value c.old inputs undefined ≡ true → C.value c.new inputs made.undefined ≡ true) }
     ensures width { IfOk result (λ made. slice_get typing.now statement.now.class ≡ Some (length made.bits)) }
     ensures own { IfOk result (IsOwnEffect (C.has_literal c.new)) }
-    ensures adds { Adds C.has_literal C.admits C.value C.inputs_made C.gates_made c.old c.new
+    ensures adds { Adds C.State c.old c.new
         (statement_gates typing.now statement.now) }
 {
     let Blasted {
@@ -70,7 +70,7 @@ fn blast_statement<C: Circuit>(
         (effect_of (C.value c.new inputs) made)) }
     ensures width { IfOk result (λ made. slice_get typing.now statement.now.class ≡ Some (length made.bits)) }
     ensures own { IfOk result (IsOwnEffect (C.has_literal c.new)) }
-    ensures adds { Adds C.has_literal C.admits C.value C.inputs_made C.gates_made c.old c.new
+    ensures adds { Adds C.State c.old c.new
         (op_gates typing.now (slice_index typing.now statement.now.class) statement.now.op) }
 {
     match statement.op {
@@ -122,7 +122,7 @@ fn blast_instruction<C: Circuit>(
         (effect_of (C.value c.new inputs) made)) }
     ensures width { IfOk result (λ made. slice_get typing.now statement.now.class ≡ Some (length made.bits)) }
     ensures own { IfOk result (IsOwnEffect (C.has_literal c.new)) }
-    ensures adds { Adds C.has_literal C.admits C.value C.inputs_made C.gates_made c.old c.new
+    ensures adds { Adds C.State c.old c.new
         (op_gates typing.now (slice_index typing.now statement.now.class) statement.now.op) }
 {
     let held = operands_held(alloc, c, typing, scope, operands)?;

@@ -44,7 +44,7 @@ pub(crate) fn blast_target<C: Circuit>(
         (effect_of (C.value c.new inputs) made)) }
     ensures width { IfOk result (λ made. length made.bits ≡ root_width rule.now typing.now) }
     ensures own { IfOk result (IsOwnEffect (C.has_literal c.new)) }
-    ensures adds { Adds C.has_literal C.admits C.value C.inputs_made C.gates_made c.old c.new
+    ensures adds { Adds C.State c.old c.new
         (run_gates typing.now rule.now.target) }
 {
     let Assigned { held, undefined } = blast_statements(alloc, c, rule, typing, scope)?;
@@ -90,7 +90,7 @@ fn blast_statements<C: Circuit>(
     ensures fit { IfOk result (λ made. ValuesFit typing.now rule.now.target (map shape made.held.items)) }
     ensures own { IfOk result (λ made. All (IsOwn (C.has_literal c.new)) made.held.items) }
     ensures own_undefined { IfOk result (λ made. C.has_literal c.new made.undefined) }
-    ensures adds { Adds C.has_literal C.admits C.value C.inputs_made C.gates_made c.old c.new
+    ensures adds { Adds C.State c.old c.new
         (run_gates typing.now rule.now.target) }
 {
     let mut held = Vec::new(alloc);

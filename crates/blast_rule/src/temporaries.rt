@@ -48,7 +48,7 @@ pub(crate) fn blast_temporaries<C: Circuit>(
     ensures fit { IfOk result (λ made. ValuesFit typing.now rule.now.source (map shape made.held.items)) }
     ensures own { IfOk result (λ made. All (IsOwn (C.has_literal c.new)) made.held.items) }
     ensures own_undefined { IfOk result (λ made. C.has_literal c.new made.undefined) }
-    ensures adds { Adds C.has_literal C.admits C.value C.inputs_made C.gates_made c.old c.new
+    ensures adds { Adds C.State c.old c.new
         (run_gates typing.now (temporaries_of rule.now)) }
 {
     let mut held = Vec::new(alloc);

@@ -2,6 +2,7 @@
 use Rattle.std.proofs.Common.{◌≡◌, ℕ, ◌+◌, Bool, List, map, drop, sum_by, refl, ap, ◌∙◌}
 use Rattle.std.specs.List.{All}
 use Rattle.std.proofs.lemmas.List.{drop-drop}
+use Rattle.circuits.specs.declared.state.State.{Ghosts}
 use Rattle.circuits.specs.Circuit.{Keeps}
 use Rattle.circuits.proofs.Kept.{Keeps-trans}
 use Rattle.rule_core.specs.declared.rule.Rule.{Rule}
@@ -15,27 +16,27 @@ use Rattle.blast_value.specs.Words.{number_held}
 use Rattle.blast_setting.proofs.Settings.{same_setting}
 use Rattle.blast_value.proofs.Kept.{values-kept, numbers_held-kept, AllAll-kept, AllOwn-kept}
 
-module _ {C L : Type 0} {has_literal : C → L → Type 0} {admits : C → List Bool → Type 0} {value : C → List Bool → L → Bool} (inputs_made : C → ℕ) (rule : Rule) (typing : List ℕ) (start first second third : C)
-    (k1 : Keeps has_literal admits value start first) (k2 : Keeps has_literal admits value first second) (k3 : Keeps has_literal admits value second third) (none : inputs_made start ≡ 0) where
+module _ {C L : Type 0} {state : Ghosts C L} (rule : Rule) (typing : List ℕ) (start first second third : C)
+    (k1 : Keeps state start first) (k2 : Keeps state first second) (k3 : Keeps state second third) (none : state.inputs_made start ≡ 0) where
   -- where the inputs that follow begin
   module _ (iw cw : List ℕ) (is_iw : iw ≡ input_widths rule typing) (is_cw : cw ≡ constant_widths rule typing)
-      (behind1 : (read : List Bool) → admits start read → drop (inputs_made first) read ≡ drop (sum_by value_bits iw) (drop (inputs_made start) read))
-      (behind2 : (read : List Bool) → admits first read → drop (inputs_made second) read ≡ drop (sum_by number_bits cw) (drop (inputs_made first) read)) where
-    pub at_start : (read : List Bool) → drop (inputs_made start) read ≡ read
+      (behind1 : (read : List Bool) → state.admits start read → drop (state.inputs_made first) read ≡ drop (sum_by value_bits iw) (drop (state.inputs_made start) read))
+      (behind2 : (read : List Bool) → state.admits first read → drop (state.inputs_made second) read ≡ drop (sum_by number_bits cw) (drop (state.inputs_made first) read)) where
+    pub at_start : (read : List Bool) → drop (state.inputs_made start) read ≡ read
     at_start read = ap (λ n. drop n read) none
 
-    pub at_constants : (read : List Bool) → admits start read → drop (inputs_made first) read ≡ behind_inputs rule typing read
+    pub at_constants : (read : List Bool) → state.admits start read → drop (state.inputs_made first) read ≡ behind_inputs rule typing read
     at_constants read a = behind1 read a ∙ ap (λ xs. drop (sum_by value_bits iw) xs) (at_start read) ∙ ap (λ (ws : List ℕ). drop (sum_by value_bits ws) read) is_iw
 
-    pub at_undefs : (read : List Bool) → admits start read → drop (inputs_made second) read ≡ behind_constants rule typing read
+    pub at_undefs : (read : List Bool) → state.admits start read → drop (state.inputs_made second) read ≡ behind_constants rule typing read
     at_undefs read a =
         behind2 read (k1.admitted read a) ∙ ap (λ xs. drop (sum_by number_bits cw) xs) (at_constants read a)
         ∙ ap (λ (ws : List ℕ). drop (sum_by number_bits ws) (behind_inputs rule typing read)) is_cw
 
     -- and where those behind the setting do
     pub at_end : (uw : List ℕ) → uw ≡ undef_widths rule typing
-        → ((read : List Bool) → admits second read → drop (inputs_made third) read ≡ drop (sum_by number_bits uw) (drop (inputs_made second) read))
-        → (read : List Bool) → admits start read → drop (inputs_made third) read ≡ drop (input_bits rule typing) read
+        → ((read : List Bool) → state.admits second read → drop (state.inputs_made third) read ≡ drop (sum_by number_bits uw) (drop (state.inputs_made second) read))
+        → (read : List Bool) → state.admits start read → drop (state.inputs_made third) read ≡ drop (input_bits rule typing) read
     at_end uw is_uw behind3 read a =
         let i = sum_by value_bits (input_widths rule typing) in
         let k = sum_by number_bits (constant_widths rule typing) in
@@ -46,27 +47,27 @@ module _ {C L : Type 0} {has_literal : C → L → Type 0} {admits : C → List 
 
     -- the literals stand for the setting that is read
     pub setting_made : (uw : List ℕ) → uw ≡ undef_widths rule typing → (inputs : List (Held L)) (constants undefs : List (List L))
-        → All (IsOwn (has_literal first)) inputs → All (All (has_literal second)) constants
-        → ((read : List Bool) → admits start read → map (held_value (value first read)) inputs ≡ values_read iw (drop (inputs_made start) read))
-        → ((read : List Bool) → admits first read → map (number_held (value second read)) constants ≡ numbers_read cw (drop (inputs_made first) read))
-        → ((read : List Bool) → admits second read → map (number_held (value third read)) undefs ≡ numbers_read uw (drop (inputs_made second) read))
+        → All (IsOwn (state.has_literal first)) inputs → All (All (state.has_literal second)) constants
+        → ((read : List Bool) → state.admits start read → map (held_value (state.value first read)) inputs ≡ values_read iw (drop (state.inputs_made start) read))
+        → ((read : List Bool) → state.admits first read → map (number_held (state.value second read)) constants ≡ numbers_read cw (drop (state.inputs_made first) read))
+        → ((read : List Bool) → state.admits second read → map (number_held (state.value third read)) undefs ≡ numbers_read uw (drop (state.inputs_made second) read))
         → (made : SettingBits L) → made.inputs ≡ inputs → made.constants ≡ constants → made.target_undefs ≡ undefs
-        → (read : List Bool) → admits start read → setting_held (value third read) made ≡ setting_of rule typing read
+        → (read : List Bool) → state.admits start read → setting_held (state.value third read) made ≡ setting_of rule typing read
     setting_made uw is_uw inputs constants undefs own1 own2 are1 are2 are3 made is1 is2 is3 read a =
         let a1 = k1.admitted read a in
         let a2 = k2.admitted read a1 in
         same_setting (setting_of rule typing read) _ _ _
-        (ap (λ xs. map (held_value (value third read)) xs) is1 ∙ values-kept (Keeps-trans k2 k3) read a1 inputs own1 ∙ are1 read a ∙ ap (λ xs. values_read iw xs) (at_start read) ∙ ap (λ (ws : List ℕ). values_read ws read) is_iw)
-        (ap (λ xs. map (number_held (value third read)) xs) is2 ∙ numbers_held-kept k3 read a2 constants own2 ∙ are2 read a1 ∙ ap (λ xs. numbers_read cw xs) (at_constants read a) ∙ ap (λ (ws : List ℕ). numbers_read ws (behind_inputs rule typing read)) is_cw)
-        (ap (λ xs. map (number_held (value third read)) xs) is3 ∙ are3 read a2 ∙ ap (λ xs. numbers_read uw xs) (at_undefs read a) ∙ ap (λ (ws : List ℕ). numbers_read ws (behind_constants rule typing read)) is_uw)
+        (ap (λ xs. map (held_value (state.value third read)) xs) is1 ∙ values-kept (Keeps-trans k2 k3) read a1 inputs own1 ∙ are1 read a ∙ ap (λ xs. values_read iw xs) (at_start read) ∙ ap (λ (ws : List ℕ). values_read ws read) is_iw)
+        (ap (λ xs. map (number_held (state.value third read)) xs) is2 ∙ numbers_held-kept k3 read a2 constants own2 ∙ are2 read a1 ∙ ap (λ xs. numbers_read cw xs) (at_constants read a) ∙ ap (λ (ws : List ℕ). numbers_read ws (behind_inputs rule typing read)) is_cw)
+        (ap (λ xs. map (number_held (state.value third read)) xs) is3 ∙ are3 read a2 ∙ ap (λ xs. numbers_read uw xs) (at_undefs read a) ∙ ap (λ (ws : List ℕ). numbers_read ws (behind_constants rule typing read)) is_uw)
 
-module _ {C L : Type 0} {has_literal : C → L → Type 0} {admits : C → List Bool → Type 0} {value : C → List Bool → L → Bool} {old new : C} (keeps : Keeps has_literal admits value old new) where
+module _ {C L : Type 0} {state : Ghosts C L} {old new : C} (keeps : Keeps state old new) where
   -- what stands for a setting is kept
-  pub setting-kept : (read : List Bool) → admits old read → (made : SettingBits L) → SettingIsOwn (has_literal old) made → setting_held (value new read) made ≡ setting_held (value old read) made
+  pub setting-kept : (read : List Bool) → state.admits old read → (made : SettingBits L) → SettingIsOwn (state.has_literal old) made → setting_held (state.value new read) made ≡ setting_held (state.value old read) made
   setting-kept read admitted made own =
       rw (values-kept keeps read admitted made.inputs own.inputs, numbers_held-kept keeps read admitted made.constants own.constants, numbers_held-kept keeps read admitted made.target_undefs own.target_undefs) refl
 
-  pub setting_own-kept : (made : SettingBits L) → SettingIsOwn (has_literal old) made → SettingIsOwn (has_literal new) made
+  pub setting_own-kept : (made : SettingBits L) → SettingIsOwn (state.has_literal old) made → SettingIsOwn (state.has_literal new) made
   setting_own-kept made own = record {
     inputs = AllOwn-kept keeps made.inputs own.inputs;
     constants = AllAll-kept keeps made.constants own.constants;

@@ -6,6 +6,7 @@ use Rattle.std.proofs.lemmas.List.{map-append, length-map, length_push, drop-dro
 use Rattle.std.proofs.lemmas.List.Sums.{sum_by_push}
 use Rattle.std.proofs.lemmas.Option.{slice_get_within, get_or_from_slice_get}
 use Rattle.std.proofs.lemmas.List.Elements.{All-push}
+use Rattle.circuits.specs.declared.state.State.{Ghosts}
 use Rattle.circuits.specs.Circuit.{Keeps}
 use Rattle.circuits.specs.Word.{number, number_of}
 use Rattle.circuits.proofs.Kept.{All-kept, map-kept, Keeps-trans}
@@ -18,47 +19,47 @@ use Rattle.blast_setting.proofs.Written.{all_read-next}
 use Rattle.blast_setting.proofs.Words.{number-take_one, get_or-behind}
 
 -- so many inputs were made, and are the bits of a word
-pub record Made {C L : Type 0} (has_literal : C → L → Type 0) (admits : C → List Bool → Type 0) (value : C → List Bool → L → Bool) (inputs_made gates_made : C → ℕ) (start now : C) (word : List L) (i : ℕ) : Type 0 where
-  pub keeps : Keeps has_literal admits value start now
-  pub gates : gates_made now ≡ gates_made start
-  pub own : All (has_literal now) word
+pub record Made {C L : Type 0} (state : Ghosts C L) (start now : C) (word : List L) (i : ℕ) : Type 0 where
+  pub keeps : Keeps state start now
+  pub gates : state.gates_made now ≡ state.gates_made start
+  pub own : All (state.has_literal now) word
   pub width : length word ≡ i
-  pub made : (inputs : List Bool) → admits start inputs → drop (inputs_made now) inputs ≡ drop i (drop (inputs_made start) inputs)
-  pub number : (inputs : List Bool) → admits start inputs → number (map (value now inputs) word) ≡ number (take i (drop (inputs_made start) inputs))
+  pub made : (inputs : List Bool) → state.admits start inputs → drop (state.inputs_made now) inputs ≡ drop i (drop (state.inputs_made start) inputs)
+  pub number : (inputs : List Bool) → state.admits start inputs → number (map (state.value now inputs) word) ≡ number (take i (drop (state.inputs_made start) inputs))
 
-module _ {C L : Type 0} {has_literal : C → L → Type 0} {admits : C → List Bool → Type 0} {value : C → List Bool → L → Bool} {inputs_made gates_made : C → ℕ} {start now next : C} {word : List L} {i : ℕ}
-    (before : Made has_literal admits value inputs_made gates_made start now word i) (keeps : Keeps has_literal admits value now next)
-    (made : (inputs : List Bool) → admits now inputs → drop (inputs_made next) inputs ≡ drop (inputs_made now + 1) inputs) (l : L) (own : has_literal next l)
-    (value_is : (inputs : List Bool) → admits now inputs → value next inputs l ≡ get_or inputs (inputs_made now) false) where
+module _ {C L : Type 0} {state : Ghosts C L} {start now next : C} {word : List L} {i : ℕ}
+    (before : Made state start now word i) (keeps : Keeps state now next)
+    (made : (inputs : List Bool) → state.admits now inputs → drop (state.inputs_made next) inputs ≡ drop (state.inputs_made now + 1) inputs) (l : L) (own : state.has_literal next l)
+    (value_is : (inputs : List Bool) → state.admits now inputs → state.value next inputs l ≡ get_or inputs (state.inputs_made now) false) where
   -- the next one is the next truth value of the list
-  pub next_made : (inputs : List Bool) → admits start inputs → drop (inputs_made next) inputs ≡ drop (i + 1) (drop (inputs_made start) inputs)
+  pub next_made : (inputs : List Bool) → state.admits start inputs → drop (state.inputs_made next) inputs ≡ drop (i + 1) (drop (state.inputs_made start) inputs)
   next_made inputs admitted =
-      made inputs (before.keeps.admitted inputs admitted) ∙ sym (drop-drop 1 (inputs_made now) inputs) ∙ ap (drop 1) (before.made inputs admitted) ∙ drop-drop 1 i (drop (inputs_made start) inputs)
+      made inputs (before.keeps.admitted inputs admitted) ∙ sym (drop-drop 1 (state.inputs_made now) inputs) ∙ ap (drop 1) (before.made inputs admitted) ∙ drop-drop 1 i (drop (state.inputs_made start) inputs)
 
-  pub next_value : (inputs : List Bool) → admits start inputs → value next inputs l ≡ get_or (drop (inputs_made start) inputs) i false
+  pub next_value : (inputs : List Bool) → state.admits start inputs → state.value next inputs l ≡ get_or (drop (state.inputs_made start) inputs) i false
   next_value inputs admitted =
-      value_is inputs (before.keeps.admitted inputs admitted) ∙ get_or-behind inputs (drop (inputs_made start) inputs) (inputs_made now) i (before.made inputs admitted)
+      value_is inputs (before.keeps.admitted inputs admitted) ∙ get_or-behind inputs (drop (state.inputs_made start) inputs) (state.inputs_made now) i (before.made inputs admitted)
 
-  word_kept : (inputs : List Bool) → admits start inputs → number (map (value next inputs) word) ≡ number (take i (drop (inputs_made start) inputs))
+  word_kept : (inputs : List Bool) → state.admits start inputs → number (map (state.value next inputs) word) ≡ number (take i (drop (state.inputs_made start) inputs))
   word_kept inputs admitted = ap number (map-kept keeps inputs (before.keeps.admitted inputs admitted) word before.own) ∙ before.number inputs admitted
 
-  pub made_more : gates_made next ≡ gates_made now → Made has_literal admits value inputs_made gates_made start next (word ++ l ∷ []) (i + 1)
+  pub made_more : state.gates_made next ≡ state.gates_made now → Made state start next (word ++ l ∷ []) (i + 1)
   made_more gates = record {
     keeps = Keeps-trans before.keeps keeps;
     gates = gates ∙ before.gates;
-    own = All-push (has_literal next) word l (All-kept keeps word before.own) own;
+    own = All-push (state.has_literal next) word l (All-kept keeps word before.own) own;
     width = length_push word l ∙ ap (λ n. n + 1) before.width;
     made = next_made;
     number = λ inputs admitted.
-        let width : length (map (value next inputs) word) ≡ i = length-map word (value next inputs) ∙ before.width in
-        rw (map-append (value next inputs) word (l ∷ []), number-push (map (value next inputs) word) (value next inputs l), width, word_kept inputs admitted, next_value inputs admitted)
-        (sym (number-take_one (drop (inputs_made start) inputs) i));
+        let width : length (map (state.value next inputs) word) ≡ i = length-map word (state.value next inputs) ∙ before.width in
+        rw (map-append (state.value next inputs) word (l ∷ []), number-push (map (state.value next inputs) word) (state.value next inputs l), width, word_kept inputs admitted, next_value inputs admitted)
+        (sym (number-take_one (drop (state.inputs_made start) inputs) i));
   }
 
 -- once all bits were made, they are the number that is read
-module _ {C L : Type 0} {has_literal : C → L → Type 0} {admits : C → List Bool → Type 0} {value : C → List Bool → L → Bool} {inputs_made gates_made : C → ℕ} {start now : C} {word : List L} {i : ℕ}
-    (before : Made has_literal admits value inputs_made gates_made start now word i) where
-  pub made_number : (N : ℕ) → N ≡ i → (inputs : List Bool) → admits start inputs → number_held (value now inputs) word ≡ number_read N (drop (inputs_made start) inputs)
+module _ {C L : Type 0} {state : Ghosts C L} {start now : C} {word : List L} {i : ℕ}
+    (before : Made state start now word i) where
+  pub made_number : (N : ℕ) → N ≡ i → (inputs : List Bool) → state.admits start inputs → number_held (state.value now inputs) word ≡ number_read N (drop (state.inputs_made start) inputs)
   made_number N same inputs admitted = rw (same, before.width, before.number inputs admitted) refl
 
 -- a number and one more truth value are the value that is read

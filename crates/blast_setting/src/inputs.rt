@@ -56,7 +56,7 @@ pub(crate) fn make_values<C: Circuit>(
         ≡ drop (sum_by value_bits (named_widths typing.now statements.now kind count))
         (drop (C.inputs_made c.old) inputs)) }
     ensures gates { C.gates_made c.new ≡ C.gates_made c.old }
-    ensures keeps { Keeps C.has_literal C.admits C.value c.old c.new }
+    ensures keeps { Keeps C.State c.old c.new }
 {
     let mut held = Vec::new(alloc);
     for k in 0..count {
@@ -86,7 +86,7 @@ pub(crate) fn make_numbers<C: Circuit>(
         ≡ drop (sum_by number_bits (named_widths typing.now statements.now kind count))
         (drop (C.inputs_made c.old) inputs)) }
     ensures gates { C.gates_made c.new ≡ C.gates_made c.old }
-    ensures keeps { Keeps C.has_literal C.admits C.value c.old c.new }
+    ensures keeps { Keeps C.State c.old c.new }
 {
     let mut words = Vec::new(alloc);
     for k in 0..count {
@@ -109,7 +109,7 @@ fn make_value<C: Circuit>(
     ensures inputs { OnOk result ((inputs : Seq Bool) → C.admits c.old inputs →
         drop (C.inputs_made c.new) inputs ≡ drop (value_bits width) (drop (C.inputs_made c.old) inputs)) }
     ensures gates { C.gates_made c.new ≡ C.gates_made c.old }
-    ensures keeps { Keeps C.has_literal C.admits C.value c.old c.new }
+    ensures keeps { Keeps C.State c.old c.new }
 {
     let bits = make_number(alloc, c, width)?;
     let poison = c.input(alloc)?;
@@ -129,7 +129,7 @@ fn make_number<C: Circuit>(
     ensures inputs { OnOk result ((inputs : Seq Bool) → C.admits c.old inputs →
         drop (C.inputs_made c.new) inputs ≡ drop (number_bits width) (drop (C.inputs_made c.old) inputs)) }
     ensures gates { C.gates_made c.new ≡ C.gates_made c.old }
-    ensures keeps { Keeps C.has_literal C.admits C.value c.old c.new }
+    ensures keeps { Keeps C.State c.old c.new }
 {
     let mut bits = List::new(alloc);
     for _ in 0..width.bits() {

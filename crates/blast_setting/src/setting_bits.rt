@@ -44,7 +44,7 @@ pub fn make_setting<C: Circuit>(
     ensures inputs { OnOk result ((inputs : Seq Bool) → C.admits c.old inputs →
         drop (C.inputs_made c.new) inputs ≡ drop (input_bits rule.now typing.now) inputs) }
     ensures gates { C.gates_made c.new ≡ C.gates_made c.old }
-    ensures keeps { Keeps C.has_literal C.admits C.value c.old c.new }
+    ensures keeps { Keeps C.State c.old c.new }
 {
     let source = rule.source.as_slice();
     let target = rule.target.as_slice();

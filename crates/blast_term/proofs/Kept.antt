@@ -1,5 +1,6 @@
 -- What a circuit that keeps its older literals keeps of a scope.
 use Rattle.std.proofs.Common.{◌≡◌, Bool, List, refl, sym, ◌∙◌}
+use Rattle.circuits.specs.declared.state.State.{Ghosts}
 use Rattle.circuits.specs.Circuit.{Keeps}
 use Rattle.rule_core.specs.Terms.{Meanings}
 use Rattle.blast_value.proofs.Kept.{AllOwn-kept, AllAll-kept, values-kept, numbers_held-kept}
@@ -7,8 +8,8 @@ use Rattle.blast_term.specs.declared.scope.Scope.{Scope}
 use Rattle.blast_term.specs.Scope.{seen, ScopeIsOwn}
 use Rattle.blast_term.specs.Terms.{MeansNames}
 
-module _ {C L : Type 0} {has_literal : C → L → Type 0} {admits : C → List Bool → Type 0} {value : C → List Bool → L → Bool} {old new : C} (keeps : Keeps has_literal admits value old new) where
-  pub scope_own-kept : (s : Scope L) → ScopeIsOwn (has_literal old) s → ScopeIsOwn (has_literal new) s
+module _ {C L : Type 0} {state : Ghosts C L} {old new : C} (keeps : Keeps state old new) where
+  pub scope_own-kept : (s : Scope L) → ScopeIsOwn (state.has_literal old) s → ScopeIsOwn (state.has_literal new) s
   scope_own-kept s own = record {
     inputs = AllOwn-kept keeps s.inputs.now own.inputs;
     source = AllOwn-kept keeps s.source.now own.source;
@@ -18,11 +19,11 @@ module _ {C L : Type 0} {has_literal : C → L → Type 0} {admits : C → List 
     terms = AllAll-kept keeps s.terms.now own.terms;
   }
 
-  pub seen-kept : (inputs : List Bool) → admits old inputs → (s : Scope L) → ScopeIsOwn (has_literal old) s → seen (value new inputs) s ≡ seen (value old inputs) s
+  pub seen-kept : (inputs : List Bool) → state.admits old inputs → (s : Scope L) → ScopeIsOwn (state.has_literal old) s → seen (state.value new inputs) s ≡ seen (state.value old inputs) s
   seen-kept inputs admitted s own =
       rw (values-kept keeps inputs admitted s.inputs.now own.inputs, values-kept keeps inputs admitted s.source.now own.source, values-kept keeps inputs admitted s.target.now own.target) refl
 
-  pub names-kept : (inputs : List Bool) → admits old inputs → (s : Scope L) (names : Meanings) → ScopeIsOwn (has_literal old) s → MeansNames (value old inputs) s names → MeansNames (value new inputs) s names
+  pub names-kept : (inputs : List Bool) → state.admits old inputs → (s : Scope L) (names : Meanings) → ScopeIsOwn (state.has_literal old) s → MeansNames (state.value old inputs) s names → MeansNames (state.value new inputs) s names
   names-kept inputs admitted s names own is = record {
     constants = is.constants ∙ sym (numbers_held-kept keeps inputs admitted s.constants.now own.constants);
     undefs = is.undefs ∙ sym (numbers_held-kept keeps inputs admitted s.choices.now own.choices);

@@ -30,7 +30,7 @@ pub fn blast_precondition<C: Circuit>(
         IsTrue (C.value c.new inputs met)
         ↔ PreconditionMet (map (held_value (C.value c.old inputs)) terms.now) formulas.now) }
     ensures own { IfOk result (λ met. C.has_literal c.new met) }
-    ensures adds { Adds C.has_literal C.admits C.value C.inputs_made C.gates_made c.old c.new
+    ensures adds { Adds C.State c.old c.new
         (precondition_gates (widths_of terms.now) formulas.now) }
 {
     let truths = blast_formulas(alloc, c, formulas, terms)?;
@@ -67,7 +67,7 @@ fn blast_formulas<C: Circuit>(
         map (C.value c.new inputs) truths.items
         ≡ truths_of (map (held_value (C.value c.old inputs)) terms.now) formulas.now) }
     ensures own { IfOk result (λ truths. All (C.has_literal c.new) truths.items) }
-    ensures adds { Adds C.has_literal C.admits C.value C.inputs_made C.gates_made c.old c.new
+    ensures adds { Adds C.State c.old c.new
         (formulas_gates (widths_of terms.now) formulas.now) }
 {
     let mut truths = Vec::new(alloc);
@@ -94,7 +94,7 @@ fn blast_formula<C: Circuit>(
         ≡ formula_holds (map (held_value (C.value c.old inputs)) terms.now)
         (map (C.value c.old inputs) before.now) formula) }
     ensures own { IfOk result (λ made. C.has_literal c.new made) }
-    ensures adds { Adds C.has_literal C.admits C.value C.inputs_made C.gates_made c.old c.new
+    ensures adds { Adds C.State c.old c.new
         (formula_gates (widths_of terms.now) formula) }
 {
     match formula {
@@ -124,7 +124,7 @@ fn blast_compares<C: Circuit>(
         C.value c.new inputs made
         ≡ compares pred (held_value (C.value c.old inputs) left.now) (held_value (C.value c.old inputs) right.now)) }
     ensures own { IfOk result (λ made. C.has_literal c.new made) }
-    ensures adds { Adds C.has_literal C.admits C.value C.inputs_made C.gates_made c.old c.new
+    ensures adds { Adds C.State c.old c.new
         (comparing_gates (length left.now.bits)) }
 {
     let mut operands = List::new(alloc);
@@ -156,7 +156,7 @@ fn blast_has_one_bit<C: Circuit>(
     ensures value { IfOk result (λ made. (inputs : Seq Bool) → C.admits c.old inputs →
         C.value c.new inputs made ≡ has_one_bit (held_value (C.value c.old inputs) value.now)) }
     ensures own { IfOk result (λ made. C.has_literal c.new made) }
-    ensures adds { Adds C.has_literal C.admits C.value C.inputs_made C.gates_made c.old c.new
+    ensures adds { Adds C.State c.old c.new
         (power_test_gates (length value.now.bits)) }
 {
     let found = blast_exponent(alloc, c, &value.bits)?;
@@ -175,7 +175,7 @@ fn blast_is_sign_bit<C: Circuit>(
     ensures value { IfOk result (λ made. (inputs : Seq Bool) → C.admits c.old inputs →
         C.value c.new inputs made ≡ is_sign_bit (held_value (C.value c.old inputs) value.now)) }
     ensures own { IfOk result (λ made. C.has_literal c.new made) }
-    ensures adds { Adds C.has_literal C.admits C.value C.inputs_made C.gates_made c.old c.new
+    ensures adds { Adds C.State c.old c.new
         (sign_test_gates (length value.now.bits)) }
 {
     let least = equals(alloc, c, &value.bits, 1 << (value.bits.len() - 1))?;

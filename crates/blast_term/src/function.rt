@@ -41,7 +41,7 @@ pub(crate) fn blast_operator<C: Circuit>(
         (held_value (C.value c.old inputs) left) (held_value (C.value c.old inputs) right))) }
     ensures width { IfOk result (λ made. length made.bits ≡ width) }
     ensures own { IfOk result (IsOwn (C.has_literal c.new)) }
-    ensures adds { Adds C.has_literal C.admits C.value C.inputs_made C.gates_made c.old c.new (opcode_gates op width + 1) }
+    ensures adds { Adds C.State c.old c.new (opcode_gates op width + 1) }
 {
     let what = Instruction::Binary(op, Flags::NONE);
     let mut operands = List::new(alloc);
@@ -71,7 +71,7 @@ pub(crate) fn blast_function<C: Circuit>(
         ≡ function_value function width (held_value (C.value c.old inputs) operand.now)) }
     ensures width { IfOk result (λ made. length made.bits ≡ width) }
     ensures own { IfOk result (IsOwn (C.has_literal c.new)) }
-    ensures adds { Adds C.has_literal C.admits C.value C.inputs_made C.gates_made c.old c.new
+    ensures adds { Adds C.State c.old c.new
         (function_gates function width) }
 {
     match function {
@@ -100,7 +100,7 @@ fn blast_with<C: Circuit>(
         (bits width left) (held_value (C.value c.old inputs) right.now))) }
     ensures width { IfOk result (λ made. length made.bits ≡ width) }
     ensures own { IfOk result (IsOwn (C.has_literal c.new)) }
-    ensures adds { Adds C.has_literal C.admits C.value C.inputs_made C.gates_made c.old c.new (opcode_gates op width + 1) }
+    ensures adds { Adds C.State c.old c.new (opcode_gates op width + 1) }
 {
     let left = number(alloc, c, width, left)?;
     let right = copied(alloc, right)?;
@@ -128,7 +128,7 @@ fn logarithm<C: Circuit>(
         ≡ function_value functions.Log2 (length operand.now.bits) (held_value (C.value c.old inputs) operand.now)) }
     ensures width { IfOk result (λ made. length made.bits ≡ length operand.now.bits) }
     ensures own { IfOk result (IsOwn (C.has_literal c.new)) }
-    ensures adds { Adds C.has_literal C.admits C.value C.inputs_made C.gates_made c.old c.new
+    ensures adds { Adds C.State c.old c.new
         (function_gates functions.Log2 (length operand.now.bits)) }
 {
     let found = blast_exponent(alloc, c, &operand.bits)?;
@@ -153,7 +153,7 @@ fn absolute<C: Circuit>(
         ≡ function_value functions.Abs width (held_value (C.value c.old inputs) operand.now)) }
     ensures width { IfOk result (λ made. length made.bits ≡ width) }
     ensures own { IfOk result (IsOwn (C.has_literal c.new)) }
-    ensures adds { Adds C.has_literal C.admits C.value C.inputs_made C.gates_made c.old c.new
+    ensures adds { Adds C.State c.old c.new
         (function_gates functions.Abs width) }
 {
     let bits = without_sign(alloc, c, width, &operand.bits)?;
@@ -179,7 +179,7 @@ fn without_sign<C: Circuit>(
         else 2 ^ width - number_of (C.value c.old inputs) word.now)) }
     ensures width { IfOk result (λ made. length made ≡ width) }
     ensures own { IfOk result (All (C.has_literal c.new)) }
-    ensures adds { Adds C.has_literal C.admits C.value C.inputs_made C.gates_made c.old c.new
+    ensures adds { Adds C.State c.old c.new
         (function_gates functions.Abs width) }
 {
     let least = constant(alloc, c, 1 << (width.bits() - 1), word.len())?;

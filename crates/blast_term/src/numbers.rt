@@ -72,7 +72,7 @@ pub(crate) fn number_or_zero<C: Circuit>(
         number_of (C.value c.new inputs) word ≡ number_or_zero (held_value (C.value c.old inputs) held.now)) }
     ensures width { IfOk result (λ word. length word ≡ length held.now.bits) }
     ensures own { IfOk result (All (C.has_literal c.new)) }
-    ensures adds { Adds C.has_literal C.admits C.value C.inputs_made C.gates_made c.old c.new
+    ensures adds { Adds C.State c.old c.new
         (select_gates (length held.now.bits)) }
 {
     let zeros = repeated(alloc, c.zero(), held.bits.len())?;

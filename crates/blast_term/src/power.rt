@@ -37,7 +37,7 @@ pub(crate) fn blast_exponent<C: Circuit>(
     ensures width { IfOk result (λ made. length made.bits ≡ length word.now) }
     ensures own_exists { IfOk result (λ made. C.has_literal c.new made.exists) }
     ensures own_bits { IfOk result (λ made. All (C.has_literal c.new) made.bits) }
-    ensures adds { Adds C.has_literal C.admits C.value C.inputs_made C.gates_made c.old c.new
+    ensures adds { Adds C.State c.old c.new
         (power_gates (length word.now)) }
 {
     let width = word.len();
@@ -65,7 +65,7 @@ fn place<C: Circuit>(
     ensures width { IfOk result (λ made. length made.bits ≡ width) }
     ensures own_exists { IfOk result (λ made. C.has_literal c.new made.exists) }
     ensures own_bits { IfOk result (λ made. All (C.has_literal c.new) made.bits) }
-    ensures adds { Adds C.has_literal C.admits C.value C.inputs_made C.gates_made c.old c.new
+    ensures adds { Adds C.State c.old c.new
         (power_gates (length word.now)) }
 {
     let mut none = c.one();

@@ -34,7 +34,7 @@ pub fn blast_terms<C: Circuit>(
         map (held_value (C.value c.new inputs)) held.items ≡ values_of typing.now names terms.now) }
     ensures widths { IfOk result (λ held. widths_of held.items ≡ term_widths typing.now terms.now) }
     ensures own { IfOk result (λ held. All (IsOwn (C.has_literal c.new)) held.items) }
-    ensures adds { Adds C.has_literal C.admits C.value C.inputs_made C.gates_made c.old c.new
+    ensures adds { Adds C.State c.old c.new
         (terms_gates typing.now terms.now) }
 {
     let mut held = Vec::new(alloc);
@@ -63,7 +63,7 @@ fn blast_term<C: Circuit>(
         ≡ term_value typing.now names (map (held_value (C.value c.old inputs)) before.now) term) }
     ensures width { IfOk result (λ made. length made.bits ≡ slice_index typing.now term.class) }
     ensures own { IfOk result (IsOwn (C.has_literal c.new)) }
-    ensures adds { Adds C.has_literal C.admits C.value C.inputs_made C.gates_made c.old c.new (term_gates typing.now term) }
+    ensures adds { Adds C.State c.old c.new (term_gates typing.now term) }
 {
     let width = width_of(typing, term.class);
     match term.node {
@@ -98,7 +98,7 @@ pub fn numbers_or_zeros<C: Circuit>(
         ≡ map number_or_zero (map (held_value (C.value c.old inputs)) held.now)) }
     ensures widths { IfOk result (λ words. map length words.items ≡ widths_of held.now) }
     ensures own { IfOk result (λ words. All (All (C.has_literal c.new)) words.items) }
-    ensures adds { Adds C.has_literal C.admits C.value C.inputs_made C.gates_made c.old c.new
+    ensures adds { Adds C.State c.old c.new
         (numbers_gates (widths_of held.now)) }
 {
     let mut words = Vec::new(alloc);

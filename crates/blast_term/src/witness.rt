@@ -36,7 +36,7 @@ pub fn blast_witness<C: Circuit>(
     ensures widths { IfOk result (λ words. map length words
         ≡ map (slice_index (term_widths typing.now rule.now.witness_terms)) rule.now.witnesses) }
     ensures own { IfOk result (All (All (C.has_literal c.new))) }
-    ensures adds { Adds C.has_literal C.admits C.value C.inputs_made C.gates_made c.old c.new
+    ensures adds { Adds C.State c.old c.new
         (terms_gates typing.now rule.now.witness_terms
         + choices_gates (term_widths typing.now rule.now.witness_terms) rule.now.witnesses) }
 {
@@ -58,7 +58,7 @@ fn numbers_at<C: Circuit>(
         ≡ map (number_chosen (widths_of values.now) (map (held_value (C.value c.old inputs)) values.now)) places.now) }
     ensures widths { IfOk result (λ words. map length words ≡ map (slice_index (widths_of values.now)) places.now) }
     ensures own { IfOk result (All (All (C.has_literal c.new))) }
-    ensures adds { Adds C.has_literal C.admits C.value C.inputs_made C.gates_made c.old c.new
+    ensures adds { Adds C.State c.old c.new
         (choices_gates (widths_of values.now) places.now) }
 {
     let mut words = List::new(alloc);

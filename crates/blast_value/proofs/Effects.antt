@@ -32,9 +32,9 @@ use Rattle.blast_value.specs.declared.bitwise.Bitwise.{Bitwise}
 use Rattle.blast_value.specs.declared.bitwise.Bitwise.TheVariants.{And, Or, Xor}
 use Rattle.blast_value.specs.declared.division.Division.{Division}
 use Rattle.blast_value.specs.declared.division.Division.TheVariants.{UDiv, SDiv, URem, SRem}
-use Rattle.blast_value.specs.declared.shift.Shift.{Shift}
-use Rattle.blast_value.specs.declared.shift.Shift.TheVariants.{Shl, LShr, AShr}
-use Rattle.blast_value.specs.Families.{arithmetic_opcode, bitwise_opcode, bitwise, division_opcode, shift_opcode, shifted, divided, exact, is_signed, is_negation}
+use Rattle.blast_value.specs.declared.strict.Strict.{Strict}
+use Rattle.blast_value.specs.declared.strict.Strict.TheVariants as strict
+use Rattle.blast_value.specs.Families.{arithmetic_opcode, bitwise_opcode, bitwise, division_opcode, strict_opcode, divided, exact, is_signed, is_negation}
 use Rattle.blast_value.proofs.Numbers.{signed_same, residue-pos, residue-difference}
 
 -- ---- instructions that give poison where an operand is
@@ -50,7 +50,7 @@ strict_instruction op flags N l m a b true y v poison numbers width_a width_b = 
 strict_instruction op flags N l m a b false true v poison numbers width_a width_b = sym (poison Poison)
 strict_instruction op flags N l m a b false false v poison numbers width_a width_b = sym numbers
 
-pub arithmetic_poison : (op : Arithmetic) (N : ℕ) (w : Value) → on_poison (arithmetic_opcode op) N w ≡ Gives Poison
+arithmetic_poison : (op : Arithmetic) (N : ℕ) (w : Value) → on_poison (arithmetic_opcode op) N w ≡ Gives Poison
 unfolding on_poison
 arithmetic_poison Add N w = refl
 arithmetic_poison Sub N w = refl
@@ -62,7 +62,7 @@ arithmetic_numbers Add flags N a b = refl
 arithmetic_numbers Sub flags N a b = refl
 arithmetic_numbers Mul flags N a b = refl
 
-pub bitwise_poison : (op : Bitwise) (N : ℕ) (w : Value) → on_poison (bitwise_opcode op) N w ≡ Gives Poison
+bitwise_poison : (op : Bitwise) (N : ℕ) (w : Value) → on_poison (bitwise_opcode op) N w ≡ Gives Poison
 unfolding on_poison
 bitwise_poison And N w = refl
 bitwise_poison Or N w = refl
@@ -74,17 +74,13 @@ bitwise_numbers And flags N a b = refl
 bitwise_numbers Or flags N a b = refl
 bitwise_numbers Xor flags N a b = refl
 
-pub shift_poison : (op : Shift) (N : ℕ) (w : Value) → on_poison (shift_opcode op) N w ≡ Gives Poison
+pub strict_poison : (op : Strict) (N : ℕ) (w : Value) → on_poison (strict_opcode op) N w ≡ Gives Poison
 unfolding on_poison
-shift_poison Shl N w = refl
-shift_poison LShr N w = refl
-shift_poison AShr N w = refl
-
-pub shift_numbers : (op : Shift) (flags : Flags) (N a b : ℕ) → on_numbers (shift_opcode op) flags N a b ≡ Gives (shifted op flags N a b)
-unfolding on_numbers
-shift_numbers Shl flags N a b = refl
-shift_numbers LShr flags N a b = refl
-shift_numbers AShr flags N a b = refl
+strict_poison (strict.Arithmetic op) N w = arithmetic_poison op N w
+strict_poison strict.Shl N w = refl
+strict_poison strict.LShr N w = refl
+strict_poison strict.AShr N w = refl
+strict_poison (strict.Bitwise op) N w = bitwise_poison op N w
 
 -- ---- sums, differences and products
 pub exact_signed : (op : Arithmetic) (N a b : ℕ) → exact op (words.signed N a) (words.signed N b) ≡ exact op (signed N a) (signed N b)

@@ -17,8 +17,8 @@ use Rattle.blast_value.specs.declared.bitwise.Bitwise.{Bitwise}
 use Rattle.blast_value.specs.declared.bitwise.Bitwise.TheVariants.{And, Or, Xor}
 use Rattle.blast_value.specs.declared.division.Division.{Division}
 use Rattle.blast_value.specs.declared.division.Division.TheVariants.{UDiv, SDiv, URem, SRem}
-use Rattle.blast_value.specs.declared.shift.Shift.{Shift}
-use Rattle.blast_value.specs.declared.shift.Shift.TheVariants.{Shl, LShr, AShr}
+use Rattle.blast_value.specs.declared.strict.Strict.{Strict}
+use Rattle.blast_value.specs.declared.strict.Strict.TheVariants as strict
 
 abbrev pub arithmetic_opcode : Arithmetic → Opcode
 arithmetic_opcode Add = opcodes.Add
@@ -31,15 +31,17 @@ division_opcode SDiv = opcodes.SDiv
 division_opcode URem = opcodes.URem
 division_opcode SRem = opcodes.SRem
 
-abbrev pub shift_opcode : Shift → Opcode
-shift_opcode Shl = opcodes.Shl
-shift_opcode LShr = opcodes.LShr
-shift_opcode AShr = opcodes.AShr
-
 abbrev pub bitwise_opcode : Bitwise → Opcode
 bitwise_opcode And = opcodes.And
 bitwise_opcode Or = opcodes.Or
 bitwise_opcode Xor = opcodes.Xor
+
+abbrev pub strict_opcode : Strict → Opcode
+strict_opcode (strict.Arithmetic op) = arithmetic_opcode op
+strict_opcode strict.Shl = opcodes.Shl
+strict_opcode strict.LShr = opcodes.LShr
+strict_opcode strict.AShr = opcodes.AShr
+strict_opcode (strict.Bitwise op) = bitwise_opcode op
 
 -- the whole number that a sum, a difference or a product is
 abbrev pub exact : Arithmetic → ℤ → ℤ → ℤ
@@ -63,11 +65,6 @@ divided SDiv flags N a b =
     exactly flags (divides (unsigned_abs z) (unsigned_abs y)) (bits N (residue N (quotient y z)))
 divided URem flags N a b = bits N (a % b)
 divided SRem flags N a b = bits N (residue N (remainder (signed N a) (signed N b)))
-
-abbrev pub shifted : Shift → Flags → ℕ → ℕ → ℕ → Value
-shifted Shl flags N a b = shifts.shl flags N a b
-shifted LShr flags N a b = shifts.lshr flags N a b
-shifted AShr flags N a b = shifts.ashr flags N a b
 
 -- the floor of a number, or of a signed one, by 2 ^ b; poison where b is not below N, and where 2 ^ b was to divide it and doesn't
 abbrev pub floor : Bool → Bool → ℕ → ℕ → ℕ → Value

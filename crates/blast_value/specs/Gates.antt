@@ -6,8 +6,8 @@ use Rattle.circuits.specs.Gates.{adder_gates, comparison_gates, equality_gates, 
 use Rattle.circ_muldiv.specs.Gates.{product_gates, overflow_add_gates, overflow_mul_gates, division_gates, signed_division_gates}
 use Rattle.blast_value.specs.declared.arithmetic.Arithmetic.{Arithmetic}
 use Rattle.blast_value.specs.declared.arithmetic.Arithmetic.TheVariants as arithmetic
-use Rattle.blast_value.specs.declared.shift.Shift.{Shift}
-use Rattle.blast_value.specs.declared.shift.Shift.TheVariants as shift
+use Rattle.blast_value.specs.declared.strict.Strict.{Strict}
+use Rattle.blast_value.specs.declared.strict.Strict.TheVariants as strict
 use Rattle.blast_value.specs.declared.instruction.Instruction.{Instruction}
 use Rattle.blast_value.specs.declared.instruction.Instruction.TheVariants.{Binary, Compare, Select, Convert}
 
@@ -21,14 +21,14 @@ result_gates arithmetic.Add width = adder_gates width
 result_gates arithmetic.Sub width = adder_gates width
 result_gates arithmetic.Mul width = product_gates width
 
-abbrev pub overflow_gates : Arithmetic → ℕ → ℕ
-overflow_gates arithmetic.Add width = overflow_add_gates width
-overflow_gates arithmetic.Sub width = overflow_add_gates width
-overflow_gates arithmetic.Mul width = overflow_mul_gates width
+abbrev pub overflow_gates : Bool → Arithmetic → ℕ → ℕ
+overflow_gates is_signed arithmetic.Add width = overflow_add_gates width
+overflow_gates is_signed arithmetic.Sub width = overflow_add_gates width
+overflow_gates is_signed arithmetic.Mul width = overflow_mul_gates is_signed width
 
 -- The two together, overflow unsigned and signed.
 abbrev pub checked_gates : Arithmetic → ℕ → ℕ
-checked_gates op width = result_gates op width + 2 * overflow_gates op width + 1
+checked_gates op width = result_gates op width + overflow_gates false op width + overflow_gates true op width + 1
 
 -- A shift to the left, whether the amount is too large, and whether shifting back unsigned or signed gives another number.
 abbrev pub left_gates : ℕ → ℕ
@@ -38,11 +38,13 @@ left_gates width = comparison_gates width + 3 * shift_gates width width + 2 * eq
 abbrev pub right_gates : ℕ → ℕ
 right_gates width = comparison_gates width + 2 * shift_gates width width + equality_gates width + 1
 
--- A shift, and whether it gives poison.
-abbrev pub moved_gates : Shift → ℕ → ℕ
-moved_gates shift.Shl width = left_gates width
-moved_gates shift.LShr width = right_gates width
-moved_gates shift.AShr width = right_gates width
+-- What is made of two numbers where no division is asked.
+abbrev pub number_gates : Strict → ℕ → ℕ
+number_gates (strict.Arithmetic op) width = checked_gates op width
+number_gates strict.Shl width = left_gates width
+number_gates strict.LShr width = right_gates width
+number_gates strict.AShr width = right_gates width
+number_gates (strict.Bitwise op) width = width
 
 -- A quotient and a remainder, unsigned or signed.
 abbrev pub quotient_gates : Bool → ℕ → ℕ

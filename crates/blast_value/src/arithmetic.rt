@@ -3,16 +3,14 @@ ghost use Rattle.std.specs.Prelude.{◌≡◌, ◌<◌, Bool, not, ◌&&◌, pos
 ghost use Rattle.std.specs.List.{All};
 ghost use Rattle.ops.specs.Arithmetic.{arithmetic};
 ghost use Rattle.ops.specs.Integer.{signed, residue};
-ghost use Rattle.ops.specs.Instruction.{instruction};
 ghost use Rattle.circuits.specs.Circuit.{Adds};
 ghost use Rattle.circuits.specs.Word.{number_of};
 ghost use Rattle.circ_muldiv.specs.Overflow.{fits, whole};
-ghost use Rattle.blast_value.specs.Effect.{held_value, effect_of, IsOwn, IsOwnEffect};
-ghost use Rattle.blast_value.specs.Families.{arithmetic_opcode, exact};
-ghost use Rattle.blast_value.specs.Gates.{opcode_gates, checked_gates, overflow_gates, result_gates};
+ghost use Rattle.blast_value.specs.Effect.{held_value, IsOwn};
+ghost use Rattle.blast_value.specs.Families.{exact};
+ghost use Rattle.blast_value.specs.Gates.{checked_gates, overflow_gates, result_gates};
 
-use crate::held::{Blasted, Held};
-use crate::strict::strict;
+use crate::held::Held;
 use circ_muldiv::{multiply, overflow_add, overflow_mul, overflow_sub};
 use circuits::{Bits, Circuit, add, or, sub};
 use ops::{Flags, Width};
@@ -26,35 +24,8 @@ pub(crate) enum Arithmetic {
     Mul,
 }
 
-/// The effect of such an instruction: poison where an operand is, or where the result doesn't fit as a flag promises.
-pub(crate) fn calculate<C: Circuit>(
-    alloc: Global,
-    c: &mut C,
-    op: Arithmetic,
-    flags: Flags,
-    width: Width,
-    a: &Held<C::Literal>,
-    b: &Held<C::Literal>,
-) -> Result<Blasted<C::Literal>, AllocError>
-    requires width_a { length a.now.bits ≡ width }
-    requires width_b { length b.now.bits ≡ width }
-    requires own_a { IsOwn (C.has_literal c.old) a.now }
-    requires own_b { IsOwn (C.has_literal c.old) b.now }
-    ensures effect { IfOk result (λ made. (inputs : Seq Bool) → C.admits c.old inputs →
-        effect_of (C.value c.new inputs) made
-        ≡ instruction (arithmetic_opcode op) flags width
-        (held_value (C.value c.old inputs) a.now) (held_value (C.value c.old inputs) b.now)) }
-    ensures width { IfOk result (λ made. length made.bits ≡ width) }
-    ensures own { IfOk result (IsOwnEffect (C.has_literal c.new)) }
-    ensures adds { Adds C.has_literal C.admits C.value C.inputs_made C.gates_made c.old c.new
-        (opcode_gates (arithmetic_opcode op) width) }
-{
-    let made = checked(alloc, c, op, flags, width, &a.bits, &b.bits)?;
-    strict(alloc, c, made, a.poison, b.poison)
-}
-
-/// The same of two numbers: the result modulo 2^N, but poison where it doesn't fit as a flag promises.
-fn checked<C: Circuit>(
+/// The result at two numbers: modulo 2^N, but poison where it doesn't fit as a flag promises.
+pub(crate) fn checked<C: Circuit>(
     alloc: Global,
     c: &mut C,
     op: Arithmetic,
@@ -74,8 +45,7 @@ fn checked<C: Circuit>(
         ≡ arithmetic flags width (exact op (pos a) (pos b)) (exact op (signed width a) (signed width b))) }
     ensures width { IfOk result (λ made. length made.bits ≡ width) }
     ensures own { IfOk result (IsOwn (C.has_literal c.new)) }
-    ensures adds { Adds C.has_literal C.admits C.value C.inputs_made C.gates_made c.old c.new
-        (checked_gates op width) }
+    ensures adds { Adds C.State c.old c.new (checked_gates op width) }
 {
     let bits = wrapped(alloc, c, op, a, b)?;
     let wraps = overflows(alloc, c, flags.nuw, false, op, a, b)?;
@@ -102,8 +72,7 @@ fn wrapped<C: Circuit>(
         number_of (C.value c.new inputs) word
         ≡ residue (length a.now) (exact op (pos (number_of (C.value c.old inputs) a.now))
         (pos (number_of (C.value c.old inputs) b.now)))) }
-    ensures adds { Adds C.has_literal C.admits C.value C.inputs_made C.gates_made c.old c.new
-        (result_gates op (length a.now)) }
+    ensures adds { Adds C.State c.old c.new (result_gates op (length a.now)) }
 {
     match op {
         Arithmetic::Add => add(alloc, c, a, b),
@@ -132,8 +101,7 @@ fn overflows<C: Circuit>(
         ≡ (asked && not (fits signed (length a.now) (exact op
         (whole signed (length a.now) (number_of (C.value c.old inputs) a.now))
         (whole signed (length a.now) (number_of (C.value c.old inputs) b.now)))))) }
-    ensures adds { Adds C.has_literal C.admits C.value C.inputs_made C.gates_made c.old c.new
-        (overflow_gates op (length a.now)) }
+    ensures adds { Adds C.State c.old c.new (overflow_gates signed op (length a.now)) }
 {
     if !asked {
         return Ok(c.zero());

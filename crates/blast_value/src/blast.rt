@@ -7,14 +7,14 @@ ghost use Rattle.blast_value.specs.Effect.{held_value, effect_of, widths_of, IsO
 ghost use Rattle.blast_value.specs.Meaning.{HasEffect, Takes};
 ghost use Rattle.blast_value.specs.Gates.{gates_of, greatest, opcode_gates};
 
-use crate::arithmetic::{Arithmetic, calculate};
-use crate::bitwise::{Bitwise, combine};
+use crate::arithmetic::Arithmetic;
+use crate::bitwise::Bitwise;
 use crate::comparison::{choose, compare};
 use crate::conversion::convert;
 use crate::division::{Division, divide};
 use crate::held::{Blasted, Held};
 use crate::instruction::Instruction;
-use crate::shift::{Shift, shift_by};
+use crate::strict::{Strict, strict_effect};
 use circuits::Circuit;
 use lists::List;
 use ops::{Flags, Opcode, Width};
@@ -36,8 +36,7 @@ pub fn blast_value<C: Circuit>(
         (effect_of (C.value c.new inputs) made)) }
     ensures width { IfOk result (λ made. length made.bits ≡ width) }
     ensures own { IfOk result (IsOwnEffect (C.has_literal c.new)) }
-    ensures adds { Adds C.has_literal C.admits C.value C.inputs_made C.gates_made c.old c.new
-        (gates_of what width (greatest (widths_of operands.now))) }
+    ensures adds { Adds C.State c.old c.new (gates_of what width (greatest (widths_of operands.now))) }
 {
     let operands = operands.as_slice();
     match what {
@@ -70,21 +69,45 @@ fn binary<C: Circuit>(
         (held_value (C.value c.old inputs) a.now) (held_value (C.value c.old inputs) b.now)) }
     ensures width { IfOk result (λ made. length made.bits ≡ width) }
     ensures own { IfOk result (IsOwnEffect (C.has_literal c.new)) }
-    ensures adds { Adds C.has_literal C.admits C.value C.inputs_made C.gates_made c.old c.new (opcode_gates op width) }
+    ensures adds { Adds C.State c.old c.new (opcode_gates op width) }
 {
     match op {
-        Opcode::Add => calculate(alloc, c, Arithmetic::Add, flags, width, a, b),
-        Opcode::Sub => calculate(alloc, c, Arithmetic::Sub, flags, width, a, b),
-        Opcode::Mul => calculate(alloc, c, Arithmetic::Mul, flags, width, a, b),
+        Opcode::Add => strict_effect(
+            alloc,
+            c,
+            Strict::Arithmetic(Arithmetic::Add),
+            flags,
+            width,
+            a,
+            b,
+        ),
+        Opcode::Sub => strict_effect(
+            alloc,
+            c,
+            Strict::Arithmetic(Arithmetic::Sub),
+            flags,
+            width,
+            a,
+            b,
+        ),
+        Opcode::Mul => strict_effect(
+            alloc,
+            c,
+            Strict::Arithmetic(Arithmetic::Mul),
+            flags,
+            width,
+            a,
+            b,
+        ),
         Opcode::UDiv => divide(alloc, c, Division::UDiv, flags, width, a, b),
         Opcode::SDiv => divide(alloc, c, Division::SDiv, flags, width, a, b),
         Opcode::URem => divide(alloc, c, Division::URem, flags, width, a, b),
         Opcode::SRem => divide(alloc, c, Division::SRem, flags, width, a, b),
-        Opcode::Shl => shift_by(alloc, c, Shift::Shl, flags, width, a, b),
-        Opcode::LShr => shift_by(alloc, c, Shift::LShr, flags, width, a, b),
-        Opcode::AShr => shift_by(alloc, c, Shift::AShr, flags, width, a, b),
-        Opcode::And => combine(alloc, c, Bitwise::And, flags, width, a, b),
-        Opcode::Or => combine(alloc, c, Bitwise::Or, flags, width, a, b),
-        Opcode::Xor => combine(alloc, c, Bitwise::Xor, flags, width, a, b),
+        Opcode::Shl => strict_effect(alloc, c, Strict::Shl, flags, width, a, b),
+        Opcode::LShr => strict_effect(alloc, c, Strict::LShr, flags, width, a, b),
+        Opcode::AShr => strict_effect(alloc, c, Strict::AShr, flags, width, a, b),
+        Opcode::And => strict_effect(alloc, c, Strict::Bitwise(Bitwise::And), flags, width, a, b),
+        Opcode::Or => strict_effect(alloc, c, Strict::Bitwise(Bitwise::Or), flags, width, a, b),
+        Opcode::Xor => strict_effect(alloc, c, Strict::Bitwise(Bitwise::Xor), flags, width, a, b),
     }
 }

@@ -32,8 +32,7 @@ pub(crate) fn compare<C: Circuit>(
         (held_value (C.value c.old inputs) a.now) (held_value (C.value c.old inputs) b.now))) }
     ensures width { IfOk result (λ made. length made.bits ≡ 1) }
     ensures own { IfOk result (IsOwnEffect (C.has_literal c.new)) }
-    ensures adds { Adds C.has_literal C.admits C.value C.inputs_made C.gates_made c.old c.new
-        (comparison_gates (length a.now.bits) + 1) }
+    ensures adds { Adds C.State c.old c.new (comparison_gates (length a.now.bits) + 1) }
 {
     let truth = holds(alloc, c, pred, &a.bits, &b.bits)?;
     let poison = or(alloc, c, a.poison, b.poison)?;
@@ -60,8 +59,7 @@ fn holds<C: Circuit>(
     ensures value { IfOk result (λ made. (inputs : Seq Bool) → C.admits c.old inputs →
         C.value c.new inputs made
         ≡ holds pred (length a.now) (number_of (C.value c.old inputs) a.now) (number_of (C.value c.old inputs) b.now)) }
-    ensures adds { Adds C.has_literal C.admits C.value C.inputs_made C.gates_made c.old c.new
-        (comparison_gates (length a.now)) }
+    ensures adds { Adds C.State c.old c.new (comparison_gates (length a.now)) }
 {
     let plain = without_negation(alloc, c, pred, a, b)?;
     if is_negation(pred) {
@@ -98,8 +96,7 @@ fn without_negation<C: Circuit>(
         let holds = holds pred (length a.now) (number_of (C.value c.old inputs) a.now)
         (number_of (C.value c.old inputs) b.now) in
         C.value c.new inputs made ≡ (if is_negation pred then not holds else holds)) }
-    ensures adds { Adds C.has_literal C.admits C.value C.inputs_made C.gates_made c.old c.new
-        (comparison_gates (length a.now)) }
+    ensures adds { Adds C.State c.old c.new (comparison_gates (length a.now)) }
 {
     match pred {
         Pred::Eq | Pred::Ne => equal(alloc, c, a, b),
@@ -129,8 +126,7 @@ pub(crate) fn choose<C: Circuit>(
         (held_value (C.value c.old inputs) a.now) (held_value (C.value c.old inputs) b.now))) }
     ensures width { IfOk result (λ made. length made.bits ≡ length a.now.bits) }
     ensures own { IfOk result (IsOwnEffect (C.has_literal c.new)) }
-    ensures adds { Adds C.has_literal C.admits C.value C.inputs_made C.gates_made c.old c.new
-        (select_gates (length a.now.bits) + 2) }
+    ensures adds { Adds C.State c.old c.new (select_gates (length a.now.bits) + 2) }
 {
     let chosen = condition.bits.as_slice()[0];
     let bits = circuits::select(alloc, c, chosen, a.bits.as_slice(), b.bits.as_slice())?;

@@ -7,7 +7,7 @@ ghost use Rattle.circuits.specs.Word.{number_of};
 ghost use Rattle.blast_value.specs.Effect.{held_value, effect_of, IsOwn, IsOwnEffect};
 
 use crate::held::{Blasted, Held};
-use crate::sign::sign;
+use circ_muldiv::sign;
 use circuits::{Bits, Circuit, cut, extend};
 use ops::{Cast, Width};
 use std::alloc::{AllocError, Global};

@@ -60,8 +60,7 @@ pub(crate) fn divide<C: Circuit>(
         (held_value (C.value c.old inputs) a.now) (held_value (C.value c.old inputs) b.now)) }
     ensures width { IfOk result (λ made. length made.bits ≡ width) }
     ensures own { IfOk result (IsOwnEffect (C.has_literal c.new)) }
-    ensures adds { Adds C.has_literal C.admits C.value C.inputs_made C.gates_made c.old c.new
-        (opcode_gates (division_opcode op) width) }
+    ensures adds { Adds C.State c.old c.new (opcode_gates (division_opcode op) width) }
 {
     let undefined = has_no_quotient(alloc, c, op.is_signed(), width, a, b)?;
     let made = result(alloc, c, op, flags, width, &a.bits, &b.bits)?;
@@ -92,7 +91,7 @@ fn has_no_quotient<C: Circuit>(
         ≡ ((C.value c.old inputs b.now.poison || (number_of (C.value c.old inputs) b.now.bits == 0))
         || (signed && ((number_of (C.value c.old inputs) b.now.bits == minus_one width)
         && (C.value c.old inputs a.now.poison || (number_of (C.value c.old inputs) a.now.bits == least width)))))) }
-    ensures adds { Adds C.has_literal C.admits C.value C.inputs_made C.gates_made c.old c.new
+    ensures adds { Adds C.State c.old c.new
         (if signed then 3 * equality_gates width + 4 else equality_gates width + 1) }
 {
     let zero = equals(alloc, c, &b.bits, 0)?;
@@ -121,8 +120,7 @@ fn may_be_too_large<C: Circuit>(
         C.value c.new inputs made
         ≡ ((number_of (C.value c.old inputs) b.now.bits == minus_one width)
         && (C.value c.old inputs a.now.poison || (number_of (C.value c.old inputs) a.now.bits == least width)))) }
-    ensures adds { Adds C.has_literal C.admits C.value C.inputs_made C.gates_made c.old c.new
-        (2 * equality_gates width + 2) }
+    ensures adds { Adds C.State c.old c.new (2 * equality_gates width + 2) }
 {
     let by_minus_one = equals(alloc, c, &b.bits, minus_one(width))?;
     let of_least = equals(alloc, c, &a.bits, least(width))?;
@@ -166,8 +164,7 @@ fn result<C: Circuit>(
         ≡ divided op flags width (number_of (C.value c.old inputs) a.now) (number_of (C.value c.old inputs) b.now)) }
     ensures width { IfOk result (λ made. length made.bits ≡ width) }
     ensures own { IfOk result (IsOwn (C.has_literal c.new)) }
-    ensures adds { Adds C.has_literal C.admits C.value C.inputs_made C.gates_made c.old c.new
-        (quotient_gates (is_signed op) width + equality_gates width) }
+    ensures adds { Adds C.State c.old c.new (quotient_gates (is_signed op) width + equality_gates width) }
 {
     let divided = quotient_and_remainder(alloc, c, op.is_signed(), a, b)?;
     match op {
@@ -215,8 +212,7 @@ fn quotient_and_remainder<C: Circuit>(
         b ≢ 0 →
         number_of (C.value c.new inputs) divided.remainder
         ≡ (if signed then residue n (remainder (signed_number n a) (signed_number n b)) else a % b)) }
-    ensures adds { Adds C.has_literal C.admits C.value C.inputs_made C.gates_made c.old c.new
-        (quotient_gates signed (length a.now)) }
+    ensures adds { Adds C.State c.old c.new (quotient_gates signed (length a.now)) }
 {
     if signed {
         divide_signed(alloc, c, a, b)
@@ -237,8 +233,7 @@ fn is_left<C: Circuit>(
     ensures value { IfOk result (λ left. (inputs : Seq Bool) → C.admits c.old inputs →
         C.value c.new inputs left
         ≡ (asked && not (number_of (C.value c.old inputs) remainder.now == 0))) }
-    ensures adds { Adds C.has_literal C.admits C.value C.inputs_made C.gates_made c.old c.new
-        (equality_gates (length remainder.now)) }
+    ensures adds { Adds C.State c.old c.new (equality_gates (length remainder.now)) }
 {
     if !asked {
         return Ok(c.zero());

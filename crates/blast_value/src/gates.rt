@@ -36,7 +36,7 @@ fn opcode_gates(op: Opcode, width: u32) -> u32
     let square = width * width;
     match op {
         Opcode::Add | Opcode::Sub => 15 * width + 9,
-        Opcode::Mul => 9 * square + 34 * width - 5,
+        Opcode::Mul => 9 * square + 20 * width - 7,
         Opcode::UDiv | Opcode::URem => 6 * square + 9 * width + 2,
         Opcode::SDiv | Opcode::SRem => 6 * square + 37 * width + 6,
         Opcode::Shl => 3 * shift_gates(width) + 6 * width + 4,

@@ -51,8 +51,7 @@ pub fn equals<C: Circuit>(
     ensures own { IfOk result (λ equal. C.has_literal c.new equal) }
     ensures value { IfOk result (λ equal. (inputs : Seq Bool) → C.admits c.old inputs →
         C.value c.new inputs equal ≡ (number_of (C.value c.old inputs) word.now == number)) }
-    ensures adds { Adds C.has_literal C.admits C.value C.inputs_made C.gates_made c.old c.new
-        (equality_gates (length word.now)) }
+    ensures adds { Adds C.State c.old c.new (equality_gates (length word.now)) }
 {
     let number = constant(alloc, c, number, word.len())?;
     equal(alloc, c, word, &number)

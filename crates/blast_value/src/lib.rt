@@ -15,7 +15,6 @@ mod held;
 mod instruction;
 mod known;
 mod shift;
-mod sign;
 mod strict;
 
 pub use blast::blast_value;

@@ -1,89 +1,23 @@
 //! Shifts. (LLVM Language Reference, "Bitwise Binary Operations".)
 ghost use Rattle.std.specs.Prelude.{◌≡◌, ◌==◌, nat_le, ◌+◌, ◌-◌, ◌*◌, ◌%◌, ◌^◌, ◌<◌, Bool, not, ◌&&◌, List as Seq, length, IfOk};
 ghost use Rattle.std.specs.List.{All};
-ghost use Rattle.ops.specs.Instruction.{instruction};
 ghost use Rattle.ops.specs.Shifts.{shl};
 ghost use Rattle.circuits.specs.Circuit.{Adds};
 ghost use Rattle.circuits.specs.Gates.{comparison_gates, equality_gates, shift_gates};
 ghost use Rattle.circuits.specs.Word.{number_of};
-ghost use Rattle.blast_value.specs.Effect.{held_value, effect_of, IsOwn, IsOwnEffect};
-ghost use Rattle.blast_value.specs.Families.{floor, moved_back, shift_opcode, shifted};
-ghost use Rattle.blast_value.specs.Gates.{opcode_gates, left_gates, moved_gates, right_gates};
+ghost use Rattle.blast_value.specs.Effect.{held_value, IsOwn};
+ghost use Rattle.blast_value.specs.Families.{floor, moved_back};
+ghost use Rattle.blast_value.specs.Gates.{left_gates, right_gates};
 
-use crate::held::{Blasted, Held};
+use crate::held::Held;
 use crate::known::constant;
-use crate::sign::sign;
-use crate::strict::strict;
+use circ_muldiv::sign;
 use circuits::{Bits, Circuit, equal, less_unsigned, or, shift_left, shift_right};
 use ops::{Flags, Width};
 use std::alloc::{AllocError, Global};
 
-/// The instructions that shift.
-#[derive(Clone, Copy)]
-pub(crate) enum Shift {
-    Shl,
-    LShr,
-    AShr,
-}
-
-/// The effect of such an instruction: poison where an operand is, where the amount is not below N, and where what is shifted out
-/// breaks a flag.
-pub(crate) fn shift_by<C: Circuit>(
-    alloc: Global,
-    c: &mut C,
-    op: Shift,
-    flags: Flags,
-    width: Width,
-    a: &Held<C::Literal>,
-    b: &Held<C::Literal>,
-) -> Result<Blasted<C::Literal>, AllocError>
-    requires width_a { length a.now.bits ≡ width }
-    requires width_b { length b.now.bits ≡ width }
-    requires own_a { IsOwn (C.has_literal c.old) a.now }
-    requires own_b { IsOwn (C.has_literal c.old) b.now }
-    ensures effect { IfOk result (λ made. (inputs : Seq Bool) → C.admits c.old inputs →
-        effect_of (C.value c.new inputs) made
-        ≡ instruction (shift_opcode op) flags width
-        (held_value (C.value c.old inputs) a.now) (held_value (C.value c.old inputs) b.now)) }
-    ensures width { IfOk result (λ made. length made.bits ≡ width) }
-    ensures own { IfOk result (IsOwnEffect (C.has_literal c.new)) }
-    ensures adds { Adds C.has_literal C.admits C.value C.inputs_made C.gates_made c.old c.new
-        (opcode_gates (shift_opcode op) width) }
-{
-    let made = moved(alloc, c, op, flags, width, &a.bits, &b.bits)?;
-    strict(alloc, c, made, a.poison, b.poison)
-}
-
-/// The same of two numbers.
-fn moved<C: Circuit>(
-    alloc: Global,
-    c: &mut C,
-    op: Shift,
-    flags: Flags,
-    width: Width,
-    a: &Bits<C::Literal>,
-    b: &Bits<C::Literal>,
-) -> Result<Held<C::Literal>, AllocError>
-    requires width_a { length a.now ≡ width }
-    requires width_b { length b.now ≡ width }
-    requires own_a { All (C.has_literal c.old) a.now }
-    requires own_b { All (C.has_literal c.old) b.now }
-    ensures value { IfOk result (λ made. (inputs : Seq Bool) → C.admits c.old inputs →
-        held_value (C.value c.new inputs) made
-        ≡ shifted op flags width (number_of (C.value c.old inputs) a.now) (number_of (C.value c.old inputs) b.now)) }
-    ensures width { IfOk result (λ made. length made.bits ≡ width) }
-    ensures own { IfOk result (IsOwn (C.has_literal c.new)) }
-    ensures adds { Adds C.has_literal C.admits C.value C.inputs_made C.gates_made c.old c.new (moved_gates op width) }
-{
-    match op {
-        Shift::Shl => moved_left(alloc, c, flags, width, a, b),
-        Shift::LShr => moved_right(alloc, c, flags.exact, false, width, a, b),
-        Shift::AShr => moved_right(alloc, c, flags.exact, true, width, a, b),
-    }
-}
-
-/// The number times 2^b, modulo 2^N.
-fn moved_left<C: Circuit>(
+/// The number times 2^b, modulo 2^N; poison where b is not below N, and where what is shifted out breaks a flag.
+pub(crate) fn moved_left<C: Circuit>(
     alloc: Global,
     c: &mut C,
     flags: Flags,
@@ -100,7 +34,7 @@ fn moved_left<C: Circuit>(
         ≡ shl flags width (number_of (C.value c.old inputs) a.now) (number_of (C.value c.old inputs) b.now)) }
     ensures width { IfOk result (λ made. length made.bits ≡ width) }
     ensures own { IfOk result (IsOwn (C.has_literal c.new)) }
-    ensures adds { Adds C.has_literal C.admits C.value C.inputs_made C.gates_made c.old c.new (left_gates width) }
+    ensures adds { Adds C.State c.old c.new (left_gates width) }
 {
     let is_far = is_too_far(alloc, c, width, b)?;
     let bits = shift_left(alloc, c, a, b)?;
@@ -146,7 +80,7 @@ fn loses<C: Circuit>(
         C.value c.new inputs made
         ≡ (asked && not (moved_back signed (length before.now) n amount
         == number_of (C.value c.old inputs) before.now))) }
-    ensures adds { Adds C.has_literal C.admits C.value C.inputs_made C.gates_made c.old c.new
+    ensures adds { Adds C.State c.old c.new
         (shift_gates (length before.now) (length before.now) + equality_gates (length before.now)) }
 {
     if !asked {
@@ -158,8 +92,8 @@ fn loses<C: Circuit>(
     Ok(c.not(same))
 }
 
-/// The floor of the number, or of the signed number, by 2^b.
-fn moved_right<C: Circuit>(
+/// The floor of the number, or of the signed number, by 2^b; poison where b is not below N, and where it is not exact as promised.
+pub(crate) fn moved_right<C: Circuit>(
     alloc: Global,
     c: &mut C,
     exact: bool,
@@ -177,7 +111,7 @@ fn moved_right<C: Circuit>(
         ≡ floor exact signed width (number_of (C.value c.old inputs) a.now) (number_of (C.value c.old inputs) b.now)) }
     ensures width { IfOk result (λ made. length made.bits ≡ width) }
     ensures own { IfOk result (IsOwn (C.has_literal c.new)) }
-    ensures adds { Adds C.has_literal C.admits C.value C.inputs_made C.gates_made c.old c.new (right_gates width) }
+    ensures adds { Adds C.State c.old c.new (right_gates width) }
 {
     let is_far = is_too_far(alloc, c, width, b)?;
     let top = incoming(c, signed, a);
@@ -206,7 +140,7 @@ fn cuts<C: Circuit>(
         C.value c.new inputs made
         ≡ (asked && not ((number_of (C.value c.old inputs) shifted.now * 2 ^ number_of (C.value c.old inputs) amount.now)
         % 2 ^ length before.now == number_of (C.value c.old inputs) before.now))) }
-    ensures adds { Adds C.has_literal C.admits C.value C.inputs_made C.gates_made c.old c.new
+    ensures adds { Adds C.State c.old c.new
         (shift_gates (length before.now) (length before.now) + equality_gates (length before.now)) }
 {
     if !asked {
@@ -229,7 +163,7 @@ fn is_too_far<C: Circuit>(
     ensures own { IfOk result (λ made. C.has_literal c.new made) }
     ensures value { IfOk result (λ made. (inputs : Seq Bool) → C.admits c.old inputs →
         C.value c.new inputs made ≡ nat_le width (number_of (C.value c.old inputs) amount.now)) }
-    ensures adds { Adds C.has_literal C.admits C.value C.inputs_made C.gates_made c.old c.new (comparison_gates width) }
+    ensures adds { Adds C.State c.old c.new (comparison_gates width) }
 {
     let limit = constant(alloc, c, u64::from(width.bits()), amount.len())?;
     let below = less_unsigned(alloc, c, amount, &limit)?;

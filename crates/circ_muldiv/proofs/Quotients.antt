@@ -8,6 +8,7 @@ use Rattle.std.proofs.lemmas.List.Elements.{All-push, All-replicate}
 use Rattle.std.proofs.lemmas.List.Sorted.{All-permutation, IsPermutation-reverse}
 use Rattle.std.proofs.lemmas.Nat.{div-mul-add, mod-mul-add}
 use Rattle.std.proofs.Math.Nat.{pow-succ', mod-eq_of_lt}
+use Rattle.circuits.specs.declared.state.State.{Ghosts}
 use Rattle.circuits.specs.Circuit.{Adds}
 use Rattle.circuits.specs.Word.{bit, number}
 use Rattle.circuits.proofs.Kept.{own_at, All-kept, map-kept, Adds-refl, Adds-trans, Adds-weaken}
@@ -73,13 +74,13 @@ step_more higher b q r left p digit false below range fits_is left_is before =
 
 -- after the steps of the bits of a from its highest down to place i: the quotient, highest bit first, and the remainder of the
 -- number of those bits
-pub record Stepped {C L : Type 0} (has_literal : C → L → Type 0) (admits : C → List Bool → Type 0) (value : C → List Bool → L → Bool) (inputs_made gates_made : C → ℕ) (start now : C) (a b quotient remainder : List L) (i : ℕ) : Type 0 where
-  pub adds : Adds has_literal admits value inputs_made gates_made start now (division_step_gates (length b) * (length a - i))
-  pub own_quotient : All (has_literal now) quotient
-  pub own_remainder : All (has_literal now) remainder
+pub record Stepped {C L : Type 0} (state : Ghosts C L) (start now : C) (a b quotient remainder : List L) (i : ℕ) : Type 0 where
+  pub adds : Adds state start now (division_step_gates (length b) * (length a - i))
+  pub own_quotient : All (state.has_literal now) quotient
+  pub own_remainder : All (state.has_literal now) remainder
   pub quotient_width : length quotient ≡ length a - i
   pub remainder_width : length remainder ≡ length b
-  pub divided : (inputs : List Bool) → admits start inputs → number (map (value start inputs) b) ≢ 0 → (number (map (value start inputs) (drop i a)) ≡ number (map (value start inputs) b) * number (reverse (map (value now inputs) quotient)) + number (map (value now inputs) remainder)) × (number (map (value now inputs) remainder) < number (map (value start inputs) b))
+  pub divided : (inputs : List Bool) → state.admits start inputs → number (map (state.value start inputs) b) ≢ 0 → (number (map (state.value start inputs) (drop i a)) ≡ number (map (state.value start inputs) b) * number (reverse (map (state.value now inputs) quotient)) + number (map (state.value now inputs) remainder)) × (number (map (state.value now inputs) remainder) < number (map (state.value start inputs) b))
 
 gates_more : (gates n i : ℕ) → 0 < i → i ≤ n → gates * (n - i) + gates ≤ gates * (n - (i - 1))
 gates_more gates n i some within =
@@ -99,69 +100,69 @@ gates_end gates n i none =
     let whole : n - i ≡ n = omega arith in
     rw whole (omega arith)
 
-module _ {C L : Type 0} {has_literal : C → L → Type 0} {admits : C → List Bool → Type 0} {value : C → List Bool → L → Bool} {inputs_made gates_made : C → ℕ} {start : C} {a b : List L} where
-  pub stepped_init : (quotient remainder : List L) (zero_literal : L) (i : ℕ) → quotient ≡ [] → remainder ≡ replicate i zero_literal → i ≡ length a → length b ≡ length a → has_literal start zero_literal → ((inputs : List Bool) → admits start inputs → value start inputs zero_literal ≡ false) → Stepped has_literal admits value inputs_made gates_made start start a b quotient remainder i
+module _ {C L : Type 0} {state : Ghosts C L} {start : C} {a b : List L} where
+  pub stepped_init : (quotient remainder : List L) (zero_literal : L) (i : ℕ) → quotient ≡ [] → remainder ≡ replicate i zero_literal → i ≡ length a → length b ≡ length a → state.has_literal start zero_literal → ((inputs : List Bool) → state.admits start inputs → state.value start inputs zero_literal ≡ false) → Stepped state start start a b quotient remainder i
   stepped_init quotient remainder zero_literal i none zeros all same_width own_zero zero_is = record {
     adds = Adds-weaken Adds-refl (omega arith);
     own_quotient = rw none (λ k d below. absurd (omega arith));
-    own_remainder = rw zeros (All-replicate (has_literal start) i zero_literal own_zero);
+    own_remainder = rw zeros (All-replicate (state.has_literal start) i zero_literal own_zero);
     quotient_width = rw none (omega arith);
     remainder_width = ap length zeros ∙ length-replicate i zero_literal ∙ all ∙ sym same_width;
     divided = λ inputs admitted some.
         let nothing_left : drop i a ≡ [] = drop_all i a (omega arith) in
-        let no_remainder : number (map (value start inputs) remainder) ≡ 0 = rw zeros (number-all_zero (value start inputs) i zero_literal (zero_is inputs admitted)) in
+        let no_remainder : number (map (state.value start inputs) remainder) ≡ 0 = rw zeros (number-all_zero (state.value start inputs) i zero_literal (zero_is inputs admitted)) in
         rw (none, nothing_left, no_remainder) (omega arith, omega arith);
   }
 
   -- one step more
-  pub stepped_more : {now next : C} {quotient remainder : List L} {i : ℕ} (left : List L) (digit fits : L) → Stepped has_literal admits value inputs_made gates_made start now a b quotient remainder i → 0 < i → i ≤ length a → All (has_literal start) a → All (has_literal start) b → digit ≡ get_or a (i - 1) digit → Adds has_literal admits value inputs_made gates_made now next (division_step_gates (length b)) → has_literal next fits → All (has_literal next) left → length left ≡ length b → ((inputs : List Bool) → admits now inputs → value next inputs fits ≡ nat_le (number (map (value now inputs) b)) (bit (value now inputs digit) + 2 * number (map (value now inputs) remainder))) → ((inputs : List Bool) → admits now inputs → let longer = bit (value now inputs digit) + 2 * number (map (value now inputs) remainder) in let taken = number (map (value now inputs) b) in number (map (value next inputs) left) ≡ (if nat_le taken longer then longer - taken else longer) % 2 ^ length b) → Stepped has_literal admits value inputs_made gates_made start next a b (quotient ++ fits ∷ []) left (i - 1)
+  pub stepped_more : {now next : C} {quotient remainder : List L} {i : ℕ} (left : List L) (digit fits : L) → Stepped state start now a b quotient remainder i → 0 < i → i ≤ length a → All (state.has_literal start) a → All (state.has_literal start) b → digit ≡ get_or a (i - 1) digit → Adds state now next (division_step_gates (length b)) → state.has_literal next fits → All (state.has_literal next) left → length left ≡ length b → ((inputs : List Bool) → state.admits now inputs → state.value next inputs fits ≡ nat_le (number (map (state.value now inputs) b)) (bit (state.value now inputs digit) + 2 * number (map (state.value now inputs) remainder))) → ((inputs : List Bool) → state.admits now inputs → let longer = bit (state.value now inputs digit) + 2 * number (map (state.value now inputs) remainder) in let taken = number (map (state.value now inputs) b) in number (map (state.value next inputs) left) ≡ (if nat_le taken longer then longer - taken else longer) % 2 ^ length b) → Stepped state start next a b (quotient ++ fits ∷ []) left (i - 1)
   stepped_more {now = now} {next = next} {quotient = quotient} {remainder = remainder} {i = i} left digit fits before some within own_a own_b at_digit adds own_fits own_left width fits_is left_is = record {
     adds = Adds-weaken (Adds-trans before.adds adds) (gates_more (division_step_gates (length b)) (length a) i some within);
-    own_quotient = All-push (has_literal next) quotient fits (All-kept adds.keeps quotient before.own_quotient) own_fits;
+    own_quotient = All-push (state.has_literal next) quotient fits (All-kept adds.keeps quotient before.own_quotient) own_fits;
     own_remainder = own_left;
     quotient_width = let width : length quotient ≡ length a - i = before.quotient_width in length_push quotient fits ∙ omega arith;
     remainder_width = width;
     divided = λ inputs admitted divisor_some.
         let now_admitted = before.adds.keeps.admitted inputs admitted in
         let earlier = before.divided inputs admitted divisor_some in
-        let digit_kept = before.adds.keeps.values inputs digit admitted (own_at (has_literal start) a (i - 1) digit own_a (omega arith) at_digit) in
+        let digit_kept = before.adds.keeps.values inputs digit admitted (own_at (state.has_literal start) a (i - 1) digit own_a (omega arith) at_digit) in
         let b_kept = map-kept before.adds.keeps inputs admitted b own_b in
         let quotient_kept = map-kept adds.keeps inputs now_admitted quotient before.own_quotient in
         let place : i - 1 + 1 ≡ i = omega arith in
         let opened : drop (i - 1) a ≡ digit ∷ drop i a = drop_more a (i - 1) digit (omega arith) ∙ ap (λ d. d ∷ drop (i - 1 + 1) a) (sym at_digit) ∙ ap (λ k. digit ∷ drop k a) place in
-        let reversed : reverse (map (value next inputs) (quotient ++ fits ∷ [])) ≡ value next inputs fits ∷ reverse (map (value now inputs) quotient) =
-        rw (map-append (value next inputs) quotient (fits ∷ []), quotient_kept) (reverse_push (map (value now inputs) quotient) (value next inputs fits)) in
+        let reversed : reverse (map (state.value next inputs) (quotient ++ fits ∷ [])) ≡ state.value next inputs fits ∷ reverse (map (state.value now inputs) quotient) =
+        rw (map-append (state.value next inputs) quotient (fits ∷ []), quotient_kept) (reverse_push (map (state.value now inputs) quotient) (state.value next inputs fits)) in
         rw (opened, reversed)
-        (step_more (number (map (value start inputs) (drop i a))) (number (map (value start inputs) b)) (number (reverse (map (value now inputs) quotient))) (number (map (value now inputs) remainder)) (number (map (value next inputs) left)) (2 ^ length b) (value start inputs digit) (value next inputs fits) earlier.1 (number_below (value start inputs) b)
+        (step_more (number (map (state.value start inputs) (drop i a))) (number (map (state.value start inputs) b)) (number (reverse (map (state.value now inputs) quotient))) (number (map (state.value now inputs) remainder)) (number (map (state.value next inputs) left)) (2 ^ length b) (state.value start inputs digit) (state.value next inputs fits) earlier.1 (number_below (state.value start inputs) b)
         (rw (b_kept, digit_kept) at (fits_is inputs now_admitted)) (rw (b_kept, digit_kept) at (left_is inputs now_admitted)) earlier.0);
   }
 
   -- what a step that isn't finished adds
-  pub stepped_within : {now next : C} {quotient remainder : List L} {i : ℕ} → Stepped has_literal admits value inputs_made gates_made start now a b quotient remainder i → 0 < i → i ≤ length a → length b ≡ length a → Adds has_literal admits value inputs_made gates_made now next (division_step_gates (length b)) → Adds has_literal admits value inputs_made gates_made start next (division_gates (length a))
+  pub stepped_within : {now next : C} {quotient remainder : List L} {i : ℕ} → Stepped state start now a b quotient remainder i → 0 < i → i ≤ length a → length b ≡ length a → Adds state now next (division_step_gates (length b)) → Adds state start next (division_gates (length a))
   stepped_within {i = i} before some within same_width adds =
       Adds-weaken (Adds-trans before.adds adds) (rw same_width (gates_within (division_step_gates (length a)) (length a) i some within))
 
   -- after the steps of all bits
-  pub stepped_adds : {now : C} {quotient remainder : List L} {i : ℕ} → Stepped has_literal admits value inputs_made gates_made start now a b quotient remainder i → i ≡ 0 → length b ≡ length a → Adds has_literal admits value inputs_made gates_made start now (division_gates (length a))
+  pub stepped_adds : {now : C} {quotient remainder : List L} {i : ℕ} → Stepped state start now a b quotient remainder i → i ≡ 0 → length b ≡ length a → Adds state start now (division_gates (length a))
   stepped_adds {i = i} done none same_width = Adds-weaken done.adds (rw same_width (gates_end (division_step_gates (length a)) (length a) i none))
 
-  pub stepped_own : {now : C} {quotient remainder : List L} {i : ℕ} (turned : List L) → Stepped has_literal admits value inputs_made gates_made start now a b quotient remainder i → turned ≡ reverse quotient → All (has_literal now) turned
-  stepped_own {now = now} {quotient = quotient} turned done is = rw is (All-permutation (has_literal now) quotient (reverse quotient) (IsPermutation-reverse quotient) done.own_quotient)
+  pub stepped_own : {now : C} {quotient remainder : List L} {i : ℕ} (turned : List L) → Stepped state start now a b quotient remainder i → turned ≡ reverse quotient → All (state.has_literal now) turned
+  stepped_own {now = now} {quotient = quotient} turned done is = rw is (All-permutation (state.has_literal now) quotient (reverse quotient) (IsPermutation-reverse quotient) done.own_quotient)
 
-  pub stepped_width : {now : C} {quotient remainder : List L} {i : ℕ} (turned : List L) → Stepped has_literal admits value inputs_made gates_made start now a b quotient remainder i → i ≡ 0 → turned ≡ reverse quotient → length turned ≡ length a
+  pub stepped_width : {now : C} {quotient remainder : List L} {i : ℕ} (turned : List L) → Stepped state start now a b quotient remainder i → i ≡ 0 → turned ≡ reverse quotient → length turned ≡ length a
   stepped_width {quotient = quotient} {i = i} turned done none is =
       let width : length quotient ≡ length a - i = done.quotient_width in
       ap length is ∙ length-reverse quotient ∙ omega arith
 
-  whole_parts : {now : C} {quotient remainder : List L} {i : ℕ} (turned : List L) → Stepped has_literal admits value inputs_made gates_made start now a b quotient remainder i → i ≡ 0 → turned ≡ reverse quotient → (inputs : List Bool) → admits start inputs → number (map (value start inputs) b) ≢ 0 → number (map (value start inputs) a) ≡ number (map (value now inputs) turned) * number (map (value start inputs) b) + number (map (value now inputs) remainder)
+  whole_parts : {now : C} {quotient remainder : List L} {i : ℕ} (turned : List L) → Stepped state start now a b quotient remainder i → i ≡ 0 → turned ≡ reverse quotient → (inputs : List Bool) → state.admits start inputs → number (map (state.value start inputs) b) ≢ 0 → number (map (state.value start inputs) a) ≡ number (map (state.value now inputs) turned) * number (map (state.value start inputs) b) + number (map (state.value now inputs) remainder)
   whole_parts {now = now} {quotient = quotient} {i = i} turned done none is inputs admitted some =
-      let whole : number (map (value start inputs) (drop i a)) ≡ number (map (value start inputs) a) = ap (λ k. number (map (value start inputs) (drop k a))) none in
-      rw (is, map-reverse (value now inputs) quotient) (omega (arith, whole, (done.divided inputs admitted some).0))
+      let whole : number (map (state.value start inputs) (drop i a)) ≡ number (map (state.value start inputs) a) = ap (λ k. number (map (state.value start inputs) (drop k a))) none in
+      rw (is, map-reverse (state.value now inputs) quotient) (omega (arith, whole, (done.divided inputs admitted some).0))
 
-  pub stepped_quotient : {now : C} {quotient remainder : List L} {i : ℕ} (turned : List L) → Stepped has_literal admits value inputs_made gates_made start now a b quotient remainder i → i ≡ 0 → turned ≡ reverse quotient → (inputs : List Bool) → admits start inputs → number (map (value start inputs) b) ≢ 0 → number (map (value now inputs) turned) ≡ number (map (value start inputs) a) / number (map (value start inputs) b)
+  pub stepped_quotient : {now : C} {quotient remainder : List L} {i : ℕ} (turned : List L) → Stepped state start now a b quotient remainder i → i ≡ 0 → turned ≡ reverse quotient → (inputs : List Bool) → state.admits start inputs → number (map (state.value start inputs) b) ≢ 0 → number (map (state.value now inputs) turned) ≡ number (map (state.value start inputs) a) / number (map (state.value start inputs) b)
   stepped_quotient {now = now} {remainder = remainder} turned done none is inputs admitted some =
-      rw (whole_parts turned done none is inputs admitted some) (sym (div-mul-add (number (map (value now inputs) turned)) (number (map (value start inputs) b)) (number (map (value now inputs) remainder)) (done.divided inputs admitted some).1))
+      rw (whole_parts turned done none is inputs admitted some) (sym (div-mul-add (number (map (state.value now inputs) turned)) (number (map (state.value start inputs) b)) (number (map (state.value now inputs) remainder)) (done.divided inputs admitted some).1))
 
-  pub stepped_remainder : {now : C} {quotient remainder : List L} {i : ℕ} (turned : List L) → Stepped has_literal admits value inputs_made gates_made start now a b quotient remainder i → i ≡ 0 → turned ≡ reverse quotient → (inputs : List Bool) → admits start inputs → number (map (value start inputs) b) ≢ 0 → number (map (value now inputs) remainder) ≡ number (map (value start inputs) a) % number (map (value start inputs) b)
+  pub stepped_remainder : {now : C} {quotient remainder : List L} {i : ℕ} (turned : List L) → Stepped state start now a b quotient remainder i → i ≡ 0 → turned ≡ reverse quotient → (inputs : List Bool) → state.admits start inputs → number (map (state.value start inputs) b) ≢ 0 → number (map (state.value now inputs) remainder) ≡ number (map (state.value start inputs) a) % number (map (state.value start inputs) b)
   stepped_remainder {now = now} {remainder = remainder} turned done none is inputs admitted some =
-      rw (whole_parts turned done none is inputs admitted some) (sym (mod-mul-add (number (map (value now inputs) turned)) (number (map (value start inputs) b)) (number (map (value now inputs) remainder)) (done.divided inputs admitted some).1))
+      rw (whole_parts turned done none is inputs admitted some) (sym (mod-mul-add (number (map (state.value now inputs) turned)) (number (map (state.value start inputs) b)) (number (map (state.value now inputs) remainder)) (done.divided inputs admitted some).1))

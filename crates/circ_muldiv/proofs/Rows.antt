@@ -6,6 +6,7 @@ use Rattle.std.proofs.lemmas.Bool.Decides.{nat_tests}
 use Rattle.std.proofs.lemmas.List.{length-map, take_all}
 use Rattle.std.proofs.lemmas.Nat.{pow-add, pow_pos}
 use Rattle.std.proofs.Math.Nat.{pow-succ', mod-eq_of_lt}
+use Rattle.circuits.specs.declared.state.State.{Ghosts}
 use Rattle.circuits.specs.Circuit.{Adds}
 use Rattle.circuits.specs.Word.{bit, number}
 use Rattle.circuits.proofs.Kept.{own_at, All-kept, map-kept, Keeps-trans, Adds-trans, Adds-weaken}
@@ -100,15 +101,15 @@ used_more n i some inside =
 
 -- after the rows of the lowest i bits of b: the product of a and those bits, whether it overflows, and whether a, shifted to the
 -- next row, has a true bit past the width
-pub record Multiplied {C L : Type 0} (has_literal : C → L → Type 0) (admits : C → List Bool → Type 0) (value : C → List Bool → L → Bool) (inputs_made gates_made : C → ℕ) (start now : C) (a b bits : List L) (overflow past : L) (i : ℕ) : Type 0 where
-  pub adds : Adds has_literal admits value inputs_made gates_made start now (product_gates (length a) - later_gates (length a - i))
-  pub own_bits : All (has_literal now) bits
-  pub own_overflow : has_literal now overflow
-  pub own_past : has_literal now past
+pub record Multiplied {C L : Type 0} (state : Ghosts C L) (start now : C) (a b bits : List L) (overflow past : L) (i : ℕ) : Type 0 where
+  pub adds : Adds state start now (product_gates (length a) - later_gates (length a - i))
+  pub own_bits : All (state.has_literal now) bits
+  pub own_overflow : state.has_literal now overflow
+  pub own_past : state.has_literal now past
   pub width : length bits ≡ length a
-  pub product : (inputs : List Bool) → admits start inputs → number (map (value now inputs) bits) ≡ (number (map (value start inputs) a) * number (map (value start inputs) (take i b))) % 2 ^ length a
-  pub overflows : (inputs : List Bool) → admits start inputs → value now inputs overflow ≡ nat_le (2 ^ length a) (number (map (value start inputs) a) * number (map (value start inputs) (take i b)))
-  pub shifted_out : (inputs : List Bool) → admits start inputs → value now inputs past ≡ nat_le (2 ^ (length a - i)) (number (map (value start inputs) a))
+  pub product : (inputs : List Bool) → state.admits start inputs → number (map (state.value now inputs) bits) ≡ (number (map (state.value start inputs) a) * number (map (state.value start inputs) (take i b))) % 2 ^ length a
+  pub overflows : (inputs : List Bool) → state.admits start inputs → state.value now inputs overflow ≡ nat_le (2 ^ length a) (number (map (state.value start inputs) a) * number (map (state.value start inputs) (take i b)))
+  pub shifted_out : (inputs : List Bool) → state.admits start inputs → state.value now inputs past ≡ nat_le (2 ^ (length a - i)) (number (map (state.value start inputs) a))
 
 first_gates : (n : ℕ) → 0 < n → n ≤ product_gates n - later_gates (n - 1)
 unfolding later_gates
@@ -125,39 +126,39 @@ first_row n a d false below is =
     rw none (remainder (0 * a) (2 ^ n) 0 (a * 0) (omega arith) (omega arith), grind (arith, nat_tests))
 
 -- the first row is the word where the lowest bit is true
-pub multiplied_init : {C L : Type 0} {has_literal : C → L → Type 0} {admits : C → List Bool → Type 0} {value : C → List Bool → L → Bool} {inputs_made gates_made : C → ℕ} {start now : C} (a b bits : List L) (digit zero_literal top : L) → 0 < length a → length b ≡ length a → All (has_literal start) a → digit ≡ get_or b 0 digit → top ≡ get_or a (length a - 1) top → Adds has_literal admits value inputs_made gates_made start now (length a) → All (has_literal now) bits → length bits ≡ length a → ((inputs : List Bool) → admits start inputs → number (map (value now inputs) bits) ≡ bit (value start inputs digit) * number (map (value start inputs) a)) → has_literal now zero_literal → ((inputs : List Bool) → admits now inputs → value now inputs zero_literal ≡ false) → Multiplied has_literal admits value inputs_made gates_made start now a b bits zero_literal top 1
-multiplied_init {has_literal = has_literal} {admits = admits} {value = value} {start = start} {now = now} a b bits digit zero_literal top some same_width own_a at_digit at_top adds own_bits width bits_are own_zero zero_is =
+pub multiplied_init : {C L : Type 0} {state : Ghosts C L} {start now : C} (a b bits : List L) (digit zero_literal top : L) → 0 < length a → length b ≡ length a → All (state.has_literal start) a → digit ≡ get_or b 0 digit → top ≡ get_or a (length a - 1) top → Adds state start now (length a) → All (state.has_literal now) bits → length bits ≡ length a → ((inputs : List Bool) → state.admits start inputs → number (map (state.value now inputs) bits) ≡ bit (state.value start inputs digit) * number (map (state.value start inputs) a)) → state.has_literal now zero_literal → ((inputs : List Bool) → state.admits now inputs → state.value now inputs zero_literal ≡ false) → Multiplied state start now a b bits zero_literal top 1
+multiplied_init {state = state} {start = start} {now = now} a b bits digit zero_literal top some same_width own_a at_digit at_top adds own_bits width bits_are own_zero zero_is =
     let facts = λ (inputs : List Bool).
-    let below : number (map (value start inputs) a) < 2 ^ length a = subst (λ k. number (map (value start inputs) a) < 2 ^ k) (length-map a (value start inputs)) (number-below (map (value start inputs) a)) in
-    first_row (length a) (number (map (value start inputs) a)) (number (map (value start inputs) (take 1 b))) (value start inputs digit) below (number-take_more (value start inputs) b 0 digit (omega arith) at_digit) in
+    let below : number (map (state.value start inputs) a) < 2 ^ length a = subst (λ k. number (map (state.value start inputs) a) < 2 ^ k) (length-map a (state.value start inputs)) (number-below (map (state.value start inputs) a)) in
+    first_row (length a) (number (map (state.value start inputs) a)) (number (map (state.value start inputs) (take 1 b))) (state.value start inputs digit) below (number-take_more (state.value start inputs) b 0 digit (omega arith) at_digit) in
     record {
       adds = Adds-weaken adds (first_gates (length a) some);
       own_bits = own_bits;
       own_overflow = own_zero;
-      own_past = adds.keeps.literals top (own_at (has_literal start) a (length a - 1) top own_a (omega arith) at_top);
+      own_past = adds.keeps.literals top (own_at (state.has_literal start) a (length a - 1) top own_a (omega arith) at_top);
       width = width;
       product = λ inputs admitted. bits_are inputs admitted ∙ (facts inputs).0;
       overflows = λ inputs admitted. zero_is inputs (adds.keeps.admitted inputs admitted) ∙ (facts inputs).1;
-      shifted_out = λ inputs admitted. adds.keeps.values inputs top admitted (own_at (has_literal start) a (length a - 1) top own_a (omega arith) at_top) ∙ highest_bit (value start inputs) a top some at_top;
+      shifted_out = λ inputs admitted. adds.keeps.values inputs top admitted (own_at (state.has_literal start) a (length a - 1) top own_a (omega arith) at_top) ∙ highest_bit (state.value start inputs) a top some at_top;
     }
 
 -- one row more
-pub multiplied_more : {C L : Type 0} {has_literal : C → L → Type 0} {admits : C → List Bool → Type 0} {value : C → List Bool → L → Bool} {inputs_made gates_made : C → ℕ} {start now s1 s2 s3 : C} {a b bits : List L} {overflow past : L} {i : ℕ} (row : List L) (digit lower carry lost next : L) → Multiplied has_literal admits value inputs_made gates_made start now a b bits overflow past i → 0 < i → i < length a → length b ≡ length a → All (has_literal start) a → All (has_literal start) b → digit ≡ get_or b i digit → lower ≡ get_or a (length a - 1 - i) lower → Adds has_literal admits value inputs_made gates_made now s1 (row_gates (length a - i)) → Adds has_literal admits value inputs_made gates_made s1 s2 3 → Adds has_literal admits value inputs_made gates_made s2 s3 1 → All (has_literal s1) row → has_literal s1 carry → length row ≡ length a → has_literal s2 lost → has_literal s3 next → ((inputs : List Bool) → admits now inputs → number (map (value s1 inputs) row) + 2 ^ length a * bit (value s1 inputs carry) ≡ number (map (value now inputs) bits) + 2 ^ i * (bit (value now inputs digit) * (number (map (value now inputs) a) % 2 ^ (length a - i)))) → ((inputs : List Bool) → admits s1 inputs → value s2 inputs lost ≡ ((value s1 inputs overflow || value s1 inputs carry) || (value s1 inputs digit && value s1 inputs past))) → ((inputs : List Bool) → admits s2 inputs → value s3 inputs next ≡ (value s2 inputs past || value s2 inputs lower)) → Multiplied has_literal admits value inputs_made gates_made start s3 a b row lost next (i + 1)
-multiplied_more {has_literal = has_literal} {admits = admits} {value = value} {start = start} {now = now} {s1 = s1} {s2 = s2} {s3 = s3} {a = a} {b = b} {bits = bits} {overflow = overflow} {past = past} {i = i} row digit lower carry lost next before some inside same_width own_a own_b at_digit at_lower first second third own_row own_carry width own_lost own_next row_is lost_is next_is =
-    let own_digit = own_at (has_literal start) b i digit own_b (omega arith) at_digit in
-    let own_lower = own_at (has_literal start) a (length a - 1 - i) lower own_a (omega arith) at_lower in
+pub multiplied_more : {C L : Type 0} {state : Ghosts C L} {start now s1 s2 s3 : C} {a b bits : List L} {overflow past : L} {i : ℕ} (row : List L) (digit lower carry lost next : L) → Multiplied state start now a b bits overflow past i → 0 < i → i < length a → length b ≡ length a → All (state.has_literal start) a → All (state.has_literal start) b → digit ≡ get_or b i digit → lower ≡ get_or a (length a - 1 - i) lower → Adds state now s1 (row_gates (length a - i)) → Adds state s1 s2 3 → Adds state s2 s3 1 → All (state.has_literal s1) row → state.has_literal s1 carry → length row ≡ length a → state.has_literal s2 lost → state.has_literal s3 next → ((inputs : List Bool) → state.admits now inputs → number (map (state.value s1 inputs) row) + 2 ^ length a * bit (state.value s1 inputs carry) ≡ number (map (state.value now inputs) bits) + 2 ^ i * (bit (state.value now inputs digit) * (number (map (state.value now inputs) a) % 2 ^ (length a - i)))) → ((inputs : List Bool) → state.admits s1 inputs → state.value s2 inputs lost ≡ ((state.value s1 inputs overflow || state.value s1 inputs carry) || (state.value s1 inputs digit && state.value s1 inputs past))) → ((inputs : List Bool) → state.admits s2 inputs → state.value s3 inputs next ≡ (state.value s2 inputs past || state.value s2 inputs lower)) → Multiplied state start s3 a b row lost next (i + 1)
+multiplied_more {state = state} {start = start} {now = now} {s1 = s1} {s2 = s2} {s3 = s3} {a = a} {b = b} {bits = bits} {overflow = overflow} {past = past} {i = i} row digit lower carry lost next before some inside same_width own_a own_b at_digit at_lower first second third own_row own_carry width own_lost own_next row_is lost_is next_is =
+    let own_digit = own_at (state.has_literal start) b i digit own_b (omega arith) at_digit in
+    let own_lower = own_at (state.has_literal start) a (length a - 1 - i) lower own_a (omega arith) at_lower in
     let to_s1 = Keeps-trans before.adds.keeps first.keeps in
     let to_s2 = Keeps-trans to_s1 second.keeps in
     let later = Keeps-trans second.keeps third.keeps in
     let whole : i + (length a - i) ≡ length a = omega arith in
     let range : 2 ^ length a ≡ 2 ^ i * 2 ^ (length a - i) = ap (λ k. 2 ^ k) (sym whole) ∙ pow-add 2 i (length a - i) in
-    let total = λ (inputs : List Bool) (admitted : admits start inputs).
+    let total = λ (inputs : List Bool) (admitted : state.admits start inputs).
     let digit_kept = before.adds.keeps.values inputs digit admitted own_digit in
     let a_kept = map-kept before.adds.keeps inputs admitted a own_a in
     rw (digit_kept, a_kept, range) at (row_is inputs (before.adds.keeps.admitted inputs admitted)) in
     let below = λ (inputs : List Bool).
-    let row_width : length (map (value s1 inputs) row) ≡ length a = length-map row (value s1 inputs) ∙ width in
-    rw (row_width, range) at (number-below (map (value s1 inputs) row)) in
+    let row_width : length (map (state.value s1 inputs) row) ≡ length a = length-map row (state.value s1 inputs) ∙ width in
+    rw (row_width, range) at (number-below (map (state.value s1 inputs) row)) in
     record {
       adds = Adds-weaken (Adds-trans (Adds-trans (Adds-trans before.adds first) second) third) (used_more (length a) i some inside);
       own_bits = All-kept later row own_row;
@@ -166,8 +167,8 @@ multiplied_more {has_literal = has_literal} {admits = admits} {value = value} {s
       width = width;
       product = λ inputs admitted.
           let row_kept = map-kept later inputs (to_s1.admitted inputs admitted) row own_row in
-          rw (row_kept, number-take_more (value start inputs) b i digit (omega arith) at_digit, range)
-          (row_number (2 ^ i) (2 ^ (length a - i)) (number (map (value start inputs) a)) (number (map (value start inputs) (take i b))) (number (map (value now inputs) bits)) (number (map (value s1 inputs) row)) (value start inputs digit) (value s1 inputs carry) (pow_pos (length a - i)) (subst (λ k. 0 < k) range (pow_pos (length a))) (rw range at (before.product inputs admitted)) (below inputs) (total inputs admitted));
+          rw (row_kept, number-take_more (state.value start inputs) b i digit (omega arith) at_digit, range)
+          (row_number (2 ^ i) (2 ^ (length a - i)) (number (map (state.value start inputs) a)) (number (map (state.value start inputs) (take i b))) (number (map (state.value now inputs) bits)) (number (map (state.value s1 inputs) row)) (state.value start inputs digit) (state.value s1 inputs carry) (pow_pos (length a - i)) (subst (λ k. 0 < k) range (pow_pos (length a))) (rw range at (before.product inputs admitted)) (below inputs) (total inputs admitted));
       overflows = λ inputs admitted.
           let now_admitted = before.adds.keeps.admitted inputs admitted in
           let s1_admitted = to_s1.admitted inputs admitted in
@@ -175,31 +176,31 @@ multiplied_more {has_literal = has_literal} {admits = admits} {value = value} {s
           let overflow_kept = first.keeps.values inputs overflow now_admitted before.own_overflow in
           let digit_kept = to_s1.values inputs digit admitted own_digit in
           let past_kept = first.keeps.values inputs past now_admitted before.own_past in
-          rw (lost_kept, lost_is inputs s1_admitted, overflow_kept, before.overflows inputs admitted, digit_kept, past_kept, before.shifted_out inputs admitted, number-take_more (value start inputs) b i digit (omega arith) at_digit, range)
-          (sym (row_overflow (2 ^ i) (2 ^ (length a - i)) (number (map (value start inputs) a)) (number (map (value start inputs) (take i b))) (number (map (value now inputs) bits)) (number (map (value s1 inputs) row)) (value start inputs digit) (value s1 inputs carry) (pow_pos (length a - i)) (subst (λ k. 0 < k) range (pow_pos (length a))) (rw range at (before.product inputs admitted)) (below inputs) (total inputs admitted)));
+          rw (lost_kept, lost_is inputs s1_admitted, overflow_kept, before.overflows inputs admitted, digit_kept, past_kept, before.shifted_out inputs admitted, number-take_more (state.value start inputs) b i digit (omega arith) at_digit, range)
+          (sym (row_overflow (2 ^ i) (2 ^ (length a - i)) (number (map (state.value start inputs) a)) (number (map (state.value start inputs) (take i b))) (number (map (state.value now inputs) bits)) (number (map (state.value s1 inputs) row)) (state.value start inputs digit) (state.value s1 inputs carry) (pow_pos (length a - i)) (subst (λ k. 0 < k) range (pow_pos (length a))) (rw range at (before.product inputs admitted)) (below inputs) (total inputs admitted)));
       shifted_out = λ inputs admitted.
           let now_admitted = before.adds.keeps.admitted inputs admitted in
           let past_kept = (Keeps-trans first.keeps second.keeps).values inputs past now_admitted before.own_past in
           let lower_kept = to_s2.values inputs lower admitted own_lower in
           let place : length a - (i + 1) ≡ length a - 1 - i = omega arith in
           let above : length a - 1 - i + 1 ≡ length a - i = omega arith in
-          let reached : nat_le (2 ^ (length a - 1 - i)) (number (map (value start inputs) a)) ≡ (nat_le (2 ^ (length a - i)) (number (map (value start inputs) a)) || value start inputs lower) =
-          subst (λ k. nat_le (2 ^ (length a - 1 - i)) (number (map (value start inputs) a)) ≡ (nat_le (2 ^ k) (number (map (value start inputs) a)) || value start inputs lower)) above (bit_above (value start inputs) a (length a - 1 - i) lower (omega arith) at_lower) in
+          let reached : nat_le (2 ^ (length a - 1 - i)) (number (map (state.value start inputs) a)) ≡ (nat_le (2 ^ (length a - i)) (number (map (state.value start inputs) a)) || state.value start inputs lower) =
+          subst (λ k. nat_le (2 ^ (length a - 1 - i)) (number (map (state.value start inputs) a)) ≡ (nat_le (2 ^ k) (number (map (state.value start inputs) a)) || state.value start inputs lower)) above (bit_above (state.value start inputs) a (length a - 1 - i) lower (omega arith) at_lower) in
           rw (next_is inputs (to_s2.admitted inputs admitted), past_kept, before.shifted_out inputs admitted, lower_kept, place) (sym reached);
     }
 
 -- what a row that isn't finished adds
-pub multiplied_within : {C L : Type 0} {has_literal : C → L → Type 0} {admits : C → List Bool → Type 0} {value : C → List Bool → L → Bool} {inputs_made gates_made : C → ℕ} {start now next : C} {a b bits : List L} {overflow past : L} {i most : ℕ} → Multiplied has_literal admits value inputs_made gates_made start now a b bits overflow past i → 0 < i → i < length a → Adds has_literal admits value inputs_made gates_made now next most → most ≤ row_gates (length a - i) + 3 + 1 → Adds has_literal admits value inputs_made gates_made start next (product_gates (length a))
+pub multiplied_within : {C L : Type 0} {state : Ghosts C L} {start now next : C} {a b bits : List L} {overflow past : L} {i most : ℕ} → Multiplied state start now a b bits overflow past i → 0 < i → i < length a → Adds state now next most → most ≤ row_gates (length a - i) + 3 + 1 → Adds state start next (product_gates (length a))
 multiplied_within {a = a} {i = i} before some inside adds few = Adds-weaken (Adds-trans before.adds adds) (omega (arith, used_more (length a) i some inside))
 
 -- after the rows of all bits
-pub multiplied_adds : {C L : Type 0} {has_literal : C → L → Type 0} {admits : C → List Bool → Type 0} {value : C → List Bool → L → Bool} {inputs_made gates_made : C → ℕ} {start now : C} {a b bits : List L} {overflow past : L} {i : ℕ} → Multiplied has_literal admits value inputs_made gates_made start now a b bits overflow past i → Adds has_literal admits value inputs_made gates_made start now (product_gates (length a))
+pub multiplied_adds : {C L : Type 0} {state : Ghosts C L} {start now : C} {a b bits : List L} {overflow past : L} {i : ℕ} → Multiplied state start now a b bits overflow past i → Adds state start now (product_gates (length a))
 multiplied_adds done = Adds-weaken done.adds (omega arith)
 
-pub multiplied_product : {C L : Type 0} {has_literal : C → L → Type 0} {admits : C → List Bool → Type 0} {value : C → List Bool → L → Bool} {inputs_made gates_made : C → ℕ} {start now : C} {a b bits : List L} {overflow past : L} {i : ℕ} → Multiplied has_literal admits value inputs_made gates_made start now a b bits overflow past i → i ≡ length b → (inputs : List Bool) → admits start inputs → number (map (value now inputs) bits) ≡ (number (map (value start inputs) a) * number (map (value start inputs) b)) % 2 ^ length a
-multiplied_product {value = value} {start = start} {a = a} {b = b} {i = i} done all inputs admitted =
-    done.product inputs admitted ∙ ap (λ w. (number (map (value start inputs) a) * number (map (value start inputs) w)) % 2 ^ length a) (take_all i b (omega arith))
+pub multiplied_product : {C L : Type 0} {state : Ghosts C L} {start now : C} {a b bits : List L} {overflow past : L} {i : ℕ} → Multiplied state start now a b bits overflow past i → i ≡ length b → (inputs : List Bool) → state.admits start inputs → number (map (state.value now inputs) bits) ≡ (number (map (state.value start inputs) a) * number (map (state.value start inputs) b)) % 2 ^ length a
+multiplied_product {state = state} {start = start} {a = a} {b = b} {i = i} done all inputs admitted =
+    done.product inputs admitted ∙ ap (λ w. (number (map (state.value start inputs) a) * number (map (state.value start inputs) w)) % 2 ^ length a) (take_all i b (omega arith))
 
-pub multiplied_overflows : {C L : Type 0} {has_literal : C → L → Type 0} {admits : C → List Bool → Type 0} {value : C → List Bool → L → Bool} {inputs_made gates_made : C → ℕ} {start now : C} {a b bits : List L} {overflow past : L} {i : ℕ} → Multiplied has_literal admits value inputs_made gates_made start now a b bits overflow past i → i ≡ length b → (inputs : List Bool) → admits start inputs → value now inputs overflow ≡ nat_le (2 ^ length a) (number (map (value start inputs) a) * number (map (value start inputs) b))
-multiplied_overflows {value = value} {start = start} {a = a} {b = b} {i = i} done all inputs admitted =
-    done.overflows inputs admitted ∙ ap (λ w. nat_le (2 ^ length a) (number (map (value start inputs) a) * number (map (value start inputs) w))) (take_all i b (omega arith))
+pub multiplied_overflows : {C L : Type 0} {state : Ghosts C L} {start now : C} {a b bits : List L} {overflow past : L} {i : ℕ} → Multiplied state start now a b bits overflow past i → i ≡ length b → (inputs : List Bool) → state.admits start inputs → state.value now inputs overflow ≡ nat_le (2 ^ length a) (number (map (state.value start inputs) a) * number (map (state.value start inputs) b))
+multiplied_overflows {state = state} {start = start} {a = a} {b = b} {i = i} done all inputs admitted =
+    done.overflows inputs admitted ∙ ap (λ w. nat_le (2 ^ length a) (number (map (state.value start inputs) a) * number (map (state.value start inputs) w))) (take_all i b (omega arith))

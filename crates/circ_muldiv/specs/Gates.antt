@@ -1,5 +1,5 @@
 -- How many gates the circuits of products, quotients and overflows add at most, for words of `width` bits.
-use Rattle.std.specs.Prelude.{ℕ, ◌+◌, ◌-◌, ◌*◌}
+use Rattle.std.specs.Prelude.{ℕ, Bool, true, false, ◌+◌, ◌-◌, ◌*◌}
 use Rattle.circuits.specs.Gates.{adder_gates, comparison_gates, select_gates}
 
 -- A row of a product: a conjunction and a full adder a bit.
@@ -19,9 +19,11 @@ magnitude_gates width = adder_gates width + select_gates width
 abbrev pub overflow_add_gates : ℕ → ℕ
 overflow_add_gates width = adder_gates width + 3
 
--- Whether a product overflows: the product of two absolute values, and whether it is above the greatest.
-abbrev pub overflow_mul_gates : ℕ → ℕ
-overflow_mul_gates width = 2 * magnitude_gates width + product_gates width + comparison_gates width + 2
+-- Whether a product overflows: of unsigned numbers the product itself; of signed ones that of two absolute values, and whether it is
+-- above the greatest.
+abbrev pub overflow_mul_gates : Bool → ℕ → ℕ
+overflow_mul_gates false width = product_gates width
+overflow_mul_gates true width = 2 * magnitude_gates width + product_gates width + comparison_gates width + 2
 
 -- One step of a division: a difference of one bit more, and a choice by it.
 abbrev pub division_step_gates : ℕ → ℕ

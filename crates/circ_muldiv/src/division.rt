@@ -42,7 +42,7 @@ pub fn divide_unsigned<C: Circuit>(
         number_of (C.value c.old inputs) b.now ≢ 0 →
         number_of (C.value c.new inputs) divided.remainder
         ≡ number_of (C.value c.old inputs) a.now % number_of (C.value c.old inputs) b.now) }
-    ensures adds { Adds C.has_literal C.admits C.value C.inputs_made C.gates_made c.old c.new
+    ensures adds { Adds C.State c.old c.new
         (division_gates (length a.now)) }
 {
     let dividend = a.as_slice();
@@ -96,7 +96,7 @@ fn divide_step<C: Circuit>(
         let taken = number_of (C.value c.old inputs) divisor.now in
         number_of (C.value c.new inputs) step.remainder
         ≡ (if nat_le taken longer then longer - taken else longer) % 2 ^ length divisor.now) }
-    ensures adds { Adds C.has_literal C.admits C.value C.inputs_made C.gates_made c.old c.new
+    ensures adds { Adds C.State c.old c.new
         (division_step_gates (length divisor.now)) }
 {
     let mut complement = inverted(alloc, c, divisor)?;

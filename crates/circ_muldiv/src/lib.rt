@@ -12,6 +12,7 @@ mod row;
 mod signed_division;
 
 pub use division::{Divided, divide_unsigned};
+pub use magnitude::sign;
 pub use overflow::{overflow_add, overflow_mul, overflow_sub};
 pub use product::multiply;
 pub use signed_division::divide_signed;

@@ -9,7 +9,7 @@ use circuits::{Bits, Circuit, neg, select};
 use std::alloc::{AllocError, Global};
 
 /// The highest bit of a word: where it is read as signed, whether it is negative.
-pub(crate) fn sign<L: Copy>(word: &Bits<L>) -> L
+pub fn sign<L: Copy>(word: &Bits<L>) -> L
     requires { 0 < length word.now }
     ensures { result ≡ slice_index_or word.now (length word.now - 1) result }
 {
@@ -29,7 +29,7 @@ pub(crate) fn magnitude<C: Circuit>(
     ensures number { IfOk result (λ magnitude. (inputs : Seq Bool) → C.admits c.old inputs →
         number_of (C.value c.new inputs) magnitude
         ≡ unsigned_abs (signed (length a.now) (number_of (C.value c.old inputs) a.now))) }
-    ensures adds { Adds C.has_literal C.admits C.value C.inputs_made C.gates_made c.old c.new
+    ensures adds { Adds C.State c.old c.new
         (magnitude_gates (length a.now)) }
 {
     let negation = neg(alloc, c, a)?;

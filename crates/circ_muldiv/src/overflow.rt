@@ -31,7 +31,7 @@ pub fn overflow_add<C: Circuit>(
         ≡ not (fits signed (length a.now)
         (whole signed (length a.now) (number_of (C.value c.old inputs) a.now)
         +ℤ whole signed (length a.now) (number_of (C.value c.old inputs) b.now)))) }
-    ensures adds { Adds C.has_literal C.admits C.value C.inputs_made C.gates_made c.old c.new
+    ensures adds { Adds C.State c.old c.new
         (overflow_add_gates (length a.now)) }
 {
     let first = c.zero();
@@ -62,7 +62,7 @@ pub fn overflow_sub<C: Circuit>(
         ≡ not (fits signed (length a.now)
         (whole signed (length a.now) (number_of (C.value c.old inputs) a.now)
         -ℤ whole signed (length a.now) (number_of (C.value c.old inputs) b.now)))) }
-    ensures adds { Adds C.has_literal C.admits C.value C.inputs_made C.gates_made c.old c.new
+    ensures adds { Adds C.State c.old c.new
         (overflow_add_gates (length a.now)) }
 {
     if signed {
@@ -74,7 +74,7 @@ pub fn overflow_sub<C: Circuit>(
 }
 
 /// Whether the product of two words of one width N, both read as signed or both as unsigned, doesn't fit N bits. It adds at
-/// most 3 N^2 + 16 N - 2 gates.
+/// most 3 N^2 + 16 N - 2 gates, unsigned 3 N^2 + 2 N - 4.
 pub fn overflow_mul<C: Circuit>(
     alloc: Global,
     c: &mut C,
@@ -92,8 +92,8 @@ pub fn overflow_mul<C: Circuit>(
         ≡ not (fits signed (length a.now)
         (whole signed (length a.now) (number_of (C.value c.old inputs) a.now)
         *ℤ whole signed (length a.now) (number_of (C.value c.old inputs) b.now)))) }
-    ensures adds { Adds C.has_literal C.admits C.value C.inputs_made C.gates_made c.old c.new
-        (overflow_mul_gates (length a.now)) }
+    ensures adds { Adds C.State c.old c.new
+        (overflow_mul_gates signed (length a.now)) }
 {
     if signed {
         overflow_mul_signed(alloc, c, a, b)
@@ -121,8 +121,8 @@ fn overflow_mul_signed<C: Circuit>(
         ≡ not (fits true (length a.now)
         (whole true (length a.now) (number_of (C.value c.old inputs) a.now)
         *ℤ whole true (length a.now) (number_of (C.value c.old inputs) b.now)))) }
-    ensures adds { Adds C.has_literal C.admits C.value C.inputs_made C.gates_made c.old c.new
-        (overflow_mul_gates (length a.now)) }
+    ensures adds { Adds C.State c.old c.new
+        (overflow_mul_gates true (length a.now)) }
 {
     let magnitude_a = magnitude(alloc, c, a)?;
     let magnitude_b = magnitude(alloc, c, b)?;
@@ -170,7 +170,7 @@ fn differs_from_both<C: Circuit>(
         C.value c.new inputs made
         ≡ (xor (C.value c.old inputs x) (C.value c.old inputs y)
         && xor (C.value c.old inputs x) (C.value c.old inputs z))) }
-    ensures adds { Adds C.has_literal C.admits C.value C.inputs_made C.gates_made c.old c.new 3 }
+    ensures adds { Adds C.State c.old c.new 3 }
 {
     let from_y = c.xor(alloc, x, y)?;
     let from_z = c.xor(alloc, x, z)?;

@@ -26,7 +26,7 @@ pub fn multiply<C: Circuit>(
         number_of (C.value c.new inputs) product
         ≡ (number_of (C.value c.old inputs) a.now * number_of (C.value c.old inputs) b.now)
         % 2 ^ length a.now) }
-    ensures adds { Adds C.has_literal C.admits C.value C.inputs_made C.gates_made c.old c.new
+    ensures adds { Adds C.State c.old c.new
         (product_gates (length a.now)) }
 {
     let product = multiply_with_overflow(alloc, c, a.as_slice(), b.as_slice())?;
@@ -66,7 +66,7 @@ pub(crate) fn multiply_with_overflow<C: Circuit>(
         C.value c.new inputs product.overflow
         ≡ nat_le (2 ^ length a.now)
         (number_of (C.value c.old inputs) a.now * number_of (C.value c.old inputs) b.now)) }
-    ensures adds { Adds C.has_literal C.admits C.value C.inputs_made C.gates_made c.old c.new
+    ensures adds { Adds C.State c.old c.new
         (product_gates (length a.now)) }
 {
     let top = a.len() - 1;

@@ -23,7 +23,7 @@ pub(crate) fn masked<C: Circuit>(
     ensures number { IfOk result (λ masked. (inputs : Seq Bool) → C.admits c.old inputs →
         number_of (C.value c.new inputs) masked
         ≡ bit (C.value c.old inputs digit) * number_of (C.value c.old inputs) word.now) }
-    ensures adds { Adds C.has_literal C.admits C.value C.inputs_made C.gates_made c.old c.new (length word.now) }
+    ensures adds { Adds C.State c.old c.new (length word.now) }
 {
     let mut masked = List::new(alloc);
     for bit in word {
@@ -54,7 +54,7 @@ pub(crate) fn add_row<C: Circuit>(
         number_of (C.value c.new inputs) sum.bits + 2 ^ length a.now * bit (C.value c.new inputs sum.carry)
         ≡ number_of (C.value c.old inputs) word.now + 2 ^ place * (bit (C.value c.old inputs digit)
         * (number_of (C.value c.old inputs) a.now % 2 ^ (length a.now - place)))) }
-    ensures adds { Adds C.has_literal C.admits C.value C.inputs_made C.gates_made c.old c.new
+    ensures adds { Adds C.State c.old c.new
         (row_gates (length a.now - place)) }
 {
     let shifted = masked(alloc, c, &a[..a.len() - place], digit)?;
@@ -87,7 +87,7 @@ pub(crate) fn loses<C: Circuit>(
         C.value c.new inputs made
         ≡ ((C.value c.old inputs before || C.value c.old inputs carry)
         || (C.value c.old inputs digit && C.value c.old inputs past))) }
-    ensures adds { Adds C.has_literal C.admits C.value C.inputs_made C.gates_made c.old c.new 3 }
+    ensures adds { Adds C.State c.old c.new 3 }
 {
     let dropped = c.and(alloc, digit, past)?;
     let earlier = or(alloc, c, before, carry)?;

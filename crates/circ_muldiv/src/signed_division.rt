@@ -38,7 +38,7 @@ pub fn divide_signed<C: Circuit>(
         number_of (C.value c.new inputs) divided.remainder
         ≡ residue (length a.now) (remainder (signed (length a.now) (number_of (C.value c.old inputs) a.now))
         (signed (length a.now) (number_of (C.value c.old inputs) b.now)))) }
-    ensures adds { Adds C.has_literal C.admits C.value C.inputs_made C.gates_made c.old c.new
+    ensures adds { Adds C.State c.old c.new
         (signed_division_gates (length a.now)) }
 {
     let magnitude_a = magnitude(alloc, c, a)?;
@@ -70,7 +70,7 @@ fn negated_where<C: Circuit>(
         let n = number_of (C.value c.old inputs) word.now in
         number_of (C.value c.new inputs) made
         ≡ (if C.value c.old inputs negative then (2 ^ length word.now - n) % 2 ^ length word.now else n)) }
-    ensures adds { Adds C.has_literal C.admits C.value C.inputs_made C.gates_made c.old c.new
+    ensures adds { Adds C.State c.old c.new
         (magnitude_gates (length word.now)) }
 {
     let negation = neg(alloc, c, word)?;

@@ -1,19 +1,20 @@
 -- What a circuit that keeps its older literals keeps of a word of them.
 use Rattle.std.proofs.Common.{ℕ, ◌+◌, ◌≤◌, get_or, subst, sym, ◌≡◌, suc, ◌<◌, Bool, List, [], ◌∷◌, map, length, refl, ◌∙◌, arith}
 use Rattle.std.specs.List.{All}
+use Rattle.circuits.specs.declared.state.State.{Ghosts}
 use Rattle.circuits.specs.Circuit.{Keeps, Adds}
 
-pub All-kept : {C L : Type 0} {has_literal : C → L → Type 0} {admits : C → List Bool → Type 0} {value : C → List Bool → L → Bool} {old new : C} → Keeps has_literal admits value old new → (word : List L) → All (has_literal old) word → All (has_literal new) word
+pub All-kept : {C L : Type 0} {state : Ghosts C L} {old new : C} → Keeps state old new → (word : List L) → All (state.has_literal old) word → All (state.has_literal new) word
 All-kept keeps word own k d below = keeps.literals _ (own k d below)
 
-pub map-kept : {C L : Type 0} {has_literal : C → L → Type 0} {admits : C → List Bool → Type 0} {value : C → List Bool → L → Bool} {old new : C} → Keeps has_literal admits value old new → (inputs : List Bool) → admits old inputs → (word : List L) → All (has_literal old) word → map (value new inputs) word ≡ map (value old inputs) word
+pub map-kept : {C L : Type 0} {state : Ghosts C L} {old new : C} → Keeps state old new → (inputs : List Bool) → state.admits old inputs → (word : List L) → All (state.has_literal old) word → map (state.value new inputs) word ≡ map (state.value old inputs) word
 map-kept keeps inputs admitted [] own = refl
 map-kept keeps inputs admitted (l ∷ word) own =
     let first = keeps.values inputs l admitted (own 0 l (omega arith)) in
     let rest = map-kept keeps inputs admitted word (λ k d below. own (suc k) d (omega arith)) in
     cc
 
-pub Keeps-trans : {C L : Type 0} {has_literal : C → L → Type 0} {admits : C → List Bool → Type 0} {value : C → List Bool → L → Bool} {old mid new : C} → Keeps has_literal admits value old mid → Keeps has_literal admits value mid new → Keeps has_literal admits value old new
+pub Keeps-trans : {C L : Type 0} {state : Ghosts C L} {old mid new : C} → Keeps state old mid → Keeps state mid new → Keeps state old new
 Keeps-trans {old = old} {mid = mid} {new = new} k h = record {
   literals = λ l own. h.literals l (k.literals l own);
   admitted = λ inputs p. h.admitted inputs (k.admitted inputs p);
@@ -21,7 +22,7 @@ Keeps-trans {old = old} {mid = mid} {new = new} k h = record {
   values = λ inputs l p own. h.values inputs l (k.admitted inputs p) (k.literals l own) ∙ k.values inputs l p own;
 }
 
-pub Keeps-refl : {C L : Type 0} {has_literal : C → L → Type 0} {admits : C → List Bool → Type 0} {value : C → List Bool → L → Bool} {now : C} → Keeps has_literal admits value now now
+pub Keeps-refl : {C L : Type 0} {state : Ghosts C L} {now : C} → Keeps state now now
 Keeps-refl = record {
   literals = λ l own. own;
   admitted = λ inputs p. p;
@@ -30,15 +31,15 @@ Keeps-refl = record {
 }
 
 -- where nothing was added
-pub Adds-refl : {C L : Type 0} {has_literal : C → L → Type 0} {admits : C → List Bool → Type 0} {value : C → List Bool → L → Bool} {inputs_made gates_made : C → ℕ} {now : C} → Adds has_literal admits value inputs_made gates_made now now 0
+pub Adds-refl : {C L : Type 0} {state : Ghosts C L} {now : C} → Adds state now now 0
 Adds-refl = record { inputs = refl; gates = omega arith; keeps = Keeps-refl }
 
 -- one after the other, the gates add up
-pub Adds-trans : {C L : Type 0} {has_literal : C → L → Type 0} {admits : C → List Bool → Type 0} {value : C → List Bool → L → Bool} {inputs_made gates_made : C → ℕ} {old mid new : C} {m n : ℕ} → Adds has_literal admits value inputs_made gates_made old mid m → Adds has_literal admits value inputs_made gates_made mid new n → Adds has_literal admits value inputs_made gates_made old new (m + n)
+pub Adds-trans : {C L : Type 0} {state : Ghosts C L} {old mid new : C} {m n : ℕ} → Adds state old mid m → Adds state mid new n → Adds state old new (m + n)
 Adds-trans first then = record { inputs = then.inputs ∙ first.inputs; gates = omega arith; keeps = Keeps-trans first.keeps then.keeps }
 
 -- what adds no more than so many gates adds no more than some more
-pub Adds-weaken : {C L : Type 0} {has_literal : C → L → Type 0} {admits : C → List Bool → Type 0} {value : C → List Bool → L → Bool} {inputs_made gates_made : C → ℕ} {old new : C} {m n : ℕ} → Adds has_literal admits value inputs_made gates_made old new m → m ≤ n → Adds has_literal admits value inputs_made gates_made old new n
+pub Adds-weaken : {C L : Type 0} {state : Ghosts C L} {old new : C} {m n : ℕ} → Adds state old new m → m ≤ n → Adds state old new n
 Adds-weaken adds fewer = record { inputs = adds.inputs; gates = omega arith; keeps = adds.keeps }
 
 -- an element of a word that is the circuit's

@@ -1,4 +1,5 @@
 pub mod Circuit
 pub mod Evaluation
 pub mod Gates
+pub mod Move
 pub mod Word

@@ -38,7 +38,7 @@ fn full_adder<C: Circuit>(
         C.value c.new inputs made.carry
         ≡ ((C.value c.old inputs a && C.value c.old inputs b)
         || (C.value c.old inputs carry && xor (C.value c.old inputs a) (C.value c.old inputs b)))) }
-    ensures adds { Adds C.has_literal C.admits C.value C.inputs_made C.gates_made c.old c.new 5 }
+    ensures adds { Adds C.State c.old c.new 5 }
 {
     let differ = c.xor(alloc, a, b)?;
     let sum = c.xor(alloc, differ, carry)?;
@@ -76,7 +76,7 @@ pub fn add_with_carry<C: Circuit>(
         number_of (C.value c.new inputs) sum.bits + 2 ^ length a.now * bit (C.value c.new inputs sum.carry)
         ≡ number_of (C.value c.old inputs) a.now + number_of (C.value c.old inputs) b.now
         + bit (C.value c.old inputs first)) }
-    ensures adds { Adds C.has_literal C.admits C.value C.inputs_made C.gates_made c.old c.new (adder_gates (length a.now)) }
+    ensures adds { Adds C.State c.old c.new (adder_gates (length a.now)) }
 {
     let mut bits = List::new(alloc);
     let mut carry = first;

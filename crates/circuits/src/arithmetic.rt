@@ -26,7 +26,7 @@ pub fn add<C: Circuit>(
         number_of (C.value c.new inputs) sum
         ≡ (number_of (C.value c.old inputs) a.now + number_of (C.value c.old inputs) b.now)
         % 2 ^ length a.now) }
-    ensures adds { Adds C.has_literal C.admits C.value C.inputs_made C.gates_made c.old c.new (adder_gates (length a.now)) }
+    ensures adds { Adds C.State c.old c.new (adder_gates (length a.now)) }
 {
     let first = c.zero();
     let sum = add_with_carry(alloc, c, a.as_slice(), b.as_slice(), first)?;
@@ -49,7 +49,7 @@ pub fn sub<C: Circuit>(
         number_of (C.value c.new inputs) difference
         ≡ (number_of (C.value c.old inputs) a.now
         + (2 ^ length a.now - number_of (C.value c.old inputs) b.now)) % 2 ^ length a.now) }
-    ensures adds { Adds C.has_literal C.admits C.value C.inputs_made C.gates_made c.old c.new (adder_gates (length a.now)) }
+    ensures adds { Adds C.State c.old c.new (adder_gates (length a.now)) }
 {
     let complement = inverted(alloc, c, b.as_slice())?;
     let first = c.one();
@@ -69,7 +69,7 @@ pub fn neg<C: Circuit>(
     ensures number { IfOk result (λ negation. (inputs : Seq Bool) → C.admits c.old inputs →
         number_of (C.value c.new inputs) negation
         ≡ (2 ^ length a.now - number_of (C.value c.old inputs) a.now) % 2 ^ length a.now) }
-    ensures adds { Adds C.has_literal C.admits C.value C.inputs_made C.gates_made c.old c.new (adder_gates (length a.now)) }
+    ensures adds { Adds C.State c.old c.new (adder_gates (length a.now)) }
 {
     let zeros = repeated(alloc, c.zero(), a.len())?;
     sub(alloc, c, &zeros, a)

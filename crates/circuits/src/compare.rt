@@ -25,7 +25,7 @@ pub fn less_unsigned<C: Circuit>(
     ensures value { IfOk result (λ less. (inputs : Seq Bool) → C.admits c.old inputs →
         C.value c.new inputs less
         ≡ nat_lt (number_of (C.value c.old inputs) a.now) (number_of (C.value c.old inputs) b.now)) }
-    ensures adds { Adds C.has_literal C.admits C.value C.inputs_made C.gates_made c.old c.new (comparison_gates (length a.now)) }
+    ensures adds { Adds C.State c.old c.new (comparison_gates (length a.now)) }
 {
     let a = a.as_slice();
     let b = b.as_slice();
@@ -53,7 +53,7 @@ fn less_above<C: Circuit>(
         C.value c.new inputs made
         ≡ (if xor (C.value c.old inputs x) (C.value c.old inputs y)
         then C.value c.old inputs y else C.value c.old inputs less)) }
-    ensures adds { Adds C.has_literal C.admits C.value C.inputs_made C.gates_made c.old c.new 2 }
+    ensures adds { Adds C.State c.old c.new 2 }
 {
     let differ = c.xor(alloc, x, y)?;
     c.mux(alloc, differ, y, less)
@@ -73,7 +73,7 @@ pub fn equal<C: Circuit>(
     ensures value { IfOk result (λ equal. (inputs : Seq Bool) → C.admits c.old inputs →
         C.value c.new inputs equal
         ≡ (number_of (C.value c.old inputs) a.now == number_of (C.value c.old inputs) b.now)) }
-    ensures adds { Adds C.has_literal C.admits C.value C.inputs_made C.gates_made c.old c.new (equality_gates (length a.now)) }
+    ensures adds { Adds C.State c.old c.new (equality_gates (length a.now)) }
 {
     let a = a.as_slice();
     let b = b.as_slice();
@@ -99,7 +99,7 @@ fn equal_above<C: Circuit>(
     ensures value { IfOk result (λ made. (inputs : Seq Bool) → C.admits c.old inputs →
         C.value c.new inputs made
         ≡ (C.value c.old inputs same && not (xor (C.value c.old inputs x) (C.value c.old inputs y)))) }
-    ensures adds { Adds C.has_literal C.admits C.value C.inputs_made C.gates_made c.old c.new 2 }
+    ensures adds { Adds C.State c.old c.new 2 }
 {
     let differ = c.xor(alloc, x, y)?;
     c.and(alloc, same, c.not(differ))
@@ -122,7 +122,7 @@ pub fn less_signed<C: Circuit>(
         C.value c.new inputs less
         ≡ int_lt (signed (length a.now) (number_of (C.value c.old inputs) a.now))
         (signed (length a.now) (number_of (C.value c.old inputs) b.now))) }
-    ensures adds { Adds C.has_literal C.admits C.value C.inputs_made C.gates_made c.old c.new (comparison_gates (length a.now)) }
+    ensures adds { Adds C.State c.old c.new (comparison_gates (length a.now)) }
 {
     let raised_a = raised(alloc, c, a.as_slice())?;
     let raised_b = raised(alloc, c, b.as_slice())?;

@@ -19,7 +19,7 @@ pub fn or<C: Circuit>(
     ensures own { IfOk result (λ made. C.has_literal c.new made) }
     ensures value { IfOk result (λ made. (inputs : Seq Bool) → C.admits c.old inputs →
         C.value c.new inputs made ≡ (C.value c.old inputs a || C.value c.old inputs b)) }
-    ensures adds { Adds C.has_literal C.admits C.value C.inputs_made C.gates_made c.old c.new 1 }
+    ensures adds { Adds C.State c.old c.new 1 }
 {
     let neither = c.and(alloc, c.not(a), c.not(b))?;
     Ok(c.not(neither))
@@ -31,7 +31,7 @@ pub fn any<C: Circuit>(alloc: Global, c: &mut C, a: &[C::Literal]) -> Result<C::
     ensures own { IfOk result (λ some. C.has_literal c.new some) }
     ensures value { IfOk result (λ some. (inputs : Seq Bool) → C.admits c.old inputs →
         C.value c.new inputs some ≡ list_any (C.value c.old inputs) a.now) }
-    ensures adds { Adds C.has_literal C.admits C.value C.inputs_made C.gates_made c.old c.new (any_gates (length a.now)) }
+    ensures adds { Adds C.State c.old c.new (any_gates (length a.now)) }
 {
     let mut some = c.zero();
     for bit in a {

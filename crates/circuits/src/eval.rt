@@ -3,6 +3,7 @@ ghost use Rattle.std.specs.Prelude.{◌≡◌, ◌+◌, false, ◌&&◌, if◌th
 ghost use Rattle.std.specs.Bool.{xor};
 
 use crate::circuit::Circuit;
+use crate::state::State;
 use lists::List;
 use std::alloc::{AllocError, Global};
 use std::marker::Model;
@@ -35,7 +36,7 @@ impl EvalCircuit {
     }
 }
 
-impl Circuit for EvalCircuit {
+impl State for EvalCircuit {
     ghost use Rattle.std.specs.Prelude.{◌≡◌};
 
     type Literal = bool;
@@ -50,7 +51,9 @@ impl Circuit for EvalCircuit {
     ghost inputs_made = { λ c. c.made };
 
     ghost gates_made = { λ _. 0 };
+}
 
+impl Circuit for EvalCircuit {
     fn zero(&self) -> bool {
         false
     }

@@ -12,6 +12,7 @@ mod disjunction;
 mod eval;
 mod resize;
 mod shift;
+mod state;
 mod word;
 
 pub use adder::{Sum, add_with_carry};
@@ -22,4 +23,5 @@ pub use disjunction::{any, or};
 pub use eval::EvalCircuit;
 pub use resize::{cut, extend};
 pub use shift::{shift_left, shift_right};
+pub use state::State;
 pub use word::{Bits, inverted, repeated, select};

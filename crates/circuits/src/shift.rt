@@ -2,10 +2,11 @@
 //!
 //! A barrel shifter: a stage for each of the amount's lowest bits moves the word by that bit's power of two, as far as the powers
 //! are below the width N. A higher bit is worth at least N, so where one is true the whole word is what comes in.
-ghost use Rattle.std.specs.Prelude.{◌≡◌, ◌+◌, ◌-◌, ◌*◌, ◌/◌, ◌%◌, ◌^◌, ◌≤◌, Bool, false, if◌then◌else◌, List as Seq, ◌++◌, take, drop, map, replicate, length, IfOk};
+ghost use Rattle.std.specs.Prelude.{◌≡◌, ◌+◌, ◌-◌, ◌*◌, ◌/◌, ◌%◌, ◌^◌, ◌≤◌, Bool, if◌then◌else◌, List as Seq, map, replicate, length, IfOk};
 ghost use Rattle.std.specs.List.{All, list_any};
 ghost use Rattle.circuits.specs.Circuit.{Adds};
 ghost use Rattle.circuits.specs.Gates.{any_gates, select_gates, shift_gates, stages};
+ghost use Rattle.circuits.specs.Move.{moved};
 ghost use Rattle.circuits.specs.Word.{bit, number_of};
 
 use crate::circuit::Circuit;
@@ -31,14 +32,11 @@ pub fn shift_left<C: Circuit>(
         number_of (C.value c.new inputs) shifted
         ≡ (number_of (C.value c.old inputs) a.now * 2 ^ number_of (C.value c.old inputs) amount.now)
         % 2 ^ length a.now) }
-    ensures adds { Adds C.has_literal C.admits C.value C.inputs_made C.gates_made c.old c.new
+    ensures adds { Adds C.State c.old c.new
         (shift_gates (length a.now) (length amount.now)) }
 {
     let zero = c.zero();
-    let amount = amount.as_slice();
-    let low = stage_count(a.len()).min(amount.len());
-    let moved = left_by_stages(alloc, c, a.as_slice(), &amount[..low])?;
-    filled_where_any(alloc, c, &amount[low..], zero, moved.as_slice())
+    shift(alloc, c, Direction::Up, a, amount, zero)
 }
 
 /// A word of width N shifted right by the number of another, with `top` coming in: the word with `top` above it as often as the
@@ -60,13 +58,45 @@ pub fn shift_right<C: Circuit>(
         ≡ (number_of (C.value c.old inputs) a.now + bit (C.value c.old inputs top)
         * (2 ^ (length a.now + number_of (C.value c.old inputs) amount.now) - 2 ^ length a.now))
         / 2 ^ number_of (C.value c.old inputs) amount.now) }
-    ensures adds { Adds C.has_literal C.admits C.value C.inputs_made C.gates_made c.old c.new
+    ensures adds { Adds C.State c.old c.new
         (shift_gates (length a.now) (length amount.now)) }
+{
+    shift(alloc, c, Direction::Down, a, amount, top)
+}
+
+/// Where the bits of a word go.
+#[derive(Clone, Copy)]
+enum Direction {
+    /// To the left, so that the lowest places are free.
+    Up,
+    /// To the right, so that the highest are.
+    Down,
+}
+
+/// A word moved by the number of another, with `fill` at the places that become free.
+fn shift<C: Circuit>(
+    alloc: Global,
+    c: &mut C,
+    direction: Direction,
+    a: &Bits<C::Literal>,
+    amount: &Bits<C::Literal>,
+    fill: C::Literal,
+) -> Result<Bits<C::Literal>, AllocError>
+    requires own_a { All (C.has_literal c.old) a.now }
+    requires own_amount { All (C.has_literal c.old) amount.now }
+    requires own_fill { C.has_literal c.old fill }
+    ensures own { IfOk result (All (C.has_literal c.new)) }
+    ensures width { IfOk result (λ shifted. length shifted ≡ length a.now) }
+    ensures values { IfOk result (λ shifted. (inputs : Seq Bool) → C.admits c.old inputs →
+        map (C.value c.new inputs) shifted
+        ≡ moved direction (C.value c.old inputs fill) (number_of (C.value c.old inputs) amount.now)
+        (map (C.value c.old inputs) a.now)) }
+    ensures adds { Adds C.State c.old c.new (shift_gates (length a.now) (length amount.now)) }
 {
     let amount = amount.as_slice();
     let low = stage_count(a.len()).min(amount.len());
-    let moved = right_by_stages(alloc, c, a.as_slice(), &amount[..low], top)?;
-    filled_where_any(alloc, c, &amount[low..], top, moved.as_slice())
+    let near = by_stages(alloc, c, direction, a.as_slice(), &amount[..low], fill)?;
+    filled_where_any(alloc, c, &amount[low..], fill, near.as_slice())
 }
 
 /// The least k with `width` ≤ 2^k.
@@ -80,59 +110,31 @@ fn stage_count(width: usize) -> usize
     }
 }
 
-/// The word moved up by the amount's number, with zeros below: a stage for each bit of the amount.
-fn left_by_stages<C: Circuit>(
+/// The word moved by the amount's number: a stage for each bit of the amount.
+fn by_stages<C: Circuit>(
     alloc: Global,
     c: &mut C,
+    direction: Direction,
     a: &[C::Literal],
     amount: &[C::Literal],
+    fill: C::Literal,
 ) -> Result<Bits<C::Literal>, AllocError>
     requires few { length amount.now ≤ stages (length a.now) }
     requires own_a { All (C.has_literal c.old) a.now }
     requires own_amount { All (C.has_literal c.old) amount.now }
+    requires own_fill { C.has_literal c.old fill }
     ensures own { IfOk result (All (C.has_literal c.new)) }
-    ensures width { IfOk result (λ moved. length moved ≡ length a.now) }
-    ensures values { IfOk result (λ moved. (inputs : Seq Bool) → C.admits c.old inputs →
-        map (C.value c.new inputs) moved
-        ≡ take (length a.now) (replicate (number_of (C.value c.old inputs) amount.now) false
-        ++ map (C.value c.old inputs) a.now)) }
-    ensures adds { Adds C.has_literal C.admits C.value C.inputs_made C.gates_made c.old c.new
-        (select_gates (length a.now) * length amount.now) }
-{
-    let zero = c.zero();
-    let mut word = List::from_vec(Vec::from_slice(alloc, a)?);
-    for (i, bit) in amount.iter().enumerate() {
-        let moved = moved_up(alloc, word.as_slice(), 1 << i, zero)?;
-        word = select(alloc, c, *bit, moved.as_slice(), word.as_slice())?;
-    }
-    Ok(word)
-}
-
-/// The word moved down by the amount's number, with `top` above: a stage for each bit of the amount.
-fn right_by_stages<C: Circuit>(
-    alloc: Global,
-    c: &mut C,
-    a: &[C::Literal],
-    amount: &[C::Literal],
-    top: C::Literal,
-) -> Result<Bits<C::Literal>, AllocError>
-    requires few { length amount.now ≤ stages (length a.now) }
-    requires own_a { All (C.has_literal c.old) a.now }
-    requires own_amount { All (C.has_literal c.old) amount.now }
-    requires own_top { C.has_literal c.old top }
-    ensures own { IfOk result (All (C.has_literal c.new)) }
-    ensures width { IfOk result (λ moved. length moved ≡ length a.now) }
-    ensures values { IfOk result (λ moved. (inputs : Seq Bool) → C.admits c.old inputs →
-        let amount = number_of (C.value c.old inputs) amount.now in
-        map (C.value c.new inputs) moved
-        ≡ drop amount (map (C.value c.old inputs) a.now ++ replicate amount (C.value c.old inputs top))) }
-    ensures adds { Adds C.has_literal C.admits C.value C.inputs_made C.gates_made c.old c.new
-        (select_gates (length a.now) * length amount.now) }
+    ensures width { IfOk result (λ word. length word ≡ length a.now) }
+    ensures values { IfOk result (λ word. (inputs : Seq Bool) → C.admits c.old inputs →
+        map (C.value c.new inputs) word
+        ≡ moved direction (C.value c.old inputs fill) (number_of (C.value c.old inputs) amount.now)
+        (map (C.value c.old inputs) a.now)) }
+    ensures adds { Adds C.State c.old c.new (select_gates (length a.now) * length amount.now) }
 {
     let mut word = List::from_vec(Vec::from_slice(alloc, a)?);
     for (i, bit) in amount.iter().enumerate() {
-        let moved = moved_down(alloc, word.as_slice(), 1 << i, top)?;
-        word = select(alloc, c, *bit, moved.as_slice(), word.as_slice())?;
+        let further = moved_by(alloc, direction, word.as_slice(), 1 << i, fill)?;
+        word = select(alloc, c, *bit, further.as_slice(), word.as_slice())?;
     }
     Ok(word)
 }
@@ -154,7 +156,7 @@ fn filled_where_any<C: Circuit>(
         map (C.value c.new inputs) filled
         ≡ (if list_any (C.value c.old inputs) far.now
         then replicate (length word.now) (C.value c.old inputs fill) else map (C.value c.old inputs) word.now)) }
-    ensures adds { Adds C.has_literal C.admits C.value C.inputs_made C.gates_made c.old c.new
+    ensures adds { Adds C.State c.old c.new
         (any_gates (length far.now) + select_gates (length word.now)) }
 {
     let is_far = any(alloc, c, far)?;
@@ -162,35 +164,29 @@ fn filled_where_any<C: Circuit>(
     select(alloc, c, is_far, filled.as_slice(), word)
 }
 
-/// The word with its bits moved up by a distance, and `low` below them.
-fn moved_up<L: Copy>(
+/// The word with its bits moved by a distance, and `fill` at the places that become free.
+fn moved_by<L: Copy>(
     alloc: Global,
+    direction: Direction,
     word: &[L],
     distance: usize,
-    low: L,
+    fill: L,
 ) -> Result<Bits<L>, AllocError>
     requires { distance ≤ length word.now }
-    ensures bits { IfOk result (λ moved. moved ≡ replicate distance low ++ take (length word.now - distance) word.now) }
-    ensures width { IfOk result (λ moved. length moved ≡ length word.now) }
+    ensures bits { IfOk result (λ bits. bits ≡ moved direction fill distance word.now) }
+    ensures width { IfOk result (λ bits. length bits ≡ length word.now) }
 {
-    let mut moved = Vec::new(alloc);
-    moved.resize(distance, low)?;
-    moved.extend_from_slice(&word[..word.len() - distance])?;
-    Ok(List::from_vec(moved))
-}
-
-/// The word with its bits moved down by a distance, and `top` above them.
-fn moved_down<L: Copy>(
-    alloc: Global,
-    word: &[L],
-    distance: usize,
-    top: L,
-) -> Result<Bits<L>, AllocError>
-    requires { distance ≤ length word.now }
-    ensures bits { IfOk result (λ moved. moved ≡ drop distance word.now ++ replicate distance top) }
-    ensures width { IfOk result (λ moved. length moved ≡ length word.now) }
-{
-    let mut moved = Vec::from_slice(alloc, &word[distance..])?;
-    moved.resize(word.len(), top)?;
-    Ok(List::from_vec(moved))
+    match direction {
+        Direction::Up => {
+            let mut bits = Vec::new(alloc);
+            bits.resize(distance, fill)?;
+            bits.extend_from_slice(&word[..word.len() - distance])?;
+            Ok(List::from_vec(bits))
+        }
+        Direction::Down => {
+            let mut bits = Vec::from_slice(alloc, &word[distance..])?;
+            bits.resize(word.len(), fill)?;
+            Ok(List::from_vec(bits))
+        }
+    }
 }

@@ -57,7 +57,7 @@ pub fn select<C: Circuit>(
         map (C.value c.new inputs) word
         ≡ (if C.value c.old inputs condition
         then map (C.value c.old inputs) yes.now else map (C.value c.old inputs) no.now)) }
-    ensures adds { Adds C.has_literal C.admits C.value C.inputs_made C.gates_made c.old c.new (select_gates (length yes.now)) }
+    ensures adds { Adds C.State c.old c.new (select_gates (length yes.now)) }
 {
     let mut word = List::new(alloc);
     for i in 0..yes.len() {

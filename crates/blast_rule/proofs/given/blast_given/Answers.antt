@@ -40,7 +40,7 @@ returns-in_err-met-clause-adds g c =
 
 pub returns-clause-terms : goal.returns-clause-terms
 returns-clause-terms g c = λ inputs admitted.
-    let m = g.C.Circuit in
+    let m = g.C.State in
     let start = m.value c.args.c.now inputs in
     let constants = map (number_held start) c.args.constants.now in
     let first = c.blast_terms.ensures.adds.keeps.admitted inputs admitted in
@@ -55,7 +55,7 @@ returns-clause-terms g c = λ inputs admitted.
 
 pub returns-clause-met : goal.returns-clause-met
 returns-clause-met g c = λ inputs admitted.
-    let m = g.C.Circuit in
+    let m = g.C.State in
     let start = m.value c.args.c.now inputs in
     let constants = map (number_held start) c.args.constants.now in
     let first = c.blast_terms.ensures.adds.keeps.admitted inputs admitted in

@@ -12,6 +12,6 @@ either false here x = refl
 pub returns-clause-effect : goal.returns-clause-effect
 returns-clause-effect g c = λ inputs admitted.
     let own = c.requires.own in
-    let v = g.C.Circuit.value c.args.c.now inputs in
+    let v = g.C.State.value c.args.c.now inputs in
     let held = held_value-kept c.or.ensures.adds.keeps inputs admitted (record { bits = c.args.effect.bits; poison = c.args.effect.poison }) (record { bits = own.bits; poison = own.poison }) in
     rw (c.in_ok-undefined.ensures.value inputs admitted, held) (either (v c.args.before) (v c.args.effect.undefined) _)

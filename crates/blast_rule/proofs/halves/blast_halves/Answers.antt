@@ -57,7 +57,7 @@ blast_witness-requires-clause-there g c = λ k d below.
 
 pub blast_witness-requires-clause-own : goal.blast_witness-requires-clause-own
 blast_witness-requires-clause-own g c =
-    let m = g.C.Circuit in
+    let m = g.C.State in
     let own = c.requires.own in
     let setting = c.args.setting.now in
     let start = c.scope_of-start.ensures in
@@ -99,7 +99,7 @@ blast_next-requires-clause-ready g c =
 
 pub blast_next-requires-clause-own : goal.blast_next-requires-clause-own
 blast_next-requires-clause-own g c =
-    let m = g.C.Circuit in
+    let m = g.C.State in
     let own = c.requires.own in
     let setting = c.args.setting.now in
     let start = c.scope_of-start.ensures in
@@ -139,7 +139,7 @@ blast_target-requires-clause-given g c =
 
 pub blast_target-requires-clause-own : goal.blast_target-requires-clause-own
 blast_target-requires-clause-own g c =
-    let m = g.C.Circuit in
+    let m = g.C.State in
     let own = c.requires.own in
     let setting = c.args.setting.now in
     let start = c.scope_of-start.ensures in
@@ -188,7 +188,7 @@ returns-clause-adds g c =
 
 pub returns-clause-effects : goal.returns-clause-effects
 returns-clause-effects g c = λ inputs at admitted is terms_are.
-    let m = g.C.Circuit in
+    let m = g.C.State in
     let v = m.value in
     let rule = c.args.rule.now in
     let typing = c.args.typing.now in
@@ -215,7 +215,7 @@ returns-clause-effects g c = λ inputs at admitted is terms_are.
     let chosen = numbers_held-kept (Keeps-trans third end) inputs two_admitted words c.in_ok-choices.ensures.own in
     let root = c.index-as_slice-len.result in
     let place = rw (c.len.ensures, c.as_slice-3.ensures) at c.index-as_slice-len.is in
-    let still : Keeps m.has_literal m.admits m.value c.args.c.now c.args.c.now = Keeps-refl in
+    let still : Keeps m c.args.c.now c.args.c.now = Keeps-refl in
     let given_first = is_given still inputs admitted rule typing c.requires.rule setting.inputs made.held.items setting.constants setting.target_undefs terms u own.inputs own.constants own.target_undefs
     c.scope_of-start.result setting.inputs [] [] [] (record { inputs_are = start.inputs; source_are = start.source; target_are = start.target; constants_are = start.constants; choices_are = start.choices; terms_are = start.terms })
     [] refl terms_now c.requires.own_terms in

@@ -22,7 +22,7 @@ register_held-requires g c =
 pub returns-in-Register-clause-gives : goal.returns-in-Register-clause-gives
 returns-in-Register-clause-gives g c =
     IfOk-weaker c.copied.result _ _ (λ held same inputs given admitted is_given.
-    let gives = register_gives c.args.scope c.args.typing.now given (g.C.Circuit.value c.args.c.now inputs) c.requires.ready.0 c.args.operand c.in-Register.register c.register_held.result.now c.requires.ready.1.0 c.in-Register.is c.register_held.ensures in
+    let gives = register_gives c.args.scope c.args.typing.now given (g.C.State.value c.args.c.now inputs) c.requires.ready.0 c.args.operand c.in-Register.register c.register_held.result.now c.requires.ready.1.0 c.in-Register.is c.register_held.ensures in
     rw same gives)
     c.copied.ensures
 
@@ -34,8 +34,8 @@ returns-in-Register-clause-width g c =
 
 pub returns-in-Register-clause-own : goal.returns-in-Register-clause-own
 returns-in-Register-clause-own g c =
-    let own = held_at-own c.args.scope (g.C.Circuit.has_literal c.args.c.now) c.in-Register.register c.register_held.result.now c.requires.own c.register_held.ensures in
-    IfOk-weaker c.copied.result _ _ (λ held same. subst (IsOwn (g.C.Circuit.has_literal c.args.c.now)) (sym same) own) c.copied.ensures
+    let own = held_at-own c.args.scope (g.C.State.has_literal c.args.c.now) c.in-Register.register c.register_held.result.now c.requires.own c.register_held.ensures in
+    IfOk-weaker c.copied.result _ _ (λ held same. subst (IsOwn (g.C.State.has_literal c.args.c.now)) (sym same) own) c.copied.ensures
 
 pub number-requires-in-Truth : goal.number-requires-in-Truth
 number-requires-in-Truth g c =
@@ -48,7 +48,7 @@ returns-in-Literal-clause-gives g c =
     let fits : SFits w128 c.in-Literal.literal = search rules in
     let number = simp to_z-of_z at c.residue.ensures.residue in
     IfOk-weaker c.number.result _ _ (λ held value inputs given admitted is_given.
-    literal_gives c.args.typing.now given (seen (g.C.Circuit.value c.args.c.now inputs) c.args.scope) c.requires.ready.0 c.width_of-width.result c.args.operand _ c.requires.ready.1.0 c.width_of-width.ensures
+    literal_gives c.args.typing.now given (seen (g.C.State.value c.args.c.now inputs) c.args.scope) c.requires.ready.0 c.width_of-width.result c.args.operand _ c.requires.ready.1.0 c.width_of-width.ensures
     c.in-Literal.literal c.in-Literal.is (rw number at (value inputs admitted)))
     c.number.ensures.value
 
@@ -60,7 +60,7 @@ returns-in-Literal-clause-width g c =
 pub returns-in-Truth-clause-gives : goal.returns-in-Truth-clause-gives
 returns-in-Truth-clause-gives g c =
     IfOk-weaker c.number-in-Truth.result _ _ (λ held value inputs given admitted is_given.
-    truth_gives c.args.typing.now given (seen (g.C.Circuit.value c.args.c.now inputs) c.args.scope) c.requires.ready.0 c.width_of-width.result c.args.operand _ c.requires.ready.1.0 c.width_of-width.ensures
+    truth_gives c.args.typing.now given (seen (g.C.State.value c.args.c.now inputs) c.args.scope) c.requires.ready.0 c.width_of-width.result c.args.operand _ c.requires.ready.1.0 c.width_of-width.ensures
     c.in-Truth.truth c.in-Truth.is (rw c.digit_of.ensures at (value inputs admitted)))
     c.number-in-Truth.ensures.value
 
@@ -88,14 +88,14 @@ pub at-requires : goal.at-requires
 at-requires g c = let w = constant_at c.args.scope c.args.typing.now c.requires.ready.0 c.args.operand c.in-Constant.k c.requires.ready.1 c.in-Constant.is in slice_get_within c.args.scope.constants.now c.in-Constant.k w.0 w.1
 
 pub of_word-requires : goal.of_word-requires
-of_word-requires g c = own_from_get (All (g.C.Circuit.has_literal c.args.c.now)) c.args.scope.constants.now c.in-Constant.k c.at.result.now c.requires.own.constants c.at.ensures
+of_word-requires g c = own_from_get (All (g.C.State.has_literal c.args.c.now)) c.args.scope.constants.now c.in-Constant.k c.at.result.now c.requires.own.constants c.at.ensures
 
 pub returns-in-Constant-clause-gives : goal.returns-in-Constant-clause-gives
 returns-in-Constant-clause-gives g c =
     let w = constant_at c.args.scope c.args.typing.now c.requires.ready.0 c.args.operand c.in-Constant.k c.requires.ready.1 c.in-Constant.is in
     let same : w.0 ≡ c.at.result.now = same_Some w.0 c.at.result.now (sym w.1 ∙ c.at.ensures) in
     IfOk-weaker c.of_word.result _ _ (λ held value inputs given admitted is_given.
-    constant_gives c.args.scope c.args.typing.now c.requires.ready.0 c.args.operand c.in-Constant.k c.requires.ready.1 (g.C.Circuit.value c.args.c.now inputs) given c.at.result.now _ c.in-Constant.is c.at.ensures is_given (value inputs admitted))
+    constant_gives c.args.scope c.args.typing.now c.requires.ready.0 c.args.operand c.in-Constant.k c.requires.ready.1 (g.C.State.value c.args.c.now inputs) given c.at.result.now _ c.in-Constant.is c.at.ensures is_given (value inputs admitted))
     c.of_word.ensures.value
 
 pub returns-in-Constant-clause-width : goal.returns-in-Constant-clause-width
@@ -113,14 +113,14 @@ pub at-requires-in-Undef : goal.at-requires-in-Undef
 at-requires-in-Undef g c = let w = choice_at c.args.scope c.args.typing.now c.requires.ready.0 c.args.operand c.in-Undef.k c.requires.ready.1 c.in-Undef.is in slice_get_within c.args.scope.choices.now c.in-Undef.k w.0 w.1
 
 pub of_word-requires-in-Undef : goal.of_word-requires-in-Undef
-of_word-requires-in-Undef g c = own_from_get (All (g.C.Circuit.has_literal c.args.c.now)) c.args.scope.choices.now c.in-Undef.k c.at-in-Undef.result.now c.requires.own.choices c.at-in-Undef.ensures
+of_word-requires-in-Undef g c = own_from_get (All (g.C.State.has_literal c.args.c.now)) c.args.scope.choices.now c.in-Undef.k c.at-in-Undef.result.now c.requires.own.choices c.at-in-Undef.ensures
 
 pub returns-in-Undef-clause-gives : goal.returns-in-Undef-clause-gives
 returns-in-Undef-clause-gives g c =
     let w = choice_at c.args.scope c.args.typing.now c.requires.ready.0 c.args.operand c.in-Undef.k c.requires.ready.1 c.in-Undef.is in
     let same : w.0 ≡ c.at-in-Undef.result.now = same_Some w.0 c.at-in-Undef.result.now (sym w.1 ∙ c.at-in-Undef.ensures) in
     IfOk-weaker c.of_word-in-Undef.result _ _ (λ held value inputs given admitted is_given.
-    choice_gives c.args.scope c.args.typing.now c.requires.ready.0 c.args.operand c.in-Undef.k c.requires.ready.1 (g.C.Circuit.value c.args.c.now inputs) given c.at-in-Undef.result.now _ c.in-Undef.is c.at-in-Undef.ensures is_given (value inputs admitted))
+    choice_gives c.args.scope c.args.typing.now c.requires.ready.0 c.args.operand c.in-Undef.k c.requires.ready.1 (g.C.State.value c.args.c.now inputs) given c.at-in-Undef.result.now _ c.in-Undef.is c.at-in-Undef.ensures is_given (value inputs admitted))
     c.of_word-in-Undef.ensures.value
 
 pub returns-in-Undef-clause-width : goal.returns-in-Undef-clause-width
@@ -138,14 +138,14 @@ pub at-requires-in-Term : goal.at-requires-in-Term
 at-requires-in-Term g c = let w = term_at c.args.scope c.args.typing.now c.requires.ready.0 c.args.operand c.in-Term.n c.requires.ready.1 c.in-Term.is in slice_get_within c.args.scope.terms.now c.in-Term.n w.0 w.1
 
 pub of_word-requires-in-Term : goal.of_word-requires-in-Term
-of_word-requires-in-Term g c = own_from_get (All (g.C.Circuit.has_literal c.args.c.now)) c.args.scope.terms.now c.in-Term.n c.at-in-Term.result.now c.requires.own.terms c.at-in-Term.ensures
+of_word-requires-in-Term g c = own_from_get (All (g.C.State.has_literal c.args.c.now)) c.args.scope.terms.now c.in-Term.n c.at-in-Term.result.now c.requires.own.terms c.at-in-Term.ensures
 
 pub returns-in-Term-clause-gives : goal.returns-in-Term-clause-gives
 returns-in-Term-clause-gives g c =
     let w = term_at c.args.scope c.args.typing.now c.requires.ready.0 c.args.operand c.in-Term.n c.requires.ready.1 c.in-Term.is in
     let same : w.0 ≡ c.at-in-Term.result.now = same_Some w.0 c.at-in-Term.result.now (sym w.1 ∙ c.at-in-Term.ensures) in
     IfOk-weaker c.of_word-in-Term.result _ _ (λ held value inputs given admitted is_given.
-    term_gives c.args.scope c.args.typing.now c.requires.ready.0 c.args.operand c.in-Term.n c.requires.ready.1 (g.C.Circuit.value c.args.c.now inputs) given c.at-in-Term.result.now _ c.in-Term.is c.at-in-Term.ensures (ap length (sym same) ∙ w.2) is_given (value inputs admitted))
+    term_gives c.args.scope c.args.typing.now c.requires.ready.0 c.args.operand c.in-Term.n c.requires.ready.1 (g.C.State.value c.args.c.now inputs) given c.at-in-Term.result.now _ c.in-Term.is c.at-in-Term.ensures (ap length (sym same) ∙ w.2) is_given (value inputs admitted))
     c.of_word-in-Term.ensures.value
 
 pub returns-in-Term-clause-width : goal.returns-in-Term-clause-width

@@ -9,7 +9,7 @@ operand_held-requires-clause-ready g c = rw (sym c.operand-item.is) at (c.requir
 
 pub loop-operand-preserved : goal.loop-operand-preserved
 loop-operand-preserved g c =
-    let m = g.C.Circuit in
+    let m = g.C.State in
     let i = c.loop-operand.operand-index in
     let more = take_more c.args.operands.now i c.operand-item.result (omega arith) ∙ ap (λ operand. take i c.args.operands.now ++ operand ∷ []) (sym c.operand-item.is) in
     let next = c.in_ok-operand_held.ensures in

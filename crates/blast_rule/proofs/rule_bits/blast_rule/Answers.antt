@@ -34,7 +34,7 @@ and-requires-clause-own_a g c = c.refusal.ensures.adds.keeps.literals c.in_ok-gi
 
 pub returns-clause-effects : goal.returns-clause-effects
 returns-clause-effects g c = λ inputs admitted.
-    let v = g.C.Circuit.value in
+    let v = g.C.State.value in
     let rule = c.args.rule.now in
     let typing = c.as_slice-typing.result.now in
     let given = c.blast_given.ensures.adds.keeps in
@@ -55,7 +55,7 @@ returns-clause-effects g c = λ inputs admitted.
 
 pub returns-clause-bad : goal.returns-clause-bad
 returns-clause-bad g c = λ inputs admitted.
-    let v = g.C.Circuit.value in
+    let v = g.C.State.value in
     let rule = c.args.rule.now in
     let typing = c.args.typing.now in
     let checked = c.requires.rule in

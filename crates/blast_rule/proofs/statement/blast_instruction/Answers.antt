@@ -14,7 +14,7 @@ width_of-requires g c = slice_get_within c.args.typing.now c.args.statement.now.
 
 pub blast_value-requires-clause-operands : goal.blast_value-requires-clause-operands
 blast_value-requires-clause-operands g c =
-    let m = g.C.Circuit in
+    let m = g.C.State in
     let at = c.args.c.now in
     let width = width_told c.args.typing.now c.args.statement.now.class c.requires.ready.0 c.width_of.result c.requires.ready.1 c.width_of.ensures in
     let blasted = blasts (m.has_literal at) (m.admits at) (m.value at) c.args.typing.now c.args.scope c.args.statement.now.op c.args.what c.requires.ready.0 c.in_ok-held.held c.requires.instruction c.requires.ready.2 (rw c.requires.operands at c.in_ok-held.ensures) in
@@ -22,12 +22,12 @@ blast_value-requires-clause-operands g c =
 
 pub blast_value-requires-clause-own : goal.blast_value-requires-clause-own
 blast_value-requires-clause-own g c =
-    let m = g.C.Circuit in
+    let m = g.C.State in
     all_own (m.has_literal c.args.c.now) (m.admits c.args.c.now) (m.value c.args.c.now) c.args.typing.now c.args.scope c.args.operands.now c.in_ok-held.held c.in_ok-held.ensures
 
 pub returns-clause-gives : goal.returns-clause-gives
 returns-clause-gives g c =
-    let m = g.C.Circuit in
+    let m = g.C.State in
     let at = c.args.c.now in
     let width = width_told c.args.typing.now c.args.statement.now.class c.requires.ready.0 c.width_of.result c.requires.ready.1 c.width_of.ensures in
     let blasted = blasts (m.has_literal at) (m.admits at) (m.value at) c.args.typing.now c.args.scope c.args.statement.now.op c.args.what c.requires.ready.0 c.in_ok-held.held c.requires.instruction c.requires.ready.2 (rw c.requires.operands at c.in_ok-held.ensures) in
@@ -41,7 +41,7 @@ returns-clause-width g c =
 
 pub returns-clause-adds : goal.returns-clause-adds
 returns-clause-adds g c =
-    let m = g.C.Circuit in
+    let m = g.C.State in
     let at = c.args.c.now in
     let width = width_told c.args.typing.now c.args.statement.now.class c.requires.ready.0 c.width_of.result c.requires.ready.1 c.width_of.ensures in
     let blasted = blasts (m.has_literal at) (m.admits at) (m.value at) c.args.typing.now c.args.scope c.args.statement.now.op c.args.what c.requires.ready.0 c.in_ok-held.held c.requires.instruction c.requires.ready.2 (rw c.requires.operands at c.in_ok-held.ensures) in

@@ -9,7 +9,7 @@ use Rattle.blast_rule.proofs.statement.blast_next.Goals as goal
 
 pub returns-clause-gives : goal.returns-clause-gives
 returns-clause-gives g c = λ inputs given admitted is_given none.
-    let m = g.C.Circuit in
+    let m = g.C.State in
     let first = c.blast_statement.ensures.adds.keeps in
     let then = c.or.ensures.adds.keeps in
     let now_admitted = first.admitted inputs admitted in

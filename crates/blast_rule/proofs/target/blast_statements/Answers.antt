@@ -46,7 +46,7 @@ returns-in_err-push-clause-adds g c =
 
 pub loop-statement-preserved : goal.loop-statement-preserved
 loop-statement-preserved g c =
-    let m = g.C.Circuit in
+    let m = g.C.State in
     let before = c.loop-statement.invariant in
     let target = c.args.rule.now.target in
     let within : c.loop-statement.statement-index < length target = omega (arith, ap length c.as_slice-statement-items.ensures) in

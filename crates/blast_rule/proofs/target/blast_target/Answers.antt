@@ -9,7 +9,7 @@ use Rattle.blast_rule.proofs.target.blast_target.Goals as goal
 
 pub returns-clause-gives : goal.returns-clause-gives
 returns-clause-gives g c = λ inputs constants choices admitted is_given.
-    let m = g.C.Circuit in
+    let m = g.C.State in
     let now = m.value c.blast_statements.new.c inputs in
     let keeps = c.blast_statements.ensures.adds.keeps in
     let scope = c.args.scope in
@@ -29,5 +29,5 @@ returns-clause-width g c =
 
 pub returns-clause-own : goal.returns-clause-own
 returns-clause-own g c =
-    let last = own_last (IsOwn (g.C.Circuit.has_literal c.blast_statements.new.c)) c.in_ok-held.field-0.held.items c.last-bits.result c.in_ok-held.ensures.own c.last-bits.ensures in
+    let last = own_last (IsOwn (g.C.State.has_literal c.blast_statements.new.c)) c.in_ok-held.field-0.held.items c.last-bits.result c.in_ok-held.ensures.own c.last-bits.ensures in
     record { bits = last.bits; poison = last.poison; undefined = c.in_ok-held.ensures.own_undefined }

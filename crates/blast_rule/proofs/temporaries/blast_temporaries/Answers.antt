@@ -27,7 +27,7 @@ blast_next-requires-clause-own g c =
     record {
       inputs = own.inputs;
       source = rw c.deref.ensures.value c.loop-place.invariant.own;
-      target = own_none (IsOwn (g.C.Circuit.has_literal c.loop-place.c));
+      target = own_none (IsOwn (g.C.State.has_literal c.loop-place.c));
       constants = own.constants;
       choices = own.choices;
       terms = own.terms;
@@ -49,7 +49,7 @@ returns-in_err-push-clause-adds g c =
 
 pub loop-place-preserved : goal.loop-place-preserved
 loop-place-preserved g c =
-    let m = g.C.Circuit in
+    let m = g.C.State in
     let before = c.loop-place.invariant in
     let source = c.args.rule.now.source in
     let within : c.loop-place.place < length source = omega arith in

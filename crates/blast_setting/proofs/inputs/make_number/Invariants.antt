@@ -3,5 +3,5 @@ use Rattle.blast_setting.proofs.inputs.make_number.Given as goal
 
 abbrev pub invariant-loop : goal.invariant-loop
 invariant-loop g l =
-    let m = g.C.Circuit in
-    Made m.has_literal m.admits m.value m.inputs_made m.gates_made l.initial.c l.c l.bits l.counter
+    let m = g.C.State in
+    Made m l.initial.c l.c l.bits l.counter

@@ -11,10 +11,10 @@ use Rattle.blast_setting.proofs.inputs.make_numbers.Given as goal
 
 abbrev pub invariant-loop-k : goal.invariant-loop-k
 invariant-loop-k g l =
-    let m = g.C.Circuit in record {
-      keeps : Keeps m.has_literal m.admits m.value l.initial.c l.c;
+    let m = g.C.State in record {
+      keeps : Keeps m l.initial.c l.c;
       gates : m.gates_made l.c ≡ m.gates_made l.initial.c;
-      all : AllMade m.admits m.inputs_made (Keeps m.has_literal m.admits m.value) (λ old new k inputs admitted. k.admitted inputs admitted)
+      all : AllMade m.admits m.inputs_made (Keeps m) (λ old new k inputs admitted. k.admitted inputs admitted)
           (λ now x. All (m.has_literal now) x) (λ old new k x own. All-kept k x own) (λ now inputs x. number_held (m.value now inputs) x) (λ old new k inputs admitted x own. number_held-kept k inputs admitted x own)
           number_read number_bits (λ (w : List _). length w) l.initial.c l.c (named_widths l.typing l.statements l.kind l.count) l.words.items l.k;
     }

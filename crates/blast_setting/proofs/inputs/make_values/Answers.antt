@@ -16,25 +16,25 @@ named_width-width-requires g c = c.requires c.loop-k.k (omega arith)
 
 pub loop-k-init : goal.loop-k-init
 loop-k-init g c =
-    let m = g.C.Circuit in
+    let m = g.C.State in
     record {
       keeps = Keeps-refl;
       gates = refl;
-      all = all_made_none m.admits m.inputs_made (Keeps m.has_literal m.admits m.value) (λ old new k inputs admitted. k.admitted inputs admitted)
+      all = all_made_none m.admits m.inputs_made (Keeps m) (λ old new k inputs admitted. k.admitted inputs admitted)
           (λ now x. IsOwn (m.has_literal now) x) (λ old new k x own. IsOwn-kept k x own) (λ now inputs x. held_value (m.value now inputs) x) (λ old new k inputs admitted x own. held_value-kept k inputs admitted x own)
           value_read value_bits (λ (h : Held _). length h.bits) c.args.c.now (named_widths c.args.typing.now c.args.statements.now c.args.kind c.args.count) _ c.new-held.ensures.items;
     }
 
 pub loop-k-preserved : goal.loop-k-preserved
 loop-k-preserved g c =
-    let m = g.C.Circuit in
+    let m = g.C.State in
     let before = c.loop-k.invariant in
     let widths = named_widths c.args.typing.now c.args.statements.now c.args.kind c.args.count in
     let at : slice_get widths c.loop-k.k ≡ Some c.named_width-width.result = named_widths-at c.args.typing.now c.args.statements.now c.args.kind c.args.count c.loop-k.k (omega arith) ∙ ap (λ N. Some N) (sym c.named_width-width.ensures) in
     rw c.in_ok-push.ensures.items record {
       keeps = Keeps-trans before.keeps c.make_value.ensures.keeps;
       gates = c.make_value.ensures.gates ∙ before.gates;
-      all = all_made_more m.admits m.inputs_made (Keeps m.has_literal m.admits m.value) (λ old new k inputs admitted. k.admitted inputs admitted)
+      all = all_made_more m.admits m.inputs_made (Keeps m) (λ old new k inputs admitted. k.admitted inputs admitted)
           (λ now x. IsOwn (m.has_literal now) x) (λ old new k x own. IsOwn-kept k x own) (λ now inputs x. held_value (m.value now inputs) x) (λ old new k inputs admitted x own. held_value-kept k inputs admitted x own)
           value_read value_bits (λ (h : Held _). length h.bits) c.args.c.now c.loop-k.c c.make_value.new.c widths c.loop-k.held.items c.loop-k.k c.named_width-width.result c.in_ok-make_value.field-0
           before.all (λ inputs admitted. before.keeps.admitted inputs admitted) c.make_value.ensures.keeps at c.in_ok-make_value.ensures.width c.in_ok-make_value.ensures.own
@@ -43,24 +43,24 @@ loop-k-preserved g c =
 
 pub returns-clause-values : goal.returns-clause-values
 returns-clause-values g c =
-    let m = g.C.Circuit in
+    let m = g.C.State in
     let widths = named_widths c.args.typing.now c.args.statements.now c.args.kind c.args.count in
-    all_made_read m.admits m.inputs_made (Keeps m.has_literal m.admits m.value) (λ old new k inputs admitted. k.admitted inputs admitted)
+    all_made_read m.admits m.inputs_made (Keeps m) (λ old new k inputs admitted. k.admitted inputs admitted)
     (λ now x. IsOwn (m.has_literal now) x) (λ old new k x own. IsOwn-kept k x own) (λ now inputs x. held_value (m.value now inputs) x) (λ old new k inputs admitted x own. held_value-kept k inputs admitted x own)
     value_read value_bits (λ (h : Held _). length h.bits) c.args.c.now c.loop-k.c widths c.loop-k.held.items c.loop-k.k c.loop-k.invariant.all (omega (arith, length-named_widths c.args.typing.now c.args.statements.now c.args.kind c.args.count))
 
 pub returns-clause-widths : goal.returns-clause-widths
 returns-clause-widths g c =
-    let m = g.C.Circuit in
+    let m = g.C.State in
     let widths = named_widths c.args.typing.now c.args.statements.now c.args.kind c.args.count in
-    all_made_widths m.admits m.inputs_made (Keeps m.has_literal m.admits m.value) (λ old new k inputs admitted. k.admitted inputs admitted)
+    all_made_widths m.admits m.inputs_made (Keeps m) (λ old new k inputs admitted. k.admitted inputs admitted)
     (λ now x. IsOwn (m.has_literal now) x) (λ old new k x own. IsOwn-kept k x own) (λ now inputs x. held_value (m.value now inputs) x) (λ old new k inputs admitted x own. held_value-kept k inputs admitted x own)
     value_read value_bits (λ (h : Held _). length h.bits) c.args.c.now c.loop-k.c widths c.loop-k.held.items c.loop-k.k c.loop-k.invariant.all (omega (arith, length-named_widths c.args.typing.now c.args.statements.now c.args.kind c.args.count))
 
 pub returns-clause-inputs : goal.returns-clause-inputs
 returns-clause-inputs g c =
-    let m = g.C.Circuit in
+    let m = g.C.State in
     let widths = named_widths c.args.typing.now c.args.statements.now c.args.kind c.args.count in
-    all_made_behind m.admits m.inputs_made (Keeps m.has_literal m.admits m.value) (λ old new k inputs admitted. k.admitted inputs admitted)
+    all_made_behind m.admits m.inputs_made (Keeps m) (λ old new k inputs admitted. k.admitted inputs admitted)
     (λ now x. IsOwn (m.has_literal now) x) (λ old new k x own. IsOwn-kept k x own) (λ now inputs x. held_value (m.value now inputs) x) (λ old new k inputs admitted x own. held_value-kept k inputs admitted x own)
     value_read value_bits (λ (h : Held _). length h.bits) c.args.c.now c.loop-k.c widths c.loop-k.held.items c.loop-k.k c.loop-k.invariant.all (omega (arith, length-named_widths c.args.typing.now c.args.statements.now c.args.kind c.args.count))

@@ -10,10 +10,10 @@ use Rattle.blast_setting.proofs.inputs.make_values.Given as goal
 
 abbrev pub invariant-loop-k : goal.invariant-loop-k
 invariant-loop-k g l =
-    let m = g.C.Circuit in record {
-      keeps : Keeps m.has_literal m.admits m.value l.initial.c l.c;
+    let m = g.C.State in record {
+      keeps : Keeps m l.initial.c l.c;
       gates : m.gates_made l.c ≡ m.gates_made l.initial.c;
-      all : AllMade m.admits m.inputs_made (Keeps m.has_literal m.admits m.value) (λ old new k inputs admitted. k.admitted inputs admitted)
+      all : AllMade m.admits m.inputs_made (Keeps m) (λ old new k inputs admitted. k.admitted inputs admitted)
           (λ now x. IsOwn (m.has_literal now) x) (λ old new k x own. IsOwn-kept k x own) (λ now inputs x. held_value (m.value now inputs) x) (λ old new k inputs admitted x own. held_value-kept k inputs admitted x own)
           value_read value_bits (λ (h : Held _). length h.bits) l.initial.c l.c (named_widths l.typing l.statements l.kind l.count) l.held.items l.k;
     }

@@ -28,7 +28,7 @@ returns-clause-keeps g c = Keeps-trans c.make_values.ensures.keeps (Keeps-trans 
 
 pub returns-clause-own : goal.returns-clause-own
 returns-clause-own g c =
-    let m = g.C.Circuit in
+    let m = g.C.State in
     let end = c.make_numbers-2.new.c in record {
       inputs = All-same (IsOwn (m.has_literal end)) _ _ c.from_vec.ensures (AllOwn-kept (Keeps-trans c.make_numbers.ensures.keeps c.make_numbers-2.ensures.keeps) _ c.in_ok-inputs.ensures.own);
       constants = All-same (All (m.has_literal end)) _ _ c.from_vec-2.ensures (AllAll-kept c.make_numbers-2.ensures.keeps _ c.in_ok-constants.ensures.own);
@@ -37,8 +37,8 @@ returns-clause-own g c =
 
 pub returns-clause-setting : goal.returns-clause-setting
 returns-clause-setting g c =
-    let m = g.C.Circuit in
-    setting_made m.inputs_made c.args.rule.now c.args.typing.now c.args.c.now c.make_values.new.c c.make_numbers.new.c c.make_numbers-2.new.c
+    let m = g.C.State in
+    setting_made c.args.rule.now c.args.typing.now c.args.c.now c.make_values.new.c c.make_numbers.new.c c.make_numbers-2.new.c
     c.make_values.ensures.keeps c.make_numbers.ensures.keeps c.make_numbers-2.ensures.keeps c.requires.no_inputs _ _
     (widths_as c.args.rule.now c.args.typing.now Input c.args.typing.now c.as_slice-source.result.now c.len-count.result refl c.as_slice-source.ensures c.len-count.ensures)
     (widths_as c.args.rule.now c.args.typing.now Constant c.args.typing.now c.as_slice-source.result.now c.len-count-2.result refl c.as_slice-source.ensures c.len-count-2.ensures)
@@ -51,8 +51,8 @@ returns-clause-setting g c =
 
 pub returns-clause-inputs : goal.returns-clause-inputs
 returns-clause-inputs g c =
-    let m = g.C.Circuit in
-    at_end m.inputs_made c.args.rule.now c.args.typing.now c.args.c.now c.make_values.new.c c.make_numbers.new.c c.make_numbers-2.new.c
+    let m = g.C.State in
+    at_end c.args.rule.now c.args.typing.now c.args.c.now c.make_values.new.c c.make_numbers.new.c c.make_numbers-2.new.c
     c.make_values.ensures.keeps c.make_numbers.ensures.keeps c.make_numbers-2.ensures.keeps c.requires.no_inputs _ _
     (widths_as c.args.rule.now c.args.typing.now Input c.args.typing.now c.as_slice-source.result.now c.len-count.result refl c.as_slice-source.ensures c.len-count.ensures)
     (widths_as c.args.rule.now c.args.typing.now Constant c.args.typing.now c.as_slice-source.result.now c.len-count-2.result refl c.as_slice-source.ensures c.len-count-2.ensures)

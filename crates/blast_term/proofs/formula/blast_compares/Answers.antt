@@ -16,7 +16,7 @@ use Rattle.blast_term.proofs.formula.blast_compares.Goals as goal
 
 pub returns-clause-value : goal.returns-clause-value
 returns-clause-value g c = IfOk-weaker c.and.result _ _ (λ made known inputs admitted.
-    let m = g.C.Circuit in
+    let m = g.C.State in
     let start = m.value c.args.c.now inputs in
     let mid = m.value c.blast_value.new.c inputs in
     let now = c.blast_value.ensures.adds.keeps.admitted inputs admitted in

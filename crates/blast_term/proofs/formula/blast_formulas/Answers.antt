@@ -51,7 +51,7 @@ returns-in_err-push-clause-adds g c =
 
 pub loop-formula-preserved : goal.loop-formula-preserved
 loop-formula-preserved g c =
-    let m = g.C.Circuit in
+    let m = g.C.State in
     let before = c.loop-formula.invariant in
     let i = c.loop-formula.formula-index in
     let within : i < length c.args.formulas.now = omega arith in

@@ -10,7 +10,7 @@ use Rattle.blast_term.proofs.formula.blast_precondition.Goals as goal
 
 pub loop-term-init : goal.loop-term-init
 loop-term-init g c =
-    let m = g.C.Circuit in
+    let m = g.C.State in
     let adds = c.blast_formulas.ensures.adds in
     record {
       met = λ inputs admitted.
@@ -24,7 +24,7 @@ loop-term-init g c =
 
 pub loop-term-preserved : goal.loop-term-preserved
 loop-term-preserved g c =
-    let m = g.C.Circuit in
+    let m = g.C.State in
     let before = c.loop-term.invariant in
     let i = c.loop-term.term-index in
     let h = c.term-item.result in
@@ -51,7 +51,7 @@ returns-in_err-met-clause-adds g c =
 
 pub returns-clause-value : goal.returns-clause-value
 returns-clause-value g c = λ inputs admitted.
-    let m = g.C.Circuit in
+    let m = g.C.State in
     let terms = c.args.terms.now in
     let values = map (held_value (m.value c.args.c.now inputs)) terms in
     let met = m.value c.loop-term.c inputs c.loop-term.met in

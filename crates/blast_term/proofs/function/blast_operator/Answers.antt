@@ -12,7 +12,7 @@ use Rattle.blast_term.proofs.function.blast_operator.Goals as goal
 
 pub returns-clause-value : goal.returns-clause-value
 returns-clause-value g c = λ inputs admitted.
-    let m = g.C.Circuit in
+    let m = g.C.State in
     let start = m.value c.args.c.now inputs in
     let mid = m.value c.blast_value.new.c inputs in
     let end = m.value c.or.new.c inputs in

@@ -9,7 +9,7 @@ use Rattle.blast_term.proofs.function.without_sign.Goals as goal
 
 pub returns-clause-number : goal.returns-clause-number
 returns-clause-number g c = IfOk-weaker c.select.result _ _ (λ made known inputs admitted.
-    let m = g.C.Circuit in
+    let m = g.C.State in
     let k1 = c.less_unsigned.ensures.adds.keeps in
     let k2 = c.neg.ensures.adds.keeps in
     let a1 = k1.admitted inputs admitted in

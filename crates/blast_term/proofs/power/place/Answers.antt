@@ -19,7 +19,7 @@ loop-i-init g c = (
 
 pub loop-i-preserved : goal.loop-i-preserved
 loop-i-preserved g c =
-    let m = g.C.Circuit in
+    let m = g.C.State in
     let before = c.loop-i.invariant in
     let i = c.loop-i.i in
     let bit = c.index-word-i.result in
@@ -64,7 +64,7 @@ loop-i-preserved g c =
 
 pub returns-clause-value : goal.returns-clause-value
 returns-clause-value g c = λ inputs admitted.
-    let m = g.C.Circuit in
+    let m = g.C.State in
     let start = m.value c.args.c.now inputs in
     let now = m.value c.loop-i.c inputs in
     let word = c.args.word.now in

@@ -52,7 +52,7 @@ returns-in_err-push-clause-adds g c =
 
 pub loop-term-preserved : goal.loop-term-preserved
 loop-term-preserved g c =
-    let m = g.C.Circuit in
+    let m = g.C.State in
     let before = c.loop-term.invariant in
     let i = c.loop-term.term-index in
     let within : i < length c.args.terms.now = omega arith in

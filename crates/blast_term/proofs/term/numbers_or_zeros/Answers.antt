@@ -13,7 +13,7 @@ use Rattle.blast_term.proofs.term.numbers_or_zeros.Goals as goal
 
 pub number_or_zero-requires : goal.number_or_zero-requires
 number_or_zero-requires g c =
-    IsOwn-kept c.loop-value.invariant.adds.keeps c.value-item.result (own_at (IsOwn (g.C.Circuit.has_literal c.args.c.now)) c.args.held.now c.loop-value.value-index c.value-item.result c.requires (omega arith) c.value-item.is)
+    IsOwn-kept c.loop-value.invariant.adds.keeps c.value-item.result (own_at (IsOwn (g.C.State.has_literal c.args.c.now)) c.args.held.now c.loop-value.value-index c.value-item.result c.requires (omega arith) c.value-item.is)
 
 pub returns-in_err-word-clause-adds : goal.returns-in_err-word-clause-adds
 returns-in_err-word-clause-adds g c =
@@ -27,7 +27,7 @@ returns-in_err-push-clause-adds g c =
 
 pub loop-value-preserved : goal.loop-value-preserved
 loop-value-preserved g c =
-    let m = g.C.Circuit in
+    let m = g.C.State in
     let before = c.loop-value.invariant in
     let i = c.loop-value.value-index in
     let within : i < length c.args.held.now = omega arith in

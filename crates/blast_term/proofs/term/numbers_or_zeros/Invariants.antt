@@ -9,9 +9,9 @@ use Rattle.blast_term.proofs.term.numbers_or_zeros.Given as goal
 
 abbrev pub invariant-loop-value : goal.invariant-loop-value
 invariant-loop-value g l =
-    let m = g.C.Circuit in record {
+    let m = g.C.State in record {
       numbers : (inputs : List Bool) → m.admits l.initial.c inputs → map (number_of (m.value l.c inputs)) l.words.items ≡ map number_or_zero (map (held_value (m.value l.initial.c inputs)) (take l.value-index l.held));
       widths : map length l.words.items ≡ widths_of (take l.value-index l.held);
       own : All (All (m.has_literal l.c)) l.words.items;
-      adds : Adds m.has_literal m.admits m.value m.inputs_made m.gates_made l.initial.c l.c (numbers_gates (widths_of (take l.value-index l.held)));
+      adds : Adds m l.initial.c l.c (numbers_gates (widths_of (take l.value-index l.held)));
     }

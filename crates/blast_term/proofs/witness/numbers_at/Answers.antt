@@ -22,7 +22,7 @@ pub at-requires : goal.at-requires
 at-requires g c = c.requires.there c.loop-place.place-index 0 (omega arith)
 
 pub number_or_zero-requires : goal.number_or_zero-requires
-number_or_zero-requires g c = own_from_get (IsOwn (g.C.Circuit.has_literal c.loop-place.c)) c.args.values.now (get_or c.args.places.now c.loop-place.place-index 0) c.at.result.now (AllOwn-kept c.loop-place.invariant.adds.keeps c.args.values.now c.requires.own) c.at.ensures
+number_or_zero-requires g c = own_from_get (IsOwn (g.C.State.has_literal c.loop-place.c)) c.args.values.now (get_or c.args.places.now c.loop-place.place-index 0) c.at.result.now (AllOwn-kept c.loop-place.invariant.adds.keeps c.args.values.now c.requires.own) c.at.ensures
 
 pub returns-in_err-word-clause-adds : goal.returns-in_err-word-clause-adds
 returns-in_err-word-clause-adds g c =
@@ -40,7 +40,7 @@ returns-in_err-push-clause-adds g c =
 
 pub loop-place-preserved : goal.loop-place-preserved
 loop-place-preserved g c =
-    let m = g.C.Circuit in
+    let m = g.C.State in
     let before = c.loop-place.invariant in
     let i = c.loop-place.place-index in
     let within : i < length c.args.places.now = omega arith in

@@ -6,7 +6,7 @@ use Rattle.blast_value.proofs.arithmetic.checked.Goals as goal
 
 pub returns-clause-value : goal.returns-clause-value
 returns-clause-value g c inputs admitted =
-    let m = g.C.Circuit in
+    let m = g.C.State in
     let k1 = c.wrapped.ensures.adds.keeps in
     let k2 = c.overflows.ensures.adds.keeps in
     let k3 = c.overflows-2.ensures.adds.keeps in

@@ -15,7 +15,7 @@ pub returns-in-Sub-clause-number : goal.returns-in-Sub-clause-number
 returns-in-Sub-clause-number g c =
     let n = length c.args.a.now in
     IfOk-weaker c.sub.result _ _ (λ word known inputs admitted.
-    let value = g.C.Circuit.value c.args.c.now inputs in
+    let value = g.C.State.value c.args.c.now inputs in
     let a = number_of value c.args.a.now in
     let b = number_of value c.args.b.now in
     let below_b : b < 2 ^ n = subst (λ k. b < 2 ^ k) c.requires.same_width (number_below value c.args.b.now) in

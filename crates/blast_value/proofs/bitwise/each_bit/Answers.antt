@@ -7,7 +7,7 @@ use Rattle.blast_value.proofs.bitwise.each_bit.Goals as goal
 
 pub loop-i-preserved : goal.loop-i-preserved
 loop-i-preserved g c =
-    let m = g.C.Circuit in
+    let m = g.C.State in
     let before = c.loop-i.invariant in
     let i = c.loop-i.i in
     let keeps = c.gate.ensures.adds.keeps in

@@ -22,7 +22,7 @@ returns-in-Compare-clause-effect g c =
     let at_1 = rw c.as_slice-operands.ensures at c.index-operands-1-in-Compare.is in
     let list = two_operands c.args.operands.now _ _ x y takes.2 at_0 at_1 in
     IfOk-weaker c.compare.result _ _ (λ made known inputs admitted.
-    let value = g.C.Circuit.value c.args.c.now inputs in
+    let value = g.C.State.value c.args.c.now inputs in
     rw (c.in-Compare.is, list) (λ m width_x width_y.
     known inputs admitted ∙ ap Gives (comparison_width (value x.poison) (value y.poison) c.in-Compare.pred (length x.bits) (length y.bits) (number_of value x.bits) (number_of value y.bits) m width_x)))
     c.compare.ensures.effect
@@ -43,7 +43,7 @@ returns-in-Convert-clause-effect g c =
     let at_0 = rw c.as_slice-operands.ensures at c.index-operands-0-in-Convert.is in
     let list = one_operand c.args.operands.now _ x takes.2 at_0 in
     IfOk-weaker c.convert.result _ _ (λ made known inputs admitted.
-    let value = g.C.Circuit.value c.args.c.now inputs in
+    let value = g.C.State.value c.args.c.now inputs in
     rw (c.in-Convert.is, list) (λ m width_x.
     known inputs admitted ∙ ap Gives (conversion_width (value x.poison) c.in-Convert.cast (length x.bits) c.args.width (number_of value x.bits) m width_x)))
     c.convert.ensures.effect

@@ -6,7 +6,7 @@ use Rattle.blast_value.proofs.comparison.choose.Goals as goal
 
 pub returns-clause-effect : goal.returns-clause-effect
 returns-clause-effect g c inputs admitted =
-    let m = g.C.Circuit in
+    let m = g.C.State in
     let value = m.value c.args.c.now inputs in
     let condition = c.args.condition.now in
     let literal = c.index-as_slice-0.result in

@@ -4,7 +4,7 @@ use Rattle.blast_value.proofs.comparison.compare.Goals as goal
 
 pub returns-clause-effect : goal.returns-clause-effect
 returns-clause-effect g c inputs admitted =
-    let m = g.C.Circuit in
+    let m = g.C.State in
     let k1 = c.holds.ensures.adds.keeps in
     let k2 = c.or.ensures.adds.keeps in
     let at_1 = k1.admitted inputs admitted in

@@ -27,7 +27,7 @@ returns-in-SExt-clause-number g c =
     let wider = rw c.in-SExt.is at c.requires.cast in
     let a = c.args.a.now in
     IfOk-weaker c.extend-in-SExt.result _ _ (λ word known inputs admitted.
-    let value = g.C.Circuit.value c.args.c.now inputs in
+    let value = g.C.State.value c.args.c.now inputs in
     rw c.in-SExt.is (rw c.bits-to.ensures.bits at (known inputs admitted)
     ∙ residue-extended (length a) c.args.width (number_of value a) (value c.sign.result) (omega arith) wider (number_below value a) (highest_bit value a c.sign.result c.requires.width c.sign.ensures)))
     c.extend-in-SExt.ensures.number

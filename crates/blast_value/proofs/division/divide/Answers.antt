@@ -6,7 +6,7 @@ use Rattle.blast_value.proofs.division.divide.Goals as goal
 
 pub returns-clause-effect : goal.returns-clause-effect
 returns-clause-effect g c inputs admitted =
-    let m = g.C.Circuit in
+    let m = g.C.State in
     let value = m.value c.args.c.now inputs in
     let k1 = c.has_no_quotient.ensures.adds.keeps in
     let k2 = c.result.ensures.adds.keeps in

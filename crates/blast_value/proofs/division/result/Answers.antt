@@ -7,7 +7,7 @@ use Rattle.blast_value.proofs.division.result.Goals as goal
 
 pub returns-in_ok-poison-in-UDiv-clause-value : goal.returns-in_ok-poison-in-UDiv-clause-value
 returns-in_ok-poison-in-UDiv-clause-value g c inputs admitted some =
-    let value = g.C.Circuit.value c.args.c.now inputs in
+    let value = g.C.State.value c.args.c.now inputs in
     let k1 = c.quotient_and_remainder.ensures.adds.keeps in
     let k2 = c.is_left.ensures.adds.keeps in
     let at_1 = k1.admitted inputs admitted in

@@ -6,7 +6,7 @@ use Rattle.blast_value.proofs.known.constant.Goals as goal
 
 pub loop-i-preserved : goal.loop-i-preserved
 loop-i-preserved g c =
-    let m = g.C.Circuit in
+    let m = g.C.State in
     let before = c.loop-i.invariant in
     let own = All-push (m.has_literal c.args.c.now) c.loop-i.word c.truth.result before.0 c.truth.ensures.own in (
       rw c.in_ok-push.ensures.ok own,

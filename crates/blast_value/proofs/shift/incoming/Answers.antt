@@ -3,4 +3,4 @@ use Rattle.blast_value.proofs.shift.incoming.Goals as goal
 
 pub returns-then-signed-clause-value : goal.returns-then-signed-clause-value
 returns-then-signed-clause-value g c inputs admitted =
-    rw c.if-signed.true (highest_bit (g.C.Circuit.value c.args.c.now inputs) c.args.word.now c.sign.result c.requires.width c.sign.ensures)
+    rw c.if-signed.true (highest_bit (g.C.State.value c.args.c.now inputs) c.args.word.now c.sign.result c.requires.width c.sign.ensures)

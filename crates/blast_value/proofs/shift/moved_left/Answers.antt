@@ -9,7 +9,7 @@ use Rattle.blast_value.proofs.shift.moved_left.Goals as goal
 
 pub returns-clause-value : goal.returns-clause-value
 returns-clause-value g c inputs admitted =
-    let m = g.C.Circuit in
+    let m = g.C.State in
     let k1 = c.is_too_far.ensures.adds.keeps in
     let k2 = c.shift_left.ensures.adds.keeps in
     let k3 = c.loses.ensures.adds.keeps in

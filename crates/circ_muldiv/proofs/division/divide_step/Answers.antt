@@ -9,7 +9,7 @@ use Rattle.circ_muldiv.proofs.division.divide_step.Goals as goal
 
 pub returns-clause-fits : goal.returns-clause-fits
 returns-clause-fits g c inputs admitted =
-    let m = g.C.Circuit in
+    let m = g.C.State in
     let longer_is : c.as_slice.result.now ≡ c.args.digit ∷ c.args.remainder.now = grind (arith, common_steps) in
     let complement_is : c.as_slice-2.result.now ≡ c.in_ok-complement.complement ++ c.one.result ∷ [] = grind (arith, common_steps) in
     let after = c.add_with_carry.ensures.adds.keeps.admitted inputs admitted in
@@ -20,7 +20,7 @@ returns-clause-fits g c inputs admitted =
 
 pub returns-clause-left : goal.returns-clause-left
 returns-clause-left g c inputs admitted =
-    let m = g.C.Circuit in
+    let m = g.C.State in
     let longer_is : c.as_slice.result.now ≡ c.args.digit ∷ c.args.remainder.now = grind (arith, common_steps) in
     let complement_is : c.as_slice-2.result.now ≡ c.in_ok-complement.complement ++ c.one.result ∷ [] = grind (arith, common_steps) in
     let deref_is : c.deref.result.now ≡ c.args.digit ∷ c.args.remainder.now = grind (arith, common_steps) in

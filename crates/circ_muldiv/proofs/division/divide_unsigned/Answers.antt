@@ -15,7 +15,7 @@ pub divide_step-requires-clause-own_digit : goal.divide_step-requires-clause-own
 divide_step-requires-clause-own_digit g c =
     let inside : c.loop-i.i - 1 < length c.args.a.now = omega (arith, ap length c.as_slice-dividend.ensures) in
     c.loop-i.invariant.adds.keeps.literals c.index-dividend-i.result
-    (own_at (g.C.Circuit.has_literal c.args.c.now) c.args.a.now (c.loop-i.i - 1) c.index-dividend-i.result c.requires.own_a inside (rw c.as_slice-dividend.ensures at c.index-dividend-i.is))
+    (own_at (g.C.State.has_literal c.args.c.now) c.args.a.now (c.loop-i.i - 1) c.index-dividend-i.result c.requires.own_a inside (rw c.as_slice-dividend.ensures at c.index-dividend-i.is))
 
 pub divide_step-requires-clause-own_remainder : goal.divide_step-requires-clause-own_remainder
 divide_step-requires-clause-own_remainder g c = rw c.as_slice.ensures c.loop-i.invariant.own_remainder

@@ -6,7 +6,7 @@ use Rattle.circ_muldiv.proofs.magnitude.magnitude.Goals as goal
 
 pub returns-clause-number : goal.returns-clause-number
 returns-clause-number g c =
-    let m = g.C.Circuit in
+    let m = g.C.State in
     let inside : length c.args.a.now - 1 < length c.args.a.now = omega arith in
     let own_sign = own_at (m.has_literal c.args.c.now) c.args.a.now (length c.args.a.now - 1) c.sign.result c.requires.own inside c.sign.ensures in
     let keeps = c.neg.ensures.adds.keeps in

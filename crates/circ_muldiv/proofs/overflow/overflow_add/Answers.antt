@@ -8,7 +8,7 @@ use Rattle.circ_muldiv.proofs.overflow.overflow_add.Goals as goal
 
 pub returns-then-signed-clause-value : goal.returns-then-signed-clause-value
 returns-then-signed-clause-value g c =
-    let m = g.C.Circuit in
+    let m = g.C.State in
     let a = c.args.a.now in
     let b = c.args.b.now in
     let keeps = c.add_with_carry.ensures.adds.keeps in
@@ -26,7 +26,7 @@ returns-then-signed-clause-value g c =
 
 pub returns-clause-value : goal.returns-clause-value
 returns-clause-value g c inputs admitted =
-    let m = g.C.Circuit in
+    let m = g.C.State in
     let a = c.args.a.now in
     let b = c.args.b.now in
     let old = m.value c.args.c.now inputs in

@@ -1,4 +1,4 @@
-use Rattle.std.proofs.Common.{◌<◌, ◌≤◌, ◌-◌, ◌+◌, length, ap, ◌∙◌, arith}
+use Rattle.std.proofs.Common.{true, ◌<◌, ◌≤◌, ◌-◌, ◌+◌, length, ap, ◌∙◌, arith}
 use Rattle.std.proofs.lemmas.Result.{IfOk-weaker}
 use Rattle.circuits.specs.Gates.{comparison_gates}
 use Rattle.circuits.proofs.Kept.{own_at, map-kept, Keeps-trans, Adds-trans, Adds-weaken}
@@ -8,7 +8,7 @@ use Rattle.circ_muldiv.proofs.overflow.overflow_mul_signed.Goals as goal
 
 pub returns-clause-value : goal.returns-clause-value
 returns-clause-value g c =
-    let m = g.C.Circuit in
+    let m = g.C.State in
     let a = c.args.a.now in
     let b = c.args.b.now in
     let k1 = c.magnitude.ensures.adds.keeps in
@@ -47,5 +47,5 @@ pub returns-clause-adds : goal.returns-clause-adds
 returns-clause-adds g c =
     let width_a = ap length c.as_slice.ensures ∙ c.in_ok-magnitude_a.ensures.width in
     let width = c.in_ok-greatest.ensures.width ∙ c.len.ensures in
-    let few : magnitude_gates (length c.args.a.now) + magnitude_gates (length c.args.b.now) + product_gates (length c.as_slice.result.now) + 1 + comparison_gates (length c.in_ok-greatest.greatest) + 1 ≤ overflow_mul_gates (length c.args.a.now) = rw (width_a, width, c.requires.same_width) (omega arith) in
+    let few : magnitude_gates (length c.args.a.now) + magnitude_gates (length c.args.b.now) + product_gates (length c.as_slice.result.now) + 1 + comparison_gates (length c.in_ok-greatest.greatest) + 1 ≤ overflow_mul_gates true (length c.args.a.now) = rw (width_a, width, c.requires.same_width) (omega arith) in
     Adds-weaken (Adds-trans (Adds-trans (Adds-trans (Adds-trans (Adds-trans c.magnitude.ensures.adds c.magnitude-2.ensures.adds) c.multiply_with_overflow.ensures.adds) c.xor.ensures.adds) c.less_unsigned.ensures.adds) c.or.ensures.adds) few

@@ -8,7 +8,7 @@ use Rattle.circ_muldiv.proofs.overflow.overflow_sub.Goals as goal
 
 pub returns-in_ok-difference-clause-value : goal.returns-in_ok-difference-clause-value
 returns-in_ok-difference-clause-value g c =
-    let m = g.C.Circuit in
+    let m = g.C.State in
     let a = c.args.a.now in
     let b = c.args.b.now in
     let keeps = c.sub.ensures.adds.keeps in
@@ -25,7 +25,7 @@ returns-in_ok-difference-clause-value g c =
 
 pub returns-else-signed-clause-value : goal.returns-else-signed-clause-value
 returns-else-signed-clause-value g c =
-    let m = g.C.Circuit in
+    let m = g.C.State in
     let a = c.args.a.now in
     let b = c.args.b.now in
     IfOk-weaker c.less_unsigned.result _ _ (λ overflow known inputs admitted.

@@ -13,7 +13,7 @@ loop-i-preserved g c =
 
 pub or-requires-clause-own_b : goal.or-requires-clause-own_b
 or-requires-clause-own_b g c =
-    let m = g.C.Circuit in
+    let m = g.C.State in
     let inside : length c.args.a.now - 1 - c.loop-i.i < length c.args.a.now = omega arith in
     let own = own_at (m.has_literal c.args.c.now) c.args.a.now (length c.args.a.now - 1 - c.loop-i.i) c.index-a-top-in-loop-i.result c.requires.own_a inside c.index-a-top-in-loop-i.is in
     (Keeps-trans (Keeps-trans c.loop-i.invariant.adds.keeps c.add_row.ensures.adds.keeps) c.loses.ensures.adds.keeps).literals c.index-a-top-in-loop-i.result own

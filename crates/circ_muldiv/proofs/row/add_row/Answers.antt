@@ -8,7 +8,7 @@ use Rattle.circ_muldiv.proofs.row.add_row.Goals as goal
 
 pub returns-clause-number : goal.returns-clause-number
 returns-clause-number g c inputs admitted =
-    let m = g.C.Circuit in
+    let m = g.C.State in
     let word = c.args.word.now in
     let place = c.args.place in
     let bits : c.from_vec.result ≡ take c.args.place c.args.word.now ++ c.in_ok-upper.upper.bits = grind (arith, common_steps) in

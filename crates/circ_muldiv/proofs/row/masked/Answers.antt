@@ -7,7 +7,7 @@ use Rattle.circ_muldiv.proofs.row.masked.Goals as goal
 
 pub loop-bit-preserved : goal.loop-bit-preserved
 loop-bit-preserved g c =
-    let m = g.C.Circuit in
+    let m = g.C.State in
     let before = c.loop-bit.invariant in
     let i = c.loop-bit.bit-index in
     let inside : i < length c.args.word.now = omega arith in

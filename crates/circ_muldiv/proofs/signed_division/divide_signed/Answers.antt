@@ -8,14 +8,14 @@ pub negated_where-requires-2-clause-own_negative : goal.negated_where-requires-2
 negated_where-requires-2-clause-own_negative g c =
     let in_a : length c.args.a.now - 1 < length c.args.a.now = omega arith in
     let in_b : length c.args.b.now - 1 < length c.args.b.now = omega arith in
-    let own_a = own_at (g.C.Circuit.has_literal c.args.c.now) c.args.a.now (length c.args.a.now - 1) c.sign-sign_a.result c.requires.own_a in_a c.sign-sign_a.ensures in
-    let own_b = own_at (g.C.Circuit.has_literal c.args.c.now) c.args.b.now (length c.args.b.now - 1) c.sign-sign_b.result c.requires.own_b in_b c.sign-sign_b.ensures in
+    let own_a = own_at (g.C.State.has_literal c.args.c.now) c.args.a.now (length c.args.a.now - 1) c.sign-sign_a.result c.requires.own_a in_a c.sign-sign_a.ensures in
+    let own_b = own_at (g.C.State.has_literal c.args.c.now) c.args.b.now (length c.args.b.now - 1) c.sign-sign_b.result c.requires.own_b in_b c.sign-sign_b.ensures in
     let keeps = Keeps-trans (Keeps-trans (Keeps-trans (Keeps-trans c.magnitude.ensures.adds.keeps c.magnitude-2.ensures.adds.keeps) c.divide_unsigned.ensures.adds.keeps) c.xor.ensures.adds.keeps) c.negated_where.ensures.adds.keeps in
     assumption (keeps.literals c.sign-sign_a.result own_a, keeps.literals c.sign-sign_b.result own_b)
 
 pub returns-clause-quotient : goal.returns-clause-quotient
 returns-clause-quotient g c inputs admitted some =
-    let m = g.C.Circuit in
+    let m = g.C.State in
     let a = c.args.a.now in
     let b = c.args.b.now in
     let k1 = c.magnitude.ensures.adds.keeps in
@@ -54,7 +54,7 @@ returns-clause-quotient g c inputs admitted some =
 
 pub returns-clause-remainder : goal.returns-clause-remainder
 returns-clause-remainder g c inputs admitted some =
-    let m = g.C.Circuit in
+    let m = g.C.State in
     let a = c.args.a.now in
     let b = c.args.b.now in
     let k1 = c.magnitude.ensures.adds.keeps in

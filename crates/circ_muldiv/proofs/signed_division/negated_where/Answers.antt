@@ -5,7 +5,7 @@ use Rattle.circ_muldiv.proofs.signed_division.negated_where.Goals as goal
 
 pub returns-clause-number : goal.returns-clause-number
 returns-clause-number g c =
-    let m = g.C.Circuit in
+    let m = g.C.State in
     let keeps = c.neg.ensures.adds.keeps in
     IfOk-weaker c.select.result _ _ (λ made known inputs admitted.
     negated_value (m.value c.args.c.now inputs) (m.value c.neg.new.c inputs) (m.value c.select.new.c inputs) c.args.word.now c.in_ok-negation.negation made c.args.negative (keeps.values inputs c.args.negative admitted c.requires.own_negative) (map-kept keeps inputs admitted c.args.word.now c.requires.own_word) (c.in_ok-negation.ensures.number inputs admitted)

@@ -10,7 +10,7 @@ loop-i-preserved g c =
     let b = c.as_slice-b.result.now in
     let in_a : c.loop-i.i < length a = omega arith in
     let in_b : c.loop-i.i < length b = omega (arith, ap length c.as_slice-a.ensures, ap length c.as_slice-b.ensures) in
-    let own_a : All (g.C.Circuit.has_literal c.args.c.now) a = subst (λ w. All (g.C.Circuit.has_literal c.args.c.now) w) (sym c.as_slice-a.ensures) c.requires.own_a in
-    let own_b : All (g.C.Circuit.has_literal c.args.c.now) b = subst (λ w. All (g.C.Circuit.has_literal c.args.c.now) w) (sym c.as_slice-b.ensures) c.requires.own_b in
+    let own_a : All (g.C.State.has_literal c.args.c.now) a = subst (λ w. All (g.C.State.has_literal c.args.c.now) w) (sym c.as_slice-a.ensures) c.requires.own_a in
+    let own_b : All (g.C.State.has_literal c.args.c.now) b = subst (λ w. All (g.C.State.has_literal c.args.c.now) w) (sym c.as_slice-b.ensures) c.requires.own_b in
     let before = c.loop-i.invariant in
     (Adds-weaken (Adds-trans before.0 c.less_above.ensures.adds) (omega arith), c.in_ok-less.ensures.own, λ inputs admitted. less_more before.0.keeps a b own_a own_b c.loop-i.i in_a in_b _ _ c.index-a-i.is c.index-b-i.is inputs admitted _ _ (before.2 inputs admitted) (c.in_ok-less.ensures.value inputs (before.0.keeps.admitted inputs admitted)))

@@ -5,7 +5,7 @@ use Rattle.circuits.proofs.disjunction.any.Goals as goal
 
 pub loop-bit-preserved : goal.loop-bit-preserved
 loop-bit-preserved g c =
-    let m = g.C.Circuit in
+    let m = g.C.State in
     let before = c.loop-bit.invariant in
     let inside : c.loop-bit.bit-index < length c.args.a.now = omega arith in (
       Adds-trans before.0 c.or.ensures.adds,

@@ -6,4 +6,4 @@ use Rattle.circuits.proofs.resize.cut.Goals as goal
 pub returns-clause-number : goal.returns-clause-number
 returns-clause-number g c inputs admitted =
     let bits : c.from_vec.result ≡ take c.args.to c.args.a.now = search rules in
-    ap (λ word. number (map (g.C.Circuit.value c.args.c.now inputs) word)) bits ∙ number-cut (g.C.Circuit.value c.args.c.now inputs) c.args.a.now c.args.to c.requires.narrower
+    ap (λ word. number (map (g.C.State.value c.args.c.now inputs) word)) bits ∙ number-cut (g.C.State.value c.args.c.now inputs) c.args.a.now c.args.to c.requires.narrower

@@ -7,4 +7,4 @@ use Rattle.circuits.proofs.resize.extend.Goals as goal
 pub returns-clause-number : goal.returns-clause-number
 returns-clause-number g c inputs admitted =
     let bits : c.from_vec.result ≡ c.args.a.now ++ replicate (c.args.to - length c.args.a.now) c.args.top = grind (arith, common_steps) in
-    ap (λ word. number (map (g.C.Circuit.value c.args.c.now inputs) word)) bits ∙ number-extend (g.C.Circuit.value c.args.c.now inputs) c.args.a.now c.args.to c.args.top c.requires.wider
+    ap (λ word. number (map (g.C.State.value c.args.c.now inputs) word)) bits ∙ number-extend (g.C.State.value c.args.c.now inputs) c.args.a.now c.args.to c.args.top c.requires.wider

@@ -1,4 +1,4 @@
-use Rattle.std.proofs.Common.{refl, ◌∙◌, length, replicate, map}
+use Rattle.std.proofs.Common.{length}
 use Rattle.std.proofs.lemmas.Result.{IfOk-weaker}
 use Rattle.circuits.proofs.Kept.{map-kept}
 use Rattle.circuits.proofs.Words.{map-replicate}
@@ -6,7 +6,7 @@ use Rattle.circuits.proofs.shift.filled_where_any.Goals as goal
 
 pub returns-clause-values : goal.returns-clause-values
 returns-clause-values g c =
-    let m = g.C.Circuit in
+    let m = g.C.State in
     IfOk-weaker c.select.result _ _ (λ filled known inputs admitted.
     let keeps = c.any.ensures.adds.keeps in
     let now_admitted = keeps.admitted inputs admitted in

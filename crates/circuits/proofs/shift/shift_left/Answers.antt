@@ -1,26 +1,12 @@
-use Rattle.std.proofs.Common.{◌≡◌, ◌-◌, min, length, take, drop, length-drop, ◌∙◌, arith}
-use Rattle.std.proofs.lemmas.List.{take_all}
-use Rattle.std.proofs.lemmas.List.Elements.{All-drop}
+use Rattle.std.proofs.Common.{ap, ◌∙◌}
 use Rattle.std.proofs.lemmas.Result.{IfOk-weaker}
-use Rattle.circuits.specs.Gates.{stages}
-use Rattle.circuits.proofs.Kept.{map-kept}
-use Rattle.circuits.proofs.Stages.{stage_reach}
-use Rattle.circuits.proofs.Words.{any-number}
-use Rattle.circuits.proofs.Shifts.{up_end}
+use Rattle.circuits.specs.Word.{number, number_of}
+use Rattle.circuits.proofs.Shifts.{number-moved_up}
 use Rattle.circuits.proofs.shift.shift_left.Goals as goal
 
 pub returns-clause-number : goal.returns-clause-number
 returns-clause-number g c =
-    let m = g.C.Circuit in
-    let keeps = c.left_by_stages.ensures.adds.keeps in
-    let amount = c.args.amount.now in
-    let low = c.min-low.result in
-    let low_is : low ≡ min (stages (length c.args.a.now)) (length amount) = rw (c.stage_count.ensures, c.len.ensures, c.as_slice-amount.ensures) at c.min-low.ensures in
-    IfOk-weaker c.filled_where_any.result _ _ (λ shifted known inputs admitted.
-    let zero_is = keeps.values inputs c.zero-zero.result admitted c.zero-zero.ensures.own ∙ c.zero-zero.ensures.value inputs admitted in
-    let far_kept = map-kept keeps inputs admitted (drop low amount) (All-drop (m.has_literal c.args.c.now) low amount c.requires.own_amount) in
-    let far_is : take (length amount - low) (drop low amount) ≡ drop low amount = take_all (length amount - low) (drop low amount) (omega (arith, length-drop low amount)) in
-    let moved_is = rw (c.as_slice.ensures, c.as_slice-amount.ensures) at (c.in_ok-moved.ensures.values inputs admitted) in
-    let bits = rw (c.as_slice-amount.ensures, far_is, c.as_slice-2.ensures, any-number (m.value c.left_by_stages.new.c inputs) (drop low amount), far_kept, zero_is, moved_is, c.in_ok-moved.ensures.width, c.as_slice.ensures) at (known inputs (keeps.admitted inputs admitted)) in
-    up_end (m.value c.args.c.now inputs) c.args.a.now amount low _ (stage_reach (length c.args.a.now) low amount low_is) bits)
-    c.filled_where_any.ensures.values
+    IfOk-weaker c.shift.result _ _ (λ shifted known inputs admitted.
+    let value = g.C.State.value c.args.c.now inputs in
+    ap number (known inputs admitted) ∙ number-moved_up value c.zero-zero.result (number_of value c.args.amount.now) c.args.a.now (c.zero-zero.ensures.value inputs admitted))
+    c.shift.ensures.values

@@ -7,7 +7,7 @@ use Rattle.circuits.proofs.word.select.Goals as goal
 
 pub loop-i-preserved : goal.loop-i-preserved
 loop-i-preserved g c =
-    let m = g.C.Circuit in
+    let m = g.C.State in
     let before = c.loop-i.invariant in
     let in_yes : c.loop-i.i < length c.args.yes.now = omega arith in
     let in_no : c.loop-i.i < length c.args.no.now = omega arith in

@@ -1,43 +1,44 @@
-use Rattle.std.proofs.Common.{◌≡◌, ◌*◌, ◌%◌, ◌^◌, ◌<◌, ◌≤◌, length, ◌∙◌, ap, arith}
+use Rattle.std.proofs.Common.{◌≡◌, ◌^◌, ◌<◌, ◌≤◌, length, ◌∙◌, ap, arith}
 use Rattle.circuits.proofs.Kept.{Adds-trans, Adds-weaken, own_at}
 use Rattle.circuits.proofs.Stages.{stage_inside, stage_place, stage_distance, stage_gates}
-use Rattle.circuits.proofs.Shifts.{up_more}
-use Rattle.circuits.proofs.shift.left_by_stages.Goals as goal
+use Rattle.circuits.proofs.Shifts.{moved_more}
+use Rattle.circuits.proofs.shift.by_stages.Goals as goal
 
 pub overflow_shl-i : goal.overflow_shl-i
 overflow_shl-i g c =
     let fits : length c.args.a.now < 2 ^ 64 = omega (arith, c.as_slice.type_inv.0, ap length c.as_slice.ensures) in
     stage_place c.loop-i.i (length c.args.amount.now) (length c.args.a.now) c.loop-i-test.true c.requires.few fits
 
-pub moved_up-requires : goal.moved_up-requires
-moved_up-requires g c =
+pub moved_by-requires : goal.moved_by-requires
+moved_by-requires g c =
     let fits : length c.args.a.now < 2 ^ 64 = omega (arith, c.as_slice.type_inv.0, ap length c.as_slice.ensures) in
     rw (stage_distance c.loop-i.i (length c.args.amount.now) (length c.args.a.now) c.loop-i-test.true c.requires.few fits)
     (omega (arith, stage_inside c.loop-i.i (length c.args.amount.now) (length c.args.a.now) c.loop-i-test.true c.requires.few fits, ap length c.as_slice.ensures))
 
 pub loop-i-preserved : goal.loop-i-preserved
 loop-i-preserved g c =
-    let m = g.C.Circuit in
+    let m = g.C.State in
     let before = c.loop-i.invariant in
     let i = c.loop-i.i in
     let in_amount : i < length c.args.amount.now = c.loop-i-test.true in
     let fits : length c.args.a.now < 2 ^ 64 = omega (arith, c.as_slice.type_inv.0, ap length c.as_slice.ensures) in
     let inside : 2 ^ i ≤ length c.args.a.now = omega (arith, stage_inside i (length c.args.amount.now) (length c.args.a.now) in_amount c.requires.few fits) in
     let distance = stage_distance i (length c.args.amount.now) (length c.args.a.now) in_amount c.requires.few fits in
-    let moved_is = rw (c.as_slice.ensures, distance) at c.in_ok-moved.ensures.bits in
-    let slice_width : length c.as_slice-in-loop-i.result.now ≡ length c.args.a.now = ap length c.as_slice-in-loop-i.ensures ∙ c.in_ok-moved.ensures.width ∙ ap length c.as_slice.ensures ∙ before.2 in (
+    let further_is = rw (c.as_slice.ensures, distance) at c.in_ok-further.ensures.bits in
+    let slice_width : length c.as_slice-in-loop-i.result.now ≡ length c.args.a.now = ap length c.as_slice-in-loop-i.ensures ∙ c.in_ok-further.ensures.width ∙ ap length c.as_slice.ensures ∙ before.2 in (
       Adds-weaken (Adds-trans before.0 c.select.ensures.adds) (omega arith),
       c.in_ok-word.ensures.own,
       c.in_ok-word.ensures.width ∙ slice_width,
       λ inputs admitted.
           let bit_kept = before.0.keeps.values inputs c.index-amount-i.result admitted (own_at (m.has_literal c.args.c.now) c.args.amount.now i c.index-amount-i.result c.requires.own_amount in_amount c.index-amount-i.is) in
           let chosen = rw (c.as_slice-in-loop-i.ensures, c.as_slice-in-loop-i-2.ensures) at (c.in_ok-word.ensures.values inputs (before.0.keeps.admitted inputs admitted)) in
-          let zero_kept = before.0.keeps.values inputs c.zero-zero.result admitted c.zero-zero.ensures.own ∙ c.zero-zero.ensures.value inputs admitted in
-          up_more (m.value c.args.c.now inputs) (m.value c.loop-i.c inputs) (m.value c.select.new.c inputs) c.args.a.now c.args.amount.now c.loop-i.word c.in_ok-moved.moved c.in_ok-word.word i c.index-amount-i.result c.zero-zero.result in_amount c.index-amount-i.is bit_kept zero_kept before.2 inside moved_is chosen (before.3 inputs admitted),
+          let fill_kept = before.0.keeps.values inputs c.args.fill admitted c.requires.own_fill in
+          let in_word : 2 ^ i ≤ length c.loop-i.word = omega arith in
+          moved_more c.args.direction (m.value c.args.c.now inputs) (m.value c.loop-i.c inputs) (m.value c.select.new.c inputs) c.args.a.now c.args.amount.now c.loop-i.word c.in_ok-further.further c.in_ok-word.word i c.index-amount-i.result c.args.fill in_amount c.index-amount-i.is bit_kept fill_kept in_word further_is chosen (before.3 inputs admitted),
     )
 
 pub returns-in_err-word-clause-adds : goal.returns-in_err-word-clause-adds
 returns-in_err-word-clause-adds g c =
     let more = stage_gates (length c.args.a.now) c.loop-i.i (length c.args.amount.now) c.loop-i-test.true in
-    let slice_width : length c.as_slice-in-loop-i.result.now ≡ length c.args.a.now = ap length c.as_slice-in-loop-i.ensures ∙ c.in_ok-moved.ensures.width ∙ ap length c.as_slice.ensures ∙ c.loop-i.invariant.2 in
+    let slice_width : length c.as_slice-in-loop-i.result.now ≡ length c.args.a.now = ap length c.as_slice-in-loop-i.ensures ∙ c.in_ok-further.ensures.width ∙ ap length c.as_slice.ensures ∙ c.loop-i.invariant.2 in
     Adds-weaken (Adds-trans c.loop-i.invariant.0 c.select.ensures.adds) (omega arith)

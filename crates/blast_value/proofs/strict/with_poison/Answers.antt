@@ -1,12 +1,12 @@
 use Rattle.circuits.proofs.Kept.{map-kept, Keeps-trans}
 use Rattle.blast_value.proofs.Effects.{strict_effect}
-use Rattle.blast_value.proofs.strict.strict.Goals as goal
+use Rattle.blast_value.proofs.strict.with_poison.Goals as goal
 
 pub returns-clause-effect : goal.returns-clause-effect
 returns-clause-effect g c inputs admitted =
     let k1 = c.or.ensures.adds.keeps in
     let both = Keeps-trans k1 c.or-2.ensures.adds.keeps in
-    let value = g.C.Circuit.value c.args.c.now inputs in
+    let value = g.C.State.value c.args.c.now inputs in
     let made_kept = k1.values inputs c.args.made.poison admitted c.requires.own.poison in
     let bits_kept = map-kept both inputs admitted c.args.made.bits c.requires.own.bits in
     let poison_is = c.in_ok-poison.ensures.value inputs (k1.admitted inputs admitted) in
