@@ -1,5 +1,5 @@
 -- What the decisions of a trail derive.
-use Rattle.std.proofs.Common.{◌≡◌, ℕ, zero, suc, ◌<◌, ◌≤◌, Bool, true, false, not, cond, List, [], ◌∷◌, ◌++◌, Some, length, take, filter, refl, sym, ap, ◌∙◌, arith, inl, inr, subst}
+use Rattle.std.proofs.Common.{◌≡◌, ℕ, zero, suc, ◌<◌, ◌≤◌, Bool, true, false, cond, List, [], ◌∷◌, ◌++◌, Some, length, take, filter, refl, sym, ap, ◌∙◌, arith, inl, inr, subst}
 use Rattle.std.specs.Prelude.{slice_get}
 use Rattle.std.specs.List.{filter_map}
 use Rattle.std.proofs.lemmas.Bool.{or_cases, or_left, or_right, cases_Bool, cases_order, true≢false}
@@ -7,8 +7,9 @@ use Rattle.std.proofs.lemmas.List.Elements.{filter-append}
 use Rattle.std.proofs.lemmas.List.{append-nil, take_all}
 use Rattle.clauses.specs.declared.literal.Lit.{Lit}
 use Rattle.clauses.specs.Literal.{negation_of, is_same}
-use Rattle.clauses.specs.Propagation.{Derives, HintsRefute, NamesFalse, NamesUnit, IsUnit, IsFalsified, is_held, is_false, open_literals}
+use Rattle.clauses.specs.Propagation.{Derives, HintsRefute, NamesFalse, NamesUnit, IsUnit, is_held, is_false}
 use Rattle.clauses.proofs.Held.{is_same-self, is_same-true}
+use Rattle.clauses.proofs.Units.{falsified_each, unit_only, IsFalsified-agree, IsUnit-agree}
 use Rattle.clauses.proofs.Closed.{HeldWithin, HeldWithin-cons, not_held}
 use Rattle.clauses.proofs.Derivations.{Derives-push}
 use Rattle.cdcl_log.specs.declared.trail.Entry.{Entry}
@@ -19,7 +20,6 @@ use Rattle.cdcl_log.specs.Learned.{is_marked, marked_entries, IsInvolved}
 use Rattle.cdcl_log.proofs.Lists.{take_next, element_at, slice_get_take, some_same}
 use Rattle.cdcl_log.proofs.HeldLists.{Consistent, not_held_nil, literal_at}
 use Rattle.cdcl_log.proofs.Decisions.{reasons-append}
-use Rattle.cdcl_log.proofs.Open.{unit_only, not_falsified_by}
 
 -- the reason that a cause names, if it does
 abbrev filter_one : Cause → List ℕ
@@ -69,20 +69,6 @@ held_place (f ∷ fs) l h =
     elim (or_cases (is_same l f.literal) (is_held (literals fs) l) h) [
       | inl same ↦ (0, f, refl, sym (is_same-true l f.literal same))
       | inr rest ↦ let (place, e, at, is) = held_place fs l rest in (suc place, e, at, is)
-    ]
-
--- states in which the same literals of a clause are false
-open_literals-agree : (a b clause : List Lit) → ((m : Lit) → is_held clause m ≡ true → is_false a m ≡ is_false b m) → open_literals a clause ≡ open_literals b clause
-open_literals-agree a b [] agree = refl
-open_literals-agree a b (m ∷ ms) agree =
-    ap (λ c. cond (not c) (m ∷ open_literals a ms) (open_literals a ms)) (agree m (or_left (is_same m m) (is_held ms m) (is_same-self m)))
-    ∙ ap (λ ls. cond (not (is_false b m)) (m ∷ ls) ls) (open_literals-agree a b ms (λ k h. agree k (or_right (is_same k m) (is_held ms k) h)))
-
-falsified_each : (held clause : List Lit) (m : Lit) → IsFalsified held clause → is_held clause m ≡ true → is_false held m ≡ true
-falsified_each held clause m none within =
-    elim (cases_Bool (is_false held m)) [
-      | inl is ↦ is
-      | inr kept ↦ absurd (not_falsified_by held clause m within kept none)
     ]
 
 -- the decisions derive the marked ones among the first entries of the trail, by their reasons
@@ -146,7 +132,7 @@ module _ (clauses : List (List Lit)) (entries : List Entry) (marks : List Bool) 
         | inl closed ↦ false_after n so_far m (covered m stands) closed ∙ sym closed
         | inr free ↦ ap (is_false after) (unit_only before clause l m unit stands free) ∙ kept ∙ sym free
       ] in
-      let still : IsUnit after clause l = open_literals-agree after before clause agree ∙ unit in
+      let still : IsUnit after clause l = IsUnit-agree before after clause l agree unit in
       let numbers : reasons (marked_entries marks (take (suc n) entries)) ≡ reasons (marked_entries marks (take n entries)) ++ number ∷ [] =
       next_reasons entries marks n e true at marked ∙ ap (λ c. reasons (marked_entries marks (take n entries)) ++ filter_one c) is in
       record {
@@ -216,5 +202,5 @@ module _ (clauses : List (List Lit)) (entries : List Entry) (marks : List Bool) 
         d.after,
         refl,
         subst (λ es. Derives clauses (decisions entries) (reasons (marked_entries marks es)) d.after) whole d.derived,
-        (clause, named, open_literals-agree d.after (literals entries) clause agree ∙ none),
+        (clause, named, IsFalsified-agree (literals entries) d.after clause agree none),
       )

@@ -1,14 +1,14 @@
 -- The state after the last decision is flipped.
-use Rattle.std.proofs.Common.{◌≡◌, ℕ, ◌<◌, Bool, Option, true, false, List, [], ◌∷◌, ◌++◌, Some, length, take, refl, sym, ap, ◌∙◌, arith, inl, inr, subst}
+use Rattle.std.proofs.Common.{◌≡◌, ℕ, ◌<◌, Bool, Option, true, List, [], ◌∷◌, ◌++◌, Some, length, take, refl, sym, ap, ◌∙◌, arith, inl, inr, subst}
 use Rattle.std.specs.Prelude.{slice_get, remove}
 use Rattle.std.proofs.lemmas.List.{map-append, length-take-le}
-use Rattle.std.proofs.lemmas.List.Elements.{filter-append}
 use Rattle.clauses.specs.declared.cnf.Cnf.{Cnf}
 use Rattle.clauses.specs.declared.step.Step.{Step}
 use Rattle.clauses.specs.Literal.{negation_of}
-use Rattle.clauses.specs.Propagation.{NamesUnit, IsUnit, is_held, open_literals, negations_of}
+use Rattle.clauses.specs.Propagation.{NamesUnit, IsUnit, is_held, negations_of}
 use Rattle.clauses.specs.ClauseSet.{all_clauses, clauses_of_steps, StepFollows, IsNew, clauses_with}
 use Rattle.clauses.proofs.Held.{negation-negation}
+use Rattle.clauses.proofs.Units.{unit_last}
 use Rattle.clauses.proofs.Closed.{HeldWithin, IsNew-from_closed}
 use Rattle.cdcl_log.specs.declared.trail.Entry.{Entry}
 use Rattle.cdcl_log.specs.declared.trail.Cause.{Cause}
@@ -18,7 +18,7 @@ use Rattle.cdcl_log.specs.Propagated.{IsPropagated, AllPropagated}
 use Rattle.cdcl_log.specs.DepthFirst.{IsDecided, IsCaused, EachCaused, IsLearned, IsState}
 use Rattle.cdcl_log.proofs.Lists.{slice_get_push_cases, slice_get_last, slice_get_below, slice_get_take, take_in_take, slice_get_in_take, take_left, take_whole}
 use Rattle.cdcl_log.proofs.HeldLists.{held_last, both_held, not_held_nil, open_not_held, open_not_false, open_within, literals-append, literals_left, literal_at, HeldWithin-take}
-use Rattle.cdcl_log.proofs.Open.{open_at, IsPropagated-from_different}
+use Rattle.cdcl_log.proofs.Open.{IsPropagated-from_different}
 use Rattle.cdcl_log.proofs.Derived.{decision_at, HeldWithin-decisions}
 use Rattle.cdcl_log.proofs.PropagationLemmas.{IsPropagatedUpTo-push, IsPropagatedUpTo-propagated}
 use Rattle.cdcl_log.proofs.States.{clauses_with-push, clauses_of_steps-push, NamesUnit-more, AllPropagated-left, AllPropagated-push, decided_from, LogFollows-push, LogIsNew-push, NoneEmpty-push, negations_twice, negated_in, all_false, remove_last, closed_from_propagated}
@@ -109,10 +109,8 @@ module _ (set : Cnf) (values : List (Option Bool)) (log : List Step) (entries : 
         let held = literals (take place entries) in
         let ds = decisions (take place entries) in
         let l = negation_of e.literal in
-        ap (open_literals held) clause_ends
-        ∙ filter-append _ (negations_of ds) (l ∷ [])
-        ∙ ap (λ ls. ls ++ open_literals held (l ∷ [])) (all_false ds held (HeldWithin-decisions (take place entries)))
-        ∙ open_at held l [] false (open_not_false held l open_there)
+        subst (λ ls. IsUnit held ls l) (sym clause_ends)
+        (unit_last held (negations_of ds) l (all_false ds held (HeldWithin-decisions (take place entries))) (open_not_false held l open_there))
 
     -- the state after the last decision is flipped
     pub IsState-flipped : (number : ℕ) → number ≡ length (clauses_with set log) → IsState set (log ++ step ∷ []) (take place entries ++ (record { literal = negation_of e.literal; cause = Reason number }) ∷ []) place

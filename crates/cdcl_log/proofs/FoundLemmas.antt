@@ -3,15 +3,15 @@ use Rattle.std.proofs.Common.{◌≡◌, ℕ, ◌+◌, ◌-◌, ◌<◌, ◌≤�
 use Rattle.std.specs.Prelude.{slice_get, ◌⊎◌, All}
 use Rattle.std.proofs.lemmas.Bool.{cases_Bool, true≢false, or_cases, or_left, or_right}
 use Rattle.std.proofs.lemmas.List.{length-map, take-append-drop, length-take-le, get_or-map, map-append}
-use Rattle.std.proofs.lemmas.List.Elements.{All-head, All-tail}
+use Rattle.std.proofs.lemmas.List.Elements.{All-nil, All-cons, All-head, All-tail}
 use Rattle.std.proofs.lemmas.Option.{slice_get-get_or}
 use Rattle.clauses.specs.declared.literal.Lit.{Lit}
 use Rattle.clauses.specs.declared.cnf.Cnf.{Cnf}
 use Rattle.clauses.specs.declared.step.Step.{Step}
 use Rattle.clauses.specs.Literal.{negation_of, is_same, literal_of, literal_true, clause_true, assignment_of, IsVariable}
-use Rattle.clauses.specs.Propagation.{IsFalsified, is_held, is_false, open_literals}
+use Rattle.clauses.specs.Propagation.{IsFalsified, is_held, is_false}
 use Rattle.clauses.specs.ClauseSet.{all_clauses, clauses_of_steps, clauses_before, LogFollows, LogIsNew, IsNew, StepFollows, UnitsDetermine, setting_literals, clauses_with}
-use Rattle.clauses.proofs.Held.{is_same-true}
+use Rattle.clauses.proofs.Held.{is_same-self, is_same-true}
 use Rattle.clauses.proofs.Closed.{HeldWithin, HeldWithin-nil, HeldWithin-cons, IsClosed, Derives-within, not_SomeFalsified, not_UnitsRefute}
 use Rattle.cdcl_log.specs.declared.trail.Entry.{Entry}
 use Rattle.cdcl_log.specs.declared.trail.Cause.{Cause}
@@ -21,20 +21,21 @@ use Rattle.cdcl_log.specs.TrailEntries.{literals, is_decision, IsOpen, IsSet, Is
 use Rattle.cdcl_log.specs.Propagated.{AllPropagated}
 use Rattle.cdcl_log.specs.DepthFirst.{InputsSet, IsCaused, IsLearned, IsDecided}
 use Rattle.cdcl_log.proofs.Lists.{slice_get_left, slice_get_take, take_in_take}
-use Rattle.cdcl_log.proofs.HeldLists.{not_held_nil, both_held, held_one}
-use Rattle.cdcl_log.proofs.Open.{open_inside, variable_within}
+use Rattle.cdcl_log.proofs.HeldLists.{not_held_nil, both_held}
+use Rattle.cdcl_log.proofs.Open.{variable_within}
 use Rattle.cdcl_log.proofs.Sets.{clause_within}
 use Rattle.cdcl_log.proofs.States.{AllPropagated-left, closed_from_propagated, decided_from}
 
 -- a clause that isn't false has a literal that isn't
-kept_literal : (held clause : List Lit) (ls : List Lit) → open_literals held clause ≡ ls → ¬ (IsFalsified held clause) → (l : Lit) × (is_held clause l ≡ true) × (is_false held l ≡ false)
-kept_literal held clause [] is kept = absurd (kept is)
-kept_literal held clause (l ∷ ls) is kept =
-    let inside = open_inside held clause l (ap (λ c. is_held c l) is ∙ or_left (is_same l l) (is_held ls l) (same_self l)) in
-    (l, inside.0, inside.1)
-  where
-    same_self : (l : Lit) → is_same l l ≡ true
-    same_self l = elim (or_cases (is_same l l) false (held_one l)) [ inl same ↦ same | inr none ↦ absurd (true≢false (sym none)) ]
+kept_literal : (held clause : List Lit) → ¬ (IsFalsified held clause) → (l : Lit) × (is_held clause l ≡ true) × (is_false held l ≡ false)
+kept_literal held [] kept = absurd (kept (All-nil (λ l. is_false held l ≡ true)))
+kept_literal held (m ∷ ms) kept =
+    elim (cases_Bool (is_false held m)) [
+      | inr free ↦ (m, or_left (is_same m m) (is_held ms m) (is_same-self m), free)
+      | inl closed ↦
+          let (l, stands, free) = kept_literal held ms (λ none. kept (All-cons (λ k. is_false held k ≡ true) m ms closed none)) in
+          (l, or_right (is_same l m) (is_held ms l) stands, free)
+    ]
 
 value_is : (v : Option Bool) (n : ℕ) (b : Bool) → value_makes v (literal_of n b) ≡ true → v ≡ Some b
 value_is None n b h = absurd (true≢false (sym h))
@@ -84,7 +85,7 @@ IsModel-from_propagated set values entries table room propagated all =
       meets = λ k d within.
           let clause = get_or (all_clauses set) k d in
           let at : slice_get (all_clauses set) k ≡ Some clause = slice_get-get_or (all_clauses set) k d within in
-          let (l, stands, kept) = kept_literal held clause (open_literals held clause) refl (propagated k clause at).not_false in
+          let (l, stands, kept) = kept_literal held clause (propagated k clause at).not_false in
           any_true v clause l stands (literal_is_true l (variable_within set.count clause l (clause_within set k clause at) stands) kept);
     }
 

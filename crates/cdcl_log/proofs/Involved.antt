@@ -8,6 +8,7 @@ use Rattle.clauses.specs.declared.cnf.Cnf.{Cnf}
 use Rattle.clauses.specs.declared.step.Step.{Step}
 use Rattle.clauses.specs.Literal.{negation_of, IsWithin}
 use Rattle.clauses.specs.Propagation.{is_held, is_false}
+use Rattle.clauses.proofs.Units.{unit_only}
 use Rattle.clauses.specs.ClauseSet.{all_clauses, clauses_of_steps, LogFollows, clauses_with}
 use Rattle.cdcl_log.specs.declared.trail.Entry.{Entry}
 use Rattle.cdcl_log.specs.declared.trail.Cause.{Cause}
@@ -16,7 +17,6 @@ use Rattle.cdcl_log.specs.TrailEntries.{literals, EachFresh, IsOpen, reasons, re
 use Rattle.cdcl_log.specs.Learned.{is_marked, AllMarked, Marks, NamesMarked, IsInvolved, marked_entries}
 use Rattle.cdcl_log.proofs.Lists.{some_same, take_next, slice_get_cases, slice_get_in_take, take_take_below}
 use Rattle.cdcl_log.proofs.HeldLists.{held_left, held_cases, held_one_same, held_last, not_held_nil, both_held, open_not_held, open_not_false, literal_at, HeldWithin-take}
-use Rattle.cdcl_log.proofs.Open.{unit_only}
 use Rattle.cdcl_log.proofs.Derived.{EachForced, next_reasons}
 use Rattle.cdcl_log.proofs.Decisions.{read_at}
 use Rattle.std.specs.List.{cons_option}

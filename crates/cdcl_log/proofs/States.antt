@@ -8,7 +8,7 @@ use Rattle.clauses.specs.declared.literal.Lit.{Lit}
 use Rattle.clauses.specs.declared.cnf.Cnf.{Cnf}
 use Rattle.clauses.specs.declared.step.Step.{Step}
 use Rattle.clauses.specs.Literal.{negation_of, is_same, IsVariable, IsWithin}
-use Rattle.clauses.specs.Propagation.{NamesUnit, is_held, is_false, open_literals, negations_of}
+use Rattle.clauses.specs.Propagation.{NamesUnit, IsFalsified, is_held, is_false, negations_of}
 use Rattle.clauses.specs.ClauseSet.{all_clauses, clauses_of_steps, clauses_before, StepFollows, LogFollows, LogIsNew, IsNew, clauses_with}
 use Rattle.clauses.proofs.Held.{negation-negation, is_same-true, is_same-self}
 use Rattle.clauses.proofs.Closed.{HeldWithin, IsClosed}
@@ -21,7 +21,7 @@ use Rattle.cdcl_log.specs.Propagated.{IsPropagated, AllPropagated, IsPropagatedU
 use Rattle.cdcl_log.specs.DepthFirst.{AllSatisfied, IsDecided, IsCaused, EachCaused, IsState, IsNext, IsAllowed}
 use Rattle.cdcl_log.proofs.Lists.{slice_get_left, slice_get_cases, slice_get_push_cases, take_left, take_right, take_whole}
 use Rattle.cdcl_log.proofs.HeldLists.{Consistent, literals_left}
-use Rattle.cdcl_log.proofs.Open.{open_at, IsPropagated-from_held}
+use Rattle.cdcl_log.proofs.Open.{IsPropagated-from_held}
 use Rattle.cdcl_log.proofs.Derived.{EachForced}
 use Rattle.cdcl_log.proofs.PropagationLemmas.{IsPropagatedUpTo-push, IsPropagatedUpTo-propagated}
 
@@ -193,13 +193,12 @@ decisions_within count (e ∷ es) each =
     (decisions_within count es (λ place f at. each (suc place) f at))
 
 -- the negations of what is held are all false
-pub all_false : (ds held : List Lit) → HeldWithin ds held → open_literals held (negations_of ds) ≡ []
-all_false [] held within = refl
+pub all_false : (ds held : List Lit) → HeldWithin ds held → IsFalsified held (negations_of ds)
+all_false [] held within = All-nil (λ l. is_false held l ≡ true)
 all_false (d ∷ ds) held within =
-    let false_here : is_false held (negation_of d) ≡ true =
-    ap (is_held held) (negation-negation d) ∙ within.each d (or_left (is_same d d) (is_held ds d) (is_same-self d)) in
-    open_at held (negation_of d) (negations_of ds) true false_here
-    ∙ all_false ds held (record { each = λ l h. within.each l (or_right (is_same l d) (is_held ds l) h) })
+    All-cons (λ l. is_false held l ≡ true) (negation_of d) (negations_of ds)
+    (ap (is_held held) (negation-negation d) ∙ within.each d (or_left (is_same d d) (is_held ds d) (is_same-self d)))
+    (all_false ds held (record { each = λ l h. within.each l (or_right (is_same l d) (is_held ds l) h) }))
 
 pub remove_last : {X : Type 0} (xs : List X) (x : X) → remove (xs ++ x ∷ []) (length xs) ≡ xs
 remove_last xs x =

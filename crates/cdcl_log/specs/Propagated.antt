@@ -8,8 +8,8 @@ use Rattle.cdcl_log.specs.declared.propagation.Status.{Status}
 use Rattle.cdcl_log.specs.declared.propagation.Status.TheVariants.{Propagated, Forces, Falsified}
 use Rattle.cdcl_log.specs.TrailEntries.{literals, IsOpen}
 
--- Unit propagation has nothing to do at the clause: it isn't false, and where it is unit, its one open literal is held.
--- So it is satisfied, by a literal that is held, or unresolved, with two literals that aren't false.
+-- Unit propagation has nothing to do at the clause: it isn't false, and a literal that is unit in it is held. So it is
+-- satisfied, by a literal that is held, or unresolved, with two different literals that aren't false.
 pub record IsPropagated (held clause : List Lit) : Type 0 where
   pub not_false : ¬ (IsFalsified held clause)
   pub forced_held : (l : Lit) → IsUnit held clause l → is_held held l ≡ true

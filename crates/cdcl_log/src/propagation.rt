@@ -16,8 +16,8 @@ use std::alloc::AllocError;
 
 /// What unit propagation has to do at a clause, by what is held.
 enum Status {
-    /// Nothing: the clause is satisfied, by a literal that is held, or unresolved, with two literals
-    /// that aren't false.
+    /// Nothing: the clause is satisfied, by a literal that is held, or unresolved, with two different
+    /// literals that aren't false.
     Propagated,
     /// The clause is unit: this literal isn't set, all others are false, and so it is to be held.
     Forces(Lit),
@@ -35,11 +35,12 @@ fn status_of(trail: &Trail, clause: &[Lit]) -> Status
         if trail.holds(literal) {
             return Status::Propagated;
         }
-        if !trail.holds(literal.negation()) {
-            if open.is_some() {
-                return Status::Propagated;
-            }
-            open = Some(literal);
+        if trail.holds(literal.negation()) {
+            continue;
+        }
+        match open {
+            Some(other) if other != literal => return Status::Propagated,
+            _ => open = Some(literal),
         }
     }
     match open {

@@ -1,13 +1,14 @@
 -- A state that unit propagation adds nothing to: what it shows of derivations from less.
-use Rattle.std.proofs.Common.{◌≡◌, ℕ, Bool, true, false, not, cond, List, [], ◌∷◌, Some, length, refl, sym, ap, ◌∙◌, inl, inr, subst}
+use Rattle.std.proofs.Common.{◌≡◌, ℕ, true, false, List, [], ◌∷◌, Some, length, get_or, refl, sym, ap, ◌∙◌, inl, inr, subst}
 use Rattle.std.specs.Prelude.{slice_get, remove, ◌⊎◌}
 use Rattle.clauses.specs.declared.literal.Lit.{Lit}
 use Rattle.clauses.specs.Literal.{negation_of, is_same}
-use Rattle.clauses.specs.Propagation.{Derives, IsFalsified, IsUnit, SomeFalsified, is_held, is_false, open_literals, negations_of}
+use Rattle.clauses.specs.Propagation.{Derives, IsFalsified, IsUnit, SomeFalsified, is_held, is_false, negations_of}
 use Rattle.clauses.specs.ClauseSet.{IsNew, UnitsRefute}
 use Rattle.std.proofs.lemmas.Bool.{cases_Bool, or_cases, true≢false}
 use Rattle.std.proofs.lemmas.Option.{slice_get_read}
 use Rattle.clauses.proofs.Held.{is_same-true}
+use Rattle.clauses.proofs.Units.{falsified_from, unit_from, unit_only, unit_stands}
 
 -- what is held in the one state is held in the other
 pub record HeldWithin (held all : List Lit) : Type 0 where
@@ -31,40 +32,30 @@ pub record IsClosed (clauses : List (List Lit)) (all : List Lit) : Type 0 where
   pub none_false : (number : ℕ) (clause : List Lit) → slice_get clauses number ≡ Some clause → ¬ (IsFalsified all clause)
   pub units_held : (number : ℕ) (clause : List Lit) (l : Lit) → slice_get clauses number ≡ Some clause → IsUnit all clause l → is_held all l ≡ true
 
-open_at : (held : List Lit) (l : Lit) (ls : List Lit) (b : Bool) → is_false held l ≡ b → open_literals held (l ∷ ls) ≡ cond (not b) (l ∷ open_literals held ls) (open_literals held ls)
-open_at held l ls b e = ap (λ c. cond (not c) (l ∷ open_literals held ls) (open_literals held ls)) e
+pub not_held : (held all : List Lit) (l : Lit) → HeldWithin held all → is_held all l ≡ false → is_held held l ≡ false
+not_held held all l h free =
+    elim (cases_Bool (is_held held l)) [
+      | inl here ↦ absurd (true≢false (sym (h.each l here) ∙ free))
+      | inr gone ↦ gone
+    ]
 
 -- a clause that is false stays so where more is held
 pub IsFalsified-more : (held all : List Lit) → HeldWithin held all → (clause : List Lit) → IsFalsified held clause → IsFalsified all clause
-IsFalsified-more held all h [] none = refl
-IsFalsified-more held all h (l ∷ ls) none =
-    elim (cases_Bool (is_false held l)) [
-      | inl closed ↦
-          open_at all l ls true (h.each (negation_of l) closed)
-          ∙ IsFalsified-more held all h ls (sym (open_at held l ls true closed) ∙ none)
-      | inr kept ↦ let e : l ∷ open_literals held ls ≡ [] = sym (open_at held l ls false kept) ∙ none in cc
-    ]
+IsFalsified-more held all h clause none = λ k d within. h.each (negation_of (get_or clause k d)) (none k d within)
 
--- a unit clause is false or unit where more is held
+-- where more is held, the clause of a unit literal is false, or the literal is unit in it still
 pub IsUnit-more : (held all : List Lit) → HeldWithin held all → (clause : List Lit) (l : Lit) → IsUnit held clause l → IsFalsified all clause ⊎ IsUnit all clause l
-IsUnit-more held all h [] l one = cc
-IsUnit-more held all h (m ∷ ms) l one =
-    elim (cases_Bool (is_false held m)) [
+IsUnit-more held all h clause l unit =
+    let only : (m : Lit) → is_held clause m ≡ true → is_false all m ≡ false → m ≡ l =
+    λ m stands kept. unit_only held clause l m unit stands (not_held held all (negation_of m) h kept) in
+    elim (cases_Bool (is_false all l)) [
       | inl closed ↦
-          let stays : open_literals all (m ∷ ms) ≡ open_literals all ms = open_at all m ms true (h.each (negation_of m) closed) in
-          elim (IsUnit-more held all h ms l (sym (open_at held m ms true closed) ∙ one)) [
-            | inl none ↦ inl (stays ∙ none)
-            | inr still ↦ inr (stays ∙ still)
-          ]
-      | inr kept ↦
-          let e : m ∷ open_literals held ms ≡ l ∷ [] = sym (open_at held m ms false kept) ∙ one in
-          let same : m ≡ l = cc in
-          let rest : open_literals held ms ≡ [] = cc in
-          let none : open_literals all ms ≡ [] = IsFalsified-more held all h ms rest in
+          inl (falsified_from all clause (λ m stands.
           elim (cases_Bool (is_false all m)) [
-            | inl closed ↦ inl (open_at all m ms true closed ∙ none)
-            | inr open' ↦ inr (open_at all m ms false open' ∙ ap (λ k. k ∷ open_literals all ms) same ∙ ap (λ ks. l ∷ ks) none)
-          ]
+            | inl is ↦ is
+            | inr kept ↦ subst (λ k. is_false all k ≡ true) (sym (only m stands kept)) closed
+          ]))
+      | inr kept ↦ inr (unit_from all clause l (unit_stands held clause l unit) kept only)
     ]
 
 -- a derivation from less stays within a closed state
@@ -84,13 +75,6 @@ pub not_SomeFalsified : (clauses : List (List Lit)) (all held : List Lit) → Is
 not_SomeFalsified clauses all held closed h (k, clause, within, at, none) =
     closed.none_false k clause (slice_get_read clauses (length clauses) k clause refl within (sym at))
     (IsFalsified-more held all h clause none)
-
-pub not_held : (held all : List Lit) (l : Lit) → HeldWithin held all → is_held all l ≡ false → is_held held l ≡ false
-not_held held all l h free =
-    elim (cases_Bool (is_held held l)) [
-      | inl here ↦ absurd (true≢false (sym (h.each l here) ∙ free))
-      | inr gone ↦ gone
-    ]
 
 -- A clause is new where a closed state holds the negations of its literals but the one at this place, and not that one.
 pub IsNew-from_closed : (earlier : List (List Lit)) (all clause : List Lit) (place : ℕ) (l : Lit) → IsClosed earlier all → slice_get clause place ≡ Some l → HeldWithin (negations_of (remove clause place)) all → is_held all l ≡ false → IsNew earlier clause

@@ -2,24 +2,23 @@
 use Rattle.std.proofs.Common.{◌≡◌, ℕ, List, [], ◌∷◌, ◌++◌, Some, refl, sym, ap, ◌∙◌, subst}
 use Rattle.std.specs.Prelude.{slice_get}
 use Rattle.clauses.specs.declared.literal.Lit.{Lit}
-use Rattle.clauses.specs.Propagation.{Derives, HintsRefute, NamesFalse, NamesUnit, open_literals}
+use Rattle.clauses.specs.Propagation.{Derives, HintsRefute, NamesFalse, NamesUnit, IsFalsified, IsUnit}
+use Rattle.clauses.proofs.Units.{not_falsified_by, unit_same, unit_stands}
 
 -- a number names one clause
 same_clause : (clauses : List (List Lit)) (number : ℕ) (c d : List Lit) → slice_get clauses number ≡ Some c → slice_get clauses number ≡ Some d → c ≡ d
 same_clause clauses number c d p q = let e : Some c ≡ Some d = sym p ∙ q in cc
 
-head_same : (l m : Lit) → l ∷ [] ≡ m ∷ [] → l ≡ m
-head_same l m e = cc
-
 -- a clause has at most one literal that it makes hold
 pub NamesUnit-same : (clauses : List (List Lit)) (held : List Lit) (number : ℕ) (l m : Lit) → NamesUnit clauses held number l → NamesUnit clauses held number m → l ≡ m
 NamesUnit-same clauses held number l m (c, at, one) (d, at', one') =
-    head_same l m (sym one ∙ ap (open_literals held) (same_clause clauses number c d at at') ∙ one')
+    unit_same held d l m (subst (λ e. IsUnit held e l) (same_clause clauses number c d at at') one) one'
 
 -- a clause that makes a literal hold isn't false
 pub NamesUnit-not_false : (clauses : List (List Lit)) (held : List Lit) (number : ℕ) (l : Lit) → NamesUnit clauses held number l → NamesFalse clauses held number → ⊥
 NamesUnit-not_false clauses held number l (c, at, one) (d, at', none) =
-    let e : l ∷ [] ≡ [] = sym one ∙ ap (open_literals held) (same_clause clauses number c d at at') ∙ none in cc
+    not_falsified_by held c l (unit_stands held c l one) one.not_false
+    (subst (IsFalsified held) (sym (same_clause clauses number c d at at')) none)
 
 -- one more move at the end
 pub Derives-push : (clauses : List (List Lit)) (held : List Lit) (numbers : List ℕ) (after : List Lit) (number : ℕ) (l : Lit) → Derives clauses held numbers after → NamesUnit clauses after number l → Derives clauses held (numbers ++ number ∷ []) (l ∷ after)

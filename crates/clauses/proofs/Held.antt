@@ -1,9 +1,10 @@
 -- What is held, and where it is true.
-use Rattle.std.proofs.Common.{◌≡◌, ℕ, Bool, true, false, not, ◌||◌, cond, eqb, List, [], ◌∷◌, refl, sym, ap, ◌∙◌, inl, inr}
-use Rattle.std.proofs.lemmas.Bool.{and_parts, and_from, or_cases, or_parts, eqb-true, eq-eqb, cases_Bool, true≢false, not-true}
+use Rattle.std.proofs.Common.{◌≡◌, ℕ, Bool, true, false, not, ◌&&◌, cond, eqb, List, [], ◌∷◌, refl, sym, ap, ◌∙◌, inl, inr}
+use Rattle.std.specs.Bool.{beq}
+use Rattle.std.proofs.lemmas.Bool.{not-false, and_parts, and_from, or_cases, or_parts, eqb-true, eq-eqb, true≢false, not-true}
 use Rattle.clauses.specs.declared.literal.Lit.{Lit}
 use Rattle.clauses.specs.Literal.{negation_of, is_same, literal_true, clause_true}
-use Rattle.clauses.specs.Propagation.{is_held, is_false, open_literals, negations_of}
+use Rattle.clauses.specs.Propagation.{is_held, negations_of}
 
 -- a literal of these parts
 abbrev pub made : ℕ → Bool → Lit
@@ -28,6 +29,18 @@ is_same-true l m h =
     let parts = and_parts (eqb l.variable m.variable) (cond l.negated m.negated (not m.negated)) h in
     made_same l.variable m.variable l.negated m.negated (eqb-true l.variable m.variable parts.0)
     (bool_same l.negated m.negated parts.1)
+
+beq-same : (a b : Bool) → beq a b ≡ true → a ≡ b
+beq-same true true h = refl
+beq-same true false h = sym h
+beq-same false true h = h
+beq-same false false h = refl
+
+-- literals of which `!=` is false
+pub equal_literals : (l m : Lit) (differs : Bool) → differs ≡ not (eqb l.variable m.variable && beq l.negated m.negated) → differs ≡ false → l ≡ m
+equal_literals l m differs is same =
+    let parts = and_parts (eqb l.variable m.variable) (beq l.negated m.negated) (not-false _ (sym is ∙ same)) in
+    made_same l.variable m.variable l.negated m.negated (eqb-true l.variable m.variable parts.0) (beq-same l.negated m.negated parts.1)
 
 pub is_same-self : (l : Lit) → is_same l l ≡ true
 is_same-self l =
@@ -75,17 +88,3 @@ HeldTrue-negations v [] h = HeldTrue-nil v
 HeldTrue-negations v (l ∷ ls) h =
     let parts = or_parts (literal_true v l) (clause_true v ls) h in
     HeldTrue-cons v (negation_of l) (negations_of ls) (literal_true-negation v l ∙ ap not parts.0) (HeldTrue-negations v ls parts.1)
-
--- the literals of a clause that are false by what is held don't matter to its truth
-pub clause_true-open : (v : ℕ → Bool) (held : List Lit) → HeldTrue v held → (clause : List Lit) → clause_true v clause ≡ clause_true v (open_literals held clause)
-clause_true-open v held h [] = refl
-clause_true-open v held h (l ∷ ls) =
-    elim (cases_Bool (is_false held l)) [
-      | inl closed ↦
-          let isnt : literal_true v l ≡ false = false_of_negation v l (h.each (negation_of l) closed) in
-          ap (λ b. b || clause_true v ls) isnt ∙ clause_true-open v held h ls
-          ∙ sym (ap (λ b. clause_true v (cond (not b) (l ∷ open_literals held ls) (open_literals held ls))) closed)
-      | inr kept ↦
-          ap (λ b. literal_true v l || b) (clause_true-open v held h ls)
-          ∙ sym (ap (λ b. clause_true v (cond (not b) (l ∷ open_literals held ls) (open_literals held ls))) kept)
-    ]

@@ -1,4 +1,5 @@
 pub mod Held
+pub mod Units
 pub mod Soundness
 pub mod LogSoundness
 pub mod Derivations

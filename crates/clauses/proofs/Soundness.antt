@@ -1,27 +1,41 @@
 -- Reverse unit propagation is sound.
-use Rattle.std.proofs.Common.{◌≡◌, ℕ, Bool, true, false, ◌||◌, List, [], ◌∷◌, Some, sym, ap, ◌∙◌, inl, inr, subst}
+use Rattle.std.proofs.Common.{◌≡◌, ℕ, Bool, true, false, List, [], ◌∷◌, Some, sym, ap, ◌∙◌, inl, inr, subst}
 use Rattle.std.specs.Prelude.{slice_get}
 use Rattle.clauses.specs.declared.literal.Lit.{Lit}
-use Rattle.clauses.specs.Literal.{literal_true, clause_true, Meets}
-use Rattle.clauses.specs.Propagation.{Derives, HintsRefute, IsFalsified, IsUnit, negations_of}
-use Rattle.std.proofs.lemmas.Bool.{cases_Bool, true≢false, or_cases}
+use Rattle.clauses.specs.Literal.{literal_true, clause_true, negation_of, Meets}
+use Rattle.clauses.specs.Propagation.{Derives, HintsRefute, IsFalsified, IsUnit, is_held, is_false, negations_of}
+use Rattle.std.proofs.lemmas.Bool.{cases_Bool, true≢false, false_from_ne_true}
+use Rattle.std.proofs.lemmas.List.Folds.{Any-from_list_any}
 use Rattle.std.proofs.lemmas.Option.{slice_get_within, get_or_from_slice_get}
-use Rattle.clauses.proofs.Held.{HeldTrue, HeldTrue-cons, HeldTrue-negations, clause_true-open}
+use Rattle.clauses.proofs.Held.{HeldTrue, HeldTrue-cons, HeldTrue-negations, false_of_negation}
+use Rattle.clauses.proofs.Units.{held-from_Contains, falsified_each, unit_only}
 
 -- the clause of a number is true where all are
 pub Meets-at : (v : ℕ → Bool) (clauses : List (List Lit)) (number : ℕ) (clause : List Lit) → Meets v clauses → slice_get clauses number ≡ Some clause → clause_true v clause ≡ true
 Meets-at v clauses number clause meets is =
     sym (ap (clause_true v) (get_or_from_slice_get clauses number clause clause is)) ∙ meets number clause (slice_get_within clauses number clause is)
 
+-- a clause that is true has a true literal
+true_literal : (v : ℕ → Bool) (clause : List Lit) → clause_true v clause ≡ true → (l : Lit) × (is_held clause l ≡ true) × (literal_true v l ≡ true)
+true_literal v clause t =
+    let (k, l, within, at, is) = Any-from_list_any (literal_true v) clause t in
+    (l, held-from_Contains clause l (k, within, at), is)
+
 -- a move holds what is true
 pub unit_is_true : (v : ℕ → Bool) (held clause : List Lit) (l : Lit) → HeldTrue v held → clause_true v clause ≡ true → IsUnit held clause l → literal_true v l ≡ true
 unit_is_true v held clause l h t unit =
-    let one : (literal_true v l || false) ≡ true = sym (ap (clause_true v) unit) ∙ sym (clause_true-open v held h clause) ∙ t in
-    elim (or_cases (literal_true v l) false one) [ inl holds ↦ holds | inr none ↦ absurd (true≢false (sym none)) ]
+    let (m, stands, is) = true_literal v clause t in
+    elim (cases_Bool (is_false held m)) [
+      | inl closed ↦ absurd (true≢false (sym is ∙ false_of_negation v m (h.each (negation_of m) closed)))
+      | inr kept ↦ subst (λ k. literal_true v k ≡ true) (unit_only held clause l m unit stands kept) is
+    ]
 
 -- a clause with all literals false isn't true
 pub falsified_is_false : (v : ℕ → Bool) (held clause : List Lit) → HeldTrue v held → IsFalsified held clause → clause_true v clause ≡ false
-falsified_is_false v held clause h none = clause_true-open v held h clause ∙ ap (clause_true v) none
+falsified_is_false v held clause h none =
+    false_from_ne_true (clause_true v clause) (λ t.
+    let (m, stands, is) = true_literal v clause t in
+    true≢false (sym is ∙ false_of_negation v m (h.each (negation_of m) (falsified_each held clause m none stands))))
 
 -- a derivation over true clauses holds what is true
 pub derived_is_true : (v : ℕ → Bool) (clauses : List (List Lit)) → Meets v clauses → (held : List Lit) (numbers : List ℕ) (after : List Lit) → HeldTrue v held → Derives clauses held numbers after → HeldTrue v after

@@ -1,6 +1,7 @@
 -- Unit propagation over numbered clauses. The state is the list of the literals that are held; a literal is false
--- where its negation is held. (Unit propagation of DPLL and of reverse unit propagation.)
-use Rattle.std.specs.Prelude.{◌≡◌, ℕ, Bool, not, List, [], ◌∷◌, ◌++◌, Some, slice_get, filter, map, Any}
+-- where its negation is held. A literal that stands in a clause twice is one literal of it. (Unit propagation of DPLL
+-- and of reverse unit propagation.)
+use Rattle.std.specs.Prelude.{◌≡◌, ◌≢◌, ℕ, Bool, true, false, List, [], ◌∷◌, ◌++◌, Some, slice_get, map, All, Any, Contains}
 use Rattle.std.specs.List.{list_any}
 use Rattle.clauses.specs.declared.literal.Lit.{Lit}
 use Rattle.clauses.specs.Literal.{negation_of, is_same}
@@ -13,29 +14,26 @@ is_held held l = list_any (is_same l) held
 abbrev pub is_false : List Lit → Lit → Bool
 is_false held l = is_held held (negation_of l)
 
--- The literals of a clause that aren't false, in order. A literal that stands in it twice is counted twice, so "all
--- literals but one" means all places but one.
-abbrev pub open_literals : List Lit → List Lit → List Lit
-open_literals held clause = filter (λ l. not (is_false held l)) clause
-
--- all literals of the clause are false
+-- each literal of the clause is false
 abbrev pub IsFalsified : List Lit → List Lit → Type 0
-IsFalsified held clause = open_literals held clause ≡ []
+IsFalsified held clause = All (λ l. is_false held l ≡ true) clause
 
--- all literals of the clause are false but one, which is l, and l isn't false
-abbrev pub IsUnit : List Lit → List Lit → Lit → Type 0
-IsUnit held clause l = open_literals held clause ≡ l ∷ []
+-- The literal is unit in the clause: it stands in it and isn't false, and every other literal of the clause is false.
+pub record IsUnit (held clause : List Lit) (l : Lit) : Type 0 where
+  pub stands : Contains clause l
+  pub not_false : is_false held l ≡ false
+  pub others_false : All (λ m. m ≢ l → is_false held m ≡ true) clause
 
 -- the number names a clause with all literals false
 abbrev pub NamesFalse : List (List Lit) → List Lit → ℕ → Type 0
 NamesFalse clauses held number = (clause : List Lit) × (slice_get clauses number ≡ Some clause) × IsFalsified held clause
 
--- the number names a clause with all literals false but one, which is l and isn't false
+-- the number names a clause in which the literal is unit
 abbrev pub NamesUnit : List (List Lit) → List Lit → ℕ → Lit → Type 0
 NamesUnit clauses held number l = (clause : List Lit) × (slice_get clauses number ≡ Some clause) × IsUnit held clause l
 
--- The derivation by these numbers leads from the one state to the other: each number names a clause with all
--- literals false but one; that one isn't false, and is then held.
+-- The derivation by these numbers leads from the one state to the other: each number names a clause in which a literal
+-- is unit, and that literal is then held.
 abbrev pub Derives : List (List Lit) → List Lit → List ℕ → List Lit → Type 0
 Derives clauses held [] after = held ≡ after
 Derives clauses held (number ∷ numbers) after =

@@ -1,36 +1,14 @@
 -- What the table says of a clause's literals.
-use Rattle.std.proofs.Common.{◌≡◌, ℕ, ◌+◌, ◌<◌, ◌≤◌, Bool, true, false, not, ◌&&◌, ◌||◌, cond, eqb, List, [], ◌∷◌, ◌++◌, Some, None, get_or, length, drop, refl, sym, ap, ◌∙◌, arith, inl, inr}
-use Rattle.std.specs.Prelude.{filter, Option, slice_get, unwrap_or}
-use Rattle.std.specs.Option.{option_to_list, is_some}
+use Rattle.std.proofs.Common.{◌≡◌, ℕ, ◌+◌, ◌<◌, Bool, true, false, not, ◌&&◌, ◌||◌, cond, eqb, List, [], ◌∷◌, get_or, length, drop, refl, sym, ap, ◌∙◌, inl, inr}
+use Rattle.std.specs.Prelude.{Option, slice_get, unwrap_or}
 use Rattle.std.proofs.lemmas.List.{at_drop_more}
 use Rattle.std.proofs.lemmas.Option.{unwrap_or-slice_get}
-use Rattle.std.proofs.lemmas.List.Elements.{filter_agree}
-use Rattle.std.proofs.lemmas.Bool.{false≢true, cases_Bool, or_parts, or_from, and_left, and_right, ne_eqb, eqb-false}
+use Rattle.std.proofs.lemmas.Bool.{cases_Bool, or_parts, or_from, and_left, and_right, ne_eqb, eqb-false}
 use Rattle.clauses.specs.declared.literal.Lit.{Lit}
 use Rattle.clauses.specs.Literal.{is_same, negation_of}
-use Rattle.clauses.specs.Propagation.{is_false, is_held, negations_of, open_literals}
+use Rattle.clauses.specs.Propagation.{is_held, negations_of}
 use Rattle.rup_checker.specs.declared.table.Held.{Held}
 use Rattle.rup_checker.specs.Table.{Represents, table_holds, stands_in, stands_in_some}
-
--- the literals of a clause that the table says aren't false
-abbrev pub unmarked : List Held → List Lit → List Lit
-unmarked table clause = filter (λ l. not (table_holds table (negation_of l))) clause
-
-pub unmarked-open : (table : List Held) (held clause : List Lit) → Represents table held → unmarked table clause ≡ open_literals held clause
-unmarked-open table held clause r =
-    filter_agree (λ l. not (table_holds table (negation_of l))) (λ l. not (is_false held l)) (λ l. ap not (r.each (negation_of l))) clause
-
--- a second open literal of a clause
-pub two_open : (table : List Held) (held clause : List Lit) (found : Option Lit) (place : ℕ) (d : Lit) → is_some found ≡ true → place < length clause → table_holds table (negation_of (get_or clause place d)) ≡ false → option_to_list found ++ unmarked table (drop place clause) ≡ unmarked table clause → Represents table held → 2 ≤ length (open_literals held clause)
-two_open table held clause None place d some within free count r = absurd (false≢true some)
-two_open table held clause (Some first) place d some within free count r =
-    let rest : List Lit = unmarked table (drop (place + 1) clause) in
-    let here : unmarked table (drop place clause) ≡ get_or clause place d ∷ rest =
-    at_drop_more (unmarked table) clause place d within
-    ∙ ap (λ b. cond (not b) (get_or clause place d ∷ rest) rest) free in
-    let whole : first ∷ get_or clause place d ∷ rest ≡ open_literals held clause =
-    ap (λ ls. first ∷ ls) (sym here) ∙ count ∙ unmarked-open table held clause r in
-    omega (arith, ap length whole)
 
 -- where one more literal is held
 pub Represents-hold : (old new : List Held) (held : List Lit) (l : Lit) → ((m : Lit) → table_holds new m ≡ (is_same m l || table_holds old m)) → Represents old held → Represents new (l ∷ held)

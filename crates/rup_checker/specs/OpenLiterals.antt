@@ -1,10 +1,13 @@
 -- What a clause's open literals, those that aren't false, say of it.
-use Rattle.std.specs.Prelude.{◌≡◌, ◌≤◌, List, [], ◌∷◌, length}
+use Rattle.std.specs.Prelude.{List}
 use Rattle.clauses.specs.declared.literal.Lit.{Lit}
+use Rattle.clauses.specs.Propagation.{IsFalsified, IsUnit}
 use Rattle.rup_checker.specs.declared.open_literals.OpenLiterals.{OpenLiterals}
 use Rattle.rup_checker.specs.declared.open_literals.OpenLiterals.TheVariants.{NoneOpen, OneOpen, SeveralOpen}
 
-abbrev pub Counts : OpenLiterals → List Lit → Type 0
-Counts NoneOpen literals = literals ≡ []
-Counts (OneOpen l) literals = literals ≡ l ∷ []
-Counts SeveralOpen literals = 2 ≤ length literals
+-- With none open the clause is false, and with one open that one is unit. Otherwise it isn't false, and no literal is
+-- unit in it.
+abbrev pub Counts : OpenLiterals → List Lit → List Lit → Type 0
+Counts NoneOpen held clause = IsFalsified held clause
+Counts (OneOpen l) held clause = IsUnit held clause l
+Counts SeveralOpen held clause = ¬ (IsFalsified held clause) × ((l : Lit) → ¬ (IsUnit held clause l))

@@ -1,7 +1,6 @@
 //! How many literals of a clause are open, that is, aren't false.
 ghost use Rattle.std.specs.Prelude.{◌<◌, List, length, All};
 ghost use Rattle.clauses.specs.declared.literal.Lit.{Lit as Literal};
-ghost use Rattle.clauses.specs.Propagation.{open_literals};
 ghost use Rattle.rup_checker.specs.Table.{Represents};
 ghost use Rattle.rup_checker.specs.OpenLiterals.{Counts};
 
@@ -9,7 +8,7 @@ use crate::table::{Held, is_false};
 use clauses::Lit;
 
 /// The open literals of a clause, as far as unit propagation asks. A literal that stands in it
-/// twice is counted twice.
+/// twice is counted once.
 #[derive(Clone, Copy, Debug)]
 pub(crate) enum OpenLiterals {
     NoneOpen,
@@ -17,18 +16,19 @@ pub(crate) enum OpenLiterals {
     SeveralOpen,
 }
 
-/// Counts the open literals of a clause. It stops at the second.
+/// Counts the open literals of a clause. It stops where a second one differs from the first.
 pub(crate) fn open_literals_of(table: &[Held], clause: &[Lit]) -> OpenLiterals
     requires { All (λ l. l.variable < length table.now) clause.now }
-    ensures { (held : List Literal) → Represents table.now held → Counts result (open_literals held clause.now) }
+    ensures { (held : List Literal) → Represents table.now held → Counts result held clause.now }
 {
     let mut found = None;
     for literal in clause {
-        if !is_false(table, *literal) {
-            if found.is_some() {
-                return OpenLiterals::SeveralOpen;
-            }
-            found = Some(*literal);
+        if is_false(table, *literal) {
+            continue;
+        }
+        match found {
+            Some(other) if other != *literal => return OpenLiterals::SeveralOpen,
+            _ => found = Some(*literal),
         }
     }
     match found {

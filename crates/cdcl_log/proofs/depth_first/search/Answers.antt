@@ -4,7 +4,7 @@ use Rattle.std.proofs.lemmas.Option.{slice_get_read}
 use Rattle.std.proofs.lemmas.Bool.{iff_false}
 use Rattle.clauses.specs.Literal.{IsVariable, negation_of}
 use Rattle.clauses.specs.Propagation.{NamesFalse}
-use Rattle.clauses.specs.ClauseSet.{all_clauses, StepFollows, clauses_with}
+use Rattle.clauses.specs.ClauseSet.{all_clauses, LogFollows, StepFollows, clauses_with}
 use Rattle.cdcl_log.specs.declared.trail.Entry.{Entry}
 use Rattle.cdcl_log.specs.declared.trail.Cause.TheVariants.{NonInputDecision, Reason}
 use Rattle.cdcl_log.specs.Found.{IsModel, IsHonestLimit}
@@ -216,3 +216,7 @@ learned-requires-clause-falsified c =
     subst (λ steps. NamesFalse (clauses_with set steps) held c.in-Some-2.conflict) (sym c.deref.ensures.value)
     (NamesFalse-with set c.loop-log.log.items held c.in-Some-2.conflict
     (IfSome_is c.in_ok-conflict-2.field-0 c.in-Some-2.conflict (NamesFalse (all_clauses set) held) c.in-Some-2.is c.in_ok-conflict-2.ensures.falsified))
+
+pub learned-requires-clause-follows : goal.learned-requires-clause-follows
+learned-requires-clause-follows c =
+    subst (LogFollows c.args.cnf.now) (sym c.deref.ensures.value) c.loop-log.invariant.state.log_learned.follows

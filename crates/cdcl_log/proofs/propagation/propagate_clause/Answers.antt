@@ -4,10 +4,10 @@ use Rattle.clauses.specs.ClauseSet.{all_clauses}
 use Rattle.cdcl_log.specs.declared.trail.Entry.{Entry}
 use Rattle.cdcl_log.specs.declared.trail.Cause.TheVariants.{Reason}
 use Rattle.cdcl_log.specs.TrailEntries.{literals}
-use Rattle.cdcl_log.specs.Propagated.{PropagatesClause}
+use Rattle.cdcl_log.specs.Propagated.{IsPropagated, PropagatesClause}
 use Rattle.cdcl_log.proofs.Sets.{clause_within}
 use Rattle.cdcl_log.proofs.StatusLemmas.{forced_variable}
-use Rattle.cdcl_log.proofs.PropagationLemmas.{PropagatesClause-forced}
+use Rattle.cdcl_log.proofs.PropagationLemmas.{PropagatesClause-forced, PropagatesClause-propagated}
 use Rattle.cdcl_log.proofs.propagation.propagate_clause.Goals as goal
 
 pub push-requires-clause-first : goal.push-requires-clause-first
@@ -37,3 +37,10 @@ returns-in_ok-push-in-Forces-clause-propagates c =
     subst (λ ls. IsUnit (literals entries) ls c.in-Forces.literal) c.as_slice.ensures c.in-Forces.ensures.0 in
     subst (λ es. PropagatesClause cs c.args.number entries es) (sym c.in_ok-push-in-Forces.ensures.ok)
     (PropagatesClause-forced cs c.args.number entries e clause c.clause.ensures unit)
+
+pub returns-in-Propagated-clause-propagates : goal.returns-in-Propagated-clause-propagates
+returns-in-Propagated-clause-propagates c =
+    let entries = c.args.trail.now.entries.items in
+    let clause = c.clause.result.now in
+    PropagatesClause-propagated (all_clauses c.args.cnf.now) c.args.number entries clause c.clause.ensures
+    (subst (IsPropagated (literals entries)) c.as_slice.ensures c.in-Propagated.ensures)

@@ -1,8 +1,8 @@
 use Rattle.std.proofs.Common.{◌≡◌, ℕ, ◌+◌, [], ◌∷◌, ◌++◌, get_or, drop, ◌||◌, sym, ap, ◌∙◌, subst, arith}
 use Rattle.std.proofs.lemmas.Bool.{false≢true}
-use Rattle.std.proofs.lemmas.List.{at_drop_more}
+use Rattle.std.proofs.lemmas.List.{at_drop_more, drop_all}
 use Rattle.clauses.specs.Propagation.{HintsRefute}
-use Rattle.clauses.proofs.Derivations.{HintsRefute-cons}
+use Rattle.clauses.proofs.Derivations.{HintsRefute-cons, HintsRefute-one, HintsRefute-only}
 use Rattle.clauses.specs.ClauseSet.{clauses_with}
 use Rattle.rup_checker.specs.Table.{table_holds}
 use Rattle.rup_checker.proofs.TableLemmas.{Represents-hold}
@@ -59,3 +59,15 @@ loop-number-preserved c =
           ∙ ap (λ b. b || table_holds c.loop-number.table m) (move_elsewhere clauses held c.args.step.now.hints moves last place literal m (sym c.as_slice.ensures ∙ c.in-Some.ensures.cases.0) c.loop-number-test.true unit none)
           ∙ c.loop-number.invariant.kept m none;
     }
+
+pub returns-clause-refute : goal.returns-clause-refute
+returns-clause-refute c =
+    let clauses = clauses_with c.args.cnf.now c.args.earlier.now in
+    let (held, represents, same) = c.loop-number.invariant.state in
+    let last = c.in-Some.last.now in
+    let named = c.names_false.ensures held represents in
+    let here : drop c.loop-number.number-index c.in-Some.moves.now ++ last ∷ [] ≡ last ∷ [] =
+    ap (λ ns. ns ++ last ∷ []) (drop_all c.loop-number.number-index c.in-Some.moves.now c.loop-number-test.false) in (
+      λ yes. same.1 (subst (HintsRefute clauses held) (sym here) (HintsRefute-one clauses held last (named.0 yes))),
+      λ refutes. named.1 (HintsRefute-only clauses held last (subst (HintsRefute clauses held) here (same.0 refutes))),
+    )

@@ -1,7 +1,35 @@
-use Rattle.std.proofs.Common.{false, sym, ◌∙◌}
-use Rattle.rup_checker.proofs.TableLemmas.{two_open}
+use Rattle.std.proofs.Common.{take, sym, ◌∙◌, subst}
+use Rattle.std.proofs.lemmas.List.{take_all}
+use Rattle.std.proofs.lemmas.Option.{same_Some}
+use Rattle.clauses.specs.Propagation.{IsFalsified}
+use Rattle.clauses.proofs.Held.{equal_literals}
+use Rattle.clauses.proofs.Units.{IsSoFar, so_far_false, so_far_open}
 use Rattle.rup_checker.proofs.open_literals.open_literals_of.Goals as goal
+use Rattle.rup_checker.proofs.open_literals.open_literals_of.Goals.{in_default-via-in-Some+else-ne, in_default-via-in_default}
 
-pub returns-then-is_some : goal.returns-then-is_some
-returns-then-is_some c =
-    λ held r. two_open c.args.table.now held c.args.clause.now c.loop-literal.found c.loop-literal.literal-index (record { variable = 0; negated = false }) (sym c.is_some.ensures ∙ c.if-is_some.true) c.loop-literal-test.true (sym c.is_false.ensures ∙ c.if-not-is_false.true) c.loop-literal.invariant r
+pub loop-literal-preserved-then-is_false : goal.loop-literal-preserved-then-is_false
+loop-literal-preserved-then-is_false c =
+    λ held r.
+    so_far_false held c.args.clause.now c.loop-literal.literal-index _ c.loop-literal.found c.loop-literal-test.true
+    (sym (r.each _) ∙ sym c.is_false.ensures ∙ c.if-is_false.true) (c.loop-literal.invariant held r)
+
+pub loop-literal-preserved : goal.loop-literal-preserved
+loop-literal-preserved c =
+    λ held r.
+    so_far_open held c.args.clause.now c.loop-literal.literal-index _ c.loop-literal.found c.loop-literal-test.true
+    (sym (r.each _) ∙ sym c.is_false.ensures ∙ c.if-is_false.false)
+    (λ l is.
+    elim c.in_default.branch [
+      | in_default-via-in-Some+else-ne w ↦
+          same_Some l w.in-Some.other (sym is ∙ w.in-Some.is) ∙ sym w.in-Some.other-is ∙ equal_literals _ _ w.ne.result w.ne.ensures w.if-ne.false
+      | in_default-via-in_default w ↦ absurd (w.in_default.not-Some l is)
+    ])
+    (c.loop-literal.invariant held r)
+
+pub returns-in-None : goal.returns-in-None
+returns-in-None c =
+    λ held r.
+    let clause = c.args.clause.now in
+    let place = c.loop-literal.literal-index in
+    subst (IsFalsified held) (take_all place clause c.loop-literal-test.false)
+    (subst (IsSoFar held (take place clause)) c.in-None.is (c.loop-literal.invariant held r))

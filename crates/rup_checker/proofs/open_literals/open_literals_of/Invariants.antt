@@ -1,11 +1,10 @@
-use Rattle.std.proofs.Common.{◌≡◌, ◌++◌, not, drop}
-use Rattle.std.specs.Prelude.{filter}
-use Rattle.std.specs.Option.{option_to_list}
-use Rattle.clauses.specs.Literal.{negation_of}
-use Rattle.rup_checker.specs.Table.{table_holds}
+use Rattle.std.proofs.Common.{List, take}
+use Rattle.clauses.specs.declared.literal.Lit.{Lit}
+use Rattle.clauses.proofs.Units.{IsSoFar}
+use Rattle.rup_checker.specs.Table.{Represents}
 use Rattle.rup_checker.proofs.open_literals.open_literals_of.Given as goal
 
--- what was found and the open literals to come are the open literals of the clause
+-- what was found is what the literals so far say
 abbrev pub invariant-loop-literal : goal.invariant-loop-literal
 invariant-loop-literal l =
-    option_to_list l.found ++ filter (λ m. not (table_holds l.table (negation_of m))) (drop l.literal-index l.clause) ≡ filter (λ m. not (table_holds l.table (negation_of m))) l.clause
+    (held : List Lit) → Represents l.table held → IsSoFar held (take l.literal-index l.clause) l.found
