@@ -1,15 +1,15 @@
 -- How the values of a graph's gates stand to one another, and what a new gate leaves as it was.
 use Rattle.std.proofs.Common.{◌≡◌, ℕ, zero, suc, ◌+◌, ◌≤◌, Bool, false, not, cond, List, [], ◌∷◌, ◌++◌, length, get_or, drop, replicate, Some, refl, sym, ap, ◌∙◌, subst, arith, length-drop, append_assoc, append-nil}
 use Rattle.std.specs.Prelude.{fold, slice_get}
-use Rattle.std.proofs.lemmas.List.{get_or_append_left, get_or_push, get_or_at, length_push, length-replicate}
+use Rattle.std.proofs.lemmas.List.{get_or_append_left, get_or_at, length_push, length-replicate}
 use Rattle.std.proofs.lemmas.List.Sums.{fold-append}
 use Rattle.circuits.specs.Circuit.{Keeps}
-use Rattle.aig.specs.declared.gate.Node.{Node}
-use Rattle.aig.specs.declared.gate.Node.TheVariants.{One, Input, Output}
-use Rattle.aig.specs.declared.gate.Literal.{Literal}
+use Rattle.aig.specs.declared.literal.Node.{Node}
+use Rattle.aig.specs.declared.literal.Node.TheVariants.{One, Input, Output}
+use Rattle.aig.specs.Literal.{Literal}
 use Rattle.aig.specs.declared.gate.Gate.{Gate}
 use Rattle.aig.specs.declared.gate.Gate.TheVariants.{And, Xor, Mux}
-use Rattle.aig.specs.Graph.{Graph, IsAmong, IsOwn, OperandsAmong, IsInOrder, node_value, literal_value, gate_value, gate_values, value_of}
+use Rattle.aig.specs.Graph.{Graph, IsAmong, IsOwn, OperandsAmong, IsInOrder, node_value, literal_value, gate_value, gate_values, value_of, graph_state}
 
 -- more inputs leave each operand older
 
@@ -26,6 +26,19 @@ OperandsAmong-more n m k le (Mux c a b) own =
 
 pub still_in_order : (n m : ℕ) (gates : List Gate) → n ≤ m → IsInOrder n gates → IsInOrder m gates
 still_in_order n m gates le order = λ k gate at. OperandsAmong-more n m k le gate (order k gate at)
+
+-- and so do more gates
+
+IsAmong-later : (n k m : ℕ) → k ≤ m → (node : Node) → IsAmong n k node → IsAmong n m node
+IsAmong-later n k m le One own = tt
+IsAmong-later n k m le (Input j) own = own
+IsAmong-later n k m le (Output j) own = omega arith
+
+pub OperandsAmong-later : (n k m : ℕ) → k ≤ m → (gate : Gate) → OperandsAmong n k gate → OperandsAmong n m gate
+OperandsAmong-later n k m le (And a b) own = (IsAmong-later n k m le a.node own.0, IsAmong-later n k m le b.node own.1)
+OperandsAmong-later n k m le (Xor a b) own = (IsAmong-later n k m le a.node own.0, IsAmong-later n k m le b.node own.1)
+OperandsAmong-later n k m le (Mux c a b) own =
+    (IsAmong-later n k m le c.node own.0, IsAmong-later n k m le a.node own.1, IsAmong-later n k m le b.node own.2)
 
 -- values of more gates leave those of older nodes as they were
 
@@ -100,7 +113,7 @@ value_of_gate inputs n gates order k gate at =
     ∙ value_from inputs [] n gates k gate at (subst (λ j. OperandsAmong n j gate) (sym place) (order k gate at))
 
 -- the graph with one more gate
-abbrev pushed_gate : Graph → Gate → Graph
+abbrev pub pushed_gate : Graph → Gate → Graph
 pushed_gate graph gate = record graph { gates = graph.gates ++ gate ∷ [] }
 
 gate_values-push : (inputs : List Bool) (gates : List Gate) (gate : Gate) → gate_values inputs (gates ++ gate ∷ []) ≡ gate_values inputs gates ++ gate_value inputs (gate_values inputs gates) gate ∷ []
@@ -113,29 +126,22 @@ value_of-pushed graph gate inputs l own =
     ∙ literal_value-append inputs vs (gate_value inputs vs gate ∷ []) graph.inputs (length graph.gates)
     (omega (arith, length-gate_values inputs graph.gates)) l own
 
-pub value_of-output : (graph : Graph) (gate : Gate) (inputs : List Bool) → value_of (pushed_gate graph gate) inputs (record { node = Output (length graph.gates); negated = false }) ≡ gate_value inputs (gate_values inputs graph.gates) gate
-value_of-output graph gate inputs =
-    let vs = gate_values inputs graph.gates in
-    ap (λ all. get_or all (length graph.gates) false) (gate_values-push inputs graph.gates gate)
-    ∙ get_or_push vs (gate_value inputs vs gate) false (length graph.gates) (length-gate_values inputs graph.gates)
+pub gate_value-pushed : (inputs : List Bool) (gates : List Gate) (n : ℕ) (gate : Gate) → OperandsAmong n (length gates) gate → gate_value inputs (gate_values inputs (gates ++ gate ∷ [])) gate ≡ gate_value inputs (gate_values inputs gates) gate
+gate_value-pushed inputs gates n gate own =
+    let vs = gate_values inputs gates in
+    ap (λ all. gate_value inputs all gate) (gate_values-push inputs gates gate)
+    ∙ gate_value-append inputs vs (gate_value inputs vs gate ∷ []) n (length gates) (omega (arith, length-gate_values inputs gates)) gate own
 
-IsAmong-push : (n k : ℕ) (node : Node) → IsAmong n k node → IsAmong n (k + 1) node
-IsAmong-push n k One own = tt
-IsAmong-push n k (Input j) own = own
-IsAmong-push n k (Output j) own = omega arith
-
-pub Keeps-pushed : (graph : Graph) (gate : Gate) → Keeps IsOwn (λ _ _. Unit {0}) value_of graph (pushed_gate graph gate)
+pub Keeps-pushed : (graph : Graph) (gate : Gate) → Keeps graph_state graph (pushed_gate graph gate)
 Keeps-pushed graph gate =
     record {
       literals = λ l own.
           subst (λ k. IsAmong graph.inputs k l.node) (sym (length_push graph.gates gate))
-          (IsAmong-push graph.inputs (length graph.gates) l.node own);
+          (IsAmong-later graph.inputs (length graph.gates) (length graph.gates + 1) (omega arith) l.node own);
       admitted = λ inputs _. tt;
       admits_no_more = λ inputs _. tt;
       values = λ inputs l _ own. value_of-pushed graph gate inputs l own;
     }
-
-pub ruleset pushed = (value_of-pushed, value_of-output)
 
 -- what is left of a long list tells how much of it was taken
 pub count_from_rests : (m n : ℕ) → ((inputs : List Bool) → drop m inputs ≡ drop n inputs) → m ≡ n

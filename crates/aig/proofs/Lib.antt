@@ -1,1 +1,7 @@
+pub mod Truth
+pub mod LiteralLemmas
+pub mod Keys
+pub mod Ordered
 pub mod GraphLemmas
+pub mod Growth
+pub mod Standing

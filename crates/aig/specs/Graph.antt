@@ -1,11 +1,13 @@
 -- Graphs of gates over inputs (and-inverter graphs, with two more kinds of gate), and the values of their literals.
-use Rattle.std.specs.Prelude.{◌≡◌, ℕ, ◌<◌, Bool, true, false, not, ◌&&◌, if◌then◌else◌, List, [], ◌∷◌, ◌++◌, length, fold, Some, slice_get, slice_index_or}
+use Rattle.std.specs.Prelude.{◌≡◌, ℕ, ◌<◌, Bool, true, false, ◌&&◌, if◌then◌else◌, List, [], ◌∷◌, ◌++◌, length, fold, Some, slice_get, slice_index_or}
 use Rattle.std.specs.Bool.{xor}
-use Rattle.aig.specs.declared.gate.Node.{Node}
-use Rattle.aig.specs.declared.gate.Node.TheVariants.{One, Input, Output}
-use Rattle.aig.specs.declared.gate.Literal.{Literal}
+use Rattle.circuits.specs.declared.state.State.{Ghosts}
+use Rattle.aig.specs.declared.literal.Node.{Node}
+use Rattle.aig.specs.declared.literal.Node.TheVariants.{One, Input, Output}
 use Rattle.aig.specs.declared.gate.Gate.{Gate}
 use Rattle.aig.specs.declared.gate.Gate.TheVariants.{And, Xor, Mux}
+use Rattle.aig.specs.Literal.{Literal, value_under}
+use Rattle.aig.specs.Gate.{IsProper}
 
 -- a graph: how many inputs were made, and the gates in the order in which they were made
 pub record Graph : Type 0 where
@@ -32,6 +34,15 @@ OperandsAmong inputs gates (Mux c a b) = IsAmong inputs gates c.node × IsAmong 
 abbrev pub IsInOrder : ℕ → List Gate → Type 0
 IsInOrder inputs gates = (k : ℕ) (gate : Gate) → slice_get gates k ≡ Some gate → OperandsAmong inputs k gate
 
+-- no gate comes to a literal by its operands alone
+abbrev pub AreProper : List Gate → Type 0
+AreProper gates = (k : ℕ) (gate : Gate) → slice_get gates k ≡ Some gate → IsProper gate
+
+-- no gate is there twice
+abbrev pub HasNoTwice : List Gate → Type 0
+HasNoTwice gates =
+    (j k : ℕ) (gate : Gate) → slice_get gates j ≡ Some gate → slice_get gates k ≡ Some gate → j ≡ k
+
 -- A node's value under these values of the inputs and of the gates. An input past the list's end is false.
 abbrev pub node_value : List Bool → List Bool → Node → Bool
 node_value inputs gates One = true
@@ -40,7 +51,7 @@ node_value inputs gates (Output k) = slice_index_or gates k false
 
 -- a literal's value under these values of the inputs and of the gates: its node's, or the opposite where it is negated
 abbrev pub literal_value : List Bool → List Bool → Literal → Bool
-literal_value inputs gates l = if l.negated then not (node_value inputs gates l.node) else node_value inputs gates l.node
+literal_value inputs gates l = value_under (node_value inputs gates) l
 
 -- a gate's truth table over its operands' values
 abbrev pub gate_value : List Bool → List Bool → Gate → Bool
@@ -56,3 +67,13 @@ gate_values inputs gates = fold (λ older gate. older ++ gate_value inputs older
 -- a literal's value in a graph
 abbrev pub value_of : Graph → List Bool → Literal → Bool
 value_of graph inputs l = literal_value inputs (gate_values inputs graph.gates) l
+
+-- a graph as a circuit, which has values under every list of inputs
+abbrev pub graph_state : Ghosts Graph Literal
+graph_state = record {
+  has_literal = IsOwn;
+  admits = λ _ _. Unit {0};
+  value = value_of;
+  inputs_made = λ graph. graph.inputs;
+  gates_made = λ graph. length graph.gates;
+}

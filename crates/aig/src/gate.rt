@@ -1,28 +1,11 @@
-//! Literals, the nodes that they name, and gates over literals.
+//! Gates over literals.
+ghost use Rattle.std.specs.Prelude.{◌≡◌};
+ghost use Rattle.aig.specs.Gate.{ordered_and, ordered_xor};
 
-/// What a literal names. Inputs and gates are numbered apart, each from 0 in the order in which
-/// they were made.
-#[derive(Clone, Copy, Debug, PartialEq, Eq)]
-pub enum Node {
-    /// The constant that is true.
-    One,
-    /// The input of this number.
-    Input(usize),
-    /// The output of the gate of this number.
-    Output(usize),
-}
-
-/// A node or, where `negated`, its negation. So a negation takes no gate.
-#[derive(Clone, Copy, Debug, PartialEq, Eq)]
-pub struct Literal {
-    /// What the literal names.
-    pub node: Node,
-    /// Whether it stands for the node's negation.
-    pub negated: bool,
-}
+use crate::literal::Literal;
 
 /// A gate with its operands, and its value by theirs.
-#[derive(Clone, Copy, Debug, PartialEq, Eq)]
+#[derive(Clone, Copy, Debug, PartialEq, Eq, Hash)]
 pub enum Gate {
     /// Both of two literals.
     And(Literal, Literal),
@@ -30,4 +13,28 @@ pub enum Gate {
     Xor(Literal, Literal),
     /// The second literal where the first is true, and else the third.
     Mux(Literal, Literal, Literal),
+}
+
+impl Gate {
+    /// Both of two literals, in the order of their codes.
+    pub(crate) fn and(a: Literal, b: Literal) -> Gate
+        ensures { result ≡ ordered_and a b }
+    {
+        if a.code() < b.code() {
+            Gate::And(a, b)
+        } else {
+            Gate::And(b, a)
+        }
+    }
+
+    /// One of two literals, in the order of their codes.
+    pub(crate) fn xor(a: Literal, b: Literal) -> Gate
+        ensures { result ≡ ordered_xor a b }
+    {
+        if a.code() < b.code() {
+            Gate::Xor(a, b)
+        } else {
+            Gate::Xor(b, a)
+        }
+    }
 }

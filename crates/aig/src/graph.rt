@@ -1,33 +1,45 @@
-//! The graph that keeps its gates, and that it is a circuit.
-ghost use Rattle.std.specs.Prelude.{◌≡◌, false, [], ◌∷◌, ◌++◌, length, IfOk, OnOk, OnErr};
+//! The graph that keeps its gates, each once.
+ghost use Rattle.std.specs.Prelude.{◌≡◌, ◌+◌, ◌<◌, Bool, false, slice_index_or, List as Seq, [], ◌&&◌, length, IfOk, IfSome, OnOk, OnErr};
 
-use crate::gate::{Gate, Literal, Node};
-use circuits::Circuit;
-use lists::List;
+use crate::gate::Gate;
+use crate::literal::{LIMIT, Literal, Node};
+use crate::two_levels::{Parts, parts_of};
+use indexmap::IndexSet;
 use std::alloc::{AllocError, Global};
 use std::marker::Model;
 
 /// A circuit that keeps its gates in the order in which they were made, each with its operands,
 /// which are older than it. It has values under every list of inputs.
+///
+/// It makes no gate that comes to a literal by its operands alone, and none a second time.
 #[derive(Debug, Drop)]
 pub struct Aig {
     inputs: usize,
-    gates: List<Gate>,
+    gates: IndexSet<Gate>,
 }
 
 impl Model for Aig {
-    ghost use Rattle.aig.specs.Graph.{Graph, IsInOrder};
+    ghost use Rattle.std.specs.Prelude.{◌^◌, ◌-◌, ◌<◌, length};
+    ghost use Rattle.aig.specs.Graph.{Graph, IsInOrder, AreProper};
 
     ghost Value = { Graph };
 
-    ghost view = { λ c. record { inputs = c.inputs; gates = c.gates } };
+    ghost view = { λ c. record { inputs = c.inputs; gates = c.gates.keys } };
 
-    ghost invariant = { λ c. IsInOrder c.inputs c.gates };
+    ghost invariant = { λ c. record {
+      in_order : IsInOrder c.inputs c.gates.keys;
+      proper : AreProper c.gates.keys;
+      few_inputs : c.inputs < 2 ^ 30;
+      few_gates : length c.gates.keys < 2 ^ 30;
+    } };
 }
 
 impl Aig {
-    ghost use Rattle.circuits.specs.Circuit.{Keeps};
-    ghost use Rattle.aig.specs.Graph.{IsInOrder, IsOwn, OperandsAmong, value_of};
+    ghost use Rattle.circuits.specs.Circuit.{Adds};
+    ghost use Rattle.aig.specs.Gate.{IsProper};
+    ghost use Rattle.aig.specs.Parts.{HasParts, PartsAmong};
+    ghost use Rattle.aig.specs.Graph.{IsOwn, IsInOrder, AreProper, HasNoTwice, OperandsAmong, node_value, gate_value, gate_values, value_of, graph_state};
+    ghost use Rattle.aig.specs.Stands.{Stands};
 
     /// A graph without inputs and gates. It takes no memory.
     pub fn new(alloc: Global) -> Self
@@ -35,7 +47,7 @@ impl Aig {
     {
         Aig {
             inputs: 0,
-            gates: List::new(alloc),
+            gates: IndexSet::new(alloc),
         }
     }
 
@@ -50,94 +62,70 @@ impl Aig {
     pub fn gates(&self) -> &[Gate]
         ensures gates { result.now ≡ self.now.gates }
         ensures in_order { IsInOrder self.now.inputs self.now.gates }
+        ensures proper { AreProper self.now.gates }
+        ensures no_twice { HasNoTwice self.now.gates }
     {
         self.gates.as_slice()
     }
 
-    /// Adds a gate at the end, and answers its output. A call that is refused for want of memory
-    /// leaves the graph as it was.
-    fn push(&mut self, gate: Gate) -> Result<Literal, AllocError>
-        requires { OperandsAmong self.old.inputs (length self.old.gates) gate }
-        ensures output { IfOk result (λ made. made ≡ record { node = Node.Output (length self.old.gates); negated = false }) }
-        ensures ok { OnOk result (self.new ≡ record self.old { gates = self.old.gates ++ gate ∷ [] }) }
-        ensures keeps { Keeps IsOwn (λ _ _. Unit {0}) value_of self.old self.new }
+    /// Makes the next input.
+    pub(crate) fn add_input(&mut self) -> Result<Literal, AllocError>
+        ensures made { IfOk result (λ made. made ≡ record { node = Node.Input self.old.inputs; negated = false }) }
+        ensures ok { OnOk result (self.new ≡ record self.old { inputs = self.old.inputs + 1 }) }
         ensures err { OnErr result (self.new ≡ self.old) }
     {
-        let number = self.gates.len();
-        self.gates.push(gate)?;
-        Ok(Literal {
-            node: Node::Output(number),
-            negated: false,
-        })
-    }
-}
-
-/// An input past the last that a `usize` counts is refused as for want of memory.
-impl Circuit for Aig {
-    ghost use Rattle.std.specs.Prelude.{length};
-    ghost use Rattle.aig.specs.Graph.{IsOwn, value_of};
-
-    type Literal = Literal;
-
-    ghost has_literal = { IsOwn };
-
-    ghost admits = { λ _ _. Unit {0} };
-
-    ghost value = { value_of };
-
-    ghost inputs_made = { λ c. c.inputs };
-
-    ghost gates_made = { λ c. length c.gates };
-
-    fn zero(&self) -> Literal {
-        Literal {
-            node: Node::One,
-            negated: true,
-        }
-    }
-
-    fn one(&self) -> Literal {
-        Literal {
-            node: Node::One,
-            negated: false,
-        }
-    }
-
-    fn not(&self, a: Literal) -> Literal {
-        Literal {
-            node: a.node,
-            negated: !a.negated,
-        }
-    }
-
-    fn input(&mut self, _alloc: Global) -> Result<Literal, AllocError> {
         let number = self.inputs;
-        let made = number.checked_add(1).ok_or(AllocError)?;
-        self.inputs = made;
-        Ok(Literal {
-            node: Node::Input(number),
-            negated: false,
-        })
+        if number >= LIMIT {
+            return Err(AllocError);
+        }
+        self.inputs += 1;
+        Ok(Literal::input(number))
     }
 
-    #[tactic(auto, using(crate::proofs::GraphLemmas::pushed))]
-    fn and(&mut self, _alloc: Global, a: Literal, b: Literal) -> Result<Literal, AllocError> {
-        self.push(Gate::And(a, b))
+    /// The output of a gate, which is made where the graph doesn't have it. A call that is refused
+    /// for want of memory leaves the graph as it was.
+    pub(crate) fn push(&mut self, gate: Gate) -> Result<Literal, AllocError>
+        requires operands { OperandsAmong self.old.inputs (length self.old.gates) gate }
+        requires proper { IsProper gate }
+        ensures stands { IfOk result (Stands self.new (λ inputs. gate_value inputs (gate_values inputs self.old.gates) gate)) }
+        ensures adds { Adds graph_state self.old self.new 1 }
+        ensures err { OnErr result (self.new ≡ self.old) }
+    {
+        if self.gates.len() >= LIMIT {
+            return Err(AllocError);
+        }
+        let (place, _) = self.gates.insert_full(gate)?;
+        Ok(Literal::output(place))
     }
 
-    #[tactic(auto, using(crate::proofs::GraphLemmas::pushed))]
-    fn xor(&mut self, _alloc: Global, a: Literal, b: Literal) -> Result<Literal, AllocError> {
-        self.push(Gate::Xor(a, b))
+    /// The output of the gate of both literals, if the graph has it.
+    pub(crate) fn found(&self, a: Literal, b: Literal) -> Option<Literal>
+        ensures { IfSome result (Stands self.now (λ inputs. value_of self.now inputs a && value_of self.now inputs b)) }
+    {
+        let gate = Gate::and(a, b);
+        let place = self.gates.get_index_of(&gate)?;
+        Some(Literal::output(place))
     }
 
-    #[tactic(auto, using(crate::proofs::GraphLemmas::pushed))]
-    fn mux(
-        &mut self,
-        _alloc: Global,
-        condition: Literal,
-        yes: Literal,
-        no: Literal,
-    ) -> Result<Literal, AllocError> {
-        self.push(Gate::Mux(condition, yes, no))
+    /// The gate at this place.
+    fn gate(&self, place: usize) -> Gate
+        requires { place < length self.now.gates }
+        ensures operands { OperandsAmong self.now.inputs (length self.now.gates) result }
+        ensures value { (inputs : Seq Bool) →
+            slice_index_or (gate_values inputs self.now.gates) place false ≡ gate_value inputs (gate_values inputs self.now.gates) result }
+    {
+        self.gates.as_slice()[place]
+    }
+
+    /// What a literal is of the operands of the gate that it names.
+    pub(crate) fn parts(&self, literal: Literal) -> Parts
+        requires { IsOwn self.now literal }
+        ensures value { (inputs : Seq Bool) → HasParts (node_value inputs (gate_values inputs self.now.gates)) literal result }
+        ensures own { PartsAmong self.now.inputs (length self.now.gates) result }
+    {
+        let Node::Output(place) = literal.node() else {
+            return Parts::Whole;
+        };
+        parts_of(self.gate(place), literal.is_negated())
     }
 }

@@ -1,17 +1,18 @@
 -- What the parts of the encoding give together.
-use Rattle.std.proofs.Common.{◌≡◌, ℕ, ◌+◌, true, List, [], ◌∷◌, length, Result, Ok, Err, IfOk, EachIndex, slice_index, sym, subst, ap, ◌∙◌}
+use Rattle.std.proofs.Common.{◌≡◌, ℕ, ◌+◌, true, List, [], ◌∷◌, length, All, Result, Ok, Err, IfOk, EachIndex, slice_index, sym, subst, ap, ◌∙◌}
 use Rattle.clauses.specs.declared.literal.Lit.{Lit}
 use Rattle.clauses.specs.declared.cnf.Cnf.{Cnf}
 use Rattle.clauses.specs.Literal.{IsVariable}
 use Rattle.clauses.specs.Settings.{StandsFor}
-use Rattle.aig.specs.declared.gate.Literal.{Literal}
+use Rattle.aig.specs.Literal.{Literal}
 use Rattle.aig.specs.declared.gate.Gate.{Gate}
-use Rattle.aig.specs.Graph.{Graph, IsOwn, IsInOrder, value_of}
+use Rattle.aig.specs.Graph.{Graph, IsOwn, IsInOrder, AreProper, value_of}
 use Rattle.cnf_build.specs.declared.definition.Definition.{Definition}
-use Rattle.cnf_build.specs.Definitions.{clauses_from}
+use Rattle.cnf_build.specs.Definitions.{clauses_from, NamesOnce}
 use Rattle.cnf_build.specs.NeededGates.{NeededMarks, AreNeeded}
 use Rattle.cnf_build.specs.Names.{Names, lit_of, NamesFirst}
 use Rattle.cnf_build.proofs.Standing.{Encodes, StandsFor-from}
+use Rattle.cnf_build.proofs.OnceLemmas.{once_from, definitions_differ}
 use Rattle.cnf_build.proofs.NamesLemmas.{IsSound-named, root_within}
 
 module _ (graph : Graph) (root : Literal) (marks : NeededMarks) (names : Names) (order : IsInOrder graph.inputs graph.gates) (own : IsOwn graph root) where
@@ -33,6 +34,15 @@ module _ (graph : Graph) (root : Literal) (marks : NeededMarks) (names : Names) 
         subst (λ n. IsVariable (n + length ds) l.variable) inputs_same
         (subst (λ ds'. IsVariable (names.inputs + length ds') l.variable) (sym ds_are)
         (subst (IsVariable (names.inputs + length names.definitions)) (sym e) within))
+
+    -- no clause of the definitions names a variable twice
+    pub clauses_once : AreProper graph.gates → All NamesOnce (clauses_from (inputs + 1) ds)
+    clauses_once proper =
+        let order' : IsInOrder names.inputs graph.gates = subst (λ n. IsInOrder n graph.gates) (sym same_inputs) order in
+        subst (λ n. All NamesOnce (clauses_from (n + 1) ds)) inputs_same
+        (subst (λ ds'. All NamesOnce (clauses_from (names.inputs + 1) ds')) (sym ds_are)
+        (once_from (names.inputs + 1) names.definitions named'.over_smaller
+        (definitions_differ graph.gates marks names order' proper needed'.closed named')))
 
     -- the set stands for the root
     pub stands_for_root : {E : Type 0} (r : Result Cnf E) → IfOk r (λ set. set.gates ≡ clauses_from (inputs + 1) ds) → IfOk r (λ set. set.roots ≡ (l ∷ []) ∷ []) → IfOk r (λ set. length set.inputs ≡ inputs) → IfOk r (λ set. EachIndex set.inputs (λ k. slice_index set.inputs k ≡ k + 1)) → IfOk r (λ set. set.count ≡ inputs + length ds) → IfOk r (λ set. StandsFor set (λ values. value_of graph values root ≡ true))

@@ -5,3 +5,4 @@ pub mod MarksLemmas
 pub mod NamesLemmas
 pub mod SetLemmas
 pub mod EncodingLemmas
+pub mod OnceLemmas

@@ -4,9 +4,9 @@ use Rattle.std.specs.Prelude.{slice_get}
 use Rattle.std.proofs.lemmas.Bool.{cases_lt, cases_eq, true≢false}
 use Rattle.std.proofs.lemmas.Option.{slice_get_within, same_Some}
 use Rattle.std.proofs.lemmas.List.{get_or-replicate, get_or_past, length-replicate}
-use Rattle.aig.specs.declared.gate.Node.{Node}
-use Rattle.aig.specs.declared.gate.Node.TheVariants.{One, Input, Output}
-use Rattle.aig.specs.declared.gate.Literal.{Literal}
+use Rattle.aig.specs.declared.literal.Node.{Node}
+use Rattle.aig.specs.declared.literal.Node.TheVariants.{One, Input, Output}
+use Rattle.aig.specs.Literal.{Literal}
 use Rattle.aig.specs.declared.gate.Gate.{Gate}
 use Rattle.aig.specs.declared.gate.Gate.TheVariants.{And, Xor, Mux}
 use Rattle.aig.specs.Graph.{IsAmong, OperandsAmong}
@@ -232,7 +232,3 @@ AreNeeded-from gates root marks m =
       closed = λ k gate at is. let from : 0 ≤ k = omega arith in m.closed k gate from at is;
       asked_for = m.asked_for;
     }
-
--- what a read past the end would give
-abbrev pub any_gate : Gate
-any_gate = And (record { node = One; negated = false }) (record { node = One; negated = false })

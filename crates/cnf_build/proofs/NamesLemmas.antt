@@ -8,9 +8,9 @@ use Rattle.std.proofs.lemmas.Option.{slice_get_within, slice_get-get_or, same_So
 use Rattle.std.proofs.lemmas.List.{get_or_append_left, get_or_push, length_push, get_or-map}
 use Rattle.clauses.specs.declared.literal.Lit.{Lit}
 use Rattle.clauses.specs.Literal.{IsVariable, literal_true}
-use Rattle.aig.specs.declared.gate.Node.{Node}
-use Rattle.aig.specs.declared.gate.Node.TheVariants.{One, Input, Output}
-use Rattle.aig.specs.declared.gate.Literal.{Literal}
+use Rattle.aig.specs.declared.literal.Node.{Node}
+use Rattle.aig.specs.declared.literal.Node.TheVariants.{One, Input, Output}
+use Rattle.aig.specs.Literal.{Literal}
 use Rattle.aig.specs.declared.gate.Gate.{Gate}
 use Rattle.aig.specs.declared.gate.Gate.TheVariants.{And, Xor, Mux}
 use Rattle.aig.specs.Graph.{Graph, IsAmong, IsOwn, OperandsAmong, IsInOrder, node_value, literal_value, gate_value, gate_values, value_of}
@@ -87,6 +87,7 @@ NamesFirst-start inputs all marks true is =
             | inl never ↦ absurd (cc)
             | inr new ↦ subst (IsOverSmaller (inputs + 1 + j)) new.1 tt
           ];
+      rising = λ i k less below is. absurd (omega arith);
     }
 NamesFirst-start inputs all marks false is =
     record {
@@ -96,6 +97,7 @@ NamesFirst-start inputs all marks false is =
       gates_defined = λ k gate below. absurd (omega arith);
       only_marked = λ j below. absurd (omega arith);
       over_smaller = λ j d at. absurd (cc);
+      rising = λ i k less below is. absurd (omega arith);
     }
 
 -- a covered node's variable is smaller than the next
@@ -151,6 +153,27 @@ module _ (all : List Gate) (marks : NeededMarks) (k : ℕ) (names : Names) (gate
   next_number : ℕ
   next_number = names.inputs + 1 + length names.definitions
 
+  -- the next number is greater than those of the marked gates
+  rising_next : (i m : ℕ) → i < m → m < k + 1 → IsMarked marks (Output i) → slice_index (names.numbers ++ next_number ∷ []) i < slice_index (names.numbers ++ next_number ∷ []) m
+  unfolding next_number
+  rising_next i m less below is =
+      let n = f.length_numbers in
+      let old : slice_index (names.numbers ++ next_number ∷ []) i ≡ slice_index names.numbers i =
+      get_or_append_left names.numbers (next_number ∷ []) 0 i (omega arith) in
+      elim (cases_lt m k) [
+        | inl earlier ↦
+            let kept : slice_index (names.numbers ++ next_number ∷ []) m ≡ slice_index names.numbers m =
+            get_or_append_left names.numbers (next_number ∷ []) 0 m (omega arith) in
+            let rises = f.rising i m less earlier is in
+            omega arith
+        | inr last ↦
+            let here : slice_index (names.numbers ++ next_number ∷ []) m ≡ next_number =
+            get_or_push names.numbers next_number 0 m (omega arith) in
+            let le : k ≤ length all = let w = within_all in omega arith in
+            let small = IsSmaller-next all marks k names le f (Output i) false (omega arith) is in
+            omega (arith, small.1)
+      ]
+
   pub NamesFirst-skipped : get_or marks.gates k false ≡ false → NamesFirst all marks (k + 1) (with_gate names gate false)
   unfolding next_number
   NamesFirst-skipped free =
@@ -179,6 +202,7 @@ module _ (all : List Gate) (marks : NeededMarks) (k : ℕ) (names : Names) (gate
               IsAmong-later names.inputs k (k + 1) (omega arith) w.0 w.3,
             );
         over_smaller = f.over_smaller;
+        rising = rising_next;
       }
 
   pub NamesFirst-named : get_or marks.gates k false ≡ true → NamesFirst all marks (k + 1) (with_gate names gate true)
@@ -236,6 +260,7 @@ module _ (all : List Gate) (marks : NeededMarks) (k : ℕ) (names : Names) (gate
                   subst (λ i. IsOverSmaller (names.inputs + 1 + i) d) (sym last.0)
                   (subst (IsOverSmaller (names.inputs + 1 + length names.definitions)) last.1 over)
             ];
+        rising = rising_next;
       }
 
 pub NamesFirst-next : (all : List Gate) (marks : NeededMarks) (k : ℕ) (names : Names) (gate : Gate) → IsInOrder names.inputs all → IsClosed all marks → slice_get all k ≡ Some gate → NamesFirst all marks k names → (b : Bool) → get_or marks.gates k false ≡ b → NamesFirst all marks (k + 1) (with_gate names gate b)

@@ -7,9 +7,10 @@ use Rattle.std.proofs.lemmas.Bool.{cases_Bool, and_parts, and_from}
 use Rattle.std.proofs.lemmas.List.Elements.{All-nil, All-cons, All-head, All-tail, All-weaker}
 use Rattle.clauses.specs.declared.literal.Lit.{Lit}
 use Rattle.clauses.specs.Literal.{Meets, IsVariable, IsWithin, literal_of, negation_of, literal_true, clause_true}
-use Rattle.clauses.specs.Propagation.{is_false, open_literals, IsUnit}
+use Rattle.clauses.specs.Propagation.{is_false, IsFalsified, IsUnit}
 use Rattle.clauses.specs.Settings.{StandsIn, IsGreatest}
 use Rattle.clauses.proofs.Held.{literal_true-negation}
+use Rattle.clauses.proofs.Units.{unit_first}
 use Rattle.cnf_build.specs.declared.definition.Definition.{Definition}
 use Rattle.cnf_build.specs.declared.definition.Definition.TheVariants.{One, And, Xor, Mux}
 use Rattle.cnf_build.specs.Definitions.{definition_value, clauses_of_definition, IsSmaller, IsOverSmaller}
@@ -122,14 +123,6 @@ Meets-from_value w n d h =
 
 -- units
 
-Falsified-cons : (held : List Lit) (a : Lit) (ls : List Lit) → is_false held a ≡ true → open_literals held ls ≡ [] → open_literals held (a ∷ ls) ≡ []
-Falsified-cons held a ls closed rest =
-    ap (λ b. cond (not b) (a ∷ open_literals held ls) (open_literals held ls)) closed ∙ rest
-
-Unit-first : (held : List Lit) (l : Lit) (ls : List Lit) → is_false held l ≡ false → open_literals held ls ≡ [] → IsUnit held (l ∷ ls) l
-Unit-first held l ls kept rest =
-    ap (λ b. cond (not b) (l ∷ open_literals held ls) (open_literals held ls)) kept ∙ ap (λ ks. l ∷ ks) rest
-
 -- In this state the false literals of the variables below n are false, and n has no value.
 pub record IsDecided (u : ℕ → Bool) (n : ℕ) (held : List Lit) : Type 0 where
   pub closed : (l : Lit) → IsSmaller n l → literal_true u l ≡ false → is_false held l ≡ true
@@ -145,21 +138,25 @@ make_unit u held n d b e i within unit =
     (i, within, subst (λ x. IsUnit held (get_or (clauses_of_definition n d) i []) (literal_of n x)) (sym e) unit)
 
 module _ (u : ℕ → Bool) (n : ℕ) (held : List Lit) (decided : IsDecided u n held) where
-  one_false : (a : Lit) → IsSmaller n a → literal_true u a ≡ false → open_literals held (a ∷ []) ≡ []
-  one_false a small p = Falsified-cons held a [] (decided.closed a small p) refl
+  none_false : IsFalsified held []
+  none_false = All-nil (λ l. is_false held l ≡ true)
 
-  two_false : (a b : Lit) → IsSmaller n a → IsSmaller n b → literal_true u a ≡ false → literal_true u b ≡ false → open_literals held (a ∷ b ∷ []) ≡ []
-  two_false a b small small' p q = Falsified-cons held a (b ∷ []) (decided.closed a small p) (one_false b small' q)
+  one_false : (a : Lit) → IsSmaller n a → literal_true u a ≡ false → IsFalsified held (a ∷ [])
+  one_false a small p = All-cons (λ l. is_false held l ≡ true) a [] (decided.closed a small p) none_false
+
+  two_false : (a b : Lit) → IsSmaller n a → IsSmaller n b → literal_true u a ≡ false → literal_true u b ≡ false → IsFalsified held (a ∷ b ∷ [])
+  two_false a b small small' p q =
+      All-cons (λ l. is_false held l ≡ true) a (b ∷ []) (decided.closed a small p) (one_false b small' q)
 
   negation_false : (a : Lit) → literal_true u a ≡ true → literal_true u (negation_of a) ≡ false
   negation_false a p = literal_true-negation u a ∙ ap not p
 
-  unit : (b : Bool) (ls : List Lit) → open_literals held ls ≡ [] → IsUnit held (literal_of n b ∷ ls) (literal_of n b)
-  unit b ls none = Unit-first held (literal_of n b) ls (decided.open_at b) none
+  unit : (b : Bool) (ls : List Lit) → IsFalsified held ls → IsUnit held (literal_of n b ∷ ls) (literal_of n b)
+  unit b ls none = unit_first held (literal_of n b) ls (decided.open_at b) none
 
   pub unit_of : (d : Definition) → IsOverSmaller n d → SomeUnit u held n d
   unfolding mathlib.Core.Bool.xor
-  unit_of One over = make_unit u held n One true refl 0 (omega arith) (unit true [] refl)
+  unit_of One over = make_unit u held n One true refl 0 (omega arith) (unit true [] none_false)
   unit_of (And a b) over =
       elim (cases_Bool (literal_true u a)) [
         | inr p ↦

@@ -1,5 +1,5 @@
 -- Definitions of variables over smaller ones, and their clauses by Tseitin's encoding.
-use Rattle.std.specs.Prelude.{◌≡◌, ℕ, ◌+◌, ◌<◌, ◌≤◌, Bool, true, false, ◌&&◌, if◌then◌else◌, List, [], ◌∷◌, ◌++◌, Some, slice_get}
+use Rattle.std.specs.Prelude.{◌≡◌, ◌≢◌, ℕ, ◌+◌, ◌<◌, ◌≤◌, Bool, true, false, ◌&&◌, if◌then◌else◌, List, [], ◌∷◌, ◌++◌, Some, slice_get, AllPairs}
 use Rattle.std.specs.Bool.{xor}
 use Rattle.clauses.specs.declared.literal.Lit.{Lit}
 use Rattle.clauses.specs.Literal.{literal_true, literal_of, negation_of}
@@ -30,6 +30,10 @@ clauses_of_definition n (Mux c a b) =
 abbrev pub clauses_from : ℕ → List Definition → List (List Lit)
 clauses_from n [] = []
 clauses_from n (d ∷ ds) = clauses_of_definition n d ++ clauses_from (n + 1) ds
+
+-- no two literals of the clause are over one variable
+abbrev pub NamesOnce : List Lit → Type 0
+NamesOnce clause = AllPairs (λ l m. l.variable ≢ m.variable) clause
 
 -- the literal's variable is one of those below n
 abbrev pub IsSmaller : ℕ → Lit → Type 0

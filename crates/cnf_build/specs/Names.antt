@@ -1,9 +1,9 @@
 -- Variables for the constant and the gates that are marked, after those of the inputs.
 use Rattle.std.specs.Prelude.{◌≡◌, ℕ, ◌+◌, ◌<◌, ◌≤◌, Bool, true, false, List, [], ◌∷◌, ◌++◌, length, Some, slice_get, slice_index}
 use Rattle.clauses.specs.declared.literal.Lit.{Lit}
-use Rattle.aig.specs.declared.gate.Node.{Node}
-use Rattle.aig.specs.declared.gate.Node.TheVariants.{One, Input, Output}
-use Rattle.aig.specs.declared.gate.Literal.{Literal}
+use Rattle.aig.specs.declared.literal.Node.{Node}
+use Rattle.aig.specs.declared.literal.Node.TheVariants.{One, Input, Output}
+use Rattle.aig.specs.Literal.{Literal}
 use Rattle.aig.specs.declared.gate.Gate.{Gate}
 use Rattle.aig.specs.declared.gate.Gate.TheVariants as gates
 use Rattle.aig.specs.Graph.{IsAmong}
@@ -67,3 +67,5 @@ pub record NamesFirst (all : List Gate) (marks : NeededMarks) (count : ℕ) (nam
       (j : ℕ) → j < length names.definitions →
       (node : Node) × IsMarked marks node × (variable_of names node ≡ names.inputs + 1 + j) × IsAmong names.inputs count node
   pub over_smaller : AreOverSmaller (names.inputs + 1) names.definitions
+  pub rising :
+      (i k : ℕ) → i < k → k < count → IsMarked marks (Output i) → slice_index names.numbers i < slice_index names.numbers k

@@ -1,8 +1,8 @@
 -- Which of the constant and the gates of a graph a root needs.
 use Rattle.std.specs.Prelude.{◌≡◌, ℕ, ◌<◌, ◌⊎◌, Bool, true, false, List, length, Some, slice_get, slice_set, slice_index_or}
-use Rattle.aig.specs.declared.gate.Node.{Node}
-use Rattle.aig.specs.declared.gate.Node.TheVariants.{One, Input, Output}
-use Rattle.aig.specs.declared.gate.Literal.{Literal}
+use Rattle.aig.specs.declared.literal.Node.{Node}
+use Rattle.aig.specs.declared.literal.Node.TheVariants.{One, Input, Output}
+use Rattle.aig.specs.Literal.{Literal}
 use Rattle.aig.specs.declared.gate.Gate.{Gate}
 use Rattle.aig.specs.declared.gate.Gate.TheVariants.{And, Xor, Mux}
 

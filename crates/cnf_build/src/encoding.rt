@@ -1,9 +1,9 @@
 //! The clause set of a root, put together from names and clauses.
-ghost use Rattle.std.specs.Prelude.{◌≡◌, true, ◌+◌, ◌^◌, ◌<◌, ◌≤◌, [], ◌∷◌, length, IfOk, EachIndex, slice_index};
+ghost use Rattle.std.specs.Prelude.{◌≡◌, true, ◌+◌, ◌^◌, ◌<◌, ◌≤◌, [], ◌∷◌, length, IfOk, All, EachIndex, slice_index};
 ghost use Rattle.aig.specs.Graph.{IsOwn, value_of};
 ghost use Rattle.clauses.specs.Literal.{IsVariable};
 ghost use Rattle.clauses.specs.Settings.{StandsFor};
-ghost use Rattle.cnf_build.specs.Definitions.{clauses_from, AreOverSmaller};
+ghost use Rattle.cnf_build.specs.Definitions.{clauses_from, AreOverSmaller, NamesOnce};
 
 use crate::definition::Definition;
 use crate::naming::Naming;
@@ -24,6 +24,9 @@ pub fn clauses_of(alloc: Global, aig: &Aig, root: Literal) -> Result<Cnf, AllocE
     requires own { IsOwn aig.now root }
     requires few { aig.now.inputs + length aig.now.gates < 2 ^ 28 }
     ensures stands { IfOk result (λ set. StandsFor set (λ values. value_of aig.now values root ≡ true)) }
+
+    // So no clause of a gate has a literal twice, or with its negation.
+    ensures once { IfOk result (λ set. All NamesOnce set.gates) }
 
     // One variable at most for each input and gate, and one for the constant.
     ensures count { IfOk result (λ set. set.count ≤ aig.now.inputs + length aig.now.gates + 1) }

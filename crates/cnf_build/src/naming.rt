@@ -69,14 +69,14 @@ impl Naming {
         requires own { IsAmong self.now.inputs (length self.now.numbers) literal.node }
         ensures { result ≡ lit_of self.now literal }
     {
-        let variable = match literal.node {
+        let variable = match literal.node() {
             Node::One => self.inputs + 1,
             Node::Input(place) => place as u32 + 1,
             Node::Output(place) => self.numbers[place],
         };
         Lit {
             variable,
-            negated: literal.negated,
+            negated: literal.is_negated(),
         }
     }
 

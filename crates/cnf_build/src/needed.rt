@@ -63,7 +63,7 @@ impl Needed {
         requires { OutputBelow (length self.old.gates) literal.node }
         ensures { self.new ≡ with_node self.old literal.node }
     {
-        match literal.node {
+        match literal.node() {
             Node::One => self.one = true,
             Node::Input(_) => {}
             Node::Output(place) => self.gates[place] = true,

@@ -1,9 +1,12 @@
-//! Operations on words, at tables and decided by the search, and the sizes of clause sets.
+//! Operations on words, at tables and decided by the search, the sizes of clause sets, and clauses in which a literal
+//! stands twice.
 
 mod decided;
 mod evaluated;
+mod folded;
 mod graphs;
 mod operations;
+mod repeated;
 mod sizes;
 mod tables;
 mod words;

@@ -64,7 +64,7 @@ fn is_number<C: Circuit>(
     requires width { length word.now ≤ 64 }
     requires own { All (C.has_literal circuit.old) word.now }
     ensures own { IfOk result (λ same. C.has_literal circuit.new same) }
-    ensures keeps { Keeps C.has_literal C.admits C.value circuit.old circuit.new }
+    ensures keeps { Keeps C.State circuit.old circuit.new }
 {
     let values = bits(alloc, number, word.len())?;
     let constant = constant(alloc, circuit, values.as_slice())?;

@@ -5,12 +5,12 @@ use std::alloc::{AllocError, Global};
 
 /// A literal's value, where the inputs and the gates before it have these values.
 pub(crate) fn value(literal: Literal, inputs: &[bool], gates: &[bool]) -> bool {
-    let positive = match literal.node {
+    let positive = match literal.node() {
         Node::One => true,
         Node::Input(k) => inputs.get(k).copied().unwrap_or(false),
         Node::Output(k) => gates.get(k).copied().unwrap_or(false),
     };
-    positive != literal.negated
+    positive != literal.is_negated()
 }
 
 /// The values of all gates.

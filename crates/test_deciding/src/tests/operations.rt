@@ -64,7 +64,7 @@ pub(crate) fn answer<C: Circuit>(
     requires own_b { All (C.has_literal c.old) b.now }
     ensures own { IfOk result (All (C.has_literal c.new)) }
     ensures width { IfOk result (λ word. length word ≤ length a.now) }
-    ensures keeps { Keeps C.has_literal C.admits C.value c.old c.new }
+    ensures keeps { Keeps C.State c.old c.new }
 {
     match operation {
         Operation::Product => multiply(alloc, c, a, b),
@@ -92,7 +92,7 @@ fn overflow<C: Circuit>(
     requires own_a { All (C.has_literal c.old) a.now }
     requires own_b { All (C.has_literal c.old) b.now }
     ensures own { IfOk result (λ made. C.has_literal c.new made) }
-    ensures keeps { Keeps C.has_literal C.admits C.value c.old c.new }
+    ensures keeps { Keeps C.State c.old c.new }
 {
     match operation {
         Operation::SumOverflows => overflow_add(alloc, c, a, b, false),

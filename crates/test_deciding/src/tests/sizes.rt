@@ -73,7 +73,7 @@ const SIZES: [(Root, u32, u32); 8] = [
     (Root::NotBoth, 4, 4),
     (Root::One, 4, 2),
     (Root::Input, 3, 1),
-    (Root::AndOne, 5, 5),
+    (Root::AndOne, 3, 1),
     (Root::Odd, 5, 9),
 ];
 

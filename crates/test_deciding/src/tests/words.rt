@@ -23,7 +23,7 @@ pub(crate) fn word<C: Circuit>(
 ) -> Result<Bits<C::Literal>, AllocError>
     ensures own { IfOk result (All (C.has_literal circuit.new)) }
     ensures width { IfOk result (λ word. length word ≡ width) }
-    ensures keeps { Keeps C.has_literal C.admits C.value circuit.old circuit.new }
+    ensures keeps { Keeps C.State circuit.old circuit.new }
 {
     let mut word = List::new(alloc);
     for _i in 0..width {

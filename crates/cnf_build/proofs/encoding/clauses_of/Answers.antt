@@ -1,6 +1,8 @@
-use Rattle.std.proofs.Common.{◌≡◌, subst, ◌∙◌, slice_get, Some}
+use Rattle.std.proofs.Common.{◌≡◌, ◌+◌, All, subst, sym, ◌∙◌, slice_get, Some}
+use Rattle.std.proofs.lemmas.Result.{IfOk-weaker}
+use Rattle.cnf_build.specs.Definitions.{clauses_from, NamesOnce}
 use Rattle.cnf_build.proofs.MarksLemmas.{OperandsBelow-from_OperandsAmong}
-use Rattle.cnf_build.proofs.EncodingLemmas.{variable_within, stands_for_root}
+use Rattle.cnf_build.proofs.EncodingLemmas.{variable_within, stands_for_root, clauses_once}
 use Rattle.cnf_build.proofs.encoding.clauses_of.Goals as goal
 
 pub by-requires-clause-in_order : goal.by-requires-clause-in_order
@@ -22,3 +24,13 @@ returns-clause-stands c =
     c.gates-gates.result.now c.gates-gates.ensures.gates c.in_ok-needed.ensures c.in_ok-naming.ensures.named
     (c.in_ok-naming.ensures.inputs ∙ c.input_count-inputs.ensures) c.input_count-inputs.result c.input_count-inputs.ensures c.definitions.result.now c.definitions.ensures
     c.literal.result c.literal.ensures c.encode.result c.encode.ensures.gates c.encode.ensures.roots c.encode.ensures.input_count c.encode.ensures.inputs c.encode.ensures.count
+
+pub returns-clause-once : goal.returns-clause-once
+returns-clause-once c =
+    IfOk-weaker c.encode.result (λ set. set.gates ≡ clauses_from (c.input_count-inputs.result + 1) c.definitions.result.now) (λ set. All NamesOnce set.gates)
+    (λ set is. subst (All NamesOnce) (sym is)
+    (clauses_once c.args.aig.now c.args.root c.in_ok-needed.needed c.in_ok-naming.naming c.gates-gates.ensures.in_order c.requires.own
+    c.gates-gates.result.now c.gates-gates.ensures.gates c.in_ok-needed.ensures c.in_ok-naming.ensures.named
+    (c.in_ok-naming.ensures.inputs ∙ c.input_count-inputs.ensures) c.input_count-inputs.result c.input_count-inputs.ensures
+    c.definitions.result.now c.definitions.ensures c.literal.result c.literal.ensures c.gates-gates.ensures.proper))
+    c.encode.ensures.gates

@@ -1,8 +1,7 @@
-use Rattle.std.proofs.Common.{◌+◌, ◌<◌, length, get_or, sym, ap, ◌∙◌, subst, arith}
-use Rattle.std.proofs.lemmas.Option.{slice_get-get_or}
+use Rattle.std.proofs.Common.{◌+◌, ◌<◌, length, refl, sym, ap, ◌∙◌, subst, arith}
+use Rattle.std.proofs.lemmas.Option.{slice_get_read}
 use Rattle.aig.specs.Graph.{IsInOrder}
 use Rattle.cnf_build.specs.Names.{Names, NamesFirst, with_gate}
-use Rattle.cnf_build.proofs.MarksLemmas.{any_gate}
 use Rattle.cnf_build.proofs.NamesLemmas.{NamesFirst-next, inputs-with_gate}
 use Rattle.cnf_build.proofs.naming.Naming.of.Goals as goal
 
@@ -12,11 +11,11 @@ loop-place-preserved c =
     let k = c.loop-place.place in
     let names = c.loop-place.naming in
     let within : k < length gates = omega arith in
-    let gate = get_or gates k any_gate in
+    let gate = c.index-gates-place.result in
     let order : IsInOrder names.inputs gates = subst (λ n. IsInOrder n gates) (sym c.loop-place.invariant.inputs) c.requires.in_order in
     let next : NamesFirst gates c.args.needed.now (k + 1) (with_gate names gate c.has_gate.result) =
     NamesFirst-next gates c.args.needed.now k names gate order c.requires.closed
-    (slice_get-get_or gates k any_gate within) c.loop-place.invariant.named c.has_gate.result (sym c.has_gate.ensures) in
+    (slice_get_read gates (length gates) k gate refl within c.index-gates-place.is) c.loop-place.invariant.named c.has_gate.result (sym c.has_gate.ensures) in
     record {
       inputs = ap (λ (n : Names). n.inputs) c.in_ok-name_gate.ensures ∙ inputs-with_gate names gate c.has_gate.result ∙ c.loop-place.invariant.inputs;
       named = subst (NamesFirst gates c.args.needed.now (k + 1)) (sym c.in_ok-name_gate.ensures) next;

@@ -1,8 +1,8 @@
-use Rattle.std.proofs.Common.{◌≡◌, ◌+◌, ◌-◌, ◌<◌, ◌≤◌, false, length, get_or, sym, subst, arith}
-use Rattle.std.proofs.lemmas.Option.{slice_get-get_or}
-use Rattle.aig.specs.declared.gate.Node.TheVariants.{Output}
+use Rattle.std.proofs.Common.{◌≡◌, ◌+◌, ◌-◌, ◌<◌, ◌≤◌, false, length, get_or, refl, sym, subst, arith}
+use Rattle.std.proofs.lemmas.Option.{slice_get_read}
+use Rattle.aig.specs.declared.literal.Node.TheVariants.{Output}
 use Rattle.cnf_build.specs.NeededGates.{IsOperand, IsMarked}
-use Rattle.cnf_build.proofs.MarksLemmas.{MarkedFrom, Adds, Adds-operands, OperandsBelow-more, MarkedFrom-marked, MarkedFrom-skipped, AreNeeded-from, any_gate}
+use Rattle.cnf_build.proofs.MarksLemmas.{MarkedFrom, Adds, Adds-operands, OperandsBelow-more, MarkedFrom-marked, MarkedFrom-skipped, AreNeeded-from}
 use Rattle.cnf_build.proofs.needed.Needed.by.Goals as goal
 
 pub mark_operands-requires : goal.mark_operands-requires
@@ -11,9 +11,9 @@ mark_operands-requires c =
     let k = c.loop-k.k - 1 in
     let within : k < length gates = omega arith in
     let le : k ≤ length c.loop-k.needed.gates = let n = c.loop-k.invariant.count in omega arith in
-    let gate = get_or gates k any_gate in
+    let gate = c.index-gates-k.result in
     OperandsBelow-more k (length c.loop-k.needed.gates) le gate
-    (c.requires.in_order k gate (slice_get-get_or gates k any_gate within))
+    (c.requires.in_order k gate (slice_get_read gates (length gates) k gate refl within c.index-gates-k.is))
 
 pub loop-k-preserved-then-has_gate : goal.loop-k-preserved-then-has_gate
 loop-k-preserved-then-has_gate c =
@@ -23,8 +23,8 @@ loop-k-preserved-then-has_gate c =
     let place : c.loop-k.k ≡ k + 1 = omega arith in
     let within : k < length gates = omega arith in
     let le : k ≤ length old.gates = let n = c.loop-k.invariant.count in omega arith in
-    let gate = get_or gates k any_gate in
-    let at = slice_get-get_or gates k any_gate within in
+    let gate = c.index-gates-k.result in
+    let at = slice_get_read gates (length gates) k gate refl within c.index-gates-k.is in
     let below = c.requires.in_order k gate at in
     let adds : Adds (λ node. IsOperand node gate) old c.mark_operands.new.self =
     subst (Adds (λ node. IsOperand node gate) old) (sym c.mark_operands.ensures)

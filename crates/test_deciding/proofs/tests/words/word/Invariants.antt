@@ -5,5 +5,5 @@ use Rattle.test_deciding.proofs.tests.words.word.Given as goal
 
 abbrev pub invariant-loop-i : goal.invariant-loop-i
 invariant-loop-i g l =
-    let m = g.C.Circuit in
-    Keeps m.has_literal m.admits m.value l.initial.circuit l.circuit × All (m.has_literal l.circuit) l.word × (length l.word ≡ l._i)
+    let m = g.C.State in
+    Keeps m l.initial.circuit l.circuit × All (m.has_literal l.circuit) l.word × (length l.word ≡ l._i)

@@ -1,0 +1,160 @@
+//! How many gates a graph makes of formulas that come to less.
+
+use aig::Aig;
+use circuits::Circuit;
+use std::alloc::{AllocError, Global};
+use std::test::Fail;
+
+/// A formula over the inputs a, b and c.
+#[derive(Clone, Copy, Debug)]
+enum Formula {
+    /// Both of a and b, twice.
+    AndTwice,
+    /// One of a and b, and one of their negations.
+    XorOfNegations,
+    /// A choice by a, and by its negation with the arms exchanged.
+    MuxTurned,
+    /// A choice between b and c, and between their negations.
+    MuxOfNegations,
+    /// A choice by a of which one arm is the constant that is true.
+    MuxOfConstant,
+    /// A choice by a of which one arm is a.
+    MuxOfCondition,
+    /// A choice between b and its negation, and whether a and b differ.
+    MuxOfOpposites,
+    /// Both of a and b, and the negation of a.
+    Contradiction,
+    /// Both of a and b, and a.
+    Subsumption,
+    /// Not both of a and b, and the negation of a.
+    Negated,
+    /// Not both of a and b, and a; where both of a and the negation of b are there.
+    Substitution,
+    /// Both of a and b, and both of c and the negation of a.
+    TwoContradict,
+    /// Both of a and b, and not both of c and the negation of a.
+    TwoSubsume,
+    /// Not both of a and b, and not both of a and the negation of b.
+    Resolution,
+}
+
+/// Builds the inputs and the formula.
+fn build<C: Circuit>(
+    alloc: Global,
+    circuit: &mut C,
+    formula: Formula,
+) -> Result<C::Literal, AllocError> {
+    let a = circuit.input(alloc)?;
+    let b = circuit.input(alloc)?;
+    let c = circuit.input(alloc)?;
+    match formula {
+        Formula::AndTwice => {
+            circuit.and(alloc, a, b)?;
+            circuit.and(alloc, b, a)
+        }
+        Formula::XorOfNegations => {
+            circuit.xor(alloc, a, b)?;
+            let not_a = circuit.not(a);
+            let not_b = circuit.not(b);
+            circuit.xor(alloc, not_a, not_b)
+        }
+        Formula::MuxTurned => {
+            circuit.mux(alloc, a, b, c)?;
+            let not_a = circuit.not(a);
+            circuit.mux(alloc, not_a, c, b)
+        }
+        Formula::MuxOfNegations => {
+            circuit.mux(alloc, a, b, c)?;
+            let not_b = circuit.not(b);
+            let not_c = circuit.not(c);
+            circuit.mux(alloc, a, not_b, not_c)
+        }
+        Formula::MuxOfConstant => {
+            let not_a = circuit.not(a);
+            circuit.and(alloc, not_a, b)?;
+            let one = circuit.one();
+            let not_b = circuit.not(b);
+            circuit.mux(alloc, a, one, not_b)
+        }
+        Formula::MuxOfCondition => {
+            circuit.and(alloc, a, b)?;
+            circuit.mux(alloc, a, b, a)
+        }
+        Formula::MuxOfOpposites => {
+            circuit.xor(alloc, a, b)?;
+            let not_b = circuit.not(b);
+            circuit.mux(alloc, a, b, not_b)
+        }
+        _ => pairs(alloc, circuit, formula, a, b, c),
+    }
+}
+
+/// Builds a formula of two levels.
+fn pairs<C: Circuit>(
+    alloc: Global,
+    circuit: &mut C,
+    formula: Formula,
+    a: C::Literal,
+    b: C::Literal,
+    c: C::Literal,
+) -> Result<C::Literal, AllocError>
+    requires a { C.has_literal circuit.old a }
+    requires b { C.has_literal circuit.old b }
+    requires c { C.has_literal circuit.old c }
+{
+    let both = circuit.and(alloc, a, b)?;
+    let not_both = circuit.not(both);
+    let not_a = circuit.not(a);
+    let not_b = circuit.not(b);
+    match formula {
+        Formula::Contradiction => circuit.and(alloc, both, not_a),
+        Formula::Subsumption => circuit.and(alloc, both, a),
+        Formula::Negated => circuit.and(alloc, not_both, not_a),
+        Formula::Substitution => {
+            circuit.and(alloc, a, not_b)?;
+            circuit.and(alloc, not_both, a)
+        }
+        Formula::TwoContradict => {
+            let other = circuit.and(alloc, c, not_a)?;
+            circuit.and(alloc, both, other)
+        }
+        Formula::TwoSubsume => {
+            let other = circuit.and(alloc, c, not_a)?;
+            let not_other = circuit.not(other);
+            circuit.and(alloc, both, not_other)
+        }
+        _ => {
+            let other = circuit.and(alloc, a, not_b)?;
+            let not_other = circuit.not(other);
+            circuit.and(alloc, not_both, not_other)
+        }
+    }
+}
+
+/// A formula, and how many gates its graph has.
+const GATES: [(Formula, usize); 14] = [
+    (Formula::AndTwice, 1),
+    (Formula::XorOfNegations, 1),
+    (Formula::MuxTurned, 1),
+    (Formula::MuxOfNegations, 1),
+    (Formula::MuxOfConstant, 1),
+    (Formula::MuxOfCondition, 1),
+    (Formula::MuxOfOpposites, 1),
+    (Formula::Contradiction, 1),
+    (Formula::Subsumption, 1),
+    (Formula::Negated, 1),
+    (Formula::Substitution, 2),
+    (Formula::TwoContradict, 2),
+    (Formula::TwoSubsume, 2),
+    (Formula::Resolution, 2),
+];
+
+#[test]
+fn gates_are_folded(rt: HostRuntime) -> Result<(), Fail> {
+    for (formula, gates) in GATES {
+        let mut graph = Aig::new(rt.alloc());
+        build(rt.alloc(), &mut graph, formula)?;
+        assert_eq!(rt; graph.gates().len(), gates, "{formula:?}");
+    }
+    Ok(())
+}
