@@ -2,9 +2,11 @@
 use Rattle.std.proofs.Common.{◌≡◌, ◌<◌, ℕ, zero, suc, Bool, true, false, cond, List, [], ◌∷◌, ◌++◌, length, Ok, Err, refl, sym, ◌∙◌, ap, subst, append_assoc, arith}
 use Rattle.std.proofs.lemmas.List.{append-nil}
 use Rattle.ir_tokens.specs.Tokens.{Placed}
-use Rattle.ir_instructions.specs.declared.fault.ParseError.{ParseError}
-use Rattle.ir_instructions.specs.declared.fault.ParseError.TheVariants.{Refused, NoMemory}
-use Rattle.ir_instructions.specs.Gives.{Fails}
+use Rattle.refusal.specs.declared.fault.Fault.{Fault}
+use Rattle.refusal.specs.declared.refusal.Refusal.{Refusal}
+use Rattle.refusal.specs.declared.refusal.Refusal.TheVariants.{Refused, NoMemory}
+use Rattle.refusal.specs.Refusals.{Fails}
+use Rattle.ir_tokens.specs.declared.fault.IrFaultKind.{IrFaultKind}
 use Rattle.ir_instructions.specs.Parts.{Part, Each}
 use Rattle.ir_instructions.specs.Readers.{Read, Reader, goes_on, done, TakesSome, steps_at, repeat_at, another_at, each_at}
 use Rattle.ir_instructions.proofs.Steps.{bind_ok, read_as}
@@ -37,11 +39,9 @@ repeat-more is_next step some before tokens x next e =
     let fewer : length x.1 < length tokens = some before tokens x next e in
     rw (next, e) (steps_enough is_next step some (length tokens) (suc (length x.1)) x.0 x.1 (omega arith) (omega arith))
 
-pub repeat-fault : {A : Type 0} (is_next : List Placed → Bool) (step : A → Reader A) (before : A) (tokens : List Placed) (total : Read A) (e : ParseError) → is_next tokens ≡ true → Fails e (step before tokens) → repeat_at is_next step before tokens ≡ total → Fails e total
+pub repeat-fault : {A : Type 0} (is_next : List Placed → Bool) (step : A → Reader A) (before : A) (tokens : List Placed) (fault : Fault IrFaultKind) → is_next tokens ≡ true → step before tokens ≡ Err fault → repeat_at is_next step before tokens ≡ Err fault
 unfolding steps_at
-repeat-fault is_next step before tokens total NoMemory next fails so_far = tt
-repeat-fault is_next step before tokens total (Refused fault) next fails so_far =
-    let one : repeat_at is_next step before tokens ≡ Err fault = rw (next, fails) refl in sym so_far ∙ one
+repeat-fault is_next step before tokens fault next fails = rw (next, fails) refl
 
 pub repeat-done : {A : Type 0} (is_next : List Placed → Bool) (step : A → Reader A) (before : A) (tokens : List Placed) → is_next tokens ≡ false → repeat_at is_next step before tokens ≡ Ok (before, tokens)
 unfolding steps_at
@@ -60,10 +60,9 @@ another_takes is_next part some front tokens x next e = taken (part tokens) refl
 pub each-more : {A : Type 0} (is_next : List Placed → Bool) (part : Reader A) → TakesSome is_next part → (front : List A) (tokens : List Placed) (x : A × List Placed) → is_next tokens ≡ true → part tokens ≡ Ok x → each_at is_next part front tokens ≡ each_at is_next part (front ++ x.0 ∷ []) x.1
 each-more is_next part some front tokens x next e = repeat-more is_next (another_at part) (another_takes is_next part some) front tokens (front ++ x.0 ∷ [], x.1) next (rw e refl)
 
-pub each-fault : {A : Type 0} (is_next : List Placed → Bool) (part : Reader A) (front : List A) (tokens : List Placed) (total : Read (List A)) (e : ParseError) → is_next tokens ≡ true → Fails e (part tokens) → each_at is_next part front tokens ≡ total → Fails e total
+pub each-fault : {A : Type 0} (is_next : List Placed → Bool) (part : Reader A) (front : List A) (tokens : List Placed) (total : Read (List A)) (e : Refusal (Fault IrFaultKind)) → is_next tokens ≡ true → Fails e (part tokens) → each_at is_next part front tokens ≡ total → Fails e total
 each-fault is_next part front tokens total NoMemory next fails so_far = tt
-each-fault is_next part front tokens total (Refused fault) next fails so_far =
-    let one : another_at part front tokens ≡ Err fault = rw fails refl in repeat-fault is_next (another_at part) front tokens total (Refused fault) next one so_far
+each-fault is_next part front tokens total (Refused fault) next fails so_far = sym so_far ∙ repeat-fault is_next (another_at part) front tokens fault next (rw fails refl)
 
 pub each-done : {A : Type 0} (is_next : List Placed → Bool) (part : Reader A) (front : List A) (tokens : List Placed) → is_next tokens ≡ false → each_at is_next part front tokens ≡ Ok (front, tokens)
 each-done is_next part front tokens none = repeat-done is_next (another_at part) front tokens none

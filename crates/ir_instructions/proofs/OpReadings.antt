@@ -11,7 +11,7 @@ use Rattle.ops.specs.FlagKeywords.{AddsFlags, flag_keyword, has_flag, with_flag,
 use Rattle.ops.proofs.KeywordLemmas.{pred_in-is}
 use Rattle.ops.proofs.FlagKeywordLemmas.{flag_in-is}
 use Rattle.ir_tokens.specs.Tokens.{Placed, Word}
-use Rattle.ir_instructions.specs.declared.fault.Misfit.TheVariants.{Syntax}
+use Rattle.ir_tokens.specs.declared.fault.IrFaultKind.TheVariants.{Syntax}
 use Rattle.ir_tokens.specs.declared.raw.RawOp.{RawOp}
 use Rattle.ir_tokens.specs.declared.raw.RawOp.TheVariants.{Binary, Compare, Select, Convert, Freeze, Phi}
 use Rattle.ir_instructions.specs.declared.word.Operation.{Operation}

@@ -9,7 +9,7 @@ use Rattle.ir_tokens.specs.Numbers.{constant_of, is_number}
 use Rattle.ir_tokens.specs.Tokens.{Placed, Word, Number, Register, Metadata, Mark}
 use Rattle.ops.specs.Number.{Number as Numeral}
 use Rattle.ops.proofs.KeywordLemmas.{same_word}
-use Rattle.ir_instructions.specs.declared.fault.Misfit.TheVariants.{Syntax}
+use Rattle.ir_tokens.specs.declared.fault.IrFaultKind.TheVariants.{Syntax}
 use Rattle.ir_tokens.specs.declared.raw.RawOperand.{RawOperand}
 use Rattle.ir_tokens.specs.declared.raw.RawValue.{RawValue}
 use Rattle.ir_tokens.specs.declared.raw.RawValue.TheVariants as values

@@ -1,7 +1,8 @@
 -- Readers one behind the other, and tests.
 use Rattle.std.proofs.Common.{ℕ, ◌≡◌, Bool, true, false, cond, List, ◌∷◌, Option, Some, None, ap, ◌∙◌, Ok, Err, Result, refl, subst}
 use Rattle.ir_tokens.specs.Tokens.{Placed, Word}
-use Rattle.ir_instructions.specs.declared.fault.TextFault.{TextFault}
+use Rattle.refusal.specs.declared.fault.Fault.{Fault}
+use Rattle.ir_tokens.specs.declared.fault.IrFaultKind.{IrFaultKind}
 use Rattle.ir_instructions.specs.Parts.{Part}
 use Rattle.ir_instructions.specs.Readers.{Read, Reader, goes_on, or_left_out}
 
@@ -9,7 +10,7 @@ use Rattle.ir_instructions.specs.Readers.{Read, Reader, goes_on, or_left_out}
 abbrev pub Reads : {A : Type 0} → Reader A → (A → Part) → Type 0
 Reads {A} reader P = (tokens : List Placed) (x : A × List Placed) → reader tokens ≡ Ok x → P x.0 tokens x.1
 
-abbrev pub read : {A : Type 0} → A → Result A TextFault
+abbrev pub read : {A : Type 0} → A → Result A (Fault IrFaultKind)
 read x = Ok x
 
 -- what a reader that had no fault read, and that the next one went on from there
@@ -25,7 +26,7 @@ pub read_as : {A : Type 0} (P : A → Type 0) (x y : A) → read x ≡ read y �
 read_as P x y e h = subst P (ok_is x y e) h
 
 -- a test that had no fault
-pub tested : {A : Type 0} (b : Bool) (x y : A) (d : TextFault) → cond b (read x) (Err d) ≡ Ok y → (b ≡ true) × (x ≡ y)
+pub tested : {A : Type 0} (b : Bool) (x y : A) (d : Fault IrFaultKind) → cond b (read x) (Err d) ≡ Ok y → (b ≡ true) × (x ≡ y)
 tested true x y d e = (refl, cc)
 tested false x y d e = absurd cc
 

@@ -5,7 +5,7 @@ use Rattle.ops.specs.declared.opcode.Flags.{Flags}
 use Rattle.ops.specs.declared.keywords.flag.Flag.{Flag}
 use Rattle.ops.specs.FlagKeywords.{has_flag, with_flag, flag_in}
 use Rattle.ir_tokens.specs.Tokens.{Placed, Word}
-use Rattle.ir_instructions.specs.declared.fault.Misfit.TheVariants.{Syntax}
+use Rattle.ir_tokens.specs.declared.fault.IrFaultKind.TheVariants.{Syntax}
 use Rattle.ir_instructions.specs.InstructionReaders.{is_mark, is_register, is_metadata, attachment_at, tail_attachment_at, is_flag, add_flag, flag_at, begins_incoming, further_incoming_at, inst_at, begins_case, case_at}
 use Rattle.ir_instructions.specs.Readers.{TakesSome, fault}
 use Rattle.ir_instructions.specs.Punctuation as marks

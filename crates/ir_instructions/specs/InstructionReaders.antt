@@ -15,9 +15,10 @@ use Rattle.scan.specs.IrTokens.{is_plain_name}
 use Rattle.ir_tokens.specs.Identifiers.{identifier_of}
 use Rattle.ir_tokens.specs.Numbers.{constant_of, is_number}
 use Rattle.ir_tokens.specs.Tokens.{Placed, Word, Number, Register, Metadata, Mark}
-use Rattle.ir_instructions.specs.declared.fault.Misfit.TheVariants.{Syntax, LeftOut, ConstRange}
-use Rattle.ir_instructions.specs.declared.fault.Misfit.TheVariants as misfits
-use Rattle.ir_instructions.specs.declared.fault.TextFault.{TextFault}
+use Rattle.ir_tokens.specs.declared.fault.IrFaultKind.TheVariants.{Syntax, LeftOut, ConstRange}
+use Rattle.ir_tokens.specs.declared.fault.IrFaultKind.TheVariants as misfits
+use Rattle.refusal.specs.declared.fault.Fault.{Fault}
+use Rattle.ir_tokens.specs.declared.fault.IrFaultKind.{IrFaultKind}
 use Rattle.ir_instructions.specs.declared.place.Place.TheVariants as places
 use Rattle.ir_tokens.specs.declared.raw.RawIdentifier.{RawIdentifier}
 use Rattle.ir_tokens.specs.declared.raw.RawInst.{RawInst}
@@ -98,7 +99,7 @@ type_at tokens = Err (unexpected places.Type tokens)
 -- ---- operands
 
 -- a number at a width, if it fits
-abbrev pub number_value : ℕ → Option Numeral → Result RawOperand TextFault
+abbrev pub number_value : ℕ → Option Numeral → Result RawOperand (Fault IrFaultKind)
 number_value line (Some number) = Ok (record { line = line; value = values.Number number })
 number_value line None = Err (fault line ConstRange)
 

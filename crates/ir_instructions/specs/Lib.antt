@@ -3,7 +3,7 @@ pub use Rattle.scan.specs.IrTokens
 pub use Rattle.ir_tokens.specs.Numbers
 pub use Rattle.ir_tokens.specs.SeenTokens
 pub use Rattle.ir_tokens.specs.Tokens
-pub mod Gives
+pub use Rattle.refusal.specs.Refusals
 pub mod Grammar
 pub mod Punctuation
 pub mod InstructionReaders

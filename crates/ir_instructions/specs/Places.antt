@@ -1,7 +1,7 @@
 -- Which tokens are left out of the language, by the place where they stand. A token that fits at its place is no matter here.
 use Rattle.std.specs.Prelude.{ℕ, ◌==◌, Bool, true, false, ◌||◌, if◌then◌else◌, List, [], ◌∷◌, take, codes}
-use Rattle.ir_instructions.specs.declared.fault.Misfit.{Misfit}
-use Rattle.ir_instructions.specs.declared.fault.Misfit.TheVariants.{BadByte, Syntax, LeftOut}
+use Rattle.ir_tokens.specs.declared.fault.IrFaultKind.{IrFaultKind}
+use Rattle.ir_tokens.specs.declared.fault.IrFaultKind.TheVariants.{BadByte, Syntax, LeftOut}
 use Rattle.ir_instructions.specs.declared.place.Place.{Place}
 use Rattle.ir_instructions.specs.declared.place.Place.TheVariants as places
 use Rattle.ir_instructions.specs.Punctuation as marks
@@ -46,7 +46,7 @@ shown (Mark mark) = mark ∷ []
 shown token = []
 
 -- why a token does not fit
-unfoldable pub misfit : Place → Token → Misfit
+unfoldable pub misfit : Place → Token → IrFaultKind
 misfit place Bad = BadByte
 misfit place Other = Syntax
 misfit place End = Syntax

@@ -1,25 +1,25 @@
 -- Readers: what stands in front of a list of tokens and the tokens behind it, or the fault of the first token that does not fit.
 use Rattle.std.specs.Prelude.{◌≡◌, ◌<◌, true, ℕ, zero, suc, Bool, if◌then◌else◌, List, [], ◌∷◌, ◌++◌, length, Option, Some, None, Result, Ok, Err}
 use Rattle.ir_tokens.specs.Tokens.{Placed}
-use Rattle.ir_instructions.specs.declared.fault.Misfit.{Misfit}
-use Rattle.ir_instructions.specs.declared.fault.Misfit.TheVariants.{Syntax, LeftOut}
-use Rattle.ir_instructions.specs.declared.fault.TextFault.{TextFault}
+use Rattle.ir_tokens.specs.declared.fault.IrFaultKind.{IrFaultKind}
+use Rattle.ir_tokens.specs.declared.fault.IrFaultKind.TheVariants.{Syntax, LeftOut}
+use Rattle.refusal.specs.declared.fault.Fault.{Fault}
 use Rattle.ir_instructions.specs.declared.place.Place.{Place}
 use Rattle.ir_instructions.specs.Places.{misfit}
 
 -- what is read, and the tokens behind it
 abbrev pub Read : Type 0 → Type 0
-Read A = Result (A × List Placed) TextFault
+Read A = Result (A × List Placed) (Fault IrFaultKind)
 
 abbrev pub Reader : Type 0 → Type 0
 Reader A = List Placed → Read A
 
-abbrev pub fault : ℕ → Misfit → TextFault
+abbrev pub fault : ℕ → IrFaultKind → Fault IrFaultKind
 fault line kind = record { line = line; kind = kind }
 
 -- The fault of the first token, which does not fit in its place. The tokens of a text end with one that nothing is read behind,
 -- so there is one.
-unfoldable pub unexpected : Place → List Placed → TextFault
+unfoldable pub unexpected : Place → List Placed → Fault IrFaultKind
 unexpected place [] = fault 0 Syntax
 unexpected place ((line, token) ∷ rest) = fault line (misfit place token)
 
@@ -37,7 +37,7 @@ abbrev pub done : {A : Type 0} → A → Reader A
 done x tokens = Ok (x, tokens)
 
 -- what is given, or its fault
-abbrev pub given : {A : Type 0} → Result A TextFault → Reader A
+abbrev pub given : {A : Type 0} → Result A (Fault IrFaultKind) → Reader A
 given (Ok x) tokens = Ok (x, tokens)
 given (Err e) tokens = Err e
 

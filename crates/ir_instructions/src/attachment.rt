@@ -1,16 +1,15 @@
 //! Attachments of metadata from tokens; they are dropped. (LLVM Language Reference, "Metadata".)
 
-ghost use Rattle.std.specs.Prelude.{◌≡◌};
+ghost use Rattle.std.specs.Prelude.{◌≡◌, OnErr};
 ghost use Rattle.scan.specs.IrTokens as names;
 ghost use Rattle.ir_tokens.specs.Numbers as numbers;
 ghost use Rattle.ir_tokens.specs.SeenTokens.{seen};
-ghost use Rattle.ir_instructions.specs.Gives.{Gives};
 ghost use Rattle.ir_instructions.specs.InstructionReaders as parsing;
+ghost use Rattle.ir_instructions.specs.Readers as readers;
 
-use crate::fault::{Misfit, ParseError};
-use crate::place::{misplaced, refused};
+use crate::place::{fault, misplaced};
 use crate::token::{is_mark, mark};
-use ir_tokens::{Placed, Token, is_number, is_plain_name};
+use ir_tokens::{IrFault, IrFaultKind, Placed, Token, is_number, is_plain_name};
 
 /// Whether metadata is next.
 pub(crate) fn is_metadata(tokens: &[Placed<'_>]) -> bool
@@ -24,8 +23,8 @@ pub(crate) fn is_metadata(tokens: &[Placed<'_>]) -> bool
 
 /// The name of metadata.
 #[tactic(auto, unfolding(crate::specs::InstructionReaders::metadata_at))]
-fn metadata_name(tokens: &mut &[Placed<'_>]) -> Result<(), ParseError>
-    ensures { Gives (λ x. (x, seen tokens.new.now)) result (parsing.metadata_at names.is_plain_name (seen tokens.old.now)) }
+fn metadata_name(tokens: &mut &[Placed<'_>]) -> Result<(), IrFault>
+    ensures { parsing.metadata_at names.is_plain_name (seen tokens.old.now) ≡ readers.given result (seen tokens.new.now) }
 {
     match *tokens {
         [Placed { line, token }, rest @ ..] => match *token {
@@ -34,7 +33,7 @@ fn metadata_name(tokens: &mut &[Placed<'_>]) -> Result<(), ParseError>
                     *tokens = rest;
                     Ok(())
                 } else {
-                    Err(refused(*line, Misfit::Syntax))
+                    Err(fault(*line, IrFaultKind::Syntax))
                 }
             }
             _ => Err(misplaced(*tokens)),
@@ -45,8 +44,8 @@ fn metadata_name(tokens: &mut &[Placed<'_>]) -> Result<(), ParseError>
 
 /// The number of metadata.
 #[tactic(auto, unfolding(crate::specs::InstructionReaders::metadata_at))]
-fn metadata_number(tokens: &mut &[Placed<'_>]) -> Result<(), ParseError>
-    ensures { Gives (λ x. (x, seen tokens.new.now)) result (parsing.metadata_at numbers.is_number (seen tokens.old.now)) }
+fn metadata_number(tokens: &mut &[Placed<'_>]) -> Result<(), IrFault>
+    ensures { parsing.metadata_at numbers.is_number (seen tokens.old.now) ≡ readers.given result (seen tokens.new.now) }
 {
     match *tokens {
         [Placed { line, token }, rest @ ..] => match *token {
@@ -55,7 +54,7 @@ fn metadata_number(tokens: &mut &[Placed<'_>]) -> Result<(), ParseError>
                     *tokens = rest;
                     Ok(())
                 } else {
-                    Err(refused(*line, Misfit::Syntax))
+                    Err(fault(*line, IrFaultKind::Syntax))
                 }
             }
             _ => Err(misplaced(*tokens)),
@@ -66,8 +65,8 @@ fn metadata_number(tokens: &mut &[Placed<'_>]) -> Result<(), ParseError>
 
 /// An attachment: a name and a number.
 #[tactic(auto, unfolding(crate::specs::InstructionReaders::attachment_at))]
-fn attachment(tokens: &mut &[Placed<'_>]) -> Result<(), ParseError>
-    ensures { Gives (λ x. (x, seen tokens.new.now)) result (parsing.attachment_at (seen tokens.old.now)) }
+fn attachment(tokens: &mut &[Placed<'_>]) -> Result<(), IrFault>
+    ensures { parsing.attachment_at (seen tokens.old.now) ≡ readers.given result (seen tokens.new.now) }
 {
     metadata_name(tokens)?;
     metadata_number(tokens)
@@ -75,19 +74,22 @@ fn attachment(tokens: &mut &[Placed<'_>]) -> Result<(), ParseError>
 
 /// The attachments of a function.
 #[tactic(auto, unfolding(crate::specs::InstructionReaders::attachments_at))]
-pub fn attachments(tokens: &mut &[Placed<'_>]) -> Result<(), ParseError>
-    ensures { Gives (λ x. (x, seen tokens.new.now)) result (parsing.attachments_at (seen tokens.old.now)) }
+pub fn attachments(tokens: &mut &[Placed<'_>]) -> Result<(), IrFault>
+    ensures read { parsing.attachments_at (seen tokens.old.now) ≡ readers.given result (seen tokens.new.now) }
+    ensures unmoved { OnErr result (tokens.new.now ≡ tokens.old.now) }
 {
-    'attachments: while is_metadata(*tokens) {
-        attachment(tokens)?;
+    let mut rest = *tokens;
+    'attachments: while is_metadata(rest) {
+        attachment(&mut rest)?;
     }
+    *tokens = rest;
     Ok(())
 }
 
 /// An attachment of an instruction, behind a `,`.
 #[tactic(auto, unfolding(crate::specs::InstructionReaders::tail_attachment_at))]
-fn tail_attachment(tokens: &mut &[Placed<'_>]) -> Result<(), ParseError>
-    ensures { Gives (λ x. (x, seen tokens.new.now)) result (parsing.tail_attachment_at (seen tokens.old.now)) }
+fn tail_attachment(tokens: &mut &[Placed<'_>]) -> Result<(), IrFault>
+    ensures { parsing.tail_attachment_at (seen tokens.old.now) ≡ readers.given result (seen tokens.new.now) }
 {
     mark(b',', tokens)?;
     attachment(tokens)
@@ -95,11 +97,14 @@ fn tail_attachment(tokens: &mut &[Placed<'_>]) -> Result<(), ParseError>
 
 /// The attachments of an instruction.
 #[tactic(auto, unfolding(crate::specs::InstructionReaders::tail_at))]
-pub fn tail(tokens: &mut &[Placed<'_>]) -> Result<(), ParseError>
-    ensures { Gives (λ x. (x, seen tokens.new.now)) result (parsing.tail_at (seen tokens.old.now)) }
+pub fn tail(tokens: &mut &[Placed<'_>]) -> Result<(), IrFault>
+    ensures read { parsing.tail_at (seen tokens.old.now) ≡ readers.given result (seen tokens.new.now) }
+    ensures unmoved { OnErr result (tokens.new.now ≡ tokens.old.now) }
 {
-    'attachments: while is_mark(b',', *tokens) {
-        tail_attachment(tokens)?;
+    let mut rest = *tokens;
+    'attachments: while is_mark(b',', rest) {
+        tail_attachment(&mut rest)?;
     }
+    *tokens = rest;
     Ok(())
 }

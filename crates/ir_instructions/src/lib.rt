@@ -5,7 +5,6 @@
 #![tactic(auto)]
 
 mod attachment;
-mod fault;
 mod op;
 mod operand;
 mod part;
@@ -15,11 +14,10 @@ mod token;
 mod word;
 
 pub use attachment::{attachments, tail};
-pub use fault::{Misfit, ParseError, TextFault};
 pub use op::insts;
 pub use operand::integer_type;
 pub use part::{Part, each};
-pub use place::{Place, copied, left_out, misplaced, refused, unexpected};
+pub use place::{Place, copied, left_out, misplaced, unexpected};
 pub use terminators::terminator;
 pub use token::{is_mark, mark};
 pub use word::{Ending, Operation, TypeWord, type_of};

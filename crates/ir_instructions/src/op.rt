@@ -1,18 +1,18 @@
 //! Instructions from tokens. (LLVM Language Reference, "Instruction Reference".)
 
-ghost use Rattle.std.specs.Prelude.{◌≡◌};
+ghost use Rattle.std.specs.Prelude.{◌≡◌, OnErr};
 ghost use Rattle.ir_tokens.specs.SeenTokens.{seen};
-ghost use Rattle.ir_instructions.specs.Gives.{Gives};
+ghost use Rattle.refusal.specs.Refusals.{Gives};
 ghost use Rattle.ir_instructions.specs.InstructionReaders as parsing;
+ghost use Rattle.ir_instructions.specs.Readers as readers;
 
 use crate::attachment::{is_metadata, tail};
-use crate::fault::{Misfit, ParseError};
 use crate::operand::{integer_type, operand, typed};
 use crate::part::{Part, each};
-use crate::place::{Place, left_out, misplaced, refused, unexpected};
+use crate::place::{Place, fault, left_out, misplaced, unexpected};
 use crate::token::{keyword, mark, register};
 use crate::word::{Operation, operation_of};
-use ir_tokens::{Placed, RawIncoming, RawInst, RawOp, Token};
+use ir_tokens::{IrError, IrFault, IrFaultKind, Placed, RawIncoming, RawInst, RawOp, Token};
 use lists::List;
 use ops::keywords::{flag_of, has_flag, predicate_of, with_flag};
 use ops::{Cast, Flags, Opcode, Pred, Width};
@@ -33,21 +33,21 @@ fn is_flag(opcode: Opcode, tokens: &[Placed<'_>]) -> bool
 
 /// The flags before, and another that is not among them.
 #[tactic(auto, unfolding(crate::specs::InstructionReaders::flag_at))]
-fn flag(opcode: Opcode, before: Flags, tokens: &mut &[Placed<'_>]) -> Result<Flags, ParseError>
-    ensures { Gives (λ x. (x, seen tokens.new.now)) result (parsing.flag_at opcode before (seen tokens.old.now)) }
+fn flag(opcode: Opcode, before: Flags, tokens: &mut &[Placed<'_>]) -> Result<Flags, IrFault>
+    ensures { parsing.flag_at opcode before (seen tokens.old.now) ≡ readers.given result (seen tokens.new.now) }
 {
     match *tokens {
         [Placed { line, token }, rest @ ..] => match *token {
             Token::Word(word) => match flag_of(opcode, word) {
                 Some(flag) => {
                     if has_flag(before, flag) {
-                        Err(refused(*line, Misfit::Syntax))
+                        Err(fault(*line, IrFaultKind::Syntax))
                     } else {
                         *tokens = rest;
                         Ok(with_flag(before, flag))
                     }
                 }
-                None => Err(refused(*line, Misfit::Syntax)),
+                None => Err(fault(*line, IrFaultKind::Syntax)),
             },
             _ => Err(misplaced(*tokens)),
         },
@@ -57,8 +57,8 @@ fn flag(opcode: Opcode, before: Flags, tokens: &mut &[Placed<'_>]) -> Result<Fla
 
 /// The flags of an instruction, in any order.
 #[tactic(auto, unfolding(crate::specs::InstructionReaders::flags_at))]
-fn flags(opcode: Opcode, tokens: &mut &[Placed<'_>]) -> Result<Flags, ParseError>
-    ensures { Gives (λ x. (x, seen tokens.new.now)) result (parsing.flags_at opcode (seen tokens.old.now)) }
+fn flags(opcode: Opcode, tokens: &mut &[Placed<'_>]) -> Result<Flags, IrFault>
+    ensures { parsing.flags_at opcode (seen tokens.old.now) ≡ readers.given result (seen tokens.new.now) }
 {
     let mut flags = Flags::NONE;
     'flags: while is_flag(opcode, *tokens) {
@@ -69,7 +69,7 @@ fn flags(opcode: Opcode, tokens: &mut &[Placed<'_>]) -> Result<Flags, ParseError
 
 /// A binary operation, behind its opcode.
 #[tactic(auto, unfolding(crate::specs::InstructionReaders::binary_at))]
-fn binary(alloc: Global, opcode: Opcode, tokens: &mut &[Placed<'_>]) -> Result<RawOp, ParseError>
+fn binary(alloc: Global, opcode: Opcode, tokens: &mut &[Placed<'_>]) -> Result<RawOp, IrError>
     ensures { Gives (λ x. (x, seen tokens.new.now)) result (parsing.binary_at opcode (seen tokens.old.now)) }
 {
     let flags = flags(opcode, tokens)?;
@@ -82,7 +82,7 @@ fn binary(alloc: Global, opcode: Opcode, tokens: &mut &[Placed<'_>]) -> Result<R
 
 /// A predicate.
 #[tactic(auto, unfolding(crate::specs::InstructionReaders::pred_at))]
-fn predicate(alloc: Global, tokens: &mut &[Placed<'_>]) -> Result<Pred, ParseError>
+fn predicate(alloc: Global, tokens: &mut &[Placed<'_>]) -> Result<Pred, IrError>
     ensures { Gives (λ x. (x, seen tokens.new.now)) result (parsing.pred_at (seen tokens.old.now)) }
 {
     match *tokens {
@@ -102,7 +102,7 @@ fn predicate(alloc: Global, tokens: &mut &[Placed<'_>]) -> Result<Pred, ParseErr
 
 /// A comparison, behind `icmp`.
 #[tactic(auto, unfolding(crate::specs::InstructionReaders::compare_at))]
-fn comparison(alloc: Global, tokens: &mut &[Placed<'_>]) -> Result<RawOp, ParseError>
+fn comparison(alloc: Global, tokens: &mut &[Placed<'_>]) -> Result<RawOp, IrError>
     ensures { Gives (λ x. (x, seen tokens.new.now)) result (parsing.compare_at (seen tokens.old.now)) }
 {
     let pred = predicate(alloc, tokens)?;
@@ -115,7 +115,7 @@ fn comparison(alloc: Global, tokens: &mut &[Placed<'_>]) -> Result<RawOp, ParseE
 
 /// A choice, behind `select`.
 #[tactic(auto, unfolding(crate::specs::InstructionReaders::select_at))]
-fn selection(alloc: Global, tokens: &mut &[Placed<'_>]) -> Result<RawOp, ParseError>
+fn selection(alloc: Global, tokens: &mut &[Placed<'_>]) -> Result<RawOp, IrError>
     ensures { Gives (λ x. (x, seen tokens.new.now)) result (parsing.select_at (seen tokens.old.now)) }
 {
     let condition = typed(alloc, tokens)?;
@@ -128,7 +128,7 @@ fn selection(alloc: Global, tokens: &mut &[Placed<'_>]) -> Result<RawOp, ParseEr
 
 /// A cast, behind its opcode.
 #[tactic(auto, unfolding(crate::specs::InstructionReaders::convert_at))]
-fn conversion(alloc: Global, cast: Cast, tokens: &mut &[Placed<'_>]) -> Result<RawOp, ParseError>
+fn conversion(alloc: Global, cast: Cast, tokens: &mut &[Placed<'_>]) -> Result<RawOp, IrError>
     ensures { Gives (λ x. (x, seen tokens.new.now)) result (parsing.convert_at cast (seen tokens.old.now)) }
 {
     let from = typed(alloc, tokens)?;
@@ -139,7 +139,7 @@ fn conversion(alloc: Global, cast: Cast, tokens: &mut &[Placed<'_>]) -> Result<R
 
 /// A `freeze`, behind that word.
 #[tactic(auto, unfolding(crate::specs::InstructionReaders::freeze_at))]
-fn freezing(alloc: Global, tokens: &mut &[Placed<'_>]) -> Result<RawOp, ParseError>
+fn freezing(alloc: Global, tokens: &mut &[Placed<'_>]) -> Result<RawOp, IrError>
     ensures { Gives (λ x. (x, seen tokens.new.now)) result (parsing.freeze_at (seen tokens.old.now)) }
 {
     let typed = typed(alloc, tokens)?;
@@ -148,11 +148,7 @@ fn freezing(alloc: Global, tokens: &mut &[Placed<'_>]) -> Result<RawOp, ParseErr
 
 /// An incoming value of a `phi` with its block.
 #[tactic(auto, unfolding(crate::specs::InstructionReaders::incoming_at))]
-fn incoming(
-    alloc: Global,
-    width: Width,
-    tokens: &mut &[Placed<'_>],
-) -> Result<RawIncoming, ParseError>
+fn incoming(alloc: Global, width: Width, tokens: &mut &[Placed<'_>]) -> Result<RawIncoming, IrError>
     ensures { Gives (λ x. (x, seen tokens.new.now)) result (parsing.incoming_at width (seen tokens.old.now)) }
 {
     mark(b'[', tokens)?;
@@ -182,7 +178,7 @@ fn further_incoming(
     alloc: Global,
     width: Width,
     tokens: &mut &[Placed<'_>],
-) -> Result<RawIncoming, ParseError>
+) -> Result<RawIncoming, IrError>
     ensures { Gives (λ x. (x, seen tokens.new.now)) result (parsing.further_incoming_at width (seen tokens.old.now)) }
 {
     mark(b',', tokens)?;
@@ -195,7 +191,7 @@ fn incomings(
     width: Width,
     front: List<RawIncoming>,
     tokens: &mut &[Placed<'_>],
-) -> Result<List<RawIncoming>, ParseError>
+) -> Result<List<RawIncoming>, IrError>
     ensures { Gives (λ x. (x, seen tokens.new.now)) result (parsing.incomings_at width front (seen tokens.old.now)) }
 {
     let mut incomings = front;
@@ -207,7 +203,7 @@ fn incomings(
 
 /// A `phi`, behind that word.
 #[tactic(auto, unfolding(crate::specs::InstructionReaders::phi_at))]
-fn phi(alloc: Global, tokens: &mut &[Placed<'_>]) -> Result<RawOp, ParseError>
+fn phi(alloc: Global, tokens: &mut &[Placed<'_>]) -> Result<RawOp, IrError>
     ensures { Gives (λ x. (x, seen tokens.new.now)) result (parsing.phi_at (seen tokens.old.now)) }
 {
     let width = integer_type(alloc, tokens)?;
@@ -222,7 +218,7 @@ fn behind_opcode(
     alloc: Global,
     operation: Operation,
     tokens: &mut &[Placed<'_>],
-) -> Result<RawOp, ParseError>
+) -> Result<RawOp, IrError>
     ensures { Gives (λ x. (x, seen tokens.new.now)) result (parsing.operation_at operation (seen tokens.old.now)) }
 {
     match operation {
@@ -237,7 +233,7 @@ fn behind_opcode(
 
 /// What an instruction computes.
 #[tactic(auto, unfolding(crate::specs::InstructionReaders::op_at))]
-fn op(alloc: Global, tokens: &mut &[Placed<'_>]) -> Result<RawOp, ParseError>
+fn op(alloc: Global, tokens: &mut &[Placed<'_>]) -> Result<RawOp, IrError>
     ensures { Gives (λ x. (x, seen tokens.new.now)) result (parsing.op_at (seen tokens.old.now)) }
 {
     match *tokens {
@@ -275,7 +271,7 @@ impl Part for Instruction {
     }
 
     #[tactic(auto, unfolding(crate::specs::InstructionReaders::inst_at))]
-    fn read(alloc: Global, tokens: &mut &[Placed<'_>]) -> Result<RawInst, ParseError> {
+    fn read(alloc: Global, tokens: &mut &[Placed<'_>]) -> Result<RawInst, IrError> {
         let result = register(alloc, tokens)?;
         mark(b'=', tokens)?;
         let op = op(alloc, tokens)?;
@@ -286,8 +282,9 @@ impl Part for Instruction {
 
 /// Instructions.
 #[tactic(auto, unfolding(crate::specs::InstructionReaders::insts_at))]
-pub fn insts(alloc: Global, tokens: &mut &[Placed<'_>]) -> Result<List<RawInst>, ParseError>
-    ensures { Gives (λ x. (x, seen tokens.new.now)) result (parsing.insts_at (seen tokens.old.now)) }
+pub fn insts(alloc: Global, tokens: &mut &[Placed<'_>]) -> Result<List<RawInst>, IrError>
+    ensures read { Gives (λ x. (x, seen tokens.new.now)) result (parsing.insts_at (seen tokens.old.now)) }
+    ensures unmoved { OnErr result (tokens.new.now ≡ tokens.old.now) }
 {
     each::<Instruction>(alloc, List::new(alloc), tokens)
 }

@@ -1,21 +1,26 @@
 //! Types and values from tokens.
 
+ghost use Rattle.std.specs.Prelude.{◌≡◌, OnErr};
 ghost use Rattle.ir_tokens.specs.Numbers.{constant_of};
 ghost use Rattle.ir_tokens.specs.SeenTokens.{seen};
-ghost use Rattle.ir_instructions.specs.Gives.{Gives};
+ghost use Rattle.refusal.specs.Refusals.{Gives};
 ghost use Rattle.ir_instructions.specs.InstructionReaders as parsing;
 
-use crate::fault::{Misfit, ParseError};
-use crate::place::{Place, left_out, refused, unexpected};
+use crate::place::{Place, fault, left_out, unexpected};
 use crate::word::{TypeWord, truth_of, type_of, value_of};
-use ir_tokens::{Placed, RawOperand, RawValue, Token, TypedOperand, constant, identifier};
+use ir_tokens::{
+    IrError, IrFault, IrFaultKind, Placed, RawOperand, RawValue, Token, TypedOperand, constant,
+    identifier,
+};
 use ops::Width;
+use refusal::refused;
 use std::alloc::Global;
 
 /// An integer type.
 #[tactic(auto, unfolding(crate::specs::InstructionReaders::type_at))]
-pub fn integer_type(alloc: Global, tokens: &mut &[Placed<'_>]) -> Result<Width, ParseError>
-    ensures { Gives (λ x. (x, seen tokens.new.now)) result (parsing.type_at (seen tokens.old.now)) }
+pub fn integer_type(alloc: Global, tokens: &mut &[Placed<'_>]) -> Result<Width, IrError>
+    ensures read { Gives (λ x. (x, seen tokens.new.now)) result (parsing.type_at (seen tokens.old.now)) }
+    ensures unmoved { OnErr result (tokens.new.now ≡ tokens.old.now) }
 {
     match *tokens {
         [Placed { line, token }, rest @ ..] => match *token {
@@ -24,7 +29,7 @@ pub fn integer_type(alloc: Global, tokens: &mut &[Placed<'_>]) -> Result<Width, 
                     *tokens = rest;
                     Ok(width)
                 }
-                TypeWord::OutOfRange => Err(refused(*line, Misfit::Width)),
+                TypeWord::OutOfRange => Err(refused(*line, IrFaultKind::Width)),
                 TypeWord::Other => Err(left_out(alloc, *line, word)),
             },
             _ => Err(unexpected(alloc, Place::Type, *tokens)),
@@ -34,15 +39,15 @@ pub fn integer_type(alloc: Global, tokens: &mut &[Placed<'_>]) -> Result<Width, 
 }
 
 /// The value of a number at a width.
-fn number(line: usize, digits: &[u8], width: Width) -> Result<RawOperand, ParseError>
-    ensures { Gives (λ x. x) result (parsing.number_value line (constant_of digits.now width)) }
+fn number(line: usize, digits: &[u8], width: Width) -> Result<RawOperand, IrFault>
+    ensures { result ≡ parsing.number_value line (constant_of digits.now width) }
 {
     match constant(digits, width) {
         Some(number) => Ok(RawOperand {
             line,
             value: RawValue::Number(number),
         }),
-        None => Err(refused(line, Misfit::ConstRange)),
+        None => Err(fault(line, IrFaultKind::ConstRange)),
     }
 }
 
@@ -52,7 +57,7 @@ pub(crate) fn operand(
     alloc: Global,
     width: Width,
     tokens: &mut &[Placed<'_>],
-) -> Result<RawOperand, ParseError>
+) -> Result<RawOperand, IrError>
     ensures { Gives (λ x. (x, seen tokens.new.now)) result (parsing.operand_at width (seen tokens.old.now)) }
 {
     match *tokens {
@@ -64,7 +69,7 @@ pub(crate) fn operand(
             }
             Token::Number(digits) => {
                 *tokens = rest;
-                number(*line, digits, width)
+                Ok(number(*line, digits, width)?)
             }
             Token::Word(word) => match value_of(word) {
                 Some(value) => {
@@ -85,14 +90,14 @@ pub(crate) fn case_value(
     alloc: Global,
     width: Width,
     tokens: &mut &[Placed<'_>],
-) -> Result<RawOperand, ParseError>
+) -> Result<RawOperand, IrError>
     ensures { Gives (λ x. (x, seen tokens.new.now)) result (parsing.case_value_at width (seen tokens.old.now)) }
 {
     match *tokens {
         [Placed { line, token }, rest @ ..] => match *token {
             Token::Number(digits) => {
                 *tokens = rest;
-                number(*line, digits, width)
+                Ok(number(*line, digits, width)?)
             }
             Token::Word(word) => match truth_of(word) {
                 Some(value) => {
@@ -109,7 +114,7 @@ pub(crate) fn case_value(
 
 /// A type and a value of it.
 #[tactic(auto, unfolding(crate::specs::InstructionReaders::typed_at))]
-pub(crate) fn typed(alloc: Global, tokens: &mut &[Placed<'_>]) -> Result<TypedOperand, ParseError>
+pub(crate) fn typed(alloc: Global, tokens: &mut &[Placed<'_>]) -> Result<TypedOperand, IrError>
     ensures { Gives (λ x. (x, seen tokens.new.now)) result (parsing.typed_at (seen tokens.old.now)) }
 {
     let width = integer_type(alloc, tokens)?;

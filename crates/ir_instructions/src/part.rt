@@ -1,12 +1,11 @@
 //! Parts that stand any number of times.
 
-ghost use Rattle.std.specs.Prelude.{◌≡◌};
+ghost use Rattle.std.specs.Prelude.{◌≡◌, OnErr};
 ghost use Rattle.ir_tokens.specs.SeenTokens.{seen};
-ghost use Rattle.ir_instructions.specs.Gives.{Gives};
+ghost use Rattle.refusal.specs.Refusals.{Gives};
 ghost use Rattle.ir_instructions.specs.Readers.{TakesSome, each_at};
 
-use crate::fault::ParseError;
-use ir_tokens::Placed;
+use ir_tokens::{IrError, Placed};
 use lists::List;
 use std::alloc::Global;
 
@@ -30,22 +29,25 @@ pub trait Part {
         ensures { result ≡ begins (seen tokens.now) };
 
     /// The next part; goes behind it.
-    fn read(alloc: Global, tokens: &mut &[Placed<'_>]) -> Result<Self::Value, ParseError>
+    fn read(alloc: Global, tokens: &mut &[Placed<'_>]) -> Result<Self::Value, IrError>
         ensures { Gives (λ x. (x, seen tokens.new.now)) result (reader (seen tokens.old.now)) };
 }
 
-/// The parts in front, and behind them parts as long as another is next.
+/// The parts in front, and behind them parts as long as another is next. Where one is refused the tokens stay.
 pub fn each<P: Part>(
     alloc: Global,
     front: List<P::Value>,
     tokens: &mut &[Placed<'_>],
-) -> Result<List<P::Value>, ParseError>
+) -> Result<List<P::Value>, IrError>
     requires { TakesSome P.begins P.reader }
-    ensures { Gives (λ x. (x, seen tokens.new.now)) result (each_at P.begins P.reader front (seen tokens.old.now)) }
+    ensures read { Gives (λ x. (x, seen tokens.new.now)) result (each_at P.begins P.reader front (seen tokens.old.now)) }
+    ensures unmoved { OnErr result (tokens.new.now ≡ tokens.old.now) }
 {
     let mut parts = front;
-    'parts: while P::is_next(*tokens) {
-        parts.push(P::read(alloc, tokens)?)?;
+    let mut rest = *tokens;
+    'parts: while P::is_next(rest) {
+        parts.push(P::read(alloc, &mut rest)?)?;
     }
+    *tokens = rest;
     Ok(parts)
 }

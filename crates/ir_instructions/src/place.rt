@@ -2,15 +2,15 @@
 
 ghost use Rattle.std.specs.Prelude.{◌≡◌, IfOk, take};
 ghost use Rattle.ir_tokens.specs.SeenTokens.{seen, seen_token};
-ghost use Rattle.ir_instructions.specs.declared.fault.Misfit.TheVariants as misfits;
+ghost use Rattle.ir_tokens.specs.declared.fault.IrFaultKind.TheVariants as misfits;
 ghost use Rattle.ir_instructions.specs.declared.place.Place.TheVariants as variants;
-ghost use Rattle.ir_instructions.specs.Gives.{Refuses};
+ghost use Rattle.refusal.specs.Refusals.{Refuses};
 ghost use Rattle.ir_instructions.specs.Places as places;
 ghost use Rattle.ir_instructions.specs.Readers as readers;
 
-use crate::fault::{Misfit, ParseError, TextFault};
-use ir_tokens::{Placed, Token};
+use ir_tokens::{IrError, IrFault, IrFaultKind, Placed, Token};
 use lists::Text;
+use refusal::{Fault, refused};
 use std::alloc::{AllocError, Global};
 
 /// Where a token stands, by what may stand there.
@@ -29,19 +29,19 @@ pub enum Place {
 }
 
 /// A fault on a line.
-pub fn refused(line: usize, kind: Misfit) -> ParseError
-    ensures { Refuses result (readers.fault line kind) }
+pub(crate) fn fault(line: usize, kind: IrFaultKind) -> IrFault
+    ensures { result ≡ readers.fault line kind }
 {
-    ParseError::Refused(TextFault { line, kind })
+    Fault { line, kind }
 }
 
 /// What is left out on a line.
-pub fn left_out(alloc: Global, line: usize, bytes: &[u8]) -> ParseError
+pub fn left_out(alloc: Global, line: usize, bytes: &[u8]) -> IrError
     ensures { Refuses result (readers.fault line (misfits.LeftOut bytes.now)) }
 {
     match copied(alloc, bytes) {
-        Ok(text) => refused(line, Misfit::LeftOut(text)),
-        Err(_) => ParseError::NoMemory,
+        Ok(text) => refused(line, IrFaultKind::LeftOut(text)),
+        Err(_) => IrError::NoMemory,
     }
 }
 
@@ -99,17 +99,17 @@ fn leaves_out(place: Place, token: Token<'_>) -> bool
 
 /// Why a token does not fit.
 #[tactic(auto, unfolding(crate::specs::Places::misfit))]
-fn misfit(alloc: Global, place: Place, token: Token<'_>) -> Result<Misfit, AllocError>
+fn misfit(alloc: Global, place: Place, token: Token<'_>) -> Result<IrFaultKind, AllocError>
     ensures { IfOk result (λ kind. kind ≡ places.misfit place (seen_token token.entry)) }
 {
     match token {
-        Token::Bad => Ok(Misfit::BadByte),
-        Token::Other | Token::End => Ok(Misfit::Syntax),
+        Token::Bad => Ok(IrFaultKind::BadByte),
+        Token::Other | Token::End => Ok(IrFaultKind::Syntax),
         _ => {
             if leaves_out(place, token) {
-                Ok(Misfit::LeftOut(shown(alloc, token)?))
+                Ok(IrFaultKind::LeftOut(shown(alloc, token)?))
             } else {
-                Ok(Misfit::Syntax)
+                Ok(IrFaultKind::Syntax)
             }
         }
     }
@@ -117,22 +117,22 @@ fn misfit(alloc: Global, place: Place, token: Token<'_>) -> Result<Misfit, Alloc
 
 /// The fault of the first token, which does not fit in its place.
 #[tactic(auto, unfolding(crate::specs::Readers::unexpected))]
-pub fn unexpected(alloc: Global, place: Place, tokens: &[Placed<'_>]) -> ParseError
+pub fn unexpected(alloc: Global, place: Place, tokens: &[Placed<'_>]) -> IrError
     ensures { Refuses result (readers.unexpected place (seen tokens.now)) }
 {
     match tokens {
         [Placed { line, token }, ..] => match misfit(alloc, place, *token) {
             Ok(kind) => refused(*line, kind),
-            Err(_) => ParseError::NoMemory,
+            Err(_) => IrError::NoMemory,
         },
-        [] => refused(0, Misfit::Syntax),
+        [] => refused(0, IrFaultKind::Syntax),
     }
 }
 
 /// The same where one certain token should stand, so that no token is left out.
 #[tactic(auto, unfolding(crate::specs::Readers::unexpected, crate::specs::Places::misfit, crate::specs::Places::leaves_out))]
-pub fn misplaced(tokens: &[Placed<'_>]) -> ParseError
-    ensures { Refuses result (readers.unexpected variants.Fixed (seen tokens.now)) }
+pub fn misplaced(tokens: &[Placed<'_>]) -> IrFault
+    ensures { result ≡ readers.unexpected variants.Fixed (seen tokens.now) }
 {
     match tokens {
         [
@@ -141,8 +141,8 @@ pub fn misplaced(tokens: &[Placed<'_>]) -> ParseError
                 token: Token::Bad,
             },
             ..
-        ] => refused(*line, Misfit::BadByte),
-        [Placed { line, .. }, ..] => refused(*line, Misfit::Syntax),
-        [] => refused(0, Misfit::Syntax),
+        ] => fault(*line, IrFaultKind::BadByte),
+        [Placed { line, .. }, ..] => fault(*line, IrFaultKind::Syntax),
+        [] => fault(0, IrFaultKind::Syntax),
     }
 }

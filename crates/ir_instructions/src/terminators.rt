@@ -1,22 +1,22 @@
 //! Terminators from tokens. (LLVM Language Reference, "Terminator Instructions".)
 
+ghost use Rattle.std.specs.Prelude.{◌≡◌, OnErr};
 ghost use Rattle.ir_tokens.specs.SeenTokens.{seen};
-ghost use Rattle.ir_instructions.specs.Gives.{Gives};
+ghost use Rattle.refusal.specs.Refusals.{Gives};
 ghost use Rattle.ir_instructions.specs.InstructionReaders as parsing;
 
-use crate::fault::ParseError;
 use crate::operand::{case_value, integer_type, typed};
 use crate::part::{Part, each};
 use crate::place::{Place, left_out, unexpected};
 use crate::token::{is_keyword, is_mark, mark, target};
 use crate::word::{Ending, ending_of};
-use ir_tokens::{Placed, RawCase, RawTerminator, Token};
+use ir_tokens::{IrError, Placed, RawCase, RawTerminator, Token};
 use lists::List;
 use std::alloc::Global;
 
 /// A return, behind `ret`.
 #[tactic(auto, unfolding(crate::specs::InstructionReaders::return_at))]
-fn returning(alloc: Global, tokens: &mut &[Placed<'_>]) -> Result<RawTerminator, ParseError>
+fn returning(alloc: Global, tokens: &mut &[Placed<'_>]) -> Result<RawTerminator, IrError>
     ensures { Gives (λ x. (x, seen tokens.new.now)) result (parsing.return_at (seen tokens.old.now)) }
 {
     let typed = typed(alloc, tokens)?;
@@ -25,7 +25,7 @@ fn returning(alloc: Global, tokens: &mut &[Placed<'_>]) -> Result<RawTerminator,
 
 /// A branch on a condition, behind `br`.
 #[tactic(auto, unfolding(crate::specs::InstructionReaders::conditional_at))]
-fn conditional(alloc: Global, tokens: &mut &[Placed<'_>]) -> Result<RawTerminator, ParseError>
+fn conditional(alloc: Global, tokens: &mut &[Placed<'_>]) -> Result<RawTerminator, IrError>
     ensures { Gives (λ x. (x, seen tokens.new.now)) result (parsing.conditional_at (seen tokens.old.now)) }
 {
     let typed = typed(alloc, tokens)?;
@@ -38,7 +38,7 @@ fn conditional(alloc: Global, tokens: &mut &[Placed<'_>]) -> Result<RawTerminato
 
 /// A branch, behind `br`.
 #[tactic(auto, unfolding(crate::specs::InstructionReaders::branch_at, crate::specs::InstructionReaders::jump_at))]
-fn branch(alloc: Global, tokens: &mut &[Placed<'_>]) -> Result<RawTerminator, ParseError>
+fn branch(alloc: Global, tokens: &mut &[Placed<'_>]) -> Result<RawTerminator, IrError>
     ensures { Gives (λ x. (x, seen tokens.new.now)) result (parsing.branch_at (seen tokens.old.now)) }
 {
     if is_keyword("label", *tokens) {
@@ -66,7 +66,7 @@ impl Part for Case {
     }
 
     #[tactic(auto, unfolding(crate::specs::InstructionReaders::case_at))]
-    fn read(alloc: Global, tokens: &mut &[Placed<'_>]) -> Result<RawCase, ParseError> {
+    fn read(alloc: Global, tokens: &mut &[Placed<'_>]) -> Result<RawCase, IrError> {
         let width = integer_type(alloc, tokens)?;
         let value = case_value(alloc, width, tokens)?;
         mark(b',', tokens)?;
@@ -81,7 +81,7 @@ impl Part for Case {
 
 /// The cases of a switch, in their brackets.
 #[tactic(auto, unfolding(crate::specs::InstructionReaders::cases_at))]
-fn cases(alloc: Global, tokens: &mut &[Placed<'_>]) -> Result<List<RawCase>, ParseError>
+fn cases(alloc: Global, tokens: &mut &[Placed<'_>]) -> Result<List<RawCase>, IrError>
     ensures { Gives (λ x. (x, seen tokens.new.now)) result (parsing.cases_at (seen tokens.old.now)) }
 {
     mark(b'[', tokens)?;
@@ -92,7 +92,7 @@ fn cases(alloc: Global, tokens: &mut &[Placed<'_>]) -> Result<List<RawCase>, Par
 
 /// A switch, behind that word.
 #[tactic(auto, unfolding(crate::specs::InstructionReaders::switch_at))]
-fn switch(alloc: Global, tokens: &mut &[Placed<'_>]) -> Result<RawTerminator, ParseError>
+fn switch(alloc: Global, tokens: &mut &[Placed<'_>]) -> Result<RawTerminator, IrError>
     ensures { Gives (λ x. (x, seen tokens.new.now)) result (parsing.switch_at (seen tokens.old.now)) }
 {
     let typed = typed(alloc, tokens)?;
@@ -107,7 +107,7 @@ fn behind_word(
     alloc: Global,
     ending: Ending,
     tokens: &mut &[Placed<'_>],
-) -> Result<RawTerminator, ParseError>
+) -> Result<RawTerminator, IrError>
     ensures { Gives (λ x. (x, seen tokens.new.now)) result (parsing.ending_at ending (seen tokens.old.now)) }
 {
     match ending {
@@ -123,15 +123,18 @@ fn behind_word(
 pub fn terminator(
     alloc: Global,
     tokens: &mut &[Placed<'_>],
-) -> Result<(usize, RawTerminator), ParseError>
-    ensures { Gives (λ x. (x, seen tokens.new.now)) result (parsing.terminator_at (seen tokens.old.now)) }
+) -> Result<(usize, RawTerminator), IrError>
+    ensures read { Gives (λ x. (x, seen tokens.new.now)) result (parsing.terminator_at (seen tokens.old.now)) }
+    ensures unmoved { OnErr result (tokens.new.now ≡ tokens.old.now) }
 {
     match *tokens {
         [Placed { line, token }, rest @ ..] => match *token {
             Token::Word(word) => match ending_of(word) {
                 Some(ending) => {
+                    let mut rest = rest;
+                    let end = behind_word(alloc, ending, &mut rest)?;
                     *tokens = rest;
-                    Ok((*line, behind_word(alloc, ending, tokens)?))
+                    Ok((*line, end))
                 }
                 None => Err(left_out(alloc, *line, word)),
             },

@@ -1,13 +1,13 @@
 //! Readers of one token.
 
-ghost use Rattle.std.specs.Prelude.{◌≡◌};
+ghost use Rattle.std.specs.Prelude.{◌≡◌, OnErr};
 ghost use Rattle.ir_tokens.specs.SeenTokens.{seen};
-ghost use Rattle.ir_instructions.specs.Gives.{Gives};
+ghost use Rattle.refusal.specs.Refusals.{Gives};
 ghost use Rattle.ir_instructions.specs.InstructionReaders as parsing;
+ghost use Rattle.ir_instructions.specs.Readers as readers;
 
-use crate::fault::{Misfit, ParseError};
-use crate::place::{misplaced, refused};
-use ir_tokens::{Placed, RawIdentifier, Token, identifier};
+use crate::place::{fault, misplaced};
+use ir_tokens::{IrError, IrFault, IrFaultKind, Placed, RawIdentifier, Token, identifier};
 use ops::keywords::is;
 use std::alloc::Global;
 
@@ -36,8 +36,9 @@ pub(crate) fn is_keyword(wanted: &str, tokens: &[Placed<'_>]) -> bool
 
 /// A mark.
 #[tactic(auto, unfolding(crate::specs::InstructionReaders::mark_at))]
-pub fn mark(wanted: u8, tokens: &mut &[Placed<'_>]) -> Result<(), ParseError>
-    ensures { Gives (λ x. (x, seen tokens.new.now)) result (parsing.mark_at wanted (seen tokens.old.now)) }
+pub fn mark(wanted: u8, tokens: &mut &[Placed<'_>]) -> Result<(), IrFault>
+    ensures read { parsing.mark_at wanted (seen tokens.old.now) ≡ readers.given result (seen tokens.new.now) }
+    ensures unmoved { OnErr result (tokens.new.now ≡ tokens.old.now) }
 {
     match *tokens {
         [Placed { line, token }, rest @ ..] => match *token {
@@ -46,7 +47,7 @@ pub fn mark(wanted: u8, tokens: &mut &[Placed<'_>]) -> Result<(), ParseError>
                     *tokens = rest;
                     Ok(())
                 } else {
-                    Err(refused(*line, Misfit::Syntax))
+                    Err(fault(*line, IrFaultKind::Syntax))
                 }
             }
             _ => Err(misplaced(*tokens)),
@@ -57,8 +58,8 @@ pub fn mark(wanted: u8, tokens: &mut &[Placed<'_>]) -> Result<(), ParseError>
 
 /// A word that has to stand here.
 #[tactic(auto, unfolding(crate::specs::InstructionReaders::keyword_at))]
-pub(crate) fn keyword(wanted: &str, tokens: &mut &[Placed<'_>]) -> Result<(), ParseError>
-    ensures { Gives (λ x. (x, seen tokens.new.now)) result (parsing.keyword_at wanted.now (seen tokens.old.now)) }
+pub(crate) fn keyword(wanted: &str, tokens: &mut &[Placed<'_>]) -> Result<(), IrFault>
+    ensures { parsing.keyword_at wanted.now (seen tokens.old.now) ≡ readers.given result (seen tokens.new.now) }
 {
     match *tokens {
         [Placed { line, token }, rest @ ..] => match *token {
@@ -67,7 +68,7 @@ pub(crate) fn keyword(wanted: &str, tokens: &mut &[Placed<'_>]) -> Result<(), Pa
                     *tokens = rest;
                     Ok(())
                 } else {
-                    Err(refused(*line, Misfit::Syntax))
+                    Err(fault(*line, IrFaultKind::Syntax))
                 }
             }
             _ => Err(misplaced(*tokens)),
@@ -78,10 +79,7 @@ pub(crate) fn keyword(wanted: &str, tokens: &mut &[Placed<'_>]) -> Result<(), Pa
 
 /// A register.
 #[tactic(auto, unfolding(crate::specs::InstructionReaders::register_at))]
-pub(crate) fn register(
-    alloc: Global,
-    tokens: &mut &[Placed<'_>],
-) -> Result<RawIdentifier, ParseError>
+pub(crate) fn register(alloc: Global, tokens: &mut &[Placed<'_>]) -> Result<RawIdentifier, IrError>
     ensures { Gives (λ x. (x, seen tokens.new.now)) result (parsing.register_at (seen tokens.old.now)) }
 {
     match *tokens {
@@ -93,15 +91,15 @@ pub(crate) fn register(
                     identifier: identifier(alloc, written)?,
                 })
             }
-            _ => Err(misplaced(*tokens)),
+            _ => Err(misplaced(*tokens).into()),
         },
-        [] => Err(misplaced(*tokens)),
+        [] => Err(misplaced(*tokens).into()),
     }
 }
 
 /// `label` and a register: where a terminator goes.
 #[tactic(auto, unfolding(crate::specs::InstructionReaders::target_at))]
-pub(crate) fn target(alloc: Global, tokens: &mut &[Placed<'_>]) -> Result<RawIdentifier, ParseError>
+pub(crate) fn target(alloc: Global, tokens: &mut &[Placed<'_>]) -> Result<RawIdentifier, IrError>
     ensures { Gives (λ x. (x, seen tokens.new.now)) result (parsing.target_at (seen tokens.old.now)) }
 {
     keyword("label", tokens)?;

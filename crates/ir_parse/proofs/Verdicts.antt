@@ -5,27 +5,28 @@ use Rattle.std.proofs.lemmas.Bool.{leb-true, leb-false}
 use Rattle.ir_tokens.specs.Laws.{TextsHaveOneListOfTokens}
 use Rattle.ir_tokens.specs.Order.{AreTokens}
 use Rattle.ir_tokens.specs.Tokens.{Placed}
-use Rattle.ir_instructions.specs.declared.fault.Misfit.TheVariants.{TooLong}
-use Rattle.ir_instructions.specs.declared.fault.ParseError.{ParseError}
-use Rattle.ir_instructions.specs.declared.fault.ParseError.TheVariants.{Refused, NoMemory}
-use Rattle.ir_instructions.specs.declared.fault.TextFault.{TextFault}
+use Rattle.ir_tokens.specs.declared.fault.IrFaultKind.TheVariants.{TooLong}
+use Rattle.refusal.specs.declared.refusal.Refusal.{Refusal}
+use Rattle.refusal.specs.declared.refusal.Refusal.TheVariants.{Refused, NoMemory}
+use Rattle.refusal.specs.declared.fault.Fault.{Fault}
+use Rattle.ir_tokens.specs.declared.fault.IrFaultKind.{IrFaultKind}
 use Rattle.ir_tokens.specs.declared.raw.RawModule.{RawModule}
-use Rattle.ir_instructions.specs.Gives.{Gives}
+use Rattle.refusal.specs.Refusals.{Gives}
 use Rattle.ir_instructions.specs.Readers.{fault}
 use Rattle.ir_parse.specs.Laws.{TextsHaveOneReadingOrFault}
 use Rattle.ir_parse.specs.ModuleReaders.{module_of}
-use Rattle.ir_parse.specs.Errors.{IfRefused}
+use Rattle.refusal.specs.Refusals.{IfRefused}
 use Rattle.ir_parse.specs.Text.{most_bytes, IsRaw, IsTextFault, too_long, misfit}
 use Rattle.ir_instructions.proofs.Steps.{ok_is}
 use Rattle.ir_parse.proofs.FunctionReadings.{module_of-is}
 use Rattle.ir_parse.proofs.FunctionSpellings.{module_of-of}
 
 -- what is read of a text: its fault where it is too long, and else what is read of its tokens
-data IsRead (text : List ℕ) (r : Result RawModule TextFault) : Type 0 where
+data IsRead (text : List ℕ) (r : Result RawModule (Fault IrFaultKind)) : Type 0 where
   of_long : most_bytes < length text → Err (fault 1 TooLong) ≡ r → IsRead text r
   of_tokens : length text ≤ most_bytes → (tokens : List Placed) → AreTokens text tokens → module_of tokens ≡ r → IsRead text r
 
-one_read : TextsHaveOneListOfTokens → (text : List ℕ) (r s : Result RawModule TextFault) → IsRead text r → IsRead text s → r ≡ s
+one_read : TextsHaveOneListOfTokens → (text : List ℕ) (r s : Result RawModule (Fault IrFaultKind)) → IsRead text r → IsRead text s → r ≡ s
 one_read law text r s (of_long more same) (of_long more' same') = sym same ∙ same'
 one_read law text r s (of_long more same) (of_tokens within tokens are is) = absurd (omega arith)
 one_read law text r s (of_tokens within tokens are is) (of_long more same) = absurd (omega arith)
@@ -37,20 +38,20 @@ raw_read text m within w = of_tokens within w.tokens w.are_tokens (module_of-of 
 one_raw : TextsHaveOneListOfTokens → (text : List ℕ) (a b : RawModule) → IsRaw text a → IsRaw text b → a ≡ b
 one_raw law text a b h k = ok_is a b (sym (module_of-of a h.tokens h.spelled) ∙ ap module_of (law.one text h.tokens k.tokens h.are_tokens k.are_tokens) ∙ module_of-of b k.tokens k.spelled)
 
-fault_read : (text : List ℕ) (f : TextFault) → IsTextFault text f → IsRead text (Err f)
+fault_read : (text : List ℕ) (f : Fault IrFaultKind) → IsTextFault text f → IsRead text (Err f)
 fault_read text f (too_long more same) = of_long more (ap Err (sym same))
 fault_read text f (misfit within tokens are found) = of_tokens within tokens are found
 
-abbrev err_of : TextFault → Result RawModule TextFault
+abbrev err_of : Fault IrFaultKind → Result RawModule (Fault IrFaultKind)
 err_of f = Err f
 
-abbrev ok_of : RawModule → Result RawModule TextFault
+abbrev ok_of : RawModule → Result RawModule (Fault IrFaultKind)
 ok_of m = Ok m
 
 abbrev ReadingOrFault : List ℕ → Type 0
-ReadingOrFault text = ((m : RawModule) × IsRaw text m) ⊎ ((f : TextFault) × IsTextFault text f)
+ReadingOrFault text = ((m : RawModule) × IsRaw text m) ⊎ ((f : Fault IrFaultKind) × IsTextFault text f)
 
-some_read : (text : List ℕ) (tokens : List Placed) (r : Result RawModule TextFault) → length text ≤ most_bytes → AreTokens text tokens → module_of tokens ≡ r → ReadingOrFault text
+some_read : (text : List ℕ) (tokens : List Placed) (r : Result RawModule (Fault IrFaultKind)) → length text ≤ most_bytes → AreTokens text tokens → module_of tokens ≡ r → ReadingOrFault text
 some_read text tokens (Ok m) within are e = inl (m, record { tokens = tokens; are_tokens = are; spelled = module_of-is tokens m e })
 some_read text tokens (Err f) within are e = inr (f, misfit within tokens are e)
 
@@ -68,7 +69,7 @@ texts law = record {
 
 -- ---- what the code answers
 
-pub answers : (text : List ℕ) (tokens : List Placed) (r : Result RawModule ParseError) → length text ≤ most_bytes → AreTokens text tokens → Gives (λ m. m) r (module_of tokens)
+pub answers : (text : List ℕ) (tokens : List Placed) (r : Result RawModule (Refusal (Fault IrFaultKind))) → length text ≤ most_bytes → AreTokens text tokens → Gives (λ m. m) r (module_of tokens)
     → IfOk r (λ m. IsRaw text m) × OnOk r (length text ≤ most_bytes) × IfErr r (λ e. IfRefused e (IsTextFault text))
 answers text tokens (Ok m) within are e = (record { tokens = tokens; are_tokens = are; spelled = module_of-is tokens m e }, within, tt)
 answers text tokens (Err (Refused f)) within are e = (tt, tt, misfit within tokens are e)

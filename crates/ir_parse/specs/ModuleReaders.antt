@@ -6,8 +6,9 @@ use Rattle.ir_tokens.specs.declared.called.Identifier.{Identifier}
 use Rattle.ir_tokens.specs.declared.called.Identifier.TheVariants.{Named, Numbered}
 use Rattle.ir_tokens.specs.Identifiers.{identifier_of}
 use Rattle.ir_tokens.specs.Tokens.{Placed, End, Kept, KeptGroup, Label, Word, Number, Register, Function, Group, Quoted}
-use Rattle.ir_instructions.specs.declared.fault.Misfit.TheVariants.{LeftOut}
-use Rattle.ir_instructions.specs.declared.fault.TextFault.{TextFault}
+use Rattle.ir_tokens.specs.declared.fault.IrFaultKind.TheVariants.{LeftOut}
+use Rattle.refusal.specs.declared.fault.Fault.{Fault}
+use Rattle.ir_tokens.specs.declared.fault.IrFaultKind.{IrFaultKind}
 use Rattle.ir_instructions.specs.declared.place.Place.TheVariants as places
 use Rattle.ir_tokens.specs.declared.raw.RawModule.{RawModule}
 use Rattle.ir_tokens.specs.declared.raw.RawEntry.{RawEntry}
@@ -186,9 +187,9 @@ unfoldable pub entries_at : Reader (List RawEntry)
 entries_at = each_at begins_entry entry_at []
 
 -- the module of these tokens
-abbrev pub module_from : Read (List RawEntry) → Result RawModule TextFault
+abbrev pub module_from : Read (List RawEntry) → Result RawModule (Fault IrFaultKind)
 module_from (Ok x) = Ok (record { entries = x.0 })
 module_from (Err e) = Err e
 
-abbrev pub module_of : List Placed → Result RawModule TextFault
+abbrev pub module_of : List Placed → Result RawModule (Fault IrFaultKind)
 module_of tokens = module_from (entries_at tokens)

@@ -2,8 +2,9 @@
 use Rattle.std.specs.Prelude.{◌≡◌, ℕ, ◌<◌, ◌≤◌, ◌^◌, List, length, Err}
 use Rattle.ir_tokens.specs.Order.{AreTokens}
 use Rattle.ir_tokens.specs.Tokens.{Placed}
-use Rattle.ir_instructions.specs.declared.fault.Misfit.TheVariants.{TooLong}
-use Rattle.ir_instructions.specs.declared.fault.TextFault.{TextFault}
+use Rattle.ir_tokens.specs.declared.fault.IrFaultKind.TheVariants.{TooLong}
+use Rattle.refusal.specs.declared.fault.Fault.{Fault}
+use Rattle.ir_tokens.specs.declared.fault.IrFaultKind.{IrFaultKind}
 use Rattle.ir_tokens.specs.declared.raw.RawModule.{RawModule}
 use Rattle.ir_instructions.specs.Readers.{fault}
 use Rattle.ir_parse.specs.Grammar.{SpellsModule}
@@ -20,6 +21,6 @@ pub record IsRaw (text : List ℕ) (module_read : RawModule) : Type 0 where
   pub spelled : SpellsModule module_read tokens
 
 -- The first fault: the text is too long, or else the first token that does not fit, by its line and why it does not.
-pub data IsTextFault (text : List ℕ) (found : TextFault) : Type 0 where
+pub data IsTextFault (text : List ℕ) (found : Fault IrFaultKind) : Type 0 where
   too_long : most_bytes < length text → found ≡ fault 1 TooLong → IsTextFault text found
   misfit : length text ≤ most_bytes → (tokens : List Placed) → AreTokens text tokens → module_of tokens ≡ Err found → IsTextFault text found

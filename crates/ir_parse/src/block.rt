@@ -1,17 +1,17 @@
 //! Blocks from tokens.
 
 ghost use Rattle.ir_tokens.specs.SeenTokens.{seen};
-ghost use Rattle.ir_instructions.specs.Gives.{Gives};
+ghost use Rattle.refusal.specs.Refusals.{Gives};
 ghost use Rattle.ir_parse.specs.ModuleReaders as parsing;
 
-use ir_instructions::{ParseError, Part, each, insts, tail, terminator};
-use ir_tokens::{Placed, RawBlock, RawIdentifier, Token, identifier};
+use ir_instructions::{Part, each, insts, tail, terminator};
+use ir_tokens::{IrError, Placed, RawBlock, RawIdentifier, Token, identifier};
 use lists::List;
 use std::alloc::Global;
 
 /// A label, if there is one.
 #[tactic(auto, unfolding(crate::specs::ModuleReaders::label_at))]
-fn label(alloc: Global, tokens: &mut &[Placed<'_>]) -> Result<Option<RawIdentifier>, ParseError>
+fn label(alloc: Global, tokens: &mut &[Placed<'_>]) -> Result<Option<RawIdentifier>, IrError>
     ensures { Gives (λ x. (x, seen tokens.new.now)) result (parsing.label_at (seen tokens.old.now)) }
 {
     match *tokens {
@@ -49,7 +49,7 @@ impl Part for Block {
     }
 
     #[tactic(auto, unfolding(crate::specs::ModuleReaders::block_at))]
-    fn read(alloc: Global, tokens: &mut &[Placed<'_>]) -> Result<RawBlock, ParseError> {
+    fn read(alloc: Global, tokens: &mut &[Placed<'_>]) -> Result<RawBlock, IrError> {
         let label = label(alloc, tokens)?;
         let insts = insts(alloc, tokens)?;
         let (end_line, end) = terminator(alloc, tokens)?;
@@ -65,10 +65,7 @@ impl Part for Block {
 
 /// The blocks of a function: one or more.
 #[tactic(auto, unfolding(crate::specs::ModuleReaders::blocks_at))]
-pub(crate) fn blocks(
-    alloc: Global,
-    tokens: &mut &[Placed<'_>],
-) -> Result<List<RawBlock>, ParseError>
+pub(crate) fn blocks(alloc: Global, tokens: &mut &[Placed<'_>]) -> Result<List<RawBlock>, IrError>
     ensures { Gives (λ x. (x, seen tokens.new.now)) result (parsing.blocks_at (seen tokens.old.now)) }
 {
     let mut blocks = List::new(alloc);

@@ -1,12 +1,13 @@
 //! The entries of a module from tokens.
 
+ghost use Rattle.std.specs.Prelude.{◌≡◌, OnErr};
 ghost use Rattle.ir_tokens.specs.SeenTokens.{seen};
-ghost use Rattle.ir_instructions.specs.Gives.{Gives};
+ghost use Rattle.refusal.specs.Refusals.{Gives};
 ghost use Rattle.ir_parse.specs.ModuleReaders as parsing;
 
 use crate::function::function;
-use ir_instructions::{ParseError, Part, Place, copied, each, left_out, unexpected};
-use ir_tokens::{Placed, RawEntry, RawModule, Token};
+use ir_instructions::{Part, Place, copied, each, left_out, unexpected};
+use ir_tokens::{IrError, Placed, RawEntry, RawModule, Token};
 use lists::List;
 use ops::keywords::is;
 use std::alloc::Global;
@@ -31,7 +32,7 @@ impl Part for ModuleEntry {
     }
 
     #[tactic(auto, unfolding(crate::specs::ModuleReaders::entry_at))]
-    fn read(alloc: Global, tokens: &mut &[Placed<'_>]) -> Result<RawEntry, ParseError> {
+    fn read(alloc: Global, tokens: &mut &[Placed<'_>]) -> Result<RawEntry, IrError> {
         match *tokens {
             [Placed { line, token }, rest @ ..] => match *token {
                 Token::Kept(text) => {
@@ -54,22 +55,26 @@ impl Part for ModuleEntry {
 }
 
 /// The entry in front of the tokens, which goes behind it, or the fault of the first token that does not fit.
-pub fn entry(alloc: Global, tokens: &mut &[Placed<'_>]) -> Result<RawEntry, ParseError>
-    ensures { Gives (λ x. (x, seen tokens.new.now)) result (parsing.entry_at (seen tokens.old.now)) }
+pub fn entry(alloc: Global, tokens: &mut &[Placed<'_>]) -> Result<RawEntry, IrError>
+    ensures read { Gives (λ x. (x, seen tokens.new.now)) result (parsing.entry_at (seen tokens.old.now)) }
+    ensures unmoved { OnErr result (tokens.new.now ≡ tokens.old.now) }
 {
-    ModuleEntry::read(alloc, tokens)
+    let mut rest = *tokens;
+    let entry = ModuleEntry::read(alloc, &mut rest)?;
+    *tokens = rest;
+    Ok(entry)
 }
 
 /// The entries of a module.
 #[tactic(auto, unfolding(crate::specs::ModuleReaders::entries_at))]
-fn entries(alloc: Global, tokens: &mut &[Placed<'_>]) -> Result<List<RawEntry>, ParseError>
+fn entries(alloc: Global, tokens: &mut &[Placed<'_>]) -> Result<List<RawEntry>, IrError>
     ensures { Gives (λ x. (x, seen tokens.new.now)) result (parsing.entries_at (seen tokens.old.now)) }
 {
     each::<ModuleEntry>(alloc, List::new(alloc), tokens)
 }
 
 /// The module of a text's tokens, or the first fault.
-pub(crate) fn raw_module(alloc: Global, tokens: &[Placed<'_>]) -> Result<RawModule, ParseError>
+pub(crate) fn raw_module(alloc: Global, tokens: &[Placed<'_>]) -> Result<RawModule, IrError>
     ensures { Gives (λ x. x) result (parsing.module_of (seen tokens.now)) }
 {
     let mut rest = tokens;

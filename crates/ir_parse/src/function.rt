@@ -1,20 +1,20 @@
 //! Functions from tokens. (LLVM Language Reference, "Functions".)
 
 ghost use Rattle.ir_tokens.specs.SeenTokens.{seen};
-ghost use Rattle.ir_instructions.specs.Gives.{Gives};
+ghost use Rattle.refusal.specs.Refusals.{Gives};
 ghost use Rattle.ir_parse.specs.ModuleReaders as parsing;
 
 use crate::block::blocks;
 use crate::item::{items, last_items};
 use crate::parameter::parameters;
-use ir_instructions::{ParseError, attachments, integer_type, left_out, mark, misplaced};
-use ir_tokens::{Identifier, Placed, RawBlock, RawFunction, Token, identifier};
+use ir_instructions::{attachments, integer_type, left_out, mark, misplaced};
+use ir_tokens::{Identifier, IrError, Placed, RawBlock, RawFunction, Token, identifier};
 use lists::{List, Text};
 use std::alloc::Global;
 
 /// The name of a function, with its line; a number is left out.
 #[tactic(auto, unfolding(crate::specs::ModuleReaders::function_name_at))]
-fn function_name(alloc: Global, tokens: &mut &[Placed<'_>]) -> Result<(usize, Text), ParseError>
+fn function_name(alloc: Global, tokens: &mut &[Placed<'_>]) -> Result<(usize, Text), IrError>
     ensures { Gives (λ x. (x, seen tokens.new.now)) result (parsing.function_name_at (seen tokens.old.now)) }
 {
     match *tokens {
@@ -26,15 +26,15 @@ fn function_name(alloc: Global, tokens: &mut &[Placed<'_>]) -> Result<(usize, Te
                 }
                 Identifier::Numbered(_) => Err(left_out(alloc, *line, b"@")),
             },
-            _ => Err(misplaced(*tokens)),
+            _ => Err(misplaced(*tokens).into()),
         },
-        [] => Err(misplaced(*tokens)),
+        [] => Err(misplaced(*tokens).into()),
     }
 }
 
 /// The body of a function in its braces, and the attachments before it.
 #[tactic(auto, unfolding(crate::specs::ModuleReaders::body_at))]
-fn body(alloc: Global, tokens: &mut &[Placed<'_>]) -> Result<List<RawBlock>, ParseError>
+fn body(alloc: Global, tokens: &mut &[Placed<'_>]) -> Result<List<RawBlock>, IrError>
     ensures { Gives (λ x. (x, seen tokens.new.now)) result (parsing.body_at (seen tokens.old.now)) }
 {
     attachments(tokens)?;
@@ -46,7 +46,7 @@ fn body(alloc: Global, tokens: &mut &[Placed<'_>]) -> Result<List<RawBlock>, Par
 
 /// A function, behind its `define`.
 #[tactic(auto, unfolding(crate::specs::ModuleReaders::function_at))]
-pub(crate) fn function(alloc: Global, tokens: &mut &[Placed<'_>]) -> Result<RawFunction, ParseError>
+pub(crate) fn function(alloc: Global, tokens: &mut &[Placed<'_>]) -> Result<RawFunction, IrError>
     ensures { Gives (λ x. (x, seen tokens.new.now)) result (parsing.function_at (seen tokens.old.now)) }
 {
     let before = items(alloc, tokens)?;

@@ -2,15 +2,13 @@
 
 ghost use Rattle.std.specs.Prelude.{◌≡◌, ◌∷◌, ◌++◌, IfOk};
 ghost use Rattle.ir_tokens.specs.SeenTokens.{seen};
-ghost use Rattle.ir_instructions.specs.Gives.{Gives};
+ghost use Rattle.refusal.specs.Refusals.{Gives};
 ghost use Rattle.ir_instructions.specs.Punctuation as marks;
 ghost use Rattle.ir_parse.specs.ModuleReaders as parsing;
 
 use crate::word::is_item_word;
-use ir_instructions::{
-    ParseError, Part, Place, copied, each, is_mark, left_out, mark, misplaced, unexpected,
-};
-use ir_tokens::{Placed, Token};
+use ir_instructions::{Part, Place, copied, each, is_mark, left_out, mark, misplaced, unexpected};
+use ir_tokens::{IrError, Placed, Token};
 use lists::{List, Text};
 use std::alloc::{AllocError, Global};
 
@@ -35,7 +33,7 @@ fn pair(alloc: Global, key: &[u8], value: &[u8]) -> Result<Text, AllocError>
 
 /// The value of a key, behind the `=`.
 #[tactic(auto, unfolding(crate::specs::ModuleReaders::quoted_value_at))]
-fn quoted_value(alloc: Global, key: &[u8], tokens: &mut &[Placed<'_>]) -> Result<Text, ParseError>
+fn quoted_value(alloc: Global, key: &[u8], tokens: &mut &[Placed<'_>]) -> Result<Text, IrError>
     ensures { Gives (λ x. (x, seen tokens.new.now)) result (parsing.quoted_value_at key.now (seen tokens.old.now)) }
 {
     match *tokens {
@@ -44,15 +42,15 @@ fn quoted_value(alloc: Global, key: &[u8], tokens: &mut &[Placed<'_>]) -> Result
                 *tokens = rest;
                 Ok(pair(alloc, key, value)?)
             }
-            _ => Err(misplaced(*tokens)),
+            _ => Err(misplaced(*tokens).into()),
         },
-        [] => Err(misplaced(*tokens)),
+        [] => Err(misplaced(*tokens).into()),
     }
 }
 
 /// The group that is kept behind a word, with the word before it, or the word alone.
 #[tactic(auto, unfolding(crate::specs::ModuleReaders::word_item_at))]
-fn word_item(alloc: Global, word: &[u8], tokens: &mut &[Placed<'_>]) -> Result<Text, ParseError>
+fn word_item(alloc: Global, word: &[u8], tokens: &mut &[Placed<'_>]) -> Result<Text, IrError>
     ensures { Gives (λ x. (x, seen tokens.new.now)) result (parsing.word_item_at word.now (seen tokens.old.now)) }
 {
     match *tokens {
@@ -69,7 +67,7 @@ fn word_item(alloc: Global, word: &[u8], tokens: &mut &[Placed<'_>]) -> Result<T
 
 /// A quoted text, and its value where a `=` is behind it.
 #[tactic(auto, unfolding(crate::specs::ModuleReaders::quoted_item_at))]
-fn quoted_item(alloc: Global, key: &[u8], tokens: &mut &[Placed<'_>]) -> Result<Text, ParseError>
+fn quoted_item(alloc: Global, key: &[u8], tokens: &mut &[Placed<'_>]) -> Result<Text, IrError>
     ensures { Gives (λ x. (x, seen tokens.new.now)) result (parsing.quoted_item_at key.now (seen tokens.old.now)) }
 {
     if is_mark(b'=', *tokens) {
@@ -104,7 +102,7 @@ impl Part for Item {
     }
 
     #[tactic(auto, unfolding(crate::specs::ModuleReaders::item_at))]
-    fn read(alloc: Global, tokens: &mut &[Placed<'_>]) -> Result<Text, ParseError> {
+    fn read(alloc: Global, tokens: &mut &[Placed<'_>]) -> Result<Text, IrError> {
         match *tokens {
             [Placed { token, .. }, rest @ ..] => match *token {
                 Token::Word(word) => {
@@ -128,7 +126,7 @@ impl Part for Item {
 
 /// Items.
 #[tactic(auto, unfolding(crate::specs::ModuleReaders::items_at))]
-pub(crate) fn items(alloc: Global, tokens: &mut &[Placed<'_>]) -> Result<List<Text>, ParseError>
+pub(crate) fn items(alloc: Global, tokens: &mut &[Placed<'_>]) -> Result<List<Text>, IrError>
     ensures { Gives (λ x. (x, seen tokens.new.now)) result (parsing.items_at (seen tokens.old.now)) }
 {
     each::<Item>(alloc, List::new(alloc), tokens)
@@ -136,7 +134,7 @@ pub(crate) fn items(alloc: Global, tokens: &mut &[Placed<'_>]) -> Result<List<Te
 
 /// That no word is next. One that is no item is left out.
 #[tactic(auto, unfolding(crate::specs::ModuleReaders::no_word_at))]
-fn no_word(alloc: Global, tokens: &[Placed<'_>]) -> Result<(), ParseError>
+fn no_word(alloc: Global, tokens: &[Placed<'_>]) -> Result<(), IrError>
     ensures { Gives (λ x. (x, seen tokens.now)) result (parsing.no_word_at (seen tokens.now)) }
 {
     match tokens {
@@ -150,10 +148,7 @@ fn no_word(alloc: Global, tokens: &[Placed<'_>]) -> Result<(), ParseError>
 
 /// Items that no word follows.
 #[tactic(auto, unfolding(crate::specs::ModuleReaders::last_items_at))]
-pub(crate) fn last_items(
-    alloc: Global,
-    tokens: &mut &[Placed<'_>],
-) -> Result<List<Text>, ParseError>
+pub(crate) fn last_items(alloc: Global, tokens: &mut &[Placed<'_>]) -> Result<List<Text>, IrError>
     ensures { Gives (λ x. (x, seen tokens.new.now)) result (parsing.last_items_at (seen tokens.old.now)) }
 {
     let items = items(alloc, tokens)?;

@@ -13,6 +13,6 @@ mod reader;
 mod word;
 
 pub use entries::entry;
-pub use ir_instructions::{Misfit, ParseError, TextFault};
+pub use ir_tokens::{IrError, IrFault, IrFaultKind};
 pub use laws::{every_text_has_one_reading_or_one_fault, modules_are_read_as_they_are_spelled};
 pub use reader::{MOST_BYTES, parse};

@@ -1,12 +1,12 @@
 //! Parameters from tokens.
 
 ghost use Rattle.ir_tokens.specs.SeenTokens.{seen};
-ghost use Rattle.ir_instructions.specs.Gives.{Gives};
+ghost use Rattle.refusal.specs.Refusals.{Gives};
 ghost use Rattle.ir_parse.specs.ModuleReaders as parsing;
 
 use crate::item::last_items;
-use ir_instructions::{ParseError, Part, each, integer_type, is_mark, mark};
-use ir_tokens::{Placed, RawIdentifier, RawParameter, Token, identifier};
+use ir_instructions::{Part, each, integer_type, is_mark, mark};
+use ir_tokens::{IrError, Placed, RawIdentifier, RawParameter, Token, identifier};
 use lists::List;
 use std::alloc::Global;
 
@@ -15,7 +15,7 @@ use std::alloc::Global;
 fn parameter_name(
     alloc: Global,
     tokens: &mut &[Placed<'_>],
-) -> Result<Option<RawIdentifier>, ParseError>
+) -> Result<Option<RawIdentifier>, IrError>
     ensures { Gives (λ x. (x, seen tokens.new.now)) result (parsing.parameter_name_at (seen tokens.old.now)) }
 {
     match *tokens {
@@ -35,7 +35,7 @@ fn parameter_name(
 
 /// A parameter.
 #[tactic(auto, unfolding(crate::specs::ModuleReaders::parameter_at))]
-fn parameter(alloc: Global, tokens: &mut &[Placed<'_>]) -> Result<RawParameter, ParseError>
+fn parameter(alloc: Global, tokens: &mut &[Placed<'_>]) -> Result<RawParameter, IrError>
     ensures { Gives (λ x. (x, seen tokens.new.now)) result (parsing.parameter_at (seen tokens.old.now)) }
 {
     let width = integer_type(alloc, tokens)?;
@@ -63,7 +63,7 @@ impl Part for FurtherParameter {
     }
 
     #[tactic(auto, unfolding(crate::specs::ModuleReaders::further_parameter_at))]
-    fn read(alloc: Global, tokens: &mut &[Placed<'_>]) -> Result<RawParameter, ParseError> {
+    fn read(alloc: Global, tokens: &mut &[Placed<'_>]) -> Result<RawParameter, IrError> {
         mark(b',', tokens)?;
         parameter(alloc, tokens)
     }
@@ -71,10 +71,7 @@ impl Part for FurtherParameter {
 
 /// Parameters: one or more.
 #[tactic(auto, unfolding(crate::specs::ModuleReaders::some_parameters_at))]
-fn some_parameters(
-    alloc: Global,
-    tokens: &mut &[Placed<'_>],
-) -> Result<List<RawParameter>, ParseError>
+fn some_parameters(alloc: Global, tokens: &mut &[Placed<'_>]) -> Result<List<RawParameter>, IrError>
     ensures { Gives (λ x. (x, seen tokens.new.now)) result (parsing.some_parameters_at (seen tokens.old.now)) }
 {
     let mut parameters = List::new(alloc);
@@ -84,10 +81,7 @@ fn some_parameters(
 
 /// Parameters, before the `)`: any number.
 #[tactic(auto, unfolding(crate::specs::ModuleReaders::parameter_list_at))]
-fn parameter_list(
-    alloc: Global,
-    tokens: &mut &[Placed<'_>],
-) -> Result<List<RawParameter>, ParseError>
+fn parameter_list(alloc: Global, tokens: &mut &[Placed<'_>]) -> Result<List<RawParameter>, IrError>
     ensures { Gives (λ x. (x, seen tokens.new.now)) result (parsing.parameter_list_at (seen tokens.old.now)) }
 {
     if is_mark(b')', *tokens) {
@@ -102,7 +96,7 @@ fn parameter_list(
 pub(crate) fn parameters(
     alloc: Global,
     tokens: &mut &[Placed<'_>],
-) -> Result<List<RawParameter>, ParseError>
+) -> Result<List<RawParameter>, IrError>
     ensures { Gives (λ x. (x, seen tokens.new.now)) result (parsing.parameters_at (seen tokens.old.now)) }
 {
     mark(b'(', tokens)?;

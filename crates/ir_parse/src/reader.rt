@@ -1,25 +1,25 @@
 //! The module of a text as written.
 
 ghost use Rattle.std.specs.Prelude.{◌≤◌, length, IfOk, OnOk, IfErr};
-ghost use Rattle.ir_parse.specs.Errors.{IfRefused};
+ghost use Rattle.refusal.specs.Refusals.{IfRefused};
 ghost use Rattle.ir_parse.specs.Text.{most_bytes, IsRaw, IsTextFault};
 
 use crate::entries::raw_module;
-use ir_instructions::{Misfit, ParseError, refused};
-use ir_tokens::{RawModule, tokens_of};
+use ir_tokens::{IrError, IrFaultKind, RawModule, tokens_of};
+use refusal::refused;
 use std::alloc::Global;
 
 /// The most bytes of a text that is read.
 pub const MOST_BYTES: usize = 1 << 24;
 
 /// The module of a text as it is written, or the text's first fault. It takes as many steps as the text has bytes.
-pub fn parse(alloc: Global, bytes: &[u8]) -> Result<RawModule, ParseError>
+pub fn parse(alloc: Global, bytes: &[u8]) -> Result<RawModule, IrError>
     ensures ok { IfOk result (λ m. IsRaw bytes.now m) }
     ensures limit { OnOk result (length bytes.now ≤ most_bytes) }
     ensures refused { IfErr result (λ e. IfRefused e (IsTextFault bytes.now)) }
 {
     if bytes.len() > MOST_BYTES {
-        return Err(refused(1, Misfit::TooLong));
+        return Err(refused(1, IrFaultKind::TooLong));
     }
     let tokens = tokens_of(alloc, bytes)?;
     raw_module(alloc, tokens.as_slice())

@@ -24,7 +24,7 @@ use Rattle.ir_instructions.specs.Parts.{Part, Separated}
 use Rattle.ir_parse.specs.Grammar.{SpellsBlock, SpellsBlocks, SpellsLabelledBlock, SpellsEntry}
 use Rattle.ir_parse.specs.Text.{IsRaw}
 use Rattle.ir_instructions.proofs.OwnFlags.{own_flags}
-use Rattle.ir_resolve.specs.declared.fault.FaultKind.TheVariants.{Duplicate, TypeClash}
+use Rattle.ir_tokens.specs.declared.fault.IrFaultKind.TheVariants.{Duplicate, TypeClash}
 use Rattle.ir_resolve.specs.Faults.{HasNoFault}
 use Rattle.ir_resolve.specs.Means.{Means, IncomingMeans, OpMeans, InstMeans}
 use Rattle.ir_resolve.specs.Written.{Thing, Calls}

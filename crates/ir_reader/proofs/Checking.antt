@@ -3,16 +3,16 @@ use Rattle.std.proofs.Common.{◌≡◌, ℕ, Bool, List, refl}
 use Rattle.ir_core.specs.declared.function.Function.{Function}
 use Rattle.ir_core.specs.Assigned.{ReadsAreAssigned}
 use Rattle.ir_tokens.specs.declared.raw.RawFunction.{RawFunction}
-use Rattle.ir_resolve.specs.declared.fault.ResolveError.{ResolveError}
-use Rattle.ir_resolve.specs.declared.fault.ResolveError.TheVariants as resolve_errors
-use Rattle.ir_resolve.specs.Faults.{HasNoFault, MarksFunction, IsFirstNameFault, IfRefused as IfUnresolved}
+use Rattle.refusal.specs.declared.fault.Fault.{Fault}
+use Rattle.ir_tokens.specs.declared.fault.IrFaultKind.{IrFaultKind}
+use Rattle.ir_resolve.specs.Faults.{HasNoFault, MarksFunction, IsFirstNameFault}
 use Rattle.ir_resolve.specs.FirstLines.{IsFirstLine}
 use Rattle.ir_resolve.specs.Means.{Means, InstMeans}
 use Rattle.ir_resolve.specs.Written.{Calls}
-use Rattle.ir_reader.specs.declared.fault.IrError.{IrError}
-use Rattle.ir_reader.specs.declared.fault.IrError.TheVariants as errors
-use Rattle.ir_reader.specs.declared.fault.IrFaultKind.TheVariants as kinds
-use Rattle.ir_reader.specs.Errors.{IfRefused, of_resolve_error}
+use Rattle.ir_tokens.specs.declared.fault.IrFaultKind.TheVariants as kinds
+use Rattle.refusal.specs.declared.refusal.Refusal.{Refusal}
+use Rattle.refusal.specs.declared.refusal.Refusal.TheVariants as errors
+use Rattle.refusal.specs.Refusals.{IfRefused}
 use Rattle.ir_reader.specs.Phis.{PhisFit}
 use Rattle.ir_reader.specs.FlowFaults.{BadPhiAt, EntryPredAt, IsUnassignedFault}
 use Rattle.ir_reader.specs.Faults.{EntryIsFree, IsFunctionOf, IsFaultOfFunction, of_names, bad_phi, entry_pred, unassigned}
@@ -26,9 +26,9 @@ abbrev pub ForEarlier : Bool → RawFunction → (List RawFunction → Type 0) �
 ForEarlier is_repeated raw P = (earlier : List RawFunction) → MarksFunction is_repeated earlier raw → P earlier
 
 module _ (is_repeated : Bool) (raw : RawFunction) where
-  pub names_fault : (e : ResolveError) (e' : IrError) → e' ≡ of_resolve_error e → IfUnresolved e (λ fault. ForEarlier is_repeated raw (λ earlier. IsFirstNameFault earlier raw fault)) → IfRefused e' (λ fault. ForEarlier is_repeated raw (λ earlier. IsFaultOfFunction earlier raw fault))
-  names_fault (resolve_errors.Refused fault) e' is first = rw is (λ earlier marks. of_names (first earlier marks))
-  names_fault resolve_errors.NoMemory e' is first = rw is tt
+  pub names_fault : (e : Refusal (Fault IrFaultKind)) → IfRefused e (λ fault. ForEarlier is_repeated raw (λ earlier. IsFirstNameFault earlier raw fault)) → IfRefused e (λ fault. ForEarlier is_repeated raw (λ earlier. IsFaultOfFunction earlier raw fault))
+  names_fault (errors.Refused fault) first = λ earlier marks. of_names (first earlier marks)
+  names_fault errors.NoMemory first = tt
 
 module _ (raw : RawFunction) (f : Function) (means : Means raw f) where
   pub phis_fit : ((line : ℕ) → ¬ BadPhiAt raw f line) → PhisFit f
@@ -43,14 +43,14 @@ module _ (raw : RawFunction) (f : Function) (means : Means raw f) where
       none w.end_line (b, (names, (w, w_at, refl)))
 
 module _ (is_repeated : Bool) (raw : RawFunction) (f : Function) (means : Means raw f) (faultless : ForEarlier is_repeated raw (λ earlier. HasNoFault earlier raw)) where
-  pub bad_phi_fault : (line : ℕ) (e : IrError) → e ≡ errors.Refused (record { line = line; kind = kinds.BadPhi }) → IsFirstLine (BadPhiAt raw f) line → IfRefused e (λ fault. ForEarlier is_repeated raw (λ earlier. IsFaultOfFunction earlier raw fault))
+  pub bad_phi_fault : (line : ℕ) (e : Refusal (Fault IrFaultKind)) → e ≡ errors.Refused (record { line = line; kind = kinds.BadPhi }) → IsFirstLine (BadPhiAt raw f) line → IfRefused e (λ fault. ForEarlier is_repeated raw (λ earlier. IsFaultOfFunction earlier raw fault))
   bad_phi_fault line e is first = rw is (λ earlier marks. bad_phi f (faultless earlier marks, means) first)
 
-  pub entry_fault : (line : ℕ) (e : IrError) → e ≡ errors.Refused (record { line = line; kind = kinds.EntryPred }) → ((at : ℕ) → ¬ BadPhiAt raw f at) → IsFirstLine (EntryPredAt raw f) line
+  pub entry_fault : (line : ℕ) (e : Refusal (Fault IrFaultKind)) → e ≡ errors.Refused (record { line = line; kind = kinds.EntryPred }) → ((at : ℕ) → ¬ BadPhiAt raw f at) → IsFirstLine (EntryPredAt raw f) line
       → IfRefused e (λ fault. ForEarlier is_repeated raw (λ earlier. IsFaultOfFunction earlier raw fault))
   entry_fault line e is no_phi first = rw is (λ earlier marks. entry_pred f (faultless earlier marks, means) (phis_fit raw f means no_phi) first)
 
-  pub reads_fault : (e : IrError) → ((at : ℕ) → ¬ BadPhiAt raw f at) → ((at : ℕ) → ¬ EntryPredAt raw f at) → IfRefused e (IsUnassignedFault raw f) → IfRefused e (λ fault. ForEarlier is_repeated raw (λ earlier. IsFaultOfFunction earlier raw fault))
+  pub reads_fault : (e : Refusal (Fault IrFaultKind)) → ((at : ℕ) → ¬ BadPhiAt raw f at) → ((at : ℕ) → ¬ EntryPredAt raw f at) → IfRefused e (IsUnassignedFault raw f) → IfRefused e (λ fault. ForEarlier is_repeated raw (λ earlier. IsFaultOfFunction earlier raw fault))
   reads_fault (errors.Refused fault) no_phi no_entry first = λ earlier marks. unassigned f (faultless earlier marks, means) (phis_fit raw f means no_phi) (entry_free raw f means no_entry) first
   reads_fault errors.NoMemory no_phi no_entry first = tt
 

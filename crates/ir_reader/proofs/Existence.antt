@@ -18,16 +18,14 @@ use Rattle.ir_tokens.specs.declared.raw.RawEntry.TheVariants as raw_entries
 use Rattle.ir_tokens.specs.declared.raw.RawFunction.{RawFunction}
 use Rattle.ir_tokens.specs.declared.raw.RawBlock.{RawBlock}
 use Rattle.ir_tokens.specs.declared.raw.RawInst.{RawInst}
-use Rattle.ir_instructions.specs.declared.fault.Misfit.TheVariants.{TooLong}
-use Rattle.ir_instructions.specs.declared.fault.TextFault.{TextFault}
+use Rattle.refusal.specs.declared.fault.Fault.{Fault}
+use Rattle.ir_tokens.specs.declared.fault.IrFaultKind.{IrFaultKind}
 use Rattle.ir_instructions.specs.Readers.{fault}
 use Rattle.ir_parse.specs.Text.{most_bytes, IsRaw, too_long}
 use Rattle.ir_parse.specs.Laws.{TextsHaveOneReadingOrFault}
 use Rattle.ir_resolve.specs.Laws.{FunctionsHaveOneMeaningOrFault}
 use Rattle.ir_resolve.proofs.Deciding.{FirstOf, first_moved, first_on, first_by_place, first_at, dec_not}
-use Rattle.ir_reader.specs.declared.fault.IrFault.{IrFault}
-use Rattle.ir_reader.specs.declared.fault.IrFaultKind.TheVariants as kinds
-use Rattle.ir_reader.specs.Errors.{of_text_fault, of_name_fault}
+use Rattle.ir_tokens.specs.declared.fault.IrFaultKind.TheVariants as kinds
 use Rattle.ir_reader.specs.Phis.{OpFits, PhisFit}
 use Rattle.ir_reader.specs.FlowFaults.{BadPhiHere, BadPhiAt, EntryPredHere, EntryPredAt}
 use Rattle.ir_reader.specs.Faults.{ResolvesTo, EntryIsFree, IsFunctionOf, IsFaultOfFunction, of_names, bad_phi, entry_pred, unassigned, functions_of, IsEntryOf, IsFaultOfEntry, IsFaultOfEntries, IsModuleText, IsFault, of_text, of_entries}
@@ -82,14 +80,14 @@ module _ (raw : RawFunction) (f : Function) where
 
 module _ (earlier : List RawFunction) (raw : RawFunction) where
   abbrev HasFunctionOrFault : Type 0
-  HasFunctionOrFault = ((f : Function) × IsFunctionOf earlier raw f) ⊎ ((fault : IrFault) × IsFaultOfFunction earlier raw fault)
+  HasFunctionOrFault = ((f : Function) × IsFunctionOf earlier raw f) ⊎ ((fault : Fault IrFaultKind) × IsFaultOfFunction earlier raw fault)
 
   module _ (f : Function) (resolved : ResolvesTo earlier raw f) where
     reads_checked : PhisFit f → EntryIsFree f → ReadsAreAssigned f ⊎ ((register : Register) × (b : ℕ) × (k : ℕ) × (i : ℕ) × IsFirstUnassigned f register b k i) → HasFunctionOrFault
     reads_checked fit free (inl assigned) = inl (f, record { resolved = resolved; phis = fit; entry = free; assigned = assigned })
     reads_checked fit free (inr (register, b, k, i, first)) =
         let r = written_read raw f resolved.1 register b k i first in
-        let fault : IrFault = record { line = r.operand.operand.line; kind = kinds.Unassigned r.name b } in
+        let fault : Fault IrFaultKind = record { line = r.operand.operand.line; kind = kinds.Unassigned r.name b } in
         inr (
           fault,
           unassigned f resolved fit free (record { register = register; b = b; k = k; i = i; first = first; operand = r.operand; is_written = r.at; name = r.name; is_named = r.named; is_fault = refl }),
@@ -103,10 +101,10 @@ module _ (earlier : List RawFunction) (raw : RawFunction) where
   function_or_fault : FunctionsHaveOneMeaningOrFault → HasFunctionOrFault
   function_or_fault law = elim (law.some earlier raw) [
     | inl (none, (f, means)) ↦ checked f (none, means) (first_bad_phi raw f) (first_entry_pred raw f)
-    | inr (fault, first) ↦ inr (of_name_fault fault, of_names first)
+    | inr (fault, first) ↦ inr (fault, of_names first)
   ]
 
-entry_or_fault : FunctionsHaveOneMeaningOrFault → (earlier : List RawFunction) (raw : RawEntry) → ((entry : Entry) × IsEntryOf earlier raw entry) ⊎ ((fault : IrFault) × IsFaultOfEntry earlier raw fault)
+entry_or_fault : FunctionsHaveOneMeaningOrFault → (earlier : List RawFunction) (raw : RawEntry) → ((entry : Entry) × IsEntryOf earlier raw entry) ⊎ ((fault : Fault IrFaultKind) × IsFaultOfEntry earlier raw fault)
 entry_or_fault law earlier (raw_entries.Kept text) = inl (entries.Kept text, refl)
 entry_or_fault law earlier (raw_entries.Function raw) = elim (function_or_fault earlier raw law) [ inl (f, is) ↦ inl (entries.Function f, is) | inr (fault, is) ↦ inr (fault, is) ]
 
@@ -114,7 +112,7 @@ entry_or_fault law earlier (raw_entries.Function raw) = elim (function_or_fault 
 
 module _ (law : FunctionsHaveOneMeaningOrFault) (text : List ℕ) (short : length text ≤ most_bytes) (m : RawModule) (is_raw : IsRaw text m) where
   abbrev HasModuleOrFault : Type 0
-  HasModuleOrFault = ((m : Module) × IsModuleText text m) ⊎ ((fault : IrFault) × IsFault text fault)
+  HasModuleOrFault = ((m : Module) × IsModuleText text m) ⊎ ((fault : Fault IrFaultKind) × IsFault text fault)
 
   entries_from : (left place : ℕ) (read : List Entry) → AreFirstEntries m.entries place read → place + left ≡ length m.entries → HasModuleOrFault
   entries_from zero place read first end = inl (record { entries = read }, record { raw = m; is_raw = is_raw; entries = all_entries m.entries place read (omega arith) first })
@@ -134,11 +132,11 @@ module _ (law : FunctionsHaveOneMeaningOrFault) (text : List ℕ) (short : lengt
             inr (fault, of_entries m short is_raw of_these)
       ]
 
-pub module_or_fault : TextsHaveOneReadingOrFault → FunctionsHaveOneMeaningOrFault → (text : List ℕ) → ((m : Module) × IsModuleText text m) ⊎ ((fault : IrFault) × IsFault text fault)
+pub module_or_fault : TextsHaveOneReadingOrFault → FunctionsHaveOneMeaningOrFault → (text : List ℕ) → ((m : Module) × IsModuleText text m) ⊎ ((fault : Fault IrFaultKind) × IsFault text fault)
 module_or_fault reading law text = elim (cases_lt most_bytes (length text)) [
-  | inl long ↦ let told : TextFault = fault 1 TooLong in inr (of_text_fault told, of_text (too_long long refl))
+  | inl long ↦ inr (fault 1 kinds.TooLong, of_text (too_long long refl))
   | inr short ↦ elim (reading.some text) [
     | inl (m, is_raw) ↦ entries_from law text short m is_raw (length m.entries) 0 [] (first_entries_none m.entries) (omega arith)
-    | inr (found, is) ↦ inr (of_text_fault found, of_text is)
+    | inr (found, is) ↦ inr (found, of_text is)
   ]
 ]

@@ -18,9 +18,9 @@ use Rattle.ir_parse.specs.Text.{most_bytes}
 use Rattle.ir_resolve.specs.Laws.{FunctionsHaveOneMeaningOrFault}
 use Rattle.ir_resolve.specs.FirstLines.{IsFirstLine}
 use Rattle.ir_resolve.specs.TypedReads.{Typed}
-use Rattle.ir_reader.specs.declared.fault.IrFault.{IrFault}
-use Rattle.ir_reader.specs.declared.fault.IrFaultKind.TheVariants as kinds
-use Rattle.ir_reader.specs.Errors.{of_text_fault, of_name_fault}
+use Rattle.refusal.specs.declared.fault.Fault.{Fault}
+use Rattle.ir_tokens.specs.declared.fault.IrFaultKind.{IrFaultKind}
+use Rattle.ir_tokens.specs.declared.fault.IrFaultKind.TheVariants as kinds
 use Rattle.ir_reader.specs.Phis.{PhisFit}
 use Rattle.ir_reader.specs.Operands.{written_at}
 use Rattle.ir_reader.specs.FlowFaults.{BadPhiAt, EntryPredAt, IsUnassignedFault}
@@ -59,7 +59,7 @@ placed b k i c l j = elim (order b c) [
   ]
 ]
 
-one_unassigned : (raw : RawFunction) (f : Function) (a b : IrFault) → IsUnassignedFault raw f a → IsUnassignedFault raw f b → a ≡ b
+one_unassigned : (raw : RawFunction) (f : Function) (a b : Fault IrFaultKind) → IsUnassignedFault raw f a → IsUnassignedFault raw f b → a ≡ b
 one_unassigned raw f a b p q = elim (placed p.b p.k p.i q.b q.k q.i) [
   | inl before ↦ absurd (not_before f p.register q.register p.b p.k p.i q.b q.k q.i p.first q.first before)
   | inr (inr behind) ↦ absurd (not_before f q.register p.register q.b q.k q.i p.b p.k p.i q.first p.first behind)
@@ -73,10 +73,10 @@ one_unassigned raw f a b p q = elim (placed p.b p.k p.i q.b q.k q.i) [
 
 -- ---- functions
 
-abbrev phi_fault : ℕ → IrFault
+abbrev phi_fault : ℕ → Fault IrFaultKind
 phi_fault line = record { line = line; kind = kinds.BadPhi }
 
-abbrev entry_fault : ℕ → IrFault
+abbrev entry_fault : ℕ → Fault IrFaultKind
 entry_fault line = record { line = line; kind = kinds.EntryPred }
 
 module _ (law : FunctionsHaveOneMeaningOrFault) (earlier : List RawFunction) (raw : RawFunction) where
@@ -93,8 +93,8 @@ module _ (law : FunctionsHaveOneMeaningOrFault) (earlier : List RawFunction) (ra
   first_entry : {line : ℕ} (f g : Function) → ResolvesTo earlier raw f → ResolvesTo earlier raw g → IsFirstLine (EntryPredAt raw f) line → ¬ EntryIsFree g
   first_entry {line} f g p q h free = no_entry_pred raw g line free (moved f g (EntryPredAt raw) p q h).0
 
-  one_first_fault : (a b : IrFault) → IsFaultOfFunction earlier raw a → IsFaultOfFunction earlier raw b → a ≡ b
-  one_first_fault a b (of_names {fault = m} p) (of_names {fault = n} q) = ap of_name_fault (law.one_fault earlier raw m n p q)
+  one_first_fault : (a b : Fault IrFaultKind) → IsFaultOfFunction earlier raw a → IsFaultOfFunction earlier raw b → a ≡ b
+  one_first_fault a b (of_names {fault = m} p) (of_names {fault = n} q) = law.one_fault earlier raw m n p q
   one_first_fault a b (of_names {fault = m} p) (bad_phi g s q) = absurd (law.not_both earlier raw m s.0 p)
   one_first_fault a b (of_names {fault = m} p) (entry_pred g s fit q) = absurd (law.not_both earlier raw m s.0 p)
   one_first_fault a b (of_names {fault = m} p) (unassigned g s fit free q) = absurd (law.not_both earlier raw m s.0 p)
@@ -111,7 +111,7 @@ module _ (law : FunctionsHaveOneMeaningOrFault) (earlier : List RawFunction) (ra
   one_first_fault a b (unassigned f r fit free p) (entry_pred g s fit' q) = absurd (first_entry g f s r q free)
   one_first_fault a b (unassigned f r fit free p) (unassigned g s fit' free' q) = one_unassigned raw g a b (subst (λ h. IsUnassignedFault raw h a) (one_resolved f g r s) p) q
 
-  not_fault : (f : Function) (fault : IrFault) → IsFunctionOf earlier raw f → ¬ IsFaultOfFunction earlier raw fault
+  not_fault : (f : Function) (fault : Fault IrFaultKind) → IsFunctionOf earlier raw f → ¬ IsFaultOfFunction earlier raw fault
   not_fault f fault p (of_names {fault = n} q) = law.not_both earlier raw n p.resolved.0 q
   not_fault f fault p (bad_phi g s q) = first_phi g f s p.resolved q p.phis
   not_fault f fault p (entry_pred g s fit q) = first_entry g f s p.resolved q p.entry
@@ -139,12 +139,12 @@ module _ (law : FunctionsHaveOneMeaningOrFault) where
   one_entry earlier (raw_entries.Function raw) (entries.Kept s) b p q = absurd p
   one_entry earlier (raw_entries.Function raw) (entries.Function f) (entries.Kept t) p q = absurd q
 
-  not_fault_of_entry : (earlier : List RawFunction) (raw : RawEntry) (entry : Entry) (fault : IrFault) → IsEntryOf earlier raw entry → ¬ IsFaultOfEntry earlier raw fault
+  not_fault_of_entry : (earlier : List RawFunction) (raw : RawEntry) (entry : Entry) (fault : Fault IrFaultKind) → IsEntryOf earlier raw entry → ¬ IsFaultOfEntry earlier raw fault
   not_fault_of_entry earlier (raw_entries.Kept written) entry fault p q = q
   not_fault_of_entry earlier (raw_entries.Function raw) (entries.Function f) fault p q = not_fault law earlier raw f fault p q
   not_fault_of_entry earlier (raw_entries.Function raw) (entries.Kept t) fault p q = p
 
-  one_fault_of_entry : (earlier : List RawFunction) (raw : RawEntry) (a b : IrFault) → IsFaultOfEntry earlier raw a → IsFaultOfEntry earlier raw b → a ≡ b
+  one_fault_of_entry : (earlier : List RawFunction) (raw : RawEntry) (a b : Fault IrFaultKind) → IsFaultOfEntry earlier raw a → IsFaultOfEntry earlier raw b → a ≡ b
   one_fault_of_entry earlier (raw_entries.Kept written) a b p q = absurd p
   one_fault_of_entry earlier (raw_entries.Function raw) a b p q = one_first_fault law earlier raw a b p q
 
@@ -155,10 +155,10 @@ module _ (law : FunctionsHaveOneMeaningOrFault) where
         let (raw, here) = there written k (omega (arith, p.count)) in
         one_entry (functions_of (take k written)) raw x y (p.each k raw x here at) (q.each k raw y here at'))
 
-    not_before_entry : (a b : IrFault) (p : IsFaultOfEntries written a) (q : IsFaultOfEntries written b) → ¬ (p.k < q.k)
+    not_before_entry : (a b : Fault IrFaultKind) (p : IsFaultOfEntries written a) (q : IsFaultOfEntries written b) → ¬ (p.k < q.k)
     not_before_entry a b p q lt = let (entry, is) = q.before p.k p.raw lt p.is_raw in not_fault_of_entry (functions_of (take p.k written)) p.raw entry a is p.fault_there
 
-    one_fault_of_entries : (a b : IrFault) → IsFaultOfEntries written a → IsFaultOfEntries written b → a ≡ b
+    one_fault_of_entries : (a b : Fault IrFaultKind) → IsFaultOfEntries written a → IsFaultOfEntries written b → a ≡ b
     one_fault_of_entries a b p q = elim (order p.k q.k) [
       | inl lt ↦ absurd (not_before_entry a b p q lt)
       | inr (inr gt) ↦ absurd (not_before_entry b a q p gt)
@@ -168,7 +168,7 @@ module _ (law : FunctionsHaveOneMeaningOrFault) where
           one_fault_of_entry (functions_of (take q.k written)) q.raw a b fault q.fault_there
     ]
 
-    not_both_of_entries : (xs : List Entry) (fault : IrFault) → AreEntriesOf written xs → ¬ IsFaultOfEntries written fault
+    not_both_of_entries : (xs : List Entry) (fault : Fault IrFaultKind) → AreEntriesOf written xs → ¬ IsFaultOfEntries written fault
     not_both_of_entries xs fault p q =
         let within : q.k < length written = slice_get_within written q.k q.raw q.is_raw in
         let (entry, at) = there xs q.k (omega (arith, p.count)) in
@@ -185,14 +185,14 @@ module _ (reading : TextsHaveOneReadingOrFault) (law : FunctionsHaveOneMeaningOr
       let entries_a = rw (reading.one_reading text p.raw q.raw p.is_raw q.is_raw) at p.entries in
       ap module_of (one_list law q.raw.entries a.entries b.entries entries_a q.entries)
 
-  one_fault : (text : List ℕ) (a b : IrFault) → IsFault text a → IsFault text b → a ≡ b
-  one_fault text a b (of_text {fault = m} p) (of_text {fault = n} q) = ap of_text_fault (reading.one_fault text m n p q)
+  one_fault : (text : List ℕ) (a b : Fault IrFaultKind) → IsFault text a → IsFault text b → a ≡ b
+  one_fault text a b (of_text {fault = m} p) (of_text {fault = n} q) = reading.one_fault text m n p q
   one_fault text a b (of_text {fault = m} p) (of_entries n within raw q) = absurd (reading.not_both text n m within raw p)
   one_fault text a b (of_entries m within raw p) (of_text {fault = n} q) = absurd (reading.not_both text m n within raw q)
   one_fault text a b (of_entries m within raw p) (of_entries n within' raw' q) =
       one_fault_of_entries law n.entries a b (subst (λ (w : RawModule). IsFaultOfEntries w.entries a) (reading.one_reading text m n raw raw') p) q
 
-  not_both : (text : List ℕ) (m : Module) (fault : IrFault) → length text ≤ most_bytes → IsModuleText text m → IsFault text fault → ⊥
+  not_both : (text : List ℕ) (m : Module) (fault : Fault IrFaultKind) → length text ≤ most_bytes → IsModuleText text m → IsFault text fault → ⊥
   not_both text m fault within p (of_text {fault = n} q) = reading.not_both text p.raw n within p.is_raw q
   not_both text m fault within p (of_entries n within' raw q) =
       not_both_of_entries law n.entries m.entries fault (subst (λ (w : RawModule). AreEntriesOf w.entries m.entries) (reading.one_reading text p.raw n p.is_raw raw) p.entries) q

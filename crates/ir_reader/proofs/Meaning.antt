@@ -32,11 +32,12 @@ use Rattle.ir_tokens.specs.declared.raw.RawCase.{RawCase}
 use Rattle.ir_resolve.specs.Written.{Thing, Calls}
 use Rattle.ir_resolve.specs.TypedReads.{Typed, typed, read_by, read_at_end}
 use Rattle.ir_resolve.specs.Means.{Means, ValueMeans, BlockMeans, IncomingMeans, OpMeans, InstMeans, CaseMeans, EndMeans, BlockIsOf}
-use Rattle.ir_reader.specs.declared.fault.IrFaultKind.TheVariants as kinds
-use Rattle.ir_reader.specs.declared.fault.IrFault.{IrFault}
-use Rattle.ir_reader.specs.declared.fault.IrError.{IrError}
-use Rattle.ir_reader.specs.declared.fault.IrError.TheVariants as errors
-use Rattle.ir_reader.specs.Errors.{IfRefused}
+use Rattle.refusal.specs.declared.fault.Fault.{Fault}
+use Rattle.ir_tokens.specs.declared.fault.IrFaultKind.{IrFaultKind}
+use Rattle.ir_tokens.specs.declared.fault.IrFaultKind.TheVariants as kinds
+use Rattle.refusal.specs.declared.refusal.Refusal.{Refusal}
+use Rattle.refusal.specs.declared.refusal.Refusal.TheVariants as errors
+use Rattle.refusal.specs.Refusals.{IfRefused}
 use Rattle.ir_reader.specs.FlowFaults.{IsUnassignedFault}
 use Rattle.ir_reader.specs.Operands.{written_by, written_at}
 use Rattle.ir_reader.proofs.Places.{same_at, there, somewhere, zip_left, zip_right, zip_length}
@@ -93,7 +94,7 @@ module _ (CallsThing : Called → Thing → Type 0) where
   end_reads f b k (terminators.Switch width a other ws) (ends.Switch x w c cases) means = (means.1, tt)
   end_reads f b k w t means = absurd means
 
-abbrev fault_at : ℕ → Called → ℕ → IrFault
+abbrev fault_at : ℕ → Called → ℕ → Fault IrFaultKind
 fault_at line name b = record { line = line; kind = kinds.Unassigned name b }
 
 -- ---- the function
@@ -181,7 +182,7 @@ module _ (raw : RawFunction) (f : Function) (means : Means raw f) where
   pub not_found : (b k i : ℕ) → WrittenRead b k i → None ≡ option_map (λ (t : Typed). t.operand) (slice_get (written_at raw b k) i) → ⊥
   not_found b k i r found = let is = found ∙ ap (option_map (λ (t : Typed). t.operand)) r.at in cc
 
-  pub unassigned_fault : (e : IrError) (register : Register) (b k i : ℕ) → IsFirstUnassigned f register b k i → (o : RawOperand) → Some o ≡ option_map (λ t. t.operand) (slice_get (written_at raw b k) i)
+  pub unassigned_fault : (e : Refusal (Fault IrFaultKind)) (register : Register) (b k i : ℕ) → IsFirstUnassigned f register b k i → (o : RawOperand) → Some o ≡ option_map (λ t. t.operand) (slice_get (written_at raw b k) i)
       → IfRefused e (λ fault. (name : Called) × (o.value ≡ values.Register name) × (fault ≡ record { line = o.line; kind = kinds.Unassigned name b })) → IfRefused e (IsUnassignedFault raw f)
   unassigned_fault (errors.Refused fault) register b k i first o found (name, named, is) =
       let r = written_read register b k i first in

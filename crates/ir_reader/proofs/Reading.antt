@@ -10,15 +10,14 @@ use Rattle.ir_tokens.specs.declared.raw.RawEntry.{RawEntry}
 use Rattle.ir_tokens.specs.declared.raw.RawEntry.TheVariants as raw_entries
 use Rattle.ir_tokens.specs.declared.raw.RawFunction.{RawFunction}
 use Rattle.ir_tokens.specs.declared.raw.RawBlock.{RawBlock}
-use Rattle.ir_instructions.specs.declared.fault.ParseError.{ParseError}
-use Rattle.ir_instructions.specs.declared.fault.ParseError.TheVariants as parse_errors
+use Rattle.refusal.specs.declared.fault.Fault.{Fault}
+use Rattle.ir_tokens.specs.declared.fault.IrFaultKind.{IrFaultKind}
 use Rattle.ir_parse.specs.Grammar.{SpellsEntry, SpellsBlocks}
 use Rattle.ir_instructions.specs.Parts.{Part, Each}
-use Rattle.ir_parse.specs.Errors.{IfRefused as IfMisread}
 use Rattle.ir_parse.specs.Text.{most_bytes, IsRaw, IsTextFault}
-use Rattle.ir_reader.specs.declared.fault.IrError.{IrError}
-use Rattle.ir_reader.specs.declared.fault.IrError.TheVariants as errors
-use Rattle.ir_reader.specs.Errors.{IfRefused, of_parse_error}
+use Rattle.refusal.specs.declared.refusal.Refusal.{Refusal}
+use Rattle.refusal.specs.declared.refusal.Refusal.TheVariants as errors
+use Rattle.refusal.specs.Refusals.{IfRefused}
 use Rattle.ir_reader.specs.Faults.{functions_of, IsEntryOf, AreEntriesOf, IsFunctionOf, IsFaultOfEntry, IsFaultOfEntries, IsFault, of_text, of_entries}
 use Rattle.ir_reader.specs.RepeatedNames.{MarksEntry}
 use Rattle.ir_reader.specs.HasBlock.{HasBlock, HaveBlocks}
@@ -73,7 +72,7 @@ pub all_entries : (written : List RawEntry) (place : ℕ) (read : List Entry) �
 all_entries written place read end first = record { count = first.count ∙ end; each = first.each }
 
 -- the first one that has a fault
-pub fault_of_entries : (written : List RawEntry) (place : ℕ) (raw : RawEntry) (read : List Entry) (mark : Bool) (e : IrError) → AreFirstEntries written place read → slice_get written place ≡ Some raw
+pub fault_of_entries : (written : List RawEntry) (place : ℕ) (raw : RawEntry) (read : List Entry) (mark : Bool) (e : Refusal (Fault IrFaultKind)) → AreFirstEntries written place read → slice_get written place ≡ Some raw
     → MarksEntry mark (functions_of (take place written)) raw → IfRefused e (λ fault. (earlier : List RawFunction) → MarksEntry mark earlier raw → IsFaultOfEntry earlier raw fault) → IfRefused e (IsFaultOfEntries written)
 fault_of_entries written place raw read mark (errors.Refused fault) first here marks h =
     record {
@@ -87,11 +86,11 @@ fault_of_entries written place raw read mark errors.NoMemory first here marks h 
 
 -- ---- the text
 
-pub text_fault : (text : List ℕ) (e : ParseError) (e' : IrError) → e' ≡ of_parse_error e → IfMisread e (IsTextFault text) → IfRefused e' (IsFault text)
-text_fault text (parse_errors.Refused fault) e' is h = rw is (of_text h)
-text_fault text parse_errors.NoMemory e' is h = rw is tt
+pub text_fault : (text : List ℕ) (e : Refusal (Fault IrFaultKind)) → IfRefused e (IsTextFault text) → IfRefused e (IsFault text)
+text_fault text (errors.Refused fault) h = of_text h
+text_fault text errors.NoMemory h = tt
 
-pub entries_fault : (text : List ℕ) (m : RawModule) (e : IrError) → length text ≤ most_bytes → IsRaw text m → IfRefused e (IsFaultOfEntries m.entries) → IfRefused e (IsFault text)
+pub entries_fault : (text : List ℕ) (m : RawModule) (e : Refusal (Fault IrFaultKind)) → length text ≤ most_bytes → IsRaw text m → IfRefused e (IsFaultOfEntries m.entries) → IfRefused e (IsFault text)
 entries_fault text m (errors.Refused fault) within raw h = of_entries m within raw h
 entries_fault text m errors.NoMemory within raw h = tt
 

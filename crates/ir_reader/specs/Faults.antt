@@ -10,15 +10,13 @@ use Rattle.ir_tokens.specs.declared.raw.RawModule.{RawModule}
 use Rattle.ir_tokens.specs.declared.raw.RawEntry.{RawEntry}
 use Rattle.ir_tokens.specs.declared.raw.RawEntry.TheVariants as raw_entries
 use Rattle.ir_tokens.specs.declared.raw.RawFunction.{RawFunction}
-use Rattle.ir_instructions.specs.declared.fault.TextFault.{TextFault}
+use Rattle.refusal.specs.declared.fault.Fault.{Fault}
+use Rattle.ir_tokens.specs.declared.fault.IrFaultKind.{IrFaultKind}
 use Rattle.ir_parse.specs.Text.{most_bytes, IsRaw, IsTextFault}
-use Rattle.ir_resolve.specs.declared.fault.Fault.{Fault}
 use Rattle.ir_resolve.specs.Faults.{HasNoFault, IsFirstNameFault}
 use Rattle.ir_resolve.specs.FirstLines.{IsFirstLine}
 use Rattle.ir_resolve.specs.Means.{Means}
-use Rattle.ir_reader.specs.declared.fault.IrFaultKind.TheVariants as kinds
-use Rattle.ir_reader.specs.declared.fault.IrFault.{IrFault}
-use Rattle.ir_reader.specs.Errors.{of_text_fault, of_name_fault}
+use Rattle.ir_tokens.specs.declared.fault.IrFaultKind.TheVariants as kinds
 use Rattle.ir_reader.specs.Phis.{PhisFit}
 use Rattle.ir_reader.specs.FlowFaults.{BadPhiAt, EntryPredAt, IsUnassignedFault}
 
@@ -41,13 +39,13 @@ pub record IsFunctionOf (earlier : List RawFunction) (raw : RawFunction) (f : Fu
 
 -- The first fault of a function as written: of names or types; else, of the function that is meant, a phi that doesn't fit; else a
 -- terminator that names the first block; else the first register that isn't assigned where it is read, as it is written there.
-pub data IsFaultOfFunction (earlier : List RawFunction) (raw : RawFunction) : IrFault → Type 0 where
-  of_names : {fault : Fault} → IsFirstNameFault earlier raw fault → IsFaultOfFunction earlier raw (of_name_fault fault)
+pub data IsFaultOfFunction (earlier : List RawFunction) (raw : RawFunction) : Fault IrFaultKind → Type 0 where
+  of_names : {fault : Fault IrFaultKind} → IsFirstNameFault earlier raw fault → IsFaultOfFunction earlier raw fault
   bad_phi : {line : ℕ} (f : Function) → ResolvesTo earlier raw f
       → IsFirstLine (BadPhiAt raw f) line → IsFaultOfFunction earlier raw (record { line = line; kind = kinds.BadPhi })
   entry_pred : {line : ℕ} (f : Function) → ResolvesTo earlier raw f → PhisFit f
       → IsFirstLine (EntryPredAt raw f) line → IsFaultOfFunction earlier raw (record { line = line; kind = kinds.EntryPred })
-  unassigned : {fault : IrFault} (f : Function) → ResolvesTo earlier raw f → PhisFit f → EntryIsFree f → IsUnassignedFault raw f fault → IsFaultOfFunction earlier raw fault
+  unassigned : {fault : Fault IrFaultKind} (f : Function) → ResolvesTo earlier raw f → PhisFit f → EntryIsFree f → IsUnassignedFault raw f fault → IsFaultOfFunction earlier raw fault
 
 -- ---- modules
 
@@ -76,12 +74,12 @@ pub record IsModuleText (text : List ℕ) (m : Module) : Type 0 where
   pub entries : AreEntriesOf raw.entries m.entries
 
 -- an entry as written, these being the functions before it, has this as its first fault
-abbrev pub IsFaultOfEntry : List RawFunction → RawEntry → IrFault → Type 0
+abbrev pub IsFaultOfEntry : List RawFunction → RawEntry → Fault IrFaultKind → Type 0
 IsFaultOfEntry earlier (raw_entries.Kept written) fault = ⊥
 IsFaultOfEntry earlier (raw_entries.Function raw) fault = IsFaultOfFunction earlier raw fault
 
 -- the first fault of entries: that of the first one that has one
-pub record IsFaultOfEntries (written : List RawEntry) (fault : IrFault) : Type 0 where
+pub record IsFaultOfEntries (written : List RawEntry) (fault : Fault IrFaultKind) : Type 0 where
   pub k : ℕ
   pub raw : RawEntry
   pub is_raw : slice_get written k ≡ Some raw
@@ -89,6 +87,6 @@ pub record IsFaultOfEntries (written : List RawEntry) (fault : IrFault) : Type 0
   pub fault_there : IsFaultOfEntry (functions_of (take k written)) raw fault
 
 -- The first fault of a text: that of the text as it is written, which may be its length, or else that of its entries.
-pub data IsFault (text : List ℕ) : IrFault → Type 0 where
-  of_text : {fault : TextFault} → IsTextFault text fault → IsFault text (of_text_fault fault)
-  of_entries : {fault : IrFault} (m : RawModule) → length text ≤ most_bytes → IsRaw text m → IsFaultOfEntries m.entries fault → IsFault text fault
+pub data IsFault (text : List ℕ) : Fault IrFaultKind → Type 0 where
+  of_text : {fault : Fault IrFaultKind} → IsTextFault text fault → IsFault text fault
+  of_entries : {fault : Fault IrFaultKind} (m : RawModule) → length text ≤ most_bytes → IsRaw text m → IsFaultOfEntries m.entries fault → IsFault text fault

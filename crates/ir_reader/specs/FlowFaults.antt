@@ -6,8 +6,9 @@ use Rattle.ir_core.specs.declared.operand.Register.{Register}
 use Rattle.ir_tokens.specs.declared.called.Identifier.{Identifier as Called}
 use Rattle.ir_tokens.specs.declared.raw.RawValue.TheVariants as values
 use Rattle.ir_resolve.specs.TypedReads.{Typed}
-use Rattle.ir_reader.specs.declared.fault.IrFaultKind.TheVariants as kinds
-use Rattle.ir_reader.specs.declared.fault.IrFault.{IrFault}
+use Rattle.refusal.specs.declared.fault.Fault.{Fault}
+use Rattle.ir_tokens.specs.declared.fault.IrFaultKind.{IrFaultKind}
+use Rattle.ir_tokens.specs.declared.fault.IrFaultKind.TheVariants as kinds
 use Rattle.ir_reader.specs.Operands.{written_at}
 use Rattle.ir_core.specs.declared.function.Function.{Function}
 use Rattle.ir_core.specs.declared.instruction.Inst.{Inst}
@@ -37,7 +38,7 @@ EntryPredAt raw f line = (b : ℕ) × EntryPredHere raw f b line
 
 -- Unassigned: the first register that isn't assigned where it is read, as it is written there, on the line of that operand, with the
 -- block in which it is written
-pub record IsUnassignedFault (raw : RawFunction) (f : Function) (fault : IrFault) : Type 0 where
+pub record IsUnassignedFault (raw : RawFunction) (f : Function) (fault : Fault IrFaultKind) : Type 0 where
   pub register : Register
   pub b : ℕ
   pub k : ℕ

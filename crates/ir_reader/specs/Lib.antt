@@ -1,7 +1,10 @@
+pub use Rattle.refusal.specs.Refusals
+pub use Rattle.refusal.specs.declared.fault.Fault
+pub use Rattle.refusal.specs.declared.refusal.Refusal
 pub use Rattle.ir_tokens.specs.declared.called.Identifier
+pub use Rattle.ir_tokens.specs.declared.fault.IrFaultKind
 pub use Rattle.ir_core.specs.Checks
 pub use Rattle.ir_parse.specs.Text
-pub mod Errors
 pub mod Phis
 pub mod Operands
 pub mod FlowFaults

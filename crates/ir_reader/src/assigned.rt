@@ -7,16 +7,16 @@ ghost use Rattle.ir_core.specs.Assigned.{ReadsAreAssigned};
 ghost use Rattle.ir_core.specs.Blocks.{Names};
 ghost use Rattle.ir_resolve.specs.Means.{Means};
 ghost use Rattle.ir_reader.specs.Counts.{IsCountable};
-ghost use Rattle.ir_reader.specs.Errors.{IfRefused};
+ghost use Rattle.refusal.specs.Refusals.{IfRefused};
 ghost use Rattle.ir_reader.specs.FlowFaults.{IsUnassignedFault};
-ghost use Rattle.ir_reader.specs.declared.fault.IrFaultKind.TheVariants.{Unassigned as unassigned_kind};
+ghost use Rattle.ir_tokens.specs.declared.fault.IrFaultKind.TheVariants.{Unassigned as unassigned_kind};
 
-use crate::fault::{IrError, IrFaultKind, refused};
 use crate::text::identifier;
 use crate::written::operand;
 use assigned_flow::{FlowError, check_assigned};
 use ir_core::Function;
-use ir_tokens::{RawFunction, RawOperand, RawValue};
+use ir_tokens::{IrError, IrFaultKind, RawFunction, RawOperand, RawValue};
+use refusal::refused;
 use std::alloc::Global;
 
 /// The refusal for a register as it is written, in a block.

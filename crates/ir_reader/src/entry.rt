@@ -6,8 +6,8 @@ ghost use Rattle.ir_reader.specs.FlowFaults.{EntryPredAt};
 ghost use Rattle.ir_reader.specs.Predecessors.{ArePredecessors};
 ghost use Rattle.ir_core.specs.declared.function.Function.{Function};
 
-use crate::least::lesser;
 use indexmap::IndexSet;
+use ir_resolve::lesser;
 use ir_tokens::RawFunction;
 
 /// The first line of a terminator, that of its first word, that names the first block. What is told of predecessors is that of the

@@ -7,14 +7,13 @@ ghost use Rattle.std.specs.Prelude.{◌≤◌, length, IfOk, IfSome};
 ghost use Rattle.ir_parse.specs.Text.{most_bytes};
 ghost use Rattle.ir_reader.specs.Faults.{IsModuleText};
 
-use crate::fault::IrError;
 use crate::following::{NextEntry, next_entry};
 use crate::reader::entry;
 use crate::repeated::is_repeated;
 use indexmap::IndexSet;
 use ir_core::Module;
 use ir_parse::MOST_BYTES;
-use ir_tokens::TokenReader;
+use ir_tokens::{IrError, TokenReader};
 use lists::List;
 use std::alloc::{AllocError, Global};
 

@@ -7,8 +7,8 @@ ghost use Rattle.ir_tokens.specs.SeenTokens.{seen};
 ghost use Rattle.ir_reader.specs.EntriesRead.{HasRead, Follows, IsWhole, IsEnd};
 ghost use Rattle.ir_parse.specs.ModuleReaders.{is_end};
 
-use ir_parse::{ParseError, entry};
-use ir_tokens::{Placed, RawEntry, Token, TokenReader};
+use ir_parse::entry;
+use ir_tokens::{IrError, Placed, RawEntry, Token, TokenReader};
 use std::alloc::{AllocError, Global};
 
 /// What is next in a text.
@@ -44,8 +44,8 @@ fn whole_entry(alloc: Global, tokens: &[Placed<'_>]) -> Result<NextEntry, AllocE
                 Ok(NextEntry::Refused)
             }
         }
-        Err(ParseError::Refused(_)) => Ok(NextEntry::Refused),
-        Err(ParseError::NoMemory) => Err(AllocError),
+        Err(IrError::Refused(_)) => Ok(NextEntry::Refused),
+        Err(IrError::NoMemory) => Err(AllocError),
     }
 }
 

@@ -3,18 +3,18 @@
 ghost use Rattle.std.specs.Prelude.{◌<◌, List as Seq, length, IfOk, IfErr};
 ghost use Rattle.ir_tokens.specs.declared.raw.RawFunction.{RawFunction as written_function};
 ghost use Rattle.ir_resolve.specs.Faults.{MarksFunction};
-ghost use Rattle.ir_reader.specs.Errors.{IfRefused};
+ghost use Rattle.refusal.specs.Refusals.{IfRefused};
 ghost use Rattle.ir_reader.specs.Faults.{IsFunctionOf, IsFaultOfFunction};
 
 use crate::assigned::check_reads;
 use crate::count::is_countable;
 use crate::entry::named_entry;
-use crate::fault::{IrError, IrFaultKind, refused};
 use crate::phis::bad_phi;
 use crate::predecessors::predecessors;
 use ir_core::Function;
 use ir_resolve::resolve;
-use ir_tokens::RawFunction;
+use ir_tokens::{IrError, IrFaultKind, RawFunction};
+use refusal::refused;
 use std::alloc::Global;
 
 /// The function that is meant, or the first fault.

@@ -10,12 +10,10 @@
 mod assigned;
 mod count;
 mod entry;
-mod fault;
 mod faultless;
 mod following;
 mod function;
 mod laws;
-mod least;
 mod phis;
 mod predecessors;
 mod reader;
@@ -23,8 +21,7 @@ mod repeated;
 mod text;
 mod written;
 
-pub use fault::{IrError, IrFault, IrFaultKind};
 pub use ir_parse::MOST_BYTES;
-pub use ir_tokens::Identifier;
+pub use ir_tokens::{Identifier, IrError, IrFault, IrFaultKind};
 pub use laws::every_text_has_one_module_or_one_fault;
 pub use reader::read_module;

@@ -10,9 +10,9 @@ ghost use Rattle.ir_resolve.specs.Means.{Means};
 ghost use Rattle.ir_reader.specs.FlowFaults.{BadPhiAt};
 ghost use Rattle.ir_reader.specs.Predecessors.{ArePredecessors, EntriesFitIn, OpFitsIn, BadPhiIn};
 
-use crate::least::lesser;
 use indexmap::{IndexMap, IndexSet};
 use ir_core::{Function, Inst, Op, Operand};
+use ir_resolve::lesser;
 use ir_tokens::{RawFunction, RawInst};
 use ops::Word;
 use std::alloc::{AllocError, Global};

@@ -4,19 +4,18 @@ ghost use Rattle.std.specs.Prelude.{◌≤◌, List as Seq, length, IfOk, OnOk, 
 ghost use Rattle.ir_core.specs.Checks.{ModuleMeetsChecks};
 ghost use Rattle.ir_parse.specs.Text.{most_bytes};
 ghost use Rattle.ir_tokens.specs.declared.raw.RawFunction.{RawFunction as written_function};
-ghost use Rattle.ir_reader.specs.Errors.{IfRefused};
+ghost use Rattle.refusal.specs.Refusals.{IfRefused};
 ghost use Rattle.ir_reader.specs.RepeatedNames.{MarksEntry};
 ghost use Rattle.ir_reader.specs.HasBlock.{HasBlock, HaveBlocks};
 ghost use Rattle.ir_reader.specs.Faults.{IsEntryOf, AreEntriesOf, IsFaultOfEntry, IsFaultOfEntries, IsModuleText, IsFault};
 
-use crate::fault::IrError;
 use crate::faultless::faultless_module;
 use crate::function::function;
 use crate::repeated::repeated_names;
 use crate::text::text;
 use ir_core::{Entry, Module};
 use ir_parse::parse;
-use ir_tokens::RawEntry;
+use ir_tokens::{IrError, RawEntry};
 use lists::List;
 use std::alloc::Global;
 
@@ -24,7 +23,8 @@ use std::alloc::Global;
 /// the first kind of [`IrFaultKind`](crate::IrFaultKind) in their order that the function has, at its first line.
 ///
 /// It takes as many steps as the text has bytes, but for the search in tables of names, numbers and blocks, and but for
-/// [`check_assigned`](assigned_flow::check_assigned), whose worst case is told there.
+/// [`check_assigned`](assigned_flow::check_assigned), whose worst case is told there. A function of 2^32 blocks, instructions of
+/// a block or entries of a `phi` is refused as for want of memory, and no text within the limit has one.
 pub fn read_module(alloc: Global, bytes: &[u8]) -> Result<Module, IrError>
     ensures ok { IfOk result (IsModuleText bytes.now) }
     ensures limit { OnOk result (length bytes.now ≤ most_bytes) }

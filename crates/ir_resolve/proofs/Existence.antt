@@ -2,9 +2,9 @@
 use Rattle.std.proofs.Common.{◌⊎◌, inl, inr, ℕ, ◌<◌, List, None, Some}
 use Rattle.ir_core.specs.declared.function.Function.{Function}
 use Rattle.ir_tokens.specs.declared.raw.RawFunction.{RawFunction}
-use Rattle.ir_resolve.specs.declared.fault.Fault.{Fault}
-use Rattle.ir_resolve.specs.declared.fault.FaultKind.{FaultKind}
-use Rattle.ir_resolve.specs.declared.fault.FaultKind.TheVariants.{Numbering, Duplicate, Unknown, TypeClash}
+use Rattle.refusal.specs.declared.fault.Fault.{Fault}
+use Rattle.ir_tokens.specs.declared.fault.IrFaultKind.{IrFaultKind}
+use Rattle.ir_tokens.specs.declared.fault.IrFaultKind.TheVariants.{Numbering, Duplicate, Unknown, TypeClash}
 use Rattle.ir_resolve.specs.Written.{written_names}
 use Rattle.ir_resolve.specs.FaultKinds.{Repeats, HasName, IsWrittenOn}
 use Rattle.ir_resolve.specs.Means.{Means}
@@ -21,10 +21,10 @@ use Rattle.ir_resolve.proofs.Meant.{some_function}
 
 module _ (earlier : List RawFunction) (raw : RawFunction) where
   abbrev HasMeaningOrFault : Type 0
-  HasMeaningOrFault = (HasNoFault earlier raw × ((f : Function) × Means raw f)) ⊎ ((fault : Fault) × IsFirstNameFault earlier raw fault)
+  HasMeaningOrFault = (HasNoFault earlier raw × ((f : Function) × Means raw f)) ⊎ ((fault : Fault IrFaultKind) × IsFirstNameFault earlier raw fault)
 
   -- a kind of faults, where those before it are none: its first line is that of the first fault, or what follows where it is none
-  checked : (kind : FaultKind) → FirstOf (HasFaultAt earlier raw kind) → ((other : FaultKind) (line : ℕ) → rank other < rank kind → ¬ HasFaultAt earlier raw other line)
+  checked : (kind : IrFaultKind) → FirstOf (HasFaultAt earlier raw kind) → ((other : IrFaultKind) (line : ℕ) → rank other < rank kind → ¬ HasFaultAt earlier raw other line)
       → (((line : ℕ) → ¬ HasFaultAt earlier raw kind line) → HasMeaningOrFault) → HasMeaningOrFault
   checked kind (Some line, first) clear next = inr (record { line = line; kind = kind }, record { line = first; first = clear })
   checked kind (None, none) clear next = next none

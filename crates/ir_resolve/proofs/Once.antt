@@ -1,5 +1,5 @@
 -- A function as written means one function at most, and has one first fault at most.
-use Rattle.std.proofs.Common.{◌≡◌, inl, inr, ℕ, ◌≤◌, List, [], ◌∷◌, map, Some, refl, sym, ap, subst, ◌∙◌, arith}
+use Rattle.std.proofs.Common.{◌≡◌, inl, inr, ℕ, zero, suc, ◌≤◌, List, [], ◌∷◌, map, Some, refl, sym, ap, subst, ◌∙◌, arith}
 use Rattle.std.specs.List.{AllZip, zip}
 use Rattle.std.proofs.lemmas.Bool.{cases_lt}
 use Rattle.ops.specs.Number.{Number}
@@ -31,9 +31,9 @@ use Rattle.ir_tokens.specs.declared.raw.RawValue.{RawValue}
 use Rattle.ir_tokens.specs.declared.raw.RawValue.TheVariants as values
 use Rattle.ir_tokens.specs.declared.raw.RawIncoming.{RawIncoming}
 use Rattle.ir_tokens.specs.declared.raw.RawCase.{RawCase}
-use Rattle.ir_resolve.specs.declared.fault.Fault.{Fault}
-use Rattle.ir_resolve.specs.declared.fault.FaultKind.{FaultKind}
-use Rattle.ir_resolve.specs.declared.fault.FaultKind.TheVariants.{Numbering, Duplicate, Unknown, TypeClash}
+use Rattle.refusal.specs.declared.fault.Fault.{Fault}
+use Rattle.ir_tokens.specs.declared.fault.IrFaultKind.{IrFaultKind}
+use Rattle.ir_tokens.specs.declared.fault.IrFaultKind.TheVariants.{Numbering, Duplicate, Unknown, TypeClash}
 use Rattle.ir_resolve.specs.FirstLines.{IsFirstLine}
 use Rattle.ir_resolve.specs.Written.{Thing, Value, Block, written_names, identifiers_of, Calls}
 use Rattle.ir_resolve.specs.FaultKinds.{literal_of, Repeats, HasName, IsWrittenOn}
@@ -227,14 +227,21 @@ one_meaning earlier raw f g none h k =
 
 -- ---- one fault
 
-same_rank : (a b : FaultKind) → rank a ≡ rank b → a ≡ b
-same_rank Numbering Numbering h = refl
-same_rank Duplicate Duplicate h = refl
-same_rank Unknown Unknown h = refl
-same_rank TypeClash TypeClash h = refl
-same_rank a b h = absurd (omega arith)
+-- the kind before which so many come
+abbrev kind_of : ℕ → IrFaultKind
+kind_of zero = Numbering
+kind_of (suc zero) = Duplicate
+kind_of (suc (suc zero)) = Unknown
+kind_of (suc (suc (suc n))) = TypeClash
 
-pub one_fault : (earlier : List RawFunction) (raw : RawFunction) (a b : Fault) → IsFirstNameFault earlier raw a → IsFirstNameFault earlier raw b → a ≡ b
+kind_of-rank : (earlier : List RawFunction) (raw : RawFunction) (kind : IrFaultKind) (line : ℕ) → HasFaultAt earlier raw kind line → kind_of (rank kind) ≡ kind
+kind_of-rank earlier raw Numbering line h = refl
+kind_of-rank earlier raw Duplicate line h = refl
+kind_of-rank earlier raw Unknown line h = refl
+kind_of-rank earlier raw TypeClash line h = refl
+kind_of-rank earlier raw other line h = absurd h
+
+pub one_fault : (earlier : List RawFunction) (raw : RawFunction) (a b : Fault IrFaultKind) → IsFirstNameFault earlier raw a → IsFirstNameFault earlier raw b → a ≡ b
 one_fault earlier raw a b p q =
     let kinds : rank a.kind ≡ rank b.kind =
     elim (cases_lt (rank a.kind) (rank b.kind)) [
@@ -242,12 +249,12 @@ one_fault earlier raw a b p q =
       | inr ge ↦ elim (cases_lt (rank b.kind) (rank a.kind)) [ inl lt ↦ absurd (p.first b.kind b.line lt q.line.0) | inr ge' ↦ omega arith ]
     ]
     in
-    let kind : a.kind ≡ b.kind = same_rank a.kind b.kind kinds in
+    let kind : a.kind ≡ b.kind = sym (kind_of-rank earlier raw a.kind a.line p.line.0) ∙ ap kind_of kinds ∙ kind_of-rank earlier raw b.kind b.line q.line.0 in
     let first : IsFirstLine (HasFaultAt earlier raw b.kind) a.line = subst (λ k. IsFirstLine (HasFaultAt earlier raw k) a.line) kind p.line in
     let le : a.line ≤ b.line = first.1 b.line q.line.0 in
     let ge : b.line ≤ a.line = q.line.1 a.line first.0 in
     let line : a.line ≡ b.line = omega arith in
     ap (λ l. record a { line = l }) line ∙ ap (λ k. record b { kind = k }) kind
 
-pub not_both : (earlier : List RawFunction) (raw : RawFunction) (fault : Fault) → HasNoFault earlier raw → ¬ IsFirstNameFault earlier raw fault
+pub not_both : (earlier : List RawFunction) (raw : RawFunction) (fault : Fault IrFaultKind) → HasNoFault earlier raw → ¬ IsFirstNameFault earlier raw fault
 not_both earlier raw fault none p = none fault.kind fault.line p.line.0

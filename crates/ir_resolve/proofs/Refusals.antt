@@ -4,10 +4,12 @@ use Rattle.std.specs.Bool.{then_some}
 use Rattle.std.proofs.lemmas.Bool.{false≢true}
 use Rattle.std.specs.List.{zip}
 use Rattle.ir_tokens.specs.declared.raw.RawFunction.{RawFunction}
-use Rattle.ir_resolve.specs.declared.fault.FaultKind.{FaultKind}
-use Rattle.ir_resolve.specs.declared.fault.FaultKind.TheVariants.{Numbering, Duplicate, Unknown, TypeClash}
-use Rattle.ir_resolve.specs.declared.fault.ResolveError.{ResolveError}
-use Rattle.ir_resolve.specs.declared.fault.ResolveError.TheVariants as errors
+use Rattle.refusal.specs.declared.fault.Fault.{Fault}
+use Rattle.ir_tokens.specs.declared.fault.IrFaultKind.{IrFaultKind}
+use Rattle.ir_tokens.specs.declared.fault.IrFaultKind.TheVariants.{Numbering, Duplicate, Unknown, TypeClash}
+use Rattle.refusal.specs.declared.refusal.Refusal.{Refusal}
+use Rattle.refusal.specs.declared.refusal.Refusal.TheVariants.{Refused, NoMemory}
+use Rattle.refusal.specs.Refusals.{IfRefused}
 use Rattle.ir_resolve.specs.declared.names.key.Key.{Key}
 use Rattle.ir_resolve.specs.declared.names.definition.Definition.{Definition}
 use Rattle.ir_resolve.specs.FirstLines.{IsFirst, IsFirstLine, SomeAt, lesser}
@@ -17,7 +19,7 @@ use Rattle.ir_resolve.specs.FaultKinds.{Repeats, HasName, IsWrittenOn, HasNumber
 use Rattle.ir_resolve.specs.Views.{seen, seen_written, seen_definition, AreKeysOf, Known}
 use Rattle.ir_resolve.specs.Definitions.{Defined, definitions_of}
 use Rattle.ir_resolve.specs.NameTable.{IsFaultOfUses, unknown, clash}
-use Rattle.ir_resolve.specs.Faults.{rank, HasFaultAt, HasNoFault, IsFirstNameFault, MarksFunction, IfRefused}
+use Rattle.ir_resolve.specs.Faults.{rank, HasFaultAt, HasNoFault, IsFirstNameFault, MarksFunction}
 use Rattle.ir_resolve.proofs.Firsts.{first_either, first_if}
 use Rattle.ir_resolve.proofs.Tables.{none_of}
 use Rattle.ir_resolve.proofs.Standing.{written_definitions}
@@ -71,8 +73,8 @@ duplicate_first earlier raw is_repeated function name case rest found marks is f
 
 -- ---- refusals
 
-pub refused_at : (raw : RawFunction) (is_repeated : Bool) (kind : FaultKind) (line : ℕ) (e : ResolveError) → e ≡ errors.Refused (record { line = line; kind = kind })
-    → ((earlier : List RawFunction) → MarksFunction is_repeated earlier raw → (other : FaultKind) (l : ℕ) → rank other < rank kind → ¬ HasFaultAt earlier raw other l)
+pub refused_at : (raw : RawFunction) (is_repeated : Bool) (kind : IrFaultKind) (line : ℕ) (e : Refusal (Fault IrFaultKind)) → e ≡ Refused (record { line = line; kind = kind })
+    → ((earlier : List RawFunction) → MarksFunction is_repeated earlier raw → (other : IrFaultKind) (l : ℕ) → rank other < rank kind → ¬ HasFaultAt earlier raw other l)
     → ((earlier : List RawFunction) → MarksFunction is_repeated earlier raw → IsFirstLine (HasFaultAt earlier raw kind) line)
     → IfRefused e (λ fault. (earlier : List RawFunction) → MarksFunction is_repeated earlier raw → IsFirstNameFault earlier raw fault)
 refused_at raw is_repeated kind line e is clear first =
@@ -80,35 +82,33 @@ refused_at raw is_repeated kind line e is clear first =
     (λ earlier marks. record { line = first earlier marks; first = clear earlier marks })
 
 -- no kind comes before the first
-pub clear_none : (earlier : List RawFunction) (raw : RawFunction) (kind : FaultKind) (l : ℕ) → rank kind < 0 → ¬ HasFaultAt earlier raw kind l
+pub clear_none : (earlier : List RawFunction) (raw : RawFunction) (kind : IrFaultKind) (l : ℕ) → rank kind < 0 → ¬ HasFaultAt earlier raw kind l
 clear_none earlier raw kind l lt = absurd (omega arith)
 
 module _ (earlier : List RawFunction) (raw : RawFunction) (no_numbering : (line : ℕ) → ¬ NumberingAt raw line) where
-  pub clear_1 : (kind : FaultKind) (l : ℕ) → rank kind < 1 → ¬ HasFaultAt earlier raw kind l
+  pub clear_1 : (kind : IrFaultKind) (l : ℕ) → rank kind < 1 → ¬ HasFaultAt earlier raw kind l
   clear_1 Numbering l lt = no_numbering l
-  clear_1 Duplicate l lt = absurd (omega arith)
-  clear_1 Unknown l lt = absurd (omega arith)
-  clear_1 TypeClash l lt = absurd (omega arith)
+  clear_1 other l lt = absurd (omega arith)
 
   module _ (no_duplicate : (line : ℕ) → ¬ DuplicateAt earlier raw line) where
-    pub clear_2 : (kind : FaultKind) (l : ℕ) → rank kind < 2 → ¬ HasFaultAt earlier raw kind l
+    pub clear_2 : (kind : IrFaultKind) (l : ℕ) → rank kind < 2 → ¬ HasFaultAt earlier raw kind l
     clear_2 Numbering l lt = no_numbering l
     clear_2 Duplicate l lt = no_duplicate l
-    clear_2 Unknown l lt = absurd (omega arith)
-    clear_2 TypeClash l lt = absurd (omega arith)
+    clear_2 other l lt = absurd (omega arith)
 
     module _ (no_unknown : (line : ℕ) → ¬ UnknownAt raw line) where
-      pub clear_3 : (kind : FaultKind) (l : ℕ) → rank kind < 3 → ¬ HasFaultAt earlier raw kind l
+      pub clear_3 : (kind : IrFaultKind) (l : ℕ) → rank kind < 3 → ¬ HasFaultAt earlier raw kind l
       clear_3 Numbering l lt = no_numbering l
       clear_3 Duplicate l lt = no_duplicate l
       clear_3 Unknown l lt = no_unknown l
-      clear_3 TypeClash l lt = absurd (omega arith)
+      clear_3 other l lt = absurd (omega arith)
 
       pub clear_all : ((line : ℕ) → ¬ TypeClashAt raw line) → HasNoFault earlier raw
       clear_all no_clash Numbering l = no_numbering l
       clear_all no_clash Duplicate l = no_duplicate l
       clear_all no_clash Unknown l = no_unknown l
       clear_all no_clash TypeClash l = no_clash l
+      clear_all no_clash other l = λ none. none
 
 -- one of these lists of earlier functions has the mark
 pub marked : (is_repeated : Bool) (raw : RawFunction) → (earlier : List RawFunction) × MarksFunction is_repeated earlier raw
@@ -116,15 +116,15 @@ marked true raw = (raw ∷ [], (λ t. (0, raw, refl, refl), λ has. refl))
 marked false raw = ([], (λ t. absurd (false≢true t), λ (k, other, at, name). cc))
 
 -- a fault of what is read and named is the first, where numbers are those of the series and nothing is given twice
-pub uses_refused : (raw : RawFunction) (is_repeated : Bool) (e : ResolveError) → ((line : ℕ) → ¬ NumberingAt raw line)
+pub uses_refused : (raw : RawFunction) (is_repeated : Bool) (e : Refusal (Fault IrFaultKind)) → ((line : ℕ) → ¬ NumberingAt raw line)
     → ((earlier : List RawFunction) → MarksFunction is_repeated earlier raw → (line : ℕ) → ¬ DuplicateAt earlier raw line)
     → IfRefused e (IsFaultOfUses raw) → IfRefused e (λ fault. (earlier : List RawFunction) → MarksFunction is_repeated earlier raw → IsFirstNameFault earlier raw fault)
-uses_refused raw is_repeated errors.NoMemory numbered once fault_of_uses = tt
-uses_refused raw is_repeated (errors.Refused fault) numbered once (unknown kind first) = λ earlier marks. record {
+uses_refused raw is_repeated NoMemory numbered once fault_of_uses = tt
+uses_refused raw is_repeated (Refused fault) numbered once (unknown kind first) = λ earlier marks. record {
   line = subst (λ k. IsFirstLine (HasFaultAt earlier raw k) fault.line) (sym kind) first;
   first = λ other l lt. clear_2 earlier raw numbered (once earlier marks) other l (subst (λ k. rank other < rank k) kind lt);
 }
-uses_refused raw is_repeated (errors.Refused fault) numbered once (clash kind no_unknown first) = λ earlier marks. record {
+uses_refused raw is_repeated (Refused fault) numbered once (clash kind no_unknown first) = λ earlier marks. record {
   line = subst (λ k. IsFirstLine (HasFaultAt earlier raw k) fault.line) (sym kind) first;
   first = λ other l lt. clear_3 earlier raw numbered (once earlier marks) no_unknown other l (subst (λ k. rank other < rank k) kind lt);
 }

@@ -3,8 +3,9 @@ use Rattle.std.specs.Prelude.{◌≡◌, ◌↔◌, ℕ, List}
 use Rattle.ir_tokens.specs.declared.called.Identifier.{Identifier as Called}
 use Rattle.ir_core.specs.declared.operand.Register.{Register}
 use Rattle.ir_tokens.specs.declared.raw.RawFunction.{RawFunction}
-use Rattle.ir_resolve.specs.declared.fault.Fault.{Fault}
-use Rattle.ir_resolve.specs.declared.fault.FaultKind.TheVariants.{Unknown, TypeClash}
+use Rattle.refusal.specs.declared.fault.Fault.{Fault}
+use Rattle.ir_tokens.specs.declared.fault.IrFaultKind.{IrFaultKind}
+use Rattle.ir_tokens.specs.declared.fault.IrFaultKind.TheVariants.{Unknown, TypeClash}
 use Rattle.ir_resolve.specs.FirstLines.{IsFirstLine}
 use Rattle.ir_resolve.specs.Written.{Thing, Calls}
 use Rattle.ir_resolve.specs.FaultKinds.{CallsRegister, UnknownAt, TypeClashAt}
@@ -16,6 +17,6 @@ pub record Tabulates (raw : RawFunction) (known : List Known) : Type 0 where
   pub registers : (x : Called) (r : Register) (width : ℕ) → CallsRegisterIn known x r width ↔ CallsRegister raw x r width
 
 -- the first fault of what is read and named: first what is unknown, and then types
-pub data IsFaultOfUses (raw : RawFunction) (fault : Fault) : Type 0 where
+pub data IsFaultOfUses (raw : RawFunction) (fault : Fault IrFaultKind) : Type 0 where
   unknown : fault.kind ≡ Unknown → IsFirstLine (UnknownAt raw) fault.line → IsFaultOfUses raw fault
   clash : fault.kind ≡ TypeClash → ((line : ℕ) → ¬ UnknownAt raw line) → IsFirstLine (TypeClashAt raw) fault.line → IsFaultOfUses raw fault

@@ -4,7 +4,7 @@ ghost use Rattle.std.specs.Prelude.{◌≡◌};
 ghost use Rattle.ir_resolve.specs.FirstLines.{lesser};
 
 /// The lesser of two lines, where both are there, and else the one that is.
-pub(crate) fn lesser(one: Option<usize>, other: Option<usize>) -> Option<usize>
+pub fn lesser(one: Option<usize>, other: Option<usize>) -> Option<usize>
     ensures { result ≡ lesser one other }
 {
     match (one, other) {

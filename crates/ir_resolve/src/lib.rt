@@ -7,7 +7,6 @@
 
 mod building;
 mod cases;
-mod fault;
 mod laws;
 mod least;
 mod literal;
@@ -17,6 +16,6 @@ mod types;
 mod unknown;
 mod uses;
 
-pub use fault::{Fault, FaultKind, ResolveError};
 pub use laws::every_function_has_one_meaning_or_one_fault;
+pub use least::lesser;
 pub use resolution::resolve;

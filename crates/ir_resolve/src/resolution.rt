@@ -9,18 +9,19 @@ ghost use Rattle.ir_resolve.specs.FaultKinds.{Repeats, HasName, IsWrittenOn, Num
 ghost use Rattle.ir_resolve.specs.Views.{known_by};
 ghost use Rattle.ir_resolve.specs.NameTable.{Tabulates, IsFaultOfUses};
 ghost use Rattle.ir_resolve.specs.Formed.{IsWellWritten, IsWellNamed};
-ghost use Rattle.ir_resolve.specs.Faults.{HasNoFault, IsFirstNameFault, MarksFunction, IfRefused};
+ghost use Rattle.ir_resolve.specs.Faults.{HasNoFault, IsFirstNameFault, MarksFunction};
+ghost use Rattle.refusal.specs.Refusals.{IfRefused};
 
 use crate::building::build;
 use crate::cases::repeated_case;
-use crate::fault::{FaultKind, ResolveError, refused};
 use crate::least::lesser;
 use crate::names::{Names, definitions, keys, misnumbered, names};
 use crate::types::{block_clash, read_clash};
 use crate::unknown::unknown;
 use crate::uses::Uses;
 use ir_core::Function;
-use ir_tokens::RawFunction;
+use ir_tokens::{IrError, IrFaultKind, RawFunction};
+use refusal::refused;
 use std::alloc::{AllocError, Global};
 
 /// The first line of a duplicate: a name of a function, of a register or a block, or a number of a case that is there again. Of
@@ -42,7 +43,7 @@ fn duplicate(
 }
 
 /// What each name and number calls, where numbers are those of the series and nothing is given twice.
-fn named(alloc: Global, raw: &RawFunction, is_repeated: bool) -> Result<Names<'_>, ResolveError>
+fn named(alloc: Global, raw: &RawFunction, is_repeated: bool) -> Result<Names<'_>, IrError>
     ensures table { IfOk result (λ names. Tabulates raw.now (known_by names)) }
     ensures numbered { OnOk result ((line : ℕ) → ¬ NumberingAt raw.now line) }
     ensures once { OnOk result ((earlier : Seq written_function) →
@@ -53,17 +54,17 @@ fn named(alloc: Global, raw: &RawFunction, is_repeated: bool) -> Result<Names<'_
     let definitions = definitions(alloc, raw)?;
     let keys = keys(alloc, definitions.as_slice())?;
     if let Some(line) = misnumbered(definitions.as_slice(), keys.as_slice()) {
-        return Err(refused(line, FaultKind::Numbering));
+        return Err(refused(line, IrFaultKind::Numbering));
     }
     let (names, repeated_name) = names(alloc, definitions.as_slice(), keys.as_slice())?;
     match duplicate(alloc, raw, is_repeated, repeated_name)? {
-        Some(line) => Err(refused(line, FaultKind::Duplicate)),
+        Some(line) => Err(refused(line, IrFaultKind::Duplicate)),
         None => Ok(names),
     }
 }
 
 /// Whether what is read and named is there, and has the types that are written.
-fn check_uses(alloc: Global, names: &Names<'_>, raw: &RawFunction) -> Result<(), ResolveError>
+fn check_uses(alloc: Global, names: &Names<'_>, raw: &RawFunction) -> Result<(), IrError>
     requires { Tabulates raw.now (known_by names.now) }
     ensures known { OnOk result ((line : ℕ) → ¬ UnknownAt raw.now line) }
     ensures typed { OnOk result ((line : ℕ) → ¬ TypeClashAt raw.now line) }
@@ -71,28 +72,24 @@ fn check_uses(alloc: Global, names: &Names<'_>, raw: &RawFunction) -> Result<(),
 {
     let uses = Uses::of(alloc, raw)?;
     if let Some(line) = unknown(names, &uses) {
-        return Err(refused(line, FaultKind::Unknown));
+        return Err(refused(line, IrFaultKind::Unknown));
     }
     let clash = lesser(
         read_clash(names, uses.reads.as_slice()),
         block_clash(raw.width, raw.blocks.as_slice()),
     );
     match clash {
-        Some(line) => Err(refused(line, FaultKind::TypeClash)),
+        Some(line) => Err(refused(line, IrFaultKind::TypeClash)),
         None => Ok(()),
     }
 }
 
 /// The function that is meant, whose registers and blocks are known by place, or the first fault: of the first kind in the order
-/// of [`FaultKind`] that the function has, at the least line (LLVM Language Reference, "Identifiers", and the types that each
+/// of [`IrFaultKind`] that the function has, at the least line (LLVM Language Reference, "Identifiers", and the types that each
 /// instruction asks for). The caller says whether an earlier function of the module has the function's name.
 ///
 /// It takes steps and memory in proportion to what the function has, but for look-ups in hash tables.
-pub fn resolve(
-    alloc: Global,
-    raw: &RawFunction,
-    is_repeated: bool,
-) -> Result<Function, ResolveError>
+pub fn resolve(alloc: Global, raw: &RawFunction, is_repeated: bool) -> Result<Function, IrError>
     ensures means { IfOk result (Means raw.now) }
     ensures faultless { OnOk result ((earlier : Seq written_function) →
         MarksFunction is_repeated earlier raw.now → HasNoFault earlier raw.now) }

@@ -19,7 +19,7 @@ use Rattle.ir_tokens.specs.declared.raw.RawFunction.{RawFunction}
 use Rattle.ir_tokens.specs.declared.raw.RawBlock.{RawBlock}
 use Rattle.ir_tokens.specs.declared.raw.RawInst.{RawInst}
 use Rattle.ir_tokens.specs.declared.raw.RawIdentifier.{RawIdentifier}
-use Rattle.ir_resolve.specs.declared.fault.FaultKind.TheVariants.{Numbering, Duplicate, Unknown, TypeClash}
+use Rattle.ir_tokens.specs.declared.fault.IrFaultKind.TheVariants.{Numbering, Duplicate, Unknown, TypeClash}
 use Rattle.ir_resolve.specs.Written.{Value, name_in, given, written_names, Calls}
 use Rattle.ir_resolve.specs.TypedReads.{Typed, read_by, read_at_end, named_by, named_at_end, reads_of as all_reads}
 use Rattle.ir_resolve.specs.FaultKinds.{NumberingAt, Repeats, HasName, IsWrittenOn, HasNameOf, DuplicateAt, UnknownAt, RegisterHasWidth, CallsRegister, ValueClashes, BlockClashesAt, TypeClashAt}
@@ -176,3 +176,4 @@ module _ (raw : RawFunction) (f : Function) (writes : WritesFunction raw f) (for
   no_fault earlier first Duplicate line = no_duplicate earlier first line
   no_fault earlier first Unknown line = no_unknown line
   no_fault earlier first TypeClash line = no_type_clash line
+  no_fault earlier first kind line = λ h. h

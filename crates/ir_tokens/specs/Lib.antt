@@ -1,3 +1,4 @@
+pub use Rattle.refusal.specs.Refusals
 pub use Rattle.scan.specs.Bytes
 pub use Rattle.scan.specs.IrTokens
 pub use Rattle.scan.specs.Quoted

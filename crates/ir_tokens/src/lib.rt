@@ -1,8 +1,9 @@
-//! The tokens of a module's text in order, each with its line, and what names and numbers mean as they are written.
+//! The tokens of a module's text in order, each with its line, what names and numbers mean as they are written, and the kinds of faults.
 #![tactic(auto)]
 
 mod bytes;
 mod called;
+mod fault;
 mod laws;
 mod naming;
 mod number;
@@ -14,6 +15,7 @@ mod tokens;
 
 pub use bytes::{is_number, is_plain_name};
 pub use called::Identifier;
+pub use fault::{IrError, IrFault, IrFaultKind};
 pub use laws::every_text_has_one_list_of_tokens;
 pub use naming::identifier;
 pub use number::constant;

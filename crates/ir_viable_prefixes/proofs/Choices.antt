@@ -1,8 +1,8 @@
 -- Readers that go on by what stands next.
 use Rattle.std.proofs.Common.{◌≡◌, ℕ, Bool, true, false, cond, List, [], ◌∷◌, ◌++◌, Ok, Err, refl, sym, subst, ◌∙◌, ◌⊎◌, inl, inr}
 use Rattle.ir_tokens.specs.Tokens.{Token, Placed, Word, Group}
-use Rattle.ir_instructions.specs.declared.fault.Misfit.{Misfit}
-use Rattle.ir_instructions.specs.declared.fault.TextFault.{TextFault}
+use Rattle.ir_tokens.specs.declared.fault.IrFaultKind.{IrFaultKind}
+use Rattle.refusal.specs.declared.fault.Fault.{Fault}
 use Rattle.ir_instructions.specs.declared.word.Ending.{Ending}
 use Rattle.ir_instructions.specs.Places.{begins_record}
 use Rattle.ir_instructions.specs.Readers.{Read, Reader}
@@ -72,7 +72,7 @@ fits_transferred test asks b R S agree D E F within enters tokens next ((l, v) �
 -- What holds of a reader holds of one that does the same where the test says so.
 pub transfer : {A : Type 0} (test : List Placed → Bool) → AsksNext test → (b : Bool) (R S : Reader A) → ((tokens : List Placed) → test tokens ≡ b → S tokens ≡ R tokens)
     → (U U' Z : Type 0) → (U → U') → Opens test b U → (D E F : Follow) → OpensRecords test b E S F → (V W : Why) → ((t : Token) → D t → Tested test b t) → ((t : Token) → D t → E t)
-    → (tokens : List Placed) → ((front : List Placed) (l : ℕ) (t : Token) (behind : List Placed) → tokens ≡ front ++ (l, t) ∷ behind → (kind : Misfit) → V front t kind → W front t kind)
+    → (tokens : List Placed) → ((front : List Placed) (l : ℕ) (t : Token) (behind : List Placed) → tokens ≡ front ++ (l, t) ∷ behind → (kind : IrFaultKind) → V front t kind → W front t kind)
     → test tokens ≡ b → (r : Read A) → OutcomeIf U D R F Z V tokens r → OutcomeIf U' E S F Z W tokens r
 transfer {A} test asks b R S agree U U' Z voiced opens D E F records V W within enters tokens lift next (Ok x) o = record {
   front = o.front;
@@ -91,8 +91,8 @@ transfer {A} test asks b R S agree U U' Z voiced opens D E F records V W within 
 }
   where
     moved : (front : List Placed) (u : Token) (line : ℕ) (more : List Placed) → test (front ++ (line, u) ∷ more) ≡ b
-        → (R (front ++ (line, u) ∷ more) ≡ Ok (x.0, (line, u) ∷ more)) ⊎ ((e : TextFault) × (R (front ++ (line, u) ∷ more) ≡ Err e))
-        → (S (front ++ (line, u) ∷ more) ≡ Ok (x.0, (line, u) ∷ more)) ⊎ ((e : TextFault) × (S (front ++ (line, u) ∷ more) ≡ Err e))
+        → (R (front ++ (line, u) ∷ more) ≡ Ok (x.0, (line, u) ∷ more)) ⊎ ((e : Fault IrFaultKind) × (R (front ++ (line, u) ∷ more) ≡ Err e))
+        → (S (front ++ (line, u) ∷ more) ≡ Ok (x.0, (line, u) ∷ more)) ⊎ ((e : Fault IrFaultKind) × (S (front ++ (line, u) ∷ more) ≡ Err e))
     moved front u line more h (inl one) = inl (agree (front ++ (line, u) ∷ more) h ∙ one)
     moved front u line more h (inr (e, one)) = inr (e, agree (front ++ (line, u) ∷ more) h ∙ one)
 

@@ -5,8 +5,8 @@ use Rattle.std.specs.Str.{bytes_eq}
 use Rattle.ir_tokens.specs.Tokens.{Token, Placed, End, Kept, Word, Mark}
 use Rattle.ir_tokens.specs.declared.raw.RawEntry.{RawEntry}
 use Rattle.ir_tokens.specs.declared.raw.RawEntry.TheVariants as entries
-use Rattle.ir_instructions.specs.declared.fault.Misfit.{Misfit}
-use Rattle.ir_instructions.specs.declared.fault.Misfit.TheVariants.{LeftOut}
+use Rattle.ir_tokens.specs.declared.fault.IrFaultKind.{IrFaultKind}
+use Rattle.ir_tokens.specs.declared.fault.IrFaultKind.TheVariants.{LeftOut}
 use Rattle.ir_instructions.specs.declared.place.Place.TheVariants as places
 use Rattle.ir_instructions.specs.Places.{leaves_out, misfit, shown}
 use Rattle.ir_instructions.specs.Readers.{Reader, fault, unexpected, ◌>>=◌, done, repeat_at, another_at}
@@ -84,7 +84,7 @@ entry_outcome tokens e =
     read : Reader RawEntry
     read ts = (entry_token_at >>= behind_entry) ts
 
-    over : (front : List Placed) (l : ℕ) (t : Token) (behind : List Placed) → tokens ≡ front ++ (l, t) ∷ behind → (kind : Misfit) → OrFirst Begins read Anything front t kind → OrFirst Begins parsing.entry_at Anything front t kind
+    over : (front : List Placed) (l : ℕ) (t : Token) (behind : List Placed) → tokens ≡ front ++ (l, t) ∷ behind → (kind : IrFaultKind) → OrFirst Begins read Anything front t kind → OrFirst Begins parsing.entry_at Anything front t kind
     over front l t behind there kind (inl why) = inl why
     over front l t behind there kind (inr why) =
         inr (reason_map _ _ _ _ _ _ _ _ t (maps_transferred (λ ts. true) (λ k i v a b. refl) true read parsing.entry_at (λ ts h. same_entry ts) (Unit {0}) (Unit {0}) (λ v. v) (λ v u h like. refl) Begins Begins Anything (λ v begins h. (inr (λ ending. refl), λ end text. refl)) (λ w d. refl) (λ w d. d) tokens refl front l t behind there) kind why)
@@ -142,7 +142,7 @@ another_outcome before tokens e =
     last : (x : RawEntry) → Good Anything (done (before ++ x ∷ [])) Anything
     last x = done-good (λ t d. d) (before ++ x ∷ [])
 
-    first : (front : List Placed) (t : Token) (kind : Misfit) → OrFirst Begins parsing.entry_at Anything front t kind → OrFirst Begins (another_at parsing.entry_at before) Anything front t kind
+    first : (front : List Placed) (t : Token) (kind : IrFaultKind) → OrFirst Begins parsing.entry_at Anything front t kind → OrFirst Begins (another_at parsing.entry_at before) Anything front t kind
     first front t kind (inl why) = inl why
     first front t kind (inr why) =
         inr (reason_map _ _ _ _ _ _ _ _ t (maps_first (Unit {0}) Begins Anything Anything parsing.entry_at (λ x. done (before ++ x ∷ [])) (λ x. (last x).sample) front t) kind why)
@@ -184,12 +184,12 @@ entry_lifts E enters a tokens next = record {
     lifts : Lifts (Unit {0}) (Unit {0}) Begins Anything Ends (another_at parsing.entry_at a) Loop (Reasons Begins (another_at parsing.entry_at a) Anything) (λ x. Reasons Anything (Loop x) Ends) (Reasons E (Loop a) Ends) tokens
     lifts = loop_lifts (Unit {0}) Anything Ends (Unit {0}) parsing.begins_entry (another_at parsing.entry_at) entry_steps E enters a tokens next
 
-    first : (front : List Placed) (l : ℕ) (t : Token) (behind : List Placed) → tokens ≡ front ++ (l, t) ∷ behind → (kind : Misfit) → OrFirst Begins (another_at parsing.entry_at a) Anything front t kind → OrEnds E (Loop a) Ends front t kind
+    first : (front : List Placed) (l : ℕ) (t : Token) (behind : List Placed) → tokens ≡ front ++ (l, t) ∷ behind → (kind : IrFaultKind) → OrFirst Begins (another_at parsing.entry_at a) Anything front t kind → OrEnds E (Loop a) Ends front t kind
     first front l t behind there kind (inl why) = inl (ends_first a front why.0, why.1)
     first front l t behind there kind (inr why) = inr (lifts.first front l t behind there kind why)
 
     second : (x : List RawEntry × List Placed) → another_at parsing.entry_at a tokens ≡ Ok x → (o : IsReadIf (Unit {0}) Begins (another_at parsing.entry_at a) Anything (Unit {0}) tokens x.0 x.1) (front : List Placed) (l : ℕ) (t : Token) (behind : List Placed) → x.1 ≡ front ++ (l, t) ∷ behind
-        → (kind : Misfit) → OrEnds Anything (Loop x.0) Ends front t kind → OrEnds E (Loop a) Ends (o.front ++ front) t kind
+        → (kind : IrFaultKind) → OrEnds Anything (Loop x.0) Ends front t kind → OrEnds E (Loop a) Ends (o.front ++ front) t kind
     second x is o front l t behind there kind (inl why) = inl (ends_second a tokens x next is o front (l, t) behind there why.0, why.1)
     second x is o front l t behind there kind (inr why) = inr (lifts.second x is o front l t behind there kind why)
 

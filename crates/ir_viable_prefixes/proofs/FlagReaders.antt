@@ -5,8 +5,8 @@ use Rattle.ops.specs.declared.opcode.Opcode.{Opcode}
 use Rattle.ops.specs.declared.opcode.Flags.{Flags}
 use Rattle.ops.specs.Flags.{no_flags}
 use Rattle.ir_tokens.specs.Tokens.{Token, Placed, Word, Mark}
-use Rattle.ir_instructions.specs.declared.fault.Misfit.{Misfit}
-use Rattle.ir_instructions.specs.declared.fault.Misfit.TheVariants.{Syntax}
+use Rattle.ir_tokens.specs.declared.fault.IrFaultKind.{IrFaultKind}
+use Rattle.ir_tokens.specs.declared.fault.IrFaultKind.TheVariants.{Syntax}
 use Rattle.ir_instructions.specs.declared.word.Ending.{Ending}
 use Rattle.ir_instructions.specs.declared.word.Ending.TheVariants as endings
 use Rattle.ir_instructions.specs.declared.word.TypeWord.TheVariants.{OutOfRange}
@@ -142,7 +142,7 @@ abbrev IsThereOrRead : Flags → Why
 IsThereOrRead before front t kind =
     (w : List ℕ) × (flag : Flag) × (t ≡ Word w) × (w ≡ flag_keyword flag) × (kind ≡ Syntax) × (RepeatsFlag front w ⊎ ((has_flag before flag ≡ true) × AreFlags front))
 
-read_behind : (before after : Flags) (line : ℕ) (new : Flag) (front : List Placed) (t : Token) (kind : Misfit) → after ≡ with_flag before new → IsThereOrRead after front t kind → IsThereOrRead before ((line, Word (flag_keyword new)) ∷ front) t kind
+read_behind : (before after : Flags) (line : ℕ) (new : Flag) (front : List Placed) (t : Token) (kind : IrFaultKind) → after ≡ with_flag before new → IsThereOrRead after front t kind → IsThereOrRead before ((line, Word (flag_keyword new)) ∷ front) t kind
 read_behind before after line new front t kind is (w, flag, token, same, syntax, inl repeats) = (w, flag, token, same, syntax, inl (repeats_behind ((line, Word (flag_keyword new)) ∷ []) front w repeats))
 read_behind before after line new front t kind is (w, flag, token, same, syntax, inr (has, (flags, each))) =
     (w, flag, token, same, syntax, by (has_with before new flag (subst (λ (f : Flags). has_flag f flag ≡ true) is has)))
@@ -162,7 +162,7 @@ flag_lifts op E enters a tokens next = record {
       subst (λ (ts : List Placed). IsThereOrRead a (ts ++ front) t kind) (sym first) (read_behind a x.0 s.0 s.1 front t kind s.3 why);
 }
 
-there_before : (op : Opcode) (front : List Placed) (t : Token) (kind : Misfit) → IsThereOrRead no_flags front t kind → Reasons Anything (parsing.flags_at op) (NotFlag op) front t kind
+there_before : (op : Opcode) (front : List Placed) (t : Token) (kind : IrFaultKind) → IsThereOrRead no_flags front t kind → Reasons Anything (parsing.flags_at op) (NotFlag op) front t kind
 there_before op front t kind (w, flag, token, same, syntax, r) = subst (Reasons Anything (parsing.flags_at op) (NotFlag op) front t) (sym syntax) (λ u like. inr (w, token, by flag r), λ begins. absurd (is_no_record t w token begins), λ bad. cc)
   where
     is_no_record : (u : Token) (v : List ℕ) → u ≡ Word v → begins_record u ≡ true → ⊥

@@ -10,7 +10,7 @@ use Rattle.ir_tokens.specs.Tokens.{Token, Placed, Label, Word, Number, Register,
 use Rattle.ir_tokens.specs.declared.raw.RawBlock.{RawBlock}
 use Rattle.ir_tokens.specs.declared.raw.RawIdentifier.{RawIdentifier}
 use Rattle.ir_tokens.specs.declared.raw.RawParameter.{RawParameter}
-use Rattle.ir_instructions.specs.declared.fault.Misfit.TheVariants.{LeftOut}
+use Rattle.ir_tokens.specs.declared.fault.IrFaultKind.TheVariants.{LeftOut}
 use Rattle.ir_instructions.specs.declared.place.Place.TheVariants as places
 use Rattle.ir_instructions.specs.InstructionReaders.{attachments_at, identified, insts_at, is_mark, is_metadata, is_register, tail_at, terminator_at}
 use Rattle.ir_instructions.specs.Places.{begins_record, misfit}

@@ -4,8 +4,8 @@ use Rattle.std.proofs.lemmas.List.{append-nil, append_cancel_right}
 use Rattle.std.specs.Prelude.{codes}
 use Rattle.ir_tokens.specs.Tokens.{Token, Placed, KeptGroup, Word, Number, Function, Group, Quoted, Mark, is_last}
 use Rattle.ir_tokens.specs.declared.raw.RawValue.TheVariants as values
-use Rattle.ir_instructions.specs.declared.fault.Misfit.{Misfit}
-use Rattle.ir_instructions.specs.declared.fault.Misfit.TheVariants.{Syntax, LeftOut}
+use Rattle.ir_tokens.specs.declared.fault.IrFaultKind.{IrFaultKind}
+use Rattle.ir_tokens.specs.declared.fault.IrFaultKind.TheVariants.{Syntax, LeftOut}
 use Rattle.ir_instructions.specs.declared.place.Place.TheVariants as places
 use Rattle.ir_instructions.specs.InstructionReaders.{is_mark}
 use Rattle.ir_instructions.specs.Parts.{Part, Each}
@@ -276,10 +276,10 @@ behind_outcome items [] e = absurd e
 behind_outcome items ((line, Word w) ∷ rest) e = record { front = []; token = Word w; behind = rest; there = refl; refused = λ more. refl; completes = tt; why = (refl, w, refl, refl) }
 behind_outcome items ((line, t) ∷ rest) e = record { front = []; there = refl; ended = e; stopped = λ l more. refl; follows = λ u f l more. let s = no_word_stops u f.1 l more in rw s refl; nothing = λ none u f. f.0; halts = λ u like. behind_halts items refl like; records = λ begins. inr (λ ending l more. inr (fault l (LeftOut (ending_word ending)), refl)); groups = λ end begins text l more. inl refl; words = λ none u like. like_other refl like }
 
-abbrev three : List Placed → Token → Misfit → List Placed × Token × Misfit
+abbrev three : List Placed → Token → IrFaultKind → List Placed × Token × IrFaultKind
 three front t kind = (front, t, kind)
 
-same_three : (f g : List Placed) (s t : Token) (k m : Misfit) → f ≡ g → t ≡ s → m ≡ k → three g s k ≡ three f t m
+same_three : (f g : List Placed) (s t : Token) (k m : IrFaultKind) → f ≡ g → t ≡ s → m ≡ k → three g s k ≡ three f t m
 same_three f g s t k m p q r = cc
 
 -- behind items no word is taken, and so no type
@@ -297,7 +297,7 @@ last_items_outcome tokens e =
     })
     behind_sample (parsing.items_at tokens) refl (items-good.outcome tokens e) (λ x is ended. behind_outcome x.0 x.1 ended)
   where
-    second : (x : List (List ℕ) × List Placed) → parsing.items_at tokens ≡ Ok x → (first : List Placed) → tokens ≡ first ++ x.1 → (front : List Placed) (t : Token) (kind : Misfit) → ((u : Token) → Widths t u → Bad (Unit {0}) parsing.last_items_at (first ++ front) t u) → IsWordFirst front t kind → Reasons Anything parsing.last_items_at FollowsLast (first ++ front) t kind
+    second : (x : List (List ℕ) × List Placed) → parsing.items_at tokens ≡ Ok x → (first : List Placed) → tokens ≡ first ++ x.1 → (front : List Placed) (t : Token) (kind : IrFaultKind) → ((u : Token) → Widths t u → Bad (Unit {0}) parsing.last_items_at (first ++ front) t u) → IsWordFirst front t kind → Reasons Anything parsing.last_items_at FollowsLast (first ++ front) t kind
     second x is first there front t kind no_types (none, w, is_one, is_left_out) =
         let whole : first ++ front ≡ first = ap (λ (ts : List Placed). first ++ ts) none ∙ append-nil first in
         let fit : Fit Anything parsing.last_items_at FollowsLast first (Word a_word) = (
@@ -311,8 +311,8 @@ last_items_outcome tokens e =
           λ v. tt,
         ) in
         let types : (u : Token) → Widths (Word w) u → Bad (Unit {0}) parsing.last_items_at first (Word w) u =
-        subst (λ (p : List Placed × Token × Misfit). (u : Token) → Widths p.1 u → Bad (Unit {0}) parsing.last_items_at p.0 p.1 u) (sym (same_three (first ++ front) first (Word w) t (LeftOut w) kind whole is_one is_left_out)) no_types in
-        subst (λ (p : List Placed × Token × Misfit). Reasons Anything parsing.last_items_at FollowsLast p.0 p.1 p.2) (same_three (first ++ front) first (Word w) t (LeftOut w) kind whole is_one is_left_out)
+        subst (λ (p : List Placed × Token × IrFaultKind). (u : Token) → Widths p.1 u → Bad (Unit {0}) parsing.last_items_at p.0 p.1 u) (sym (same_three (first ++ front) first (Word w) t (LeftOut w) kind whole is_one is_left_out)) no_types in
+        subst (λ (p : List Placed × Token × IrFaultKind). Reasons Anything parsing.last_items_at FollowsLast p.0 p.1 p.2) (same_three (first ++ front) first (Word w) t (LeftOut w) kind whole is_one is_left_out)
         (word_reason (Fit Anything parsing.last_items_at FollowsLast first) (Bad (Unit {0}) parsing.last_items_at first) (RepeatsFlag first) (RefusesAt parsing.last_items_at first) w a_word (nouns.value 1 values.True refl) fit types)
 
 pub last_items-good : Good Anything parsing.last_items_at FollowsLast

@@ -3,8 +3,8 @@
 use Rattle.std.proofs.Common.{◌≡◌, ℕ, true, false, List, [], ◌∷◌, ◌++◌, Ok, Err, refl, sym, ap, subst, ◌∙◌, ◌⊎◌, inl, inr, append_assoc}
 use Rattle.std.proofs.lemmas.List.{append-nil}
 use Rattle.ir_tokens.specs.Tokens.{Token, Placed, Word, Group, is_last}
-use Rattle.ir_instructions.specs.declared.fault.Misfit.{Misfit}
-use Rattle.ir_instructions.specs.declared.fault.TextFault.{TextFault}
+use Rattle.ir_tokens.specs.declared.fault.IrFaultKind.{IrFaultKind}
+use Rattle.refusal.specs.declared.fault.Fault.{Fault}
 use Rattle.ir_instructions.specs.declared.word.Ending.{Ending}
 use Rattle.ir_instructions.specs.Places.{begins_record}
 use Rattle.ir_instructions.specs.Keywords.{ending_word}
@@ -82,11 +82,11 @@ Fit {A} E R F front t = ((x : A) × (more : List Placed) × ((tokens : List Plac
 
 -- what a refusal of a token behind a front says
 abbrev pub Why : Type 1
-Why = List Placed → Token → Misfit → Type 0
+Why = List Placed → Token → IrFaultKind → Type 0
 
 -- the reader refuses the token behind the front, whatever stands further behind; where the front is empty, the token is of the sort
 abbrev pub RefusesAt : {A : Type 0} → Reader A → List Placed → Follow
-RefusesAt R front t = (line : ℕ) (more : List Placed) → (e : TextFault) × (R (front ++ (line, t) ∷ more) ≡ Err e)
+RefusesAt R front t = (line : ℕ) (more : List Placed) → (e : Fault IrFaultKind) × (R (front ++ (line, t) ∷ more) ≡ Err e)
 
 abbrev pub Bad : {A : Type 0} → Type 0 → Reader A → List Placed → Token → Token → Type 0
 Bad V R front t u = RefusesAt R front u × (front ≡ [] → Like V t u)
@@ -100,7 +100,7 @@ Reasons E R F = ReasonsIf (Unit {0}) E R F
 
 -- the reader stops before the token, or refuses it
 abbrev pub Halts : {A : Type 0} → Reader A → List Placed → A → Follow
-Halts R front x t = (line : ℕ) (more : List Placed) → (R (front ++ (line, t) ∷ more) ≡ Ok (x, (line, t) ∷ more)) ⊎ ((e : TextFault) × (R (front ++ (line, t) ∷ more) ≡ Err e))
+Halts R front x t = (line : ℕ) (more : List Placed) → (R (front ++ (line, t) ∷ more) ≡ Ok (x, (line, t) ∷ more)) ⊎ ((e : Fault IrFaultKind) × (R (front ++ (line, t) ∷ more) ≡ Err e))
 
 -- W: it halts before words too where it stops before a word
 pub record IsReadIf {A : Type 0} (V : Type 0) (E : Follow) (R : Reader A) (F : Follow) (W : Type 0) (tokens : List Placed) (x : A) (rest : List Placed) : Type 0 where
@@ -115,7 +115,7 @@ pub record IsReadIf {A : Type 0} (V : Type 0) (E : Follow) (R : Reader A) (F : F
   pub nothing : front ≡ [] → (t : Token) → F t → E t
   pub words : front ≡ [] → Next (λ t. (u : Token) → Like W t u → Like V t u) rest
 
-pub record IsRefused {A : Type 0} (R : Reader A) (F : Follow) (W : Why) (tokens : List Placed) (found : TextFault) : Type 0 where
+pub record IsRefused {A : Type 0} (R : Reader A) (F : Follow) (W : Why) (tokens : List Placed) (found : Fault IrFaultKind) : Type 0 where
   pub front : List Placed
   pub token : Token
   pub behind : List Placed
@@ -147,7 +147,7 @@ Good E R F = GoodIf (Unit {0}) E R F (Unit {0})
 
 pub data Takes {A : Type 0} (R : Reader A) (W : Why) (line : ℕ) (t : Token) : Type 0 where
   takes : (x : A) → is_last t ≡ false → ((more : List Placed) → R ((line, t) ∷ more) ≡ Ok (x, more)) → Takes R W line t
-  refuses : (kind : Misfit) → W [] t kind → ((more : List Placed) → R ((line, t) ∷ more) ≡ Err (fault line kind)) → Takes R W line t
+  refuses : (kind : IrFaultKind) → W [] t kind → ((more : List Placed) → R ((line, t) ∷ more) ≡ Err (fault line kind)) → Takes R W line t
 
 -- a token that it takes by itself
 pub fits_alone : {A : Type 0} (E : Follow) (R : Reader A) (F : Follow) (t : Token) (x : A) → E t → ((more : List Placed) → R ((0, t) ∷ more) ≡ Ok (x, more)) → Fit E R F [] t
@@ -254,7 +254,7 @@ sample_both {A} {B} E F G R S r s =
           (read_both R S r.1 q.1 r.0 q.0 tokens tokens first.0 second.0, subst (Next E) (sym (append_assoc r.1 q.1 tokens)) first.1),
     )
 
-first_refuses : {A B : Type 0} {F G : Follow} {V W : Why} (R : Reader A) (S : A → Reader B) → ((x : A) → Sample F (S x) G) → (tokens : List Placed) (found : TextFault) (o : IsRefused R F V tokens found) → W o.front o.token found.kind → IsRefused (R >>= S) G W tokens found
+first_refuses : {A B : Type 0} {F G : Follow} {V W : Why} (R : Reader A) (S : A → Reader B) → ((x : A) → Sample F (S x) G) → (tokens : List Placed) (found : Fault IrFaultKind) (o : IsRefused R F V tokens found) → W o.front o.token found.kind → IsRefused (R >>= S) G W tokens found
 first_refuses {A} {B} {F} {G} {V} {W} R S s tokens found o why = record {
   front = o.front;
   token = o.token;
@@ -327,14 +327,14 @@ both_read {A} {B} {U} {V} {W} {E} {F} {G} R S tokens x y s o p = record {
     next_both ((l, t) ∷ rest) h k = λ u like. k u (h u like)
 
     then_halts : (front : List Placed) (u : Token) (line : ℕ) (more : List Placed) → R (o.front ++ (front ++ (line, u) ∷ more)) ≡ Ok (x.0, front ++ (line, u) ∷ more)
-        → (S x.0 (front ++ (line, u) ∷ more) ≡ Ok (y.0, (line, u) ∷ more)) ⊎ ((e : TextFault) × (S x.0 (front ++ (line, u) ∷ more) ≡ Err e))
-        → ((R >>= S) ((o.front ++ front) ++ (line, u) ∷ more) ≡ Ok (y.0, (line, u) ∷ more)) ⊎ ((e : TextFault) × ((R >>= S) ((o.front ++ front) ++ (line, u) ∷ more) ≡ Err e))
+        → (S x.0 (front ++ (line, u) ∷ more) ≡ Ok (y.0, (line, u) ∷ more)) ⊎ ((e : Fault IrFaultKind) × (S x.0 (front ++ (line, u) ∷ more) ≡ Err e))
+        → ((R >>= S) ((o.front ++ front) ++ (line, u) ∷ more) ≡ Ok (y.0, (line, u) ∷ more)) ⊎ ((e : Fault IrFaultKind) × ((R >>= S) ((o.front ++ front) ++ (line, u) ∷ more) ≡ Err e))
     then_halts front u line more one (inl two) = inl (rw (append_assoc o.front front ((line, u) ∷ more), one) two)
     then_halts front u line more one (inr (e, two)) = inr (e, rw (append_assoc o.front front ((line, u) ∷ more), one) two)
 
-    first_halts : (u : Token) (line : ℕ) (more : List Placed) → (R (o.front ++ (line, u) ∷ more) ≡ Ok (x.0, (line, u) ∷ more)) ⊎ ((e : TextFault) × (R (o.front ++ (line, u) ∷ more) ≡ Err e))
-        → (S x.0 ((line, u) ∷ more) ≡ Ok (y.0, (line, u) ∷ more)) ⊎ ((e : TextFault) × (S x.0 ((line, u) ∷ more) ≡ Err e))
-        → ((R >>= S) ((o.front ++ []) ++ (line, u) ∷ more) ≡ Ok (y.0, (line, u) ∷ more)) ⊎ ((e : TextFault) × ((R >>= S) ((o.front ++ []) ++ (line, u) ∷ more) ≡ Err e))
+    first_halts : (u : Token) (line : ℕ) (more : List Placed) → (R (o.front ++ (line, u) ∷ more) ≡ Ok (x.0, (line, u) ∷ more)) ⊎ ((e : Fault IrFaultKind) × (R (o.front ++ (line, u) ∷ more) ≡ Err e))
+        → (S x.0 ((line, u) ∷ more) ≡ Ok (y.0, (line, u) ∷ more)) ⊎ ((e : Fault IrFaultKind) × (S x.0 ((line, u) ∷ more) ≡ Err e))
+        → ((R >>= S) ((o.front ++ []) ++ (line, u) ∷ more) ≡ Ok (y.0, (line, u) ∷ more)) ⊎ ((e : Fault IrFaultKind) × ((R >>= S) ((o.front ++ []) ++ (line, u) ∷ more) ≡ Err e))
     first_halts u line more (inl one) two = then_halts [] u line more one two
     first_halts u line more (inr (e, one)) two = inr (e, rw (append_assoc o.front [] ((line, u) ∷ more), one) refl)
 
@@ -377,7 +377,7 @@ both_read {A} {B} {U} {V} {W} {E} {F} {G} R S tokens x y s o p = record {
         by_front [] same h = h refl
         by_front ((l, u) ∷ front) same h = subst (Next (StopsAt R o.front x.0)) same o.stopped
 
-second_refuses : {A B : Type 0} {U U' : Type 0} {E F G : Follow} {V W : Why} (R : Reader A) (S : A → Reader B) → ((x : A) → Sample F (S x) G) → (tokens : List Placed) (x : A × List Placed) (found : TextFault) (o : IsReadIf U E R F U' tokens x.0 x.1) (p : IsRefused (S x.0) G V x.1 found)
+second_refuses : {A B : Type 0} {U U' : Type 0} {E F G : Follow} {V W : Why} (R : Reader A) (S : A → Reader B) → ((x : A) → Sample F (S x) G) → (tokens : List Placed) (x : A × List Placed) (found : Fault IrFaultKind) (o : IsReadIf U E R F U' tokens x.0 x.1) (p : IsRefused (S x.0) G V x.1 found)
     → W (o.front ++ p.front) p.token found.kind → IsRefused (R >>= S) G W tokens found
 second_refuses {A} {B} {U} {U'} {E} {F} {G} {V} {W} R S s tokens x found o p why = record {
   front = o.front ++ p.front;
@@ -423,7 +423,7 @@ bad_second U V E F R S tokens x o [] l t behind there u (refuses_u, like) =
     halts : (u : Token) → Like V t u → Halts R o.front x.0 u
     halts = subst (Next (λ v. (u : Token) → Like V v u → Halts R o.front x.0 u)) there o.halts
 
-    by : (line : ℕ) (more : List Placed) → (R (o.front ++ (line, u) ∷ more) ≡ Ok (x.0, (line, u) ∷ more)) ⊎ ((e : TextFault) × (R (o.front ++ (line, u) ∷ more) ≡ Err e)) → (e : TextFault) × ((R >>= S) ((o.front ++ []) ++ (line, u) ∷ more) ≡ Err e)
+    by : (line : ℕ) (more : List Placed) → (R (o.front ++ (line, u) ∷ more) ≡ Ok (x.0, (line, u) ∷ more)) ⊎ ((e : Fault IrFaultKind) × (R (o.front ++ (line, u) ∷ more) ≡ Err e)) → (e : Fault IrFaultKind) × ((R >>= S) ((o.front ++ []) ++ (line, u) ∷ more) ≡ Err e)
     by line more (inl one) = let r = refuses_u line more in (r.0, rw (append_assoc o.front [] ((line, u) ∷ more), one) r.1)
     by line more (inr (e, one)) = (e, rw (append_assoc o.front [] ((line, u) ∷ more), one) refl)
 bad_second U V E F R S tokens x o ((i, v) ∷ front) l t behind there u (refuses_u, like) = (
@@ -440,9 +440,9 @@ repeats_behind first front w (before, behind, flag, flags, same, is, each) = (fi
 
 -- What a refusal by the first says of these tokens goes over to both, and so does what one by the second says.
 pub record Lifts {A B : Type 0} (T U : Type 0) (E F G : Follow) (R : Reader A) (S : A → Reader B) (X : Why) (V : A → Why) (W : Why) (tokens : List Placed) : Type 0 where
-  pub first : (front : List Placed) (l : ℕ) (t : Token) (behind : List Placed) → tokens ≡ front ++ (l, t) ∷ behind → (kind : Misfit) → X front t kind → W front t kind
+  pub first : (front : List Placed) (l : ℕ) (t : Token) (behind : List Placed) → tokens ≡ front ++ (l, t) ∷ behind → (kind : IrFaultKind) → X front t kind → W front t kind
   pub second : (x : A × List Placed) → R tokens ≡ Ok x → (o : IsReadIf T E R F U tokens x.0 x.1) (front : List Placed) (l : ℕ) (t : Token) (behind : List Placed) → x.1 ≡ front ++ (l, t) ∷ behind
-      → (kind : Misfit) → V x.0 front t kind → W (o.front ++ front) t kind
+      → (kind : IrFaultKind) → V x.0 front t kind → W (o.front ++ front) t kind
 
 pub outcome_both : {A B : Type 0} (T U Z : Type 0) (E F G : Follow) (R : Reader A) (S : A → Reader B) (X : Why) (V : A → Why) (W : Why) (tokens : List Placed) → Lifts T U E F G R S X V W tokens → ((x : A) → Sample F (S x) G) → (r : Read A) → R tokens ≡ r → OutcomeIf T E R F U X tokens r
     → ((x : A × List Placed) → R tokens ≡ Ok x → Ended x.1 → OutcomeIf U F (S x.0) G Z (V x.0) x.1 (S x.0 x.1)) → OutcomeIf T E (R >>= S) G Z W tokens (goes_on r S)
@@ -462,8 +462,8 @@ maps_first {A} {B} V E F G R S s front t = record { fits = λ v fit. fits_first 
     records (inr refused) = inr (λ ending line more. let r = refused ending line more in (r.0, rw r.1 refl))
 
 -- where the first halts and the second refuses, both refuse
-halts_refuses : {A B : Type 0} (R : Reader A) (S : A → Reader B) (front : List Placed) (x : A) (u : Token) (line : ℕ) (more : List Placed) → (e : TextFault) × (S x ((line, u) ∷ more) ≡ Err e)
-    → (R (front ++ (line, u) ∷ more) ≡ Ok (x, (line, u) ∷ more)) ⊎ ((e : TextFault) × (R (front ++ (line, u) ∷ more) ≡ Err e)) → (e : TextFault) × ((R >>= S) ((front ++ []) ++ (line, u) ∷ more) ≡ Err e)
+halts_refuses : {A B : Type 0} (R : Reader A) (S : A → Reader B) (front : List Placed) (x : A) (u : Token) (line : ℕ) (more : List Placed) → (e : Fault IrFaultKind) × (S x ((line, u) ∷ more) ≡ Err e)
+    → (R (front ++ (line, u) ∷ more) ≡ Ok (x, (line, u) ∷ more)) ⊎ ((e : Fault IrFaultKind) × (R (front ++ (line, u) ∷ more) ≡ Err e)) → (e : Fault IrFaultKind) × ((R >>= S) ((front ++ []) ++ (line, u) ∷ more) ≡ Err e)
 halts_refuses R S front x u line more r (inl first) = (r.0, rw (append_assoc front [] ((line, u) ∷ more), first) r.1)
 halts_refuses R S front x u line more r (inr (e, first)) = (e, rw (append_assoc front [] ((line, u) ∷ more), first) refl)
 
@@ -523,6 +523,6 @@ pub ◌then◌ : {A B : Type 0} {U V W : Type 0} {E F G : Follow} {R : Reader A}
 }
 
 -- what a refusal says, and what follows from that
-pub outcome_map : {A : Type 0} (V : Type 0) (E : Follow) (R : Reader A) (F : Follow) (W : Type 0) (X Y : Why) → ((front : List Placed) (t : Token) (kind : Misfit) → X front t kind → Y front t kind) → (tokens : List Placed) (r : Read A) → OutcomeIf V E R F W X tokens r → OutcomeIf V E R F W Y tokens r
+pub outcome_map : {A : Type 0} (V : Type 0) (E : Follow) (R : Reader A) (F : Follow) (W : Type 0) (X Y : Why) → ((front : List Placed) (t : Token) (kind : IrFaultKind) → X front t kind → Y front t kind) → (tokens : List Placed) (r : Read A) → OutcomeIf V E R F W X tokens r → OutcomeIf V E R F W Y tokens r
 outcome_map V E R F W X Y f tokens (Ok x) o = o
 outcome_map V E R F W X Y f tokens (Err e) o = record { front = o.front; token = o.token; behind = o.behind; there = o.there; refused = o.refused; completes = o.completes; why = f o.front o.token e.kind o.why }

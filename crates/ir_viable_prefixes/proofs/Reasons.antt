@@ -5,8 +5,8 @@ use Rattle.std.specs.Prelude.{codes}
 use Rattle.ops.specs.Number.{Number as Numeral}
 use Rattle.ir_tokens.specs.Numbers.{constant_of}
 use Rattle.ir_tokens.specs.Tokens.{Token, End, Other, Bad as Bad_token, Word, Number, Function, Group, Mark}
-use Rattle.ir_instructions.specs.declared.fault.Misfit.{Misfit}
-use Rattle.ir_instructions.specs.declared.fault.Misfit.TheVariants.{TooLong, BadByte, Syntax, LeftOut, Width, ConstRange}
+use Rattle.ir_tokens.specs.declared.fault.IrFaultKind.{IrFaultKind}
+use Rattle.ir_tokens.specs.declared.fault.IrFaultKind.TheVariants.{BadByte, Syntax, LeftOut, Width, ConstRange}
 use Rattle.ir_instructions.specs.declared.place.Place.TheVariants as places
 use Rattle.ir_instructions.specs.declared.word.Ending.{Ending}
 use Rattle.ir_instructions.specs.declared.word.TypeWord.TheVariants.{Other as Nothing, OutOfRange}
@@ -83,8 +83,7 @@ NoGroup Refused = (text : List ℕ) → Refused (Group text)
 
 -- Fit are the tokens that the reader takes in the place, Bad those that it refuses in place of another, Repeats the words that are flags
 -- there already, and Refused all that it refuses.
-abbrev pub Reason : (Token → Type 0) → (Token → Token → Type 0) → (List ℕ → Type 0) → (Token → Type 0) → Token → Misfit → Type 0
-Reason Fit Bad Repeats Refused t TooLong = ⊥
+abbrev pub Reason : (Token → Type 0) → (Token → Token → Type 0) → (List ℕ → Type 0) → (Token → Type 0) → Token → IrFaultKind → Type 0
 Reason Fit Bad Repeats Refused t BadByte = t ≡ Bad_token
 Reason Fit Bad Repeats Refused t Width = (word : List ℕ) × (t ≡ Word word) × (type_in word ≡ OutOfRange) × Fit a_type
 Reason Fit Bad Repeats Refused t ConstRange =
@@ -92,6 +91,7 @@ Reason Fit Bad Repeats Refused t ConstRange =
     × ((other : List ℕ) (number : Numeral) → constant_of other width ≡ Some number → Fit (Number other)) × ((other : List ℕ) → constant_of other width ≡ None → Bad t (Number other))
 Reason Fit Bad Repeats Refused t (LeftOut text) = (text ≡ shown t) × LeftOutBy Fit t × ((u : Token) → Widths t u → Bad t u) × (begins_record t ≡ true → NoGroup Refused)
 Reason Fit Bad Repeats Refused t Syntax = ((u : Token) → Like (Unit {0}) t u → Bad t u ⊎ ((w : List ℕ) × (t ≡ Word w) × Repeats w)) × (begins_record t ≡ true → NoRecord Fit Refused) × ¬ (t ≡ Bad_token)
+Reason Fit Bad Repeats Refused t kind = ⊥
 
 -- no mark begins both a type and a record
 begins_one : (t : Token) → begins_type t ≡ true → begins_record t ≡ true → ⊥
@@ -118,8 +118,7 @@ pub record Maps (P Q : Token → Type 0) (B C : Token → Token → Type 0) (R S
   pub records : begins_record t ≡ true → NoRecord P M → NoRecord Q N
   pub groups : begins_record t ≡ true → P an_end → NoGroup M → NoGroup N
 
-pub reason_map : (P Q : Token → Type 0) (B C : Token → Token → Type 0) (R S : List ℕ → Type 0) (M N : Token → Type 0) (t : Token) → Maps P Q B C R S M N t → (kind : Misfit) → Reason P B R M t kind → Reason Q C S N t kind
-reason_map P Q B C R S M N t m TooLong h = absurd h
+pub reason_map : (P Q : Token → Type 0) (B C : Token → Token → Type 0) (R S : List ℕ → Type 0) (M N : Token → Type 0) (t : Token) → Maps P Q B C R S M N t → (kind : IrFaultKind) → Reason P B R M t kind → Reason Q C S N t kind
 reason_map P Q B C R S M N t m BadByte h = h
 reason_map P Q B C R S M N t m Width h = (h.0, h.1, h.2, m.fits a_type h.3)
 reason_map P Q B C R S M N t m ConstRange h = (h.0, h.1, h.2, h.3, λ other number is. m.fits (Number other) (h.4 other number is), λ other is. m.bad (Number other) (h.5 other is))
@@ -129,6 +128,7 @@ reason_map P Q B C R S M N t m Syntax h = (λ u like. by u (h.0 u like), λ begi
     by : (u : Token) → B t u ⊎ ((w : List ℕ) × (t ≡ Word w) × R w) → C t u ⊎ ((w : List ℕ) × (t ≡ Word w) × S w)
     by u (inl b) = inl (m.bad u b)
     by u (inr r) = inr (r.0, r.1, m.repeats r.0 r.2)
+reason_map P Q B C R S M N t m kind h = absurd h
 
 -- ---- the reasons of places
 

@@ -10,9 +10,9 @@ use Rattle.ir_tokens.specs.Order.{TokensFrom, last, token, AreTokens}
 use Rattle.ir_tokens.specs.Tokens.{Token, Placed, End, Other, Bad as Bad_token, Word, Number, Function, Group, Mark, is_last}
 use Rattle.ir_tokens.specs.declared.raw.RawEntry.{RawEntry}
 use Rattle.ir_tokens.specs.declared.raw.RawModule.{RawModule}
-use Rattle.ir_instructions.specs.declared.fault.Misfit.{Misfit}
-use Rattle.ir_instructions.specs.declared.fault.Misfit.TheVariants.{TooLong, BadByte, Syntax, LeftOut, Width, ConstRange}
-use Rattle.ir_instructions.specs.declared.fault.TextFault.{TextFault}
+use Rattle.ir_tokens.specs.declared.fault.IrFaultKind.{IrFaultKind}
+use Rattle.ir_tokens.specs.declared.fault.IrFaultKind.TheVariants.{BadByte, Syntax, LeftOut, Width, ConstRange}
+use Rattle.refusal.specs.declared.fault.Fault.{Fault}
 use Rattle.ir_instructions.specs.declared.place.Place.TheVariants as places
 use Rattle.ir_instructions.specs.declared.word.Ending.TheVariants.{Unreachable}
 use Rattle.ir_instructions.specs.Places.{begins_record, begins_type, leaves_out, misfit as misfit_at}
@@ -62,7 +62,7 @@ end_fits law front (all, ends) =
 
 -- ---- kinds
 
-abbrev the_module : Result RawModule TextFault → Result RawModule TextFault
+abbrev the_module : Result RawModule (Fault IrFaultKind) → Result RawModule (Fault IrFaultKind)
 the_module r = r
 
 left_out_is : ModulesAreReadAsSpelled → (front : List Placed) {t : Token} → (begins_record t ≡ true → ¬ AttributesFit front) → LeftOutBy (Fit Anything entries_at EndsText front) t → IsLeftOut front t
@@ -102,7 +102,7 @@ terminator_is law front (inl fit) ends = (codes "#0", token_fits law front a_gro
 terminator_is law front (inr refused) (ending, fits) = absurd (bad_misfits law front (Word (ending_word ending)) (refused ending) fits)
 
 -- where the text may end, a token that is refused is none that begins an entry
-abbrev EndsLeaveOut : List Placed → Token → Misfit → Type 0
+abbrev EndsLeaveOut : List Placed → Token → IrFaultKind → Type 0
 EndsLeaveOut front t kind = is_last t ≡ false → FitsBehind front End → kind ≡ misfit_at places.Entry t
 
 -- and no type fits there
@@ -139,8 +139,7 @@ no_number_is law front {t} h digits other is fits = by (h (Number other) (subst 
     by (inl bad) = bad_misfits law front (Number other) bad.0 fits
     by (inr repeats) = let word = repeats.1 in absurd cc
 
-reason_is : ModulesAreReadAsSpelled → (front : List Placed) (t : Token) (kind : Misfit) → EndsLeaveOut front t kind → Reasons Anything entries_at EndsText front t kind → IsMisfit front t kind
-reason_is law front t TooLong ends h = absurd h
+reason_is : ModulesAreReadAsSpelled → (front : List Placed) (t : Token) (kind : IrFaultKind) → EndsLeaveOut front t kind → Reasons Anything entries_at EndsText front t kind → IsMisfit front t kind
 reason_is law front t BadByte ends h = h
 reason_is law front t Width ends h = (h.0, h.1, h.2, (codes "i8", 8, i8, token_fits law front a_type h.3))
 reason_is law front t ConstRange ends h = number_is law front t h
@@ -152,6 +151,7 @@ reason_is law front t Syntax ends h = record {
   number = no_number_is law front h.0;
   entry = λ goes fits. is_left_out t goes (ends goes fits);
 }
+reason_is law front t kind ends h = absurd h
 
 -- the end, and what stands in no module, have no others of their sort
 last_none : {front : List Placed} {t : Token} → is_last t ≡ true → begins_type t ≡ false → AnotherFits front t → IsRepeated front t
@@ -172,14 +172,14 @@ entry_is front Other ends types = last_is refl refl (λ bad. cc)
 entry_is front End ends types = last_is refl refl (λ bad. cc)
 entry_is front t ends types = (refl, nouns.entry refl ends, λ wrong. types ends wrong.3)
 
-kind_is : ModulesAreReadAsSpelled → (front : List Placed) (t : Token) (kind : Misfit) → EndsLeaveOut front t kind → EndsHaveNoTypes front → OrEnds Anything entries_at EndsText front t kind → IsMisfit front t kind
+kind_is : ModulesAreReadAsSpelled → (front : List Placed) (t : Token) (kind : IrFaultKind) → EndsLeaveOut front t kind → EndsHaveNoTypes front → OrEnds Anything entries_at EndsText front t kind → IsMisfit front t kind
 kind_is law front t kind ends types (inl why) = subst (IsMisfit front t) (sym why.1) (entry_is front t (end_fits law front why.0) types)
 kind_is law front t kind ends types (inr why) = reason_is law front t kind ends why
 
 -- ---- where a fault stands
 
 -- what is refused whatever stands behind does not fit
-refused_misfits : ModulesAreReadAsSpelled → (front : List Placed) (t : Placed) (found : TextFault) → ((more : List Placed) → entries_at (front ++ t ∷ more) ≡ Err found) → ¬ Fits (front ++ t ∷ [])
+refused_misfits : ModulesAreReadAsSpelled → (front : List Placed) (t : Placed) (found : Fault IrFaultKind) → ((more : List Placed) → entries_at (front ++ t ∷ more) ≡ Err found) → ¬ Fits (front ++ t ∷ [])
 refused_misfits law front t found refused (more, m, spelled) =
     let read : module_of ((front ++ t ∷ []) ++ more) ≡ Ok m = (law ((front ++ t ∷ []) ++ more) m).1 spelled in
     let same : (front ++ t ∷ []) ++ more ≡ front ++ t ∷ more = append_assoc front (t ∷ []) more in
@@ -187,7 +187,7 @@ refused_misfits law front t found refused (more, m, spelled) =
     let both : the_result (Ok m) ≡ Err found = sym read ∙ ap module_of same ∙ refusal in
     absurd cc
   where
-    the_result : Result RawModule TextFault → Result RawModule TextFault
+    the_result : Result RawModule (Fault IrFaultKind) → Result RawModule (Fault IrFaultKind)
     the_result r = r
 
 -- what fits with the end behind it is read up to there
@@ -202,19 +202,19 @@ read_up_to law front (line, (more, m, spelled)) e = by (entries_at (UpTo front l
         let refusal : module_of (o.front ++ (f.line, o.token) ∷ (o.behind ++ more)) ≡ Err f = ap module_from (o.refused (o.behind ++ more)) in
         let both : the_module (Ok m) ≡ Err f = sym read ∙ ap module_of same ∙ refusal in absurd cc
 
-ends_leave_out : ModulesAreReadAsSpelled → (tokens : List Placed) (found : TextFault) → Ended tokens → (o : IsRefused entries_at EndsText (OrEnds Anything entries_at EndsText) tokens found) → EndsLeaveOut o.front o.token found.kind
+ends_leave_out : ModulesAreReadAsSpelled → (tokens : List Placed) (found : Fault IrFaultKind) → Ended tokens → (o : IsRefused entries_at EndsText (OrEnds Anything entries_at EndsText) tokens found) → EndsLeaveOut o.front o.token found.kind
 ends_leave_out law tokens found e o goes ends =
     let ended : Ended (UpTo o.front ends.0) = ended_before o.front (found.line, o.token) o.behind (subst Ended o.there e) ends.0 in
     let r = read_up_to law o.front ends ended in
     refused_at_end o.front ends.0 o.token r.0 found ended r.1 goes o.refused
 
-ends_have_no_types : ModulesAreReadAsSpelled → (tokens : List Placed) (found : TextFault) → Ended tokens → (o : IsRefused entries_at EndsText (OrEnds Anything entries_at EndsText) tokens found) → EndsHaveNoTypes o.front
+ends_have_no_types : ModulesAreReadAsSpelled → (tokens : List Placed) (found : Fault IrFaultKind) → Ended tokens → (o : IsRefused entries_at EndsText (OrEnds Anything entries_at EndsText) tokens found) → EndsHaveNoTypes o.front
 ends_have_no_types law tokens found e o ends (w, width, is, fits) =
     let ended : Ended (UpTo o.front ends.0) = ended_before o.front (found.line, o.token) o.behind (subst Ended o.there e) ends.0 in
     let r = read_up_to law o.front ends ended in
     bad_misfits law o.front (Word w) (types_refused_at_end o.front ends.0 r.0 ended r.1 w width is) fits
 
-first_misfit : ModulesAreReadAsSpelled → (tokens : List Placed) (found : TextFault) → Ended tokens → IsRefused entries_at EndsText (OrEnds Anything entries_at EndsText) tokens found → IsFirstMisfit tokens found
+first_misfit : ModulesAreReadAsSpelled → (tokens : List Placed) (found : Fault IrFaultKind) → Ended tokens → IsRefused entries_at EndsText (OrEnds Anything entries_at EndsText) tokens found → IsFirstMisfit tokens found
 first_misfit law tokens found e o = record {
   front = o.front;
   token = o.token;
@@ -225,14 +225,14 @@ first_misfit law tokens found e o = record {
   kind = kind_is law o.front o.token found.kind (ends_leave_out law tokens found e o) (ends_have_no_types law tokens found e o) o.why;
 }
 
-refused_at : ModulesAreReadAsSpelled → (tokens : List Placed) (found : TextFault) (r : Read (List RawEntry)) → module_from r ≡ Err found → Ended tokens → Outcome Anything entries_at EndsText (OrEnds Anything entries_at EndsText) tokens r → IsFirstMisfit tokens found
+refused_at : ModulesAreReadAsSpelled → (tokens : List Placed) (found : Fault IrFaultKind) (r : Read (List RawEntry)) → module_from r ≡ Err found → Ended tokens → Outcome Anything entries_at EndsText (OrEnds Anything entries_at EndsText) tokens r → IsFirstMisfit tokens found
 refused_at law tokens found (Ok x) is ended o = absurd cc
 refused_at law tokens found (Err e) is ended o = first_misfit law tokens found ended (subst (IsRefused entries_at EndsText (OrEnds Anything entries_at EndsText) tokens) (err_is e found is) o)
   where
-    err_is : (a b : TextFault) → module_from (Err a) ≡ Err b → a ≡ b
+    err_is : (a b : Fault IrFaultKind) → module_from (Err a) ≡ Err b → a ≡ b
     err_is a b same = cc
 
-refused : ModulesAreReadAsSpelled → TextsHaveOneListOfTokens → (text : List ℕ) (tokens : List Placed) (found : TextFault) → length text ≤ most_bytes → AreTokens text tokens → IsTextFault text found → IsFirstMisfit tokens found
+refused : ModulesAreReadAsSpelled → TextsHaveOneListOfTokens → (text : List ℕ) (tokens : List Placed) (found : Fault IrFaultKind) → length text ≤ most_bytes → AreTokens text tokens → IsTextFault text found → IsFirstMisfit tokens found
 refused law one text tokens found within are (too_long more same) = absurd (omega arith)
 refused law one text tokens found within are (misfit less others are_others is_refused) =
     let same : module_of tokens ≡ Err found = ap module_of (one.one text tokens others are are_others) ∙ is_refused in
@@ -242,7 +242,7 @@ refused law one text tokens found within are (misfit less others are_others is_r
 begun_fits : (front rest : List Placed) → Fits (front ++ rest) → Fits front
 begun_fits front rest (more, m, spelled) = (rest ++ more, m, subst (SpellsModule m) (append_assoc front rest more) spelled)
 
-read : ModulesAreReadAsSpelled → TextsHaveOneListOfTokens → (text : List ℕ) (tokens : List Placed) (found : TextFault) → length text ≤ most_bytes → AreTokens text tokens → Fits tokens → ¬ IsTextFault text found
+read : ModulesAreReadAsSpelled → TextsHaveOneListOfTokens → (text : List ℕ) (tokens : List Placed) (found : Fault IrFaultKind) → length text ≤ most_bytes → AreTokens text tokens → Fits tokens → ¬ IsTextFault text found
 read law one text tokens found within are all_fit fault =
     let first = refused law one text tokens found within are fault in
     let t : List Placed = (found.line, first.token) ∷ [] in

@@ -1,7 +1,7 @@
 -- Readers of what stands any number of times.
 use Rattle.std.proofs.Common.{◌≡◌, ◌<◌, ℕ, zero, suc, Bool, true, false, List, [], ◌∷◌, ◌++◌, length, Ok, Err, refl, sym, ap, subst, ◌∙◌, append_assoc, arith}
 use Rattle.ir_tokens.specs.Tokens.{Token, Placed}
-use Rattle.ir_instructions.specs.declared.fault.Misfit.{Misfit}
+use Rattle.ir_tokens.specs.declared.fault.IrFaultKind.{IrFaultKind}
 use Rattle.ir_instructions.specs.Readers.{Read, Reader, goes_on, ◌>>=◌, done, TakesSome, steps_at, repeat_at, another_at, each_at}
 use Rattle.ir_instructions.proofs.Loops.{repeat-more, repeat-done}
 use Rattle.ir_viable_prefixes.proofs.Choices.{AsksNext, Tested, tested_next, Opens, OpensRecords, opens_wider, transfer, And, maps_transferred}
@@ -67,7 +67,7 @@ loop_lifts {A} V D F W is_next step s E next_enters a tokens next = record {
       (reason_map _ _ _ _ _ _ _ _ t (maps_second V (Unit {0}) (Tested is_next true) D F (step a) (repeat_at is_next step) (λ y. loop_sample V D F W is_next step s D s.ends_step y) tokens x o front l t behind there) kind why);
 }
   where
-    over : (front : List Placed) (l : ℕ) (t : Token) (behind : List Placed) → tokens ≡ front ++ (l, t) ∷ behind → (kind : Misfit) → ReasonsIf V (Tested is_next true) (step a >>= repeat_at is_next step) F front t kind → Reasons E (repeat_at is_next step a) F front t kind
+    over : (front : List Placed) (l : ℕ) (t : Token) (behind : List Placed) → tokens ≡ front ++ (l, t) ∷ behind → (kind : IrFaultKind) → ReasonsIf V (Tested is_next true) (step a >>= repeat_at is_next step) F front t kind → Reasons E (repeat_at is_next step a) F front t kind
     over front l t behind there kind why =
         reason_map _ _ _ _ _ _ _ _ t (maps_transferred is_next s.asks true (step a >>= repeat_at is_next step) (repeat_at is_next step a) (one_step is_next step s.takes a) V (Unit {0}) (λ v. tt) s.opens (Tested is_next true) E F (opens_wider is_next true (Tested is_next true) E (repeat_at is_next step a) F next_enters (s.records a true)) (λ v d. d) next_enters tokens next front l t behind there) kind why
 

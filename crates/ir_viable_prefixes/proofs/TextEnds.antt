@@ -4,8 +4,9 @@ use Rattle.std.specs.Prelude.{codes}
 use Rattle.std.specs.Str.{bytes_eq}
 use Rattle.ir_tokens.specs.Tokens.{Token, Placed, End, Other, Bad as Bad_token, Word, is_last}
 use Rattle.ir_tokens.specs.declared.raw.RawEntry.{RawEntry}
-use Rattle.ir_instructions.specs.declared.fault.Misfit.TheVariants.{Syntax, LeftOut}
-use Rattle.ir_instructions.specs.declared.fault.TextFault.{TextFault}
+use Rattle.ir_tokens.specs.declared.fault.IrFaultKind.TheVariants.{Syntax, LeftOut}
+use Rattle.refusal.specs.declared.fault.Fault.{Fault}
+use Rattle.ir_tokens.specs.declared.fault.IrFaultKind.{IrFaultKind}
 use Rattle.ir_instructions.specs.declared.place.Place.TheVariants as places
 use Rattle.ir_instructions.specs.Places.{leaves_out, misfit}
 use Rattle.ir_instructions.specs.Readers.{Read, Reader, fault, goes_on, ◌>>=◌, done, another_at}
@@ -106,14 +107,14 @@ others_follow (suc n) a (u ∷ front) l x short e read t more =
 
 -- ---- tokens that are refused there
 
-abbrev the_fault : TextFault → Read (List RawEntry)
+abbrev the_fault : Fault IrFaultKind → Read (List RawEntry)
 the_fault f = Err f
 
-fault_is : (f g : TextFault) → the_fault f ≡ the_fault g → f ≡ g
+fault_is : (f g : Fault IrFaultKind) → the_fault f ≡ the_fault g → f ≡ g
 fault_is f g same = cc
 
 -- behind entries, what begins no entry is refused as such
-pub begins_none : (a : List RawEntry) (line : ℕ) (t : Token) (found : TextFault) → is_last t ≡ false → ((more : List Placed) → Loop a ((line, t) ∷ more) ≡ Err found) → found.kind ≡ misfit places.Entry t
+pub begins_none : (a : List RawEntry) (line : ℕ) (t : Token) (found : Fault IrFaultKind) → is_last t ≡ false → ((more : List Placed) → Loop a ((line, t) ∷ more) ≡ Err found) → found.kind ≡ misfit places.Entry t
 begins_none a line t found goes refused = by (entry_token_takes line t)
   where
     read : (more : List Placed) → Loop a ((line, t) ∷ more) ≡ goes_on (goes_on (goes_on (entry_token_at ((line, t) ∷ more)) behind_entry) (λ x. done (a ++ x ∷ []))) Loop
@@ -131,7 +132,7 @@ begins_none a line t found goes refused = by (entry_token_takes line t)
         let both : the_fault found ≡ Ok (a ++ s.0 ∷ [], end) = sym (refused (s.1 ++ end)) ∙ all in absurd cc
     by (refuses kind why h) =
         let failed : Loop a ((line, t) ∷ []) ≡ Err (fault line kind) = read [] ∙ rw (h []) refl in
-        ap (λ (f : TextFault). f.kind) (fault_is found (fault line kind) (sym (refused []) ∙ failed)) ∙ why.1
+        ap (λ (f : Fault IrFaultKind). f.kind) (fault_is found (fault line kind) (sym (refused []) ∙ failed)) ∙ why.1
 
 -- no such token is refused as what nothing else is
 pub is_left_out : (t : Token) → is_last t ≡ false → Syntax ≡ misfit places.Entry t → ⊥
@@ -142,14 +143,14 @@ is_left_out Bad_token goes is = absurd cc
 is_left_out t goes is = absurd cc
 
 -- a token that is refused where the text may end
-pub refused_at_end : (front : List Placed) (l : ℕ) (t : Token) (x : List RawEntry × List Placed) (found : TextFault) → Ended (UpTo front l) → parsing.entries_at (UpTo front l) ≡ Ok x → is_last t ≡ false
+pub refused_at_end : (front : List Placed) (l : ℕ) (t : Token) (x : List RawEntry × List Placed) (found : Fault IrFaultKind) → Ended (UpTo front l) → parsing.entries_at (UpTo front l) ≡ Ok x → is_last t ≡ false
     → ((more : List Placed) → parsing.entries_at (front ++ (found.line, t) ∷ more) ≡ Err found) → found.kind ≡ misfit places.Entry t
 unfolding parsing.entries_at
 refused_at_end front l t x found e read goes refused =
     begins_none x.0 found.line t found goes (λ more. sym (others_follow (suc (length front)) [] front l x (omega arith) e read (found.line, t) more) ∙ refused more)
 
 -- no type begins an entry
-no_type_begins : (a : List RawEntry) (line : ℕ) (w : List ℕ) (width : ℕ) → IsTypeWord w width → (more : List Placed) → (e : TextFault) × (Loop a ((line, Word w) ∷ more) ≡ Err e)
+no_type_begins : (a : List RawEntry) (line : ℕ) (w : List ℕ) (width : ℕ) → IsTypeWord w width → (more : List Placed) → (e : Fault IrFaultKind) × (Loop a ((line, Word w) ∷ more) ≡ Err e)
 no_type_begins a line w width is more =
     let no_define : bytes_eq w (codes "define") ≡ false = rw is.1 refl in
     let refused : entry_token_at ((line, Word w) ∷ more) ≡ Err (fault line (LeftOut w)) = rw no_define refl in (

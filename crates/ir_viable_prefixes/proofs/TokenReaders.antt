@@ -13,8 +13,8 @@ use Rattle.ir_tokens.specs.Numbers.{constant_of}
 use Rattle.ir_tokens.specs.Tokens.{Token, Placed, Word, Number, Register, Function, Group, Metadata, Mark}
 use Rattle.ir_tokens.specs.declared.raw.RawValue.{RawValue}
 use Rattle.ir_tokens.specs.declared.raw.RawValue.TheVariants as values
-use Rattle.ir_instructions.specs.declared.fault.Misfit.TheVariants.{Syntax, LeftOut, ConstRange}
-use Rattle.ir_instructions.specs.declared.fault.Misfit.TheVariants as misfits
+use Rattle.ir_tokens.specs.declared.fault.IrFaultKind.TheVariants.{Syntax, LeftOut, ConstRange}
+use Rattle.ir_tokens.specs.declared.fault.IrFaultKind.TheVariants as misfits
 use Rattle.ir_instructions.specs.declared.place.Place.TheVariants as places
 use Rattle.ir_instructions.specs.declared.word.Ending.{Ending}
 use Rattle.ir_instructions.specs.declared.word.Ending.TheVariants as endings
@@ -26,7 +26,8 @@ use Rattle.ir_instructions.specs.declared.word.TypeWord.{TypeWord}
 use Rattle.ir_instructions.specs.declared.word.TypeWord.TheVariants as types
 use Rattle.ir_instructions.specs.InstructionReaders.{mark_at, keyword_at, register_at, type_at, operand_at, case_value_at, metadata_at, pred_at}
 use Rattle.ir_instructions.specs.Readers.{Reader, fault, unexpected, or_left_out}
-use Rattle.ir_instructions.specs.declared.fault.TextFault.{TextFault}
+use Rattle.refusal.specs.declared.fault.Fault.{Fault}
+use Rattle.ir_tokens.specs.declared.fault.IrFaultKind.{IrFaultKind}
 use Rattle.ir_instructions.specs.Grammar.{IsValueToken}
 use Rattle.ir_instructions.specs.Places.{begins_type, is_word, misfit}
 use Rattle.ir_instructions.specs.Keywords.{IsTypeWord, ending_word, operation_word, type_in, operation_in, truth_in, value_in, ending_in}
@@ -166,7 +167,7 @@ type_is_no_opcode u width is = by (operation_in u) refl
 -- ---- tokens of one sort that a reader of one token refuses
 
 abbrev Refusing : {A : Type 0} → Reader A → Token → Type 0
-Refusing R u = (line : ℕ) (more : List Placed) → (e : TextFault) × (R ((line, u) ∷ more) ≡ Err e)
+Refusing R u = (line : ℕ) (more : List Placed) → (e : Fault IrFaultKind) × (R ((line, u) ∷ more) ≡ Err e)
 
 -- each word, each function and each number
 pub all_bad : {A : Type 0} (R : Reader A) → ((w : List ℕ) → Refusing R (Word w)) → ((f : List ℕ) → Refusing R (Function f)) → ((n : List ℕ) → Refusing R (Number n)) → {t u : Token} → Like (Unit {0}) t u → Bad (Unit {0}) R [] t u

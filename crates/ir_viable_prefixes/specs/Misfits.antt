@@ -4,8 +4,8 @@ use Rattle.ops.specs.declared.comparison.Pred.{Pred}
 use Rattle.ir_tokens.specs.Numbers.{constant_of}
 use Rattle.ir_tokens.specs.Tokens.{Token, Placed, End, Bad, Word, Number, Function, Group, is_last}
 use Rattle.ir_tokens.specs.declared.raw.RawValue.{RawValue}
-use Rattle.ir_instructions.specs.declared.fault.Misfit.{Misfit}
-use Rattle.ir_instructions.specs.declared.fault.Misfit.TheVariants.{TooLong, BadByte, Syntax, LeftOut, Width, ConstRange}
+use Rattle.ir_tokens.specs.declared.fault.IrFaultKind.{IrFaultKind}
+use Rattle.ir_tokens.specs.declared.fault.IrFaultKind.TheVariants.{BadByte, Syntax, LeftOut, Width, ConstRange}
 use Rattle.ir_instructions.specs.declared.word.Ending.{Ending}
 use Rattle.ops.specs.declared.keywords.flag.Flag.{Flag}
 use Rattle.ir_instructions.specs.declared.word.Operation.{Operation}
@@ -81,11 +81,11 @@ IsWrongNumber front token =
     (digits : List ℕ) × (width : ℕ) × (token ≡ Number digits) × (constant_of digits width ≡ None)
     × ((other : List ℕ) → FitsBehind front (Number other) ↔ IsSome (constant_of other width))
 
--- What a kind of fault says of the token, which does not fit behind the others.
-abbrev pub IsMisfit : List Placed → Token → Misfit → Type 0
-IsMisfit front token TooLong = ⊥
+-- What a kind of fault says of the token, which does not fit behind the others; no other kind is told of a token.
+abbrev pub IsMisfit : List Placed → Token → IrFaultKind → Type 0
 IsMisfit front token BadByte = token ≡ Bad
 IsMisfit front token Width = IsWrongWidth front token
 IsMisfit front token ConstRange = IsWrongNumber front token
 IsMisfit front token (LeftOut text) = (text ≡ shown token) × IsLeftOut front token × ¬ IsWrongWidth front token
 IsMisfit front token Syntax = IsNothingElse front token
+IsMisfit front token kind = ⊥

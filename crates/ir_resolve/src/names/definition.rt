@@ -1,15 +1,14 @@
 //! The parameters, blocks and results of a function as written.
 
-ghost use Rattle.std.specs.Prelude.{◌≡◌, ◌++◌, map, IfOk, OnOk, IfErr};
+ghost use Rattle.std.specs.Prelude.{◌≡◌, ◌↔◌, ◌^◌, ◌≤◌, ◌++◌, map, IfOk, OnOk, IfSome, IsNone};
 ghost use Rattle.ir_resolve.specs.FaultKinds.{result_width as width_of_result};
 ghost use Rattle.ir_resolve.specs.Views.{seen_definition};
 ghost use Rattle.ir_resolve.specs.Definitions.{parameters_defined, results_defined, blocks_defined, definitions_of};
 
-use crate::fault::ResolveError;
 use ir_core::Register;
 use ir_tokens::{RawBlock, RawFunction, RawIdentifier, RawInst, RawOp, RawParameter};
 use ops::Width;
-use std::alloc::Global;
+use std::alloc::{AllocError, Global};
 
 /// What a name or a number calls.
 #[derive(Clone, Copy, Debug)]
@@ -28,11 +27,11 @@ pub(crate) struct Definition<'a> {
 }
 
 /// A place, where it is less than 2^32.
-fn place(index: usize) -> Result<u32, ResolveError>
-    ensures place { IfOk result (λ place. place ≡ index) }
-    ensures err { IfErr result (λ e. e ≡ ResolveError.NoMemory) }
+fn place(index: usize) -> Option<u32>
+    ensures some { IfSome result (λ place. place ≡ index) }
+    ensures none { IsNone result ↔ 2 ^ 32 ≤ index }
 {
-    u32::try_from(index).ok().ok_or(ResolveError::NoMemory)
+    u32::try_from(index).ok()
 }
 
 /// The width of what an instruction gives.
@@ -53,16 +52,15 @@ pub(crate) fn result_width(op: &RawOp) -> Width
 fn add_parameters<'a>(
     definitions: &mut Vec<Definition<'a>>,
     parameters: &'a [RawParameter],
-) -> Result<(), ResolveError>
-    ensures ok { OnOk result (map seen_definition definitions.new.items
+) -> Result<(), AllocError>
+    ensures { OnOk result (map seen_definition definitions.new.items
         ≡ map seen_definition definitions.old.items ++ parameters_defined parameters.now) }
-    ensures err { IfErr result (λ e. e ≡ ResolveError.NoMemory) }
 {
     for (index, parameter) in parameters.iter().enumerate() {
-        let register = Register::Parameter(place(index)?);
+        let place = place(index).ok_or(AllocError)?;
         definitions.push(Definition {
             written: parameter.name.as_ref(),
-            entity: Entity::Register(register, parameter.width.bits()),
+            entity: Entity::Register(Register::Parameter(place), parameter.width.bits()),
         })?;
     }
     Ok(())
@@ -73,16 +71,16 @@ fn add_results<'a>(
     definitions: &mut Vec<Definition<'a>>,
     block: u32,
     insts: &'a [RawInst],
-) -> Result<(), ResolveError>
-    ensures ok { OnOk result (map seen_definition definitions.new.items
+) -> Result<(), AllocError>
+    ensures { OnOk result (map seen_definition definitions.new.items
         ≡ map seen_definition definitions.old.items ++ results_defined block insts.now) }
-    ensures err { IfErr result (λ e. e ≡ ResolveError.NoMemory) }
 {
     for (index, inst) in insts.iter().enumerate() {
-        let register = Register::Result(block, place(index)?);
+        let place = place(index).ok_or(AllocError)?;
+        let width = result_width(&inst.op);
         definitions.push(Definition {
             written: Some(&inst.result),
-            entity: Entity::Register(register, result_width(&inst.op).bits()),
+            entity: Entity::Register(Register::Result(block, place), width.bits()),
         })?;
     }
     Ok(())
@@ -92,13 +90,12 @@ fn add_results<'a>(
 fn add_blocks<'a>(
     definitions: &mut Vec<Definition<'a>>,
     blocks: &'a [RawBlock],
-) -> Result<(), ResolveError>
-    ensures ok { OnOk result (map seen_definition definitions.new.items
+) -> Result<(), AllocError>
+    ensures { OnOk result (map seen_definition definitions.new.items
         ≡ map seen_definition definitions.old.items ++ blocks_defined blocks.now) }
-    ensures err { IfErr result (λ e. e ≡ ResolveError.NoMemory) }
 {
     for (index, block) in blocks.iter().enumerate() {
-        let number = place(index)?;
+        let number = place(index).ok_or(AllocError)?;
         definitions.push(Definition {
             written: block.label.as_ref(),
             entity: Entity::Block(number),
@@ -111,14 +108,13 @@ fn add_blocks<'a>(
 /// How many parameters, blocks and results there is room for at first. Most functions have no more.
 const USUAL_ROOM: usize = 64;
 
-/// The parameters, blocks and results of a function, in text order.
+/// The parameters, blocks and results of a function, in text order. There is no memory for 2^32 or more of one kind.
 pub(crate) fn definitions(
     alloc: Global,
     raw: &RawFunction,
-) -> Result<Vec<Definition<'_>>, ResolveError>
-    ensures ok { IfOk result (λ definitions.
+) -> Result<Vec<Definition<'_>>, AllocError>
+    ensures { IfOk result (λ definitions.
         map seen_definition definitions.items ≡ definitions_of raw.now) }
-    ensures err { IfErr result (λ e. e ≡ ResolveError.NoMemory) }
 {
     let mut definitions = Vec::with_capacity(alloc, USUAL_ROOM)?;
     add_parameters(&mut definitions, raw.parameters.as_slice())?;

@@ -1,4 +1,4 @@
-use Rattle.std.proofs.Common.{◌∙◌, sym}
+use Rattle.std.proofs.Common.{◌∙◌, sym, refl}
 use Rattle.std.proofs.lemmas.Result.{err_from_is_err_and}
 use Rattle.ir_tokens.specs.SeenTokens.{seen}
 use Rattle.ir_instructions.specs.InstructionReaders.{is_metadata, attachment_at, attachments_at}
@@ -7,18 +7,21 @@ use Rattle.ir_instructions.proofs.Takings.{attachment-takes}
 use Rattle.ir_instructions.proofs.attachment.attachments.Goals as goal
 
 pub attachments-smaller : goal.attachments-smaller
-attachments-smaller c = attachment-takes (seen c.attachments.tokens.now) (tt, seen c.attachment.new.tokens.now) (sym c.is_metadata.ensures ∙ c.attachments-test.true) c.in_ok-attachment.ensures
+attachments-smaller c = attachment-takes (seen c.attachments.rest.now) (tt, seen c.attachment.new.tokens.now) (sym c.is_metadata.ensures ∙ c.attachments-test.true) c.in_ok-attachment.ensures
 
 pub attachments-preserved : goal.attachments-preserved
 attachments-preserved c =
-    sym (repeat-more is_metadata (λ before. attachment_at) (λ before. attachment-takes) tt (seen c.attachments.tokens.now) (tt, seen c.attachment.new.tokens.now) (sym c.is_metadata.ensures ∙ c.attachments-test.true) c.in_ok-attachment.ensures) ∙ c.attachments.invariant
+    sym (repeat-more is_metadata (λ before. attachment_at) (λ before. attachment-takes) tt (seen c.attachments.rest.now) (tt, seen c.attachment.new.tokens.now) (sym c.is_metadata.ensures ∙ c.attachments-test.true) c.in_ok-attachment.ensures) ∙ c.attachments.invariant
 
 pub returns-in_err-attachment : goal.returns-in_err-attachment
 unfolding attachments_at
 returns-in_err-attachment c =
     let p = err_from_is_err_and c.from_residual.result c.from_residual.ensures.1 in
-    rw (p.1, p.2) (repeat-fault is_metadata (λ before. attachment_at) tt (seen c.attachments.tokens.now) _ c.in_err-attachment.field-0.0 (sym c.is_metadata.ensures ∙ c.attachments-test.true) c.in_err-attachment.ensures c.attachments.invariant)
+    record {
+      read = rw (p.1, p.2) (sym c.attachments.invariant ∙ repeat-fault is_metadata (λ before. attachment_at) tt (seen c.attachments.rest.now) c.in_err-attachment.field-0.0 (sym c.is_metadata.ensures ∙ c.attachments-test.true) c.in_err-attachment.ensures);
+      unmoved = rw p.1 refl;
+    }
 
 pub returns : goal.returns
 unfolding attachments_at
-returns c = sym c.attachments.invariant ∙ repeat-done is_metadata (λ before. attachment_at) tt (seen c.attachments.tokens.now) (sym c.is_metadata.ensures ∙ c.attachments-test.false)
+returns c = record { read = sym c.attachments.invariant ∙ repeat-done is_metadata (λ before. attachment_at) tt (seen c.attachments.rest.now) (sym c.is_metadata.ensures ∙ c.attachments-test.false); unmoved = tt }

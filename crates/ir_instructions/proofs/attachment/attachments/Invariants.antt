@@ -5,7 +5,7 @@ use Rattle.ir_instructions.specs.Readers.{repeat_at}
 use Rattle.ir_instructions.proofs.attachment.attachments.Given as goal
 
 abbrev pub invariant-attachments : goal.invariant-attachments
-invariant-attachments l = repeat_at is_metadata (λ before. attachment_at) tt (seen l.tokens.now) ≡ repeat_at is_metadata (λ before. attachment_at) tt (seen l.fn.tokens.now)
+invariant-attachments l = repeat_at is_metadata (λ before. attachment_at) tt (seen l.rest) ≡ repeat_at is_metadata (λ before. attachment_at) tt (seen l.fn.tokens.now)
 
 abbrev pub decreases-attachments : goal.decreases-attachments
-decreases-attachments l = length (seen l.tokens.now)
+decreases-attachments l = length (seen l.rest)

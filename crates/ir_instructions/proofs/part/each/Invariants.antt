@@ -4,7 +4,7 @@ use Rattle.ir_instructions.specs.Readers.{each_at}
 use Rattle.ir_instructions.proofs.part.each.Given as goal
 
 abbrev pub invariant-parts : goal.invariant-parts
-invariant-parts g l = each_at g.P.Part.begins g.P.Part.reader l.parts (seen l.tokens.now) ≡ each_at g.P.Part.begins g.P.Part.reader l.fn.front (seen l.fn.tokens.now)
+invariant-parts g l = each_at g.P.Part.begins g.P.Part.reader l.parts (seen l.rest) ≡ each_at g.P.Part.begins g.P.Part.reader l.fn.front (seen l.fn.tokens.now)
 
 abbrev pub decreases-parts : goal.decreases-parts
-decreases-parts g l = length (seen l.tokens.now)
+decreases-parts g l = length (seen l.rest)

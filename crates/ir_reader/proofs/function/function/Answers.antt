@@ -9,7 +9,7 @@ use Rattle.ir_reader.proofs.function.function.Goals as goal
 pub returns-in_err-f-clause-refused : goal.returns-in_err-f-clause-refused
 returns-in_err-f-clause-refused c =
     let p = err_from_is_err_and c.from_residual.result c.from_residual.ensures.1 in
-    rw p.1 (names_fault c.args.is_repeated c.args.raw.now c.in_err-f.field-0.0 p.0 p.2 c.in_err-f.ensures.refused)
+    rw (p.1, p.2) (names_fault c.args.is_repeated c.args.raw.now c.in_err-f.field-0.0 c.in_err-f.ensures.refused)
 
 pub predecessors-requires-clause-targets : goal.predecessors-requires-clause-targets
 predecessors-requires-clause-targets c = targets_within c.args.raw.now c.in_ok-f.f c.in_ok-f.ensures.means

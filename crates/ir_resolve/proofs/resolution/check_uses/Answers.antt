@@ -4,7 +4,7 @@ use Rattle.ir_resolve.specs.FaultKinds.{TypeClashAt}
 use Rattle.ir_resolve.specs.Views.{known_by}
 use Rattle.ir_resolve.specs.Uses.{seen_read, seen_reads, seen_targets}
 use Rattle.ir_resolve.specs.NameTable.{IsFaultOfUses, unknown, clash}
-use Rattle.ir_resolve.specs.Faults.{IfRefused}
+use Rattle.refusal.specs.Refusals.{IfRefused}
 use Rattle.ir_resolve.proofs.Checked.{unknown_first, clash_first}
 use Rattle.ir_resolve.proofs.resolution.check_uses.Goals as goal
 

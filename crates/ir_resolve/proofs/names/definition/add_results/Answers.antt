@@ -11,6 +11,8 @@ loop-index-preserved c =
     let b = c.args.block in
     let i = c.loop-index.index in
     let x = c.index-insts-index.result in
-    let same : (let d : Defined = (Some x.result, entities.Register (registers.Result b c.in_ok-place.field-0) c.bits.result) in d) ≡ result_defined b (i, x) = cc (c.in_ok-place.ensures.place, c.bits.ensures.bits, c.result_width.ensures) in
+    let some : c.place.result ≡ Some c.in_ok-place.place = grind arith in
+    let at : c.in_ok-place.place ≡ i = rw some at c.place.ensures.some in
+    let same : (let d : Defined = (Some x.result, entities.Register (registers.Result b c.in_ok-place.place) c.bits.result) in d) ≡ result_defined b (i, x) = cc (at, c.bits.ensures.bits, c.result_width-width.ensures) in
     defined_more (map (result_defined b)) (λ p. result_defined b p ∷ []) (map_push (result_defined b)) c.args.insts.now i x _ _ _ (omega arith) c.index-insts-index.is c.loop-index.invariant
     (seen_push _ _ _ _ c.in_ok-push.ensures.items same)
