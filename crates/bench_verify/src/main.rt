@@ -19,14 +19,11 @@ use crate::measure::measure;
 use lists::List;
 use outside::{DiskFiles, Files, ReadError};
 use rule_core::{Rule, Typing};
-use rule_reader::read_rules;
+use rule_reader::{MOST_BYTES, read_rules};
 use rule_typing::{Typings, typings};
 use std::env;
 use std::io::ErrorKind;
 use std::process::ExitCode;
-
-/// The most bytes of a rule file.
-const MOST_BYTES: usize = 1_048_576;
 
 /// The program's words. A word that isn't UTF-8 is no word of a command.
 fn words(rt: &HostRuntime) -> Result<Vec<String>, Failure> {

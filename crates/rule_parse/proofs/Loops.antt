@@ -5,14 +5,14 @@ use Rattle.ops.specs.declared.opcode.Opcode.{Opcode}
 use Rattle.ops.specs.declared.opcode.Flags.{Flags}
 use Rattle.ops.specs.declared.keywords.flag.Flag.{Flag}
 use Rattle.ops.specs.FlagKeywords.{has_flag, with_flag}
-use Rattle.rule_tokens.specs.declared.fault.ParseError.{ParseError}
-use Rattle.rule_tokens.specs.declared.fault.ParseError.TheVariants.{Refused, NoMemory}
-use Rattle.rule_tokens.specs.declared.fault.Misfit.TheVariants.{Syntax, TooMany}
-use Rattle.rule_tokens.specs.declared.fault.TextFault.{TextFault}
+use Rattle.rule_tokens.specs.RuleFaults.{RuleFault, RuleError}
+use Rattle.refusal.specs.declared.refusal.Refusal.TheVariants.{Refused, NoMemory}
+use Rattle.rule_tokens.specs.declared.fault.RuleFaultKind.TheVariants.{Syntax, TooMany}
 use Rattle.rule_parse.specs.declared.half.Half.{Half}
 use Rattle.rule_parse.specs.declared.raw.RawRule.{RawRule}
 use Rattle.rule_parse.specs.declared.raw.RawStatement.{RawStatement}
-use Rattle.rule_tokens.specs.Gives.{◌>>=◌, Fails}
+use Rattle.refusal.specs.Refusals.{Fails}
+use Rattle.rule_tokens.specs.Steps.{◌>>=◌}
 use Rattle.rule_tokens.specs.PartReaders.{Read, fault}
 use Rattle.rule_parse.specs.RuleReaders.{next_flag, flags_at, IsNoStatement, statement_at, statements_at, rule_at, rules_at, all_rules}
 use Rattle.rule_tokens.specs.Tokens.{Token, Line, Register}
@@ -43,7 +43,7 @@ statements-more most front half line name tokens rest x total begun lt s so_far 
     let one : statements_at (most - length front) half tokens ≡ (statements_at (most - (length front + 1)) half x.1 >>= λ others. Ok (x.0 ∷ others.0, others.1)) = rw (begun, room_more most (length front) lt, s) refl in
     rw (length-append front (x.0 ∷ [])) (sym (regroup front x.0 (statements_at (most - (length front + 1)) half x.1)) ∙ ap (with_front front) (sym one) ∙ so_far)
 
-pub statements-fault : (most : ℕ) (front : List RawStatement) (half : Half) (line : ℕ) (name : List ℕ) (tokens rest : List Token) (total : Read (List RawStatement)) (e : ParseError) → tokens ≡ Line line ∷ Register name ∷ rest → length front < most → Fails e (statement_at half line name rest)
+pub statements-fault : (most : ℕ) (front : List RawStatement) (half : Half) (line : ℕ) (name : List ℕ) (tokens rest : List Token) (total : Read (List RawStatement)) (e : RuleError) → tokens ≡ Line line ∷ Register name ∷ rest → length front < most → Fails e (statement_at half line name rest)
     → with_front front (statements_at (most - length front) half tokens) ≡ total → Fails e total
 unfolding statements_at
 statements-fault most front half line name tokens rest total NoMemory begun lt s so_far = tt
@@ -84,11 +84,11 @@ flags-again op line before flag (token ∷ rest) next again = rw (next, again) r
 
 -- ---- rules
 
-abbrev pub with_rules : List RawRule → Result (List RawRule) TextFault → Result (List RawRule) TextFault
+abbrev pub with_rules : List RawRule → Result (List RawRule) RuleFault → Result (List RawRule) RuleFault
 with_rules front (Ok rules) = Ok (front ++ rules)
 with_rules front (Err e) = Err e
 
-rules_same : {A B : Type 0} (r : Result A TextFault) (f g : A → Result B TextFault) → ((x : A) → r ≡ Ok x → f x ≡ g x) → (r >>= f) ≡ (r >>= g)
+rules_same : {A B : Type 0} (r : Result A RuleFault) (f g : A → Result B RuleFault) → ((x : A) → r ≡ Ok x → f x ≡ g x) → (r >>= f) ≡ (r >>= g)
 rules_same (Ok x) f g h = h x refl
 rules_same (Err e) f g h = refl
 
@@ -105,7 +105,7 @@ rules_enough (suc n) (suc m) last (token ∷ tokens) p q =
     rules_same (rule_at last (token ∷ tokens)) _ _
     (λ x e.
     let short : length x.1 < length (token ∷ tokens) = rule_at-shorter last (token ∷ tokens) x e in
-    ap (λ (r : Result (List RawRule) TextFault). r >>= λ others. Ok (x.0 ∷ others)) (rules_enough n m last x.1 (omega arith) (omega arith)))
+    ap (λ (r : Result (List RawRule) RuleFault). r >>= λ others. Ok (x.0 ∷ others)) (rules_enough n m last x.1 (omega arith) (omega arith)))
 
 rules_step : (last : ℕ) (tokens : List Token) → 0 < length tokens → all_rules last tokens ≡ (rule_at last tokens >>= λ first. (all_rules last first.1 >>= λ others. Ok (first.0 ∷ others)))
 unfolding rules_at
@@ -114,28 +114,28 @@ rules_step last (token ∷ tokens) some =
     rules_same (rule_at last (token ∷ tokens)) _ _
     (λ x e.
     let short : length x.1 < length (token ∷ tokens) = rule_at-shorter last (token ∷ tokens) x e in
-    ap (λ (r : Result (List RawRule) TextFault). r >>= λ others. Ok (x.0 ∷ others)) (rules_enough (length tokens) (length x.1) last x.1 (omega arith) (omega arith)))
+    ap (λ (r : Result (List RawRule) RuleFault). r >>= λ others. Ok (x.0 ∷ others)) (rules_enough (length tokens) (length x.1) last x.1 (omega arith) (omega arith)))
 
-rules_grouped : (front : List RawRule) (rule : RawRule) (read : Result (List RawRule) TextFault) → with_rules front (read >>= λ others. Ok (rule ∷ others)) ≡ with_rules (front ++ rule ∷ []) read
+rules_grouped : (front : List RawRule) (rule : RawRule) (read : Result (List RawRule) RuleFault) → with_rules front (read >>= λ others. Ok (rule ∷ others)) ≡ with_rules (front ++ rule ∷ []) read
 rules_grouped front rule (Ok rules) = ap (λ (rs : List RawRule). Ok rs) (sym (append_assoc front (rule ∷ []) rules))
 rules_grouped front rule (Err e) = refl
 
-pub rules-start : (read : Result (List RawRule) TextFault) → with_rules [] read ≡ read
+pub rules-start : (read : Result (List RawRule) RuleFault) → with_rules [] read ≡ read
 rules-start (Ok rules) = refl
 rules-start (Err e) = refl
 
-pub rules-more : (front : List RawRule) (last : ℕ) (tokens : List Token) (x : RawRule × List Token) (total : Result (List RawRule) TextFault) → 0 < length tokens → rule_at last tokens ≡ Ok x → with_rules front (all_rules last tokens) ≡ total → with_rules (front ++ x.0 ∷ []) (all_rules last x.1) ≡ total
+pub rules-more : (front : List RawRule) (last : ℕ) (tokens : List Token) (x : RawRule × List Token) (total : Result (List RawRule) RuleFault) → 0 < length tokens → rule_at last tokens ≡ Ok x → with_rules front (all_rules last tokens) ≡ total → with_rules (front ++ x.0 ∷ []) (all_rules last x.1) ≡ total
 rules-more front last tokens x total some one so_far =
     let step : all_rules last tokens ≡ (all_rules last x.1 >>= λ others. Ok (x.0 ∷ others)) = rules_step last tokens some ∙ rw one refl in
     sym (rules_grouped front x.0 (all_rules last x.1)) ∙ ap (with_rules front) (sym step) ∙ so_far
 
-pub rules-fault : (front : List RawRule) (last : ℕ) (tokens : List Token) (total : Result (List RawRule) TextFault) (e : ParseError) → 0 < length tokens → Fails e (rule_at last tokens) → with_rules front (all_rules last tokens) ≡ total → Fails e total
+pub rules-fault : (front : List RawRule) (last : ℕ) (tokens : List Token) (total : Result (List RawRule) RuleFault) (e : RuleError) → 0 < length tokens → Fails e (rule_at last tokens) → with_rules front (all_rules last tokens) ≡ total → Fails e total
 rules-fault front last tokens total NoMemory some one so_far = tt
 rules-fault front last tokens total (Refused f) some one so_far =
     let step : all_rules last tokens ≡ Err f = rules_step last tokens some ∙ rw one refl in
     sym so_far ∙ ap (with_rules front) step
 
-pub rules-done : (front : List RawRule) (last : ℕ) (tokens : List Token) (total : Result (List RawRule) TextFault) → length tokens ≡ 0 → with_rules front (all_rules last tokens) ≡ total → total ≡ Ok front
+pub rules-done : (front : List RawRule) (last : ℕ) (tokens : List Token) (total : Result (List RawRule) RuleFault) → length tokens ≡ 0 → with_rules front (all_rules last tokens) ≡ total → total ≡ Ok front
 unfolding rules_at
 rules-done front last [] total none so_far = sym so_far ∙ ap (λ (rs : List RawRule). Ok rs) (append-nil front)
 rules-done front last (token ∷ tokens) total none so_far = absurd (omega arith)

@@ -12,7 +12,7 @@ use Rattle.ops.specs.Keywords.{opcode_keyword, cast_keyword, predicate_keyword, 
 use Rattle.ops.specs.FlagKeywords.{AddsFlags, flag_keyword, has_flag, with_flag}
 use Rattle.ops.proofs.KeywordLemmas.{same_word, pred_in-is}
 use Rattle.ops.proofs.FlagKeywordLemmas.{flag_in-is}
-use Rattle.rule_tokens.specs.declared.fault.Misfit.TheVariants.{Syntax}
+use Rattle.rule_tokens.specs.declared.fault.RuleFaultKind.TheVariants.{Syntax}
 use Rattle.rule_parse.specs.declared.half.Half.{Half}
 use Rattle.rule_parse.specs.declared.half.Half.TheVariants.{Source, Target}
 use Rattle.rule_parse.specs.declared.raw.RawOp.{RawOp}
@@ -28,7 +28,7 @@ use Rattle.rule_terms.specs.declared.raw.RawNode.{RawNode}
 use Rattle.rule_terms.specs.declared.raw.RawNode.TheVariants as raw_nodes
 use Rattle.rule_terms.specs.Grammar.{most_nested, SpellsWholeTerm}
 use Rattle.rule_terms.specs.TermReaders.{mark_at, term_at}
-use Rattle.rule_tokens.specs.Gives.{◌>>=◌}
+use Rattle.rule_tokens.specs.Steps.{◌>>=◌}
 use Rattle.rule_tokens.specs.TypeTokens.{SpellsType}
 use Rattle.rule_parse.specs.Grammar.{SpellsArgument, SpellsUntyped, SpellsOperand, SpellsPair, SpellsFlags, SpellsTo, SpellsOp}
 use Rattle.rule_tokens.specs.Numbers.{literal_value}

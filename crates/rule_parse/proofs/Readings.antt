@@ -3,7 +3,7 @@ use Rattle.std.proofs.Common.{◌≡◌, ℕ, zero, suc, ◌<◌, ◌≤◌, Boo
 use Rattle.std.specs.Prelude.{codes}
 use Rattle.std.specs.Str.{bytes_eq}
 use Rattle.ops.proofs.KeywordLemmas.{same_word}
-use Rattle.rule_tokens.specs.declared.fault.Misfit.TheVariants.{Syntax}
+use Rattle.rule_tokens.specs.declared.fault.RuleFaultKind.TheVariants.{Syntax}
 use Rattle.rule_parse.specs.declared.half.Half.{Half}
 use Rattle.rule_parse.specs.declared.half.Half.TheVariants.{Source, Target}
 use Rattle.rule_parse.specs.declared.raw.RawRule.{RawRule}
@@ -14,7 +14,7 @@ use Rattle.rule_terms.specs.FormulaReaders.{formula_at}
 use Rattle.rule_terms.specs.TermReaders.{mark_at}
 use Rattle.rule_terms.proofs.Starts.{mark_at-is}
 use Rattle.rule_tokens.specs.Parts.{Maybe}
-use Rattle.rule_tokens.specs.Gives.{◌>>=◌}
+use Rattle.rule_tokens.specs.Steps.{◌>>=◌}
 use Rattle.rule_parse.specs.Grammar.{SpellsStatement, SpellsStatements, SpellsHalf, SpellsPrecondition, SpellsWitness, SpellsRule, SpellsRules}
 use Rattle.rule_parse.specs.Limits.{most_statements}
 use Rattle.rule_tokens.specs.Limits.{most_name_bytes}

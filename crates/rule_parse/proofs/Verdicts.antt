@@ -3,16 +3,15 @@ use Rattle.std.proofs.Common.{◌≡◌, ℕ, List, Result, Ok, Err, length, ref
 use Rattle.std.specs.Prelude.{IfOk, IfErr}
 use Rattle.std.proofs.Math.Nat.{le_refl}
 use Rattle.scan.specs.Laws.{OneTokenAtAPlace}
-use Rattle.rule_tokens.specs.declared.fault.ParseError.{ParseError}
-use Rattle.rule_tokens.specs.declared.fault.ParseError.TheVariants.{Refused, NoMemory}
-use Rattle.rule_tokens.specs.declared.fault.TextFault.{TextFault}
+use Rattle.rule_tokens.specs.RuleFaults.{RuleFault, RuleError}
+use Rattle.refusal.specs.declared.refusal.Refusal.TheVariants.{Refused, NoMemory}
 use Rattle.rule_parse.specs.declared.raw.RawRule.{RawRule}
-use Rattle.rule_tokens.specs.Gives.{Gives}
+use Rattle.refusal.specs.Refusals.{Gives}
 use Rattle.rule_parse.specs.Grammar.{SpellsRules}
 use Rattle.rule_parse.specs.OneReading.{TextsHaveOneReadingOrFault}
 use Rattle.rule_parse.specs.CutTokens.{limited}
 use Rattle.rule_parse.specs.RuleReaders.{all_rules}
-use Rattle.rule_tokens.specs.Errors.{IfRefused}
+use Rattle.refusal.specs.Refusals.{IfRefused}
 use Rattle.rule_parse.specs.Text.{IsWritten, IsTextFault}
 use Rattle.rule_tokens.specs.Tokens.{Token, AreTokens}
 use Rattle.rule_tokens.proofs.Readers.{one_reading, has_tokens}
@@ -22,10 +21,10 @@ use Rattle.rule_parse.proofs.Weight.{spelled_whole}
 use Rattle.rule_tokens.proofs.Steps.{ok_is}
 
 -- what is read of a text's tokens
-abbrev IsRead : List ℕ → Result (List RawRule) TextFault → Type 0
+abbrev IsRead : List ℕ → Result (List RawRule) RuleFault → Type 0
 IsRead text r = (tokens : List Token) × (last : ℕ) × AreTokens text tokens last × (all_rules last (limited tokens) ≡ r)
 
-one_read : OneTokenAtAPlace → (text : List ℕ) (r s : Result (List RawRule) TextFault) → IsRead text r → IsRead text s → r ≡ s
+one_read : OneTokenAtAPlace → (text : List ℕ) (r s : Result (List RawRule) RuleFault) → IsRead text r → IsRead text s → r ≡ s
 one_read one text r s (tokens, last, are, is) (tokens', last', are', is') =
     let same = one_reading one text are (omega arith) tokens' last' are' in
     sym is ∙ ap (λ (ts : List Token). all_rules last (limited ts)) same.0 ∙ ap (λ (l : ℕ). all_rules l (limited tokens')) same.1 ∙ is'
@@ -40,13 +39,13 @@ read_written text tokens last raws are e =
     let few = spelled_whole raws tokens spelled in
     record { tokens = tokens; last = last; are_tokens = are; few = few; spelled = subst (λ (ts : List Token). SpellsRules raws ts) few spelled }
 
-fault_read : (text : List ℕ) (fault : TextFault) → IsTextFault text fault → IsRead text (Err fault)
+fault_read : (text : List ℕ) (fault : RuleFault) → IsTextFault text fault → IsRead text (Err fault)
 fault_read text fault f = (f.tokens, f.last, f.are_tokens, f.found)
 
-abbrev err_of : TextFault → Result (List RawRule) TextFault
+abbrev err_of : RuleFault → Result (List RawRule) RuleFault
 err_of fault = Err fault
 
-abbrev ok_of : List RawRule → Result (List RawRule) TextFault
+abbrev ok_of : List RawRule → Result (List RawRule) RuleFault
 ok_of raws = Ok raws
 
 pub texts : OneTokenAtAPlace → TextsHaveOneReadingOrFault
@@ -57,13 +56,13 @@ texts one = record {
   not_both = λ text raws fault h k. let e : ok_of raws ≡ err_of fault = one_read one text (Ok raws) (Err fault) (written_read text raws h) (fault_read text fault k) in cc;
 }
   where
-    found : (text : List ℕ) (tokens : List Token) (last : ℕ) → AreTokens text tokens last → (r : Result (List RawRule) TextFault) → all_rules last (limited tokens) ≡ r → ((raws : List RawRule) × IsWritten text raws) ⊎ ((fault : TextFault) × IsTextFault text fault)
+    found : (text : List ℕ) (tokens : List Token) (last : ℕ) → AreTokens text tokens last → (r : Result (List RawRule) RuleFault) → all_rules last (limited tokens) ≡ r → ((raws : List RawRule) × IsWritten text raws) ⊎ ((fault : RuleFault) × IsTextFault text fault)
     found text tokens last are (Ok raws) e = inl (raws, read_written text tokens last raws are e)
     found text tokens last are (Err fault) e = inr (fault, record { tokens = tokens; last = last; are_tokens = are; found = e })
 
 -- ---- what the code answers
 
-pub answers : {X : Type 0} (items : X → List RawRule) (text : List ℕ) (tokens : List Token) (last : ℕ) (r : Result X ParseError) → AreTokens text tokens last → Gives items r (all_rules last (limited tokens)) → IfOk r (λ x. IsWritten text (items x)) × IfErr r (λ e. IfRefused e (IsTextFault text))
+pub answers : {X : Type 0} (items : X → List RawRule) (text : List ℕ) (tokens : List Token) (last : ℕ) (r : Result X RuleError) → AreTokens text tokens last → Gives items r (all_rules last (limited tokens)) → IfOk r (λ x. IsWritten text (items x)) × IfErr r (λ e. IfRefused e (IsTextFault text))
 answers items text tokens last (Ok x) are e = (read_written text tokens last (items x) are e, tt)
 answers items text tokens last (Err (Refused fault)) are e = (tt, record { tokens = tokens; last = last; are_tokens = are; found = e })
 answers items text tokens last (Err NoMemory) are e = (tt, tt)

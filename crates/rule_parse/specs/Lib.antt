@@ -1,4 +1,7 @@
-pub use Rattle.rule_tokens.specs.Errors
+pub use Rattle.refusal.specs.Refusals
+pub use Rattle.refusal.specs.declared.fault.Fault
+pub use Rattle.refusal.specs.declared.refusal.Refusal
+pub use Rattle.rule_tokens.specs.RuleFaults
 pub mod NodeCounts
 pub mod Grammar
 pub mod Contents

@@ -1,6 +1,6 @@
 -- What holds of every text.
 use Rattle.std.specs.Prelude.{◌≡◌, ◌↔◌, ◌⊎◌, ℕ, ◌≤◌, List, Some, Ok, slice_get}
-use Rattle.rule_tokens.specs.declared.fault.TextFault.{TextFault}
+use Rattle.rule_tokens.specs.RuleFaults.{RuleFault}
 use Rattle.rule_parse.specs.declared.raw.RawRule.{RawRule}
 use Rattle.rule_parse.specs.NodeCounts.{IsWithinLimit, IsCut}
 use Rattle.rule_parse.specs.Grammar.{SpellsRules}
@@ -17,10 +17,10 @@ RulesAreReadAsSpelled = (last : ℕ) (tokens : List Token) (raws : List RawRule)
 
 -- a text has one list of rules or one fault, and never both
 pub record TextsHaveOneReadingOrFault : Type 0 where
-  pub some : (text : List ℕ) → ((raws : List RawRule) × IsWritten text raws) ⊎ ((fault : TextFault) × IsTextFault text fault)
+  pub some : (text : List ℕ) → ((raws : List RawRule) × IsWritten text raws) ⊎ ((fault : RuleFault) × IsTextFault text fault)
   pub one_reading : (text : List ℕ) (a b : List RawRule) → IsWritten text a → IsWritten text b → a ≡ b
-  pub one_fault : (text : List ℕ) (a b : TextFault) → IsTextFault text a → IsTextFault text b → a ≡ b
-  pub not_both : (text : List ℕ) (raws : List RawRule) (fault : TextFault) → IsWritten text raws → IsTextFault text fault → ⊥
+  pub one_fault : (text : List ℕ) (a b : RuleFault) → IsTextFault text a → IsTextFault text b → a ≡ b
+  pub not_both : (text : List ℕ) (raws : List RawRule) (fault : RuleFault) → IsWritten text raws → IsTextFault text fault → ⊥
 
 -- no rule has more operands, literals, names, operators and functions than the limit
 abbrev pub WrittenRulesAreSmall : Type 0

@@ -10,8 +10,8 @@ use Rattle.ops.specs.Flags.{no_flags}
 use Rattle.ops.specs.declared.keywords.flag.Flag.{Flag}
 use Rattle.ops.specs.Keywords.{pred_in}
 use Rattle.ops.specs.FlagKeywords.{flag_in, has_flag, with_flag}
-use Rattle.rule_tokens.specs.declared.fault.Misfit.TheVariants.{Syntax, TooMany}
-use Rattle.rule_tokens.specs.declared.fault.TextFault.{TextFault}
+use Rattle.rule_tokens.specs.declared.fault.RuleFaultKind.TheVariants.{Syntax, TooMany}
+use Rattle.rule_tokens.specs.RuleFaults.{RuleFault}
 use Rattle.rule_parse.specs.declared.half.Half.{Half}
 use Rattle.rule_parse.specs.declared.half.Half.TheVariants.{Source, Target}
 use Rattle.rule_parse.specs.declared.raw.RawRule.{RawRule}
@@ -32,7 +32,7 @@ use Rattle.rule_terms.specs.TermReaders.{mark_at, term_at}
 use Rattle.rule_terms.specs.FormulaReaders.{formula_at}
 use Rattle.rule_terms.specs.Chains.{Reader, chain_at}
 use Rattle.scan.specs.RuleTokens.{is_constant}
-use Rattle.rule_tokens.specs.Gives.{◌>>=◌}
+use Rattle.rule_tokens.specs.Steps.{◌>>=◌}
 use Rattle.rule_parse.specs.Limits.{most_statements}
 use Rattle.rule_tokens.specs.PartReaders.{Read, fault, unexpected, misplaced_word, left_out, or_left_out, name_within, type_at, maybe_type, line_end}
 use Rattle.rule_tokens.specs.Numbers.{literal_value}
@@ -46,11 +46,11 @@ abbrev pub register_at : ℕ → List ℕ → List Token → Read RawArgument
 register_at line name rest = name_within line name >>= λ held. Ok (arguments.Register held, rest)
 
 -- a word of the source: a constant, a truth or `undef`
-abbrev pub known_or_misplaced : ℕ → List ℕ → Option RawArgument → Result RawArgument TextFault
+abbrev pub known_or_misplaced : ℕ → List ℕ → Option RawArgument → Result RawArgument RuleFault
 known_or_misplaced line word (Some value) = Ok value
 known_or_misplaced line word None = Err (misplaced_word line word)
 
-unfoldable pub source_word : ℕ → List ℕ → Result RawArgument TextFault
+unfoldable pub source_word : ℕ → List ℕ → Result RawArgument RuleFault
 source_word line word =
     if is_constant word then (name_within line word >>= λ held. Ok (arguments.Constant held))
     else known_or_misplaced line word (source_word_in word)
@@ -202,7 +202,7 @@ IsNoStatement tokens = Unit {0}
 -- ---- the parts of a rule, where `last` is the last line of the text
 
 -- another line should begin here; at the end of the text the fault is on its last line
-abbrev pub unexpected_line : ℕ → List Token → TextFault
+abbrev pub unexpected_line : ℕ → List Token → RuleFault
 unexpected_line last (Line line ∷ tokens) = unexpected line tokens
 unexpected_line last tokens = unexpected last tokens
 
@@ -255,7 +255,7 @@ source_at last (Line line ∷ Register name ∷ rest) = statements_at most_state
 source_at last tokens = Err (unexpected_line last tokens)
 
 -- the `=>` on a line of its own
-unfoldable pub arrow_at : ℕ → List Token → Result (List Token) TextFault
+unfoldable pub arrow_at : ℕ → List Token → Result (List Token) RuleFault
 arrow_at last (Line line ∷ Arrow ∷ rest) = line_end line rest
 arrow_at last tokens = Err (unexpected_line last tokens)
 
@@ -275,7 +275,7 @@ rule_at last tokens = do
   Ok (record { line = name.0.0; name = name.0.1; precondition = precondition.0; witness = witness.0; source = source.0; target = target.0 }, target.1)
 
 -- Rules up to the end of the text. The number bounds how many; that of the tokens is enough.
-unfoldable pub rules_at : ℕ → ℕ → List Token → Result (List RawRule) TextFault
+unfoldable pub rules_at : ℕ → ℕ → List Token → Result (List RawRule) RuleFault
 rules_at n last [] = Ok []
 rules_at zero last (token ∷ tokens) = Err (fault last Syntax)
 rules_at (suc n) last (token ∷ tokens) = do
@@ -284,5 +284,5 @@ rules_at (suc n) last (token ∷ tokens) = do
   Ok (first.0 ∷ others)
 
 -- all rules of these tokens
-abbrev pub all_rules : ℕ → List Token → Result (List RawRule) TextFault
+abbrev pub all_rules : ℕ → List Token → Result (List RawRule) RuleFault
 all_rules last tokens = rules_at (length tokens) last tokens

@@ -1,6 +1,6 @@
 -- Rule files as written: their rules, or their first fault.
 use Rattle.std.specs.Prelude.{◌≡◌, ℕ, List, Err}
-use Rattle.rule_tokens.specs.declared.fault.TextFault.{TextFault}
+use Rattle.rule_tokens.specs.RuleFaults.{RuleFault}
 use Rattle.rule_parse.specs.declared.raw.RawRule.{RawRule}
 use Rattle.rule_parse.specs.Grammar.{SpellsRules}
 use Rattle.rule_parse.specs.CutTokens.{limited}
@@ -17,7 +17,7 @@ pub record IsWritten (text : List ℕ) (raws : List RawRule) : Type 0 where
   pub spelled : SpellsRules raws tokens
 
 -- the first token that does not fit: its line, and why it does not
-pub record IsTextFault (text : List ℕ) (fault : TextFault) : Type 0 where
+pub record IsTextFault (text : List ℕ) (fault : RuleFault) : Type 0 where
   pub tokens : List Token
   pub last : ℕ
   pub are_tokens : AreTokens text tokens last

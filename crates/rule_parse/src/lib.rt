@@ -25,5 +25,5 @@ pub use laws::{
 pub use raw::{RawArgument, RawOp, RawOperand, RawPrecondition, RawRule, RawStatement, RawWitness};
 pub use reader::parse_rules;
 pub use rule_terms::{RawFormula, RawNode, RawTerm};
-pub use rule_tokens::{Misfit, ParseError, TextFault};
+pub use rule_tokens::{RuleError, RuleFault, RuleFaultKind};
 pub use word::Operation;

@@ -2,9 +2,10 @@
 
 ghost use Rattle.std.specs.Prelude.{◌≡◌, drop, IfSome, IfNone};
 ghost use Rattle.ops.specs.Flags.{no_flags};
-ghost use Rattle.rule_tokens.specs.Gives.{Gives};
+ghost use Rattle.refusal.specs.Refusals.{Gives};
 ghost use Rattle.rule_parse.specs.RuleReaders as parsing;
 ghost use Rattle.rule_tokens.specs.SeenTokens.{seen};
+ghost use Rattle.rule_tokens.specs.Steps.{Reads};
 
 use crate::half::Half;
 use crate::operand::{operand, result_type, typed};
@@ -14,7 +15,7 @@ use ops::keywords::{Flag, flag_of, has_flag, predicate_of, with_flag};
 use ops::{Cast, Flags, Opcode, Pred};
 use rule_terms::mark;
 use rule_tokens::{
-    Misfit, ParseError, Token, line_end, misplaced, misplaced_word, refused, unexpected,
+    RuleError, RuleFault, RuleFaultKind, Token, line_end, misplaced, misplaced_word, unexpected,
 };
 use std::alloc::Global;
 
@@ -33,13 +34,14 @@ fn flag(opcode: Opcode, tokens: &mut &[Token<'_>]) -> Option<Flag>
 }
 
 /// The flags of an instruction, in any order.
-fn flags(opcode: Opcode, line: usize, tokens: &mut &[Token<'_>]) -> Result<Flags, ParseError>
-    ensures { Gives (λ x. (x, seen tokens.new.now)) result (parsing.flags_at opcode line no_flags (seen tokens.old.now)) }
+fn flags(opcode: Opcode, line: usize, tokens: &mut &[Token<'_>]) -> Result<Flags, RuleFault>
+    ensures { Reads (λ x. (x, seen tokens.new.now)) result (parsing.flags_at opcode line no_flags (seen tokens.old.now)) }
 {
     let mut flags = Flags::NONE;
     while let Some(flag) = flag(opcode, tokens) {
         if has_flag(flags, flag) {
-            return Err(refused(line, Misfit::Syntax));
+            let kind = RuleFaultKind::Syntax;
+            return Err(RuleFault { line, kind });
         }
         flags = with_flag(flags, flag);
     }
@@ -53,7 +55,7 @@ fn pair(
     half: Half,
     line: usize,
     tokens: &mut &[Token<'_>],
-) -> Result<(RawOperand, RawOperand), ParseError>
+) -> Result<(RawOperand, RawOperand), RuleError>
     ensures { Gives (λ x. (x, seen tokens.new.now)) result (parsing.pair_at half line (seen tokens.old.now)) }
 {
     let left = operand(alloc, half, line, tokens)?;
@@ -71,7 +73,7 @@ fn binary(
     line: usize,
     opcode: Opcode,
     tokens: &mut &[Token<'_>],
-) -> Result<RawOp, ParseError>
+) -> Result<RawOp, RuleError>
     ensures { Gives (λ x. (x, seen tokens.new.now)) result (parsing.binary_at half line opcode (seen tokens.old.now)) }
 {
     let flags = flags(opcode, line, tokens)?;
@@ -81,7 +83,7 @@ fn binary(
 
 /// A predicate.
 #[tactic(auto, unfolding(crate::specs::RuleReaders::pred_at))]
-fn predicate(alloc: Global, line: usize, tokens: &mut &[Token<'_>]) -> Result<Pred, ParseError>
+fn predicate(alloc: Global, line: usize, tokens: &mut &[Token<'_>]) -> Result<Pred, RuleError>
     ensures { Gives (λ x. (x, seen tokens.new.now)) result (parsing.pred_at line (seen tokens.old.now)) }
 {
     match *tokens {
@@ -92,7 +94,7 @@ fn predicate(alloc: Global, line: usize, tokens: &mut &[Token<'_>]) -> Result<Pr
             }
             None => Err(misplaced_word(alloc, line, word)),
         },
-        _ => Err(unexpected(line, *tokens)),
+        _ => Err(unexpected(line, *tokens).into()),
     }
 }
 
@@ -103,7 +105,7 @@ fn comparison(
     half: Half,
     line: usize,
     tokens: &mut &[Token<'_>],
-) -> Result<RawOp, ParseError>
+) -> Result<RawOp, RuleError>
     ensures { Gives (λ x. (x, seen tokens.new.now)) result (parsing.compare_at half line (seen tokens.old.now)) }
 {
     let pred = predicate(alloc, line, tokens)?;
@@ -118,7 +120,7 @@ fn selection(
     half: Half,
     line: usize,
     tokens: &mut &[Token<'_>],
-) -> Result<RawOp, ParseError>
+) -> Result<RawOp, RuleError>
     ensures { Gives (λ x. (x, seen tokens.new.now)) result (parsing.select_at half line (seen tokens.old.now)) }
 {
     let condition = operand(alloc, half, line, tokens)?;
@@ -138,7 +140,7 @@ fn conversion(
     line: usize,
     cast: Cast,
     tokens: &mut &[Token<'_>],
-) -> Result<RawOp, ParseError>
+) -> Result<RawOp, RuleError>
     ensures { Gives (λ x. (x, seen tokens.new.now)) result (parsing.convert_at half line cast (seen tokens.old.now)) }
 {
     let from = operand(alloc, half, line, tokens)?;
@@ -148,7 +150,7 @@ fn conversion(
 
 /// A copy.
 #[tactic(auto, unfolding(crate::specs::RuleReaders::copy_at))]
-fn copy(alloc: Global, line: usize, tokens: &mut &[Token<'_>]) -> Result<RawOp, ParseError>
+fn copy(alloc: Global, line: usize, tokens: &mut &[Token<'_>]) -> Result<RawOp, RuleError>
     ensures { Gives (λ x. (x, seen tokens.new.now)) result (parsing.copy_at line (seen tokens.old.now)) }
 {
     let operand = operand(alloc, Half::Target, line, tokens)?;
@@ -163,7 +165,7 @@ fn behind_opcode(
     line: usize,
     operation: Operation,
     tokens: &mut &[Token<'_>],
-) -> Result<RawOp, ParseError>
+) -> Result<RawOp, RuleError>
     ensures { Gives (λ x. (x, seen tokens.new.now)) result (parsing.operation_at half line operation (seen tokens.old.now)) }
 {
     match operation {
@@ -180,7 +182,7 @@ fn other(
     half: Half,
     line: usize,
     tokens: &mut &[Token<'_>],
-) -> Result<RawOp, ParseError>
+) -> Result<RawOp, RuleError>
     ensures { Gives (λ x. (x, seen tokens.new.now)) result (parsing.other_at half line (seen tokens.old.now)) }
 {
     match half {
@@ -196,7 +198,7 @@ pub(crate) fn op(
     half: Half,
     line: usize,
     tokens: &mut &[Token<'_>],
-) -> Result<RawOp, ParseError>
+) -> Result<RawOp, RuleError>
     ensures { Gives (λ x. (x, seen tokens.new.now)) result (parsing.op_at half line (seen tokens.old.now)) }
 {
     let [Token::Word(word), rest @ ..] = *tokens else {

@@ -1,7 +1,7 @@
 //! Types and operands from tokens, and what stands behind them.
 
 ghost use Rattle.std.specs.Prelude.{◌≡◌, IfOk};
-ghost use Rattle.rule_tokens.specs.Gives.{Gives};
+ghost use Rattle.refusal.specs.Refusals.{Gives};
 ghost use Rattle.rule_tokens.specs.SeenTokens.{seen};
 ghost use Rattle.rule_parse.specs.declared.half.Half.TheVariants as halves;
 ghost use Rattle.rule_parse.specs.RuleReaders as parsing;
@@ -14,16 +14,17 @@ use crate::word::source_word_of;
 use lists::Text;
 use ops::Width;
 use ops::keywords::is;
+use refusal::refused;
 use rule_terms::{RawNode, RawTerm, TermPlace, is_constant, term};
 use rule_tokens::{
-    Misfit, ParseError, Token, integer_type, line_end, literal, maybe_type, misplaced_word,
-    name_within, refused, unexpected,
+    RuleError, RuleFaultKind, Token, integer_type, line_end, literal, maybe_type, misplaced_word,
+    name_within, unexpected,
 };
 use std::alloc::{AllocError, Global};
 
 /// A word of the source: a constant, a truth or `undef`.
 #[tactic(auto, unfolding(crate::specs::RuleReaders::source_word))]
-fn source_word(alloc: Global, line: usize, word: &[u8]) -> Result<RawArgument, ParseError>
+fn source_word(alloc: Global, line: usize, word: &[u8]) -> Result<RawArgument, RuleError>
     ensures { Gives (λ x. x) result (parsing.source_word line word.now) }
 {
     if is_constant(word) {
@@ -41,7 +42,7 @@ fn source_argument(
     alloc: Global,
     line: usize,
     tokens: &mut &[Token<'_>],
-) -> Result<RawArgument, ParseError>
+) -> Result<RawArgument, RuleError>
     ensures { Gives (λ x. (x, seen tokens.new.now)) result (parsing.argument_at halves.Source line (seen tokens.old.now)) }
 {
     match *tokens {
@@ -57,7 +58,7 @@ fn source_argument(
             *tokens = rest;
             source_word(alloc, line, word)
         }
-        _ => Err(unexpected(line, *tokens)),
+        _ => Err(unexpected(line, *tokens).into()),
     }
 }
 
@@ -81,7 +82,7 @@ fn term_argument(
     alloc: Global,
     line: usize,
     tokens: &mut &[Token<'_>],
-) -> Result<RawArgument, ParseError>
+) -> Result<RawArgument, RuleError>
     ensures { Gives (λ x. (x, seen tokens.new.now)) result (parsing.term_argument_at line (seen tokens.old.now)) }
 {
     let nodes = term(alloc, TermPlace::Constant, MOST_NESTED, line, tokens)?;
@@ -94,7 +95,7 @@ fn target_argument(
     alloc: Global,
     line: usize,
     tokens: &mut &[Token<'_>],
-) -> Result<RawArgument, ParseError>
+) -> Result<RawArgument, RuleError>
     ensures { Gives (λ x. (x, seen tokens.new.now)) result (parsing.argument_at halves.Target line (seen tokens.old.now)) }
 {
     match *tokens {
@@ -116,7 +117,7 @@ fn argument(
     half: Half,
     line: usize,
     tokens: &mut &[Token<'_>],
-) -> Result<RawArgument, ParseError>
+) -> Result<RawArgument, RuleError>
     ensures { Gives (λ x. (x, seen tokens.new.now)) result (parsing.argument_at half line (seen tokens.old.now)) }
 {
     match half {
@@ -133,7 +134,7 @@ pub(crate) fn typed(
     line: usize,
     written: Option<Width>,
     tokens: &mut &[Token<'_>],
-) -> Result<RawOperand, ParseError>
+) -> Result<RawOperand, RuleError>
     ensures { Gives (λ x. (x, seen tokens.new.now)) result (parsing.typed_at half line written (seen tokens.old.now)) }
 {
     let value = argument(alloc, half, line, tokens)?;
@@ -146,7 +147,7 @@ pub(crate) fn operand(
     half: Half,
     line: usize,
     tokens: &mut &[Token<'_>],
-) -> Result<RawOperand, ParseError>
+) -> Result<RawOperand, RuleError>
     ensures { Gives (λ x. (x, seen tokens.new.now)) result (parsing.operand_at half line (seen tokens.old.now)) }
 {
     let written = maybe_type(tokens);
@@ -159,7 +160,7 @@ pub(crate) fn result_type(
     alloc: Global,
     line: usize,
     tokens: &mut &[Token<'_>],
-) -> Result<Option<Width>, ParseError>
+) -> Result<Option<Width>, RuleError>
     ensures { Gives (λ x. (x, seen tokens.new.now)) result (parsing.to_at line (seen tokens.old.now)) }
 {
     let [Token::Word(word), rest @ ..] = *tokens else {
@@ -172,6 +173,6 @@ pub(crate) fn result_type(
         line_end(line, *tokens)?;
         Ok(Some(width))
     } else {
-        Err(refused(line, Misfit::Syntax))
+        Err(refused(line, RuleFaultKind::Syntax))
     }
 }

@@ -1,14 +1,14 @@
 //! Preconditions from the tokens of a text.
 
 ghost use Rattle.std.specs.Prelude.{◌≡◌};
-ghost use Rattle.rule_tokens.specs.Gives.{Gives};
+ghost use Rattle.refusal.specs.Refusals.{Gives};
 ghost use Rattle.rule_tokens.specs.SeenTokens.{seen};
 ghost use Rattle.rule_parse.specs.RuleReaders as parsing;
 
 use crate::raw::RawPrecondition;
 use ops::keywords::is;
 use rule_terms::formula;
-use rule_tokens::{ParseError, Token};
+use rule_tokens::{RuleError, Token};
 use std::alloc::Global;
 
 /// The precondition, if one is next; goes behind it.
@@ -16,7 +16,7 @@ use std::alloc::Global;
 pub(crate) fn precondition(
     alloc: Global,
     tokens: &mut &[Token<'_>],
-) -> Result<Option<RawPrecondition>, ParseError>
+) -> Result<Option<RawPrecondition>, RuleError>
     ensures { Gives (λ x. (x, seen tokens.new.now)) result (parsing.precondition_at (seen tokens.old.now)) }
 {
     match *tokens {

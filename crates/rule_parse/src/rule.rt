@@ -1,10 +1,11 @@
 //! Rules from the tokens of a text: each part of a rule stands on a line of its own.
 
 ghost use Rattle.std.specs.Prelude.{◌≡◌, ◌∷◌, IfSome, IfNone};
-ghost use Rattle.rule_tokens.specs.Gives.{Gives, Refuses};
+ghost use Rattle.refusal.specs.Refusals.{Gives};
 ghost use Rattle.rule_parse.specs.RuleReaders as parsing;
 ghost use Rattle.rule_parse.specs.RuleReaders.{IsNoStatement};
 ghost use Rattle.rule_tokens.specs.SeenTokens.{seen};
+ghost use Rattle.rule_tokens.specs.Steps.{Reads};
 ghost use Rattle.rule_tokens.specs.Tokens.{Line, Register};
 
 use crate::half::Half;
@@ -14,15 +15,16 @@ use crate::statement::statement;
 use crate::witness::witness;
 use lists::{List, Text};
 use ops::keywords::is;
-use rule_tokens::{Misfit, ParseError, Token, line_end, name_within, refused, unexpected};
+use refusal::refused;
+use rule_tokens::{RuleError, RuleFault, RuleFaultKind, Token, line_end, name_within, unexpected};
 use std::alloc::Global;
 
 /// The most statements of a half.
 const MOST_STATEMENTS: usize = 32;
 
 /// The fault of the first token, where another line should begin; at the end of the text the one of the last line.
-fn unexpected_line(last: usize, tokens: &[Token<'_>]) -> ParseError
-    ensures { Refuses result (parsing.unexpected_line last (seen tokens.now)) }
+fn unexpected_line(last: usize, tokens: &[Token<'_>]) -> RuleFault
+    ensures { result ≡ parsing.unexpected_line last (seen tokens.now) }
 {
     match tokens {
         [Token::Line(line), rest @ ..] => unexpected(*line, rest),
@@ -31,22 +33,22 @@ fn unexpected_line(last: usize, tokens: &[Token<'_>]) -> ParseError
 }
 
 /// The name of a rule, behind its head.
-fn name_text(alloc: Global, line: usize, tokens: &mut &[Token<'_>]) -> Result<Text, ParseError>
+fn name_text(alloc: Global, line: usize, tokens: &mut &[Token<'_>]) -> Result<Text, RuleError>
     ensures { Gives (λ x. (x, seen tokens.new.now)) result (parsing.name_text line (seen tokens.old.now)) }
 {
     match *tokens {
-        [Token::Name([]), ..] => Err(refused(line, Misfit::Syntax)),
+        [Token::Name([]), ..] => Err(refused(line, RuleFaultKind::Syntax)),
         [Token::Name(name), rest @ ..] => {
             *tokens = rest;
             name_within(alloc, line, name)
         }
-        _ => Err(unexpected(line, *tokens)),
+        _ => Err(unexpected(line, *tokens).into()),
     }
 }
 
 /// The line of a rule's name, and the name.
 #[tactic(auto, unfolding(crate::specs::RuleReaders::name_at))]
-fn name(alloc: Global, last: usize, tokens: &mut &[Token<'_>]) -> Result<(usize, Text), ParseError>
+fn name(alloc: Global, last: usize, tokens: &mut &[Token<'_>]) -> Result<(usize, Text), RuleError>
     ensures { Gives (λ x. (x, seen tokens.new.now)) result (parsing.name_at last (seen tokens.old.now)) }
 {
     match *tokens {
@@ -55,10 +57,10 @@ fn name(alloc: Global, last: usize, tokens: &mut &[Token<'_>]) -> Result<(usize,
                 *tokens = rest;
                 Ok((*line, name_text(alloc, *line, tokens)?))
             } else {
-                Err(refused(*line, Misfit::Syntax))
+                Err(refused(*line, RuleFaultKind::Syntax))
             }
         }
-        _ => Err(unexpected_line(last, *tokens)),
+        _ => Err(unexpected_line(last, *tokens).into()),
     }
 }
 
@@ -82,13 +84,13 @@ fn statements(
     alloc: Global,
     half: Half,
     tokens: &mut &[Token<'_>],
-) -> Result<List<RawStatement>, ParseError>
+) -> Result<List<RawStatement>, RuleError>
     ensures { Gives (λ x. (x, seen tokens.new.now)) result (parsing.statements_at 32 half (seen tokens.old.now)) }
 {
     let mut statements = List::new(alloc);
     while let Some((line, name)) = register(tokens) {
         if statements.len() == MOST_STATEMENTS {
-            return Err(refused(line, Misfit::TooMany));
+            return Err(refused(line, RuleFaultKind::TooMany));
         }
         statements.push(statement(alloc, half, line, name, tokens)?)?;
     }
@@ -101,19 +103,19 @@ fn source(
     alloc: Global,
     last: usize,
     tokens: &mut &[Token<'_>],
-) -> Result<List<RawStatement>, ParseError>
+) -> Result<List<RawStatement>, RuleError>
     ensures { Gives (λ x. (x, seen tokens.new.now)) result (parsing.source_at last (seen tokens.old.now)) }
 {
     match *tokens {
         [Token::Line(_), Token::Register(_), ..] => statements(alloc, Half::Source, tokens),
-        _ => Err(unexpected_line(last, *tokens)),
+        _ => Err(unexpected_line(last, *tokens).into()),
     }
 }
 
 /// The line of the `=>`.
 #[tactic(auto, unfolding(crate::specs::RuleReaders::arrow_at))]
-fn arrow(last: usize, tokens: &mut &[Token<'_>]) -> Result<(), ParseError>
-    ensures { Gives (λ _. seen tokens.new.now) result (parsing.arrow_at last (seen tokens.old.now)) }
+fn arrow(last: usize, tokens: &mut &[Token<'_>]) -> Result<(), RuleFault>
+    ensures { Reads (λ _. seen tokens.new.now) result (parsing.arrow_at last (seen tokens.old.now)) }
 {
     match *tokens {
         [Token::Line(line), Token::Arrow, rest @ ..] => {
@@ -130,18 +132,18 @@ fn target(
     alloc: Global,
     last: usize,
     tokens: &mut &[Token<'_>],
-) -> Result<List<RawStatement>, ParseError>
+) -> Result<List<RawStatement>, RuleError>
     ensures { Gives (λ x. (x, seen tokens.new.now)) result (parsing.target_at last (seen tokens.old.now)) }
 {
     match *tokens {
         [Token::Line(_), Token::Register(_), ..] => statements(alloc, Half::Target, tokens),
-        _ => Err(unexpected_line(last, *tokens)),
+        _ => Err(unexpected_line(last, *tokens).into()),
     }
 }
 
 /// The first rule of a text.
 #[tactic(auto, unfolding(crate::specs::RuleReaders::rule_at))]
-fn rule(alloc: Global, last: usize, tokens: &mut &[Token<'_>]) -> Result<RawRule, ParseError>
+fn rule(alloc: Global, last: usize, tokens: &mut &[Token<'_>]) -> Result<RawRule, RuleError>
     ensures { Gives (λ x. (x, seen tokens.new.now)) result (parsing.rule_at last (seen tokens.old.now)) }
 {
     let (line, name) = name(alloc, last, tokens)?;
@@ -165,7 +167,7 @@ pub(crate) fn rules(
     alloc: Global,
     last: usize,
     tokens: &[Token<'_>],
-) -> Result<Vec<RawRule>, ParseError>
+) -> Result<Vec<RawRule>, RuleError>
     ensures { Gives (λ x. x.items) result (parsing.all_rules last (seen tokens.now)) }
 {
     let mut rules = Vec::new(alloc);

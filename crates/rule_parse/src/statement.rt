@@ -1,7 +1,7 @@
 //! One statement from the tokens of its line.
 
 ghost use Rattle.std.specs.Prelude.{◌≡◌};
-ghost use Rattle.rule_tokens.specs.Gives.{Gives};
+ghost use Rattle.refusal.specs.Refusals.{Gives};
 ghost use Rattle.rule_parse.specs.RuleReaders as parsing;
 ghost use Rattle.rule_tokens.specs.SeenTokens.{seen};
 
@@ -9,7 +9,7 @@ use crate::half::Half;
 use crate::op::op;
 use crate::raw::RawStatement;
 use rule_terms::mark;
-use rule_tokens::{ParseError, Token, name_within};
+use rule_tokens::{RuleError, Token, name_within};
 use std::alloc::Global;
 
 /// The statement of a register, behind it.
@@ -20,7 +20,7 @@ pub(crate) fn statement(
     line: usize,
     register: &[u8],
     tokens: &mut &[Token<'_>],
-) -> Result<RawStatement, ParseError>
+) -> Result<RawStatement, RuleError>
     ensures { Gives (λ x. (x, seen tokens.new.now)) result (parsing.statement_at half line register.now (seen tokens.old.now)) }
 {
     let name = name_within(alloc, line, register)?;

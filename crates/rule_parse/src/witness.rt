@@ -1,7 +1,7 @@
 //! Witnesses from the tokens of a text.
 
 ghost use Rattle.std.specs.Prelude.{◌≡◌};
-ghost use Rattle.rule_tokens.specs.Gives.{Gives};
+ghost use Rattle.refusal.specs.Refusals.{Gives};
 ghost use Rattle.rule_tokens.specs.SeenTokens.{seen};
 ghost use Rattle.rule_parse.specs.RuleReaders as parsing;
 
@@ -10,7 +10,7 @@ use crate::raw::RawWitness;
 use lists::List;
 use ops::keywords::is;
 use rule_terms::{RawTerm, TermPlace, takes, term};
-use rule_tokens::{ParseError, Token, line_end};
+use rule_tokens::{RuleError, Token, line_end};
 use std::alloc::Global;
 
 /// An expression of a witness, behind others.
@@ -19,7 +19,7 @@ fn expression(
     line: usize,
     expressions: &mut List<RawTerm>,
     tokens: &mut &[Token<'_>],
-) -> Result<(), ParseError>
+) -> Result<(), RuleError>
     ensures { Gives (λ _. (expressions.new, seen tokens.new.now)) result (parsing.expression_at line expressions.old (seen tokens.old.now)) }
 {
     let term = term(alloc, TermPlace::Witness, MOST_NESTED, line, tokens)?;
@@ -33,7 +33,7 @@ fn more_expressions(
     line: usize,
     expressions: &mut List<RawTerm>,
     tokens: &mut &[Token<'_>],
-) -> Result<(), ParseError>
+) -> Result<(), RuleError>
     ensures { Gives (λ _. (expressions.new, seen tokens.new.now)) result (parsing.more_expressions line expressions.old (seen tokens.old.now)) }
 {
     while takes(",", tokens) {
@@ -48,7 +48,7 @@ fn expressions(
     alloc: Global,
     line: usize,
     tokens: &mut &[Token<'_>],
-) -> Result<List<RawTerm>, ParseError>
+) -> Result<List<RawTerm>, RuleError>
     ensures { Gives (λ x. (x, seen tokens.new.now)) result (parsing.expressions_at line (seen tokens.old.now)) }
 {
     let mut expressions = List::new(alloc);
@@ -63,7 +63,7 @@ fn expressions(
 pub(crate) fn witness(
     alloc: Global,
     tokens: &mut &[Token<'_>],
-) -> Result<Option<RawWitness>, ParseError>
+) -> Result<Option<RawWitness>, RuleError>
     ensures { Gives (λ x. (x, seen tokens.new.now)) result (parsing.witness_at (seen tokens.old.now)) }
 {
     match *tokens {

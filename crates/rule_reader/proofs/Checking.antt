@@ -1,11 +1,11 @@
 -- From check to check of a rule: what is known of a rule in which none has failed so far, and its first fault.
 use Rattle.std.proofs.Common.{◌≡◌, inl, inr, ℕ, suc, ◌<◌, List, [], ◌∷◌, Some, refl, sym, subst, arith}
-use Rattle.std.specs.Prelude.{slice_get, Bool, true, false, Result, Ok, Err, IfOk, IfErr}
+use Rattle.std.specs.Prelude.{slice_get, Bool, true, false}
 use Rattle.std.proofs.lemmas.Bool.{false≢true}
 use Rattle.rule_core.specs.Checks.{IsRule}
-use Rattle.rule_reader.specs.declared.fault.RuleError.{RuleError}
-use Rattle.rule_reader.specs.declared.fault.RuleError.TheVariants as errors
-use Rattle.rule_reader.specs.Errors.{IfRefused}
+use Rattle.rule_tokens.specs.RuleFaults.{RuleFault, RuleError}
+use Rattle.refusal.specs.declared.refusal.Refusal.TheVariants.{Refused}
+use Rattle.refusal.specs.Refusals.{IfRefused}
 use Rattle.rule_reader.specs.WellFormed.{IsWellFormed}
 use Rattle.rule_reader.specs.RepeatedNames.{MarksRule}
 use Rattle.std.proofs.lemmas.Option.{slice_get_within}
@@ -16,7 +16,6 @@ use Rattle.rule_typing.specs.declared.classes.ClassFault.{ClassFault}
 use Rattle.rule_typing.specs.declared.classes.ClassFault.TheVariants as class_faults
 use Rattle.rule_typing.specs.Classes.{IsClassified}
 use Rattle.rule_typing.specs.Faults.{IsFault as IsFaultOfClasses, HasTooManyClasses, HasNoTyping, HasOpenClass}
-use Rattle.rule_reader.specs.declared.fault.RuleFault.{RuleFault}
 use Rattle.rule_reader.specs.Meaning.{Means}
 use Rattle.rule_reader.specs.FaultKinds.{ClassesAt, DuplicateAt, UnboundAt, RootMissingAt, RedefinesAt, UnusedTempAt, UndefInsideAt, WitnessCountAt}
 use Rattle.rule_reader.specs.Faults.{Check, Duplicate, Unbound, RootMissing, Redefines, UnusedTemp, UndefInside, WitnessCount, ManyClasses, NoType, OpenType, rank, kind_of, class_check, FailsAt, IsFirstLine, IsFirstRuleFault, IsRuleOf}
@@ -130,17 +129,14 @@ module _ (raw : RawRule) (is_repeated : Bool) where
   pub checked_so_far : (rule : Rule) → IsWellFormed raw → ForEarlier (λ earlier. Clear earlier raw 7) → Means raw rule → IsRule rule
   checked_so_far rule well clear means = let (earlier, marks) = some_earlier is_repeated raw in checked_rule raw rule well (bound_of earlier raw (clear earlier marks)) means
 
-  pub classified_ok : (rule : Rule) (found : Result Rule RuleError) → ForEarlier (λ earlier. Clear earlier raw 7) → Means raw rule → IfOk found (IsClassifiedAs rule) → IfOk found (λ classified. ForEarlier (λ earlier. IsRuleOf earlier raw classified))
-  classified_ok rule (Ok classified) clear means is = λ earlier marks. rule_of earlier raw rule classified (clear earlier marks) means is
-  classified_ok rule (Err e) clear means is = tt
+  pub classified_ok : (rule classified : Rule) → ForEarlier (λ earlier. Clear earlier raw 7) → Means raw rule → IsClassifiedAs rule classified → ForEarlier (λ earlier. IsRuleOf earlier raw classified)
+  classified_ok rule classified clear means is earlier marks = rule_of earlier raw rule classified (clear earlier marks) means is
 
-  pub classified_refused : (rule : Rule) (found : Result Rule RuleError) → ForEarlier (λ earlier. Clear earlier raw 7) → Means raw rule → IfErr found (λ e. IfRefused e (IsClassFault rule raw.line)) → IfErr found (λ e. IfRefused e (λ fault. ForEarlier (λ earlier. IsFirstRuleFault earlier raw fault)))
-  classified_refused rule (Ok classified) clear means is = tt
-  classified_refused rule (Err (errors.Refused fault)) clear means is = λ earlier marks. fault_of_classes earlier raw rule fault (clear earlier marks) means is
-  classified_refused rule (Err errors.NoMemory) clear means is = tt
+  pub classified_refused : (rule : Rule) (fault : RuleFault) → ForEarlier (λ earlier. Clear earlier raw 7) → Means raw rule → IsClassFault rule raw.line fault → ForEarlier (λ earlier. IsFirstRuleFault earlier raw fault)
+  classified_refused rule fault clear means is earlier marks = fault_of_classes earlier raw rule fault (clear earlier marks) means is
 
   -- the refusal where a check fails
-  pub refused_at : (check : Check) (line : ℕ) (e : RuleError) → e ≡ errors.Refused (record { line = line; kind = kind_of check }) → ForEarlier (λ earlier. Clear earlier raw (rank check)) → ForEarlier (λ earlier. IsFirstLine (FailsAt earlier raw check) line)
+  pub refused_at : (check : Check) (line : ℕ) (e : RuleError) → e ≡ Refused (record { line = line; kind = kind_of check }) → ForEarlier (λ earlier. Clear earlier raw (rank check)) → ForEarlier (λ earlier. IsFirstLine (FailsAt earlier raw check) line)
       → IfRefused e (λ fault. ForEarlier (λ earlier. IsFirstRuleFault earlier raw fault))
   refused_at check line e is clear first =
       subst (λ x. IfRefused x (λ fault. ForEarlier (λ earlier. IsFirstRuleFault earlier raw fault))) (sym is)

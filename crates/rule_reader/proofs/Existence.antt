@@ -6,10 +6,10 @@ use Rattle.rule_parse.specs.Text.{IsWritten}
 use Rattle.rule_parse.specs.OneReading.{TextsHaveOneReadingOrFault}
 use Rattle.rule_core.specs.declared.rule.Rule.{Rule}
 use Rattle.rule_typing.specs.Laws.{RulesHaveClasses}
-use Rattle.rule_reader.specs.declared.fault.RuleFault.{RuleFault}
-use Rattle.rule_reader.specs.declared.fault.RuleFaultKind.TheVariants as kinds
+use Rattle.rule_tokens.specs.RuleFaults.{RuleFault}
+use Rattle.rule_tokens.specs.declared.fault.RuleFaultKind.TheVariants as kinds
 use Rattle.rule_reader.specs.WellFormed.{IsWellFormed}
-use Rattle.rule_reader.specs.Errors.{kind_of_misfit}
+use Rattle.rule_reader.specs.Limits.{most_bytes}
 use Rattle.rule_reader.specs.Faults.{Check, Duplicate, Unbound, RootMissing, Redefines, UnusedTemp, UndefInside, WitnessCount, rank, kind_of, class_check, FailsAt, IsFirstRuleFault, IsRuleOf, IsRuleFile, IsFault, too_long, of_text, of_rule}
 use Rattle.rule_reader.proofs.Checked.{checked_rule}
 use Rattle.rule_reader.proofs.Checking.{Clear, clear_none, clear_more, first_fault, bound_of, rule_of, fault_of_classes}
@@ -55,7 +55,7 @@ module _ (earlier : List RawRule) (raw : RawRule) (well : IsWellFormed raw) wher
 
 -- ---- a text
 
-module _ (classes : RulesHaveClasses) (text : List ℕ) (short : length text ≤ 1048576) (raws : List RawRule) (written : IsWritten text raws) where
+module _ (classes : RulesHaveClasses) (text : List ℕ) (short : length text ≤ most_bytes) (raws : List RawRule) (written : IsWritten text raws) where
   abbrev HasRulesOrFault : Type 0
   HasRulesOrFault = ((rules : List Rule) × IsRuleFile text rules) ⊎ ((fault : RuleFault) × IsFault text fault)
 
@@ -69,10 +69,10 @@ module _ (classes : RulesHaveClasses) (text : List ℕ) (short : length text ≤
       ]
 
 pub some_list_or_fault : TextsHaveOneReadingOrFault → RulesHaveClasses → (text : List ℕ) → ((rules : List Rule) × IsRuleFile text rules) ⊎ ((fault : RuleFault) × IsFault text fault)
-some_list_or_fault readings classes text = elim (cases_lt 1048576 (length text)) [
+some_list_or_fault readings classes text = elim (cases_lt most_bytes (length text)) [
   | inl long ↦ inr (record { line = 1; kind = kinds.TooLong }, too_long long)
   | inr short ↦ elim (readings.some text) [
     | inl (raws, written) ↦ rules_from classes text short raws written (length raws) 0 [] (first_rules_none raws) (omega arith)
-    | inr (fault, is) ↦ inr (record { line = fault.line; kind = kind_of_misfit fault.kind }, of_text short is)
+    | inr (fault, is) ↦ inr (fault, of_text short is)
   ]
 ]

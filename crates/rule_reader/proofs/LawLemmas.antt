@@ -3,12 +3,11 @@ use Rattle.std.proofs.Common.{◌≡◌, inl, inr, ℕ, suc, ◌<◌, ◌≤◌,
 use Rattle.std.specs.Prelude.{slice_get}
 use Rattle.std.proofs.lemmas.Option.{slice_get_within}
 use Rattle.rule_parse.specs.declared.raw.RawRule.{RawRule}
-use Rattle.rule_tokens.specs.declared.fault.TextFault.{TextFault}
+use Rattle.rule_tokens.specs.RuleFaults.{RuleFault}
 use Rattle.rule_parse.specs.OneReading.{TextsHaveOneReadingOrFault}
 use Rattle.rule_core.specs.declared.rule.Rule.{Rule}
 use Rattle.rule_typing.specs.Laws.{RulesHaveClasses}
-use Rattle.rule_reader.specs.declared.fault.RuleFault.{RuleFault}
-use Rattle.rule_reader.specs.Errors.{kind_of_misfit}
+use Rattle.rule_reader.specs.Limits.{most_bytes}
 use Rattle.rule_reader.specs.Faults.{rank, kind_of, FailsAt, Passes, IsFirstRuleFault, AreRulesOf, IsRuleFile, IsFault, too_long, of_text, of_rule}
 use Rattle.rule_reader.specs.Laws.{TextsHaveOneListOrFault}
 use Rattle.rule_reader.proofs.Places.{order, same_at, there}
@@ -76,9 +75,7 @@ module _ (law : TextsHaveOneReadingOrFault) where
   one_fault text _ _ (too_long long) (of_text short is) = absurd (omega arith)
   one_fault text _ g (too_long long) (of_rule raws k raw short written at pass first) = absurd (omega arith)
   one_fault text _ _ (of_text short is) (too_long long) = absurd (omega arith)
-  one_fault text _ _ (of_text {fault = f} short is) (of_text {fault = g} short' is') =
-      let same : f ≡ g = law.one_fault text f g is is' in
-      same_fault (record { line = f.line; kind = kind_of_misfit f.kind }) (record { line = g.line; kind = kind_of_misfit g.kind }) (ap (λ (z : TextFault). z.line) same) (ap (λ (z : TextFault). kind_of_misfit z.kind) same)
+  one_fault text f g (of_text short is) (of_text short' is') = law.one_fault text f g is is'
   one_fault text _ g (of_text {fault = f} short is) (of_rule raws k raw short' written at pass first) = absurd (law.not_both text raws f written is)
   one_fault text f _ (of_rule raws k raw short written at pass first) (too_long long) = absurd (omega arith)
   one_fault text f _ (of_rule raws k raw short written at pass first) (of_text {fault = g} short' is) = absurd (law.not_both text raws g written is)
@@ -86,7 +83,7 @@ module _ (law : TextsHaveOneReadingOrFault) where
       let same : raws' ≡ raws = law.one_reading text raws' raws written' written in
       one_of_rules raws j k v w f g at (subst (λ l. slice_get l k ≡ Some w) same at') pass (subst (λ l. PassBefore l k) same pass') first (subst (λ l. IsFirstRuleFault (take k l) w g) same first')
 
-  not_both : (text : List ℕ) (rules : List Rule) (f : RuleFault) → length text ≤ 1048576 → IsRuleFile text rules → IsFault text f → ⊥
+  not_both : (text : List ℕ) (rules : List Rule) (f : RuleFault) → length text ≤ most_bytes → IsRuleFile text rules → IsFault text f → ⊥
   not_both text rules _ short file (too_long long) = absurd (omega arith)
   not_both text rules _ short file (of_text {fault = f} short' is) = law.not_both text file.raws f file.written is
   not_both text rules f short file (of_rule raws k raw short' written at pass first) =

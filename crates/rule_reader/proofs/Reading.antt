@@ -9,12 +9,10 @@ use Rattle.rule_core.specs.Checks.{IsRule, AreDistinct}
 use Rattle.rule_typing.specs.Classes.{IsClassified}
 use Rattle.rule_typing.specs.Faults.{HasNoFault}
 use Rattle.rule_parse.specs.Text.{IsTextFault}
-use Rattle.rule_tokens.specs.Errors.{IfRefused as IfTextRefused}
-use Rattle.rule_tokens.specs.declared.fault.ParseError.{ParseError}
-use Rattle.rule_tokens.specs.declared.fault.ParseError.TheVariants as parse_errors
-use Rattle.rule_reader.specs.declared.fault.RuleError.{RuleError}
-use Rattle.rule_reader.specs.declared.fault.RuleError.TheVariants as errors
-use Rattle.rule_reader.specs.Errors.{IfRefused, Becomes}
+use Rattle.refusal.specs.Refusals.{IfRefused}
+use Rattle.rule_tokens.specs.RuleFaults.{RuleError}
+use Rattle.refusal.specs.declared.refusal.Refusal.TheVariants.{Refused, NoMemory}
+use Rattle.rule_reader.specs.Limits.{most_bytes}
 use Rattle.rule_reader.specs.RepeatedNames.{MarksRule, MarksRepeated}
 use Rattle.rule_reader.specs.WellFormed.{IsWellFormed}
 use Rattle.rule_reader.specs.Faults.{ManyClasses, NoType, OpenType, Duplicate, Passes, IsRuleOf, IsFirstRuleFault, AreRulesOf, IsFault, of_text, of_rule}
@@ -96,14 +94,14 @@ module _ (raws : List RawRule) (rules : List Rule) (well : (k : ℕ) (raw : RawR
   names_are_distinct j k name p q = elim (order j k) [ inl lt ↦ absurd (again j k name lt p q) | inr (inl e) ↦ e | inr (inr gt) ↦ absurd (again k j name gt q p) ]
 
 -- a fault of the text, and of a rule
-pub text_fault : (text : List ℕ) (e : ParseError) (f : RuleError) → length text ≤ 1048576 → IfTextRefused e (IsTextFault text) → Becomes e f → IfRefused f (IsFault text)
-text_fault text (parse_errors.Refused fault) f short is becomes = subst (λ x. IfRefused x (IsFault text)) (sym becomes) (of_text short is)
-text_fault text parse_errors.NoMemory f short is becomes = subst (λ x. IfRefused x (IsFault text)) (sym becomes) tt
+pub text_fault : (text : List ℕ) (e : RuleError) → length text ≤ most_bytes → IfRefused e (IsTextFault text) → IfRefused e (IsFault text)
+text_fault text (Refused fault) short is = of_text short is
+text_fault text NoMemory short is = tt
 
-pub rule_fault : (text : List ℕ) (raws : List RawRule) (place : ℕ) (raw : RawRule) (rules : List Rule) (mark : Bool) (e : RuleError) → length text ≤ 1048576 → IsWritten text raws → AreFirstRules raws place rules → slice_get raws place ≡ Some raw
+pub rule_fault : (text : List ℕ) (raws : List RawRule) (place : ℕ) (raw : RawRule) (rules : List Rule) (mark : Bool) (e : RuleError) → length text ≤ most_bytes → IsWritten text raws → AreFirstRules raws place rules → slice_get raws place ≡ Some raw
     → MarksRule mark (take place raws) raw → IfRefused e (λ fault. (earlier : List RawRule) → MarksRule mark earlier raw → IsFirstRuleFault earlier raw fault) → IfRefused e (IsFault text)
-rule_fault text raws place raw rules mark (errors.Refused fault) short written first at marks is = of_rule raws place raw short written at (first_rules_pass raws place rules first) (is (take place raws) marks)
-rule_fault text raws place raw rules mark errors.NoMemory short written first at marks is = tt
+rule_fault text raws place raw rules mark (Refused fault) short written first at marks is = of_rule raws place raw short written at (first_rules_pass raws place rules first) (is (take place raws) marks)
+rule_fault text raws place raw rules mark NoMemory short written first at marks is = tt
 
 -- the mark of a rule, where the code sees the rules as a list of its own
 pub mark_at : (raws seen : List RawRule) (marks : List Bool) (place : ℕ) (raw : RawRule) (mark : Bool) → seen ≡ raws → MarksRepeated seen marks → slice_get raws place ≡ Some raw → slice_get marks place ≡ Some mark → MarksRule mark (take place raws) raw

@@ -6,7 +6,7 @@ use Rattle.rule_typing.specs.Classes.{IsClassified}
 use Rattle.rule_typing.specs.Faults.{IsFault, HasNoFault}
 use Rattle.rule_typing.specs.Relabelled.{numbered}
 use Rattle.rule_core.specs.Checks.{IsRule}
-use Rattle.rule_reader.specs.declared.fault.RuleFault.{RuleFault}
+use Rattle.rule_tokens.specs.RuleFaults.{RuleFault}
 use Rattle.rule_reader.specs.Faults.{kind_of, class_check}
 
 -- it is the rule with its classes, which have no fault

@@ -1,17 +1,16 @@
 -- Which texts are rule files, of which rules, and which is the first fault of one that is none.
 use Rattle.std.specs.Prelude.{◌≡◌, ℕ, ◌<◌, ◌≤◌, List, length, take, Option, None, Some, slice_get}
 use Rattle.rule_parse.specs.declared.raw.RawRule.{RawRule}
-use Rattle.rule_tokens.specs.declared.fault.TextFault.{TextFault}
+use Rattle.rule_tokens.specs.RuleFaults.{RuleFault}
 use Rattle.rule_parse.specs.Text.{IsWritten, IsTextFault}
 use Rattle.rule_core.specs.declared.rule.Rule.{Rule}
 use Rattle.rule_typing.specs.declared.classes.ClassFault.{ClassFault}
 use Rattle.rule_typing.specs.declared.classes.ClassFault.TheVariants as class_faults
 use Rattle.rule_typing.specs.Classes.{IsClassified}
 use Rattle.rule_typing.specs.Faults.{HasTooManyClasses, HasNoTyping, HasOpenClass}
-use Rattle.rule_reader.specs.declared.fault.RuleFaultKind.{RuleFaultKind}
-use Rattle.rule_reader.specs.declared.fault.RuleFaultKind.TheVariants as kinds
-use Rattle.rule_reader.specs.declared.fault.RuleFault.{RuleFault}
-use Rattle.rule_reader.specs.Errors.{kind_of_misfit}
+use Rattle.rule_tokens.specs.declared.fault.RuleFaultKind.{RuleFaultKind}
+use Rattle.rule_tokens.specs.declared.fault.RuleFaultKind.TheVariants as kinds
+use Rattle.rule_reader.specs.Limits.{most_bytes}
 use Rattle.rule_reader.specs.Meaning.{Means}
 use Rattle.rule_reader.specs.FaultKinds.{DuplicateAt, UnboundAt, RootMissingAt, RedefinesAt, UnusedTempAt, UndefInsideAt, WitnessCountAt, ClassesAt}
 
@@ -112,9 +111,9 @@ pub record IsRuleFile (text : List ℕ) (rules : List Rule) : Type 0 where
 
 -- The first fault of a text: too many bytes, then what is no rule as written, and then rule by rule.
 pub data IsFault (text : List ℕ) : RuleFault → Type 0 where
-  too_long : 1_048_576 < length text → IsFault text (record { line = 1; kind = kinds.TooLong })
-  of_text : {fault : TextFault} → length text ≤ 1_048_576 → IsTextFault text fault → IsFault text (record { line = fault.line; kind = kind_of_misfit fault.kind })
+  too_long : most_bytes < length text → IsFault text (record { line = 1; kind = kinds.TooLong })
+  of_text : {fault : RuleFault} → length text ≤ most_bytes → IsTextFault text fault → IsFault text fault
   of_rule : {fault : RuleFault} (raws : List RawRule) (k : ℕ) (raw : RawRule)
-      → length text ≤ 1_048_576 → IsWritten text raws → slice_get raws k ≡ Some raw
+      → length text ≤ most_bytes → IsWritten text raws → slice_get raws k ≡ Some raw
       → ((j : ℕ) (earlier : RawRule) → j < k → slice_get raws j ≡ Some earlier → Passes (take j raws) earlier)
       → IsFirstRuleFault (take k raws) raw fault → IsFault text fault

@@ -1,4 +1,9 @@
+pub use Rattle.refusal.specs.Refusals
+pub use Rattle.refusal.specs.declared.fault.Fault
+pub use Rattle.refusal.specs.declared.refusal.Refusal
 pub use Rattle.rule_core.specs.declared.rule.Rule
+pub use Rattle.rule_tokens.specs.RuleFaults
+pub use Rattle.rule_tokens.specs.declared.fault.RuleFaultKind
 pub use Rattle.rule_parse.specs.OneReading
 pub use Rattle.rule_parse.specs.declared.raw.RawRule
 pub use Rattle.scan.specs.RuleTokens
@@ -8,7 +13,7 @@ pub use Rattle.rule_typing.specs.Classes
 pub mod Meaning
 pub mod Inputs
 pub mod WellFormed
-pub mod Errors
+pub mod Limits
 pub mod FaultKinds
 pub mod KnownRules
 pub mod Faults

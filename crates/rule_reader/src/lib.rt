@@ -22,8 +22,9 @@ mod terms;
 mod undefs;
 mod witness;
 
-pub use fault::{RuleError, RuleFault, RuleFaultKind};
 pub use laws::every_text_has_one_list_or_one_fault;
-pub use reader::read_rules;
+pub use reader::{MOST_BYTES, read_rules};
 pub use rule_core::Rule;
-pub use rule_parse::every_text_has_one_reading_or_one_fault;
+pub use rule_parse::{
+    RuleError, RuleFault, RuleFaultKind, every_text_has_one_reading_or_one_fault,
+};

@@ -1,6 +1,7 @@
 //! The rules of a text.
 
 ghost use Rattle.std.specs.Prelude.{◌≤◌, ◌<◌, List as Seq, length, map, IfOk, IfErr, OnOk, All, Some};
+ghost use Rattle.refusal.specs.Refusals.{IfRefused};
 ghost use Rattle.rule_parse.specs.declared.raw.RawRule.{RawRule as written_rule};
 ghost use Rattle.rule_core.specs.Checks.{IsRule, AreDistinct};
 ghost use Rattle.rule_typing.specs.Classes.{IsClassified};
@@ -8,23 +9,24 @@ ghost use Rattle.rule_typing.specs.Faults.{HasNoFault};
 ghost use Rattle.rule_reader.specs.WellFormed.{IsWellFormed};
 ghost use Rattle.rule_reader.specs.RepeatedNames.{MarksRule};
 ghost use Rattle.rule_reader.specs.ClassFaults.{IsClassifiedAs, IsClassFault};
-ghost use Rattle.rule_reader.specs.Errors.{IfRefused};
+ghost use Rattle.rule_reader.specs.Limits.{most_bytes};
 ghost use Rattle.rule_reader.specs.Faults.{IsRuleOf, IsFirstRuleFault, IsRuleFile, IsFault};
 
 use crate::bound::unbound;
 use crate::checks::{duplicate, redefined, root_missing, unused};
-use crate::fault::{RuleError, RuleFaultKind, refused};
+use crate::fault::kind_of_class_fault;
 use crate::names::names_of;
 use crate::repeated::repeated_names;
 use crate::resolve::resolved;
 use crate::undefs::{undef_inside, witness_count};
+use refusal::refused;
 use rule_core::Rule;
-use rule_parse::{RawRule, parse_rules};
+use rule_parse::{RawRule, RuleError, RuleFault, RuleFaultKind, parse_rules};
 use rule_typing::classify;
 use std::alloc::Global;
 
 /// The most bytes of a rule file.
-const MOST_BYTES: usize = 1_048_576;
+pub const MOST_BYTES: usize = 1_048_576;
 
 /// The rules of a text, in order, or its first fault: its length, then the first token that does not fit, and then rule by rule the
 /// first kind of [`RuleFaultKind`] in their order, at its first line.
@@ -33,7 +35,7 @@ const MOST_BYTES: usize = 1_048_576;
 /// at most 256.
 pub fn read_rules(alloc: Global, bytes: &[u8]) -> Result<Vec<Rule>, RuleError>
     ensures ok { IfOk result (λ rules. IsRuleFile bytes.now rules.items) }
-    ensures limit { OnOk result (length bytes.now ≤ 1048576) }
+    ensures limit { OnOk result (length bytes.now ≤ most_bytes) }
     ensures refused { IfErr result (λ e. IfRefused e (IsFault bytes.now)) }
 
     // What a rule that is read meets.
@@ -83,17 +85,20 @@ fn checked(alloc: Global, raw: &RawRule, is_repeated: bool) -> Result<Rule, Rule
         return Err(refused(line, RuleFaultKind::WitnessCount));
     }
     let rule = resolved(alloc, raw, names)?;
-    classified(rule, raw.line)
+    Ok(classified(rule, raw.line)?)
 }
 
 /// The rule with its classes, or the fault of these.
-fn classified(mut rule: Rule, line: usize) -> Result<Rule, RuleError>
+fn classified(mut rule: Rule, line: usize) -> Result<Rule, RuleFault>
     requires { IsRule rule }
     ensures ok { IfOk result (IsClassifiedAs rule) }
-    ensures refused { IfErr result (λ e. IfRefused e (IsClassFault rule line)) }
+    ensures refused { IfErr result (IsClassFault rule line) }
 {
     match classify(&mut rule) {
         Ok(()) => Ok(rule),
-        Err(fault) => Err(refused(line, fault.into())),
+        Err(fault) => Err(RuleFault {
+            line,
+            kind: kind_of_class_fault(fault),
+        }),
     }
 }

@@ -1,9 +1,9 @@
 -- Parts that a mark joins: one step of reading more.
 use Rattle.std.proofs.Common.{◌≡◌, ℕ, zero, suc, ◌<◌, ◌≤◌, Bool, true, false, cond, List, [], ◌∷◌, length, drop, Result, Ok, Err, refl, sym, ap, subst, ◌∙◌, arith}
-use Rattle.rule_tokens.specs.declared.fault.ParseError.{ParseError}
-use Rattle.rule_tokens.specs.declared.fault.ParseError.TheVariants.{Refused, NoMemory}
-use Rattle.rule_tokens.specs.declared.fault.TextFault.{TextFault}
-use Rattle.rule_tokens.specs.Gives.{◌>>=◌, Fails}
+use Rattle.rule_tokens.specs.RuleFaults.{RuleFault, RuleError}
+use Rattle.refusal.specs.declared.refusal.Refusal.TheVariants.{Refused, NoMemory}
+use Rattle.refusal.specs.Refusals.{Fails}
+use Rattle.rule_tokens.specs.Steps.{◌>>=◌}
 use Rattle.rule_tokens.specs.PartReaders.{Read}
 use Rattle.rule_tokens.specs.Tokens.{Token, Mark}
 use Rattle.rule_tokens.proofs.Takes.{mark_is}
@@ -17,7 +17,7 @@ next_is-is mark tokens e = absurd cc
 abbrev pub Shortens : {A : Type 0} → Reader A → Type 0
 Shortens {A} part = (before : A) (tokens : List Token) (x : A × List Token) → part before tokens ≡ Ok x → length x.1 ≤ length tokens
 
-same_behind : {A B : Type 0} (r : Result A TextFault) (f g : A → Result B TextFault) → ((x : A) → r ≡ Ok x → f x ≡ g x) → (r >>= f) ≡ (r >>= g)
+same_behind : {A B : Type 0} (r : Result A RuleFault) (f g : A → Result B RuleFault) → ((x : A) → r ≡ Ok x → f x ≡ g x) → (r >>= f) ≡ (r >>= g)
 same_behind (Ok x) f g h = h x refl
 same_behind (Err e) f g h = refl
 
@@ -48,7 +48,7 @@ chain-more part short mark before (token ∷ tokens) x next e =
     let fewer : length x.1 ≤ length tokens = short before tokens x e in
     rw (next, e) (chain_enough part short mark (length tokens) (length x.1) x.0 x.1 fewer (omega arith))
 
-pub chain-fault : {A : Type 0} (part : Reader A) (mark : List ℕ) (before : A) (tokens : List Token) (total : Read A) (e : ParseError) → next_is mark tokens ≡ true → Fails e (part before (drop 1 tokens)) → chain_at mark part before tokens ≡ total → Fails e total
+pub chain-fault : {A : Type 0} (part : Reader A) (mark : List ℕ) (before : A) (tokens : List Token) (total : Read A) (e : RuleError) → next_is mark tokens ≡ true → Fails e (part before (drop 1 tokens)) → chain_at mark part before tokens ≡ total → Fails e total
 unfolding chain_of
 chain-fault part mark before tokens total NoMemory next fails so_far = tt
 chain-fault part mark before [] total (Refused f) next fails so_far = absurd cc
@@ -73,7 +73,7 @@ taken-more part short mark before after tokens behind rest taken total is t goes
     let one : part before (drop 1 tokens) ≡ Ok (after, rest) = ap (part before) (sym (taken_drops tokens behind taken t goes)) ∙ read in
     sym (chain-more part short mark before tokens (after, rest) next one) ∙ so_far
 
-pub taken-fault : {A : Type 0} (part : Reader A) (mark : List ℕ) (before : A) (tokens behind : List Token) (taken : Bool) (total : Read A) (e : ParseError) → taken ≡ next_is mark tokens → taken ≡ true → behind ≡ cond taken (drop 1 tokens) tokens → Fails e (part before behind)
+pub taken-fault : {A : Type 0} (part : Reader A) (mark : List ℕ) (before : A) (tokens behind : List Token) (taken : Bool) (total : Read A) (e : RuleError) → taken ≡ next_is mark tokens → taken ≡ true → behind ≡ cond taken (drop 1 tokens) tokens → Fails e (part before behind)
     → chain_at mark part before tokens ≡ total → Fails e total
 taken-fault part mark before tokens behind taken total e is t goes fails so_far =
     chain-fault part mark before tokens total e (sym is ∙ t) (subst (λ (ts : List Token). Fails e (part before ts)) (taken_drops tokens behind taken t goes) fails) so_far

@@ -1,10 +1,10 @@
 -- Loops that read operators of one level.
 use Rattle.std.proofs.Common.{◌≡◌, ℕ, zero, suc, ◌<◌, List, length, Option, Some, None, Result, Ok, Err, refl, sym, ap, ◌∙◌, arith}
 use Rattle.ops.specs.declared.opcode.Opcode.{Opcode}
-use Rattle.rule_tokens.specs.declared.fault.ParseError.{ParseError}
-use Rattle.rule_tokens.specs.declared.fault.ParseError.TheVariants.{Refused, NoMemory}
-use Rattle.rule_tokens.specs.declared.fault.TextFault.{TextFault}
-use Rattle.rule_tokens.specs.Gives.{◌>>=◌, Fails, Gives}
+use Rattle.rule_tokens.specs.RuleFaults.{RuleFault, RuleError}
+use Rattle.refusal.specs.declared.refusal.Refusal.TheVariants.{Refused, NoMemory}
+use Rattle.refusal.specs.Refusals.{Fails, Gives}
+use Rattle.rule_tokens.specs.Steps.{◌>>=◌}
 use Rattle.rule_tokens.specs.PartReaders.{Read}
 use Rattle.rule_tokens.specs.Tokens.{Token}
 use Rattle.rule_terms.specs.declared.place.TermPlace.{TermPlace}
@@ -17,7 +17,7 @@ use Rattle.rule_terms.proofs.Meanings.{operator_at-is}
 abbrev pub Shortens : Reader → Type 0
 Shortens read = (before : List RawNode) (tokens : List Token) (x : List RawNode × List Token) → read before tokens ≡ Ok x → length x.1 < length tokens
 
-same_behind : {A B : Type 0} (r : Result A TextFault) (f g : A → Result B TextFault) → ((x : A) → r ≡ Ok x → f x ≡ g x) → (r >>= f) ≡ (r >>= g)
+same_behind : {A B : Type 0} (r : Result A RuleFault) (f g : A → Result B RuleFault) → ((x : A) → r ≡ Ok x → f x ≡ g x) → (r >>= f) ≡ (r >>= g)
 same_behind (Ok x) f g h = h x refl
 same_behind (Err e) f g h = refl
 
@@ -47,7 +47,7 @@ chain-more operand level left tokens next both short found e =
     let fewer : length both.1 < length next.1 = short left next.1 both e in
     rw (found, e) (chain_enough operand level (length tokens) (suc (length both.1)) (join next.0 left both.0) both.1 short (omega (arith, ap length is.whole)) (omega arith))
 
-pub chain-fault : (operand : Reader) (level : ℕ) (left : List RawNode) (tokens : List Token) (next : Opcode × List Token) (total : Read (List RawNode)) (e : ParseError) → operator_at level tokens ≡ Some next → Fails e (operand left next.1) → whole_chain_at operand level left tokens ≡ total → Fails e total
+pub chain-fault : (operand : Reader) (level : ℕ) (left : List RawNode) (tokens : List Token) (next : Opcode × List Token) (total : Read (List RawNode)) (e : RuleError) → operator_at level tokens ≡ Some next → Fails e (operand left next.1) → whole_chain_at operand level left tokens ≡ total → Fails e total
 unfolding chain_at
 chain-fault operand level left tokens next total NoMemory found fails so_far = tt
 chain-fault operand level left tokens next total (Refused f) found fails so_far =
@@ -71,11 +71,11 @@ behind_at-step primary level left tokens tighter e = rw e refl
 pub behind-begun : (primary : Reader) (level : ℕ) (left : List RawNode) (tokens : List Token) (tighter : ℕ) (first : List RawNode × List Token) → level ≡ suc tighter → behind_at primary tighter left tokens ≡ Ok first → whole_chain_at (operand_at primary tighter) level first.0 first.1 ≡ behind_at primary level left tokens
 behind-begun primary level left tokens tighter first more e = rw (behind_at-step primary level left tokens tighter more, e) refl
 
-pub behind-fault : (primary : Reader) (level : ℕ) (left : List RawNode) (tokens : List Token) (tighter : ℕ) (e : ParseError) → level ≡ suc tighter → Fails e (behind_at primary tighter left tokens) → Fails e (behind_at primary level left tokens)
+pub behind-fault : (primary : Reader) (level : ℕ) (left : List RawNode) (tokens : List Token) (tighter : ℕ) (e : RuleError) → level ≡ suc tighter → Fails e (behind_at primary tighter left tokens) → Fails e (behind_at primary level left tokens)
 behind-fault primary level left tokens tighter NoMemory more fails = tt
 behind-fault primary level left tokens tighter (Refused f) more fails = rw (behind_at-step primary level left tokens tighter more, fails) refl
 
-pub primary-fault : (place : TermPlace) (line nesting : ℕ) (before : List RawNode) (tokens : List Token) (e : ParseError) → Fails e (start_at place line tokens) → Fails e (primary_at place line nesting before tokens)
+pub primary-fault : (place : TermPlace) (line nesting : ℕ) (before : List RawNode) (tokens : List Token) (e : RuleError) → Fails e (start_at place line tokens) → Fails e (primary_at place line nesting before tokens)
 unfolding primary_at
 primary-fault place line nesting before tokens NoMemory fails = tt
 primary-fault place line zero before tokens (Refused f) fails = rw fails refl
@@ -86,7 +86,7 @@ unfolding primary_at
 primary-begun place line nesting before tokens left start rest more e = rw (more, e) refl
 
 -- what is given where nothing more may be nested
-pub primary-shallow : {X : Type 0} (place : TermPlace) (line nesting : ℕ) (before after : List RawNode) (tokens : List Token) (start : Start) (rest : List Token) (r : Result X ParseError) → nesting ≡ 0 → start_at place line tokens ≡ Ok (start, rest) → Gives (λ _. after) r (shallow_in line before start)
+pub primary-shallow : {X : Type 0} (place : TermPlace) (line nesting : ℕ) (before after : List RawNode) (tokens : List Token) (start : Start) (rest : List Token) (r : Result X RuleError) → nesting ≡ 0 → start_at place line tokens ≡ Ok (start, rest) → Gives (λ _. after) r (shallow_in line before start)
     → Gives (λ _. (after, rest)) r (primary_at place line nesting before tokens)
 unfolding primary_at
 primary-shallow place line nesting before after tokens start rest (Ok x) none e gives = rw (none, e, gives) refl

@@ -8,9 +8,10 @@ use Rattle.ops.specs.declared.comparison.Pred.{Pred}
 use Rattle.scan.proofs.Fronts.{and_left}
 use Rattle.ops.specs.Keywords.{predicates}
 use Rattle.ops.proofs.KeywordLemmas.{same_word, found-passes}
-use Rattle.rule_tokens.specs.declared.fault.ParseError.{ParseError}
-use Rattle.rule_tokens.specs.declared.fault.ParseError.TheVariants.{Refused, NoMemory}
-use Rattle.rule_tokens.specs.Gives.{◌>>=◌, Fails}
+use Rattle.rule_tokens.specs.RuleFaults.{RuleError}
+use Rattle.refusal.specs.declared.refusal.Refusal.TheVariants.{Refused, NoMemory}
+use Rattle.refusal.specs.Refusals.{Fails}
+use Rattle.rule_tokens.specs.Steps.{◌>>=◌}
 use Rattle.rule_tokens.specs.Limits.{most_name_bytes}
 use Rattle.rule_tokens.specs.PartReaders.{name_within, line_end}
 use Rattle.rule_tokens.specs.Tokens.{Token, Register, Word, Mark}
@@ -320,7 +321,7 @@ reads_shorten reads before tokens x e = adds_shortens (reads before tokens x e)
 pub joins-read : (operator : ℕ → ℕ → RawFormula) (part : Reader (List RawFormula)) (before after : List RawFormula) (tokens rest : List Token) → part before tokens ≡ Ok (after, rest) → joins operator part before tokens ≡ Ok (after ++ operator (last_place (length before)) (last_place (length after)) ∷ [], rest)
 joins-read operator part before after tokens rest e = rw e refl
 
-pub joins-fault : (operator : ℕ → ℕ → RawFormula) (part : Reader (List RawFormula)) (before : List RawFormula) (tokens : List Token) (e : ParseError) → Fails e (part before tokens) → Fails e (joins operator part before tokens)
+pub joins-fault : (operator : ℕ → ℕ → RawFormula) (part : Reader (List RawFormula)) (before : List RawFormula) (tokens : List Token) (e : RuleError) → Fails e (part before tokens) → Fails e (joins operator part before tokens)
 joins-fault operator part before tokens NoMemory fails = tt
 joins-fault operator part before tokens (Refused f) fails = rw fails refl
 

@@ -15,7 +15,7 @@ use Rattle.scan.specs.RuleTokens.{is_constant}
 use Rattle.scan.proofs.Fronts.{and_left}
 use Rattle.std.specs.List.{list_all}
 use Rattle.std.specs.Prelude.{◌==◌}
-use Rattle.rule_tokens.specs.Gives.{◌>>=◌}
+use Rattle.rule_tokens.specs.Steps.{◌>>=◌}
 use Rattle.rule_tokens.specs.Limits.{most_name_bytes}
 use Rattle.rule_tokens.specs.PartReaders.{line_end}
 use Rattle.rule_tokens.specs.Tokens.{Token, Line, Register, Word, Number, Mark}
@@ -43,7 +43,7 @@ use Rattle.std.proofs.lemmas.Bool.{false≢true}
 use Rattle.std.proofs.lemmas.List.Folds.{list_any-append}
 use Rattle.scan.proofs.Fronts.{which}
 use Rattle.ops.proofs.KeywordLemmas.{same_word}
-use Rattle.rule_tokens.specs.declared.fault.TextFault.{TextFault}
+use Rattle.rule_tokens.specs.RuleFaults.{RuleFault}
 use Rattle.rule_terms.proofs.Readings.{spells_some}
 use Rattle.rule_terms.proofs.Spellings.{term_at-of}
 use Rattle.rule_terms.proofs.Starts.{mark_at-of}
@@ -421,7 +421,7 @@ none_within (members all) w = none_within all w
 none_within (either {start = start} {left = left} {right = right} l r) w = none_joined left right raw.Or start (λ a b. refl) (none_within l refl) (none_within r refl)
 
 -- the outermost members, and what may go on with them
-abbrev whole_at : ℕ → List Token → Result (List RawFormula × List Token) TextFault
+abbrev whole_at : ℕ → List Token → Result (List RawFormula × List Token) RuleFault
 whole_at line tokens = members_of (outer_member_at line) [] tokens >>= λ first. or_alternatives line (list_any asks_one_use first.0) first.0 first.1
 
 no_more : (line : ℕ) (asks : Bool) (nodes : List RawFormula) (rest : List Token) → next_is (codes "||") rest ≡ false → or_alternatives line asks nodes rest ≡ Ok (nodes, rest)
@@ -476,6 +476,6 @@ formula_at-of line nodes own rest is ends =
     through (members_of (outer_member_at line) [] (own ++ rest)) (λ first. or_alternatives line (list_any asks_one_use first.0) first.0 first.1) (λ whole. line_end line whole.1 >>= λ behind. Ok (whole.0, behind)) (nodes, rest) (whole_outer is refl refl refl line rest ends)
     ∙ rw (line_end-of line rest ends) refl
   where
-    through : {A B C : Type 0} (r : Result A TextFault) (f : A → Result B TextFault) (g : B → Result C TextFault) (y : B) → (r >>= f) ≡ Ok y → (r >>= λ x. (f x >>= g)) ≡ g y
-    through (Ok x) f g y e = ap (λ (s : Result _ TextFault). s >>= g) e
+    through : {A B C : Type 0} (r : Result A RuleFault) (f : A → Result B RuleFault) (g : B → Result C RuleFault) (y : B) → (r >>= f) ≡ Ok y → (r >>= λ x. (f x >>= g)) ≡ g y
+    through (Ok x) f g y e = ap (λ (s : Result _ RuleFault). s >>= g) e
     through (Err d) f g y e = absurd cc

@@ -1,13 +1,13 @@
 -- Members by how they begin: one level of nesting more, where one is left.
 use Rattle.std.proofs.Common.{◌≡◌, ℕ, zero, suc, List, [], ◌∷◌, ◌++◌, length, drop, Result, Ok, Err, refl, ap}
 use Rattle.std.specs.Prelude.{codes}
-use Rattle.rule_tokens.specs.declared.fault.ParseError.{ParseError}
-use Rattle.rule_tokens.specs.declared.fault.ParseError.TheVariants.{Refused, NoMemory}
-use Rattle.rule_tokens.specs.Gives.{Fails, Gives}
+use Rattle.rule_tokens.specs.RuleFaults.{RuleFault, RuleError}
+use Rattle.refusal.specs.declared.refusal.Refusal.TheVariants.{Refused, NoMemory}
+use Rattle.refusal.specs.Refusals.{Fails}
 use Rattle.rule_terms.specs.declared.raw.RawFormula.TheVariants.{Not}
 use Rattle.rule_terms.specs.Grammar.{last_place}
 use Rattle.rule_terms.specs.TermReaders.{mark_at}
-use Rattle.rule_tokens.specs.declared.fault.TextFault.{TextFault}
+use Rattle.rule_tokens.specs.Steps.{◌>>=◌}
 use Rattle.rule_tokens.specs.Tokens.{Token}
 use Rattle.rule_tokens.proofs.Steps.{ok_is}
 use Rattle.rule_terms.specs.declared.raw.RawFormula.{RawFormula}
@@ -36,27 +36,19 @@ member-compares zero line before tokens o = rw (← o) refl
 member-compares (suc n) line before tokens o = rw (← o) refl
 
 -- no level is left
-pub turns-too_deep : (nesting line : ℕ) (before : List RawFormula) (tokens : List Token) (f : TextFault) → Turns ≡ opening_at tokens → deeper line nesting ≡ Err f → member_at nesting line before tokens ≡ Err f
+pub turns-too_deep : (nesting line : ℕ) (before : List RawFormula) (tokens : List Token) (f : RuleFault) → Turns ≡ opening_at tokens → deeper line nesting ≡ Err f → member_at nesting line before tokens ≡ Err f
 unfolding member_at
 turns-too_deep zero line before tokens f o e = rw (← o) cc
 turns-too_deep (suc n) line before tokens f o e = absurd cc
 
-pub encloses-too_deep : (nesting line : ℕ) (before : List RawFormula) (tokens : List Token) (f : TextFault) → Encloses ≡ opening_at tokens → deeper line nesting ≡ Err f → member_at nesting line before tokens ≡ Err f
+pub encloses-too_deep : (nesting line : ℕ) (before : List RawFormula) (tokens : List Token) (f : RuleFault) → Encloses ≡ opening_at tokens → deeper line nesting ≡ Err f → member_at nesting line before tokens ≡ Err f
 unfolding member_at
 encloses-too_deep zero line before tokens f o e = rw (← o) cc
 encloses-too_deep (suc n) line before tokens f o e = absurd cc
 
 -- ---- what a member gives, where the part in it was read so
 
-pub turns-limit : (nesting line : ℕ) (before : List RawFormula) (tokens : List Token) (e : ParseError) → Turns ≡ opening_at tokens → Fails e (deeper line nesting) → Fails e (member_at nesting line before tokens)
-turns-limit nesting line before tokens NoMemory o d = tt
-turns-limit nesting line before tokens (Refused f) o d = turns-too_deep nesting line before tokens f o d
-
-pub encloses-limit : (nesting line : ℕ) (before : List RawFormula) (tokens : List Token) (e : ParseError) → Encloses ≡ opening_at tokens → Fails e (deeper line nesting) → Fails e (member_at nesting line before tokens)
-encloses-limit nesting line before tokens NoMemory o d = tt
-encloses-limit nesting line before tokens (Refused f) o d = encloses-too_deep nesting line before tokens f o d
-
-pub turned-fault : (nesting line inside : ℕ) (before : List RawFormula) (tokens behind : List Token) (e : ParseError) → Turns ≡ opening_at tokens → deeper line nesting ≡ Ok inside → behind ≡ drop 1 tokens
+pub turned-fault : (nesting line inside : ℕ) (before : List RawFormula) (tokens behind : List Token) (e : RuleError) → Turns ≡ opening_at tokens → deeper line nesting ≡ Ok inside → behind ≡ drop 1 tokens
     → Fails e (member_at inside line before behind) → Fails e (member_at nesting line before tokens)
 turned-fault nesting line inside before tokens behind NoMemory o d b h = tt
 turned-fault nesting line inside before tokens behind (Refused f) o d b h = rw (member-turns nesting line inside before tokens o d, ← b, h) refl
@@ -65,13 +57,11 @@ pub turned : (nesting line inside : ℕ) (before : List RawFormula) (tokens behi
     → member_at inside line before behind ≡ Ok x → member_at nesting line before tokens ≡ Ok (x.0 ++ Not (last_place (length x.0)) ∷ [], x.1)
 turned nesting line inside before tokens behind x o d b h = rw (member-turns nesting line inside before tokens o d, ← b, h) refl
 
-pub enclosed-fault : (nesting line inside : ℕ) (before : List RawFormula) (tokens behind : List Token) (e : ParseError) → Encloses ≡ opening_at tokens → deeper line nesting ≡ Ok inside → behind ≡ drop 1 tokens
+pub enclosed-fault : (nesting line inside : ℕ) (before : List RawFormula) (tokens behind : List Token) (e : RuleError) → Encloses ≡ opening_at tokens → deeper line nesting ≡ Ok inside → behind ≡ drop 1 tokens
     → Fails e (alternatives_of (member_at inside line) before behind) → Fails e (member_at nesting line before tokens)
 enclosed-fault nesting line inside before tokens behind NoMemory o d b h = tt
 enclosed-fault nesting line inside before tokens behind (Refused f) o d b h = rw (member-encloses nesting line inside before tokens o d, ← b, h) refl
 
-pub enclosed : {X : Type 0} (nesting line inside : ℕ) (before : List RawFormula) (tokens behind rest : List Token) (x : List RawFormula × List Token) (closed : Result X ParseError) → Encloses ≡ opening_at tokens → deeper line nesting ≡ Ok inside → behind ≡ drop 1 tokens
-    → alternatives_of (member_at inside line) before behind ≡ Ok x → Gives (λ _. rest) closed (mark_at (codes ")") line x.1) → Gives (λ _. (x.0, rest)) closed (member_at nesting line before tokens)
-enclosed nesting line inside before tokens behind rest x (Ok u) o d b h m = rw (member-encloses nesting line inside before tokens o d, ← b, h, m) refl
-enclosed nesting line inside before tokens behind rest x (Err NoMemory) o d b h m = tt
-enclosed nesting line inside before tokens behind rest x (Err (Refused f)) o d b h m = rw (member-encloses nesting line inside before tokens o d, ← b, h, m) refl
+pub enclosed : (nesting line inside : ℕ) (before : List RawFormula) (tokens behind : List Token) (x : List RawFormula × List Token) (closed : Result (List Token) RuleFault) → Encloses ≡ opening_at tokens → deeper line nesting ≡ Ok inside → behind ≡ drop 1 tokens
+    → alternatives_of (member_at inside line) before behind ≡ Ok x → mark_at (codes ")") line x.1 ≡ closed → member_at nesting line before tokens ≡ (closed >>= λ rest. Ok (x.0, rest))
+enclosed nesting line inside before tokens behind x closed o d b h m = rw (member-encloses nesting line inside before tokens o d, ← b, h, m) refl

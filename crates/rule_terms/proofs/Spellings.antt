@@ -4,8 +4,8 @@ use Rattle.std.specs.Prelude.{codes}
 use Rattle.std.proofs.lemmas.Bool.{ne_eqb}
 use Rattle.ops.specs.declared.opcode.Opcode.{Opcode}
 use Rattle.rule_core.specs.declared.rule.Function.{Function}
-use Rattle.rule_tokens.specs.declared.fault.TextFault.{TextFault}
-use Rattle.rule_tokens.specs.Gives.{◌>>=◌}
+use Rattle.rule_tokens.specs.RuleFaults.{RuleFault}
+use Rattle.rule_tokens.specs.Steps.{◌>>=◌}
 use Rattle.rule_tokens.specs.Tokens.{Token, Register, Word, Mark}
 use Rattle.rule_terms.specs.declared.place.TermPlace.{TermPlace}
 use Rattle.rule_terms.specs.declared.raw.RawNode.{RawNode}
@@ -32,7 +32,7 @@ goes_on-done : (primary : Reader) (level : ℕ) (left : List RawNode) (tokens : 
 goes_on-done primary zero left tokens none = refl
 goes_on-done primary (suc level) left tokens none = chain-done (operand_at primary level) (suc level) left tokens none
 
-bind_assoc : {A B C : Type 0} (r : Result A TextFault) (f : A → Result B TextFault) (g : B → Result C TextFault) → (r >>= λ x. (f x >>= g)) ≡ ((r >>= f) >>= g)
+bind_assoc : {A B C : Type 0} (r : Result A RuleFault) (f : A → Result B RuleFault) (g : B → Result C RuleFault) → (r >>= λ x. (f x >>= g)) ≡ ((r >>= f) >>= g)
 bind_assoc (Ok x) f g = refl
 bind_assoc (Err e) f g = refl
 
@@ -44,7 +44,7 @@ alone : (primary : Reader) (before : List RawNode) (tokens : List Token) → ope
 unfolding behind_at
 alone primary before tokens = same (primary before tokens)
   where
-    same : (r : Result (List RawNode × List Token) TextFault) → (r >>= λ x. behind_at primary 0 x.0 x.1) ≡ r
+    same : (r : Result (List RawNode × List Token) RuleFault) → (r >>= λ x. behind_at primary 0 x.0 x.1) ≡ r
     same (Ok x) = refl
     same (Err e) = refl
 
@@ -150,11 +150,11 @@ term_at-parenthesis place nesting line rest =
     rw (start_at-of place line Parenthesis (Mark (codes "(") ∷ rest) rest refl)
     (through (operand_at (primary_at place line nesting) loosest [] rest) (λ inside. mark_at (codes ")") line inside.1) (λ x. behind_at (primary_at place line (suc nesting)) loosest x.0 x.1))
   where
-    through : (r : Result (List RawNode × List Token) TextFault) (f : List RawNode × List Token → Result (List Token) TextFault) (g : List RawNode × List Token → Result (List RawNode × List Token) TextFault)
+    through : (r : Result (List RawNode × List Token) RuleFault) (f : List RawNode × List Token → Result (List Token) RuleFault) (g : List RawNode × List Token → Result (List RawNode × List Token) RuleFault)
         → ((r >>= λ inside. (f inside >>= λ behind. Ok (inside.0, behind))) >>= g) ≡ (r >>= λ inside. (f inside >>= λ behind. g (inside.0, behind)))
     through (Ok x) f g = last (f x)
       where
-        last : (s : Result (List Token) TextFault) → ((s >>= λ behind. Ok (x.0, behind)) >>= g) ≡ (s >>= λ behind. g (x.0, behind))
+        last : (s : Result (List Token) RuleFault) → ((s >>= λ behind. Ok (x.0, behind)) >>= g) ≡ (s >>= λ behind. g (x.0, behind))
         last (Ok y) = refl
         last (Err e) = refl
     through (Err e) f g = refl

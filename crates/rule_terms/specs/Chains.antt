@@ -1,7 +1,7 @@
 -- Parts that a mark joins, read from left to right.
 use Rattle.std.specs.Prelude.{ℕ, zero, suc, Bool, false, if◌then◌else◌, List, ◌∷◌, length, drop, Ok}
 use Rattle.std.specs.Str.{bytes_eq}
-use Rattle.rule_tokens.specs.Gives.{◌>>=◌}
+use Rattle.rule_tokens.specs.Steps.{◌>>=◌}
 use Rattle.rule_tokens.specs.PartReaders.{Read}
 use Rattle.rule_tokens.specs.Tokens.{Token, Mark}
 

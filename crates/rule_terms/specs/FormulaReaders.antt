@@ -4,9 +4,9 @@ use Rattle.std.specs.List.{list_any}
 use Rattle.std.specs.Str.{bytes_eq}
 use Rattle.scan.specs.RuleTokens.{is_among}
 use Rattle.ops.specs.declared.comparison.Pred.{Pred}
-use Rattle.rule_tokens.specs.declared.fault.Misfit.TheVariants.{Syntax, TooMany}
-use Rattle.rule_tokens.specs.declared.fault.TextFault.{TextFault}
-use Rattle.rule_tokens.specs.Gives.{◌>>=◌}
+use Rattle.rule_tokens.specs.declared.fault.RuleFaultKind.TheVariants.{Syntax, TooMany}
+use Rattle.rule_tokens.specs.RuleFaults.{RuleFault}
+use Rattle.rule_tokens.specs.Steps.{◌>>=◌}
 use Rattle.rule_tokens.specs.PartReaders.{Read, fault, unexpected, name_within, line_end}
 use Rattle.rule_tokens.specs.Tokens.{Token, Line, Register, Word, Mark}
 use Rattle.rule_terms.specs.declared.raw.RawFormula.{RawFormula}
@@ -89,7 +89,7 @@ compares_at nesting line before tokens = do
   Ok (before ++ Compare pred.0 left.0 right.0 ∷ [], right.1)
 
 -- one level of nesting more, if the limit leaves it
-abbrev pub deeper : ℕ → ℕ → Result ℕ TextFault
+abbrev pub deeper : ℕ → ℕ → Result ℕ RuleFault
 deeper line zero = Err (fault line TooMany)
 deeper line (suc nesting) = Ok nesting
 

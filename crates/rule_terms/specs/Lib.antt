@@ -1,4 +1,5 @@
-pub use Rattle.rule_tokens.specs.Gives
+pub use Rattle.refusal.specs.Refusals
+pub use Rattle.rule_tokens.specs.Steps
 pub use Rattle.rule_tokens.specs.Numbers
 pub use Rattle.scan.specs.RuleTokens
 pub use Rattle.rule_tokens.specs.SeenTokens

@@ -5,9 +5,9 @@ use Rattle.std.specs.Str.{bytes_eq}
 use Rattle.ops.specs.declared.opcode.Opcode.{Opcode}
 use Rattle.rule_core.specs.declared.rule.Function.{Function}
 use Rattle.rule_core.specs.declared.rule.Function.TheVariants.{Negate, Not}
-use Rattle.rule_tokens.specs.declared.fault.Misfit.TheVariants.{Syntax, TooMany}
-use Rattle.rule_tokens.specs.declared.fault.TextFault.{TextFault}
-use Rattle.rule_tokens.specs.Gives.{◌>>=◌}
+use Rattle.rule_tokens.specs.declared.fault.RuleFaultKind.TheVariants.{Syntax, TooMany}
+use Rattle.rule_tokens.specs.RuleFaults.{RuleFault}
+use Rattle.rule_tokens.specs.Steps.{◌>>=◌}
 use Rattle.rule_tokens.specs.Numbers.{literal_value}
 use Rattle.rule_tokens.specs.PartReaders.{Read, fault, unexpected, misplaced_word, name_within}
 use Rattle.rule_tokens.specs.Tokens.{Token, Register, Word, Number, Mark}
@@ -25,14 +25,14 @@ use Rattle.rule_terms.specs.Keywords.{operator_in, level_of, loosest, meaning_in
 -- ---- marks
 
 -- this mark, and the tokens behind it
-unfoldable pub mark_at : List ℕ → ℕ → List Token → Result (List Token) TextFault
+unfoldable pub mark_at : List ℕ → ℕ → List Token → Result (List Token) RuleFault
 mark_at wanted line (Mark mark ∷ rest) = if bytes_eq mark wanted then Ok rest else Err (fault line Syntax)
 mark_at wanted line tokens = Err (unexpected line tokens)
 
 -- ---- what an operand begins with, and the tokens behind it
 
 -- a register, which stands in a witness alone
-abbrev pub register_in : TermPlace → ℕ → List ℕ → Result Start TextFault
+abbrev pub register_in : TermPlace → ℕ → List ℕ → Result Start RuleFault
 register_in places.Constant line name = Err (fault line Syntax)
 register_in places.Witness line name = name_within line name >>= λ held. Ok (Leaf (nodes.Register held))
 
@@ -135,7 +135,7 @@ begun_at line primary before (Call function) rest = inside_at line primary befor
 begun_at line primary before Width rest = measured_at line rest >>= λ x. Ok (before ++ nodes.Width x.0 ∷ [], x.1)
 
 -- the same where nothing more may be nested
-abbrev pub shallow_in : ℕ → List RawNode → Start → Result (List RawNode) TextFault
+abbrev pub shallow_in : ℕ → List RawNode → Start → Result (List RawNode) RuleFault
 shallow_in line before (Leaf node) = Ok (before ++ node ∷ [])
 shallow_in line before start = Err (fault line TooMany)
 

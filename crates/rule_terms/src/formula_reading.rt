@@ -4,8 +4,9 @@
 
 ghost use Rattle.std.specs.Prelude.{◌≡◌, drop, length};
 ghost use Rattle.std.specs.List.{list_any};
-ghost use Rattle.rule_tokens.specs.Gives.{Gives};
+ghost use Rattle.refusal.specs.Refusals.{Gives};
 ghost use Rattle.rule_tokens.specs.SeenTokens.{seen};
+ghost use Rattle.rule_tokens.specs.Steps.{Reads};
 ghost use Rattle.rule_terms.specs.FormulaReaders as reading;
 ghost use Rattle.rule_terms.specs.Grammar.{last_place};
 
@@ -18,18 +19,19 @@ use crate::take::takes;
 use lists::{List, Text};
 use ops::Pred;
 use ops::keywords::is;
-use rule_tokens::{Misfit, ParseError, Token, line_end, name_within, refused, unexpected};
+use rule_tokens::{RuleError, RuleFault, RuleFaultKind, Token, line_end, name_within, unexpected};
 use std::alloc::Global;
 
 /// The most open parentheses and pending operators of one operand at a token.
 const MOST_NESTED: u32 = 32;
 
 /// One level of nesting more.
-fn deeper(line: usize, nesting: u32) -> Result<u32, ParseError>
-    ensures { Gives (λ x. x) result (reading.deeper line nesting) }
+fn deeper(line: usize, nesting: u32) -> Result<u32, RuleFault>
+    ensures { Reads (λ x. x) result (reading.deeper line nesting) }
 {
     if nesting == 0 {
-        Err(refused(line, Misfit::TooMany))
+        let kind = RuleFaultKind::TooMany;
+        Err(RuleFault { line, kind })
     } else {
         Ok(nesting - 1)
     }
@@ -47,8 +49,8 @@ fn last_place(nodes: &List<RawFormula>) -> u32
 
 /// A comparison.
 #[tactic(auto, unfolding(crate::specs::FormulaReaders::comparison_at))]
-fn comparison(line: usize, tokens: &mut &[Token<'_>]) -> Result<Pred, ParseError>
-    ensures { Gives (λ x. (x, seen tokens.new.now)) result (reading.comparison_at line (seen tokens.old.now)) }
+fn comparison(line: usize, tokens: &mut &[Token<'_>]) -> Result<Pred, RuleFault>
+    ensures { Reads (λ x. (x, seen tokens.new.now)) result (reading.comparison_at line (seen tokens.old.now)) }
 {
     match *tokens {
         [Token::Mark(mark), rest @ ..] => match comparison_of(mark) {
@@ -56,7 +58,10 @@ fn comparison(line: usize, tokens: &mut &[Token<'_>]) -> Result<Pred, ParseError
                 *tokens = rest;
                 Ok(pred)
             }
-            None => Err(refused(line, Misfit::Syntax)),
+            None => {
+                let kind = RuleFaultKind::Syntax;
+                Err(RuleFault { line, kind })
+            }
         },
         _ => Err(unexpected(line, *tokens)),
     }
@@ -70,7 +75,7 @@ fn compares(
     line: usize,
     nodes: &mut List<RawFormula>,
     tokens: &mut &[Token<'_>],
-) -> Result<(), ParseError>
+) -> Result<(), RuleError>
     ensures { Gives (λ _. (nodes.new, seen tokens.new.now)) result (reading.compares_at nesting line nodes.old (seen tokens.old.now)) }
 {
     let left = term(alloc, TermPlace::Constant, nesting, line, tokens)?;
@@ -89,7 +94,7 @@ fn tests(
     line: usize,
     nodes: &mut List<RawFormula>,
     tokens: &mut &[Token<'_>],
-) -> Result<(), ParseError>
+) -> Result<(), RuleError>
     ensures { Gives (λ _. (nodes.new, seen tokens.new.now)) result (reading.tests_at predicate nesting line nodes.old (seen tokens.old.now)) }
 {
     mark("(", line, tokens)?;
@@ -101,7 +106,7 @@ fn tests(
 }
 
 /// A register.
-fn register(alloc: Global, line: usize, tokens: &mut &[Token<'_>]) -> Result<Text, ParseError>
+fn register(alloc: Global, line: usize, tokens: &mut &[Token<'_>]) -> Result<Text, RuleError>
     ensures { Gives (λ x. (x, seen tokens.new.now)) result (reading.register_at line (seen tokens.old.now)) }
 {
     match *tokens {
@@ -109,7 +114,7 @@ fn register(alloc: Global, line: usize, tokens: &mut &[Token<'_>]) -> Result<Tex
             *tokens = rest;
             name_within(alloc, line, name)
         }
-        _ => Err(unexpected(line, *tokens)),
+        _ => Err(unexpected(line, *tokens).into()),
     }
 }
 
@@ -120,7 +125,7 @@ fn one_use(
     line: usize,
     nodes: &mut List<RawFormula>,
     tokens: &mut &[Token<'_>],
-) -> Result<(), ParseError>
+) -> Result<(), RuleError>
     ensures { Gives (λ _. (nodes.new, seen tokens.new.now)) result (reading.one_use_at line nodes.old (seen tokens.old.now)) }
 {
     mark("(", line, tokens)?;
@@ -147,7 +152,7 @@ fn member(
     line: usize,
     nodes: &mut List<RawFormula>,
     tokens: &mut &[Token<'_>],
-) -> Result<(), ParseError>
+) -> Result<(), RuleError>
     ensures { Gives (λ _. (nodes.new, seen tokens.new.now)) result (reading.member_at nesting line nodes.old (seen tokens.old.now)) }
 {
     match opening_of(*tokens) {
@@ -163,7 +168,8 @@ fn member(
             let inside = deeper(line, nesting)?;
             skip(tokens);
             alternatives(alloc, inside, line, nodes, tokens)?;
-            mark(")", line, tokens)
+            mark(")", line, tokens)?;
+            Ok(())
         }
         Opening::Tests(predicate) => {
             skip(tokens);
@@ -181,7 +187,7 @@ fn members(
     line: usize,
     nodes: &mut List<RawFormula>,
     tokens: &mut &[Token<'_>],
-) -> Result<(), ParseError>
+) -> Result<(), RuleError>
     ensures { Gives (λ _. (nodes.new, seen tokens.new.now)) result (reading.members_of (reading.member_at nesting line) nodes.old (seen tokens.old.now)) }
 {
     member(alloc, nesting, line, nodes, tokens)?;
@@ -196,7 +202,7 @@ fn more_members(
     line: usize,
     nodes: &mut List<RawFormula>,
     tokens: &mut &[Token<'_>],
-) -> Result<(), ParseError>
+) -> Result<(), RuleError>
     ensures { Gives (λ _. (nodes.new, seen tokens.new.now)) result (reading.more_members (reading.member_at nesting line) nodes.old (seen tokens.old.now)) }
 {
     while takes("&&", tokens) {
@@ -216,7 +222,7 @@ fn alternatives(
     line: usize,
     nodes: &mut List<RawFormula>,
     tokens: &mut &[Token<'_>],
-) -> Result<(), ParseError>
+) -> Result<(), RuleError>
     ensures { Gives (λ _. (nodes.new, seen tokens.new.now)) result (reading.alternatives_of (reading.member_at nesting line) nodes.old (seen tokens.old.now)) }
 {
     members(alloc, nesting, line, nodes, tokens)?;
@@ -231,7 +237,7 @@ fn more_alternatives(
     line: usize,
     nodes: &mut List<RawFormula>,
     tokens: &mut &[Token<'_>],
-) -> Result<(), ParseError>
+) -> Result<(), RuleError>
     ensures { Gives (λ _. (nodes.new, seen tokens.new.now)) result (reading.more_alternatives (reading.member_at nesting line) nodes.old (seen tokens.old.now)) }
 {
     while takes("||", tokens) {
@@ -250,7 +256,7 @@ fn outer_member(
     line: usize,
     nodes: &mut List<RawFormula>,
     tokens: &mut &[Token<'_>],
-) -> Result<(), ParseError>
+) -> Result<(), RuleError>
     ensures { Gives (λ _. (nodes.new, seen tokens.new.now)) result (reading.outer_member_at line nodes.old (seen tokens.old.now)) }
 {
     match *tokens {
@@ -268,7 +274,7 @@ fn more_outer_members(
     line: usize,
     nodes: &mut List<RawFormula>,
     tokens: &mut &[Token<'_>],
-) -> Result<(), ParseError>
+) -> Result<(), RuleError>
     ensures { Gives (λ _. (nodes.new, seen tokens.new.now)) result (reading.more_members (reading.outer_member_at line) nodes.old (seen tokens.old.now)) }
 {
     while takes("&&", tokens) {
@@ -299,7 +305,7 @@ pub fn formula(
     alloc: Global,
     line: usize,
     tokens: &mut &[Token<'_>],
-) -> Result<List<RawFormula>, ParseError>
+) -> Result<List<RawFormula>, RuleError>
     ensures { Gives (λ x. (x, seen tokens.new.now)) result (reading.formula_at line (seen tokens.old.now)) }
 {
     let mut nodes = List::new(alloc);

@@ -1,7 +1,7 @@
 //! Terms from the tokens of a line. Operators of one level are read in a loop; only what is nested, and the levels, recurse.
 
 ghost use Rattle.std.specs.Prelude.{◌≡◌, length, Some, None, IfSome, IfNone, OnOk};
-ghost use Rattle.rule_tokens.specs.Gives.{Gives};
+ghost use Rattle.refusal.specs.Refusals.{Gives};
 ghost use Rattle.rule_tokens.specs.SeenTokens.{seen};
 ghost use Rattle.rule_terms.specs.Grammar.{last_place};
 ghost use Rattle.rule_terms.specs.TermReaders as parsing;
@@ -11,8 +11,9 @@ use crate::raw::{RawNode, RawTerm};
 use crate::start::{Start, begin, mark, measured};
 use crate::word::{level_of, operator_of};
 use ops::Opcode;
+use refusal::refused;
 use rule_core::Function;
-use rule_tokens::{Misfit, ParseError, Token, refused};
+use rule_tokens::{RuleError, RuleFaultKind, Token};
 use std::alloc::{AllocError, Global};
 
 /// The level of a whole term, which no operator is looser than.
@@ -72,7 +73,7 @@ fn behind(
     level: u32,
     nodes: &mut RawTerm,
     tokens: &mut &[Token<'_>],
-) -> Result<(), ParseError>
+) -> Result<(), RuleError>
     ensures { Gives (λ _. (nodes.new, seen tokens.new.now)) result (parsing.behind_at (parsing.primary_at site.now.place site.now.line nesting) level nodes.old (seen tokens.old.now)) }
 {
     if level == 0 {
@@ -96,7 +97,7 @@ fn operand(
     level: u32,
     nodes: &mut RawTerm,
     tokens: &mut &[Token<'_>],
-) -> Result<(), ParseError>
+) -> Result<(), RuleError>
     ensures { Gives (λ _. (nodes.new, seen tokens.new.now)) result (parsing.operand_at (parsing.primary_at site.now.place site.now.line nesting) level nodes.old (seen tokens.old.now)) }
 {
     primary(site, nesting, nodes, tokens)?;
@@ -110,15 +111,16 @@ fn inside(
     nesting: u32,
     nodes: &mut RawTerm,
     tokens: &mut &[Token<'_>],
-) -> Result<(), ParseError>
+) -> Result<(), RuleError>
     ensures { Gives (λ _. (nodes.new, seen tokens.new.now)) result (parsing.inside_at site.now.line (parsing.primary_at site.now.place site.now.line nesting) nodes.old (seen tokens.old.now)) }
 {
     operand(site, nesting, LOOSEST, nodes, tokens)?;
-    mark(")", site.line, tokens)
+    mark(")", site.line, tokens)?;
+    Ok(())
 }
 
 /// An operand of which this is the whole, where nothing more may be nested.
-fn shallow(line: usize, start: Start, nodes: &mut RawTerm) -> Result<(), ParseError>
+fn shallow(line: usize, start: Start, nodes: &mut RawTerm) -> Result<(), RuleError>
     ensures { Gives (λ _. nodes.new) result (parsing.shallow_in line nodes.old start) }
 {
     match start {
@@ -127,7 +129,7 @@ fn shallow(line: usize, start: Start, nodes: &mut RawTerm) -> Result<(), ParseEr
             Ok(())
         }
         Start::Prefix(_) | Start::Parenthesis | Start::Call(_) | Start::Width => {
-            Err(refused(line, Misfit::TooMany))
+            Err(refused(line, RuleFaultKind::TooMany))
         }
     }
 }
@@ -140,7 +142,7 @@ fn begun(
     start: Start,
     nodes: &mut RawTerm,
     tokens: &mut &[Token<'_>],
-) -> Result<(), ParseError>
+) -> Result<(), RuleError>
     ensures { Gives (λ _. (nodes.new, seen tokens.new.now)) result (parsing.begun_at site.now.line (parsing.primary_at site.now.place site.now.line nesting) nodes.old start (seen tokens.old.now)) }
 {
     match start {
@@ -169,7 +171,7 @@ fn primary(
     nesting: u32,
     nodes: &mut RawTerm,
     tokens: &mut &[Token<'_>],
-) -> Result<(), ParseError>
+) -> Result<(), RuleError>
     ensures { Gives (λ _. (nodes.new, seen tokens.new.now)) result (parsing.primary_at site.now.place site.now.line nesting nodes.old (seen tokens.old.now)) }
 {
     let start = begin(site.alloc, site.place, site.line, tokens)?;
@@ -188,7 +190,7 @@ pub fn term(
     nesting: u32,
     line: usize,
     tokens: &mut &[Token<'_>],
-) -> Result<RawTerm, ParseError>
+) -> Result<RawTerm, RuleError>
     ensures { Gives (λ x. (x, seen tokens.new.now)) result (parsing.term_at place nesting line (seen tokens.old.now)) }
 {
     let site = Site { alloc, place, line };
@@ -206,7 +208,7 @@ pub fn rest_of_term(
     line: usize,
     first: RawTerm,
     tokens: &mut &[Token<'_>],
-) -> Result<RawTerm, ParseError>
+) -> Result<RawTerm, RuleError>
     ensures { Gives (λ x. (x, seen tokens.new.now)) result (parsing.rest_of_term_at place nesting line first (seen tokens.old.now)) }
 {
     let site = Site { alloc, place, line };

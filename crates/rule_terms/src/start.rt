@@ -1,8 +1,9 @@
 //! What an operand of a term begins with.
 
 ghost use Rattle.std.specs.Prelude.{◌≡◌};
-ghost use Rattle.rule_tokens.specs.Gives.{Gives};
+ghost use Rattle.refusal.specs.Refusals.{Gives};
 ghost use Rattle.rule_tokens.specs.SeenTokens.{seen};
+ghost use Rattle.rule_tokens.specs.Steps.{Reads};
 ghost use Rattle.rule_terms.specs.TermReaders as parsing;
 
 use crate::place::TermPlace;
@@ -10,9 +11,10 @@ use crate::raw::RawNode;
 use crate::word::{Meaning, meaning_of};
 use lists::Text;
 use ops::keywords::is;
+use refusal::refused;
 use rule_core::Function;
 use rule_tokens::{
-    Misfit, ParseError, Token, literal, misplaced_word, name_within, refused, unexpected,
+    RuleError, RuleFault, RuleFaultKind, Token, literal, misplaced_word, name_within, unexpected,
 };
 use std::alloc::Global;
 
@@ -33,8 +35,8 @@ pub enum Start {
 
 /// The mark that has to stand here.
 #[tactic(auto, unfolding(crate::specs::TermReaders::mark_at))]
-pub fn mark(wanted: &str, line: usize, tokens: &mut &[Token<'_>]) -> Result<(), ParseError>
-    ensures { Gives (λ _. seen tokens.new.now) result (parsing.mark_at wanted.now line (seen tokens.old.now)) }
+pub fn mark(wanted: &str, line: usize, tokens: &mut &[Token<'_>]) -> Result<(), RuleFault>
+    ensures { Reads (λ _. seen tokens.new.now) result (parsing.mark_at wanted.now line (seen tokens.old.now)) }
 {
     match *tokens {
         [Token::Mark(mark), rest @ ..] => {
@@ -42,7 +44,8 @@ pub fn mark(wanted: &str, line: usize, tokens: &mut &[Token<'_>]) -> Result<(), 
                 *tokens = rest;
                 Ok(())
             } else {
-                Err(refused(line, Misfit::Syntax))
+                let kind = RuleFaultKind::Syntax;
+                Err(RuleFault { line, kind })
             }
         }
         _ => Err(unexpected(line, *tokens)),
@@ -50,11 +53,11 @@ pub fn mark(wanted: &str, line: usize, tokens: &mut &[Token<'_>]) -> Result<(), 
 }
 
 /// A register, which stands in a witness alone.
-fn register(alloc: Global, place: TermPlace, line: usize, name: &[u8]) -> Result<Start, ParseError>
+fn register(alloc: Global, place: TermPlace, line: usize, name: &[u8]) -> Result<Start, RuleError>
     ensures { Gives (λ x. x) result (parsing.register_in place line name.now) }
 {
     match place {
-        TermPlace::Constant => Err(refused(line, Misfit::Syntax)),
+        TermPlace::Constant => Err(refused(line, RuleFaultKind::Syntax)),
         TermPlace::Witness => Ok(Start::Leaf(RawNode::Register(name_within(alloc, line, name)?))),
     }
 }
@@ -66,7 +69,7 @@ fn word(
     word: &[u8],
     meaning: Option<Meaning>,
     tokens: &mut &[Token<'_>],
-) -> Result<Start, ParseError>
+) -> Result<Start, RuleError>
     ensures { Gives (λ x. (x, seen tokens.new.now)) result (parsing.word_at line word.now meaning (seen tokens.old.now)) }
 {
     match meaning {
@@ -113,7 +116,7 @@ pub(crate) fn begin(
     place: TermPlace,
     line: usize,
     tokens: &mut &[Token<'_>],
-) -> Result<Start, ParseError>
+) -> Result<Start, RuleError>
     ensures { Gives (λ x. (x, seen tokens.new.now)) result (parsing.start_at place line (seen tokens.old.now)) }
 {
     match *tokens {
@@ -131,12 +134,12 @@ pub(crate) fn begin(
         }
         [Token::Mark(mark), rest @ ..] => {
             let Some(start) = opening_of(mark) else {
-                return Err(refused(line, Misfit::Syntax));
+                return Err(refused(line, RuleFaultKind::Syntax));
             };
             *tokens = rest;
             Ok(start)
         }
-        _ => Err(unexpected(line, *tokens)),
+        _ => Err(unexpected(line, *tokens).into()),
     }
 }
 
@@ -146,7 +149,7 @@ pub(crate) fn measured(
     alloc: Global,
     line: usize,
     tokens: &mut &[Token<'_>],
-) -> Result<Text, ParseError>
+) -> Result<Text, RuleError>
     ensures { Gives (λ x. (x, seen tokens.new.now)) result (parsing.measured_at line (seen tokens.old.now)) }
 {
     match *tokens {
@@ -156,6 +159,6 @@ pub(crate) fn measured(
             mark(")", line, tokens)?;
             Ok(name)
         }
-        _ => Err(unexpected(line, *tokens)),
+        _ => Err(unexpected(line, *tokens).into()),
     }
 }

@@ -1,22 +1,20 @@
 -- Steps that may fail, and tests.
-use Rattle.std.proofs.Common.{◌≡◌, ℕ, Bool, true, false, cond, List, Option, Some, None, Ok, Err, Result, refl, inl, inr, ◌⊎◌, subst, sym, ap, ◌∙◌}
-use Rattle.rule_tokens.specs.declared.fault.ParseError.{ParseError}
-use Rattle.rule_tokens.specs.declared.fault.ParseError.TheVariants.{Refused, NoMemory}
-use Rattle.rule_tokens.specs.declared.fault.TextFault.{TextFault}
-use Rattle.rule_tokens.specs.Gives.{◌>>=◌, Fails, Refuses}
+use Rattle.std.proofs.Common.{◌≡◌, ℕ, Bool, true, false, cond, List, Option, Some, None, Ok, Err, Result, refl, inl, inr, ◌⊎◌, subst}
+use Rattle.rule_tokens.specs.RuleFaults.{RuleFault}
+use Rattle.rule_tokens.specs.Steps.{◌>>=◌}
 use Rattle.rule_tokens.specs.PartReaders.{or_left_out}
 use Rattle.rule_tokens.specs.Tokens.{Token}
 
-abbrev pub done : {A : Type 0} → A → Result A TextFault
+abbrev pub done : {A : Type 0} → A → Result A RuleFault
 done x = Ok x
 
 -- what a step that did not fail read
-pub bind_ok : {A B : Type 0} (r : Result A TextFault) (f : A → Result B TextFault) (y : B) → (r >>= f) ≡ Ok y → (x : A) × (r ≡ Ok x) × (f x ≡ Ok y)
+pub bind_ok : {A B : Type 0} (r : Result A RuleFault) (f : A → Result B RuleFault) (y : B) → (r >>= f) ≡ Ok y → (x : A) × (r ≡ Ok x) × (f x ≡ Ok y)
 bind_ok (Ok x) f y e = (x, refl, e)
 bind_ok (Err d) f y e = absurd cc
 
 -- the same, as a step of a proof
-pub bound : {A B G : Type 0} (r : Result A TextFault) (f : A → Result B TextFault) (y : B) → (r >>= f) ≡ Ok y → ((x : A) → r ≡ Ok x → f x ≡ Ok y → G) → G
+pub bound : {A B G : Type 0} (r : Result A RuleFault) (f : A → Result B RuleFault) (y : B) → (r >>= f) ≡ Ok y → ((x : A) → r ≡ Ok x → f x ≡ Ok y → G) → G
 bound (Ok x) f y e next = next x refl e
 bound (Err d) f y e next = absurd cc
 
@@ -28,16 +26,16 @@ pub read_as : {A : Type 0} (P : A → Type 0) (x y : A) → done x ≡ done y �
 read_as P x y e h = subst P (ok_is x y e) h
 
 -- a test that did not fail
-pub tested : {A : Type 0} (b : Bool) (x y : A) (d : TextFault) → cond b (done x) (Err d) ≡ Ok y → (b ≡ true) × (x ≡ y)
+pub tested : {A : Type 0} (b : Bool) (x y : A) (d : RuleFault) → cond b (done x) (Err d) ≡ Ok y → (b ≡ true) × (x ≡ y)
 tested true x y d e = (refl, cc)
 tested false x y d e = absurd cc
 
 -- a test before a step that did not fail, where the one or the other answer is a fault
-pub passed : {A : Type 0} (b : Bool) (r : Result A TextFault) (y : A) (d : TextFault) → cond b r (Err d) ≡ Ok y → (b ≡ true) × (r ≡ Ok y)
+pub passed : {A : Type 0} (b : Bool) (r : Result A RuleFault) (y : A) (d : RuleFault) → cond b r (Err d) ≡ Ok y → (b ≡ true) × (r ≡ Ok y)
 passed true r y d e = (refl, e)
 passed false r y d e = absurd cc
 
-pub refused_not : {A : Type 0} (b : Bool) (r : Result A TextFault) (y : A) (d : TextFault) → cond b (Err d) r ≡ Ok y → (b ≡ false) × (r ≡ Ok y)
+pub refused_not : {A : Type 0} (b : Bool) (r : Result A RuleFault) (y : A) (d : RuleFault) → cond b (Err d) r ≡ Ok y → (b ≡ false) × (r ≡ Ok y)
 refused_not true r y d e = absurd cc
 refused_not false r y d e = (refl, e)
 
@@ -54,8 +52,3 @@ guarded false x y e = absurd cc
 pub chosen : {A : Type 0} (b : Bool) (x y z : A) → cond b x y ≡ z → ((b ≡ true) × (x ≡ z)) ⊎ ((b ≡ false) × (y ≡ z))
 chosen true x y z e = inl (refl, e)
 chosen false x y z e = inr (refl, e)
-
--- the fault that an error of the code has is the one that is read
-pub fails : {Y : Type 0} (e : ParseError) (f : TextFault) (read : Result Y TextFault) → Refuses e f → read ≡ Err f → Fails e read
-fails NoMemory f read h is = tt
-fails (Refused g) f read h is = is ∙ ap Err (sym h)

@@ -3,7 +3,7 @@ use Rattle.std.proofs.Common.{◌≡◌, ℕ, ◌≤◌, true, leb, List, [], �
 use Rattle.std.specs.Str.{bytes_eq}
 use Rattle.std.proofs.lemmas.Bool.{leb-true}
 use Rattle.ops.proofs.KeywordLemmas.{same_word}
-use Rattle.rule_tokens.specs.declared.fault.Misfit.TheVariants.{TooMany}
+use Rattle.rule_tokens.specs.declared.fault.RuleFaultKind.TheVariants.{TooMany}
 use Rattle.rule_tokens.specs.Limits.{most_name_bytes}
 use Rattle.rule_tokens.specs.Numbers.{type_in}
 use Rattle.rule_tokens.specs.Parts.{Part, Is, Nothing, ◌⨾◌, Maybe}

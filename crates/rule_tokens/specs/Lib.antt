@@ -1,11 +1,14 @@
+pub use Rattle.refusal.specs.Refusals
+pub use Rattle.refusal.specs.declared.fault.Fault
+pub use Rattle.refusal.specs.declared.refusal.Refusal
 pub use Rattle.scan.specs.Bytes
 pub use Rattle.scan.specs.Names
-pub mod Gives
+pub mod RuleFaults
 pub mod Limits
 pub mod Numbers
 pub mod Parts
 pub mod PartReaders
-pub mod Errors
 pub mod SeenTokens
+pub mod Steps
 pub mod TypeTokens
 pub mod Tokens

@@ -1,34 +1,34 @@
 -- Reading from left to right: what the tokens spell and the tokens behind it, or the fault of the first token that does not fit.
 use Rattle.std.specs.Prelude.{ℕ, nat_le, if◌then◌else◌, List, [], ◌∷◌, length, Option, None, Some, Result, Ok, Err, codes}
 use Rattle.std.specs.Str.{bytes_eq}
-use Rattle.rule_tokens.specs.declared.fault.Misfit.{Misfit}
-use Rattle.rule_tokens.specs.declared.fault.Misfit.TheVariants.{BadByte, Syntax, LeftOut, TooMany}
-use Rattle.rule_tokens.specs.declared.fault.TextFault.{TextFault}
+use Rattle.rule_tokens.specs.declared.fault.RuleFaultKind.{RuleFaultKind}
+use Rattle.rule_tokens.specs.declared.fault.RuleFaultKind.TheVariants.{BadByte, Syntax, LeftOut, TooMany}
+use Rattle.rule_tokens.specs.RuleFaults.{RuleFault}
 use Rattle.rule_tokens.specs.Limits.{most_name_bytes}
 use Rattle.rule_tokens.specs.Numbers.{type_in}
 use Rattle.rule_tokens.specs.Tokens.{Token, Line, Word, Bad, Excess}
 
 -- what is read, and the tokens behind it
 abbrev pub Read : Type 0 → Type 0
-Read A = Result (A × List Token) TextFault
+Read A = Result (A × List Token) RuleFault
 
-abbrev pub fault : ℕ → Misfit → TextFault
+abbrev pub fault : ℕ → RuleFaultKind → RuleFault
 fault line kind = record { line = line; kind = kind }
 
 -- ---- the fault of the first token, on this line
 
 -- none of its kind may stand here, or the line ends here
-abbrev pub unexpected : ℕ → List Token → TextFault
+abbrev pub unexpected : ℕ → List Token → RuleFault
 unexpected line (Bad ∷ tokens) = fault line BadByte
 unexpected line (Excess ∷ tokens) = fault line TooMany
 unexpected line tokens = fault line Syntax
 
 -- a word that may not stand where words may is left out; `hasOneUse` is not, since it may stand elsewhere
-abbrev pub misplaced_word : ℕ → List ℕ → TextFault
+abbrev pub misplaced_word : ℕ → List ℕ → RuleFault
 misplaced_word line word = fault line (if bytes_eq word (codes "hasOneUse") then Syntax else LeftOut word)
 
 -- words may stand here, but not this one
-abbrev pub left_out : ℕ → List Token → TextFault
+abbrev pub left_out : ℕ → List Token → RuleFault
 left_out line (Word word ∷ tokens) = misplaced_word line word
 left_out line tokens = unexpected line tokens
 
@@ -40,7 +40,7 @@ or_left_out line word (Some x) rest = Ok (x, rest)
 or_left_out line word None rest = Err (misplaced_word line word)
 
 -- a name of at most 200 bytes
-unfoldable pub name_within : ℕ → List ℕ → Result (List ℕ) TextFault
+unfoldable pub name_within : ℕ → List ℕ → Result (List ℕ) RuleFault
 name_within line name = if nat_le (length name) most_name_bytes then Ok name else Err (fault line TooMany)
 
 -- a type
@@ -60,7 +60,7 @@ maybe_type tokens = (None, tokens)
 -- ---- the ends of lines
 
 -- nothing more stands on the line
-abbrev pub line_end : ℕ → List Token → Result (List Token) TextFault
+abbrev pub line_end : ℕ → List Token → Result (List Token) RuleFault
 line_end line [] = Ok []
 line_end line (Line next ∷ rest) = Ok (Line next ∷ rest)
 line_end line tokens = Err (unexpected line tokens)

@@ -1,16 +1,16 @@
 //! The ends of lines.
 
-ghost use Rattle.rule_tokens.specs.Gives.{Gives};
 ghost use Rattle.rule_tokens.specs.PartReaders as reading;
 ghost use Rattle.rule_tokens.specs.SeenTokens.{seen};
+ghost use Rattle.rule_tokens.specs.Steps.{Reads};
 
-use crate::fault::ParseError;
-use crate::refusal::unexpected;
+use crate::fault::RuleFault;
 use crate::token::Token;
+use crate::token_fault::unexpected;
 
 /// That nothing more stands on a line, behind what is no operand.
-pub fn line_end(line: usize, tokens: &[Token<'_>]) -> Result<(), ParseError>
-    ensures { Gives (λ _. seen tokens.now) result (reading.line_end line (seen tokens.now)) }
+pub fn line_end(line: usize, tokens: &[Token<'_>]) -> Result<(), RuleFault>
+    ensures { Reads (λ _. seen tokens.now) result (reading.line_end line (seen tokens.now)) }
 {
     match tokens {
         [] | [Token::Line(_), ..] => Ok(()),

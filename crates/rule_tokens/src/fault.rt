@@ -1,57 +1,45 @@
-//! Why a text is not read.
+//! Why a text is no rule file.
 
 use lists::Text;
-use std::alloc::{AllocError, AllocFailed, Global};
+use refusal::{Fault, Refusal};
 
-/// Why the first token that does not fit does not.
+/// What is wrong, in the order in which it is looked for: over the whole text up to `TooMany`, and then rule by rule.
 #[derive(Debug, Drop)]
-pub enum Misfit {
-    /// It is a byte that is no printable ASCII, no blank and no line feed, outside comments.
+pub enum RuleFaultKind {
+    /// The text has more than 1,048,576 bytes.
+    TooLong,
+    /// A byte that is no printable ASCII, no blank and no line feed, outside comments.
     BadByte,
-    /// It is another token than those that may stand there, or the line ends there.
+    /// A token that does not fit, or a part that is not whole at the end of its line.
     Syntax,
-    /// It is left out of the language: the word, or the first byte of a token that is no word.
+    /// A word, or the first byte of a token that is no word, of what is left out of the language.
     LeftOut(Text),
-    /// It passes a limit: 32 statements in a half, 256 operands, literals, names, operators and functions in a rule, 32 open
-    /// parentheses and pending operators of one operand, or 200 bytes of a name.
+    /// A limit is passed: 32 statements in a half, 256 operands, literals, names, operators and functions in a rule, 32 open
+    /// parentheses and pending operators of one operand, 200 bytes of a name, or 8 classes of types in a rule.
     TooMany,
+    /// A rule's name, or a register of a half, is given twice.
+    Duplicate,
+    /// A register is used that is not there to use.
+    Unbound,
+    /// The last statement of the target does not assign the root.
+    RootMissing,
+    /// The target assigns an input or a temporary of the source.
+    Redefines,
+    /// No later statement of the source uses a register of the source that is not the root.
+    UnusedTemp,
+    /// `undef` stands in the source outside the root, or is copied.
+    UndefInside,
+    /// The expressions of `Wit:` are not as many as the source's `undef`s.
+    WitnessCount,
+    /// No widths are a typing.
+    NoType,
+    /// A class of types has no name of the source and no fixed width.
+    OpenType,
 }
 
-/// The first token of a text that does not fit.
-#[derive(Debug, Drop)]
-pub struct TextFault {
-    /// Its line, counted from 1; where a line or the text ends too soon, that line or the last one.
-    pub line: usize,
-    pub kind: Misfit,
-}
+/// The first fault of a text. Where a line or the text ends too soon its line is that one or the last one, and where the text is too
+/// long the first.
+pub type RuleFault = Fault<RuleFaultKind>;
 
 /// Why no rules were read.
-#[derive(Debug, Drop)]
-pub enum ParseError {
-    /// The text is no rule file.
-    Refused(TextFault),
-    /// There was no memory for it.
-    NoMemory,
-}
-
-impl From<AllocError> for ParseError {
-    ghost use Rattle.std.specs.Prelude.{◌≡◌};
-    ghost use Rattle.rule_tokens.specs.declared.fault.ParseError.TheVariants.{NoMemory};
-
-    ghost from_gives = { λ _ e. e ≡ NoMemory };
-
-    fn from(_error: AllocError) -> ParseError {
-        ParseError::NoMemory
-    }
-}
-
-impl<T: Drop> From<AllocFailed<T>> for ParseError {
-    ghost use Rattle.std.specs.Prelude.{◌≡◌};
-    ghost use Rattle.rule_tokens.specs.declared.fault.ParseError.TheVariants.{NoMemory};
-
-    ghost from_gives = { λ _ e. e ≡ NoMemory };
-
-    fn from(_error: AllocFailed<T>) -> ParseError {
-        ParseError::NoMemory
-    }
-}
+pub type RuleError = Refusal<RuleFault>;

@@ -1,11 +1,11 @@
 //! Names as written.
 
-ghost use Rattle.rule_tokens.specs.Gives.{Gives};
+ghost use Rattle.refusal.specs.Refusals.{Gives};
 ghost use Rattle.rule_tokens.specs.PartReaders as reading;
 
-use crate::fault::{Misfit, ParseError};
-use crate::refusal::refused;
+use crate::fault::{RuleError, RuleFaultKind};
 use lists::Text;
+use refusal::refused;
 use std::alloc::Global;
 
 /// The most bytes of a name.
@@ -13,12 +13,12 @@ const MOST_NAME_BYTES: usize = 200;
 
 /// A name of at most 200 bytes.
 #[tactic(auto, unfolding(crate::specs::PartReaders::name_within))]
-pub fn name_within(alloc: Global, line: usize, name: &[u8]) -> Result<Text, ParseError>
+pub fn name_within(alloc: Global, line: usize, name: &[u8]) -> Result<Text, RuleError>
     ensures { Gives (λ x. x) result (reading.name_within line name.now) }
 {
     if name.len() <= MOST_NAME_BYTES {
         Ok(Text::from_vec(Vec::from_slice(alloc, name)?))
     } else {
-        Err(refused(line, Misfit::TooMany))
+        Err(refused(line, RuleFaultKind::TooMany))
     }
 }

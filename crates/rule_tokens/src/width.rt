@@ -1,14 +1,14 @@
 //! Types as written.
 
 ghost use Rattle.std.specs.Prelude.{◌≡◌};
-ghost use Rattle.rule_tokens.specs.Gives.{Gives};
+ghost use Rattle.refusal.specs.Refusals.{Gives};
 ghost use Rattle.rule_tokens.specs.PartReaders as reading;
 ghost use Rattle.rule_tokens.specs.SeenTokens.{seen};
 
-use crate::fault::ParseError;
+use crate::fault::RuleError;
 use crate::number::written_type;
-use crate::refusal::{misplaced_word, unexpected};
 use crate::token::Token;
+use crate::token_fault::{misplaced_word, unexpected};
 use ops::Width;
 use std::alloc::Global;
 
@@ -18,7 +18,7 @@ pub fn integer_type(
     alloc: Global,
     line: usize,
     tokens: &mut &[Token<'_>],
-) -> Result<Width, ParseError>
+) -> Result<Width, RuleError>
     ensures { Gives (λ x. (x, seen tokens.new.now)) result (reading.type_at line (seen tokens.old.now)) }
 {
     match *tokens {
@@ -29,7 +29,7 @@ pub fn integer_type(
             }
             None => Err(misplaced_word(alloc, line, word)),
         },
-        _ => Err(unexpected(line, *tokens)),
+        _ => Err(unexpected(line, *tokens).into()),
     }
 }
 

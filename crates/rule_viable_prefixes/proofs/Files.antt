@@ -3,9 +3,9 @@ use Rattle.std.proofs.Common.{◌≡◌, ℕ, zero, suc, ◌<◌, ◌≤◌, Lis
 use Rattle.std.proofs.Math.Nat.{le_refl}
 use Rattle.std.proofs.lemmas.List.{append-nil}
 use Rattle.std.specs.Prelude.{codes}
-use Rattle.rule_tokens.specs.declared.fault.Misfit.TheVariants.{Syntax}
-use Rattle.rule_tokens.specs.declared.fault.TextFault.{TextFault}
-use Rattle.rule_tokens.specs.Gives.{◌>>=◌}
+use Rattle.rule_tokens.specs.declared.fault.RuleFaultKind.TheVariants.{Syntax}
+use Rattle.rule_tokens.specs.RuleFaults.{RuleFault}
+use Rattle.rule_tokens.specs.Steps.{◌>>=◌}
 use Rattle.rule_tokens.specs.Parts.{Part, ◌⨾◌}
 use Rattle.rule_tokens.specs.PartReaders.{Read}
 use Rattle.rule_tokens.specs.Tokens.{Token, Line, Head, Name, Word, Arrow}
@@ -140,7 +140,7 @@ abbrev RulesLack : ℕ → List Token → List ℕ → Type 0
 RulesLack number front word = RepeatsFlag front word ⊎ NoneGoesOn number front
 
 -- refused behind a front that begins with a line
-record RefusedWithin (tokens : List Token) (found : TextFault) : Type 0 where
+record RefusedWithin (tokens : List Token) (found : RuleFault) : Type 0 where
   number : ℕ
   front : List Token
   behind : List Token
@@ -151,18 +151,18 @@ record RefusedWithin (tokens : List Token) (found : TextFault) : Type 0 where
   says : SaysFirst (RulesGoOn number front) (RulesLack number front) behind found.kind
 
 -- missed at the end
-record MissedAtEnd (last : ℕ) (tokens : List Token) (found : TextFault) : Type 0 where
+record MissedAtEnd (last : ℕ) (tokens : List Token) (found : RuleFault) : Type 0 where
   begins : (number : ℕ) → (more : List Token) × AreRules ((tokens ++ Line number ∷ []) ++ more)
   here : found.line ≡ last
   says : found.kind ≡ Syntax
 
-abbrev Refused : ℕ → List Token → TextFault → Type 0
+abbrev Refused : ℕ → List Token → RuleFault → Type 0
 Refused last tokens found = RefusedWithin tokens found ⊎ MissedAtEnd last tokens found
 
-ok_no_err : {X : Type 0} (r : Result X TextFault) (x : X) → r ≡ Ok x → IsErr r → ⊥
+ok_no_err : {X : Type 0} (r : Result X RuleFault) (x : X) → r ≡ Ok x → IsErr r → ⊥
 ok_no_err r x p (e, q) = let both = sym p ∙ q in absurd cc
 
-rule_refused : (last : ℕ) (tokens : List Token) (found : TextFault) → Within (rule_at last) IsRule AreRules tokens found ⊎ Missed IsRule AreRules last tokens found → Refused last tokens found
+rule_refused : (last : ℕ) (tokens : List Token) (found : RuleFault) → Within (rule_at last) IsRule AreRules tokens found ⊎ Missed IsRule AreRules last tokens found → Refused last tokens found
 rule_refused last tokens found (inl w) = inl (record {
   number = w.number;
   front = w.front;
@@ -181,7 +181,7 @@ rule_refused last tokens found (inl w) = inl (record {
 rule_refused last tokens found (inr m) = inr (record { begins = λ number. let c = m.begins number in (c.0, rules_made ((tokens ++ Line number ∷ []) ++ c.0) c.1); here = m.here; says = m.says })
 
 -- what is refused behind a rule
-refused_behind : (last : ℕ) (tokens : List Token) (x : RawRule × List Token) (found : TextFault) → EndsLine tokens → (o : Whole pair (rule_at last) IsRule tokens x) → Refused last o.rest found → Refused last tokens found
+refused_behind : (last : ℕ) (tokens : List Token) (x : RawRule × List Token) (found : RuleFault) → EndsLine tokens → (o : Whole pair (rule_at last) IsRule tokens x) → Refused last o.rest found → Refused last tokens found
 refused_behind last tokens x found ends o (inr m) = inr (record {
   begins = λ number.
       let c = m.begins number in
@@ -234,14 +234,14 @@ refused_behind last tokens x found ends o (inl w) = by_own o.own refl
               (subst (λ (ts : List Token). AreRules (Line start.0 ∷ ts)) (append_assoc own (Line w.number ∷ w.front) (Word noun ∷ more)) rules))) found.kind w.says;
         })
 
-rules_refused : (n last : ℕ) (tokens : List Token) (found : TextFault) → length tokens ≤ n → EndsLine tokens → NamesEndLines tokens → rules_at n last tokens ≡ Err found → Refused last tokens found
+rules_refused : (n last : ℕ) (tokens : List Token) (found : RuleFault) → length tokens ≤ n → EndsLine tokens → NamesEndLines tokens → rules_at n last tokens ≡ Err found → Refused last tokens found
 unfolding rules_at
 rules_refused n last [] found few ends names e = absurd cc
 rules_refused zero last (token ∷ tokens) found few ends names e = absurd (omega arith)
 rules_refused (suc n) last (token ∷ tokens) found few ends names e =
     by n (λ rest shorter ends_ names_ e_. rules_refused n last rest found shorter ends_ names_ e_) few (rule_at last (token ∷ tokens)) refl (rule_verdict AreRules last (token ∷ tokens) rules_open ends names) e
   where
-    others : (n : ℕ) (rest : List Token) (y : RawRule) (r : Result (List RawRule) TextFault) → (r >>= λ others. Ok (y ∷ others)) ≡ Err found → r ≡ Err found
+    others : (n : ℕ) (rest : List Token) (y : RawRule) (r : Result (List RawRule) RuleFault) → (r >>= λ others. Ok (y ∷ others)) ≡ Err found → r ≡ Err found
     others n rest y (Ok rules) e = absurd cc
     others n rest y (Err f) e = let same_fault = e in cc
 
@@ -257,10 +257,10 @@ rules_refused (suc n) last (token ∷ tokens) found few ends names e =
 
 -- ---- where the fault stands
 
-no_rules_refused : (n last : ℕ) (tokens : List Token) (found : TextFault) → length tokens ≤ n → rules_at n last tokens ≡ Err found → (rules : List RawRule) → SpellsRules rules tokens → ⊥
+no_rules_refused : (n last : ℕ) (tokens : List Token) (found : RuleFault) → length tokens ≤ n → rules_at n last tokens ≡ Err found → (rules : List RawRule) → SpellsRules rules tokens → ⊥
 no_rules_refused n last tokens found few e rules is = ok_no_err (rules_at n last tokens) rules (rules_at-of n last rules tokens is few) (found, e)
 
-at_token_or_end : (last : ℕ) (tokens : List Token) (found : TextFault) (w : RefusedWithin tokens found) → (behind : List Token) → w.behind ≡ behind → IsAtToken tokens found ⊎ IsAtEnd tokens last found
+at_token_or_end : (last : ℕ) (tokens : List Token) (found : RuleFault) (w : RefusedWithin tokens found) → (behind : List Token) → w.behind ≡ behind → IsAtToken tokens found ⊎ IsAtEnd tokens last found
 at_token_or_end last tokens found w (token ∷ behind) is = inl (record {
   front = Line w.number ∷ w.front;
   token = token;
@@ -300,7 +300,7 @@ at_token_or_end last tokens found w [] is =
       );
     })
 
-pub where_refused : (last : ℕ) (tokens : List Token) (found : TextFault) → EndsLine tokens → NamesEndLines tokens → all_rules last tokens ≡ Err found → IsAtToken tokens found ⊎ IsAtEnd tokens last found
+pub where_refused : (last : ℕ) (tokens : List Token) (found : RuleFault) → EndsLine tokens → NamesEndLines tokens → all_rules last tokens ≡ Err found → IsAtToken tokens found ⊎ IsAtEnd tokens last found
 where_refused last tokens found ends names e = by (rules_refused (length tokens) last tokens found (le_refl _) ends names e)
   where
     by : Refused last tokens found → IsAtToken tokens found ⊎ IsAtEnd tokens last found

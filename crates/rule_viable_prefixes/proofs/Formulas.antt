@@ -8,9 +8,9 @@ use Rattle.ops.specs.declared.comparison.Pred.{Pred}
 use Rattle.ops.specs.declared.comparison.Pred.TheVariants.{Eq}
 use Rattle.ops.proofs.KeywordLemmas.{same_word}
 use Rattle.scan.specs.RuleTokens.{is_constant}
-use Rattle.rule_tokens.specs.declared.fault.Misfit.TheVariants.{Syntax, TooMany}
-use Rattle.rule_tokens.specs.declared.fault.TextFault.{TextFault}
-use Rattle.rule_tokens.specs.Gives.{◌>>=◌}
+use Rattle.rule_tokens.specs.declared.fault.RuleFaultKind.TheVariants.{Syntax, TooMany}
+use Rattle.rule_tokens.specs.RuleFaults.{RuleFault}
+use Rattle.rule_tokens.specs.Steps.{◌>>=◌}
 use Rattle.rule_tokens.specs.Limits.{most_name_bytes}
 use Rattle.rule_tokens.specs.Numbers.{literal_value}
 use Rattle.rule_tokens.specs.Parts.{Part, Is, ◌⨾◌}
@@ -105,14 +105,14 @@ tests_good predicate nesting line before =
     then_seq {s = pair} {t = pair} _ (term_good Constant nesting line) (λ term. close_done (before ++ predicate_node predicate term ∷ []) line))
 
 -- what is told of a predicate where nothing more may be nested
-abbrev IsShallow : {X : Type 0} → ℕ → List Token → Result X TextFault → Type 0
-IsShallow line tokens r = (e : TextFault) × (r ≡ Err e) × (e.line ≡ line) × IsTold tokens e.kind
+abbrev IsShallow : {X : Type 0} → ℕ → List Token → Result X RuleFault → Type 0
+IsShallow line tokens r = (e : RuleFault) × (r ≡ Err e) × (e.line ≡ line) × IsTold tokens e.kind
 
 tests_shallow : (predicate : Predicate) (line : ℕ) (before : List RawFormula) (tokens : List Token) → IsShallow line tokens (tests_at predicate zero line before tokens)
 unfolding tests_at
 tests_shallow predicate line before tokens = by (mark_at (codes "(") line tokens) refl
   where
-    by : (r : Result (List Token) TextFault) → mark_at (codes "(") line tokens ≡ r → IsShallow line tokens (tests_at predicate zero line before tokens)
+    by : (r : Result (List Token) RuleFault) → mark_at (codes "(") line tokens ≡ r → IsShallow line tokens (tests_at predicate zero line before tokens)
     by (Ok rest) e = (fault line TooMany, rw e refl, refl, inl refl)
     by (Err f) e = (f, rw e refl, on_line (mark_good (codes "(") line) tokens f e, parenthesis_missed line tokens f e)
 
@@ -257,11 +257,11 @@ formula_is_read nesting line before own nodes is =
     (_, subst (λ (ts : List Token). encloses_at line (member_at nesting line) before ts ≡ Ok (before ++ node ∷ [], [])) whole (sym (as_formula nesting line before (all ++ []) seen) ∙ read))
 
 -- an answer is a fault where it is nothing that is read
-not_read : {X : Type 0} (r : Result X TextFault) → ((x : X) → r ≡ Ok x → ⊥) → IsErr r
+not_read : {X : Type 0} (r : Result X RuleFault) → ((x : X) → r ≡ Ok x → ⊥) → IsErr r
 not_read (Ok x) no_ok = absurd (no_ok x refl)
 not_read (Err e) no_ok = (e, refl)
 
-ok_no_err : {X : Type 0} (r : Result X TextFault) (x : X) → r ≡ Ok x → IsErr r → ⊥
+ok_no_err : {X : Type 0} (r : Result X RuleFault) (x : X) → r ≡ Ok x → IsErr r → ⊥
 ok_no_err r x p (e, q) = let both_ = sym p ∙ q in absurd cc
 
 -- Where a formula was seen, and is refused behind a front, no term is read of tokens that begin alike.

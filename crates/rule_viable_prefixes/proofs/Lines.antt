@@ -5,9 +5,9 @@ use Rattle.std.specs.Str.{bytes_eq}
 use Rattle.std.proofs.lemmas.List.{append-nil}
 use Rattle.ops.proofs.KeywordLemmas.{same_word}
 use Rattle.ops.specs.Flags.{no_flags}
-use Rattle.rule_tokens.specs.declared.fault.Misfit.TheVariants.{Syntax, TooMany}
-use Rattle.rule_tokens.specs.declared.fault.TextFault.{TextFault}
-use Rattle.rule_tokens.specs.Gives.{◌>>=◌}
+use Rattle.rule_tokens.specs.declared.fault.RuleFaultKind.TheVariants.{Syntax, TooMany}
+use Rattle.rule_tokens.specs.RuleFaults.{RuleFault}
+use Rattle.rule_tokens.specs.Steps.{◌>>=◌}
 use Rattle.rule_tokens.specs.Limits.{most_name_bytes}
 use Rattle.rule_tokens.specs.Parts.{Part, ◌⨾◌, Maybe}
 use Rattle.rule_tokens.specs.PartReaders.{fault, unexpected, name_within, type_at, line_end}
@@ -50,13 +50,13 @@ line_end_ends line (Line number ∷ tokens) rest e = subst EndsLine (Rattle.rule
 line_end_ends line tokens rest e = absurd cc
 
 -- what the value is made of does not matter
-abbrev Ends : {A : Type 0} → Result (A × List Token) TextFault → Type 0
+abbrev Ends : {A : Type 0} → Result (A × List Token) RuleFault → Type 0
 Ends {A} r = (x : A) (rest : List Token) → r ≡ Ok (x, rest) → EndsLine rest
 
-ends_behind : {A B : Type 0} (r : Result A TextFault) (f : A → Result (B × List Token) TextFault) → ((x : A) → Ends (f x)) → Ends (r >>= f)
+ends_behind : {A B : Type 0} (r : Result A RuleFault) (f : A → Result (B × List Token) RuleFault) → ((x : A) → Ends (f x)) → Ends (r >>= f)
 ends_behind r f h x rest e = bound r f (x, rest) e (λ y p e1. h y x rest e1)
 
-ends_made : {A B : Type 0} (r : Result (A × List Token) TextFault) (f : A → B) → Ends r → Ends (r >>= λ x. Ok (f x.0, x.1))
+ends_made : {A B : Type 0} (r : Result (A × List Token) RuleFault) (f : A → B) → Ends r → Ends (r >>= λ x. Ok (f x.0, x.1))
 ends_made r f h x rest e = bound r _ (x, rest) e (λ y p e1. read_as (λ z. EndsLine z.1) (f y.0, y.1) (x, rest) e1 (h y.0 y.1 p))
 
 ends_line : {B : Type 0} (line : ℕ) (tokens : List Token) (y : B) → Ends (line_end line tokens >>= λ behind. Ok (y, behind))
@@ -113,7 +113,7 @@ pub verdict_as : {A X : Type 0} (shape : Shape A X) (R S : Reader X) (L F : Part
     → Verdict shape S L F last (Line number ∷ a) (S (Line number ∷ a)) → Verdict shape R L F last (Line number ∷ a) (R (Line number ∷ a))
 verdict_as {A} {X} shape R S L F last number a h v = subst (Verdict shape R L F last (Line number ∷ a)) (sym (h a (akin (alike_itself a)))) (by (S (Line number ∷ a)) v)
   where
-    by : (r : Result X TextFault) → Verdict shape S L F last (Line number ∷ a) r → Verdict shape R L F last (Line number ∷ a) r
+    by : (r : Result X RuleFault) → Verdict shape S L F last (Line number ∷ a) r → Verdict shape R L F last (Line number ∷ a) r
     by (Ok x) o = record { value = o.value; own = o.own; rest = o.rest; is_own = o.is_own; there = o.there; ends = o.ends; is = o.is; kept = λ n c d e alike. equal o.own n c d (o.there ∙ ap (λ (ts : List Token). o.own ++ ts) e) alike ∙ o.kept n c d e alike }
       where
         equal : (own : List Token) (n : ℕ) (c d : List Token) → Line number ∷ a ≡ own ++ Line n ∷ c → Akin c d → R (own ++ Line n ∷ d) ≡ S (own ++ Line n ∷ d)
@@ -152,7 +152,7 @@ verdict_as {A} {X} shape R S L F last number a h v = subst (Verdict shape R L F 
 pub verdict_made : {A B : Type 0} (R : Reader (A × List Token)) (f : A → B) (L F : Part) (last : ℕ) (tokens : List Token) → Verdict pair R L F last tokens (R tokens) → Verdict pair (λ ts. R ts >>= λ x. Ok (f x.0, x.1)) L F last tokens (R tokens >>= λ x. Ok (f x.0, x.1))
 verdict_made {A} {B} R f L F last tokens v = by (R tokens) v
   where
-    by : (r : Result (A × List Token) TextFault) → Verdict pair R L F last tokens r → Verdict pair (λ ts. R ts >>= λ x. Ok (f x.0, x.1)) L F last tokens (r >>= λ x. Ok (f x.0, x.1))
+    by : (r : Result (A × List Token) RuleFault) → Verdict pair R L F last tokens r → Verdict pair (λ ts. R ts >>= λ x. Ok (f x.0, x.1)) L F last tokens (r >>= λ x. Ok (f x.0, x.1))
     by (Ok x) o = record { value = f o.value; own = o.own; rest = o.rest; is_own = o.is_own; there = o.there; ends = o.ends; is = ap (λ (y : A × List Token). (f y.0, y.1)) o.is; kept = λ n a b e alike. rw (o.kept n a b e alike) refl }
     by (Err e) (inl w) = inl (record { number = w.number; front = w.front; behind = w.behind; there = w.there; begins = w.begins; refused = λ more alike. let g = w.refused more alike in (g.0, rw g.1 refl); here = w.here; says = says_wider (GoesOn L F w.number w.front) (GoesOn L F w.number w.front) (λ t fits. fits) w.behind (λ word r is_word. lack_wider [] w.front w.front word refl (λ n noun is_noun more. let g = n noun is_noun more in (g.0, rw g.1 refl))) e.kind w.says })
     by (Err e) (inr m) = inr (record { begins = m.begins; here = m.here; says = m.says })

@@ -4,10 +4,10 @@ use Rattle.std.proofs.Common.{◌≡◌, ℕ, Bool, true, false, cond, List, [],
 use Rattle.std.proofs.lemmas.List.{append-nil}
 use Rattle.std.specs.Prelude.{codes}
 use Rattle.std.specs.Str.{bytes_eq}
-use Rattle.rule_tokens.specs.declared.fault.Misfit.{Misfit}
-use Rattle.rule_tokens.specs.declared.fault.Misfit.TheVariants.{BadByte, Syntax, LeftOut, TooMany}
-use Rattle.rule_tokens.specs.declared.fault.TextFault.{TextFault}
-use Rattle.rule_tokens.specs.Gives.{◌>>=◌}
+use Rattle.rule_tokens.specs.declared.fault.RuleFaultKind.{RuleFaultKind}
+use Rattle.rule_tokens.specs.declared.fault.RuleFaultKind.TheVariants.{BadByte, Syntax, LeftOut, TooMany}
+use Rattle.rule_tokens.specs.RuleFaults.{RuleFault}
+use Rattle.rule_tokens.specs.Steps.{◌>>=◌}
 use Rattle.rule_tokens.specs.PartReaders.{unexpected, misplaced_word, left_out}
 use Rattle.rule_tokens.specs.Tokens.{Token, Line, Head, Name, Register, Word, Number, Arrow, Mark, Other, Bad, Excess}
 use Rattle.rule_tokens.proofs.Ends.{EndsLine}
@@ -100,10 +100,10 @@ abbrev pub bare : Shape (Unit {0}) (List Token)
 bare x rest = rest
 
 abbrev pub Reader : Type 0 → Type 0
-Reader X = List Token → Result X TextFault
+Reader X = List Token → Result X RuleFault
 
-abbrev pub IsErr : {X : Type 0} → Result X TextFault → Type 0
-IsErr r = (e : TextFault) × (r ≡ Err e)
+abbrev pub IsErr : {X : Type 0} → Result X RuleFault → Type 0
+IsErr r = (e : RuleFault) × (r ≡ Err e)
 
 -- no noun goes on with these tokens
 abbrev pub NoNoun : {X : Type 0} → Reader X → List Token → Type 0
@@ -125,17 +125,17 @@ lack_wider before front all word whole f (inl repeats) = inl (repeats_behind bef
 lack_wider before front all word whole f (inr none) = inr (f none)
 
 -- what the kind says of the token, where these fit, and of a word that is told as `Syntax`
-pub record Told (fits : Fitting) (none : List ℕ → Type 0) (token : Token) (behind : List Token) (kind : Misfit) : Type 0 where
+pub record Told (fits : Fitting) (none : List ℕ → Type 0) (token : Token) (behind : List Token) (kind : RuleFaultKind) : Type 0 where
   pub misfit : IsMisfit fits token behind kind
   pub lacks : kind ≡ Syntax → (word : List ℕ) → token ≡ Word word → Excuse fits word ⊎ none word
 
 -- and of the first of the tokens
-abbrev pub SaysFirst : Fitting → (List ℕ → Type 0) → List Token → Misfit → Type 0
+abbrev pub SaysFirst : Fitting → (List ℕ → Type 0) → List Token → RuleFaultKind → Type 0
 SaysFirst fits none [] kind = kind ≡ Syntax
 SaysFirst fits none (token ∷ tokens) kind = Told fits none token tokens kind
 
-abbrev pub IsErrOn : {X : Type 0} → Fitting → (List ℕ → Type 0) → ℕ → List Token → Result X TextFault → Type 0
-IsErrOn fits none line tokens r = (e : TextFault) × (r ≡ Err e) × (e.line ≡ line) × SaysFirst fits none tokens e.kind
+abbrev pub IsErrOn : {X : Type 0} → Fitting → (List ℕ → Type 0) → ℕ → List Token → Result X RuleFault → Type 0
+IsErrOn fits none line tokens r = (e : RuleFault) × (r ≡ Err e) × (e.line ≡ line) × SaysFirst fits none tokens e.kind
 
 -- ---- what kinds say
 
@@ -199,10 +199,10 @@ says_left_out noun line (Mark text) more = says_syntax (Mark text) more tt
 says_left_out noun line Other more = says_syntax Other more tt
 
 -- a word that is nested too deep is told as such, or as what stands in place of the `(` behind it
-abbrev pub IsTold : List Token → Misfit → Type 0
+abbrev pub IsTold : List Token → RuleFaultKind → Type 0
 IsTold tokens kind = (kind ≡ TooMany) ⊎ (((more : List Token) → tokens ≡ Mark (codes "(") ∷ more → ⊥) × (kind ≡ kind_at tokens))
 
-pub says_deep : {fits : Fitting} {none : List ℕ → Type 0} (word : List ℕ) → IsTooDeep fits (Word word) → (tokens : List Token) (kind : Misfit) → IsTold tokens kind → Told fits none (Word word) tokens kind
+pub says_deep : {fits : Fitting} {none : List ℕ → Type 0} (word : List ℕ) → IsTooDeep fits (Word word) → (tokens : List Token) (kind : RuleFaultKind) → IsTold tokens kind → Told fits none (Word word) tokens kind
 says_deep {fits} {none} word deep tokens kind (inl is) = subst (Told fits none (Word word) tokens) (sym is) (says_too_many (Word word) tokens (nesting (Word word) deep))
 says_deep {fits} {none} word deep tokens kind (inr (none_, is)) = record {
   misfit = read_on (word, refl, deep, none_, is);
@@ -221,18 +221,19 @@ many_wider P Q f token (statement text (inl is)) = statement text (inl (f Arrow 
 many_wider P Q f token (statement text (inr is)) = statement text (inr (f (Head (codes "Name:")) is))
 many_wider P Q f token (nesting t (nests, is)) = nesting t (nests, f (Number (codes "0")) is)
 
-kind_wider : (P Q : Fitting) → ((token : Token) → P token → Q token) → (token : Token) (kind : Misfit) → Says P token kind → Says Q token kind
+kind_wider : (P Q : Fitting) → ((token : Token) → P token → Q token) → (token : Token) (kind : RuleFaultKind) → Says P token kind → Says Q token kind
 kind_wider P Q f token BadByte is = is
 kind_wider P Q f token TooMany is = many_wider P Q f token is
 kind_wider P Q f token (LeftOut left) (is, (noun, is_noun, fits)) = (is, (noun, is_noun, f (Word noun) fits))
 kind_wider P Q f token Syntax is = is
+kind_wider P Q f token kind is = absurd is
 
-misfit_wider : (P Q : Fitting) → ((token : Token) → P token → Q token) → (token : Token) (tokens : List Token) (kind : Misfit) → IsMisfit P token tokens kind → IsMisfit Q token tokens kind
+misfit_wider : (P Q : Fitting) → ((token : Token) → P token → Q token) → (token : Token) (tokens : List Token) (kind : RuleFaultKind) → IsMisfit P token tokens kind → IsMisfit Q token tokens kind
 misfit_wider P Q f token tokens kind (itself is) = itself (kind_wider P Q f token kind is)
 misfit_wider P Q f token tokens kind (read_on (word, is, (nests, fits), none, told)) = read_on (word, is, (nests, f (Number (codes "0")) fits), none, told)
 
 pub says_wider : {C D : List ℕ → Type 0} (P Q : Fitting) → ((token : Token) → P token → Q token) → (tokens : List Token) → ((word : List ℕ) (rest : List Token) → tokens ≡ Word word ∷ rest → C word → D word)
-    → (kind : Misfit) → SaysFirst P C tokens kind → SaysFirst Q D tokens kind
+    → (kind : RuleFaultKind) → SaysFirst P C tokens kind → SaysFirst Q D tokens kind
 says_wider P Q f [] g kind is = is
 says_wider {C} {D} P Q f (token ∷ tokens) g kind is = record { misfit = misfit_wider P Q f token tokens kind is.misfit; lacks = λ syntax_ word is_word. by word is_word (is.lacks syntax_ word is_word) }
   where
@@ -251,7 +252,7 @@ pub record IsRead {A X : Type 0} (shape : Shape A X) (R : Reader X) (L : Spellin
   pub is : found ≡ shape value rest
   pub kept : (more : List Token) → Akin rest more → R (own ++ more) ≡ Ok (shape value more)
 
-pub record IsRefused {A X : Type 0} (R : Reader X) (L : Spelling A) (line : ℕ) (tokens : List Token) (found : TextFault) : Type 0 where
+pub record IsRefused {A X : Type 0} (R : Reader X) (L : Spelling A) (line : ℕ) (tokens : List Token) (found : RuleFault) : Type 0 where
   pub front : List Token
   pub behind : List Token
   pub there : tokens ≡ front ++ behind
@@ -261,7 +262,7 @@ pub record IsRefused {A X : Type 0} (R : Reader X) (L : Spelling A) (line : ℕ)
   pub here : found.line ≡ line
   pub says : SaysFirst (Takes L front) (Lack R front) behind found.kind
 
-abbrev pub Outcome : {A X : Type 0} → Shape A X → Reader X → Spelling A → ℕ → List Token → Result X TextFault → Type 0
+abbrev pub Outcome : {A X : Type 0} → Shape A X → Reader X → Spelling A → ℕ → List Token → Result X RuleFault → Type 0
 Outcome shape R L line tokens (Ok x) = IsRead shape R L tokens x
 Outcome shape R L line tokens (Err e) = IsRefused R L line tokens e
 
@@ -277,7 +278,7 @@ Joins {A} {B} L M N = (x : A) (y : B) (front back : List Token) → L x front �
 abbrev pub Samples : {A B : Type 0} → Spelling A → (A → Spelling B) → Type 0
 Samples {A} {B} L M = (x : A) (own : List Token) → L x own → Sample (M x)
 
-pub then_at : {A B X Y : Type 0} (s : Shape A X) (t : Shape B Y) (R : Reader X) (S : X → Result Y TextFault) (L : Spelling A) (M : A → Spelling B) (N : Spelling B) (line : ℕ) (tokens : List Token)
+pub then_at : {A B X Y : Type 0} (s : Shape A X) (t : Shape B Y) (R : Reader X) (S : X → Result Y RuleFault) (L : Spelling A) (M : A → Spelling B) (N : Spelling B) (line : ℕ) (tokens : List Token)
     → Joins L M N → Samples L M → Outcome s R L line tokens (R tokens)
     → ((x : A) (rest : List Token) → R tokens ≡ Ok (s x rest) → Outcome t (λ ts. S (s x ts)) (M x) line rest (S (s x rest)))
     → Outcome t (λ ts. R ts >>= S) N line tokens (R tokens >>= S)
@@ -288,7 +289,7 @@ then_at {A} {B} {X} {Y} s t R S L M N line tokens join sample one two = by (R to
         let other = sample b.0 (front ++ b.1) b.2 in
         (other.0, b.1 ++ other.1, subst (N other.0) (append_assoc front b.1 other.1) (join b.0 other.0 (front ++ b.1) other.1 b.2 other.2))
 
-    by : (r : Result X TextFault) → R tokens ≡ r → Outcome s R L line tokens r → Outcome t (λ ts. R ts >>= S) N line tokens (r >>= S)
+    by : (r : Result X RuleFault) → R tokens ≡ r → Outcome s R L line tokens r → Outcome t (λ ts. R ts >>= S) N line tokens (r >>= S)
     by (Err e) is o = record {
       front = o.front;
       behind = o.behind;
@@ -311,7 +312,7 @@ then_at {A} {B} {X} {Y} s t R S L M N line tokens join sample one two = by (R to
         own_begun : (front : List Token) → Begins (M o.value) front → Begins N (o.own ++ front)
         own_begun front b = (b.0, b.1, subst (N b.0) (sym (append_assoc o.own front b.1)) (join o.value b.0 o.own (front ++ b.1) o.is_own b.2))
 
-        behind : (q : Result Y TextFault) → Outcome t (λ ts. S (s o.value ts)) (M o.value) line o.rest q → Outcome t (λ ts. R ts >>= S) N line tokens q
+        behind : (q : Result Y RuleFault) → Outcome t (λ ts. S (s o.value ts)) (M o.value) line o.rest q → Outcome t (λ ts. R ts >>= S) N line tokens q
         behind (Ok y) p = record {
           value = p.value;
           own = o.own ++ p.own;
@@ -335,7 +336,7 @@ then_at {A} {B} {X} {Y} s t R S L M N line tokens join sample one two = by (R to
               (λ word rest is_word. lack_wider o.own p.front (o.own ++ p.front) word refl (λ n noun is_noun more. failed p.front (Word noun ∷ more) p.behind (akin_noun p.front p.behind word rest is_word noun is_noun more) p.there (n noun is_noun more))) e.kind p.says;
         }
 
-pub then : {A B X Y : Type 0} {s : Shape A X} {t : Shape B Y} {R : Reader X} (S : X → Result Y TextFault) {L : Spelling A} {M : A → Spelling B} {N : Spelling B} {line : ℕ}
+pub then : {A B X Y : Type 0} {s : Shape A X} {t : Shape B Y} {R : Reader X} (S : X → Result Y RuleFault) {L : Spelling A} {M : A → Spelling B} {N : Spelling B} {line : ℕ}
     → Joins L M N → Good s R L line → ((x : A) → Good t (λ ts. S (s x ts)) (M x) line) → Good t (λ ts. R ts >>= S) N line
 then {A} {B} {X} {Y} {s} {t} {R} S {L} {M} {N} {line} join one two = record {
   sample =
@@ -380,7 +381,7 @@ pub led : {A X : Type 0} (shape : Shape A X) (R S : Reader X) (L : Spelling A) (
     → Outcome shape S (λ x own. L x (token ∷ own)) line rest (S rest) → Outcome shape R L line (token ∷ rest) (R (token ∷ rest))
 led {A} {X} shape R S L line token rest stays h o = subst (Outcome shape R L line (token ∷ rest)) (sym (h rest)) (by (S rest) o)
   where
-    by : (r : Result X TextFault) → Outcome shape S (λ x own. L x (token ∷ own)) line rest r → Outcome shape R L line (token ∷ rest) r
+    by : (r : Result X RuleFault) → Outcome shape S (λ x own. L x (token ∷ own)) line rest r → Outcome shape R L line (token ∷ rest) r
     by (Ok x) o = record {
       value = o.value;
       own = token ∷ o.own;
@@ -407,7 +408,7 @@ led {A} {X} shape R S L line token rest stays h o = subst (Outcome shape R L lin
 pub same_as : {A X : Type 0} (shape : Shape A X) (R S : Reader X) (L : Spelling A) (line : ℕ) (tokens : List Token) → ((more : List Token) → R more ≡ S more) → Outcome shape S L line tokens (S tokens) → Outcome shape R L line tokens (R tokens)
 same_as {A} {X} shape R S L line tokens h o = subst (Outcome shape R L line tokens) (sym (h tokens)) (by (S tokens) o)
   where
-    by : (r : Result X TextFault) → Outcome shape S L line tokens r → Outcome shape R L line tokens r
+    by : (r : Result X RuleFault) → Outcome shape S L line tokens r → Outcome shape R L line tokens r
     by (Ok x) o = record { value = o.value; own = o.own; rest = o.rest; is_own = o.is_own; inline = o.inline; there = o.there; is = o.is; kept = λ more alike. h (o.own ++ more) ∙ o.kept more alike }
     by (Err e) o = record {
       front = o.front;
@@ -436,7 +437,7 @@ alike_as {A} {X} shape R S L line tokens some reads h o = subst (Outcome shape R
     no_noun [] rest there n = absurd (reads n)
     no_noun (t ∷ front) rest there n = λ noun is more. let f = n noun is more in (f.0, h (t ∷ front ++ Word noun ∷ more) (alike_own (t ∷ front) rest (Word noun ∷ more) there (λ none. absurd cc)) ∙ f.1)
 
-    by : (r : Result X TextFault) → Outcome shape S L line tokens r → Outcome shape R L line tokens r
+    by : (r : Result X RuleFault) → Outcome shape S L line tokens r → Outcome shape R L line tokens r
     by (Ok x) o = record {
       value = o.value;
       own = o.own;
@@ -459,7 +460,7 @@ alike_as {A} {X} shape R S L line tokens some reads h o = subst (Outcome shape R
     }
 
 -- a wider spelling
-pub widen : {A X : Type 0} (shape : Shape A X) (R : Reader X) (L N : Spelling A) (line : ℕ) (tokens : List Token) → ((x : A) (own : List Token) → L x own → N x own) → (r : Result X TextFault) → Outcome shape R L line tokens r → Outcome shape R N line tokens r
+pub widen : {A X : Type 0} (shape : Shape A X) (R : Reader X) (L N : Spelling A) (line : ℕ) (tokens : List Token) → ((x : A) (own : List Token) → L x own → N x own) → (r : Result X RuleFault) → Outcome shape R L line tokens r → Outcome shape R N line tokens r
 widen shape R L N line tokens f (Ok x) o = record { value = o.value; own = o.own; rest = o.rest; is_own = f o.value o.own o.is_own; inline = o.inline; there = o.there; is = o.is; kept = o.kept }
 widen shape R L N line tokens f (Err e) o = record { front = o.front; behind = o.behind; there = o.there; begins = (o.begins.0, o.begins.1, f o.begins.0 (o.front ++ o.begins.1) o.begins.2); inline = o.inline; refused = o.refused; here = o.here; says = says_wider (Takes L o.front) (Takes N o.front) (λ token b. (b.0, b.1, f b.0 ((o.front ++ token ∷ []) ++ b.1) b.2)) o.behind (λ word r is_word n. n) e.kind o.says }
 
@@ -526,14 +527,14 @@ widened {A} {X} {shape} {R} {L} {N} {line} f good = record {
 }
 
 -- the faults of a reader are on its line
-pub on_line : {A X : Type 0} {shape : Shape A X} {R : Reader X} {L : Spelling A} {line : ℕ} → Good shape R L line → (tokens : List Token) (e : TextFault) → R tokens ≡ Err e → e.line ≡ line
+pub on_line : {A X : Type 0} {shape : Shape A X} {R : Reader X} {L : Spelling A} {line : ℕ} → Good shape R L line → (tokens : List Token) (e : RuleFault) → R tokens ≡ Err e → e.line ≡ line
 on_line {A} {X} {shape} {R} {L} {line} good tokens e is = by (subst (Outcome shape R L line tokens) is (good.outcome tokens))
   where
     by : Outcome shape R L line tokens (Err e) → e.line ≡ line
     by o = o.here
 
 -- a value made of the one that is read
-pub then_done : {A B X : Type 0} {s : Shape A X} {R : Reader X} {L : Spelling A} {N : Spelling B} {line : ℕ} (f : A → B) (S : X → Result (B × List Token) TextFault)
+pub then_done : {A B X : Type 0} {s : Shape A X} {R : Reader X} {L : Spelling A} {N : Spelling B} {line : ℕ} (f : A → B) (S : X → Result (B × List Token) RuleFault)
     → ((x : A) (rest : List Token) → S (s x rest) ≡ Ok (f x, rest)) → ((x : A) (own : List Token) → L x own → N (f x) own) → Good s R L line → Good pair (λ ts. R ts >>= S) N line
 then_done {A} {B} {X} {s} {R} {L} {N} {line} f S is join good =
     then {s = s} {t = pair} {R = R} S {L = L} {M = λ x y own. (y ≡ f x) × (own ≡ [])} {N = N}
@@ -541,6 +542,6 @@ then_done {A} {B} {X} {s} {R} {L} {N} {line} f S is join good =
     good
     (λ x. record { sample = (f x, [], (refl, refl)); outcome = λ tokens. passed pair (λ ts. S (s x ts)) (λ y own. (y ≡ f x) × (own ≡ [])) line tokens (f x) (refl, refl) (λ more alike. is x more) })
 
-pub bind_named : {A B : Type 0} (r : Result (List Token) TextFault) (x : A) (g : A × List Token → Result B TextFault) → ((r >>= λ rest. Ok (x, rest)) >>= g) ≡ (r >>= λ rest. g (x, rest))
+pub bind_named : {A B : Type 0} (r : Result (List Token) RuleFault) (x : A) (g : A × List Token → Result B RuleFault) → ((r >>= λ rest. Ok (x, rest)) >>= g) ≡ (r >>= λ rest. g (x, rest))
 bind_named (Ok rest) x g = refl
 bind_named (Err e) x g = refl

@@ -3,10 +3,10 @@ use Rattle.std.proofs.Common.{◌≡◌, ℕ, zero, suc, ◌<◌, ◌≤◌, Boo
 use Rattle.std.specs.Prelude.{codes, drop}
 use Rattle.std.specs.Str.{bytes_eq}
 use Rattle.scan.specs.Bytes.{is_digit}
-use Rattle.rule_tokens.specs.declared.fault.Misfit.TheVariants.{Syntax}
-use Rattle.rule_tokens.specs.declared.fault.ParseError.TheVariants.{Refused}
-use Rattle.rule_tokens.specs.declared.fault.TextFault.{TextFault}
-use Rattle.rule_tokens.specs.Gives.{◌>>=◌}
+use Rattle.rule_tokens.specs.declared.fault.RuleFaultKind.TheVariants.{Syntax}
+use Rattle.refusal.specs.declared.refusal.Refusal.TheVariants.{Refused}
+use Rattle.rule_tokens.specs.RuleFaults.{RuleFault}
+use Rattle.rule_tokens.specs.Steps.{◌>>=◌}
 use Rattle.rule_tokens.specs.Numbers.{type_in}
 use Rattle.rule_tokens.specs.Parts.{Part, Nothing, ◌⨾◌}
 use Rattle.rule_tokens.specs.PartReaders.{fault, unexpected, misplaced_word, type_at, line_end}
@@ -25,7 +25,7 @@ use Rattle.rule_viable_prefixes.proofs.Outcomes.{Lack, Akin, same_next, noun_nex
 abbrev pub Spelled : Part → {A : Type 0} → Spelling A
 Spelled P x own = P own
 
-pub then_seq : {A B X Y : Type 0} {s : Shape A X} {t : Shape B Y} {R : Reader X} (S : X → Result Y TextFault) {P Q : Part} {line : ℕ} → Good s R (Spelled P) line → ((x : A) → Good t (λ ts. S (s x ts)) (Spelled Q) line) → Good t (λ ts. R ts >>= S) (Spelled (P ⨾ Q)) line
+pub then_seq : {A B X Y : Type 0} {s : Shape A X} {t : Shape B Y} {R : Reader X} (S : X → Result Y RuleFault) {P Q : Part} {line : ℕ} → Good s R (Spelled P) line → ((x : A) → Good t (λ ts. S (s x ts)) (Spelled Q) line) → Good t (λ ts. R ts >>= S) (Spelled (P ⨾ Q)) line
 then_seq {A} {B} {X} {Y} {s} {t} {R} S {P} {Q} {line} one two = then {s = s} {t = t} {R = R} S {L = Spelled P} {M = λ x. Spelled Q} {N = Spelled (P ⨾ Q)} (λ x y front back p q. (front, back, p, q, refl)) one two
 
 -- ---- the end of the line
@@ -64,7 +64,7 @@ line_end_good line = record { sample = (tt, [], refl); outcome = outcome }
     outcome (token ∷ rest) = refused_token bare (line_end line) (Spelled Nothing) line token rest (tt, [], refl) (λ p. p) (λ more. (unexpected line (token ∷ more), refl, refl, says_unexpected line token more (λ word is. inr (inr (λ noun is_noun others. (unexpected line (Word noun ∷ others), refl))))))
 
 -- a part, and the end of the line behind it
-pub then_end : {A B : Type 0} {R : Reader (A × List Token)} (S : A × List Token → Result (B × List Token) TextFault) {P : Part} {line : ℕ} (f : A → B)
+pub then_end : {A B : Type 0} {R : Reader (A × List Token)} (S : A × List Token → Result (B × List Token) RuleFault) {P : Part} {line : ℕ} (f : A → B)
     → ((x : A) (rest : List Token) → S (x, rest) ≡ (line_end line rest >>= λ behind. Ok (f x, behind))) → Good pair R (Spelled P) line → Good pair (λ ts. R ts >>= S) (Spelled P) line
 then_end {A} {B} {R} S {P} {line} f is good =
     then {s = pair} {t = pair} {R = R} S {L = Spelled P} {M = λ x. Spelled Nothing} {N = Spelled P} (λ x y front back p none. with_none P front back none p) good
@@ -120,7 +120,7 @@ no_next mark tokens more (ended_next a b p q) none = absurd q
 chain_step : {A : Type 0} (mark : List ℕ) (part : Behind A) (before : A) (more : List Token) → Shortens part → bytes_eq mark mark ≡ true → chain_at mark part before (Mark mark ∷ more) ≡ (part before more >>= λ x. chain_at mark part x.0 x.1)
 chain_step {A} mark part before more shortens is = by (part before more) refl
   where
-    by : (r : Result (A × List Token) TextFault) → part before more ≡ r → chain_at mark part before (Mark mark ∷ more) ≡ (r >>= λ x. chain_at mark part x.0 x.1)
+    by : (r : Result (A × List Token) RuleFault) → part before more ≡ r → chain_at mark part before (Mark mark ∷ more) ≡ (r >>= λ x. chain_at mark part x.0 x.1)
     by (Ok x) e = chain-more part shortens mark before (Mark mark ∷ more) x is e
     by (Err f) e = chain-fault part mark before (Mark mark ∷ more) _ (Refused f) is e refl
 

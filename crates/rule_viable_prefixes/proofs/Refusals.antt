@@ -2,7 +2,7 @@
 use Rattle.std.proofs.Common.{◌≡◌, ℕ, false, List, length, Ok, Err, sym, ap, ◌∙◌, arith}
 use Rattle.std.proofs.Math.Nat.{le_refl}
 use Rattle.scan.specs.Laws.{OneTokenAtAPlace}
-use Rattle.rule_tokens.specs.declared.fault.TextFault.{TextFault}
+use Rattle.rule_tokens.specs.RuleFaults.{RuleFault}
 use Rattle.rule_tokens.specs.Tokens.{Token, AreTokens}
 use Rattle.rule_tokens.proofs.Readers.{one_reading}
 use Rattle.rule_parse.specs.CutTokens.{limited}
@@ -15,7 +15,7 @@ use Rattle.rule_viable_prefixes.proofs.Files.{where_refused}
 use Rattle.rule_viable_prefixes.proofs.Texts.{names_in, text_begins, limited_begins, limited_names}
 
 -- the fault is that of the reading of these tokens
-fault_of : OneTokenAtAPlace → (text : List ℕ) (tokens : List Token) (last : ℕ) (found : TextFault) → AreTokens text tokens last → IsTextFault text found → all_rules last (limited tokens) ≡ Err found
+fault_of : OneTokenAtAPlace → (text : List ℕ) (tokens : List Token) (last : ℕ) (found : RuleFault) → AreTokens text tokens last → IsTextFault text found → all_rules last (limited tokens) ≡ Err found
 fault_of one text tokens last found are fault =
     let same = one_reading one text are (omega arith) fault.tokens fault.last fault.are_tokens in
     ap (λ (ts : List Token). all_rules last (limited ts)) same.0 ∙ ap (λ (l : ℕ). all_rules l (limited fault.tokens)) same.1 ∙ fault.found

@@ -1,9 +1,9 @@
 -- What the readers of lines do: each is read whole, or refused within a line, or missed at the end of the text.
 use Rattle.std.proofs.Common.{◌≡◌, ℕ, List, [], ◌∷◌, ◌++◌, Result, Ok, Err, refl, sym, ap, subst, ◌∙◌, append_assoc, ◌⊎◌, inl, inr}
 use Rattle.std.proofs.lemmas.List.{append-nil}
-use Rattle.rule_tokens.specs.declared.fault.Misfit.TheVariants.{Syntax}
-use Rattle.rule_tokens.specs.declared.fault.TextFault.{TextFault}
-use Rattle.rule_tokens.specs.Gives.{◌>>=◌}
+use Rattle.rule_tokens.specs.declared.fault.RuleFaultKind.TheVariants.{Syntax}
+use Rattle.rule_tokens.specs.RuleFaults.{RuleFault}
+use Rattle.rule_tokens.specs.Steps.{◌>>=◌}
 use Rattle.rule_tokens.specs.Parts.{Part, ◌⨾◌}
 use Rattle.rule_tokens.specs.Tokens.{Token, Line, Word}
 use Rattle.rule_tokens.proofs.Ends.{EndsLine}
@@ -37,7 +37,7 @@ pub record Whole {A X : Type 0} (shape : Shape A X) (R : Reader X) (L : Part) (t
   pub kept : (number : ℕ) (a b : List Token) → rest ≡ Line number ∷ a → Akin a b → R (own ++ Line number ∷ b) ≡ Ok (shape value (Line number ∷ b))
 
 -- refused behind a front that begins with a line
-pub record Within {X : Type 0} (R : Reader X) (L F : Part) (tokens : List Token) (found : TextFault) : Type 0 where
+pub record Within {X : Type 0} (R : Reader X) (L F : Part) (tokens : List Token) (found : RuleFault) : Type 0 where
   pub number : ℕ
   pub front : List Token
   pub behind : List Token
@@ -48,12 +48,12 @@ pub record Within {X : Type 0} (R : Reader X) (L F : Part) (tokens : List Token)
   pub says : SaysFirst (GoesOn L F number front) (Lack (λ ts. R (Line number ∷ ts)) front) behind found.kind
 
 -- missed at the end of the text, where another line may begin
-pub record Missed (L F : Part) (last : ℕ) (tokens : List Token) (found : TextFault) : Type 0 where
+pub record Missed (L F : Part) (last : ℕ) (tokens : List Token) (found : RuleFault) : Type 0 where
   pub begins : (number : ℕ) → Completes L F (tokens ++ Line number ∷ [])
   pub here : found.line ≡ last
   pub says : found.kind ≡ Syntax
 
-abbrev pub Verdict : {A X : Type 0} → Shape A X → Reader X → Part → Part → ℕ → List Token → Result X TextFault → Type 0
+abbrev pub Verdict : {A X : Type 0} → Shape A X → Reader X → Part → Part → ℕ → List Token → Result X RuleFault → Type 0
 Verdict shape R L F last tokens (Ok x) = Whole shape R L tokens x
 Verdict shape R L F last tokens (Err e) = Within R L F tokens e ⊎ Missed L F last tokens e
 
@@ -90,13 +90,13 @@ pub completes_second : (L M F : Part) (own front : List Token) → L own → Com
 completes_second L M F own front l (more, (b, c, m, f, all)) =
     (more, (own ++ b, c, (own, b, l, m, refl), f, append_assoc own front more ∙ ap (λ (ts : List Token). own ++ ts) all ∙ sym (append_assoc own b c)))
 
-pub verdict_both : {A B X Y : Type 0} (s : Shape A X) (t : Shape B Y) (R : Reader X) (S : X → Result Y TextFault) (L M F : Part) (last : ℕ) (tokens : List Token)
+pub verdict_both : {A B X Y : Type 0} (s : Shape A X) (t : Shape B Y) (R : Reader X) (S : X → Result Y RuleFault) (L M F : Part) (last : ℕ) (tokens : List Token)
     → EndsLine tokens → Verdict s R L (M ⨾ F) last tokens (R tokens)
     → ((x : A) (rest : List Token) → R tokens ≡ Ok (s x rest) → EndsLine rest → Verdict t (λ ts. S (s x ts)) M F last rest (S (s x rest)))
     → Verdict t (λ ts. R ts >>= S) (L ⨾ M) F last tokens (R tokens >>= S)
 verdict_both {A} {B} {X} {Y} s t R S L M F last tokens ends one two = by (R tokens) refl one
   where
-    by : (r : Result X TextFault) → R tokens ≡ r → Verdict s R L (M ⨾ F) last tokens r → Verdict t (λ ts. R ts >>= S) (L ⨾ M) F last tokens (r >>= S)
+    by : (r : Result X RuleFault) → R tokens ≡ r → Verdict s R L (M ⨾ F) last tokens r → Verdict t (λ ts. R ts >>= S) (L ⨾ M) F last tokens (r >>= S)
     by (Err e) is (inl w) = inl (record {
       number = w.number;
       front = w.front;
@@ -124,7 +124,7 @@ verdict_both {A} {B} {X} {Y} s t R S L M F last tokens ends one two = by (R toke
             ap (λ (ts : List Token). R ts >>= S) (led_both o.own own (Line number ∷ b) token (Line start.0) start.1) ∙ kept start.0 (own ++ Line number ∷ a) (own ++ Line number ∷ b) as_line (akin_behind own (Line number ∷ a) (Line number ∷ b) (same_next (Line number) a b))
             ∙ ap (λ (u : Token). S (s o.value (u ∷ own ++ Line number ∷ b))) (sym start.1) ∙ h number a b is_rest alike
 
-        behind : (q : Result Y TextFault) → Verdict t (λ ts. S (s o.value ts)) M F last o.rest q → Verdict t (λ ts. R ts >>= S) (L ⨾ M) F last tokens q
+        behind : (q : Result Y RuleFault) → Verdict t (λ ts. S (s o.value ts)) M F last o.rest q → Verdict t (λ ts. R ts >>= S) (L ⨾ M) F last tokens q
         behind (Ok y) p = record {
           value = p.value;
           own = o.own ++ p.own;
@@ -204,7 +204,7 @@ pub on_a_line : {A X : Type 0} (shape : Shape A X) (R : Reader X) (L F : Part) (
     → Outcome shape (λ ts. R (Line number ∷ ts)) (Spelled (λ own. L (Line number ∷ own)) {A = A}) number tokens (R (Line number ∷ tokens)) → Verdict shape R L F last (Line number ∷ tokens) (R (Line number ∷ tokens))
 on_a_line {A} {X} shape R L F last number tokens sample ends o = by (R (Line number ∷ tokens)) refl o
   where
-    by : (r : Result X TextFault) → R (Line number ∷ tokens) ≡ r → Outcome shape (λ ts. R (Line number ∷ ts)) (Spelled (λ own. L (Line number ∷ own)) {A = A}) number tokens r → Verdict shape R L F last (Line number ∷ tokens) r
+    by : (r : Result X RuleFault) → R (Line number ∷ tokens) ≡ r → Outcome shape (λ ts. R (Line number ∷ ts)) (Spelled (λ own. L (Line number ∷ own)) {A = A}) number tokens r → Verdict shape R L F last (Line number ∷ tokens) r
     by (Ok x) is o = record {
       value = o.value;
       own = Line number ∷ o.own;
@@ -233,7 +233,7 @@ on_a_line {A} {X} shape R L F last number tokens sample ends o = by (R (Line num
         nothing_behind n = Rattle.rule_viable_prefixes.proofs.Outcomes.none_behind n
 
 -- a wider part
-pub verdict_wider : {A X : Type 0} (shape : Shape A X) (R : Reader X) (L N F : Part) (last : ℕ) (tokens : List Token) → ((own : List Token) → L own → N own) → (r : Result X TextFault) → Verdict shape R L F last tokens r → Verdict shape R N F last tokens r
+pub verdict_wider : {A X : Type 0} (shape : Shape A X) (R : Reader X) (L N F : Part) (last : ℕ) (tokens : List Token) → ((own : List Token) → L own → N own) → (r : Result X RuleFault) → Verdict shape R L F last tokens r → Verdict shape R N F last tokens r
 verdict_wider shape R L N F last tokens f (Ok x) o = record { value = o.value; own = o.own; rest = o.rest; is_own = f o.own o.is_own; there = o.there; ends = o.ends; is = o.is; kept = o.kept }
 verdict_wider shape R L N F last tokens f (Err e) (inl w) = inl (record {
   number = w.number;

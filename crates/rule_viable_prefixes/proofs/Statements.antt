@@ -11,14 +11,14 @@ use Rattle.ops.specs.Flags.{no_flags, flags_of}
 use Rattle.std.proofs.lemmas.List.{append-nil, map-append}
 use Rattle.ops.specs.declared.keywords.flag.Flag.{Flag}
 use Rattle.ops.specs.declared.keywords.flag.Flag.TheVariants.{Nuw, Nsw, Exact}
-use Rattle.rule_tokens.specs.declared.fault.TextFault.{TextFault}
+use Rattle.rule_tokens.specs.RuleFaults.{RuleFault}
 use Rattle.ops.specs.Keywords.{predicate_keyword, pred_in, opcode_keyword, cast_keyword}
 use Rattle.ops.specs.FlagKeywords.{AddsFlags, flag_in, flag_keyword, has_flag, with_flag}
 use Rattle.ops.proofs.KeywordLemmas.{same_word, pred_in-is}
 use Rattle.ops.proofs.FlagKeywordLemmas.{flag_in-is, flag_in-of}
 use Rattle.scan.specs.RuleTokens.{is_constant}
-use Rattle.rule_tokens.specs.declared.fault.Misfit.TheVariants.{Syntax, TooMany}
-use Rattle.rule_tokens.specs.Gives.{◌>>=◌}
+use Rattle.rule_tokens.specs.declared.fault.RuleFaultKind.TheVariants.{Syntax, TooMany}
+use Rattle.rule_tokens.specs.Steps.{◌>>=◌}
 use Rattle.rule_tokens.specs.Limits.{most_name_bytes}
 use Rattle.rule_tokens.specs.Numbers.{literal_value, type_in}
 use Rattle.rule_tokens.specs.Parts.{Part, Is, Comma, ◌⨾◌, Maybe}
@@ -153,7 +153,7 @@ unfolding is_constant
 constant_is = refl
 
 -- a constant is read
-ok_no_err : {X : Type 0} (r : Result X TextFault) (x : X) → r ≡ Ok x → IsErr r → ⊥
+ok_no_err : {X : Type 0} (r : Result X RuleFault) (x : X) → r ≡ Ok x → IsErr r → ⊥
 ok_no_err r x p (e, q) = let both = sym p ∙ q in absurd cc
 
 term_reads : (line : ℕ) → NoNoun (term_argument_at line) [] → ⊥
@@ -173,7 +173,7 @@ unfolding typed_at argument_at source_word is_constant name_within
 argument_reads Source line written n = ok_no_err (typed_at Source line written (Word (codes "C") ∷ [])) _ refl (n (codes "C") constant_noun [])
 argument_reads Target line written n = term_reads line (λ noun is more. by noun more (n noun is more))
   where
-    made : RawArgument × List Token → Result (RawOperand × List Token) TextFault
+    made : RawArgument × List Token → Result (RawOperand × List Token) RuleFault
     made value = Ok (record { written = written; value = value.0 }, value.1)
 
     by : (noun : List ℕ) (more : List Token) → IsErr (typed_at Target line written (Word noun ∷ more)) → IsErr (term_argument_at line (Word noun ∷ more))
@@ -185,7 +185,7 @@ argument_reads Target line written n = term_reads line (λ noun is more. by noun
             let same_read : typed_at Target line written (Word noun ∷ more) ≡ (term_argument_at line (Word noun ∷ more) >>= made) = rw h refl in
             err (term_argument_at line (Word noun ∷ more)) (sym same_read ∙ is)
           where
-            err : (r : Result (RawArgument × List Token) TextFault) → (r >>= made) ≡ Err e → IsErr r
+            err : (r : Result (RawArgument × List Token) RuleFault) → (r >>= made) ≡ Err e → IsErr r
             err (Ok x) q = absurd cc
             err (Err f) q = (f, refl)
 

@@ -10,10 +10,10 @@ use Rattle.rule_core.specs.declared.rule.Function.{Function}
 use Rattle.rule_core.specs.declared.rule.Function.TheVariants.{Negate, Not}
 use Rattle.scan.specs.Bytes.{is_digit}
 use Rattle.scan.specs.RuleTokens.{is_constant}
-use Rattle.rule_tokens.specs.declared.fault.Misfit.TheVariants.{Syntax, TooMany}
-use Rattle.rule_tokens.specs.declared.fault.ParseError.TheVariants.{Refused}
-use Rattle.rule_tokens.specs.declared.fault.TextFault.{TextFault}
-use Rattle.rule_tokens.specs.Gives.{◌>>=◌}
+use Rattle.rule_tokens.specs.declared.fault.RuleFaultKind.TheVariants.{Syntax, TooMany}
+use Rattle.refusal.specs.declared.refusal.Refusal.TheVariants.{Refused}
+use Rattle.rule_tokens.specs.RuleFaults.{RuleFault}
+use Rattle.rule_tokens.specs.Steps.{◌>>=◌}
 use Rattle.rule_tokens.specs.Limits.{most_name_bytes}
 use Rattle.rule_tokens.specs.Numbers.{literal_value}
 use Rattle.rule_tokens.specs.PartReaders.{fault, unexpected, misplaced_word, name_within}
@@ -49,7 +49,7 @@ named line name = by _ refl
     by true h = is_short (leb-true (length name) most_name_bytes h) (rw h refl)
     by false h = is_long (leb-false (length name) most_name_bytes h) (rw h refl)
 
-err_is : (d e : TextFault) → ◌≡◌ {A = Result (List Token) TextFault} (Err d) (Err e) → d ≡ e
+err_is : (d e : RuleFault) → ◌≡◌ {A = Result (List Token) RuleFault} (Err d) (Err e) → d ≡ e
 err_is d e is = let equal = is in cc
 
 mark_takes : (wanted : List ℕ) (line : ℕ) (token : Token) → Branch bare (mark_at wanted line) (λ x own. own ≡ Mark wanted ∷ []) line token
@@ -66,7 +66,7 @@ unfolding mark_at
 mark_good wanted line = by_token (tt, Mark wanted ∷ [], refl) (mark_takes wanted line) (fault line Syntax, refl, refl, refl)
 
 -- where a parenthesis is missed another token stands
-pub parenthesis_missed : (line : ℕ) (tokens : List Token) (e : TextFault) → mark_at (codes "(") line tokens ≡ Err e → IsTold tokens e.kind
+pub parenthesis_missed : (line : ℕ) (tokens : List Token) (e : RuleFault) → mark_at (codes "(") line tokens ≡ Err e → IsTold tokens e.kind
 unfolding mark_at
 parenthesis_missed line (Mark mark ∷ tokens) e is = by (bytes_eq mark (codes "(")) refl
   where
@@ -76,10 +76,10 @@ parenthesis_missed line (Mark mark ∷ tokens) e is = by (bytes_eq mark (codes "
         let failed : mark_at (codes "(") line (Mark mark ∷ tokens) ≡ Err (fault line Syntax) = rw h refl in
         inr (
           (λ more same_tokens. let m : mark ≡ codes "(" = let equal = same_tokens in cc in let found : bytes_eq mark (codes "(") ≡ true = rw m refl in let both = sym found ∙ h in absurd cc),
-          sym (ap (λ (f : TextFault). f.kind) (err_is (fault line Syntax) e (sym failed ∙ is))),
+          sym (ap (λ (f : RuleFault). f.kind) (err_is (fault line Syntax) e (sym failed ∙ is))),
         )
-parenthesis_missed line [] e is = inr ((λ more wrong. absurd cc), sym (ap (λ (f : TextFault). f.kind) (err_is (fault line Syntax) e is)))
-parenthesis_missed line (token ∷ tokens) e is = inr ((λ more wrong. absurd cc), sym (ap (λ (f : TextFault). f.kind) (err_is (unexpected line (token ∷ tokens)) e is)))
+parenthesis_missed line [] e is = inr ((λ more wrong. absurd cc), sym (ap (λ (f : RuleFault). f.kind) (err_is (fault line Syntax) e is)))
+parenthesis_missed line (token ∷ tokens) e is = inr ((λ more wrong. absurd cc), sym (ap (λ (f : RuleFault). f.kind) (err_is (unexpected line (token ∷ tokens)) e is)))
 
 -- ---- terms
 
@@ -140,7 +140,7 @@ chain_step operand level left op more shortens of = by (operand left more) refl
     found : operator_at level (Mark (operator_mark op) ∷ more) ≡ Some (op, more)
     found = operator_at-of level op more of
 
-    by : (r : Result (List RawNode × List Token) TextFault) → operand left more ≡ r → whole_chain_at operand level left (Mark (operator_mark op) ∷ more) ≡ (r >>= λ both. whole_chain_at operand level (join op left both.0) both.1)
+    by : (r : Result (List RawNode × List Token) RuleFault) → operand left more ≡ r → whole_chain_at operand level left (Mark (operator_mark op) ∷ more) ≡ (r >>= λ both. whole_chain_at operand level (join op left both.0) both.1)
     by (Ok both) e = chain-more operand level left (Mark (operator_mark op) ∷ more) (op, more) both shortens found e
     by (Err f) e = chain-fault operand level left (Mark (operator_mark op) ∷ more) (op, more) _ (Refused f) found e refl
 
@@ -375,12 +375,12 @@ shallow_branch place line before token (of_prefix function mark is h) =
     refuses (λ more. (fault line TooMany, rw (h more) refl, refl, says_too_many (Mark mark) more (kinds.nesting (Mark mark) (too_deep place zero (Mark mark) (kinds.sign function mark is)))))
 shallow_branch place line before token (of_call function word is h) = refuses (λ more. by more (mark_at (codes "(") line more) refl)
   where
-    by : (more : List Token) (r : Result (List Token) TextFault) → mark_at (codes "(") line more ≡ r → IsErrOn (FitsAt place zero) (Lack (primary_at place line zero before) []) line (Word word ∷ more) (primary_at place line zero before (Word word ∷ more))
+    by : (more : List Token) (r : Result (List Token) RuleFault) → mark_at (codes "(") line more ≡ r → IsErrOn (FitsAt place zero) (Lack (primary_at place line zero before) []) line (Word word ∷ more) (primary_at place line zero before (Word word ∷ more))
     by more (Ok behind) e = (fault line TooMany, rw (h more, e) refl, refl, says_deep word (too_deep place zero (Word word) (kinds.function function word is)) more TooMany (inl refl))
     by more (Err f) e = (f, rw (h more, e) refl, on_line (mark_good (codes "(") line) more f e, says_deep word (too_deep place zero (Word word) (kinds.function function word is)) more f.kind (parenthesis_missed line more f e))
 shallow_branch place line before token (of_width h) = refuses (λ more. by more (mark_at (codes "(") line more) refl)
   where
-    by : (more : List Token) (r : Result (List Token) TextFault) → mark_at (codes "(") line more ≡ r → IsErrOn (FitsAt place zero) (Lack (primary_at place line zero before) []) line (Word (codes "width") ∷ more) (primary_at place line zero before (Word (codes "width") ∷ more))
+    by : (more : List Token) (r : Result (List Token) RuleFault) → mark_at (codes "(") line more ≡ r → IsErrOn (FitsAt place zero) (Lack (primary_at place line zero before) []) line (Word (codes "width") ∷ more) (primary_at place line zero before (Word (codes "width") ∷ more))
     by more (Ok behind) e = (fault line TooMany, rw (h more, e) refl, refl, says_deep (codes "width") (too_deep place zero (Word (codes "width")) kinds.width) more TooMany (inl refl))
     by more (Err f) e = (f, rw (h more, e) refl, on_line (mark_good (codes "(") line) more f e, says_deep (codes "width") (too_deep place zero (Word (codes "width")) kinds.width) more f.kind (parenthesis_missed line more f e))
 

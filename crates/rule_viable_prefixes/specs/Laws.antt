@@ -1,7 +1,7 @@
 -- What holds of the faults of rule files.
 use Rattle.std.specs.Prelude.{◌≡◌, ◌⊎◌, ℕ, List, ◌∷◌, ◌++◌}
-use Rattle.rule_tokens.specs.declared.fault.Misfit.TheVariants.{Syntax}
-use Rattle.rule_tokens.specs.declared.fault.TextFault.{TextFault}
+use Rattle.rule_tokens.specs.declared.fault.RuleFaultKind.TheVariants.{Syntax}
+use Rattle.rule_tokens.specs.RuleFaults.{RuleFault}
 use Rattle.rule_tokens.specs.Tokens.{Token, Word, AreTokens}
 use Rattle.rule_parse.specs.declared.raw.RawRule.{RawRule}
 use Rattle.rule_parse.specs.Grammar.{SpellsRules}
@@ -13,7 +13,7 @@ use Rattle.rule_viable_prefixes.specs.Misfits.{IsMisfit, IsExcused, NounFits}
 -- The fault is that of the first token with which the tokens do not fit, and is on the line that those before it end on. So it is
 -- on the line that is not whole where that token is the number of another line. Its kind says why that token does not fit: a
 -- word is told as `Syntax` only where no noun fits, but for three cases.
-pub record IsAtToken (tokens : List Token) (found : TextFault) : Type 0 where
+pub record IsAtToken (tokens : List Token) (found : RuleFault) : Type 0 where
   pub front : List Token
   pub token : Token
   pub behind : List Token
@@ -26,7 +26,7 @@ pub record IsAtToken (tokens : List Token) (found : TextFault) : Type 0 where
 
 -- The tokens fit up to their end, but spell no rules. The fault is on the text's last line where another line fits, and otherwise
 -- on the last line with tokens, which is not whole.
-pub record IsAtEnd (tokens : List Token) (last : ℕ) (found : TextFault) : Type 0 where
+pub record IsAtEnd (tokens : List Token) (last : ℕ) (found : RuleFault) : Type 0 where
   pub fits : Fits tokens
   pub no_rules : (rules : List RawRule) → ¬ SpellsRules rules tokens
   pub kind : found.kind ≡ Syntax
@@ -35,7 +35,7 @@ pub record IsAtEnd (tokens : List Token) (last : ℕ) (found : TextFault) : Type
 -- A text is refused at its first misfit or at its end; one whose tokens spell rules is not refused. The tokens are those up to the
 -- first with which a rule has too many nodes.
 pub record FaultsAreWhereTextsDoNotFit : Type 0 where
-  pub refused : (text : List ℕ) (tokens : List Token) (last : ℕ) (found : TextFault)
+  pub refused : (text : List ℕ) (tokens : List Token) (last : ℕ) (found : RuleFault)
       → AreTokens text tokens last → IsTextFault text found → IsAtToken (limited tokens) found ⊎ IsAtEnd (limited tokens) last found
-  pub read : (text : List ℕ) (tokens : List Token) (last : ℕ) (rules : List RawRule) (found : TextFault)
+  pub read : (text : List ℕ) (tokens : List Token) (last : ℕ) (rules : List RawRule) (found : RuleFault)
       → AreTokens text tokens last → SpellsRules rules (limited tokens) → ¬ IsTextFault text found

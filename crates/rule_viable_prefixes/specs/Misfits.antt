@@ -6,8 +6,8 @@ use Rattle.ops.specs.FlagKeywords.{flag_keyword}
 use Rattle.ops.specs.Keywords.{predicate_keyword}
 use Rattle.scan.specs.RuleTokens.{is_constant}
 use Rattle.rule_core.specs.declared.rule.Function.{Function}
-use Rattle.rule_tokens.specs.declared.fault.Misfit.{Misfit}
-use Rattle.rule_tokens.specs.declared.fault.Misfit.TheVariants.{BadByte, Syntax, LeftOut, TooMany}
+use Rattle.rule_tokens.specs.declared.fault.RuleFaultKind.{RuleFaultKind}
+use Rattle.rule_tokens.specs.declared.fault.RuleFaultKind.TheVariants.{BadByte, Syntax, LeftOut, TooMany}
 use Rattle.rule_tokens.specs.Limits.{most_name_bytes}
 use Rattle.rule_tokens.specs.Numbers.{IsWrittenType}
 use Rattle.rule_tokens.specs.Tokens.{Token, Head, Name, Register, Word, Number, Arrow, Mark, Bad, Excess}
@@ -96,25 +96,27 @@ pub data IsTooMany (fits : Fitting) : Token → Type 0 where
 -- ---- kinds
 
 -- What a kind says of the token itself: it is a byte that may not stand; with it a limit is passed; it is a word that is left out, and
--- a noun fits in its place; or it is none of the tokens that end what is read.
-abbrev pub Says : Fitting → Token → Misfit → Type 0
+-- a noun fits in its place; or it is none of the tokens that end what is read. No token is of
+-- another kind.
+abbrev pub Says : Fitting → Token → RuleFaultKind → Type 0
 Says fits token BadByte = token ≡ Bad
 Says fits token TooMany = IsTooMany fits token
 Says fits token (LeftOut left) = (token ≡ Word left) × NounFits fits
 Says fits token Syntax = (token ≢ Bad) × (token ≢ Excess)
+Says fits token kind = ⊥
 
 -- what the kind of a fault at the first of these tokens is where no word is left out and no other limit is passed
-abbrev pub kind_at : List Token → Misfit
+abbrev pub kind_at : List Token → RuleFaultKind
 kind_at (Bad ∷ tokens) = BadByte
 kind_at (Excess ∷ tokens) = TooMany
 kind_at tokens = Syntax
 
 -- A function or a predicate that is nested too deep, with no `(` behind it, is told as the token behind it is: `log2 +` behind 32 `(`.
-abbrev pub IsReadOn : Fitting → Token → List Token → Misfit → Type 0
+abbrev pub IsReadOn : Fitting → Token → List Token → RuleFaultKind → Type 0
 IsReadOn fits token behind kind =
     (word : List ℕ) × (token ≡ Word word) × IsTooDeep fits token × ((more : List Token) → behind ≢ Mark (codes "(") ∷ more) × (kind ≡ kind_at behind)
 
 -- what the kind of a fault says of its token, before these others
-pub data IsMisfit (fits : Fitting) (token : Token) (behind : List Token) (kind : Misfit) : Type 0 where
+pub data IsMisfit (fits : Fitting) (token : Token) (behind : List Token) (kind : RuleFaultKind) : Type 0 where
   itself : Says fits token kind → IsMisfit fits token behind kind
   read_on : IsReadOn fits token behind kind → IsMisfit fits token behind kind

@@ -1,14 +1,12 @@
 use Rattle.std.proofs.Common.{sym, ◌∙◌}
 use Rattle.rule_tokens.specs.SeenTokens.{seen}
-use Rattle.rule_tokens.proofs.Steps.{fails}
 use Rattle.rule_parse.proofs.Loops.{flags-more, flags-again}
 use Rattle.rule_parse.proofs.OpSpellings.{flags_done}
 use Rattle.rule_parse.proofs.op.flags.Goals as goal
 
 pub returns-then-has_flag : goal.returns-then-has_flag
 returns-then-has_flag c =
-    fails c.refused.result _ _ c.refused.ensures
-    (sym c.loop-flag.invariant ∙ flags-again c.args.opcode c.args.line c.loop-flag.flags c.in-Some.flag (seen c.loop-flag.tokens.now) (sym c.in-Some.ensures.flag) (sym c.if-has_flag.ensures))
+    sym c.loop-flag.invariant ∙ flags-again c.args.opcode c.args.line c.loop-flag.flags c.in-Some.flag (seen c.loop-flag.tokens.now) (sym c.in-Some.ensures.flag) (sym c.if-has_flag.ensures)
 
 pub loop-flag-preserved : goal.loop-flag-preserved
 loop-flag-preserved c =

@@ -1,5 +1,5 @@
 use Rattle.std.proofs.Common.{◌≡◌, List, subst}
-use Rattle.rule_tokens.specs.Gives.{Gives}
+use Rattle.refusal.specs.Refusals.{Gives}
 use Rattle.rule_tokens.specs.SeenTokens.{seen}
 use Rattle.rule_tokens.specs.Tokens.{Token, AreTokens}
 use Rattle.rule_parse.specs.CutTokens.{limited}

@@ -1,13 +1,12 @@
 use Rattle.std.proofs.Common.{◌<◌, [], ◌∷◌, length, arith, length-append}
 use Rattle.std.proofs.lemmas.Result.{err_from_is_err_and}
 use Rattle.rule_tokens.specs.SeenTokens.{seen}
-use Rattle.rule_tokens.proofs.Steps.{fails}
 use Rattle.rule_parse.proofs.Loops.{statements-more, statements-fault, statements-full, statements-done}
 use Rattle.rule_parse.proofs.rule.statements.Goals as goal
 
 pub returns-then-len-eq-MOST_STATEMENTS : goal.returns-then-len-eq-MOST_STATEMENTS
 returns-then-len-eq-MOST_STATEMENTS c =
-    fails c.refused.result _ _ c.refused.ensures
+    rw c.refused.ensures
     (statements-full 32 c.loop-line.statements c.args.half c.in-Some.line c.in-Some.name.now (seen c.loop-line.tokens.now) _ _ c.in-Some.ensures.some (omega arith) c.loop-line.invariant.1)
 
 pub returns-in_err-statement : goal.returns-in_err-statement

@@ -1,4 +1,5 @@
 -- Check by check: what none has failed so far, and the fault of the one that fails.
+use Rattle.std.proofs.lemmas.Result.{err_from_is_err_and}
 use Rattle.rule_reader.specs.Faults.{Duplicate, Unbound, RootMissing, Redefines, UnusedTemp, UndefInside, WitnessCount}
 use Rattle.rule_reader.proofs.There.{names_there}
 use Rattle.rule_reader.proofs.Checking.{clear_none, clear_1, clear_2, clear_3, clear_4, clear_5, clear_6, clear_7, refused_at, unused_first, checked_so_far, classified_ok, classified_refused}
@@ -69,16 +70,17 @@ pub returns-clause-ok : goal.returns-clause-ok
 returns-clause-ok c =
     let raw = c.args.raw.now in
     let b = c.args.is_repeated in
-    classified_ok raw b c.in_ok-rule.rule c.classified.result
+    classified_ok raw b c.in_ok-rule.rule c.in_ok-classified.field-0
     (clear_7 raw b (clear_6 raw b (clear_5 raw b (clear_4 raw b (clear_3 raw b (clear_2 raw b (clear_1 raw b c.in_default.ensures) c.in_default-unbound.ensures) c.in_default-root_missing.ensures) c.in_default-redefined.ensures)
     c.as_slice-3.result.now c.as_slice-3.ensures c.in_default-unused.ensures) c.in_default-undef_inside.ensures) c.in_default-witness_count.ensures)
-    c.in_ok-rule.ensures c.classified.ensures.ok
+    c.in_ok-rule.ensures c.in_ok-classified.ensures.ok
 
-pub returns-clause-refused : goal.returns-clause-refused
-returns-clause-refused c =
+pub returns-in_err-classified-clause-refused : goal.returns-in_err-classified-clause-refused
+returns-in_err-classified-clause-refused c =
     let raw = c.args.raw.now in
     let b = c.args.is_repeated in
-    classified_refused raw b c.in_ok-rule.rule c.classified.result
+    let p = err_from_is_err_and c.from_residual-in_err-classified.result c.from_residual-in_err-classified.ensures.1 in
+    rw (p.1, p.2) (classified_refused raw b c.in_ok-rule.rule c.in_err-classified.field-0.0
     (clear_7 raw b (clear_6 raw b (clear_5 raw b (clear_4 raw b (clear_3 raw b (clear_2 raw b (clear_1 raw b c.in_default.ensures) c.in_default-unbound.ensures) c.in_default-root_missing.ensures) c.in_default-redefined.ensures)
     c.as_slice-3.result.now c.as_slice-3.ensures c.in_default-unused.ensures) c.in_default-undef_inside.ensures) c.in_default-witness_count.ensures)
-    c.in_ok-rule.ensures c.classified.ensures.refused
+    c.in_ok-rule.ensures c.in_err-classified.ensures.refused)

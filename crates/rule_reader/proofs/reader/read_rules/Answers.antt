@@ -1,6 +1,6 @@
 use Rattle.std.proofs.Common.{subst, sym, arith, take}
 use Rattle.std.proofs.lemmas.Result.{err_from_is_err_and}
-use Rattle.rule_reader.specs.Errors.{IfRefused}
+use Rattle.refusal.specs.Refusals.{IfRefused}
 use Rattle.rule_reader.specs.Faults.{IsFault, too_long}
 use Rattle.rule_reader.proofs.Places.{read_at}
 use Rattle.rule_reader.proofs.Written.{written_well_formed}
@@ -14,7 +14,7 @@ returns-then-bytes-gt-MOST_BYTES-clause-refused c = subst (λ e. IfRefused e (Is
 pub returns-in_err-raws-clause-refused : goal.returns-in_err-raws-clause-refused
 returns-in_err-raws-clause-refused c =
     let p = err_from_is_err_and c.from_residual.result c.from_residual.ensures.1 in
-    rw p.1 (text_fault c.args.bytes.now c.in_err-raws.field-0.0 p.0 (omega arith) c.in_err-raws.ensures.refused p.2)
+    rw (p.1, p.2) (text_fault c.args.bytes.now c.in_err-raws.field-0.0 (omega arith) c.in_err-raws.ensures.refused)
 
 pub checked-requires : goal.checked-requires
 checked-requires c =

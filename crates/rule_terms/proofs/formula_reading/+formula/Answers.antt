@@ -6,13 +6,13 @@ use Rattle.rule_terms.specs.FormulaReaders.{joins, members_of, member_at}
 use Rattle.rule_terms.specs.Formulas.{Within, Member, Members}
 use Rattle.rule_terms.proofs.ChainLemmas.{taken-more, taken-fault, taken-done, taken-smaller}
 use Rattle.rule_terms.proofs.FormulaReadings.{member_at-is, members_of-is, joins_shortens, reads_shorten, joins-read, joins-fault}
-use Rattle.rule_terms.proofs.FormulaSteps.{member-tests, member-compares, turns-limit, encloses-limit, turned-fault, turned, enclosed-fault, enclosed}
+use Rattle.rule_terms.proofs.FormulaSteps.{member-tests, member-compares, turns-too_deep, encloses-too_deep, turned-fault, turned, enclosed-fault, enclosed}
 use Rattle.rule_terms.proofs.formula_reading.+formula.Goals as goal
 
 pub member-returns-in_err-inside-in-Turns : goal.member-returns-in_err-inside-in-Turns
 member-returns-in_err-inside-in-Turns t c =
     let p = err_from_is_err_and c.from_residual.result c.from_residual.ensures.1 in
-    rw (p.1, p.2) (turns-limit c.args.nesting c.args.line c.args.nodes.now (seen c.args.tokens.now.now) c.in_err-inside-in-Turns.field-0.0 c.in-Turns.ensures c.in_err-inside-in-Turns.ensures)
+    rw (p.1, p.2) (turns-too_deep c.args.nesting c.args.line c.args.nodes.now (seen c.args.tokens.now.now) _ c.in-Turns.ensures c.in_err-inside-in-Turns.ensures)
 
 pub member-returns-in_err-member-in-Turns : goal.member-returns-in_err-member-in-Turns
 member-returns-in_err-member-in-Turns t c =
@@ -22,7 +22,7 @@ member-returns-in_err-member-in-Turns t c =
 pub member-returns-in_err-inside-in-Encloses : goal.member-returns-in_err-inside-in-Encloses
 member-returns-in_err-inside-in-Encloses t c =
     let p = err_from_is_err_and c.from_residual-in_err-inside-in-Encloses.result c.from_residual-in_err-inside-in-Encloses.ensures.1 in
-    rw (p.1, p.2) (encloses-limit c.args.nesting c.args.line c.args.nodes.now (seen c.args.tokens.now.now) c.in_err-inside-in-Encloses.field-0.0 c.in-Encloses.ensures c.in_err-inside-in-Encloses.ensures)
+    rw (p.1, p.2) (encloses-too_deep c.args.nesting c.args.line c.args.nodes.now (seen c.args.tokens.now.now) _ c.in-Encloses.ensures c.in_err-inside-in-Encloses.ensures)
 
 pub member-returns-in_err-alternatives-in-Encloses : goal.member-returns-in_err-alternatives-in-Encloses
 member-returns-in_err-alternatives-in-Encloses t c =
@@ -34,9 +34,14 @@ member-returns-in_ok-push-in-Turns t c =
     rw (c.in_ok-push-in-Turns.ensures.ok, c.last_place-turned.ensures)
     (turned c.args.nesting c.args.line c.in_ok-inside-in-Turns.inside c.args.nodes.now (seen c.args.tokens.now.now) (seen c.skip.new.tokens.now) _ c.in-Turns.ensures c.in_ok-inside-in-Turns.ensures c.skip.ensures c.in_ok-member-in-Turns.ensures)
 
-pub member-returns-in_ok-alternatives-in-Encloses : goal.member-returns-in_ok-alternatives-in-Encloses
-member-returns-in_ok-alternatives-in-Encloses t c =
-    enclosed c.args.nesting c.args.line c.in_ok-inside-in-Encloses.inside c.args.nodes.now (seen c.args.tokens.now.now) (seen c.skip-in-Encloses.new.tokens.now) _ _ c.mark.result c.in-Encloses.ensures c.in_ok-inside-in-Encloses.ensures c.skip-in-Encloses.ensures c.in_ok-alternatives-in-Encloses.ensures c.mark.ensures
+pub member-returns-in_err-mark-in-Encloses : goal.member-returns-in_err-mark-in-Encloses
+member-returns-in_err-mark-in-Encloses t c =
+    let p = err_from_is_err_and c.from_residual-in_err-mark-in-Encloses.result c.from_residual-in_err-mark-in-Encloses.ensures.1 in
+    rw (p.1, p.2) (enclosed c.args.nesting c.args.line c.in_ok-inside-in-Encloses.inside c.args.nodes.now (seen c.args.tokens.now.now) (seen c.skip-in-Encloses.new.tokens.now) _ _ c.in-Encloses.ensures c.in_ok-inside-in-Encloses.ensures c.skip-in-Encloses.ensures c.in_ok-alternatives-in-Encloses.ensures c.in_err-mark-in-Encloses.ensures)
+
+pub member-returns-in_ok-mark-in-Encloses : goal.member-returns-in_ok-mark-in-Encloses
+member-returns-in_ok-mark-in-Encloses t c =
+    enclosed c.args.nesting c.args.line c.in_ok-inside-in-Encloses.inside c.args.nodes.now (seen c.args.tokens.now.now) (seen c.skip-in-Encloses.new.tokens.now) _ _ c.in-Encloses.ensures c.in_ok-inside-in-Encloses.ensures c.skip-in-Encloses.ensures c.in_ok-alternatives-in-Encloses.ensures c.in_ok-mark-in-Encloses.ensures
 
 pub member-returns-in-Tests : goal.member-returns-in-Tests
 member-returns-in-Tests t c =

@@ -1,0 +1,57 @@
+//! Faults of tokens, by where they stand.
+
+ghost use Rattle.std.specs.Prelude.{◌≡◌};
+ghost use Rattle.refusal.specs.Refusals.{Refuses};
+ghost use Rattle.rule_tokens.specs.declared.fault.RuleFaultKind.TheVariants as kinds;
+ghost use Rattle.rule_tokens.specs.PartReaders as reading;
+ghost use Rattle.rule_tokens.specs.SeenTokens.{seen};
+
+use crate::fault::{RuleError, RuleFault, RuleFaultKind};
+use crate::token::Token;
+use lists::Text;
+use ops::keywords::is;
+use refusal::refused;
+use std::alloc::Global;
+
+/// What is left out on a line.
+pub fn left_out(alloc: Global, line: usize, bytes: &[u8]) -> RuleError
+    ensures { Refuses result (reading.fault line (kinds.LeftOut bytes.now)) }
+{
+    match Vec::from_slice(alloc, bytes) {
+        Ok(bytes) => refused(line, RuleFaultKind::LeftOut(Text::from_vec(bytes))),
+        Err(error) => error.into(),
+    }
+}
+
+/// The fault of a word that may not stand where words may.
+pub fn misplaced_word(alloc: Global, line: usize, word: &[u8]) -> RuleError
+    ensures { Refuses result (reading.misplaced_word line word.now) }
+{
+    if is(word, "hasOneUse") {
+        refused(line, RuleFaultKind::Syntax)
+    } else {
+        left_out(alloc, line, word)
+    }
+}
+
+/// The fault of the first token, where none of its kind may stand.
+pub fn unexpected(line: usize, tokens: &[Token<'_>]) -> RuleFault
+    ensures { result ≡ reading.unexpected line (seen tokens.now) }
+{
+    let kind = match tokens {
+        [Token::Bad, ..] => RuleFaultKind::BadByte,
+        [Token::Excess, ..] => RuleFaultKind::TooMany,
+        _ => RuleFaultKind::Syntax,
+    };
+    RuleFault { line, kind }
+}
+
+/// The fault of the first token, where words may stand, but not this one.
+pub fn misplaced(alloc: Global, line: usize, tokens: &[Token<'_>]) -> RuleError
+    ensures { Refuses result (reading.left_out line (seen tokens.now)) }
+{
+    match tokens {
+        [Token::Word(word), ..] => misplaced_word(alloc, line, word),
+        _ => unexpected(line, tokens).into(),
+    }
+}
