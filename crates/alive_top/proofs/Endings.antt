@@ -5,8 +5,8 @@ use Rattle.outside.specs.Files.{FilesState}
 use Rattle.outside.specs.Sink.{SinkState}
 use Rattle.command_line.specs.Usage.{HasBadList, refusal_of_list}
 use Rattle.command_line.specs.Words.{are_taken}
-use Rattle.alive_top.specs.declared.refusal.Refusal.{Refusal}
-use Rattle.alive_top.specs.declared.refusal.Refusal.TheVariants.{Rules, Module, Argument, Read, Memory}
+use Rattle.alive_top.specs.declared.hindrance.Hindrance.{Hindrance}
+use Rattle.alive_top.specs.declared.hindrance.Hindrance.TheVariants.{Rules, Module, Argument, Read, Memory}
 use Rattle.alive_top.specs.declared.status.Ended.{Ended}
 use Rattle.alive_top.specs.declared.status.Status.{Status}
 use Rattle.alive_top.specs.declared.status.Status.TheVariants.{Done, NotAll, Usage, WriteFault, NoMemory}
@@ -49,7 +49,7 @@ module _ (task : Task) (files files' : FilesState) (out out' err err' : SinkStat
   refused_with : (line : List ℕ) → out' ≡ out → ended.table ≡ [] → Took err err' line → Refused out out' err err' ended line
   refused_with line stays none took = record { out_stays = stays; takes_line = took; no_verdicts = none }
 
-  pub refused_ends : (refusal : Refusal) (status : Status)
+  pub refused_ends : (refusal : Hindrance) (status : Status)
       → RefusedFor files files' task refusal → out' ≡ out → ended.table ≡ [] → RefusedAs refusal err err' status → EndsWith task files files' out out' err err' ended status
   refused_ends (Rules fault) status r stays none (inl s) = subst (EndsWith task files files' out out' err err' ended) (sym s.0) (_, r, refused_with _ stays none s.1)
   refused_ends (Rules fault) status r stays none (inr s) =

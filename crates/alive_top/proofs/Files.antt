@@ -8,8 +8,8 @@ use Rattle.outside.specs.Faults.{Rose}
 use Rattle.outside.specs.Files.{FilesState, FilesFollow, with_name}
 use Rattle.verdict.specs.Rule.{Rule}
 use Rattle.alive_top.specs.Runs.{IsRun, IsMisnamed}
-use Rattle.alive_top.specs.declared.refusal.Refusal.{Refusal}
-use Rattle.alive_top.specs.declared.refusal.Refusal.TheVariants.{Rules, Module, Argument, Read, Memory}
+use Rattle.alive_top.specs.declared.hindrance.Hindrance.{Hindrance}
+use Rattle.alive_top.specs.declared.hindrance.Hindrance.TheVariants.{Rules, Module, Argument, Read, Memory}
 use Rattle.alive_top.specs.declared.status.Status.TheVariants.{RuleRefused, ModuleRefused}
 use Rattle.alive_top.specs.Answers.{IsReadAs, TextOf, FileOf, FileRefused, RefusedFor, IsDoneFor}
 use Rattle.alive_top.specs.Cause.{ComesTo, TextIsRefused, ReadFails, MemoryIsRefused}
@@ -24,7 +24,7 @@ use Rattle.alive_top.specs.Work.{Work, IsPrinted, IsVerifyWork, IsOptimiseWork, 
 -- ---- one file
 
 -- a read of a file's text, and what that gives, is a read of the file and what it gives
-pub file_from_text : {T : Type 0} (old new : FilesState) (file : File) (text : List ℕ) (P : List ℕ → T → Type 0) (NoRun : List ℕ → Type 0) (result : Result T Refusal)
+pub file_from_text : {T : Type 0} (old new : FilesState) (file : File) (text : List ℕ) (P : List ℕ → T → Type 0) (NoRun : List ℕ → Type 0) (result : Result T Hindrance)
     → IsTextOf old file text → AsksOne old new file.name → TextOf file.kind text (P text) (NoRun text) result → FileOf old new file P NoRun result
 file_from_text old new file text P NoRun (Ok x) is asks h = record { asks = asks; text = text; is_text = is; holds = h }
 file_from_text old new file text P NoRun (Err (Rules fault)) is asks h = record { asks = asks; text = text; is_text = is; holds = h }
@@ -34,7 +34,7 @@ file_from_text old new file text P NoRun (Err Memory) is asks h = inr asks
 file_from_text old new file text P NoRun (Err (Read name)) is asks h = absurd h
 
 -- why not all of these files were read and taken
-abbrev RefusedAmong : FilesState → FilesState → List File → Refusal → Type 0
+abbrev RefusedAmong : FilesState → FilesState → List File → Hindrance → Type 0
 RefusedAmong old new files (Rules fault) = TextIsRefused old new files RuleRefused (rules_line fault)
 RefusedAmong old new files (Module fault) = TextIsRefused old new files ModuleRefused (module_line fault)
 RefusedAmong old new files Argument = ⊥
@@ -42,7 +42,7 @@ RefusedAmong old new files (Read name) = ReadFails old new files name.now
 RefusedAmong old new files Memory = MemoryIsRefused old new files
 
 -- those of a task
-for_task : (old new : FilesState) (task : Task) (refusal : Refusal) → RefusedAmong old new (files_of task) refusal → RefusedFor old new task refusal
+for_task : (old new : FilesState) (task : Task) (refusal : Hindrance) → RefusedAmong old new (files_of task) refusal → RefusedFor old new task refusal
 for_task old new task (Rules fault) h = h
 for_task old new task (Module fault) h = h
 for_task old new task Argument h = absurd h
@@ -55,14 +55,14 @@ for_task old new task Memory h = h
 first_comes : (old new : FilesState) (file : File) (rest : List File) → AsksOne old new file.name → ComesTo old new (file ∷ rest) file
 first_comes old new file rest asks = record { place = 0; is = refl; texts = []; before = tt; asks = asks }
 
-first_among : (old new : FilesState) (file : File) (rest : List File) (refusal : Refusal) → FileRefused old new file (λ _. ⊥) refusal → RefusedAmong old new (file ∷ rest) refusal
+first_among : (old new : FilesState) (file : File) (rest : List File) (refusal : Hindrance) → FileRefused old new file (λ _. ⊥) refusal → RefusedAmong old new (file ∷ rest) refusal
 first_among old new file rest (Rules fault) h = record { file = file; comes = first_comes old new file rest h.asks; text = h.text; is_text = h.is_text; refuses = h.holds }
 first_among old new file rest (Module fault) h = record { file = file; comes = first_comes old new file rest h.asks; text = h.text; is_text = h.is_text; refuses = h.holds }
 first_among old new file rest Argument h = h.holds
 first_among old new file rest (Read name) h = record { file = file; comes = first_comes old new file rest h.2; named = h.1; rose = h.0 }
 first_among old new file rest Memory h = record { count = 0; texts = []; before = tt; asks = h }
 
-pub first_refused : (old new : FilesState) (task : Task) (file : File) (rest : List File) (refusal : Refusal) → files_of task ≡ file ∷ rest → FileRefused old new file (λ _. ⊥) refusal → RefusedFor old new task refusal
+pub first_refused : (old new : FilesState) (task : Task) (file : File) (rest : List File) (refusal : Hindrance) → files_of task ≡ file ∷ rest → FileRefused old new file (λ _. ⊥) refusal → RefusedFor old new task refusal
 first_refused old new task file rest refusal files h =
     for_task old new task refusal (subst (λ (fs : List File). RefusedAmong old new fs refusal) (sym files) (first_among old new file rest refusal h))
 
@@ -93,7 +93,7 @@ second_comes old mid new one two first asks = record {
   asks = asks_both old.asked mid.asked new.asked one two first.asks asks;
 }
 
-second_among : (old mid new : FilesState) (one two : File) (refusal : Refusal)
+second_among : (old mid new : FilesState) (one two : File) (refusal : Hindrance)
     → FilesFollow old mid → IsReadAs old mid one (Takes one.kind) → FileRefused mid new two (λ _. ⊥) refusal → RefusedAmong old new (one ∷ two ∷ []) refusal
 second_among old mid new one two (Rules fault) follow first h = record {
   file = two;
@@ -125,7 +125,7 @@ second_among old mid new one two Memory follow first (inr asks) = record {
   asks = inr (asks_both old.asked mid.asked new.asked one two first.asks asks);
 }
 
-pub second_refused : (old mid new : FilesState) (task : Task) (one two : File) (refusal : Refusal)
+pub second_refused : (old mid new : FilesState) (task : Task) (one two : File) (refusal : Hindrance)
     → files_of task ≡ one ∷ two ∷ [] → FilesFollow old mid → IsReadAs old mid one (Takes one.kind) → FileRefused mid new two (λ _. ⊥) refusal → RefusedFor old new task refusal
 second_refused old mid new task one two refusal files follow first h =
     for_task old new task refusal (subst (λ (fs : List File). RefusedAmong old new fs refusal) (sym files) (second_among old mid new one two refusal follow first h))
@@ -172,7 +172,7 @@ run_done old new source name arguments options work read ran = record {
   is_work = ran;
 }
 
-pub run_refused : (old new : FilesState) (source name : List ℕ) (arguments : List (List ℕ)) (options : RunOptions) (refusal : Refusal)
+pub run_refused : (old new : FilesState) (source name : List ℕ) (arguments : List (List ℕ)) (options : RunOptions) (refusal : Hindrance)
     → FileRefused old new (record { name = source; kind = ModuleFile }) (λ text. IsMisnamed text name arguments) refusal → RefusedFor old new (Run source name arguments options) refusal
 run_refused old new source name arguments options (Rules fault) h = first_among old new (record { name = source; kind = ModuleFile }) [] (Rules fault) h
 run_refused old new source name arguments options (Module fault) h = first_among old new (record { name = source; kind = ModuleFile }) [] (Module fault) h

@@ -187,7 +187,7 @@ module _ (out out' err err' : SinkState) (ended : Ended) (work : Work) (table : 
   has_done (Optimise file other options) (x ∷ y ∷ z ∷ more) is = absurd is
   has_done (Run file name arguments options) (source ∷ []) is =
       let silent : Appends err err' [] = subst (λ (t : List ℕ). Appends err err' t) is.report report in
-      record { line = work.text; is_run = is.runs; wrote = wrote; silent = silent ∙ nothing_more err.written; status = sym status ∙ is.status }
+      record { line = work.text; is_run = is.runs; wrote = wrote; silent = silent.0 ∙ nothing_more err.written; status = sym status ∙ is.status }
   has_done (Run file name arguments options) [] is = absurd is
   has_done (Run file name arguments options) (x ∷ y ∷ more) is = absurd is
 

@@ -6,7 +6,8 @@ use Rattle.ir_reader.specs.Laws.{TextsHaveOneModuleOrFault}
 use Rattle.verdict.specs.Rule.{Rule}
 use Rattle.rule_reader.specs.RawRule.{RawRule}
 use Rattle.rule_reader.specs.OneReading.{TextsHaveOneReadingOrFault}
-use Rattle.rule_reader.specs.declared.fault.RuleFault.{RuleFault}
+use Rattle.refusal.specs.declared.fault.Fault.{Fault}
+use Rattle.rule_reader.specs.RuleFaultKind.{RuleFaultKind}
 use Rattle.rule_reader.specs.Faults.{IsFault, AreRulesOf, IsFirstRuleFault, too_long, of_text, of_rule}
 use Rattle.alive_top.specs.declared.status.Status.{Status}
 use Rattle.alive_top.specs.File.{Kind, Rules as RuleFile, NoRules, Source as ModuleFile}
@@ -17,14 +18,14 @@ abbrev pub TakenAreNotRefused : Type 0
 TakenAreNotRefused = (kind : Kind) (bytes : List ℕ) (s : Status) (line : List ℕ) → Takes kind bytes → Refuses kind bytes s line → ⊥
 
 -- rules that were read pass each check
-passes : (raws : List RawRule) (rules : List Rule) (k : ℕ) (raw : RawRule) (fault : RuleFault) → AreRulesOf raws rules → slice_get raws k ≡ Some raw → IsFirstRuleFault (take k raws) raw fault → ⊥
+passes : (raws : List RawRule) (rules : List Rule) (k : ℕ) (raw : RawRule) (fault : Fault RuleFaultKind) → AreRulesOf raws rules → slice_get raws k ≡ Some raw → IsFirstRuleFault (take k raws) raw fault → ⊥
 passes raws rules k raw fault are at first = by (slice_get_cases rules k).1
   where
     by : ((rule : Rule) × (k < length rules) × (slice_get rules k ≡ Some rule) × (get_or rules k rule ≡ rule)) ⊎ ((length rules ≤ k) × (slice_get rules k ≡ None)) → ⊥
     by (inl h) = (are.each k raw h.0 at h.2).passes first.check fault.line first.line.0
     by (inr h) = omega (arith, h.0, slice_get_within raws k raw at, are.count)
 
-no_fault : TextsHaveOneReadingOrFault → (bytes : List ℕ) (rules : List Rule) (fault : RuleFault) → IsRuleText bytes rules → IsFault bytes fault → ⊥
+no_fault : TextsHaveOneReadingOrFault → (bytes : List ℕ) (rules : List Rule) (fault : Fault RuleFaultKind) → IsRuleText bytes rules → IsFault bytes fault → ⊥
 no_fault law bytes rules fault is (too_long long) = omega (arith, is.short)
 no_fault law bytes rules fault is (of_text {fault = f} short text) = law.not_both bytes is.file.raws f is.file.written text
 no_fault law bytes rules fault is (of_rule raws k raw short written at earlier first) =
@@ -40,7 +41,7 @@ one_list law bytes is (rules, other, some) =
     let count : length is.file.raws ≡ length other.file.raws = subst (λ (r : List RawRule). length is.file.raws ≡ length r) raws refl in
     some (none rules (omega (arith, count, is.file.read.count, other.file.read.count)))
 
-refused_no_rules : TextsHaveOneReadingOrFault → (bytes : List ℕ) (fault : RuleFault) → IsRuleText bytes [] → IsFault bytes fault ⊎ IsFirstName bytes fault → ⊥
+refused_no_rules : TextsHaveOneReadingOrFault → (bytes : List ℕ) (fault : Fault RuleFaultKind) → IsRuleText bytes [] → IsFault bytes fault ⊎ IsFirstName bytes fault → ⊥
 refused_no_rules law bytes fault is (inl f) = no_fault law bytes [] fault is f
 refused_no_rules law bytes fault is (inr first) = one_list law bytes is first.has
 

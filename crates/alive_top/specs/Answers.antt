@@ -2,8 +2,8 @@
 use Rattle.std.specs.Prelude.{◌≡◌, ℕ, ◌⊎◌, List, Result, Ok, Err}
 use Rattle.outside.specs.Faults.{Rose}
 use Rattle.outside.specs.Files.{FilesState}
-use Rattle.alive_top.specs.declared.refusal.Refusal.{Refusal}
-use Rattle.alive_top.specs.declared.refusal.Refusal.TheVariants.{Rules, Module, Argument, Read, Memory}
+use Rattle.alive_top.specs.declared.hindrance.Hindrance.{Hindrance}
+use Rattle.alive_top.specs.declared.hindrance.Hindrance.TheVariants.{Rules, Module, Argument, Read, Memory}
 use Rattle.alive_top.specs.declared.status.Status.TheVariants as statuses
 use Rattle.alive_top.specs.declared.work.Work.{Work as Stored}
 use Rattle.alive_top.specs.Cause.{TextIsRefused, ReadFails, MemoryIsRefused, ArgumentIsRefused}
@@ -16,7 +16,7 @@ use Rattle.alive_top.specs.Texts.{IsTextOf, AreTaken}
 use Rattle.alive_top.specs.Work.{Work, IsWorkOf}
 
 -- a read of a file's bytes
-abbrev pub ReadOf : {T : Type 0} → FilesState → FilesState → List ℕ → (T → Type 0) → Result T Refusal → Type 0
+abbrev pub ReadOf : {T : Type 0} → FilesState → FilesState → List ℕ → (T → Type 0) → Result T Hindrance → Type 0
 ReadOf old new name P (Ok x) = P x × AsksOne old new name
 ReadOf old new name P (Err (Read n)) = Rose old.faults new.faults × (n.now ≡ name) × AsksOne old new name
 ReadOf old new name P (Err Memory) = AsksNone old new
@@ -25,7 +25,7 @@ ReadOf old new name P (Err (Module fault)) = ⊥
 ReadOf old new name P (Err Argument) = ⊥
 
 -- what a text gives, read as what it is read for: this, or why it is refused; arguments may be refused only where `NoRun` holds
-abbrev pub TextOf : {T : Type 0} → Kind → List ℕ → (T → Type 0) → Type 0 → Result T Refusal → Type 0
+abbrev pub TextOf : {T : Type 0} → Kind → List ℕ → (T → Type 0) → Type 0 → Result T Hindrance → Type 0
 TextOf kind text P NoRun (Ok x) = P x
 TextOf kind text P NoRun (Err (Rules fault)) = Refuses kind text statuses.RuleRefused (rules_line fault)
 TextOf kind text P NoRun (Err (Module fault)) = Refuses kind text statuses.ModuleRefused (module_line fault)
@@ -41,7 +41,7 @@ pub record IsReadAs (old new : FilesState) (file : File) (P : List ℕ → Type 
   pub holds : P text
 
 -- why a file gave nothing: it could not be read, its text or the arguments were refused, or there was no memory
-abbrev pub FileRefused : FilesState → FilesState → File → (List ℕ → Type 0) → Refusal → Type 0
+abbrev pub FileRefused : FilesState → FilesState → File → (List ℕ → Type 0) → Hindrance → Type 0
 FileRefused old new file NoRun (Rules fault) = IsReadAs old new file (λ text. Refuses file.kind text statuses.RuleRefused (rules_line fault))
 FileRefused old new file NoRun (Module fault) = IsReadAs old new file (λ text. Refuses file.kind text statuses.ModuleRefused (module_line fault))
 FileRefused old new file NoRun Argument = IsReadAs old new file NoRun
@@ -49,7 +49,7 @@ FileRefused old new file NoRun (Read n) = Rose old.faults new.faults × (n.now �
 FileRefused old new file NoRun Memory = AsksNone old new ⊎ AsksOne old new file.name
 
 -- a read of a file, and what its text gives
-abbrev pub FileOf : {T : Type 0} → FilesState → FilesState → File → (List ℕ → T → Type 0) → (List ℕ → Type 0) → Result T Refusal → Type 0
+abbrev pub FileOf : {T : Type 0} → FilesState → FilesState → File → (List ℕ → T → Type 0) → (List ℕ → Type 0) → Result T Hindrance → Type 0
 FileOf old new file P NoRun (Ok x) = IsReadAs old new file (λ text. P text x)
 FileOf old new file P NoRun (Err refusal) = FileRefused old new file NoRun refusal
 
@@ -58,7 +58,7 @@ abbrev pub seen_work : Stored → Work
 seen_work work = record { text = work.text.items; report = work.report.items; table = work.table; status = work.status }
 
 -- why the work of a task was not done
-abbrev pub RefusedFor : FilesState → FilesState → Task → Refusal → Type 0
+abbrev pub RefusedFor : FilesState → FilesState → Task → Hindrance → Type 0
 RefusedFor old new task (Rules fault) = TextIsRefused old new (files_of task) statuses.RuleRefused (rules_line fault)
 RefusedFor old new task (Module fault) = TextIsRefused old new (files_of task) statuses.ModuleRefused (module_line fault)
 RefusedFor old new task Argument = ArgumentIsRefused old new task
@@ -73,6 +73,6 @@ pub record IsDoneFor (old new : FilesState) (task : Task) (work : Work) : Type 0
   pub is_work : IsWorkOf task texts work
 
 -- how the work of a task ends, before anything is written
-abbrev pub TaskOf : FilesState → FilesState → Task → Result Stored Refusal → Type 0
+abbrev pub TaskOf : FilesState → FilesState → Task → Result Stored Hindrance → Type 0
 TaskOf old new task (Ok work) = IsDoneFor old new task (seen_work work)
 TaskOf old new task (Err refusal) = RefusedFor old new task refusal

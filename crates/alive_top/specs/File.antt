@@ -1,6 +1,7 @@
 -- The files that a task reads.
 use Rattle.std.specs.Prelude.{ℕ, List, [], ◌∷◌}
-use Rattle.ir_reader.specs.Text.{most_bytes}
+use Rattle.ir_reader.specs.Text as modules
+use Rattle.rule_reader.specs.Limits as rule_files
 use Rattle.alive_top.specs.Task.{Task, Verify, Optimise, Run}
 
 -- what a file is read for: rules; rules, where none may stand yet; or a module
@@ -20,12 +21,8 @@ files_of (Verify rules options) = record { name = rules; kind = Rules } ∷ []
 files_of (Optimise rules source options) = record { name = rules; kind = NoRules } ∷ record { name = source; kind = Source } ∷ []
 files_of (Run source name arguments options) = record { name = source; kind = Source } ∷ []
 
--- the most bytes of a rule file: 1 MiB
-abbrev pub rules_limit : ℕ
-rules_limit = 1048576
-
 -- the most bytes of a file
 abbrev pub limit_of : Kind → ℕ
-limit_of Rules = rules_limit
-limit_of NoRules = rules_limit
-limit_of Source = most_bytes
+limit_of Rules = rule_files.most_bytes
+limit_of NoRules = rule_files.most_bytes
+limit_of Source = modules.most_bytes

@@ -1,4 +1,4 @@
-pub use Rattle.ir_reader.specs.Errors
+pub use Rattle.refusal.specs.Refusals
 pub use Rattle.outside.specs.Files
 pub use Rattle.command_line.specs.Limits
 pub use Rattle.outside.specs.Sink
@@ -22,5 +22,5 @@ pub mod Optimised
 pub mod Arguments
 pub mod OutcomeText
 pub mod Runs
-pub mod RunErrors
+pub mod RunFaults
 pub mod OutcomeLaws

@@ -3,12 +3,11 @@ use Rattle.std.specs.Prelude.{ℕ, List, ◌++◌, codes, decimal}
 use Rattle.ir_reader.specs.Identifier.{Identifier}
 use Rattle.ir_reader.specs.Identifier.TheVariants.{Named, Numbered}
 use Rattle.ir_printer.specs.NameText.{name_text}
-use Rattle.ir_reader.specs.declared.fault.IrFault.{IrFault}
-use Rattle.ir_reader.specs.declared.fault.IrFaultKind.{IrFaultKind}
-use Rattle.ir_reader.specs.declared.fault.IrFaultKind.TheVariants as ir
-use Rattle.rule_reader.specs.declared.fault.RuleFault.{RuleFault}
-use Rattle.rule_reader.specs.declared.fault.RuleFaultKind.{RuleFaultKind}
-use Rattle.rule_reader.specs.declared.fault.RuleFaultKind.TheVariants.{TooLong, BadByte, Syntax, LeftOut, TooMany, Duplicate, Unbound, RootMissing, Redefines, UnusedTemp, UndefInside, WitnessCount, NoType, OpenType}
+use Rattle.refusal.specs.declared.fault.Fault.{Fault}
+use Rattle.ir_reader.specs.IrFaultKind.{IrFaultKind}
+use Rattle.ir_reader.specs.IrFaultKind.TheVariants as ir
+use Rattle.rule_reader.specs.RuleFaultKind.{RuleFaultKind}
+use Rattle.rule_reader.specs.RuleFaultKind.TheVariants.{TooLong, BadByte, Syntax, LeftOut, TooMany, Duplicate, Unbound, RootMissing, Redefines, UnusedTemp, UndefInside, WitnessCount, NoType, OpenType}
 
 -- the name of a kind of fault, with what was left out
 unfoldable pub kind_text : RuleFaultKind → List ℕ
@@ -28,7 +27,7 @@ kind_text NoType = codes "NoType"
 kind_text OpenType = codes "OpenType"
 
 -- the line on a rule file: where its first fault is, and of which kind
-abbrev pub rules_line : RuleFault → List ℕ
+abbrev pub rules_line : Fault RuleFaultKind → List ℕ
 rules_line fault = codes "rules: line " ++ decimal fault.line ++ codes ": " ++ kind_text fault.kind ++ codes "\n"
 
 -- a register as it is printed, by its name or its number
@@ -53,7 +52,7 @@ ir_kind_text ir.EntryPred = codes "EntryPred"
 ir_kind_text (ir.Unassigned register block) = codes "Unassigned " ++ register_text register ++ codes " in block " ++ decimal block
 
 -- the line on a module: where its first fault is, and of which kind
-abbrev pub module_line : IrFault → List ℕ
+abbrev pub module_line : Fault IrFaultKind → List ℕ
 module_line fault = codes "module: line " ++ decimal fault.line ++ codes ": " ++ ir_kind_text fault.kind ++ codes "\n"
 
 -- the line that names a file that could not be read

@@ -1,8 +1,8 @@
 -- The puts of lines and texts, and the statuses that they leave.
 use Rattle.std.specs.Prelude.{◌≡◌, ◌⊎◌, ℕ, List}
 use Rattle.outside.specs.Sink.{SinkState, Appends}
-use Rattle.alive_top.specs.declared.refusal.Refusal.{Refusal}
-use Rattle.alive_top.specs.declared.refusal.Refusal.TheVariants.{Rules, Module, Argument, Read, Memory}
+use Rattle.alive_top.specs.declared.hindrance.Hindrance.{Hindrance}
+use Rattle.alive_top.specs.declared.hindrance.Hindrance.TheVariants.{Rules, Module, Argument, Read, Memory}
 use Rattle.alive_top.specs.declared.status.Status.{Status}
 use Rattle.alive_top.specs.declared.status.Status.TheVariants as statuses
 use Rattle.alive_top.specs.Lines.{rules_line, module_line, read_fault_line, argument_line, memory_line}
@@ -18,7 +18,7 @@ abbrev pub SaysMemory : SinkState → SinkState → Status → Type 0
 SaysMemory err err' given = Says err err' statuses.NoMemory memory_line given
 
 -- how a refusal ends: by its line, or by that on memory where there was none for its own
-abbrev pub RefusedAs : Refusal → SinkState → SinkState → Status → Type 0
+abbrev pub RefusedAs : Hindrance → SinkState → SinkState → Status → Type 0
 RefusedAs (Rules fault) err err' given = Says err err' statuses.RuleRefused (rules_line fault) given ⊎ SaysMemory err err' given
 RefusedAs (Module fault) err err' given = Says err err' statuses.ModuleRefused (module_line fault) given ⊎ SaysMemory err err' given
 RefusedAs Argument err err' given = Says err err' statuses.Argument argument_line given

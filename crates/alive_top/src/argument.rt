@@ -1,15 +1,13 @@
 //! The values that the arguments of a run say.
 
-ghost use Rattle.std.specs.Prelude.{◌≡◌, ◌≤◌, map, IfOk, IfErr};
+ghost use Rattle.std.specs.Prelude.{◌≡◌, ◌≤◌, map, IfOk, IfSome, None};
 ghost use Rattle.alive_top.specs.Arguments.{begins_as_none};
 ghost use Rattle.alive_top.specs.Arguments.{AreSaid, DoNotFit, decimal_said, value_said};
-ghost use Rattle.alive_top.specs.RunErrors.{IfTextRefused};
 
-use crate::fault::RunError;
 use ir_core::Parameter;
 use lists::List;
 use ops::{Value, Width, Word};
-use std::alloc::Global;
+use std::alloc::{AllocError, Global};
 
 /// Whether a text begins as no decimal does, though `parse` may read it: with a plus sign, or with a zero before other bytes.
 fn begins_as_none(text: &str) -> bool
@@ -54,25 +52,24 @@ fn value_said(width: Width, text: &str) -> Option<Value>
     decimal_said(width, text)
 }
 
-/// The values that words say for parameters, or `Argument` where they don't fit.
+/// The values that words say for parameters, or `None` where they don't fit.
 pub(crate) fn values_said(
     alloc: Global,
     parameters: &[Parameter],
     words: &[&str],
-) -> Result<List<Value>, RunError>
-    ensures ok { IfOk result (AreSaid parameters.now (map (λ w. w.now) words.now)) }
-    ensures argument { IfErr result (λ e. e ≡ RunError.Argument → DoNotFit parameters.now (map (λ w. w.now) words.now)) }
-    ensures refused { IfErr result (λ e. IfTextRefused e (λ _. ⊥)) }
+) -> Result<Option<List<Value>>, AllocError>
+    ensures said { IfOk result (λ found. IfSome found (AreSaid parameters.now (map (λ w. w.now) words.now))) }
+    ensures unfit { IfOk result (λ found. found ≡ None → DoNotFit parameters.now (map (λ w. w.now) words.now)) }
 {
     if words.len() != parameters.len() {
-        return Err(RunError::Argument);
+        return Ok(None);
     }
     let mut values = List::new(alloc);
     for (place, parameter) in parameters.iter().enumerate() {
         match value_said(parameter.width, words[place]) {
             Some(value) => values.push(value)?,
-            None => return Err(RunError::Argument),
+            None => return Ok(None),
         }
     }
-    Ok(values)
+    Ok(Some(values))
 }

@@ -6,17 +6,17 @@
 
 mod argument;
 mod fault;
+mod hindrance;
 mod laws;
 mod named;
 mod optimised;
 mod outcome;
-mod refusal;
 mod running;
 mod status;
 mod top;
 mod work;
 
-pub use fault::RunError;
+pub use fault::{RunError, RunFault};
 pub use laws::{
     every_module_read_has_outcomes, every_module_written_has_outcomes,
     every_run_has_its_function_and_arguments,

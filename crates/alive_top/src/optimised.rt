@@ -3,7 +3,7 @@
 ghost use Rattle.std.specs.Prelude.{◌≤◌, length, IfOk, OnOk, IfErr};
 ghost use Rattle.ir_reader.specs.Text.{most_bytes};
 ghost use Rattle.ir_reader.specs.Faults.{IsFault};
-ghost use Rattle.ir_reader.specs.Errors.{IfRefused};
+ghost use Rattle.refusal.specs.Refusals.{IfRefused};
 ghost use Rattle.alive_top.specs.Optimised.{Prints};
 
 use ir_printer::{print_module, print_report};

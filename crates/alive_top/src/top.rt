@@ -15,7 +15,7 @@ ghost use Rattle.alive_top.specs.Task.{Task, Asks, task_of};
 ghost use Rattle.alive_top.specs.Texts.{OfSomeTexts, OfToldTexts, TakesEach, HasBadFile};
 ghost use Rattle.alive_top.specs.Written.{Took};
 
-use crate::refusal::{Refusal, module_line, read_fault_line, rules_line};
+use crate::hindrance::{Hindrance, module_line, read_fault_line, rules_line};
 use crate::status::{Ended, Status};
 use crate::work::{Work, perform};
 use command_line::{Command, CommandError, read_command};
@@ -51,21 +51,21 @@ fn put_made<E: Sink>(line: Result<Vec<u8>, AllocError>, status: Status, err: &mu
 }
 
 /// Puts a refusal's line, and gives its status, which stays if the put fails.
-fn refuse<E: Sink>(alloc: Global, refusal: Refusal<'_>, err: &mut E) -> Status
+fn refuse<E: Sink>(alloc: Global, refusal: Hindrance<'_>, err: &mut E) -> Status
     ensures answer { RefusedAs refusal.entry (E.state err.old) (E.state err.new) result }
     ensures follows { SinkFollows (E.state err.old) (E.state err.new) }
 {
     match refusal {
-        Refusal::Rules(fault) => put_made(rules_line(alloc, &fault), Status::RuleRefused, err),
-        Refusal::Module(fault) => {
+        Hindrance::Rules(fault) => put_made(rules_line(alloc, &fault), Status::RuleRefused, err),
+        Hindrance::Module(fault) => {
             put_made(module_line(alloc, &fault), Status::ModuleRefused, err)
         }
-        Refusal::Argument => {
+        Hindrance::Argument => {
             put_line(b"argument refused\n", err);
             Status::Argument
         }
-        Refusal::Read(name) => put_made(read_fault_line(alloc, name), Status::ReadFault, err),
-        Refusal::Memory => {
+        Hindrance::Read(name) => put_made(read_fault_line(alloc, name), Status::ReadFault, err),
+        Hindrance::Memory => {
             put_line(b"want of memory\n", err);
             Status::NoMemory
         }

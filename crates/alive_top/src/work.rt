@@ -11,9 +11,9 @@ ghost use Rattle.alive_top.specs.Taken.{IsRuleText, HasRules, IsFirstName};
 ghost use Rattle.alive_top.specs.Task.{Verify, Optimise, Run, task_of};
 ghost use Rattle.alive_top.specs.Work.{IsVerifyWork, IsPrinted};
 
-use crate::fault::RunError;
+use crate::fault::{RunError, RunFault};
+use crate::hindrance::Hindrance;
 use crate::optimised::Texts;
-use crate::refusal::Refusal;
 use crate::status::Status;
 use command_line::{Command, OptimiseOptions, RunOptions, VerifyOptions};
 use ir_reader::IrError;
@@ -23,9 +23,6 @@ use rule_reader::{Rule, RuleError, RuleFault, RuleFaultKind, read_rules};
 use scan::Cursor;
 use std::alloc::{AllocError, Global};
 use verdict::Table;
-
-/// The most bytes of a rule file.
-const RULES_LIMIT: usize = 1_048_576;
 
 /// What a command writes: a text for the output, and a report. Beside them the verdicts, and the status once both are written.
 #[derive(Drop)]
@@ -42,27 +39,27 @@ fn read<'a, F: Files>(
     files: &mut F,
     name: &'a str,
     most: usize,
-) -> Result<Vec<u8>, Refusal<'a>>
+) -> Result<Vec<u8>, Hindrance<'a>>
     ensures answer { ReadOf (F.state files.old) (F.state files.new) name.now
         (λ read. IfSome ((F.state files.old).told name.now) (λ told. read.items ≡ take most told)) result }
     ensures follow { FilesFollow (F.state files.old) (F.state files.new) }
 {
     match files.read(alloc, name, most) {
         Ok(bytes) => Ok(bytes),
-        Err(ReadError::Failed) => Err(Refusal::Read(name)),
-        Err(ReadError::NoMemory) => Err(Refusal::Memory),
+        Err(ReadError::Failed) => Err(Hindrance::Read(name)),
+        Err(ReadError::NoMemory) => Err(Hindrance::Memory),
     }
 }
 
 /// The rules of a text.
-fn rules_of<'a>(alloc: Global, bytes: &[u8]) -> Result<Vec<Rule>, Refusal<'a>>
+fn rules_of<'a>(alloc: Global, bytes: &[u8]) -> Result<Vec<Rule>, Hindrance<'a>>
     ensures text { TextOf Rules bytes.now (λ rules. IsRuleText bytes.now rules.items) ⊥ result }
     ensures read { IfOk result (λ rules. All IsReadRule rules.items) }
 {
     match read_rules(alloc, bytes) {
         Ok(rules) => Ok(rules),
-        Err(RuleError::Refused(fault)) => Err(Refusal::Rules(fault)),
-        Err(RuleError::NoMemory) => Err(Refusal::Memory),
+        Err(RuleError::Refused(fault)) => Err(Hindrance::Rules(fault)),
+        Err(RuleError::NoMemory) => Err(Hindrance::Memory),
     }
 }
 
@@ -83,25 +80,25 @@ fn first_name(alloc: Global, bytes: &[u8]) -> Result<RuleFault, AllocError>
 }
 
 /// That a text is a rule file without rules.
-fn no_rules_of<'a>(alloc: Global, bytes: &[u8]) -> Result<(), Refusal<'a>>
+fn no_rules_of<'a>(alloc: Global, bytes: &[u8]) -> Result<(), Hindrance<'a>>
     ensures { TextOf NoRules bytes.now (λ none. IsRuleText bytes.now []) ⊥ result }
 {
     let rules = rules_of(alloc, bytes)?;
     if rules.is_empty() {
         Ok(())
     } else {
-        Err(Refusal::Rules(first_name(alloc, bytes)?))
+        Err(Hindrance::Rules(first_name(alloc, bytes)?))
     }
 }
 
 /// What is written for the text of a module.
-fn texts_of<'a>(alloc: Global, source: &[u8]) -> Result<Texts, Refusal<'a>>
+fn texts_of<'a>(alloc: Global, source: &[u8]) -> Result<Texts, Hindrance<'a>>
     ensures { TextOf Source source.now (λ texts. IsPrinted source.now texts.out.items texts.report.items) ⊥ result }
 {
     match crate::optimised::optimise(alloc, source) {
         Ok(texts) => Ok(texts),
-        Err(IrError::Refused(fault)) => Err(Refusal::Module(fault)),
-        Err(IrError::NoMemory) => Err(Refusal::Memory),
+        Err(IrError::Refused(fault)) => Err(Hindrance::Module(fault)),
+        Err(IrError::NoMemory) => Err(Hindrance::Memory),
     }
 }
 
@@ -110,13 +107,13 @@ fn read_rule_file<'a, F: Files>(
     alloc: Global,
     files: &mut F,
     name: &'a str,
-) -> Result<Vec<Rule>, Refusal<'a>>
+) -> Result<Vec<Rule>, Hindrance<'a>>
     ensures answer { FileOf (F.state files.old) (F.state files.new) (record { name = name.now; kind = Rules })
         (λ text rules. IsRuleText text rules.items) (λ _. ⊥) result }
     ensures read { IfOk result (λ rules. All IsReadRule rules.items) }
     ensures follow { FilesFollow (F.state files.old) (F.state files.new) }
 {
-    let bytes = read(alloc, files, name, RULES_LIMIT + 1)?;
+    let bytes = read(alloc, files, name, rule_reader::MOST_BYTES + 1)?;
     rules_of(alloc, bytes.as_slice())
 }
 
@@ -125,12 +122,12 @@ fn read_no_rules<'a, F: Files>(
     alloc: Global,
     files: &mut F,
     name: &'a str,
-) -> Result<(), Refusal<'a>>
+) -> Result<(), Hindrance<'a>>
     ensures answer { FileOf (F.state files.old) (F.state files.new) (record { name = name.now; kind = NoRules })
         (λ text none. IsRuleText text []) (λ _. ⊥) result }
     ensures follow { FilesFollow (F.state files.old) (F.state files.new) }
 {
-    let bytes = read(alloc, files, name, RULES_LIMIT + 1)?;
+    let bytes = read(alloc, files, name, rule_reader::MOST_BYTES + 1)?;
     no_rules_of(alloc, bytes.as_slice())
 }
 
@@ -139,7 +136,7 @@ fn read_source<'a, F: Files>(
     alloc: Global,
     files: &mut F,
     name: &'a str,
-) -> Result<Texts, Refusal<'a>>
+) -> Result<Texts, Hindrance<'a>>
     ensures answer { FileOf (F.state files.old) (F.state files.new) (record { name = name.now; kind = Source })
         (λ text texts. IsPrinted text texts.out.items texts.report.items) (λ _. ⊥) result }
     ensures follow { FilesFollow (F.state files.old) (F.state files.new) }
@@ -184,7 +181,7 @@ fn verify<'a, F: Files>(
     files: &mut F,
     rules: &'a str,
     options: &VerifyOptions,
-) -> Result<Work, Refusal<'a>>
+) -> Result<Work, Hindrance<'a>>
     requires conflicts { options.now.conflicts ≤ most_conflicts }
     ensures answer { TaskOf (F.state files.old) (F.state files.new) (Verify rules.now options.now) result }
     ensures follow { FilesFollow (F.state files.old) (F.state files.new) }
@@ -201,7 +198,7 @@ fn optimise<'a, F: Files>(
     rules: &'a str,
     source: &'a str,
     options: OptimiseOptions,
-) -> Result<Work, Refusal<'a>>
+) -> Result<Work, Hindrance<'a>>
     ensures answer { TaskOf (F.state files.old) (F.state files.new) (Optimise rules.now source.now options) result }
     ensures follow { FilesFollow (F.state files.old) (F.state files.new) }
 {
@@ -222,15 +219,15 @@ fn run_of<'a>(
     name: &str,
     arguments: &[&str],
     blocks: u32,
-) -> Result<Vec<u8>, Refusal<'a>>
+) -> Result<Vec<u8>, Hindrance<'a>>
     ensures { TextOf Source source.now (λ text. IsRun source.now name.now (map (λ a. a.now) arguments.now) blocks text.items)
         (IsMisnamed source.now name.now (map (λ a. a.now) arguments.now)) result }
 {
     match crate::running::run(alloc, source, name.as_bytes(), arguments, blocks) {
         Ok(text) => Ok(text),
-        Err(RunError::Refused(fault)) => Err(Refusal::Module(fault)),
-        Err(RunError::Argument) => Err(Refusal::Argument),
-        Err(RunError::NoMemory) => Err(Refusal::Memory),
+        Err(RunError::Refused(RunFault::Module(fault))) => Err(Hindrance::Module(fault)),
+        Err(RunError::Refused(RunFault::Argument)) => Err(Hindrance::Argument),
+        Err(RunError::NoMemory) => Err(Hindrance::Memory),
     }
 }
 
@@ -242,7 +239,7 @@ fn read_and_run<'a, F: Files>(
     name: &str,
     arguments: &[&str],
     blocks: u32,
-) -> Result<Vec<u8>, Refusal<'a>>
+) -> Result<Vec<u8>, Hindrance<'a>>
     ensures answer { FileOf (F.state files.old) (F.state files.new) (record { name = source.now; kind = Source })
         (λ text line. IsRun text name.now (map (λ a. a.now) arguments.now) blocks line.items)
         (λ text. IsMisnamed text name.now (map (λ a. a.now) arguments.now)) result }
@@ -260,7 +257,7 @@ fn run<'a, F: Files>(
     name: &str,
     arguments: &[&str],
     options: RunOptions,
-) -> Result<Work, Refusal<'a>>
+) -> Result<Work, Hindrance<'a>>
     ensures answer { TaskOf (F.state files.old) (F.state files.new)
         (Run source.now name.now (map (λ a. a.now) arguments.now) options) result }
     ensures follow { FilesFollow (F.state files.old) (F.state files.new) }
@@ -279,7 +276,7 @@ pub(crate) fn perform<'a, F: Files>(
     alloc: Global,
     command: Command<'a>,
     files: &mut F,
-) -> Result<Work, Refusal<'a>>
+) -> Result<Work, Hindrance<'a>>
     requires { IsWithinLimits command }
     ensures answer { TaskOf (F.state files.old) (F.state files.new) (task_of command.entry) result }
     ensures follow { FilesFollow (F.state files.old) (F.state files.new) }

@@ -12,9 +12,13 @@ abbrev pub SinkFollows : SinkState → SinkState → Type 0
 SinkFollows old new = old.faults ≤ new.faults
 
 -- Where the bytes are told, they are the old ones and then the piece.
-abbrev pub Appends : SinkState → SinkState → List ℕ → Type 0
-Appends old new piece = new.written ≡ option_map (λ told. told ++ piece) old.written
+abbrev pub Extends : SinkState → SinkState → List ℕ → Type 0
+Extends old new piece = new.written ≡ option_map (λ told. told ++ piece) old.written
 
--- The same for a prefix of the piece, maybe all of it.
+-- The piece was written, all of it, and there was no fault.
+abbrev pub Appends : SinkState → SinkState → List ℕ → Type 0
+Appends old new piece = Extends old new piece × (new.faults ≡ old.faults)
+
+-- A prefix of the piece was written, maybe all of it.
 abbrev pub AppendsPrefix : SinkState → SinkState → List ℕ → Type 0
-AppendsPrefix old new piece = (count : ℕ) × (count ≤ length piece) × Appends old new (take count piece)
+AppendsPrefix old new piece = (count : ℕ) × (count ≤ length piece) × Extends old new (take count piece)

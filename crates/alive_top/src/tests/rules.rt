@@ -138,9 +138,9 @@ const ROWS: [Row; 19] = [
     // 13 input bits
     Row {
         rules: "Name: xor-self\n%r = xor %x, %x\n=>\n%r = 0\n",
-        options: &["--widths", "12", "--conflicts", "1"],
-        status: 1,
-        out: "xor-self [12]: budget\n",
+        options: &["--widths", "12", "--conflicts", "0"],
+        status: 0,
+        out: "xor-self [12]: admitted\n",
         or: None,
     },
     Row {

@@ -3,8 +3,8 @@ use Rattle.ops.specs.declared.value.Value.{Value}
 use Rattle.alive_top.proofs.ArgumentLemmas.{said_more, said_none, all_said}
 use Rattle.alive_top.proofs.argument.values_said.Goals as goal
 
-pub returns-in-None-clause-argument : goal.returns-in-None-clause-argument
-returns-in-None-clause-argument c _ =
+pub returns-in-None-clause-unfit : goal.returns-in-None-clause-unfit
+returns-in-None-clause-unfit c _ =
     let count : length c.args.words.now ≡ length c.args.parameters.now = omega arith in
     inr (said_none c.args.parameters.now c.args.words.now c.loop-place.place c.index-parameters-place.result _ count c.loop-place-test.true c.index-parameters-place.is c.value_said.result c.value_said.ensures c.in-None.is)
 
@@ -14,7 +14,7 @@ loop-place-preserved c =
     ap (λ (values : List Value). map (λ u. Some u) values) c.in_ok-push-in-Some.ensures.ok
     ∙ said_more c.args.parameters.now c.args.words.now c.loop-place.place c.index-parameters-place.result _ count c.loop-place-test.true c.index-parameters-place.is c.loop-place.values c.in-Some.value c.value_said.result c.value_said.ensures c.in-Some.is c.loop-place.invariant
 
-pub returns-clause-ok : goal.returns-clause-ok
-returns-clause-ok c =
+pub returns-clause-said : goal.returns-clause-said
+returns-clause-said c =
     let count : length c.args.words.now ≡ length c.args.parameters.now = omega arith in
     all_said c.args.parameters.now c.args.words.now c.loop-place.values c.loop-place.place count c.loop-place-test.false c.loop-place.invariant

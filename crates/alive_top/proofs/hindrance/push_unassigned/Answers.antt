@@ -1,7 +1,7 @@
 use Rattle.std.proofs.Common.{◌≡◌, ℕ, List, ◌++◌, ap, ◌∙◌, append_assoc}
 use Rattle.std.specs.Prelude.{codes, decimal}
 use Rattle.alive_top.specs.Lines.{register_text}
-use Rattle.alive_top.proofs.refusal.push_unassigned.Goals as goal
+use Rattle.alive_top.proofs.hindrance.push_unassigned.Goals as goal
 
 -- four pieces, one put behind the other
 pieces : (out a b c d x y z all : List ℕ) → x ≡ out ++ a → y ≡ x ++ b → z ≡ y ++ c → all ≡ z ++ d → all ≡ out ++ (((a ++ b) ++ c) ++ d)

@@ -1,7 +1,7 @@
 //! Why a command's work was not done, and the line that says so.
 
 ghost use Rattle.std.specs.Prelude.{◌≡◌, ◌++◌, codes, decimal, IfOk, OnOk};
-ghost use Rattle.alive_top.specs.declared.refusal.Refusal.TheVariants.{Memory};
+ghost use Rattle.alive_top.specs.declared.hindrance.Hindrance.TheVariants.{Memory};
 ghost use Rattle.alive_top.specs.Lines.{kind_text, rules_line, register_text, ir_kind_text, module_line, read_fault_line};
 
 use ir_printer::push_name;
@@ -12,7 +12,7 @@ use std::alloc::{AllocError, Global};
 
 /// Why a command's work was not done.
 #[derive(Drop)]
-pub(crate) enum Refusal<'a> {
+pub(crate) enum Hindrance<'a> {
     /// The rule file is none.
     Rules(RuleFault),
     /// The module is none.
@@ -25,11 +25,11 @@ pub(crate) enum Refusal<'a> {
     Memory,
 }
 
-impl From<AllocError> for Refusal<'_> {
+impl From<AllocError> for Hindrance<'_> {
     ghost from_gives = { λ _ e. e ≡ Memory };
 
     fn from(_error: AllocError) -> Self {
-        Refusal::Memory
+        Hindrance::Memory
     }
 }
 
