@@ -1,6 +1,6 @@
 //! Functions that are read and run.
 
-use alive_top::{RunError, run};
+use alive_top::{RunError, RunFault, run};
 use std::alloc::{AllocError, Global};
 use std::test::Fail;
 
@@ -88,8 +88,8 @@ const ROWS: [(&str, &[&str], u32, &str); 21] = [
 fn line(alloc: Global, text: &str, arguments: &[&str], blocks: u32) -> Result<Vec<u8>, AllocError> {
     match run(alloc, text.as_bytes(), b"f", arguments, blocks) {
         Ok(line) => Ok(line),
-        Err(RunError::Refused(_)) => Vec::from_slice(alloc, b"refused"),
-        Err(RunError::Argument) => Vec::from_slice(alloc, b"argument"),
+        Err(RunError::Refused(RunFault::Module(_))) => Vec::from_slice(alloc, b"refused"),
+        Err(RunError::Refused(RunFault::Argument)) => Vec::from_slice(alloc, b"argument"),
         Err(RunError::NoMemory) => Err(AllocError),
     }
 }
