@@ -16,7 +16,7 @@ use Rattle.clauses.proofs.Closed.{HeldWithin, HeldWithin-nil, HeldWithin-cons, I
 use Rattle.cdcl_log.specs.declared.trail.Entry.{Entry}
 use Rattle.cdcl_log.specs.declared.trail.Cause.{Cause}
 use Rattle.cdcl_log.specs.declared.trail.Cause.TheVariants.{NonInputDecision}
-use Rattle.cdcl_log.specs.Found.{IsModel, IsHonestLimit, NoneEmpty}
+use Rattle.cdcl_log.specs.Found.{IsModel, IsHonestLimit, NoneEmpty, distinct_count}
 use Rattle.cdcl_log.specs.TrailEntries.{literals, is_decision, IsOpen, IsSet, IsTableOf, value_makes, value_or_false}
 use Rattle.cdcl_log.specs.Propagated.{AllPropagated}
 use Rattle.cdcl_log.specs.DepthFirst.{InputsSet, IsCaused, IsLearned, IsDecided}
@@ -153,7 +153,7 @@ inputs_set set log held l cause is caused =
     let other : IsCaused set log held l NonInputDecision = subst (IsCaused set log held l) is caused in other.1
 
 -- a conflict below a decision shows that units alone don't refute
-pub IsHonestLimit-from_conflict : (set : Cnf) (log : List Step) (limit : ℕ) (held : List Lit) (l : Lit) (cause : Cause) → limit ≤ length log → IsLearned set log → is_decision cause ≡ true → IsCaused set log held l cause → IsVariable set.count l.variable → IsOpen held l.variable → (cause ≡ NonInputDecision) ⊎ (12 < length set.inputs) → IsHonestLimit set limit (take limit log)
+pub IsHonestLimit-from_conflict : (set : Cnf) (log : List Step) (limit : ℕ) (held : List Lit) (l : Lit) (cause : Cause) → limit ≤ length log → IsLearned set log → is_decision cause ≡ true → IsCaused set log held l cause → IsVariable set.count l.variable → IsOpen held l.variable → (cause ≡ NonInputDecision) ⊎ (12 < distinct_count set.inputs) → IsHonestLimit set limit (take limit log)
 IsHonestLimit-from_conflict set log limit held l cause enough learned decides caused variable o may =
     let decided : IsDecided set log held l = decided_from set log held l cause decides caused in
     let first = take limit log in

@@ -1,6 +1,6 @@
 -- How many settings of the inputs a search has not yet been through: each input that is set halves them, and for a
 -- decision the half of its negation is still to come.
-use Rattle.std.proofs.Common.{◌≡◌, ℕ, zero, suc, ◌+◌, ◌<◌, ◌≤◌, Bool, true, false, ◌||◌, cond, eqb, List, [], ◌∷◌, ◌++◌, Some, length, take, get_or, refl, sym, ap, ◌∙◌, arith, subst, inl, inr}
+use Rattle.std.proofs.Common.{◌≡◌, ℕ, zero, suc, ◌+◌, ◌<◌, ◌≤◌, Bool, true, false, ◌||◌, cond, eqb, List, [], ◌∷◌, ◌++◌, Some, length, take, get_or, refl, sym, ap, ◌∙◌, arith, subst, inl, inr, ◌-◌, drop, drop-cons, zero-add}
 use Rattle.std.specs.Prelude.{slice_get, Contains}
 use Rattle.std.specs.List.{list_any}
 use Rattle.std.proofs.lemmas.Bool.{cases_Bool, eq-eqb, eqb-true, or_left, or_right}
@@ -8,6 +8,7 @@ use Rattle.cdcl_log.specs.declared.trail.Entry.{Entry}
 use Rattle.cdcl_log.specs.declared.trail.Cause.{Cause}
 use Rattle.cdcl_log.specs.declared.trail.Cause.TheVariants.{InputDecision, NonInputDecision, Reason}
 use Rattle.std.specs.Prelude.{Option}
+use Rattle.cdcl_log.specs.Found.{distinct_count}
 use Rattle.cdcl_log.specs.TrailEntries.{literals, is_decision, EachFresh, IsOpen}
 use Rattle.cdcl_log.proofs.Lists.{slice_get_in_take}
 use Rattle.cdcl_log.proofs.HeldLists.{both_held, open_not_held, literal_at}
@@ -177,11 +178,31 @@ no_count (e ∷ es) = no_count es
 abbrev pub is_among : List ℕ → ℕ → Bool
 is_among inputs v = list_any (eqb v) inputs
 
+-- a number that stood in the list already
+pub among_already : (n : ℕ) (ns : List ℕ) (v : ℕ) → is_among ns n ≡ true → is_among (n ∷ ns) v ≡ is_among ns v
+among_already n ns v among =
+    elim (cases_Bool (eqb v n)) [
+      | inl is ↦ ap (λ b. b || is_among ns v) is ∙ sym (ap (is_among ns) (eqb-true v n is) ∙ among)
+      | inr isnt ↦ ap (λ b. b || is_among ns v) isnt
+    ]
+
+same_count : (p q : ℕ → Bool) (entries : List Entry) → ((v : ℕ) → p v ≡ q v) → input_count p entries ≡ input_count q entries
+same_count p q [] same = refl
+same_count p q (e ∷ es) same =
+    ap (λ b. cond b (suc (input_count p es)) (input_count p es)) (same e.literal.variable)
+    ∙ ap (λ n. cond (q e.literal.variable) (suc n) n) (same_count p q es same)
+
 -- no more entries of inputs than inputs
-pub input_count_le : (inputs : List ℕ) (entries : List Entry) → Different entries → input_count (is_among inputs) entries ≤ length inputs
+pub input_count_le : (inputs : List ℕ) (entries : List Entry) → Different entries → input_count (is_among inputs) entries ≤ distinct_count inputs
 input_count_le [] entries d = omega (arith, no_count entries)
 input_count_le (n ∷ ns) entries d =
-    omega (arith, either_count (λ v. eqb v n) (is_among ns) entries, at_most_one n entries d, input_count_le ns entries d)
+    let rest = input_count_le ns entries d in
+    elim (cases_Bool (is_among ns n)) [
+      | inl among ↦
+          omega (arith, rest, same_count (is_among (n ∷ ns)) (is_among ns) entries (λ v. among_already n ns v among), ap (λ b. cond b 0 1 + distinct_count ns) among)
+      | inr other ↦
+          omega (arith, rest, either_count (λ v. eqb v n) (is_among ns) entries, at_most_one n entries d, ap (λ b. cond b 0 1 + distinct_count ns) other)
+    ]
 
 among_at : (inputs : List ℕ) (k v : ℕ) → k < length inputs → get_or inputs k v ≡ v → is_among inputs v ≡ true
 among_at [] k v within is = absurd (omega arith)
@@ -190,3 +211,16 @@ among_at (n ∷ ns) (suc k) v within is = or_right (eqb v n) (is_among ns v) (am
 
 pub is_among-from_contains : (inputs : List ℕ) (v : ℕ) → Contains inputs v → is_among inputs v ≡ true
 is_among-from_contains inputs v (k, within, is) = among_at inputs k v within is
+
+-- one place further from the end of the inputs
+pub next_input : (inputs : List ℕ) (place d : ℕ) → 0 < place → place ≤ length inputs → drop (place - 1) inputs ≡ get_or inputs (place - 1) d ∷ drop place inputs
+next_input inputs place d pos within =
+    let e : suc (place - 1) ≡ place = omega arith in
+    drop-cons inputs (place - 1) d (omega arith) ∙ ap (λ k. get_or inputs (place - 1) d ∷ drop k inputs) e
+
+pub distinct_count-among : (n : ℕ) (ns : List ℕ) → is_among ns n ≡ true → distinct_count (n ∷ ns) ≡ distinct_count ns
+distinct_count-among n ns among = ap (λ b. cond b 0 1 + distinct_count ns) among ∙ zero-add (distinct_count ns)
+
+pub distinct_count_le : (ns : List ℕ) → distinct_count ns ≤ length ns
+distinct_count_le [] = omega arith
+distinct_count_le (n ∷ ns) = omega (arith, distinct_count_le ns, either (is_among ns n) 0 1 1 (omega arith) (omega arith))

@@ -12,6 +12,7 @@ use Rattle.cdcl_log.specs.declared.trail.Entry.{Entry}
 use Rattle.cdcl_log.specs.declared.trail.Cause.{Cause}
 use Rattle.cdcl_log.specs.declared.trail.Cause.TheVariants.{InputDecision, NonInputDecision, Reason}
 use Rattle.cdcl_log.specs.TrailEntries.{literals, decisions, is_decision, IsOpen, IsTableOf, EachFresh, Grows, open_count}
+use Rattle.cdcl_log.specs.Found.{distinct_count}
 use Rattle.cdcl_log.specs.Propagated.{IsPropagatedUpTo}
 use Rattle.cdcl_log.specs.DepthFirst.{IsCaused, EachCaused, IsLearned, IsState}
 use Rattle.cdcl_log.proofs.Lists.{slice_get_left, slice_get_below}
@@ -90,7 +91,7 @@ flipped_smaller clauses n m old new last place number e f same g is room at deci
 -- are left are bounded together.
 abbrev pub IsBounded : Cnf → ℕ → List Step → List Entry → Type 0
 IsBounded set limit log entries =
-    (length log ≤ limit) ⊎ ((length set.inputs ≤ 12) × (length log + leaves (is_among set.inputs) entries (length set.inputs) ≤ limit + 4096))
+    (length log ≤ limit) ⊎ ((distinct_count set.inputs ≤ 12) × (length log + leaves (is_among set.inputs) entries (distinct_count set.inputs) ≤ limit + 4096))
 
 pub bounded_length : (set : Cnf) (limit : ℕ) (log : List Step) (entries : List Entry) → IsBounded set limit log entries → length log ≤ limit + 4096
 bounded_length set limit log entries (inl within) = omega arith
@@ -100,7 +101,7 @@ pub bounded_more : (set : Cnf) (limit : ℕ) (log : List Step) (old more new : L
 bounded_more set limit log old more new is (inl within) = inl within
 bounded_more set limit log old more new is (inr (few, within)) =
     let input = is_among set.inputs in
-    let left = length set.inputs in
+    let left = distinct_count set.inputs in
     inr (few, omega (arith, within, ap (λ es. leaves input es left) is, leaves_grow input old more left))
 
 pub bounded_grow : (set : Cnf) (limit : ℕ) (log : List Step) (old new : List Entry) → Grows (all_clauses set) old new → IsBounded set limit log old → IsBounded set limit log new
@@ -122,12 +123,12 @@ few_or_many : (n : ℕ) → ((12 < n) → ⊥) → n ≤ 12
 few_or_many n h = omega (arith, h)
 
 -- where the search doesn't give up at a conflict
-pub bounded_flip : (set : Cnf) (limit : ℕ) (values : List (Option Bool)) (log : List Step) (entries : List Entry) (place number : ℕ) (e : Entry) (step : Step) → EachFresh values entries → EachCaused set log entries → slice_get entries place ≡ Some e → is_decision e.cause ≡ true → (length log < limit) ⊎ (((e.cause ≡ NonInputDecision) ⊎ (12 < length set.inputs)) → ⊥) → IsBounded set limit log entries → IsBounded set limit (log ++ step ∷ []) (take place entries ++ (record { literal = negation_of e.literal; cause = Reason number }) ∷ [])
+pub bounded_flip : (set : Cnf) (limit : ℕ) (values : List (Option Bool)) (log : List Step) (entries : List Entry) (place number : ℕ) (e : Entry) (step : Step) → EachFresh values entries → EachCaused set log entries → slice_get entries place ≡ Some e → is_decision e.cause ≡ true → (length log < limit) ⊎ (((e.cause ≡ NonInputDecision) ⊎ (12 < distinct_count set.inputs)) → ⊥) → IsBounded set limit log entries → IsBounded set limit (log ++ step ∷ []) (take place entries ++ (record { literal = negation_of e.literal; cause = Reason number }) ∷ [])
 bounded_flip set limit values log entries place number e step fresh caused at decides (inl room) bounded =
     inl (omega (arith, length_push log step))
 bounded_flip set limit values log entries place number e step fresh caused at decides (inr goes_on) bounded =
     let input = is_among set.inputs in
-    let left = length set.inputs in
+    let left = distinct_count set.inputs in
     let f : Entry = record { literal = negation_of e.literal; cause = Reason number } in
     let few : left ≤ 12 = few_or_many left (λ many. goes_on (inr many)) in
     let is : e.cause ≡ InputDecision = elim (input_or_not e.cause decides) [ inl is ↦ is | inr other ↦ absurd (goes_on (inl other)) ] in

@@ -1,5 +1,6 @@
 -- What a search may answer.
-use Rattle.std.specs.Prelude.{◌≡◌, ℕ, ◌≤◌, ◌++◌, Bool, List, [], Some, length, slice_get}
+use Rattle.std.specs.Prelude.{◌≡◌, ℕ, ◌+◌, ◌≤◌, ◌==◌, ◌++◌, Bool, List, [], ◌∷◌, Some, if◌then◌else◌, length, slice_get}
+use Rattle.std.specs.List.{list_any}
 use Rattle.clauses.specs.declared.cnf.Cnf.{Cnf}
 use Rattle.clauses.specs.declared.step.Step.{Step}
 use Rattle.clauses.specs.Literal.{Meets, assignment_of}
@@ -12,9 +13,14 @@ pub record IsModel (set : Cnf) (values : List Bool) : Type 0 where
   pub each_variable : length values ≡ set.count
   pub meets : Meets (assignment_of values) (all_clauses set)
 
+-- how many different numbers stand in the list
+abbrev pub distinct_count : List ℕ → ℕ
+distinct_count [] = 0
+distinct_count (n ∷ ns) = (if list_any (λ m. n == m) ns then 0 else 1) + distinct_count ns
+
 -- at most twelve inputs are named, and units, once these are set, derive all the rest or make a clause false
 abbrev pub FewInputsDetermine : Cnf → Type 0
-FewInputsDetermine set = (length set.inputs ≤ 12) × UnitsDetermine set
+FewInputsDetermine set = (distinct_count set.inputs ≤ 12) × UnitsDetermine set
 
 -- none of the clauses is empty
 abbrev pub NoneEmpty : List Step → Type 0

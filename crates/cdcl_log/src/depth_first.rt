@@ -4,7 +4,7 @@ ghost use Rattle.std.specs.Prelude.{◌≡◌, ◌+◌, ◌<◌, ◌≤◌, ◌�
 ghost use Rattle.clauses.specs.Literal.{IsVariable};
 ghost use Rattle.clauses.specs.Propagation.{NamesFalse};
 ghost use Rattle.clauses.specs.ClauseSet.{all_clauses};
-ghost use Rattle.cdcl_log.specs.Found.{IsFound};
+ghost use Rattle.cdcl_log.specs.Found.{IsFound, distinct_count};
 ghost use Rattle.cdcl_log.specs.TrailEntries.{literals, Grows, IsOpen, IsSet};
 ghost use Rattle.cdcl_log.specs.Propagated.{IsPropagatedUpTo};
 ghost use Rattle.cdcl_log.specs.DepthFirst.{InputsSet, IsNext};
@@ -20,6 +20,25 @@ use std::alloc::{AllocError, Global};
 
 /// Up to this many inputs the search goes through all their settings, whatever its limit.
 const FEW_INPUTS: usize = 12;
+
+/// Whether there are more than a few inputs; one that is named several times is one.
+fn has_many_inputs(alloc: Global, cnf: &Cnf) -> Result<bool, AllocError>
+    ensures { IfOk result (λ many. IsTrue many ↔ (12 < distinct_count cnf.now.inputs)) }
+{
+    let inputs = cnf.inputs.as_slice();
+    let mut named = vec![in alloc; false; cnf.count as usize + 1]?;
+    let mut count = 0;
+    let mut place = inputs.len();
+    while place > 0 {
+        place -= 1;
+        let variable = inputs[place] as usize;
+        if !named[variable] {
+            named[variable] = true;
+            count += 1;
+        }
+    }
+    Ok(count > FEW_INPUTS)
+}
 
 /// Propagates each clause of the set once, by what is held at the start.
 fn propagate_all_clauses(
@@ -97,12 +116,12 @@ fn decision(variable: u32, cause: Cause) -> Entry
 
 /// Whether the search may give up at a conflict under this last decision: there are many inputs, or units didn't
 /// determine the rest.
-fn may_give_up(cnf: &Cnf, last: Entry) -> bool
-    ensures { IsTrue result ↔ ((last.cause ≡ Cause.NonInputDecision) ⊎ (12 < length cnf.now.inputs)) }
+fn may_give_up(many_inputs: bool, last: Entry) -> bool
+    ensures { IsTrue result ↔ ((last.cause ≡ Cause.NonInputDecision) ⊎ IsTrue many_inputs) }
 {
     match last.cause {
         Cause::NonInputDecision => true,
-        Cause::InputDecision | Cause::Reason(_) => cnf.inputs.len() > FEW_INPUTS,
+        Cause::InputDecision | Cause::Reason(_) => many_inputs,
     }
 }
 
@@ -123,6 +142,7 @@ pub fn search(alloc: Global, cnf: &Cnf, limit: u32) -> Result<Found, AllocError>
     let occurrences = Occurrences::new(alloc, cnf)?;
     let mut trail = Trail::new(alloc, cnf.count)?;
     let mut log = Vec::new(alloc);
+    let many_inputs = has_many_inputs(alloc, cnf)?;
     if let Some(conflict) = propagate_all_clauses(alloc, cnf, &mut trail)? {
         return Ok(Found::Unsat(refutation(alloc, cnf, &trail, log, conflict)?));
     }
@@ -140,7 +160,7 @@ pub fn search(alloc: Global, cnf: &Cnf, limit: u32) -> Result<Found, AllocError>
             let refutation = refutation(alloc, cnf, &trail, log, conflict)?;
             return Ok(Found::Unsat(refutation));
         };
-        if log.len() >= limit as usize && may_give_up(cnf, trail.entries[place]) {
+        if log.len() >= limit as usize && may_give_up(many_inputs, trail.entries[place]) {
             log.truncate(limit as usize);
             return Ok(Found::Limit(List::from_vec(log)));
         }

@@ -10,6 +10,7 @@ use Rattle.clauses.specs.ClauseSet.{all_clauses}
 use Rattle.clauses.specs.Settings.{StandsFor, input_values}
 use Rattle.clauses.proofs.SettingLemmas.{model_passes, none_passes, UnitsDetermine-from_StandsFor, input_values-assignment_of, StandsFor-same}
 use Rattle.cdcl_log.specs.Found.{IsModel, IsHonestLimit}
+use Rattle.cdcl_log.proofs.Leaves.{distinct_count_le}
 use Rattle.rule_core.specs.declared.rule.Rule.{Rule}
 use Rattle.rule_core.specs.Checks.{IsRule}
 use Rattle.rule_core.specs.Typing.{IsTyping}
@@ -61,7 +62,7 @@ module _ (rule : Rule) (typing : List ℕ) (set : Cnf) (stands : StandsForRule r
       record {
         many_bits = elim (cases_lt 12 (input_bits rule typing)) [
           | inl many ↦ many
-          | inr few ↦ absurd (reached.not_few (omega (arith, stands.inputs), UnitsDetermine-from_StandsFor set test stands.test))
+          | inr few ↦ absurd (reached.not_few (omega (arith, stands.inputs, distinct_count_le set.inputs), UnitsDetermine-from_StandsFor set test stands.test))
         ];
         stands = stands;
         reached = reached;

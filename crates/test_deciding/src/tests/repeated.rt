@@ -95,3 +95,20 @@ fn the_search_counts_a_literal_once(rt: HostRuntime) -> Result<(), Fail> {
     }
     Ok(())
 }
+
+#[test]
+fn an_input_that_is_named_again_counts_once(rt: HostRuntime) -> Result<(), Fail> {
+    // the second variable is the first, and one of them is true; the first decision is wrong
+    let mut roots = List::new(rt.alloc());
+    for literals in [[-2, 1], [2, -1], [1, 2]] {
+        roots.push(clause(rt.alloc(), &literals)?)?;
+    }
+    let inputs = List::from_vec(vec![in rt.alloc(); 1; 13]?);
+    let set = Cnf::new(List::new(rt.alloc()), roots, inputs, 2);
+    let set = set.ok_or("a variable is above the count")?;
+    let Found::Sat(model) = search(rt.alloc(), &set, 0)? else {
+        return Err("no model".into());
+    };
+    assert_eq!(rt; model.as_slice(), [true, true].as_slice());
+    Ok(())
+}

@@ -1,5 +1,5 @@
 use Rattle.std.proofs.Common.{◌≡◌, ◌+◌, ◌<◌, ◌≤◌, ◌++◌, ◌∷◌, [], Some, length, take, length-append, refl, sym, ap, ◌∙◌, subst, arith, inl, inr}
-use Rattle.std.specs.Prelude.{slice_get, ◌⊎◌}
+use Rattle.std.specs.Prelude.{slice_get, ◌⊎◌, IsTrue}
 use Rattle.std.proofs.lemmas.Option.{slice_get_read}
 use Rattle.std.proofs.lemmas.Bool.{iff_false}
 use Rattle.clauses.specs.Literal.{IsVariable, negation_of}
@@ -7,7 +7,7 @@ use Rattle.clauses.specs.Propagation.{NamesFalse}
 use Rattle.clauses.specs.ClauseSet.{all_clauses, LogFollows, StepFollows, clauses_with}
 use Rattle.cdcl_log.specs.declared.trail.Entry.{Entry}
 use Rattle.cdcl_log.specs.declared.trail.Cause.TheVariants.{NonInputDecision, Reason}
-use Rattle.cdcl_log.specs.Found.{IsModel, IsHonestLimit}
+use Rattle.cdcl_log.specs.Found.{IsModel, IsHonestLimit, distinct_count}
 use Rattle.cdcl_log.specs.TrailEntries.{literals}
 use Rattle.cdcl_log.specs.Propagated.{AllPropagated, IsPropagatedUpTo}
 use Rattle.cdcl_log.specs.DepthFirst.{EachCaused, IsState, IsNext}
@@ -97,8 +97,11 @@ returns-then-may_give_up c =
     let read : slice_get entries place ≡ Some here =
     slice_get_read entries (length entries) place here refl (slice_get_below entries place e at) c.index.ensures in
     let same : here ≡ e = some_same here e (sym read ∙ at) in
-    let may : (e.cause ≡ NonInputDecision) ⊎ (12 < length set.inputs) =
-    subst (λ (f : Entry). (f.cause ≡ NonInputDecision) ⊎ (12 < length set.inputs)) same (c.may_give_up.ensures.0 c.if-may_give_up.true) in
+    let may : (e.cause ≡ NonInputDecision) ⊎ (12 < distinct_count set.inputs) =
+    elim (subst (λ (f : Entry). (f.cause ≡ NonInputDecision) ⊎ IsTrue c.in_ok-many_inputs.many_inputs) same (c.may_give_up.ensures.0 c.if-may_give_up.true)) [
+      | inl late ↦ inl late
+      | inr many ↦ inr (c.in_ok-many_inputs.ensures.0 many)
+    ] in
     let fresh = trail.fresh place e at in
     let within : IsVariable set.count e.literal.variable =
     (fresh.0, omega (arith, fresh.1, c.in_ok-conflict-2.ensures.same_variables, inv.variables)) in
@@ -160,14 +163,20 @@ loop-log-preserved c =
     let state =
     IsState-flipped set values log entries step trail.fresh caused inv.state.log_learned c.in_ok-learned.ensures.shown.clause_is follows
     place e at decides last number is_number in
-    let goes_on : (length log < limit) ⊎ (((e.cause ≡ NonInputDecision) ⊎ (12 < length set.inputs)) → ⊥) =
+    let goes_on : (length log < limit) ⊎ (((e.cause ≡ NonInputDecision) ⊎ (12 < distinct_count set.inputs)) → ⊥) =
     elim c.else-len-limit.branch [
       | else-len-limit-via-then-len-limit+else-may_give_up w ↦
           let here = w.index.result.now in
           let read : slice_get entries place ≡ Some here =
           slice_get_read entries (length entries) place here refl (slice_get_below entries place e at) w.index.ensures in
           let same : here ≡ e = some_same here e (sym read ∙ at) in
-          inr (subst (λ (f : Entry). ((f.cause ≡ NonInputDecision) ⊎ (12 < length set.inputs)) → ⊥) same (iff_false w.may_give_up.ensures w.if-may_give_up.false))
+          let isnt : ((e.cause ≡ NonInputDecision) ⊎ IsTrue c.in_ok-many_inputs.many_inputs) → ⊥ =
+          subst (λ (f : Entry). ((f.cause ≡ NonInputDecision) ⊎ IsTrue c.in_ok-many_inputs.many_inputs) → ⊥) same (iff_false w.may_give_up.ensures w.if-may_give_up.false) in
+          inr (λ may.
+          elim may [
+            | inl late ↦ isnt (inl late)
+            | inr many ↦ isnt (inr (c.in_ok-many_inputs.ensures.1 many))
+          ])
       | else-len-limit-via-else-len-limit w ↦ inl (omega (arith, w.if-len-limit.false, c.len.ensures, c.loop-log.log.ok.0))
     ] in
     record {
