@@ -1,9 +1,9 @@
 -- The exponent of a power of two, found from below.
-use Rattle.std.proofs.Common.{◌≡◌, ℕ, zero, suc, ◌<◌, ◌≤◌, ◌*◌, ◌^◌, ◌%◌, Bool, true, false, List, length, Some, None, ap, sym, ◌∙◌, arith, get_or, zero-add}
-use Rattle.std.specs.Prelude.{◌==◌, slice_get}
+use Rattle.std.proofs.Common.{◌≡◌, ◌≢◌, ℕ, zero, suc, ◌<◌, ◌≤◌, ◌*◌, ◌^◌, ◌%◌, Bool, true, false, List, length, Option, Some, None, inl, inr, refl, ap, sym, subst, ◌∙◌, arith, get_or, zero-add, eq-eqb}
+use Rattle.std.specs.Prelude.{◌==◌, ◌↔◌, slice_get}
 use Rattle.std.specs.List.{range_with_len, position_or_len}
-use Rattle.std.proofs.lemmas.Bool.{eqb-true}
-use Rattle.std.proofs.Math.Nat.{mod-eq_of_lt}
+use Rattle.std.proofs.lemmas.Bool.{eqb-true, ne_eqb, cases_lt}
+use Rattle.std.proofs.Math.Nat.{mod-eq_of_lt, eq-or-lt_of_le}
 use Rattle.std.proofs.Math.Pow.{pow-lt}
 use Rattle.std.proofs.lemmas.List.Folds.{find_at}
 use Rattle.std.proofs.lemmas.List.Sums.{position_or_len_is, passes_at_first}
@@ -64,3 +64,39 @@ below_power (suc n) = omega (arith, below_power n)
 -- so an exponent is a number of its width
 pub exponent_fits : (N a k : ℕ) → exponent N a ≡ Some k → k < 2 ^ N
 exponent_fits N a k is = let bounds = within_width N a k is in omega (arith, bounds.0, below_power k, pow-lt bounds.0)
+
+-- the exponent of a power of two is below N where the power is a number of iN
+below_width : (N k : ℕ) → 2 ^ k < 2 ^ N → k < N
+below_width N k small = elim (cases_lt k N) [
+  | inl less ↦ less
+  | inr ge ↦ elim (eq-or-lt_of_le ge) [
+    | inl same ↦ absurd (let e : 2 ^ N ≡ 2 ^ k = ap (λ n. 2 ^ n) same in omega arith)
+    | inr more ↦ absurd (let grows : 2 ^ N < 2 ^ k = pow-lt more in omega arith)
+  ]
+]
+
+-- so is each exponent found, and no other
+pub of_power : (N k : ℕ) → 2 ^ k < 2 ^ N → exponent N (2 ^ k) ≡ Some k
+of_power N k small =
+    found N (2 ^ k) k (below_width N k small)
+    (λ j less. let grows : 2 ^ j < 2 ^ k = pow-lt less in ne_eqb (2 ^ j) (2 ^ k) (λ same. omega arith))
+    (eq-eqb (2 ^ k) (2 ^ k) refl)
+
+pub is_power_of : (N a : ℕ) (answer : Option ℕ) → a < 2 ^ N → answer ≡ exponent N a → (k : ℕ) → (answer ≡ Some k) ↔ (a ≡ 2 ^ k)
+is_power_of N a answer small is k = (
+  λ some. (within_width N a k (sym is ∙ some)).1,
+  λ power. is ∙ ap (exponent N) power ∙ of_power N k (subst (λ n. n < 2 ^ N) power small),
+)
+
+none_found : (N a : ℕ) (answer : Option ℕ) → answer ≡ exponent N a → ((k : ℕ) → a ≢ 2 ^ k) → answer ≡ None
+none_found N a None is no_power = refl
+none_found N a (Some k) is no_power = absurd (no_power k (within_width N a k (sym is)).1)
+
+pub is_no_power : (N a : ℕ) (answer : Option ℕ) → a < 2 ^ N → answer ≡ exponent N a → (answer ≡ None) ↔ ((k : ℕ) → a ≢ 2 ^ k)
+is_no_power N a answer small is = (
+  λ none k power.
+      let some : answer ≡ Some k = (is_power_of N a answer small is k).1 power in
+      let clash : None ≡ Some k = sym none ∙ some in
+      absurd (cc),
+  λ no_power. none_found N a answer is no_power,
+)

@@ -1,6 +1,6 @@
 //! What the nodes of constant terms give.
 
-ghost use Rattle.std.specs.Prelude.{◌≡◌, ◌<◌, ◌-◌, ◌^◌, nat_lt, if◌then◌else◌, slice_index};
+ghost use Rattle.std.specs.Prelude.{◌≡◌, ◌≢◌, ◌↔◌, ℕ, ◌<◌, ◌-◌, ◌^◌, nat_lt, if◌then◌else◌, slice_index};
 ghost use Rattle.std.specs.Option.{option_map_or};
 ghost use Rattle.ops.specs.Integer.{bits, residue, least};
 ghost use Rattle.ops.specs.Value.{IsValueOf};
@@ -91,12 +91,16 @@ fn within(width: Width, number: u32) -> Value
     }
 }
 
-/// The exponent below N of which the number is the power of two, if there is one.
+/// The exponent of which the number is the power of two, if it is one.
 pub fn exponent(a: Word) -> Option<u32>
-    ensures { result ≡ exponent a.width a.number }
+    ensures power { (k : ℕ) → (result ≡ Some k) ↔ (a.number ≡ 2 ^ k) }
+    ensures none { (result ≡ None) ↔ ((k : ℕ) → a.number ≢ 2 ^ k) }
+    // as the values of terms are defined
+    ensures value { result ≡ exponent a.width a.number }
 {
+    let number = a.number();
     for k in 0..a.width().bits() {
-        if 1u64 << k == a.number() {
+        if 1u64 << k == number {
             return Some(k);
         }
     }
