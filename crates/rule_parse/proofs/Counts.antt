@@ -1,9 +1,9 @@
--- Tokens are kept up to the first one with which more than 256 are counted in a rule.
+-- Tokens are kept up to and with the first one with which more than 256 are counted in a rule.
 use Rattle.std.proofs.Common.{◌≡◌, ℕ, zero, suc, ◌+◌, ◌≤◌, Bool, true, false, List, [], ◌∷◌, ◌++◌, Option, Some, None, inl, inr, refl, sym, ap, subst, ◌∙◌, arith}
 use Rattle.std.specs.Prelude.{◌⊎◌, ◌||◌, if◌then◌else◌}
 use Rattle.std.specs.List.{list_any}
 use Rattle.rule_tokens.specs.Tokens.{Token, Line, Excess}
-use Rattle.rule_parse.specs.NodeCounts.{counted, last_rule, counted_at_end, IsWithinLimit}
+use Rattle.rule_parse.specs.NodeCounts.{counted, last_rule, counted_at_end, IsWithinLimit, IsCut}
 use Rattle.rule_parse.specs.OneReading.{TokensAreKeptUpToTheLimit}
 use Rattle.rule_parse.specs.CutTokens.{is_counted, ends_before_line, begins_rule, one_less, room_behind, or_excess, limited_to}
 use Rattle.rule_parse.specs.Limits.{most_nodes}
@@ -80,7 +80,7 @@ record IsCutFrom (n : ℕ) (begins : Bool) (tokens kept : List Token) : Type 0 w
   within : IsWithinFrom n begins front
   full : counted_along n begins front ≡ most_nodes
   passed : counted_along n begins (front ++ token ∷ []) ≡ most_nodes + 1
-  cut : kept ≡ front ++ Excess ∷ []
+  cut : kept ≡ front ++ token ∷ Excess ∷ []
 
 abbrev IsKeptFrom : ℕ → Bool → List Token → List Token → Type 0
 IsKeptFrom n begins tokens kept = (IsWithinFrom n begins tokens × (kept ≡ tokens)) ⊎ IsCutFrom n begins tokens kept
@@ -140,7 +140,19 @@ all-limited room n begins (token ∷ tokens) e =
     one-limited n begins token tokens (room_behind room begins token) (omega arith) (leaves (begins_rule token) (is_counted begins token) n room e)
     (λ left fits. all-limited left (counted_behind (begins_rule token) (is_counted begins token) n) (ends_before_line token) tokens fits)
 
+-- the number of a line is not counted
+line-along : (n : ℕ) (begins : Bool) (front : List Token) (number : ℕ) → counted_along n begins (front ++ Line number ∷ []) ≡ counted_along n begins front
+line-along n begins [] number = omega arith
+line-along n begins (token ∷ front) number = line-along (counted_behind (begins_rule token) (is_counted begins token) n) (ends_before_line token) front number
+
 -- ---- from the first token on
+
+-- so with none the limit is passed
+pub passed_by_no_line : (tokens kept : List Token) (c : IsCut tokens kept) (number : ℕ) → c.token ≡ Line number → ⊥
+passed_by_no_line tokens kept c number is =
+    let stays : counted_at_end (c.front ++ Line number ∷ []) ≡ counted_at_end c.front = sym (along-is (c.front ++ Line number ∷ [])) ∙ line-along 0 false c.front number ∙ along-is c.front in
+    let same : counted_at_end (c.front ++ c.token ∷ []) ≡ counted_at_end (c.front ++ Line number ∷ []) = ap (λ (t : Token). counted_at_end (c.front ++ t ∷ [])) is in
+    omega (arith, stays, same, c.full, c.passed)
 
 within-is : (tokens : List Token) → IsWithinFrom 0 false tokens → IsWithinLimit tokens
 within-is tokens within front back e = rw (along-is front) at (within front back e)

@@ -17,12 +17,14 @@ kept-more kept after tokens room left i begins behind d total lt some ends more 
     (ap (λ (ts : List Token). seen kept ++ ts) (sym one) ∙ so_far)
 
 pub kept-excess : (kept after tokens : List Scanned) (room i : ℕ) (begins : Bool) (d : Scanned) (total : List Token) → i < length tokens
-    → None ≡ room_behind room begins (seen_token (get_or tokens i d)) → after ≡ kept ++ scanned.Excess ∷ []
+    → None ≡ room_behind room begins (seen_token (get_or tokens i d)) → after ≡ (kept ++ get_or tokens i d ∷ []) ++ scanned.Excess ∷ []
     → seen kept ++ limited_to room begins (seen (drop i tokens)) ≡ total → seen after ≡ total
 unfolding limited_to
 kept-excess kept after tokens room i begins d total lt none more so_far =
-    let one : limited_to room begins (seen (drop i tokens)) ≡ Excess ∷ [] = rw (drop_more tokens i d lt, ← none) refl in
-    rw (more, map-append seen_token kept (scanned.Excess ∷ [])) (ap (λ (ts : List Token). seen kept ++ ts) (sym one) ∙ so_far)
+    let t = get_or tokens i d in
+    let one : limited_to room begins (seen (drop i tokens)) ≡ seen_token t ∷ Excess ∷ [] = rw (drop_more tokens i d lt, ← none) refl in
+    let two : after ≡ kept ++ t ∷ scanned.Excess ∷ [] = more ∙ append_assoc kept (t ∷ []) (scanned.Excess ∷ []) in
+    rw (two, map-append seen_token kept (t ∷ scanned.Excess ∷ [])) (ap (λ (ts : List Token). seen kept ++ ts) (sym one) ∙ so_far)
 
 pub kept-all : (kept tokens : List Scanned) (room i : ℕ) (begins : Bool) (total : List Token) → length tokens ≤ i → seen kept ++ limited_to room begins (seen (drop i tokens)) ≡ total → seen kept ≡ total
 unfolding limited_to

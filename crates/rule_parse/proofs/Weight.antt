@@ -32,7 +32,7 @@ use Rattle.rule_parse.specs.CutTokens.{is_node_word, ends_before_line, room_behi
 use Rattle.rule_parse.specs.Limits.{most_nodes}
 use Rattle.rule_parse.specs.Weight.{argument_weight, node_weight, raw_weight}
 use Rattle.rule_parse.specs.Keywords.{truth_word, argument_of}
-use Rattle.rule_parse.proofs.Cuts.{step, Weighs, nothing, join, light, at_least, word, mark, number, register, node_word, assigned, behind_one, precondition_led, witness_led, arrow_led}
+use Rattle.rule_parse.proofs.Cuts.{step, AreOfText, of_both, first_of, begins_of, Weighs, nothing, join, light, at_least, word, mark, number, register, node_word, assigned, behind_one, precondition_led, witness_led, arrow_led}
 use Rattle.rule_parse.proofs.TermWeights.{constant_counts, nodes_weight, nodes_weight-is, term_weighs, formulas_weight, formulas_weight-is, formula_weighs}
 
 -- ---- operands
@@ -227,15 +227,24 @@ one_more : (first : RawRule) (raws : List RawRule) → raw_weight first ≤ most
 one_more first raws small others zero raw at = let same : first ≡ raw = cc in subst (λ (r : RawRule). raw_weight r ≤ most_nodes) same small
 one_more first raws small others (suc k) raw at = others k raw at
 
+-- the tokens of rules are tokens of texts
+pub spelled_of_text : (raws : List RawRule) (tokens : List Token) → SpellsRules raws tokens → AreOfText tokens
+spelled_of_text [] tokens is = subst AreOfText (sym is) tt
+spelled_of_text (raw ∷ raws) tokens (front, back, s, more, whole) =
+    let own : AreOfText front = subst AreOfText (sym s.spelled) (tt, (tt, (tt, (body_weighs raw front s).of_text))) in
+    subst AreOfText (sym whole) (of_both front back own (spelled_of_text raws back more))
+
 rules_small : (raws : List RawRule) (own tokens : List Token) (room : ℕ) → SpellsRules raws own → own ≡ limited_to room false tokens → AreSmall raws own tokens
 rules_small [] own tokens room is e = record { same = none_limited room tokens (sym is ∙ e) ∙ sym is; small = λ k raw at. absurd cc }
 rules_small (raw ∷ raws) own tokens room (front, back, s, more, whole) e =
     let body = s.precondition ++ (s.witness ++ (s.source ++ Line s.arrow_line ∷ Arrow ∷ s.target)) in
     let spelled : own ≡ Line raw.line ∷ Head (codes "Name:") ∷ Name raw.name ∷ body ++ back = whole ∙ ap (λ (ts : List Token). ts ++ back) s.spelled in
-    let a = step room false (Line raw.line) (Head (codes "Name:") ∷ Name raw.name ∷ body ++ back) tokens (λ e. absurd cc) (sym spelled ∙ e) in
-    let b = step a.left true (Head (codes "Name:")) (Name raw.name ∷ body ++ back) a.others (λ e. absurd cc) a.limited in
-    let c = step b.left false (Name raw.name) (body ++ back) b.others (λ e. absurd cc) b.limited in
-    let d = body_weighs raw front s c.left back c.others c.limited in
+    let weighs = body_weighs raw front s in
+    let begins = begins_of back (spelled_of_text raws back more) in
+    let a = step room false (Line raw.line) (Head (codes "Name:") ∷ Name raw.name ∷ body ++ back) tokens tt (sym spelled ∙ e) in
+    let b = step a.left true (Head (codes "Name:")) (Name raw.name ∷ body ++ back) a.others tt a.limited in
+    let c = step b.left false (Name raw.name) (body ++ back) b.others (first_of body back weighs.of_text begins) b.limited in
+    let d = weighs.cut c.left back c.others begins c.limited in
     let rest = rules_small raws back d.others d.left more d.limited in
     let most = d.most in
     let two : most_nodes ≡ b.left = number_same _ _ b.kept in

@@ -1,4 +1,4 @@
--- Tokens up to the first one with which a rule has too many operands, literals, names, operators and functions.
+-- Tokens up to and with the first one with which a rule has too many operands, literals, names, operators and functions.
 use Rattle.std.specs.Prelude.{ℕ, zero, suc, Bool, true, false, not, ◌||◌, if◌then◌else◌, List, [], ◌∷◌, Option, Some, None, codes}
 use Rattle.std.specs.Str.{bytes_eq}
 use Rattle.scan.specs.RuleTokens.{is_among, ends_primary}
@@ -47,8 +47,9 @@ room_behind room begins token =
     if begins_rule token then Some most_nodes
     else (if is_counted begins token then one_less room else Some room)
 
+-- behind one too many nothing more is read
 abbrev pub or_excess : Token → Option ℕ → (ℕ → List Token) → List Token
-or_excess token None others = Excess ∷ []
+or_excess token None others = token ∷ Excess ∷ []
 or_excess token (Some room) others = token ∷ others room
 
 -- tokens, of which so many may be counted up to the next rule

@@ -26,7 +26,7 @@ counted_at_end tokens = counted (last_rule tokens)
 abbrev pub IsWithinLimit : List Token → Type 0
 IsWithinLimit tokens = (front back : List Token) → tokens ≡ front ++ back → counted_at_end front ≤ most_nodes
 
--- the tokens before one that passes the limit, and `Excess` in its place
+-- the tokens up to and with one that passes the limit, and `Excess` behind it
 pub record IsCut (tokens kept : List Token) : Type 0 where
   pub front : List Token
   pub token : Token
@@ -35,4 +35,4 @@ pub record IsCut (tokens kept : List Token) : Type 0 where
   pub within : IsWithinLimit front
   pub full : counted_at_end front ≡ most_nodes
   pub passed : counted_at_end (front ++ token ∷ []) ≡ most_nodes + 1
-  pub cut : kept ≡ front ++ Excess ∷ []
+  pub cut : kept ≡ front ++ token ∷ Excess ∷ []

@@ -81,7 +81,8 @@ fn room_behind(room: u32, begins: bool, token: &Token<'_>) -> Option<u32>
     }
 }
 
-/// The tokens up to the first one with which a rule has too many operands, literals, names, operators and functions.
+/// The tokens up to and with the first one with which a rule has too many operands, literals, names, operators and functions. Behind
+/// it stands `Excess`, so that it is told by its own kind where it does not fit.
 pub(crate) fn limited<'a>(alloc: Global, tokens: &[Token<'a>]) -> Result<Vec<Token<'a>>, AllocError>
     ensures { IfOk result (λ kept. seen kept.items ≡ spelled.limited (seen tokens.now)) }
 {
@@ -89,11 +90,11 @@ pub(crate) fn limited<'a>(alloc: Global, tokens: &[Token<'a>]) -> Result<Vec<Tok
     let mut room = MOST_NODES;
     let mut begins = false;
     for token in tokens {
+        kept.push(*token)?;
         let Some(left) = room_behind(room, begins, token) else {
             kept.push(Token::Excess)?;
             return Ok(kept);
         };
-        kept.push(*token)?;
         room = left;
         begins = ends_before_line(token);
     }

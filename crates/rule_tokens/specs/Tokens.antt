@@ -27,7 +27,7 @@ pub data Token : Type 0 where
   Other : Token
   -- a byte that may not stand where it does; nothing behind it is a token
   Bad : Token
-  -- one with which a rule passes a limit; nothing behind it is read
+  -- behind a token with which a rule has too many operands, literals, names, operators and functions; nothing behind it is read
   Excess : Token
 
 -- the token of a kind other than the end, with its bytes

@@ -1,14 +1,14 @@
 -- Rules one behind the other: where they are refused their tokens do not fit.
-use Rattle.std.proofs.Common.{◌≡◌, ℕ, zero, suc, ◌<◌, ◌≤◌, List, [], ◌∷◌, ◌++◌, length, None, Result, Ok, Err, refl, sym, ap, subst, ◌∙◌, append_assoc, ◌⊎◌, inl, inr, arith}
+use Rattle.std.proofs.Common.{◌≡◌, ◌≢◌, ℕ, zero, suc, ◌<◌, ◌≤◌, List, [], ◌∷◌, ◌++◌, length, None, Result, Ok, Err, refl, sym, ap, subst, ◌∙◌, append_assoc, ◌⊎◌, inl, inr, arith}
 use Rattle.std.proofs.Math.Nat.{le_refl}
 use Rattle.std.proofs.lemmas.List.{append-nil}
 use Rattle.std.specs.Prelude.{codes}
-use Rattle.rule_tokens.specs.declared.fault.RuleFaultKind.TheVariants.{Syntax}
+use Rattle.rule_tokens.specs.declared.fault.RuleFaultKind.TheVariants.{Syntax, TooMany}
 use Rattle.rule_tokens.specs.RuleFaults.{RuleFault}
 use Rattle.rule_tokens.specs.Steps.{◌>>=◌}
 use Rattle.rule_tokens.specs.Parts.{Part, ◌⨾◌}
 use Rattle.rule_tokens.specs.PartReaders.{Read}
-use Rattle.rule_tokens.specs.Tokens.{Token, Line, Head, Name, Word, Arrow}
+use Rattle.rule_tokens.specs.Tokens.{Token, Line, Head, Name, Word, Arrow, Excess}
 use Rattle.rule_tokens.proofs.Ends.{EndsLine}
 use Rattle.rule_tokens.proofs.Steps.{bound}
 use Rattle.rule_parse.specs.declared.half.Half.TheVariants.{Source, Target}
@@ -17,10 +17,9 @@ use Rattle.rule_parse.specs.Grammar.{SpellsRule, SpellsRules}
 use Rattle.rule_parse.specs.RuleReaders.{name_at, precondition_at, witness_at, source_at, arrow_at, target_at, rule_at, rules_at, all_rules}
 use Rattle.rule_parse.proofs.Readings.{rule_at-shorter, rules_at-is}
 use Rattle.rule_parse.proofs.Spellings.{rules_at-of}
-use Rattle.rule_viable_prefixes.specs.Fits.{FitsBehind, line_behind, line_of}
-use Rattle.rule_viable_prefixes.specs.Laws.{IsAtToken, IsAtEnd}
+use Rattle.rule_viable_prefixes.specs.Fits.{Fits, FitsBehind, LineFits, line_behind, line_of}
 use Rattle.rule_viable_prefixes.proofs.Lines.{IsNameLine, NamesEndLines, names_behind, name_follows, name_verdict, IsPrecondition, precondition_verdict, IsWitness, witness_verdict, IsHalf, half_opens, some_of_opens, Follows, by_arrow, by_rule, follows_open, source_verdict, target_verdict, IsArrow, arrow_follows, arrow_verdict, verdict_made}
-use Rattle.rule_viable_prefixes.specs.Misfits.{Fitting, IsNoun, NounFits, RepeatsFlag, IsExcused, one_use, repeated, nested}
+use Rattle.rule_viable_prefixes.specs.Misfits.{Fitting, IsNoun, NounFits, RepeatsFlag, IsExcused, one_use, repeated, nested, Says, IsMisfit}
 use Rattle.rule_viable_prefixes.proofs.Outcomes.{lack_wider, Excuse, repeats_behind, Akin, akin, akin_behind, akin_noun, Told, says_wider, Alike, same, ended, pair, bare, IsErr, SaysFirst}
 use Rattle.rule_viable_prefixes.proofs.Rules.{GoesOn, Whole, Within, Missed, Verdict, verdict_both, verdict_wider, begins_line, line_of_both, starts_line}
 
@@ -257,10 +256,31 @@ rules_refused (suc n) last (token ∷ tokens) found few ends names e =
 
 -- ---- where the fault stands
 
+-- at a token, of which the fault says why it does not fit
+pub record AtToken (tokens : List Token) (found : RuleFault) : Type 0 where
+  pub front : List Token
+  pub token : Token
+  pub behind : List Token
+  pub stands : tokens ≡ front ++ token ∷ behind
+  pub fits : Fits front
+  pub misfit : ¬ FitsBehind front token
+  pub line : found.line ≡ line_of front
+  pub told : token ≢ Excess → IsMisfit (FitsBehind front) token behind found.kind
+  pub excess : token ≡ Excess → found.kind ≡ TooMany
+  pub in_front : token ≢ Excess → (more : List Token) → behind ≡ Excess ∷ more → Says (FitsBehind front) token found.kind
+  pub no_noun : found.kind ≡ Syntax → (word : List ℕ) → token ≡ Word word → NounFits (FitsBehind front) → IsExcused (FitsBehind front) front word
+
+-- at the end
+pub record AtEnd (tokens : List Token) (last : ℕ) (found : RuleFault) : Type 0 where
+  pub fits : Fits tokens
+  pub no_rules : (rules : List RawRule) → ¬ SpellsRules rules tokens
+  pub kind : found.kind ≡ Syntax
+  pub line : (LineFits tokens × (found.line ≡ last)) ⊎ ((¬ LineFits tokens) × (found.line ≡ line_of tokens))
+
 no_rules_refused : (n last : ℕ) (tokens : List Token) (found : RuleFault) → length tokens ≤ n → rules_at n last tokens ≡ Err found → (rules : List RawRule) → SpellsRules rules tokens → ⊥
 no_rules_refused n last tokens found few e rules is = ok_no_err (rules_at n last tokens) rules (rules_at-of n last rules tokens is few) (found, e)
 
-at_token_or_end : (last : ℕ) (tokens : List Token) (found : RuleFault) (w : RefusedWithin tokens found) → (behind : List Token) → w.behind ≡ behind → IsAtToken tokens found ⊎ IsAtEnd tokens last found
+at_token_or_end : (last : ℕ) (tokens : List Token) (found : RuleFault) (w : RefusedWithin tokens found) → (behind : List Token) → w.behind ≡ behind → AtToken tokens found ⊎ AtEnd tokens last found
 at_token_or_end last tokens found w (token ∷ behind) is = inl (record {
   front = Line w.number ∷ w.front;
   token = token;
@@ -271,7 +291,9 @@ at_token_or_end last tokens found w (token ∷ behind) is = inl (record {
       w.misfit (token ∷ fits.1) (subst (λ (ts : List Token). Alike ts (token ∷ fits.1)) (sym is) (same token behind fits.1))
       (fits.0, subst (λ (ts : List Token). SpellsRules fits.0 (Line w.number ∷ ts)) (append_assoc w.front (token ∷ []) fits.1) fits.2);
   line = w.here ∙ sym (begins_line w.number 0 w.front);
-  kind = told.misfit;
+  told = told.misfit;
+  excess = told.excess;
+  in_front = told.in_front;
   no_noun = λ syntax_ word is_word noun. by word (told.lacks syntax_ word is_word) noun;
 })
   where
@@ -300,10 +322,10 @@ at_token_or_end last tokens found w [] is =
       );
     })
 
-pub where_refused : (last : ℕ) (tokens : List Token) (found : RuleFault) → EndsLine tokens → NamesEndLines tokens → all_rules last tokens ≡ Err found → IsAtToken tokens found ⊎ IsAtEnd tokens last found
+pub where_refused : (last : ℕ) (tokens : List Token) (found : RuleFault) → EndsLine tokens → NamesEndLines tokens → all_rules last tokens ≡ Err found → AtToken tokens found ⊎ AtEnd tokens last found
 where_refused last tokens found ends names e = by (rules_refused (length tokens) last tokens found (le_refl _) ends names e)
   where
-    by : Refused last tokens found → IsAtToken tokens found ⊎ IsAtEnd tokens last found
+    by : Refused last tokens found → AtToken tokens found ⊎ AtEnd tokens last found
     by (inl w) = at_token_or_end last tokens found w w.behind refl
     by (inr m) =
         let c = m.begins 0 in

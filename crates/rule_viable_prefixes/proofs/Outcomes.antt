@@ -1,6 +1,6 @@
 -- What a reader does on a line, said so that it composes: it reads tokens in front, whatever stands behind the next one, or it refuses
 -- what stands behind a front that some other tokens complete.
-use Rattle.std.proofs.Common.{◌≡◌, ℕ, Bool, true, false, cond, List, [], ◌∷◌, ◌++◌, map, Result, Ok, Err, refl, sym, ap, subst, ◌∙◌, append_assoc, ◌⊎◌, inl, inr}
+use Rattle.std.proofs.Common.{◌≡◌, ◌≢◌, ℕ, Bool, true, false, cond, List, [], ◌∷◌, ◌++◌, map, Result, Ok, Err, refl, sym, ap, subst, ◌∙◌, append_assoc, ◌⊎◌, inl, inr}
 use Rattle.std.proofs.lemmas.List.{append-nil}
 use Rattle.std.specs.Prelude.{codes}
 use Rattle.std.specs.Str.{bytes_eq}
@@ -12,7 +12,7 @@ use Rattle.rule_tokens.specs.PartReaders.{unexpected, misplaced_word, left_out}
 use Rattle.rule_tokens.specs.Tokens.{Token, Line, Head, Name, Register, Word, Number, Arrow, Mark, Other, Bad, Excess}
 use Rattle.rule_tokens.proofs.Ends.{EndsLine}
 use Rattle.rule_viable_prefixes.specs.Fits.{line_behind}
-use Rattle.rule_viable_prefixes.specs.Misfits.{Fitting, IsNoun, NounFits, IsTooDeep, IsTooMany, nodes, name, register, constant, choice, statement, nesting, Says, kind_at, IsMisfit, itself, read_on, RepeatsFlag}
+use Rattle.rule_viable_prefixes.specs.Misfits.{Fitting, IsNoun, NounFits, IsTooDeep, IsTooMany, name, register, constant, choice, statement, nesting, Says, kind_at, IsMisfit, itself, read_on, RepeatsFlag}
 use Rattle.ops.specs.FlagKeywords.{flag_keyword}
 use Rattle.ops.proofs.KeywordLemmas.{same_word}
 
@@ -126,7 +126,10 @@ lack_wider before front all word whole f (inr none) = inr (f none)
 
 -- what the kind says of the token, where these fit, and of a word that is told as `Syntax`
 pub record Told (fits : Fitting) (none : List ℕ → Type 0) (token : Token) (behind : List Token) (kind : RuleFaultKind) : Type 0 where
-  pub misfit : IsMisfit fits token behind kind
+  pub misfit : token ≢ Excess → IsMisfit fits token behind kind
+  -- the mark of the end of what is read is told as a limit that is passed, and in front of it a token by itself
+  pub excess : token ≡ Excess → kind ≡ TooMany
+  pub in_front : token ≢ Excess → (more : List Token) → behind ≡ Excess ∷ more → Says fits token kind
   pub lacks : kind ≡ Syntax → (word : List ℕ) → token ≡ Word word → Excuse fits word ⊎ none word
 
 -- and of the first of the tokens
@@ -156,18 +159,18 @@ no_word : (token : Token) (word : List ℕ) → IsPlain token → token ≡ Word
 no_word token word plain is = subst IsPlain is plain
 
 pub says_syntax : {fits : Fitting} {none : List ℕ → Type 0} (token : Token) (more : List Token) → IsPlain token → Told fits none token more Syntax
-says_syntax token more plain = record { misfit = itself (no_bad token plain, no_excess token plain); lacks = λ kind word is. absurd (no_word token word plain is) }
+says_syntax token more plain = record { misfit = λ read. itself (no_bad token plain); excess = λ is. absurd (no_excess token plain is); in_front = λ read others is. no_bad token plain; lacks = λ kind word is. absurd (no_word token word plain is) }
 
 pub says_word : {fits : Fitting} {none : List ℕ → Type 0} (word : List ℕ) (more : List Token) → Excuse fits word ⊎ none word → Told fits none (Word word) more Syntax
-says_word {fits} {none} word more why = record { misfit = itself ((λ e. absurd cc), (λ e. absurd cc)); lacks = λ kind other is. subst (λ (w : List ℕ). Excuse fits w ⊎ none w) (let equal = is in cc) why }
+says_word {fits} {none} word more why = record { misfit = λ read. itself (λ e. absurd cc); excess = λ is. absurd cc; in_front = λ read others is e. absurd cc; lacks = λ kind other is. subst (λ (w : List ℕ). Excuse fits w ⊎ none w) (let equal = is in cc) why }
 
 pub says_too_many : {fits : Fitting} {none : List ℕ → Type 0} (token : Token) (more : List Token) → IsTooMany fits token → Told fits none token more TooMany
-says_too_many token more is = record { misfit = itself is; lacks = λ kind word same_token. absurd cc }
+says_too_many token more is = record { misfit = λ read. itself is; excess = λ e. refl; in_front = λ read others e. is; lacks = λ kind word same_token. absurd cc }
 
 -- a word has the reason that is given
 pub says_unexpected : {fits : Fitting} {none : List ℕ → Type 0} (line : ℕ) (token : Token) (more : List Token) → ((word : List ℕ) → token ≡ Word word → Excuse fits word ⊎ none word) → Told fits none token more (unexpected line (token ∷ more)).kind
-says_unexpected line Bad more why = record { misfit = itself refl; lacks = λ kind word is. absurd cc }
-says_unexpected line Excess more why = record { misfit = itself nodes; lacks = λ kind word is. absurd cc }
+says_unexpected line Bad more why = record { misfit = λ read. itself refl; excess = λ is. absurd cc; in_front = λ read others is. refl; lacks = λ kind word is. absurd cc }
+says_unexpected line Excess more why = record { misfit = λ read. absurd (read refl); excess = λ is. refl; in_front = λ read others is. absurd (read refl); lacks = λ kind word is. absurd cc }
 says_unexpected line (Line number) more why = says_syntax (Line number) more tt
 says_unexpected line (Head text) more why = says_syntax (Head text) more tt
 says_unexpected line (Name text) more why = says_syntax (Name text) more tt
@@ -183,7 +186,9 @@ says_misplaced {fits} {none} noun line word more = by (bytes_eq word (codes "has
   where
     by : (b : Bool) → bytes_eq word (codes "hasOneUse") ≡ b → Told fits none (Word word) more (cond b Syntax (LeftOut word))
     by true h = says_word word more (inl (inl (same_word word (codes "hasOneUse") h)))
-    by false h = record { misfit = itself (refl, noun); lacks = λ kind other is. absurd cc }
+    by false h =
+        let other : word ≢ codes "hasOneUse" = λ same_word_. let is = ap (λ (w : List ℕ). bytes_eq w (codes "hasOneUse")) same_word_ in let both = sym h ∙ is in absurd cc in
+        record { misfit = λ read. itself (refl, other, noun); excess = λ is. absurd cc; in_front = λ read others is. (refl, other, noun); lacks = λ kind other is. absurd cc }
 
 pub says_left_out : {fits : Fitting} {none : List ℕ → Type 0} → NounFits fits → (line : ℕ) (token : Token) (more : List Token) → Told fits none token more (left_out line (token ∷ more)).kind
 says_left_out noun line (Word word) more = says_misplaced noun line word more
@@ -198,21 +203,28 @@ says_left_out noun line Arrow more = says_syntax Arrow more tt
 says_left_out noun line (Mark text) more = says_syntax (Mark text) more tt
 says_left_out noun line Other more = says_syntax Other more tt
 
+-- the kind of the first token, where the mark of the end of what is read stands too
+abbrev pub kind_first : List Token → RuleFaultKind
+kind_first (Excess ∷ tokens) = TooMany
+kind_first tokens = kind_at tokens
+
 -- a word that is nested too deep is told as such, or as what stands in place of the `(` behind it
 abbrev pub IsTold : List Token → RuleFaultKind → Type 0
-IsTold tokens kind = (kind ≡ TooMany) ⊎ (((more : List Token) → tokens ≡ Mark (codes "(") ∷ more → ⊥) × (kind ≡ kind_at tokens))
+IsTold tokens kind = (kind ≡ TooMany) ⊎ (((more : List Token) → tokens ≡ Mark (codes "(") ∷ more → ⊥) × (kind ≡ kind_first tokens))
 
 pub says_deep : {fits : Fitting} {none : List ℕ → Type 0} (word : List ℕ) → IsTooDeep fits (Word word) → (tokens : List Token) (kind : RuleFaultKind) → IsTold tokens kind → Told fits none (Word word) tokens kind
 says_deep {fits} {none} word deep tokens kind (inl is) = subst (Told fits none (Word word) tokens) (sym is) (says_too_many (Word word) tokens (nesting (Word word) deep))
+says_deep {fits} {none} word deep (Excess ∷ tokens) kind (inr (none_, is)) = subst (Told fits none (Word word) (Excess ∷ tokens)) (sym is) (says_too_many (Word word) (Excess ∷ tokens) (nesting (Word word) deep))
 says_deep {fits} {none} word deep tokens kind (inr (none_, is)) = record {
-  misfit = read_on (word, refl, deep, none_, is);
+  misfit = λ read. read_on (word, refl, deep, none_, is);
+  excess = λ is_excess. absurd cc;
+  in_front = λ read more is_excess. absurd cc;
   lacks = λ kind_ other is_other. inl (subst (Excuse fits) (let equal = is_other in cc) (inr deep));
 }
 
 -- ---- the same where more fits
 
 many_wider : (P Q : Fitting) → ((token : Token) → P token → Q token) → (token : Token) → IsTooMany P token → IsTooMany Q token
-many_wider P Q f token nodes = nodes
 many_wider P Q f token (name text (short, long, le, sort, of_sort, is)) = name text (short, long, le, sort, of_sort, f (Name short) is)
 many_wider P Q f token (register text (short, long, le, sort, of_sort, is)) = register text (short, long, le, sort, of_sort, f (Register short) is)
 many_wider P Q f token (constant text (short, long, le, sort, of_sort, is)) = constant text (short, long, le, sort, of_sort, f (Word short) is)
@@ -224,7 +236,7 @@ many_wider P Q f token (nesting t (nests, is)) = nesting t (nests, f (Number (co
 kind_wider : (P Q : Fitting) → ((token : Token) → P token → Q token) → (token : Token) (kind : RuleFaultKind) → Says P token kind → Says Q token kind
 kind_wider P Q f token BadByte is = is
 kind_wider P Q f token TooMany is = many_wider P Q f token is
-kind_wider P Q f token (LeftOut left) (is, (noun, is_noun, fits)) = (is, (noun, is_noun, f (Word noun) fits))
+kind_wider P Q f token (LeftOut left) (is, other, (noun, is_noun, fits)) = (is, other, (noun, is_noun, f (Word noun) fits))
 kind_wider P Q f token Syntax is = is
 kind_wider P Q f token kind is = absurd is
 
@@ -235,7 +247,7 @@ misfit_wider P Q f token tokens kind (read_on (word, is, (nests, fits), none, to
 pub says_wider : {C D : List ℕ → Type 0} (P Q : Fitting) → ((token : Token) → P token → Q token) → (tokens : List Token) → ((word : List ℕ) (rest : List Token) → tokens ≡ Word word ∷ rest → C word → D word)
     → (kind : RuleFaultKind) → SaysFirst P C tokens kind → SaysFirst Q D tokens kind
 says_wider P Q f [] g kind is = is
-says_wider {C} {D} P Q f (token ∷ tokens) g kind is = record { misfit = misfit_wider P Q f token tokens kind is.misfit; lacks = λ syntax_ word is_word. by word is_word (is.lacks syntax_ word is_word) }
+says_wider {C} {D} P Q f (token ∷ tokens) g kind is = record { misfit = λ read. misfit_wider P Q f token tokens kind (is.misfit read); excess = is.excess; in_front = λ read more e. kind_wider P Q f token kind (is.in_front read more e); lacks = λ syntax_ word is_word. by word is_word (is.lacks syntax_ word is_word) }
   where
     by : (word : List ℕ) → token ≡ Word word → Excuse P word ⊎ C word → Excuse Q word ⊎ D word
     by word is_word (inl (inl one)) = inl (inl one)

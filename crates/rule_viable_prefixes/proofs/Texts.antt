@@ -18,9 +18,10 @@ use Rattle.scan.specs.Names.{is_in_rest, rest_of_line}
 use Rattle.scan.specs.RuleTokens.{is_unsigned_operator, is_remainder, is_placed_operator, is_mark, is_register, is_rule_word, is_negative, is_literal, kind_of, IsLongestToken, Begins, IsGapBefore, line_at, in_operator_place, IsNextRuleToken, IsBadNext}
 use Rattle.scan.proofs.Fronts.{which}
 use Rattle.scan.proofs.PlaceLemmas.{feeds_append, feeds_between, run_feeds, ends_or_not}
-use Rattle.rule_tokens.specs.Tokens.{Token, Line, Head, Name, Register, Word, Number, Mark, Bad, token_of, token_on, Place, AtName, AtToken, place_behind, bytes_at, TokensFrom, ends, token, name, bad_token, bad_name, AreTokens}
+use Rattle.rule_tokens.specs.Tokens.{Token, Line, Head, Name, Register, Word, Number, Mark, Bad, Excess, token_of, token_on, Place, AtName, AtToken, place_behind, bytes_at, TokensFrom, ends, token, name, bad_token, bad_name, AreTokens}
 use Rattle.rule_tokens.proofs.Ends.{EndsLine}
 use Rattle.rule_parse.specs.CutTokens.{limited_to, room_behind, or_excess}
+use Rattle.rule_parse.proofs.Cuts.{IsOfText, AreOfText}
 use Rattle.rule_viable_prefixes.proofs.Lines.{NamesEndLines}
 
 -- ---- what ends the rest of a line
@@ -252,6 +253,32 @@ text_begins text tokens last are =
     begins_lines text false 0 0 tokens last (AtToken false) refl are
     (λ o t next ne. omega (arith, next.line, line_is t.kind text t.span.start ne)) (λ bad is_bad. omega (arith, is_bad.line_is))
 
+-- ---- tokens of texts
+
+of_kind : (kind : RuleKind) (bytes : List ℕ) → IsOfText (token_of kind bytes)
+of_kind kinds.End bytes = tt
+of_kind kinds.Other bytes = tt
+of_kind kinds.Head bytes = tt
+of_kind kinds.Register bytes = tt
+of_kind kinds.Word bytes = tt
+of_kind kinds.Number bytes = tt
+of_kind kinds.Arrow bytes = tt
+of_kind kinds.Mark bytes = tt
+
+of_text_on : (before line : ℕ) (t : Token) (tokens : List Token) → AreOfText (t ∷ tokens) → AreOfText (token_on before line t tokens)
+of_text_on before line t tokens are = by (eqb line before)
+  where
+    by : (b : Bool) → AreOfText (cond b (t ∷ tokens) (Line line ∷ t ∷ tokens))
+    by true = are
+    by false = (tt, are)
+
+pub of_text : (text : List ℕ) {place : Place} {at line last : ℕ} {tokens : List Token} → TokensFrom text place at line tokens last → AreOfText tokens
+of_text text (ends t next end same) = tt
+of_text text (token {line = line} {tokens = tokens} t next ne more) = of_text_on line t.line (token_of t.kind (bytes_at text t.span)) tokens (of_kind t.kind (bytes_at text t.span), of_text text more)
+of_text text (name {found = found} {tokens = tokens} is more) = subst (λ (f : Token). AreOfText (f ∷ tokens)) (sym is.2) (tt, of_text text more)
+of_text text (bad_token {line = line} {last = last} bad) = of_text_on line last Bad [] (tt, tt)
+of_text text (bad_name bad) = (tt, tt)
+
 -- ---- up to the limit
 
 pub limited_begins : (room : ℕ) (begins : Bool) (tokens : List Token) → EndsLine tokens → EndsLine (limited_to room begins tokens)
@@ -261,7 +288,7 @@ limited_begins room begins (Line number ∷ tokens) new = tt
 limited_begins room begins tokens new = absurd new
 
 cut_off : (t : Token) (found : Option ℕ) (others : ℕ → List Token) → ((left : ℕ) → NamesEndLines (others left)) → ((tokens : List Token) → NamesEndLines tokens → NamesEndLines (t ∷ tokens)) → NamesEndLines (or_excess t found others)
-cut_off t None others n add = tt
+cut_off t None others n add = add (Excess ∷ []) tt
 cut_off t (Some left) others n add = add (others left) (n left)
 
 pub limited_names : (room : ℕ) (begins : Bool) (tokens : List Token) → NamesEndLines tokens → NamesEndLines (limited_to room begins tokens)

@@ -10,7 +10,7 @@ use Rattle.rule_tokens.specs.declared.fault.RuleFaultKind.{RuleFaultKind}
 use Rattle.rule_tokens.specs.declared.fault.RuleFaultKind.TheVariants.{BadByte, Syntax, LeftOut, TooMany}
 use Rattle.rule_tokens.specs.Limits.{most_name_bytes}
 use Rattle.rule_tokens.specs.Numbers.{IsWrittenType}
-use Rattle.rule_tokens.specs.Tokens.{Token, Head, Name, Register, Word, Number, Arrow, Mark, Bad, Excess}
+use Rattle.rule_tokens.specs.Tokens.{Token, Head, Name, Register, Word, Number, Arrow, Mark, Bad}
 use Rattle.rule_terms.specs.declared.formula_word.Predicate.{Predicate}
 use Rattle.rule_terms.specs.FormulaKeywords.{predicate_word}
 use Rattle.rule_terms.specs.Keywords.{IsPrefix, IsCalled, IsChoice}
@@ -81,10 +81,8 @@ IsTooLong fits token IsOfSort name =
 abbrev pub HalfEnds : Fitting → Type 0
 HalfEnds fits = fits Arrow ⊎ fits (Head (codes "Name:"))
 
--- With the token a limit is passed.
+-- With the token a limit of names, statements or nesting is passed.
 pub data IsTooMany (fits : Fitting) : Token → Type 0 where
-  -- a rule has too many operands, literals, names, operators and functions
-  nodes : IsTooMany fits Excess
   name : (name : List ℕ) → IsTooLong fits Name (λ text. 1 ≤ length text) name → IsTooMany fits (Name name)
   register : (name : List ℕ) → IsTooLong fits Register (λ text. Unit {0}) name → IsTooMany fits (Register name)
   constant : (name : List ℕ) → IsTooLong fits Word (λ word. IsTrue (is_constant word)) name → IsTooMany fits (Word name)
@@ -95,20 +93,18 @@ pub data IsTooMany (fits : Fitting) : Token → Type 0 where
 
 -- ---- kinds
 
--- What a kind says of the token itself: it is a byte that may not stand; with it a limit is passed; it is a word that is left out, and
--- a noun fits in its place; or it is none of the tokens that end what is read. No token is of
--- another kind.
+-- What a kind says of the token itself: it is a byte that may not stand; with it a limit is passed; it is a word that is left out, not
+-- `hasOneUse`, and a noun fits in its place; or it is no byte that may not stand. No token is of another kind.
 abbrev pub Says : Fitting → Token → RuleFaultKind → Type 0
 Says fits token BadByte = token ≡ Bad
 Says fits token TooMany = IsTooMany fits token
-Says fits token (LeftOut left) = (token ≡ Word left) × NounFits fits
-Says fits token Syntax = (token ≢ Bad) × (token ≢ Excess)
+Says fits token (LeftOut left) = (token ≡ Word left) × (left ≢ codes "hasOneUse") × NounFits fits
+Says fits token Syntax = token ≢ Bad
 Says fits token kind = ⊥
 
 -- what the kind of a fault at the first of these tokens is where no word is left out and no other limit is passed
 abbrev pub kind_at : List Token → RuleFaultKind
 kind_at (Bad ∷ tokens) = BadByte
-kind_at (Excess ∷ tokens) = TooMany
 kind_at tokens = Syntax
 
 -- A function or a predicate that is nested too deep, with no `(` behind it, is told as the token behind it is: `log2 +` behind 32 `(`.

@@ -8,4 +8,6 @@ mod one_statement;
 #[cfg(test)]
 mod preconditions;
 #[cfg(test)]
+mod refusals;
+#[cfg(test)]
 mod tests;

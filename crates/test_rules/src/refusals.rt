@@ -1,0 +1,72 @@
+//! Rule files at and past the limit of 256 nodes, and words that are told as `Syntax`: the kind and the line of the first fault,
+//! worked out by hand.
+
+use rule_reader::{RuleError, RuleFaultKind, read_rules};
+use std::alloc::Global;
+use std::test::Fail;
+
+/// How many comparisons of two numbers `Pre:` has, the text behind them, and the line and the kind of the first fault. They are three
+/// nodes each, and each `&&` between two is one.
+const ROWS: [(u32, &str, usize, &str); 12] = [
+    // behind 256 nodes
+    (64, "\n%t = trunc %x\n%u = true\n", 4, "LeftOut"),
+    (64, "\n%t = trunc %x\n%u = or true, 0\n", 4, "TooMany"),
+    (64, "\n%t = trunc %x\n%r = or %t\u{1}, 0\n", 4, "TooMany"),
+    (64, "\n%t = trunc %x\n\u{1}\n", 4, "BadByte"),
+    (63, "\n%r = or %x, C\n=>\n%r = i8 C + 1 %x\n", 5, "Syntax"),
+    (63, "\n%r = or %x, C\n=>\n%r = i8 C + 1 - 1\n", 5, "TooMany"),
+    (
+        63,
+        "\n%r = or %x, C\n=>\n%r = i8 C + 1\n%r = %x\n",
+        6,
+        "TooMany",
+    ),
+    (
+        63,
+        "\n%r = or %x, C\n=>\n%r = i8 C + 1\nPre: C\n",
+        6,
+        "Syntax",
+    ),
+    // words that are no others
+    (1, "\n%r = add nuw nuw %x, 0\n", 3, "Syntax"),
+    (1, "\n%r = hasOneUse\n", 3, "Syntax"),
+    (1, "\n%r = or %x, hasOneUse(%x)\n", 3, "Syntax"),
+    (1, "\n%r = isPowerOf2\n", 3, "LeftOut"),
+];
+
+/// A rule with so many comparisons in `Pre:`, and the text behind them.
+fn rule_of(alloc: Global, comparisons: u32, rest: &str) -> Result<Vec<u8>, Fail> {
+    let mut bytes = Vec::new(alloc);
+    bytes.extend_from_slice("Name: a\nPre: 1 == 1".as_bytes())?;
+    for _ in 1..comparisons {
+        bytes.extend_from_slice(" && 1 == 1".as_bytes())?;
+    }
+    bytes.extend_from_slice(rest.as_bytes())?;
+    Ok(bytes)
+}
+
+/// The name of a kind that a parser tells.
+fn name_of(kind: &RuleFaultKind) -> &'static str {
+    match kind {
+        RuleFaultKind::BadByte => "BadByte",
+        RuleFaultKind::Syntax => "Syntax",
+        RuleFaultKind::LeftOut(_) => "LeftOut",
+        RuleFaultKind::TooMany => "TooMany",
+        _ => "another",
+    }
+}
+
+#[test]
+fn faults_are_told_by_their_own_kind(rt: HostRuntime) -> Result<(), Fail> {
+    for (comparisons, rest, line, name) in &ROWS {
+        let text = rule_of(rt.alloc(), *comparisons, *rest)?;
+        match read_rules(rt.alloc(), text.as_slice()) {
+            Err(RuleError::Refused(fault)) => {
+                assert_eq!(rt; name_of(&fault.kind), *name, "{rest}");
+                assert_eq!(rt; fault.line, *line, "{rest}");
+            }
+            _ => Err("no fault")?,
+        }
+    }
+    Ok(())
+}
