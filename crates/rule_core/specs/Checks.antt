@@ -17,6 +17,8 @@ use Rattle.rule_core.specs.declared.rule.Node.TheVariants as nodes
 use Rattle.rule_core.specs.declared.rule.Formula.{Formula}
 use Rattle.rule_core.specs.declared.rule.Formula.TheVariants as formulas
 use Rattle.rule_core.specs.Positions.{operands_of, operands_among, operands_in, terms_in, undefs_among}
+use Rattle.rule_core.specs.FormulaNodes.{joint_of, OneUseIsOutermost}
+use Rattle.rule_core.specs.TermNodes.{NamesWidth, AreLastNodes}
 
 -- source statement k may read inputs, what earlier source statements assign, and constants; the root's may read `undef`
 abbrev pub SourceMayRead : Rule → ℕ → Argument → Type 0
@@ -62,6 +64,21 @@ MayBeTerm rule n (nodes.Undef k) = ⊥
 MayBeTerm rule n (nodes.Width r c) = HasKnownWidth rule r
 MayBeTerm rule n (nodes.Unary function a) = a < n
 MayBeTerm rule n (nodes.Binary op a b) = (a < n) × (b < n)
+
+-- the widths that a term of target statement k names are of registers that it may read
+abbrev pub TargetMayMeasure : Rule → ℕ → Argument → Type 0
+TargetMayMeasure rule k (arguments.Term n) = (r : Register) → NamesWidth rule.terms n r → TargetMayRead rule k (arguments.Register r)
+TargetMayMeasure rule k argument = Unit {0}
+
+-- and those that a term of the precondition names
+abbrev pub MeasuresBeforeRoot : Rule → ℕ → Type 0
+MeasuresBeforeRoot rule n = (r : Register) → NamesWidth rule.terms n r → IsBeforeRoot rule r
+
+abbrev pub FormulaMayMeasure : Rule → Formula → Type 0
+FormulaMayMeasure rule (formulas.Compare pred a b) = MeasuresBeforeRoot rule a × MeasuresBeforeRoot rule b
+FormulaMayMeasure rule (formulas.IsPowerOfTwo a) = MeasuresBeforeRoot rule a
+FormulaMayMeasure rule (formulas.IsSignBit a) = MeasuresBeforeRoot rule a
+FormulaMayMeasure rule formula = Unit {0}
 
 -- and node n of the expressions of `Wit:`
 abbrev pub MayBeWitness : Rule → ℕ → Node → Type 0
@@ -175,6 +192,9 @@ pub record IsRule (rule : Rule) : Type 0 where
   pub terms : (n : ℕ) (t : Term) → slice_get rule.terms n ≡ Some t → MayBeTerm rule n t.node
   pub witness_terms : (n : ℕ) (t : Term) → slice_get rule.witness_terms n ≡ Some t → MayBeWitness rule n t.node
   pub precondition : (n : ℕ) (f : Formula) → slice_get rule.precondition n ≡ Some f → MayBeFormula rule n f
+  -- and is there where it stands
+  pub target_widths : ReadsOnly (TargetMayMeasure rule) rule.target
+  pub precondition_widths : (n : ℕ) (f : Formula) → slice_get rule.precondition n ≡ Some f → FormulaMayMeasure rule f
   -- RootMissing: there is a root, and the last target statement assigns it
   pub source_root : 0 < length rule.source
   pub target_root : 0 < length rule.target
@@ -184,7 +204,9 @@ pub record IsRule (rule : Rule) : Type 0 where
   pub temporaries_stay : (j : ℕ) (s : Statement) → suc j < length rule.source → slice_get rule.source j ≡ Some s → Contains (names_of rule.target) s.name → ⊥
   -- UnusedTemp: the source reads each of its temporaries, which only later statements may
   pub temporaries_read : (j : ℕ) → suc j < length rule.source → (q : ℕ) × ReadsAt rule q (registers.Source j)
-  -- the grammar: the source has no copies, and flags are those that the opcode takes
+  -- the grammar: `hasOneUse` stands as a member of the outermost `&&` alone
+  pub one_use : OneUseIsOutermost (map joint_of rule.precondition)
+  -- the source has no copies, and flags are those that the opcode takes
   pub source_ops : (k : ℕ) (s : Statement) → slice_get rule.source k ≡ Some s → MayStandInSource s.op
   pub source_flags : (k : ℕ) (s : Statement) → slice_get rule.source k ≡ Some s → FlagsFitOp s.op
   pub target_flags : (k : ℕ) (s : Statement) → slice_get rule.target k ≡ Some s → FlagsFitOp s.op
@@ -195,3 +217,5 @@ pub record IsRule (rule : Rule) : Type 0 where
   -- WitnessCount: `Wit:` has an expression for each `undef` of the source
   pub witnesses : length rule.witnesses ≡ length (undefs_among rule.source)
   pub witnesses_there : (k n : ℕ) → slice_get rule.witnesses k ≡ Some n → n < length rule.witness_terms
+  -- the expressions stand one behind the other, and are chosen by their last nodes
+  pub witnesses_last : AreLastNodes rule.witness_terms 0 rule.witnesses

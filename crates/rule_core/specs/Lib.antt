@@ -2,6 +2,8 @@ pub use Rattle.ops.specs.Integer
 pub use Rattle.ops.specs.Value
 pub mod Checks
 pub mod Positions
+pub mod FormulaNodes
+pub mod TermNodes
 pub mod Terms
 pub mod Run
 pub mod Typing

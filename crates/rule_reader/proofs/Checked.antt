@@ -1,9 +1,10 @@
 -- A rule that a rule as written without faults means meets each check of a rule.
-use Rattle.std.proofs.Common.{◌≡◌, inl, inr, ℕ, zero, suc, ◌+◌, ◌-◌, ◌<◌, ◌≤◌, List, [], ◌∷◌, length, Some, refl, sym, ap, subst, ◌∙◌, arith, get_or}
+use Rattle.std.proofs.Common.{◌≡◌, inl, inr, ℕ, zero, suc, ◌+◌, ◌-◌, ◌<◌, ◌≤◌, List, [], ◌∷◌, ◌++◌, append_assoc, length, Some, refl, sym, ap, subst, ◌∙◌, arith, get_or}
 use Rattle.std.specs.Prelude.{slice_get, Contains, map, flat_map}
 use Rattle.std.specs.List.{range_with_len}
 use Rattle.std.proofs.lemmas.Option.{slice_get_within, slice_get-get_or, same_Some}
 use Rattle.std.proofs.lemmas.List.FromFn.{length-range_with_len}
+use Rattle.std.proofs.lemmas.Grind.{flat_map-append}
 use Rattle.ops.specs.declared.opcode.Opcode.{Opcode}
 use Rattle.ops.specs.declared.opcode.Flags.{Flags}
 use Rattle.ops.specs.Flags.{FlagsFit}
@@ -31,28 +32,31 @@ use Rattle.rule_core.specs.declared.rule.Node.{Node}
 use Rattle.rule_core.specs.declared.rule.Node.TheVariants as nodes
 use Rattle.rule_core.specs.declared.rule.Formula.{Formula}
 use Rattle.rule_core.specs.declared.rule.Formula.TheVariants as formulas
-use Rattle.rule_core.specs.Checks.{IsRule, SourceMayRead, TargetMayRead, HasKnownWidth, IsBeforeRoot, MayBeTerm, MayBeWitness, MayBeFormula, MayStandInSource as MayBeInSource, FlagsFitOp, IsNoUndefCopy, UndefsInOrder, StandsAt as StandsInRule, names_of}
+use Rattle.rule_core.specs.FormulaNodes.{Turns, Both, Either, joint_of, OneUseIsOutermost}
+use Rattle.rule_core.specs.TermNodes.{NamesWidth, AreLastNodes}
+use Rattle.rule_core.specs.Checks.{IsRule, SourceMayRead, TargetMayRead, TargetMayMeasure, MeasuresBeforeRoot, FormulaMayMeasure, HasKnownWidth, IsBeforeRoot, MayBeTerm, MayBeWitness, MayBeFormula, MayStandInSource as MayBeInSource, FlagsFitOp, IsNoUndefCopy, UndefsInOrder, StandsAt as StandsInRule, names_of}
 use Rattle.rule_core.specs.Positions.{operands_of as operands_meant, operands_among, undefs_among}
 use Rattle.rule_core.proofs.Members.{Contains-from_get}
 use Rattle.rule_reader.specs.declared.counts.Counts.{Counts}
 use Rattle.rule_reader.specs.declared.names.Names.{Names}
 use Rattle.rule_reader.specs.declared.place.Place.TheVariants as places
-use Rattle.rule_parse.specs.Contents.{arguments_of, arguments_among, formula_of, expressions_of, target_terms, terms_of, terms_of_formula}
-use Rattle.rule_reader.specs.Meaning.{nodes_in, past, no_counts, in_half, with_counts, with_nodes, with_terms, last_nodes, UsesAt, IsRoot, AssignsAt, IsInput, ArgumentMeans, OpMeans, StatementMeans, NodeMeans, FormulaMeans, HasName, HalfMeans, Means, names_of_rule}
+use Rattle.rule_parse.specs.Contents.{arguments_of, arguments_among, formula_of, expressions_of, target_terms, terms_of, terms_of_argument, terms_of_formula}
+use Rattle.rule_reader.specs.Meaning.{nodes_in, past, past_all, no_counts, in_half, with_counts, with_nodes, with_terms, last_nodes, UsesAt, IsRoot, AssignsAt, IsInput, ArgumentMeans, OpMeans, StatementMeans, NodeMeans, FormulaMeans, HasName, HalfMeans, TermsMean, Means, names_of_rule}
 use Rattle.rule_terms.specs.Nodes.{IsBehindOperands}
-use Rattle.rule_reader.specs.WellFormed.{IsHalf, IsWellFormed, IsBehindFormulas, MayStandInTerm, MayStandInSource, FlagsFitOp as FlagsFitRaw}
+use Rattle.rule_reader.specs.WellFormed.{IsHalf, IsTerm, IsWellFormed, IsBehindFormulas, MayStandInTerm, MayStandInSource, raw_joint, FlagsFitOp as FlagsFitRaw}
 use Rattle.rule_reader.specs.FaultKinds.{MayUse, NodeIsBound, TermIsBound, ArgumentIsBound, FormulaIsBound, RootMissingAt, UnusedTempAt, UndefInsideAt, WitnessCountAt, IsUndefCopy}
 use Rattle.rule_reader.specs.KnownRules.{NamesAreThere}
 use Rattle.rule_reader.proofs.Places.{order, same_at, there, map_at, somewhere, zip_right}
 use Rattle.rule_reader.proofs.SameWeight.{same_weight}
 use Rattle.rule_reader.proofs.There.{IsThere, term_there}
 use Rattle.rule_reader.proofs.Stable.{stable_name, same_number}
-use Rattle.rule_reader.proofs.Members.{each_in, each_at, flat_at, at_flat}
-use Rattle.rule_reader.proofs.Counting.{with_counts_at}
-use Rattle.rule_reader.proofs.Nodes.{nodes_append, node_at, terms_length, with_terms_at, last_nodes_count}
+use Rattle.rule_reader.proofs.Members.{Contains-behind, each_in, each_at, flat_at, at_flat}
+use Rattle.rule_reader.proofs.Counting.{past_append, with_counts_at}
+use Rattle.rule_reader.proofs.Nodes.{nodes_append, node_at, terms_length, with_terms_at, FormulasMean, last_nodes_count}
+use Rattle.rule_reader.proofs.OwnNodes.{statement_split, argument_split, nodes_past, formula_split, measures, are_last_nodes}
 use Rattle.rule_reader.proofs.Weighing.{nodes_weigh}
 use Rattle.rule_reader.proofs.Found.{input_of as input_of_names}
-use Rattle.rule_reader.proofs.Meaning.{assigning_statement, statement_assigns, names_go, count_go, read_go, nodes_upto, reads_written, written_reads, undefs_from, all_go}
+use Rattle.rule_reader.proofs.Meaning.{assigning_statement, statement_assigns, names_go, count_go, read_go, operands_go, with_before, with_before_at, Goes, nodes_upto, reads_written, written_reads, undefs_from, all_go}
 use Rattle.rule_reader.proofs.OneRegister.{IsPlain, one_place, one_register, not_redefined, input_or_earlier, target_register, before_root_register}
 use Rattle.rule_reader.proofs.NameDecisions.{dec_uses_at}
 
@@ -107,6 +111,11 @@ module _ (raw : RawRule) (names : Names) where
   named_constant : (b : Counts) (name : List ℕ) (a : Argument) → ArgumentMeans raw names b (raw_arguments.Constant name) a → (k : ℕ) × (a ≡ arguments.Constant k) × (slice_get names.constants k ≡ Some name)
   named_constant b name (arguments.Constant k) means = (k, refl, means)
   named_constant b name a means = absurd means
+
+-- what stands between others is among them
+Contains-amid : {X : Type 0} (front : List X) (x : X) (back : List X) → Contains (front ++ x ∷ back) x
+Contains-amid [] x back = Contains-from_get (x ∷ back) 0 x refl
+Contains-amid (y ∷ front) x back = Contains-behind y (front ++ x ∷ back) x (Contains-amid front x back)
 
 -- the last node of a term is one of all nodes
 last_within : (n : ℕ) (ts : List (List RawNode)) (k m : ℕ) → ((t : List RawNode) → Contains ts t → 0 < length t) → slice_get (last_nodes n ts) k ≡ Some m → m < n + nodes_in ts
@@ -392,6 +401,114 @@ module _ (raw : RawRule) (rule : Rule) (well : IsWellFormed raw) (bound : IsBoun
       may_be_formula n x.0 x.1 f is (well.formula n x.1 spot) (each_at (FormulaIsBound raw) (formula_of raw) n x.1 bound.there.precondition spot)
       (omega (arith, formula_within start (formula_of raw) n x at', terms_long, nodes_append (target_terms raw) (flat_map terms_of_formula (formula_of raw))))
 
+  -- ---- `hasOneUse`
+
+  joint_means : (b : ℕ) (w : RawFormula) (f : Formula) → FormulaMeans raw own b w f → joint_of f ≡ raw_joint w
+  joint_means b (raw_formulas.Compare pred u v) (formulas.Compare pred' x y) is = refl
+  joint_means b (raw_formulas.IsPowerOfTwo u) (formulas.IsPowerOfTwo x) is = refl
+  joint_means b (raw_formulas.IsSignBit u) (formulas.IsSignBit x) is = refl
+  joint_means b (raw_formulas.HasOneUse name) (formulas.HasOneUse k) is = refl
+  joint_means b (raw_formulas.Not a) (formulas.Not x) is = ap (λ n. Turns n) is
+  joint_means b (raw_formulas.And a c) (formulas.And x y) is = ap (λ n. Both n y) is.0 ∙ ap (λ n. Both a n) is.1
+  joint_means b (raw_formulas.Or a c) (formulas.Or x y) is = ap (λ n. Either n y) is.0 ∙ ap (λ n. Either a n) is.1
+  joint_means b w f is = absurd is
+
+  joints_mean : (n : ℕ) (fs : List RawFormula) (gs : List Formula) → FormulasMean raw own n fs gs → map joint_of gs ≡ map raw_joint fs
+  joints_mean n [] [] all = refl
+  joints_mean n [] (g ∷ gs) all = absurd all
+  joints_mean n (f ∷ fs) [] all = absurd all
+  joints_mean n (f ∷ fs) (g ∷ gs) all =
+      ap (λ x. x ∷ map joint_of gs) (joint_means n f g all.0) ∙ ap (λ l. raw_joint f ∷ l) (joints_mean (n + nodes_in (terms_of_formula f)) fs gs all.1)
+
+  one_use : OneUseIsOutermost (map joint_of rule.precondition)
+  one_use = subst OneUseIsOutermost (sym (joints_mean (nodes_in (target_terms raw)) (formula_of raw) rule.precondition means.precondition)) well.one_use
+
+  -- ---- widths
+
+  -- a register that a statement of the target may use is one that it may read
+  target_use : (k : ℕ) (name : List ℕ) (r : Register) → MayUse raw (places.Target k) name → HasName raw own r name → TargetMayRead rule k (arguments.Register r)
+  target_use k name r may has = elim (target_register raw own bound.plain means.names k name r (λ not. not may) has) [
+    | inl (i, lt, e) ↦ subst (λ x. TargetMayRead rule k (arguments.Register x)) (sym e) lt
+    | inr (inl (j, lt, e)) ↦ subst (λ x. TargetMayRead rule k (arguments.Register x)) (sym e) (subst (λ n. suc j < n) (sym source_length) lt)
+    | inr (inr (j, lt, e)) ↦ subst (λ x. TargetMayRead rule k (arguments.Register x)) (sym e) lt
+  ]
+
+  -- a term of a statement of the target
+  target_term : (k n : ℕ) (w : RawStatement) (t : List RawNode) (front back : List RawArgument) → slice_get raw.target k ≡ Some w → Contains (arguments_of w.op) (raw_arguments.Term t)
+      → arguments_among raw.target ≡ front ++ raw_arguments.Term t ∷ back → suc n ≡ nodes_in (flat_map terms_of_argument front) + length t → TargetMayMeasure rule k (arguments.Term n)
+  target_term k n w t front back at among whole end r names =
+      let before : List (List RawNode) = flat_map terms_of_argument front in
+      let behind : List (List RawNode) = flat_map terms_of_argument back ++ flat_map terms_of_formula (formula_of raw) in
+      let split : target_terms raw ≡ before ++ t ∷ flat_map terms_of_argument back = ap (flat_map terms_of_argument) whole ∙ flat_map-append terms_of_argument front (raw_arguments.Term t ∷ back) in
+      let all : terms_of raw ≡ before ++ t ∷ behind = ap (λ l. l ++ flat_map terms_of_formula (formula_of raw)) split ∙ append_assoc before (t ∷ flat_map terms_of_argument back) (flat_map terms_of_formula (formula_of raw)) in
+      let term : IsTerm t = well.terms t (subst (λ l. Contains l t) (sym all) (Contains-amid before t behind)) in
+      let (name, inside, has) = measures raw own before t behind rule.terms (subst (λ l. TermsMean raw own l rule.terms) all means.terms) term n r (omega (arith, end)) names in
+      let there : TermIsBound raw (places.Target k) t = each_in (ArgumentIsBound raw (places.Target k)) (arguments_of w.op) (raw_arguments.Term t) (bound.there.target k w at) among in
+      target_use k name r (each_in (NodeIsBound raw (places.Target k)) t (raw_nodes.Width name) there inside) has
+
+  -- an operand of it, where so much stands before it
+  target_operand : (k : ℕ) (w : RawStatement) (b : Counts) (v : RawArgument) (front back : List RawArgument) (a : Argument) → slice_get raw.target k ≡ Some w → Contains (arguments_of w.op) v
+      → arguments_among raw.target ≡ front ++ v ∷ back → b ≡ past_all no_counts front → ArgumentMeans raw own b v a → TargetMayMeasure rule k a
+  target_operand k w b (raw_arguments.Term t) front back (arguments.Term n) at among whole is goes =
+      let count : b.nodes ≡ 0 + nodes_in (flat_map terms_of_argument front) = ap (λ (c : Counts). c.nodes) is ∙ nodes_past no_counts front in
+      target_term k n w t front back at among whole (omega (arith, goes, count))
+  target_operand k w b v front back (arguments.Term n) at among whole is goes = absurd goes
+  target_operand k w b v front back a at among whole is goes = tt
+
+  target_widths : (k : ℕ) (s : Statement) (o : Operand) → slice_get rule.target k ≡ Some s → Contains (operands_meant s.op) o → TargetMayMeasure rule k o.value
+  target_widths k s o at among =
+      let (x, there, goes) = zip_right (λ (x : Counts × RawStatement) (y : Statement). StatementMeans raw own x.0 x.1 y) (with_counts no_counts raw.target) rule.target k s means.target at in
+      let (front, back, whole, is) = statement_split no_counts raw.target k x there in
+      let (q, place) = somewhere (operands_meant s.op) o among in
+      let (y, spot, reads) = zip_right (Goes raw own) (with_before x.0 (arguments_of x.1.op)) (operands_meant s.op) q o (operands_go raw own x.0 x.1.op s.op goes.1) place in
+      let (front', back', whole', is') = argument_split x.0 (arguments_of x.1.op) q y spot in
+      let all : arguments_among raw.target ≡ (front ++ front') ++ y.1 ∷ (back' ++ back) =
+      whole ∙ ap (λ l. front ++ (l ++ back)) whole' ∙ ap (λ l. front ++ l) (append_assoc front' (y.1 ∷ back') back) ∙ sym (append_assoc front front' (y.1 ∷ (back' ++ back))) in
+      let before : y.0 ≡ past_all no_counts (front ++ front') = is' ∙ ap (λ c. past_all c front') is ∙ sym (past_append no_counts front front') in
+      target_operand k x.1 y.0 y.1 (front ++ front') (back' ++ back) o.value (with_counts_at no_counts raw.target k x there)
+      (Contains-from_get (arguments_of x.1.op) q y.1 (with_before_at x.0 (arguments_of x.1.op) q y spot)) all before reads
+
+  -- a term of the precondition
+  formula_term : (n : ℕ) (t : List RawNode) (before behind : List (List RawNode)) → terms_of raw ≡ before ++ t ∷ behind → suc n ≡ nodes_in before + length t → TermIsBound raw places.Heading t → MeasuresBeforeRoot rule n
+  formula_term n t before behind all end there r names =
+      let term : IsTerm t = well.terms t (subst (λ l. Contains l t) (sym all) (Contains-amid before t behind)) in
+      let (name, inside, has) = measures raw own before t behind rule.terms (subst (λ l. TermsMean raw own l rule.terms) all means.terms) term n r (omega (arith, end)) names in
+      before_root name r (each_in (NodeIsBound raw places.Heading) t (raw_nodes.Width name) there inside) has
+
+  formula_measures : (b : ℕ) (w : RawFormula) (f : Formula) (before behind : List (List RawNode)) → FormulaMeans raw own b w f → FormulaIsBound raw w
+      → terms_of raw ≡ before ++ (terms_of_formula w ++ behind) → b ≡ nodes_in before → FormulaMayMeasure rule f
+  formula_measures b (raw_formulas.Compare pred u v) (formulas.Compare pred' x y) before behind is there all count = (
+    formula_term x u before (v ∷ behind) all (omega (arith, is.1, count)) there.0,
+    formula_term y v (before ++ u ∷ []) behind (all ∙ sym (append_assoc before (u ∷ []) (v ∷ behind))) (omega (arith, is.2, count, nodes_append before (u ∷ []), nodes_append (u ∷ []) [])) there.1,
+  )
+  formula_measures b (raw_formulas.IsPowerOfTwo u) (formulas.IsPowerOfTwo x) before behind is there all count = formula_term x u before behind all (omega (arith, is, count)) there
+  formula_measures b (raw_formulas.IsSignBit u) (formulas.IsSignBit x) before behind is there all count = formula_term x u before behind all (omega (arith, is, count)) there
+  formula_measures b w (formulas.Compare pred' x y) before behind is there all count = absurd is
+  formula_measures b w (formulas.IsPowerOfTwo x) before behind is there all count = absurd is
+  formula_measures b w (formulas.IsSignBit x) before behind is there all count = absurd is
+  formula_measures b w f before behind is there all count = tt
+
+  precondition_widths : (n : ℕ) (f : Formula) → slice_get rule.precondition n ≡ Some f → FormulaMayMeasure rule f
+  precondition_widths n f at =
+      let start = nodes_in (target_terms raw) in
+      let (x, spot, is) = zip_right (λ (x : ℕ × RawFormula) (y : Formula). FormulaMeans raw own x.0 x.1 y) (with_terms start (formula_of raw)) rule.precondition n f means.precondition at in
+      let (front, back, whole, count) = formula_split start (formula_of raw) n x spot in
+      let early : List (List RawNode) = flat_map terms_of_formula front in
+      let late : List (List RawNode) = flat_map terms_of_formula back in
+      let split : flat_map terms_of_formula (formula_of raw) ≡ early ++ (terms_of_formula x.1 ++ late) = ap (flat_map terms_of_formula) whole ∙ flat_map-append terms_of_formula front (x.1 ∷ back) in
+      let all : terms_of raw ≡ (target_terms raw ++ early) ++ (terms_of_formula x.1 ++ late) =
+      ap (λ l. target_terms raw ++ l) split ∙ sym (append_assoc (target_terms raw) early (terms_of_formula x.1 ++ late)) in
+      formula_measures x.0 x.1 f (target_terms raw ++ early) late is (each_at (FormulaIsBound raw) (formula_of raw) n x.1 bound.there.precondition (with_terms_at raw own start (formula_of raw) n x spot)) all
+      (omega (arith, count, nodes_append (target_terms raw) early))
+
+  -- ---- witnesses
+
+  witnesses_last : AreLastNodes rule.witness_terms 0 rule.witnesses
+  witnesses_last =
+      let none : 0 + nodes_in [] ≡ 0 = refl in
+      subst (AreLastNodes rule.witness_terms 0) (sym means.witnesses)
+      (are_last_nodes raw own [] (expressions_of raw) rule.witness_terms means.witness_terms well.expressions (terms_length raw own (expressions_of raw) rule.witness_terms means.witness_terms))
+
   root_assigned : (j k : ℕ) (s t : Statement) → suc j ≡ length rule.source → slice_get rule.source j ≡ Some s → suc k ≡ length rule.target → slice_get rule.target k ≡ Some t → t.name ≡ s.name
   root_assigned j k s t last at last' at' =
       let (b, v, there, goes) = written raw.source rule.source j s means.source at in
@@ -471,6 +588,8 @@ module _ (raw : RawRule) (rule : Rule) (well : IsWellFormed raw) (bound : IsBoun
         terms = all_terms;
         witness_terms = all_witness_terms;
         precondition = all_formulas;
+        target_widths = target_widths;
+        precondition_widths = precondition_widths;
         source_root = omega (arith, well.source.some, source_length);
         target_root = omega (arith, well.target.some, target_length);
         root = root_assigned;
@@ -480,6 +599,7 @@ module _ (raw : RawRule) (rule : Rule) (well : IsWellFormed raw) (bound : IsBoun
             let mine : AssignsAt raw.source j s.name = source_at j s.name (map_at (λ (s : Statement). s.name) rule.source j s at) in
             not_redefined raw own bound.plain means.names k s.name (target_at k s.name at') (inr (j, (subst (λ n. suc j < n) source_length before), mine));
         temporaries_read = temporaries_read;
+        one_use = one_use;
         source_ops = λ k s at. let (b, w, at', goes) = written raw.source rule.source k s means.source at in no_copy raw own b w.op s.op goes.1 (well.source_ops k w at');
         source_flags = λ k s at. let (b, w, at', goes) = written raw.source rule.source k s means.source at in fits raw own b w.op s.op goes.1 (well.source.flags_fit k w at');
         target_flags = λ k s at. let (b, w, at', goes) = written raw.target rule.target k s means.target at in fits raw own b w.op s.op goes.1 (well.target.flags_fit k w at');
@@ -488,4 +608,5 @@ module _ (raw : RawRule) (rule : Rule) (well : IsWellFormed raw) (bound : IsBoun
         target_copies = copies;
         witnesses = witness_count;
         witnesses_there = λ k n at. omega (arith, last_within 0 (expressions_of raw) k n (λ t among. (well.expressions t among).some) (subst (λ l. slice_get l k ≡ Some n) means.witnesses at), terms_length raw own (expressions_of raw) rule.witness_terms means.witness_terms);
+        witnesses_last = witnesses_last;
       }

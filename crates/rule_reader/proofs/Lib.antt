@@ -6,6 +6,7 @@ pub mod Assignments
 pub mod InputLemmas
 pub mod Counting
 pub mod Nodes
+pub mod OwnNodes
 pub mod Weighing
 pub mod Building
 pub mod Steps
@@ -28,6 +29,7 @@ pub mod Existence
 pub mod LawLemmas
 pub mod Reading
 pub mod SpelledTerms
+pub mod OneUses
 pub mod Spelled
 pub mod LineOrder
 pub mod Written

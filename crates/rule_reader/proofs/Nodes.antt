@@ -33,7 +33,7 @@ count_nodes n (t ∷ ts) =
     let rest = count_nodes (n + length t) ts in
     length-append (map (λ node. (n, node)) t) (with_nodes (n + length t) ts) ∙ ap (λ m. m + length (with_nodes (n + length t) ts)) (length-map t (λ (node : RawNode). (n, node))) ∙ ap (λ m. length t + m) rest ∙ sym (nodes_cons t ts)
 
-nodes_behind : (n : ℕ) (xs ys : List (List RawNode)) → with_nodes n (xs ++ ys) ≡ with_nodes n xs ++ with_nodes (n + nodes_in xs) ys
+pub nodes_behind : (n : ℕ) (xs ys : List (List RawNode)) → with_nodes n (xs ++ ys) ≡ with_nodes n xs ++ with_nodes (n + nodes_in xs) ys
 nodes_behind n [] ys = ap (λ m. with_nodes m ys) (omega arith)
 nodes_behind n (t ∷ xs) ys =
     let rest = nodes_behind (n + length t) xs ys in

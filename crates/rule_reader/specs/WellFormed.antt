@@ -1,6 +1,7 @@
 -- What the grammar and the limits say of a rule as written.
-use Rattle.std.specs.Prelude.{◌≡◌, ℕ, ◌<◌, ◌≤◌, List, length, Some, Contains, slice_get}
+use Rattle.std.specs.Prelude.{◌≡◌, ℕ, ◌<◌, ◌≤◌, List, length, map, Some, Contains, slice_get}
 use Rattle.ops.specs.Flags.{FlagsFit}
+use Rattle.rule_core.specs.FormulaNodes.{Joint, OneUse, Single, Turns, Both, Either, OneUseIsOutermost}
 use Rattle.rule_parse.specs.declared.raw.RawRule.{RawRule}
 use Rattle.rule_parse.specs.declared.raw.RawPrecondition.{RawPrecondition}
 use Rattle.rule_parse.specs.declared.raw.RawWitness.{RawWitness}
@@ -59,6 +60,14 @@ IsBehindFormulas k (raw_formulas.And a b) = (a < k) × (b < k)
 IsBehindFormulas k (raw_formulas.Or a b) = (a < k) × (b < k)
 IsBehindFormulas k formula = Unit {0}
 
+-- how a node of a formula stands to its others
+abbrev pub raw_joint : RawFormula → Joint
+raw_joint (raw_formulas.HasOneUse name) = OneUse
+raw_joint (raw_formulas.Not a) = Turns a
+raw_joint (raw_formulas.And a b) = Both a b
+raw_joint (raw_formulas.Or a b) = Either a b
+raw_joint formula = Single
+
 pub record IsWellFormed (raw : RawRule) : Type 0 where
   pub short_name : length raw.name ≤ 200
   pub source : IsHalf raw.source
@@ -77,5 +86,7 @@ pub record IsWellFormed (raw : RawRule) : Type 0 where
   pub constant_terms : (t : List RawNode) (node : RawNode) → Contains (terms_of raw) t → Contains t node → MayStandInTerm node
   pub expressions : (t : List RawNode) → Contains (expressions_of raw) t → IsTerm t
   pub formula : (k : ℕ) (f : RawFormula) → slice_get (formula_of raw) k ≡ Some f → IsBehindFormulas k f
+  -- `hasOneUse` stands as a member of the outermost `&&` alone
+  pub one_use : OneUseIsOutermost (map raw_joint (formula_of raw))
   -- and there are not more than 256 operands, nodes and names
   pub weight : raw_weight raw ≤ 256

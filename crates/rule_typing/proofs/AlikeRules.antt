@@ -1,5 +1,5 @@
 -- What a rule meets does not speak of its classes: of two rules that differ in no more than those, the second meets it with the first.
-use Rattle.std.proofs.Common.{◌≡◌, ℕ, ◌≤◌, List, [], ◌∷◌, ◌++◌, length, map, Option, Some, refl, sym, ap, subst, ◌∙◌, arith}
+use Rattle.std.proofs.Common.{◌≡◌, ℕ, suc, ◌≤◌, List, [], ◌∷◌, ◌++◌, length, map, Option, Some, refl, sym, ap, subst, ◌∙◌, arith}
 use Rattle.std.specs.Prelude.{slice_get, Contains, flat_map, filter_map, sum_by}
 use Rattle.std.specs.List.{range_with_len}
 use Rattle.std.proofs.lemmas.List.Sums.{sum_by-cons}
@@ -19,7 +19,9 @@ use Rattle.rule_core.specs.declared.rule.Node.TheVariants as nodes
 use Rattle.rule_core.specs.declared.rule.Formula.{Formula}
 use Rattle.rule_core.specs.declared.rule.Formula.TheVariants as formulas
 use Rattle.rule_core.specs.Positions.{operands_of, operands_among, operands_in, terms_in, undef_in, undefs_among}
-use Rattle.rule_core.specs.Checks.{IsRule, SourceMayRead, TargetMayRead, IsBeforeRoot, HasKnownWidth, MayBeTerm, MayBeWitness, MayBeFormula, FlagsFitOp, MayStandInSource, IsNoUndefCopy, UndefsInOrder, argument_weight, node_weight, term_weight, formula_weight, weight_of, names_of, ReadsOnly, StandsAt, AreDistinct}
+use Rattle.rule_core.specs.Checks.{IsRule, SourceMayRead, TargetMayRead, IsBeforeRoot, HasKnownWidth, MayBeTerm, MayBeWitness, MayBeFormula, FlagsFitOp, MayStandInSource, IsNoUndefCopy, UndefsInOrder, TargetMayMeasure, FormulaMayMeasure, argument_weight, node_weight, term_weight, formula_weight, weight_of, names_of, ReadsOnly, StandsAt, AreDistinct}
+use Rattle.rule_core.specs.FormulaNodes.{joint_of, OneUseIsOutermost}
+use Rattle.rule_core.specs.TermNodes.{IsOperandOf, StandsIn, itself, operand, NamesWidth, OwnsOperands, AreLastNodes}
 use Rattle.rule_typing.specs.Relabelled.{mapped_op, mapped_statement, mapped_node, mapped_term}
 use Rattle.rule_typing.proofs.Images.{same_get, same_among}
 use Rattle.rule_typing.proofs.Relabelled.{AreAlike, mapped_operand, operands-mapped_op, operands-mapped}
@@ -148,6 +150,51 @@ nodes_carry May May' blind weaker xs ys same holds n t at =
     let across : May n s.node ≡ May n t.node = sym (blind n (λ c. 0) s.node) ∙ ap (λ (x : Term). May n x.node) e ∙ blind n (λ c. 0) t.node in
     weaker n t.node (subst (λ X. X) across (holds n s there))
 
+-- what stands in a term, and the widths that it names
+operand_blind : (a : ℕ) (f : ℕ → ℕ) (node : Node) → IsOperandOf a (mapped_node f node) ≡ IsOperandOf a node
+operand_blind a f (nodes.Literal z) = refl
+operand_blind a f (nodes.Constant k) = refl
+operand_blind a f (nodes.Register r) = refl
+operand_blind a f (nodes.Undef k) = refl
+operand_blind a f (nodes.Width r c) = refl
+operand_blind a f (nodes.Unary function b) = refl
+operand_blind a f (nodes.Binary op b c) = refl
+
+operand_across : (a : ℕ) (s t : Term) → bare_term s ≡ bare_term t → IsOperandOf a s.node → IsOperandOf a t.node
+operand_across a s t e = let across : IsOperandOf a s.node ≡ IsOperandOf a t.node = sym (operand_blind a (λ c. 0) s.node) ∙ ap (λ (x : Term). IsOperandOf a x.node) e ∙ operand_blind a (λ c. 0) t.node in subst (λ X. X) across
+
+measured : (node : Node) (r : Register) (c : ℕ) → nodes.Width r c ≡ mapped_node (λ c. 0) node → (d : ℕ) × (node ≡ nodes.Width r d)
+measured (nodes.Width x d) r c e = (d, let same : r ≡ x = cc in ap (λ y. nodes.Width y d) (sym same))
+measured (nodes.Literal z) r c e = absurd cc
+measured (nodes.Constant k) r c e = absurd cc
+measured (nodes.Register x) r c e = absurd cc
+measured (nodes.Undef k) r c e = absurd cc
+measured (nodes.Unary function a) r c e = absurd cc
+measured (nodes.Binary op a b) r c e = absurd cc
+
+module _ (xs ys : List Term) (same : map bare_term xs ≡ map bare_term ys) where
+  stands_across : (m n : ℕ) → StandsIn ys m n → StandsIn xs m n
+  stands_across m n itself = itself
+  stands_across m n (operand a t at is more) =
+      let (s, there, e) = same_get bare_term xs ys n t same at in
+      operand a s there (operand_across a t s (sym e) is) (stands_across m a more)
+
+  names_across : (n : ℕ) (r : Register) → NamesWidth ys n r → NamesWidth xs n r
+  names_across n r (m, c, t, stands, at, is) =
+      let (s, there, e) = same_get bare_term xs ys m t same at in
+      let width : nodes.Width r 0 ≡ mapped_node (λ c. 0) s.node = ap (mapped_node (λ c. 0)) (sym is) ∙ ap (λ (x : Term). x.node) (sym e) in
+      let (d, found) = measured s.node r 0 width in
+      (m, d, s, stands_across m n stands, there, found)
+
+  owns_across : (first last : ℕ) → OwnsOperands xs first last → OwnsOperands ys first last
+  owns_across first last owns n a t from to at is =
+      let (s, there, e) = same_get bare_term xs ys n t same at in
+      owns n a s from to there (operand_across a t s (sym e) is)
+
+  last_nodes_across : (first : ℕ) (ends : List ℕ) → AreLastNodes xs first ends → AreLastNodes ys first ends
+  last_nodes_across first [] are = are ∙ same_length bare_term xs ys same
+  last_nodes_across first (last ∷ ends) (le, owns, more) = (le, owns_across first last owns, last_nodes_across (suc last) ends more)
+
 -- What one of two rules may read the other may, where both have as many inputs, constants, statements, nodes and `undef`s.
 module _ (r s : Rule) (inputs : length r.inputs ≡ length s.inputs) (constants : length r.constants ≡ length s.constants) (source : length r.source ≡ length s.source) (target : length r.target ≡ length s.target)
     (terms : length r.terms ≡ length s.terms) (undefs : length (undefs_among r.target) ≡ length (undefs_among s.target)) where
@@ -171,10 +218,20 @@ module _ (r s : Rule) (inputs : length r.inputs ≡ length s.inputs) (constants 
   target_reads k (arguments.Undef j) may = may
   target_reads k (arguments.Term n) may = omega arith
 
+  target_measures : ((n : ℕ) (x : Register) → NamesWidth s.terms n x → NamesWidth r.terms n x) → (k : ℕ) (v : Argument) → TargetMayMeasure r k v → TargetMayMeasure s k v
+  target_measures across k (arguments.Term n) may = λ x names. target_reads k (arguments.Register x) (may x (across n x names))
+  target_measures across k v may = tt
+
   before_root : (x : Register) → IsBeforeRoot r x → IsBeforeRoot s x
   before_root (registers.Input i) may = omega arith
   before_root (registers.Source j) may = omega arith
   before_root (registers.Target j) may = may
+
+  formula_measures : ((n : ℕ) (x : Register) → NamesWidth s.terms n x → NamesWidth r.terms n x) → (f : Formula) → FormulaMayMeasure r f → FormulaMayMeasure s f
+  formula_measures across (formulas.Compare pred a b) may = ((λ x names. before_root x (may.0 x (across a x names))), λ x names. before_root x (may.1 x (across b x names)))
+  formula_measures across (formulas.IsPowerOfTwo a) may = λ x names. before_root x (may x (across a x names))
+  formula_measures across (formulas.IsSignBit a) may = λ x names. before_root x (may x (across a x names))
+  formula_measures across f may = tt
 
   has_width : (x : Register) → HasKnownWidth r x → HasKnownWidth s x
   has_width (registers.Input i) may = omega arith
@@ -262,6 +319,8 @@ IsRule-alike r s same checked =
       terms = nodes_carry (MayBeTerm r) (MayBeTerm s) (may_be_term r) (as_term r s counts constant_counts sources targets term_counts undef_counts) r.terms s.terms terms checked.terms;
       witness_terms = nodes_carry (MayBeWitness r) (MayBeWitness s) (may_be_witness r) (as_witness r s counts constant_counts sources targets term_counts undef_counts) r.witness_terms s.witness_terms witness_terms checked.witness_terms;
       precondition = λ n f at. as_formula r s counts constant_counts sources targets term_counts undef_counts n f (checked.precondition n f (subst (λ l. slice_get l n ≡ Some f) (sym precondition) at));
+      target_widths = reads_carry (TargetMayMeasure r) (TargetMayMeasure s) (target_measures r s counts constant_counts sources targets term_counts undef_counts (names_across r.terms s.terms terms)) r.target s.target target checked.target_widths;
+      precondition_widths = λ n f at. formula_measures r s counts constant_counts sources targets term_counts undef_counts (names_across r.terms s.terms terms) f (checked.precondition_widths n f (subst (λ l. slice_get l n ≡ Some f) (sym precondition) at));
       source_root = omega (arith, checked.source_root);
       target_root = omega (arith, checked.target_root);
       root = λ j k u v last at last' at'.
@@ -273,6 +332,7 @@ IsRule-alike r s same checked =
           let (u', there, e) = same_get bare_statement r.source s.source j u source at in
           checked.temporaries_stay j u' (omega arith) there (subst (λ l. Contains l u'.name) (sym target_names) (subst (λ n. Contains (names_of s.target) n) (ap (λ (x : Statement). x.name) (sym e)) assigned));
       temporaries_read = λ j less. let h = checked.temporaries_read j (omega arith) in (h.0, stands_at r s same h.0 (arguments.Register (registers.Source j)) h.1);
+      one_use = subst (λ l. OneUseIsOutermost (map joint_of l)) precondition checked.one_use;
       source_ops = carries MayStandInSource source_op r.source s.source source checked.source_ops;
       source_flags = carries FlagsFitOp flags_op r.source s.source source checked.source_flags;
       target_flags = carries FlagsFitOp flags_op r.target s.target target checked.target_flags;
@@ -281,4 +341,5 @@ IsRule-alike r s same checked =
       target_copies = carries IsNoUndefCopy copies_op r.target s.target target checked.target_copies;
       witnesses = sym (ap length witnesses) ∙ checked.witnesses ∙ ap length source_undefs;
       witnesses_there = λ k n at. let less = checked.witnesses_there k n (subst (λ l. slice_get l k ≡ Some n) (sym witnesses) at) in omega (arith, same_length bare_term r.witness_terms s.witness_terms witness_terms);
+      witnesses_last = subst (AreLastNodes s.witness_terms 0) witnesses (last_nodes_across r.witness_terms s.witness_terms witness_terms 0 r.witnesses checked.witnesses_last);
     }
