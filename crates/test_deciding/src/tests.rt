@@ -1,10 +1,11 @@
-//! Operations on words, at tables and decided by the search, the sizes of clause sets, and clauses in which a literal
-//! stands twice.
+//! Operations on words, at tables and decided by the search, the sizes of clause sets, logs, and clauses in which a
+//! literal stands twice.
 
 mod decided;
 mod evaluated;
 mod folded;
 mod graphs;
+mod logs;
 mod operations;
 mod repeated;
 mod sizes;

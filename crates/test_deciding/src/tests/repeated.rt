@@ -8,10 +8,10 @@ use std::alloc::{AllocError, Global};
 use std::test::Fail;
 
 /// Clauses, a literal by the number of its variable, which is negative for the negation.
-type Clauses = &'static [&'static [i32]];
+pub(super) type Clauses = &'static [&'static [i32]];
 
 /// The clause of some literals.
-fn clause(alloc: Global, literals: &[i32]) -> Result<Clause, AllocError> {
+pub(super) fn clause(alloc: Global, literals: &[i32]) -> Result<Clause, AllocError> {
     let mut clause = Clause::new(alloc);
     for literal in literals {
         clause.push(Lit {
@@ -23,7 +23,7 @@ fn clause(alloc: Global, literals: &[i32]) -> Result<Clause, AllocError> {
 }
 
 /// The set of some clauses over the variables up to `count`, which are all inputs.
-fn set(alloc: Global, clauses: &[&[i32]], count: u32) -> Result<Cnf, Fail> {
+pub(super) fn set(alloc: Global, clauses: &[&[i32]], count: u32) -> Result<Cnf, Fail> {
     let mut roots = List::new(alloc);
     for literals in clauses {
         roots.push(clause(alloc, literals)?)?;

@@ -5,7 +5,8 @@ use Token::{
     Word,
 };
 use ir_tokens::{
-    Identifier, Placed, Token, constant, identifier, is_number, is_plain_name, tokens_of,
+    Identifier, Placed, Token, TokenReader, constant, identifier, is_number, is_plain_name,
+    tokens_of,
 };
 use ops::Width;
 use std::process::Abort;
@@ -143,6 +144,27 @@ fn texts_have_their_tokens(rt: HostRuntime) -> Result<(), Fail> {
         let tokens = tokens_of(rt.alloc(), text)?;
         expect_tokens(&rt, tokens.as_slice(), wanted);
     }
+    Ok(())
+}
+
+/// A kept line, a function and the end, each an entry.
+#[test]
+fn entries_are_taken_in_turn(rt: HostRuntime) -> Result<(), Fail> {
+    let mut reader = TokenReader::new(b"declare x ; c\n\ndefine y\n{ z }\n");
+    let mut tokens = Vec::new(rt.alloc());
+    assert!(rt; !reader.take_entry(&mut tokens)?);
+    expect_tokens(&rt, tokens.as_slice(), &[(1, Kept(b"declare x ; c"))]);
+    assert!(rt; !reader.take_entry(&mut tokens)?);
+    let function = [
+        (3, Word(b"define")),
+        (3, Word(b"y")),
+        (4, Mark(b'{')),
+        (4, Word(b"z")),
+        (4, Mark(b'}')),
+    ];
+    expect_tokens(&rt, tokens.as_slice(), &function);
+    assert!(rt; reader.take_entry(&mut tokens)?);
+    expect_tokens(&rt, tokens.as_slice(), &[(4, End)]);
     Ok(())
 }
 
