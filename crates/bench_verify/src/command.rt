@@ -5,6 +5,15 @@ ghost use Rattle.std.specs.Prelude.{◌≤◌, IfSome};
 /// The most clauses that a search may learn.
 const MOST_CONFLICTS: u32 = 1_000_000;
 
+/// What is printed of a rule.
+#[derive(Clone, Copy, Debug)]
+pub(crate) enum Line {
+    /// Its verdict alone.
+    Verdict,
+    /// Its verdict with sizes and times.
+    Measured,
+}
+
 /// What the words of the command line ask for.
 #[derive(Clone, Copy, Debug)]
 pub(crate) struct Command<'a> {
@@ -12,8 +21,10 @@ pub(crate) struct Command<'a> {
     pub(crate) rules: &'a str,
     /// The most clauses that a search learns.
     pub(crate) conflicts: u32,
-    /// Whether the times and sizes are printed.
-    pub(crate) timed: bool,
+    /// What is printed of each rule.
+    pub(crate) line: Line,
+    /// The folder that the clause sets are written to, if any.
+    pub(crate) folder: Option<&'a str>,
 }
 
 impl<'a> Command<'a> {
@@ -21,18 +32,16 @@ impl<'a> Command<'a> {
     pub(crate) fn of_words(words: &'a [String]) -> Option<Command<'a>>
         ensures { IfSome result (λ command. command.conflicts ≤ 1000000) }
     {
-        match words {
-            [_, rules, conflicts] => Command::new(rules, conflicts, true),
+        let (rules, conflicts, line, folder) = match words {
+            [_, rules, conflicts] => (rules, conflicts, Line::Measured, None),
             [_, rules, conflicts, last] if last.as_str() == "untimed" => {
-                Command::new(rules, conflicts, false)
+                (rules, conflicts, Line::Verdict, None)
             }
-            _ => None,
-        }
-    }
-
-    fn new(rules: &'a String, conflicts: &String, timed: bool) -> Option<Command<'a>>
-        ensures { IfSome result (λ command. command.conflicts ≤ 1000000) }
-    {
+            [_, rules, conflicts, flag, folder] if flag.as_str() == "--dimacs" => {
+                (rules, conflicts, Line::Measured, Some(folder.as_str()))
+            }
+            _ => return None,
+        };
         let conflicts: u32 = conflicts.as_str().parse().ok()?;
         if conflicts > MOST_CONFLICTS {
             return None;
@@ -40,7 +49,8 @@ impl<'a> Command<'a> {
         Some(Command {
             rules: rules.as_str(),
             conflicts,
-            timed,
+            line,
+            folder,
         })
     }
 }

@@ -21,21 +21,24 @@ pub(crate) enum Failure {
     NoMemory,
     /// The clock couldn't be read.
     Clock,
-    /// A line couldn't be written.
+    /// A line or a file couldn't be written.
     Output,
 }
 
 impl fmt::Display for Failure {
     fn fmt<W: fmt::Write>(&self, f: &mut fmt::Formatter<W>) -> fmt::Result {
         match self {
-            Failure::Usage => write!(f, "usage: verify_bench RULES CONFLICTS [untimed]"),
+            Failure::Usage => write!(
+                f,
+                "usage: bench_verify RULES CONFLICTS [untimed | --dimacs FOLDER]"
+            ),
             Failure::Unreadable => write!(f, "the rule file can't be read"),
             Failure::NoRules(line) => write!(f, "no rule file: line {line}"),
             Failure::TooLarge => write!(f, "a graph is too large"),
             Failure::RefusedLog => write!(f, "the log is no refutation"),
             Failure::NoMemory => write!(f, "no memory is left"),
             Failure::Clock => write!(f, "the clock can't be read"),
-            Failure::Output => write!(f, "a line can't be written"),
+            Failure::Output => write!(f, "the output can't be written"),
         }
     }
 }

@@ -1,7 +1,10 @@
-//! Measures how rules are decided: the circuit of each, its clauses, the search and the check of its log. It prints a line a rule.
+//! Measures how rules are decided: the circuit of each, its clauses, the search and the check of its log. It prints a line
+//! a rule.
 //!
-//! Its words are `RULES CONFLICTS`, a file of rules whose types are written and the most clauses that a search learns; `untimed` after
-//! them leaves all but the answers out. Its status is 0 unless it fails; then a line on the error stream says why.
+//! Its words are `RULES CONFLICTS`, a file of rules whose types are written and the most clauses that a search learns;
+//! `untimed` after them leaves all but the answers out, and `--dimacs FOLDER` has the clause set of each rule written to
+//! `FOLDER/PLACE.cnf`, by its place in the file, from 0. Its status is 0 unless it fails; then a line on the error stream
+//! says why.
 #![tactic(auto)]
 
 ghost use Rattle.std.specs.Prelude.{◌≤◌, IfOk, All};
@@ -10,10 +13,11 @@ ghost use Rattle.rule_core.specs.Typing.{IsTyping};
 ghost use Rattle.rule_typing.specs.Classes.{IsClassified};
 
 mod command;
+mod dimacs;
 mod failure;
 mod measure;
 
-use crate::command::Command;
+use crate::command::{Command, Line};
 use crate::failure::Failure;
 use crate::measure::measure;
 use lists::List;
@@ -58,20 +62,34 @@ fn typings_of(rt: &HostRuntime, rule: &Rule) -> Result<List<Typing>, Failure>
     }
 }
 
-/// Decides a rule at its typing, and prints the line.
-fn decide(rt: &HostRuntime, rule: &Rule, command: Command<'_>) -> Result<(), Failure>
+/// The name of the file for the clause set of the rule at a place, if the sets are to be written.
+fn set_file(
+    rt: &HostRuntime,
+    command: Command<'_>,
+    place: usize,
+) -> Result<Option<String>, Failure> {
+    match command.folder {
+        Some(folder) => Ok(Some(format!(in rt.alloc(); "{folder}/{place}.cnf")?)),
+        None => Ok(None),
+    }
+}
+
+/// Decides the rule at a place of its file, at its typing, and prints the line.
+fn decide(rt: &HostRuntime, rule: &Rule, place: usize, command: Command<'_>) -> Result<(), Failure>
     requires rule { IsRule rule.now }
     requires classes { IsClassified rule.now }
     requires limit { command.conflicts ≤ 1000000 }
 {
+    let file = set_file(rt, command, place)?;
     for typing in typings_of(rt, rule)?.as_slice() {
-        let measured = measure(rt, rule, typing, command.conflicts)?;
+        let file = file.as_ref().map(|name| name.as_str());
+        let measured = measure(rt, rule, typing, command.conflicts, file)?;
         let name = String::from_utf8_lossy(rt.alloc(), rule.name.as_slice())?;
-        if command.timed {
-            println!(rt; "{name}: {measured}").map_err(|_| Failure::Output)?;
-        } else {
-            println!(rt; "{name}: {}", measured.word()).map_err(|_| Failure::Output)?;
+        match command.line {
+            Line::Measured => println!(rt; "{name}: {measured}"),
+            Line::Verdict => println!(rt; "{name}: {}", measured.word()),
         }
+        .map_err(|_| Failure::Output)?;
     }
     Ok(())
 }
@@ -80,8 +98,10 @@ fn decide(rt: &HostRuntime, rule: &Rule, command: Command<'_>) -> Result<(), Fai
 fn run(rt: HostRuntime) -> Result<(), Failure> {
     let words = words(&rt)?;
     let command = Command::of_words(&words).ok_or(Failure::Usage)?;
+    let mut place = 0usize;
     for rule in rules_of(rt, command.rules)?.as_slice() {
-        decide(&rt, rule, command)?;
+        decide(&rt, rule, place, command)?;
+        place = place.saturating_add(1);
     }
     Ok(())
 }

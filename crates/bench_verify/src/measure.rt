@@ -5,6 +5,7 @@ ghost use Rattle.aig.specs.Graph.{IsOwn};
 ghost use Rattle.rule_core.specs.Checks.{IsRule};
 ghost use Rattle.rule_core.specs.Typing.{IsTyping};
 
+use crate::dimacs::write_set;
 use crate::failure::Failure;
 use aig::{Aig, Literal};
 use blast_rule::blast_rule;
@@ -95,12 +96,14 @@ fn clauses_within(rt: &HostRuntime, graph: &Aig, root: Literal) -> Result<Cnf, F
     Ok(clauses_of(rt.alloc(), graph, root)?)
 }
 
-/// Decides the rule at the typing, and measures each step.
+/// Decides the rule at the typing, and measures each step. Where a file is named, the clause set is
+/// written to it.
 pub(crate) fn measure(
     rt: &HostRuntime,
     rule: &Rule,
     typing: &Typing,
     limit: u32,
+    file: Option<&str>,
 ) -> Result<Measurement, Failure>
     requires rule { IsRule rule.now }
     requires typing { IsTyping rule.now typing.now }
@@ -113,6 +116,9 @@ pub(crate) fn measure(
     let blasted = now(rt)?;
     let found = search(rt.alloc(), &set, limit)?;
     let searched = now(rt)?;
+    if let Some(name) = file {
+        write_set(rt, name, &set)?;
+    }
     Ok(Measurement {
         size: Size {
             gates: graph.gates().len(),

@@ -1,0 +1,46 @@
+//! Clause sets in the form of DIMACS, which other solvers read.
+
+use crate::failure::Failure;
+use clauses::{Clause, Cnf, Lit};
+use std::io::{BufWriter, Write};
+use std::{fmt, fs};
+
+/// A clause set as a text: the line `p cnf VARIABLES CLAUSES`, and a line for each clause, those of
+/// gates first. A line has the number of each literal's variable, with `-` where the literal is
+/// negated, and ends with 0.
+#[derive(Clone, Copy, Debug)]
+struct Dimacs<'a>(&'a Cnf);
+
+impl fmt::Display for Dimacs<'_> {
+    fn fmt<W: fmt::Write>(&self, f: &mut fmt::Formatter<W>) -> fmt::Result {
+        let set = self.0;
+        writeln!(f, "p cnf {} {}", set.count, set.clause_count())?;
+        write_clauses(f, set.gates.as_slice())?;
+        write_clauses(f, set.roots.as_slice())
+    }
+}
+
+/// Writes a line for each clause.
+fn write_clauses<W: fmt::Write>(f: &mut fmt::Formatter<W>, clauses: &[Clause]) -> fmt::Result {
+    for clause in clauses {
+        write_clause(f, clause.as_slice())?;
+    }
+    Ok(())
+}
+
+/// Writes the line of a clause.
+fn write_clause<W: fmt::Write>(f: &mut fmt::Formatter<W>, clause: &[Lit]) -> fmt::Result {
+    for literal in clause {
+        let sign = if literal.negated { "-" } else { "" };
+        write!(f, "{sign}{} ", literal.variable)?;
+    }
+    writeln!(f, "0")
+}
+
+/// Writes a set to the file of this name, which is made or made anew.
+pub(crate) fn write_set(rt: &HostRuntime, name: &str, set: &Cnf) -> Result<(), Failure> {
+    let file = fs::create(rt, name).map_err(|_| Failure::Output)?;
+    let mut out = BufWriter::new(rt.alloc(), file).map_err(|_| Failure::NoMemory)?;
+    write!(out, "{}", Dimacs(set)).map_err(|_| Failure::Output)?;
+    out.flush().map_err(|_| Failure::Output)
+}
