@@ -177,13 +177,13 @@ function_at-of f tokens rest (t1, (line, is), (t2, before, (t3, type, (t4, name,
 
 -- ---- modules
 
-entry_at-of : (e : RawEntry) (tokens rest : List Placed) → SpellsEntry e tokens rest → Unit {0} → entry_at tokens ≡ Ok (e, rest)
+pub entry_at-of : (e : RawEntry) (tokens rest : List Placed) → SpellsEntry e tokens rest → Unit {0} → entry_at tokens ≡ Ok (e, rest)
 unfolding entry_at
 entry_at-of (entries.Kept text) tokens rest (line, is) may = rw is refl
 entry_at-of (entries.Function f) tokens rest spelled may =
     let r = function_at-of f tokens rest spelled in rw (r.2, r.3) refl
 
-entry_is_next : (e : RawEntry) (tokens rest : List Placed) → SpellsEntry e tokens rest → begins_entry tokens ≡ true
+pub entry_is_next : (e : RawEntry) (tokens rest : List Placed) → SpellsEntry e tokens rest → begins_entry tokens ≡ true
 entry_is_next (entries.Kept text) tokens rest (line, is) = rw is refl
 entry_is_next (entries.Function f) tokens rest (t1, (line, is), behind) = rw is refl
 

@@ -1,49 +1,88 @@
--- One entry more, and the end of a text.
-use Rattle.std.proofs.Common.{◌≡◌, ℕ, ◌<◌, true, false, Bool, List, [], ◌∷◌, ◌++◌, refl, sym, subst, append_assoc}
+-- The entries in front of a text, and the tokens that are left behind them.
+use Rattle.std.proofs.Common.{◌≡◌, ℕ, ◌<◌, ◌≤◌, true, false, not, Bool, IsTrue, List, [], ◌∷◌, ◌++◌, length, Option, Ok, refl, ap, sym, subst, ◌∙◌, append_assoc, append-nil}
+use Rattle.std.specs.Prelude.{IfSome}
+use Rattle.std.specs.Bool.{then_some}
+use Rattle.refusal.specs.declared.fault.Fault.{Fault}
+use Rattle.refusal.specs.declared.refusal.Refusal.{Refusal}
+use Rattle.refusal.specs.declared.refusal.Refusal.TheVariants.{Refused, NoMemory}
+use Rattle.refusal.specs.Refusals.{IfRefused, Fails}
+use Rattle.ir_tokens.specs.declared.fault.IrFaultKind.{IrFaultKind}
 use Rattle.ir_tokens.specs.declared.reader.TokenReader.{TokenReader}
+use Rattle.ir_tokens.specs.Order.{AreTokens}
 use Rattle.ir_tokens.specs.ReaderPlaces.{HasPassed, HasCome}
 use Rattle.ir_tokens.specs.Tokens.{Placed, End}
 use Rattle.ir_tokens.specs.declared.raw.RawEntry.{RawEntry}
 use Rattle.ir_instructions.specs.Parts.{Part, Each, Is}
-use Rattle.ir_reader.specs.declared.following.NextEntry.{NextEntry}
-use Rattle.ir_reader.specs.declared.following.NextEntry.TheVariants as nexts
-use Rattle.ir_reader.specs.EntriesRead.{HasRead, Follows, IsWhole, IsEnd}
+use Rattle.ir_instructions.specs.Readers.{each_at}
+use Rattle.ir_instructions.proofs.Loops.{each-more, each-fault}
 use Rattle.ir_parse.specs.Grammar.{SpellsEntry}
-use Rattle.ir_parse.specs.ModuleReaders.{is_end}
+use Rattle.ir_parse.specs.ModuleReaders.{is_end, begins_entry, entry_at, entries_at, module_from}
+use Rattle.ir_parse.specs.Text.{most_bytes, IsRaw, IsTextFault, misfit}
 use Rattle.ir_parse.proofs.Framing.{entry}
+use Rattle.ir_parse.proofs.FunctionReadings.{entry_at-is}
+use Rattle.ir_parse.proofs.FunctionSpellings.{entry_at-of, entry_is_next}
+use Rattle.ir_parse.proofs.TakingParts.{entry-takes}
+use Rattle.ir_reader.specs.EntriesRead.{HasRead, HasLeft}
 
 each_push : {A : Type 0} (P : A → Part) (xs : List A) (x : A) (tokens between rest : List Placed) → Each P xs tokens between → P x between rest → Each P (xs ++ x ∷ []) tokens rest
 each_push P [] x tokens between rest same one = (rest, subst (λ l. P x l rest) (sym same) one, refl)
 each_push P (y ∷ xs) x tokens between rest (middle, first, others) one = (middle, first, each_push P xs x middle between rest others one)
 
+-- tokens of which the entry in front takes all, if it does, are an entry
+pub whole_is : (tokens rest : List Placed) (e : RawEntry) (takes_all : Bool) (found : Option RawEntry) → entry_at tokens ≡ Ok (e, rest) → (IsTrue takes_all → rest ≡ []) → found ≡ then_some takes_all e → IfSome found (λ x. SpellsEntry x tokens [])
+whole_is tokens rest e true found read all is = rw is (subst (SpellsEntry e tokens) (all refl) (entry_at-is tokens (e, rest) read))
+whole_is tokens rest e false found read all is = rw is tt
+
 -- the tokens of a reader's last call stand behind those before
 abbrev pub Came : TokenReader → List Placed → Bool → TokenReader → Type 0
 Came before taken ends after = (text : List ℕ) (front : List Placed) → HasPassed text front before → HasCome text (front ++ taken) ends after
 
-pub entry_follows : (before after : TokenReader) (taken : List Placed) (next : NextEntry) → Came before taken false after → before.cursor.at < after.cursor.at → IsWhole taken next
-    → (text : List ℕ) (front : List RawEntry) → HasRead text front before → Follows text front before next after
-entry_follows before after taken (nexts.Entry e) came goes whole text front read = (
-  record {
+module _ (before after : TokenReader) (taken : List Placed) where
+  -- the tokens that were taken are one entry
+  pub read_more : (e : RawEntry) → Came before taken false after → SpellsEntry e taken [] → (text : List ℕ) (front : List RawEntry) → HasRead text front before → HasRead text (front ++ e ∷ []) after
+  read_more e came whole text front read = record {
     tokens = read.tokens ++ taken;
     passed = came text read.tokens read.passed;
     spelled = λ rest. subst (λ l. Each SpellsEntry (front ++ e ∷ []) l rest) (sym (append_assoc read.tokens taken rest))
         (each_push SpellsEntry front e (read.tokens ++ (taken ++ rest)) (taken ++ rest) rest (read.spelled (taken ++ rest)) (entry e rest taken [] whole));
-  },
-  goes,
-)
-entry_follows before after taken nexts.End came goes whole text front read = absurd whole
-entry_follows before after taken nexts.Refused came goes whole text front read = tt
+  }
 
-pub end_follows : (before after : TokenReader) (taken : List Placed) (next : NextEntry) → Came before taken true after → IsEnd taken next
-    → (text : List ℕ) (front : List RawEntry) → HasRead text front before → Follows text front before next after
-end_follows before after taken (nexts.Entry e) came ends text front read = absurd ends
-end_follows before after taken nexts.End came (rest, ends) text front read = record {
-  tokens = read.tokens ++ taken;
-  are_tokens = came text read.tokens read.passed;
-  spelled = (rest, (taken, read.spelled taken, ends));
-}
-end_follows before after taken nexts.Refused came ends text front read = tt
+  -- they are the last, or those behind them are taken too
+  pub left_last : Came before taken true after → (text : List ℕ) (front : List RawEntry) → HasRead text front before → HasLeft text front taken
+  left_last came text front read = record { tokens = read.tokens ++ taken; are_tokens = came text read.tokens read.passed; spelled = read.spelled taken }
 
-pub end_is : (tokens : List Placed) → is_end tokens ≡ true → (rest : List Placed) × Is End tokens rest
+  pub left_rest : (all : List Placed) → Came before taken false after → ((text : List ℕ) (front : List Placed) → HasPassed text (front ++ taken) after → AreTokens text (front ++ all))
+      → (text : List ℕ) (front : List RawEntry) → HasRead text front before → HasLeft text front all
+  left_rest all came rest text front read = record { tokens = read.tokens ++ all; are_tokens = rest text read.tokens (came text read.tokens read.passed); spelled = read.spelled all }
+
+-- ---- what is left
+
+end_is : (tokens : List Placed) → is_end tokens ≡ true → (rest : List Placed) × Is End tokens rest
 end_is ((line, End) ∷ rest) is = (rest, (line, refl))
 end_is tokens is = absurd cc
+
+-- entries behind those in front are read where the ones in front are
+resume : (xs front : List RawEntry) (tokens left : List Placed) → Each SpellsEntry xs tokens left → each_at begins_entry entry_at front tokens ≡ each_at begins_entry entry_at (front ++ xs) left
+resume [] front tokens left same = rw (same, append-nil front) refl
+resume (x ∷ xs) front tokens left (middle, one, more) =
+    each-more begins_entry entry_at entry-takes front tokens (x, middle) (entry_is_next x tokens middle one) (entry_at-of x tokens middle one tt)
+    ∙ resume xs (front ++ x ∷ []) middle left more
+    ∙ ap (λ ys. each_at begins_entry entry_at ys left) (append_assoc front (x ∷ []) xs)
+
+module _ (text : List ℕ) (front : List RawEntry) (left : List Placed) (h : HasLeft text front left) where
+  pub left_more : (e : RawEntry) (rest : List Placed) → SpellsEntry e left rest → HasLeft text (front ++ e ∷ []) rest
+  left_more e rest spelled = record { tokens = h.tokens; are_tokens = h.are_tokens; spelled = each_push SpellsEntry front e h.tokens left rest h.spelled spelled }
+
+  pub left_none : is_end left ≡ true → IsRaw text (record { entries = front })
+  left_none ends = let (rest, end) = end_is left ends in record { tokens = h.tokens; are_tokens = h.are_tokens; spelled = (rest, (left, h.spelled, end)) }
+
+  pub left_fault : (e : Refusal (Fault IrFaultKind)) → is_end left ≡ false → Fails e (entry_at left) → length text ≤ most_bytes → IfRefused e (IsTextFault text)
+  unfolding entries_at
+  left_fault NoMemory none fails within = tt
+  left_fault (Refused fault) none fails within =
+      misfit within h.tokens h.are_tokens
+      (ap module_from (resume front [] h.tokens left h.spelled ∙ each-fault begins_entry entry_at front left (each_at begins_entry entry_at front left) (Refused fault) (ap not none) fails refl))
+
+-- an entry takes tokens of those that are left
+pub left_smaller : (left rest : List Placed) (e : RawEntry) → is_end left ≡ false → entry_at left ≡ Ok (e, rest) → length rest < length left
+left_smaller left rest e none read = entry-takes left (e, rest) (ap not none) read

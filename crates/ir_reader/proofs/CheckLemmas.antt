@@ -34,7 +34,7 @@ use Rattle.ir_reader.specs.Phis.{OnlyPhisBefore, OpFits}
 use Rattle.ir_reader.specs.Faults.{IsFunctionOf, functions_of, IsEntryOf, IsModuleText}
 use Rattle.ir_reader.proofs.Meaning.{block_written}
 use Rattle.ir_reader.proofs.Places.{order, there, somewhere, contained, take_at, zip_right, zip_length}
-use Rattle.ir_reader.proofs.Reading.{each_spelled, some_block}
+use Rattle.ir_reader.proofs.ReadEntries.{each_spelled, some_block}
 
 -- ---- functions as the grammar has them
 

@@ -32,7 +32,7 @@ use Rattle.ir_reader.specs.Faults.{ResolvesTo, EntryIsFree, IsFunctionOf, IsFaul
 use Rattle.ir_reader.proofs.Places.{there}
 use Rattle.ir_reader.proofs.Meaning.{written_read}
 use Rattle.ir_reader.proofs.Checking.{phis_fit, entry_free}
-use Rattle.ir_reader.proofs.Reading.{AreFirstEntries, first_entries_none, first_entries_more, all_entries}
+use Rattle.ir_reader.proofs.ReadEntries.{AreFirstEntries, first_entries_none, first_entries_more, all_entries}
 use Rattle.ir_reader.proofs.Avoiding.{dec_names}
 use Rattle.ir_reader.proofs.Unassigned.{assigned_or_first}
 use Rattle.ir_reader.proofs.Fitting.{dec_inst, dec_fits}

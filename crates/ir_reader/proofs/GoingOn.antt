@@ -1,85 +1,103 @@
--- Entry by entry through a text in which nothing is refused.
-use Rattle.std.proofs.Common.{◌≡◌, ◌↔◌, ◌⊎◌, inl, inr, ℕ, ◌+◌, ◌<◌, ◌≤◌, Bool, List, [], ◌∷◌, ◌++◌, length, length-append, take, Some, IsTrue, refl, sym, subst, arith}
+-- What is read of entries as written, and of one more behind them.
+use Rattle.std.proofs.Common.{◌≡◌, ◌↔◌, ◌⊎◌, inl, inr, ℕ, ◌+◌, ◌<◌, ◌≤◌, Bool, List, [], ◌∷◌, ◌++◌, length, length-append, take, Some, Ok, IsTrue, refl, sym, subst, arith}
 use Rattle.std.specs.Prelude.{slice_get}
 use Rattle.std.proofs.lemmas.List.{take-append-le}
 use Rattle.std.proofs.Math.Seq.{take-append_seam}
 use Rattle.std.proofs.lemmas.Option.{slice_get_within}
+use Rattle.refusal.specs.declared.fault.Fault.{Fault}
 use Rattle.ir_core.specs.declared.module.Entry.{Entry}
-use Rattle.ir_core.specs.declared.module.Module.{Module}
-use Rattle.ir_tokens.specs.declared.reader.TokenReader.{TokenReader}
-use Rattle.ir_tokens.specs.ReaderPlaces.{StandsIn}
+use Rattle.ir_tokens.specs.declared.fault.IrFaultKind.{IrFaultKind}
+use Rattle.ir_tokens.specs.Tokens.{Placed}
 use Rattle.ir_tokens.specs.declared.raw.RawEntry.{RawEntry}
-use Rattle.ir_tokens.specs.declared.raw.RawFunction.{RawFunction}
-use Rattle.ir_reader.specs.EntriesRead.{HasRead}
-use Rattle.ir_parse.specs.Grammar.{SpellsEntry}
-use Rattle.ir_parse.specs.Text.{IsRaw}
 use Rattle.ir_resolve.specs.FaultKinds.{HasNameOf}
-use Rattle.ir_reader.specs.Faults.{functions_of, IsEntryOf, IsModuleText}
+use Rattle.ir_parse.specs.ModuleReaders.{entry_at}
+use Rattle.ir_parse.proofs.FunctionReadings.{entry_at-is}
+use Rattle.ir_reader.specs.declared.reading.Reading.{Reading}
+use Rattle.ir_reader.specs.EntriesRead.{HasLeft, IsReadingOf}
+use Rattle.ir_reader.specs.Faults.{functions_of, IsEntryOf, AreEntriesOf, IsFaultOfEntry, IsFaultOfEntries}
 use Rattle.ir_reader.specs.RepeatedNames.{MarksEntry, IsNameOf}
-use Rattle.ir_reader.specs.HasBlock.{HasBlock}
-use Rattle.ir_reader.proofs.Places.{at_push, append_right}
-use Rattle.ir_reader.proofs.Reading.{AreFirstEntries, first_entries_more, all_entries, each_spelled, has_block}
+use Rattle.ir_reader.proofs.Advancing.{left_more}
+use Rattle.ir_reader.proofs.Places.{at_push, append_left, append_right, there}
+use Rattle.ir_reader.proofs.ReadEntries.{AreFirstEntries, first_entries_more, all_entries}
 use Rattle.ir_reader.proofs.Repeats.{name_push, own_mark}
 
--- so far these entries are read, and mean the entries; their functions have these names
-pub record GoesWell (text : List ℕ) (front : List RawEntry) (reader : TokenReader) (has_name : List ℕ → Type 0) (read : List Entry) : Type 0 where
-  pub has_read : HasRead text front reader
-  pub meant : AreFirstEntries front (length front) read
-  pub known : (name : List ℕ) → has_name name ↔ HasNameOf (functions_of front) name
+pub no_entries : AreEntriesOf [] []
+no_entries = record { count = refl; each = λ k raw entry at at'. cc }
 
--- for some entries as written
-abbrev pub GoesOn : List ℕ → TokenReader → (List ℕ → Type 0) → List Entry → Type 0
-GoesOn text reader has_name read = (front : List RawEntry) × GoesWell text front reader has_name read
+module _ (front : List RawEntry) (e : RawEntry) where
+  last_at : slice_get (front ++ e ∷ []) (length front) ≡ Some e
+  last_at = append_right front (e ∷ []) (length front) 0 e (omega arith) refl
 
-pub stands : (text : List ℕ) (reader : TokenReader) (has_name : List ℕ → Type 0) (read : List Entry) → GoesOn text reader has_name read → StandsIn reader.text.now reader
-stands text reader has_name read (front, h) = subst (λ x. StandsIn x reader) (sym h.has_read.passed.stands.of_text) h.has_read.passed.stands
+  -- the entries in front mean the same where one more stands behind them
+  in_front : (read : List Entry) → AreEntriesOf front read → AreFirstEntries (front ++ e ∷ []) (length front) read
+  in_front read are = record {
+    count = are.count;
+    each = λ k raw entry at at'.
+        let within : k < length read = slice_get_within read k entry at' in
+        let le : k ≤ length front = omega (arith, are.count) in
+        elim (at_push front e k raw at) [
+          | inl old ↦ subst (λ l. IsEntryOf (functions_of l) raw entry) (sym (take-append-le k front (e ∷ []) le)) (are.each k raw entry old at')
+          | inr (is, same) ↦ absurd (omega (arith, are.count, is))
+        ];
+  }
 
--- ---- one entry more
+  pub entries_more : (entry : Entry) (read all : List Entry) → AreEntriesOf front read → IsEntryOf (functions_of front) e entry → all ≡ read ++ entry ∷ [] → AreEntriesOf (front ++ e ∷ []) all
+  entries_more entry read all are own is =
+      let meaning : IsEntryOf (functions_of (take (length front) (front ++ e ∷ []))) e entry = subst (λ l. IsEntryOf (functions_of l) e entry) (sym (take-append_seam front (e ∷ []))) own in
+      all_entries (front ++ e ∷ []) (length front + 1) all (sym (length-append front (e ∷ [])))
+      (first_entries_more (front ++ e ∷ []) (length front) e entry read all (in_front read are) last_at is meaning)
 
-last_at : (front : List RawEntry) (e : RawEntry) → slice_get (front ++ e ∷ []) (length front) ≡ Some e
-last_at front e = append_right front (e ∷ []) (length front) 0 e (omega arith) refl
+  -- a fault is the first, where the entries before it have none
+  pub fault_more : (read : List Entry) (fault : Fault IrFaultKind) → AreEntriesOf front read → IsFaultOfEntry (functions_of front) e fault → IsFaultOfEntries (front ++ e ∷ []) fault
+  fault_more read fault are own = record {
+    k = length front;
+    raw = e;
+    is_raw = last_at;
+    before = λ j other lt at. let (entry, at') = there read j (omega (arith, are.count)) in let first = in_front read are in (entry, first.each j other entry at at');
+    fault_there = subst (λ l. IsFaultOfEntry (functions_of l) e fault) (sym (take-append_seam front (e ∷ []))) own;
+  }
 
-pub block_behind : (text : List ℕ) (front : List RawEntry) (e : RawEntry) (reader : TokenReader) → HasRead text (front ++ e ∷ []) reader → HasBlock e
-block_behind text front e reader h =
-    let (t, (r, spelled)) = each_spelled SpellsEntry (front ++ e ∷ []) (length front) e (h.tokens ++ []) [] (h.spelled []) (last_at front e) in
-    has_block e t r spelled
-
--- the entries in front mean the same where one more stands behind them
-with_more : (front : List RawEntry) (e : RawEntry) (read : List Entry) → AreFirstEntries front (length front) read → AreFirstEntries (front ++ e ∷ []) (length front) read
-with_more front e read first = record {
-  count = first.count;
-  each = λ k raw entry at at'.
-      let within : k < length read = slice_get_within read k entry at' in
-      let le : k ≤ length front = omega (arith, first.count) in
-      elim (at_push front e k raw at) [
-        | inl old ↦ subst (λ l. IsEntryOf (functions_of l) raw entry) (sym (take-append-le k front (e ∷ []) le)) (first.each k raw entry old at')
-        | inr (is, same) ↦ absurd (omega (arith, first.count, is))
-      ];
-}
-
-pub goes_on : (text : List ℕ) (front : List RawEntry) (e : RawEntry) (before after : TokenReader) (old new : List ℕ → Type 0) (mark : Bool) (entry : Entry) (read all : List Entry) → GoesWell text front before old read → HasRead text (front ++ e ∷ []) after
-    → (IsTrue mark ↔ ((name : List ℕ) × IsNameOf e name × old name)) → ((name : List ℕ) → new name ↔ (old name ⊎ IsNameOf e name))
-    → ((earlier : List RawFunction) → MarksEntry mark earlier e → IsEntryOf earlier e entry) → all ≡ read ++ entry ∷ [] → GoesOn text after new all
-goes_on text front e before after old new mark entry read all h more marked named own is =
-    let marks : MarksEntry mark (functions_of front) e = own_mark mark (functions_of front) e (
-      λ t. let (name, n, o) = marked.0 t in (name, n, (h.known name).0 o),
-      λ (name, n, has). marked.1 (name, n, (h.known name).1 has),
-    ) in
-    let meaning : IsEntryOf (functions_of (take (length front) (front ++ e ∷ []))) e entry = subst (λ l. IsEntryOf (functions_of l) e entry) (sym (take-append_seam front (e ∷ []))) (own (functions_of front) marks) in
-    let first : AreFirstEntries (front ++ e ∷ []) (length front + 1) all = first_entries_more (front ++ e ∷ []) (length front) e entry read all (with_more front e read h.meant) (last_at front e) is meaning in (
-      front ++ e ∷ [],
+  -- and stays the first
+  pub fault_stays : (fault : Fault IrFaultKind) → IsFaultOfEntries front fault → IsFaultOfEntries (front ++ e ∷ []) fault
+  fault_stays fault h =
+      let within : h.k < length front = slice_get_within front h.k h.raw h.is_raw in
+      let le : h.k ≤ length front = omega arith in
       record {
-        has_read = more;
-        meant = subst (λ n. AreFirstEntries (front ++ e ∷ []) n all) (sym (length-append front (e ∷ []))) first;
-        known = λ name.
-            let names = name_push front e name in (
-              λ t. names.1 (elim ((named name).0 t) [ inl o ↦ inl ((h.known name).0 o) | inr n ↦ inr n ]),
-              λ t. (named name).1 (elim (names.0 t) [ inl has ↦ inl ((h.known name).1 has) | inr n ↦ inr n ]),
-            );
-      },
+        k = h.k;
+        raw = h.raw;
+        is_raw = append_left front (e ∷ []) h.k h.raw h.is_raw;
+        before = λ j other lt at.
+            let le' : j ≤ length front = omega arith in
+            elim (at_push front e j other at) [
+              | inl old ↦ let (entry, is) = h.before j other lt old in (entry, subst (λ l. IsEntryOf (functions_of l) other entry) (sym (take-append-le j front (e ∷ []) le')) is)
+              | inr (is, same) ↦ absurd (omega (arith, is))
+            ];
+        fault_there = subst (λ l. IsFaultOfEntry (functions_of l) h.raw fault) (sym (take-append-le h.k front (e ∷ []) le)) h.fault_there;
+      }
+
+  -- ---- names
+
+  module _ (old new : List ℕ → Type 0) (known : (name : List ℕ) → old name ↔ HasNameOf (functions_of front) name) where
+    pub marks_entry : (mark : Bool) → (IsTrue mark ↔ ((name : List ℕ) × IsNameOf e name × old name)) → MarksEntry mark (functions_of front) e
+    marks_entry mark marked = own_mark mark (functions_of front) e (
+      λ t. let (name, n, o) = marked.0 t in (name, n, (known name).0 o),
+      λ (name, n, has). marked.1 (name, n, (known name).1 has),
     )
 
--- ---- the end of the text
+    pub names_more : ((name : List ℕ) → new name ↔ (old name ⊎ IsNameOf e name)) → (name : List ℕ) → new name ↔ HasNameOf (functions_of (front ++ e ∷ [])) name
+    names_more named name =
+        let names = name_push front e name in (
+          λ t. names.1 (elim ((named name).0 t) [ inl o ↦ inl ((known name).0 o) | inr n ↦ inr n ]),
+          λ t. (named name).1 (elim (names.0 t) [ inl has ↦ inl ((known name).1 has) | inr n ↦ inr n ]),
+        )
 
-pub is_module : (text : List ℕ) (front : List RawEntry) (reader : TokenReader) (has_name : List ℕ → Type 0) (m : Module) → GoesWell text front reader has_name m.entries → IsRaw text (record { entries = front }) → IsModuleText text m
-is_module text front reader has_name m h raw = record { raw = record { entries = front }; is_raw = raw; entries = all_entries front (length front) m.entries refl h.meant }
+-- ---- what is left
+
+-- entries in front of what is left are read, and one more, where these tokens are the entries in front of the text
+pub left_step : (tokens left rest : List Placed) (e : RawEntry) (was now next : Reading) → entry_at left ≡ Ok (e, rest)
+    → ((text : List ℕ) (front : List RawEntry) → HasLeft text front tokens → (read : List RawEntry) × HasLeft text read left × (IsReadingOf front was → IsReadingOf read now))
+    → ((front : List RawEntry) → IsReadingOf front now → IsReadingOf (front ++ e ∷ []) next)
+    → (text : List ℕ) (front : List RawEntry) → HasLeft text front tokens → (read : List RawEntry) × HasLeft text read rest × (IsReadingOf front was → IsReadingOf read next)
+left_step tokens left rest e was now next read before step text front h =
+    let (entries, has_left, is) = before text front h in
+    (entries ++ e ∷ [], left_more text entries left has_left e rest (entry_at-is left (e, rest) read), λ r. step entries (is r))

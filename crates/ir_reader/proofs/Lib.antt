@@ -9,7 +9,7 @@ pub mod Avoiding
 pub mod Unassigned
 pub mod Fitting
 pub mod Checking
-pub mod Reading
+pub mod ReadEntries
 pub mod Advancing
 pub mod GoingOn
 pub mod Answered

@@ -1,10 +1,9 @@
 -- Names of functions among entries.
-use Rattle.std.proofs.Common.{◌≡◌, ◌⊎◌, ◌↔◌, inl, inr, ℕ, ◌+◌, ◌<◌, Bool, true, false, not, cond, List, [], ◌∷◌, ◌++◌, take, length, length-append, get_or, Some, IsTrue, refl, ap, sym, subst, ◌∙◌, arith}
+use Rattle.std.proofs.Common.{◌≡◌, ◌⊎◌, ◌↔◌, inl, inr, ℕ, Bool, true, false, not, cond, List, [], ◌∷◌, ◌++◌, length, Some, IsTrue, refl, ap, sym, subst, ◌∙◌, arith}
 use Rattle.std.specs.Prelude.{slice_get, ◌||◌}
 use Rattle.std.specs.List.{list_any}
 use Rattle.std.specs.Str.{bytes_eq}
 use Rattle.std.proofs.lemmas.Bool.{false≢true}
-use Rattle.std.proofs.lemmas.List.{take_more}
 use Rattle.std.proofs.lemmas.List.Folds.{list_any-append}
 use Rattle.std.proofs.lemmas.Slice.Eq.{bytes_eq-Decides}
 use Rattle.std.specs.Prelude.{Vec}
@@ -14,8 +13,8 @@ use Rattle.ir_tokens.specs.declared.raw.RawEntry.TheVariants as raw_entries
 use Rattle.ir_tokens.specs.declared.raw.RawFunction.{RawFunction}
 use Rattle.ir_resolve.specs.FaultKinds.{HasNameOf}
 use Rattle.ir_reader.specs.Faults.{functions_of}
-use Rattle.ir_reader.specs.RepeatedNames.{MarksEntry, MarksRepeated, IsNameOf}
-use Rattle.ir_reader.proofs.Places.{same_at, at_append, at_push, append_left, append_right}
+use Rattle.ir_reader.specs.RepeatedNames.{MarksEntry, IsNameOf}
+use Rattle.ir_reader.proofs.Places.{at_append, at_push, append_left, append_right}
 
 functions_of-append : (xs ys : List RawEntry) → functions_of (xs ++ ys) ≡ functions_of xs ++ functions_of ys
 functions_of-append [] ys = refl
@@ -41,12 +40,6 @@ name_push entries (raw_entries.Function raw) name =
         | inr is ↦ (length (functions_of entries), raw, subst (λ l. slice_get l (length (functions_of entries)) ≡ Some raw) (sym same) (append_right (functions_of entries) (raw ∷ []) (length (functions_of entries)) 0 raw (omega arith) refl), is)
       ],
     )
-
-pub name_more : (entries : List RawEntry) (i : ℕ) (entry : RawEntry) (name : List ℕ) → i < length entries → entry ≡ get_or entries i entry
-    → HasNameOf (functions_of (take (i + 1) entries)) name ↔ (HasNameOf (functions_of (take i entries)) name ⊎ IsNameOf entry name)
-name_more entries i entry name within is =
-    let more : take (i + 1) entries ≡ take i entries ++ entry ∷ [] = take_more entries i entry within ∙ ap (λ e. take i entries ++ e ∷ []) (sym is) in
-    rw more (name_push (take i entries) entry name)
 
 pub name_none : (name : List ℕ) → ¬ HasNameOf [] name
 name_none name (k, other, at, is) = cc
@@ -111,51 +104,9 @@ module _ {A : Type 0} (entry : RawEntry) (raw : RawFunction) (texts new : List (
         λ h. more.1 (elim h [ inl old ↦ inl old | inr e ↦ inr (key_is ∙ e) ]),
       )
 
--- what is known of the functions so far, and of one entry more
-module _ (entries : List RawEntry) (i : ℕ) (entry : RawEntry) (within : i < length entries) (is : entry ≡ get_or entries i entry) (Old New : List ℕ → Type 0) (known : (name : List ℕ) → Old name ↔ HasNameOf (functions_of (take i entries)) name) where
-  pub mark_known : (mark : Bool) → (IsTrue mark ↔ ((name : List ℕ) × IsNameOf entry name × Old name)) → IsTrue mark ↔ ((name : List ℕ) × IsNameOf entry name × HasNameOf (functions_of (take i entries)) name)
-  mark_known mark iff = (
-    λ h. let (name, e, old) = iff.0 h in (name, e, (known name).0 old),
-    λ (name, e, has). iff.1 (name, e, (known name).1 has),
-  )
-
-  pub known_more : ((name : List ℕ) → New name ↔ (Old name ⊎ IsNameOf entry name)) → (name : List ℕ) → New name ↔ HasNameOf (functions_of (take (i + 1) entries)) name
-  known_more more name =
-      let names = name_more entries i entry name within is in (
-        λ h. names.1 (elim ((more name).0 h) [ inl old ↦ inl ((known name).0 old) | inr e ↦ inr e ]),
-        λ h. (more name).1 (elim (names.0 h) [ inl has ↦ inl ((known name).1 has) | inr e ↦ inr e ]),
-      )
-
 -- ---- marks
-
--- the first entries, so many, have their marks
-pub record MarksFirst (entries : List RawEntry) (i : ℕ) (marks : List Bool) : Type 0 where
-  pub count : length marks ≡ i
-  pub each : (k : ℕ) (raw : RawEntry) (mark : Bool) → slice_get entries k ≡ Some raw → slice_get marks k ≡ Some mark → MarksEntry mark (functions_of (take k entries)) raw
-
-pub marks_none : (entries : List RawEntry) → MarksFirst entries 0 []
-marks_none entries = record { count = refl; each = λ k raw mark at at'. cc }
 
 pub own_mark : (mark : Bool) (earlier : List RawFunction) (entry : RawEntry) → (IsTrue mark ↔ ((name : List ℕ) × IsNameOf entry name × HasNameOf earlier name)) → MarksEntry mark earlier entry
 own_mark mark earlier (raw_entries.Kept text) is = tt
 own_mark mark earlier (raw_entries.Function raw) is =
     (λ t. let (name, e, has) = is.0 t in subst (HasNameOf earlier) (sym e) has, λ has. is.1 (raw.name, refl, has))
-
-pub marks_more : (entries : List RawEntry) (i : ℕ) (entry : RawEntry) (marks marks' : List Bool) (mark : Bool) → slice_get entries i ≡ Some entry → MarksFirst entries i marks → marks' ≡ marks ++ mark ∷ []
-    → (IsTrue mark ↔ ((name : List ℕ) × IsNameOf entry name × HasNameOf (functions_of (take i entries)) name)) → MarksFirst entries (i + 1) marks'
-marks_more entries i entry marks marks' mark here first more is =
-    record {
-      count = ap length more ∙ length-append marks (mark ∷ []) ∙ omega (arith, first.count);
-      each = λ k raw m at at'. elim (at_push marks mark k m (subst (λ l. slice_get l k ≡ Some m) more at')) [
-        | inl old ↦ first.each k raw m at old
-        | inr (e, same) ↦
-            let k_is : i ≡ k = sym first.count ∙ sym e in
-            let one : entry ≡ raw = same_at entries i entry raw here (subst (λ n. slice_get entries n ≡ Some raw) (sym k_is) at) in
-            let own = own_mark mark (functions_of (take i entries)) entry is in
-            subst (λ n. MarksEntry m (functions_of (take n entries)) raw) k_is
-            (subst (λ r. MarksEntry m (functions_of (take i entries)) r) one (subst (λ b. MarksEntry b (functions_of (take i entries)) entry) same own))
-      ];
-    }
-
-pub marks_all : (entries : List RawEntry) (i : ℕ) (marks : List Bool) → i ≡ length entries → MarksFirst entries i marks → MarksRepeated entries marks
-marks_all entries i marks end first = record { count = first.count ∙ end; each = first.each }

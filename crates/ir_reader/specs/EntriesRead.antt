@@ -1,14 +1,18 @@
 -- A text that is read entry by entry.
-use Rattle.std.specs.Prelude.{ℕ, ◌<◌, List, [], ◌∷◌, ◌++◌}
+use Rattle.std.specs.Prelude.{◌↔◌, ℕ, List, ◌++◌}
 use Rattle.ir_tokens.specs.declared.reader.TokenReader.{TokenReader}
-use Rattle.ir_tokens.specs.ReaderPlaces.{HasPassed}
-use Rattle.ir_tokens.specs.Tokens.{Placed, End}
 use Rattle.ir_tokens.specs.declared.raw.RawEntry.{RawEntry}
-use Rattle.ir_instructions.specs.Parts.{Each, Is}
-use Rattle.ir_reader.specs.declared.following.NextEntry.{NextEntry}
-use Rattle.ir_reader.specs.declared.following.NextEntry.TheVariants as nexts
+use Rattle.ir_tokens.specs.Order.{AreTokens}
+use Rattle.ir_tokens.specs.ReaderPlaces.{HasPassed}
+use Rattle.ir_tokens.specs.Tokens.{Placed}
+use Rattle.ir_instructions.specs.Parts.{Each}
 use Rattle.ir_parse.specs.Grammar.{SpellsEntry}
 use Rattle.ir_parse.specs.Text.{IsRaw}
+use Rattle.ir_resolve.specs.FaultKinds.{HasNameOf}
+use Rattle.ir_reader.specs.declared.reading.Reading.{Reading}
+use Rattle.ir_reader.specs.declared.reading.Reading.TheVariants as readings
+use Rattle.ir_reader.specs.Faults.{functions_of, AreEntriesOf, IsFaultOfEntries}
+use Rattle.ir_reader.specs.RepeatedNames.{HasText}
 
 -- the reader stands behind these entries in front of the text, and whatever follows them is behind them
 pub record HasRead (text : List ℕ) (front : List RawEntry) (reader : TokenReader) : Type 0 where
@@ -16,20 +20,18 @@ pub record HasRead (text : List ℕ) (front : List RawEntry) (reader : TokenRead
   pub passed : HasPassed text tokens reader
   pub spelled : (rest : List Placed) → Each SpellsEntry front (tokens ++ rest) rest
 
--- What follows these entries: one more, and the reader is behind it; or the text's end, and they are all. What is refused says nothing.
-abbrev pub Follows : List ℕ → List RawEntry → TokenReader → NextEntry → TokenReader → Type 0
-Follows text front before (nexts.Entry entry) reader = HasRead text (front ++ entry ∷ []) reader × (before.cursor.at < reader.cursor.at)
-Follows text front before nexts.End reader = IsRaw text (record { entries = front })
-Follows text front before nexts.Refused reader = Unit {0}
+-- behind these entries in front of the text these tokens are left
+pub record HasLeft (text : List ℕ) (front : List RawEntry) (left : List Placed) : Type 0 where
+  pub tokens : List Placed
+  pub are_tokens : AreTokens text tokens
+  pub spelled : Each SpellsEntry front tokens left
 
--- these tokens begin with the end of the text, if it is the end
-abbrev pub IsEnd : List Placed → NextEntry → Type 0
-IsEnd tokens (nexts.Entry entry) = ⊥
-IsEnd tokens nexts.End = (rest : List Placed) × Is End tokens rest
-IsEnd tokens nexts.Refused = Unit {0}
+-- these entries as written mean the entries that are read, and their functions have the names; or the fault is their first
+abbrev pub IsReadingOf : List RawEntry → Reading → Type 0
+IsReadingOf written (readings.Faultless read names) =
+    AreEntriesOf written read × ((name : List ℕ) → HasText names name ↔ HasNameOf (functions_of written) name)
+IsReadingOf written (readings.Faulty fault) = IsFaultOfEntries written fault
 
--- these tokens are an entry, if it is one
-abbrev pub IsWhole : List Placed → NextEntry → Type 0
-IsWhole tokens (nexts.Entry entry) = SpellsEntry entry tokens []
-IsWhole tokens nexts.End = ⊥
-IsWhole tokens nexts.Refused = Unit {0}
+-- the text is that of entries as written, and that is read of these
+abbrev pub IsReadingOfText : List ℕ → Reading → Type 0
+IsReadingOfText text reading = (written : List RawEntry) × IsRaw text (record { entries = written }) × IsReadingOf written reading

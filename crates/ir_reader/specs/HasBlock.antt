@@ -1,5 +1,5 @@
 -- Functions as written that have a block, as the grammar asks.
-use Rattle.std.specs.Prelude.{◌≡◌, ℕ, ◌<◌, List, length, Some, slice_get}
+use Rattle.std.specs.Prelude.{◌<◌, length}
 use Rattle.ir_tokens.specs.declared.raw.RawEntry.{RawEntry}
 use Rattle.ir_tokens.specs.declared.raw.RawEntry.TheVariants as raw_entries
 
@@ -7,6 +7,3 @@ use Rattle.ir_tokens.specs.declared.raw.RawEntry.TheVariants as raw_entries
 abbrev pub HasBlock : RawEntry → Type 0
 HasBlock (raw_entries.Kept text) = Unit {0}
 HasBlock (raw_entries.Function raw) = 0 < length raw.blocks
-
-abbrev pub HaveBlocks : List RawEntry → Type 0
-HaveBlocks written = (k : ℕ) (raw : RawEntry) → slice_get written k ≡ Some raw → HasBlock raw

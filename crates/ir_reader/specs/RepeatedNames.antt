@@ -1,22 +1,16 @@
 -- MarksFunction on the functions whose names an earlier one has.
-use Rattle.std.specs.Prelude.{◌≡◌, ℕ, Bool, List, length, take, IsTrue, Some, slice_get, Vec}
+use Rattle.std.specs.Prelude.{◌≡◌, ℕ, Bool, List, IsTrue, Vec}
 use Rattle.std.specs.Str.{bytes_eq}
 use Rattle.indexmap.specs.IndexSet.{IndexSet, contains_by}
 use Rattle.ir_tokens.specs.declared.raw.RawEntry.{RawEntry}
 use Rattle.ir_tokens.specs.declared.raw.RawEntry.TheVariants as raw_entries
 use Rattle.ir_tokens.specs.declared.raw.RawFunction.{RawFunction}
 use Rattle.ir_resolve.specs.Faults.{MarksFunction}
-use Rattle.ir_reader.specs.Faults.{functions_of}
 
 -- if the entry is a function, the mark says whether one of the earlier ones has its name
 abbrev pub MarksEntry : Bool → List RawFunction → RawEntry → Type 0
 MarksEntry is_repeated earlier (raw_entries.Kept text) = Unit {0}
 MarksEntry is_repeated earlier (raw_entries.Function raw) = MarksFunction is_repeated earlier raw
-
--- each entry has its mark
-pub record MarksRepeated (written : List RawEntry) (repeated : List Bool) : Type 0 where
-  pub count : length repeated ≡ length written
-  pub each : (k : ℕ) (raw : RawEntry) (is_repeated : Bool) → slice_get written k ≡ Some raw → slice_get repeated k ≡ Some is_repeated → MarksEntry is_repeated (functions_of (take k written)) raw
 
 -- the name is that of the entry, which is a function
 abbrev pub IsNameOf : RawEntry → List ℕ → Type 0

@@ -1,28 +1,19 @@
-//! A text that is read entry by entry.
+//! The tokens of a text, entry by entry, and those that are left.
 
-ghost use Rattle.std.specs.Prelude.{◌≡◌, ℕ, List as Seq, IfOk};
-ghost use Rattle.ir_tokens.specs.declared.raw.RawEntry.{RawEntry as written_entry};
-ghost use Rattle.ir_tokens.specs.ReaderPlaces.{StandsIn};
+ghost use Rattle.std.specs.Prelude.{◌≡◌, ◌++◌, ℕ, [], List as Seq, IfOk, OnOk, IfSome};
+ghost use Rattle.ir_tokens.specs.Order.{AreTokens};
+ghost use Rattle.ir_tokens.specs.ReaderPlaces.{StandsIn, HasPassed};
 ghost use Rattle.ir_tokens.specs.SeenTokens.{seen};
-ghost use Rattle.ir_reader.specs.EntriesRead.{HasRead, Follows, IsWhole, IsEnd};
+ghost use Rattle.ir_tokens.specs.Tokens.{Placed as PlacedToken};
+ghost use Rattle.ir_parse.specs.Grammar.{SpellsEntry};
 ghost use Rattle.ir_parse.specs.ModuleReaders.{is_end};
 
 use ir_parse::entry;
 use ir_tokens::{IrError, Placed, RawEntry, Token, TokenReader};
 use std::alloc::{AllocError, Global};
 
-/// What is next in a text.
-#[derive(Debug, Drop)]
-pub(crate) enum NextEntry {
-    Entry(RawEntry),
-    /// The end of the text.
-    End,
-    /// Nothing that is read: [`parse`](ir_parse::parse) says why.
-    Refused,
-}
-
 /// Whether the end of the text is next.
-fn ends(tokens: &[Placed<'_>]) -> bool
+pub(crate) fn ends(tokens: &[Placed<'_>]) -> bool
     ensures { result ≡ is_end (seen tokens.now) }
 {
     match tokens {
@@ -31,48 +22,38 @@ fn ends(tokens: &[Placed<'_>]) -> bool
     }
 }
 
-/// The entry that these tokens are, all of them.
-fn whole_entry(alloc: Global, tokens: &[Placed<'_>]) -> Result<NextEntry, AllocError>
-    ensures { IfOk result (IsWhole (seen tokens.now)) }
+/// The entry that these tokens are, all of them, if they are one.
+pub(crate) fn whole_entry(
+    alloc: Global,
+    tokens: &[Placed<'_>],
+) -> Result<Option<RawEntry>, AllocError>
+    ensures { IfOk result (λ found. IfSome found (λ entry. SpellsEntry entry (seen tokens.now) [])) }
 {
     let mut rest = tokens;
     match entry(alloc, &mut rest) {
-        Ok(entry) => {
-            if rest.is_empty() {
-                Ok(NextEntry::Entry(entry))
-            } else {
-                Ok(NextEntry::Refused)
-            }
-        }
-        Err(IrError::Refused(_)) => Ok(NextEntry::Refused),
+        Ok(entry) => Ok(rest.is_empty().then_some(entry)),
+        Err(IrError::Refused(_)) => Ok(None),
         Err(IrError::NoMemory) => Err(AllocError),
     }
 }
 
-/// What is next where the last token of a text is among these.
-fn end(tokens: &[Placed<'_>]) -> NextEntry
-    ensures { IsEnd (seen tokens.now) result }
-{
-    if ends(tokens) {
-        NextEntry::End
-    } else {
-        NextEntry::Refused
-    }
-}
-
-/// The next entry of a text, and goes behind it. The tokens are those of the last call, whose memory is used again.
-pub(crate) fn next_entry<'a>(
+/// Takes the tokens up to the last of the text behind those that are there.
+pub(crate) fn take_rest<'a>(
     alloc: Global,
     reader: &mut TokenReader<'a>,
     tokens: &mut Vec<Placed<'a>>,
-) -> Result<NextEntry, AllocError>
+) -> Result<(), AllocError>
     requires { StandsIn reader.old.text.now reader.old }
-    ensures { IfOk result (λ next. (text : Seq ℕ) (front : Seq written_entry) →
-        HasRead text front reader.old → Follows text front reader.old next reader.new) }
+    ensures { OnOk result ((text : Seq ℕ) (front : Seq PlacedToken) →
+        HasPassed text (front ++ seen tokens.old.items) reader.old →
+        AreTokens text (front ++ seen tokens.new.items)) }
 {
-    if reader.take_entry(tokens)? {
-        Ok(end(tokens.as_slice()))
-    } else {
-        whole_entry(alloc, tokens.as_slice())
+    let mut more = Vec::new(alloc);
+    loop {
+        let are_last = reader.take_entry(&mut more)?;
+        tokens.extend_from_slice(more.as_slice())?;
+        if are_last {
+            return Ok(());
+        }
     }
 }

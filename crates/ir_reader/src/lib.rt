@@ -10,13 +10,13 @@
 mod assigned;
 mod count;
 mod entry;
-mod faultless;
 mod following;
 mod function;
 mod laws;
 mod phis;
 mod predecessors;
 mod reader;
+mod reading;
 mod repeated;
 mod text;
 mod written;

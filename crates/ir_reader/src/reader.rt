@@ -1,23 +1,26 @@
 //! The module of a text.
 
-ghost use Rattle.std.specs.Prelude.{◌≤◌, List as Seq, length, IfOk, OnOk, IfErr};
+ghost use Rattle.std.specs.Prelude.{◌≤◌, ℕ, List as Seq, length, IfOk, OnOk, IfErr};
 ghost use Rattle.ir_core.specs.Checks.{ModuleMeetsChecks};
-ghost use Rattle.ir_parse.specs.Text.{most_bytes};
+ghost use Rattle.ir_parse.specs.Text.{most_bytes, IsTextFault};
+ghost use Rattle.ir_tokens.specs.SeenTokens.{seen};
+ghost use Rattle.ir_tokens.specs.declared.raw.RawEntry.{RawEntry as entry_written};
 ghost use Rattle.ir_tokens.specs.declared.raw.RawFunction.{RawFunction as written_function};
 ghost use Rattle.refusal.specs.Refusals.{IfRefused};
 ghost use Rattle.ir_reader.specs.RepeatedNames.{MarksEntry};
-ghost use Rattle.ir_reader.specs.HasBlock.{HasBlock, HaveBlocks};
-ghost use Rattle.ir_reader.specs.Faults.{IsEntryOf, AreEntriesOf, IsFaultOfEntry, IsFaultOfEntries, IsModuleText, IsFault};
+ghost use Rattle.ir_reader.specs.HasBlock.{HasBlock};
+ghost use Rattle.ir_reader.specs.EntriesRead.{HasLeft, IsReadingOf, IsReadingOfText};
+ghost use Rattle.ir_reader.specs.Faults.{IsEntryOf, IsFaultOfEntry, IsModuleText, IsFault};
 
-use crate::faultless::faultless_module;
+use crate::following::{ends, take_rest, whole_entry};
 use crate::function::function;
-use crate::repeated::repeated_names;
+use crate::reading::Reading;
 use crate::text::text;
 use ir_core::{Entry, Module};
-use ir_parse::parse;
-use ir_tokens::{IrError, RawEntry};
-use lists::List;
-use std::alloc::Global;
+use ir_parse::{MOST_BYTES, entry as written_entry};
+use ir_tokens::{IrError, IrFaultKind, Placed, RawEntry, TokenReader};
+use refusal::refused;
+use std::alloc::{AllocError, Global};
 
 /// The module of a text, or the text's first fault: its length, then the first token that does not fit, and then function by function
 /// the first kind of [`IrFaultKind`](crate::IrFaultKind) in their order that the function has, at its first line.
@@ -34,42 +37,60 @@ pub fn read_module(alloc: Global, bytes: &[u8]) -> Result<Module, IrError>
     module_of(alloc, bytes)
 }
 
-/// The module of a text, or the text's first fault. Only where something is refused the text is read a second time.
+/// The module of a text, or the text's first fault. A fault of an entry is kept while the rest of the text is read, since one of the
+/// text comes before it.
 fn module_of(alloc: Global, bytes: &[u8]) -> Result<Module, IrError>
     ensures ok { IfOk result (IsModuleText bytes.now) }
     ensures limit { OnOk result (length bytes.now ≤ most_bytes) }
     ensures refused { IfErr result (λ e. IfRefused e (IsFault bytes.now)) }
 {
-    match faultless_module(alloc, bytes)? {
-        Some(module) => Ok(module),
-        None => module_or_fault(alloc, bytes),
+    if bytes.len() > MOST_BYTES {
+        return Err(refused(1, IrFaultKind::TooLong));
     }
+    let mut tokens = Vec::new(alloc);
+    let reading = first_entries(alloc, bytes, &mut tokens)?;
+    let reading = last_entries(alloc, tokens.as_slice(), reading)?;
+    Ok(reading.module()?)
 }
 
-/// The module of a text, or the text's first fault, where the whole text is read before the first function.
-fn module_or_fault(alloc: Global, bytes: &[u8]) -> Result<Module, IrError>
-    ensures ok { IfOk result (IsModuleText bytes.now) }
-    ensures limit { OnOk result (length bytes.now ≤ most_bytes) }
-    ensures refused { IfErr result (λ e. IfRefused e (IsFault bytes.now)) }
+/// Reads the entries in front of a text one by one, each from its own tokens, so that the memory of these serves the next one: up to
+/// the last tokens of the text, or to tokens that are no entry by themselves. It leaves all tokens from there on.
+fn first_entries<'a>(
+    alloc: Global,
+    bytes: &'a [u8],
+    tokens: &mut Vec<Placed<'a>>,
+) -> Result<Reading, AllocError>
+    ensures { IfOk result (λ reading. (front : Seq entry_written)
+        × HasLeft bytes.now front (seen tokens.new.items) × IsReadingOf front reading) }
 {
-    let raw = parse(alloc, bytes)?;
-    Ok(Module {
-        entries: entries(alloc, raw.entries.as_slice())?,
-    })
+    let mut reader = TokenReader::new(bytes);
+    let mut reading = Reading::new(alloc);
+    while !reader.take_entry(tokens)? {
+        match whole_entry(alloc, tokens.as_slice())? {
+            Some(written) => reading = reading.with(alloc, &written)?,
+            None => {
+                take_rest(alloc, &mut reader, tokens)?;
+                return Ok(reading);
+            }
+        }
+    }
+    Ok(reading)
 }
 
-/// The entries, or the fault of the first one that has one.
-fn entries(alloc: Global, written: &[RawEntry]) -> Result<List<Entry>, IrError>
-    requires { HaveBlocks written.now }
-    ensures ok { IfOk result (AreEntriesOf written.now) }
-    ensures refused { IfErr result (λ e. IfRefused e (IsFaultOfEntries written.now)) }
+/// Reads the entries that these tokens are, which are the last of a text, or answers the first fault of the text.
+fn last_entries(alloc: Global, tokens: &[Placed<'_>], reading: Reading) -> Result<Reading, IrError>
+    ensures ok { IfOk result (λ read. (text : Seq ℕ) (front : Seq entry_written) →
+        HasLeft text front (seen tokens.now) → IsReadingOf front reading → IsReadingOfText text read) }
+    ensures refused { IfErr result (λ e. (text : Seq ℕ) (front : Seq entry_written) →
+        HasLeft text front (seen tokens.now) → length text ≤ most_bytes → IfRefused e (IsTextFault text)) }
 {
-    let repeated = repeated_names(alloc, written)?;
-    let mut entries = List::new(alloc);
-    for place in 0..written.len() {
-        entries.push(entry(alloc, &written[place], repeated[place])?)?;
+    let mut left = tokens;
+    let mut reading = reading;
+    while !ends(left) {
+        let written = written_entry(alloc, &mut left)?;
+        reading = reading.with(alloc, &written)?;
     }
-    Ok(entries)
+    Ok(reading)
 }
 
 /// An entry, or its first fault.

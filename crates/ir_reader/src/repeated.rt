@@ -1,23 +1,11 @@
 //! Names of functions that an earlier one has.
 
 ghost use Rattle.std.specs.Prelude.{◌↔◌, ◌⊎◌, ℕ, List as Seq, IfOk, OnOk, IsTrue};
-ghost use Rattle.ir_reader.specs.RepeatedNames.{MarksRepeated, IsNameOf, HasText};
+ghost use Rattle.ir_reader.specs.RepeatedNames.{IsNameOf, HasText};
 
 use indexmap::IndexSet;
 use ir_tokens::RawEntry;
 use std::alloc::{AllocError, Global};
-
-/// For each entry, whether it is a function whose name an earlier one has.
-pub(crate) fn repeated_names(alloc: Global, entries: &[RawEntry]) -> Result<Vec<bool>, AllocError>
-    ensures { IfOk result (λ repeated. MarksRepeated entries.now repeated.items) }
-{
-    let mut names = IndexSet::new(alloc);
-    let mut repeated = Vec::new(alloc);
-    for entry in entries {
-        repeated.push(is_repeated(alloc, &mut names, entry)?)?;
-    }
-    Ok(repeated)
-}
 
 /// Whether the entry is a function whose name is among these; from now on it is.
 pub(crate) fn is_repeated(

@@ -1,11 +1,12 @@
-use Rattle.std.proofs.Common.{◌≡◌, [], length, ◌∙◌, sym, ap, Ok}
+use Rattle.std.proofs.Common.{length, ◌∙◌, sym, ap}
 use Rattle.std.proofs.lemmas.List.{nil_from_length}
 use Rattle.std.proofs.lemmas.Bool.{eqb-true}
 use Rattle.ir_tokens.specs.SeenTokens.{seen}
-use Rattle.ir_parse.proofs.FunctionReadings.{entry_at-is}
+use Rattle.ir_reader.proofs.Advancing.{whole_is}
 use Rattle.ir_reader.proofs.following.whole_entry.Goals as goal
 
-pub returns-then-is_empty : goal.returns-then-is_empty
-returns-then-is_empty c =
-    let none : c.entry.new.tokens.now ≡ [] = nil_from_length c.entry.new.tokens.now (eqb-true (length c.entry.new.tokens.now) 0 (sym c.is_empty.ensures ∙ c.if-is_empty.true)) in
-    entry_at-is (seen c.args.tokens.now) (c.in-Ok.entry, []) (c.in-Ok.ensures.read ∙ ap (λ l. Ok (c.in-Ok.entry, seen l)) none)
+pub returns-in-Ok : goal.returns-in-Ok
+returns-in-Ok c =
+    let rest = c.entry.new.tokens.now in
+    whole_is (seen c.args.tokens.now) (seen rest) c.in-Ok.entry c.is_empty.result c.then_some.result c.in-Ok.ensures.read
+    (λ t. ap seen (nil_from_length rest (eqb-true (length rest) 0 (sym c.is_empty.ensures ∙ t)))) c.then_some.ensures

@@ -1,6 +1,6 @@
 use Rattle.std.proofs.Common.{refl}
 use Rattle.ir_core.specs.declared.module.Entry.TheVariants as entries
-use Rattle.ir_reader.proofs.Reading.{function_entry}
+use Rattle.ir_reader.proofs.ReadEntries.{function_entry}
 use Rattle.ir_reader.proofs.reader.entry.Goals as goal
 
 pub returns-in_ok-function-in-Function-clause-ok : goal.returns-in_ok-function-in-Function-clause-ok

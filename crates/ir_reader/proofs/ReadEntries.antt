@@ -1,11 +1,10 @@
 -- Entry by entry through a module.
-use Rattle.std.proofs.Common.{◌≡◌, inl, inr, ℕ, zero, suc, ◌+◌, ◌<◌, ◌≤◌, Bool, List, [], ◌∷◌, ◌++◌, length, length-append, take, Some, refl, sym, ap, subst, ◌∙◌, arith}
+use Rattle.std.proofs.Common.{◌≡◌, inl, inr, ℕ, zero, suc, ◌+◌, ◌<◌, Bool, List, [], ◌∷◌, ◌++◌, length, length-append, take, Some, refl, sym, ap, subst, ◌∙◌, arith}
 use Rattle.std.specs.Prelude.{slice_get}
 use Rattle.ir_core.specs.declared.module.Entry.{Entry}
 use Rattle.ir_core.specs.declared.module.Entry.TheVariants as entries
 use Rattle.ir_core.specs.declared.function.Function.{Function}
 use Rattle.ir_tokens.specs.Tokens.{Placed}
-use Rattle.ir_tokens.specs.declared.raw.RawModule.{RawModule}
 use Rattle.ir_tokens.specs.declared.raw.RawEntry.{RawEntry}
 use Rattle.ir_tokens.specs.declared.raw.RawEntry.TheVariants as raw_entries
 use Rattle.ir_tokens.specs.declared.raw.RawFunction.{RawFunction}
@@ -14,14 +13,14 @@ use Rattle.refusal.specs.declared.fault.Fault.{Fault}
 use Rattle.ir_tokens.specs.declared.fault.IrFaultKind.{IrFaultKind}
 use Rattle.ir_parse.specs.Grammar.{SpellsEntry, SpellsBlocks}
 use Rattle.ir_instructions.specs.Parts.{Part, Each}
-use Rattle.ir_parse.specs.Text.{most_bytes, IsRaw, IsTextFault}
+use Rattle.ir_parse.specs.Text.{IsTextFault}
 use Rattle.refusal.specs.declared.refusal.Refusal.{Refusal}
 use Rattle.refusal.specs.declared.refusal.Refusal.TheVariants as errors
 use Rattle.refusal.specs.Refusals.{IfRefused}
-use Rattle.ir_reader.specs.Faults.{functions_of, IsEntryOf, AreEntriesOf, IsFunctionOf, IsFaultOfEntry, IsFaultOfEntries, IsFault, of_text, of_entries}
+use Rattle.ir_reader.specs.Faults.{functions_of, IsEntryOf, AreEntriesOf, IsFunctionOf, IsFault, of_text}
 use Rattle.ir_reader.specs.RepeatedNames.{MarksEntry}
-use Rattle.ir_reader.specs.HasBlock.{HasBlock, HaveBlocks}
-use Rattle.ir_reader.proofs.Places.{same_at, at_push, there}
+use Rattle.ir_reader.specs.HasBlock.{HasBlock}
+use Rattle.ir_reader.proofs.Places.{same_at, at_push}
 
 -- ---- each function has a block
 
@@ -37,11 +36,6 @@ some_block (first ∷ others) tokens rest spelled = omega arith
 pub has_block : (entry : RawEntry) (tokens rest : List Placed) → SpellsEntry entry tokens rest → HasBlock entry
 has_block (raw_entries.Kept text) tokens rest spelled = tt
 has_block (raw_entries.Function f) tokens rest spelled = some_block f.blocks _ _ spelled.2.2.2.2.2.2.2.2.1
-
-pub have_blocks : (text : List ℕ) (m : RawModule) → IsRaw text m → HaveBlocks m.entries
-have_blocks text m raw k entry at =
-    let (t, (r, spelled)) = each_spelled SpellsEntry m.entries k entry raw.tokens _ raw.spelled.1.1 at in
-    has_block entry t r spelled
 
 -- ---- the first entries
 
@@ -71,28 +65,11 @@ first_entries_more written place raw entry read new first here more own =
 pub all_entries : (written : List RawEntry) (place : ℕ) (read : List Entry) → place ≡ length written → AreFirstEntries written place read → AreEntriesOf written read
 all_entries written place read end first = record { count = first.count ∙ end; each = first.each }
 
--- the first one that has a fault
-pub fault_of_entries : (written : List RawEntry) (place : ℕ) (raw : RawEntry) (read : List Entry) (mark : Bool) (e : Refusal (Fault IrFaultKind)) → AreFirstEntries written place read → slice_get written place ≡ Some raw
-    → MarksEntry mark (functions_of (take place written)) raw → IfRefused e (λ fault. (earlier : List RawFunction) → MarksEntry mark earlier raw → IsFaultOfEntry earlier raw fault) → IfRefused e (IsFaultOfEntries written)
-fault_of_entries written place raw read mark (errors.Refused fault) first here marks h =
-    record {
-      k = place;
-      raw = raw;
-      is_raw = here;
-      before = λ j other lt at. let (entry, at') = there read j (omega (arith, first.count)) in (entry, first.each j other entry at at');
-      fault_there = h (functions_of (take place written)) marks;
-    }
-fault_of_entries written place raw read mark errors.NoMemory first here marks h = tt
-
 -- ---- the text
 
 pub text_fault : (text : List ℕ) (e : Refusal (Fault IrFaultKind)) → IfRefused e (IsTextFault text) → IfRefused e (IsFault text)
 text_fault text (errors.Refused fault) h = of_text h
 text_fault text errors.NoMemory h = tt
-
-pub entries_fault : (text : List ℕ) (m : RawModule) (e : Refusal (Fault IrFaultKind)) → length text ≤ most_bytes → IsRaw text m → IfRefused e (IsFaultOfEntries m.entries) → IfRefused e (IsFault text)
-entries_fault text m (errors.Refused fault) within raw h = of_entries m within raw h
-entries_fault text m errors.NoMemory within raw h = tt
 
 -- an entry that is a function
 pub function_entry : (raw : RawEntry) (f : RawFunction) (entry : Entry) (g : Function) (mark : Bool) → raw ≡ raw_entries.Function f → entry ≡ entries.Function g

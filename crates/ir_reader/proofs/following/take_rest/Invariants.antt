@@ -1,0 +1,15 @@
+-- the tokens are those that the reader has passed since
+use Rattle.std.proofs.Common.{ℕ, ◌-◌, List, ◌++◌, length}
+use Rattle.ir_tokens.specs.ReaderPlaces.{StandsIn, HasPassed}
+use Rattle.ir_tokens.specs.SeenTokens.{seen}
+use Rattle.ir_tokens.specs.Tokens.{Placed}
+use Rattle.ir_reader.proofs.following.take_rest.Given as goal
+
+abbrev pub invariant-loop-more : goal.invariant-loop-more
+invariant-loop-more l = record {
+  stands : StandsIn l.fn.reader.text.now l.reader;
+  passed : (text : List ℕ) (front : List Placed) → HasPassed text (front ++ seen l.initial.tokens.items) l.initial.reader → HasPassed text (front ++ seen l.tokens.items) l.reader;
+}
+
+abbrev pub decreases-loop-more : goal.decreases-loop-more
+decreases-loop-more l = length l.fn.reader.text.now - l.reader.cursor.at
