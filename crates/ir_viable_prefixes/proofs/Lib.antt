@@ -4,6 +4,7 @@ pub mod FlagReaders
 pub mod Functions
 pub mod Instructions
 pub mod Items
+pub mod OneKind
 pub mod Outcomes
 pub mod Reasons
 pub mod Refusals

@@ -30,8 +30,9 @@ use Rattle.ir_viable_prefixes.proofs.Entries.{EndsAt, EndsText, OrEnds, entries_
 use Rattle.ir_viable_prefixes.proofs.Outcomes.{Next, Anything, Ended, CompletesBegun, Fit, RefusesAt, Bad, Reasons, IsRefused, Outcome}
 use Rattle.ir_viable_prefixes.proofs.Reasons.{a_type, an_end, a_group, LeftOutBy, NoRecord, NoGroup, Widths, widths, Like, like_word, like_type, like_function, like_number}
 use Rattle.ir_viable_prefixes.proofs.Reasons as reasons
+use Rattle.ir_viable_prefixes.proofs.OneKind.{EndsHaveNoNumbers, one_kind}
 use Rattle.ir_viable_prefixes.proofs.Statements.{no_record}
-use Rattle.ir_viable_prefixes.proofs.TextEnds.{UpTo, ended_before, is_left_out, refused_at_end, types_refused_at_end}
+use Rattle.ir_viable_prefixes.proofs.TextEnds.{UpTo, ended_before, is_left_out, refused_at_end, types_refused_at_end, numbers_refused_at_end}
 use Rattle.ir_viable_prefixes.proofs.TokenReaders.{i8}
 
 -- the tokens of a text end with the end, or with what stands in no module
@@ -214,6 +215,12 @@ ends_have_no_types law tokens found e o ends (w, width, is, fits) =
     let r = read_up_to law o.front ends ended in
     bad_misfits law o.front (Word w) (types_refused_at_end o.front ends.0 r.0 ended r.1 w width is) fits
 
+ends_have_no_numbers : ModulesAreReadAsSpelled → (tokens : List Placed) (found : Fault IrFaultKind) → Ended tokens → (o : IsRefused entries_at EndsText (OrEnds Anything entries_at EndsText) tokens found) → EndsHaveNoNumbers o.front
+ends_have_no_numbers law tokens found e o ends digits fits =
+    let ended : Ended (UpTo o.front ends.0) = ended_before o.front (found.line, o.token) o.behind (subst Ended o.there e) ends.0 in
+    let r = read_up_to law o.front ends ended in
+    bad_misfits law o.front (Number digits) (numbers_refused_at_end o.front ends.0 r.0 ended r.1 digits) fits
+
 first_misfit : ModulesAreReadAsSpelled → (tokens : List Placed) (found : Fault IrFaultKind) → Ended tokens → IsRefused entries_at EndsText (OrEnds Anything entries_at EndsText) tokens found → IsFirstMisfit tokens found
 first_misfit law tokens found e o = record {
   front = o.front;
@@ -223,6 +230,9 @@ first_misfit law tokens found e o = record {
   fits = front_fits law o.front o.completes;
   misfit = refused_misfits law o.front (found.line, o.token) found o.refused;
   kind = kind_is law o.front o.token found.kind (ends_leave_out law tokens found e o) (ends_have_no_types law tokens found e o) o.why;
+  only = λ other h.
+      one_kind o.front o.token (ends_have_no_numbers law tokens found e o) found.kind other
+      (kind_is law o.front o.token found.kind (ends_leave_out law tokens found e o) (ends_have_no_types law tokens found e o) o.why) h;
 }
 
 refused_at : ModulesAreReadAsSpelled → (tokens : List Placed) (found : Fault IrFaultKind) (r : Read (List RawEntry)) → module_from r ≡ Err found → Ended tokens → Outcome Anything entries_at EndsText (OrEnds Anything entries_at EndsText) tokens r → IsFirstMisfit tokens found

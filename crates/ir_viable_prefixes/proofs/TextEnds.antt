@@ -2,14 +2,14 @@
 use Rattle.std.proofs.Common.{◌≡◌, ◌<◌, ℕ, zero, suc, true, false, List, [], ◌∷◌, ◌++◌, length, Option, Ok, Err, refl, sym, ap, subst, ◌∙◌, append_assoc, arith, length-append}
 use Rattle.std.specs.Prelude.{codes}
 use Rattle.std.specs.Str.{bytes_eq}
-use Rattle.ir_tokens.specs.Tokens.{Token, Placed, End, Other, Bad as Bad_token, Word, is_last}
+use Rattle.ir_tokens.specs.Tokens.{Token, Placed, End, Other, Bad as Bad_token, Word, Number, is_last}
 use Rattle.ir_tokens.specs.declared.raw.RawEntry.{RawEntry}
 use Rattle.ir_tokens.specs.declared.fault.IrFaultKind.TheVariants.{Syntax, LeftOut}
 use Rattle.refusal.specs.declared.fault.Fault.{Fault}
 use Rattle.ir_tokens.specs.declared.fault.IrFaultKind.{IrFaultKind}
 use Rattle.ir_instructions.specs.declared.place.Place.TheVariants as places
 use Rattle.ir_instructions.specs.Places.{leaves_out, misfit}
-use Rattle.ir_instructions.specs.Readers.{Read, Reader, fault, goes_on, ◌>>=◌, done, another_at}
+use Rattle.ir_instructions.specs.Readers.{Read, Reader, fault, unexpected, goes_on, ◌>>=◌, done, another_at}
 use Rattle.ir_instructions.specs.Keywords.{IsTypeWord}
 use Rattle.ir_instructions.proofs.Loops.{repeat-done}
 use Rattle.ir_instructions.proofs.Steps.{ok_is}
@@ -164,3 +164,19 @@ pub types_refused_at_end : (front : List Placed) (l : ℕ) (x : List RawEntry ×
 unfolding parsing.entries_at
 types_refused_at_end front l x e read w width is line more =
     let r = no_type_begins x.0 line w width is more in (r.0, others_follow (suc (length front)) [] front l x (omega arith) e read (line, Word w) more ∙ r.1)
+
+-- nor does a number
+no_number_begins : (a : List RawEntry) (line : ℕ) (digits : List ℕ) (more : List Placed) → (e : Fault IrFaultKind) × (Loop a ((line, Number digits) ∷ more) ≡ Err e)
+no_number_begins a line digits more =
+    let found : Fault IrFaultKind = unexpected places.Entry ((line, Number digits) ∷ more) in
+    let refused : entry_token_at ((line, Number digits) ∷ more) ≡ Err found = refl in (
+      found,
+      step a (line, Number digits) more refl
+          ∙ ap (λ (r : Read RawEntry). goes_on (goes_on r (λ x. done (a ++ x ∷ []))) Loop) (same_entry ((line, Number digits) ∷ more))
+          ∙ ap (λ (r : Read (Option (List ℕ))). goes_on (goes_on (goes_on r behind_entry) (λ x. done (a ++ x ∷ []))) Loop) refused,
+    )
+
+pub numbers_refused_at_end : (front : List Placed) (l : ℕ) (x : List RawEntry × List Placed) → Ended (UpTo front l) → parsing.entries_at (UpTo front l) ≡ Ok x → (digits : List ℕ) → RefusesAt parsing.entries_at front (Number digits)
+unfolding parsing.entries_at
+numbers_refused_at_end front l x e read digits line more =
+    let r = no_number_begins x.0 line digits more in (r.0, others_follow (suc (length front)) [] front l x (omega arith) e read (line, Number digits) more ∙ r.1)
