@@ -7,16 +7,14 @@ use Rattle.ir_core.specs.declared.instruction.Inst.{Inst}
 use Rattle.ir_core.specs.declared.instruction.Op.{Op}
 use Rattle.ir_core.specs.declared.instruction.Op.TheVariants.{Binary, Compare, Select, Convert, Freeze, Phi}
 use Rattle.ir_core.specs.declared.operand.Operand.{Operand}
+use Rattle.ir_core.specs.declared.read.Read.{Read as ReadOperand}
 use Rattle.ir_core.specs.declared.terminator.Terminator.{Terminator}
 use Rattle.ir_core.specs.declared.terminator.Terminator.TheVariants as terminators
 
 -- An operand that is read, at which width, and where: at place k of a block its instructions before the k-th have run, and
 -- where k is their number all have.
-pub record Read : Type 0 where
-  pub operand : Operand
-  pub width : ℕ
-  pub block : ℕ
-  pub place : ℕ
+abbrev pub Read : Type 0
+Read = ReadOperand
 
 -- an operand read at place k of block b
 abbrev pub read : ℕ → ℕ → ℕ → Operand → Read

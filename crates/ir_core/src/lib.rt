@@ -6,16 +6,20 @@
 //! do, and `Refines` what may stand in whose place.
 #![tactic(auto)]
 
+mod copy;
 mod function;
 mod instruction;
 mod module;
 mod operand;
 mod outcome;
+mod read;
 mod terminator;
 
+pub use copy::copy_function;
 pub use function::{Block, Function, Parameter};
 pub use instruction::{Inst, Op};
 pub use module::{Entry, Module};
 pub use operand::{Operand, Register};
 pub use outcome::Outcome;
+pub use read::{Read, end_of, read_at, read_count};
 pub use terminator::Terminator;

@@ -3,7 +3,7 @@
 use ops::Word;
 
 /// What an instruction or a terminator reads.
-#[derive(Clone, Copy, Debug)]
+#[derive(Clone, Copy, Debug, PartialEq, Eq)]
 pub enum Operand {
     /// What the register holds.
     Register(Register),

@@ -1,0 +1,6 @@
+-- the copies so far are of the first ones
+use Rattle.std.proofs.Common.{◌≡◌, take}
+use Rattle.ir_core.proofs.copy.copy_blocks.Given as goal
+
+abbrev pub invariant-loop-block : goal.invariant-loop-block
+invariant-loop-block l = l.copies ≡ take l.block-index l.block-items
