@@ -35,8 +35,9 @@ impl Model for Assigned {
 }
 
 impl Assigned {
-    /// Where the registers of a function are assigned.
-    pub(crate) fn new(alloc: Global, f: &Function) -> Result<Self, AllocError>
+    /// Where the registers of a function are assigned, and which blocks are reached: reads aren't checked. The only error is want of
+    /// memory.
+    pub fn new(alloc: Global, f: &Function) -> Result<Self, AllocError>
         requires some_block { 0 < length f.now.blocks }
         requires blocks { length f.now.blocks < 2 ^ 32 }
         requires targets { (b c : ℕ) → Names f.now b c → c < length f.now.blocks }

@@ -146,8 +146,8 @@ fn fits_literal(bits: u32, literal: i128) -> bool
     -half <= literal && literal < modulus
 }
 
-/// How many classes there are. Their numbers are those below.
-pub(crate) fn class_count(rule: &Rule) -> usize
+/// How many classes there are. Their numbers are those below. It takes as many steps as the rule has operands and nodes.
+pub fn class_count(rule: &Rule) -> usize
     requires { IsClassified rule.now }
     ensures { HasClasses rule.now result }
 {

@@ -10,8 +10,9 @@ use crate::operands::Operands;
 use ops::Width;
 use rule_core::{Argument, Op, Operand, Rule, Statement};
 
-/// The first width that is fixed for the class, in the order of the rule's text.
-pub(crate) fn fixed_width(rule: &Rule, class: usize) -> Option<Width>
+/// The first width that a line of the table of types fixes for the class, in the order of the rule's text. It takes as many steps as
+/// there are operands.
+pub fn fixed_width(rule: &Rule, class: usize) -> Option<Width>
     ensures some { IfSome result (λ N. Fixed rule.now class N) }
     ensures none { IfNone result ((N : ℕ) → ¬ Fixed rule.now class N) }
 {

@@ -25,5 +25,6 @@ mod widths;
 pub use answer::Typings;
 pub use classes::{ClassFault, MOST_CLASSES, classify};
 pub use enumeration::typings;
-pub use fits::is_typing;
+pub use fits::{class_count, is_typing};
+pub use fixed::fixed_width;
 pub use laws::every_rule_has_classes;
