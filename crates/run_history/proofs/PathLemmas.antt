@@ -9,7 +9,7 @@ use Rattle.ir_core.specs.Reads.{end_of}
 use Rattle.ir_core.specs.Walks.{IsWalk}
 use Rattle.ir_meaning.proofs.Pieces.{not_in_empty, first_in, later_in, cases_in}
 use Rattle.run_history.specs.Paths.{Place, ComesNext, IsPath}
-use Rattle.run_history.specs.Laws.{AssignedIsPassed, DefinedBeforeStaysSo}
+use Rattle.run_history.specs.Assignments.{AssignedIsPassed, DefinedBeforeStaysSo}
 use Rattle.run_history.proofs.Assignments.{Unpassed, unassigned, comes_first}
 
 pub end_of-is : (f : Function) (b : ℕ) (block : Block) → IsBlock f b block → end_of f b ≡ length block.insts

@@ -1,5 +1,5 @@
--- Laws of what is assigned, and of what registers hold there.
-use Rattle.std.specs.Prelude.{◌≡◌, ℕ, suc, ◌<◌, ◌^◌, false, List, ◌∷◌, ◌++◌, map, Some, Contains}
+-- Laws of histories, and of what registers hold at their moments.
+use Rattle.std.specs.Prelude.{◌≡◌, ℕ, ◌<◌, ◌^◌, false, List, ◌∷◌, ◌++◌, map, Some, Contains}
 use Rattle.ops.specs.Number.{Number}
 use Rattle.ops.specs.declared.value.Value.{Value}
 use Rattle.ops.specs.declared.value.Effect.TheVariants as effects
@@ -13,64 +13,37 @@ use Rattle.ir_core.specs.Assigned.{IsAssigned, ReadsAreAssigned}
 use Rattle.ir_core.specs.Blocks.{HasInst}
 use Rattle.ir_core.specs.Checks.{IsFormed, IsInst, IsPhi}
 use Rattle.ir_core.specs.Reads.{Read, IsRead, end_of}
-use Rattle.ir_core.specs.Refines.{AreArguments, Refines}
+use Rattle.ir_core.specs.Refines.{AreArguments}
 use Rattle.ir_core.specs.Run.{Registers, AnyNumber, OpGives, HasOutcome, breaks_noundef}
 use Rattle.ir_core.specs.Walks.{IsReached}
 use Rattle.ir_meaning.specs.Laws.{HoldWidths}
-use Rattle.run_history.specs.Paths.{Place, IsPath}
+use Rattle.run_history.specs.Paths.{IsPath}
 use Rattle.run_history.specs.Histories.{Moment, place_of, InstGives, IsHistory, EndsAt}
 
--- ---- what is assigned, by walks alone
-
--- Of two results one isn't assigned at the other's instruction, where that is reached; nor is one at its own. For the first walk to come
--- to the one hasn't come to the other, and then neither has the first walk to the other come to the one.
-abbrev pub NotBothAreAssigned : Type 0
-NotBothAreAssigned = (f : Function) (b k d j : ℕ) → IsReached f d
-    → IsAssigned f (registers.Result b k) d j → ¬ IsAssigned f (registers.Result d j) b k
-
--- Nor is it assigned right behind the other's instruction. So where r is assigned nothing is written that is assigned at r's instruction.
-abbrev pub NoneIsAssignedBehind : Type 0
-NoneIsAssignedBehind = (f : Function) (b k d j : ℕ) → IsReached f d
-    → IsAssigned f (registers.Result b k) d j → ¬ IsAssigned f (registers.Result d j) b (suc k)
-
--- what is assigned at r's instruction is assigned wherever r is
-abbrev pub AssignmentIsTransitive : Type 0
-AssignmentIsTransitive = (f : Function) (o : Register) (d j b k : ℕ)
-    → IsAssigned f o d j → IsAssigned f (registers.Result d j) b k → IsAssigned f o b k
-
--- a path has come to the instructions of all results that are assigned where it ends
-abbrev pub AssignedIsPassed : Type 0
-AssignedIsPassed = (f : Function) (d j : ℕ) (p : Place) (before : List Place)
-    → IsPath f (p ∷ before) → IsAssigned f (registers.Result d j) p.0 p.1 → Contains before (d, j)
-
--- Where o is assigned at r's instruction, and r where a path ends, the path hasn't come to o's instruction since it came to r's for the
--- last time. For there is a walk to o's instruction that hasn't come to r's, and if it went on as this path does it would end where
--- r is assigned, and wouldn't have come to r's.
-abbrev pub DefinedBeforeStaysSo : Type 0
-DefinedBeforeStaysSo = (f : Function) (b k d j : ℕ) (p : Place) (later earlier : List Place)
-    → IsPath f (p ∷ later ++ (d, j) ∷ earlier) → ¬ Contains later (d, j)
-    → IsAssigned f (registers.Result b k) d j → IsAssigned f (registers.Result d j) p.0 p.1
-    → ¬ Contains later (b, k)
-
--- ---- runs and their histories
+-- ---- outcomes, places and blocks
 
 -- the places of a history are a path
 abbrev pub HistoriesArePaths : Type 0
-HistoriesArePaths = (f : Function) (args : List Value) (history : List Moment) → IsHistory f args history → IsPath f (map place_of history)
+HistoriesArePaths = (f : Function) (args : List Value) (history : List Moment)
+    → IsHistory f args history → IsPath f (map place_of history)
 
 -- a run comes to blocks that are reached
 abbrev pub MomentsAreReached : Type 0
-MomentsAreReached = (f : Function) (args : List Value) (m : Moment) (before : List Moment) → IsHistory f args (m ∷ before) → IsReached f m.block
+MomentsAreReached = (f : Function) (args : List Value) (m : Moment) (before : List Moment)
+    → IsHistory f args (m ∷ before) → IsReached f m.block
 
 -- where control came from another block, what was held at its end is what the phis read
 abbrev pub BlocksAreEnteredFromEnds : Type 0
-BlocksAreEnteredFromEnds = (f : Function) (args : List Value) (m : Moment) (before : List Moment) (c : ℕ) → IsHistory f args (m ∷ before) → m.from ≡ Some c
-    → (n : Moment) × (earlier : List Moment) × IsHistory f args (n ∷ earlier) × (place_of n ≡ (c, end_of f c)) × (n.held ≡ m.entered)
+BlocksAreEnteredFromEnds = (f : Function) (args : List Value) (m : Moment) (before : List Moment) (c : ℕ)
+    → IsHistory f args (m ∷ before) → m.from ≡ Some c
+    → (n : Moment) × (earlier : List Moment) × IsHistory f args (n ∷ earlier)
+    × (place_of n ≡ (c, end_of f c)) × (n.held ≡ m.entered)
 
 -- Each outcome comes at the last moment of some history, but for the undefined behaviour of poison that breaks a `noundef`, which comes
 -- before any.
 abbrev pub OutcomesHaveHistories : Type 0
-OutcomesHaveHistories = (f : Function) (args : List Value) (n : ℕ) (o : Outcome) → breaks_noundef f.parameters args ≡ false → HasOutcome f args n o
+OutcomesHaveHistories = (f : Function) (args : List Value) (n : ℕ) (o : Outcome)
+    → breaks_noundef f.parameters args ≡ false → HasOutcome f args n o
     → (m : Moment) × (before : List Moment) × IsHistory f args (m ∷ before) × EndsAt f m o
 
 -- ---- what registers hold
@@ -81,7 +54,8 @@ NumbersFit f = (b k i : ℕ) (r : Read) (n : Number) → IsRead f b k i r → r.
 
 -- then registers hold values of their widths
 abbrev pub HeldHaveWidths : Type 0
-HeldHaveWidths = (f : Function) (args : List Value) (m : Moment) (before : List Moment) → IsFormed f → NumbersFit f → AreArguments f.parameters args → IsHistory f args (m ∷ before)
+HeldHaveWidths = (f : Function) (args : List Value) (m : Moment) (before : List Moment)
+    → IsFormed f → NumbersFit f → AreArguments f.parameters args → IsHistory f args (m ∷ before)
     → HoldWidths f m.held × HoldWidths f m.entered
 
 -- At the last of these moments, which came before the later ones, the instruction at place j of block d ran, and not again since.
@@ -98,13 +72,16 @@ AssignedHasRun = (f : Function) (args : List Value) (d j : ℕ) (m : Moment) (be
 
 -- a result holds what its instruction gave when it ran for the last time
 abbrev pub ResultsAreHeld : Type 0
-ResultsAreHeld = (f : Function) (args : List Value) (d j : ℕ) (m : Moment) (before later : List Moment) (last : Moment) (earlier : List Moment)
+ResultsAreHeld = (f : Function) (args : List Value) (d j : ℕ) (m : Moment)
+    (before later : List Moment) (last : Moment) (earlier : List Moment)
     → HasInst f d j → IsHistory f args (m ∷ before) → LastRan d j before later last earlier
-    → (inst : Inst) × (v : Value) × IsInst f d j inst × InstGives last inst (effects.Gives v) × (m.held (registers.Result d j) ≡ Some v)
+    → (inst : Inst) × (v : Value) × IsInst f d j inst × InstGives last inst (effects.Gives v)
+    × (m.held (registers.Result d j) ≡ Some v)
 
 -- where r is assigned, what is assigned at its instruction holds what it did when that ran for the last time
 abbrev pub OperandsAreHeld : Type 0
-OperandsAreHeld = (f : Function) (args : List Value) (o : Register) (d j : ℕ) (m : Moment) (before later : List Moment) (last : Moment) (earlier : List Moment)
+OperandsAreHeld = (f : Function) (args : List Value) (o : Register) (d j : ℕ) (m : Moment)
+    (before later : List Moment) (last : Moment) (earlier : List Moment)
     → IsHistory f args (m ∷ before) → LastRan d j before later last earlier
     → IsAssigned f o d j → IsAssigned f (registers.Result d j) m.block m.place
     → m.held o ≡ last.held o
@@ -112,32 +89,27 @@ OperandsAreHeld = (f : Function) (args : List Value) (o : Register) (d j : ℕ) 
 -- In one visit of a block, which isn't entered anew behind moment t, the instruction at t ran but once, and what is assigned at it still
 -- holds what it did.
 abbrev pub NothingNamedChangesInOneVisit : Type 0
-NothingNamedChangesInOneVisit = (f : Function) (args : List Value) (o : Register) (m : Moment) (later : List Moment) (t : Moment) (earlier : List Moment)
+NothingNamedChangesInOneVisit = (f : Function) (args : List Value) (o : Register)
+    (m : Moment) (later : List Moment) (t : Moment) (earlier : List Moment)
     → IsHistory f args (m ∷ later ++ t ∷ earlier) → ((n : Moment) → Contains (m ∷ later) n → 0 < n.place)
     → IsAssigned f o t.block t.place
     → LastRan t.block t.place (later ++ t ∷ earlier) later t earlier × (m.held o ≡ t.held o)
 
 -- a result holds a value that its instruction gives on what its operands hold now
 abbrev pub EquationHolds : Registers → ℕ → ℕ → Inst → Type 0
-EquationHolds held d j inst = (v : Value) × (held (registers.Result d j) ≡ Some v) × OpGives AnyNumber held inst.width inst.op (effects.Gives v)
+EquationHolds held d j inst =
+    (v : Value) × (held (registers.Result d j) ≡ Some v) × OpGives AnyNumber held inst.width inst.op (effects.Gives v)
 
 -- so it is of each result but those of phis wherever it is assigned
 abbrev pub EquationsHoldWhereAssigned : Type 0
-EquationsHoldWhereAssigned = (f : Function) (args : List Value) (m : Moment) (before : List Moment) → ReadsAreAssigned f → IsHistory f args (m ∷ before)
+EquationsHoldWhereAssigned = (f : Function) (args : List Value) (m : Moment) (before : List Moment)
+    → ReadsAreAssigned f → IsHistory f args (m ∷ before)
     → (d j : ℕ) (inst : Inst) → IsInst f d j inst → ¬ IsPhi inst.op → IsAssigned f (registers.Result d j) m.block m.place
     → EquationHolds m.held d j inst
 
 -- and so of all that stand before the place in its block
 abbrev pub EquationsHoldInOneVisit : Type 0
-EquationsHoldInOneVisit = (f : Function) (args : List Value) (m : Moment) (before : List Moment) → ReadsAreAssigned f → IsHistory f args (m ∷ before)
+EquationsHoldInOneVisit = (f : Function) (args : List Value) (m : Moment) (before : List Moment)
+    → ReadsAreAssigned f → IsHistory f args (m ∷ before)
     → (j : ℕ) (inst : Inst) → j < m.place → IsInst f m.block j inst → ¬ IsPhi inst.op
     → EquationHolds m.held m.block j inst
-
--- ---- refinement
-
--- a function that refines one which refines another refines that one, and each refines itself
-abbrev pub RefinementIsTransitive : Type 0
-RefinementIsTransitive = (f g h : Function) → Refines f g → Refines g h → Refines f h
-
-abbrev pub RefinementIsReflexive : Type 0
-RefinementIsReflexive = (f : Function) → Refines f f

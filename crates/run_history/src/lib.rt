@@ -1,7 +1,8 @@
 //! What a run of a function has come through, and what registers hold there.
 //!
-//! The definitions stand in `specs/`: `Paths` says which ways there are through a function instruction by instruction, `Histories` which
-//! moments a run has come through and what is held at each, and `Laws` what is assigned where, and what is held there.
+//! The definitions stand in `specs/`: `Paths` says which ways there are through a function instruction by instruction, and `Histories`
+//! which moments a run has come through and what is held at each. The laws stand in `Assignments` (in which order results are assigned),
+//! `Laws` (what registers hold) and `Orders` (refinement is an order).
 #![tactic(auto)]
 
 mod laws;
