@@ -1,0 +1,17 @@
+pub mod Pieces
+pub mod Substituting
+pub mod Allowing
+pub mod Arriving
+pub mod Simulation
+pub mod Placing
+pub mod Standing
+pub mod Assigning
+pub mod Going
+pub mod Reading
+pub mod Holding
+pub mod Writing
+pub mod Framing
+pub mod Refining
+pub mod Naming
+pub mod Passing
+pub mod Checking

@@ -1,0 +1,42 @@
+-- What may stand in the place of what: of registers that are read or assigned, of ends of a pass, and of what is put in the root's place.
+use Rattle.std.specs.Prelude.{◌≡◌, ℕ, List, Option, None, Some, slice_get}
+use Rattle.ops.specs.Value.{AllowsValue}
+use Rattle.ops.specs.declared.value.Value.{Value}
+use Rattle.ops.specs.declared.value.Effect.{Effect}
+use Rattle.ops.specs.declared.value.Effect.TheVariants as effects
+use Rattle.ir_core.specs.Assigned.{IsAssigned}
+use Rattle.ir_core.specs.Reads.{Read}
+use Rattle.ir_core.specs.Run.{Registers, Ending, Undefines, Returns, Goes}
+use Rattle.ir_core.specs.declared.function.Function.{Function}
+use Rattle.ir_core.specs.declared.operand.Operand.TheVariants as operands
+use Rattle.ir_core.specs.declared.operand.Register.{Register}
+use Rattle.substitution.specs.Substitution.{pulled_back}
+use Rattle.substitution.specs.Rewritten.{Rewrite, root_of, stands_for}
+
+-- for each register that is read: where the second registers hold a value there, the first hold one that allows it
+abbrev pub ReadsAllow : Registers → Registers → List Read → Type 0
+ReadsAllow held held' reads = (i : ℕ) (r : Read) (register : Register) (v' : Value)
+    → slice_get reads i ≡ Some r → r.operand ≡ operands.Register register → held' register ≡ Some v' → (v : Value) × (held register ≡ Some v) × AllowsValue v v'
+
+-- a pass through a block that ends so may stand in the place of one that ends as the other: registers held where it goes on are
+-- related as R says
+abbrev pub AllowsEnding : (Registers → Registers → Type 0) → Ending → Ending → Type 0
+AllowsEnding R Undefines end' = Unit {0}
+AllowsEnding R (Returns v) (Returns v') = AllowsValue v v'
+AllowsEnding R (Goes b held) (Goes b' held') = (b' ≡ b) × R held held'
+AllowsEnding R (Returns v) Undefines = ⊥
+AllowsEnding R (Returns v) (Goes b' held') = ⊥
+AllowsEnding R (Goes b held) Undefines = ⊥
+AllowsEnding R (Goes b held) (Returns v') = ⊥
+
+-- for each register that is assigned in f at place k of block b: where what stands for it in the new function holds a value, it holds one
+-- that allows it
+abbrev pub AssignedAllow : Function → Rewrite → ℕ → ℕ → Registers → Registers → Type 0
+AssignedAllow f w b k held new = (r : Register) (v' : Value)
+    → IsAssigned f r b k → pulled_back (stands_for w) new r ≡ Some v' → (v : Value) × (held r ≡ Some v) × AllowsValue v v'
+
+-- the root's effect allows what comes of the instructions that are put in its place
+abbrev pub AllowsPut : Rewrite → Effect → Option Registers → Type 0
+AllowsPut w effects.Undefined after = Unit {0}
+AllowsPut w (effects.Gives v) None = ⊥
+AllowsPut w (effects.Gives v) (Some new) = (v' : Value) → pulled_back (stands_for w) new (root_of w) ≡ Some v' → AllowsValue v v'

@@ -1,0 +1,9 @@
+pub use Rattle.ir_core.specs.Checks
+pub use Rattle.ir_core.specs.Refines
+pub use Rattle.ir_core.specs.Run
+pub mod Substitution
+pub mod Rewritten
+pub mod Fits
+pub mod Held
+pub mod Allows
+pub mod Laws
