@@ -2,6 +2,8 @@
 #![tactic(auto)]
 
 #[cfg(test)]
+mod classes;
+#[cfg(test)]
 mod constants;
 #[cfg(test)]
 mod one_statement;
@@ -9,5 +11,7 @@ mod one_statement;
 mod preconditions;
 #[cfg(test)]
 mod refusals;
+#[cfg(test)]
+mod runs;
 #[cfg(test)]
 mod tests;
