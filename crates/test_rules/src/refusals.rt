@@ -1,7 +1,7 @@
 //! Rule files at and past the limit of 256 nodes, and words that are told as `Syntax`: the kind and the line of the first fault,
 //! worked out by hand.
 
-use rule_reader::{RuleError, RuleFaultKind, read_rules};
+use rule_reader::{RuleError, RuleFault, RuleFaultKind, read_rules};
 use std::alloc::Global;
 use std::test::Fail;
 
@@ -56,17 +56,21 @@ fn name_of(kind: &RuleFaultKind) -> &'static str {
     }
 }
 
+/// The line and the kind of the first fault of a text.
+fn told(alloc: Global, text: &[u8]) -> Option<(usize, &'static str)> {
+    match read_rules(alloc, text) {
+        Err(RuleError::Refused(RuleFault { line, kind })) => Some((line, name_of(&kind))),
+        _ => None,
+    }
+}
+
 #[test]
 fn faults_are_told_by_their_own_kind(rt: HostRuntime) -> Result<(), Fail> {
     for (comparisons, rest, line, name) in &ROWS {
         let text = rule_of(rt.alloc(), *comparisons, *rest)?;
-        match read_rules(rt.alloc(), text.as_slice()) {
-            Err(RuleError::Refused(fault)) => {
-                assert_eq!(rt; name_of(&fault.kind), *name, "{rest}");
-                assert_eq!(rt; fault.line, *line, "{rest}");
-            }
-            _ => Err("no fault")?,
-        }
+        let (found, kind) = told(rt.alloc(), text.as_slice()).ok_or("no fault")?;
+        assert_eq!(rt; kind, *name, "{rest}");
+        assert_eq!(rt; found, *line, "{rest}");
     }
     Ok(())
 }
