@@ -17,6 +17,7 @@ use Rattle.ir_instructions.specs.declared.word.TypeWord.{TypeWord}
 use Rattle.ir_instructions.specs.declared.word.TypeWord.TheVariants as types
 use Rattle.ir_instructions.specs.Grammar.{SpellsRegister, SpellsTarget, SpellsType, IsValueToken, SpellsOperand, SpellsTyped, IsCaseValue, Attachment, Tail}
 use Rattle.ir_instructions.specs.InstructionReaders.{is_mark, is_metadata, mark_at, keyword_at, register_at, target_at, type_word, type_at, number_value, operand_at, case_value_at, typed_at, identified, metadata_at, attachment_at, attachments_at, tail_attachment_at, tail_at}
+use Rattle.ir_instructions.specs.Laws.{SpellsCaseValue}
 use Rattle.ir_instructions.specs.Parts.{Part, Is, ◌⨾◌, Comma, Repeated}
 use Rattle.ir_instructions.specs.Readers.{fault, given, or_left_out}
 use Rattle.ir_instructions.specs.Keywords.{type_in, value_in, truth_in}
@@ -103,9 +104,6 @@ operand_at-is width ((line, Word word) ∷ rest) x e =
     read_as (λ y. SpellsOperand width y.0 ((line, Word word) ∷ rest) y.1) (record { line = line; value = a.0.0 }, a.0.1) x a.2
     (Word word, value_in-is width word a.0.0 named.0, ap (λ (ts : List Placed). (line, Word word) ∷ ts) named.1)
 operand_at-is width tokens x e = absurd cc
-
-abbrev pub SpellsCaseValue : ℕ → RawOperand → Part
-SpellsCaseValue width a tokens rest = IsCaseValue a.value × SpellsOperand width a tokens rest
 
 number_case-is : (width line : ℕ) (digits : List ℕ) (found : Option Numeral) (rest : List Placed) (x : RawOperand × List Placed) → given (number_value line found) rest ≡ Ok x → IsCaseValue x.0.value
 number_case-is width line digits (Some number) rest x e = read_as (λ y. IsCaseValue y.0.value) (record { line = line; value = values.Number number }, rest) x e tt

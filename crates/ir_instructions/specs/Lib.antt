@@ -11,3 +11,4 @@ pub mod Parts
 pub mod Places
 pub mod Readers
 pub mod Keywords
+pub mod Laws

@@ -5,6 +5,7 @@
 #![tactic(auto)]
 
 mod attachment;
+mod laws;
 mod op;
 mod operand;
 mod part;
@@ -14,6 +15,7 @@ mod token;
 mod word;
 
 pub use attachment::{attachments, tail};
+pub use laws::parts_are_read_as_they_are_spelled;
 pub use op::insts;
 pub use operand::integer_type;
 pub use part::{Part, each};

@@ -1,6 +1,6 @@
 //! Prints names (LangRef, "Identifiers").
 
-ghost use Rattle.std.specs.Prelude.{◌≡◌, ◌<◌, ◌==◌, ◌++◌, ◌||◌, ◌&&◌, not, option_map, OnOk};
+ghost use Rattle.std.specs.Prelude.{◌≡◌, ◌<◌, ◌==◌, ◌++◌, ◌||◌, ◌&&◌, not, option_map, OnOk, OnErr};
 ghost use Rattle.scan.specs.Bytes.{is_printable};
 ghost use Rattle.ir_text.specs.NameText.{hex_digit, escaped, quoted_text, name_text};
 ghost use Rattle.ir_text.specs.PrintedText.{identifier_text, register_text, block_name_text, function_name_text, label_text};
@@ -19,13 +19,15 @@ use std::alloc::AllocError;
 /// The only error is want of memory.
 #[tactic(auto, unfolding(ir_text::specs::NameText::name_text))]
 pub fn push_name(out: &mut Vec<u8>, name: &[u8]) -> Result<(), AllocError>
-    ensures { OnOk result (out.new.items ≡ out.old.items ++ name_text name.now) }
+    ensures ok { OnOk result (out.new.items ≡ out.old.items ++ name_text name.now) }
+    ensures unmoved { OnErr result (out.new.items ≡ out.old.items) }
 {
     if is_plain_name(name) {
-        out.extend_from_slice(name)
-    } else {
-        push_quoted(out, name)
+        return out.extend_from_slice(name);
     }
+    let mut quoted = Vec::new(*out.allocator());
+    push_quoted(&mut quoted, name)?;
+    out.extend_from_slice(quoted.as_slice())
 }
 
 /// Adds a name between quotes.

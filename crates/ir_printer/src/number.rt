@@ -1,6 +1,6 @@
 //! Prints numbers and types (LangRef, "Simple Constants", "Integer Type").
 
-ghost use Rattle.std.specs.Prelude.{◌≡◌, ◌++◌, OnOk, decimal};
+ghost use Rattle.std.specs.Prelude.{◌≡◌, ◌++◌, OnOk, OnErr, decimal};
 ghost use Rattle.ir_text.specs.NumberText.{number_text};
 ghost use Rattle.ir_text.specs.PrintedText.{type_text};
 
@@ -10,7 +10,8 @@ use std::alloc::AllocError;
 
 /// Adds a number in decimal.
 pub(crate) fn push_decimal(out: &mut Vec<u8>, number: u64) -> Result<(), AllocError>
-    ensures { OnOk result (out.new.items ≡ out.old.items ++ decimal number) }
+    ensures ok { OnOk result (out.new.items ≡ out.old.items ++ decimal number) }
+    ensures unmoved { OnErr result (out.new.items ≡ out.old.items) }
 {
     let mut buffer = Buffer::new();
     out.extend_from_slice(buffer.format(number).as_bytes())
@@ -30,7 +31,8 @@ pub(crate) fn push_type(out: &mut Vec<u8>, width: Width) -> Result<(), AllocErro
 /// The only error is want of memory.
 #[tactic(auto, unfolding(ir_text::specs::NumberText::number_text))]
 pub fn push_number(out: &mut Vec<u8>, number: Word) -> Result<(), AllocError>
-    ensures { OnOk result (out.new.items ≡ out.old.items ++ number_text number) }
+    ensures ok { OnOk result (out.new.items ≡ out.old.items ++ number_text number) }
+    ensures unmoved { OnErr result (out.new.items ≡ out.old.items) }
 {
     let value = number.number();
     if number.width().bits() == 1 {
@@ -41,6 +43,11 @@ pub fn push_number(out: &mut Vec<u8>, number: Word) -> Result<(), AllocError>
     if value < half {
         return push_decimal(out, value);
     }
+    let length = out.len();
     out.push(b'-')?;
-    push_decimal(out, half - (value - half))
+    let pushed = push_decimal(out, half - (value - half));
+    if pushed.is_err() {
+        out.truncate(length);
+    }
+    pushed
 }

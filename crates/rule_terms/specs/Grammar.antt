@@ -1,5 +1,5 @@
 -- Terms as written, and which tokens spell them.
-use Rattle.std.specs.Prelude.{◌≡◌, ℕ, suc, ◌+◌, ◌-◌, ◌^◌, ◌≤◌, min, IsTrue, List, [], ◌∷◌, ◌++◌, length, None, codes}
+use Rattle.std.specs.Prelude.{◌≡◌, ℕ, suc, ◌+◌, ◌-◌, ◌≤◌, IsTrue, List, [], ◌∷◌, ◌++◌, length, None, codes}
 use Rattle.ops.specs.declared.opcode.Opcode.{Opcode}
 use Rattle.rule_core.specs.declared.rule.Function.{Function}
 use Rattle.scan.specs.RuleTokens.{is_constant}
@@ -11,15 +11,15 @@ use Rattle.rule_terms.specs.declared.place.TermPlace.{TermPlace}
 use Rattle.rule_terms.specs.declared.place.TermPlace.TheVariants.{Witness}
 use Rattle.rule_terms.specs.declared.raw.RawNode.{RawNode}
 use Rattle.rule_terms.specs.declared.raw.RawNode.TheVariants.{Literal, Constant, Register, Undef, Width, Unary, Binary}
-use Rattle.rule_terms.specs.Keywords.{operator_mark, operator_in, level_of, loosest, IsPrefix, IsCalled, IsChoice}
+use Rattle.rule_terms.specs.Keywords.{operator_mark, operator_in, level_of, loosest, IsPrefix, IsCalled, held_place, IsChoice}
 
 -- the most open parentheses and pending operators of one operand at a token
 abbrev pub most_nested : ℕ
 most_nested = 32
 
--- the place of the last of so many nodes; one past the end of 32 bits is held as that end
+-- the place of the last of so many nodes
 abbrev pub last_place : ℕ → ℕ
-last_place count = min (count - 1) (2 ^ 32 - 1)
+last_place count = held_place (count - 1)
 
 -- a node of one token: a literal or a constant, and in a witness a register or an `undef` of the target too
 abbrev pub SpellsLeaf : TermPlace → RawNode → Part

@@ -74,18 +74,22 @@ IsCalled function word = ⊥
 
 -- ---- words
 
--- An `undef` of the target, by its place: `t1` is the place 0. A place past the end of 32 bits is held as that end.
+-- a place as a rule holds it, in 32 bits: one past their end as that end
+abbrev pub held_place : ℕ → ℕ
+held_place place = min place (2 ^ 32 - 1)
+
+-- an `undef` of the target, by its place: `t1` is the place 0
 abbrev pub IsChoice : List ℕ → ℕ → Type 0
 IsChoice word place = (digits : List ℕ)
     × (word ≡ 116 ∷ digits) × IsTrue (are_digits digits) × IsTrue (not (begins_with (λ b. b == 48) digits))
-    × (place ≡ min (decimal_value digits - 1) (2 ^ 32 - 1))
+    × (place ≡ held_place (decimal_value digits - 1))
 
 -- the place of the target's `undef` that a word is
 unfoldable pub choice_in : List ℕ → Option ℕ
 choice_in [] = None
 choice_in (b ∷ digits) =
     if (b == 116) && are_digits digits && not (begins_with (λ b. b == 48) digits)
-    then Some (min (decimal_value digits - 1) (2 ^ 32 - 1)) else None
+    then Some (held_place (decimal_value digits - 1)) else None
 
 abbrev pub choice_meaning : Option ℕ → Option Meaning
 choice_meaning None = None

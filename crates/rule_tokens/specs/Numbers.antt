@@ -1,17 +1,20 @@
 -- Numbers and types as written.
-use Rattle.std.specs.Prelude.{◌≡◌, ℕ, ◌+◌, ◌-◌, ◌*◌, ◌^◌, ◌≤◌, ◌==◌, ℤ, pos, neg_ℤ, min, nat_le, IsTrue, ◌&&◌, if◌then◌else◌, List, [], ◌∷◌, fold, Option, Some, None}
+use Rattle.std.specs.Int.{saturate_signed, w128}
+use Rattle.std.specs.Prelude.{◌≡◌, ℕ, ◌+◌, ◌-◌, ◌*◌, ◌≤◌, ◌==◌, ℤ, pos, neg_ℤ, nat_le, IsTrue, ◌&&◌, if◌then◌else◌, List, [], ◌∷◌, fold, Option, Some, None}
 use Rattle.scan.specs.Bytes.{are_digits}
 
 -- the number that decimal digits spell
 abbrev pub decimal_value : List ℕ → ℕ
 decimal_value digits = fold (λ n digit. 10 * n + (digit - 48)) 0 digits
 
--- The number that a literal spells, digits maybe behind a `-`. A value of a rule holds one past an end of 128 bits as that end; no
--- width fits either.
+-- the number that a literal spells, digits maybe behind a `-`
+abbrev pub literal_number : List ℕ → ℤ
+literal_number [] = pos 0
+literal_number (b ∷ digits) = if b == 45 then neg_ℤ (pos (decimal_value digits)) else pos (decimal_value (b ∷ digits))
+
+-- and the number that a rule holds of it, in 128 bits: one past an end of these is held as that end, and no width fits either
 unfoldable pub literal_value : List ℕ → ℤ
-literal_value [] = pos 0
-literal_value (b ∷ digits) =
-    if b == 45 then neg_ℤ (pos (min (decimal_value digits) (2 ^ 127))) else pos (min (decimal_value (b ∷ digits)) (2 ^ 127 - 1))
+literal_value text = saturate_signed w128 (literal_number text)
 
 -- a type: `i` and the digits of a width from 1 to 64
 abbrev pub IsWrittenType : List ℕ → ℕ → Type 0
