@@ -4,6 +4,7 @@ use Rattle.std.specs.Prelude.{slice_get, option_map, option_and_then, unwrap_or,
 use Rattle.std.specs.List.{flat_map}
 use Rattle.std.proofs.lemmas.Option.{slice_get-map}
 use Rattle.std.proofs.lemmas.Bool.{eqb-true}
+use Rattle.ops.specs.Number.{Number}
 use Rattle.ir_core.specs.declared.function.Function.{Function}
 use Rattle.ir_core.specs.declared.function.Block.{Block}
 use Rattle.ir_core.specs.declared.instruction.Inst.{Inst}
@@ -23,6 +24,7 @@ use Rattle.ir_core.specs.Reads.{Read, read, IsRead, end_of, reads_of, reads_at_e
 use Rattle.ir_core.specs.Walks.{IsWalk}
 use Rattle.needed.specs.KeptFunction.{KeptMarks, kept_before, moved_register, moved_operand, moved_op, moved_inst, moved_end, kept_first, kept_insts, kept_block, kept_blocks, kept_function}
 use Rattle.needed.specs.Cleaned.{KeepsNeeded, IsCleaned}
+use Rattle.needed.specs.Laws.{CleanedNumbersWereThere}
 use Rattle.needed.proofs.Counting.{count-monotone, count-below, below_or, mapped, contained_at, contains_at, length-kept, kept_at, IsKept, kept_back, get-block, block_at, block_back}
 use Rattle.needed.proofs.Reading.{reads_at-inst, reads_at-end, Stays, OperandStays, ReadsStay, inst_reads_stay, end_reads_stay}
 
@@ -165,6 +167,12 @@ register_back kept (operands.Register r) new e = (r, refl, cc)
 register_back kept (operands.Number n) new e = absurd cc
 register_back kept operands.Undef new e = absurd cc
 register_back kept operands.Poison new e = absurd cc
+
+number_back : (kept : KeptMarks) (a : Operand) (n : Number) → moved_operand kept a ≡ operands.Number n → a ≡ operands.Number n
+number_back kept (operands.Register r) n e = absurd cc
+number_back kept (operands.Number x) n e = e
+number_back kept operands.Undef n e = absurd cc
+number_back kept operands.Poison n e = absurd cc
 
 module _ (f : Function) (m : MeetsChecks f) (kept : KeptMarks) (needed : KeepsNeeded f kept) where
   abbrev cleaned : Function
@@ -414,6 +422,16 @@ module _ (f : Function) (m : MeetsChecks f) (kept : KeptMarks) (needed : KeepsNe
         let now : IsAssigned cleaned (moved_register kept was.0) old.block (kept_before kept old.block old.place) = assigned_on was.0 old.block old.place (subst (OperandStays kept) was.1 back.stays) a in
         subst (λ (x : Read). IsAssigned cleaned register x.block x.place) back.moved (subst (λ x. IsAssigned cleaned x old.block (kept_before kept old.block old.place)) was.2 now);
   }
+
+  -- a number that is read was read at its place
+  pub number_was : (b k i : ℕ) (r : Read) (n : Number) → IsRead cleaned b k i r → r.operand ≡ operands.Number n
+      → (place : ℕ) × (old : Read) × IsRead f b place i old × (old.operand ≡ operands.Number n)
+  number_was b k i r n h e =
+      let back : ReadBack b i r = read_back b k i r h in
+      (back.place, back.old, back.is_read, number_back kept back.old.operand n (ap (λ (x : Read). x.operand) back.moved ∙ e))
+
+pub cleaned_numbers : CleanedNumbersWereThere
+cleaned_numbers f g b k i r n m c h e = number_was f m c.0 c.1 b k i r n (subst (λ (x : Function). IsRead x b k i r) c.2 h) e
 
 pub cleaned_meets : (f g : Function) → MeetsChecks f → IsCleaned f g → MeetsChecks g
 cleaned_meets f g m c = subst MeetsChecks (sym c.2) (checked f m c.0 c.1)

@@ -1,7 +1,11 @@
 -- Laws of cleaning.
+use Rattle.std.specs.Prelude.{◌≡◌, ℕ}
+use Rattle.ops.specs.Number.{Number}
 use Rattle.ir_core.specs.declared.module.Module.{Module}
 use Rattle.ir_core.specs.declared.function.Function.{Function}
 use Rattle.ir_core.specs.Checks.{MeetsChecks, ModuleMeetsChecks}
+use Rattle.ir_core.specs.declared.operand.Operand.TheVariants as operands
+use Rattle.ir_core.specs.Reads.{Read, IsRead}
 use Rattle.ir_core.specs.Refines.{Refines, ModuleRefines}
 use Rattle.needed.specs.Cleaned.{IsCleaned, ModuleCleaned}
 
@@ -12,6 +16,12 @@ CleanedFunctionsRefine = (f g : Function) → MeetsChecks f → IsCleaned f g �
 -- and meets all checks of a function too
 abbrev pub CleanedFunctionsMeetChecks : Type 0
 CleanedFunctionsMeetChecks = (f g : Function) → MeetsChecks f → IsCleaned f g → MeetsChecks g
+
+-- each number that a cleaned function reads is one that the old function read
+abbrev pub CleanedNumbersWereThere : Type 0
+CleanedNumbersWereThere = (f g : Function) (b k i : ℕ) (r : Read) (n : Number) → MeetsChecks f → IsCleaned f g
+    → IsRead g b k i r → r.operand ≡ operands.Number n
+    → (place : ℕ) × (old : Read) × IsRead f b place i old × (old.operand ≡ operands.Number n)
 
 -- a cleaned module may stand in the place of the old one
 abbrev pub CleanedModulesRefine : Type 0

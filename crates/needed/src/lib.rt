@@ -13,4 +13,7 @@ mod numbers;
 mod search;
 
 pub use cleaning::clean;
-pub use laws::{every_cleaned_function_refines_the_old, every_cleaned_module_refines_the_old};
+pub use laws::{
+    every_cleaned_function_refines_the_old, every_cleaned_module_refines_the_old,
+    every_cleaned_number_was_there,
+};

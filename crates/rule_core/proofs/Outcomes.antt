@@ -186,6 +186,15 @@ module _ (rule : Rule) (typing : List ℕ) (checked : IsRule rule) (typed : IsTy
       → (end : Ending) × TemporariesEnd typing constants rule inputs end × GoodEnd (SourceHeld rule typing) (length rule.source - 1) end
   temporaries_end inputs fit = source_ends (given_by typing constants [] rule) (length rule.source - 1) (given_before_root rule typing constants checked typed known) (omega arith) inputs fit
 
+  -- what they hold then fits
+  pub temporaries_fit : (inputs : List Value) → InputsFit rule typing inputs → (held : Held) → TemporariesEnd typing constants rule inputs (Holds held) → HeldFits rule typing held
+  unfolding GoodEnd
+  temporaries_fit inputs fit held ends =
+      let run = temporaries_end inputs fit in
+      let same : run.0 ≡ Holds held = follows_once typing (given_by typing constants [] rule) holding_source (temporaries_of rule) (at_start inputs) run.0 (Holds held) run.1 ends in
+      let good = rw same at run.2 in
+      good.fits
+
   target_gives : (choices : List Number) (inputs : List Value) → TargetChoicesFit rule typing choices → InputsFit rule typing inputs → (e : Effect) × TargetGives typing constants choices rule inputs e
   unfolding GoodEnd
   target_gives choices inputs chosen fit =

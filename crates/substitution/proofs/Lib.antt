@@ -15,3 +15,6 @@ pub mod Refining
 pub mod Naming
 pub mod Passing
 pub mod Checking
+pub mod Mapping
+pub mod PuttingIn
+pub mod Rebuilding

@@ -6,4 +6,6 @@ pub mod Rewritten
 pub mod Fits
 pub mod Held
 pub mod Allows
+pub mod Room
+pub mod Put
 pub mod Laws

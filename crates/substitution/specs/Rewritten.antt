@@ -11,16 +11,8 @@ use Rattle.ir_core.specs.declared.operand.Operand.{Operand}
 use Rattle.ir_core.specs.declared.operand.Operand.TheVariants as operands
 use Rattle.ir_core.specs.declared.operand.Register.{Register}
 use Rattle.ir_core.specs.declared.operand.Register.TheVariants as registers
+pub use Rattle.substitution.specs.declared.rewrite.Rewrite.{Rewrite}
 use Rattle.substitution.specs.Substitution.{Substitution, substituted_inst, substituted_end}
-
--- In the place of instruction `place` of block `block`, the root, the instructions `put` stand, and wherever the root's register was read
--- the operand `result` is. Both name the registers of the new function. Where the root keeps its register, `put` ends with its new
--- instruction, whose register `result` is; where it goes, `result` is any other operand.
-pub record Rewrite : Type 0 where
-  pub block : ℕ
-  pub place : ℕ
-  pub put : List Inst
-  pub result : Operand
 
 abbrev pub root_of : Rewrite → Register
 root_of w = registers.Result w.block w.place

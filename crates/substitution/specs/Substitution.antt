@@ -3,6 +3,7 @@ use Rattle.std.specs.Prelude.{◌≢◌, ℕ, List, map, Option, None, Some}
 use Rattle.ops.specs.declared.value.Value.{Value}
 use Rattle.ops.specs.declared.value.Value.TheVariants as values
 use Rattle.ir_core.specs.Run.{Registers, Ending, Undefines, Returns, Goes}
+use Rattle.ir_core.specs.declared.function.Block.{Block}
 use Rattle.ir_core.specs.declared.instruction.Inst.{Inst}
 use Rattle.ir_core.specs.declared.instruction.Op.{Op}
 use Rattle.ir_core.specs.declared.instruction.Op.TheVariants.{Binary, Compare, Select, Convert, Freeze, Phi}
@@ -16,7 +17,8 @@ use Rattle.ir_core.specs.declared.terminator.Terminator.TheVariants as terminato
 abbrev pub Substitution : Type 0
 Substitution = Register → Operand
 
--- an operand, the entries of a phi, an operation, an instruction and a terminator, with what stands for each register that is read
+-- an operand, the entries of a phi, an operation, an instruction, a terminator and a block, with what stands for each register that is
+-- read
 abbrev pub substituted_operand : Substitution → Operand → Operand
 substituted_operand to (operands.Register r) = to r
 substituted_operand to (operands.Number n) = operands.Number n
@@ -43,6 +45,9 @@ substituted_end to (terminators.Jump b) = terminators.Jump b
 substituted_end to (terminators.Branch c b other) = terminators.Branch (substituted_operand to c) b other
 substituted_end to (terminators.Switch a width other cases) = terminators.Switch (substituted_operand to a) width other cases
 substituted_end to terminators.Unreachable = terminators.Unreachable
+
+abbrev pub substituted_block : Substitution → Block → Block
+substituted_block to block = record { name = block.name; insts = map (substituted_inst to) block.insts; end = substituted_end to block.end }
 
 -- `undef` stands for no register, since each read of it may give another number
 abbrev pub IsDefinite : Substitution → Type 0

@@ -1,0 +1,74 @@
+-- What slots know.
+use Rattle.std.proofs.Common.{◌≡◌, ℕ, List, get_or, Some, ◌∙◌, arith}
+use Rattle.std.specs.Prelude.{slice_get, All}
+use Rattle.std.proofs.lemmas.Option.{slice_get-get_or}
+use Rattle.rule_core.specs.Positions.{operands_of}
+use Rattle.rule_core.specs.declared.rule.Argument.{Argument}
+use Rattle.rule_core.specs.declared.rule.Argument.TheVariants as arguments
+use Rattle.rule_core.specs.declared.rule.Operand.{Operand}
+use Rattle.rule_core.specs.declared.rule.Register.TheVariants as names
+use Rattle.rule_core.specs.declared.rule.Statement.{Statement}
+use Rattle.matcher.specs.Slots.{AreAsMany, HasName, HasOperand, HasStatement, Keeps, KnowsName, KnowsOperand, KnowsStatement}
+use Rattle.matcher.specs.declared.binding.Binding.{Binding}
+use Rattle.matcher.specs.declared.slots.Slots.{Slots}
+
+-- what is kept stays known
+pub keeps_name : (m : Binding) (old new : Slots) (a : Argument) → Keeps m old new → KnowsName old m a → KnowsName new m a
+keeps_name m old new (arguments.Register (names.Input i)) keeps knows = keeps.inputs i knows
+keeps_name m old new (arguments.Register (names.Source j)) keeps knows = keeps.statements j knows
+keeps_name m old new (arguments.Register (names.Target j)) keeps knows = tt
+keeps_name m old new (arguments.Constant k) keeps knows = keeps.constants k knows
+keeps_name m old new (arguments.Literal z) keeps knows = tt
+keeps_name m old new (arguments.Truth b) keeps knows = tt
+keeps_name m old new (arguments.Undef k) keeps knows = tt
+keeps_name m old new (arguments.Term n) keeps knows = tt
+
+pub keeps_operand : (m : Binding) (old new : Slots) (o : Operand) → Keeps m old new → KnowsOperand old m o → KnowsOperand new m o
+keeps_operand m old new o keeps knows = (keeps.widths o.class knows.0, keeps_name m old new o.value keeps knows.1)
+
+pub keeps_statement : (m : Binding) (old new : Slots) (s : Statement) → Keeps m old new → KnowsStatement old m s → KnowsStatement new m s
+keeps_statement m old new s keeps knows =
+    (keeps.widths s.class knows.0, λ i d lt. keeps_operand m old new (get_or (operands_of s.op) i d) keeps (knows.1 i d lt))
+
+pub keeps_itself : (m : Binding) (slots : Slots) → Keeps m slots slots
+keeps_itself m slots = record { statements = λ j h. h; inputs = λ i h. h; constants = λ k h. h; widths = λ c h. h }
+
+pub keeps_along : (m : Binding) (a b c : Slots) → Keeps m a b → Keeps m b c → Keeps m a c
+keeps_along m a b c first second = record {
+  statements = λ j h. second.statements j (first.statements j h);
+  inputs = λ i h. second.inputs i (first.inputs i h);
+  constants = λ k h. second.constants k (first.constants k h);
+  widths = λ k h. second.widths k (first.widths k h);
+}
+
+-- as many slots have the same names
+has_name : (old new : Slots) (a : Argument) → AreAsMany old new → HasName old a → HasName new a
+has_name old new (arguments.Register (names.Input i)) same has = omega (arith, same.inputs)
+has_name old new (arguments.Register (names.Source j)) same has = omega (arith, same.statements)
+has_name old new (arguments.Register (names.Target j)) same has = tt
+has_name old new (arguments.Constant k) same has = omega (arith, same.constants)
+has_name old new (arguments.Literal z) same has = tt
+has_name old new (arguments.Truth b) same has = tt
+has_name old new (arguments.Undef k) same has = tt
+has_name old new (arguments.Term n) same has = tt
+
+pub has_operand : (old new : Slots) (o : Operand) → AreAsMany old new → HasOperand old o → HasOperand new o
+has_operand old new o same has = (omega (arith, same.widths, has.0), has_name old new o.value same has.1)
+
+pub has_operands : (old new : Slots) (os : List Operand) → AreAsMany old new → All (HasOperand old) os → All (HasOperand new) os
+has_operands old new os same has i d lt = has_operand old new (get_or os i d) same (has i d lt)
+
+pub has_statement : (old new : Slots) (s : Statement) → AreAsMany old new → HasStatement old s → HasStatement new s
+has_statement old new s same has = (omega (arith, same.widths, has.0), has_operands old new (operands_of s.op) same has.1)
+
+pub as_many_along : (a b c : Slots) → AreAsMany a b → AreAsMany b c → AreAsMany a c
+as_many_along a b c first second = record {
+  statements = second.statements ∙ first.statements;
+  inputs = second.inputs ∙ first.inputs;
+  constants = second.constants ∙ first.constants;
+  widths = second.widths ∙ first.widths;
+}
+
+-- what is known of each operand by its place is known of each
+pub each_operand : (m : Binding) (slots : Slots) (os : List Operand) → ((i : ℕ) (o : Operand) → slice_get os i ≡ Some o → KnowsOperand slots m o) → All (KnowsOperand slots m) os
+each_operand m slots os each i d lt = each i (get_or os i d) (slice_get-get_or os i d lt)

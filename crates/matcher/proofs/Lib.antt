@@ -1,0 +1,13 @@
+pub mod Lists
+pub mod Reading
+pub mod Temporaries
+pub mod Knowing
+pub mod Bound
+pub mod Fitting
+pub mod Uses
+pub mod UseCounts
+pub mod Widths
+pub mod SourceSlots
+pub mod Candidates
+pub mod OneBinding
+pub mod Roots

@@ -1,0 +1,15 @@
+-- the operands so far are known
+use Rattle.std.proofs.Common.{◌≡◌, ℕ, ◌<◌, Some}
+use Rattle.std.specs.Prelude.{slice_get}
+use Rattle.rule_core.specs.Positions.{operands_of}
+use Rattle.rule_core.specs.declared.rule.Operand.{Operand}
+use Rattle.matcher.specs.Slots.{AreAsMany, Keeps, KnowsOperand, OperandsMatch}
+use Rattle.matcher.specs.declared.binding.Binding.{Binding}
+use Rattle.matcher.proofs.slots.Slots.take_operands.Given as goal
+
+abbrev pub invariant-loop-index : goal.invariant-loop-index
+invariant-loop-index l = record {
+  sizes : AreAsMany l.initial.self l.self;
+  knows : (m : Binding) → OperandsMatch l.f m l.block l.place l.op → Keeps m l.initial.self l.self;
+  operands : (m : Binding) (i : ℕ) (o : Operand) → OperandsMatch l.f m l.block l.place l.op → i < l.index → slice_get (operands_of l.op) i ≡ Some o → KnowsOperand l.self m o;
+}

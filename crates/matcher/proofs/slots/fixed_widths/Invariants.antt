@@ -1,0 +1,10 @@
+-- the widths so far are fixed ones, and fixed ones are there
+use Rattle.std.proofs.Common.{◌≡◌, length}
+use Rattle.matcher.proofs.Widths.{AreFixed}
+use Rattle.matcher.proofs.slots.fixed_widths.Given as goal
+
+abbrev pub invariant-loop-class : goal.invariant-loop-class
+invariant-loop-class l = record {
+  count : length l.widths.items ≡ l.class;
+  fixed : AreFixed l.rule l.widths.items;
+}

@@ -1,0 +1,13 @@
+-- Laws of matches.
+use Rattle.std.specs.Prelude.{◌≡◌, ℕ}
+use Rattle.ir_core.specs.declared.function.Function.{Function}
+use Rattle.rule_core.specs.Checks.{IsRule}
+use Rattle.rule_core.specs.declared.rule.Rule.{Rule}
+use Rattle.rule_typing.specs.Faults.{HasNoFault}
+use Rattle.matcher.specs.Match.{IsMatch}
+use Rattle.matcher.specs.declared.binding.Binding.{Binding}
+
+-- a rule that is read matches at an instruction with one binding at most
+abbrev pub MatchesHaveOneBinding : Type 0
+MatchesHaveOneBinding =
+    (f : Function) (b k : ℕ) (rule : Rule) (x y : Binding) → IsRule rule → HasNoFault rule → IsMatch f b k rule x → IsMatch f b k rule y → x ≡ y

@@ -1,0 +1,9 @@
+pub mod Operands
+pub mod Statements
+pub mod Uses
+pub mod Match
+pub mod Laws
+pub mod Slots
+pub mod UseTables
+pub mod Facts
+pub mod Checks

@@ -1,0 +1,24 @@
+//! Where rules match in functions.
+//!
+//! The definitions stand in `specs/`: `Match` says when a rule matches at an instruction with a binding, `Statements` which
+//! instructions its statements match, `Operands` what its operands stand for, and `Uses` how often a register is used. `Slots` and
+//! `UseTables` serve the private functions.
+#![tactic(auto)]
+
+mod binding;
+mod candidate;
+mod check;
+mod counting;
+mod facts;
+mod laws;
+mod matching;
+mod operation;
+mod root;
+mod slots;
+mod standing;
+
+pub use binding::Binding;
+pub use counting::{UseCount, UseTable};
+pub use facts::FunctionFacts;
+pub use laws::every_match_has_one_binding;
+pub use matching::{match_at, match_in};

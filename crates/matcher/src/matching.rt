@@ -1,0 +1,86 @@
+//! Where a rule matches.
+
+ghost use Rattle.std.specs.Prelude.{◌<◌, ◌^◌, length, All, IfOk, IfSome, IfNone};
+ghost use Rattle.ir_core.specs.Blocks.{HasInst};
+ghost use Rattle.ir_core.specs.Checks.{MeetsChecks};
+ghost use Rattle.rule_core.specs.Checks.{IsRule};
+ghost use Rattle.rule_typing.specs.Classes.{IsClassified};
+ghost use Rattle.rule_typing.specs.Faults.{HasNoFault};
+ghost use Rattle.matcher.specs.Facts.{AreFactsOf};
+ghost use Rattle.matcher.specs.Match.{IsMatch};
+ghost use Rattle.matcher.specs.declared.binding.Binding.{Binding};
+
+use crate::binding::Binding;
+use crate::candidate::candidate;
+use crate::check::is_match;
+use crate::facts::FunctionFacts;
+use crate::root::is_root_operation;
+use ir_core::Function;
+use rule_core::Rule;
+use std::alloc::{AllocError, Global};
+
+/// The binding with which a rule matches at an instruction of a function, or `None` where it doesn't match there.
+///
+/// Where the instruction is one operation with the rule's root, all blocks are looked at, for which are reached and how often registers
+/// are used: [`match_in`] takes that as an argument. Elsewhere it takes no memory.
+#[tactic(auto, using(crate::proofs::Roots::matched_operation))]
+pub fn match_at(
+    alloc: Global,
+    f: &Function,
+    block: u32,
+    place: u32,
+    rule: &Rule,
+) -> Result<Option<Binding>, AllocError>
+    requires checks { MeetsChecks f.now }
+    // Blocks, and the instructions of each, are counted in 32 bits.
+    requires blocks { length f.now.blocks < 2 ^ 32 }
+    requires insts { All (λ b. length b.insts < 2 ^ 32) f.now.blocks }
+    requires place { HasInst f.now block place }
+
+    // The rule is one that is read.
+    requires rule { IsRule rule.now }
+    requires classes { IsClassified rule.now }
+    requires typed { HasNoFault rule.now }
+    ensures ok { IfOk result (λ found. IfSome found (IsMatch f.now block place rule.now)) }
+    ensures none { IfOk result (λ found. IfNone found ((binding : Binding) → ¬ IsMatch f.now block place rule.now binding)) }
+{
+    if !is_root_operation(f, block, place, rule) {
+        return Ok(None);
+    }
+    let facts = FunctionFacts::of(alloc, f)?;
+    match_in(alloc, f, &facts, block, place, rule)
+}
+
+/// The same, with what is known of the whole function. It takes as many steps as the rule has operands and nodes, for each of its
+/// classes; and no memory where the block isn't reached, or the instruction isn't one operation with the rule's root.
+#[tactic(auto, using(crate::proofs::Roots::matched_operation))]
+pub fn match_in(
+    alloc: Global,
+    f: &Function,
+    facts: &FunctionFacts,
+    block: u32,
+    place: u32,
+    rule: &Rule,
+) -> Result<Option<Binding>, AllocError>
+    requires checks { MeetsChecks f.now }
+    requires insts { All (λ b. length b.insts < 2 ^ 32) f.now.blocks }
+    requires facts { AreFactsOf f.now facts.now }
+    requires place { HasInst f.now block place }
+    requires rule { IsRule rule.now }
+    requires classes { IsClassified rule.now }
+    requires typed { HasNoFault rule.now }
+    ensures ok { IfOk result (λ found. IfSome found (IsMatch f.now block place rule.now)) }
+    ensures none { IfOk result (λ found. IfNone found ((binding : Binding) → ¬ IsMatch f.now block place rule.now binding)) }
+{
+    if !facts.flow.reached(block) || !is_root_operation(f, block, place, rule) {
+        return Ok(None);
+    }
+    let Some(binding) = candidate(alloc, f, block, place, rule)? else {
+        return Ok(None);
+    };
+    if is_match(f, facts, rule, &binding) {
+        Ok(Some(binding))
+    } else {
+        Ok(None)
+    }
+}

@@ -1,0 +1,21 @@
+//! Whether the root of a rule may match an instruction.
+
+ghost use Rattle.std.specs.Prelude.{◌≡◌, ◌↔◌, IsTrue};
+ghost use Rattle.ir_core.specs.Blocks.{HasInst};
+ghost use Rattle.rule_core.specs.Checks.{IsRule};
+ghost use Rattle.matcher.specs.Checks.{IsRootOperation};
+
+use crate::operation::is_same_operation;
+use ir_core::Function;
+use rule_core::Rule;
+
+/// Whether an instruction is one operation with the root of a rule: no rule matches at another. It takes no memory.
+pub(crate) fn is_root_operation(f: &Function, block: u32, place: u32, rule: &Rule) -> bool
+    requires place { HasInst f.now block place }
+    requires rule { IsRule rule.now }
+    ensures { IsTrue result ↔ IsRootOperation f.now block place rule.now }
+{
+    let inst = &f.blocks.as_slice()[block as usize].insts.as_slice()[place as usize];
+    let source = rule.source.as_slice();
+    is_same_operation(source[source.len() - 1].op, &inst.op)
+}

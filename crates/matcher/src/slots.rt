@@ -1,0 +1,226 @@
+//! What is met from the root of a match down.
+
+ghost use Rattle.std.specs.Prelude.{◌≡◌, ◌+◌, ◌<◌, ◌^◌, ℕ, List as Seq, length, map, All, IfOk, IfSome, MatchOption, None, Some, slice_get, IsTrue};
+ghost use Rattle.ir_core.specs.Names.{width_of};
+ghost use Rattle.ir_core.specs.Reads.{Read, IsRead};
+ghost use Rattle.rule_core.specs.Checks.{IsRule};
+ghost use Rattle.rule_core.specs.Positions.{Fixed, operands_of};
+ghost use Rattle.rule_core.specs.Typing.{IsTyping};
+ghost use Rattle.rule_core.specs.declared.rule.Operand.{Operand as SourceOperand};
+ghost use Rattle.rule_typing.specs.Classes.{IsClassified, HasClasses};
+ghost use Rattle.matcher.specs.Operands.{OperandMatches};
+ghost use Rattle.matcher.specs.declared.binding.Binding.{Binding};
+
+use crate::binding::Binding;
+use crate::operation::{MOST_OPERANDS, operand_of};
+use ir_core::{Function, Operand, Read, Register, read_at};
+use lists::List;
+use ops::{Width, Word};
+use rule_core::{Argument, Op, Operand as RuleOperand, Register as Name, Rule, Statement};
+use rule_typing::{class_count, fixed_width};
+use std::alloc::{AllocError, Global};
+
+/// A slot for each name of a rule's source and for each class, filled as the name or the class is met.
+#[derive(Drop)]
+pub(crate) struct Slots {
+    /// For each statement, the register that it is bound to.
+    statements: Vec<Option<Register>>,
+    inputs: Vec<Option<Operand>>,
+    constants: Vec<Option<Word>>,
+    /// For each class, its width.
+    widths: Vec<Option<Width>>,
+}
+
+impl Slots {
+    ghost use Rattle.matcher.specs.Slots.{AreAsMany, AreSlotsOf, HasOperand, HasStatement, Keeps, Knows, KnowsFrom, KnowsOperand, KnowsStatement, OperandsMatch, IsFilledAs};
+
+    /// The slots of a rule, of which those of the root and of the classes with a fixed width are filled.
+    pub(crate) fn new(alloc: Global, rule: &Rule, root: Register) -> Result<Slots, AllocError>
+        requires rule { IsRule rule.now }
+        requires classes { IsClassified rule.now }
+        ensures slots { IfOk result (AreSlotsOf rule.now) }
+        ensures knows { IfOk result (λ slots. (m : Binding) → IsTyping rule.now m.typing
+            → ((k : ℕ) → k + 1 ≡ length rule.now.source → slice_get m.statements k ≡ Some root)
+            → KnowsFrom rule.now (length rule.now.source) slots m) }
+    {
+        let mut statements = unfilled(alloc, rule.source.len())?;
+        let last = statements.len() - 1;
+        statements[last] = Some(root);
+        Ok(Slots {
+            statements,
+            inputs: unfilled(alloc, rule.inputs.len())?,
+            constants: unfilled(alloc, rule.constants.len())?,
+            widths: fixed_widths(alloc, rule)?,
+        })
+    }
+
+    /// Fills the slots of what a statement names by the instruction that its register stands for. It is false where the slot of the
+    /// statement isn't filled, or the function has no such instruction or fewer operands there.
+    pub(crate) fn take_statement(&mut self, f: &Function, j: usize, statement: &Statement) -> bool
+        requires insts { All (λ b. length b.insts < 2 ^ 32) f.now.blocks }
+        requires place { j < length self.old.statements.items }
+        requires slots { HasStatement self.old statement.now }
+        ensures sizes { AreAsMany self.old self.new }
+        ensures knows { (m : Binding) (b p N : ℕ) → slice_get self.old.statements.items j ≡ Some (Some (Register.Result b p))
+            → width_of f.now (Register.Result b p) ≡ Some N → slice_get m.typing statement.now.class ≡ Some N
+            → OperandsMatch f.now m b p statement.now.op
+            → IsTrue result × Keeps m self.old self.new × KnowsStatement self.new m statement.now }
+    {
+        let Some(register) = self.statements[j] else {
+            return false;
+        };
+        let Register::Result(block, place) = register else {
+            return false;
+        };
+        let Some(width) = width_at(f, block, place) else {
+            return false;
+        };
+        self.take_width(statement.class, width);
+        self.take_operands(f, block, place, &statement.op)
+    }
+
+    /// Fills the slot of a class.
+    fn take_width(&mut self, class: u32, width: Width)
+        requires { class < length self.old.widths.items }
+        ensures sizes { AreAsMany self.old self.new }
+        ensures knows { (m : Binding) → slice_get m.typing class ≡ Some width
+            → Keeps m self.old self.new × Knows self.new.widths.items m.typing class }
+    {
+        self.widths[class as usize] = Some(width);
+    }
+
+    /// Fills the slots of what the operands of an operation name by what an instruction reads. It is false where that reads fewer.
+    fn take_operands(&mut self, f: &Function, block: u32, place: u32, op: &Op) -> bool
+        requires insts { All (λ b. length b.insts < 2 ^ 32) f.now.blocks }
+        requires slots { All (HasOperand self.old) (operands_of op.now) }
+        ensures sizes { AreAsMany self.old self.new }
+        ensures knows { (m : Binding) → OperandsMatch f.now m block place op.now
+            → IsTrue result × Keeps m self.old self.new × All (KnowsOperand self.new m) (operands_of op.now) }
+    {
+        for index in 0..MOST_OPERANDS {
+            if !self.take_operand_at(f, block, place, op, index) {
+                return false;
+            }
+        }
+        true
+    }
+
+    /// The same for one operand, if there is one at the place.
+    fn take_operand_at(
+        &mut self,
+        f: &Function,
+        block: u32,
+        place: u32,
+        op: &Op,
+        index: usize,
+    ) -> bool
+        requires insts { All (λ b. length b.insts < 2 ^ 32) f.now.blocks }
+        requires slots { All (HasOperand self.old) (operands_of op.now) }
+        ensures sizes { AreAsMany self.old self.new }
+        ensures knows { (m : Binding) → OperandsMatch f.now m block place op.now
+            → IsTrue result × Keeps m self.old self.new × ((o : SourceOperand) → slice_get (operands_of op.now) index ≡ Some o → KnowsOperand self.new m o) }
+    {
+        match (operand_of(*op, index), read_at(f, block, place, index)) {
+            (Some(operand), Some(read)) => {
+                self.take_operand(operand, read);
+                true
+            }
+            (Some(_), None) => false,
+            (None, _) => true,
+        }
+    }
+
+    /// Fills the slots of the name and the class of an operand by what is read.
+    fn take_operand(&mut self, operand: RuleOperand, read: Read)
+        requires { HasOperand self.old operand }
+        ensures sizes { AreAsMany self.old self.new }
+        ensures knows { (m : Binding) → OperandMatches m operand read
+            → Keeps m self.old self.new × KnowsOperand self.new m operand }
+    {
+        self.widths[operand.class as usize] = Some(read.width);
+        match (operand.value, read.operand) {
+            (Argument::Register(Name::Input(i)), bound) => self.inputs[i as usize] = Some(bound),
+            (Argument::Register(Name::Source(j)), Operand::Register(register)) => {
+                self.statements[j as usize] = Some(register);
+            }
+            (Argument::Constant(k), Operand::Number(number)) => {
+                self.constants[k as usize] = Some(number);
+            }
+            _ => {}
+        }
+    }
+
+    /// The binding that the slots are filled with, if all of them are.
+    pub(crate) fn binding(
+        self,
+        alloc: Global,
+        block: u32,
+        place: u32,
+    ) -> Result<Option<Binding>, AllocError>
+        ensures filled { IfOk result (λ found. (m : Binding) → m.block ≡ block → m.place ≡ place → IsFilledAs self m → found ≡ Some m) }
+        ensures place { IfOk result (λ found. IfSome found (λ binding. (binding.block ≡ block) × (binding.place ≡ place))) }
+    {
+        let statements = filled(alloc, &self.statements)?;
+        let inputs = filled(alloc, &self.inputs)?;
+        let constants = filled(alloc, &self.constants)?;
+        let widths = filled(alloc, &self.widths)?;
+        match (statements, inputs, constants, widths) {
+            (Some(statements), Some(inputs), Some(constants), Some(typing)) => Ok(Some(Binding {
+                block,
+                place,
+                statements,
+                inputs,
+                constants,
+                typing,
+            })),
+            _ => Ok(None),
+        }
+    }
+}
+
+/// So many slots that aren't filled.
+fn unfilled<T: Drop>(alloc: Global, count: usize) -> Result<Vec<Option<T>>, AllocError>
+    ensures { IfOk result (λ slots. length slots.items ≡ count) }
+{
+    let mut slots = Vec::new(alloc);
+    for _k in 0..count {
+        slots.push(None)?;
+    }
+    Ok(slots)
+}
+
+/// The values that slots are filled with, if all of them are.
+fn filled<T: Copy>(alloc: Global, slots: &[Option<T>]) -> Result<Option<List<T>>, AllocError>
+    ensures { IfOk result (λ found. (values : Seq T) → slots.now ≡ map Some values → found ≡ Some values) }
+{
+    let mut values = List::new(alloc);
+    for slot in slots {
+        let Some(value) = slot else {
+            return Ok(None);
+        };
+        values.push(*value)?;
+    }
+    Ok(Some(values))
+}
+
+/// For each class its fixed width, if it has one.
+fn fixed_widths(alloc: Global, rule: &Rule) -> Result<Vec<Option<Width>>, AllocError>
+    requires { IsClassified rule.now }
+    ensures count { IfOk result (λ widths. HasClasses rule.now (length widths.items)) }
+    ensures fixed { IfOk result (λ widths. (c N : ℕ) → c < length widths.items → Fixed rule.now c N → (M : ℕ) × Fixed rule.now c M × (slice_get widths.items c ≡ Some (Some M))) }
+{
+    let mut widths = Vec::new(alloc);
+    for class in 0..class_count(rule) {
+        widths.push(fixed_width(rule, class))?;
+    }
+    Ok(widths)
+}
+
+/// The width of the result of an instruction, if the function has it.
+fn width_at(f: &Function, block: u32, place: u32) -> Option<Width>
+    ensures { result ≡ width_of f.now (Register.Result block place) }
+{
+    let written_in = f.blocks.as_slice().get(block as usize)?;
+    let inst = written_in.insts.as_slice().get(place as usize)?;
+    Some(inst.width)
+}

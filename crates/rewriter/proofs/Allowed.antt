@@ -1,0 +1,325 @@
+-- Each way through what is put is allowed by an effect of the root, where the rule is valid.
+use Rattle.std.proofs.Common.{◌≡◌, ℕ, suc, ◌+◌, ◌-◌, ◌<◌, ◌≤◌, inl, inr, List, [], ◌∷◌, length, map, take, Option, Some, refl, sym, ap, subst, ◌∙◌, arith}
+use Rattle.std.specs.Prelude.{slice_get}
+use Rattle.std.specs.Option.{option_map}
+use Rattle.std.proofs.lemmas.Bool.{cases_eq, cases_lt}
+use Rattle.std.proofs.lemmas.List.{take_all}
+use Rattle.std.proofs.lemmas.Option.{same_Some, slice_get-map, slice_get-get_or}
+use Rattle.ops.specs.Number.{Number}
+use Rattle.ops.specs.Value.{AllowsValue, AllowsEffect, IsValueOf}
+use Rattle.ops.specs.declared.value.Value.{Value}
+use Rattle.ops.specs.declared.value.Value.TheVariants as values
+use Rattle.ops.specs.declared.value.Effect.{Effect}
+use Rattle.ops.specs.declared.value.Effect.TheVariants as effects
+use Rattle.ops.proofs.Values.{AllowsValue-refl, AllowsValue-trans, AllowsEffect-trans}
+use Rattle.ir_core.specs.Assigned.{IsAssigned}
+use Rattle.ir_core.specs.Blocks.{HasInst}
+use Rattle.ir_core.specs.Checks.{IsInst, MeetsChecks}
+use Rattle.ir_core.specs.Reads.{Read, reads_of}
+use Rattle.ir_core.specs.Run.{Registers, AnyNumber, OperandGives, OpGives}
+use Rattle.ir_core.specs.Walks.{IsWalk, IsReached}
+use Rattle.ir_core.specs.declared.function.Function.{Function}
+use Rattle.ir_core.specs.declared.instruction.Inst.{Inst}
+use Rattle.ir_core.specs.declared.operand.Operand.{Operand}
+use Rattle.ir_core.specs.declared.operand.Operand.TheVariants as operands
+use Rattle.ir_core.specs.declared.operand.Register.{Register}
+use Rattle.ir_core.specs.declared.operand.Register.TheVariants as registers
+use Rattle.ir_meaning.proofs.Pieces.{some_at, contains_at}
+use Rattle.rule_core.specs.Checks.{IsRule}
+use Rattle.rule_core.specs.Positions.{IsOperandAmong, undefs_among}
+use Rattle.rule_core.specs.Run.{Held, Given, Ending, Undefines, Holds, given_by, at_start, temporaries_of, holding_source, holding_target, StatementGives, Follows, TemporariesEnd, SourceGives, TargetGives, GivesLast}
+use Rattle.rule_core.specs.Valid.{Setting, SettingFits, SourceChoicesFit, witness_number, HaveEffects, IsValid}
+use Rattle.rule_core.specs.declared.rule.Argument.TheVariants as arguments
+use Rattle.rule_core.specs.declared.rule.Operand.{Operand as RuleOperand}
+use Rattle.rule_core.specs.declared.rule.Rule.{Rule}
+use Rattle.rule_core.specs.declared.rule.Statement.{Statement}
+use Rattle.rule_core.specs.Readiness.{HeldFits}
+use Rattle.rule_core.proofs.Givens.{source_given}
+use Rattle.rule_core.proofs.Once.{follows_once}
+use Rattle.rule_core.proofs.Outcomes.{temporaries_fit}
+use Rattle.rule_core.proofs.Unchosen.{temporaries_same}
+use Rattle.rule_core.proofs.Witnesses.{choices_fit}
+use Rattle.run_history.specs.Laws.{EquationHolds}
+use Rattle.run_history.proofs.Assignments.{not_both_assigned}
+use Rattle.run_history.proofs.Equations.{one_inst}
+use Rattle.run_history.proofs.Steps.{has_inst}
+use Rattle.run_history.specs.Laws.{NumbersFit}
+use Rattle.substitution.specs.Laws.{PutIsAllowed}
+use Rattle.substitution.specs.Allows.{AllowsPut}
+use Rattle.substitution.specs.Held.{MayHold}
+use Rattle.substitution.specs.Rewritten.{stands_for, RunsThrough}
+use Rattle.substitution.specs.declared.rewrite.Rewrite.{Rewrite}
+use Rattle.substitution.specs.Substitution.{value_of, pulled_back}
+use Rattle.substitution.proofs.Arriving.{inst_reads}
+use Rattle.substitution.proofs.Placing.{IsTheRoot, stands_root, stands_other, moved_unmoved, is_moved}
+use Rattle.matcher.specs.Match.{IsMatch}
+use Rattle.matcher.specs.Statements.{StatementMatches}
+use Rattle.matcher.specs.declared.binding.Binding.{Binding}
+use Rattle.rewriter.specs.Put.{rewrite_of}
+use Rattle.rewriter.proofs.Computing.{IsComputed}
+use Rattle.rewriter.proofs.Effects.{source_gives}
+use Rattle.rewriter.proofs.Matched.{computed_no_phi, reads_here, same_is_computed}
+use Rattle.rewriter.proofs.Picks.{in_order}
+use Rattle.rewriter.proofs.Putting.{IsSettled, results, results_length}
+use Rattle.rewriter.proofs.Root.{root_allows}
+use Rattle.rewriter.proofs.Setting.{SourceRead, input_read, setting_fits, terms_fit}
+use Rattle.rewriter.proofs.Source.{input_value, input_values, input_is, Standing, temporaries_stand}
+use Rattle.rewriter.proofs.Target.{GivesAllowed, Ready, Done, Ends, target_runs}
+
+-- what is assigned at a place is assigned behind it in its block
+pub assigned_later : (f : Function) (r : Register) (b j k : ℕ) → j ≤ k → IsAssigned f r b j → IsAssigned f r b k
+assigned_later f (registers.Parameter p) b j k le a = a
+assigned_later f (registers.Result d i) b j k le a =
+    (a.0, λ before walk. elim (a.1 before walk) [ inl has ↦ inl has | inr here ↦ let lt : i < j = here.1 in inr (here.0, omega arith) ])
+
+module _ (f : Function) (b k : ℕ) (rule : Rule) (binding : Binding) (checked : IsRule rule) (meets : MeetsChecks f) (numbers : NumbersFit f) (match : IsMatch f b k rule binding)
+    (root : Inst) (root_is : IsInst f binding.block binding.place root) where
+  abbrev pub w : Rewrite
+  w = rewrite_of rule binding root.name
+
+  pub reached : (before : List ℕ) × IsWalk f (binding.block ∷ before)
+  reached = subst (IsReached f) (sym match.block) match.reached
+
+  -- what is assigned at an instruction of the block doesn't stand there or behind it
+  pub stands_before : (p q : ℕ) → HasInst f binding.block q → IsAssigned f (registers.Result binding.block p) binding.block q → p < q
+  stands_before p q has a =
+      elim (cases_lt p q) [
+        | inl lt ↦ lt
+        | inr le ↦ elim (cases_eq p q) [
+          | inl same ↦
+              let own : IsAssigned f (registers.Result binding.block q) binding.block q = subst (λ n. IsAssigned f (registers.Result binding.block n) binding.block q) same a in
+              absurd (not_both_assigned f binding.block q binding.block q reached own own)
+          | inr ne ↦
+              let lt : q < p = omega arith in
+              absurd (not_both_assigned f binding.block q binding.block p reached (has, λ before walk. inr (refl, lt)) a)
+        ]
+      ]
+
+  pub root_has : HasInst f binding.block binding.place
+  root_has = has_inst f binding.block binding.place root root_is
+
+  -- ---- inputs and temporaries are assigned at the root
+
+  pub input_assigned : (i : ℕ) (reg : Register) → slice_get binding.inputs i ≡ Some (operands.Register reg) → IsAssigned f reg binding.block binding.place
+  input_assigned i reg at =
+      let r = input_read f b k rule binding checked meets numbers match i (operands.Register reg) at in
+      let s : SourceRead f binding r.0 = r.1 in
+      let a : IsAssigned f reg s.read.block s.read.place = meets.assigned binding.block s.place s.index s.read s.is_read reg r.4 in
+      let there : IsAssigned f reg binding.block s.place = subst (λ n. IsAssigned f reg binding.block n) s.place_is (subst (λ n. IsAssigned f reg n s.read.place) s.block_is a) in
+      assigned_later f reg binding.block s.place binding.place s.le there
+
+  pub inputs_settled : (i : ℕ) (a : Operand) → slice_get binding.inputs i ≡ Some a → IsSettled rule binding 0 a
+  inputs_settled i a at p is =
+      let assigned : IsAssigned f (registers.Result binding.block p) binding.block binding.place = input_assigned i (registers.Result binding.block p) (at ∙ ap (λ (x : Operand). Some x) is) in
+      let lt : p < binding.place = stands_before p binding.place root_has assigned in
+      omega arith
+
+  statement_at : (j : ℕ) → j < length rule.source → (s : Statement) × (slice_get rule.source j ≡ Some s)
+  statement_at j lt = some_at rule.source j lt
+
+  pub statements_settled : (j : ℕ) (reg : Register) → suc j < length rule.source → slice_get binding.statements j ≡ Some reg → (p : ℕ) × (reg ≡ registers.Result binding.block p) × (p < binding.place) × IsAssigned f reg binding.block binding.place
+  statements_settled j reg lt at =
+      let s = statement_at j (omega arith) in
+      let m : StatementMatches f rule binding j s.0 = match.statements j s.0 s.1 in
+      let is : reg ≡ registers.Result binding.block m.place = same_Some reg (registers.Result binding.block m.place) (sym at ∙ m.bound) in
+      let before : m.place < binding.place = m.matches.temporary lt in
+      let own : IsAssigned f (registers.Result binding.block m.place) binding.block binding.place = (has_inst f binding.block m.place m.inst m.is_inst, λ passed walk. inr (refl, before)) in
+      (m.place, is, before, subst (λ r. IsAssigned f r binding.block binding.place) (sym is) own)
+
+  settled_temporary : (j : ℕ) (reg : Register) → suc j < length rule.source → slice_get binding.statements j ≡ Some reg → IsSettled rule binding 0 (operands.Register reg)
+  settled_temporary j reg lt at p is =
+      let t = statements_settled j reg lt at in
+      let less : t.0 < binding.place = t.2 in
+      let same : t.0 ≡ p = let own : reg ≡ registers.Result binding.block t.0 = t.1 in cc in
+      omega arith
+
+  -- a register that is assigned at the root stands for itself
+  pub stands_itself : (reg : Register) → IsAssigned f reg binding.block binding.place → stands_for w reg ≡ operands.Register reg
+  stands_itself (registers.Parameter p) a = refl
+  stands_itself (registers.Result d j) a =
+      elim (cases_eq d binding.block) [
+        | inl same ↦
+            let here : IsAssigned f (registers.Result binding.block j) binding.block binding.place = subst (λ n. IsAssigned f (registers.Result n j) binding.block binding.place) same a in
+            let lt : j < binding.place = stands_before j binding.place root_has here in
+            let other : ¬ IsTheRoot w d j = λ is. let e : j ≡ binding.place = is.1 in omega arith in
+            stands_other w d j other ∙ ap (λ n. operands.Register (registers.Result d n)) (moved_unmoved w d j same (omega arith))
+        | inr ne ↦
+            let other : ¬ IsTheRoot w d j = λ is. ne is.0 in
+            stands_other w d j other ∙ ap (λ n. operands.Register (registers.Result d n)) ((is_moved w d j).elsewhere ne)
+      ]
+
+  -- ---- where what is put begins, with these registers held in the new function
+
+  module _ (held' : Registers) (after : Option Registers) (may : MayHold f binding.block binding.place (pulled_back (stands_for w) held')) (runs : RunsThrough binding.block binding.place w.put held' after) where
+    abbrev typing : List ℕ
+    typing = binding.typing
+
+    -- what the old function's registers hold there
+    abbrev held : Registers
+    held = pulled_back (stands_for w) held'
+
+    equations : (p : ℕ) (inst : Inst) → p < binding.place → IsInst f binding.block p inst → IsComputed inst.op → EquationHolds held binding.block p inst
+    equations p inst lt is computed = may.equations binding.block p inst is (computed_no_phi inst.op computed) (has_inst f binding.block p inst is, λ passed walk. inr (refl, lt))
+
+    abbrev inputs : List Value
+    inputs = input_values held binding
+
+    temporaries : (end : Held) × TemporariesEnd typing binding.constants rule inputs (Holds end) × Standing f rule binding held (length rule.source - 1) end
+    temporaries = temporaries_stand f rule binding held checked match.typing match.no_undef match.statements equations
+
+    H : Held
+    H = temporaries.0
+
+    ends : TemporariesEnd typing binding.constants rule inputs (Holds H)
+    unfolding H
+    ends = temporaries.1
+
+    standing : Standing f rule binding held (length rule.source - 1) H
+    unfolding H
+    standing = temporaries.2
+
+    -- ---- where the target begins
+
+    -- a register that is assigned holds the same in the new function
+    held_there : (reg : Register) (v : Value) → IsAssigned f reg binding.block binding.place → held' reg ≡ Some v → held reg ≡ Some v
+    held_there reg v assigned is = ap (value_of held') (stands_itself reg assigned) ∙ is
+
+    input_allowed : (i : ℕ) (a : Operand) → slice_get binding.inputs i ≡ Some a → GivesAllowed held' (input_value held a) a
+    input_allowed i (operands.Register reg) at width v' gives =
+        let is : input_value held (operands.Register reg) ≡ v' = input_is held 0 (operands.Register reg) v' (λ e. cc) (held_there reg v' (input_assigned i reg at) gives) in
+        subst (λ x. AllowsValue x v') (sym is) (AllowsValue-refl v')
+    input_allowed i (operands.Number n) at width v' gives = gives
+    input_allowed i operands.Undef at width v' gives = absurd (match.no_undef (contains_at binding.inputs i operands.Undef at))
+    input_allowed i operands.Poison at width v' gives = tt
+
+    ready_start : Ready rule binding 0 H held'
+    ready_start =
+        record {
+          inputs = λ i a at. (input_value held a, ap (λ (vs : List Value). slice_get vs i) standing.inputs ∙ (slice_get-map (input_value held) binding.inputs i ∙ ap (option_map (input_value held)) at), input_allowed i a at);
+          source = λ reads j reg lt at.
+              let old = standing.each j reg (omega arith) at in
+              let t = statements_settled j reg lt at in
+              let stays : GivesAllowed held' old.1 (operands.Register reg) = λ width v' gives.
+              let is : v' ≡ old.1 = same_Some v' old.0 (sym (held_there reg v' t.3 gives) ∙ old.2) ∙ old.4.1 reads in
+              subst (λ x. AllowsValue x v') is (AllowsValue-refl v') in
+              (old.1, old.3, stays);
+          target = λ j a lt. absurd (omega arith);
+          count = ap length standing.none;
+        }
+
+    done : Done rule binding checked match.typing match.input_count match.statement_count match.constant_count inputs_settled settled_temporary (terms_fit f b k rule binding checked meets numbers match) rule.target 0 [] H after
+    done =
+        target_runs rule binding checked match.typing match.input_count match.statement_count match.constant_count inputs_settled settled_temporary (terms_fit f b k rule binding checked meets numbers match) f root.name rule.target 0 [] H held' after
+        (λ i s at. subst (λ n. slice_get rule.target n ≡ Some s) (omega arith) at) (in_order (undefs_among rule.target) checked.target_undefs) ready_start
+        (subst (λ n. RunsThrough binding.block n w.put held' after) (omega arith) runs)
+
+    -- ---- the setting
+
+    abbrev setting : Setting
+    setting = record { inputs = inputs; constants = binding.constants; target_undefs = done.numbers }
+
+    setting_fit : SettingFits rule typing setting
+    setting_fit =
+        setting_fits f b k rule binding checked meets numbers match held done.numbers may.widths done.count
+        (λ q n at. let r = done.fit q n at in (r.0, r.1, r.2 ∙ ap arguments.Undef (omega arith), r.3))
+
+    held_fit : HeldFits rule typing H
+    held_fit = temporaries_fit rule typing checked match.typing binding.constants setting_fit.constants inputs setting_fit.inputs H ends
+
+    abbrev choices : List Number
+    choices = map (witness_number rule typing setting H) rule.witnesses
+
+    choices_are_fit : SourceChoicesFit rule typing choices
+    choices_are_fit = choices_fit rule typing setting H checked match.typing setting_fit held_fit
+
+    -- ---- the root
+
+    last : (s : Statement) × (slice_get rule.source (length rule.source - 1) ≡ Some s)
+    last = statement_at (length rule.source - 1) (let some = checked.source_root in omega arith)
+
+    m : StatementMatches f rule binding (length rule.source - 1) last.0
+    m = match.statements (length rule.source - 1) last.0 last.1
+
+    m_place : m.place ≡ binding.place
+    m_place = m.matches.root (let some = checked.source_root in omega arith)
+
+    m_inst : m.inst ≡ root
+    m_inst = one_inst f binding.block binding.place m.inst root (subst (λ n. IsInst f binding.block n m.inst) m_place m.is_inst) root_is
+
+    root_holds : (n : ℕ) (r : Read) (reg : Register) → slice_get (reads_of f binding.block m.place m.inst.width m.inst.op) n ≡ Some r → r.operand ≡ operands.Register reg → (v : Value) × (held reg ≡ Some v)
+    root_holds n r reg at is =
+        let there = ap (λ (l : List Read). slice_get l n) (inst_reads f binding.block m.place m.inst m.is_inst) ∙ at in
+        let a : IsAssigned f reg r.block r.place = meets.assigned binding.block m.place n r there reg is in
+        let here = reads_here f binding.block m.place m.inst.width m.inst.op (same_is_computed last.0.op m.inst.op m.matches.operation) n r at in
+        may.assigned reg (subst (λ p. IsAssigned f reg binding.block p) (here.1 ∙ m_place) (subst (λ c. IsAssigned f reg c r.place) here.0 a))
+
+    root_chosen : (c N : ℕ) (o : RuleOperand) → IsOperandAmong rule.source o → o.value ≡ arguments.Undef c → slice_get typing o.class ≡ Some N → (n : Number) × (slice_get choices c ≡ Some n) × IsValueOf N (values.Bits n)
+    root_chosen c N o among is width =
+        let whole : take (length rule.source) rule.source ≡ rule.source = take_all (length rule.source) rule.source (omega arith) in
+        (source_given rule typing binding.constants checked match.typing setting_fit.constants choices (length rule.source) choices_are_fit).choices c N o (subst (λ (l : List Statement). IsOperandAmong l o) (sym whole) among) is width
+
+    abbrev given : Given
+    given = given_by typing binding.constants choices rule
+
+    at_root : (source : Effect) × StatementGives typing given H last.0 source × ((e : Effect) × OpGives AnyNumber held m.inst.width m.inst.op e × AllowsEffect e source)
+    at_root = root_allows f rule binding held match.no_undef given refl (length rule.source - 1) H standing checked match.typing last.0 last.1 m root_holds root_chosen
+
+    of_source : SourceGives typing binding.constants choices rule inputs at_root.0
+    of_source = source_gives typing binding.constants choices rule inputs H last.0 at_root.0 (temporaries_same rule typing binding.constants choices checked (at_start inputs) (Holds H) ends) last.1 at_root.1
+
+    -- ---- the target
+
+    value_gives : (new : Registers) (a : Operand) (v : Value) → value_of new a ≡ Some v → OperandGives AnyNumber new 0 a v
+    value_gives new (operands.Register r) v is = is
+    value_gives new (operands.Number n) v is = sym (same_Some (values.Bits n) v is)
+    value_gives new operands.Undef v is = absurd cc
+    value_gives new operands.Poison v is = sym (same_Some values.Poison v is)
+
+    -- an effect of the target, which allows what comes of the instructions that are put
+    abbrev OfTarget : Type 0
+    OfTarget = (target : Effect) × TargetGives typing binding.constants done.numbers rule inputs target × ((e : Effect) → AllowsEffect e target → AllowsPut w e after)
+
+    none_allowed : (e : Effect) → AllowsEffect e effects.Undefined → AllowsPut w e after
+    none_allowed effects.Undefined allows = tt
+    none_allowed (effects.Gives v) allows = absurd allows
+
+    some_allowed : (new : Registers) (u : Value) → GivesAllowed new u w.result → (e : Effect) → AllowsEffect e (effects.Gives u) → AllowsPut w e (Some new)
+    some_allowed new u gives effects.Undefined allows = tt
+    some_allowed new u gives (effects.Gives x) allows = λ v' is.
+        AllowsValue-trans x u v' allows (gives 0 v' (value_gives new w.result v' (ap (value_of new) (sym (stands_root w binding.block binding.place (refl, refl))) ∙ is)))
+
+    of_target_end : (end : Ending) → Follows typing (given_by typing binding.constants done.numbers rule) holding_target rule.target H end
+        → Ends rule binding checked match.typing match.input_count match.statement_count match.constant_count inputs_settled settled_temporary (terms_fit f b k rule binding checked meets numbers match) (0 + length rule.target) end after → OfTarget
+    of_target_end Undefines follows is = (effects.Undefined, (Holds H, ends, (Undefines, follows, refl)), none_allowed)
+    of_target_end (Holds end) follows (new, is, ready) =
+        let j : ℕ = length rule.target - 1 in
+        let some : 0 < length rule.target = checked.target_root in
+        let there : slice_get (results rule binding) j ≡ Some w.result = slice_get-get_or (results rule binding) j operands.Poison (omega (arith, results_length rule binding)) in
+        let r = ready.target j w.result (omega arith) there in
+        let count : length end.target - 1 ≡ j = let all : length end.target ≡ 0 + length rule.target = ready.count in omega arith in
+        let gives : GivesLast end.target (effects.Gives r.0) = (r.0, subst (λ n. slice_get end.target n ≡ Some r.0) (sym count) r.1, refl) in
+        (effects.Gives r.0, (Holds H, ends, (Holds end, follows, gives)), λ e allows. subst (λ o. AllowsPut w e o) (sym is) (some_allowed new r.0 r.2 e allows))
+
+    of_target : OfTarget
+    of_target = of_target_end done.end done.follows done.ends
+
+    -- ---- both
+
+    pub root_effect : IsValid rule typing → (e : Effect) × OpGives AnyNumber held root.width root.op e × AllowsPut w e after
+    root_effect valid =
+        let have : HaveEffects rule typing setting choices at_root.0 of_target.0 = record {
+          chosen = λ other runs.
+              let same : Holds H ≡ Holds other = follows_once typing (given_by typing binding.constants [] rule) holding_source (temporaries_of rule) (at_start inputs) (Holds H) (Holds other) ends runs in
+              let is : H ≡ other = cc in
+              ap (λ h. map (witness_number rule typing setting h) rule.witnesses) is;
+          of_source = of_source;
+          of_target = of_target.1;
+        } in
+        let allows : AllowsEffect at_root.0 of_target.0 = valid setting choices at_root.0 of_target.0 setting_fit match.precondition have in
+        let e : Effect = at_root.2.0 in
+        let op : OpGives AnyNumber held root.width root.op e = subst (λ (i : Inst). OpGives AnyNumber held i.width i.op e) m_inst at_root.2.1 in
+        (e, op, of_target.2 e (AllowsEffect-trans e at_root.0 of_target.0 at_root.2.2 allows))
+
+  -- Whatever registers may hold there, each way through what is put is allowed by the root.
+  pub put_is_allowed : IsValid rule binding.typing → PutIsAllowed f w root
+  put_is_allowed valid held' after may runs = root_effect held' after may runs valid

@@ -1,0 +1,95 @@
+-- An instruction with more flags gives poison where it doesn't give the same.
+use Rattle.std.proofs.Common.{◌≡◌, ℕ, ℤ, Bool, true, false, cond, not, ◌&&◌, ◌||◌, ap}
+use Rattle.std.specs.Prelude.{bit_and, bit_or, bit_xor}
+use Rattle.ops.specs.declared.value.Value.{Value}
+use Rattle.ops.specs.declared.value.Value.TheVariants.{Poison, Bits}
+use Rattle.ops.specs.declared.value.Effect.TheVariants.{Undefined, Gives}
+use Rattle.ops.specs.declared.opcode.Opcode.{Opcode}
+use Rattle.ops.specs.declared.opcode.Opcode.TheVariants.{Add, Sub, Mul, UDiv, SDiv, URem, SRem, Shl, LShr, AShr, And, Or, Xor}
+use Rattle.ops.specs.declared.opcode.Flags.{Flags}
+use Rattle.ops.specs.Flags.{AreWithin}
+use Rattle.ops.specs.Value.{AllowsValue, AllowsEffect}
+use Rattle.ops.specs.Integer.{bits, fits_unsigned, fits_signed, residue}
+use Rattle.ops.specs.Arithmetic.{arithmetic}
+use Rattle.ops.specs.Division.{exactly, udiv, sdiv, urem, srem}
+use Rattle.ops.specs.Shifts.{shl, lshr, ashr}
+use Rattle.ops.specs.Instruction.{instruction, on_numbers, on_poison}
+use Rattle.ops.proofs.Values.{AllowsValue-refl, AllowsEffect-refl}
+
+-- a flag of the first set stands in the second
+abbrev Within : Bool → Bool → Type 0
+Within x y = (x && y) ≡ x
+
+-- poison by a flag
+by_one : (x' x c : Bool) (v : Value) → Within x x' → AllowsValue (cond (x' && c) Poison v) (cond (x && c) Poison v)
+by_one true x true v h = tt
+by_one true true false v h = AllowsValue-refl v
+by_one true false false v h = AllowsValue-refl v
+by_one false true c v h = absurd cc
+by_one false false c v h = AllowsValue-refl v
+
+-- and by either of two
+by_two : (x' y' x y c d : Bool) (v : Value) → Within x x' → Within y y' → AllowsValue (cond ((x' && c) || (y' && d)) Poison v) (cond ((x && c) || (y && d)) Poison v)
+by_two true y' x y true d v p q = tt
+by_two true true x y false true v p q = tt
+by_two true true true true false false v p q = AllowsValue-refl v
+by_two true true true false false false v p q = AllowsValue-refl v
+by_two true true false true false false v p q = AllowsValue-refl v
+by_two true true false false false false v p q = AllowsValue-refl v
+by_two true false x true false d v p q = absurd cc
+by_two true false true false false d v p q = AllowsValue-refl v
+by_two true false false false false d v p q = AllowsValue-refl v
+by_two false y' true y c d v p q = absurd cc
+by_two false true false y c true v p q = tt
+by_two false true false true c false v p q = AllowsValue-refl v
+by_two false true false false c false v p q = AllowsValue-refl v
+by_two false false false true c d v p q = absurd cc
+by_two false false false false c d v p q = AllowsValue-refl v
+
+undefined_where : (c : Bool) (v w : Value) → AllowsValue v w → AllowsEffect (cond c Undefined (Gives v)) (cond c Undefined (Gives w))
+undefined_where true v w h = tt
+undefined_where false v w h = h
+
+poison_where : (c : Bool) (v w : Value) → AllowsValue v w → AllowsValue (cond c Poison v) (cond c Poison w)
+poison_where true v w h = tt
+poison_where false v w h = h
+
+module _ (f g : Flags) (within : AreWithin f g) where
+  nuw_within : Within f.nuw g.nuw
+  nuw_within = ap (λ (h : Flags). h.nuw) within
+
+  nsw_within : Within f.nsw g.nsw
+  nsw_within = ap (λ (h : Flags). h.nsw) within
+
+  exact_within : Within f.exact g.exact
+  exact_within = ap (λ (h : Flags). h.exact) within
+
+  arithmetic_allows : (N : ℕ) (u s : ℤ) → AllowsValue (arithmetic g N u s) (arithmetic f N u s)
+  unfolding arithmetic
+  arithmetic_allows N u s = by_two g.nuw g.nsw f.nuw f.nsw (not (fits_unsigned N u)) (not (fits_signed N s)) (bits N (residue N u)) nuw_within nsw_within
+
+  exactly_allows : (divided : Bool) (v : Value) → AllowsValue (exactly g divided v) (exactly f divided v)
+  exactly_allows divided v = by_one g.exact f.exact (not divided) v exact_within
+
+  numbers_allow : (op : Opcode) (N a b : ℕ) → AllowsEffect (on_numbers op g N a b) (on_numbers op f N a b)
+  unfolding on_numbers udiv sdiv shl lshr ashr
+  numbers_allow Add N a b = arithmetic_allows N _ _
+  numbers_allow Sub N a b = arithmetic_allows N _ _
+  numbers_allow Mul N a b = arithmetic_allows N _ _
+  numbers_allow UDiv N a b = undefined_where _ _ _ (exactly_allows _ _)
+  numbers_allow SDiv N a b = undefined_where _ _ _ (exactly_allows _ _)
+  numbers_allow URem N a b = AllowsEffect-refl (urem N a b)
+  numbers_allow SRem N a b = AllowsEffect-refl (srem N a b)
+  numbers_allow Shl N a b = poison_where _ _ _ (arithmetic_allows N _ _)
+  numbers_allow LShr N a b = poison_where _ _ _ (exactly_allows _ _)
+  numbers_allow AShr N a b = poison_where _ _ _ (exactly_allows _ _)
+  numbers_allow And N a b = AllowsValue-refl (bits N (bit_and a b))
+  numbers_allow Or N a b = AllowsValue-refl (bits N (bit_or a b))
+  numbers_allow Xor N a b = AllowsValue-refl (bits N (bit_xor a b))
+
+  -- an instruction with more flags allows what it does with these
+  pub more_flags_allow : (op : Opcode) (N : ℕ) (a b : Value) → AllowsEffect (instruction op g N a b) (instruction op f N a b)
+  unfolding instruction
+  more_flags_allow op N (Bits a) (Bits b) = numbers_allow op N a.number b.number
+  more_flags_allow op N (Bits a) Poison = AllowsEffect-refl (on_poison op N Poison)
+  more_flags_allow op N Poison b = AllowsEffect-refl (on_poison op N b)

@@ -1,0 +1,114 @@
+-- What a statement that matches an instruction computes there.
+use Rattle.std.proofs.Common.{◌≡◌, ℕ, zero, suc, ◌<◌, List, [], ◌∷◌, length, Some, refl, sym, ap, subst, arith}
+use Rattle.std.specs.Prelude.{slice_get, slice_index}
+use Rattle.std.proofs.lemmas.Option.{same_Some, get_or_from_slice_get, slice_get_within}
+use Rattle.ops.specs.Value.{AllowsEffect}
+use Rattle.ops.specs.Flags.{AreWithin}
+use Rattle.ops.specs.Instruction.{instruction}
+use Rattle.ops.specs.declared.opcode.Opcode.{Opcode}
+use Rattle.ops.specs.declared.value.Value.{Value}
+use Rattle.ops.proofs.Values.{AllowsEffect-refl}
+use Rattle.ir_core.specs.Checks.{IsPhi}
+use Rattle.ir_core.specs.Reads.{Read, read, reads_of}
+use Rattle.ir_core.specs.declared.function.Function.{Function}
+use Rattle.ir_core.specs.declared.instruction.Op.{Op}
+use Rattle.ir_core.specs.declared.operand.Operand.{Operand}
+use Rattle.ir_core.specs.declared.instruction.Op.TheVariants.{Binary, Compare, Select, Convert, Freeze, Phi}
+use Rattle.ir_meaning.proofs.Pieces.{some_at}
+use Rattle.rule_core.specs.Positions.{operands_of}
+use Rattle.rule_core.specs.declared.rule.Op.{Op as RuleOp}
+use Rattle.rule_core.specs.declared.rule.Op.TheVariants as rule_ops
+use Rattle.rule_core.specs.declared.rule.Operand.{Operand as RuleOperand}
+use Rattle.matcher.specs.Statements.{IsSameOperation, flags_of_statement, flags_of_inst}
+use Rattle.rewriter.proofs.Flags.{more_flags_allow}
+use Rattle.rewriter.proofs.Computing.{Computation, Compares, Selects, Converts, effect_of, computed, computed_by, IsComputed}
+
+pub same_is_computed : (s : RuleOp) (i : Op) → IsSameOperation s i → IsComputed i
+same_is_computed (rule_ops.Binary opcode flags a b) (Binary opcode' flags' x y) same = tt
+same_is_computed (rule_ops.Compare pred a b) (Compare pred' compared x y) same = tt
+same_is_computed (rule_ops.Select c a b) (Select z x y) same = tt
+same_is_computed (rule_ops.Convert cast a to) (Convert cast' from x) same = tt
+same_is_computed s i same = absurd same
+
+pub computed_no_phi : (i : Op) → IsComputed i → ¬ IsPhi i
+computed_no_phi (Phi entries) is phi = is
+computed_no_phi i is phi = phi
+
+pub arity_same : (f : Function) (b k w : ℕ) (s : RuleOp) (i : Op) → IsSameOperation s i → length (operands_of s) ≡ length (reads_of f b k w i)
+arity_same f b k w (rule_ops.Binary opcode flags a c) (Binary opcode' flags' x y) same = refl
+arity_same f b k w (rule_ops.Compare pred a c) (Compare pred' compared x y) same = refl
+arity_same f b k w (rule_ops.Select c a d) (Select z x y) same = refl
+arity_same f b k w (rule_ops.Convert cast a to) (Convert cast' from x) same = refl
+arity_same f b k w s i same = absurd same
+
+-- each operand of the one stands for one of the other
+pub read_there : (f : Function) (b k w : ℕ) (s : RuleOp) (i : Op) → IsSameOperation s i → (n : ℕ) (o : RuleOperand) → slice_get (operands_of s) n ≡ Some o → (r : Read) × (slice_get (reads_of f b k w i) n ≡ Some r)
+read_there f b k w s i same n o at =
+    let here : n < length (operands_of s) = slice_get_within (operands_of s) n o at in
+    some_at (reads_of f b k w i) n (omega (arith, arity_same f b k w s i same, here))
+
+pub operand_there : (f : Function) (b k w : ℕ) (s : RuleOp) (i : Op) → IsSameOperation s i → (n : ℕ) (r : Read) → slice_get (reads_of f b k w i) n ≡ Some r → (o : RuleOperand) × (slice_get (operands_of s) n ≡ Some o)
+operand_there f b k w s i same n r at =
+    let here : n < length (reads_of f b k w i) = slice_get_within (reads_of f b k w i) n r at in
+    some_at (operands_of s) n (omega (arith, arity_same f b k w s i same, here))
+
+-- it reads all at its place
+IsHere : ℕ → ℕ → Read → Type 0
+IsHere b k r = (r.block ≡ b) × (r.place ≡ k)
+
+AllHere : ℕ → ℕ → List Read → Type 0
+AllHere b k reads = (n : ℕ) (r : Read) → slice_get reads n ≡ Some r → IsHere b k r
+
+none_here : (b k : ℕ) → AllHere b k []
+unfolding AllHere
+none_here b k n r at = absurd cc
+
+one_here : (b k w : ℕ) (x : Operand) (reads : List Read) → AllHere b k reads → AllHere b k (read b k w x ∷ reads)
+unfolding AllHere IsHere
+one_here b k w x reads rest zero r at = (ap (λ (r : Read). r.block) (sym (same_Some (read b k w x) r at)), ap (λ (r : Read). r.place) (sym (same_Some (read b k w x) r at)))
+one_here b k w x reads rest (suc n) r at = rest n r at
+
+all_here : (f : Function) (b k w : ℕ) (i : Op) → IsComputed i → AllHere b k (reads_of f b k w i)
+all_here f b k w (Binary opcode flags x y) is = one_here b k w x (read b k w y ∷ []) (one_here b k w y [] (none_here b k))
+all_here f b k w (Compare pred compared x y) is = one_here b k compared x (read b k compared y ∷ []) (one_here b k compared y [] (none_here b k))
+all_here f b k w (Select c x y) is = one_here b k 1 c (read b k w x ∷ read b k w y ∷ []) (one_here b k w x (read b k w y ∷ []) (one_here b k w y [] (none_here b k)))
+all_here f b k w (Convert cast from x) is = one_here b k from x [] (none_here b k)
+all_here f b k w (Freeze x) is = absurd is
+all_here f b k w (Phi entries) is = absurd is
+
+pub reads_here : (f : Function) (b k w : ℕ) (i : Op) → IsComputed i → (n : ℕ) (r : Read) → slice_get (reads_of f b k w i) n ≡ Some r → (r.block ≡ b) × (r.place ≡ k)
+unfolding AllHere IsHere
+reads_here f b k w i is = all_here f b k w i is
+
+module _ (typing : List ℕ) (f : Function) (b k w : ℕ) where
+  -- operands have the widths at which they are read
+  abbrev pub WidthsAgree : RuleOp → Op → Type 0
+  WidthsAgree s i = (n : ℕ) (o : RuleOperand) (r : Read) → slice_get (operands_of s) n ≡ Some o → slice_get (reads_of f b k w i) n ≡ Some r → slice_get typing o.class ≡ Some r.width
+
+  class_is : (a : RuleOperand) (M : ℕ) → slice_get typing a.class ≡ Some M → slice_index typing a.class ≡ M
+  class_is a M at = get_or_from_slice_get typing a.class M 0 at
+
+  -- the instruction allows what the statement computes, since it has all its flags
+  pub inst_allows : (s : RuleOp) (i : Op) → IsSameOperation s i → AreWithin (flags_of_statement s) (flags_of_inst i) → WidthsAgree s i → (v : ℕ → Value) → AllowsEffect (effect_of (computed_by w i) v) (effect_of (computed typing w s) v)
+  inst_allows (rule_ops.Binary opcode flags a c) (Binary opcode' flags' x y) same within widths v =
+      subst (λ (op : Opcode). AllowsEffect (instruction opcode' flags' w (v 0) (v 1)) (instruction op flags w (v 0) (v 1))) (sym same) (more_flags_allow flags flags' within opcode' w (v 0) (v 1))
+  inst_allows (rule_ops.Compare pred a c) (Compare pred' compared x y) same within widths v =
+      let width : slice_index typing a.class ≡ compared = class_is a compared (widths 0 a (read b k compared x) refl refl) in
+      let is : Compares pred' compared ≡ Compares pred (slice_index typing a.class) = cc in
+      subst (λ (c : Computation). AllowsEffect (effect_of (Compares pred' compared) v) (effect_of c v)) is (AllowsEffect-refl (effect_of (Compares pred' compared) v))
+  inst_allows (rule_ops.Select c a d) (Select z x y) same within widths v = AllowsEffect-refl (effect_of Selects v)
+  inst_allows (rule_ops.Convert cast a to) (Convert cast' from x) same within widths v =
+      let width : slice_index typing a.class ≡ from = class_is a from (widths 0 a (read b k from x) refl refl) in
+      let is : Converts cast' from w ≡ Converts cast (slice_index typing a.class) w = cc in
+      subst (λ (c : Computation). AllowsEffect (effect_of (Converts cast' from w) v) (effect_of c v)) is (AllowsEffect-refl (effect_of (Converts cast' from w) v))
+  inst_allows s i same within widths v = absurd same
+
+  -- and computes the same where it has no others
+  pub inst_same : (s : RuleOp) (i : Op) → IsSameOperation s i → flags_of_inst i ≡ flags_of_statement s → WidthsAgree s i → computed_by w i ≡ computed typing w s
+  inst_same (rule_ops.Binary opcode flags a c) (Binary opcode' flags' x y) same flags_same widths = cc
+  inst_same (rule_ops.Compare pred a c) (Compare pred' compared x y) same flags_same widths =
+      let width : slice_index typing a.class ≡ compared = class_is a compared (widths 0 a (read b k compared x) refl refl) in cc
+  inst_same (rule_ops.Select c a d) (Select z x y) same flags_same widths = refl
+  inst_same (rule_ops.Convert cast a to) (Convert cast' from x) same flags_same widths =
+      let width : slice_index typing a.class ≡ from = class_is a from (widths 0 a (read b k from x) refl refl) in cc
+  inst_same s i same flags_same widths = absurd same

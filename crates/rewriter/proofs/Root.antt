@@ -1,0 +1,110 @@
+-- The root's effect on what registers hold allows what the rule's source does with them.
+use Rattle.std.proofs.Common.{◌≡◌, ◌≢◌, ℕ, Bool, List, Some, refl, sym, ap, subst, ◌∙◌}
+use Rattle.std.specs.Prelude.{slice_get, Contains}
+use Rattle.std.proofs.lemmas.Option.{same_Some}
+use Rattle.ops.specs.Number.{Number}
+use Rattle.ops.specs.Value.{AllowsValue, AllowsEffect, IsValueOf}
+use Rattle.ops.specs.declared.value.Value.{Value}
+use Rattle.ops.specs.declared.value.Value.TheVariants as values
+use Rattle.ops.specs.declared.value.Effect.{Effect}
+use Rattle.ops.proofs.Values.{AllowsEffect-trans}
+use Rattle.ir_core.specs.Reads.{Read, reads_of}
+use Rattle.ir_core.specs.Run.{Registers, AnyNumber, OperandGives, OpGives, IsChosen}
+use Rattle.ir_core.specs.declared.function.Function.{Function}
+use Rattle.ir_core.specs.declared.operand.Operand.{Operand}
+use Rattle.ir_core.specs.declared.operand.Operand.TheVariants as operands
+use Rattle.ir_core.specs.declared.operand.Register.{Register}
+use Rattle.rule_core.specs.Checks.{IsRule, SourceMayRead}
+use Rattle.rule_core.specs.Positions.{operands_of, IsOperandAmong}
+use Rattle.rule_core.specs.Run.{Held, Given, StatementGives, OperandGives as RuleOperandGives, ArgumentGives}
+use Rattle.rule_core.specs.Typing.{IsTyping}
+use Rattle.rule_core.specs.declared.rule.Argument.{Argument}
+use Rattle.rule_core.specs.declared.rule.Argument.TheVariants as arguments
+use Rattle.rule_core.specs.declared.rule.Operand.{Operand as RuleOperand}
+use Rattle.rule_core.specs.declared.rule.Register.TheVariants as names
+use Rattle.rule_core.specs.declared.rule.Rule.{Rule}
+use Rattle.rule_core.specs.declared.rule.Statement.{Statement}
+use Rattle.rule_core.proofs.Members.{Contains-from_get}
+use Rattle.matcher.specs.Operands.{StandsFor, OperandMatches}
+use Rattle.matcher.specs.Statements.{StatementMatches}
+use Rattle.matcher.specs.declared.binding.Binding.{Binding}
+use Rattle.rewriter.proofs.Computing.{effect_of, computed, computed_by, IsComputed, collected, rule_gives, op_gives, effects_allow}
+use Rattle.rewriter.proofs.Matched.{read_there, operand_there, inst_allows}
+use Rattle.rewriter.proofs.Source.{IsDefined, Standing, argument_gives, operand_matches, widths_agree, may_read, among, truth_width, is_computed}
+
+-- an operand that isn't `undef` gives a value, if its register holds one
+defined_gives : (held : Registers) (w : ℕ) (a : Operand) → a ≢ operands.Undef → ((reg : Register) → a ≡ operands.Register reg → (v : Value) × (held reg ≡ Some v)) → (v : Value) × OperandGives AnyNumber held w a v
+defined_gives held w (operands.Register r) other holds = holds r refl
+defined_gives held w (operands.Number n) other holds = (values.Bits n, refl)
+defined_gives held w operands.Undef other holds = absurd (other refl)
+defined_gives held w operands.Poison other holds = (values.Poison, refl)
+
+-- `undef` alone stands for `undef`
+undef_alone : (binding : Binding) → (Contains binding.inputs operands.Undef → ⊥) → (N : ℕ) (a : Argument) → StandsFor binding N a operands.Undef → IsDefined a → ⊥
+undef_alone binding no_undef N (arguments.Register (names.Input i)) for defined = no_undef (Contains-from_get binding.inputs i operands.Undef for)
+undef_alone binding no_undef N (arguments.Register (names.Source i)) (reg, at, is) defined = cc
+undef_alone binding no_undef N (arguments.Register (names.Target i)) for defined = absurd for
+undef_alone binding no_undef N (arguments.Literal z) for defined = cc
+undef_alone binding no_undef N (arguments.Truth b) for defined = cc
+undef_alone binding no_undef N (arguments.Constant k) (n, at, fits, is) defined = cc
+undef_alone binding no_undef N (arguments.Undef k) for defined = defined k refl
+undef_alone binding no_undef N (arguments.Term n) for defined = absurd for
+
+chosen_bits : (N : ℕ) (n : Number) → IsValueOf N (values.Bits n) → IsChosen AnyNumber N (values.Bits n)
+chosen_bits N n (width, below) = (n.number, below, ap (λ (w : ℕ). values.Bits (record { width = w; number = n.number })) width)
+
+module _ (f : Function) (rule : Rule) (binding : Binding) (held : Registers) (no_undef : Contains binding.inputs operands.Undef → ⊥)
+    (given : Given) (constants : given.constants ≡ binding.constants) (j : ℕ) (H : Held) (standing : Standing f rule binding held j H) where
+  -- what an argument other than `undef` gives
+  defined_argument : (N : ℕ) (a : Argument) (x : Operand) → StandsFor binding N a x → SourceMayRead rule j a → IsDefined a → ((b : Bool) → a ≡ arguments.Truth b → N ≡ 1)
+      → ((reg : Register) → x ≡ operands.Register reg → (v : Value) × (held reg ≡ Some v))
+      → (v : Value) × OperandGives AnyNumber held N x v × ((u : Value) × ArgumentGives binding.typing given H N a u × AllowsValue v u)
+  defined_argument N a x for may defined one holds =
+      let other : x ≢ operands.Undef = λ is. undef_alone binding no_undef N a (subst (λ y. StandsFor binding N a y) is for) defined in
+      let v = defined_gives held N x other holds in
+      let u = argument_gives f rule binding held no_undef given constants j H standing N a x v.0 for may defined one v.1 in
+      (v.0, v.1, (u.0, u.1, u.2.0))
+
+  -- and at the root, where a literal `undef` may give any number
+  root_argument : (N : ℕ) (a : Argument) (x : Operand) → StandsFor binding N a x → SourceMayRead rule j a → ((b : Bool) → a ≡ arguments.Truth b → N ≡ 1)
+      → ((reg : Register) → x ≡ operands.Register reg → (v : Value) × (held reg ≡ Some v))
+      → ((k : ℕ) → a ≡ arguments.Undef k → (n : Number) × (slice_get given.choices k ≡ Some n) × IsValueOf N (values.Bits n))
+      → (v : Value) × OperandGives AnyNumber held N x v × ((u : Value) × ArgumentGives binding.typing given H N a u × AllowsValue v u)
+  root_argument N (arguments.Undef k) x for may one holds chosen =
+      let n = chosen k refl in
+      let any : OperandGives AnyNumber held N x (values.Bits n.0) = subst (λ y. OperandGives AnyNumber held N y (values.Bits n.0)) (sym for) (chosen_bits N n.0 n.2) in
+      (values.Bits n.0, any, (values.Bits n.0, (n.0, n.1, refl), refl))
+  root_argument N (arguments.Register r) x for may one holds chosen = defined_argument N (arguments.Register r) x for may (λ k is. cc) one holds
+  root_argument N (arguments.Literal z) x for may one holds chosen = defined_argument N (arguments.Literal z) x for may (λ k is. cc) one holds
+  root_argument N (arguments.Truth b) x for may one holds chosen = defined_argument N (arguments.Truth b) x for may (λ k is. cc) one holds
+  root_argument N (arguments.Constant c) x for may one holds chosen = defined_argument N (arguments.Constant c) x for may (λ k is. cc) one holds
+  root_argument N (arguments.Term n) x for may one holds chosen = absurd for
+
+  module _ (checked : IsRule rule) (typed : IsTyping rule binding.typing) (s : Statement) (at : slice_get rule.source j ≡ Some s) (m : StatementMatches f rule binding j s)
+      (holds : (n : ℕ) (r : Read) (reg : Register) → slice_get (reads_of f binding.block m.place m.inst.width m.inst.op) n ≡ Some r → r.operand ≡ operands.Register reg → (v : Value) × (held reg ≡ Some v))
+      (chosen : (k N : ℕ) (o : RuleOperand) → IsOperandAmong rule.source o → o.value ≡ arguments.Undef k → slice_get binding.typing o.class ≡ Some N → (n : Number) × (slice_get given.choices k ≡ Some n) × IsValueOf N (values.Bits n)) where
+    abbrev RootReads : List Read
+    RootReads = reads_of f binding.block m.place m.inst.width m.inst.op
+
+    -- the instruction's effect, and the statement's which it allows
+    pub root_allows : (source : Effect) × StatementGives binding.typing given H s source × ((e : Effect) × OpGives AnyNumber held m.inst.width m.inst.op e × AllowsEffect e source)
+    root_allows =
+        let is : IsComputed m.inst.op = is_computed f rule binding held checked typed j s at m in
+        let one : (n : ℕ) (r : Read) → slice_get RootReads n ≡ Some r → (x : Value) × (OperandGives AnyNumber held r.width r.operand x × ((o : RuleOperand) → slice_get (operands_of s.op) n ≡ Some o → (u : Value) × (RuleOperandGives binding.typing given H o u × AllowsValue x u))) = λ n r there.
+        let o = operand_there f binding.block m.place m.inst.width s.op m.inst.op m.matches.operation n r there in
+        let matches : OperandMatches binding o.0 r = operand_matches f rule binding held checked typed j s at m n o.0 r o.1 there in
+        let g = root_argument r.width o.0.value r.operand matches.value (may_read f rule binding held checked typed j s at m n o.0 o.1) (truth_width f rule binding held checked typed j s at m n o.0 r o.1 there)
+        (λ reg is. holds n r reg there is) (λ k is. chosen k r.width o.0 (among f rule binding held checked typed j s at m n o.0 o.1) is matches.width) in
+        (g.0, (g.1, λ p here. (g.2.0, (subst (λ q. RuleOperandGives binding.typing given H q g.2.0) (same_Some o.0 p (sym o.1 ∙ here)) (r.width, matches.width, g.2.1), g.2.2)))) in
+        let x = collected (λ n r v. OperandGives AnyNumber held r.width r.operand v × ((o : RuleOperand) → slice_get (operands_of s.op) n ≡ Some o → (u : Value) × (RuleOperandGives binding.typing given H o u × AllowsValue v u))) RootReads one in
+        let u = collected (λ n o v. RuleOperandGives binding.typing given H o v × AllowsValue (x.0 n) v) (operands_of s.op)
+        (λ n o here. let r = read_there f binding.block m.place m.inst.width s.op m.inst.op m.matches.operation n o here in (x.1 n r.0 r.1).1 o here) in
+        let source : Effect = effect_of (computed binding.typing m.inst.width s.op) u.0 in
+        let own : Effect = effect_of (computed binding.typing m.inst.width s.op) x.0 in
+        let e : Effect = effect_of (computed_by m.inst.width m.inst.op) x.0 in
+        let by_flags : AllowsEffect e own = inst_allows binding.typing f binding.block m.place m.inst.width s.op m.inst.op m.matches.operation m.matches.flags (widths_agree f rule binding held checked typed j s at m) x.0 in
+        let by_values : AllowsEffect own source = effects_allow binding.typing m.inst.width s.op x.0 u.0 (λ n o here. (u.1 n o here).1) in (
+          source,
+          (m.inst.width, m.matches.width, rule_gives binding.typing given H m.inst.width s.op u.0 (λ n o here. (u.1 n o here).0)),
+          (e, op_gives f binding.block m.place held m.inst.width m.inst.op x.0 is (λ n r there. (x.1 n r there).0), AllowsEffect-trans e own source by_flags by_values),
+        )

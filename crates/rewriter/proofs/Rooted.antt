@@ -1,0 +1,67 @@
+-- What a match gives to what is put: the root is there, all names are bound, and few instructions are put.
+use Rattle.std.proofs.Common.{◌≡◌, ℕ, suc, ◌+◌, ◌-◌, ◌<◌, ◌≤◌, List, [], ◌∷◌, ◌++◌, length, length-append, Some, None, Result, Ok, Err, subst, arith}
+use Rattle.std.specs.Prelude.{slice_get, OnOk}
+use Rattle.std.proofs.lemmas.Option.{slice_get_within}
+use Rattle.ir_core.specs.Blocks.{HasInst}
+use Rattle.ir_core.specs.Checks.{IsInst}
+use Rattle.ir_core.specs.Names.{Name}
+use Rattle.ir_core.specs.declared.function.Function.{Function}
+use Rattle.ir_core.specs.declared.instruction.Inst.{Inst}
+use Rattle.ir_meaning.proofs.Pieces.{some_at}
+use Rattle.rule_core.specs.Checks.{IsRule}
+use Rattle.rule_core.specs.declared.rule.Op.{Op as RuleOp}
+use Rattle.rule_core.specs.declared.rule.Op.TheVariants.{Binary, Compare, Select, Convert, Copy}
+use Rattle.rule_core.specs.declared.rule.Rule.{Rule}
+use Rattle.rule_core.specs.declared.rule.Statement.{Statement}
+use Rattle.matcher.specs.Match.{IsMatch}
+use Rattle.matcher.specs.Statements.{StatementMatches}
+use Rattle.matcher.specs.declared.binding.Binding.{Binding}
+use Rattle.matcher.proofs.Fitting.{constants_fit}
+use Rattle.rewriter.specs.Put.{class_width, insts_of_op, insts_with, insts_put}
+use Rattle.rewriter.specs.Ready.{IsBound}
+
+-- a fact of what is given follows from another
+pub on_ok : {T E P Q : Type 0} (r : Result T E) → (P → Q) → OnOk r P → OnOk r Q
+on_ok (Ok x) follows h = follows h
+on_ok (Err e) follows h = h
+
+module _ (f : Function) (rule : Rule) (binding : Binding) (is_rule : IsRule rule) (m : IsMatch f binding.block binding.place rule binding) where
+  pub is_bound : IsBound rule binding
+  is_bound = record {
+    statements = m.statement_count;
+    inputs = m.input_count;
+    typing = m.typing;
+    constants = constants_fit f rule binding is_rule m.typing m.constant_count m.statements;
+  }
+
+  -- the last source statement is bound to the root
+  pub root_there : (root : Inst) × IsInst f binding.block binding.place root
+  root_there =
+      let some = is_rule.source_root in
+      let last : ℕ = length rule.source - 1 in
+      let s : (s : Statement) × (slice_get rule.source last ≡ Some s) = some_at rule.source last (omega arith) in
+      let bound : StatementMatches f rule binding last s.0 = m.statements last s.0 s.1 in
+      let place : bound.place ≡ binding.place = bound.matches.root (omega arith) in
+      (bound.inst, subst (λ k. IsInst f binding.block k bound.inst) place bound.is_inst)
+
+  pub has_root : HasInst f binding.block binding.place
+  has_root = let root : IsInst f binding.block binding.place root_there.0 = root_there.1 in (root.block, root.is_block, slice_get_within root.block.insts binding.place root_there.0 root.is_inst)
+
+module _ (rule : Rule) (binding : Binding) where
+  one_put : (name : Name) (N : ℕ) (op : RuleOp) → length (insts_of_op rule binding name N op) ≤ 1
+  one_put name N (Binary opcode flags a b) = omega arith
+  one_put name N (Compare pred a b) = omega arith
+  one_put name N (Select c a b) = omega arith
+  one_put name N (Convert cast a to) = omega arith
+  one_put name N (Copy a) = omega arith
+
+  few_put : (name : Name) (statements : List Statement) → length (insts_put rule binding name statements) ≤ length statements
+  few_put name [] = omega arith
+  few_put name (s ∷ []) = one_put name (class_width rule binding s.class) s.op
+  few_put name (s ∷ t ∷ statements) =
+      let one : length (insts_with rule binding None s) ≤ 1 = one_put None (class_width rule binding s.class) s.op in
+      let rest : length (insts_put rule binding name (t ∷ statements)) ≤ length (t ∷ statements) = few_put name (t ∷ statements) in
+      omega (arith, length-append (insts_with rule binding None s) (insts_put rule binding name (t ∷ statements)))
+
+  pub most_put : IsRule rule → (name : Name) → length (insts_put rule binding name rule.target) ≤ 32
+  most_put is_rule name = let few = is_rule.few_in_target in omega (arith, few_put name rule.target)

@@ -1,0 +1,53 @@
+-- Lists that are changed item by item.
+use Rattle.std.proofs.Common.{◌≡◌, ℕ, suc, ◌+◌, ◌<◌, ◌≤◌, List, [], ◌∷◌, ◌++◌, length, take, drop, map, refl, sym, ap, subst, ◌∙◌, arith, get_or, All}
+use Rattle.std.proofs.Math.ListN.{set, length-set}
+use Rattle.std.proofs.Math.Seq.{drop-cons}
+use Rattle.std.proofs.lemmas.List.Elements.{All-get_or}
+use Rattle.std.proofs.lemmas.List.{take_all, take_more, take_more_set, drop-set-lt, map-append}
+
+-- the items before the index are changed by f, and from there on all are as they were
+pub record Mapped {A : Type 0} (f : A → A) (all : List A) (i : ℕ) (items : List A) : Type 0 where
+  pub done : take i items ≡ map f (take i all)
+  pub rest : drop i items ≡ drop i all
+  pub size : length items ≡ length all
+
+pub none_mapped : {A : Type 0} (f : A → A) (all : List A) → Mapped f all 0 all
+none_mapped f all = record { done = refl; rest = refl; size = refl }
+
+-- the next item is the old one
+pub next_unmapped : {A : Type 0} (f : A → A) (all : List A) (i : ℕ) (items : List A) (x : A) → Mapped f all i items → i < length items → x ≡ get_or items i x → x ≡ get_or all i x
+next_unmapped f all i items x m within here =
+    let size = m.size in
+    let same : get_or items i x ∷ drop (suc i) items ≡ get_or all i x ∷ drop (suc i) all = sym (drop-cons items i x within) ∙ m.rest ∙ drop-cons all i x (omega arith) in
+    let heads : get_or items i x ≡ get_or all i x = cc in
+    here ∙ heads
+
+pub map_more : {A : Type 0} (f : A → A) (all : List A) (i : ℕ) (items : List A) (x y : A) → Mapped f all i items → i < length items → x ≡ get_or items i x → y ≡ f x → Mapped f all (i + 1) (set items i y)
+map_more f all i items x y m within here is =
+    let size = m.size in
+    let next : suc i ≡ i + 1 = omega arith in
+    let inside : i < length all = omega arith in
+    let same : get_or items i x ∷ drop (suc i) items ≡ get_or all i x ∷ drop (suc i) all = sym (drop-cons items i x within) ∙ m.rest ∙ drop-cons all i x inside in
+    let tails : drop (suc i) items ≡ drop (suc i) all = cc in
+    let old : x ≡ get_or all i x = next_unmapped f all i items x m within here in
+    record {
+      done = take_more_set items i y within
+          ∙ ap (λ l. l ++ y ∷ []) m.done
+          ∙ ap (λ z. map f (take i all) ++ z ∷ []) (is ∙ ap f old)
+          ∙ sym (map-append f (take i all) (get_or all i x ∷ []))
+          ∙ ap (map f) (sym (take_more all i x inside));
+      rest = drop-set-lt (i + 1) items i y (omega arith) ∙ ap (λ n. drop n items) (sym next) ∙ tails ∙ ap (λ n. drop n all) next;
+      size = length-set items i y ∙ size;
+    }
+
+pub all_mapped : {A : Type 0} (f : A → A) (all : List A) (i : ℕ) (items : List A) → Mapped f all i items → length all ≤ i → items ≡ map f all
+all_mapped f all i items m past =
+    let size = m.size in
+    sym (take_all i items (omega arith)) ∙ m.done ∙ ap (map f) (take_all i all past)
+
+-- and what holds of each old item holds of it
+pub next_holds : {A : Type 0} (P : A → Type 0) (f : A → A) (all : List A) (i : ℕ) (items : List A) (x : A) → All P all → Mapped f all i items → i < length items → x ≡ get_or items i x → P (get_or items i x)
+next_holds P f all i items x holds m within here =
+    let size = m.size in
+    let old : get_or all i x ≡ get_or items i x = sym (next_unmapped f all i items x m within here) ∙ here in
+    subst P old (All-get_or P all i x (omega arith) holds)
