@@ -1,0 +1,20 @@
+-- What a function and a rule that are read meet.
+use Rattle.std.specs.Prelude.{◌-◌, ◌<◌, ◌^◌, length, All}
+use Rattle.ir_core.specs.Checks.{MeetsChecks}
+use Rattle.ir_core.specs.declared.function.Function.{Function}
+use Rattle.rule_core.specs.Checks.{IsRule}
+use Rattle.rule_core.specs.declared.rule.Rule.{Rule}
+use Rattle.rule_typing.specs.Classes.{IsClassified}
+use Rattle.rule_typing.specs.Faults.{HasNoFault}
+
+-- a function that is read, and no larger than what is counted in 32 bits
+pub record FunctionIsReady (f : Function) : Type 0 where
+  pub checks : MeetsChecks f
+  pub blocks : length f.blocks < 2 ^ 32
+  pub insts : All (λ b. length b.insts < 2 ^ 32 - 32) f.blocks
+
+-- a rule that is read
+pub record RuleIsReady (rule : Rule) : Type 0 where
+  pub checks : IsRule rule
+  pub classes : IsClassified rule
+  pub typed : HasNoFault rule
