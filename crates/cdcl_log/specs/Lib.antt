@@ -1,9 +1,2 @@
 pub use Rattle.clauses.specs.ClauseSet
-pub use Rattle.clauses.specs.Literal
-pub use Rattle.clauses.specs.Propagation
-pub mod Found
-pub mod TrailEntries
-pub mod Propagated
-pub mod OccurrenceLists
-pub mod DepthFirst
-pub mod Learned
+pub use Rattle.depth_first.specs.Found

@@ -1,23 +1,12 @@
 //! A search for a model of a clause set that logs what it learns.
 //!
-//! It is the search of Davis, Putnam, Logemann and Loveland (DPLL) with chronological backtracking. A decision
-//! makes the first variable without a value false, inputs before the others, and units are propagated, by lists
-//! of all clauses in which each literal stands. A conflict flips the last decision and keeps those before it.
-//!
-//! Of conflict-driven clause learning (CDCL) it has the simplest scheme: at each conflict it learns the clause of
-//! the negated decisions. The log keeps that clause with its hints (reverse unit propagation): the reasons, in
-//! order, of what the conflict rests on, and then the clause that is false. So the log is a refutation where the
-//! search ends without a model. The learned clause is the reason of the flipped decision, and is never propagated:
-//! the flipped decision satisfies it, and once that is taken back, an earlier decision that was flipped. There are
-//! no clauses of implication points, no jumps over decisions and no restarts.
+//! Up to twelve different inputs it goes depth first through their settings, and above that it learns from
+//! conflicts. Either log keeps each learned clause with its hints (reverse unit propagation), so it is a refutation
+//! where the search ends without a model.
 #![tactic(auto)]
 
-mod depth_first;
-mod found;
-mod learned;
-mod occurrences;
-mod propagation;
-mod trail;
+mod inputs;
+mod search_choice;
 
-pub use depth_first::search;
-pub use found::{Assignment, Found};
+pub use depth_first::{Assignment, Found};
+pub use search_choice::search;

@@ -1,5 +1,5 @@
 //! Operations on words, at tables and decided by the search, the sizes of clause sets, logs, and clauses in which a
-//! literal stands twice.
+//! literal stands twice, and colourings of numbers.
 
 mod decided;
 mod evaluated;
@@ -7,6 +7,7 @@ mod folded;
 mod graphs;
 mod logs;
 mod operations;
+mod progressions;
 mod repeated;
 mod sizes;
 mod tables;

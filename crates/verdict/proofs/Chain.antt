@@ -10,7 +10,7 @@ use Rattle.clauses.specs.ClauseSet.{all_clauses}
 use Rattle.clauses.specs.Settings.{StandsFor, input_values}
 use Rattle.clauses.proofs.SettingLemmas.{model_passes, none_passes, UnitsDetermine-from_StandsFor, input_values-assignment_of, StandsFor-same}
 use Rattle.cdcl_log.specs.Found.{IsModel, IsHonestLimit}
-use Rattle.cdcl_log.proofs.Leaves.{distinct_count_le}
+use Rattle.cdcl_log.proofs.DistinctCount.{distinct_count_le}
 use Rattle.rule_core.specs.declared.rule.Rule.{Rule}
 use Rattle.rule_core.specs.Checks.{IsRule}
 use Rattle.rule_core.specs.Typing.{IsTyping}

@@ -1,6 +1,0 @@
-use Rattle.std.proofs.Common.{◌≡◌, ◌-◌, map, take, drop}
-use Rattle.cdcl_log.specs.TrailEntries.{value_or_false}
-use Rattle.cdcl_log.proofs.trail.Trail.assignment.Given as goal
-
-abbrev pub invariant-loop-variable : goal.invariant-loop-variable
-invariant-loop-variable l = l.values ≡ map value_or_false (take (l.variable - 1) (drop 1 l.self.values.items))

@@ -1,5 +1,0 @@
-use Rattle.cdcl_log.proofs.Decisions.{LastBefore}
-use Rattle.cdcl_log.proofs.trail.Trail.last_decision.Given as goal
-
-abbrev pub invariant-loop-place : goal.invariant-loop-place
-invariant-loop-place l = LastBefore l.self.entries.items l.place l.last

@@ -1,0 +1,120 @@
+-- The decisions and the reasons of a trail, entry by entry.
+use Rattle.std.proofs.Common.{◌≡◌, ℕ, suc, ◌+◌, Bool, true, false, cond, List, [], ◌∷◌, ◌++◌, Some, None, Option, length, take, filter, get_or, ◌<◌, refl, sym, ap, ◌∙◌, arith, subst}
+use Rattle.std.specs.Prelude.{slice_get, MatchOption}
+use Rattle.std.specs.List.{cons_option}
+use Rattle.std.specs.Option.{option_to_list}
+use Rattle.clauses.specs.declared.literal.Lit.{Lit}
+use Rattle.clauses.specs.Literal.{negation_of}
+use Rattle.clauses.specs.Propagation.{negations_of}
+use Rattle.std.proofs.lemmas.List.{append-nil, map-append}
+use Rattle.std.proofs.lemmas.Option.{slice_get-get_or}
+use Rattle.std.proofs.lemmas.List.Elements.{filter-append, filter_map-append}
+use Rattle.depth_first.specs.declared.trail.Entry.{Entry}
+use Rattle.depth_first.specs.declared.trail.Cause.{Cause}
+use Rattle.depth_first.specs.declared.trail.Cause.TheVariants.{InputDecision, NonInputDecision, Reason}
+use Rattle.depth_first.specs.TrailEntries.{literals, decisions, reasons, is_decision, reason_of}
+use Rattle.depth_first.proofs.Lists.{take_next}
+use Rattle.depth_first.proofs.HeldLists.{literals-append}
+
+pub decisions-append : (xs ys : List Entry) → decisions (xs ++ ys) ≡ decisions xs ++ decisions ys
+decisions-append xs ys =
+    ap literals (filter-append (λ (e : Entry). is_decision e.cause) xs ys)
+    ∙ literals-append (filter (λ (e : Entry). is_decision e.cause) xs) (filter (λ (e : Entry). is_decision e.cause) ys)
+
+pub reasons-append : (xs ys : List Entry) → reasons (xs ++ ys) ≡ reasons xs ++ reasons ys
+reasons-append xs ys = filter_map-append (λ (e : Entry). reason_of e.cause) xs ys
+
+decisions_one : (e : Entry) (b : Bool) → is_decision e.cause ≡ b → decisions (e ∷ []) ≡ cond b (e.literal ∷ []) []
+decisions_one e true is = ap (λ c. literals (cond c (e ∷ []) [])) is
+decisions_one e false is = ap (λ c. literals (cond c (e ∷ []) [])) is
+
+-- the decisions up to a place and the entry there
+pub decisions_next : (entries : List Entry) (k : ℕ) (e : Entry) (b : Bool) → slice_get entries k ≡ Some e → is_decision e.cause ≡ b → decisions (take (k + 1) entries) ≡ decisions (take k entries) ++ cond b (e.literal ∷ []) []
+decisions_next entries k e b at is =
+    let next : k + 1 ≡ suc k = omega arith in
+    ap (λ n. decisions (take n entries)) next
+    ∙ ap decisions (take_next entries k e at)
+    ∙ decisions-append (take k entries) (e ∷ [])
+    ∙ ap (λ ls. decisions (take k entries) ++ ls) (decisions_one e b is)
+
+-- the last decision before a place
+abbrev pub LastBefore : List Entry → ℕ → Option ℕ → Type 0
+LastBefore entries n last =
+    MatchOption last (decisions (take n entries) ≡ []) (λ place.
+    (e : Entry) × (slice_get entries place ≡ Some e) × (is_decision e.cause ≡ true)
+    × (decisions (take n entries) ≡ decisions (take place entries) ++ e.literal ∷ []))
+
+pub LastBefore-decision : (entries : List Entry) (k : ℕ) (e : Entry) (last : Option ℕ) → slice_get entries k ≡ Some e → is_decision e.cause ≡ true → LastBefore entries (k + 1) (Some k)
+LastBefore-decision entries k e last at is = (e, at, is, decisions_next entries k e true at is)
+
+pub LastBefore-other : (entries : List Entry) (k : ℕ) (e : Entry) (last : Option ℕ) → slice_get entries k ≡ Some e → is_decision e.cause ≡ false → LastBefore entries k last → LastBefore entries (k + 1) last
+LastBefore-other entries k e None at isnt h =
+    decisions_next entries k e false at isnt ∙ append-nil (decisions (take k entries)) ∙ h
+LastBefore-other entries k e (Some place) at isnt h =
+    (h.0, h.1, h.2, decisions_next entries k e false at isnt ∙ append-nil (decisions (take k entries)) ∙ h.3)
+
+pub read_at : (entries items : List Entry) (k : ℕ) (d : Entry) → items ≡ entries → k < length items → slice_get entries k ≡ Some (get_or items k d)
+read_at entries items k d same within =
+    ap (λ es. slice_get es k) (sym same) ∙ slice_get-get_or items k d within
+
+-- the step of a walk along the entries
+pub LastBefore-step : (entries items : List Entry) (k : ℕ) (d : Entry) (last next : Option ℕ) (b : Bool) → items ≡ entries → k < length items → b ≡ is_decision (get_or items k d).cause → LastBefore entries k last → next ≡ cond b (Some k) last → LastBefore entries (k + 1) next
+LastBefore-step entries items k d last next true same within is h e =
+    subst (LastBefore entries (k + 1)) (sym e)
+    (LastBefore-decision entries k (get_or items k d) last (read_at entries items k d same within) (sym is))
+LastBefore-step entries items k d last next false same within is h e =
+    subst (LastBefore entries (k + 1)) (sym e)
+    (LastBefore-other entries k (get_or items k d) last (read_at entries items k d same within) (sym is) h)
+
+decided_without_reason : (cause : Cause) → reason_of cause ≡ None → is_decision cause ≡ true
+decided_without_reason InputDecision none = refl
+decided_without_reason NonInputDecision none = refl
+decided_without_reason (Reason number) none = cc
+
+not_decided : (cause : Cause) (n : ℕ) → reason_of cause ≡ Some n → is_decision cause ≡ false
+not_decided InputDecision n some = cc
+not_decided NonInputDecision n some = cc
+not_decided (Reason number) n some = refl
+
+reasons_next : (entries : List Entry) (k : ℕ) (e : Entry) (o : Option ℕ) → slice_get entries k ≡ Some e → reason_of e.cause ≡ o → reasons (take (k + 1) entries) ≡ reasons (take k entries) ++ option_to_list o
+reasons_next entries k e o at is =
+    let next : k + 1 ≡ suc k = omega arith in
+    ap (λ n. reasons (take n entries)) next
+    ∙ ap reasons (take_next entries k e at)
+    ∙ reasons-append (take k entries) (e ∷ [])
+    ∙ ap (λ ns. reasons (take k entries) ++ ns) (one (reason_of e.cause) ∙ ap option_to_list is)
+  where
+    one : (o : Option ℕ) → cons_option o [] ≡ option_to_list o
+    one None = refl
+    one (Some n) = refl
+
+-- the clause and the hints of a conflict, entry by entry
+pub clause_at_decision : (entries items : List Entry) (k : ℕ) (d : Entry) (clause next : List Lit) (o : Option ℕ) (n : Lit) → items ≡ entries → k < length items → o ≡ reason_of (get_or items k d).cause → o ≡ None → n ≡ negation_of (get_or items k d).literal → clause ≡ negations_of (decisions (take k entries)) → next ≡ clause ++ n ∷ [] → next ≡ negations_of (decisions (take (k + 1) entries))
+clause_at_decision entries items k d clause next o n same within is none is_n so_far e =
+    let x = get_or items k d in
+    let at : slice_get entries k ≡ Some x = read_at entries items k d same within in
+    let decided : is_decision x.cause ≡ true = decided_without_reason x.cause (sym is ∙ none) in
+    e
+    ∙ ap (λ c. c ++ n ∷ []) so_far
+    ∙ ap (λ m. negations_of (decisions (take k entries)) ++ m ∷ []) is_n
+    ∙ sym (map-append negation_of (decisions (take k entries)) (x.literal ∷ []))
+    ∙ sym (ap negations_of (decisions_next entries k x true at decided))
+
+pub clause_at_reason : (entries items : List Entry) (k : ℕ) (d : Entry) (clause next : List Lit) (o : Option ℕ) (n : ℕ) → items ≡ entries → k < length items → o ≡ reason_of (get_or items k d).cause → o ≡ Some n → clause ≡ negations_of (decisions (take k entries)) → next ≡ clause → next ≡ negations_of (decisions (take (k + 1) entries))
+clause_at_reason entries items k d clause next o n same within is some so_far e =
+    let x = get_or items k d in
+    let at : slice_get entries k ≡ Some x = read_at entries items k d same within in
+    let forced : is_decision x.cause ≡ false = not_decided x.cause n (sym is ∙ some) in
+    e ∙ so_far
+    ∙ sym (ap negations_of (decisions_next entries k x false at forced ∙ append-nil (decisions (take k entries))))
+
+pub hints_at_decision : (entries items : List Entry) (k : ℕ) (d : Entry) (hints next : List ℕ) (o : Option ℕ) → items ≡ entries → k < length items → o ≡ reason_of (get_or items k d).cause → o ≡ None → hints ≡ reasons (take k entries) → next ≡ hints → next ≡ reasons (take (k + 1) entries)
+hints_at_decision entries items k d hints next o same within is none so_far e =
+    let x = get_or items k d in
+    e ∙ so_far ∙ sym (reasons_next entries k x None (read_at entries items k d same within) (sym is ∙ none) ∙ append-nil (reasons (take k entries)))
+
+pub hints_at_reason : (entries items : List Entry) (k : ℕ) (d : Entry) (hints next : List ℕ) (o : Option ℕ) (n : ℕ) → items ≡ entries → k < length items → o ≡ reason_of (get_or items k d).cause → o ≡ Some n → hints ≡ reasons (take k entries) → next ≡ hints ++ n ∷ [] → next ≡ reasons (take (k + 1) entries)
+hints_at_reason entries items k d hints next o n same within is some so_far e =
+    let x = get_or items k d in
+    e ∙ ap (λ ns. ns ++ n ∷ []) so_far
+    ∙ sym (reasons_next entries k x (Some n) (read_at entries items k d same within) (sym is ∙ some))

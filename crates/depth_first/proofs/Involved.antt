@@ -1,0 +1,205 @@
+-- Which variables a conflict rests on, marked from the last entry back.
+use Rattle.std.proofs.Common.{◌≡◌, ℕ, zero, suc, ◌+◌, ◌<◌, Bool, true, false, cond, None, List, [], ◌∷◌, ◌++◌, Some, length, take, set, get_or, refl, sym, ap, ◌∙◌, arith, inl, inr, subst}
+use Rattle.std.specs.Prelude.{slice_get, ◌⊎◌, Option}
+use Rattle.std.proofs.lemmas.Bool.{cases_Bool, cases_eq, cases_order}
+use Rattle.std.proofs.lemmas.List.{get_or-set_same, get_or-set_other, get_or_read}
+use Rattle.clauses.specs.declared.literal.Lit.{Lit}
+use Rattle.clauses.specs.declared.cnf.Cnf.{Cnf}
+use Rattle.clauses.specs.declared.step.Step.{Step}
+use Rattle.clauses.specs.Literal.{negation_of, IsWithin}
+use Rattle.clauses.specs.Propagation.{is_held, is_false}
+use Rattle.clauses.proofs.Units.{unit_only}
+use Rattle.clauses.specs.ClauseSet.{all_clauses, clauses_of_steps, LogFollows, clauses_with}
+use Rattle.depth_first.specs.declared.trail.Entry.{Entry}
+use Rattle.depth_first.specs.declared.trail.Cause.{Cause}
+use Rattle.depth_first.specs.declared.trail.Cause.TheVariants.{InputDecision, NonInputDecision, Reason}
+use Rattle.depth_first.specs.TrailEntries.{literals, EachFresh, IsOpen, reasons, reason_of, EachForced}
+use Rattle.depth_first.specs.Learned.{is_marked, AllMarked, Marks, NamesMarked, IsInvolved, marked_entries}
+use Rattle.depth_first.proofs.Lists.{some_same, take_next, slice_get_cases, slice_get_in_take, take_take_below}
+use Rattle.depth_first.proofs.HeldLists.{held_left, held_cases, held_one_same, held_last, not_held_nil, both_held, open_not_held, open_not_false, literal_at, HeldWithin-take}
+use Rattle.depth_first.proofs.Derived.{next_reasons}
+use Rattle.depth_first.proofs.Decisions.{read_at}
+use Rattle.std.specs.List.{cons_option}
+use Rattle.std.specs.Option.{option_to_list}
+use Rattle.depth_first.proofs.Sets.{clause_within}
+
+pub Marks-start : (marks : List Bool) → Marks [] marks marks
+Marks-start marks =
+    record {
+      all = λ l h. absurd (not_held_nil l h);
+      kept = λ n h. h;
+      only = λ n h. inl h;
+    }
+
+-- a literal of the clause more
+pub Marks-next : (clause : List Lit) (old mid : List Bool) (k : ℕ) (l : Lit) → slice_get clause k ≡ Some l → l.variable < length mid → Marks (take k clause) old mid → Marks (take (k + 1) clause) old (set mid l.variable true)
+Marks-next clause old mid k l at room so_far =
+    let v = l.variable in
+    let next : take (k + 1) clause ≡ take k clause ++ l ∷ [] =
+    let e : k + 1 ≡ suc k = omega arith in ap (λ n. take n clause) e ∙ take_next clause k l at in
+    let here : is_marked (set mid v true) v ≡ true = get_or-set_same mid v true false room in
+    let keeps : (n : ℕ) → is_marked mid n ≡ true → is_marked (set mid v true) n ≡ true =
+    λ n h.
+    elim (cases_eq n v) [
+      | inl same ↦ ap (is_marked (set mid v true)) same ∙ here
+      | inr differ ↦ get_or-set_other mid v n true false differ ∙ h
+    ] in
+    record {
+      all = λ m h.
+          elim (held_cases (take k clause) (l ∷ []) m (sym (ap (λ c. is_held c m) next) ∙ h)) [
+            | inl before ↦ keeps m.variable (so_far.all m before)
+            | inr one ↦ ap (λ (x : Lit). is_marked (set mid v true) x.variable) (held_one_same l m one) ∙ here
+          ];
+      kept = λ n h. keeps n (so_far.kept n h);
+      only = λ n h.
+          elim (cases_eq n v) [
+            | inl same ↦ inr (l, ap (λ c. is_held c l) next ∙ held_last (take k clause) l, sym same)
+            | inr differ ↦
+                elim (so_far.only n (sym (get_or-set_other mid v n true false differ) ∙ h)) [
+                  | inl before ↦ inl before
+                  | inr (m, stands, is) ↦ inr (m, ap (λ c. is_held c m) next ∙ held_left (take k clause) (l ∷ []) m stands, is)
+                ]
+          ];
+    }
+
+named_marked : (clauses : List (List Lit)) (marks : List Bool) (number : ℕ) (clause : List Lit) → slice_get clauses number ≡ Some clause → AllMarked marks clause → NamesMarked clauses marks number
+named_marked clauses marks number clause at all c there l stands =
+    all l (ap (λ ls. is_held ls l) (some_same clause c (sym at ∙ there)) ∙ stands)
+
+-- before any entry is looked at
+pub IsInvolved-start : (clauses : List (List Lit)) (entries : List Entry) (conflict from : ℕ) (clause : List Lit) (old marks : List Bool) → from ≡ length entries → slice_get clauses conflict ≡ Some clause → Marks clause old marks → IsInvolved clauses entries conflict from marks
+IsInvolved-start clauses entries conflict from clause old marks is at m =
+    record {
+      falsified = named_marked clauses marks conflict clause at m.all;
+      reasons_too = λ place e number past there cause marked. absurd (omega (arith, is, slice_get_below' entries place e there));
+    }
+  where
+    slice_get_below' : (xs : List Entry) (k : ℕ) (x : Entry) → slice_get xs k ≡ Some x → k < length xs
+    slice_get_below' [] k x at = cc
+    slice_get_below' (z ∷ zs) zero x at = omega arith
+    slice_get_below' (z ∷ zs) (suc k) x at = let h : k < length zs = slice_get_below' zs k x at in omega arith
+
+-- an entry that isn't marked, or has no reason
+pub IsInvolved-skip : (clauses : List (List Lit)) (entries : List Entry) (conflict place from : ℕ) (e : Entry) (marks : List Bool) → from ≡ place + 1 → slice_get entries place ≡ Some e → ((number : ℕ) → e.cause ≡ Reason number → is_marked marks e.literal.variable ≡ true → ⊥) → IsInvolved clauses entries conflict from marks → IsInvolved clauses entries conflict place marks
+IsInvolved-skip clauses entries conflict place from e marks is at skips so_far =
+    record {
+      falsified = so_far.falsified;
+      reasons_too = λ k f number past there cause marked.
+          elim (cases_order k place) [
+            | inl same ↦
+                let es : f ≡ e = some_same f e (sym there ∙ ap (slice_get entries) same ∙ at) in
+                absurd (skips number (sym (ap (λ (g : Entry). g.cause) es) ∙ cause) (sym (ap (λ (g : Entry). is_marked marks g.literal.variable) es) ∙ marked))
+            | inr (inl less) ↦ absurd (omega arith)
+            | inr (inr more) ↦ so_far.reasons_too k f number (omega (arith, is)) there cause marked
+          ];
+    }
+
+-- the variables of a reason have values where it forces, so no later entry is of them
+set_before : (values : List (Option Bool)) (entries : List Entry) (place k : ℕ) (e f : Entry) (clause : List Lit) (l : Lit) → EachFresh values entries → slice_get entries place ≡ Some e → slice_get entries k ≡ Some f → place < k → (is_false (literals (take place entries)) l ≡ true) ⊎ (l ≡ e.literal) → l.variable ≡ f.literal.variable → ⊥
+set_before values entries place k e f clause l fresh at there later (inl closed) same =
+    let held = literals (take k entries) in
+    let within = HeldWithin-take place (take k entries) in
+    let same_first : take place (take k entries) ≡ take place entries = take_take_below place k entries (omega arith) in
+    both_held held (negation_of l)
+    (within.each (negation_of l) (ap (λ es. is_held (literals es) (negation_of l)) same_first ∙ closed))
+    (open_not_false held l (subst (IsOpen held) (sym same) (fresh k f there).2))
+set_before values entries place k e f clause l fresh at there later (inr is) same =
+    let held = literals (take k entries) in
+    both_held held l
+    (ap (is_held held) is ∙ literal_at (take k entries) place e (slice_get_in_take k entries place e at later))
+    (open_not_held held l (subst (IsOpen held) (sym same) (fresh k f there).2))
+
+-- an entry that is marked and has a reason, whose variables are then marked
+pub IsInvolved-mark : (clauses : List (List Lit)) (values : List (Option Bool)) (entries : List Entry) (conflict place from number : ℕ) (e : Entry) (clause : List Lit) (old new : List Bool) → EachFresh values entries → EachForced clauses entries → from ≡ place + 1 → slice_get entries place ≡ Some e → e.cause ≡ Reason number → slice_get clauses number ≡ Some clause → Marks clause old new → IsInvolved clauses entries conflict from old → IsInvolved clauses entries conflict place new
+IsInvolved-mark clauses values entries conflict place from number e clause old new fresh forced is at cause named marks so_far =
+    let before = literals (take place entries) in
+    let keep : (n : ℕ) → NamesMarked clauses old n → NamesMarked clauses new n = λ n h c there l stands. marks.kept l.variable (h c there l stands) in
+    let (reason, named', unit) = forced.each place e number at cause in
+    let same_clause : reason ≡ clause = some_same reason clause (sym named' ∙ named) in
+    record {
+      falsified = keep conflict so_far.falsified;
+      reasons_too = λ k f n past there cause' marked.
+          elim (cases_order k place) [
+            | inl same ↦
+                let es : f ≡ e = some_same f e (sym there ∙ ap (slice_get entries) same ∙ at) in
+                let numbers : n ≡ number = reason_same n number (sym cause' ∙ ap (λ (g : Entry). g.cause) es ∙ cause) in
+                subst (NamesMarked clauses new) (sym numbers) (named_marked clauses new number clause named marks.all)
+            | inr (inl less) ↦ absurd (omega arith)
+            | inr (inr more) ↦
+                elim (marks.only f.literal.variable marked) [
+                  | inl was ↦ keep n (so_far.reasons_too k f n (omega (arith, is)) there cause' was)
+                  | inr (l, stands, variable) ↦
+                      let in_reason : is_held reason l ≡ true = ap (λ ls. is_held ls l) same_clause ∙ stands in
+                      let set_there : (is_false before l ≡ true) ⊎ (l ≡ e.literal) =
+                      elim (cases_Bool (is_false before l)) [
+                        | inl closed ↦ inl closed
+                        | inr free ↦ inr (unit_only before reason e.literal l unit in_reason free)
+                      ] in
+                      absurd (set_before values entries place k e f clause l fresh at there more set_there variable)
+                ]
+          ];
+    }
+  where
+    reason_same : (n m : ℕ) → ◌≡◌ {A = Cause} (Reason n) (Reason m) → n ≡ m
+    reason_same n m e = cc
+
+-- the step whose clause has a number
+pub step_at : (log : List Step) (j : ℕ) (clause : List Lit) → slice_get (clauses_of_steps log) j ≡ Some clause → (s : Step) × (slice_get log j ≡ Some s) × (s.clause ≡ clause)
+step_at [] j clause at = cc
+step_at (s ∷ ss) zero clause at = (s, refl, some_same s.clause clause at)
+step_at (s ∷ ss) (suc j) clause at = step_at ss j clause at
+
+pub clause_of_step : (log : List Step) (j : ℕ) (s : Step) → slice_get log j ≡ Some s → slice_get (clauses_of_steps log) j ≡ Some s.clause
+clause_of_step [] j s at = cc
+clause_of_step (t ∷ ts) zero s at = let same : t ≡ s = cc in ap (λ (u : Step). Some u.clause) same
+clause_of_step (t ∷ ts) (suc j) s at = clause_of_step ts j s at
+
+-- the variables of the set's and the log's clauses are the set's
+pub with_within : (set : Cnf) (log : List Step) (number : ℕ) (clause : List Lit) → LogFollows set log → slice_get (clauses_with set log) number ≡ Some clause → IsWithin set.count clause
+with_within set log number clause follows at =
+    elim (slice_get_cases (all_clauses set) (clauses_of_steps log) number clause at) [
+      | inl left ↦ clause_within set number clause left
+      | inr (j, is, right) ↦
+          let (s, there, same) = step_at log j clause right in subst (IsWithin set.count) same (follows j s there).0
+    ]
+
+pub cause_of_reason : (cause : Cause) (n : ℕ) → reason_of cause ≡ Some n → cause ≡ Reason n
+cause_of_reason InputDecision n some = cc
+cause_of_reason NonInputDecision n some = cc
+cause_of_reason (Reason number) n some = let e : number ≡ n = cc in ap Reason e
+
+pub no_reason : (cause : Cause) (n : ℕ) → reason_of cause ≡ None → cause ≡ Reason n → ⊥
+no_reason cause n none is = let e : Some n ≡ None = sym (ap reason_of is) ∙ none in cc
+
+-- the hints, entry by entry
+pub hints_next : (entries items : List Entry) (k : ℕ) (d : Entry) (marks : List Bool) (hints next added : List ℕ) (o : Option ℕ) (b : Bool) → items ≡ entries → k < length items → o ≡ reason_of (get_or items k d).cause → is_marked marks (get_or items k d).literal.variable ≡ b → cond b (option_to_list o) [] ≡ added → hints ≡ reasons (marked_entries marks (take k entries)) → next ≡ hints ++ added → next ≡ reasons (marked_entries marks (take (k + 1) entries))
+hints_next entries items k d marks hints next added o b same within is marked adds so_far e =
+    let x = get_or items k d in
+    let suc_k : k + 1 ≡ suc k = omega arith in
+    let at : slice_get entries k ≡ Some x = read_at entries items k d same within in
+    e
+    ∙ ap (λ ns. ns ++ added) so_far
+    ∙ ap (λ ns. reasons (marked_entries marks (take k entries)) ++ ns) (sym adds ∙ one b (reason_of x.cause) is ∙ all x b)
+    ∙ sym (ap (λ n. reasons (marked_entries marks (take n entries))) suc_k ∙ next_reasons entries marks k x b at marked)
+  where
+    one : (b : Bool) (r : Option ℕ) → o ≡ r → cond b (option_to_list o) [] ≡ cond b (option_to_list r) []
+    one b r is = ap (λ p. cond b (option_to_list p) []) is
+
+    options : (p : Option ℕ) → option_to_list p ≡ cons_option p []
+    options None = refl
+    options (Some n) = refl
+
+    all : (x : Entry) (b : Bool) → cond b (option_to_list (reason_of x.cause)) [] ≡ reasons (cond b (x ∷ []) [])
+    all x true = options (reason_of x.cause)
+    all x false = refl
+
+pub none_added : (b : Bool) (o : Option ℕ) → o ≡ None → cond b (option_to_list o) [] ≡ []
+none_added true o none = ap option_to_list none
+none_added false o none = refl
+
+-- the mark that is read for an entry's variable
+pub mark_read : (entries items : List Entry) (k : ℕ) (d : Entry) (values : List (Option Bool)) (marks : List Bool) (mark b : Bool) → EachFresh values entries → length marks ≡ length values → items ≡ entries → k < length items → mark ≡ get_or marks (get_or items k d).literal.variable mark → mark ≡ b → is_marked marks (get_or items k d).literal.variable ≡ b
+mark_read entries items k d values marks mark b fresh size same within read is =
+    let x = get_or items k d in
+    let room = (fresh k x (read_at entries items k d same within)).1 in
+    sym (get_or_read marks x.literal.variable mark (omega (arith, room, size)) read false) ∙ is

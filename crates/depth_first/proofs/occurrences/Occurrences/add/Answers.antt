@@ -1,0 +1,19 @@
+use Rattle.std.proofs.Common.{arith}
+use Rattle.std.proofs.lemmas.Option.{slice_get-get_or}
+use Rattle.depth_first.proofs.Index.{AddsClause-next}
+use Rattle.depth_first.proofs.occurrences.Occurrences.add.Goals as goal
+
+pub loop-literal-preserved : goal.loop-literal-preserved
+loop-literal-preserved c =
+    record {
+      covers =
+          record {
+            positive = omega (arith, c.add_literal.ensures.positive, c.loop-literal.invariant.covers.positive);
+            negative = omega (arith, c.add_literal.ensures.negative, c.loop-literal.invariant.covers.negative);
+          };
+      adds =
+          AddsClause-next c.args.self.now c.loop-literal.self c.add_literal.new.self c.args.clause.now c.loop-literal.literal-index c.args.number _
+          (slice_get-get_or c.args.clause.now c.loop-literal.literal-index _ c.loop-literal-test.true)
+          c.loop-literal.invariant.adds
+          c.in_ok-add_literal.ensures.adds;
+    }

@@ -1,0 +1,10 @@
+use Rattle.std.proofs.Common.{length, take}
+use Rattle.depth_first.specs.OccurrenceLists.{CoversBelow, AddsClause}
+use Rattle.depth_first.proofs.occurrences.Occurrences.add.Given as goal
+
+abbrev pub invariant-loop-literal : goal.invariant-loop-literal
+invariant-loop-literal l =
+    record {
+      covers : CoversBelow (length l.initial.self.positive.items) l.self;
+      adds : AddsClause l.initial.self l.self (take l.literal-index l.clause) l.number;
+    }

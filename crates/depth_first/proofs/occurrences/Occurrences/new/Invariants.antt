@@ -1,0 +1,11 @@
+use Rattle.std.proofs.Common.{◌+◌}
+use Rattle.clauses.specs.ClauseSet.{all_clauses}
+use Rattle.depth_first.specs.OccurrenceLists.{CoversBelow, FindsBelow}
+use Rattle.depth_first.proofs.occurrences.Occurrences.new.Given as goal
+
+abbrev pub invariant-loop-number : goal.invariant-loop-number
+invariant-loop-number l =
+    record {
+      covers : CoversBelow (l.cnf.count + 1) l.occurrences;
+      finds : FindsBelow (all_clauses l.cnf) l.number l.occurrences;
+    }

@@ -1,0 +1,43 @@
+use Rattle.std.proofs.Common.{◌≡◌, ◌+◌, Some, false, length, ◌<◌, refl, ap, sym, ◌∙◌, arith}
+use Rattle.std.specs.Prelude.{slice_get, is_some}
+use Rattle.std.proofs.lemmas.Option.{slice_get_read}
+use Rattle.clauses.specs.Literal.{negation_of}
+use Rattle.clauses.specs.ClauseSet.{all_clauses}
+use Rattle.depth_first.specs.declared.trail.Entry.{Entry}
+use Rattle.depth_first.specs.OccurrenceLists.{numbers_of}
+use Rattle.depth_first.specs.Propagated.{PropagatesClauses}
+use Rattle.depth_first.proofs.Options.{IfNone_at}
+use Rattle.depth_first.proofs.PropagationLemmas.{Grows-then, IsPropagatedUpTo-next, AllPropagated-end}
+use Rattle.depth_first.proofs.propagation.propagate.Goals as goal
+
+pub returns-in_err-conflict-clause-grows : goal.returns-in_err-conflict-clause-grows
+returns-in_err-conflict-clause-grows c =
+    Grows-then _ _ _ _ c.loop-head.invariant.grows c.in_err-conflict.ensures.grows
+
+pub returns-then-is_some-clause-grows : goal.returns-then-is_some-clause-grows
+returns-then-is_some-clause-grows c =
+    Grows-then _ _ _ _ c.loop-head.invariant.grows c.in_ok-conflict.ensures.grows
+
+pub loop-head-preserved : goal.loop-head-preserved
+loop-head-preserved c =
+    let cs = all_clauses c.args.cnf.now in
+    let entries = c.loop-head.trail.entries.items in
+    let lists = c.args.occurrences.now in
+    let e : Entry = c.index.result.now in
+    let within : c.loop-head.head < length entries = omega (arith, c.loop-head-test.true, c.len.ensures) in
+    let here : slice_get entries c.loop-head.head ≡ Some e = slice_get_read entries (length entries) c.loop-head.head e refl within c.index.ensures in
+    let numbers : c.of.result.now ≡ numbers_of lists (negation_of e.literal) = c.of.ensures ∙ ap (numbers_of lists) c.negation-falsified.ensures in
+    let none : is_some c.in_ok-conflict.conflict ≡ false = sym c.is_some.ensures ∙ c.if-is_some.false in
+    record {
+      grows = Grows-then _ _ _ _ c.loop-head.invariant.grows c.in_ok-conflict.ensures.grows;
+      same_variables = c.in_ok-conflict.ensures.same_variables ∙ c.loop-head.invariant.same_variables;
+      up_to_head =
+          IfNone_at c.in_ok-conflict.conflict (PropagatesClauses cs c.of.result.now entries c.propagate_clauses.new.trail.entries.items) none c.in_ok-conflict.ensures.propagates
+          (c.loop-head.head + 1) (omega (arith, within))
+          (IsPropagatedUpTo-next cs lists entries c.loop-head.head e c.of.result.now c.requires.index.all here numbers c.loop-head.invariant.up_to_head);
+    }
+
+pub returns-clause-propagated : goal.returns-clause-propagated
+returns-clause-propagated c =
+    AllPropagated-end (all_clauses c.args.cnf.now) c.loop-head.trail.entries.items c.loop-head.head
+    (omega (arith, c.loop-head-test.false, c.len.ensures)) c.loop-head.invariant.up_to_head

@@ -1,0 +1,16 @@
+use Rattle.std.proofs.Common.{◌≡◌, ℕ, ◌≤◌, length}
+use Rattle.clauses.specs.ClauseSet.{all_clauses}
+use Rattle.depth_first.specs.TrailEntries.{Grows}
+use Rattle.depth_first.specs.Propagated.{IsPropagatedBut}
+use Rattle.depth_first.proofs.propagation.propagate_clauses.Given as goal
+
+abbrev pub invariant-loop-number : goal.invariant-loop-number
+invariant-loop-number l =
+    record {
+      grows : Grows (all_clauses l.cnf) l.initial.trail.entries.items l.trail.entries.items;
+      same_variables : length l.trail.values.items ≡ length l.initial.trail.values.items;
+      up_to_head :
+          (head : ℕ) → head ≤ length l.initial.trail.entries.items →
+          IsPropagatedBut (all_clauses l.cnf) l.numbers 0 l.initial.trail.entries.items head →
+          IsPropagatedBut (all_clauses l.cnf) l.numbers l.number-index l.trail.entries.items head;
+    }

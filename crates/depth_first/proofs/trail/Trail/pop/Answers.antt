@@ -1,0 +1,32 @@
+use Rattle.std.proofs.Common.{refl, ◌≡◌, None, length, subst, arith, length-set, ◌++◌, ◌∷◌, []}
+use Rattle.std.proofs.lemmas.List.{length_push}
+use Rattle.depth_first.specs.TrailEntries.{IsTableOf, EachFresh}
+use Rattle.depth_first.proofs.TrailTable.{IsTableOf-pop, EachFresh-pop, open_count-pop, last_fresh}
+use Rattle.depth_first.proofs.HeldLists.{literal_at}
+use Rattle.depth_first.proofs.Lists.{slice_get_last}
+use Rattle.depth_first.proofs.trail.Trail.pop.Goals as goal
+
+pub invariant_of-self : goal.invariant_of-self
+invariant_of-self c =
+    let trail = c.args.self.now in
+    let values = trail.values.items in
+    let entries = c.pop.new.self.items in
+    let e = c.in-Some.entry in
+    let l = e.literal in
+    let was : trail.entries.items ≡ entries ++ e ∷ [] = c.in-Some.ensures.items in
+    let table : IsTableOf values (entries ++ e ∷ []) = subst (IsTableOf values) was trail.table in
+    let fresh : EachFresh values (entries ++ e ∷ []) = subst (EachFresh values) was trail.fresh in
+    let last = last_fresh values entries e fresh in
+    record {
+      table = IsTableOf-pop values entries e table last.0 last.1;
+      fresh = EachFresh-pop values entries e l.variable None fresh;
+      counted =
+          omega (
+            arith,
+            trail.counted,
+            subst (λ es. length trail.entries.items ≡ length es) was refl,
+            length_push entries e,
+            length-set values l.variable None,
+            open_count-pop values (entries ++ e ∷ []) l table last.0 (literal_at (entries ++ e ∷ []) (length entries) e (slice_get_last entries e)),
+          );
+    }

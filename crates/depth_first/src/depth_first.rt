@@ -1,0 +1,150 @@
+//! Going down decision by decision.
+
+ghost use Rattle.std.specs.Prelude.{◌≡◌, ◌+◌, ◌<◌, ◌≤◌, ◌↔◌, ℕ, Contains, length, IfOk, IfSome, IfNone, IsTrue};
+ghost use Rattle.clauses.specs.Literal.{IsVariable};
+ghost use Rattle.clauses.specs.Propagation.{NamesFalse};
+ghost use Rattle.clauses.specs.ClauseSet.{all_clauses};
+ghost use Rattle.depth_first.specs.Found.{IsFound, distinct_count};
+ghost use Rattle.depth_first.specs.TrailEntries.{literals, Grows, IsOpen, IsSet};
+ghost use Rattle.depth_first.specs.Propagated.{IsPropagatedUpTo};
+ghost use Rattle.depth_first.specs.DepthFirst.{InputsSet, IsNext};
+
+use crate::Found;
+use crate::learned::{learned, refutation};
+use crate::occurrences::Occurrences;
+use crate::propagation::{propagate, propagate_clauses};
+use crate::trail::{Cause, Entry, Trail};
+use clauses::{Cnf, Lit};
+use lists::List;
+use std::alloc::{AllocError, Global};
+
+/// Propagates each clause of the set once, by what is held at the start.
+fn propagate_all_clauses(
+    alloc: Global,
+    cnf: &Cnf,
+    trail: &mut Trail,
+) -> Result<Option<u32>, AllocError>
+    requires variables { length trail.old.values.items ≡ cnf.now.count + 1 }
+    ensures grows { Grows (all_clauses cnf.now) trail.old.entries.items trail.new.entries.items }
+    ensures same_variables { length trail.new.values.items ≡ length trail.old.values.items }
+    ensures up_to_head { IfOk result (λ conflict. IfNone conflict (IsPropagatedUpTo (all_clauses cnf.now) trail.new.entries.items 0)) }
+    ensures falsified { IfOk result (λ conflict. IfSome conflict (NamesFalse (all_clauses cnf.now) (literals trail.new.entries.items))) }
+{
+    let mut numbers = Vec::new(alloc);
+    for number in 0..cnf.clause_count() {
+        numbers.push(number)?;
+    }
+    propagate_clauses(cnf, &numbers, trail)
+}
+
+/// The first input that isn't set.
+fn open_input(cnf: &Cnf, trail: &Trail) -> Option<u32>
+    requires { length trail.now.values.items ≡ cnf.now.count + 1 }
+    ensures found { IfSome result (λ n. Contains cnf.now.inputs n × IsOpen (literals trail.now.entries.items) n) }
+    ensures none { IfNone result (InputsSet cnf.now (literals trail.now.entries.items)) }
+{
+    for &variable in cnf.inputs.as_slice() {
+        if trail.value(variable).is_none() {
+            return Some(variable);
+        }
+    }
+    None
+}
+
+/// The first variable that isn't set.
+fn open_variable(cnf: &Cnf, trail: &Trail) -> Option<u32>
+    requires { length trail.now.values.items ≡ cnf.now.count + 1 }
+    ensures found { IfSome result (λ n. IsVariable cnf.now.count n × IsOpen (literals trail.now.entries.items) n) }
+    ensures none { IfNone result ((n : ℕ) → IsVariable cnf.now.count n → IsSet (literals trail.now.entries.items) n) }
+{
+    for variable in 1..cnf.count + 1 {
+        if trail.value(variable).is_none() {
+            return Some(variable);
+        }
+    }
+    None
+}
+
+/// The value false for the first variable that isn't set, inputs before the others.
+fn next_decision(cnf: &Cnf, trail: &Trail) -> Option<Entry>
+    requires { length trail.now.values.items ≡ cnf.now.count + 1 }
+    ensures found { IfSome result (IsNext cnf.now (literals trail.now.entries.items)) }
+    ensures none { IfNone result ((n : ℕ) → IsVariable cnf.now.count n → IsSet (literals trail.now.entries.items) n) }
+{
+    if let Some(variable) = open_input(cnf, trail) {
+        return Some(decision(variable, Cause::InputDecision));
+    }
+    if let Some(variable) = open_variable(cnf, trail) {
+        return Some(decision(variable, Cause::NonInputDecision));
+    }
+    None
+}
+
+/// A variable decided to be false.
+fn decision(variable: u32, cause: Cause) -> Entry
+    ensures variable { result.literal.variable ≡ variable }
+    ensures cause { result.cause ≡ cause }
+{
+    let literal = Lit {
+        variable,
+        negated: true,
+    };
+    Entry { literal, cause }
+}
+
+/// Whether the search may give up at a conflict under this last decision: the inputs are set, and units didn't
+/// determine the rest.
+fn may_give_up(last: Entry) -> bool
+    ensures { IsTrue result ↔ (last.cause ≡ Cause.NonInputDecision) }
+{
+    match last.cause {
+        Cause::NonInputDecision => true,
+        Cause::InputDecision | Cause::Reason(_) => false,
+    }
+}
+
+/// Searches for a model of all clauses, and gives up after `limit` learned clauses. The empty clause that ends a
+/// refutation isn't counted. A limit is at most 1,000,000, so that clause numbers fit a `u32`.
+///
+/// At most twelve inputs are named, one that is named again counted once. The search goes on past the limit as long
+/// as it has decided inputs alone, so that it gives up on no set in which units determine the rest.
+///
+/// A decision looks through the variables, and a conflict through the trail: the learned clause may be as long as
+/// that anyway.
+///
+/// The only error is want of memory.
+pub fn search(alloc: Global, cnf: &Cnf, limit: u32) -> Result<Found, AllocError>
+    requires limit { limit ≤ 1000000 }
+    requires few { distinct_count cnf.now.inputs ≤ 12 }
+    ensures { IfOk result (IsFound cnf.now limit) }
+{
+    let occurrences = Occurrences::new(alloc, cnf)?;
+    let mut trail = Trail::new(alloc, cnf.count)?;
+    let mut log = Vec::new(alloc);
+    if let Some(conflict) = propagate_all_clauses(alloc, cnf, &mut trail)? {
+        return Ok(Found::Unsat(refutation(alloc, cnf, &trail, log, conflict)?));
+    }
+    let mut head = 0;
+    loop {
+        let Some(conflict) = propagate(cnf, &occurrences, &mut trail, head)? else {
+            let Some(entry) = next_decision(cnf, &trail) else {
+                return Ok(Found::Sat(trail.assignment(alloc)?));
+            };
+            head = trail.entries.len();
+            trail.push(entry)?;
+            continue;
+        };
+        let Some(place) = trail.last_decision() else {
+            let refutation = refutation(alloc, cnf, &trail, log, conflict)?;
+            return Ok(Found::Unsat(refutation));
+        };
+        if log.len() >= limit as usize && may_give_up(trail.entries[place]) {
+            log.truncate(limit as usize);
+            return Ok(Found::Limit(List::from_vec(log)));
+        }
+        let number = cnf.clause_count() + log.len() as u32;
+        log.push(learned(alloc, cnf, &log, &trail, conflict)?)?;
+        trail.flip_decision(place, number)?;
+        head = place;
+    }
+}

@@ -1,0 +1,12 @@
+pub mod Sets
+pub mod Listing
+pub mod LookLemmas
+pub mod Guards
+pub mod Additions
+pub mod StartLemmas
+pub mod RoleLemmas
+pub mod Resolved
+pub mod Analysed
+pub mod Measure
+pub mod Learnt
+pub mod SearchLemmas

@@ -1,0 +1,270 @@
+-- The parts of variables in a conflict, step by step.
+use Rattle.std.proofs.Common.{◌≡◌, ℕ, zero, suc, ◌+◌, ◌<◌, ◌≤◌, Bool, true, false, cond, List, [], ◌∷◌, ◌++◌, Option, Some, None, length, take, set, get_or, refl, sym, ap, ◌∙◌, arith, inl, inr, subst}
+use Rattle.std.specs.Prelude.{slice_get, ◌⊎◌}
+use Rattle.std.proofs.lemmas.Bool.{cases_Bool, cases_eq, cases_order, true≢false}
+use Rattle.std.proofs.lemmas.List.{get_or-set_same, get_or-set_other}
+use Rattle.clauses.specs.declared.literal.Lit.{Lit}
+use Rattle.clauses.specs.Literal.{negation_of}
+use Rattle.clauses.specs.Propagation.{is_held, is_false}
+use Rattle.clauses.proofs.Units.{unit_only}
+use Rattle.depth_first.specs.declared.trail.Entry.{Entry}
+use Rattle.depth_first.specs.declared.trail.Cause.TheVariants.{InputDecision, NonInputDecision, Reason}
+use Rattle.depth_first.specs.TrailEntries.{literals, EachFresh, IsOpen, is_decision, reason_of, reasons}
+use Rattle.depth_first.specs.declared.trail.Cause.{Cause}
+use Rattle.depth_first.proofs.Lists.{some_same, take_next, slice_get_in_take, take_take_below}
+use Rattle.depth_first.proofs.HeldLists.{held_left, held_cases, held_one_same, held_last, not_held_nil, both_held, open_not_held, open_not_false, literal_at, HeldWithin-take}
+use Rattle.depth_first.specs.TrailEntries.{EachForced}
+use Rattle.depth_first.proofs.Decisions.{reasons-append}
+use Rattle.std.specs.Option.{option_to_list}
+use Rattle.std.proofs.lemmas.List.Elements.{filter-append}
+use denote.Enum.Bare.{sameb}
+use Rattle.first_uip.specs.contracts.roles.Role.{the_type}
+use Rattle.first_uip.specs.declared.roles.Role.{Role}
+use Rattle.first_uip.specs.declared.roles.Role.TheVariants.{Unseen, Resolved, Kept}
+use Rattle.first_uip.specs.Conflict.{role_of, is_seen, is_kept, is_resolved, part_of, AllSeen, Sees, NamesSeen, IsResolution, NoneSeen, NoneDecided, resolved_entries}
+
+pub Sees-start : (roles : List Role) → Sees [] roles roles
+Sees-start roles =
+    record {
+      all = λ l h. absurd (not_held_nil l h);
+      still = λ n h. h;
+      same_kept = λ n. refl;
+      only = λ n h. inl h;
+    }
+
+next_clause : (clause : List Lit) (k : ℕ) (l : Lit) → slice_get clause k ≡ Some l → take (k + 1) clause ≡ take k clause ++ l ∷ []
+next_clause clause k l at = let e : k + 1 ≡ suc k = omega arith in ap (λ n. take n clause) e ∙ take_next clause k l at
+
+-- a literal of the clause more, whose variable was seen
+pub Sees-skip : (clause : List Lit) (old mid : List Role) (k : ℕ) (l : Lit) → slice_get clause k ≡ Some l → is_seen (role_of mid l.variable) ≡ true → Sees (take k clause) old mid → Sees (take (k + 1) clause) old mid
+Sees-skip clause old mid k l at seen so_far =
+    let next = next_clause clause k l at in
+    record {
+      all = λ m h.
+          elim (held_cases (take k clause) (l ∷ []) m (sym (ap (λ c. is_held c m) next) ∙ h)) [
+            | inl before ↦ so_far.all m before
+            | inr one ↦ ap (λ (x : Lit). is_seen (role_of mid x.variable)) (held_one_same l m one) ∙ seen
+          ];
+      still = so_far.still;
+      same_kept = so_far.same_kept;
+      only = λ n h.
+          elim (so_far.only n h) [
+            | inl before ↦ inl before
+            | inr (m, stands, is) ↦ inr (m, ap (λ c. is_held c m) next ∙ held_left (take k clause) (l ∷ []) m stands, is)
+          ];
+    }
+
+unseen_kept : (r : Role) → r ≡ Unseen → is_kept r ≡ false
+unseen_kept r is = ap is_kept is
+
+-- one whose variable wasn't
+pub Sees-next : (clause : List Lit) (old mid : List Role) (k : ℕ) (l : Lit) → slice_get clause k ≡ Some l → l.variable < length mid → role_of mid l.variable ≡ Unseen → Sees (take k clause) old mid → Sees (take (k + 1) clause) old (set mid l.variable Resolved)
+Sees-next clause old mid k l at room unseen so_far =
+    let v = l.variable in
+    let new = set mid v Resolved in
+    let next = next_clause clause k l at in
+    let here : role_of new v ≡ Resolved = get_or-set_same mid v Resolved Unseen room in
+    let there : (n : ℕ) → (n ≡ v → ⊥) → role_of new n ≡ role_of mid n = λ n differ. get_or-set_other mid v n Resolved Unseen differ in
+    let keeps : (n : ℕ) → is_seen (role_of mid n) ≡ true → is_seen (role_of new n) ≡ true =
+    λ n h.
+    elim (cases_eq n v) [
+      | inl same ↦ ap (λ k. is_seen (role_of new k)) same ∙ ap is_seen here
+      | inr differ ↦ ap is_seen (there n differ) ∙ h
+    ] in
+    record {
+      all = λ m h.
+          elim (held_cases (take k clause) (l ∷ []) m (sym (ap (λ c. is_held c m) next) ∙ h)) [
+            | inl before ↦ keeps m.variable (so_far.all m before)
+            | inr one ↦ ap (λ (x : Lit). is_seen (role_of new x.variable)) (held_one_same l m one) ∙ ap is_seen here
+          ];
+      still = λ n h. keeps n (so_far.still n h);
+      same_kept = λ n.
+          elim (cases_eq n v) [
+            | inl same ↦
+                ap (λ k. is_kept (role_of new k)) same ∙ ap is_kept here ∙ sym (ap is_kept unseen) ∙ sym (ap (λ k. is_kept (role_of mid k)) same) ∙ so_far.same_kept n
+            | inr differ ↦ ap is_kept (there n differ) ∙ so_far.same_kept n
+          ];
+      only = λ n h.
+          elim (cases_eq n v) [
+            | inl same ↦ inr (l, ap (λ c. is_held c l) next ∙ held_last (take k clause) l, sym same)
+            | inr differ ↦
+                elim (so_far.only n (sym (ap is_seen (there n differ)) ∙ h)) [
+                  | inl before ↦ inl before
+                  | inr (m, stands, is) ↦ inr (m, ap (λ c. is_held c m) next ∙ held_left (take k clause) (l ∷ []) m stands, is)
+                ]
+          ];
+    }
+
+named_seen : (clauses : List (List Lit)) (roles : List Role) (number : ℕ) (clause : List Lit) → slice_get clauses number ≡ Some clause → AllSeen roles clause → NamesSeen clauses roles number
+named_seen clauses roles number clause at all c there l stands =
+    all l (ap (λ ls. is_held ls l) (some_same clause c (sym at ∙ there)) ∙ stands)
+
+-- where no entry was looked at
+pub IsResolution-start : (clauses : List (List Lit)) (entries : List Entry) (conflict : ℕ) (clause : List Lit) (old roles : List Role) → slice_get clauses conflict ≡ Some clause → Sees clause old roles → IsResolution clauses entries conflict (length entries) roles
+IsResolution-start clauses entries conflict clause old roles at sees =
+    record {
+      falsified = named_seen clauses roles conflict clause at sees.all;
+      reasons_too = λ place e past there seen kept. absurd (omega (arith, past, below entries place e there));
+    }
+  where
+    below : (xs : List Entry) (k : ℕ) (x : Entry) → slice_get xs k ≡ Some x → k < length xs
+    below [] k x at = cc
+    below (z ∷ zs) zero x at = omega arith
+    below (z ∷ zs) (suc k) x at = let h : k < length zs = below zs k x at in omega arith
+
+-- an entry that isn't seen, or is kept
+pub IsResolution-skip : (clauses : List (List Lit)) (entries : List Entry) (conflict place : ℕ) (e : Entry) (roles : List Role) → slice_get entries place ≡ Some e → (is_seen (part_of roles e) ≡ true → is_kept (part_of roles e) ≡ false → ⊥) → IsResolution clauses entries conflict (place + 1) roles → IsResolution clauses entries conflict place roles
+IsResolution-skip clauses entries conflict place e roles at skips so_far =
+    record {
+      falsified = so_far.falsified;
+      reasons_too = λ k f past there seen kept.
+          elim (cases_order k place) [
+            | inl same ↦
+                let es : f ≡ e = some_same f e (sym there ∙ ap (slice_get entries) same ∙ at) in
+                absurd (skips (sym (ap (λ (g : Entry). is_seen (part_of roles g)) es) ∙ seen) (sym (ap (λ (g : Entry). is_kept (part_of roles g)) es) ∙ kept))
+            | inr (inl less) ↦ absurd (omega arith)
+            | inr (inr more) ↦ so_far.reasons_too k f (omega arith) there seen kept
+          ];
+    }
+
+-- the variables of a reason have values where it forces, so no later entry is of them
+set_before : (values : List (Option Bool)) (entries : List Entry) (place k : ℕ) (e f : Entry) (l : Lit) → EachFresh values entries → slice_get entries place ≡ Some e → slice_get entries k ≡ Some f → place < k → (is_false (literals (take place entries)) l ≡ true) ⊎ (l ≡ e.literal) → l.variable ≡ f.literal.variable → ⊥
+set_before values entries place k e f l fresh at there later (inl closed) same =
+    let held = literals (take k entries) in
+    let within = HeldWithin-take place (take k entries) in
+    let same_first : take place (take k entries) ≡ take place entries = take_take_below place k entries (omega arith) in
+    both_held held (negation_of l)
+    (within.each (negation_of l) (ap (λ es. is_held (literals es) (negation_of l)) same_first ∙ closed))
+    (open_not_false held l (subst (IsOpen held) (sym same) (fresh k f there).2))
+set_before values entries place k e f l fresh at there later (inr is) same =
+    let held = literals (take k entries) in
+    both_held held l
+    (ap (is_held held) is ∙ literal_at (take k entries) place e (slice_get_in_take k entries place e at later))
+    (open_not_held held l (subst (IsOpen held) (sym same) (fresh k f there).2))
+
+-- entries are of different variables
+pub other_entry : (values : List (Option Bool)) (entries : List Entry) (place k : ℕ) (e f : Entry) → EachFresh values entries → slice_get entries place ≡ Some e → slice_get entries k ≡ Some f → place < k → e.literal.variable ≡ f.literal.variable → ⊥
+other_entry values entries place k e f fresh at there later same =
+    set_before values entries place k e f e.literal fresh at there later (inr refl) same
+
+-- an entry that is resolved: the variables of its reason are seen
+pub IsResolution-see : (clauses : List (List Lit)) (values : List (Option Bool)) (entries : List Entry) (conflict place number : ℕ) (e : Entry) (clause : List Lit) (old new : List Role) → EachFresh values entries → EachForced clauses entries → slice_get entries place ≡ Some e → e.cause ≡ Reason number → slice_get clauses number ≡ Some clause → Sees clause old new → IsResolution clauses entries conflict (place + 1) old → IsResolution clauses entries conflict place new
+IsResolution-see clauses values entries conflict place number e clause old new fresh forced at cause named sees so_far =
+    let before = literals (take place entries) in
+    let keep : (n : ℕ) → NamesSeen clauses old n → NamesSeen clauses new n = λ n h c there l stands. sees.still l.variable (h c there l stands) in
+    let (reason, named', unit) = forced.each place e number at cause in
+    let same_clause : reason ≡ clause = some_same reason clause (sym named' ∙ named) in
+    record {
+      falsified = keep conflict so_far.falsified;
+      reasons_too = λ k f past there seen kept.
+          elim (cases_order k place) [
+            | inl same ↦
+                let es : f ≡ e = some_same f e (sym there ∙ ap (slice_get entries) same ∙ at) in
+                (number, ap (λ (g : Entry). g.cause) es ∙ cause, named_seen clauses new number clause named sees.all)
+            | inr (inl less) ↦ absurd (omega arith)
+            | inr (inr more) ↦
+                elim (sees.only f.literal.variable seen) [
+                  | inl was ↦
+                      let (n, is, all) = so_far.reasons_too k f (omega arith) there was (sym (sees.same_kept f.literal.variable) ∙ kept) in
+                      (n, is, keep n all)
+                  | inr (l, stands, variable) ↦
+                      let in_reason : is_held reason l ≡ true = ap (λ ls. is_held ls l) same_clause ∙ stands in
+                      let set_there : (is_false before l ≡ true) ⊎ (l ≡ e.literal) =
+                      elim (cases_Bool (is_false before l)) [
+                        | inl closed ↦ inl closed
+                        | inr free ↦ inr (unit_only before reason e.literal l unit in_reason free)
+                      ] in
+                      absurd (set_before values entries place k e f l fresh at there more set_there variable)
+                ]
+          ];
+    }
+
+-- an entry that is kept
+pub IsResolution-keep : (clauses : List (List Lit)) (values : List (Option Bool)) (entries : List Entry) (conflict place : ℕ) (e : Entry) (roles : List Role) → EachFresh values entries → slice_get entries place ≡ Some e → e.literal.variable < length roles → IsResolution clauses entries conflict (place + 1) roles → IsResolution clauses entries conflict place (set roles e.literal.variable Kept)
+IsResolution-keep clauses values entries conflict place e roles fresh at room so_far =
+    let v = e.literal.variable in
+    let new = set roles v Kept in
+    let here : role_of new v ≡ Kept = get_or-set_same roles v Kept Unseen room in
+    let there : (n : ℕ) → (n ≡ v → ⊥) → role_of new n ≡ role_of roles n = λ n differ. get_or-set_other roles v n Kept Unseen differ in
+    let keeps : (n : ℕ) → is_seen (role_of roles n) ≡ true → is_seen (role_of new n) ≡ true =
+    λ n h.
+    elim (cases_eq n v) [
+      | inl same ↦ ap (λ k. is_seen (role_of new k)) same ∙ ap is_seen here
+      | inr differ ↦ ap is_seen (there n differ) ∙ h
+    ] in
+    let keep : (n : ℕ) → NamesSeen clauses roles n → NamesSeen clauses new n = λ n h c found l stands. keeps l.variable (h c found l stands) in
+    record {
+      falsified = keep conflict so_far.falsified;
+      reasons_too = λ k f past found seen kept.
+          elim (cases_order k place) [
+            | inl same ↦
+                let es : f ≡ e = some_same f e (sym found ∙ ap (slice_get entries) same ∙ at) in
+                absurd (true≢false (sym (ap (λ (g : Entry). is_kept (role_of new g.literal.variable)) es ∙ ap is_kept here) ∙ kept))
+            | inr (inl less) ↦ absurd (omega arith)
+            | inr (inr more) ↦
+                let differ : f.literal.variable ≡ v → ⊥ = λ q. other_entry values entries place k e f fresh at found more (sym q) in
+                let (n, is, all) = so_far.reasons_too k f (omega arith) found (sym (ap is_seen (there f.literal.variable differ)) ∙ seen) (sym (ap is_kept (there f.literal.variable differ)) ∙ kept) in
+                (n, is, keep n all)
+          ];
+    }
+
+-- entries that weren't seen need no reason
+pub IsResolution-unseen : (clauses : List (List Lit)) (entries : List Entry) (conflict from to : ℕ) (roles : List Role) → NoneSeen entries roles from to → IsResolution clauses entries conflict to roles → IsResolution clauses entries conflict from roles
+IsResolution-unseen clauses entries conflict from to roles none so_far =
+    record {
+      falsified = so_far.falsified;
+      reasons_too = λ k f past found seen kept.
+          elim (cases_order k to) [
+            | inl same ↦ so_far.reasons_too k f (omega arith) found seen kept
+            | inr (inl less) ↦ absurd (true≢false (sym seen ∙ none k f past less found))
+            | inr (inr more) ↦ so_far.reasons_too k f (omega arith) found seen kept
+          ];
+    }
+
+pub reason_if_undecided : (cause : Cause) → is_decision cause ≡ false → reason_of cause ≡ None → ⊥
+reason_if_undecided InputDecision is none = true≢false is
+reason_if_undecided NonInputDecision is none = true≢false is
+reason_if_undecided (Reason number) is none = cc
+
+-- tests of a part
+pub unseen_if : (r : Role) → sameb the_type r Unseen ≡ true → r ≡ Unseen
+unseen_if Unseen h = refl
+unseen_if Resolved h = absurd (true≢false (sym h))
+unseen_if Kept h = absurd (true≢false (sym h))
+
+pub seen_if : (r : Role) → sameb the_type r Unseen ≡ false → is_seen r ≡ true
+seen_if Unseen h = absurd (true≢false h)
+seen_if Resolved h = refl
+seen_if Kept h = refl
+
+pub resolved_is : (r : Role) (b : Bool) → sameb the_type r Resolved ≡ b → is_resolved r ≡ b
+resolved_is Unseen b h = h
+resolved_is Resolved b h = h
+resolved_is Kept b h = h
+
+pub none_decided_here : (entries : List Entry) (place number : ℕ) (e : Entry) → slice_get entries place ≡ Some e → e.cause ≡ Reason number → NoneDecided entries place (place + 1)
+none_decided_here entries place number e at cause k f from below there =
+    let same : k ≡ place = omega arith in
+    let es : f ≡ e = some_same f e (sym there ∙ ap (slice_get entries) same ∙ at) in
+    ap (λ (g : Entry). is_decision g.cause) es ∙ ap is_decision cause
+
+reasons_one : (cause : Cause) (l : Lit) → reasons ((record { literal = l; cause = cause }) ∷ []) ≡ option_to_list (reason_of cause)
+reasons_one InputDecision l = refl
+reasons_one NonInputDecision l = refl
+reasons_one (Reason number) l = refl
+
+-- the hints, entry by entry
+pub hints_next : (entries : List Entry) (roles : List Role) (k : ℕ) (e : Entry) (hints next added : List ℕ) (b : Bool) → slice_get entries k ≡ Some e → is_resolved (part_of roles e) ≡ b → added ≡ cond b (option_to_list (reason_of e.cause)) [] → hints ≡ reasons (resolved_entries roles (take k entries)) → next ≡ hints ++ added → next ≡ reasons (resolved_entries roles (take (k + 1) entries))
+hints_next entries roles k e hints next added b at resolved adds so_far is =
+    let suc_k : take (k + 1) entries ≡ take k entries ++ e ∷ [] = let s : k + 1 ≡ suc k = omega arith in ap (λ n. take n entries) s ∙ take_next entries k e at in
+    let parts : reasons (resolved_entries roles (take (k + 1) entries)) ≡ reasons (resolved_entries roles (take k entries)) ++ reasons (cond b (e ∷ []) []) =
+    ap (λ es. reasons (resolved_entries roles es)) suc_k
+    ∙ ap reasons (filter-append (λ (f : Entry). is_resolved (part_of roles f)) (take k entries) (e ∷ []))
+    ∙ reasons-append (resolved_entries roles (take k entries)) (resolved_entries roles (e ∷ []))
+    ∙ ap (λ c. reasons (resolved_entries roles (take k entries)) ++ reasons (cond c (e ∷ []) [])) resolved in
+    let last : reasons (cond b (e ∷ []) []) ≡ added = one b ∙ sym adds in
+    is ∙ ap (λ ns. ns ++ added) so_far ∙ ap (λ ns. reasons (resolved_entries roles (take k entries)) ++ ns) (sym last) ∙ sym parts
+  where
+    one : (c : Bool) → reasons (cond c (e ∷ []) []) ≡ cond c (option_to_list (reason_of e.cause)) []
+    one true = reasons_one e.cause e.literal
+    one false = refl

@@ -1,0 +1,138 @@
+-- The steps of a search, and what its answers rest on.
+use Rattle.std.proofs.Common.{◌≡◌, ℕ, ◌+◌, ◌<◌, ◌≤◌, Bool, Option, true, false, List, [], ◌∷◌, ◌++◌, Some, None, length, take, drop, map, refl, sym, ap, ◌∙◌, arith, inl, inr, subst}
+use Rattle.std.specs.Prelude.{slice_get, ◌⊎◌, unwrap_or, IfSome, IfNone}
+use Rattle.std.proofs.lemmas.Bool.{cases_lt, true≢false}
+use Rattle.std.proofs.lemmas.List.{take_all, append-nil}
+use Rattle.clauses.specs.declared.literal.Lit.{Lit}
+use Rattle.clauses.specs.declared.cnf.Cnf.{Cnf}
+use Rattle.clauses.specs.declared.step.Step.{Step}
+use Rattle.clauses.specs.Literal.{IsVariable}
+use Rattle.clauses.specs.Propagation.{NamesUnit}
+use Rattle.clauses.specs.ClauseSet.{all_clauses, clauses_of_steps, clauses_with}
+use Rattle.clauses.proofs.Closed.{HeldWithin, IsClosed, not_UnitsRefute}
+use Rattle.depth_first.specs.declared.trail.Entry.{Entry}
+use Rattle.depth_first.specs.declared.trail.Cause.{Cause}
+use Rattle.depth_first.specs.declared.trail.Cause.TheVariants.{InputDecision, NonInputDecision, Reason}
+use Rattle.depth_first.specs.Found.{IsModel, IsHonestLimit, distinct_count}
+use Rattle.depth_first.specs.TrailEntries.{literals, decisions, is_decision, Grows, IsSet, IsTableOf, value_or_false}
+use Rattle.depth_first.specs.Propagated.{AllPropagated}
+use Rattle.depth_first.specs.DepthFirst.{IsCaused, EachCaused, IsLearned}
+use Rattle.depth_first.proofs.Lists.{slice_get_below, slice_get_cases, slice_get_push_cases, take_left, take_right}
+use Rattle.depth_first.proofs.HeldLists.{Consistent, Consistent-within, HeldWithin-take}
+use Rattle.depth_first.proofs.TrailTable.{Consistent-from_table}
+use Rattle.depth_first.proofs.States.{AllPropagated-left, closed_from_propagated}
+use Rattle.depth_first.proofs.FoundLemmas.{IsModel-from_propagated}
+use Rattle.depth_first.proofs.SearchSteps.{none_decided, IsLearned-start}
+use Rattle.depth_first.specs.TrailEntries.{EachForced}
+use Rattle.first_uip.specs.declared.watches.Watches.{Watches}
+use Rattle.first_uip.specs.Watching.{EachGuarded, IsWatching, IsWatchingUpTo}
+use Rattle.first_uip.specs.Conflict.{DecidedAt, NoneDecided}
+use Rattle.first_uip.specs.Searching.{IsSearching}
+use Rattle.first_uip.proofs.Guards.{AllPropagated-from_guarded}
+use Rattle.first_uip.proofs.Additions.{IsWatchingUpTo-decide}
+
+-- a trail without decisions
+pub no_decisions : (entries : List Entry) → NoneDecided entries 0 (length entries) → decisions entries ≡ []
+no_decisions entries none = none_decided entries (λ place e at. none place e (omega arith) (slice_get_below entries place e at) at)
+
+caused_by : (set : Cnf) (log : List Step) (held : List Lit) (l : Lit) (cause : Cause) → is_decision cause ≡ false → ((number : ℕ) → cause ≡ Reason number → NamesUnit (clauses_with set log) held number l) → IsCaused set log held l cause
+caused_by set log held l InputDecision undecided forced = absurd (true≢false undecided)
+caused_by set log held l NonInputDecision undecided forced = absurd (true≢false undecided)
+caused_by set log held l (Reason number) undecided forced = forced number refl
+
+pub EachCaused-from_forced : (set : Cnf) (log : List Step) (entries : List Entry) → EachForced (clauses_with set log) entries → NoneDecided entries 0 (length entries) → EachCaused set log entries
+EachCaused-from_forced set log entries forced none place e at =
+    caused_by set log (literals (take place entries)) e.literal e.cause (none place e (omega arith) (slice_get_below entries place e at) at) (λ number is. forced.each place e number at is)
+
+-- trails that grew by reasons
+pub EachForced-grown : (clauses : List (List Lit)) (old new : List Entry) → Grows clauses old new → EachForced clauses old → EachForced clauses new
+EachForced-grown clauses old new g forced =
+    record {
+      each = λ place e number at cause.
+          let split : slice_get (old ++ g.more) place ≡ Some e = sym (ap (λ es. slice_get es place) g.is) ∙ at in
+          elim (slice_get_cases old g.more place e split) [
+            | inl before ↦
+                let same : take place new ≡ take place old = ap (take place) g.is ∙ take_left old g.more place e before in
+                subst (λ es. NamesUnit clauses (literals es) number e.literal) (sym same) (forced.each place e number before cause)
+            | inr (j, is, later) ↦
+                let (n, reason, unit) = g.forced j e later in
+                let numbers : n ≡ number = reason_same n number (sym reason ∙ cause) in
+                let same : take place new ≡ old ++ take j g.more = ap (take place) g.is ∙ take_right old g.more place j is in
+                subst (λ es. NamesUnit clauses (literals es) number e.literal) (sym same)
+                (subst (λ m. NamesUnit clauses (literals (old ++ take j g.more)) m e.literal) numbers unit)
+          ];
+    }
+  where
+    reason_same : (n m : ℕ) → Reason n ≡ Reason m → n ≡ m
+    reason_same n m q = cc
+
+-- before a decision all is closed
+pub closed_before : (clauses : List (List Lit)) (watches : Watches) (values : List (Option Bool)) (entries : List Entry) (place : ℕ) → IsTableOf values entries → DecidedAt entries place → IsWatching clauses watches entries → IsClosed clauses (literals (take place entries))
+closed_before clauses watches values entries place table (e, at, decides) watching =
+    let held = literals (take place entries) in
+    let ok : Consistent held = Consistent-within held (literals entries) (HeldWithin-take place entries) (Consistent-from_table values entries table) in
+    closed_from_propagated clauses held (AllPropagated-from_guarded clauses watches.watched.items held ok watching.count watching.each (watching.levels place e at decides))
+
+-- where all entries were seen and all variables are set there is a model
+pub model_found : (set : Cnf) (log : List Step) (watches : Watches) (values : List (Option Bool)) (entries : List Entry) → IsTableOf values entries → length values ≡ set.count + 1 → IsWatchingUpTo (clauses_with set log) watches entries (length entries) → ((n : ℕ) → IsVariable set.count n → IsSet (literals entries) n) → IsModel set (map value_or_false (drop 1 values))
+model_found set log watches values entries table size state all =
+    let cs = clauses_with set log in
+    let guarded : EachGuarded cs watches.watched.items (literals entries) (literals entries) =
+    subst (λ es. EachGuarded cs watches.watched.items (literals es) (literals entries)) (take_all (length entries) entries (omega arith)) state.guarded in
+    let propagated : AllPropagated cs (literals entries) =
+    AllPropagated-from_guarded cs watches.watched.items (literals entries) (Consistent-from_table values entries table) state.watching.count state.watching.each guarded in
+    IsModel-from_propagated set values entries table size (AllPropagated-left (all_clauses set) (clauses_of_steps log) (literals entries) propagated) all
+
+-- a conflict below a decision shows that units alone don't refute
+pub limit_found : (set : Cnf) (log : List Step) (limit : ℕ) (held : List Lit) → length log ≡ limit → IsLearned set log → IsClosed (clauses_with set log) held → 12 < distinct_count set.inputs → IsHonestLimit set limit log
+limit_found set log limit held exact learned closed many =
+    record {
+      exact = exact;
+      none_empty = learned.none_empty;
+      follows = learned.follows;
+      new = learned.new;
+      units_fail = not_UnitsRefute (clauses_with set log) held closed;
+      not_few = λ few. omega (arith, few.0, many);
+    }
+
+-- the state after a decision
+pub IsSearching-decided : (set : Cnf) (log : List Step) (watches : Watches) (old entries : List Entry) (e : Entry) → e.cause ≡ InputDecision → Grows (clauses_with set log) old entries → IsLearned set log → EachForced (clauses_with set log) old → IsWatchingUpTo (clauses_with set log) watches entries (length entries) → IsSearching set log watches (entries ++ e ∷ []) (length entries)
+IsSearching-decided set log watches old entries e decision g learned forced state =
+    let cs = clauses_with set log in
+    let grown : EachForced cs entries = EachForced-grown cs old entries g forced in
+    record {
+      learned = learned;
+      forced =
+          record {
+            each = λ place f number at cause.
+                elim (slice_get_push_cases entries e place f at) [
+                  | inl before ↦
+                      subst (λ es. NamesUnit cs (literals es) number f.literal) (sym (take_left entries (e ∷ []) place f before)) (grown.each place f number before cause)
+                  | inr (last, same) ↦ absurd (no_reason number (sym decision ∙ ap (λ (x : Entry). x.cause) same ∙ cause))
+                ];
+          };
+      watching = IsWatchingUpTo-decide cs watches entries e state;
+    }
+  where
+    no_reason : (n : ℕ) → InputDecision ≡ Reason n → ⊥
+    no_reason n q = cc
+
+-- the state before any decision
+pub IsSearching-start : (set : Cnf) (log : List Step) (watches : Watches) (entries : List Entry) → log ≡ [] → Grows (all_clauses set) [] entries → IsWatchingUpTo (all_clauses set) watches entries 0 → IsSearching set log watches entries 0
+IsSearching-start set log watches entries none g state =
+    let same : all_clauses set ≡ clauses_with set log =
+    sym (ap (λ steps. all_clauses set ++ clauses_of_steps steps) none ∙ append-nil (all_clauses set)) in
+    let nothing : EachForced (all_clauses set) [] = record { each = λ place e number at cause. let q : slice_get [] place ≡ Some e = at in cc } in
+    record {
+      learned = IsLearned-start set log none;
+      forced = subst (λ cs. EachForced cs entries) same (EachForced-grown (all_clauses set) [] entries g nothing);
+      watching = subst (λ cs. IsWatchingUpTo cs watches entries 0) same state;
+    }
+
+-- where to jump to: the first decision, or where the conflict says
+pub first_or_jump : (entries : List Entry) (first : Option ℕ) (jump : ℕ) → DecidedAt entries jump → IfSome first (DecidedAt entries) → IfSome first (NoneDecided entries 0) → DecidedAt entries (unwrap_or first jump) × (unwrap_or first jump ≤ jump)
+first_or_jump entries None jump decided at none = (decided, omega arith)
+first_or_jump entries (Some place) jump (e, there, decides) at none = (
+  at,
+  elim (cases_lt jump place) [ inl before ↦ absurd (true≢false (sym decides ∙ none jump e (omega arith) before there)) | inr later ↦ later ],
+)

@@ -1,0 +1,71 @@
+-- Clauses of one literal, and literals that differ.
+use Rattle.std.proofs.Common.{◌≡◌, ℕ, suc, ◌+◌, ◌<◌, true, false, Bool, not, ◌&&◌, eqb, List, [], ◌∷◌, ◌++◌, Some, length, take, get_or, refl, sym, ap, ◌∙◌, arith, subst}
+use Rattle.std.specs.Prelude.{slice_get, All, IfSome}
+use Rattle.std.specs.Bool.{beq}
+use Rattle.std.proofs.lemmas.Bool.{true≢false, eq-eqb, and_from}
+use Rattle.std.proofs.lemmas.List.Elements.{All-nil, All-cons}
+use Rattle.clauses.specs.declared.literal.Lit.{Lit}
+use Rattle.clauses.specs.declared.cnf.Cnf.{Cnf}
+use Rattle.clauses.specs.Literal.{IsVariable}
+use Rattle.clauses.specs.Propagation.{IsUnit, IsFalsified, is_held, is_false}
+use Rattle.clauses.specs.ClauseSet.{all_clauses}
+use Rattle.depth_first.specs.declared.trail.Entry.{Entry}
+use Rattle.depth_first.specs.TrailEntries.{is_decision, Grows}
+use Rattle.clauses.proofs.Units.{Contains-from_held}
+use Rattle.depth_first.proofs.Lists.{element_at, take_next}
+use Rattle.depth_first.proofs.Open.{variable_within}
+use Rattle.depth_first.proofs.Sets.{clause_within}
+use Rattle.first_uip.specs.declared.start.Shape.TheVariants.{One}
+use Rattle.first_uip.specs.Shapes.{IsShape}
+
+beq-self : (a : Bool) → beq a a ≡ true
+beq-self true = refl
+beq-self false = refl
+
+-- literals of which `!=` is true
+pub differ_by_ne : (l m : Lit) (differs : Bool) → differs ≡ not (eqb l.variable m.variable && beq l.negated m.negated) → differs ≡ true → (l ≡ m) → ⊥
+differ_by_ne l m differs is is_true same =
+    let both : (eqb l.variable m.variable && beq l.negated m.negated) ≡ true =
+    and_from (eqb l.variable m.variable) (beq l.negated m.negated) (eq-eqb l.variable m.variable (ap (λ (k : Lit). k.variable) same))
+    (sym (ap (λ (k : Lit). beq l.negated k.negated) (sym (sym same))) ∙ beq-self l.negated) in
+    true≢false (sym is_true ∙ is ∙ ap not both)
+
+-- the clause of a number that has one literal alone
+pub record IsAloneAt (set : Cnf) (number : ℕ) (l : Lit) : Type 0 where
+  pub clause : List Lit
+  pub at : slice_get (all_clauses set) number ≡ Some clause
+  pub stands : is_held clause l ≡ true
+  pub only : All (λ m. m ≡ l) clause
+  pub within : IsVariable set.count l.variable
+  pub next : take (number + 1) (all_clauses set) ≡ take number (all_clauses set) ++ clause ∷ []
+
+pub IsAloneAt-from : (set : Cnf) (number : ℕ) (l : Lit) → number < length (all_clauses set) → IfSome (slice_get (all_clauses set) number) (λ clause. IsShape clause (One l)) → IsAloneAt set number l
+IsAloneAt-from set number l known alone =
+    let cs = all_clauses set in
+    let (clause, at) = element_at cs number known in
+    let shape : IsShape clause (One l) = subst (λ o. IfSome o (λ c. IsShape c (One l))) at alone in
+    let s : number + 1 ≡ suc number = omega arith in
+    record {
+      clause = clause;
+      at = at;
+      stands = shape.0;
+      only = shape.1;
+      within = variable_within set.count clause l (clause_within set number clause at) shape.0;
+      next = ap (λ n. take n cs) s ∙ take_next cs number clause at;
+    }
+
+pub alone_falsified : (held clause : List Lit) (l : Lit) → All (λ m. m ≡ l) clause → is_false held l ≡ true → IsFalsified held clause
+alone_falsified held clause l only closed = λ k d within. ap (is_false held) (only k d within) ∙ closed
+
+pub alone_unit : (held clause : List Lit) (l : Lit) → is_held clause l ≡ true → All (λ m. m ≡ l) clause → is_false held l ≡ false → IsUnit held clause l
+alone_unit held clause l stands only kept =
+    record { stands = Contains-from_held clause l stands; not_false = kept; others_false = λ k d within other. absurd (other (only k d within)) }
+
+-- what clauses of the set forced has no decision
+pub undecided : (clauses : List (List Lit)) (entries : List Entry) → Grows clauses [] entries → (place : ℕ) (e : Entry) → slice_get entries place ≡ Some e → is_decision e.cause ≡ true → ⊥
+undecided clauses entries g place e at decides =
+    let there : slice_get g.more place ≡ Some e = sym (ap (λ es. slice_get es place) g.is) ∙ at in
+    true≢false (sym decides ∙ ap is_decision (g.forced place e there).1)
+
+pub All-two : {X : Type 0} (P : X → Type 0) (a b : X) → P a → P b → All P (a ∷ b ∷ [])
+All-two P a b pa pb = All-cons P a (b ∷ []) pa (All-cons P b [] pb (All-nil P))

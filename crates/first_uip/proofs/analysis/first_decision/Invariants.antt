@@ -1,0 +1,5 @@
+use Rattle.first_uip.specs.Conflict.{NoneDecided}
+use Rattle.first_uip.proofs.analysis.first_decision.Given as goal
+
+abbrev pub invariant-loop-place : goal.invariant-loop-place
+invariant-loop-place l = NoneDecided l.trail.entries.items 0 l.place

@@ -1,0 +1,53 @@
+use Rattle.std.proofs.Common.{◌≡◌, ℕ, ◌+◌, ◌<◌, false, Some, length, refl, sym, ap, ◌∙◌, arith}
+use Rattle.std.specs.Prelude.{slice_get}
+use Rattle.std.proofs.lemmas.Option.{slice_get_read}
+use Rattle.clauses.specs.ClauseSet.{clauses_with}
+use Rattle.depth_first.specs.declared.trail.Entry.{Entry}
+use Rattle.depth_first.proofs.Sets.{below_from_within}
+use Rattle.depth_first.proofs.Involved.{with_within}
+use Rattle.first_uip.specs.Conflict.{IsResolution, is_kept, role_of}
+use Rattle.first_uip.proofs.RoleLemmas.{IsResolution-start}
+use Rattle.first_uip.proofs.Analysed.{last_level_seen, point_kept, IsAnalysis-from}
+use Rattle.first_uip.proofs.analysis.give_parts.Goals as goal
+
+pub see-requires : goal.see-requires
+see-requires c =
+    let set = c.args.cnf.now in
+    below_from_within set.count (length c.args.roles.now) c.numbered.result.now c.requires.size
+    (with_within set c.args.log.now c.args.conflict c.numbered.result.now c.requires.follows c.numbered.ensures)
+
+pub resolve_level-point-requires-clause-rests : goal.resolve_level-point-requires-clause-rests
+resolve_level-point-requires-clause-rests c =
+    last_level_seen (clauses_with c.args.cnf.now c.args.log.now) c.args.trail.now.entries.items c.args.start c.args.conflict c.numbered.result.now c.args.roles.now c.see.new.roles c.numbered.ensures
+    c.requires.falsified c.requires.closed c.see.ensures
+
+pub bounds-roles-index : goal.bounds-roles-index
+bounds-roles-index c =
+    let trail = c.args.trail.now in
+    let entries = trail.entries.items in
+    let point = c.resolve_level-point.result in
+    let e : Entry = c.index.result.now in
+    let at : slice_get entries point ≡ Some e = slice_get_read entries (length entries) point e refl c.resolve_level-point.ensures.last c.index.ensures in
+    omega (arith, (trail.fresh point e at).1, c.requires.variables, c.requires.size, c.see.auto.roles, c.resolve_level-point.auto.roles)
+
+pub returns : goal.returns
+returns c =
+    let cs = clauses_with c.args.cnf.now c.args.log.now in
+    let trail = c.args.trail.now in
+    let entries = trail.entries.items in
+    let values = trail.values.items in
+    let conflict = c.args.conflict in
+    let start = c.args.start in
+    let point = c.resolve_level-point.result in
+    let mid = c.resolve_level-point.new.roles in
+    let e : Entry = c.index.result.now in
+    let at : slice_get entries point ≡ Some e = slice_get_read entries (length entries) point e refl c.resolve_level-point.ensures.last c.index.ensures in
+    let room : e.literal.variable < length mid =
+    omega (arith, (trail.fresh point e at).1, c.requires.variables, c.requires.size, c.see.auto.roles, c.resolve_level-point.auto.roles) in
+    let none : (n : ℕ) → is_kept (role_of mid n) ≡ false =
+    λ n. c.resolve_level-point.ensures.same_kept n ∙ c.see.ensures.same_kept n ∙ ap is_kept (c.requires.unseen n) in
+    let level : IsResolution cs entries conflict (point + 1) mid =
+    c.resolve_level-point.ensures.resolves conflict (IsResolution-start cs entries conflict c.numbered.result.now c.args.roles.now c.see.new.roles c.numbered.ensures c.see.ensures) in
+    IsAnalysis-from cs values entries mid c.settle_earlier.new.roles conflict start point e trail.fresh at room c.resolve_level-point.ensures.first none c.settle_earlier.ensures.same_later
+    (c.settle_earlier.ensures.resolves conflict
+    (point_kept cs values entries mid conflict start point e trail.fresh at room c.resolve_level-point.ensures.first c.resolve_level-point.ensures.none_between level))

@@ -1,0 +1,13 @@
+use Rattle.std.proofs.Common.{◌≤◌, length}
+use Rattle.first_uip.specs.Conflict.{NoneDecided}
+use Rattle.first_uip.proofs.analysis.last_decision.Given as goal
+
+abbrev pub invariant-loop-place : goal.invariant-loop-place
+invariant-loop-place l =
+    record {
+      within : l.place ≤ length l.trail.entries.items;
+      none : NoneDecided l.trail.entries.items l.place (length l.trail.entries.items);
+    }
+
+abbrev pub decreases-loop-place : goal.decreases-loop-place
+decreases-loop-place l = l.place

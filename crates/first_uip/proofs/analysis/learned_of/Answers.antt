@@ -1,0 +1,99 @@
+use Rattle.std.proofs.Common.{◌≡◌, ℕ, List, ◌+◌, ◌<◌, Some, None, length, refl, sym, ap, ◌∙◌, subst, arith}
+use Rattle.std.specs.Prelude.{slice_get}
+use Rattle.std.proofs.lemmas.Option.{slice_get_read}
+use Rattle.clauses.specs.declared.literal.Lit.{Lit}
+use Rattle.clauses.specs.declared.step.Step.{Step}
+use Rattle.clauses.specs.Literal.{negation_of}
+use Rattle.clauses.specs.ClauseSet.{IsNew, clauses_with}
+use Rattle.depth_first.specs.declared.trail.Entry.{Entry}
+use Rattle.depth_first.proofs.Lists.{some_same, slice_get_below}
+use Rattle.depth_first.proofs.TrailTable.{Consistent-from_table}
+use Rattle.first_uip.specs.Conflict.{IsAsserting, IsOther, IsJump}
+use Rattle.first_uip.proofs.Analysed.{learned_clause, learned_follows, learned_is_new, learned_asserts, none_other, some_other}
+use Rattle.first_uip.proofs.analysis.learned_of.Goals as goal
+use Rattle.first_uip.proofs.analysis.learned_of.Goals.{in-Some, in-None}
+
+-- the literal at the implication point
+asserted_is : (entries : List Entry) (point : ℕ) (e f : Entry) (u : Lit) → slice_get entries point ≡ Some e → slice_get entries point ≡ Some f → u ≡ negation_of f.literal → u ≡ negation_of e.literal
+asserted_is entries point e f u at there is = is ∙ ap (λ (g : Entry). negation_of g.literal) (some_same f e (sym there ∙ at))
+
+pub returns-clause-follows : goal.returns-clause-follows
+returns-clause-follows c =
+    let set = c.args.cnf.now in
+    let log = c.args.log.now in
+    let trail = c.args.trail.now in
+    let entries = trail.entries.items in
+    let roles = c.args.roles.now in
+    let point = c.args.point in
+    let analysis = c.requires.analysis in
+    let here : slice_get entries point ≡ Some c.index.result.now =
+    slice_get_read entries (length entries) point c.index.result.now refl (slice_get_below entries point analysis.entry analysis.at) c.index.ensures in
+    let u : c.negation-asserted.result ≡ negation_of analysis.entry.literal = asserted_is entries point analysis.entry c.index.result.now c.negation-asserted.result analysis.at here c.negation-asserted.ensures in
+    let step : Step = record { clause = c.in_ok-clause.clause; hints = c.in_ok-hints.hints } in
+    learned_follows set log trail.values.items entries roles c.args.conflict c.args.start point trail.fresh (Consistent-from_table trail.values.items entries trail.table) c.requires.variables analysis
+    c.in_ok-hints.hints step c.requires.forced c.requires.falsified c.in_ok-hints.ensures (c.in_ok-clause.ensures ∙ ap (learned_clause roles entries c.args.start) u) refl
+
+pub returns-clause-new : goal.returns-clause-new
+returns-clause-new c =
+    let set = c.args.cnf.now in
+    let log = c.args.log.now in
+    let trail = c.args.trail.now in
+    let entries = trail.entries.items in
+    let roles = c.args.roles.now in
+    let point = c.args.point in
+    let analysis = c.requires.analysis in
+    let here : slice_get entries point ≡ Some c.index.result.now =
+    slice_get_read entries (length entries) point c.index.result.now refl (slice_get_below entries point analysis.entry analysis.at) c.index.ensures in
+    let u : c.negation-asserted.result ≡ negation_of analysis.entry.literal = asserted_is entries point analysis.entry c.index.result.now c.negation-asserted.result analysis.at here c.negation-asserted.ensures in
+    subst (IsNew (clauses_with set log)) (sym (c.in_ok-clause.ensures ∙ ap (learned_clause roles entries c.args.start) u))
+    (learned_is_new set log trail.values.items entries roles c.args.conflict c.args.start point trail.fresh (Consistent-from_table trail.values.items entries trail.table) c.requires.variables analysis c.requires.closed)
+
+pub returns-clause-asserting : goal.returns-clause-asserting
+returns-clause-asserting c =
+    let set = c.args.cnf.now in
+    let log = c.args.log.now in
+    let trail = c.args.trail.now in
+    let entries = trail.entries.items in
+    let roles = c.args.roles.now in
+    let point = c.args.point in
+    let analysis = c.requires.analysis in
+    let here : slice_get entries point ≡ Some c.index.result.now =
+    slice_get_read entries (length entries) point c.index.result.now refl (slice_get_below entries point analysis.entry analysis.at) c.index.ensures in
+    let u : c.negation-asserted.result ≡ negation_of analysis.entry.literal = asserted_is entries point analysis.entry c.index.result.now c.negation-asserted.result analysis.at here c.negation-asserted.ensures in
+    let jump = c.jump_from-jump.result in
+    subst (λ ls. IsAsserting entries jump.place ls c.negation-asserted.result) (sym c.in_ok-clause.ensures)
+    (subst (λ l. IsAsserting entries jump.place (learned_clause roles entries c.args.start l) l) (sym u)
+    (learned_asserts set log trail.values.items entries roles c.args.conflict c.args.start point trail.fresh (Consistent-from_table trail.values.items entries trail.table) c.requires.variables analysis jump.place jump.below c.jump_from-jump.ensures))
+
+pub returns-clause-other : goal.returns-clause-other
+returns-clause-other c =
+    let set = c.args.cnf.now in
+    let log = c.args.log.now in
+    let trail = c.args.trail.now in
+    let entries = trail.entries.items in
+    let roles = c.args.roles.now in
+    let start = c.args.start in
+    let point = c.args.point in
+    let analysis = c.requires.analysis in
+    let here : slice_get entries point ≡ Some c.index.result.now =
+    slice_get_read entries (length entries) point c.index.result.now refl (slice_get_below entries point analysis.entry analysis.at) c.index.ensures in
+    let u : c.negation-asserted.result ≡ negation_of analysis.entry.literal = asserted_is entries point analysis.entry c.index.result.now c.negation-asserted.result analysis.at here c.negation-asserted.ensures in
+    let place = c.jump_from-jump.result.place in
+    let ok = Consistent-from_table trail.values.items entries trail.table in
+    let l = negation_of analysis.entry.literal in
+    subst (λ ls. IsOther entries place ls c.negation-asserted.result c.match-jump.other) (sym c.in_ok-clause.ensures)
+    (subst (λ m. IsOther entries place (learned_clause roles entries start m) m c.match-jump.other) (sym u)
+    (elim c.match-jump.branch [
+      | in-Some w ↦
+          let below = w.in-Some.below in
+          let f : Entry = w.index-in-Some.result.now in
+          let jump : IsJump entries roles start place (Some below) = subst (IsJump entries roles start place) w.in-Some.is c.jump_from-jump.ensures in
+          let kept = jump.kept_below.2 in
+          let at : slice_get entries below ≡ Some f = slice_get_read entries (length entries) below f refl (slice_get_below entries below kept.0 kept.1) w.index-in-Some.ensures in
+          subst (IsOther entries place (learned_clause roles entries start l) l) (sym (w.other-is ∙ ap Some w.negation.ensures))
+          (some_other set log trail.values.items entries roles c.args.conflict start point trail.fresh ok c.requires.variables analysis place below f jump at)
+      | in-None w ↦
+          let jump : IsJump entries roles start place None = subst (IsJump entries roles start place) w.in-None.is c.jump_from-jump.ensures in
+          subst (IsOther entries place (learned_clause roles entries start l) l) (sym w.other-is)
+          (none_other set log trail.values.items entries roles c.args.conflict start point trail.fresh ok c.requires.variables analysis place jump)
+    ]))

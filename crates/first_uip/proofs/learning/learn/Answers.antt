@@ -1,0 +1,93 @@
+use Rattle.std.proofs.Common.{◌≡◌, ◌+◌, ◌<◌, ◌≤◌, false, [], ◌∷◌, ◌++◌, length, take, refl, sym, ap, ◌∙◌, subst, arith}
+use Rattle.clauses.specs.Literal.{IsVariable}
+use Rattle.clauses.specs.ClauseSet.{clauses_with}
+use Rattle.depth_first.specs.declared.trail.Entry.{Entry}
+use Rattle.depth_first.specs.declared.trail.Cause.TheVariants.{Reason}
+use Rattle.depth_first.specs.DepthFirst.{IsLearned}
+use Rattle.depth_first.specs.TrailEntries.{EachForced}
+use Rattle.depth_first.proofs.Open.{variable_within}
+use Rattle.depth_first.proofs.States.{clauses_with-push}
+use Rattle.first_uip.specs.Watching.{IsWatchingUpTo}
+use Rattle.first_uip.proofs.Learnt.{watch_within, IsLearned-push, EachForced-cut, EachForced-asserted, learnt_left, learnt_asserted}
+use Rattle.first_uip.proofs.learning.learn.Goals as goal
+
+pub add-requires-clause-within : goal.add-requires-clause-within
+add-requires-clause-within c =
+    let l = c.args.learned in
+    watch_within c.args.cnf.now (length c.args.watches.now.positive.items) c.args.trail.now.entries.items l.jump l.step.clause l.asserted l.other c.watch_of.result c.requires.covers.positive c.requires.follows.0 c.watch_of.ensures c.requires.asserting c.requires.other
+
+pub push-requires-then-place-jump-clause-first : goal.push-requires-then-place-jump-clause-first
+push-requires-then-place-jump-clause-first c =
+    (variable_within c.args.cnf.now.count c.args.learned.step.clause c.args.learned.asserted c.requires.follows.0 c.requires.asserting.stands).0
+
+pub push-requires-then-place-jump-clause-last : goal.push-requires-then-place-jump-clause-last
+push-requires-then-place-jump-clause-last c =
+    let within = variable_within c.args.cnf.now.count c.args.learned.step.clause c.args.learned.asserted c.requires.follows.0 c.requires.asserting.stands in
+    omega (arith, within.1, c.requires.variables, c.cut.ensures.variables)
+
+pub returns-in_ok-push-2-clause-log_learned : goal.returns-in_ok-push-2-clause-log_learned
+returns-in_ok-push-2-clause-log_learned c =
+    subst (IsLearned c.args.cnf.now) (sym c.in_ok-push.ensures.items)
+    (IsLearned-push c.args.cnf.now c.args.log.now.items c.args.learned.step c.requires.log_learned c.requires.follows c.requires.new c.requires.not_empty)
+
+pub returns-else-place-jump-clause-log_learned : goal.returns-else-place-jump-clause-log_learned
+returns-else-place-jump-clause-log_learned c =
+    subst (IsLearned c.args.cnf.now) (sym c.in_ok-push.ensures.items)
+    (IsLearned-push c.args.cnf.now c.args.log.now.items c.args.learned.step c.requires.log_learned c.requires.follows c.requires.new c.requires.not_empty)
+
+pub returns-in_ok-push-2-clause-forced : goal.returns-in_ok-push-2-clause-forced
+returns-in_ok-push-2-clause-forced c =
+    let set = c.args.cnf.now in
+    let log = c.args.log.now.items in
+    let l = c.args.learned in
+    let cs = clauses_with set log in
+    let entries = c.args.trail.now.entries.items in
+    let place = c.args.place in
+    let e : Entry = record { literal = l.asserted; cause = Reason c.len-number.result } in
+    let number : c.len-number.result ≡ length cs = omega (arith, c.len-number.ensures, c.args.watches.now.watched.ok.0, c.requires.watching.count) in
+    let clauses : clauses_with set c.push.new.self.items ≡ cs ++ l.step.clause ∷ [] = ap (clauses_with set) c.in_ok-push.ensures.items ∙ clauses_with-push set log l.step in
+    let after : c.push-then-place-jump.new.self.entries.items ≡ take place entries ++ e ∷ [] = c.in_ok-push-2.ensures.ok ∙ ap (λ es. es ++ e ∷ []) c.cut.ensures.entries in
+    subst (λ ds. EachForced ds c.push-then-place-jump.new.self.entries.items) (sym clauses)
+    (subst (EachForced (cs ++ l.step.clause ∷ [])) (sym after)
+    (EachForced-asserted cs l.step.clause entries place l.jump c.len-number.result l.asserted e c.if-place-jump.true number c.requires.asserting refl refl c.requires.forced))
+
+pub returns-else-place-jump-clause-forced : goal.returns-else-place-jump-clause-forced
+returns-else-place-jump-clause-forced c =
+    let set = c.args.cnf.now in
+    let log = c.args.log.now.items in
+    let l = c.args.learned in
+    let cs = clauses_with set log in
+    let clauses : clauses_with set c.push.new.self.items ≡ cs ++ l.step.clause ∷ [] = ap (clauses_with set) c.in_ok-push.ensures.items ∙ clauses_with-push set log l.step in
+    subst (λ ds. EachForced ds c.cut.new.self.entries.items) (sym clauses)
+    (subst (EachForced (cs ++ l.step.clause ∷ [])) (sym c.cut.ensures.entries)
+    (EachForced-cut cs l.step.clause c.args.trail.now.entries.items c.args.place c.requires.forced))
+
+pub returns-in_ok-push-2-clause-watching : goal.returns-in_ok-push-2-clause-watching
+returns-in_ok-push-2-clause-watching c =
+    let set = c.args.cnf.now in
+    let log = c.args.log.now.items in
+    let l = c.args.learned in
+    let cs = clauses_with set log in
+    let entries = c.args.trail.now.entries.items in
+    let place = c.args.place in
+    let e : Entry = record { literal = l.asserted; cause = Reason c.len-number.result } in
+    let clauses : clauses_with set c.push.new.self.items ≡ cs ++ l.step.clause ∷ [] = ap (clauses_with set) c.in_ok-push.ensures.items ∙ clauses_with-push set log l.step in
+    let after : c.push-then-place-jump.new.self.entries.items ≡ take place entries ++ e ∷ [] = c.in_ok-push-2.ensures.ok ∙ ap (λ es. es ++ e ∷ []) c.cut.ensures.entries in
+    subst (λ ds. IsWatchingUpTo ds c.add.new.self c.push-then-place-jump.new.self.entries.items place) (sym clauses)
+    (subst (λ es. IsWatchingUpTo (cs ++ l.step.clause ∷ []) c.add.new.self es place) (sym after)
+    (learnt_asserted cs l.step.clause c.args.watches.now c.add.new.self c.watch_of.result entries place l.jump l.asserted l.other c.in_ok-add.ensures.watched c.in_ok-add.ensures.listed c.watch_of.ensures c.requires.asserting c.requires.other c.requires.decided c.requires.watching
+    e c.if-place-jump.true refl refl))
+
+pub returns-else-place-jump-clause-watching : goal.returns-else-place-jump-clause-watching
+returns-else-place-jump-clause-watching c =
+    let set = c.args.cnf.now in
+    let log = c.args.log.now.items in
+    let l = c.args.learned in
+    let cs = clauses_with set log in
+    let entries = c.args.trail.now.entries.items in
+    let place = c.args.place in
+    let clauses : clauses_with set c.push.new.self.items ≡ cs ++ l.step.clause ∷ [] = ap (clauses_with set) c.in_ok-push.ensures.items ∙ clauses_with-push set log l.step in
+    subst (λ ds. IsWatchingUpTo ds c.add.new.self c.cut.new.self.entries.items place) (sym clauses)
+    (subst (λ es. IsWatchingUpTo (cs ++ l.step.clause ∷ []) c.add.new.self es place) (sym c.cut.ensures.entries)
+    (learnt_left cs l.step.clause c.args.watches.now c.add.new.self c.watch_of.result entries place l.jump l.asserted l.other c.in_ok-add.ensures.watched c.in_ok-add.ensures.listed c.watch_of.ensures c.requires.asserting c.requires.other c.requires.decided c.requires.watching
+    (omega (arith, c.requires.within, c.if-place-jump.false))))

@@ -1,0 +1,156 @@
+use Rattle.std.proofs.Common.{◌≡◌, ℕ, List, ◌+◌, ◌<◌, ◌≤◌, [], ◌∷◌, ◌++◌, Some, None, length, take, refl, sym, ap, ◌∙◌, subst, arith}
+use Rattle.std.specs.Prelude.{unwrap_or, IfSome, IfNone}
+use Rattle.clauses.specs.ClauseSet.{StepFollows, all_clauses, clauses_with}
+use Rattle.clauses.specs.declared.step.Step.{Step}
+use Rattle.clauses.proofs.Closed.{IsClosed}
+use Rattle.depth_first.specs.declared.trail.Entry.{Entry}
+use Rattle.depth_first.specs.declared.trail.Cause.TheVariants.{InputDecision}
+use Rattle.depth_first.specs.Found.{IsModel, IsHonestLimit}
+use Rattle.depth_first.specs.TrailEntries.{literals, Grows}
+use Rattle.depth_first.specs.TrailEntries.{EachForced}
+use Rattle.depth_first.proofs.SearchSteps.{EachCaused-start, no_decisions, IfSome_is, IfNone_is}
+use Rattle.first_uip.specs.Watching.{IsWatching, IsWatchingUpTo}
+use Rattle.first_uip.specs.Conflict.{DecidedAt}
+use Rattle.first_uip.specs.Searching.{IsSearching}
+use Rattle.first_uip.proofs.Measure.{less_after_conflict}
+use Rattle.first_uip.proofs.SearchLemmas.{no_decisions as none_decided_gives_none, EachCaused-from_forced, EachForced-grown, closed_before, model_found, limit_found, IsSearching-decided, first_or_jump}
+use Rattle.first_uip.proofs.learning.search.Goals as goal
+use Rattle.first_uip.proofs.learning.search.Goals.{then-count_conflict, else-count_conflict}
+
+pub refutation-requires-clause-caused : goal.refutation-requires-clause-caused
+refutation-requires-clause-caused c =
+    EachCaused-start c.args.cnf.now c.new-log.result.items [] c.add_clauses.new.trail.entries.items c.new-log.ensures.items refl c.add_clauses.ensures.grown
+
+pub refutation-requires-clause-no_decisions : goal.refutation-requires-clause-no_decisions
+refutation-requires-clause-no_decisions c =
+    no_decisions (all_clauses c.args.cnf.now) [] c.add_clauses.new.trail.entries.items refl c.add_clauses.ensures.grown
+
+pub returns-in_default-decision : goal.returns-in_default-decision
+returns-in_default-decision c =
+    let set = c.args.cnf.now in
+    let trail = c.propagate.new.trail in
+    let entries = trail.entries.items in
+    let watches = c.propagate.new.watches in
+    let seen : IsWatchingUpTo (clauses_with set c.deref.result.now) watches entries (length entries) =
+    IfNone_is c.in_ok-conflict-2.field-0 (IsWatchingUpTo (clauses_with set c.deref.result.now) watches entries (length entries)) c.in_default-2.is c.in_ok-conflict-2.ensures.seen in
+    subst (IsModel set) (sym c.in_ok-assignment.ensures)
+    (model_found set c.deref.result.now watches trail.values.items entries trail.table (c.propagate.ensures.same_variables ∙ c.loop-policy.invariant.variables) seen c.in_default-decision.ensures.none)
+
+pub loop-policy-preserved-in_default-2 : goal.loop-policy-preserved-in_default-2
+loop-policy-preserved-in_default-2 c =
+    let set = c.args.cnf.now in
+    let inv = c.loop-policy.invariant in
+    let log = c.loop-policy.log.items in
+    let trail = c.propagate.new.trail in
+    let entries = trail.entries.items in
+    let watches = c.propagate.new.watches in
+    let seen : IsWatchingUpTo (clauses_with set c.deref.result.now) watches entries (length entries) =
+    IfNone_is c.in_ok-conflict-2.field-0 (IsWatchingUpTo (clauses_with set c.deref.result.now) watches entries (length entries)) c.in_default-2.is c.in_ok-conflict-2.ensures.seen in
+    let seen_log : IsWatchingUpTo (clauses_with set log) watches entries (length entries) =
+    subst (λ (steps : List Step). IsWatchingUpTo (clauses_with set steps) watches entries (length entries)) c.deref.ensures.value seen in
+    let grows : Grows (clauses_with set log) c.loop-policy.trail.entries.items entries =
+    subst (λ (steps : List Step). Grows (clauses_with set steps) c.loop-policy.trail.entries.items entries) c.deref.ensures.value c.propagate.ensures.grows in
+    let e : Entry = record { literal = c.in-Some-decision.literal; cause = InputDecision } in
+    let head : c.len-head.result ≡ length entries = c.len-head.ensures ∙ trail.entries.ok.0 in
+    record {
+      variables = c.in_ok-push.ensures.variables ∙ c.propagate.ensures.same_variables ∙ inv.variables;
+      covers = c.propagate.ensures.covers;
+      sizes = c.decision.ensures.sizes ∙ inv.sizes;
+      within = inv.within;
+      state =
+          subst (λ es. IsSearching set log watches es c.len-head.result) (sym c.in_ok-push.ensures.ok)
+          (subst (IsSearching set log watches (entries ++ e ∷ [])) (sym head)
+          (IsSearching-decided set log watches c.loop-policy.trail.entries.items entries e refl grows inv.state.learned inv.state.forced seen_log));
+    }
+
+pub refutation-requires-in_default-last_decision-clause-caused : goal.refutation-requires-in_default-last_decision-clause-caused
+refutation-requires-in_default-last_decision-clause-caused c =
+    let set = c.args.cnf.now in
+    let log = c.loop-policy.log.items in
+    let entries = c.propagate.new.trail.entries.items in
+    let grows : Grows (clauses_with set log) c.loop-policy.trail.entries.items entries =
+    subst (λ (steps : List Step). Grows (clauses_with set steps) c.loop-policy.trail.entries.items entries) c.deref.ensures.value c.propagate.ensures.grows in
+    EachCaused-from_forced set log entries (EachForced-grown (clauses_with set log) c.loop-policy.trail.entries.items entries grows c.loop-policy.invariant.state.forced) c.in_default-last_decision.ensures.none
+
+pub refutation-requires-in_default-last_decision-clause-no_decisions : goal.refutation-requires-in_default-last_decision-clause-no_decisions
+refutation-requires-in_default-last_decision-clause-no_decisions c =
+    none_decided_gives_none c.propagate.new.trail.entries.items c.in_default-last_decision.ensures.none
+
+pub returns-then-len-limit : goal.returns-then-len-limit
+returns-then-len-limit c =
+    let set = c.args.cnf.now in
+    let inv = c.loop-policy.invariant in
+    let log = c.loop-policy.log.items in
+    let trail = c.propagate.new.trail in
+    let entries = trail.entries.items in
+    let start = c.in-Some-last_decision.start in
+    let watching : IsWatching (clauses_with set log) c.propagate.new.watches entries =
+    subst (λ (steps : List Step). IsWatching (clauses_with set steps) c.propagate.new.watches entries) c.deref.ensures.value c.in_ok-conflict-2.ensures.watching in
+    let closed : IsClosed (clauses_with set log) (literals (take start entries)) =
+    closed_before (clauses_with set log) c.propagate.new.watches trail.values.items entries start trail.table c.in-Some-last_decision.ensures.last.decided watching in
+    let exact : length log ≡ c.args.limit = omega (arith, inv.within, c.if-len-limit.true, c.len.ensures, c.loop-policy.log.ok.0) in
+    subst (IsHonestLimit set c.args.limit) (sym c.from_vec.ensures)
+    (limit_found set log c.args.limit (literals (take start entries)) exact inv.state.learned closed c.requires.many)
+
+pub analyse-requires-clause-forced : goal.analyse-requires-clause-forced
+analyse-requires-clause-forced c =
+    let set = c.args.cnf.now in
+    let log = c.loop-policy.log.items in
+    let entries = c.propagate.new.trail.entries.items in
+    let grows : Grows (clauses_with set log) c.loop-policy.trail.entries.items entries =
+    subst (λ (steps : List Step). Grows (clauses_with set steps) c.loop-policy.trail.entries.items entries) c.deref.ensures.value c.propagate.ensures.grows in
+    subst (λ (steps : List Step). EachForced (clauses_with set steps) entries) (sym c.deref-in-loop-policy.ensures.value)
+    (EachForced-grown (clauses_with set log) c.loop-policy.trail.entries.items entries grows c.loop-policy.invariant.state.forced)
+
+pub analyse-requires-clause-closed : goal.analyse-requires-clause-closed
+analyse-requires-clause-closed c =
+    let set = c.args.cnf.now in
+    let trail = c.propagate.new.trail in
+    let entries = trail.entries.items in
+    let steps = c.deref-in-loop-policy.result.now in
+    let same : c.deref.result.now ≡ steps = c.deref.ensures.value ∙ sym c.deref-in-loop-policy.ensures.value in
+    let watching : IsWatching (clauses_with set steps) c.propagate.new.watches entries =
+    subst (λ (ss : List Step). IsWatching (clauses_with set ss) c.propagate.new.watches entries) same c.in_ok-conflict-2.ensures.watching in
+    closed_before (clauses_with set steps) c.propagate.new.watches trail.values.items entries c.in-Some-last_decision.start trail.table c.in-Some-last_decision.ensures.last.decided watching
+
+pub learn-requires-clause-forced : goal.learn-requires-clause-forced
+learn-requires-clause-forced c =
+    let set = c.args.cnf.now in
+    let log = c.loop-policy.log.items in
+    let entries = c.propagate.new.trail.entries.items in
+    let grows : Grows (clauses_with set log) c.loop-policy.trail.entries.items entries =
+    subst (λ (steps : List Step). Grows (clauses_with set steps) c.loop-policy.trail.entries.items entries) c.deref.ensures.value c.propagate.ensures.grows in
+    EachForced-grown (clauses_with set log) c.loop-policy.trail.entries.items entries grows c.loop-policy.invariant.state.forced
+
+pub learn-requires-clause-follows : goal.learn-requires-clause-follows
+learn-requires-clause-follows c =
+    subst (λ (steps : List Step). StepFollows c.args.cnf.now (clauses_with c.args.cnf.now steps) c.in_ok-learned.learned.step) c.deref-in-loop-policy.ensures.value c.in_ok-learned.ensures.follows
+
+pub learn-requires-clause-decided : goal.learn-requires-clause-decided
+learn-requires-clause-decided c =
+    let entries = c.propagate.new.trail.entries.items in
+    let jump = c.in_ok-learned.learned.jump in
+    let decided : DecidedAt entries jump = c.in_ok-learned.ensures.asserting.decided in
+    elim c.if-count_conflict.branch [
+      | then-count_conflict w ↦
+          subst (DecidedAt entries) (sym (w.head-is ∙ w.unwrap_or-head.ensures))
+          (first_or_jump entries w.first_decision.result jump decided w.first_decision.ensures.decided w.first_decision.ensures.earlier).0
+      | else-count_conflict w ↦ subst (DecidedAt entries) (sym w.head-is) decided
+    ]
+
+pub learn-requires-clause-within : goal.learn-requires-clause-within
+learn-requires-clause-within c =
+    let entries = c.propagate.new.trail.entries.items in
+    let jump = c.in_ok-learned.learned.jump in
+    let decided : DecidedAt entries jump = c.in_ok-learned.ensures.asserting.decided in
+    elim c.if-count_conflict.branch [
+      | then-count_conflict w ↦
+          subst (λ n. n ≤ jump) (sym (w.head-is ∙ w.unwrap_or-head.ensures))
+          (first_or_jump entries w.first_decision.result jump decided w.first_decision.ensures.decided w.first_decision.ensures.earlier).1
+      | else-count_conflict w ↦ omega (arith, w.head-is)
+    ]
+
+pub loop-policy-smaller : goal.loop-policy-smaller
+loop-policy-smaller c =
+    less_after_conflict c.args.limit (length c.loop-policy.log.items) (length c.learn.new.log.items) (c.args.cnf.now.count + 1) (length c.loop-policy.trail.entries.items) (length c.learn.new.trail.entries.items)
+    c.in_ok-learn.ensures.longer (omega (arith, c.if-len-limit.false, c.len.ensures, c.loop-policy.log.ok.0))

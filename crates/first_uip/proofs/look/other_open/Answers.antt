@@ -1,0 +1,30 @@
+use Rattle.std.proofs.Common.{◌≡◌, true, length, take, get_or, sym, ap, ◌∙◌, subst, arith}
+use Rattle.std.specs.Prelude.{All, ◌≢◌}
+use Rattle.std.proofs.lemmas.List.{take_all}
+use Rattle.std.proofs.lemmas.List.Elements.{All-more}
+use Rattle.clauses.specs.declared.literal.Lit.{Lit}
+use Rattle.clauses.specs.Propagation.{is_held, is_false}
+use Rattle.clauses.proofs.Held.{equal_literals}
+use Rattle.depth_first.specs.TrailEntries.{literals}
+use Rattle.first_uip.proofs.look.other_open.Goals as goal
+use Rattle.first_uip.proofs.look.other_open.Goals.{else-ne-via-then-ne+else-not-holds, else-ne-via-else-ne}
+
+pub loop-literal-preserved : goal.loop-literal-preserved
+loop-literal-preserved c =
+    let held = literals c.args.trail.now.entries.items in
+    let clause = c.args.clause.now in
+    let k = c.loop-literal.literal-index in
+    elim c.else-ne.branch [
+      | else-ne-via-then-ne+else-not-holds w ↦
+          All-more (λ (m : Lit). m ≢ c.args.other → is_false held m ≡ true) clause k _ c.loop-literal-test.true c.loop-literal.invariant
+          (λ other. sym (ap (is_held held) w.negation.ensures) ∙ sym w.holds.ensures ∙ w.if-not-holds.false)
+      | else-ne-via-else-ne w ↦
+          All-more (λ (m : Lit). m ≢ c.args.other → is_false held m ≡ true) clause k _ c.loop-literal-test.true c.loop-literal.invariant
+          (λ other. absurd (other (equal_literals _ _ c.ne.result c.ne.ensures w.if-ne.false)))
+    ]
+
+pub returns-clause-none : goal.returns-clause-none
+returns-clause-none c =
+    let held = literals c.args.trail.now.entries.items in
+    let clause = c.args.clause.now in
+    subst (All (λ (m : Lit). m ≢ c.args.other → is_false held m ≡ true)) (take_all c.loop-literal.literal-index clause (omega (arith, c.loop-literal-test.false))) c.loop-literal.invariant

@@ -1,0 +1,20 @@
+use Rattle.std.proofs.Common.{◌≡◌, true, not, sym, ap, ◌∙◌, subst, arith, inl, inr}
+use Rattle.std.proofs.lemmas.Bool.{cases_order}
+use Rattle.clauses.specs.Literal.{literal_of}
+use Rattle.clauses.specs.Propagation.{is_held}
+use Rattle.depth_first.specs.TrailEntries.{literals, IsSet}
+use Rattle.depth_first.proofs.Options.{IfSome_at}
+use Rattle.first_uip.proofs.policy.open_variable.Goals as goal
+
+pub loop-variable-preserved : goal.loop-variable-preserved
+loop-variable-preserved c =
+    λ n first below.
+    let held = literals c.args.trail.now.entries.items in
+    let k = c.loop-variable.variable in
+    let here : IsSet held k =
+    IfSome_at c.value.result (λ value. is_held held (literal_of k value) ≡ true) (c.is_none.ensures ∙ ap not c.if-is_none.false) c.value.ensures.set in
+    elim (cases_order n k) [
+      | inl same ↦ subst (IsSet held) (sym same) here
+      | inr (inl less) ↦ c.loop-variable.invariant n first less
+      | inr (inr more) ↦ absurd (omega arith)
+    ]

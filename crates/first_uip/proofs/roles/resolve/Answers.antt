@@ -1,0 +1,48 @@
+use Rattle.std.proofs.Common.{◌≡◌, ◌+◌, ◌<◌, false, Some, length, refl, sym, ◌∙◌, arith}
+use Rattle.std.specs.Prelude.{slice_get}
+use Rattle.std.proofs.lemmas.Option.{slice_get_read}
+use Rattle.clauses.specs.ClauseSet.{clauses_with}
+use Rattle.depth_first.specs.declared.trail.Entry.{Entry}
+use Rattle.depth_first.specs.declared.trail.Cause.TheVariants.{Reason}
+use Rattle.depth_first.specs.TrailEntries.{is_decision}
+use Rattle.depth_first.proofs.Lists.{slice_get_below}
+use Rattle.depth_first.proofs.Sets.{below_from_within}
+use Rattle.depth_first.proofs.Involved.{with_within, cause_of_reason}
+use Rattle.first_uip.proofs.RoleLemmas.{IsResolution-see, reason_if_undecided}
+use Rattle.first_uip.proofs.roles.resolve.Goals as goal
+
+pub numbered-requires : goal.numbered-requires
+numbered-requires c =
+    let cs = clauses_with c.args.cnf.now c.args.log.now in
+    let entries = c.args.trail.now.entries.items in
+    let e : Entry = c.index-entry.result.now in
+    let at : slice_get entries c.args.place ≡ Some e = slice_get_read entries (length entries) c.args.place e refl c.requires.within c.index-entry.ensures in
+    let cause : e.cause ≡ Reason c.in-Some.number = cause_of_reason e.cause c.in-Some.number (sym c.reason.ensures ∙ c.in-Some.is) in
+    let (clause, named, unit) = c.requires.forced.each c.args.place e c.in-Some.number at cause in
+    slice_get_below cs c.in-Some.number clause named
+
+pub see-requires : goal.see-requires
+see-requires c =
+    let set = c.args.cnf.now in
+    below_from_within set.count (length c.args.roles.now) c.numbered.result.now c.requires.size
+    (with_within set c.args.log.now c.in-Some.number c.numbered.result.now c.requires.follows c.numbered.ensures)
+
+pub returns-in-Some-clause-resolves : goal.returns-in-Some-clause-resolves
+returns-in-Some-clause-resolves c =
+    λ conflict so_far.
+    let trail = c.args.trail.now in
+    let entries = trail.entries.items in
+    let e : Entry = c.index-entry.result.now in
+    let at : slice_get entries c.args.place ≡ Some e = slice_get_read entries (length entries) c.args.place e refl c.requires.within c.index-entry.ensures in
+    let cause : e.cause ≡ Reason c.in-Some.number = cause_of_reason e.cause c.in-Some.number (sym c.reason.ensures ∙ c.in-Some.is) in
+    IsResolution-see (clauses_with c.args.cnf.now c.args.log.now) trail.values.items entries conflict c.args.place c.in-Some.number e c.numbered.result.now c.args.roles.now c.see.new.roles trail.fresh c.requires.forced at cause
+    c.numbered.ensures c.see.ensures so_far
+
+pub returns-in_default-clause-resolves : goal.returns-in_default-clause-resolves
+returns-in_default-clause-resolves c =
+    λ conflict so_far.
+    let entries = c.args.trail.now.entries.items in
+    let e : Entry = c.index-entry.result.now in
+    let at : slice_get entries c.args.place ≡ Some e = slice_get_read entries (length entries) c.args.place e refl c.requires.within c.index-entry.ensures in
+    let reason : is_decision e.cause ≡ false = c.requires.reason c.args.place e (omega arith) (omega arith) at in
+    absurd (reason_if_undecided e.cause reason (sym c.reason.ensures ∙ c.in_default.is))

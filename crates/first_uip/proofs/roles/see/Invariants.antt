@@ -1,0 +1,6 @@
+use Rattle.std.proofs.Common.{◌≡◌, length, take}
+use Rattle.first_uip.specs.Conflict.{Sees}
+use Rattle.first_uip.proofs.roles.see.Given as goal
+
+abbrev pub invariant-loop-literal : goal.invariant-loop-literal
+invariant-loop-literal l = Sees (take l.literal-index l.clause) l.initial.roles l.roles

@@ -1,0 +1,10 @@
+pub use Rattle.clauses.specs.ClauseSet
+pub use Rattle.clauses.specs.Literal
+pub use Rattle.clauses.specs.Propagation
+pub use Rattle.depth_first.specs.Found
+pub mod Watching
+pub mod Looks
+pub mod Shapes
+pub mod Conflict
+pub mod Searching
+pub mod Order

@@ -1,0 +1,81 @@
+-- Watched literals: which clauses have to be looked at when a literal becomes false (Chaff).
+use Rattle.std.specs.Prelude.{◌≡◌, ℕ, ◌<◌, ◌++◌, ◌⊎◌, true, false, List, [], ◌∷◌, Some, if◌then◌else◌, length, take, slice_get, slice_index_or}
+use Rattle.clauses.specs.declared.literal.Lit.{Lit}
+use Rattle.clauses.specs.Literal.{is_same}
+use Rattle.clauses.specs.Propagation.{is_held, is_false}
+use Rattle.depth_first.specs.declared.trail.Entry.{Entry}
+use Rattle.depth_first.specs.TrailEntries.{literals, is_decision}
+use Rattle.depth_first.specs.Propagated.{StandsFrom}
+use Rattle.depth_first.specs.DepthFirst.{IsSatisfied}
+use Rattle.first_uip.specs.declared.watches.Watches.{Watches}
+use Rattle.first_uip.specs.declared.watches.Watched.{Watched}
+use Rattle.first_uip.specs.declared.watches.Watched.TheVariants.{Alone, Two}
+
+-- the literals that a clause watches
+abbrev pub watched_literals : Watched → List Lit
+watched_literals Alone = []
+watched_literals (Two first second) = first ∷ second ∷ []
+
+-- the numbers that are kept for a literal
+abbrev pub numbers_of : Watches → Lit → List ℕ
+numbers_of watches l = slice_index_or (if l.negated then watches.negative.items else watches.positive.items) l.variable []
+
+-- there is a list for each literal of the variables below this number
+pub record CoversBelow (n : ℕ) (watches : Watches) : Type 0 where
+  pub positive : length watches.positive.items ≡ n
+  pub negative : length watches.negative.items ≡ n
+
+-- the lists after a number is added for one literal
+pub record AddsNumber (old new : Watches) (l : Lit) (number : ℕ) : Type 0 where
+  pub here : numbers_of new l ≡ numbers_of old l ++ number ∷ []
+  pub others : (m : Lit) → is_same m l ≡ false → numbers_of new m ≡ numbers_of old m
+
+-- the lists after a number is added for each of these literals
+pub record AddsNumbers (old new : Watches) (added : List Lit) (number : ℕ) : Type 0 where
+  pub kept : (l : Lit) (place n : ℕ) → slice_get (numbers_of old l) place ≡ Some n → slice_get (numbers_of new l) place ≡ Some n
+  pub listed : (l : Lit) → is_held added l ≡ true → StandsFrom (numbers_of new l) 0 number
+  pub only : (l : Lit) (place n : ℕ) → slice_get (numbers_of new l) place ≡ Some n → (slice_get (numbers_of old l) place ≡ Some n) ⊎ (n ≡ number)
+
+-- Each clause is listed for each literal that it watches, and no other numbers are listed than those of clauses.
+pub record IsListed (watches : Watches) : Type 0 where
+  pub each : (number : ℕ) (w : Watched) (l : Lit) → slice_get watches.watched.items number ≡ Some w → is_held (watched_literals w) l ≡ true → StandsFrom (numbers_of watches l) 0 number
+  pub known : (l : Lit) (place n : ℕ) → slice_get (numbers_of watches l) place ≡ Some n → n < length watches.watched.items
+
+-- what a clause watches are two of its literals that differ, or nothing
+abbrev pub IsWatch : List Lit → Watched → Type 0
+IsWatch clause Alone = Unit {0}
+IsWatch clause (Two first second) =
+    (is_held clause first ≡ true) × (is_held clause second ≡ true) × ((first ≡ second) → ⊥)
+
+abbrev pub EachIsWatch : List (List Lit) → List Watched → Type 0
+EachIsWatch clauses watched =
+    (number : ℕ) (clause : List Lit) (w : Watched) → slice_get clauses number ≡ Some clause → slice_get watched number ≡ Some w → IsWatch clause w
+
+-- Where a watched literal is false by what was seen, a literal of the clause is held; and one is held of a clause that
+-- watches none.
+abbrev pub IsGuarded : List Lit → List Lit → List Lit → Watched → Type 0
+IsGuarded seen held clause Alone = IsSatisfied held clause
+IsGuarded seen held clause (Two first second) =
+    (is_false seen first ≡ true → IsSatisfied held clause) × (is_false seen second ≡ true → IsSatisfied held clause)
+
+abbrev pub EachGuarded : List (List Lit) → List Watched → List Lit → List Lit → Type 0
+EachGuarded clauses watched seen held =
+    (number : ℕ) (clause : List Lit) (w : Watched) → slice_get clauses number ≡ Some clause → slice_get watched number ≡ Some w → IsGuarded seen held clause w
+
+-- the same before each decision
+abbrev pub EachLevelGuarded : List (List Lit) → List Watched → List Entry → Type 0
+EachLevelGuarded clauses watched entries =
+    (place : ℕ) (e : Entry) → slice_get entries place ≡ Some e → is_decision e.cause ≡ true →
+    EachGuarded clauses watched (literals (take place entries)) (literals (take place entries))
+
+-- The watches of some clauses: each has them, they are listed, and each level but the last is closed by them.
+pub record IsWatching (clauses : List (List Lit)) (watches : Watches) (entries : List Entry) : Type 0 where
+  pub count : length watches.watched.items ≡ length clauses
+  pub each : EachIsWatch clauses watches.watched.items
+  pub listed : IsListed watches
+  pub levels : EachLevelGuarded clauses watches.watched.items entries
+
+-- the same, and the entries before the head were seen
+pub record IsWatchingUpTo (clauses : List (List Lit)) (watches : Watches) (entries : List Entry) (head : ℕ) : Type 0 where
+  pub watching : IsWatching clauses watches entries
+  pub guarded : EachGuarded clauses watches.watched.items (literals (take head entries)) (literals entries)

@@ -1,0 +1,362 @@
+//! From a conflict to the clause of its first unique implication point (GRASP, Chaff).
+
+ghost use Rattle.std.specs.Prelude.{◌≡◌, ◌+◌, ◌<◌, ◌≤◌, ◌++◌, ◌∷◌, [], ℕ, true, false, length, replicate, take, IsTrue, IfOk, IfSome, IfNone, All};
+ghost use Rattle.clauses.specs.Propagation.{NamesFalse, negations_of};
+ghost use Rattle.clauses.specs.ClauseSet.{IsNew, LogFollows, StepFollows, clauses_with};
+ghost use Rattle.clauses.proofs.Closed.{IsClosed};
+ghost use Rattle.depth_first.specs.TrailEntries.{literals, reasons};
+ghost use Rattle.depth_first.specs.TrailEntries.{EachForced};
+ghost use Rattle.first_uip.specs.Conflict.{DecidedAt, IsAnalysis, IsAsserting, IsJump, IsLastLevel, IsOther, NoneDecided, NoneKept, NoneSeen, Resolves, SameKeptFrom, SeenAt, is_kept, is_seen, kept_entries, resolved_entries, role_of};
+
+use crate::roles::{Role, resolve, see};
+use clauses::{Clause, Cnf, Lit, Step};
+use depth_first::{Trail, numbered};
+use lists::List;
+use std::alloc::{AllocError, Global};
+
+/// What a conflict shows.
+#[derive(Debug, Drop)]
+pub(crate) struct Learned {
+    pub(crate) step: Step,
+    /// The literal of its clause that is open where all others are false.
+    pub(crate) asserted: Lit,
+    /// Of the others the one that became false last.
+    pub(crate) other: Option<Lit>,
+    /// The place of the earliest decision before which all others are false.
+    pub(crate) jump: usize,
+}
+
+/// The highest place from `start` on and before `end` of an entry on which the conflict rests.
+fn last_seen(trail: &Trail, roles: &[Role], start: usize, end: usize) -> Option<usize>
+    requires size { length roles.now ≡ length trail.now.values.items }
+    requires within { end ≤ length trail.now.entries.items }
+    ensures first { IfSome result (λ place. start ≤ place) }
+    ensures last { IfSome result (λ place. place < end) }
+    ensures seen { IfSome result (SeenAt trail.now.entries.items roles.now) }
+    ensures none { IfNone result (NoneSeen trail.now.entries.items roles.now start end) }
+{
+    let mut place = end;
+    while place > start {
+        place -= 1;
+        if roles[trail.entries[place].literal.variable as usize] != Role::Unseen {
+            return Some(place);
+        }
+    }
+    None
+}
+
+/// Resolves the entries of the last level, which begins at `start`, from the end back to the first unique
+/// implication point, and tells its place.
+fn resolve_level(cnf: &Cnf, log: &[Step], trail: &Trail, start: usize, roles: &mut [Role]) -> usize
+    requires variables { length trail.now.values.items ≡ cnf.now.count + 1 }
+    requires size { length roles.old ≡ cnf.now.count + 1 }
+    requires follows { LogFollows cnf.now log.now }
+    requires forced { EachForced (clauses_with cnf.now log.now) trail.now.entries.items }
+    requires later { NoneDecided trail.now.entries.items (start + 1) (length trail.now.entries.items) }
+    requires rests { NoneSeen trail.now.entries.items roles.old start (length trail.now.entries.items) → ⊥ }
+    ensures first { start ≤ result }
+    ensures last { result < length trail.now.entries.items }
+    ensures seen { SeenAt trail.now.entries.items roles.new result }
+    ensures none_between { NoneSeen trail.now.entries.items roles.new start result }
+    ensures resolves { Resolves (clauses_with cnf.now log.now) trail.now.entries.items (length trail.now.entries.items) roles.old (result + 1) roles.new }
+    ensures same_kept { (n : ℕ) → is_kept (role_of roles.new n) ≡ is_kept (role_of roles.old n) }
+{
+    let mut place = trail.entries.len();
+    // an entry before `place` on which the conflict rests
+    let mut lower = last_seen(trail, roles, start, place).unwrap();
+    loop {
+        place -= 1;
+        if place == lower {
+            match last_seen(trail, roles, start, place) {
+                None => return place,
+                Some(next) => lower = next,
+            }
+        }
+        resolve(cnf, log, trail, place, roles);
+    }
+}
+
+/// Whether all variables of the clause but this one are seen.
+fn all_seen(clause: &[Lit], roles: &[Role], but: u32) -> bool
+    requires { All (λ l. l.variable < length roles.now) clause.now }
+{
+    for literal in clause {
+        if literal.variable != but && roles[literal.variable as usize] == Role::Unseen {
+            return false;
+        }
+    }
+    true
+}
+
+/// Whether the entry at a place is to be resolved rather than kept: it stands before any decision, or the others
+/// of its reason's literals are seen (local minimisation).
+fn is_redundant(
+    cnf: &Cnf,
+    log: &[Step],
+    trail: &Trail,
+    place: usize,
+    root: usize,
+    roles: &[Role],
+) -> bool
+    requires variables { length trail.now.values.items ≡ cnf.now.count + 1 }
+    requires size { length roles.now ≡ cnf.now.count + 1 }
+    requires follows { LogFollows cnf.now log.now }
+    requires forced { EachForced (clauses_with cnf.now log.now) trail.now.entries.items }
+    requires within { place < length trail.now.entries.items }
+    ensures { IsTrue result → NoneDecided trail.now.entries.items place (place + 1) }
+{
+    let entry = trail.entries[place];
+    match entry.cause.reason() {
+        None => false,
+        Some(number) => {
+            place < root || all_seen(numbered(cnf, log, number), roles, entry.literal.variable)
+        }
+    }
+}
+
+/// Keeps or resolves the entries before `start` on which the conflict rests.
+fn settle_earlier(
+    cnf: &Cnf,
+    log: &[Step],
+    trail: &Trail,
+    start: usize,
+    root: usize,
+    roles: &mut [Role],
+)
+    requires variables { length trail.now.values.items ≡ cnf.now.count + 1 }
+    requires size { length roles.old ≡ cnf.now.count + 1 }
+    requires follows { LogFollows cnf.now log.now }
+    requires forced { EachForced (clauses_with cnf.now log.now) trail.now.entries.items }
+    requires within { start ≤ length trail.now.entries.items }
+    ensures resolves { Resolves (clauses_with cnf.now log.now) trail.now.entries.items start roles.old 0 roles.new }
+    ensures same_later { SameKeptFrom trail.now.entries.items roles.old roles.new start }
+{
+    let mut place = start;
+    while place > 0 {
+        place -= 1;
+        let variable = trail.entries[place].literal.variable as usize;
+        if roles[variable] == Role::Unseen {
+            continue;
+        }
+        if is_redundant(cnf, log, trail, place, root, roles) {
+            resolve(cnf, log, trail, place, roles);
+        } else {
+            roles[variable] = Role::Kept;
+        }
+    }
+}
+
+/// The place of the first decision.
+pub(crate) fn first_decision(trail: &Trail) -> Option<usize>
+    ensures none { IfNone result (NoneDecided trail.now.entries.items 0 (length trail.now.entries.items)) }
+    ensures earlier { IfSome result (NoneDecided trail.now.entries.items 0) }
+    ensures decided { IfSome result (DecidedAt trail.now.entries.items) }
+{
+    for (place, entry) in trail.entries.iter().enumerate() {
+        if entry.cause.is_decision() {
+            return Some(place);
+        }
+    }
+    None
+}
+
+/// The place of the last decision.
+pub(crate) fn last_decision(trail: &Trail) -> Option<usize>
+    ensures none { IfNone result (NoneDecided trail.now.entries.items 0 (length trail.now.entries.items)) }
+    ensures last { IfSome result (IsLastLevel trail.now.entries.items) }
+{
+    let mut place = trail.entries.len();
+    while place > 0 {
+        place -= 1;
+        if trail.entries[place].cause.is_decision() {
+            return Some(place);
+        }
+    }
+    None
+}
+
+/// Where to jump back to.
+#[derive(Clone, Copy, Debug)]
+pub(crate) struct Jump {
+    /// The place of the earliest decision after all kept entries that stand before the last one.
+    pub(crate) place: usize,
+    /// The last of these kept entries.
+    pub(crate) below: Option<usize>,
+}
+
+/// Where to jump back to from the decision at `start`.
+fn jump_from(trail: &Trail, roles: &[Role], start: usize) -> Jump
+    requires size { length roles.now ≡ length trail.now.values.items }
+    requires decided { DecidedAt trail.now.entries.items start }
+    ensures { IsJump trail.now.entries.items roles.now start result.place result.below }
+{
+    let mut earliest = start;
+    let mut place = start;
+    while place > 0 {
+        place -= 1;
+        let entry = trail.entries[place];
+        if roles[entry.literal.variable as usize] == Role::Kept {
+            return Jump {
+                place: earliest,
+                below: Some(place),
+            };
+        }
+        if entry.cause.is_decision() {
+            earliest = place;
+        }
+    }
+    Jump {
+        place: earliest,
+        below: None,
+    }
+}
+
+/// The clause of the negations of what is kept before `start`, and of this literal.
+fn clause_of(
+    alloc: Global,
+    trail: &Trail,
+    roles: &[Role],
+    start: usize,
+    asserted: Lit,
+) -> Result<Clause, AllocError>
+    requires size { length roles.now ≡ length trail.now.values.items }
+    requires within { start ≤ length trail.now.entries.items }
+    ensures { IfOk result (λ clause. clause ≡ negations_of (literals (kept_entries roles.now (take start trail.now.entries.items))) ++ asserted ∷ []) }
+{
+    let mut clause = Clause::new(alloc);
+    for place in 0..start {
+        let literal = trail.entries[place].literal;
+        if roles[literal.variable as usize] == Role::Kept {
+            clause.push(literal.negation())?;
+        }
+    }
+    clause.push(asserted)?;
+    Ok(clause)
+}
+
+/// The reasons of what is resolved, in order, and then the number of the clause that is false.
+fn hints_of(
+    alloc: Global,
+    trail: &Trail,
+    roles: &[Role],
+    conflict: u32,
+) -> Result<List<u32>, AllocError>
+    requires { length roles.now ≡ length trail.now.values.items }
+    ensures { IfOk result (λ hints. hints ≡ reasons (resolved_entries roles.now trail.now.entries.items) ++ conflict ∷ []) }
+{
+    let mut hints = List::new(alloc);
+    for place in 0..trail.entries.len() {
+        let entry = trail.entries[place];
+        if roles[entry.literal.variable as usize] == Role::Resolved {
+            if let Some(number) = entry.cause.reason() {
+                hints.push(number)?;
+            }
+        }
+    }
+    hints.push(conflict)?;
+    Ok(hints)
+}
+
+/// No part for each variable up to `count`.
+fn no_parts(alloc: Global, count: u32) -> Result<Vec<Role>, AllocError>
+    ensures { IfOk result (λ roles. roles.items ≡ replicate (count + 1) Role.Unseen) }
+{
+    vec![in alloc; Role::Unseen; count as usize + 1]
+}
+
+/// Gives each variable its part in the conflict at a clause, where the last decision stands at `start`, and tells
+/// the place of the first unique implication point.
+fn give_parts(
+    cnf: &Cnf,
+    log: &[Step],
+    trail: &Trail,
+    conflict: u32,
+    start: usize,
+    roles: &mut [Role],
+) -> usize
+    requires variables { length trail.now.values.items ≡ cnf.now.count + 1 }
+    requires size { length roles.old ≡ cnf.now.count + 1 }
+    requires unseen { (n : ℕ) → role_of roles.old n ≡ Role.Unseen }
+    requires follows { LogFollows cnf.now log.now }
+    requires forced { EachForced (clauses_with cnf.now log.now) trail.now.entries.items }
+    requires falsified { NamesFalse (clauses_with cnf.now log.now) (literals trail.now.entries.items) conflict }
+    requires last { IsLastLevel trail.now.entries.items start }
+    requires closed { IsClosed (clauses_with cnf.now log.now) (literals (take start trail.now.entries.items)) }
+    ensures { IsAnalysis (clauses_with cnf.now log.now) trail.now.entries.items roles.new conflict start result }
+{
+    see(numbered(cnf, log, conflict), roles);
+    let point = resolve_level(cnf, log, trail, start, roles);
+    roles[trail.entries[point].literal.variable as usize] = Role::Kept;
+    let root = first_decision(trail).unwrap_or(0);
+    settle_earlier(cnf, log, trail, start, root, roles);
+    point
+}
+
+/// What the parts of the variables in a conflict show.
+fn learned_of(
+    alloc: Global,
+    cnf: &Cnf,
+    log: &[Step],
+    trail: &Trail,
+    roles: &[Role],
+    conflict: u32,
+    start: usize,
+    point: usize,
+) -> Result<Learned, AllocError>
+    requires variables { length trail.now.values.items ≡ cnf.now.count + 1 }
+    requires size { length roles.now ≡ cnf.now.count + 1 }
+    requires forced { EachForced (clauses_with cnf.now log.now) trail.now.entries.items }
+    requires falsified { NamesFalse (clauses_with cnf.now log.now) (literals trail.now.entries.items) conflict }
+    requires decided { DecidedAt trail.now.entries.items start }
+    requires closed { IsClosed (clauses_with cnf.now log.now) (literals (take start trail.now.entries.items)) }
+    requires analysis { IsAnalysis (clauses_with cnf.now log.now) trail.now.entries.items roles.now conflict start point }
+    ensures follows { IfOk result (λ learned. StepFollows cnf.now (clauses_with cnf.now log.now) learned.step) }
+    ensures new { IfOk result (λ learned. IsNew (clauses_with cnf.now log.now) learned.step.clause) }
+    ensures not_empty { IfOk result (λ learned. learned.step.clause ≡ [] → ⊥) }
+    ensures asserting { IfOk result (λ learned. IsAsserting trail.now.entries.items learned.jump learned.step.clause learned.asserted) }
+    ensures other { IfOk result (λ learned. IsOther trail.now.entries.items learned.jump learned.step.clause learned.asserted learned.other) }
+{
+    let asserted = trail.entries[point].literal.negation();
+    let clause = clause_of(alloc, trail, roles, start, asserted)?;
+    let hints = hints_of(alloc, trail, roles, conflict)?;
+    let jump = jump_from(trail, roles, start);
+    let other = match jump.below {
+        Some(below) => Some(trail.entries[below].literal.negation()),
+        None => None,
+    };
+    Ok(Learned {
+        step: Step { clause, hints },
+        asserted,
+        other,
+        jump: jump.place,
+    })
+}
+
+/// What the conflict at a clause shows, where the last decision stands at `start`, and the parts of the variables
+/// in it.
+pub(crate) fn analyse(
+    alloc: Global,
+    cnf: &Cnf,
+    log: &[Step],
+    trail: &Trail,
+    conflict: u32,
+    start: usize,
+) -> Result<(Learned, Vec<Role>), AllocError>
+    requires variables { length trail.now.values.items ≡ cnf.now.count + 1 }
+    requires follows { LogFollows cnf.now log.now }
+    requires forced { EachForced (clauses_with cnf.now log.now) trail.now.entries.items }
+    requires falsified { NamesFalse (clauses_with cnf.now log.now) (literals trail.now.entries.items) conflict }
+    requires last { IsLastLevel trail.now.entries.items start }
+    requires closed { IsClosed (clauses_with cnf.now log.now) (literals (take start trail.now.entries.items)) }
+    ensures follows { IfOk result (λ both. StepFollows cnf.now (clauses_with cnf.now log.now) both.0.step) }
+    ensures new { IfOk result (λ both. IsNew (clauses_with cnf.now log.now) both.0.step.clause) }
+    ensures not_empty { IfOk result (λ both. both.0.step.clause ≡ [] → ⊥) }
+    ensures asserting { IfOk result (λ both. IsAsserting trail.now.entries.items both.0.jump both.0.step.clause both.0.asserted) }
+    ensures other { IfOk result (λ both. IsOther trail.now.entries.items both.0.jump both.0.step.clause both.0.asserted both.0.other) }
+    ensures roles { IfOk result (λ both. length both.1.items ≡ cnf.now.count + 1) }
+{
+    let mut roles = no_parts(alloc, cnf.count)?;
+    let point = give_parts(cnf, log, trail, conflict, start, &mut roles);
+    let learned = learned_of(alloc, cnf, log, trail, &roles, conflict, start, point)?;
+    Ok((learned, roles))
+}

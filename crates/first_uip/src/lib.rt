@@ -1,0 +1,16 @@
+//! A search for a model of a clause set by conflict-driven clause learning (CDCL), which logs what it learns.
+#![tactic(auto)]
+
+mod analysis;
+mod learning;
+mod look;
+mod luby;
+mod numbers;
+mod order;
+mod policy;
+mod propagation;
+mod roles;
+mod start;
+mod watches;
+
+pub use learning::search;

@@ -1,0 +1,96 @@
+//! Looking at a clause of which a watched literal became false.
+
+ghost use Rattle.std.specs.Prelude.{◌≡◌, ◌≢◌, ◌⊎◌, ◌+◌, ◌-◌, ◌<◌, true, false, length, All, IfOk, IfSome, IfNone, MatchOption};
+ghost use Rattle.clauses.specs.Literal.{IsWithin};
+ghost use Rattle.clauses.specs.Propagation.{is_held, is_false};
+ghost use Rattle.clauses.specs.ClauseSet.{LogFollows, clauses_with};
+ghost use Rattle.depth_first.specs.TrailEntries.{literals, Grows};
+ghost use Rattle.first_uip.specs.Watching.{CoversBelow, EachIsWatch, IsListed, watched_literals, numbers_of};
+ghost use Rattle.first_uip.specs.Looks.{WatchesBoth, IsLook};
+
+use crate::watches::{Watched, Watches};
+use clauses::{Cnf, Lit, Step};
+use depth_first::{Cause, Entry, Trail, numbered};
+use std::alloc::AllocError;
+
+/// What came of a look at a clause.
+pub(crate) enum Look {
+    /// It goes on watching the literal.
+    Stays,
+    /// It doesn't watch the literal.
+    Leaves,
+    /// All its literals are false.
+    Falsified,
+}
+
+/// A literal of the clause that isn't false, other than the one that is watched too.
+fn other_open(trail: &Trail, clause: &[Lit], other: Lit) -> Option<Lit>
+    requires { IsWithin (length trail.now.values.items - 1) clause.now }
+    ensures stands { IfSome result (λ l. is_held clause.now l ≡ true) }
+    ensures differs { IfSome result (λ l. l ≢ other) }
+    ensures not_false { IfSome result (λ l. is_false (literals trail.now.entries.items) l ≡ false) }
+    ensures none { IfNone result (All (λ l. l ≢ other → is_false (literals trail.now.entries.items) l ≡ true) clause.now) }
+{
+    for &literal in clause {
+        if literal != other && !trail.holds(literal.negation()) {
+            return Some(literal);
+        }
+    }
+    None
+}
+
+/// The other literal that a clause watches beside this one, if it watches this one.
+fn watched_beside(watched: Watched, literal: Lit) -> Option<Lit>
+    ensures { MatchOption result (is_held (watched_literals watched) literal ≡ false) (WatchesBoth watched literal) }
+{
+    match watched {
+        Watched::Two(first, second) if first == literal => Some(second),
+        Watched::Two(first, second) if second == literal => Some(first),
+        _ => None,
+    }
+}
+
+/// Looks at the clause of a number, of which this literal became false: it is satisfied by the other watched
+/// literal, watches another one instead, forces the other one, or all its literals are false.
+pub(crate) fn look_at(
+    cnf: &Cnf,
+    log: &[Step],
+    watches: &mut Watches,
+    trail: &mut Trail,
+    number: u32,
+    falsified: Lit,
+) -> Result<Look, AllocError>
+    requires variables { length trail.old.values.items ≡ cnf.now.count + 1 }
+    requires follows { LogFollows cnf.now log.now }
+    requires covers { CoversBelow (cnf.now.count + 1) watches.old }
+    requires count { length watches.old.watched.items ≡ length (clauses_with cnf.now log.now) }
+    requires each { EachIsWatch (clauses_with cnf.now log.now) watches.old.watched.items }
+    requires listed { IsListed watches.old }
+    requires known { number < length watches.old.watched.items }
+    requires falsified { is_false (literals trail.old.entries.items) falsified ≡ true }
+    ensures same_variables { length trail.new.values.items ≡ length trail.old.values.items }
+    ensures covers { CoversBelow (cnf.now.count + 1) watches.new }
+    ensures grows { Grows (clauses_with cnf.now log.now) trail.old.entries.items trail.new.entries.items }
+    ensures look { IfOk result (IsLook (clauses_with cnf.now log.now) watches.old.watched.items watches.new.watched.items trail.old.entries.items trail.new.entries.items number falsified) }
+    ensures listed { IfOk result (λ _. IsListed watches.new) }
+    ensures same_numbers { IfOk result (λ _. numbers_of watches.new falsified ≡ numbers_of watches.old falsified) }
+{
+    let Some(other) = watched_beside(watches.watched[number as usize], falsified) else {
+        return Ok(Look::Leaves);
+    };
+    if trail.holds(other) {
+        return Ok(Look::Stays);
+    }
+    if let Some(open) = other_open(trail, numbered(cnf, log, number), other) {
+        watches.rewatch(number, open, other)?;
+        return Ok(Look::Leaves);
+    }
+    if trail.holds(other.negation()) {
+        return Ok(Look::Falsified);
+    }
+    trail.push(Entry {
+        literal: other,
+        cause: Cause::Reason(number),
+    })?;
+    Ok(Look::Stays)
+}

@@ -1,0 +1,117 @@
+//! What the search does where it is free: which variable it decides, with which value, and when it restarts.
+
+ghost use Rattle.std.specs.Prelude.{◌≡◌, ◌+◌, ◌<◌, ℕ, length, IfOk, IfSome, IfNone};
+ghost use Rattle.clauses.specs.Literal.{IsVariable};
+ghost use Rattle.depth_first.specs.TrailEntries.{literals, IsOpen, IsSet};
+
+use crate::luby::Luby;
+use crate::order::Order;
+use crate::roles::Role;
+use clauses::{Cnf, Lit};
+use depth_first::Trail;
+use std::alloc::{AllocError, Global};
+
+/// What the search learned for its choices.
+#[derive(Debug, Drop)]
+pub(crate) struct Policy {
+    order: Order,
+    /// For each variable whether its last value was false.
+    pub(crate) negated: Vec<bool>,
+    restarts: Luby,
+    ghost sizes: { length order.activities.items ≡ length negated.items },
+}
+
+/// The first variable that isn't set.
+fn open_variable(cnf: &Cnf, trail: &Trail) -> Option<u32>
+    requires { length trail.now.values.items ≡ cnf.now.count + 1 }
+    ensures found { IfSome result (λ n. IsVariable cnf.now.count n × IsOpen (literals trail.now.entries.items) n) }
+    ensures none { IfNone result ((n : ℕ) → IsVariable cnf.now.count n → IsSet (literals trail.now.entries.items) n) }
+{
+    for variable in 1..cnf.count + 1 {
+        if trail.value(variable).is_none() {
+            return Some(variable);
+        }
+    }
+    None
+}
+
+impl Policy {
+    ghost use Rattle.std.specs.Prelude.{◌≡◌, ◌+◌, ◌<◌, ℕ, length, IfOk, IfSome, IfNone};
+    ghost use Rattle.clauses.specs.Literal.{IsVariable};
+    ghost use Rattle.depth_first.specs.TrailEntries.{literals, IsOpen, IsSet};
+
+    /// Nothing is learned yet.
+    pub(crate) fn new(alloc: Global, cnf: &Cnf) -> Result<Policy, AllocError>
+        ensures { IfOk result (λ policy. length policy.negated.items ≡ cnf.now.count + 1) }
+    {
+        Ok(Policy {
+            order: Order::new(alloc, cnf.count)?,
+            negated: vec![in alloc; false; cnf.count as usize + 1]?,
+            restarts: Luby::new(),
+        })
+    }
+
+    /// The literal to decide: of the most active open variable, with its last value.
+    pub(crate) fn decision(&mut self, cnf: &Cnf, trail: &Trail) -> Option<Lit>
+        requires sizes { length self.old.negated.items ≡ cnf.now.count + 1 }
+        requires variables { length trail.now.values.items ≡ cnf.now.count + 1 }
+        ensures sizes { length self.new.negated.items ≡ length self.old.negated.items }
+        ensures found { IfSome result (λ l. IsVariable cnf.now.count l.variable × IsOpen (literals trail.now.entries.items) l.variable) }
+        ensures none { IfNone result ((n : ℕ) → IsVariable cnf.now.count n → IsSet (literals trail.now.entries.items) n) }
+    {
+        let variable = match self.active_variable(trail) {
+            Some(variable) => variable,
+            None => open_variable(cnf, trail)?,
+        };
+        Some(Lit {
+            variable,
+            negated: self.negated[variable as usize],
+        })
+    }
+
+    /// The most active open variable of those in the order.
+    fn active_variable(&mut self, trail: &Trail) -> Option<u32>
+        requires { length trail.now.values.items ≡ length self.old.negated.items }
+        ensures sizes { length self.new.negated.items ≡ length self.old.negated.items }
+        ensures first { IfSome result (λ n. 0 < n) }
+        ensures last { IfSome result (λ n. n < length self.old.negated.items) }
+        ensures unset { IfSome result (IsOpen (literals trail.now.entries.items)) }
+    {
+        while let Some(variable) = self.order.pop() {
+            if trail.value(variable).is_none() {
+                return Some(variable);
+            }
+        }
+        None
+    }
+
+    /// The entries from a place on are taken back: their values are kept, and their variables go back into the
+    /// order.
+    pub(crate) fn release(&mut self, trail: &Trail, place: usize) -> Result<(), AllocError>
+        requires { length trail.now.values.items ≡ length self.old.negated.items }
+        ensures { length self.new.negated.items ≡ length self.old.negated.items }
+    {
+        for released in place..trail.entries.len() {
+            let literal = trail.entries[released].literal;
+            self.negated[literal.variable as usize] = literal.negated;
+            self.order.insert(literal.variable)?;
+        }
+        Ok(())
+    }
+
+    /// Counts a conflict and what it rests on; the answer is true where the search is to restart.
+    pub(crate) fn count_conflict(&mut self, trail: &Trail, roles: &[Role]) -> bool
+        requires variables { length trail.now.values.items ≡ length self.old.negated.items }
+        requires roles { length roles.now ≡ length self.old.negated.items }
+        ensures { length self.new.negated.items ≡ length self.old.negated.items }
+    {
+        for place in 0..trail.entries.len() {
+            let variable = trail.entries[place].literal.variable;
+            if roles[variable as usize] != Role::Unseen {
+                self.order.bump(variable);
+            }
+        }
+        self.order.decay();
+        self.restarts.count_conflict()
+    }
+}

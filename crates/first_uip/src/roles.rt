@@ -1,0 +1,54 @@
+//! What part variables have in a conflict.
+
+ghost use Rattle.std.specs.Prelude.{◌≡◌, ◌+◌, ◌<◌, ℕ, true, false, length, All};
+ghost use Rattle.clauses.specs.ClauseSet.{LogFollows, clauses_with};
+ghost use Rattle.depth_first.specs.TrailEntries.{EachForced};
+ghost use Rattle.first_uip.specs.Conflict.{NoneDecided, Resolves, Sees, is_kept, is_seen, role_of};
+
+use clauses::{Cnf, Lit, Step};
+use depth_first::{Trail, numbered};
+
+/// The part that a variable has in a conflict.
+#[derive(Clone, Copy, Debug, PartialEq, Eq)]
+pub(crate) enum Role {
+    /// None.
+    Unseen,
+    /// The conflict rests on it, and its reason is used.
+    Resolved,
+    /// The conflict rests on it, and the learned clause has it.
+    Kept,
+}
+
+/// The variables of the clause are seen: those that had no part are to be resolved.
+pub(crate) fn see(clause: &[Lit], roles: &mut [Role])
+    requires { All (λ l. l.variable < length roles.old) clause.now }
+    ensures { Sees clause.now roles.old roles.new }
+{
+    for literal in clause {
+        let variable = literal.variable as usize;
+        if roles[variable] == Role::Unseen {
+            roles[variable] = Role::Resolved;
+        }
+    }
+}
+
+/// Resolves the entry at a place, if the conflict rests on it: the variables of its reason are seen.
+pub(crate) fn resolve(cnf: &Cnf, log: &[Step], trail: &Trail, place: usize, roles: &mut [Role])
+    requires variables { length trail.now.values.items ≡ cnf.now.count + 1 }
+    requires size { length roles.old ≡ cnf.now.count + 1 }
+    requires follows { LogFollows cnf.now log.now }
+    requires forced { EachForced (clauses_with cnf.now log.now) trail.now.entries.items }
+    requires within { place < length trail.now.entries.items }
+    requires reason { NoneDecided trail.now.entries.items place (place + 1) }
+    ensures resolves { Resolves (clauses_with cnf.now log.now) trail.now.entries.items (place + 1) roles.old place roles.new }
+    ensures still { (n : ℕ) → is_seen (role_of roles.old n) ≡ true → is_seen (role_of roles.new n) ≡ true }
+    ensures same_kept { (n : ℕ) → is_kept (role_of roles.new n) ≡ is_kept (role_of roles.old n) }
+{
+    let entry = trail.entries[place];
+    if roles[entry.literal.variable as usize] == Role::Unseen {
+        return;
+    }
+    if let Some(number) = entry.cause.reason() {
+        see(numbered(cnf, log, number), roles);
+    }
+}
