@@ -13,7 +13,7 @@ use Rattle.alive_top.specs.declared.hindrance.Hindrance.TheVariants.{Rules, Modu
 use Rattle.alive_top.specs.declared.status.Status.TheVariants.{RuleRefused, ModuleRefused}
 use Rattle.alive_top.specs.Answers.{IsReadAs, TextOf, FileOf, FileRefused, RefusedFor, IsDoneFor}
 use Rattle.alive_top.specs.Cause.{ComesTo, TextIsRefused, ReadFails, MemoryIsRefused}
-use Rattle.alive_top.specs.File.{File, Rules as RuleFile, NoRules, Source as ModuleFile, files_of, limit_of}
+use Rattle.alive_top.specs.File.{File, Rules as RuleFile, Source as ModuleFile, files_of, limit_of}
 use Rattle.alive_top.specs.Lines.{rules_line, module_line}
 use Rattle.alive_top.specs.Request.{AsksOne, with_names}
 use Rattle.alive_top.specs.Taken.{Takes, IsRuleText}
@@ -50,6 +50,11 @@ for_task old new task (Read name) h = h
 for_task old new task Memory h = h
 
 -- ---- the first file
+
+-- rules that were read are what their file is read for
+pub has_rules : (old new : FilesState) (name : List ℕ) (list : List Rule) → IsReadAs old new (record { name = name; kind = RuleFile }) (λ text. IsRuleText text list)
+    → IsReadAs old new (record { name = name; kind = RuleFile }) (Takes RuleFile)
+has_rules old new name list read = record { asks = read.asks; text = read.text; is_text = read.is_text; holds = (list, read.holds) }
 
 -- the first file was come to
 first_comes : (old new : FilesState) (file : File) (rest : List File) → AsksOne old new file.name → ComesTo old new (file ∷ rest) file
@@ -145,19 +150,19 @@ verify_done old new rules options list work read verified = record {
   is_work = (list, read.holds, verified);
 }
 
-pub optimise_done : (old mid new : FilesState) (rules source : List ℕ) (options : OptimiseOptions) (work : Work)
-    → FilesFollow old mid → IsReadAs old mid (record { name = rules; kind = NoRules }) (λ text. IsRuleText text [])
-    → (read : IsReadAs mid new (record { name = source; kind = ModuleFile }) (λ text. IsPrinted text work.text work.report))
-    → IsOptimiseWork read.text work → IsDoneFor old new (Optimise rules source options) work
-optimise_done old mid new rules source options work follow first read written =
-    let one : File = record { name = rules; kind = NoRules } in
+pub optimise_done : (old mid new : FilesState) (rules source : List ℕ) (options : OptimiseOptions) (list : List Rule) (work : Work)
+    → FilesFollow old mid → IsReadAs old mid (record { name = rules; kind = RuleFile }) (λ text. IsRuleText text list)
+    → (read : IsReadAs mid new (record { name = source; kind = ModuleFile }) (λ text. IsPrinted list options text work.text work.report work.table))
+    → IsOptimiseWork list options read.text work → IsDoneFor old new (Optimise rules source options) work
+optimise_done old mid new rules source options list work follow first read written =
+    let one : File = record { name = rules; kind = RuleFile } in
     let two : File = record { name = source; kind = ModuleFile } in
     let optimised = read.holds.1.optimised in
     record {
       asks = asks_both old.asked mid.asked new.asked one two first.asks read.asks;
       texts = first.text ∷ read.text ∷ [];
-      taken = ((first.is_text, first.holds), ((text_before old mid two read.text follow read.is_text, (optimised.read, record { source = optimised.source; limit = read.holds.0 })), tt));
-      is_work = (first.holds, written);
+      taken = ((first.is_text, (list, first.holds)), ((text_before old mid two read.text follow read.is_text, (optimised.read, record { source = optimised.source; limit = read.holds.0 })), tt));
+      is_work = (list, first.holds, written);
     }
 
 -- ---- a run

@@ -14,21 +14,24 @@ use Rattle.command_line.specs.Words.{SaysOf, command_and_rows}
 use Rattle.command_line.specs.Widths.{is_width_list}
 use Rattle.command_line.specs.declared.command.Command.{Command}
 use Rattle.command_line.specs.declared.command.Command.TheVariants as commands
+use Rattle.command_line.specs.declared.command.OptimiseOptions.{OptimiseOptions}
 use Rattle.command_line.specs.declared.command.VerifyOptions.{VerifyOptions}
+use Rattle.verdict.specs.declared.verdict.Row.{Row as VerdictRow}
 use Rattle.alive_top.specs.OutcomeLaws.{RunsAreNotMisnamed}
 use Rattle.alive_top.specs.declared.status.Ended.{Ended}
 use Rattle.alive_top.specs.declared.status.Status.{Status}
 use Rattle.alive_top.specs.declared.status.Status.TheVariants.{Done, NotAll, Usage, RuleRefused, ModuleRefused, ReadFault, WriteFault, NoMemory, Argument}
 use Rattle.alive_top.specs.Cause.{TextIsRefused}
-use Rattle.alive_top.specs.Done.{HasVerified, HasDone}
+use Rattle.alive_top.specs.Done.{HasVerified, HasOptimised, HasDone}
 use Rattle.alive_top.specs.Ends.{Worked, EndsWith, EndsAtWords, Ends, IsNoCommand, IsUsage}
 use Rattle.alive_top.specs.File.{File, files_of}
 use Rattle.alive_top.specs.NoRun.{NamesNoRun}
+use Rattle.alive_top.specs.Optimised.{IsOptimised, optimised_report}
 use Rattle.alive_top.specs.Statuses.{IsDone, IsWorked, IsNoTask, IsNoRun, IsDoneOrNoMemory}
 use Rattle.alive_top.specs.Taken.{Takes, Refuses, IsRuleText}
 use Rattle.alive_top.specs.Task.{Task, Verify, Optimise, Run, Asks}
 use Rattle.alive_top.specs.Texts.{IsTextOf, AreTexts, AreTaken, OfSomeTexts, OfToldTexts, TakesEach, HasBadFile}
-use Rattle.alive_top.specs.Work.{Work, IsWorkOf, IsVerifyWork}
+use Rattle.alive_top.specs.Work.{Work, IsWorkOf, IsVerifyWork, IsOptimiseWork}
 use Rattle.alive_top.specs.Written.{WroteSome}
 use Rattle.alive_top.proofs.Asking.{asks_one}
 use Rattle.alive_top.proofs.Limits.{taken_is_told, told_is_text}
@@ -165,23 +168,28 @@ module _ (out out' err err' : SinkState) (ended : Ended) (work : Work) (table : 
       by true e = (λ _. refl, λ _. e)
       by false e = (λ d. absurd (let f : Done ≡ NotAll = sym d ∙ e in cc), λ t. absurd cc)
 
+  has_optimised : (text source : List ℕ) (options : OptimiseOptions) (list : List Rule) → IsRuleText text list → (w : IsOptimiseWork list options source work)
+      → HasOptimised text source options out out' err err' ended
+  has_optimised text source options list is w =
+      let prints = w.prints.1 in
+      record {
+        rules = list;
+        file = is;
+        limit = w.prints.0;
+        new = prints.new;
+        counts = prints.counts;
+        limited = prints.limited;
+        optimised = subst (λ (t : List VerdictRow). IsOptimised list options source prints.new t prints.counts prints.limited) (sym table) prints.optimised;
+        wrote = subst (λ (t : List ℕ). Appends out out' t) prints.out_is wrote;
+        report = subst (λ (t : List ℕ). Appends err err' t) (prints.report_is ∙ ap (λ (t : List VerdictRow). optimised_report list t prints.new prints.counts prints.limited) (sym table)) report;
+        status = sym status ∙ w.status;
+      }
+
   has_done : (task : Task) (texts : List (List ℕ)) → IsWorkOf task texts work → HasDone task texts out out' err err' ended
   has_done (Verify file options) (rules ∷ []) is = has_verified rules options is.0 is.1 is.2
   has_done (Verify file options) [] is = absurd is
   has_done (Verify file options) (x ∷ y ∷ more) is = absurd is
-  has_done (Optimise file other options) (rules ∷ source ∷ []) is = (
-    is.0,
-    record {
-      limit = is.1.prints.0;
-      new = is.1.prints.1.new;
-      counts = is.1.prints.1.counts;
-      limited = is.1.prints.1.limited;
-      optimised = is.1.prints.1.optimised;
-      wrote = subst (λ (t : List ℕ). Appends out out' t) is.1.prints.1.out_is wrote;
-      report = subst (λ (t : List ℕ). Appends err err' t) is.1.prints.1.report_is report;
-      status = sym status ∙ is.1.status;
-    },
-  )
+  has_done (Optimise file other options) (rules ∷ source ∷ []) is = has_optimised rules source options is.0 is.1 is.2
   has_done (Optimise file other options) [] is = absurd is
   has_done (Optimise file other options) (x ∷ []) is = absurd is
   has_done (Optimise file other options) (x ∷ y ∷ z ∷ more) is = absurd is

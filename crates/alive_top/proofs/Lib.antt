@@ -6,7 +6,6 @@ pub mod Following
 pub mod Reading
 pub mod Taking
 pub mod ArgumentLemmas
-pub mod Countable
 pub mod LawLemmas
 pub mod Misnaming
 pub mod NamedLemmas

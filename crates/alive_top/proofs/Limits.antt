@@ -3,7 +3,7 @@ use Rattle.std.proofs.Common.{◌≡◌, ℕ, ◌+◌, ◌≤◌, List, length, 
 use Rattle.std.specs.Prelude.{IfSome}
 use Rattle.std.proofs.lemmas.List.{take_all, length-take}
 use Rattle.outside.specs.Files.{FilesState}
-use Rattle.alive_top.specs.File.{File, Kind, Rules, NoRules, Source, limit_of}
+use Rattle.alive_top.specs.File.{File, Kind, Rules, Source, limit_of}
 use Rattle.alive_top.specs.Taken.{Takes}
 use Rattle.alive_top.specs.Texts.{IsTextOf}
 
@@ -20,7 +20,6 @@ whole n told items e h = e ∙ take_all (n + 1) told (omega arith)
 -- what is taken is within its limit
 short : (kind : Kind) (text : List ℕ) → Takes kind text → length text ≤ limit_of kind
 short Rules text takes = takes.1.short
-short NoRules text takes = takes.short
 short Source text takes = takes.1.limit
 
 cut : (known : FilesState) (file : File) (text bytes : List ℕ) → IsTextOf known file text → known.told file.name ≡ Some bytes → text ≡ take (limit_of file.kind + 1) bytes

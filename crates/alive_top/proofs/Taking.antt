@@ -1,5 +1,5 @@
 -- Bytes that are taken are not refused.
-use Rattle.std.proofs.Common.{◌≡◌, ℕ, ◌<◌, ◌≤◌, ◌⊎◌, List, [], ◌∷◌, length, take, Some, None, refl, subst, inl, inr, arith, get_or}
+use Rattle.std.proofs.Common.{◌≡◌, ℕ, ◌<◌, ◌≤◌, ◌⊎◌, List, length, take, Some, None, subst, inl, inr, arith, get_or}
 use Rattle.std.specs.Prelude.{slice_get}
 use Rattle.std.proofs.lemmas.Option.{slice_get_cases, slice_get_within}
 use Rattle.ir_reader.specs.Laws.{TextsHaveOneModuleOrFault}
@@ -10,8 +10,8 @@ use Rattle.refusal.specs.declared.fault.Fault.{Fault}
 use Rattle.rule_reader.specs.RuleFaultKind.{RuleFaultKind}
 use Rattle.rule_reader.specs.Faults.{IsFault, AreRulesOf, IsFirstRuleFault, too_long, of_text, of_rule}
 use Rattle.alive_top.specs.declared.status.Status.{Status}
-use Rattle.alive_top.specs.File.{Kind, Rules as RuleFile, NoRules, Source as ModuleFile}
-use Rattle.alive_top.specs.Taken.{Takes, Refuses, IsRuleText, HasRules, IsFirstName}
+use Rattle.alive_top.specs.File.{Kind, Rules as RuleFile, Source as ModuleFile}
+use Rattle.alive_top.specs.Taken.{Takes, Refuses, IsRuleText}
 
 -- it is so for each kind of file
 abbrev pub TakenAreNotRefused : Type 0
@@ -31,21 +31,6 @@ no_fault law bytes rules fault is (of_text {fault = f} short text) = law.not_bot
 no_fault law bytes rules fault is (of_rule raws k raw short written at earlier first) =
     passes raws rules k raw fault (subst (λ (r : List RawRule). AreRulesOf r rules) (law.one_reading bytes is.file.raws raws is.file.written written) is.file.read) at first
 
-none : (rules : List Rule) → length rules ≡ 0 → rules ≡ []
-none [] e = refl
-none (rule ∷ rules) e = absurd (omega arith)
-
-one_list : TextsHaveOneReadingOrFault → (bytes : List ℕ) → IsRuleText bytes [] → HasRules bytes → ⊥
-one_list law bytes is (rules, other, some) =
-    let raws : is.file.raws ≡ other.file.raws = law.one_reading bytes is.file.raws other.file.raws is.file.written other.file.written in
-    let count : length is.file.raws ≡ length other.file.raws = subst (λ (r : List RawRule). length is.file.raws ≡ length r) raws refl in
-    some (none rules (omega (arith, count, is.file.read.count, other.file.read.count)))
-
-refused_no_rules : TextsHaveOneReadingOrFault → (bytes : List ℕ) (fault : Fault RuleFaultKind) → IsRuleText bytes [] → IsFault bytes fault ⊎ IsFirstName bytes fault → ⊥
-refused_no_rules law bytes fault is (inl f) = no_fault law bytes [] fault is f
-refused_no_rules law bytes fault is (inr first) = one_list law bytes is first.has
-
 pub taken_not_refused : TextsHaveOneReadingOrFault → TextsHaveOneModuleOrFault → TakenAreNotRefused
 taken_not_refused rules modules RuleFile bytes s line takes r = no_fault rules bytes takes.0 r.0 takes.1 r.1
-taken_not_refused rules modules NoRules bytes s line takes r = refused_no_rules rules bytes r.0 takes r.1
 taken_not_refused rules modules ModuleFile bytes s line takes r = modules.not_both bytes takes.0 r.0 takes.1.limit takes.1.source r.1

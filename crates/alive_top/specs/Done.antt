@@ -1,13 +1,13 @@
 -- What a task has done where it was done and written.
 use Rattle.std.specs.Prelude.{◌≡◌, ◌≤◌, ◌↔◌, ℕ, IsTrue, List, [], ◌∷◌, length, Bool}
 use Rattle.outside.specs.Sink.{SinkState, Appends}
+use Rattle.command_line.specs.declared.command.OptimiseOptions.{OptimiseOptions}
 use Rattle.command_line.specs.declared.command.RunOptions.{RunOptions}
 use Rattle.command_line.specs.declared.command.VerifyOptions.{VerifyOptions}
 use Rattle.ir_core.specs.declared.module.Module.{Module}
 use Rattle.ir_reader.specs.Text.{most_bytes}
 use Rattle.ir_printer.specs.PrintedText.{text_of}
-use Rattle.ir_printer.specs.Report.{report_of}
-use Rattle.alive_top.specs.Optimised.{IsOptimised}
+use Rattle.alive_top.specs.Optimised.{IsOptimised, optimised_report}
 use Rattle.alive_top.specs.Runs.{IsRun}
 use Rattle.verdict.specs.Rule.{Rule}
 use Rattle.verdict.specs.declared.verification.Verified.{Verified}
@@ -27,15 +27,18 @@ pub record HasVerified (text : List ℕ) (options : VerifyOptions) (out out' : S
   pub wrote : Appends out out' verified.text.items
   pub all : (ended.status ≡ Done) ↔ IsTrue verified.all_admitted
 
--- `optimise` wrote the module that may stand in the place of that of a text, and a report.
-pub record HasOptimised (text : List ℕ) (out out' err err' : SinkState) (ended : Ended) : Type 0 where
-  pub limit : length text ≤ most_bytes
+-- `optimise` wrote the module that may stand in the place of that of a text, by the rules of another text, and a report; and handed back
+-- the verdicts.
+pub record HasOptimised (text source : List ℕ) (options : OptimiseOptions) (out out' err err' : SinkState) (ended : Ended) : Type 0 where
+  pub rules : List Rule
+  pub file : IsRuleText text rules
+  pub limit : length source ≤ most_bytes
   pub new : Module
   pub counts : List ℕ
   pub limited : List Bool
-  pub optimised : IsOptimised text new counts limited
+  pub optimised : IsOptimised rules options source new ended.table counts limited
   pub wrote : Appends out out' (text_of new)
-  pub report : Appends err err' (report_of new counts limited)
+  pub report : Appends err err' (optimised_report rules ended.table new counts limited)
   pub status : ended.status ≡ Done
 
 -- `run` wrote how far the run of the named function of the module of a text came, or what it returned.
@@ -50,7 +53,7 @@ pub record HasRun (text name : List ℕ) (arguments : List (List ℕ)) (options 
 abbrev pub HasDone : Task → List (List ℕ) → SinkState → SinkState → SinkState → SinkState → Ended → Type 0
 HasDone (Verify file options) (rules ∷ []) out out' err err' ended = HasVerified rules options out out' ended
 HasDone (Optimise file file' options) (rules ∷ source ∷ []) out out' err err' ended =
-    IsRuleText rules [] × HasOptimised source out out' err err' ended
+    HasOptimised rules source options out out' err err' ended
 HasDone (Run file name arguments options) (source ∷ []) out out' err err' ended =
     HasRun source name arguments options out out' err err' ended
 HasDone task texts out out' err err' ended = ⊥

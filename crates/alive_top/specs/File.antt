@@ -4,10 +4,9 @@ use Rattle.ir_reader.specs.Text as modules
 use Rattle.rule_reader.specs.Limits as rule_files
 use Rattle.alive_top.specs.Task.{Task, Verify, Optimise, Run}
 
--- what a file is read for: rules; rules, where none may stand yet; or a module
+-- what a file is read for: rules or a module
 pub data Kind : Type 0 where
   Rules : Kind
-  NoRules : Kind
   Source : Kind
 
 -- a file that is read, by its name
@@ -18,11 +17,10 @@ pub record File : Type 0 where
 -- the files of a task, in the order in which they are read
 abbrev pub files_of : Task → List File
 files_of (Verify rules options) = record { name = rules; kind = Rules } ∷ []
-files_of (Optimise rules source options) = record { name = rules; kind = NoRules } ∷ record { name = source; kind = Source } ∷ []
+files_of (Optimise rules source options) = record { name = rules; kind = Rules } ∷ record { name = source; kind = Source } ∷ []
 files_of (Run source name arguments options) = record { name = source; kind = Source } ∷ []
 
 -- the most bytes of a file
 abbrev pub limit_of : Kind → ℕ
 limit_of Rules = rule_files.most_bytes
-limit_of NoRules = rule_files.most_bytes
 limit_of Source = modules.most_bytes

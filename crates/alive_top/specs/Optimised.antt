@@ -1,28 +1,44 @@
--- What `optimise` writes of the text of a module.
-use Rattle.std.specs.Prelude.{◌≡◌, ℕ, Bool, List}
+-- What `optimise` writes of the text of a module by the rules of a file.
+use Rattle.std.specs.Prelude.{◌≡◌, ℕ, Bool, List, ◌++◌}
+use Rattle.command_line.specs.declared.command.OptimiseOptions.{OptimiseOptions}
 use Rattle.ir_core.specs.declared.module.Module.{Module}
 use Rattle.ir_core.specs.Checks.{ModuleMeetsChecks}
 use Rattle.ir_core.specs.Refines.{ModuleRefines}
 use Rattle.ir_reader.specs.Faults.{IsModuleText}
 use Rattle.ir_printer.specs.PrintedText.{text_of}
 use Rattle.ir_printer.specs.Report.{report_of}
-use Rattle.strategy.specs.PlainStrategy.{GivesWithoutRules}
+use Rattle.strategy.specs.Decided.{MatchesAreDecided}
+use Rattle.strategy.specs.PlainStrategy.{IsPlainStrategy}
+use Rattle.verdict.specs.Rule.{Rule}
+use Rattle.verdict.specs.Table.{IsHonestTable, table_text}
+use Rattle.verdict.specs.declared.verdict.Row.{Row}
 
--- The module that `optimise` writes for the text of another: what the plain strategy gives, which may stand in its place and meets all
--- checks of a module. Its printed form, however long, is the text of that module again.
-pub record IsOptimised (bytes : List ℕ) (new : Module) (counts : List ℕ) (limited : List Bool) : Type 0 where
+-- The module that `optimise` writes for the text of another by these rules, the table of verdicts by which it came to be, and for each
+-- function how often it was rewritten and whether it is limited.
+pub record IsOptimised (rules : List Rule) (options : OptimiseOptions) (bytes : List ℕ) (new : Module) (table : List Row) (counts : List ℕ) (limited : List Bool) : Type 0 where
   pub read : Module
   pub source : IsModuleText bytes read
-  pub strategy : GivesWithoutRules read new counts limited
+  -- it is what the plain strategy gives for the module read, by this table
+  pub strategy : IsPlainStrategy rules options.steps table read new counts limited
+  -- a rule that is admitted is valid there, a counterexample is one, and a search gave up only at its limit
+  pub honest : IsHonestTable rules options.conflicts table
+  -- each match that is left has a verdict, and none is admitted in a function that is not limited
+  pub decided : MatchesAreDecided rules table new limited
+  -- it may stand in the place of the module read
   pub refines : ModuleRefines read new
   pub checks : ModuleMeetsChecks new
+  -- its printed form, however long, is the text of that module again
   pub reads : IsModuleText (text_of new) new
 
--- the printed form of that module, and the report on it
-pub record Prints (bytes out report : List ℕ) : Type 0 where
+-- the report: the texts of the verdicts in order, and then the line of each function
+abbrev pub optimised_report : List Rule → List Row → Module → List ℕ → List Bool → List ℕ
+optimised_report rules table new counts limited = table_text rules table ++ report_of new counts limited
+
+-- the printed form of that module, the report on it, and its table
+pub record Prints (rules : List Rule) (options : OptimiseOptions) (bytes out report : List ℕ) (table : List Row) : Type 0 where
   pub new : Module
   pub counts : List ℕ
   pub limited : List Bool
-  pub optimised : IsOptimised bytes new counts limited
+  pub optimised : IsOptimised rules options bytes new table counts limited
   pub out_is : out ≡ text_of new
-  pub report_is : report ≡ report_of new counts limited
+  pub report_is : report ≡ optimised_report rules table new counts limited

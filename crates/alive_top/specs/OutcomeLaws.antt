@@ -7,7 +7,10 @@ use Rattle.ir_core.specs.declared.function.Function.{Function}
 use Rattle.ir_core.specs.declared.outcome.Outcome.{Outcome}
 use Rattle.ir_core.specs.Refines.{AreArguments}
 use Rattle.ir_core.specs.Run.{HasOutcome, HasZeroOutcome}
+use Rattle.command_line.specs.declared.command.OptimiseOptions.{OptimiseOptions}
 use Rattle.ir_reader.specs.Faults.{IsModuleText}
+use Rattle.verdict.specs.Rule.{Rule}
+use Rattle.verdict.specs.declared.verdict.Row.{Row}
 use Rattle.alive_top.specs.Optimised.{IsOptimised}
 use Rattle.alive_top.specs.Runs.{IsRun, IsMisnamed}
 
@@ -23,7 +26,8 @@ ModulesReadHaveOutcomes = (bytes : List ℕ) (m : Module) → IsModuleText bytes
 
 -- and for one that is written
 abbrev pub ModulesWrittenHaveOutcomes : Type 0
-ModulesWrittenHaveOutcomes = (bytes : List ℕ) (new : Module) (counts : List ℕ) (limited : List Bool) → IsOptimised bytes new counts limited → ModuleHasOutcomes new
+ModulesWrittenHaveOutcomes = (rules : List Rule) (options : OptimiseOptions) (bytes : List ℕ) (new : Module) (table : List Row) (counts : List ℕ) (limited : List Bool)
+    → IsOptimised rules options bytes new table counts limited → ModuleHasOutcomes new
 
 -- what is run has its function, and arguments that fit it
 abbrev pub RunsAreNotMisnamed : Type 0

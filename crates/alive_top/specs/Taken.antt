@@ -1,7 +1,5 @@
 -- Which texts are taken, as what their file is read for, and how the others are refused.
-use Rattle.std.specs.Prelude.{◌≡◌, ◌≢◌, ◌≤◌, ℕ, false, length, List, [], ◌⊎◌, codes}
-use Rattle.rule_reader.specs.RuleToken.{RuleToken}
-use Rattle.rule_reader.specs.RuleTokens.{IsNextRuleToken}
+use Rattle.std.specs.Prelude.{◌≡◌, ◌≤◌, ℕ, length, List}
 use Rattle.ir_core.specs.declared.module.Module.{Module}
 use Rattle.refusal.specs.declared.fault.Fault.{Fault}
 use Rattle.ir_reader.specs.IrFaultKind.{IrFaultKind}
@@ -9,12 +7,11 @@ use Rattle.ir_reader.specs.Faults.{IsFault as IsModuleFault}
 use Rattle.alive_top.specs.Runs.{IsReadAs}
 use Rattle.verdict.specs.Rule.{Rule}
 use Rattle.rule_reader.specs.RuleFaultKind.{RuleFaultKind}
-use Rattle.rule_reader.specs.RuleFaultKind.TheVariants.{LeftOut}
 use Rattle.rule_reader.specs.Faults.{IsRuleFile, IsFault}
 use Rattle.alive_top.specs.declared.status.Status.{Status}
 use Rattle.alive_top.specs.declared.status.Status.TheVariants.{RuleRefused, ModuleRefused}
 use Rattle.rule_reader.specs.Limits.{most_bytes}
-use Rattle.alive_top.specs.File.{Kind, Rules, NoRules, Source}
+use Rattle.alive_top.specs.File.{Kind, Rules, Source}
 use Rattle.alive_top.specs.Lines.{rules_line, module_line}
 
 -- the text is a rule file of these rules, and not too long
@@ -25,25 +22,10 @@ pub record IsRuleText (text : List ℕ) (rules : List Rule) : Type 0 where
 -- the text is taken: it is what its file is read for
 abbrev pub Takes : Kind → List ℕ → Type 0
 Takes Rules text = (rules : List Rule) × IsRuleText text rules
-Takes NoRules text = IsRuleText text []
 Takes Source text = (m : Module) × IsReadAs text m
-
--- the text is a rule file that has rules
-abbrev pub HasRules : List ℕ → Type 0
-HasRules text = (rules : List Rule) × IsRuleText text rules × (rules ≢ [])
-
--- A rule file with rules, where none may stand yet: `Name:` of the first one, its first token, is left out.
-pub record IsFirstName (text : List ℕ) (fault : Fault RuleFaultKind) : Type 0 where
-  pub has : HasRules text
-  pub token : RuleToken
-  pub first : IsNextRuleToken false text 0 token
-  pub line : fault.line ≡ token.line
-  pub kind : fault.kind ≡ LeftOut (codes "Name:")
 
 -- the text is refused, with this status and this line
 abbrev pub Refuses : Kind → List ℕ → Status → List ℕ → Type 0
 Refuses Rules text status line = (fault : Fault RuleFaultKind) × IsFault text fault × (status ≡ RuleRefused) × (line ≡ rules_line fault)
-Refuses NoRules text status line =
-    (fault : Fault RuleFaultKind) × (IsFault text fault ⊎ IsFirstName text fault) × (status ≡ RuleRefused) × (line ≡ rules_line fault)
 Refuses Source text status line =
     (fault : Fault IrFaultKind) × IsModuleFault text fault × (status ≡ ModuleRefused) × (line ≡ module_line fault)

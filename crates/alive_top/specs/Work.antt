@@ -1,5 +1,6 @@
 -- The work of each task: what is written, the verdicts that are handed back, and the status.
 use Rattle.std.specs.Prelude.{◌≡◌, ℕ, ◌≤◌, List, [], ◌∷◌, length, if◌then◌else◌}
+use Rattle.command_line.specs.declared.command.OptimiseOptions.{OptimiseOptions}
 use Rattle.command_line.specs.declared.command.RunOptions.{RunOptions}
 use Rattle.command_line.specs.declared.command.VerifyOptions.{VerifyOptions}
 use Rattle.verdict.specs.Rule.{Rule}
@@ -30,14 +31,13 @@ pub record IsVerifyWork (rules : List Rule) (options : VerifyOptions) (work : Wo
   pub table : work.table ≡ verified.table
   pub status : work.status ≡ (if verified.all_admitted then Done else NotAll)
 
--- what is printed for the text of a module, which is not too long, and the report on it
-abbrev pub IsPrinted : List ℕ → List ℕ → List ℕ → Type 0
-IsPrinted source out report = (length source ≤ most_bytes) × Prints source out report
+-- what is printed for the text of a module, which is not too long, the report on it, and its table of verdicts
+abbrev pub IsPrinted : List Rule → OptimiseOptions → List ℕ → List ℕ → List ℕ → List Row → Type 0
+IsPrinted rules options source out report table = (length source ≤ most_bytes) × Prints rules options source out report table
 
--- `optimise` writes the module that may stand in the place of the one read, and a report. It decides no rule yet.
-pub record IsOptimiseWork (source : List ℕ) (work : Work) : Type 0 where
-  pub prints : IsPrinted source work.text work.report
-  pub table : work.table ≡ []
+-- `optimise` writes the module that may stand in the place of the one read, and a report. The verdicts that it asked for are the table.
+pub record IsOptimiseWork (rules : List Rule) (options : OptimiseOptions) (source : List ℕ) (work : Work) : Type 0 where
+  pub prints : IsPrinted rules options source work.text work.report work.table
   pub status : work.status ≡ Done
 
 -- `run` writes how far the run of the named function came, or what it returned.
@@ -50,6 +50,6 @@ pub record IsRunWork (source name : List ℕ) (arguments : List (List ℕ)) (opt
 -- the work of a task on the texts of its files
 abbrev pub IsWorkOf : Task → List (List ℕ) → Work → Type 0
 IsWorkOf (Verify file options) (rules ∷ []) work = (list : List Rule) × IsRuleText rules list × IsVerifyWork list options work
-IsWorkOf (Optimise file file' options) (rules ∷ source ∷ []) work = IsRuleText rules [] × IsOptimiseWork source work
+IsWorkOf (Optimise file file' options) (rules ∷ source ∷ []) work = (list : List Rule) × IsRuleText rules list × IsOptimiseWork list options source work
 IsWorkOf (Run file name arguments options) (source ∷ []) work = IsRunWork source name arguments options work
 IsWorkOf task texts work = ⊥

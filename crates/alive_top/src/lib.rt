@@ -11,17 +11,19 @@ mod laws;
 mod named;
 mod optimised;
 mod outcome;
+mod report;
 mod running;
 mod status;
 mod top;
 mod work;
 
+pub use command_line::OptimiseOptions;
 pub use fault::{RunError, RunFault};
 pub use laws::{
     every_module_read_has_outcomes, every_module_written_has_outcomes,
     every_run_has_its_function_and_arguments,
 };
-pub use optimised::{Texts, optimise};
+pub use optimised::{Optimised, optimise};
 pub use running::run;
 pub use status::{Ended, Status};
 pub use top::alive;

@@ -51,6 +51,7 @@ impl Status {
 #[derive(Debug, Drop)]
 pub struct Ended {
     pub status: Status,
-    /// The verdicts that were decided, where the work was done: under `verify` those of its lines, in order.
+    /// The verdicts that were decided, where the work was done: under `verify` those of its lines, in order, and under `optimise` in the
+    /// order in which they were first asked for.
     pub table: Table,
 }

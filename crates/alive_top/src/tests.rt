@@ -6,6 +6,7 @@ use std::alloc::Global;
 use std::test::Fail;
 
 mod modules;
+mod rewriting;
 mod rows;
 mod rules;
 mod texts;
@@ -17,6 +18,13 @@ const VERIFY: &[&str] = &["alive", "verify", "r"];
 const XOR_SELF: &str = "Name: xor-self\n%r = xor i4 %x, %x\n=>\n%r = and i4 %x, 0\n";
 
 const OR_ZERO: &str = "Name: or-zero\n%r = or i1 %x, 0\n=>\n%r = 0\n";
+
+const NOT_ADD: &str = "Name: not-add\n%1 = xor %x, -1\n%2 = add %1, C\n=>\n%2 = sub C-1, %x\n";
+
+const NOT_ADD_SOURCE: &str =
+    "define i4 @f(i4 %a) {\n  %1 = xor i4 %a, -1\n  %2 = add i4 %1, 5\n  ret i4 %2\n}\n";
+
+const NOT_ADD_WRITTEN: &str = "define i4 @f(i4 %a) {\n  %1 = sub i4 4, %a\n  ret i4 %1\n}\n";
 
 const IDENTITY: &str = "define i8 @f(i8 %a) {\n  ret i8 %a\n}\n";
 

@@ -159,9 +159,9 @@ fn run_words<F: Files, O: Sink, E: Sink>(
 /// `verify RULES [--widths LIST] [--conflicts N]` decides each rule of a file at each of its typings over the list of widths, and
 /// writes the verdicts to `out`. A verdict is `admitted` only where the rule is valid there, and a counterexample is one.
 ///
-/// `optimise RULES MODULE [--conflicts N] [--steps N]` reads both files and writes the module, each function with its needed
-/// instructions alone, to `out` and a report to `err`. What it writes may stand in the place of what it read. The rule file may
-/// hold no rules yet, and the options have no effect.
+/// `optimise RULES MODULE [--conflicts N] [--steps N]` reads both files and writes the module to `out`, each function rewritten by the
+/// rules where they match and are admitted, with its needed instructions alone; and to `err` the verdicts that it asked for, and how often
+/// each function was rewritten. What it writes may stand in the place of what it read.
 ///
 /// `run [--blocks N] MODULE NAME [ARG..]` runs a function of a module and writes what it returned, that its behaviour is undefined, or
 /// where it was after so many blocks.
@@ -181,9 +181,10 @@ pub fn alive<F: Files, O: Sink, E: Sink>(
 
     // With status 0 or 1 the task was done on texts of its files, which are what is told under their names, where that
     // is told. `verify` has written exactly the texts of the verdicts that it hands back, all of them honest: one for
-    // each rule and each typing; the status is 0 exactly where all are admitted. For `optimise` the rule file has no
-    // rules; it has written the text and the report of the module that has its needed instructions alone, and refines
-    // the one read. `run` has written the outcome of its function at the arguments, after at most so many blocks
+    // each rule and each typing; the status is 0 exactly where all are admitted. `optimise` has written the text of the
+    // module that the plain strategy gives by the rules and the verdicts that it hands back, all of them honest: it may
+    // stand in the place of the one read, and reads as itself; and the report, the texts of the verdicts and the line of
+    // each function. `run` has written the outcome of its function at the arguments, after at most so many blocks
     // entered, where each number that is left open is 0.
     ensures done { (task : Task) → Asks (map string_bytes words.now.items) task → IsDone result.status
         → OfSomeTexts (F.state files.old) task (λ texts. HasDone task texts

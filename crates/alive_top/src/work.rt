@@ -1,26 +1,25 @@
 //! The work of each command, before anything is written.
 
-ghost use Rattle.std.specs.Prelude.{◌≡◌, ◌≤◌, ◌<◌, ◌+◌, ◌^◌, length, map, take, IfSome, [], IfOk, All, if◌then◌else◌};
-ghost use Rattle.command_line.specs.Limits.{most_conflicts, IsWithinLimits};
+ghost use Rattle.std.specs.Prelude.{◌≡◌, ◌≤◌, ◌<◌, ◌+◌, ◌^◌, length, map, take, IfSome, IfOk, if◌then◌else◌};
+ghost use Rattle.command_line.specs.Limits.{most_conflicts, most_steps, IsWithinLimits};
 ghost use Rattle.alive_top.specs.Runs.{IsRun, IsMisnamed};
 ghost use Rattle.outside.specs.Files.{FilesFollow};
-ghost use Rattle.verdict.specs.Findings.{IsReadRule};
+ghost use Rattle.strategy.specs.Ready.{AreReady};
 ghost use Rattle.alive_top.specs.Answers.{ReadOf, TextOf, FileOf, TaskOf, seen_work};
-ghost use Rattle.alive_top.specs.File.{Rules, NoRules, Source};
-ghost use Rattle.alive_top.specs.Taken.{IsRuleText, HasRules, IsFirstName};
+ghost use Rattle.alive_top.specs.File.{Rules, Source};
+ghost use Rattle.alive_top.specs.Taken.{IsRuleText};
 ghost use Rattle.alive_top.specs.Task.{Verify, Optimise, Run, task_of};
 ghost use Rattle.alive_top.specs.Work.{IsVerifyWork, IsPrinted};
 
 use crate::fault::{RunError, RunFault};
 use crate::hindrance::Hindrance;
-use crate::optimised::Texts;
+use crate::optimised::Optimised;
 use crate::status::Status;
 use command_line::{Command, OptimiseOptions, RunOptions, VerifyOptions};
 use ir_reader::IrError;
-use lists::{List, Text};
+use lists::List;
 use outside::{Files, ReadError};
-use rule_reader::{Rule, RuleError, RuleFault, RuleFaultKind, read_rules};
-use scan::Cursor;
+use rule_reader::{Rule, RuleError, read_rules};
 use std::alloc::{AllocError, Global};
 use verdict::Table;
 
@@ -51,52 +50,35 @@ fn read<'a, F: Files>(
     }
 }
 
-/// The rules of a text.
+/// The rules of a text. As many as no `u32` counts are refused as for want of memory; no text within 1 MiB has so many.
 fn rules_of<'a>(alloc: Global, bytes: &[u8]) -> Result<Vec<Rule>, Hindrance<'a>>
     ensures text { TextOf Rules bytes.now (λ rules. IsRuleText bytes.now rules.items) ⊥ result }
-    ensures read { IfOk result (λ rules. All IsReadRule rules.items) }
+    ensures ready { IfOk result (λ rules. AreReady rules.items) }
+    ensures few { IfOk result (λ rules. length rules.items < 2 ^ 32) }
 {
     match read_rules(alloc, bytes) {
+        Ok(rules) if rules.len() > u32::MAX as usize => Err(Hindrance::Memory),
         Ok(rules) => Ok(rules),
         Err(RuleError::Refused(fault)) => Err(Hindrance::Rules(fault)),
         Err(RuleError::NoMemory) => Err(Hindrance::Memory),
     }
 }
 
-/// The fault of a rule file that has rules, where none may stand yet: `Name:` of the first is left out.
-fn first_name(alloc: Global, bytes: &[u8]) -> Result<RuleFault, AllocError>
-    requires { HasRules bytes.now }
-    ensures { IfOk result (IsFirstName bytes.now) }
+/// What is written for the text of a module by these rules.
+fn optimised<'a>(
+    alloc: Global,
+    source: &[u8],
+    rules: &[Rule],
+    options: OptimiseOptions,
+) -> Result<Optimised, Hindrance<'a>>
+    requires ready { AreReady rules.now }
+    requires few { length rules.now < 2 ^ 32 }
+    requires conflicts { options.conflicts ≤ most_conflicts }
+    requires steps { options.steps ≤ most_steps }
+    ensures { TextOf Source source.now (λ o. IsPrinted rules.now options source.now o.out.items o.report.items o.table) ⊥ result }
 {
-    // A text that has rules begins with a token, so this answers no want of memory.
-    let Ok(token) = Cursor::new(bytes).next_rule_token(false) else {
-        return Err(AllocError);
-    };
-    let word = Text::from_vec(Vec::from_slice(alloc, b"Name:")?);
-    Ok(RuleFault {
-        line: token.line,
-        kind: RuleFaultKind::LeftOut(word),
-    })
-}
-
-/// That a text is a rule file without rules.
-fn no_rules_of<'a>(alloc: Global, bytes: &[u8]) -> Result<(), Hindrance<'a>>
-    ensures { TextOf NoRules bytes.now (λ none. IsRuleText bytes.now []) ⊥ result }
-{
-    let rules = rules_of(alloc, bytes)?;
-    if rules.is_empty() {
-        Ok(())
-    } else {
-        Err(Hindrance::Rules(first_name(alloc, bytes)?))
-    }
-}
-
-/// What is written for the text of a module.
-fn texts_of<'a>(alloc: Global, source: &[u8]) -> Result<Texts, Hindrance<'a>>
-    ensures { TextOf Source source.now (λ texts. IsPrinted source.now texts.out.items texts.report.items) ⊥ result }
-{
-    match crate::optimised::optimise(alloc, source) {
-        Ok(texts) => Ok(texts),
+    match crate::optimised::optimise(alloc, source, rules, options) {
+        Ok(optimised) => Ok(optimised),
         Err(IrError::Refused(fault)) => Err(Hindrance::Module(fault)),
         Err(IrError::NoMemory) => Err(Hindrance::Memory),
     }
@@ -110,51 +92,41 @@ fn read_rule_file<'a, F: Files>(
 ) -> Result<Vec<Rule>, Hindrance<'a>>
     ensures answer { FileOf (F.state files.old) (F.state files.new) (record { name = name.now; kind = Rules })
         (λ text rules. IsRuleText text rules.items) (λ _. ⊥) result }
-    ensures read { IfOk result (λ rules. All IsReadRule rules.items) }
+    ensures ready { IfOk result (λ rules. AreReady rules.items) }
+    ensures few { IfOk result (λ rules. length rules.items < 2 ^ 32) }
     ensures follow { FilesFollow (F.state files.old) (F.state files.new) }
 {
     let bytes = read(alloc, files, name, rule_reader::MOST_BYTES + 1)?;
     rules_of(alloc, bytes.as_slice())
 }
 
-/// Reads a rule file that has no rules.
-fn read_no_rules<'a, F: Files>(
+/// Reads a module, and gives what is written for it by these rules.
+fn read_and_optimise<'a, F: Files>(
     alloc: Global,
     files: &mut F,
     name: &'a str,
-) -> Result<(), Hindrance<'a>>
-    ensures answer { FileOf (F.state files.old) (F.state files.new) (record { name = name.now; kind = NoRules })
-        (λ text none. IsRuleText text []) (λ _. ⊥) result }
-    ensures follow { FilesFollow (F.state files.old) (F.state files.new) }
-{
-    let bytes = read(alloc, files, name, rule_reader::MOST_BYTES + 1)?;
-    no_rules_of(alloc, bytes.as_slice())
-}
-
-/// Reads a module, and gives what is written for it.
-fn read_source<'a, F: Files>(
-    alloc: Global,
-    files: &mut F,
-    name: &'a str,
-) -> Result<Texts, Hindrance<'a>>
+    rules: &[Rule],
+    options: OptimiseOptions,
+) -> Result<Optimised, Hindrance<'a>>
+    requires ready { AreReady rules.now }
+    requires few { length rules.now < 2 ^ 32 }
+    requires conflicts { options.conflicts ≤ most_conflicts }
+    requires steps { options.steps ≤ most_steps }
     ensures answer { FileOf (F.state files.old) (F.state files.new) (record { name = name.now; kind = Source })
-        (λ text texts. IsPrinted text texts.out.items texts.report.items) (λ _. ⊥) result }
+        (λ text o. IsPrinted rules.now options text o.out.items o.report.items o.table) (λ _. ⊥) result }
     ensures follow { FilesFollow (F.state files.old) (F.state files.new) }
 {
     let bytes = read(alloc, files, name, ir_reader::MOST_BYTES + 1)?;
-    texts_of(alloc, bytes.as_slice())
+    optimised(alloc, bytes.as_slice(), rules, options)
 }
 
-/// What is written for a list of rules. As many as no `u32` counts are refused as for want of memory; no text within 1 MiB has so
-/// many.
+/// What is written for a list of rules.
 fn verified(alloc: Global, rules: &[Rule], options: &VerifyOptions) -> Result<Work, AllocError>
-    requires rules { All IsReadRule rules.now }
+    requires ready { AreReady rules.now }
+    requires few { length rules.now < 2 ^ 32 }
     requires conflicts { options.now.conflicts ≤ most_conflicts }
     ensures { IfOk result (λ work. IsVerifyWork rules.now options.now (seen_work work)) }
 {
-    if rules.len() > u32::MAX as usize {
-        return Err(AllocError);
-    }
     let verified = verdict::verify(alloc, rules, &options.widths, options.conflicts)?;
     Ok(Work {
         text: verified.text,
@@ -199,15 +171,17 @@ fn optimise<'a, F: Files>(
     source: &'a str,
     options: OptimiseOptions,
 ) -> Result<Work, Hindrance<'a>>
+    requires conflicts { options.conflicts ≤ most_conflicts }
+    requires steps { options.steps ≤ most_steps }
     ensures answer { TaskOf (F.state files.old) (F.state files.new) (Optimise rules.now source.now options) result }
     ensures follow { FilesFollow (F.state files.old) (F.state files.new) }
 {
-    read_no_rules(alloc, files, rules)?;
-    let texts = read_source(alloc, files, source)?;
+    let list = read_rule_file(alloc, files, rules)?;
+    let optimised = read_and_optimise(alloc, files, source, list.as_slice(), options)?;
     Ok(Work {
-        text: texts.out,
-        report: texts.report,
-        table: List::new(alloc),
+        text: optimised.out,
+        report: optimised.report,
+        table: optimised.table,
         status: Status::Done,
     })
 }

@@ -1,6 +1,11 @@
 pub use Rattle.ir_core.specs.Checks
 pub use Rattle.ir_core.specs.Refines
+pub use Rattle.rule_matches.specs.Matches
+pub use Rattle.rule_matches.specs.Ready
+pub mod Asked
 pub mod PlainStrategy
+pub mod Decided
 pub mod Countable
-pub mod ReadyEntries
-pub mod Untouched
+pub mod Laws
+pub mod Searches
+pub mod Entries

@@ -1,54 +1,76 @@
--- The plain strategy: what rules make of a module, function by function in text order.
+-- The plain strategy: what rules make of a module by a table of verdicts, function by function in text order.
 --
--- A function is cleaned. Then a search goes through its instructions in order of blocks and of places, and at each through the rules in
--- their order, up to the first rule that rewrites the function there. What that rule makes of it is cleaned, and the search begins again,
--- at most a number of times, the steps. A function is limited where its steps are spent and a rule still rewrites it.
-use Rattle.std.specs.Prelude.{◌≡◌, ℕ, zero, suc, Bool, true, false, List, [], ◌∷◌, Some, slice_get}
+-- A function is cleaned. Then a search goes through its matches in order, asks for the verdict of each, and ends at the first that is
+-- admitted: there the function is rewritten and cleaned, which is a step, and the search begins again. The last search of a function finds
+-- none, or has no step left; it goes through all matches.
+use Rattle.std.specs.Prelude.{◌≡◌, ℕ, zero, suc, ◌-◌, ◌≤◌, Bool, List, [], ◌∷◌, ◌++◌, map, All, Any, MatchBool}
 use Rattle.ir_core.specs.declared.module.Module.{Module}
 use Rattle.ir_core.specs.declared.module.Entry.{Entry}
 use Rattle.ir_core.specs.declared.module.Entry.TheVariants as entries
 use Rattle.ir_core.specs.declared.function.Function.{Function}
-use Rattle.ir_core.specs.Assigned.{IsBefore}
+use Rattle.rule_core.specs.declared.rule.Rule.{Rule}
+use Rattle.verdict.specs.declared.verdict.Row.{Row}
 use Rattle.needed.specs.Cleaned.{IsCleaned}
+use Rattle.rewriter.specs.Applied.{IsRewritten}
+use Rattle.rule_matches.specs.declared.matches.Match.{Match}
+use Rattle.rule_matches.specs.Matches.{IsMatchAmong, AreMatches}
+use Rattle.strategy.specs.Asked.{Pair, pair_of, pair_in, IsAdmitted, IsTurnedDown, AreFirstAsked}
 
--- Rules in their order, of which each says what it makes of a function at instruction k of block b, where it rewrites it there.
-module _ (Rule : Type 0) (Rewrites : Rule → Function → ℕ → ℕ → Function → Type 0) (rules : List Rule) where
-  -- rule r makes a function of this one at instruction k of block b
-  abbrev pub RewritesAt : Function → Function → ℕ → ℕ → ℕ → Type 0
-  RewritesAt f g b k r = (rule : Rule) × (slice_get rules r ≡ Some rule) × Rewrites rule f b k g
+module _ (rules : List Rule) (table : List Row) where
+  -- A step: the search asks for the verdicts of the first matches, in order. All but the last of these are turned down, and at the last,
+  -- which is admitted, the function is rewritten and then cleaned.
+  pub record IsStep (f new : Function) (asked : List Pair) : Type 0 where
+    pub passed : List Match
+    pub chosen : Match
+    pub later : List Match
+    pub matches : AreMatches rules f (passed ++ chosen ∷ later)
+    pub turned_down : All (IsTurnedDown table) passed
+    pub admitted : IsAdmitted table chosen
+    pub asks : asked ≡ map pair_of (passed ++ chosen ∷ [])
+    pub is_match : IsMatchAmong rules f chosen
+    pub rewritten : Function
+    pub is_rewritten : IsRewritten f chosen.binding is_match.rule rewritten
+    pub is_cleaned : IsCleaned rewritten new
 
-  -- no rule rewrites the function anywhere
-  abbrev pub IsSettled : Function → Type 0
-  IsSettled f = (g : Function) (b k r : ℕ) → ¬ RewritesAt f g b k r
+  -- one function comes of another by so many steps, and these pairs are asked on the way
+  pub data ComesOf : ℕ → Function → Function → List Pair → Type 0 where
+    itself : (f : Function) → ComesOf 0 f f []
+    by_step : (count : ℕ) (f g h : Function) (asked more : List Pair) → ComesOf count f g asked → IsStep g h more
+        → ComesOf (suc count) f h (asked ++ more)
 
-  -- what the first rule makes of the function at the first instruction where one rewrites it
-  pub record FirstRewrite (f g : Function) : Type 0 where
-    pub b : ℕ
-    pub k : ℕ
-    pub r : ℕ
-    pub rewrites : RewritesAt f g b k r
-    pub first : (c l q : ℕ) (h : Function) → IsBefore c l q b k r → ¬ RewritesAt f h c l q
+  -- The last search, with so many steps left, goes through all matches of the function. Where the function is limited no step is left and
+  -- a match is admitted, and else all are turned down.
+  pub record IsLastSearch (left : ℕ) (f : Function) (limited : Bool) (asked : List Pair) : Type 0 where
+    pub matches : List Match
+    pub are_matches : AreMatches rules f matches
+    pub asks : asked ≡ map pair_of matches
+    pub ends : MatchBool limited ((left ≡ 0) × Any (IsAdmitted table) matches) (All (IsTurnedDown table) matches)
 
-  -- what becomes of a cleaned function within so many steps, how often it is rewritten, and whether it is limited
-  pub data Searched : ℕ → Function → Function → ℕ → Bool → Type 0 where
-    settled : (steps : ℕ) (f : Function) → IsSettled f → Searched steps f f 0 false
-    spent : (f g : Function) → FirstRewrite f g → Searched 0 f f 0 true
-    rewritten : (steps count : ℕ) (limited : Bool) (f g cleaned last : Function) → FirstRewrite f g → IsCleaned g cleaned
-        → Searched steps cleaned last count limited → Searched (suc steps) f last (suc count) limited
+  -- what becomes of a function within so many steps: how often it is rewritten, whether it is limited, and which pairs are asked
+  pub record IsOptimised (steps : ℕ) (old new : Function) (count : ℕ) (limited : Bool) (asked : List Pair) : Type 0 where
+    pub cleaned : Function
+    pub is_cleaned : IsCleaned old cleaned
+    pub in_steps : List Pair
+    pub comes : ComesOf count cleaned new in_steps
+    pub within : count ≤ steps
+    pub at_last : List Pair
+    pub last : IsLastSearch (steps - count) new limited at_last
+    pub asks : asked ≡ in_steps ++ at_last
 
-  -- the same of entries in order: kept lines stay, and each function is cleaned first and has its count, and whether it is limited
-  pub data EntriesGiven (steps : ℕ) : List Entry → List Entry → List ℕ → List Bool → Type 0 where
-    none : EntriesGiven steps [] [] [] []
-    kept : (line : List ℕ) (old new : List Entry) (counts : List ℕ) (limited : List Bool) → EntriesGiven steps old new counts limited
-        → EntriesGiven steps (entries.Kept line ∷ old) (entries.Kept line ∷ new) counts limited
-    function : (f cleaned last : Function) (count : ℕ) (is_limited : Bool) (old new : List Entry) (counts : List ℕ) (limited : List Bool)
-        → IsCleaned f cleaned → Searched steps cleaned last count is_limited → EntriesGiven steps old new counts limited
-        → EntriesGiven steps (entries.Function f ∷ old) (entries.Function last ∷ new) (count ∷ counts) (is_limited ∷ limited)
+  -- the same of entries in order: kept lines stay, and each function has its count, and whether it is limited
+  pub data AreOptimised (steps : ℕ) : List Entry → List Entry → List ℕ → List Bool → List Pair → Type 0 where
+    none : AreOptimised steps [] [] [] [] []
+    kept : (line : List ℕ) (old new : List Entry) (counts : List ℕ) (limited : List Bool) (asked : List Pair)
+        → AreOptimised steps old new counts limited asked
+        → AreOptimised steps (entries.Kept line ∷ old) (entries.Kept line ∷ new) counts limited asked
+    function : (f last : Function) (count : ℕ) (is_limited : Bool) (asked : List Pair)
+        (old new : List Entry) (counts : List ℕ) (limited : List Bool) (others : List Pair)
+        → IsOptimised steps f last count is_limited asked → AreOptimised steps old new counts limited others
+        → AreOptimised steps (entries.Function f ∷ old) (entries.Function last ∷ new) (count ∷ counts) (is_limited ∷ limited) (asked ++ others)
 
-  -- what the strategy gives for a module
-  abbrev pub StrategyGives : ℕ → Module → Module → List ℕ → List Bool → Type 0
-  StrategyGives steps old new counts limited = EntriesGiven steps old.entries new.entries counts limited
-
--- what it gives where there are no rules, however many the steps are
-abbrev pub GivesWithoutRules : Module → Module → List ℕ → List Bool → Type 0
-GivesWithoutRules old new counts limited = (steps : ℕ) → StrategyGives ⊥ (λ rule f b k g. ⊥) [] steps old new counts limited
+-- What the strategy gives for a module by this table, with a number of steps for each function. It is the strategy's own table: it has a
+-- row for each pair that is asked, in the order in which they are first asked.
+pub record IsPlainStrategy (rules : List Rule) (steps : ℕ) (table : List Row) (old new : Module) (counts : List ℕ) (limited : List Bool) : Type 0 where
+  pub asked : List Pair
+  pub entries : AreOptimised rules table steps old.entries new.entries counts limited asked
+  pub rows : AreFirstAsked asked (map pair_in table)

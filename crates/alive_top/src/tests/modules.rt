@@ -36,7 +36,7 @@ exit:
 }
 ";
 
-const CLEANED_COUNT: &str = "define i8 @swap(i8 %n) {
+pub(super) const CLEANED_COUNT: &str = "define i8 @swap(i8 %n) {
 entry:
   br label %loop
 

@@ -15,7 +15,7 @@ struct Row {
     err: Option<&'static str>,
 }
 
-const ROWS: [Row; 26] = [
+const ROWS: [Row; 27] = [
     // words
     Row {
         words: &[],
@@ -68,9 +68,9 @@ const ROWS: [Row; 26] = [
         rules: "; a rule\n\nName: a\n%r = or i1 %x, 0\n=>\n%r = %x\n",
         source: IDENTITY,
         faults: NO_FAULTS,
-        status: 3,
-        out: "",
-        err: Some("rules: line 3: LeftOut Name:\n"),
+        status: 0,
+        out: IDENTITY,
+        err: Some("@f: 0 rewrites\n"),
     },
     Row {
         words: VERIFY,
@@ -243,6 +243,19 @@ const ROWS: [Row; 26] = [
         status: 6,
         out: IDENTITY,
         err: Some("@f: "),
+    },
+    Row {
+        words: OPTIMISE,
+        rules: NOT_ADD,
+        source: NOT_ADD_SOURCE,
+        faults: Faults {
+            read: None,
+            out: None,
+            err: Some(FailingPut { number: 0, most: 4 }),
+        },
+        status: 6,
+        out: NOT_ADD_WRITTEN,
+        err: Some("not-"),
     },
     // each sink is put to once
     Row {

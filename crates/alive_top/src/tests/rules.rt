@@ -12,10 +12,20 @@ struct Row {
     or: Option<&'static str>,
 }
 
-const MUL_ADD: &str =
+pub(super) const MUL_ADD: &str =
     "Name: mul-add\n%a = add %x, %y\n%r = mul %a, %z\n=>\n%p = mul %x, %z\n%q = mul %y, %z\n%r = add %p, %q\n";
 
-const ROWS: [Row; 19] = [
+const OR_XOR: &str =
+    "Name: or-xor\n%o = or %x, %y\n%n = and %x, %y\n%r = xor %o, %n\n=>\n%r = xor %x, %y\n";
+
+pub(super) const ADD_SELF: &str = "Name: add-self\n%r = add nsw %x, %x\n=>\n%r = shl nsw %x, 1\n";
+
+pub(super) const MUL_TWO: &str = "Name: mul-two\n%r = mul %x, 2\n=>\n%r = shl %x, 1\n";
+
+pub(super) const SEL_INC: &str =
+    "Name: sel-inc\n%t = add %x, 1\n%r = select %c, %x, %t\n=>\n%u = sub %t, 1\n%r = select %c, %u, %t\n";
+
+const ROWS: [Row; 20] = [
     Row {
         rules: MUL_ADD,
         options: &["--widths", "16", "--conflicts", "1"],
@@ -31,7 +41,14 @@ const ROWS: [Row; 19] = [
         or: None,
     },
     Row {
-        rules: "Name: add-self\n%r = add nsw %x, %x\n=>\n%r = shl nsw %x, 1\n",
+        rules: OR_XOR,
+        options: &["--widths", "16"],
+        status: 0,
+        out: "or-xor [16]: admitted\n",
+        or: None,
+    },
+    Row {
+        rules: ADD_SELF,
         options: &["--widths", "1-2"],
         status: 1,
         out: "add-self [1]: refuted\n  %x = 0\n  source 0\n  target poison\nadd-self [2]: admitted\n",
@@ -52,7 +69,7 @@ const ROWS: [Row; 19] = [
         or: None,
     },
     Row {
-        rules: "Name: mul-two\n%r = mul %x, 2\n=>\n%r = shl %x, 1\n",
+        rules: MUL_TWO,
         options: &["--widths", "1"],
         status: 0,
         out: "",
@@ -80,14 +97,14 @@ const ROWS: [Row; 19] = [
         or: None,
     },
     Row {
-        rules: "Name: sel-inc\n%t = add %x, 1\n%r = select %c, %x, %t\n=>\n%u = sub %t, 1\n%r = select %c, %u, %t\n",
+        rules: SEL_INC,
         options: &["--widths", "1-4"],
         status: 0,
         out: "sel-inc [1 1]: admitted\nsel-inc [2 1]: admitted\nsel-inc [3 1]: admitted\nsel-inc [4 1]: admitted\n",
         or: None,
     },
     Row {
-        rules: "Name: not-add\n%1 = xor %x, -1\n%2 = add %1, C\n=>\n%2 = sub C-1, %x\n",
+        rules: NOT_ADD,
         options: &["--widths", "1-5"],
         status: 0,
         out: "not-add [1]: admitted\nnot-add [2]: admitted\nnot-add [3]: admitted\nnot-add [4]: admitted\nnot-add [5]: admitted\n",

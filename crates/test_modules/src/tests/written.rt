@@ -1,7 +1,8 @@
 //! Modules that are read, cleaned and written.
 
-use alive_top::optimise;
+use alive_top::{OptimiseOptions, Optimised, optimise};
 use ir_parse::parse;
+use std::alloc::Global;
 use std::test::Fail;
 
 /// A module all of whose instructions are needed, as it is written.
@@ -197,16 +198,24 @@ b:
     ),
 ];
 
+/// What is written of a module without rules.
+fn cleaned(alloc: Global, text: &'static str) -> Result<Optimised, Fail> {
+    let options = OptimiseOptions {
+        conflicts: 0,
+        steps: 0,
+    };
+    let optimised = optimise(alloc, text.as_bytes(), &[], options);
+    Ok(optimised.ok().ok_or(text)?)
+}
+
 #[test]
 fn modules_are_cleaned_and_written(rt: HostRuntime) -> Result<(), Fail> {
     for (text, written) in ROWS {
-        let texts = optimise(rt.alloc(), text.as_bytes()).ok().ok_or(text)?;
-        assert_eq!(rt; std::str::from_utf8(texts.out.as_slice())?, written);
+        let optimised = cleaned(rt.alloc(), text)?;
+        assert_eq!(rt; std::str::from_utf8(optimised.out.as_slice())?, written);
     }
-    let texts = optimise(rt.alloc(), CANONICAL.as_bytes())
-        .ok()
-        .ok_or(CANONICAL)?;
-    assert_eq!(rt; texts.report.as_slice(), REPORT.as_bytes());
+    let optimised = cleaned(rt.alloc(), CANONICAL)?;
+    assert_eq!(rt; optimised.report.as_slice(), REPORT.as_bytes());
     let raw = parse(rt.alloc(), CANONICAL.as_bytes())
         .ok()
         .ok_or(CANONICAL)?;

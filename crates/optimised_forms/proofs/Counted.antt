@@ -1,0 +1,13 @@
+-- The module of a text within the limit is counted in 32 bits.
+use Rattle.std.proofs.Common.{length, get_or, arith}
+use Rattle.std.proofs.lemmas.Option.{slice_get-get_or}
+use Rattle.ir_round_trip.specs.Laws.{HasAtMost, ModuleTextsAreSmall}
+use Rattle.optimised_forms.specs.Laws.{ModuleTextsAreCountable}
+
+pub texts_are_countable : ModuleTextsAreSmall → ModuleTextsAreCountable
+texts_are_countable small text m steps short few is k f at =
+    let most : HasAtMost (length text) f = small text m is k f at in
+    record {
+      blocks = omega (arith, most.blocks);
+      insts = λ b d within. omega (arith, most.insts b (get_or f.blocks b d) (slice_get-get_or f.blocks b d within));
+    }

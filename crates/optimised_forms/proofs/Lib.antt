@@ -1,0 +1,6 @@
+mod Names
+mod Widths
+mod Rewritten
+mod Numbers
+mod Optimised
+mod Counted

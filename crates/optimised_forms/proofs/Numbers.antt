@@ -1,0 +1,20 @@
+-- The numbers of what has its forms are of their widths.
+use Rattle.std.proofs.Common.{◌≡◌, ℕ, Some, subst}
+use Rattle.std.specs.Prelude.{slice_get}
+use Rattle.std.proofs.lemmas.Option.{slice_get_within, get_or_from_slice_get}
+use Rattle.ir_core.specs.declared.function.Function.{Function}
+use Rattle.ir_core.specs.declared.module.Entry.{Entry}
+use Rattle.ir_core.specs.declared.module.Entry.TheVariants as entries
+use Rattle.ir_core.specs.declared.module.Module.{Module}
+use Rattle.run_history.specs.Laws.{NumbersFit}
+use Rattle.ir_text.specs.Forms.{OperandFits, FunctionHasForms, EntryHasForms, ModuleHasForms}
+use Rattle.optimised_forms.specs.Laws.{FormedModulesNumbersFit}
+
+pub numbers_fit : (f : Function) → FunctionHasForms f → NumbersFit f
+numbers_fit f forms b k i r n is number = subst OperandFits number (forms.reads b k i r is).operand
+
+pub entry_forms : (m : Module) → ModuleHasForms m → (k : ℕ) (e : Entry) → slice_get m.entries k ≡ Some e → EntryHasForms e
+entry_forms m forms k e at = subst EntryHasForms (get_or_from_slice_get m.entries k e e at) (forms k e (slice_get_within m.entries k e at))
+
+pub modules_fit : FormedModulesNumbersFit
+modules_fit m forms k f at = numbers_fit f (entry_forms m forms k (entries.Function f) at)

@@ -1,0 +1,44 @@
+-- What the plain strategy gives has its forms.
+use Rattle.std.proofs.Common.{◌≡◌, ℕ, zero, suc, Bool, List, Some, get_or}
+use Rattle.std.specs.Prelude.{slice_get}
+use Rattle.std.proofs.lemmas.Option.{slice_get-get_or}
+use Rattle.ir_core.specs.declared.function.Function.{Function}
+use Rattle.ir_core.specs.declared.module.Entry.{Entry}
+use Rattle.ir_core.specs.declared.module.Entry.TheVariants as entries
+use Rattle.rule_core.specs.declared.rule.Rule.{Rule}
+use Rattle.rule_matches.specs.Ready.{AreReady}
+use Rattle.verdict.specs.declared.verdict.Row.{Row}
+use Rattle.ir_round_trip.specs.Laws.{CleanedFunctionsHaveForms}
+use Rattle.ir_text.specs.Forms.{FunctionHasForms, EntryHasForms}
+use Rattle.strategy.specs.Asked.{Pair}
+use Rattle.strategy.specs.PlainStrategy.{AreOptimised, none, kept, function}
+use Rattle.strategy.proofs.Refining.{PartLaws, IsKept, strategy_keeps}
+use Rattle.optimised_forms.specs.Laws.{OptimisedModulesHaveForms, RewrittenFunctionsHaveForms}
+use Rattle.optimised_forms.proofs.Numbers.{entry_forms, modules_fit}
+
+module _ (rules : List Rule) (table : List Row) where
+  -- a kept line was there
+  kept_back : {steps : ℕ} {old new : List Entry} {counts : List ℕ} {limited : List Bool} {asked : List Pair} → AreOptimised rules table steps old new counts limited asked
+      → (k : ℕ) (line : List ℕ) → slice_get new k ≡ Some (entries.Kept line) → slice_get old k ≡ Some (entries.Kept line)
+  kept_back none k line at = absurd cc
+  kept_back (kept same old new counts limited asked others) zero line at = at
+  kept_back (kept same old new counts limited asked others) (suc k) line at = kept_back others k line at
+  kept_back (function f last count is_limited asked old new counts limited rest one others) zero line at = absurd cc
+  kept_back (function f last count is_limited asked old new counts limited rest one others) (suc k) line at = kept_back others k line at
+
+forms_are_kept : CleanedFunctionsHaveForms → RewrittenFunctionsHaveForms → (rules : List Rule) → AreReady rules → IsKept rules FunctionHasForms
+forms_are_kept cleaned rewritten rules ready = record {
+  cleaned = λ f g meets numbers forms is. cleaned f g forms is;
+  rewritten = λ f g m is meets numbers forms applied.
+      rewritten f g m.binding.block m.binding.place is.rule m.binding (ready m.rule is.rule is.is_rule).checks meets forms is.matches applied;
+}
+
+pub optimised_have_forms : PartLaws → CleanedFunctionsHaveForms → RewrittenFunctionsHaveForms → OptimisedModulesHaveForms
+optimised_have_forms laws cleaned rewritten rules steps table old new counts limited ready meets forms given k d within =
+    by (get_or new.entries k d) (slice_get-get_or new.entries k d within)
+  where
+    by : (e : Entry) → slice_get new.entries k ≡ Some e → EntryHasForms e
+    by (entries.Kept line) at = entry_forms old forms k (entries.Kept line) (kept_back rules table given.entries k line at)
+    by (entries.Function g) at =
+        strategy_keeps laws rules steps table old new counts limited ready meets (modules_fit old forms) given FunctionHasForms (forms_are_kept cleaned rewritten rules ready)
+        (λ j f there. entry_forms old forms j (entries.Function f) there) k g at

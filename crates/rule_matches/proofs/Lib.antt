@@ -1,0 +1,6 @@
+pub mod Places
+pub mod Grouping
+pub mod Groups
+pub mod Rooting
+pub mod Joining
+pub mod Matching

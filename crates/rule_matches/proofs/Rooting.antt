@@ -1,0 +1,81 @@
+-- A rule matches only at instructions of its root's kind.
+use Rattle.std.proofs.Common.{◌≡◌, ℕ, suc, ◌-◌, ◌<◌, List, Some, length, refl, sym, ap, subst, ◌∙◌, arith}
+use Rattle.std.specs.Prelude.{slice_get, option_and_then}
+use Rattle.ir_core.specs.declared.function.Function.{Function}
+use Rattle.ir_core.specs.declared.instruction.Inst.{Inst}
+use Rattle.ir_core.specs.declared.instruction.Op.{Op as InstOp}
+use Rattle.ir_core.specs.declared.instruction.Op.TheVariants as ops
+use Rattle.ir_core.specs.Checks.{IsInst}
+use Rattle.rule_matches.proofs.Places.{some_at}
+use Rattle.rule_core.specs.declared.rule.Op.{Op as RuleOp}
+use Rattle.rule_core.specs.declared.rule.Op.TheVariants as rule_ops
+use Rattle.rule_core.specs.declared.rule.Rule.{Rule}
+use Rattle.rule_core.specs.declared.rule.Statement.{Statement}
+use Rattle.matcher.specs.Statements.{IsSameOperation, StatementMatches}
+use Rattle.rule_matches.specs.declared.matches.Match.{Match}
+use Rattle.rule_matches.specs.declared.roots.RootKind.{RootKind}
+use Rattle.rule_matches.specs.declared.roots.RootKind.TheVariants.{Binary, Compare, Select, Convert}
+use Rattle.rule_matches.specs.Ready.{AreReady}
+use Rattle.rule_matches.specs.Matches.{IsMatchAmong}
+use Rattle.rule_matches.specs.Roots.{kind_of_statement, kind_of_inst, kind_of_root, HasRootKind}
+
+-- statements and instructions of one operation are of one kind
+kind_same : (s : RuleOp) (i : InstOp) → IsSameOperation s i → (kind : RootKind) × (kind_of_statement s ≡ Some kind) × (kind_of_inst i ≡ Some kind)
+kind_same (rule_ops.Binary opcode flags a b) (ops.Binary opcode' flags' x y) same = (Binary opcode, refl, ap (λ o. Some (Binary o)) (sym same))
+kind_same (rule_ops.Binary opcode flags a b) (ops.Compare pred' width x y) same = absurd same
+kind_same (rule_ops.Binary opcode flags a b) (ops.Select z x y) same = absurd same
+kind_same (rule_ops.Binary opcode flags a b) (ops.Convert cast' from x) same = absurd same
+kind_same (rule_ops.Binary opcode flags a b) (ops.Freeze x) same = absurd same
+kind_same (rule_ops.Binary opcode flags a b) (ops.Phi entries) same = absurd same
+kind_same (rule_ops.Compare pred a b) (ops.Binary opcode' flags' x y) same = absurd same
+kind_same (rule_ops.Compare pred a b) (ops.Compare pred' width x y) same = (Compare pred, refl, ap (λ o. Some (Compare o)) (sym same))
+kind_same (rule_ops.Compare pred a b) (ops.Select z x y) same = absurd same
+kind_same (rule_ops.Compare pred a b) (ops.Convert cast' from x) same = absurd same
+kind_same (rule_ops.Compare pred a b) (ops.Freeze x) same = absurd same
+kind_same (rule_ops.Compare pred a b) (ops.Phi entries) same = absurd same
+kind_same (rule_ops.Select c a b) (ops.Binary opcode' flags' x y) same = absurd same
+kind_same (rule_ops.Select c a b) (ops.Compare pred' width x y) same = absurd same
+kind_same (rule_ops.Select c a b) (ops.Select z x y) same = (Select, refl, refl)
+kind_same (rule_ops.Select c a b) (ops.Convert cast' from x) same = absurd same
+kind_same (rule_ops.Select c a b) (ops.Freeze x) same = absurd same
+kind_same (rule_ops.Select c a b) (ops.Phi entries) same = absurd same
+kind_same (rule_ops.Convert cast a to) (ops.Binary opcode' flags' x y) same = absurd same
+kind_same (rule_ops.Convert cast a to) (ops.Compare pred' width x y) same = absurd same
+kind_same (rule_ops.Convert cast a to) (ops.Select z x y) same = absurd same
+kind_same (rule_ops.Convert cast a to) (ops.Convert cast' from x) same = (Convert cast, refl, ap (λ o. Some (Convert o)) (sym same))
+kind_same (rule_ops.Convert cast a to) (ops.Freeze x) same = absurd same
+kind_same (rule_ops.Convert cast a to) (ops.Phi entries) same = absurd same
+kind_same (rule_ops.Copy a) (ops.Binary opcode' flags' x y) same = absurd same
+kind_same (rule_ops.Copy a) (ops.Compare pred' width x y) same = absurd same
+kind_same (rule_ops.Copy a) (ops.Select z x y) same = absurd same
+kind_same (rule_ops.Copy a) (ops.Convert cast' from x) same = absurd same
+kind_same (rule_ops.Copy a) (ops.Freeze x) same = absurd same
+kind_same (rule_ops.Copy a) (ops.Phi entries) same = absurd same
+
+-- what stands at the root of a match
+pub record RootStands (rules : List Rule) (f : Function) (m : Match) : Type 0 where
+  pub inst : Inst
+  pub is_inst : IsInst f m.binding.block m.binding.place inst
+  pub kind : RootKind
+  pub of_inst : kind_of_inst inst.op ≡ Some kind
+  pub of_rule : HasRootKind rules kind m.rule
+
+pub root_stands : (rules : List Rule) (f : Function) (m : Match) → AreReady rules → IsMatchAmong rules f m → RootStands rules f m
+root_stands rules f m ready is = by (length is.rule.source - 1) (let some : 0 < length is.rule.source = (ready m.rule is.rule is.is_rule).checks.source_root in omega (arith, some)) refl
+  where
+    by : (j : ℕ) → suc j ≡ length is.rule.source → j ≡ length is.rule.source - 1 → RootStands rules f m
+    by j is_last same_place =
+        let rule = is.rule in
+        let last : (s : Statement) × (slice_get rule.source j ≡ Some s) = some_at rule.source j (omega (arith, is_last)) in
+        let s = last.0 in
+        let bound : StatementMatches f rule m.binding j s = is.matches.statements j s last.1 in
+        let there : bound.place ≡ m.binding.place = bound.matches.root is_last in
+        let same : (kind : RootKind) × (kind_of_statement s.op ≡ Some kind) × (kind_of_inst bound.inst.op ≡ Some kind) = kind_same s.op bound.inst.op bound.matches.operation in
+        let root : kind_of_root rule ≡ kind_of_statement s.op = ap (λ (k : ℕ). option_and_then (λ (x : Statement). kind_of_statement x.op) (slice_get rule.source k)) (sym same_place) ∙ ap (option_and_then (λ (x : Statement). kind_of_statement x.op)) last.1 in
+        record {
+          inst = bound.inst;
+          is_inst = subst (λ (k : ℕ). IsInst f m.binding.block k bound.inst) there bound.is_inst;
+          kind = same.0;
+          of_inst = same.2;
+          of_rule = (rule, is.is_rule, root ∙ same.1);
+        }

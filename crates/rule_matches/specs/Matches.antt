@@ -1,0 +1,23 @@
+-- Where the rules of a file match in a function, in the order in which a search comes to them.
+use Rattle.std.specs.Prelude.{◌≡◌, List, Some, All, AllPairs, Contains, slice_get}
+use Rattle.ir_core.specs.Assigned.{IsBefore}
+use Rattle.ir_core.specs.declared.function.Function.{Function}
+use Rattle.rule_core.specs.declared.rule.Rule.{Rule}
+use Rattle.matcher.specs.Match.{IsMatch}
+use Rattle.rule_matches.specs.declared.matches.Match.{Match}
+
+-- the rule that it names matches in the function, at the place and with what its binding says
+pub record IsMatchAmong (rules : List Rule) (f : Function) (m : Match) : Type 0 where
+  pub rule : Rule
+  pub is_rule : slice_get rules m.rule ≡ Some rule
+  pub matches : IsMatch f m.binding.block m.binding.place rule m.binding
+
+-- the first comes before the second: in order of blocks, in a block of places, and at an instruction of rules
+abbrev pub ComesBefore : Match → Match → Type 0
+ComesBefore m n = IsBefore m.binding.block m.binding.place m.rule n.binding.block n.binding.place n.rule
+
+-- these are all matches of the rules in the function, in order
+pub record AreMatches (rules : List Rule) (f : Function) (matches : List Match) : Type 0 where
+  pub each : All (IsMatchAmong rules f) matches
+  pub all : (m : Match) → IsMatchAmong rules f m → Contains matches m
+  pub in_order : AllPairs ComesBefore matches

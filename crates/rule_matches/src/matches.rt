@@ -1,0 +1,148 @@
+//! The matches of rules in a function.
+
+ghost use Rattle.std.specs.Prelude.{◌≡◌, ◌<◌, ◌^◌, ◌++◌, length, option_to_list, All, IfOk, OnOk};
+ghost use Rattle.ir_core.specs.Blocks.{HasInst};
+ghost use Rattle.ir_core.specs.Checks.{IsInst, MeetsChecks};
+ghost use Rattle.matcher.specs.Facts.{AreFactsOf};
+ghost use Rattle.rule_matches.specs.Found.{AddsMatches, AreMatchesWhere, IsAt, IsInBlock, IsOf};
+ghost use Rattle.rule_matches.specs.Ready.{AreReady};
+ghost use Rattle.rule_matches.specs.Matches.{AreMatches};
+ghost use Rattle.rule_matches.specs.Roots.{AreByRoot};
+
+use crate::roots::RulesByRoot;
+use ir_core::{Function, Inst, end_of};
+use lists::List;
+use matcher::{Binding, FunctionFacts, match_in};
+use rule_core::Rule;
+use std::alloc::{AllocError, Global};
+
+/// One of the rules of a file, where it matches in a function.
+#[derive(Debug, Drop)]
+pub struct Match {
+    /// The place of the rule in its file, from 0.
+    pub rule: u32,
+    /// Where it matches, and what its names are bound to there.
+    pub binding: Binding,
+}
+
+/// The rules that are applied.
+#[derive(Clone, Copy)]
+pub struct Rules<'a> {
+    pub all: &'a [Rule],
+    pub by_root: &'a RulesByRoot,
+}
+
+/// All matches of the rules in a function, in order: of blocks, in a block of places, and at an instruction of rules.
+///
+/// At each instruction only those rules are tried whose root is of its kind. The only error is want of memory.
+pub fn all_matches(
+    alloc: Global,
+    f: &Function,
+    rules: &Rules<'_>,
+) -> Result<List<Match>, AllocError>
+    requires checks { MeetsChecks f.now }
+    requires blocks { length f.now.blocks < 2 ^ 32 }
+    requires insts { All (λ b. length b.insts < 2 ^ 32) f.now.blocks }
+    requires ready { AreReady rules.now.all.now }
+    requires by_root { AreByRoot rules.now.all.now rules.now.by_root.now }
+    ensures { IfOk result (AreMatches rules.now.all.now f.now) }
+{
+    let facts = FunctionFacts::of(alloc, f)?;
+    let mut found = List::new(alloc);
+    for block in 0..f.blocks.len() as u32 {
+        push_in_block(alloc, f, &facts, rules, block, &mut found)?;
+    }
+    Ok(found)
+}
+
+/// Adds the matches in a block.
+fn push_in_block(
+    alloc: Global,
+    f: &Function,
+    facts: &FunctionFacts,
+    rules: &Rules<'_>,
+    block: u32,
+    found: &mut List<Match>,
+) -> Result<(), AllocError>
+    requires checks { MeetsChecks f.now }
+    requires insts { All (λ b. length b.insts < 2 ^ 32) f.now.blocks }
+    requires facts { AreFactsOf f.now facts.now }
+    requires ready { AreReady rules.now.all.now }
+    requires by_root { AreByRoot rules.now.all.now rules.now.by_root.now }
+    ensures { OnOk result (AddsMatches rules.now.all.now f.now (IsInBlock block) found.old found.new) }
+{
+    for place in 0..end_of(f, block) {
+        push_at(alloc, f, facts, rules, block, place, found)?;
+    }
+    Ok(())
+}
+
+/// Adds the matches at an instruction.
+fn push_at(
+    alloc: Global,
+    f: &Function,
+    facts: &FunctionFacts,
+    rules: &Rules<'_>,
+    block: u32,
+    place: u32,
+    found: &mut List<Match>,
+) -> Result<(), AllocError>
+    requires checks { MeetsChecks f.now }
+    requires insts { All (λ b. length b.insts < 2 ^ 32) f.now.blocks }
+    requires facts { AreFactsOf f.now facts.now }
+    requires ready { AreReady rules.now.all.now }
+    requires by_root { AreByRoot rules.now.all.now rules.now.by_root.now }
+    requires place { HasInst f.now block place }
+    ensures { OnOk result (AddsMatches rules.now.all.now f.now (IsAt block place) found.old found.new) }
+{
+    let inst = inst_at(f, block, place);
+    for rule in rules.by_root.at(&inst.op) {
+        let matched = match_of(alloc, f, facts, rules.all, block, place, *rule)?;
+        push_if_any(found, matched)?;
+    }
+    Ok(())
+}
+
+/// The instruction at a place.
+fn inst_at(f: &Function, block: u32, place: u32) -> &Inst
+    requires { HasInst f.now block place }
+    ensures { IsInst f.now block place result.now }
+{
+    let written_in = &f.blocks.as_slice()[block as usize];
+    &written_in.insts.as_slice()[place as usize]
+}
+
+/// The match of a rule at an instruction, if it matches there.
+fn match_of(
+    alloc: Global,
+    f: &Function,
+    facts: &FunctionFacts,
+    rules: &[Rule],
+    block: u32,
+    place: u32,
+    rule: u32,
+) -> Result<Option<Match>, AllocError>
+    requires checks { MeetsChecks f.now }
+    requires insts { All (λ b. length b.insts < 2 ^ 32) f.now.blocks }
+    requires facts { AreFactsOf f.now facts.now }
+    requires ready { AreReady rules.now }
+    requires place { HasInst f.now block place }
+    requires rule { rule < length rules.now }
+    ensures { IfOk result (λ matched. AreMatchesWhere rules.now f.now (IsOf block place rule) (option_to_list matched)) }
+{
+    let tried = &rules[rule as usize];
+    let Some(binding) = match_in(alloc, f, facts, block, place, tried)? else {
+        return Ok(None);
+    };
+    Ok(Some(Match { rule, binding }))
+}
+
+/// Adds a match at the end, if there is one.
+fn push_if_any(found: &mut List<Match>, matched: Option<Match>) -> Result<(), AllocError>
+    ensures { OnOk result (found.new ≡ found.old ++ option_to_list matched) }
+{
+    if let Some(one) = matched {
+        found.push(one)?;
+    }
+    Ok(())
+}

@@ -1,0 +1,141 @@
+-- One entry after the other, up to what the strategy gives for a module.
+use Rattle.std.proofs.Common.{◌≡◌, ℕ, ◌+◌, ◌<◌, Bool, List, [], ◌∷◌, ◌++◌, length, take, get_or, Some, refl, sym, subst, ◌∙◌, append_assoc, append-nil, arith}
+use Rattle.std.specs.Prelude.{slice_get, map, All, Contains}
+use Rattle.std.proofs.lemmas.List.{take_more}
+use Rattle.std.proofs.lemmas.Option.{same_Some}
+use Rattle.std.proofs.lemmas.List.Elements.{All-contains}
+use Rattle.ir_core.specs.Checks.{ModuleMeetsChecks}
+use Rattle.ir_core.specs.declared.module.Module.{Module}
+use Rattle.ir_core.specs.declared.module.Entry.{Entry}
+use Rattle.ir_core.specs.declared.module.Entry.TheVariants as entries
+use Rattle.ir_core.specs.declared.function.Function.{Function}
+use Rattle.ir_meaning.proofs.Pieces.{contains_at}
+use Rattle.rule_core.specs.Checks.{IsRule}
+use Rattle.rule_core.specs.Valid.{IsValid}
+use Rattle.rule_core.specs.declared.rule.Rule.{Rule}
+use Rattle.rule_matches.specs.Ready.{AreReady}
+use Rattle.rule_typing.specs.Classes.{IsClassified}
+use Rattle.rule_typing.specs.Faults.{HasNoFault}
+use Rattle.verdict.specs.Honest.{IsHonest}
+use Rattle.verdict.specs.Table.{IsHonestRow, IsHonestTable}
+use Rattle.verdict.specs.declared.verdict.Row.{Row}
+use Rattle.verdict.specs.declared.verdict.Verdict.{Verdict}
+use Rattle.strategy.specs.declared.module.Counts.{Counts}
+use Rattle.strategy.specs.declared.verdicts.Verdicts.{Verdicts}
+use Rattle.strategy.specs.Asked.{Pair, pair_in, AreFirstAsked}
+use Rattle.strategy.specs.Countable.{ModuleIsCountable}
+use Rattle.strategy.specs.Entries.{EntryIsReady, OptimisesEntry}
+use Rattle.strategy.specs.Laws.{AdmittedAreValid, ModuleNumbersFit}
+use Rattle.strategy.specs.PlainStrategy.{AreOptimised, none, kept, function, IsPlainStrategy}
+use Rattle.strategy.specs.Searches.{AreVerdictsOn, Asks, OptimisesFunction}
+use Rattle.strategy.proofs.Growing.{entries_stay}
+use Rattle.strategy.proofs.Sequence.{asks_nothing, asks_both, row_stays}
+
+-- before anything is asked
+pub nothing_asked : AreFirstAsked [] []
+nothing_asked = record {
+  same = λ p. (λ h. h, λ h. h);
+  once = λ i j p at_i at_j. absurd cc;
+  in_order = λ i j d less within. absurd (omega arith);
+}
+
+-- what is required of the module is known of each entry
+pub each_ready : (steps : ℕ) (m : Module) → ModuleMeetsChecks m → ModuleNumbersFit m → ModuleIsCountable steps m
+    → (place : ℕ) (e : Entry) → slice_get m.entries place ≡ Some e → EntryIsReady steps e
+each_ready steps m meets fit countable place (entries.Kept line) at = tt
+each_ready steps m meets fit countable place (entries.Function f) at = (meets.functions place f at, fit place f at, countable place f at)
+
+-- and so of each rule
+pub all_ready : (rules : List Rule) → All IsRule rules → All IsClassified rules → All HasNoFault rules → AreReady rules
+all_ready rules checks classes typed r rule at =
+    let among : Contains rules rule = contains_at rules r rule at in
+    record { checks = All-contains IsRule rules rule checks among; classes = All-contains IsClassified rules rule classes among; typed = All-contains HasNoFault rules rule typed among }
+
+-- an honest table admits valid rules only
+pub admitted_are_valid : (rules : List Rule) (conflicts : ℕ) (table : List Row) → IsHonestTable rules conflicts table → AdmittedAreValid rules table
+admitted_are_valid rules conflicts table honest row rule has admitted is =
+    let h : IsHonestRow rules conflicts row = All-contains (IsHonestRow rules conflicts) table row honest has in
+    let valid : IsValid h.rule row.typing = subst (λ (v : Verdict). IsHonest h.rule row.typing conflicts v) admitted h.honest in
+    subst (λ (r : Rule). IsValid r row.typing) (same_Some h.rule rule (sym h.is ∙ is)) valid
+
+module _ (rules : List Rule) where
+  optimised_append : {table : List Row} {steps : ℕ} {old new old' new' : List Entry} {counts counts' : List ℕ} {limited limited' : List Bool} {asked asked' : List Pair}
+      → AreOptimised rules table steps old new counts limited asked → AreOptimised rules table steps old' new' counts' limited' asked'
+      → AreOptimised rules table steps (old ++ old') (new ++ new') (counts ++ counts') (limited ++ limited') (asked ++ asked')
+  optimised_append none later = later
+  optimised_append {old' = old'} {new' = new'} {counts' = counts'} {limited' = limited'} {asked' = asked'} (kept line old new counts limited asked others) later =
+      kept line (old ++ old') (new ++ new') (counts ++ counts') (limited ++ limited') (asked ++ asked') (optimised_append others later)
+  optimised_append {table} {steps} {old' = old'} {new' = new'} {counts' = counts'} {limited' = limited'} {asked' = asked'} (function f last count is_limited asked old new counts limited rest one others) later =
+      subst (λ (l : List Pair). AreOptimised rules table steps (entries.Function f ∷ (old ++ old')) (entries.Function last ∷ (new ++ new')) (count ∷ (counts ++ counts')) (is_limited ∷ (limited ++ limited')) l)
+      (sym (append_assoc asked rest asked'))
+      (function f last count is_limited asked (old ++ old') (new ++ new') (counts ++ counts') (limited ++ limited') (rest ++ asked') one (optimised_append others later))
+
+  -- a kept line stays
+  pub entry_kept : (conflicts steps : ℕ) (line : List ℕ) (now : Verdicts) (all : Counts) → OptimisesEntry rules conflicts steps (entries.Kept line) (entries.Kept line) now now all all
+  entry_kept conflicts steps line now all = record {
+    pairs = [];
+    counts = [];
+    limited = [];
+    asks = asks_nothing rules conflicts now;
+    optimised = kept line [] [] [] [] [] none;
+    counts_added = sym (append-nil all.counts);
+    limited_added = sym (append-nil all.limited);
+  }
+
+  -- and a function is optimised
+  pub entry_optimised : (conflicts steps : ℕ) (f new : Function) (before after : Verdicts) (all all' : Counts) (count : ℕ) (is_limited : Bool)
+      → OptimisesFunction rules conflicts steps f new before after count is_limited
+      → all'.counts ≡ all.counts ++ count ∷ [] → all'.limited ≡ all.limited ++ is_limited ∷ []
+      → OptimisesEntry rules conflicts steps (entries.Function f) (entries.Function new) before after all all'
+  entry_optimised conflicts steps f new before after all all' count is_limited optimised counts_are limited_are = record {
+    pairs = optimised.0 ++ [];
+    counts = count ∷ [];
+    limited = is_limited ∷ [];
+    asks = subst (λ (l : List Pair). Asks rules conflicts l before after) (sym (append-nil optimised.0)) optimised.1;
+    optimised = function f new count is_limited optimised.0 [] [] [] [] [] optimised.2 none;
+    counts_added = counts_are;
+    limited_added = limited_are;
+  }
+
+  -- no verdicts yet
+  pub no_verdicts : (conflicts : ℕ) (v : Verdicts) → v.table ≡ [] → v.pairs.keys ≡ [] → AreVerdictsOn rules conflicts [] v
+  no_verdicts conflicts v table pairs = record {
+    rows = subst (λ (l : List Row). AreFirstAsked [] (map pair_in l)) (sym table) nothing_asked;
+    honest = subst (IsHonestTable rules conflicts) (sym table) (λ k d lt. absurd (omega arith));
+    pairs = rw (pairs, table) refl;
+  }
+
+  -- the first entries have been taken in turn
+  pub record Entered (conflicts steps place : ℕ) (old new : List Entry) (before now : Verdicts) (counts : List ℕ) (limited : List Bool) : Type 0 where
+    pub pairs : List Pair
+    pub asks : Asks rules conflicts pairs before now
+    pub optimised : AreOptimised rules now.table steps (take place old) new counts limited pairs
+
+  pub none_entered : (conflicts steps : ℕ) (old : List Entry) (before : Verdicts) → Entered conflicts steps 0 old [] before before [] []
+  none_entered conflicts steps old before = record { pairs = []; asks = asks_nothing rules conflicts before; optimised = none }
+
+  pub one_entered : (conflicts steps place : ℕ) (old new : List Entry) (d e : Entry) (before now after : Verdicts) (all all' : Counts)
+      → place < length old → Entered conflicts steps place old new before now all.counts all.limited
+      → OptimisesEntry rules conflicts steps (get_or old place d) e now after all all'
+      → Entered conflicts steps (place + 1) old (new ++ e ∷ []) before after all'.counts all'.limited
+  one_entered conflicts steps place old new d e before now after all all' within so_far one =
+      let first = entries_stay rules now.table after.table (row_stays rules conflicts one.pairs now after one.asks) so_far.optimised in
+      let both = optimised_append first one.optimised in
+      record {
+        pairs = so_far.pairs ++ one.pairs;
+        asks = asks_both rules conflicts so_far.pairs one.pairs before now after so_far.asks one.asks;
+        optimised =
+            subst (λ (l : List Entry). AreOptimised rules after.table steps l (new ++ e ∷ []) all'.counts all'.limited (so_far.pairs ++ one.pairs)) (sym (take_more old place d within))
+            (subst (λ (l : List ℕ). AreOptimised rules after.table steps (take place old ++ get_or old place d ∷ []) (new ++ e ∷ []) l all'.limited (so_far.pairs ++ one.pairs)) (sym one.counts_added)
+            (subst (λ (l : List Bool). AreOptimised rules after.table steps (take place old ++ get_or old place d ∷ []) (new ++ e ∷ []) (all.counts ++ one.counts) l (so_far.pairs ++ one.pairs)) (sym one.limited_added) both));
+      }
+
+  -- all have: this is what the strategy gives, by its own table
+  pub given : (conflicts steps : ℕ) (old new : Module) (before now : Verdicts) (counts : List ℕ) (limited : List Bool) (place : ℕ)
+      → take place old.entries ≡ old.entries → AreVerdictsOn rules conflicts [] before → Entered conflicts steps place old.entries new.entries before now counts limited
+      → IsPlainStrategy rules steps now.table old new counts limited
+  given conflicts steps old new before now counts limited place whole first entered = record {
+    asked = entered.pairs;
+    entries = subst (λ (l : List Entry). AreOptimised rules now.table steps l new.entries counts limited entered.pairs) whole entered.optimised;
+    rows = (entered.asks.asked [] first).rows;
+  }

@@ -1,0 +1,8 @@
+-- The numbers of a cleaned function are of their widths.
+use Rattle.needed.specs.Laws.{CleanedNumbersWereThere}
+use Rattle.strategy.specs.Laws.{CleanedNumbersFit}
+
+pub cleaned_numbers_fit : CleanedNumbersWereThere → CleanedNumbersFit
+cleaned_numbers_fit were f g checks fit cleaned b k i r n is number =
+    let was = were f g b k i r n checks cleaned is number in
+    fit b was.0 i was.1 n was.2 was.3

@@ -1,0 +1,113 @@
+-- How large functions become: a step adds fewer than 32 instructions to a block.
+use Rattle.std.proofs.Common.{◌≡◌, inl, inr, ℕ, suc, ◌+◌, ◌-◌, ◌*◌, ◌<◌, ◌≤◌, Bool, true, false, List, [], ◌∷◌, length, get_or, None, refl, sym, ap, subst, arith}
+use Rattle.std.specs.Prelude.{All, ◌^◌}
+use Rattle.std.proofs.lemmas.Bool.{cases_eq, cases_lt}
+use Rattle.std.proofs.lemmas.List.{length-append}
+use Rattle.std.proofs.lemmas.List.Elements.{All-contains}
+use Rattle.std.proofs.lemmas.Option.{slice_get-get_or}
+use Rattle.ir_core.specs.Blocks.{IsBlock}
+use Rattle.ir_core.specs.Names.{Name}
+use Rattle.ir_core.specs.declared.function.Block.{Block}
+use Rattle.ir_core.specs.declared.function.Function.{Function}
+use Rattle.ir_core.specs.declared.instruction.Inst.{Inst}
+use Rattle.ir_meaning.proofs.Pieces.{contains_at}
+use Rattle.rule_core.specs.declared.rule.Op.{Op as RuleOp}
+use Rattle.rule_core.specs.declared.rule.Op.TheVariants as rule_ops
+use Rattle.rule_core.specs.declared.rule.Rule.{Rule}
+use Rattle.rule_core.specs.declared.rule.Statement.{Statement}
+use Rattle.matcher.specs.declared.binding.Binding.{Binding}
+use Rattle.substitution.specs.declared.rewrite.Rewrite.{Rewrite}
+use Rattle.substitution.specs.Rewritten.{moved_place, rewritten_blocks, rewritten_function}
+use Rattle.substitution.proofs.Placing.{IsMoved, is_moved, length-block}
+use Rattle.substitution.proofs.Placing.{block_back as block_of_rewritten}
+use Rattle.needed.specs.KeptFunction.{KeptMarks, kept_first, kept_insts, moved_inst, kept_block, kept_blocks, kept_function}
+use Rattle.needed.specs.Cleaned.{IsCleaned}
+use Rattle.needed.proofs.Counting.{block_back as block_of_kept}
+use Rattle.rewriter.specs.Applied.{IsRewritten}
+use Rattle.rewriter.specs.Put.{class_width, insts_of_op, insts_put, rewrite_of}
+use Rattle.strategy.specs.Countable.{IsCountable}
+
+pub few_at : (P : Block → Type 0) (f : Function) (b : ℕ) (block : Block) → All P f.blocks → IsBlock f b block → P block
+few_at P f b block all at = All-contains P f.blocks block all (contains_at f.blocks b block at)
+
+few_from : (P : Block → Type 0) (f : Function) → ((b : ℕ) (block : Block) → IsBlock f b block → P block) → All P f.blocks
+few_from P f each k d lt = each k (get_or f.blocks k d) (slice_get-get_or f.blocks k d lt)
+
+-- what is counted for more steps is for fewer
+pub countable_less : (more steps : ℕ) (f : Function) → steps ≤ more → IsCountable more f → IsCountable steps f
+countable_less more steps f within c = record { blocks = c.blocks; insts = λ k d lt. let few = c.insts k d lt in omega (arith, few) }
+
+pub few_insts : (steps : ℕ) (f : Function) → IsCountable steps f → All (λ b. length b.insts < 2 ^ 32) f.blocks
+few_insts steps f c k d lt = let few = c.insts k d lt in omega (arith, few)
+
+-- ---- cleaning
+
+fewer_kept : (kept : KeptMarks) (b k : ℕ) (insts : List Inst) → length (kept_insts kept b k insts) ≤ length insts
+fewer_kept kept b k [] = omega arith
+fewer_kept kept b k (i ∷ insts) = by (kept b k) (fewer_kept kept b (suc k) insts)
+  where
+    by : (keep : Bool) → length (kept_insts kept b (suc k) insts) ≤ length insts → length (kept_first keep (moved_inst kept i) (kept_insts kept b (suc k) insts)) ≤ suc (length insts)
+    by true rest = omega (arith, rest)
+    by false rest = omega (arith, rest)
+
+as_many_kept : (kept : KeptMarks) (b : ℕ) (blocks : List Block) → length (kept_blocks kept b blocks) ≡ length blocks
+as_many_kept kept b [] = refl
+as_many_kept kept b (x ∷ blocks) = ap suc (as_many_kept kept (suc b) blocks)
+
+kept_countable : (steps : ℕ) (f : Function) (kept : KeptMarks) → IsCountable steps f → IsCountable steps (kept_function kept f)
+kept_countable steps f kept c = record {
+  blocks = (let few = c.blocks in omega (arith, few, as_many_kept kept 0 f.blocks));
+  insts = few_from (λ (b : Block). length b.insts + 32 * steps < 2 ^ 32) (kept_function kept f) (λ b new at.
+      let was : (block : Block) × IsBlock f b block × (kept_block kept b block ≡ new) = block_of_kept kept f b new at in
+      let few : length was.0.insts + 32 * steps < 2 ^ 32 = few_at (λ (b : Block). length b.insts + 32 * steps < 2 ^ 32) f b was.0 c.insts was.1 in
+      let less : length (kept_insts kept b 0 was.0.insts) ≤ length was.0.insts = fewer_kept kept b 0 was.0.insts in
+      subst (λ (x : Block). length x.insts + 32 * steps < 2 ^ 32) was.2 (omega (arith, few, less)));
+}
+
+pub cleaned_countable : (steps : ℕ) (f g : Function) → IsCountable steps f → IsCleaned f g → IsCountable steps g
+cleaned_countable steps f g c cleaned = subst (IsCountable steps) (sym cleaned.2) (kept_countable steps f cleaned.0 c)
+
+-- ---- rewriting
+
+module _ (rule : Rule) (binding : Binding) where
+  one_put : (name : Name) (N : ℕ) (op : RuleOp) → length (insts_of_op rule binding name N op) ≤ 1
+  one_put name N (rule_ops.Binary opcode flags a b) = omega arith
+  one_put name N (rule_ops.Compare pred a b) = omega arith
+  one_put name N (rule_ops.Select c a b) = omega arith
+  one_put name N (rule_ops.Convert cast a to) = omega arith
+  one_put name N (rule_ops.Copy a) = omega arith
+
+  few_put : (name : Name) (statements : List Statement) → length (insts_put rule binding name statements) ≤ length statements
+  few_put name [] = omega arith
+  few_put name (s ∷ []) = one_put name (class_width rule binding s.class) s.op
+  few_put name (s ∷ t ∷ statements) =
+      let one = one_put None (class_width rule binding s.class) s.op in
+      let rest = few_put name (t ∷ statements) in
+      omega (arith, one, rest, length-append (insts_of_op rule binding None (class_width rule binding s.class) s.op) (insts_put rule binding name (t ∷ statements)))
+
+as_many_rewritten : (w : Rewrite) (b : ℕ) (blocks : List Block) → length (rewritten_blocks w b blocks) ≡ length blocks
+as_many_rewritten w b [] = refl
+as_many_rewritten w b (x ∷ blocks) = ap suc (as_many_rewritten w (suc b) blocks)
+
+moved_within : (w : Rewrite) (b k m : ℕ) → IsMoved w b k m → m ≤ k + length w.put
+moved_within w b k m moved = elim (cases_eq b w.block) [
+  | inr ne ↦ (let e = moved.elsewhere ne in omega (arith, e))
+  | inl same ↦ elim (cases_lt w.place k) [
+    | inl lt ↦ (let e = moved.behind same lt in omega (arith, e, lt))
+    | inr le ↦ (let e = moved.unmoved same le in omega (arith, e))
+  ]
+]
+
+pub rewritten_countable : (steps : ℕ) (f g : Function) (rule : Rule) (binding : Binding) → length rule.target ≤ 32 → IsCountable (suc steps) f → IsRewritten f binding rule g → IsCountable steps g
+rewritten_countable steps f g rule binding few_statements c r = subst (IsCountable steps) (sym r.is) (record {
+  blocks = (let few = c.blocks in omega (arith, few, as_many_rewritten w 0 f.blocks));
+  insts = few_from (λ (b : Block). length b.insts + 32 * steps < 2 ^ 32) (rewritten_function w f) (λ b new at.
+      let was = block_of_rewritten w f b new at in
+      let few : length was.0.insts + 32 * suc steps < 2 ^ 32 = few_at (λ (b : Block). length b.insts + 32 * suc steps < 2 ^ 32) f b was.0 c.insts was.1 in
+      let put : length w.put ≤ length rule.target = few_put rule binding r.root.name rule.target in
+      let within = moved_within w b (length was.0.insts) (moved_place w b (length was.0.insts)) (is_moved w b (length was.0.insts)) in
+      subst (λ (x : Block). length x.insts + 32 * steps < 2 ^ 32) was.2 (omega (arith, few, put, within, few_statements, length-block w b was.0)));
+})
+  where
+    w : Rewrite
+    w = rewrite_of rule binding r.root.name

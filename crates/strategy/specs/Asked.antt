@@ -1,0 +1,42 @@
+-- Which verdicts are asked for, and what a table of verdicts says.
+use Rattle.std.specs.Prelude.{◌≡◌, ◌≢◌, ◌↔◌, ℕ, List, Some, take, AllPairs, Contains, slice_get}
+use Rattle.verdict.specs.declared.verdict.Row.{Row}
+use Rattle.verdict.specs.declared.verdict.Verdict.{Verdict}
+use Rattle.verdict.specs.declared.verdict.Verdict.TheVariants.{Admitted}
+use Rattle.rule_matches.specs.declared.matches.Match.{Match}
+
+-- a rule, by its place in the file, at a typing
+abbrev pub Pair : Type 0
+Pair = ℕ × List ℕ
+
+-- the pair whose verdict a match asks for, and the one on which a row gives it
+abbrev pub pair_of : Match → Pair
+pair_of m = (m.rule, m.binding.typing)
+
+abbrev pub pair_in : Row → Pair
+pair_in row = (row.rule, row.typing)
+
+-- ---- what a table says
+
+-- the table has a verdict on the pair, of which this holds
+abbrev pub HasVerdict : List Row → (Verdict → Type 0) → Pair → Type 0
+HasVerdict table P pair = (row : Row) × Contains table row × (pair_in row ≡ pair) × P row.verdict
+
+-- the verdict of a match's pair is `Admitted`, or it is another
+abbrev pub IsAdmitted : List Row → Match → Type 0
+IsAdmitted table m = HasVerdict table (λ verdict. verdict ≡ Admitted) (pair_of m)
+
+abbrev pub IsTurnedDown : List Row → Match → Type 0
+IsTurnedDown table m = HasVerdict table (λ verdict. verdict ≢ Admitted) (pair_of m)
+
+-- ---- the order in which pairs are first asked
+
+-- p is asked before q is for the first time
+abbrev pub IsAskedBefore : List Pair → Pair → Pair → Type 0
+IsAskedBefore asked p q = (k : ℕ) → slice_get asked k ≡ Some q → Contains (take k asked) p
+
+-- these are the pairs that are asked, each once, in the order in which they are first asked
+pub record AreFirstAsked (asked pairs : List Pair) : Type 0 where
+  pub same : (p : Pair) → Contains pairs p ↔ Contains asked p
+  pub once : (i j : ℕ) (p : Pair) → slice_get pairs i ≡ Some p → slice_get pairs j ≡ Some p → i ≡ j
+  pub in_order : AllPairs (IsAskedBefore asked) pairs

@@ -1,0 +1,26 @@
+-- What is left to do in the functions that the strategy gives.
+use Rattle.std.specs.Prelude.{ℕ, Bool, List, [], ◌∷◌, IsTrue}
+use Rattle.std.specs.List.{AllZip, flat_map}
+use Rattle.ir_core.specs.declared.module.Module.{Module}
+use Rattle.ir_core.specs.declared.module.Entry.{Entry}
+use Rattle.ir_core.specs.declared.module.Entry.TheVariants as entries
+use Rattle.ir_core.specs.declared.function.Function.{Function}
+use Rattle.rule_core.specs.declared.rule.Rule.{Rule}
+use Rattle.verdict.specs.declared.verdict.Row.{Row}
+use Rattle.rule_matches.specs.declared.matches.Match.{Match}
+use Rattle.rule_matches.specs.Matches.{IsMatchAmong}
+use Rattle.strategy.specs.Asked.{pair_of, HasVerdict, IsAdmitted}
+
+-- every match in the function has a verdict in the table, and none is admitted if the function is not limited
+pub record IsDecided (rules : List Rule) (table : List Row) (f : Function) (limited : Bool) : Type 0 where
+  pub verdicts : (m : Match) → IsMatchAmong rules f m → HasVerdict table (λ verdict. Unit {0}) (pair_of m)
+  pub none_admitted : ¬ IsTrue limited → (m : Match) → IsMatchAmong rules f m → ¬ IsAdmitted table m
+
+-- the functions among entries
+abbrev pub function_in : Entry → List Function
+function_in (entries.Kept line) = []
+function_in (entries.Function f) = f ∷ []
+
+-- so it is of each function of the module, by whether it is limited
+abbrev pub MatchesAreDecided : List Rule → List Row → Module → List Bool → Type 0
+MatchesAreDecided rules table m limited = AllZip (IsDecided rules table) (flat_map function_in m.entries) limited

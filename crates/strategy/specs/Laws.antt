@@ -1,0 +1,51 @@
+-- Laws of the plain strategy.
+use Rattle.std.specs.Prelude.{◌≡◌, ℕ, Bool, List, Some, Contains, slice_get}
+use Rattle.ir_core.specs.declared.module.Module.{Module}
+use Rattle.ir_core.specs.declared.module.Entry.TheVariants as entries
+use Rattle.ir_core.specs.declared.function.Function.{Function}
+use Rattle.ir_core.specs.Checks.{MeetsChecks, ModuleMeetsChecks}
+use Rattle.ir_core.specs.Refines.{ModuleRefines}
+use Rattle.rule_core.specs.declared.rule.Rule.{Rule}
+use Rattle.rule_core.specs.Valid.{IsValid}
+use Rattle.rule_matches.specs.Ready.{AreReady}
+use Rattle.run_history.specs.Laws.{NumbersFit}
+use Rattle.needed.specs.Cleaned.{IsCleaned}
+use Rattle.verdict.specs.declared.verdict.Row.{Row}
+use Rattle.verdict.specs.declared.verdict.Verdict.TheVariants.{Admitted}
+use Rattle.strategy.specs.PlainStrategy.{IsPlainStrategy}
+use Rattle.strategy.specs.Decided.{MatchesAreDecided}
+
+-- a rule is valid wherever the table admits it
+abbrev pub AdmittedAreValid : List Rule → List Row → Type 0
+AdmittedAreValid rules table = (row : Row) (rule : Rule) → Contains table row → row.verdict ≡ Admitted → slice_get rules row.rule ≡ Some rule → IsValid rule row.typing
+
+-- the numbers of each function are of their widths
+abbrev pub ModuleNumbersFit : Module → Type 0
+ModuleNumbersFit m = (k : ℕ) (f : Function) → slice_get m.entries k ≡ Some (entries.Function f) → NumbersFit f
+
+-- the numbers of a cleaned function are of their widths too
+abbrev pub CleanedNumbersFit : Type 0
+CleanedNumbersFit = (f g : Function) → MeetsChecks f → NumbersFit f → IsCleaned f g → NumbersFit g
+
+-- what the strategy gives meets the checks of a module
+abbrev pub StrategyMeetsChecks : Type 0
+StrategyMeetsChecks = (rules : List Rule) (steps : ℕ) (table : List Row) (old new : Module) (counts : List ℕ) (limited : List Bool)
+    → AreReady rules → ModuleMeetsChecks old → ModuleNumbersFit old
+    → IsPlainStrategy rules steps table old new counts limited → ModuleMeetsChecks new
+
+-- its numbers are of their widths
+abbrev pub StrategyNumbersFit : Type 0
+StrategyNumbersFit = (rules : List Rule) (steps : ℕ) (table : List Row) (old new : Module) (counts : List ℕ) (limited : List Bool)
+    → AreReady rules → ModuleMeetsChecks old → ModuleNumbersFit old
+    → IsPlainStrategy rules steps table old new counts limited → ModuleNumbersFit new
+
+-- and where only valid rules are admitted it may stand in the place of the old module, however many the steps are
+abbrev pub StrategyRefines : Type 0
+StrategyRefines = (rules : List Rule) (steps : ℕ) (table : List Row) (old new : Module) (counts : List ℕ) (limited : List Bool)
+    → AreReady rules → AdmittedAreValid rules table → ModuleMeetsChecks old → ModuleNumbersFit old
+    → IsPlainStrategy rules steps table old new counts limited → ModuleRefines old new
+
+-- every match that is left has a verdict in the table, and none is admitted in a function that is not limited
+abbrev pub StrategyDecides : Type 0
+StrategyDecides = (rules : List Rule) (steps : ℕ) (table : List Row) (old new : Module) (counts : List ℕ) (limited : List Bool)
+    → IsPlainStrategy rules steps table old new counts limited → MatchesAreDecided rules table new limited

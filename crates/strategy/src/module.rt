@@ -1,0 +1,145 @@
+//! What the plain strategy gives for a module.
+
+ghost use Rattle.std.specs.Prelude.{◌≡◌, ◌<◌, ◌≤◌, ◌^◌, [], length, All, IfOk};
+ghost use Rattle.ir_core.specs.Checks.{ModuleMeetsChecks};
+ghost use Rattle.ir_core.specs.Refines.{ModuleRefines};
+ghost use Rattle.rule_core.specs.Checks.{IsRule};
+ghost use Rattle.rule_typing.specs.Classes.{IsClassified};
+ghost use Rattle.rule_typing.specs.Faults.{HasNoFault};
+ghost use Rattle.verdict.specs.Limits.{most_conflicts};
+ghost use Rattle.verdict.specs.Table.{IsHonestTable};
+ghost use Rattle.strategy.specs.Countable.{ModuleIsCountable};
+ghost use Rattle.strategy.specs.Decided.{MatchesAreDecided};
+ghost use Rattle.strategy.specs.Entries.{EntryIsReady, OptimisesEntry};
+ghost use Rattle.strategy.specs.Laws.{ModuleNumbersFit};
+ghost use Rattle.rule_matches.specs.Ready.{AreReady};
+ghost use Rattle.strategy.specs.PlainStrategy.{IsPlainStrategy};
+ghost use Rattle.rule_matches.specs.Roots.{AreByRoot};
+ghost use Rattle.strategy.specs.Searches.{AreVerdicts};
+
+use crate::laws::{every_match_left_is_decided, every_optimised_module_refines_the_old};
+use crate::steps::{Bounds, optimise_function};
+use crate::verdicts::Verdicts;
+use ir_core::{Entry, Module, copy_function};
+use lists::List;
+use rule_core::Rule;
+use rule_matches::{Rules, RulesByRoot};
+use std::alloc::{AllocError, Global};
+use verdict::Table;
+
+/// A module that the plain strategy gives, the verdicts that it was given by, and what became of its functions.
+#[derive(Debug, Drop)]
+pub struct Done {
+    pub module: Module,
+    /// The verdicts in the order in which the strategy first asked for them, each pair of a rule and a typing once.
+    pub table: Table,
+    /// For each function in order, how often it was rewritten.
+    pub counts: List<u32>,
+    /// For each function in order, whether an admitted match was left when its steps were spent.
+    pub limited: List<bool>,
+}
+
+/// What the plain strategy gives for a module: each function is cleaned, and then rewritten at its first admitted match and cleaned, again
+/// and again, until none is left or its steps are spent. A verdict is decided once, when it is first asked for, by a search that may learn
+/// `conflicts` clauses. The module that it gives may stand in the place of the old one.
+///
+/// After each rewrite the search begins at the first instruction of the function again. At each instruction the rules are tried whose root
+/// is of its kind, in the order of the file. The only error is want of memory.
+pub fn optimise(
+    alloc: Global,
+    module: &Module,
+    rules: &[Rule],
+    conflicts: u32,
+    steps: u32,
+) -> Result<Done, AllocError>
+    requires checks { ModuleMeetsChecks module.now }
+    requires numbers { ModuleNumbersFit module.now }
+    // The rules are some that are read.
+    requires rules { All IsRule rules.now }
+    requires classes { All IsClassified rules.now }
+    requires typed { All HasNoFault rules.now }
+    requires few { length rules.now < 2 ^ 32 }
+    requires conflicts { conflicts ≤ most_conflicts }
+
+    // Blocks, and the instructions of each, are counted in 32 bits; each step may add up to 31 instructions.
+    requires countable { ModuleIsCountable steps module.now }
+    ensures strategy { IfOk result (λ done. IsPlainStrategy rules.now steps done.table module.now done.module done.counts done.limited) }
+    ensures honest { IfOk result (λ done. IsHonestTable rules.now conflicts done.table) }
+    ensures refines { IfOk result (λ done. ModuleRefines module.now done.module) }
+    ensures checks { IfOk result (λ done. ModuleMeetsChecks done.module) }
+    ensures numbers { IfOk result (λ done. ModuleNumbersFit done.module) }
+    ensures decided { IfOk result (λ done. MatchesAreDecided rules.now done.table done.module done.limited) }
+{
+    every_optimised_module_refines_the_old();
+    every_match_left_is_decided();
+    let by_root = RulesByRoot::of(alloc, rules)?;
+    let rules = Rules {
+        all: rules,
+        by_root: &by_root,
+    };
+    let mut verdicts = Verdicts::new(alloc);
+    let mut entries = List::new(alloc);
+    let mut turns = Counts::new(alloc);
+    let bounds = Bounds { conflicts, steps };
+    for entry in module.entries.as_slice() {
+        let optimised = optimise_entry(alloc, entry, &rules, &mut verdicts, bounds, &mut turns)?;
+        entries.push(optimised)?;
+    }
+    Ok(Done {
+        module: Module { entries },
+        table: verdicts.table,
+        counts: turns.counts,
+        limited: turns.limited,
+    })
+}
+
+/// For each function in order, how often it was rewritten, and whether it is limited.
+#[derive(Debug, Drop)]
+pub(crate) struct Counts {
+    pub(crate) counts: List<u32>,
+    pub(crate) limited: List<bool>,
+}
+
+impl Counts {
+    /// Those of no functions.
+    fn new(alloc: Global) -> Self
+        ensures counts { result.counts ≡ [] }
+        ensures limited { result.limited ≡ [] }
+    {
+        Counts {
+            counts: List::new(alloc),
+            limited: List::new(alloc),
+        }
+    }
+}
+
+/// What the strategy gives for an entry: a kept line stays.
+fn optimise_entry(
+    alloc: Global,
+    entry: &Entry,
+    rules: &Rules<'_>,
+    verdicts: &mut Verdicts,
+    bounds: Bounds,
+    all: &mut Counts,
+) -> Result<Entry, AllocError>
+    requires entry { EntryIsReady bounds.steps entry.now }
+    requires ready { AreReady rules.now.all.now }
+    requires by_root { AreByRoot rules.now.all.now rules.now.by_root.now }
+    requires conflicts { bounds.conflicts ≤ most_conflicts }
+    requires verdicts { AreVerdicts rules.now.all.now bounds.conflicts verdicts.old }
+    ensures { IfOk result (λ optimised. OptimisesEntry rules.now.all.now bounds.conflicts bounds.steps entry.now optimised verdicts.old verdicts.new all.old all.new) }
+{
+    match entry {
+        Entry::Kept(line) => Ok(Entry::Kept(List::from_vec(Vec::from_slice(
+            alloc,
+            line.as_slice(),
+        )?))),
+        Entry::Function(old) => {
+            let mut f = copy_function(alloc, old)?;
+            let turns = optimise_function(alloc, &mut f, rules, verdicts, bounds)?;
+            all.counts.push(turns.count)?;
+            all.limited.push(turns.limited)?;
+            Ok(Entry::Function(f))
+        }
+    }
+}
