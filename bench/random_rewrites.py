@@ -4,8 +4,9 @@
 
 Each rule that the program admits at some widths up to 3 is looked for in functions with branches and loops that are made around its
 source: at every argument (of at most 6 bits), every bound to 6 blocks and every choice the function that is written must refine the one
-read, after one step and after all. Prints each function of which this is not so, and at the end how many there were, and how often they
-were rewritten. With LLI, LLVM's interpreter, 500 functions that have no choice are run by it too, before and after.
+read, after one step and after up to 20. Prints each function of which this is not so, and at the end how many there were, and how often
+they were rewritten. With LLI, LLVM's interpreter, 500 functions are run by it too, before and after, at arguments at which they return
+one number whatever is chosen.
 """
 import os
 import random
