@@ -6,32 +6,39 @@ use lists::List;
 use std::alloc::{AllocError, Global};
 use std::fmt;
 
-/// How many clauses a random set has for each input.
-const CLAUSES_AN_INPUT: u32 = 5;
-
 /// How many literals a clause of a random set has.
 const LITERALS_A_CLAUSE: u32 = 3;
 
 /// A set of clauses to search.
 #[derive(Clone, Copy, Debug)]
 pub(crate) enum Family {
-    /// Random clauses of three literals each.
-    Random { inputs: u8, seed: u64 },
+    /// So many random clauses of three literals each.
+    Random { inputs: u8, clauses: u16, seed: u64 },
     /// So many pigeons, and one hole less: no two may share one.
     Pigeonhole { pigeons: u8 },
+    /// The sum modulo 2 of the inputs is 1 where it is taken in one order, and 0 where it is taken in another.
+    Parity { inputs: u8, seed: u64 },
 }
 
 impl Family {
     /// The set of clauses, all of whose variables are inputs.
     pub(crate) fn clauses(self, alloc: Global) -> Result<Option<Cnf>, AllocError> {
         let (roots, count) = match self {
-            Family::Random { inputs, seed } => {
-                (random_clauses(alloc, inputs, seed)?, u32::from(inputs))
+            Family::Random {
+                inputs,
+                clauses,
+                seed,
+            } => {
+                let roots = random_clauses(alloc, inputs, clauses, seed)?;
+                (roots, u32::from(inputs))
             }
             Family::Pigeonhole { pigeons } => {
                 let holes = pigeons.saturating_sub(1);
                 let count = u32::from(pigeons) * u32::from(holes);
                 (pigeonhole_clauses(alloc, pigeons, holes)?, count)
+            }
+            Family::Parity { inputs, seed } => {
+                (parity_clauses(alloc, inputs, seed)?, 3 * u32::from(inputs))
             }
         };
         let inputs = List::from_vec((1..=count).collect(alloc)?);
@@ -44,15 +51,21 @@ impl fmt::Display for Family {
         match self {
             Family::Random { inputs, .. } => write!(f, "random {inputs}"),
             Family::Pigeonhole { pigeons } => write!(f, "pigeonhole {pigeons}"),
+            Family::Parity { inputs, .. } => write!(f, "parity {inputs}"),
         }
     }
 }
 
-/// Random clauses over the variables from 1 to the count, some for each of them.
-fn random_clauses(alloc: Global, count: u8, seed: u64) -> Result<List<Clause>, AllocError> {
+/// So many random clauses over the variables from 1 to the count.
+fn random_clauses(
+    alloc: Global,
+    count: u8,
+    many: u16,
+    seed: u64,
+) -> Result<List<Clause>, AllocError> {
     let mut generator = Generator::new(seed);
     let mut clauses = List::new(alloc);
-    for _ in 0..u32::from(count) * CLAUSES_AN_INPUT {
+    for _ in 0..many {
         clauses.push(random_clause(alloc, count, &mut generator)?)?;
     }
     Ok(clauses)
@@ -131,4 +144,77 @@ fn sits(pigeon: u8, hole: u8, holes: u8) -> Lit {
         variable: u32::from(pigeon) * u32::from(holes) + u32::from(hole) + 1,
         negated: false,
     }
+}
+
+/// The clauses of two sums of the same inputs, in two orders, one of which is 1 and one 0.
+fn parity_clauses(alloc: Global, inputs: u8, seed: u64) -> Result<List<Clause>, AllocError> {
+    let mut generator = Generator::new(seed);
+    let mut clauses = List::new(alloc);
+    let count = u32::from(inputs);
+    for parity in 0..2 {
+        let order = shuffled(alloc, inputs, &mut generator)?;
+        let sums = (parity + 1) * count + 1;
+        push_sums(alloc, &order, sums, parity == 0, &mut clauses)?;
+    }
+    Ok(clauses)
+}
+
+/// The numbers from 1 to the count in a random order.
+fn shuffled(alloc: Global, count: u8, generator: &mut Generator) -> Result<Vec<u32>, AllocError> {
+    let mut rest: Vec<u32> = (1..=u32::from(count)).collect(alloc)?;
+    let mut order = Vec::new(alloc);
+    for _ in 0..count {
+        if rest.is_empty() {
+            break;
+        }
+        let place = generator.below(rest.len());
+        order.push(rest.swap_remove(place))?;
+    }
+    Ok(order)
+}
+
+/// Pushes the clauses that say that the variables from `first` on are the sums modulo 2 of the first inputs, one
+/// more each time, and that the last one is odd or even.
+fn push_sums(
+    alloc: Global,
+    inputs: &[u32],
+    first: u32,
+    is_odd: bool,
+    clauses: &mut List<Clause>,
+) -> Result<(), AllocError> {
+    let Some((&start, rest)) = inputs.split_first() else {
+        return Ok(());
+    };
+    let mut sum = start;
+    for (&input, next) in rest.iter().zip(first..u32::MAX) {
+        push_sum(alloc, [sum, input, next], clauses)?;
+        sum = next;
+    }
+    let last = Lit {
+        variable: sum,
+        negated: !is_odd,
+    };
+    clauses.push(Clause::from_slice(alloc, &[last])?)
+}
+
+/// Pushes the clauses that say that an even number of the three variables are true.
+fn push_sum(
+    alloc: Global,
+    variables: [u32; 3],
+    clauses: &mut List<Clause>,
+) -> Result<(), AllocError> {
+    let signs = [
+        [true, false, false],
+        [false, true, false],
+        [false, false, true],
+        [true, true, true],
+    ];
+    for negated in signs {
+        let mut clause = Clause::new(alloc);
+        for (variable, negated) in variables.into_iter().zip(negated) {
+            clause.push(Lit { variable, negated })?;
+        }
+        clauses.push(clause)?;
+    }
+    Ok(())
 }

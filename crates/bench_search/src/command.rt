@@ -29,20 +29,25 @@ impl Command {
 
 /// The set that the words name.
 fn family(words: &[String]) -> Option<Family> {
-    match words {
-        [command, kind, inputs, seed]
-            if command.as_str() == "search" && kind.as_str() == "random" => {
-            Some(Family::Random {
-                inputs: inputs.as_str().parse().ok()?,
-                seed: seed.as_str().parse().ok()?,
-            })
-        }
-        [command, kind, pigeons] if command.as_str() == "search" && kind.as_str() == "pigeonhole" =>
-            {
-                Some(Family::Pigeonhole {
-                    pigeons: pigeons.as_str().parse().ok()?,
-                })
-            }
+    let [command, kind, numbers @ ..] = words else {
+        return None;
+    };
+    if command.as_str() != "search" {
+        return None;
+    }
+    match (kind.as_str(), numbers) {
+        ("random", [inputs, clauses, seed]) => Some(Family::Random {
+            inputs: inputs.as_str().parse().ok()?,
+            clauses: clauses.as_str().parse().ok()?,
+            seed: seed.as_str().parse().ok()?,
+        }),
+        ("pigeonhole", [pigeons]) => Some(Family::Pigeonhole {
+            pigeons: pigeons.as_str().parse().ok()?,
+        }),
+        ("parity", [inputs, seed]) => Some(Family::Parity {
+            inputs: inputs.as_str().parse().ok()?,
+            seed: seed.as_str().parse().ok()?,
+        }),
         _ => None,
     }
 }

@@ -24,7 +24,7 @@ impl fmt::Display for Failure {
     fn fmt<W: fmt::Write>(&self, f: &mut fmt::Formatter<W>) -> fmt::Result {
         let words = match self {
             Failure::Usage => {
-                "usage: search_bench search (random INPUTS SEED | pigeonhole PIGEONS) [untimed]"
+                "usage: bench_search search (random INPUTS CLAUSES SEED | pigeonhole PIGEONS | parity INPUTS SEED) [untimed]"
             }
             Failure::NoSuchSet => "no such set",
             Failure::RefusedLog => "the log is no refutation",

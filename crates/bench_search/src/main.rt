@@ -1,7 +1,8 @@
 //! Measures the search against the checker of its logs, on one set of clauses, and prints a line.
 //!
-//! Its words are `search random INPUTS SEED` or `search pigeonhole PIGEONS`, and `untimed` after them leaves the
-//! times out. Its status is 0 unless it fails; then a line on the error stream says why.
+//! Its words are `search random INPUTS CLAUSES SEED`, `search pigeonhole PIGEONS` or `search parity INPUTS SEED`, and
+//! `untimed` after them leaves the times out. Its status is 0 unless it fails; then a line on the error stream says
+//! why.
 #![tactic(auto)]
 
 mod clause_sets;

@@ -3,7 +3,7 @@
 use crate::command::Command;
 use crate::failure::Failure;
 use cdcl_log::{Found, search};
-use clauses::Cnf;
+use clauses::{Cnf, Step};
 use rup_checker::check_refutation;
 use std::fmt;
 use std::time::{Duration, Instant};
@@ -11,13 +11,21 @@ use std::time::{Duration, Instant};
 /// After so many learned clauses the search gives up.
 const LIMIT: u32 = 1_000_000;
 
+/// How large a log is: its clauses, their literals, and their hints.
+#[derive(Clone, Copy, Debug)]
+struct LogSize {
+    clauses: usize,
+    literals: usize,
+    hints: usize,
+}
+
 /// What a search came to. The learned clauses of a refutation include the empty one that ends it, and
 /// the checker found that its log refutes the set.
 #[derive(Clone, Copy, Debug)]
 enum Outcome {
     Sat,
-    Unsat { learned: usize, checking: Duration },
-    Limit { learned: usize },
+    Unsat { log: LogSize, checking: Duration },
+    Limit { log: LogSize },
 }
 
 /// What was measured. Its `Display` is the line that is printed.
@@ -28,14 +36,34 @@ pub(crate) struct Measurement {
     searching: Duration,
 }
 
+impl LogSize {
+    fn of(log: &[Step]) -> LogSize {
+        let mut size = LogSize {
+            clauses: log.len(),
+            literals: 0,
+            hints: 0,
+        };
+        for step in log {
+            size.literals = size.literals.saturating_add(step.clause.len());
+            size.hints = size.hints.saturating_add(step.hints.len());
+        }
+        size
+    }
+}
+
+impl fmt::Display for LogSize {
+    fn fmt<W: fmt::Write>(&self, f: &mut fmt::Formatter<W>) -> fmt::Result {
+        write!(f, "{} clauses learned", self.clauses)?;
+        write!(f, ", {} literals, {} hints", self.literals, self.hints)
+    }
+}
+
 impl fmt::Display for Outcome {
     fn fmt<W: fmt::Write>(&self, f: &mut fmt::Formatter<W>) -> fmt::Result {
         match self {
             Outcome::Sat => write!(f, "Sat"),
-            Outcome::Limit { learned } => write!(f, "Limit, {learned} clauses learned"),
-            Outcome::Unsat { learned, .. } => {
-                write!(f, "Unsat, {learned} clauses learned, log checked")
-            }
+            Outcome::Limit { log } => write!(f, "Limit, {log}"),
+            Outcome::Unsat { log, .. } => write!(f, "Unsat, {log}, log checked"),
         }
     }
 }
@@ -73,7 +101,9 @@ pub(crate) fn measure(rt: &HostRuntime, command: Command) -> Result<Measurement,
 fn checked(rt: &HostRuntime, set: &Cnf, found: Found) -> Result<Outcome, Failure> {
     match found {
         Found::Sat(_) => Ok(Outcome::Sat),
-        Found::Limit(log) => Ok(Outcome::Limit { learned: log.len() }),
+        Found::Limit(log) => Ok(Outcome::Limit {
+            log: LogSize::of(log.as_slice()),
+        }),
         Found::Unsat(log) => {
             let start = now(rt)?;
             let refuted = check_refutation(rt.alloc(), set, &log)?;
@@ -82,7 +112,7 @@ fn checked(rt: &HostRuntime, set: &Cnf, found: Found) -> Result<Outcome, Failure
                 return Err(Failure::RefusedLog);
             }
             Ok(Outcome::Unsat {
-                learned: log.len(),
+                log: LogSize::of(log.as_slice()),
                 checking,
             })
         }
