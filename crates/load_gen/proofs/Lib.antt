@@ -1,0 +1,7 @@
+pub mod ListPlaces
+pub mod DrawnOps
+pub mod InstPlaces
+pub mod RightReads
+pub mod NamesApart
+pub mod Formed
+pub mod Entries

@@ -1,0 +1,6 @@
+use Rattle.std.proofs.Common.{◌≤◌, ◌^◌, arith}
+use Rattle.std.proofs.Math.Pow.{pow_mono}
+use Rattle.load_gen.proofs.drawn.number.Goals as goal
+
+pub fitting-requires : goal.fitting-requires
+fitting-requires c = let least : 2 ^ 3 ≤ 2 ^ c.args.width = pow_mono c.requires.width in omega arith

@@ -1,0 +1,7 @@
+-- the functions so far are the first ones, and the numbers for them are drawn
+use Rattle.std.proofs.Common.{◌≡◌}
+use Rattle.load_gen.specs.Generated.{functions, state_before}
+use Rattle.load_gen.proofs.generation.generate.Given as goal
+
+abbrev pub invariant-loop-place : goal.invariant-loop-place
+invariant-loop-place l = (l.entries ≡ functions l.fn.number l.place) × (l.draws.state ≡ state_before l.fn.number l.place)

@@ -1,0 +1,24 @@
+//! The names in a generated function.
+
+ghost use Rattle.std.specs.Prelude.{◌≡◌, ◌++◌, IfOk, decimal};
+
+use itoa::Buffer;
+use lists::{List, Text};
+use std::alloc::{AllocError, Global};
+
+/// The name.
+pub(crate) fn name(alloc: Global, text: &[u8]) -> Result<Text, AllocError>
+    ensures { IfOk result (λ name. name ≡ text.now) }
+{
+    Ok(List::from_vec(Vec::from_slice(alloc, text)?))
+}
+
+/// The name with a number at its end.
+pub(crate) fn numbered(alloc: Global, text: &[u8], number: u32) -> Result<Text, AllocError>
+    ensures { IfOk result (λ name. name ≡ text.now ++ decimal number) }
+{
+    let mut buffer = Buffer::new();
+    let mut name = Vec::from_slice(alloc, text)?;
+    name.extend_from_slice(buffer.format(number).as_bytes())?;
+    Ok(List::from_vec(name))
+}
