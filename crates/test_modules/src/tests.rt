@@ -1,6 +1,7 @@
 //! Texts of modules, and what becomes of them, worked out by hand.
 
 mod assigned;
+mod generated;
 mod refused;
 mod runs;
 mod tokens;
