@@ -1,4 +1,4 @@
--- Where `clap` takes the words, they name one of the three commands, and each of its arguments has its value.
+-- Where `clap` takes the words, they name one of the four commands, and each of its arguments has its value.
 use Rattle.std.proofs.Common.{◌≡◌, Bool, true, false, ◌||◌, List, [], Option, Some, None, ap, refl, inl, inr, subst}
 use Rattle.std.specs.Prelude.{not, is_some, if◌then◌else◌, IsSomeAnd}
 use Rattle.std.specs.List.{list_all, list_any}
@@ -11,13 +11,13 @@ use Rattle.clap.specs.Takes as pass
 use Rattle.clap.proofs.OnLiterals.{clap_on_literals}
 use Rattle.clap.proofs.ValueTestLemmas.{accepts-Accepts}
 use Rattle.clap.proofs.WalkLemmas.{both}
-use Rattle.command_line.specs.Definition.{program, verify_shape, optimise_shape, run_shape}
-use Rattle.command_line.specs.Arguments.{HasVerify, HasOptimise, HasRun, IsKnown}
-use Rattle.command_line.specs.Limits.{most_conflicts, most_steps, most_blocks}
+use Rattle.command_line.specs.Definition.{program, verify_shape, optimise_shape, run_shape, load_shape}
+use Rattle.command_line.specs.Arguments.{HasVerify, HasOptimise, HasRun, HasLoad, IsKnown}
+use Rattle.command_line.specs.Limits.{most_conflicts, most_steps, most_blocks, most_number}
 use Rattle.command_line.specs.Words.{are_taken, command_and_rows}
 use Rattle.command_line.proofs.RowsFit.{ArePlain, leaf_values}
 
--- the three commands as `clap` has built them
+-- the four commands as `clap` has built them
 abbrev verify_leaf : Shape
 verify_leaf = built_leaf (inherited program.top verify_shape)
 
@@ -26,6 +26,9 @@ optimise_leaf = built_leaf (inherited program.top optimise_shape)
 
 abbrev run_leaf : Shape
 run_leaf = built_leaf (inherited program.top run_shape)
+
+abbrev load_leaf : Shape
+load_leaf = built_leaf (inherited program.top load_shape)
 
 verify_plain : ArePlain verify_leaf.rules
 unfolding clap_on_literals
@@ -38,6 +41,10 @@ optimise_plain = (record { first = refl; plain = refl }, (record { first = refl;
 run_plain : ArePlain run_leaf.rules
 unfolding clap_on_literals
 run_plain = (record { first = refl; plain = refl }, (record { first = refl; plain = refl }, (record { first = refl; plain = refl }, (record { first = refl; plain = refl }, (record { first = refl; plain = refl }, tt)))))
+
+load_plain : ArePlain load_leaf.rules
+unfolding clap_on_literals
+load_plain = (record { first = refl; plain = refl }, (record { first = refl; plain = refl }, tt))
 
 verify_values : (words : List Text) → pass.level_passes verify_leaf [] nothing_held words false ≡ true → HasVerify (rows_after verify_leaf.rules [] words)
 verify_values words ok =
@@ -77,21 +84,29 @@ run_values words ok =
       most_blocks = (blocks.text, blocks.first, blocks.one, accepts-Accepts false (Unsigned 0 most_blocks) blocks.text blocks.pass);
     }
 
+load_values : (words : List Text) → pass.level_passes load_leaf [] nothing_held words false ≡ true → HasLoad (rows_after load_leaf.rules [] words)
+load_values words ok =
+    let values = leaf_values load_leaf words load_plain ok in
+    let number = values.0 refl in
+    record { number = (number.text, number.first, number.one, accepts-Accepts false (Unsigned 0 most_number) number.text number.pass) }
+
 -- a command is named, and it is known
 abbrev pub IsKnownIn : Option (Text × List Row) → Type 0
 IsKnownIn said = IsSomeAnd said IsKnown
 
 entered_known : (stop : Option (Text × List Text)) → pass.entered_passes (built program) stop ≡ true → is_some (entered (built program) stop) ≡ true → IsKnownIn (entered (built program) stop)
 entered_known None ok some = cc
-entered_known (Some p) ok some = go (answers_to p.0 (label_of verify_leaf)) (answers_to p.0 (label_of optimise_leaf)) (answers_to p.0 (label_of run_leaf)) ok some
+entered_known (Some p) ok some = go (answers_to p.0 (label_of verify_leaf)) (answers_to p.0 (label_of optimise_leaf)) (answers_to p.0 (label_of run_leaf)) (answers_to p.0 (label_of load_leaf)) ok some
   where
-    go : (v o r : Bool) → option_map_or (λ s. pass.level_passes s [] nothing_held p.1 false) (if v then Some verify_leaf else (if o then Some optimise_leaf else (if r then Some run_leaf else None))) true ≡ true
-        → is_some (option_map (λ s. rows_at s p.1) (if v then Some verify_leaf else (if o then Some optimise_leaf else (if r then Some run_leaf else None)))) ≡ true
-        → IsKnownIn (option_map (λ s. rows_at s p.1) (if v then Some verify_leaf else (if o then Some optimise_leaf else (if r then Some run_leaf else None))))
-    go true o r ok some = inl (refl, verify_values p.1 ok)
-    go false true r ok some = inr (inl (refl, optimise_values p.1 ok))
-    go false false true ok some = inr (inr (refl, run_values p.1 ok))
-    go false false false ok some = cc
+    go : (v o r l : Bool)
+        → option_map_or (λ s. pass.level_passes s [] nothing_held p.1 false) (if v then Some verify_leaf else (if o then Some optimise_leaf else (if r then Some run_leaf else (if l then Some load_leaf else None)))) true ≡ true
+        → is_some (option_map (λ s. rows_at s p.1) (if v then Some verify_leaf else (if o then Some optimise_leaf else (if r then Some run_leaf else (if l then Some load_leaf else None))))) ≡ true
+        → IsKnownIn (option_map (λ s. rows_at s p.1) (if v then Some verify_leaf else (if o then Some optimise_leaf else (if r then Some run_leaf else (if l then Some load_leaf else None)))))
+    go true o r l ok some = inl (refl, verify_values p.1 ok)
+    go false true r l ok some = inr (inl (refl, optimise_values p.1 ok))
+    go false false true l ok some = inr (inr (inl (refl, run_values p.1 ok)))
+    go false false false true ok some = inr (inr (inr (refl, load_values p.1 ok)))
+    go false false false false ok some = cc
 
 pub taken_known : (words : List Text) → are_taken words ≡ true → IsKnownIn (command_and_rows words)
 unfolding are_taken command_and_rows

@@ -1,7 +1,7 @@
 -- Arguments that have their values, as a command is read from them.
 use Rattle.std.specs.Prelude.{◌≡◌, ◌⊎◌, ℕ, true, false, List, Some, codes, is_some}
 use Rattle.clap.specs.Words.{IsUnsignedIn, Row, Text, first_of, one_of}
-use Rattle.command_line.specs.Limits.{most_conflicts, most_steps, most_blocks}
+use Rattle.command_line.specs.Limits.{most_conflicts, most_steps, most_blocks, most_number}
 use Rattle.command_line.specs.Usage.{list_of, refusal_of_list}
 use Rattle.command_line.specs.Words.{HasText, are_taken}
 use Rattle.command_line.specs.Widths.{is_width_list}
@@ -16,7 +16,7 @@ HasValue rows argument = is_some (first_of argument rows) ≡ true
 abbrev pub HasNumberUpTo : ℕ → List Row → Text → Type 0
 HasNumberUpTo most rows argument = (text : Text) × (first_of argument rows ≡ Some text) × (one_of argument rows ≡ Some text) × IsUnsignedIn 0 most text
 
--- each argument of `verify` has its value, and so of `optimise` and of `run`, whose ARGs may be none
+-- each argument of `verify` has its value, and so of `optimise`, of `run`, whose ARGs may be none, and of `load`
 pub record HasVerify (rows : List Row) : Type 0 where
   pub rules_file : HasValue rows (codes "rules")
   pub width_list : HasValue rows (codes "widths")
@@ -33,6 +33,9 @@ pub record HasRun (rows : List Row) : Type 0 where
   pub function_name : HasValue rows (codes "name")
   pub most_blocks : HasNumberUpTo most_blocks rows (codes "blocks")
 
+pub record HasLoad (rows : List Row) : Type 0 where
+  pub number : HasNumberUpTo most_number rows (codes "number")
+
 -- usage comes only with a list of widths outside its form, and names it
 abbrev pub RefusesList : List Row → CommandError → Type 0
 RefusesList rows NoMemory = Unit {0}
@@ -43,9 +46,10 @@ abbrev pub IsUntaken : List Text → CommandError → Type 0
 IsUntaken words NoMemory = Unit {0}
 IsUntaken words (Usage text) = are_taken words ≡ false
 
--- the command is one of the three, and each of its arguments has its value
+-- the command is one of the four, and each of its arguments has its value
 abbrev pub IsKnown : Text × List Row → Type 0
-IsKnown said = ((said.0 ≡ codes "verify") × HasVerify said.1) ⊎ (((said.0 ≡ codes "optimise") × HasOptimise said.1) ⊎ ((said.0 ≡ codes "run") × HasRun said.1))
+IsKnown said = ((said.0 ≡ codes "verify") × HasVerify said.1) ⊎ (((said.0 ≡ codes "optimise") × HasOptimise said.1)
+    ⊎ (((said.0 ≡ codes "run") × HasRun said.1) ⊎ ((said.0 ≡ codes "load") × HasLoad said.1)))
 
 -- usage comes only with LIST outside its form, and names it
 abbrev pub RefusesGiven : Text × List Row → CommandError → Type 0

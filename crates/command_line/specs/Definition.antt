@@ -4,11 +4,15 @@ use Rattle.clap.specs.Words.{App, Rule, Shape, Text, new_rule}
 use Rattle.clap.specs.Simple.{new_shape}
 use Rattle.clap.specs.declared.builder.action.ArgAction.TheVariants.{Append}
 use Rattle.clap.specs.declared.builder.value_parser.ValueParser.TheVariants.{Unsigned}
-use Rattle.command_line.specs.Limits.{most_conflicts, most_steps, most_blocks}
+use Rattle.command_line.specs.Limits.{most_conflicts, most_steps, most_blocks, most_number}
 
 -- an argument that has to be given: by its place, and not by an option
 abbrev pub required_argument : Text → Rule
 required_argument name = record (new_rule name) { value_names = 1; required = true }
+
+-- the same where the word is a number from 0 to `most`
+abbrev pub required_number : Text → ℕ → Rule
+required_number name most = record (required_argument name) { parser = Some (Unsigned 0 most) }
 
 -- the words that follow in their places, of which there may be none
 abbrev pub repeated_argument : Text → Rule
@@ -68,6 +72,12 @@ run_shape = record (new_shape (codes "run")) {
   rules = module_argument ∷ name_argument ∷ arguments_argument ∷ blocks_argument ∷ [];
 }
 
+-- `load NUMBER`
+abbrev pub load_shape : Shape
+load_shape = record (new_shape (codes "load")) {
+  rules = required_number (codes "number") most_number ∷ [];
+}
+
 -- the program, which has to be given one of these commands
 abbrev pub program : App
 program = record {
@@ -77,5 +87,5 @@ program = record {
     disable_help_subcommand = true;
     subcommand_required = true;
   };
-  subs = verify_shape ∷ optimise_shape ∷ run_shape ∷ [];
+  subs = verify_shape ∷ optimise_shape ∷ run_shape ∷ load_shape ∷ [];
 }

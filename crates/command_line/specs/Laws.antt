@@ -3,14 +3,15 @@ use Rattle.std.specs.Prelude.{◌≡◌, List, map}
 use Rattle.clap.specs.Words.{Text}
 use Rattle.command_line.specs.Words.{Says}
 use Rattle.command_line.specs.declared.command.Command.{Command}
-use Rattle.command_line.specs.declared.command.Command.TheVariants.{Verify, Optimise, Run}
+use Rattle.command_line.specs.declared.command.Command.TheVariants.{Verify, Optimise, Run, Load}
 
--- the same command, of the same files, name, arguments and options
+-- the same command, of the same files, name, arguments, options and number
 abbrev pub SameCommand : Command → Command → Type 0
 SameCommand (Verify rules options) (Verify rules' options') = (rules.now ≡ rules'.now) × (options ≡ options')
 SameCommand (Optimise rules source options) (Optimise rules' source' options') = (rules.now ≡ rules'.now) × (source.now ≡ source'.now) × (options ≡ options')
 SameCommand (Run source name arguments options) (Run source' name' arguments' options') =
     (source.now ≡ source'.now) × (name.now ≡ name'.now) × (map (λ argument. argument.now) arguments ≡ map (λ argument. argument.now) arguments') × (options ≡ options')
+SameCommand (Load number) (Load number') = number ≡ number'
 SameCommand _ _ = ⊥
 
 -- words say one command

@@ -1,7 +1,7 @@
 -- The limits of the options.
 use Rattle.std.specs.Prelude.{ℕ, ◌≤◌}
 use Rattle.command_line.specs.declared.command.Command.{Command}
-use Rattle.command_line.specs.declared.command.Command.TheVariants.{Verify, Optimise, Run}
+use Rattle.command_line.specs.declared.command.Command.TheVariants.{Verify, Optimise, Run, Load}
 
 -- the most clauses that a search may learn
 abbrev pub most_conflicts : ℕ
@@ -15,8 +15,13 @@ most_steps = 100000
 abbrev pub most_blocks : ℕ
 most_blocks = 100000000
 
+-- the greatest number of which a module is made
+abbrev pub most_number : ℕ
+most_number = 4294967295
+
 -- the numbers are within their limits
 abbrev pub IsWithinLimits : Command → Type 0
 IsWithinLimits (Verify rules options) = options.conflicts ≤ most_conflicts
 IsWithinLimits (Optimise rules source options) = (options.conflicts ≤ most_conflicts) × (options.steps ≤ most_steps)
 IsWithinLimits (Run source name arguments options) = options.blocks ≤ most_blocks
+IsWithinLimits (Load number) = number ≤ most_number

@@ -5,7 +5,7 @@ use Rattle.clap.specs.Words.{Row, Text, all_of, first_of, subcommand_of, takes}
 use Rattle.command_line.specs.Definition.{program}
 use Rattle.command_line.specs.Widths.{IsWidthList}
 use Rattle.command_line.specs.declared.command.Command.{Command}
-use Rattle.command_line.specs.declared.command.Command.TheVariants.{Verify, Optimise, Run}
+use Rattle.command_line.specs.declared.command.Command.TheVariants.{Verify, Optimise, Run, Load}
 use Rattle.command_line.specs.declared.command.OptimiseOptions.{OptimiseOptions}
 use Rattle.command_line.specs.declared.command.RunOptions.{RunOptions}
 use Rattle.command_line.specs.declared.command.VerifyOptions.{VerifyOptions}
@@ -59,6 +59,7 @@ SaysOf None command = ⊥
 SaysOf (Some said) (Verify rules options) = (said.0 ≡ codes "verify") × SaysVerify said.1 rules.now options
 SaysOf (Some said) (Optimise rules source options) = (said.0 ≡ codes "optimise") × SaysOptimise said.1 rules.now source.now options
 SaysOf (Some said) (Run source name arguments options) = (said.0 ≡ codes "run") × SaysRun said.1 source.now name.now (map (λ argument. argument.now) arguments) options
+SaysOf (Some said) (Load number) = (said.0 ≡ codes "load") × HasNumber said.1 (codes "number") number
 
 -- the words say this command
 abbrev pub Says : List Text → Command → Type 0

@@ -26,6 +26,10 @@ pub enum Command<'a> {
         arguments: List<&'a str>,
         options: RunOptions,
     },
+    /// Optimises the module that is made of a number by the built-in rules.
+    Load {
+        number: u32,
+    },
 }
 
 /// The options of `verify`.

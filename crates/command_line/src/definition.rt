@@ -2,7 +2,7 @@
 
 ghost use Rattle.std.specs.Prelude.{◌≡◌, false, IfOk, codes};
 ghost use Rattle.clap.specs.Words.{app_of, rule_of};
-ghost use Rattle.command_line.specs.Definition.{required_argument, repeated_argument, option_argument, number_argument, verify_shape, optimise_shape, run_shape, program};
+ghost use Rattle.command_line.specs.Definition.{required_argument, required_number, repeated_argument, option_argument, number_argument, verify_shape, optimise_shape, run_shape, load_shape, program};
 ghost use Rattle.command_line.specs.Leaf.{IsLeaf};
 ghost use Rattle.command_line.specs.Limits.{most_conflicts};
 
@@ -19,6 +19,9 @@ const MOST_STEPS: u64 = 100_000;
 /// The most blocks that a run may enter.
 const MOST_BLOCKS: u64 = 100_000_000;
 
+/// The greatest number of which a module is made.
+const MOST_NUMBER: u64 = 4_294_967_295;
+
 /// An argument that has to be given, by its place.
 fn required_argument<'a>(alloc: Global, name: &'a str, shown: &'a str, help: &'a str) -> Arg<'a>
     ensures rule { rule_of result ≡ required_argument name.entry.now }
@@ -28,6 +31,20 @@ fn required_argument<'a>(alloc: Global, name: &'a str, shown: &'a str, help: &'a
         .value_name(shown)
         .help(help)
         .required(true)
+}
+
+/// A number from 0 to `most` that has to be given, by its place.
+fn required_number<'a>(
+    alloc: Global,
+    name: &'a str,
+    shown: &'a str,
+    most: u64,
+    help: &'a str,
+) -> Arg<'a>
+    ensures rule { rule_of result ≡ required_number name.entry.now most }
+    ensures local { result.global ≡ false }
+{
+    required_argument(alloc, name, shown, help).value_parser(ValueParser::unsigned(0, most))
 }
 
 /// The words that follow in their places, of which there may be none.
@@ -163,6 +180,22 @@ fn run<'a>(alloc: Global) -> Result<Command<'a>, AllocError>
         .arg(blocks)
 }
 
+/// `load NUMBER`.
+fn load<'a>(alloc: Global) -> Result<Command<'a>, AllocError>
+    ensures { IfOk result (IsLeaf load_shape) }
+{
+    let number = required_number(
+        alloc,
+        "number",
+        "NUMBER",
+        MOST_NUMBER,
+        "The number that the module is made of",
+    );
+    Command::new(alloc, "load")
+        .about("Optimises a generated module by built-in rules")
+        .arg(number)
+}
+
 /// The program with its commands.
 pub(crate) fn definition<'a>(alloc: Global) -> Result<Command<'a>, AllocError>
     ensures { IfOk result (λ command. app_of command ≡ program) }
@@ -170,6 +203,7 @@ pub(crate) fn definition<'a>(alloc: Global) -> Result<Command<'a>, AllocError>
     let verify = verify(alloc)?;
     let optimise = optimise(alloc)?;
     let run = run(alloc)?;
+    let load = load(alloc)?;
     let command = Command::new(alloc, "alive")
         .about("Verifies rewrite rules, optimises LLVM IR by them, and runs it")
         .version("0.1.0")
@@ -178,5 +212,6 @@ pub(crate) fn definition<'a>(alloc: Global) -> Result<Command<'a>, AllocError>
     command
         .subcommand(verify)?
         .subcommand(optimise)?
-        .subcommand(run)
+        .subcommand(run)?
+        .subcommand(load)
 }

@@ -6,7 +6,7 @@ ghost use Rattle.clap.specs.declared.error.kind.ErrorKind.TheVariants.{OutOfMemo
 ghost use Rattle.command_line.specs.Limits.{IsWithinLimits};
 ghost use Rattle.command_line.specs.Usage.{HasBadList, IsUsageOf, IsRefusalOf, refusal_of_list};
 ghost use Rattle.command_line.specs.Words.{are_taken, command_and_rows, Says, SaysOf, HasNumber, HasTexts};
-ghost use Rattle.command_line.specs.Arguments.{HasValue, HasNumberUpTo, HasVerify, HasOptimise, HasRun, IsKnown, IsUntaken, RefusesGiven, RefusesList};
+ghost use Rattle.command_line.specs.Arguments.{HasValue, HasNumberUpTo, HasVerify, HasOptimise, HasRun, HasLoad, IsKnown, IsUntaken, RefusesGiven, RefusesList};
 
 use crate::command::{Command, CommandError, OptimiseOptions, RunOptions, VerifyOptions};
 use crate::definition::definition;
@@ -135,6 +135,17 @@ fn read_run<'a>(alloc: Global, found: &ArgMatches<'a>) -> Result<Command<'a>, Al
     })
 }
 
+/// The command `load`.
+fn read_load<'a>(found: &ArgMatches<'a>) -> Command<'a>
+    requires { HasLoad (rows_of (found_of found.now)) }
+    ensures says { SaysOf (Some (codes "load", rows_of (found_of found.now))) result }
+    ensures limits { IsWithinLimits result }
+{
+    Command::Load {
+        number: number_of(found, "number"),
+    }
+}
+
 /// The command that the words name, and what `clap` found for its arguments.
 fn named<'a, 'm>(matches: &'m ArgMatches<'a>) -> (&'a str, &'m ArgMatches<'a>)
     requires { is_some (subcommand_rows_of matches.now) ≡ true }
@@ -158,8 +169,10 @@ fn read_named<'a>(
         read_verify(alloc, found)
     } else if name == "optimise" {
         Ok(read_optimise(found))
-    } else {
+    } else if name == "run" {
         Ok(read_run(alloc, found)?)
+    } else {
+        Ok(read_load(found))
     }
 }
 

@@ -47,6 +47,7 @@ fn shown(alloc: Global, command: &Command<'_>) -> Result<String, Fail> {
             format!(in alloc; "run {module} {name} {}:", options.blocks)?,
             arguments.as_slice(),
         ),
+        Command::Load { number } => Ok(format!(in alloc; "load {number}")?),
     }
 }
 
@@ -136,6 +137,14 @@ const TABLE: &[(&[&str], &str)] = &[
     (&["run", "m"], "usage"),
     (&["run", "m", "f", "-1"], "usage"),
     (&["run", "m", "f", "--blocks", "100000001"], "usage"),
+    (&["load", "0"], "load 0"),
+    (&["load", "7"], "load 7"),
+    (&["load", "4294967295"], "load 4294967295"),
+    (&["load", "4294967296"], "usage"),
+    (&["load", "-1"], "usage"),
+    (&["load", "x"], "usage"),
+    (&["load", "7", "7"], "usage"),
+    (&["load"], "usage"),
     (&["--help"], "usage"),
     (&["--version"], "usage"),
     (&["help"], "usage"),

@@ -8,7 +8,7 @@ use Rattle.command_line.specs.declared.command.Command.{Command}
 use Rattle.command_line.specs.declared.command.OptimiseOptions.{OptimiseOptions}
 use Rattle.command_line.specs.declared.command.RunOptions.{RunOptions}
 use Rattle.command_line.specs.declared.command.VerifyOptions.{VerifyOptions}
-use Rattle.command_line.specs.declared.command.Command.TheVariants.{Verify, Optimise, Run}
+use Rattle.command_line.specs.declared.command.Command.TheVariants.{Verify, Optimise, Run, Load}
 use Rattle.command_line.proofs.laws.words_say_one_command.Goals as goal
 
 same : {A : Type 0} {o : Option A} {x y : A} → o ≡ Some x → o ≡ Some y → x ≡ y
@@ -30,6 +30,15 @@ verify_run e = names_differ (codes "verify") (codes "run") 118 114 refl refl ref
 optimise_run : {A : Type 0} → codes "optimise" ≡ codes "run" → A
 optimise_run e = names_differ (codes "optimise") (codes "run") 111 114 refl refl refl e
 
+verify_load : {A : Type 0} → codes "verify" ≡ codes "load" → A
+verify_load e = names_differ (codes "verify") (codes "load") 118 108 refl refl refl e
+
+optimise_load : {A : Type 0} → codes "optimise" ≡ codes "load" → A
+optimise_load e = names_differ (codes "optimise") (codes "load") 111 108 refl refl refl e
+
+run_load : {A : Type 0} → codes "run" ≡ codes "load" → A
+run_load e = names_differ (codes "run") (codes "load") 114 108 refl refl refl e
+
 verify_options : (x y : VerifyOptions) → x.widths ≡ y.widths → x.conflicts ≡ y.conflicts → x ≡ y
 verify_options x y widths conflicts = ap₂ (λ (w : List ℕ) (n : ℕ). record { widths = w; conflicts = n }) widths conflicts
 
@@ -49,12 +58,19 @@ one (Some said) (Optimise rules source options) (Optimise rules' source' options
     (same h.1.rules_file k.1.rules_file, same h.1.module_file k.1.module_file, optimise_options options options' (same h.1.most_conflicts k.1.most_conflicts) (same h.1.most_steps k.1.most_steps))
 one (Some said) (Run source name arguments options) (Run source' name' arguments' options') h k =
     (same h.1.module_file k.1.module_file, same h.1.function_name k.1.function_name, sym h.1.function_arguments ∙ k.1.function_arguments, run_options options options' (same h.1.most_blocks k.1.most_blocks))
+one (Some said) (Load number) (Load number') h k = same h.1 k.1
 one (Some said) (Verify rules options) (Optimise rules' source' options') h k = verify_optimise (sym h.0 ∙ k.0)
 one (Some said) (Optimise rules source options) (Verify rules' options') h k = verify_optimise (sym k.0 ∙ h.0)
 one (Some said) (Verify rules options) (Run source name arguments options') h k = verify_run (sym h.0 ∙ k.0)
 one (Some said) (Run source name arguments options) (Verify rules' options') h k = verify_run (sym k.0 ∙ h.0)
 one (Some said) (Optimise rules source options) (Run source' name arguments options') h k = optimise_run (sym h.0 ∙ k.0)
 one (Some said) (Run source name arguments options) (Optimise rules source' options') h k = optimise_run (sym k.0 ∙ h.0)
+one (Some said) (Verify rules options) (Load number) h k = verify_load (sym h.0 ∙ k.0)
+one (Some said) (Load number) (Verify rules options) h k = verify_load (sym k.0 ∙ h.0)
+one (Some said) (Optimise rules source options) (Load number) h k = optimise_load (sym h.0 ∙ k.0)
+one (Some said) (Load number) (Optimise rules source options) h k = optimise_load (sym k.0 ∙ h.0)
+one (Some said) (Run source name arguments options) (Load number) h k = run_load (sym h.0 ∙ k.0)
+one (Some said) (Load number) (Run source name arguments options) h k = run_load (sym k.0 ∙ h.0)
 
 pub returns : goal.returns
 returns c = record { one = λ words a b h k. one (command_and_rows words) a b h k }
