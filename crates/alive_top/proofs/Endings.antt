@@ -18,7 +18,7 @@ use Rattle.alive_top.specs.Lines.{memory_line}
 use Rattle.alive_top.specs.Puts.{RefusedAs, WrittenAs}
 use Rattle.alive_top.specs.Request.{AsksNone}
 use Rattle.alive_top.specs.Statuses.{IsWorked}
-use Rattle.alive_top.specs.Task.{Task, Verify, Optimise, Run}
+use Rattle.alive_top.specs.Task.{Task, Verify, Optimise, Run, Load}
 use Rattle.alive_top.specs.Work.{Work, IsWorkOf}
 use Rattle.alive_top.specs.Written.{Took}
 
@@ -40,6 +40,8 @@ done_or_not_all (Optimise file other options) (x ∷ y ∷ z ∷ more) work is =
 done_or_not_all (Run file name arguments options) (source ∷ []) work is = inl is.status
 done_or_not_all (Run file name arguments options) [] work is = absurd is
 done_or_not_all (Run file name arguments options) (x ∷ y ∷ more) work is = absurd is
+done_or_not_all (Load number) [] work is = inl is.status
+done_or_not_all (Load number) (x ∷ more) work is = absurd is
 
 -- there was no memory for a line behind a file that was come to
 memory_for_line : (old new : FilesState) (files : List File) {status : Status} {line : List ℕ} → TextIsRefused old new files status line → MemoryIsRefused old new files

@@ -25,11 +25,12 @@ use Rattle.alive_top.specs.Cause.{TextIsRefused}
 use Rattle.alive_top.specs.Done.{HasVerified, HasOptimised, HasDone}
 use Rattle.alive_top.specs.Ends.{Worked, EndsWith, EndsAtWords, Ends, IsNoCommand, IsUsage}
 use Rattle.alive_top.specs.File.{File, files_of}
+use Rattle.alive_top.specs.Load.{IsLoaded}
 use Rattle.alive_top.specs.NoRun.{NamesNoRun}
 use Rattle.alive_top.specs.Optimised.{IsOptimised, optimised_report}
 use Rattle.alive_top.specs.Statuses.{IsDone, IsWorked, IsNoTask, IsNoRun, IsDoneOrNoMemory}
 use Rattle.alive_top.specs.Taken.{Takes, Refuses, IsRuleText}
-use Rattle.alive_top.specs.Task.{Task, Verify, Optimise, Run, Asks}
+use Rattle.alive_top.specs.Task.{Task, Verify, Optimise, Run, Load, Asks}
 use Rattle.alive_top.specs.Texts.{IsTextOf, AreTexts, AreTaken, OfSomeTexts, OfToldTexts, TakesEach, HasBadFile}
 use Rattle.alive_top.specs.Work.{Work, IsWorkOf, IsVerifyWork, IsOptimiseWork}
 use Rattle.alive_top.specs.Written.{WroteSome}
@@ -108,6 +109,7 @@ no_run_takes (Run file name arguments options) [] h = absurd h
 no_run_takes (Run file name arguments options) (x ∷ y ∷ more) h = absurd h
 no_run_takes (Verify file options) bytes h = absurd h
 no_run_takes (Optimise file other options) bytes h = absurd h
+no_run_takes (Load number) bytes h = absurd h
 
 -- and no work is done on them
 no_run_no_work : RunsAreNotMisnamed → (task : Task) (texts : List (List ℕ)) (work : Work) → IsWorkOf task texts work → NamesNoRun task texts → ⊥
@@ -116,6 +118,7 @@ no_run_no_work law (Run file name arguments options) [] work is h = h
 no_run_no_work law (Run file name arguments options) (x ∷ y ∷ more) work is h = h
 no_run_no_work law (Verify file options) texts work is h = h
 no_run_no_work law (Optimise file other options) texts work is h = h
+no_run_no_work law (Load number) texts work is h = h
 
 -- ---- what the words say
 
@@ -136,6 +139,7 @@ good_list (Some said) (commands.Verify rules options) list h g bad =
     cc
 good_list (Some said) (commands.Optimise rules source options) list h g bad = unlisted said.0 (codes "optimise") said.1 list refl h.0 g
 good_list (Some said) (commands.Run source name arguments options) list h g bad = unlisted said.0 (codes "run") said.1 list refl h.0 g
+good_list (Some said) (commands.Load number) list h g bad = unlisted said.0 (codes "load") said.1 list refl h.0 g
 
 no_bad_list : (words : List (List ℕ)) (task : Task) → Asks words task → IsNoCommand words → ⊥
 no_bad_list words task asks (inl refuses) = let e : true ≡ false = sym asks.taken ∙ refuses in cc
@@ -198,6 +202,16 @@ module _ (out out' err err' : SinkState) (ended : Ended) (work : Work) (table : 
       record { line = work.text; is_run = is.runs; wrote = wrote; silent = silent.0 ∙ nothing_more err.written; status = sym status ∙ is.status }
   has_done (Run file name arguments options) [] is = absurd is
   has_done (Run file name arguments options) (x ∷ y ∷ more) is = absurd is
+  has_done (Load number) [] is =
+      let silent : Appends err err' [] = subst (λ (t : List ℕ). Appends err err' t) is.report report in
+      record {
+        text = work.text;
+        loaded = subst (λ (t : List VerdictRow). IsLoaded number work.text t) (sym table) is.loaded;
+        wrote = wrote;
+        silent = silent.0 ∙ nothing_more err.written;
+        status = sym status ∙ is.status;
+      }
+  has_done (Load number) (x ∷ more) is = absurd is
 
 -- ---- the clauses
 

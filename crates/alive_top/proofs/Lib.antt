@@ -10,3 +10,4 @@ pub mod LawLemmas
 pub mod Misnaming
 pub mod NamedLemmas
 pub mod RunningLemmas
+pub mod LoadLemmas

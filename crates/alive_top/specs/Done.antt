@@ -7,6 +7,7 @@ use Rattle.command_line.specs.declared.command.VerifyOptions.{VerifyOptions}
 use Rattle.ir_core.specs.declared.module.Module.{Module}
 use Rattle.ir_reader.specs.Text.{most_bytes}
 use Rattle.ir_printer.specs.PrintedText.{text_of}
+use Rattle.alive_top.specs.Load.{IsLoaded}
 use Rattle.alive_top.specs.Optimised.{IsOptimised, optimised_report}
 use Rattle.alive_top.specs.Runs.{IsRun}
 use Rattle.verdict.specs.Rule.{Rule}
@@ -15,7 +16,7 @@ use Rattle.verdict.specs.Verified.{IsVerified}
 use Rattle.alive_top.specs.declared.status.Ended.{Ended}
 use Rattle.alive_top.specs.declared.status.Status.TheVariants.{Done}
 use Rattle.alive_top.specs.Taken.{IsRuleText}
-use Rattle.alive_top.specs.Task.{Task, Verify, Optimise, Run}
+use Rattle.alive_top.specs.Task.{Task, Verify, Optimise, Run, Load}
 
 -- `verify` decided the rules of a text, handed back their verdicts and wrote the texts of them. All are admitted exactly with status 0.
 pub record HasVerified (text : List ℕ) (options : VerifyOptions) (out out' : SinkState) (ended : Ended) : Type 0 where
@@ -49,6 +50,14 @@ pub record HasRun (text name : List ℕ) (arguments : List (List ℕ)) (options 
   pub silent : err'.written ≡ err.written
   pub status : ended.status ≡ Done
 
+-- `load` wrote what comes of the module that is made of the number by the built-in rules, and handed back the verdicts.
+pub record HasLoaded (number : ℕ) (out out' err err' : SinkState) (ended : Ended) : Type 0 where
+  pub text : List ℕ
+  pub loaded : IsLoaded number text ended.table
+  pub wrote : Appends out out' text
+  pub silent : err'.written ≡ err.written
+  pub status : ended.status ≡ Done
+
 -- what the task has done on the texts of its files
 abbrev pub HasDone : Task → List (List ℕ) → SinkState → SinkState → SinkState → SinkState → Ended → Type 0
 HasDone (Verify file options) (rules ∷ []) out out' err err' ended = HasVerified rules options out out' ended
@@ -56,4 +65,5 @@ HasDone (Optimise file file' options) (rules ∷ source ∷ []) out out' err err
     HasOptimised rules source options out out' err err' ended
 HasDone (Run file name arguments options) (source ∷ []) out out' err err' ended =
     HasRun source name arguments options out out' err err' ended
+HasDone (Load number) [] out out' err err' ended = HasLoaded number out out' err err' ended
 HasDone task texts out out' err err' ended = ⊥

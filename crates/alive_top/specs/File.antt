@@ -2,7 +2,7 @@
 use Rattle.std.specs.Prelude.{ℕ, List, [], ◌∷◌}
 use Rattle.ir_reader.specs.Text as modules
 use Rattle.rule_reader.specs.Limits as rule_files
-use Rattle.alive_top.specs.Task.{Task, Verify, Optimise, Run}
+use Rattle.alive_top.specs.Task.{Task, Verify, Optimise, Run, Load}
 
 -- what a file is read for: rules or a module
 pub data Kind : Type 0 where
@@ -19,6 +19,7 @@ abbrev pub files_of : Task → List File
 files_of (Verify rules options) = record { name = rules; kind = Rules } ∷ []
 files_of (Optimise rules source options) = record { name = rules; kind = Rules } ∷ record { name = source; kind = Source } ∷ []
 files_of (Run source name arguments options) = record { name = source; kind = Source } ∷ []
+files_of (Load number) = []
 
 -- the most bytes of a file
 abbrev pub limit_of : Kind → ℕ

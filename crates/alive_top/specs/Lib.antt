@@ -9,6 +9,7 @@ pub mod Done
 pub mod Ends
 pub mod File
 pub mod Lines
+pub mod Load
 pub mod NoRun
 pub mod Puts
 pub mod Request

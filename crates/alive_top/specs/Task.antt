@@ -7,17 +7,19 @@ use Rattle.command_line.specs.declared.command.RunOptions.{RunOptions}
 use Rattle.command_line.specs.declared.command.VerifyOptions.{VerifyOptions}
 use Rattle.command_line.specs.Words.{are_taken, Says}
 
--- a command, with the names of its files
+-- a command, with the names of its files, or with the number of which its module is made
 pub data Task : Type 0 where
   Verify : (rules : List ℕ) → (options : VerifyOptions) → Task
   Optimise : (rules source : List ℕ) → (options : OptimiseOptions) → Task
   Run : (source name : List ℕ) → (arguments : List (List ℕ)) → (options : RunOptions) → Task
+  Load : (number : ℕ) → Task
 
 -- the task of a command, without where its names lie in memory
 abbrev pub task_of : Command → Task
 task_of (commands.Verify rules options) = Verify rules.now options
 task_of (commands.Optimise rules source options) = Optimise rules.now source.now options
 task_of (commands.Run source name arguments options) = Run source.now name.now (map (λ a. a.now) arguments) options
+task_of (commands.Load number) = Load number
 
 -- the words ask for this task
 pub record Asks (words : List (List ℕ)) (task : Task) : Type 0 where

@@ -4,6 +4,7 @@ use Rattle.command_line.specs.declared.command.OptimiseOptions.{OptimiseOptions}
 use Rattle.command_line.specs.declared.command.RunOptions.{RunOptions}
 use Rattle.command_line.specs.declared.command.VerifyOptions.{VerifyOptions}
 use Rattle.verdict.specs.Rule.{Rule}
+use Rattle.alive_top.specs.Load.{IsLoaded}
 use Rattle.alive_top.specs.Optimised.{Prints}
 use Rattle.alive_top.specs.Runs.{IsRun}
 use Rattle.ir_reader.specs.Text.{most_bytes}
@@ -13,7 +14,7 @@ use Rattle.verdict.specs.Verified.{IsVerified}
 use Rattle.alive_top.specs.declared.status.Status.{Status}
 use Rattle.alive_top.specs.declared.status.Status.TheVariants.{Done, NotAll}
 use Rattle.alive_top.specs.Taken.{IsRuleText}
-use Rattle.alive_top.specs.Task.{Task, Verify, Optimise, Run}
+use Rattle.alive_top.specs.Task.{Task, Verify, Optimise, Run, Load}
 
 -- a text for the output, a report for the error stream, a table of verdicts, and the status once both are written
 pub record Work : Type 0 where
@@ -47,9 +48,16 @@ pub record IsRunWork (source name : List ℕ) (arguments : List (List ℕ)) (opt
   pub table : work.table ≡ []
   pub status : work.status ≡ Done
 
+-- `load` writes what comes of the module that is made of the number by the built-in rules. The verdicts that it asked for are the table.
+pub record IsLoadWork (number : ℕ) (work : Work) : Type 0 where
+  pub loaded : IsLoaded number work.text work.table
+  pub report : work.report ≡ []
+  pub status : work.status ≡ Done
+
 -- the work of a task on the texts of its files
 abbrev pub IsWorkOf : Task → List (List ℕ) → Work → Type 0
 IsWorkOf (Verify file options) (rules ∷ []) work = (list : List Rule) × IsRuleText rules list × IsVerifyWork list options work
 IsWorkOf (Optimise file file' options) (rules ∷ source ∷ []) work = (list : List Rule) × IsRuleText rules list × IsOptimiseWork list options source work
 IsWorkOf (Run file name arguments options) (source ∷ []) work = IsRunWork source name arguments options work
+IsWorkOf (Load number) [] work = IsLoadWork number work
 IsWorkOf task texts work = ⊥

@@ -5,9 +5,11 @@
 #![tactic(auto)]
 
 mod argument;
+mod counting;
 mod fault;
 mod hindrance;
 mod laws;
+mod loading;
 mod named;
 mod optimised;
 mod outcome;
@@ -23,6 +25,7 @@ pub use laws::{
     every_module_read_has_outcomes, every_module_written_has_outcomes,
     every_run_has_its_function_and_arguments,
 };
+pub use loading::{Loaded, load};
 pub use optimised::{Optimised, optimise};
 pub use running::run;
 pub use status::{Ended, Status};

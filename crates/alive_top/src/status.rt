@@ -51,7 +51,7 @@ impl Status {
 #[derive(Debug, Drop)]
 pub struct Ended {
     pub status: Status,
-    /// The verdicts that were decided, where the work was done: under `verify` those of its lines, in order, and under `optimise` in the
-    /// order in which they were first asked for.
+    /// The verdicts that were decided, where the work was done: under `verify` those of its lines, in order, and under `optimise` and `load`
+    /// in the order in which they were first asked for.
     pub table: Table,
 }

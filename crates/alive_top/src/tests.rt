@@ -5,6 +5,7 @@ use outside::{FailingPut, MemoryFiles, MemorySink};
 use std::alloc::Global;
 use std::test::Fail;
 
+mod loads;
 mod modules;
 mod rewriting;
 mod rows;

@@ -185,7 +185,9 @@ pub fn alive<F: Files, O: Sink, E: Sink>(
     // module that the plain strategy gives by the rules and the verdicts that it hands back, all of them honest: it may
     // stand in the place of the one read, and reads as itself; and the report, the texts of the verdicts and the line of
     // each function. `run` has written the outcome of its function at the arguments, after at most so many blocks
-    // entered, where each number that is left open is 0.
+    // entered, where each number that is left open is 0. `load` has written the five lines on what the plain strategy
+    // gives for the module that is made of its number, by the built-in rules and the verdicts that it hands back, which
+    // are honest and all `Admitted`.
     ensures done { (task : Task) → Asks (map string_bytes words.now.items) task → IsDone result.status
         → OfSomeTexts (F.state files.old) task (λ texts. HasDone task texts
         (O.state out.old) (O.state out.new) (E.state err.old) (E.state err.new) result) }

@@ -9,7 +9,7 @@ ghost use Rattle.alive_top.specs.Answers.{ReadOf, TextOf, FileOf, TaskOf, seen_w
 ghost use Rattle.alive_top.specs.File.{Rules, Source};
 ghost use Rattle.alive_top.specs.Taken.{IsRuleText};
 ghost use Rattle.alive_top.specs.Task.{Verify, Optimise, Run, task_of};
-ghost use Rattle.alive_top.specs.Work.{IsVerifyWork, IsPrinted};
+ghost use Rattle.alive_top.specs.Work.{IsVerifyWork, IsPrinted, IsLoadWork};
 
 use crate::fault::{RunError, RunFault};
 use crate::hindrance::Hindrance;
@@ -51,7 +51,7 @@ fn read<'a, F: Files>(
 }
 
 /// The rules of a text. As many as no `u32` counts are refused as for want of memory; no text within 1 MiB has so many.
-fn rules_of<'a>(alloc: Global, bytes: &[u8]) -> Result<Vec<Rule>, Hindrance<'a>>
+pub(crate) fn rules_of<'a>(alloc: Global, bytes: &[u8]) -> Result<Vec<Rule>, Hindrance<'a>>
     ensures text { TextOf Rules bytes.now (λ rules. IsRuleText bytes.now rules.items) ⊥ result }
     ensures ready { IfOk result (λ rules. AreReady rules.items) }
     ensures few { IfOk result (λ rules. length rules.items < 2 ^ 32) }
@@ -245,6 +245,19 @@ fn run<'a, F: Files>(
     })
 }
 
+/// The work of `load`, which reads no files.
+fn load(alloc: Global, number: u32) -> Result<Work, AllocError>
+    ensures { IfOk result (λ work. IsLoadWork number (seen_work work)) }
+{
+    let loaded = crate::loading::load(alloc, number)?;
+    Ok(Work {
+        text: loaded.text,
+        report: Vec::new(alloc),
+        table: loaded.table,
+        status: Status::Done,
+    })
+}
+
 /// The work of a command, before anything is written.
 pub(crate) fn perform<'a, F: Files>(
     alloc: Global,
@@ -268,5 +281,6 @@ pub(crate) fn perform<'a, F: Files>(
             arguments,
             options,
         } => run(alloc, files, module, name, arguments.as_slice(), options),
+        Command::Load { number } => Ok(load(alloc, number)?),
     }
 }
