@@ -1,11 +1,14 @@
 //! Rules applied to functions that are read: which function comes of it.
 
+ghost use Rattle.test_rewriting.specs.Ready.{FunctionIsReady, RuleIsReady};
+
 use crate::reading::{
     ADD_ZERO, MUL_TWO, NOT_ADD, NOT_ADD_ONCE, SEL_INC, ZEXT_TWICE, function_of, match_there,
     rule_of,
 };
 use ir_core::Function;
 use rewriter::apply;
+use rule_core::Rule;
 use std::alloc::Global;
 use std::test::Fail;
 
@@ -160,38 +163,54 @@ l: %x = phi i8 [ %z, %e ], [ %q, %l ] %c = icmp eq i8 %q, %x br i1 %c, label %l,
     },
 ];
 
-/// What comes of a function where a rule is applied at a place of a block, if it matches there.
-fn applied(
+/// Applies a rule at a place of a block, if it matches there.
+fn apply_there(
     alloc: Global,
-    rule: &str,
-    function: &str,
-    root: (u32, u32),
-) -> Result<Option<Function>, Fail> {
-    let rule = rule_of(alloc, rule)?;
-    let mut f = function_of(alloc, function)?;
-    let Some(binding) = match_there(alloc, &f, root.0, root.1, &rule)? else {
-        return Ok(None);
+    f: &mut Function,
+    block: u32,
+    place: u32,
+    rule: &Rule,
+) -> Result<bool, Fail>
+    requires function { FunctionIsReady f.old }
+    requires rule { RuleIsReady rule.now }
+{
+    let Some(binding) = match_there(alloc, f, block, place, rule)? else {
+        return Ok(false);
     };
-    apply(alloc, &mut f, &binding, &rule)?;
-    Ok(Some(f))
+    apply(alloc, f, &binding, rule)?;
+    Ok(true)
+}
+
+/// All that a function holds.
+fn shown(alloc: Global, f: &Function) -> Result<String, Fail> {
+    Ok(format!(in alloc; "{f:?}")?)
+}
+
+/// All that the function holds that comes of one where a rule is applied, or nothing if the rule doesn't match there.
+fn applied(alloc: Global, row: &Row) -> Result<String, Fail> {
+    let rule = rule_of(alloc, row.rule)?;
+    let mut f = function_of(alloc, row.function)?;
+    if !apply_there(alloc, &mut f, row.root.0, row.root.1, &rule)? {
+        return Ok(String::new(alloc));
+    }
+    shown(alloc, &f)
+}
+
+/// All that the expected function holds, or nothing if there is none.
+fn expected(alloc: Global, row: &Row) -> Result<String, Fail> {
+    let Some(text) = row.applied else {
+        return Ok(String::new(alloc));
+    };
+    shown(alloc, &function_of(alloc, text)?)
 }
 
 #[test]
 fn rules_are_applied(rt: HostRuntime) -> Result<(), Fail> {
     let alloc = rt.alloc();
     for row in &ROWS {
-        let found = applied(alloc, row.rule, row.function, row.root)?;
-        let expected = match row.applied {
-            Some(text) => Some(function_of(alloc, text)?),
-            None => None,
-        };
-        assert_eq!(rt;
-            format!(in alloc; "{found:?}")?,
-            format!(in alloc; "{expected:?}")?,
-            "{}{}",
-            row.rule,
-            row.function
-        );
+        let found = applied(alloc, row)?;
+        let expected = expected(alloc, row)?;
+        assert_eq!(rt; found, expected, "{}{}", row.rule, row.function);
     }
     Ok(())
 }

@@ -313,18 +313,23 @@ const ROWS: [Row; 27] = [
     },
 ];
 
-/// The bindings with which a rule matches in a block, in order.
-fn matches_in(alloc: Global, f: &Function, block: u32, rule: &Rule) -> Result<Vec<Binding>, Fail>
+/// Adds the bindings with which a rule matches in a block, in order.
+fn push_in_block(
+    alloc: Global,
+    f: &Function,
+    block: u32,
+    rule: &Rule,
+    found: &mut Vec<Binding>,
+) -> Result<(), Fail>
     requires function { FunctionIsReady f.now }
     requires rule { RuleIsReady rule.now }
 {
-    let mut found = Vec::new(alloc);
     for place in 0..end_of(f, block) {
         if let Some(binding) = match_there(alloc, f, block, place, rule)? {
             found.push(binding)?;
         }
     }
-    Ok(found)
+    Ok(())
 }
 
 /// The bindings with which a rule matches in a function, block by block.
@@ -333,9 +338,7 @@ fn matches_of(alloc: Global, rule: &str, function: &str) -> Result<Vec<Binding>,
     let f = function_of(alloc, function)?;
     let mut found = Vec::new(alloc);
     for block in 0..f.blocks.len() as u32 {
-        for binding in matches_in(alloc, &f, block, &rule)? {
-            found.push(binding)?;
-        }
+        push_in_block(alloc, &f, block, &rule, &mut found)?;
     }
     Ok(found)
 }
@@ -377,25 +380,25 @@ fn is_this(binding: &Binding, expected: &Match) -> bool {
             .all(|(width, bits)| width.bits() == *bits)
 }
 
+/// Whether the bindings are these matches, in order.
+fn are_these(found: &[Binding], expected: &[Match]) -> bool {
+    found.len() == expected.len()
+        && found
+            .iter()
+            .zip(expected)
+            .all(|(binding, expected)| is_this(binding, expected))
+}
+
 #[test]
 fn rules_match_where_they_should(rt: HostRuntime) -> Result<(), Fail> {
     for row in &ROWS {
         let found = matches_of(rt.alloc(), row.rule, row.function)?;
-        assert_eq!(rt;
-            found.len(),
-            row.matches.len(),
-            "{}{}",
+        assert!(rt;
+            are_these(found.as_slice(), row.matches),
+            "{}{}\n{found:?}",
             row.rule,
             row.function
         );
-        for (binding, expected) in found.iter().zip(row.matches) {
-            assert!(rt;
-                is_this(binding, expected),
-                "{}{}\n{binding:?}",
-                row.rule,
-                row.function
-            );
-        }
     }
     Ok(())
 }
