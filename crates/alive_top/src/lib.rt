@@ -25,11 +25,8 @@ pub use laws::{
     every_module_read_has_outcomes, every_module_written_has_outcomes,
     every_run_has_its_function_and_arguments,
 };
-pub use loading::{Loaded, load};
+pub use loading::{BUILT_IN, Loaded, load};
 pub use optimised::{Optimised, optimise};
 pub use running::run;
 pub use status::{Ended, Status};
 pub use top::alive;
-
-#[cfg(test)]
-mod tests;

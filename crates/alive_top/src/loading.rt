@@ -29,8 +29,8 @@ const CONFLICTS: u32 = 20_000;
 /// The most rewrites of a function.
 const STEPS: u32 = 10_000;
 
-/// The built-in rules, as a rule file.
-pub(crate) const BUILT_IN: &str = "Name: add-zero
+/// The rules that `load` applies, as a rule file.
+pub const BUILT_IN: &str = "Name: add-zero
 %r = add %x, 0
 =>
 %r = %x

@@ -96,144 +96,124 @@ const NOT_ADD_TWICE: &str =
 const SUM_TIMES: &str =
     "define i16 @w(i16 %x, i16 %y, i16 %z) {\n  %a = add i16 %x, %y\n  %r = mul i16 %a, %z\n  ret i16 %r\n}\n";
 
-/// A rule file, a module, the words behind their names, and what is left.
-#[derive(Clone, Copy)]
-struct Row {
-    rules: &'static str,
-    source: &'static str,
-    options: &'static [&'static str],
-    out: &'static str,
-    err: &'static str,
-}
-
 const ROWS: [Row; 14] = [
     Row {
+        words: OPTIMISE,
         rules: NOT_ADD,
         source: NOT_ADD_SOURCE,
-        options: &[],
+        status: 0,
         out: NOT_ADD_WRITTEN,
         err: "not-add [4]: admitted\n@f: 1 rewrites\n",
     },
     Row {
+        words: "alive optimise r m --steps 0",
         rules: NOT_ADD,
         source: NOT_ADD_SOURCE,
-        options: &["--steps", "0"],
+        status: 0,
         out: NOT_ADD_SOURCE,
         err: "not-add [4]: admitted\n@f: 0 rewrites, limit\n",
     },
     Row {
+        words: OPTIMISE,
         rules: MUL_TWO,
         source: DOUBLES,
-        options: &[],
+        status: 0,
         out: SHIFTED_DOUBLES,
         err: "mul-two [8]: admitted\n@double: 1 rewrites\n",
     },
     Row {
+        words: OPTIMISE,
         rules: ADD_ZERO,
         source: COUNT_AND_ZERO,
-        options: &[],
+        status: 0,
         out: CLEANED_COUNT,
         err: "add-zero [8]: admitted\n@swap: 1 rewrites\n",
     },
     Row {
+        words: "alive optimise r m --steps 3",
         rules: SWAP_SUM,
         source: "define i5 @s(i5 %a, i5 %b) {\n  %1 = add i5 %a, %b\n  ret i5 %1\n}\n",
-        options: &["--steps", "3"],
+        status: 0,
         out: "define i5 @s(i5 %a, i5 %b) {\n  %1 = add i5 %b, %a\n  ret i5 %1\n}\n",
         err: "swap [5]: admitted\n@s: 3 rewrites, limit\n",
     },
     Row {
+        words: "alive optimise r m --steps 4",
         rules: THERE_AND_BACK,
         source: "define i5 @c(i5 %a) {\n  %1 = add i5 %a, 3\n  ret i5 %1\n}\n",
-        options: &["--steps", "4"],
+        status: 0,
         out: "define i5 @c(i5 %a) {\n  %1 = add i5 %a, 3\n  ret i5 %1\n}\n",
         err: "neg-add [5]: admitted\nneg-sub [5]: admitted\n@c: 4 rewrites, limit\n",
     },
     Row {
+        words: OPTIMISE,
         rules: SEL_INC,
         source: "define i4 @t(i4 %a, i1 %c) {\n  %t = add i4 %a, 1\n  %r = select i1 %c, i4 %a, i4 %t\n  ret i4 %r\n}\n",
-        options: &[],
+        status: 0,
         out: "define i4 @t(i4 %a, i1 %c) {\n  %t = add i4 %a, 1\n  %1 = sub i4 %t, 1\n  %r = select i1 %c, i4 %1, i4 %t\n  ret i4 %r\n}\n",
         err: "sel-inc [4 1]: admitted\n@t: 1 rewrites\n",
     },
     Row {
+        words: OPTIMISE,
         rules: SEL_INC,
         source: "define i4 @t(i4 %a, i1 %c) {\n  %t = add nsw i4 %a, 1\n  %r = select i1 %c, i4 %a, i4 %t\n  ret i4 %r\n}\n",
-        options: &[],
+        status: 0,
         out: "define i4 @t(i4 %a, i1 %c) {\n  %t = add nsw i4 %a, 1\n  %r = select i1 %c, i4 %a, i4 %t\n  ret i4 %r\n}\n",
         err: "@t: 0 rewrites\n",
     },
     Row {
+        words: OPTIMISE,
         rules: NOT_ADD_ONCE,
         source: NOT_ADD_TWICE,
-        options: &[],
+        status: 0,
         out: NOT_ADD_TWICE,
         err: "@g: 0 rewrites\n",
     },
     Row {
+        words: OPTIMISE,
         rules: NOT_ADD,
         source: NOT_ADD_TWICE,
-        options: &[],
+        status: 0,
         out: "define i4 @g(i4 %a) {\n  %1 = xor i4 %a, -1\n  %2 = sub i4 4, %a\n  %3 = and i4 %1, %2\n  ret i4 %3\n}\n",
         err: "not-add [4]: admitted\n@g: 1 rewrites\n",
     },
     Row {
+        words: OPTIMISE,
         rules: ADD_ZERO,
         source: OUT_OF_REACH,
-        options: &[],
+        status: 0,
         out: OUT_OF_REACH,
         err: "@u: 0 rewrites\n",
     },
     // a verdict that isn't admitted stands in the report, and its matches stay
     Row {
+        words: "alive optimise r m --conflicts 1",
         rules: MUL_ADD,
         source: SUM_TIMES,
-        options: &["--conflicts", "1"],
+        status: 0,
         out: SUM_TIMES,
         err: "mul-add [16]: budget\n@w: 0 rewrites\n",
     },
     Row {
+        words: OPTIMISE,
         rules: ADD_SELF,
         source: BOTH_WIDTHS,
-        options: &[],
+        status: 0,
         out: ONE_SHIFTED,
         err: "add-self [1]: refuted\n  %x = 0\n  source 0\n  target poison\nadd-self [2]: admitted\n@b: 1 rewrites\n",
     },
     // a verdict is asked once for the whole module
     Row {
+        words: "alive optimise r m --steps 1",
         rules: SWAP_SUM,
         source: "define i5 @s(i5 %a) {\n  %1 = add i5 %a, 1\n  ret i5 %1\n}\n\ndefine i5 @z() {\n  ret i5 0\n}\n\ndefine i5 @t(i5 %a) {\n  %1 = add i5 %a, 2\n  ret i5 %1\n}\n",
-        options: &["--steps", "1"],
+        status: 0,
         out: "define i5 @s(i5 %a) {\n  %1 = add i5 1, %a\n  ret i5 %1\n}\n\ndefine i5 @z() {\n  ret i5 0\n}\n\ndefine i5 @t(i5 %a) {\n  %1 = add i5 2, %a\n  ret i5 %1\n}\n",
         err: "swap [5]: admitted\n@s: 1 rewrites, limit\n@z: 0 rewrites\n@t: 1 rewrites, limit\n",
     },
 ];
 
-/// Whether that is what the row says.
-fn is_left(left: &Left, row: &Row) -> bool {
-    left.status == 0
-        && left.out.contents() == row.out.as_bytes()
-        && left.err.contents() == row.err.as_bytes()
-}
-
-/// What `optimise` leaves of the row.
-fn optimised(alloc: Global, row: &Row) -> Result<Left, Fail> {
-    let mut words = Vec::from_slice(alloc, OPTIMISE)?;
-    words.extend_from_slice(row.options)?;
-    what_is_left(
-        alloc,
-        &words,
-        row.rules.as_bytes(),
-        row.source.as_bytes(),
-        NO_FAULTS,
-    )
-}
-
 #[test]
 fn modules_are_rewritten(rt: HostRuntime) -> Result<(), Fail> {
-    for row in &ROWS {
-        let left = optimised(rt.alloc(), row)?;
-        assert!(rt; is_left(&left, row), "what {} leaves", row.source);
-    }
-    Ok(())
+    all_leave(&rt, rt.alloc(), &ROWS)
 }

@@ -125,88 +125,90 @@ attributes #0 = { nounwind \"frame-pointer\"=\"all\" }
 !0 = !{i32 1, !\"wchar_size\", i32 4}
 ";
 
-/// A command over a module, and what is left.
-struct Row {
-    words: &'static [&'static str],
-    source: &'static str,
-    status: u8,
-    out: &'static str,
-    err: &'static str,
-}
-
 const ROWS: [Row; 17] = [
     Row {
-        words: &["alive", "run", "--blocks", "10", "m", "swap", "2"],
+        words: "alive run --blocks 10 m swap 2",
+        rules: "",
         source: SWAP,
         status: 0,
         out: "return 1\n",
         err: "",
     },
     Row {
-        words: &["alive", "run", "--blocks", "4", "m", "swap", "2"],
+        words: "alive run --blocks 4 m swap 2",
+        rules: "",
         source: SWAP,
         status: 0,
         out: "return 1\n",
         err: "",
     },
     Row {
-        words: &["alive", "run", "--blocks", "3", "m", "swap", "2"],
+        words: "alive run --blocks 3 m swap 2",
+        rules: "",
         source: SWAP,
         status: 0,
         out: "running block 2\n",
         err: "",
     },
     Row {
-        words: &["alive", "run", "m", "swap", "poison"],
+        words: "alive run m swap poison",
+        rules: "",
         source: SWAP,
         status: 0,
         out: "undefined\n",
         err: "",
     },
     Row {
-        words: &["alive", "run", "m", "swap", "256"],
+        words: "alive run m swap 256",
+        rules: "",
         source: SWAP,
         status: 8,
         out: "",
         err: "argument refused\n",
     },
     Row {
-        words: &["alive", "run", "m", "swop", "2"],
+        words: "alive run m swop 2",
+        rules: "",
         source: SWAP,
         status: 8,
         out: "",
         err: "argument refused\n",
     },
     Row {
-        words: &["alive", "run", "--blocks", "5", "m", "spin"],
+        words: "alive run --blocks 5 m spin",
+        rules: "",
         source: SPIN,
         status: 0,
         out: "running block 1\n",
         err: "",
     },
     Row {
-        words: &["alive", "run", "--blocks", "0", "m", "spin"],
+        words: "alive run --blocks 0 m spin",
+        rules: "",
         source: SPIN,
         status: 0,
         out: "running block 0\n",
         err: "",
     },
     Row {
-        words: &["alive", "run", "m", "twice", "3"],
+        words: "alive run m twice 3",
+        rules: "",
         source: CLANG,
         status: 0,
         out: "return 6\n",
         err: "",
     },
     Row {
-        words: &["alive", "run", "m", "twice", "2147483647"],
+        words: "alive run m twice 2147483647",
+        rules: "",
         source: CLANG,
         status: 0,
         out: "undefined\n",
         err: "",
     },
     Row {
-        words: &["alive", "run", "m", "twice", "poison"],
+        words: "alive run m twice poison",
+        rules: "",
         source: CLANG,
         status: 0,
         out: "undefined\n",
@@ -214,6 +216,7 @@ const ROWS: [Row; 17] = [
     },
     Row {
         words: OPTIMISE,
+        rules: "",
         source: CLANG,
         status: 0,
         out: WRITTEN_CLANG,
@@ -221,6 +224,7 @@ const ROWS: [Row; 17] = [
     },
     Row {
         words: OPTIMISE,
+        rules: "",
         source: COUNT,
         status: 0,
         out: CLEANED_COUNT,
@@ -228,6 +232,7 @@ const ROWS: [Row; 17] = [
     },
     Row {
         words: OPTIMISE,
+        rules: "",
         source: UNREACHED,
         status: 0,
         out: UNREACHED,
@@ -235,6 +240,7 @@ const ROWS: [Row; 17] = [
     },
     Row {
         words: OPTIMISE,
+        rules: "",
         source: UNASSIGNED,
         status: 4,
         out: "",
@@ -242,6 +248,7 @@ const ROWS: [Row; 17] = [
     },
     Row {
         words: OPTIMISE,
+        rules: "",
         source: LOAD,
         status: 4,
         out: "",
@@ -249,6 +256,7 @@ const ROWS: [Row; 17] = [
     },
     Row {
         words: OPTIMISE,
+        rules: "",
         source: CUT_SHORT,
         status: 4,
         out: "",
@@ -258,11 +266,5 @@ const ROWS: [Row; 17] = [
 
 #[test]
 fn modules_are_written_and_run(rt: HostRuntime) -> Result<(), Fail> {
-    for row in &ROWS {
-        let left = what_is_left(rt.alloc(), row.words, b"", row.source.as_bytes(), NO_FAULTS)?;
-        assert_eq!(rt; left.status, row.status);
-        assert_eq!(rt; left.out.contents(), row.out.as_bytes());
-        assert_eq!(rt; left.err.contents(), row.err.as_bytes());
-    }
-    Ok(())
+    all_leave(&rt, rt.alloc(), &ROWS)
 }

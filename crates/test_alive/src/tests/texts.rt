@@ -3,8 +3,9 @@
 use super::*;
 
 /// The status of `optimise` over a rule file and a module.
-fn status_of(alloc: Global, rules: &[u8], source: &[u8]) -> Result<u8, Fail> {
-    Ok(what_is_left(alloc, OPTIMISE, rules, source, NO_FAULTS)?.status)
+fn status_over(alloc: Global, rules: &[u8], source: &[u8]) -> Result<u8, Fail> {
+    let mut world = world_of(alloc, rules, source)?;
+    Ok(run(alloc, OPTIMISE, &mut world)?)
 }
 
 /// Line feeds as the rule file and as the module: how many, and the statuses.
@@ -19,8 +20,8 @@ const LIMITS: [(usize, u8, u8); 4] = [
 fn limits_are_exact(rt: HostRuntime) -> Result<(), Fail> {
     for (bytes, as_rules, as_source) in LIMITS {
         let blanks = vec![in rt.alloc(); b'\n'; bytes]?;
-        assert_eq!(rt; status_of(rt.alloc(), blanks.as_slice(), b"")?, as_rules);
-        assert_eq!(rt; status_of(rt.alloc(), b"", blanks.as_slice())?, as_source);
+        assert_eq!(rt; status_over(rt.alloc(), blanks.as_slice(), b"")?, as_rules);
+        assert_eq!(rt; status_over(rt.alloc(), b"", blanks.as_slice())?, as_source);
     }
     Ok(())
 }

@@ -1,0 +1,71 @@
+//! The whole program, over files and sinks in memory.
+
+mod faults;
+mod loads;
+mod modules;
+mod refused;
+mod rewriting;
+mod rows;
+mod rules;
+mod running;
+mod texts;
+
+use running::{World, run, world_of};
+use std::alloc::Global;
+use std::process::Abort;
+use std::test::Fail;
+
+const OPTIMISE: &str = "alive optimise r m";
+
+const VERIFY: &str = "alive verify r";
+
+const XOR_SELF: &str = "Name: xor-self\n%r = xor i4 %x, %x\n=>\n%r = and i4 %x, 0\n";
+
+const OR_ZERO: &str = "Name: or-zero\n%r = or i1 %x, 0\n=>\n%r = 0\n";
+
+const NOT_ADD: &str = "Name: not-add\n%1 = xor %x, -1\n%2 = add %1, C\n=>\n%2 = sub C-1, %x\n";
+
+const NOT_ADD_SOURCE: &str =
+    "define i4 @f(i4 %a) {\n  %1 = xor i4 %a, -1\n  %2 = add i4 %1, 5\n  ret i4 %2\n}\n";
+
+const NOT_ADD_WRITTEN: &str = "define i4 @f(i4 %a) {\n  %1 = sub i4 4, %a\n  ret i4 %1\n}\n";
+
+const IDENTITY: &str = "define i8 @f(i8 %a) {\n  ret i8 %a\n}\n";
+
+/// A command over a rule file `r` and a module `m`, its status, and what it leaves.
+struct Row {
+    words: &'static str,
+    rules: &'static str,
+    source: &'static str,
+    status: u8,
+    out: &'static str,
+    err: &'static str,
+}
+
+/// Runs a row's command, and says whether it leaves what the row says.
+fn leaves(alloc: Global, row: &Row) -> Result<bool, Fail> {
+    let mut world = world_of(alloc, row.rules.as_bytes(), row.source.as_bytes())?;
+    let status = run(alloc, row.words, &mut world)?;
+    Ok(is_left(status, &world, row))
+}
+
+/// Whether that is what the row says.
+fn is_left(status: u8, world: &World, row: &Row) -> bool {
+    status == row.status
+        && world.sinks.out.contents() == row.out.as_bytes()
+        && world.sinks.err.contents() == row.err.as_bytes()
+}
+
+/// Runs the command of each row, and looks at what it leaves.
+fn all_leave(rt: &impl Abort, alloc: Global, rows: &[Row]) -> Result<(), Fail> {
+    for row in rows {
+        assert!(rt;
+            leaves(alloc, row)?,
+            "what {} leaves of {}{}",
+            row.words,
+            row.rules,
+            row.source
+        );
+    }
+    Ok(())
+}

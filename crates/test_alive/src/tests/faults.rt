@@ -1,0 +1,180 @@
+//! Commands whose reads and puts fail, and what they leave.
+
+use super::running::Sinks;
+use super::*;
+use outside::FailingPut;
+use std::alloc::AllocError;
+
+/// The read and the puts that fail, a command, and what it leaves.
+struct FaultyRow {
+    read: Option<u64>,
+    out: Option<FailingPut>,
+    err: Option<FailingPut>,
+    row: Row,
+}
+
+const ROWS: [FaultyRow; 10] = [
+    FaultyRow {
+        read: None,
+        out: Some(FailingPut { number: 0, most: 3 }),
+        err: None,
+        row: Row {
+            words: VERIFY,
+            rules: XOR_SELF,
+            source: "",
+            status: 6,
+            out: "xor",
+            err: "",
+        },
+    },
+    FaultyRow {
+        read: Some(0),
+        out: None,
+        err: Some(FailingPut { number: 0, most: 3 }),
+        row: Row {
+            words: OPTIMISE,
+            rules: "",
+            source: IDENTITY,
+            status: 5,
+            out: "",
+            err: "rea",
+        },
+    },
+    FaultyRow {
+        read: None,
+        out: Some(FailingPut { number: 0, most: 7 }),
+        err: None,
+        row: Row {
+            words: OPTIMISE,
+            rules: "",
+            source: IDENTITY,
+            status: 6,
+            out: "define ",
+            err: "",
+        },
+    },
+    FaultyRow {
+        read: None,
+        out: None,
+        err: Some(FailingPut { number: 0, most: 4 }),
+        row: Row {
+            words: OPTIMISE,
+            rules: "",
+            source: IDENTITY,
+            status: 6,
+            out: IDENTITY,
+            err: "@f: ",
+        },
+    },
+    FaultyRow {
+        read: None,
+        out: None,
+        err: Some(FailingPut { number: 0, most: 4 }),
+        row: Row {
+            words: OPTIMISE,
+            rules: NOT_ADD,
+            source: NOT_ADD_SOURCE,
+            status: 6,
+            out: NOT_ADD_WRITTEN,
+            err: "not-",
+        },
+    },
+    // each sink is put to once
+    FaultyRow {
+        read: None,
+        out: Some(FailingPut { number: 1, most: 0 }),
+        err: None,
+        row: Row {
+            words: OPTIMISE,
+            rules: "",
+            source: IDENTITY,
+            status: 0,
+            out: IDENTITY,
+            err: "@f: 0 rewrites\n",
+        },
+    },
+    FaultyRow {
+        read: None,
+        out: None,
+        err: Some(FailingPut { number: 1, most: 0 }),
+        row: Row {
+            words: OPTIMISE,
+            rules: "",
+            source: IDENTITY,
+            status: 0,
+            out: IDENTITY,
+            err: "@f: 0 rewrites\n",
+        },
+    },
+    FaultyRow {
+        read: Some(2),
+        out: None,
+        err: None,
+        row: Row {
+            words: OPTIMISE,
+            rules: "",
+            source: "",
+            status: 0,
+            out: "",
+            err: "",
+        },
+    },
+    // no file is read, and nothing is put to the error stream
+    FaultyRow {
+        read: Some(0),
+        out: None,
+        err: Some(FailingPut { number: 0, most: 0 }),
+        row: Row {
+            words: "alive load 7",
+            rules: "",
+            source: "",
+            status: 0,
+            out: "functions 200\ninstructions before 4000\ninstructions after 1046\nrewrites 254\nlimit 0\n",
+            err: "",
+        },
+    },
+    FaultyRow {
+        read: None,
+        out: Some(FailingPut { number: 0, most: 9 }),
+        err: None,
+        row: Row {
+            words: "alive load 7",
+            rules: "",
+            source: "",
+            status: 6,
+            out: "functions",
+            err: "",
+        },
+    },
+];
+
+/// Lists the puts that fail.
+fn fail_puts(sinks: &mut Sinks, faults: &FaultyRow) -> Result<(), AllocError> {
+    if let Some(put) = faults.out {
+        sinks.out.fail_at(put)?;
+    }
+    if let Some(put) = faults.err {
+        sinks.err.fail_at(put)?;
+    }
+    Ok(())
+}
+
+/// Runs a row's command where these faults come, and says whether it leaves what the row says.
+fn faults_leave(alloc: Global, faults: &FaultyRow) -> Result<bool, Fail> {
+    let row = &faults.row;
+    let mut world = world_of(alloc, row.rules.as_bytes(), row.source.as_bytes())?;
+    if let Some(read) = faults.read {
+        world.files.fail_at(read)?;
+    }
+    fail_puts(&mut world.sinks, faults)?;
+    let status = run(alloc, row.words, &mut world)?;
+    Ok(is_left(status, &world, row))
+}
+
+#[test]
+fn faults_leave_what_they_say(rt: HostRuntime) -> Result<(), Fail> {
+    for (row, faults) in ROWS.iter().enumerate() {
+        assert!(rt; faults_leave(rt.alloc(), faults)?, "row {row}");
+    }
+    Ok(())
+}

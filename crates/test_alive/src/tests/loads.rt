@@ -1,0 +1,44 @@
+//! `load`, and what is left. The numbers are those of a model that was written apart from the program.
+
+use super::*;
+use alive_top::BUILT_IN;
+
+const ROWS: [Row; 2] = [
+    Row {
+        words: "alive load 0",
+        rules: "",
+        source: "",
+        status: 0,
+        out: "functions 200\ninstructions before 4000\ninstructions after 1049\nrewrites 272\nlimit 0\n",
+        err: "",
+    },
+    Row {
+        words: "alive load 4294967295",
+        rules: "",
+        source: "",
+        status: 0,
+        out: "functions 200\ninstructions before 4000\ninstructions after 989\nrewrites 272\nlimit 0\n",
+        err: "",
+    },
+];
+
+#[test]
+fn loads_leave_what_they_say(rt: HostRuntime) -> Result<(), Fail> {
+    all_leave(&rt, rt.alloc(), &ROWS)
+}
+
+#[test]
+fn built_in_rules_are_admitted(rt: HostRuntime) -> Result<(), Fail> {
+    let mut world = world_of(rt.alloc(), BUILT_IN.as_bytes(), b"")?;
+    let status = run(rt.alloc(), "alive verify r --widths 3-5", &mut world)?;
+    assert_eq!(rt; status, 0);
+    let lines = world
+        .sinks
+        .out
+        .contents()
+        .iter()
+        .filter(|byte| **byte == b'\n')
+        .count();
+    assert_eq!(rt; lines, 21);
+    Ok(())
+}
