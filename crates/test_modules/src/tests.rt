@@ -2,6 +2,7 @@
 
 mod assigned;
 mod generated;
+mod many;
 mod refused;
 mod runs;
 mod tokens;
