@@ -211,7 +211,7 @@ fn jump_from(trail: &Trail, roles: &[Role], start: usize) -> Jump
     }
 }
 
-/// The clause of the negations of what is kept before `start`, and of this literal.
+/// The clause of the negations of what is kept before `start`, and of this literal, with no room for more: it stays.
 fn clause_of(
     alloc: Global,
     trail: &Trail,
@@ -231,10 +231,10 @@ fn clause_of(
         }
     }
     clause.push(asserted)?;
-    Ok(clause)
+    Clause::from_slice(alloc, clause.as_slice())
 }
 
-/// The reasons of what is resolved, in order, and then the number of the clause that is false.
+/// The reasons of what is resolved, in order, and then the number of the clause that is false, with no room for more.
 fn hints_of(
     alloc: Global,
     trail: &Trail,
@@ -254,7 +254,9 @@ fn hints_of(
         }
     }
     hints.push(conflict)?;
-    Ok(hints)
+    let mut kept = hints.into_vec();
+    kept.shrink_to_fit();
+    Ok(List::from_vec(kept))
 }
 
 /// No part for each variable up to `count`.
