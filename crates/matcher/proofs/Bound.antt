@@ -97,3 +97,21 @@ met f rule binding j k s inst root exact within is_root is_exact stands operatio
   width = width;
   operands = operands;
 }
+
+-- what it meets, as the code asks for it
+behind : (j n : ℕ) (root : Bool) → j < n → (IsTrue root ↔ (suc j ≡ n)) → ¬ IsTrue root → suc j < n
+behind j n root within is_root none = let other : ¬ (suc j ≡ n) = λ last. none (is_root.1 last) in omega arith
+
+pub asked_place : (f : Function) (rule : Rule) (binding : Binding) (j k : ℕ) (s : Statement) (inst : Inst) (root : Bool) → j < length rule.source → (IsTrue root ↔ (suc j ≡ length rule.source))
+    → InstMatches f rule binding j s k inst → (IsTrue root → k ≡ binding.place) × (¬ IsTrue root → k < binding.place)
+asked_place f rule binding j k s inst root within is_root m =
+    (λ held. m.root (is_root.0 held), λ none. m.temporary (behind j (length rule.source) root within is_root none))
+
+pub asked_flags : (f : Function) (rule : Rule) (binding : Binding) (j k : ℕ) (s : Statement) (inst : Inst) (root exact : Bool) → j < length rule.source → (IsTrue root ↔ (suc j ≡ length rule.source)) → (IsTrue exact ↔ TargetReadsTemporary rule)
+    → InstMatches f rule binding j s k inst → AreWithin (flags_of_statement s.op) (flags_of_inst inst.op) × (IsTrue exact → ¬ IsTrue root → flags_of_inst inst.op ≡ flags_of_statement s.op)
+asked_flags f rule binding j k s inst root exact within is_root is_exact m =
+    (m.flags, λ held none. m.no_more_flags (behind j (length rule.source) root within is_root none) (is_exact.0 held))
+
+-- it is the one that stands at the place
+pub matches_as : (f : Function) (rule : Rule) (binding : Binding) (j k : ℕ) (s t : Statement) (inst : Inst) → s ≡ t → InstMatches f rule binding j t k inst → InstMatches f rule binding j s k inst
+matches_as f rule binding j k s t inst same m = subst (λ (u : Statement). InstMatches f rule binding j u k inst) (sym same) m

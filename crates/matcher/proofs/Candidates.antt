@@ -28,6 +28,7 @@ use Rattle.matcher.proofs.Bound.{statement_at}
 use Rattle.matcher.proofs.Fitting.{SourceOperand, source_operand, met_at}
 use Rattle.matcher.proofs.Knowing.{keeps_statement}
 use Rattle.matcher.proofs.Lists.{place_of, all_filled}
+use Rattle.matcher.proofs.Reading.{width_of_inst}
 use Rattle.matcher.proofs.Widths.{as_many, stable}
 
 -- the root is bound to the instruction at which the match stands
@@ -37,12 +38,6 @@ root_bound f b p rule m is k last =
     let bound = is.statements k s at in
     let place : bound.place ≡ p = bound.matches.root (omega arith) ∙ is.place in
     bound.bound ∙ ap (λ (x : ℕ). Some (registers.Result x bound.place)) is.block ∙ ap (λ (x : ℕ). Some (registers.Result b x)) place
-
--- the width of the result of an instruction
-width_of_inst : (f : Function) (b k : ℕ) (inst : Inst) → IsInst f b k inst → width_of f (registers.Result b k) ≡ Some inst.width
-width_of_inst f b k inst is =
-    ap (λ o. option_and_then (λ (block : Block). option_map (λ (i : Inst). i.width) (slice_get block.insts k)) o) is.is_block
-    ∙ ap (λ o. option_map (λ (i : Inst). i.width) o) is.is_inst
 
 -- an operand of the source from statement j on is known
 known_operand : (rule : Rule) (j : ℕ) (slots : Slots) (m : Binding) (o : Operand) → KnowsFrom rule j slots m → (stands : SourceOperand rule o) → j ≤ stands.j → KnowsOperand slots m o

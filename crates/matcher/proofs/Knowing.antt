@@ -1,16 +1,19 @@
 -- What slots know.
-use Rattle.std.proofs.Common.{◌≡◌, ℕ, List, get_or, Some, ◌∙◌, arith}
+use Rattle.std.proofs.Common.{◌≡◌, inl, inr, ℕ, ◌<◌, List, length, get_or, slice_set, Option, Some, refl, sym, ap, subst, ◌∙◌, arith}
 use Rattle.std.specs.Prelude.{slice_get, All}
+use Rattle.std.proofs.lemmas.Bool.{cases_eq}
 use Rattle.std.proofs.lemmas.Option.{slice_get-get_or}
 use Rattle.rule_core.specs.Positions.{operands_of}
 use Rattle.rule_core.specs.declared.rule.Argument.{Argument}
 use Rattle.rule_core.specs.declared.rule.Argument.TheVariants as arguments
 use Rattle.rule_core.specs.declared.rule.Operand.{Operand}
+use Rattle.rule_core.specs.declared.rule.Register.{Register as Name}
 use Rattle.rule_core.specs.declared.rule.Register.TheVariants as names
 use Rattle.rule_core.specs.declared.rule.Statement.{Statement}
-use Rattle.matcher.specs.Slots.{AreAsMany, HasName, HasOperand, HasStatement, Keeps, KnowsName, KnowsOperand, KnowsStatement}
+use Rattle.matcher.specs.Slots.{AreAsMany, HasName, HasOperand, HasStatement, Keeps, Knows, KnowsName, KnowsOperand, KnowsStatement}
 use Rattle.matcher.specs.declared.binding.Binding.{Binding}
 use Rattle.matcher.specs.declared.slots.Slots.{Slots}
+use Rattle.matcher.proofs.Lists.{set_here, set_elsewhere}
 
 -- what is kept stays known
 pub keeps_name : (m : Binding) (old new : Slots) (a : Argument) → Keeps m old new → KnowsName old m a → KnowsName new m a
@@ -72,3 +75,30 @@ as_many_along a b c first second = record {
 -- what is known of each operand by its place is known of each
 pub each_operand : (m : Binding) (slots : Slots) (os : List Operand) → ((i : ℕ) (o : Operand) → slice_get os i ≡ Some o → KnowsOperand slots m o) → All (KnowsOperand slots m) os
 each_operand m slots os each i d lt = each i (get_or os i d) (slice_get-get_or os i d lt)
+
+-- a slot that is filled is known
+pub knows_here : {T : Type 0} (slots : List (Option T)) (values : List T) (i : ℕ) (x : T) → i < length slots → slice_get values i ≡ Some x → Knows (slice_set slots i (Some x)) values i
+knows_here {T} slots values i x within at = set_here slots i (Some x) within ∙ ap (λ (o : Option T). Some o) (sym at)
+
+-- and what was known still is
+pub keeps_slots : {T : Type 0} (slots : List (Option T)) (values : List T) (i : ℕ) (x : T) → i < length slots → slice_get values i ≡ Some x → (k : ℕ) → Knows slots values k → Knows (slice_set slots i (Some x)) values k
+keeps_slots {T} slots values i x within at k knows = elim (cases_eq k i) [
+  | inl same ↦ subst (λ (j : ℕ). Knows (slice_set slots i (Some x)) values j) (sym same) (knows_here slots values i x within at)
+  | inr other ↦ set_elsewhere slots i k (Some x) (slice_get values k) other knows
+]
+
+-- as many slots as before
+pub as_many_themselves : (slots : Slots) → AreAsMany slots slots
+as_many_themselves slots = record { statements = refl; inputs = refl; constants = refl; widths = refl }
+
+-- what a name that is neither a register's nor a constant's stands for fills no slot
+pub knows_nothing : (slots : Slots) (m : Binding) (a : Argument) → ((n : Name) → a ≡ arguments.Register n → ⊥) → ((k : ℕ) → a ≡ arguments.Constant k → ⊥) → KnowsName slots m a
+knows_nothing slots m (arguments.Register n) no_register no_constant = absurd (no_register n refl)
+knows_nothing slots m (arguments.Constant k) no_register no_constant = absurd (no_constant k refl)
+knows_nothing slots m (arguments.Literal z) no_register no_constant = tt
+knows_nothing slots m (arguments.Truth b) no_register no_constant = tt
+knows_nothing slots m (arguments.Undef k) no_register no_constant = tt
+knows_nothing slots m (arguments.Term n) no_register no_constant = tt
+
+pub known_as : (slots : Slots) (m : Binding) (a b : Argument) → b ≡ a → KnowsName slots m a → KnowsName slots m b
+known_as slots m a b is knows = subst (λ (x : Argument). KnowsName slots m x) (sym is) knows

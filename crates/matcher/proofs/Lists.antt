@@ -1,8 +1,8 @@
--- Lists, their elements and their places.
-use Rattle.std.proofs.Common.{◌≡◌, ◌≢◌, inl, inr, ℕ, zero, suc, ◌<◌, ◌≤◌, List, [], ◌∷◌, length, map, take, get_or, slice_set, Option, None, Some, refl, sym, ap, ◌∙◌, arith, get_or-set_other, get_or-set_same}
-use Rattle.std.specs.Prelude.{slice_get, Contains, flat_map}
-use Rattle.std.proofs.lemmas.List.{length-set}
-use Rattle.std.proofs.lemmas.Option.{slice_get-get_or, slice_get_within, get_or_from_slice_get, same_Some}
+-- Lists, their elements and their places, and what is there or is not.
+use Rattle.std.proofs.Common.{◌≡◌, ◌≢◌, inl, inr, ℕ, zero, suc, ◌<◌, ◌≤◌, List, [], ◌∷◌, ◌++◌, length, map, take, get_or, slice_set, Option, None, Some, refl, sym, ap, ◌∙◌, arith, get_or-set_other, get_or-set_same, ◌↔◌, ◌+◌, ◌-◌, false, IsTrue, subst}
+use Rattle.std.specs.Prelude.{slice_get, Contains, flat_map, IfNone}
+use Rattle.std.proofs.lemmas.List.{length-set, map-append, take_more}
+use Rattle.std.proofs.lemmas.Option.{slice_get-get_or, slice_get_past, slice_get_within, get_or_from_slice_get, same_Some}
 use Rattle.std.proofs.lemmas.List.Elements.{Contains-append_cases}
 
 -- an element stands at some place
@@ -77,3 +77,32 @@ take_all [] zero past = refl
 take_all [] (suc n) past = refl
 take_all (x ∷ xs) zero past = absurd (omega arith)
 take_all (x ∷ xs) (suc n) past = ap (λ l. x ∷ l) (take_all xs n (omega arith))
+
+-- the values of the slots so far, and the next one's
+pub one_more_value : {X : Type 0} (slots : List (Option X)) (n : ℕ) (values more : List X) (o : Option X) (x : X) → map Some values ≡ take n slots → n < length slots → o ≡ get_or slots n o → o ≡ Some x → more ≡ values ++ x ∷ [] → map Some more ≡ take (n + 1) slots
+one_more_value {X} slots n values more o x so_far within here filled pushed =
+    ap (λ (l : List X). map Some l) pushed ∙ map-append Some values (x ∷ []) ∙ ap (λ (l : List (Option X)). l ++ Some x ∷ []) so_far
+    ∙ ap (λ (p : Option X). take n slots ++ p ∷ []) (sym filled ∙ here) ∙ sym (take_more slots n o within)
+
+-- what is lent stands at its place
+pub lent : {X : Type 0} (xs ys : List X) (i : ℕ) (x : X) → xs ≡ ys → i < length xs → ((d : X) → x ≡ get_or xs i d) → slice_get ys i ≡ Some x
+lent {X} xs ys i x same within is =
+    ap (λ (l : List X). slice_get l i) (sym same) ∙ slice_get-get_or xs i x within ∙ ap (λ (y : X). Some y) (sym (is x))
+
+pub not_lent_past : {X : Type 0} (xs ys : List X) (i : ℕ) → xs ≡ ys → length xs ≤ i → slice_get ys i ≡ None
+not_lent_past {X} xs ys i same past = ap (λ (l : List X). slice_get l i) (sym same) ∙ slice_get_past xs i past
+
+-- the last element
+pub last_of : {X : Type 0} (xs ys : List X) (x : X) → xs ≡ ys → 0 < length ys → x ≡ get_or xs (length xs - 1) x → slice_get ys (length ys - 1) ≡ Some x
+last_of {X} xs ys x same some is =
+    let within : length xs - 1 < length xs = omega (arith, ap length same) in
+    subst (λ (l : List X). slice_get l (length l - 1) ≡ Some x) same (slice_get-get_or xs (length xs - 1) x within ∙ ap (λ (y : X). Some y) (sym is))
+
+-- what holds, holds where there is nothing
+pub if_none : {X : Type 0} (r : Option X) (P : Type 0) → P → IfNone r P
+if_none None P holds = holds
+if_none (Some x) P holds = tt
+
+-- what never holds is told by false
+pub never_met : {P : Type 0} → (P → ⊥) → IsTrue false ↔ P
+never_met none = (λ h. absurd cc, λ p. absurd (none p))

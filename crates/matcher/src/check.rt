@@ -1,9 +1,8 @@
 //! Whether a binding is a match.
 
-ghost use Rattle.std.specs.Prelude.{◌≡◌, ◌+◌, ◌<◌, ◌^◌, ◌↔◌, ℕ, suc, length, All, Contains, IsTrue, IfNone, IfSome, Some, slice_get};
+ghost use Rattle.std.specs.Prelude.{◌≡◌, ◌+◌, ◌<◌, ◌^◌, ◌↔◌, ℕ, suc, length, All, Contains, IsTrue, Some, slice_get};
 ghost use Rattle.ops.specs.Flags.{AreWithin};
-ghost use Rattle.ir_core.specs.Blocks.{HasInst};
-ghost use Rattle.ir_core.specs.Checks.{IsInst, MeetsChecks};
+ghost use Rattle.ir_core.specs.Checks.{MeetsChecks};
 ghost use Rattle.rule_core.specs.Checks.{IsRule};
 ghost use Rattle.rule_core.specs.Positions.{operands_among, operands_of};
 ghost use Rattle.rule_core.specs.declared.rule.Formula.{Formula as Asked};
@@ -16,6 +15,7 @@ ghost use Rattle.matcher.specs.Statements.{InstMatches, IsTemporary, ReadsTempor
 
 use crate::binding::Binding;
 use crate::facts::FunctionFacts;
+use crate::inst::inst_at;
 use crate::operation::{
     MOST_OPERANDS, flags_of_inst, flags_of_statement, is_same_operation, operand_of,
 };
@@ -162,15 +162,6 @@ fn inst_matches(
         return false;
     }
     operands_match(f, binding, &statement.op, binding.block, place)
-}
-
-/// An instruction of the function, if it is there.
-fn inst_at(f: &Function, block: u32, place: u32) -> Option<&Inst>
-    ensures some { IfSome result (λ inst. IsInst f.now block place inst.now) }
-    ensures none { IfNone result (¬ HasInst f.now block place) }
-{
-    let written_in = f.blocks.as_slice().get(block as usize)?;
-    written_in.insts.as_slice().get(place as usize)
 }
 
 /// Whether the root is at the place of the match, and another statement's instruction before it.

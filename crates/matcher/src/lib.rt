@@ -10,6 +10,7 @@ mod candidate;
 mod check;
 mod counting;
 mod facts;
+mod inst;
 mod laws;
 mod matching;
 mod operation;

@@ -5,6 +5,7 @@ ghost use Rattle.ir_core.specs.Blocks.{HasInst};
 ghost use Rattle.rule_core.specs.Checks.{IsRule};
 ghost use Rattle.matcher.specs.Checks.{IsRootOperation};
 
+use crate::inst::inst_at;
 use crate::operation::is_same_operation;
 use ir_core::Function;
 use rule_core::Rule;
@@ -15,7 +16,10 @@ pub(crate) fn is_root_operation(f: &Function, block: u32, place: u32, rule: &Rul
     requires rule { IsRule rule.now }
     ensures { IsTrue result ↔ IsRootOperation f.now block place rule.now }
 {
-    let inst = &f.blocks.as_slice()[block as usize].insts.as_slice()[place as usize];
     let source = rule.source.as_slice();
-    is_same_operation(source[source.len() - 1].op, &inst.op)
+    let root = &source[source.len() - 1];
+    match inst_at(f, block, place) {
+        Some(inst) => is_same_operation(root.op, &inst.op),
+        None => false,
+    }
 }

@@ -8,10 +8,11 @@ ghost use Rattle.rule_core.specs.Positions.{Fixed, operands_of};
 ghost use Rattle.rule_core.specs.Typing.{IsTyping};
 ghost use Rattle.rule_core.specs.declared.rule.Operand.{Operand as SourceOperand};
 ghost use Rattle.rule_typing.specs.Classes.{IsClassified, HasClasses};
-ghost use Rattle.matcher.specs.Operands.{OperandMatches};
+ghost use Rattle.matcher.specs.Operands.{OperandMatches, StandsFor};
 ghost use Rattle.matcher.specs.declared.binding.Binding.{Binding};
 
 use crate::binding::Binding;
+use crate::inst::inst_at;
 use crate::operation::{MOST_OPERANDS, operand_of};
 use ir_core::{Function, Operand, Read, Register, read_at};
 use lists::List;
@@ -32,7 +33,7 @@ pub(crate) struct Slots {
 }
 
 impl Slots {
-    ghost use Rattle.matcher.specs.Slots.{AreAsMany, AreSlotsOf, HasOperand, HasStatement, Keeps, Knows, KnowsFrom, KnowsOperand, KnowsStatement, OperandsMatch, IsFilledAs};
+    ghost use Rattle.matcher.specs.Slots.{AreAsMany, AreSlotsOf, HasName, HasOperand, HasStatement, Keeps, Knows, KnowsFrom, KnowsName, KnowsOperand, KnowsStatement, OperandsMatch, IsFilledAs};
 
     /// The slots of a rule, of which those of the root and of the classes with a fixed width are filled.
     pub(crate) fn new(alloc: Global, rule: &Rule, root: Register) -> Result<Slots, AllocError>
@@ -137,16 +138,51 @@ impl Slots {
         ensures knows { (m : Binding) → OperandMatches m operand read
             → Keeps m self.old self.new × KnowsOperand self.new m operand }
     {
-        self.widths[operand.class as usize] = Some(read.width);
-        match (operand.value, read.operand) {
-            (Argument::Register(Name::Input(i)), bound) => self.inputs[i as usize] = Some(bound),
-            (Argument::Register(Name::Source(j)), Operand::Register(register)) => {
-                self.statements[j as usize] = Some(register);
-            }
-            (Argument::Constant(k), Operand::Number(number)) => {
-                self.constants[k as usize] = Some(number);
-            }
+        self.take_width(operand.class, read.width);
+        self.take_value(operand.value, read.operand);
+    }
+
+    /// Fills the slot of a name by the operand that it stands for.
+    fn take_value(&mut self, value: Argument, operand: Operand)
+        requires { HasName self.old value }
+        ensures sizes { AreAsMany self.old self.new }
+        ensures knows { (m : Binding) (N : ℕ) → StandsFor m N value operand
+            → Keeps m self.old self.new × KnowsName self.new m value }
+    {
+        match value {
+            Argument::Register(name) => self.take_register(name, operand),
+            Argument::Constant(k) => self.take_constant(k, operand),
             _ => {}
+        }
+    }
+
+    /// Fills the slot of an input or of a statement.
+    fn take_register(&mut self, name: Name, operand: Operand)
+        requires { HasName self.old (Argument.Register name) }
+        ensures sizes { AreAsMany self.old self.new }
+        ensures knows { (m : Binding) (N : ℕ) → StandsFor m N (Argument.Register name) operand
+            → Keeps m self.old self.new × KnowsName self.new m (Argument.Register name) }
+    {
+        match name {
+            Name::Input(i) => self.inputs[i as usize] = Some(operand),
+            Name::Source(j) => {
+                if let Operand::Register(register) = operand {
+                    self.statements[j as usize] = Some(register);
+                }
+            }
+            Name::Target(_) => {}
+        }
+    }
+
+    /// Fills the slot of a constant.
+    fn take_constant(&mut self, k: u32, operand: Operand)
+        requires { k < length self.old.constants.items }
+        ensures sizes { AreAsMany self.old self.new }
+        ensures knows { (m : Binding) (N : ℕ) → StandsFor m N (Argument.Constant k) operand
+            → Keeps m self.old self.new × Knows self.new.constants.items m.constants k }
+    {
+        if let Operand::Number(number) = operand {
+            self.constants[k as usize] = Some(number);
         }
     }
 
@@ -220,7 +256,6 @@ fn fixed_widths(alloc: Global, rule: &Rule) -> Result<Vec<Option<Width>>, AllocE
 fn width_at(f: &Function, block: u32, place: u32) -> Option<Width>
     ensures { result ≡ width_of f.now (Register.Result block place) }
 {
-    let written_in = f.blocks.as_slice().get(block as usize)?;
-    let inst = written_in.insts.as_slice().get(place as usize)?;
+    let inst = inst_at(f, block, place)?;
     Some(inst.width)
 }
