@@ -1,13 +1,10 @@
 -- What is read from the root of a match down.
 use Rattle.std.proofs.Common.{◌≡◌, inl, inr, ℕ, ◌+◌, ◌<◌, ◌≤◌, List, length, Option, Some, Ok, Err, sym, ap, subst, ◌∙◌, arith}
-use Rattle.std.specs.Prelude.{slice_get, IfOk, Result, option_map, option_and_then}
+use Rattle.std.specs.Prelude.{slice_get, IfOk, Result}
 use Rattle.std.proofs.lemmas.Bool.{cases_eq}
 use Rattle.std.proofs.lemmas.Option.{slice_get_cases, slice_get_within, get_or_from_slice_get, same_Some}
-use Rattle.ir_core.specs.Checks.{IsInst}
 use Rattle.ir_core.specs.Names.{width_of}
-use Rattle.ir_core.specs.declared.function.Block.{Block}
 use Rattle.ir_core.specs.declared.function.Function.{Function}
-use Rattle.ir_core.specs.declared.instruction.Inst.{Inst}
 use Rattle.ir_core.specs.declared.operand.Register.TheVariants as registers
 use Rattle.rule_core.specs.Checks.{IsRule, SourceMayRead}
 use Rattle.rule_core.specs.Positions.{operands_of}
