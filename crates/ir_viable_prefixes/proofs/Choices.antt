@@ -9,6 +9,7 @@ use Rattle.ir_instructions.specs.Readers.{Read, Reader}
 use Rattle.ir_instructions.specs.Keywords.{ending_word}
 use Rattle.ir_viable_prefixes.proofs.Outcomes.{Follow, Next, next_map, StopsAt, Halts, CompletesBegun, Sample, Fit, RefusesAt, Bad, Why, Reasons, ReasonsIf, OutcomeIf, Outcome, Good, GoodIf}
 use Rattle.ir_viable_prefixes.specs.Misfits.{RepeatsFlag}
+use Rattle.ir_viable_prefixes.proofs.FlagRuns.{either_apart}
 use Rattle.ir_viable_prefixes.proofs.Reasons.{an_end, a_group, Like, like_map, NoRecord, NoGroup, Maps, reason_map}
 
 -- the test asks for the next token alone
@@ -147,6 +148,7 @@ transfer {A} test asks b R S agree U U' Z voiced opens D E F records V W within 
       ∙ o.refused more;
   completes = completes o.front o.there o.completes;
   why = lift o.front e.line o.token o.behind o.there e.kind o.why;
+  new = o.new;
 }
   where
     completes : (front : List Placed) → tokens ≡ front ++ (e.line, o.token) ∷ o.behind → CompletesBegun R F front → CompletesBegun S F front
@@ -256,6 +258,7 @@ pub either-good : {A : Type 0} {U : Type 0} {E F : Follow} {R S : Reader A} (tes
 either-good {A} {U} {E} {F} {R} {S} test asks yes_opens no_opens records r s = record {
   sample = either_sample E F R S test asks r.sample;
   outcome = λ tokens e. either_outcome U E F R S test asks yes_opens no_opens records tokens (λ next. r.outcome tokens e) (λ next. s.outcome tokens e);
+  apart = either_apart test R S r.apart s.apart;
 }
 
 -- ---- the same reader
@@ -266,4 +269,5 @@ same-good {A} {V} {W} {E} {F} {R} {S} same r = record {
   outcome = λ tokens e.
       subst (OutcomeIf V E S F W (ReasonsIf V E S F) tokens) (sym (same tokens))
       (reasons_transferred (λ ts. true) (λ l k t a b. refl) true R S (λ ts h. same ts) V V W (λ v. v) (λ t u h like. refl) E E F (λ t begins h. (inr (λ ending. refl), λ end text. refl)) (λ t d. refl) (λ t d. d) tokens refl (R tokens) (r.outcome tokens e));
+  apart = λ tokens x is. r.apart tokens x (sym (same tokens) ∙ is);
 }

@@ -15,9 +15,13 @@ use Rattle.ir_parse.specs.ModuleReaders as parsing
 use Rattle.ir_parse.proofs.TakingParts.{entry-takes}
 use Rattle.ir_viable_prefixes.proofs.Choices.{AsksNext, Tested, tested_next, Opens, SaysOfRecords, transfer, begun_test, maps_transferred}
 use Rattle.ir_viable_prefixes.proofs.Functions.{function-good}
-use Rattle.ir_viable_prefixes.proofs.Outcomes.{Follow, Next, next_map, Anything, Ended, StopsAt, stops, Sample, Why, Reasons, IsReadIf, Lifts, Outcome, outcome_both, maps_first, maps_second, Takes, takes, refuses, token_outcome, Good, done-good, ◌then◌}
+use Rattle.ir_viable_prefixes.proofs.Outcomes.{Follow, Next, next_map, Anything, Ended, StopsAt, stops, Sample, Why, Reasons, IsReadIf, Lifts, Outcome, outcome_both, maps_first, maps_second, Takes, takes, refuses, token_outcome, Good, done-good, ◌then◌, TakesNoFlag, RefusesAt, token_apart, apart_new}
+use Rattle.ir_viable_prefixes.proofs.FlagRuns.{ReadsApart, both_apart}
+use Rattle.ops.specs.declared.keywords.flag.Flag.{Flag}
+use Rattle.ops.specs.declared.keywords.flag.Flag.TheVariants.{Nuw, Nsw, Exact}
+use Rattle.ops.specs.FlagKeywords.{flag_keyword}
 use Rattle.ir_viable_prefixes.proofs.Reasons.{like_word, like_type, like_function, like_width, like_number, reason_map}
-use Rattle.ir_viable_prefixes.proofs.Repeats.{Steps, steps_of, loop_sample, loop_lifts, one_step, repeat_outcomes}
+use Rattle.ir_viable_prefixes.proofs.Repeats.{Steps, steps_of, another_apart, loop_sample, loop_lifts, one_step, repeat_outcomes}
 
 -- ---- an entry
 
@@ -55,6 +59,14 @@ entry_token_takes line (Word word) = by (bytes_eq word (codes "define")) refl
     by false h = refuses (LeftOut word) (refl, refl) (λ more. rw h refl)
 entry_token_takes line t = refuses (misfit places.Entry t) (refl, refl) (λ more. refl)
 
+entry_flags : TakesNoFlag entry_token_at
+entry_flags = ((unexpected places.Entry [], refl), by)
+  where
+    by : (flag : Flag) → RefusesAt entry_token_at [] (Word (flag_keyword flag))
+    by Nuw line more = (fault line (LeftOut (codes "nuw")), refl)
+    by Nsw line more = (fault line (LeftOut (codes "nsw")), refl)
+    by Exact line more = (fault line (LeftOut (codes "exact")), refl)
+
 pub behind_entry-good : (begun : Option (List ℕ)) → Good Anything (behind_entry begun) Anything
 behind_entry-good (Some text) = done-good (λ t f. tt) _
 behind_entry-good None = function-good then (λ f. done-good (λ t g. tt) _)
@@ -64,6 +76,9 @@ Begins = Tested parsing.begins_entry true
 
 abbrev Ends : Follow
 Ends = Tested parsing.begins_entry false
+
+entry_apart : ReadsApart parsing.entry_at
+entry_apart tokens x is = both_apart entry_token_at behind_entry (token_apart entry_token_at IsFirst entry_flags entry_token_takes) (λ y. (behind_entry-good y).apart) tokens x (sym (same_entry tokens) ∙ is)
 
 -- what a refusal says, or that the first token is no entry's
 abbrev pub OrFirst : {A : Type 0} → Follow → Reader A → Follow → Why
@@ -79,7 +94,7 @@ entry_outcome tokens e =
       second = λ x is o front l t behind there kind why.
           inr (reason_map _ _ _ _ _ _ _ _ t (maps_second (Unit {0}) (Unit {0}) Begins Anything Anything entry_token_at behind_entry (λ y. (behind_entry-good y).sample) tokens x o front l t behind there) kind why);
     })
-    (λ x. (behind_entry-good x).sample) (entry_token_at tokens) refl (token_outcome (Unit {0}) Begins entry_token_at Anything (Unit {0}) IsFirst entry_token_takes tokens e) (λ x is ended. (behind_entry-good x.0).outcome x.1 ended)))
+    (apart_new (Unit {0}) (Unit {0}) Begins Anything Anything entry_token_at behind_entry (λ x. Reasons Anything (behind_entry x) Anything) tokens (token_apart entry_token_at IsFirst entry_flags entry_token_takes)) (λ x. (behind_entry-good x).sample) (entry_token_at tokens) refl (token_outcome (Unit {0}) Begins entry_token_at Anything (Unit {0}) IsFirst entry_token_takes tokens e) (λ x is ended. (behind_entry-good x.0).outcome x.1 ended)))
   where
     read : Reader RawEntry
     read ts = (entry_token_at >>= behind_entry) ts
@@ -137,7 +152,7 @@ another_outcome before tokens e =
       second = λ x is o front l t behind there kind why.
           inr (reason_map _ _ _ _ _ _ _ _ t (maps_second (Unit {0}) (Unit {0}) Begins Anything Anything parsing.entry_at (λ y. done (before ++ y ∷ [])) (λ y. (last y).sample) tokens x o front l t behind there) kind why);
     })
-    (λ x. (last x).sample) (parsing.entry_at tokens) refl (entry_outcome tokens e) (λ x is ended. (last x.0).outcome x.1 ended)
+    (λ x is o found p failed left. absurd cc) (λ x. (last x).sample) (parsing.entry_at tokens) refl (entry_outcome tokens e) (λ x is ended. (last x.0).outcome x.1 ended)
   where
     last : (x : RawEntry) → Good Anything (done (before ++ x ∷ [])) Anything
     last x = done-good (λ t d. d) (before ++ x ∷ [])
@@ -201,7 +216,7 @@ pub entries_outcome : (tokens : List Placed) → Ended tokens → Outcome Anythi
 unfolding parsing.entries_at
 entries_outcome tokens e =
     repeat_outcomes (Unit {0}) Anything Ends (Unit {0}) parsing.begins_entry (another_at parsing.entry_at) entry_steps (λ a. OrFirst Begins (another_at parsing.entry_at a) Anything) (λ E a. OrEnds E (Loop a) Ends) entry_lifts
-    (λ a ts ended next. another_outcome a ts ended) (suc (length tokens)) Anything (λ t f. tt) (λ t n. tt) [] tokens (omega arith) e
+    (λ a ts. apart_new (Unit {0}) (Unit {0}) Begins Anything Ends (another_at parsing.entry_at a) Loop (λ x. OrEnds Anything (Loop x) Ends) ts (another_apart parsing.entry_at entry_apart a)) (λ a ts ended next. another_outcome a ts ended) (suc (length tokens)) Anything (λ t f. tt) (λ t n. tt) [] tokens (omega arith) e
 
 pub entries_sample : Sample Anything parsing.entries_at EndsText
 unfolding parsing.entries_at

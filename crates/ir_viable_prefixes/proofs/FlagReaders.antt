@@ -1,12 +1,12 @@
 -- Readers of flags. One that is refused stands already among those before it.
 use Rattle.std.proofs.Common.{◌≡◌, ℕ, suc, Bool, true, false, List, [], ◌∷◌, ◌++◌, length, Option, Some, None, Ok, Err, refl, sym, ap, subst, ◌∙◌, ◌⊎◌, inl, inr, is_some, arith}
-use Rattle.std.proofs.lemmas.List.{append_cancel_right}
+use Rattle.std.proofs.lemmas.List.{append-nil, append_cancel_right}
 use Rattle.ops.specs.declared.opcode.Opcode.{Opcode}
 use Rattle.ops.specs.declared.opcode.Flags.{Flags}
 use Rattle.ops.specs.Flags.{no_flags}
 use Rattle.ir_tokens.specs.Tokens.{Token, Placed, Word, Mark}
 use Rattle.ir_tokens.specs.declared.fault.IrFaultKind.{IrFaultKind}
-use Rattle.ir_tokens.specs.declared.fault.IrFaultKind.TheVariants.{Syntax}
+use Rattle.ir_tokens.specs.declared.fault.IrFaultKind.TheVariants.{Syntax, LeftOut}
 use Rattle.ir_instructions.specs.declared.word.Ending.{Ending}
 use Rattle.ir_instructions.specs.declared.word.Ending.TheVariants as endings
 use Rattle.ir_instructions.specs.declared.word.TypeWord.TheVariants.{OutOfRange}
@@ -15,16 +15,18 @@ use Rattle.ops.specs.declared.keywords.flag.Flag.TheVariants.{Nuw, Nsw, Exact}
 use Rattle.ir_instructions.specs.InstructionReaders as parsing
 use Rattle.ir_instructions.specs.Parts.{Is, Each}
 use Rattle.ir_instructions.specs.Places.{begins_record}
-use Rattle.ir_instructions.specs.Readers.{Read, fault, repeat_at}
+use Rattle.ir_instructions.specs.Readers.{Read, Reader, fault, ◌>>=◌, repeat_at}
+use Rattle.ir_instructions.proofs.Loops.{repeat-is}
 use Rattle.ir_instructions.specs.Keywords.{ending_word, type_in}
-use Rattle.ir_instructions.proofs.Steps.{read_as, same_front}
+use Rattle.ir_instructions.proofs.Steps.{bind_ok, read_as, same_front}
 use Rattle.ops.specs.FlagKeywords.{flag_in, flag_keyword, has_flag, with_flag}
 use Rattle.ir_instructions.proofs.Takings.{flag-takes}
 use Rattle.ir_instructions.proofs.WordLemmas.{type_is_no_flag}
 use Rattle.ops.proofs.FlagKeywordLemmas.{flag_in-is}
-use Rattle.ir_viable_prefixes.specs.Misfits.{RepeatsFlag}
+use Rattle.ir_viable_prefixes.specs.Misfits.{RepeatsFlag, IsRepeated}
 use Rattle.ir_viable_prefixes.proofs.Choices.{AsksNext, Tested, Opens, SaysOfRecords}
-use Rattle.ir_viable_prefixes.proofs.Outcomes.{Follow, Anything, Ended, Why, Reasons, Lifts, OutcomeIf, Takes, takes, refuses, taken, repeats_behind, outcome_map, GoodIf}
+use Rattle.ir_viable_prefixes.proofs.Outcomes.{Follow, Anything, Ended, Why, Reasons, Lifts, OutcomeIf, Takes, takes, refuses, taken, repeats_behind, outcome_map, GoodIf, Sample, sample_both, RefusesAt, CompletesBegun, OutcomesIf, ReasonsIf, reasons_lift, outcome_both}
+use Rattle.ir_viable_prefixes.proofs.FlagRuns.{NoFlag, NoFlagNext, IsLeft, leaves_both, new_behind}
 use Rattle.ir_viable_prefixes.proofs.Reasons.{like_word, like_type, like_function, like_width, like_number}
 use Rattle.ir_viable_prefixes.proofs.Repeats.{Steps, loop_sample, repeat_outcomes}
 
@@ -174,11 +176,82 @@ there_before op front t kind (w, flag, token, same, syntax, r) = subst (Reasons 
     by Nsw (inr h) = let no = h.0 in absurd cc
     by Exact (inr h) = let no = h.0 in absurd cc
 
-pub flags-good : (op : Opcode) → GoodIf (Unit {0}) Anything (parsing.flags_at op) (NotFlag op) ⊥
+flags_sample : (op : Opcode) → Sample Anything (parsing.flags_at op) (NotFlag op)
 unfolding parsing.flags_at
-flags-good op = record {
-  sample = loop_sample ⊥ Anything (NotFlag op) ⊥ (parsing.is_flag op) (parsing.flag_at op) (flag_steps op) Anything (λ t f. tt) no_flags;
+flags_sample op = loop_sample ⊥ Anything (NotFlag op) ⊥ (parsing.is_flag op) (parsing.flag_at op) (flag_steps op) Anything (λ t f. tt) no_flags
+
+flags_outcome : (op : Opcode) → OutcomesIf (Unit {0}) Anything (parsing.flags_at op) (NotFlag op) ⊥
+unfolding parsing.flags_at
+flags_outcome op tokens e =
+    outcome_map (Unit {0}) Anything (parsing.flags_at op) (NotFlag op) ⊥ (IsThereOrRead no_flags) (Reasons Anything (parsing.flags_at op) (NotFlag op)) (there_before op) tokens (parsing.flags_at op tokens)
+    (repeat_outcomes ⊥ Anything (NotFlag op) ⊥ (parsing.is_flag op) (parsing.flag_at op) (flag_steps op) IsThere (λ E a. IsThereOrRead a) (flag_lifts op) (λ a ts x is o found p failed left. absurd (syntax_left p.why.4 left)) (flag_outcome op) (suc (length tokens)) Anything (λ t f. tt) (λ t n. tt) no_flags tokens (omega arith) e)
+  where
+    syntax_left : {kind : IrFaultKind} → kind ≡ Syntax → IsLeft kind → ⊥
+    syntax_left syntax (text, left) = let both : Syntax ≡ LeftOut text = sym syntax ∙ left in cc
+
+-- ---- what stands behind flags
+
+abbrev AreOwn : Opcode → List Placed → Type 0
+AreOwn op [] = Unit {0}
+AreOwn op (t ∷ tokens) = IsFlag op t.1 × AreOwn op tokens
+
+own_flag : (op : Opcode) (before : List Placed) (t : Placed) (behind : List Placed) → AreOwn op (before ++ t ∷ behind) → IsFlag op t.1
+own_flag op [] t behind own = own.0
+own_flag op (u ∷ before) t behind own = own_flag op before t behind own.1
+
+-- flags of the operation are read, and none is next
+flags_are : (op : Opcode) (tokens : List Placed) (x : Flags × List Placed) → parsing.flags_at op tokens ≡ Ok x → ((front : List Placed) × (tokens ≡ front ++ x.1) × AreOwn op front) × (parsing.is_flag op x.1 ≡ false)
+unfolding parsing.flags_at
+flags_are op tokens x is =
+    repeat-is (parsing.is_flag op) (parsing.flag_at op) (λ a ts b rest. (front : List Placed) × (ts ≡ front ++ rest) × AreOwn op front) (λ a ts. ([], refl, tt)) (λ a ts y b rest next one more. another a ts y rest next one more) _ no_flags tokens x is
+  where
+    another : (a : Flags) (ts : List Placed) (y : Flags × List Placed) (rest : List Placed) → parsing.is_flag op ts ≡ true → parsing.flag_at op a ts ≡ Ok y → (front : List Placed) × (y.1 ≡ front ++ rest) × AreOwn op front → (front : List Placed) × (ts ≡ front ++ rest) × AreOwn op front
+    another a ts y rest next one (front, there, own) =
+        let s = flag_step op a ts y one in
+        let flag : IsFlag op (Word (flag_keyword s.1)) = flag_next op 0 s.0 (Word (flag_keyword s.1)) [] y.1 ∙ subst (λ (us : List Placed). parsing.is_flag op us ≡ true) s.2 next in
+        ((s.0, Word (flag_keyword s.1)) ∷ front, s.2 ∙ ap (λ (us : List Placed). (s.0, Word (flag_keyword s.1)) ∷ us) there, (flag, own))
+
+-- so the next token repeats none of them
+next_new : (op : Opcode) (front : List Placed) (l : ℕ) (t : Token) (rest : List Placed) → AreOwn op front → parsing.is_flag op ((l, t) ∷ rest) ≡ false → ¬ IsRepeated front t
+next_new op front l t rest own none (w, is, (before, run, flag, flags, same, word, (between, (k, one), each))) =
+    let there : front ≡ before ++ (k, Word (flag_keyword flag)) ∷ between = same ∙ ap (λ (ts : List Placed). before ++ ts) one in
+    let next : IsFlag op (Word (flag_keyword flag)) = own_flag op before (k, Word (flag_keyword flag)) between (subst (AreOwn op) there own) in
+    let other : Tested (parsing.is_flag op) false (Word (flag_keyword flag)) = flag_next op 0 l (Word (flag_keyword flag)) [] rest ∙ subst (λ (u : Token). parsing.is_flag op ((l, u) ∷ rest) ≡ false) (is ∙ ap Word word) none in
+    is_one (parsing.is_flag op ((0, Word (flag_keyword flag)) ∷ [])) next other
+  where
+    is_one : (b : Bool) → b ≡ true → b ≡ false → ⊥
+    is_one b holds fails = cc
+
+-- flags, and a reader behind them that takes none at once
+pub flags_then : {A : Type 0} {W : Type 0} (op : Opcode) {S : Flags → Reader A} → ((x : Flags) → GoodIf ⊥ (NotFlag op) (S x) Anything W) → ((x : Flags) (flag : Flag) → RefusesAt (S x) [] (Word (flag_keyword flag))) → GoodIf (Unit {0}) Anything (parsing.flags_at op >>= S) Anything W
+flags_then {A} {W} op {S} s no_flags_at = record {
+  sample = sample_both Anything (NotFlag op) Anything (parsing.flags_at op) S (flags_sample op) (λ x. (s x).sample);
   outcome = λ tokens e.
-      outcome_map (Unit {0}) Anything (parsing.flags_at op) (NotFlag op) ⊥ (IsThereOrRead no_flags) (Reasons Anything (parsing.flags_at op) (NotFlag op)) (there_before op) tokens (parsing.flags_at op tokens)
-      (repeat_outcomes ⊥ Anything (NotFlag op) ⊥ (parsing.is_flag op) (parsing.flag_at op) (flag_steps op) IsThere (λ E a. IsThereOrRead a) (flag_lifts op) (flag_outcome op) (suc (length tokens)) Anything (λ t f. tt) (λ t n. tt) no_flags tokens (omega arith) e);
+      outcome_both (Unit {0}) ⊥ W Anything (NotFlag op) Anything (parsing.flags_at op) S (Reasons Anything (parsing.flags_at op) (NotFlag op)) (λ x. ReasonsIf ⊥ (NotFlag op) (S x) Anything) (Reasons Anything (parsing.flags_at op >>= S) Anything) tokens
+      (reasons_lift (Unit {0}) ⊥ Anything (NotFlag op) Anything (parsing.flags_at op) S (λ x. (s x).sample) tokens) (λ x is o found p failed left. new tokens x is o.front o.there p.front found.line p.token p.behind p.there (p.new left) p.completes)
+      (λ x. (s x).sample) (parsing.flags_at op tokens) refl (flags_outcome op tokens e) (λ x is ended. (s x.0).outcome x.1 ended);
+  apart = λ tokens y is.
+      let one = bind_ok (parsing.flags_at op tokens) S y is in
+      let a = flags_are op tokens one.0 one.1 in
+      leaves_both tokens one.0.1 y.1 (a.0.0, a.0.1, inr (next one.0.0 one.0.1 y one.2)) ((s one.0.0).apart one.0.1 y one.2);
 }
+  where
+    no_flag : (x : Flags) (l : ℕ) (t : Token) (more : List Placed) (y : A × List Placed) → S x ((l, t) ∷ more) ≡ Ok y → NoFlag t
+    no_flag x l t more y read flag same =
+        let r = no_flags_at x flag l more in
+        let both : the_result (Err r.0) ≡ Ok y = sym r.1 ∙ ap (λ (u : Token). S x ((l, u) ∷ more)) (sym same) ∙ read in absurd cc
+      where
+        the_result : Read A → Read A
+        the_result q = q
+
+    next : (x : Flags) (tokens : List Placed) (y : A × List Placed) → S x tokens ≡ Ok y → NoFlagNext tokens
+    next x [] y read = tt
+    next x ((l, t) ∷ more) y read = no_flag x l t more y read
+
+    new : (tokens : List Placed) (x : Flags × List Placed) → parsing.flags_at op tokens ≡ Ok x → (first : List Placed) → tokens ≡ first ++ x.1 → (front : List Placed) (l : ℕ) (t : Token) (behind : List Placed) → x.1 ≡ front ++ (l, t) ∷ behind
+        → ¬ IsRepeated front t → CompletesBegun (S x.0) Anything front → ¬ IsRepeated (first ++ front) t
+    new tokens x is first whole [] l t behind there none c =
+        let a = flags_are op tokens x is in
+        let same : a.0.0 ≡ first = append_cancel_right a.0.0 first x.1 (sym a.0.1 ∙ whole) in
+        subst (λ (f : List Placed). ¬ IsRepeated f t) (sym (append-nil first)) (next_new op first l t behind (subst (AreOwn op) same a.0.2) (subst (λ (ts : List Placed). parsing.is_flag op ts ≡ false) there a.1))
+    new tokens x is first whole ((k, u) ∷ front) l t behind there none c = new_behind first ((k, u) ∷ front) l t behind (inr (no_flag x.0 k u (front ++ (c.1 ++ (k, u) ∷ [])) (c.0, (k, u) ∷ []) (c.2 ((k, u) ∷ []) tt))) none

@@ -20,11 +20,12 @@ use Rattle.ir_instructions.specs.Punctuation as marks
 use Rattle.ir_parse.specs.Items.{is_item_word}
 use Rattle.ir_parse.specs.ModuleReaders as parsing
 use Rattle.ir_parse.proofs.TakingParts.{block-takes, parameter-takes}
+use Rattle.ops.specs.FlagKeywords.{flag_keyword}
 use Rattle.ir_viable_prefixes.specs.Misfits.{RepeatsFlag}
 use Rattle.ir_viable_prefixes.proofs.Choices.{AsksNext, Tested, Opens, SaysOfRecords, reasons_transferred, either-good}
 use Rattle.ir_viable_prefixes.proofs.Instructions.{insts-good}
 use Rattle.ir_viable_prefixes.proofs.Items.{FollowsLast, items-good, last_items-good}
-use Rattle.ir_viable_prefixes.proofs.Outcomes.{Follow, Next, next_map, Anything, Ended, StopsAt, Halts, CompletesBegun, Fit, RefusesAt, Bad, Why, Reasons, Outcome, Takes, takes, refuses, fits_alone, one_token, MayTake, may_take, leaves, token_or_none, Good, done-good, ◌then◌}
+use Rattle.ir_viable_prefixes.proofs.Outcomes.{Follow, Next, next_map, Anything, Ended, StopsAt, Halts, CompletesBegun, Fit, RefusesAt, Bad, Why, Reasons, Outcome, Takes, takes, refuses, fits_alone, one_token, MayTake, may_take, leaves, token_or_none, Good, done-good, ◌then◌, TakesNoFlag, LeavesFlags}
 use Rattle.ir_viable_prefixes.proofs.Reasons.{a_type, an_end, a_group, NoRecord, Like, like_word, like_type, like_function, like_width, like_number, reason_map, fixed_reason, function_reason}
 use Rattle.ir_viable_prefixes.proofs.Repeats.{each-good}
 use Rattle.ir_viable_prefixes.proofs.Statements.{NotComma, NotMetadata, NotRegister, mark_next, mark_open, mark_shut, mark_records, attachments-good, tail-good, terminator-good}
@@ -75,8 +76,12 @@ unfolding parsing.label_at
 no_label (Label name) none = absurd cc
 no_label t none = λ l more. refl
 
+label_leaves_flags : LeavesFlags parsing.label_at None
+unfolding parsing.label_at
+label_leaves_flags = (refl, λ flag l more. refl)
+
 label-good : Good Anything parsing.label_at NotLabel
-label-good = token_or_none None no_label (λ t is. tt) (label_takes _)
+label-good = token_or_none None no_label (λ t is. tt) label_leaves_flags (label_takes _)
 
 -- what may follow instructions
 abbrev FollowsInsts : Follow
@@ -118,8 +123,12 @@ unfolding unexpected
 some_label_takes E F line (Label name) = takes _ refl (λ more. refl)
 some_label_takes E F line t = refuses (misfit places.Fixed t) (fixed_reason (Fit E some_label_at F []) (Bad (Unit {0}) some_label_at []) (RepeatsFlag []) (RefusesAt some_label_at []) t (λ u like. some_label_bad like, λ begins. inr (λ ending l more. (fault l (misfit places.Fixed (Word (ending_word ending))), refl)))) (λ more. refl)
 
+some_label_flags : TakesNoFlag some_label_at
+unfolding unexpected
+some_label_flags = ((unexpected places.Fixed [], refl), λ flag line more. (fault line (misfit places.Fixed (Word (flag_keyword flag))), refl))
+
 narrowed : {A : Type 0} {E F G : Follow} {R : Reader A} → ((t : Token) → G t → F t) → Good E R F → Good E R G
-narrowed {A} {E} {F} {G} {R} within r = record { sample = (r.sample.0, r.sample.1, λ ts next. r.sample.2 ts (next_map G F ts within next)); outcome = λ tokens e. outcome tokens (R tokens) (r.outcome tokens e) }
+narrowed {A} {E} {F} {G} {R} within r = record { sample = (r.sample.0, r.sample.1, λ ts next. r.sample.2 ts (next_map G F ts within next)); outcome = λ tokens e. outcome tokens (R tokens) (r.outcome tokens e); apart = r.apart }
   where
     begun : (front : List Placed) → CompletesBegun R F front → CompletesBegun R G front
     begun [] c = tt
@@ -160,13 +169,14 @@ narrowed {A} {E} {F} {G} {R} within r = record { sample = (r.sample.0, r.sample.
           reason_map (Fit E R F o.front) (Fit E R G o.front) (Bad (Unit {0}) R o.front) (Bad (Unit {0}) R o.front) (RepeatsFlag o.front) (RepeatsFlag o.front)
           (RefusesAt R o.front) (RefusesAt R o.front) o.token
           (record { fits = fits o.front; bad = λ u b. b; repeats = λ w r. r; records = λ begins none. no_records (RefusesAt R o.front) o.front none; groups = λ begins end none. none }) x.kind o.why;
+      new = o.new;
     }
 
 labelled-good : Good (Tested parsing.is_label true) (some_label_at >>= block_behind) NotComma
 labelled-good = closed then block_behind-good
   where
     closed : Good (Tested parsing.is_label true) some_label_at NotLabel
-    closed = one_token (Label (codes "a"), refl, _, λ more. refl) (some_label_takes (Tested parsing.is_label true) NotLabel)
+    closed = one_token (Label (codes "a"), refl, _, λ more. refl) some_label_flags (some_label_takes (Tested parsing.is_label true) NotLabel)
 
 same_block : (tokens : List Placed) → parsing.is_label tokens ≡ true → parsing.block_at tokens ≡ (some_label_at >>= block_behind) tokens
 unfolding parsing.block_at parsing.label_at
@@ -191,7 +201,7 @@ blocks-good = block-good then (λ first. others (first ∷ []))
         (reasons_transferred parsing.is_label label_next true (some_label_at >>= block_behind) parsing.block_at same_block (Unit {0}) (Unit {0}) (Unit {0}) (λ v. v) label_open (Tested parsing.is_label true) (Tested parsing.is_label true) NotComma (λ t begins says. let r = label_records true t begins says in (inr r.0, λ end. r.1)) (λ t d. d) (λ t d. d) tokens next ((some_label_at >>= block_behind) tokens) (labelled-good.outcome tokens e))
 
     others : (front : List RawBlock) → Good NotComma (each_at parsing.is_label parsing.block_at front) FollowsBlocks
-    others front = each-good (Unit {0}) NotComma parsing.is_label parsing.block_at (record { asks = label_next; takes = block-takes; ends = λ t f. f.0; ends_part = λ t f. f.1; next_ends_part = label_is_no_comma; opens = label_open; shuts = label_shut; records = λ a b t begins h. let r = label_records b t begins h in (inr r.0, λ end. r.1) }) labelled (λ t f. f.1) label_is_no_comma front
+    others front = each-good (Unit {0}) NotComma parsing.is_label parsing.block_at (record { asks = label_next; takes = block-takes; ends = λ t f. f.0; ends_part = λ t f. f.1; next_ends_part = label_is_no_comma; opens = label_open; shuts = label_shut; records = λ a b t begins h. let r = label_records b t begins h in (inr r.0, λ end. r.1) }) block-good.apart labelled (λ t f. f.1) label_is_no_comma front
 
 -- ---- parameters
 
@@ -220,8 +230,12 @@ FollowsParameter t = FollowsLast t × NotRegister t
 abbrev FollowsParameters : Follow
 FollowsParameters t = FollowsParameter t × NotComma t
 
+name_leaves_flags : LeavesFlags parsing.parameter_name_at None
+unfolding parsing.parameter_name_at
+name_leaves_flags = (refl, λ flag l more. refl)
+
 parameter_name-good : Good FollowsLast parsing.parameter_name_at FollowsParameter
-parameter_name-good = token_or_none None (λ t f. no_name t f.1) (λ t f. f.0) (parameter_name_takes _)
+parameter_name-good = token_or_none None (λ t f. no_name t f.1) (λ t f. f.0) name_leaves_flags (parameter_name_takes _)
 
 parameter-good : {E : Follow} → E a_type → Good E parsing.parameter_at FollowsParameter
 unfolding parsing.parameter_at
@@ -255,7 +269,7 @@ some_parameters-good e = parameter-good e then (λ first. others (first ∷ []))
     others front =
         each-good (Unit {0}) FollowsParameter (is_mark marks.comma) parsing.further_parameter_at
         (record { asks = mark_next marks.comma; takes = parameter-takes; ends = λ t f. f.1; ends_part = λ t f. f.0; next_ends_part = comma_follows; opens = mark_open marks.comma refl; shuts = mark_shut marks.comma; records = λ a b t begins h. let r = mark_records marks.comma refl b t begins h in (inr r.0, λ end. r.1) })
-        (λ tokens e next. (further_parameter-good {E = Tested (is_mark marks.comma) true} refl).outcome tokens e) (λ t f. f.0) comma_follows front
+        (further_parameter-good {E = Anything} tt).apart (λ tokens e next. (further_parameter-good {E = Tested (is_mark marks.comma) true} refl).outcome tokens e) (λ t f. f.0) comma_follows front
 
 parameter_list-good : Good Anything parsing.parameter_list_at Closes
 unfolding parsing.parameter_list_at
@@ -292,9 +306,13 @@ function_name_takes E F fit line (Function written) = by (identifier_of written)
     by (Numbered n) h = refuses (LeftOut (codes "@")) (function_reason (Fit E parsing.function_name_at F []) (Bad (Unit {0}) parsing.function_name_at []) (RepeatsFlag []) (RefusesAt parsing.function_name_at []) written (codes "f") fit) (λ more. rw h refl)
 function_name_takes E F fit line t = refuses (misfit places.Fixed t) (fixed_reason (Fit E parsing.function_name_at F []) (Bad (Unit {0}) parsing.function_name_at []) (RepeatsFlag []) (RefusesAt parsing.function_name_at []) t (λ u like. function_name_bad refl like, λ begins. inr (λ ending l more. (fault l (misfit places.Fixed (Word (ending_word ending))), refl)))) (λ more. refl)
 
+function_name_flags : TakesNoFlag parsing.function_name_at
+unfolding parsing.function_name_at unexpected
+function_name_flags = ((unexpected places.Fixed [], refl), λ flag line more. (fault line (misfit places.Fixed (Word (flag_keyword flag))), refl))
+
 function_name-good : Good Anything parsing.function_name_at Anything
 unfolding parsing.function_name_at identifier_of name_of bytes.is_digit
-function_name-good = one_token (a_function, tt, _, λ more. refl) (function_name_takes Anything Anything (fits_alone Anything parsing.function_name_at Anything a_function (0, codes "f") tt (λ more. refl)))
+function_name-good = one_token (a_function, tt, _, λ more. refl) function_name_flags (function_name_takes Anything Anything (fits_alone Anything parsing.function_name_at Anything a_function (0, codes "f") tt (λ more. refl)))
 
 -- what may follow attachments
 abbrev FollowsAttachments : Follow

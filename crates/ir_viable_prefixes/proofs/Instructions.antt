@@ -16,7 +16,8 @@ use Rattle.ir_instructions.proofs.Shorter.{token}
 use Rattle.ir_instructions.proofs.Takings.{tail-takes, incoming-takes, inst-takes}
 use Rattle.ir_viable_prefixes.proofs.Choices.{Tested, tested_next, And, Either, either_outcome, either_sample, reasons_transferred, same-good}
 use Rattle.ir_viable_prefixes.proofs.Outcomes.{Follow, next_map, Anything, Ended, Sample, Why, Reasons, IsReadIf, Outcome, both, Good, done-good, ◌then◌}
-use Rattle.ir_viable_prefixes.proofs.Repeats.{one_step, another_takes, each-good}
+use Rattle.ir_viable_prefixes.proofs.Repeats.{one_step, another_takes, another_apart, each-good}
+use Rattle.ir_viable_prefixes.proofs.FlagRuns.{ReadsApart, both_apart, loop_apart}
 use Rattle.ir_viable_prefixes.proofs.Statements.{NotComma, NotRegister, mark_shut, mark_open, metadata_shut, metadata_open, register_shut, register_open, mark_records, metadata_records, register_records, mark_next, metadata_next, register_next, attachment-good, tail-good, binary-good, compare-good, select-good, convert-good, freeze-good, incoming-good}
 use Rattle.ir_viable_prefixes.proofs.TokenReaders.{mark-good, a_register, register-good, type-good, opcode_at, opcode-good}
 
@@ -95,9 +96,18 @@ begun-good width = incoming-good width (tt, refl)
 comma-good : Good (Tested (parsing.is_mark marks.comma) true) (parsing.mark_at marks.comma) Anything
 comma-good = mark-good marks.comma refl
 
+further-good : (width : ℕ) → Good Anything (parsing.further_incoming_at width) Anything
+unfolding parsing.further_incoming_at
+further-good width = mark-good marks.comma tt then (λ u. incoming-good width tt)
+
 others-good : {A : Type 0} (width : ℕ) (f : List RawIncoming → A) (front : List RawIncoming) → Good Anything (Others width f front) NotComma
-others-good {A} width f front = record { sample = some front; outcome = λ tokens e. outcomes (suc (length tokens)) front tokens (omega arith) e }
+others-good {A} width f front = record { sample = some front; outcome = λ tokens e. outcomes (suc (length tokens)) front tokens (omega arith) e; apart = apart }
   where
+    apart : ReadsApart (Others width f front)
+    apart =
+        both_apart (parsing.incomings_at width front) (λ incomings. Ending (f incomings))
+        (loop_apart parsing.begins_incoming (another_at (parsing.further_incoming_at width)) (another_apart (parsing.further_incoming_at width) (further-good width).apart) front) (λ incomings. (ending-good (f incomings)).apart)
+
     some : (front : List RawIncoming) → Sample Anything (Others width f front) NotComma
     some front =
         (f front, [], λ tokens next. (no_others width f front tokens (tested_next (parsing.is_mark marks.comma) (mark_next marks.comma) false tokens next), next_map NotComma Anything tokens (λ t is. tt) next))
@@ -109,7 +119,7 @@ others-good {A} width f front = record { sample = some front; outcome = λ token
         either_outcome (Unit {0}) Anything NotComma (parsing.attachment_at >>= λ u. Ending (f front)) (parsing.incoming_at width >>= λ i. Others width f (front ++ i ∷ [])) parsing.is_metadata metadata_next metadata_open metadata_shut metadata_records tokens
         (λ next. (attached-good (f front)).outcome tokens e)
         (λ next.
-        both (Unit {0}) (Unit {0}) (Unit {0}) (And Anything (Tested parsing.is_metadata false)) Anything NotComma (parsing.incoming_at width) (λ i. Others width f (front ++ i ∷ [])) (λ i. some (front ++ i ∷ [])) tokens ((begun-good width).outcome tokens e)
+        both (Unit {0}) (Unit {0}) (Unit {0}) (And Anything (Tested parsing.is_metadata false)) Anything NotComma (parsing.incoming_at width) (λ i. Others width f (front ++ i ∷ [])) (begun-good width).apart (λ i. some (front ++ i ∷ [])) tokens ((begun-good width).outcome tokens e)
         (λ y is ended.
         more y (read_less (And Anything (Tested parsing.is_metadata false)) Anything (parsing.incoming_at width) (Reasons (And Anything (Tested parsing.is_metadata false)) (parsing.incoming_at width) Anything) tokens (parsing.incoming_at width tokens) y is ((begun-good width).outcome tokens e)) ended))
 
@@ -127,7 +137,7 @@ others-good {A} width f front = record { sample = some front; outcome = λ token
         subst (Outcome Anything (Others width f front) NotComma (Reasons Anything (Others width f front) NotComma) tokens) (sym (others_behind width f front tokens next))
         (reasons_transferred (parsing.is_mark marks.comma) (mark_next marks.comma) true (parsing.mark_at marks.comma >>= λ u. BehindComma width f front) (Others width f front) (others_behind width f front) (Unit {0}) (Unit {0}) (Unit {0}) (λ v. v) (mark_open marks.comma refl) (Tested (parsing.is_mark marks.comma) true) Anything NotComma (λ t begins says. let r = mark_records marks.comma refl true t begins says in (inr r.0, λ end. r.1)) (λ t d. d) (λ t d. tt) tokens next
         ((parsing.mark_at marks.comma >>= λ u. BehindComma width f front) tokens)
-        (both (Unit {0}) (Unit {0}) (Unit {0}) (Tested (parsing.is_mark marks.comma) true) Anything NotComma (parsing.mark_at marks.comma) (λ u. BehindComma width f front) (λ u. samples front) tokens (comma-good.outcome tokens e)
+        (both (Unit {0}) (Unit {0}) (Unit {0}) (Tested (parsing.is_mark marks.comma) true) Anything NotComma (parsing.mark_at marks.comma) (λ u. BehindComma width f front) comma-good.apart (λ u. samples front) tokens (comma-good.outcome tokens e)
         (λ x is ended_here.
         let fewer : length x.1 < length tokens = token (Mark marks.comma) tokens x.1 (mark_at-is marks.comma tokens x is) in
         behind front x.1 ended_here (λ y less ended_there. more (front ++ y.0 ∷ []) y.1 (omega arith) ended_there))))
@@ -180,4 +190,4 @@ pub insts-good : {E F : Follow} → ((t : Token) → F t → NotComma t) → ((t
 unfolding parsing.insts_at
 insts-good no_comma no_register enters next_enters =
     each-good (Unit {0}) NotComma parsing.is_register parsing.inst_at (record { asks = register_next; takes = inst-takes; ends = no_register; ends_part = no_comma; next_ends_part = register_is_no_comma; opens = register_open; shuts = register_shut; records = λ a b t begins h. let r = register_records b t begins h in (inr r.0, λ end. r.1) })
-    (λ tokens e next. (inst-good {E = Tested parsing.is_register true} refl).outcome tokens e) enters next_enters []
+    (inst-good {E = Anything} tt).apart (λ tokens e next. (inst-good {E = Tested parsing.is_register true} refl).outcome tokens e) enters next_enters []

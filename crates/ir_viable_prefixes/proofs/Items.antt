@@ -1,22 +1,26 @@
 -- Readers of items.
-use Rattle.std.proofs.Common.{◌≡◌, ℕ, Bool, true, false, List, [], ◌∷◌, ◌++◌, Ok, Err, refl, sym, ap, subst, ◌∙◌, inl, inr, cond, append_assoc}
+use Rattle.std.proofs.Common.{◌≡◌, ℕ, suc, Bool, true, false, eqb, List, [], ◌∷◌, ◌++◌, length, Ok, Err, refl, sym, ap, subst, ◌∙◌, inl, inr, cond, append_assoc, arith}
 use Rattle.std.proofs.lemmas.List.{append-nil, append_cancel_right}
 use Rattle.std.specs.Prelude.{codes}
-use Rattle.ir_tokens.specs.Tokens.{Token, Placed, KeptGroup, Word, Number, Function, Group, Quoted, Mark, is_last}
+use Rattle.ir_tokens.specs.Tokens.{Token, Placed, End, Other, Bad as Bad_token, KeptGroup, Word, Number, Function, Group, Quoted, Mark, is_last}
 use Rattle.ir_tokens.specs.declared.raw.RawValue.TheVariants as values
 use Rattle.ir_tokens.specs.declared.fault.IrFaultKind.{IrFaultKind}
 use Rattle.ir_tokens.specs.declared.fault.IrFaultKind.TheVariants.{Syntax, LeftOut}
 use Rattle.ir_instructions.specs.declared.place.Place.TheVariants as places
-use Rattle.ir_instructions.specs.InstructionReaders.{is_mark}
+use Rattle.ir_instructions.specs.InstructionReaders.{is_mark, mark_at}
 use Rattle.ir_instructions.specs.Parts.{Part, Each}
-use Rattle.ir_instructions.specs.Places.{is_word, misfit}
-use Rattle.ir_instructions.specs.Readers.{Reader, fault, unexpected, ◌>>=◌, done, each_at}
+use Rattle.ir_instructions.specs.Places.{is_word, leaves_out, misfit}
+use Rattle.ir_instructions.specs.Readers.{Read, Reader, fault, unexpected, ◌>>=◌, done, another_at, each_at}
+use Rattle.ops.specs.declared.keywords.flag.Flag.{Flag}
+use Rattle.ops.specs.declared.keywords.flag.Flag.TheVariants.{Nuw, Nsw, Exact}
+use Rattle.ops.specs.FlagKeywords.{flag_keyword}
 use Rattle.ir_instructions.specs.Keywords.{ending_word, type_in}
 use Rattle.ir_instructions.specs.Punctuation as marks
 use Rattle.ir_parse.specs.Grammar.{SpellsItem, of_word, of_word_and_group, of_number, of_group, of_quoted, of_key_and_value}
 use Rattle.ir_parse.specs.Items.{is_item_word}
 use Rattle.ir_parse.specs.ModuleReaders as parsing
-use Rattle.ir_instructions.proofs.Loops.{each-more, each-done}
+use Rattle.ir_instructions.proofs.Loops.{repeat-is, each-more, each-done}
+use Rattle.ir_instructions.proofs.Steps.{read_as}
 use Rattle.ir_instructions.proofs.WordLemmas.{type_in-of}
 use Rattle.ir_parse.proofs.ItemReadings.{items_at-is}
 use Rattle.ir_parse.proofs.ItemSpellings.{MayFollowItem, items_at-of}
@@ -24,9 +28,10 @@ use Rattle.ir_parse.proofs.TakingParts.{item-takes}
 use Rattle.ir_viable_prefixes.specs.Misfits.{RepeatsFlag}
 use Rattle.ir_viable_prefixes.specs.Misfits as nouns
 use Rattle.ir_viable_prefixes.proofs.Choices.{AsksNext, Tested, tested_next, Opens, OpensRecords, either-good, reasons_transferred}
-use Rattle.ir_viable_prefixes.proofs.Outcomes.{Follow, Next, next_map, Anything, Ended, StopsAt, stops, Sample, sample_both, Fit, RefusesAt, Bad, bad_second, Why, Reasons, ReasonsIf, Halts, OutcomeIf, Outcome, outcome_both, maps_first, Takes, takes, refuses, one_token, MayTake, may_take, leaves, token_or_none, Good, GoodIf, done-good, ◌then◌}
+use Rattle.ir_viable_prefixes.proofs.Outcomes.{Follow, Next, next_map, Anything, Ended, StopsAt, stops, Sample, sample_both, Fit, RefusesAt, Bad, bad_second, Why, Reasons, ReasonsIf, Halts, OutcomeIf, Outcome, outcome_both, maps_first, Takes, takes, refuses, one_token, MayTake, may_take, leaves, token_or_none, Good, GoodIf, done-good, ◌then◌, TakesNoFlag, LeavesFlags, apart_new, nothing_new, reasons_lift, token_outcome}
+use Rattle.ir_viable_prefixes.proofs.FlagRuns.{NoFlagNext, none_repeated, ReadsApart, Leaves, leaves_all, done_apart, both_apart, IsLeft, LeavesNothingOut, fault_left, done_nothing, both_nothing, loop_nothing}
 use Rattle.ir_viable_prefixes.proofs.Reasons.{a_group, Like, like_word, like_type, like_function, like_width, like_number, Widths, like_other, reason_map, word_reason, fixed_reason}
-use Rattle.ir_viable_prefixes.proofs.Repeats.{each-good}
+use Rattle.ir_viable_prefixes.proofs.Repeats.{Steps, steps_of, loop_sample, loop_lifts, repeat_outcomes, another}
 use Rattle.ir_viable_prefixes.proofs.Statements.{none_like, no_record, mark_next, mark_open, mark_shut, mark_records}
 use Rattle.ir_viable_prefixes.proofs.TokenReaders.{all_bad, types_bad, mark-good}
 
@@ -88,8 +93,12 @@ no_equals : (t : Token) → FollowsItem t → Tested (is_mark marks.equals) fals
 no_equals (Mark m) may = may
 no_equals t may = refl
 
+word_item_leaves_flags : (word : List ℕ) → LeavesFlags (parsing.word_item_at word) word
+unfolding parsing.word_item_at
+word_item_leaves_flags word = (refl, λ flag l more. refl)
+
 word_item-good : (word : List ℕ) → Good Anything (parsing.word_item_at word) FollowsItem
-word_item-good word = token_or_none word (word_alone word) (λ t is. tt) (word_item_takes _ word)
+word_item-good word = token_or_none word (word_alone word) (λ t is. tt) (word_item_leaves_flags word) (word_item_takes _ word)
 
 quoted_value_bad : (key : List ℕ) {t u : Token} → Like (Unit {0}) t u → Bad (Unit {0}) (parsing.quoted_value_at key) [] t u
 unfolding parsing.quoted_value_at unexpected
@@ -100,9 +109,13 @@ unfolding parsing.quoted_value_at unexpected
 quoted_value_takes E F key line (Quoted value) = takes _ refl (λ more. refl)
 quoted_value_takes E F key line t = refuses (misfit places.Fixed t) (fixed_reason (Fit E (parsing.quoted_value_at key) F []) (Bad (Unit {0}) (parsing.quoted_value_at key) []) (RepeatsFlag []) (RefusesAt (parsing.quoted_value_at key) []) t (λ u like. quoted_value_bad key like, λ begins. inr (λ ending l more. (fault l (misfit places.Fixed (Word (ending_word ending))), refl)))) (λ more. refl)
 
+quoted_value_flags : (key : List ℕ) → TakesNoFlag (parsing.quoted_value_at key)
+unfolding parsing.quoted_value_at unexpected
+quoted_value_flags key = ((unexpected places.Fixed [], refl), λ flag line more. (fault line (misfit places.Fixed (Word (flag_keyword flag))), refl))
+
 quoted_value-good : {F : Follow} (key : List ℕ) → Good Anything (parsing.quoted_value_at key) F
 unfolding parsing.quoted_value_at
-quoted_value-good {F} key = one_token (Quoted (codes "\"\""), tt, _, λ more. refl) (quoted_value_takes Anything F key)
+quoted_value-good {F} key = one_token (Quoted (codes "\"\""), tt, _, λ more. refl) (quoted_value_flags key) (quoted_value_takes Anything F key)
 
 quoted_item-good : (key : List ℕ) → Good Anything (parsing.quoted_item_at key) FollowsItem
 unfolding parsing.quoted_item_at
@@ -115,11 +128,88 @@ behind_item-good (Number digits) = done-good (λ t is. tt) digits
 behind_item-good (Group text) = done-good (λ t is. tt) text
 behind_item-good t = done-good (λ u is. tt) []
 
-item-good : GoodIf ⊥ (Tested parsing.begins_item true) (some_token_at >>= behind_item) FollowsItem (Unit {0})
-item-good = first then behind_item-good
+-- items leave nothing out
+fixed_left : (t : Token) → ¬ IsLeft (misfit places.Fixed t)
+unfolding misfit leaves_out
+fixed_left Bad_token (text, left) = cc
+fixed_left Other (text, left) = cc
+fixed_left End (text, left) = cc
+fixed_left t (text, left) = cc
+
+choice_left : (t : Token) → is_word t ≡ false → ¬ IsLeft (misfit places.Choice t)
+unfolding misfit leaves_out
+choice_left Bad_token none (text, left) = cc
+choice_left Other none (text, left) = cc
+choice_left End none (text, left) = cc
+choice_left (Word w) none left = absurd cc
+choice_left t none (text, left) = cc
+
+abbrev the_read : {A : Type 0} → Read A → Read A
+the_read r = r
+
+syntax_left : ¬ IsLeft Syntax
+syntax_left (text, left) = cc
+
+equals_nothing : LeavesNothingOut (mark_at marks.equals)
+unfolding mark_at unexpected
+equals_nothing [] found is = fault_left _ found is syntax_left
+equals_nothing ((line, Mark m) ∷ rest) found is = by (eqb m marks.equals) is
   where
-    first : GoodIf ⊥ (Tested parsing.begins_item true) some_token_at Anything (Unit {0})
-    first = one_token (Number (codes "0"), refl, _, λ more. refl) (some_token_takes (Tested parsing.begins_item true) Anything)
+    nothing : Unit {0} × List Placed
+    nothing = (tt, rest)
+
+    by : (b : Bool) → cond b (the_read (Ok nothing)) (Err (fault line Syntax)) ≡ Err found → ¬ IsLeft found.kind
+    by true is = absurd cc
+    by false is = fault_left (fault line Syntax) found is syntax_left
+equals_nothing ((line, t) ∷ rest) found is = fault_left (fault line (misfit places.Fixed t)) found is (fixed_left t)
+
+quoted_value_nothing : (key : List ℕ) → LeavesNothingOut (parsing.quoted_value_at key)
+unfolding parsing.quoted_value_at unexpected
+quoted_value_nothing key [] found is = fault_left (fault 0 Syntax) found is syntax_left
+quoted_value_nothing key ((line, Quoted value) ∷ rest) found is = absurd cc
+quoted_value_nothing key ((line, t) ∷ rest) found is = fault_left (fault line (misfit places.Fixed t)) found is (fixed_left t)
+
+word_item_nothing : (word : List ℕ) → LeavesNothingOut (parsing.word_item_at word)
+unfolding parsing.word_item_at
+word_item_nothing word [] found is = absurd cc
+word_item_nothing word ((line, KeptGroup group) ∷ rest) found is = absurd cc
+word_item_nothing word ((line, t) ∷ rest) found is = absurd cc
+
+quoted_item_nothing : (key : List ℕ) → LeavesNothingOut (parsing.quoted_item_at key)
+unfolding parsing.quoted_item_at
+quoted_item_nothing key tokens found = by (is_mark marks.equals tokens)
+  where
+    by : (b : Bool) → cond b ((mark_at marks.equals >>= λ u. parsing.quoted_value_at key) tokens) (Ok (key, tokens)) ≡ Err found → ¬ IsLeft found.kind
+    by true is = both_nothing (mark_at marks.equals) (λ u. parsing.quoted_value_at key) equals_nothing (λ u. quoted_value_nothing key) tokens found is
+    by false is = absurd cc
+
+behind_item_nothing : (t : Token) → LeavesNothingOut (behind_item t)
+behind_item_nothing (Word word) = word_item_nothing word
+behind_item_nothing (Quoted key) = quoted_item_nothing key
+behind_item_nothing (Number digits) = done_nothing digits
+behind_item_nothing (Group text) = done_nothing text
+behind_item_nothing t = done_nothing []
+
+item_nothing : LeavesNothingOut parsing.item_at
+unfolding parsing.item_at unexpected
+item_nothing [] found is = fault_left (fault 0 Syntax) found is syntax_left
+item_nothing ((line, Word word) ∷ rest) found is = word_item_nothing word rest found is
+item_nothing ((line, Number digits) ∷ rest) found is = absurd cc
+item_nothing ((line, Group text) ∷ rest) found is = absurd cc
+item_nothing ((line, Quoted key) ∷ rest) found is = quoted_item_nothing key rest found is
+item_nothing ((line, t) ∷ rest) found is = fault_left (fault line (misfit places.Choice t)) found is (choice_left t refl)
+
+items_nothing : (front : List (List ℕ)) → LeavesNothingOut (each_at parsing.begins_item parsing.item_at front)
+items_nothing front tokens found is =
+    loop_nothing parsing.begins_item (another_at parsing.item_at) (λ a. both_nothing parsing.item_at (λ x. done (a ++ x ∷ [])) item_nothing (λ x. done_nothing (a ++ x ∷ []))) _ front tokens found is
+
+item_parts_outcome : (tokens : List Placed) → Ended tokens → OutcomeIf ⊥ (Tested parsing.begins_item true) (some_token_at >>= behind_item) FollowsItem (Unit {0}) (ReasonsIf ⊥ (Tested parsing.begins_item true) (some_token_at >>= behind_item) FollowsItem) tokens ((some_token_at >>= behind_item) tokens)
+item_parts_outcome tokens e =
+    outcome_both ⊥ (Unit {0}) (Unit {0}) (Tested parsing.begins_item true) Anything FollowsItem some_token_at behind_item (ReasonsIf ⊥ (Tested parsing.begins_item true) some_token_at Anything) (λ t. Reasons Anything (behind_item t) FollowsItem)
+    (ReasonsIf ⊥ (Tested parsing.begins_item true) (some_token_at >>= behind_item) FollowsItem) tokens (reasons_lift ⊥ (Unit {0}) (Tested parsing.begins_item true) Anything FollowsItem some_token_at behind_item (λ t. (behind_item-good t).sample) tokens)
+    (nothing_new ⊥ (Unit {0}) (Tested parsing.begins_item true) Anything FollowsItem some_token_at behind_item (λ t. Reasons Anything (behind_item t) FollowsItem) tokens behind_item_nothing)
+    (λ t. (behind_item-good t).sample) (some_token_at tokens) refl (token_outcome ⊥ (Tested parsing.begins_item true) some_token_at Anything (Unit {0}) (ReasonsIf ⊥ (Tested parsing.begins_item true) some_token_at Anything) (some_token_takes (Tested parsing.begins_item true) Anything) tokens e)
+    (λ x is ended. (behind_item-good x.0).outcome x.1 ended)
 
 item_next : AsksNext parsing.begins_item
 item_next l k (Word word) a b = refl
@@ -167,21 +257,7 @@ item_records front false (Mark m) begins next = (inl ((front ++ codes "#0" ∷ [
         ∙ each-done parsing.begins_item parsing.item_at (front ++ codes "#0" ∷ []) tokens (tested_next parsing.begins_item item_next false tokens (next_map FollowsItems (Tested parsing.begins_item false) tokens (λ t f. f.0) follows))
 item_records front b t begins next = absurd cc
 
-pub items-good : GoodIf (Unit {0}) Anything parsing.items_at FollowsItems ⊥
-unfolding parsing.items_at
-items-good =
-    each-good ⊥ FollowsItem parsing.begins_item parsing.item_at (record { asks = item_next; takes = item-takes; ends = λ t f. f.0; ends_part = λ t f. f.1; next_ends_part = item_follows_item; opens = item_open; shuts = item_shut; records = item_records }) item_outcome (λ t f. tt) (λ t n. tt) []
-  where
-    item_begins : OpensRecords parsing.begins_item true (Tested parsing.begins_item true) parsing.item_at FollowsItem
-    item_begins (Mark m) begins next = absurd cc
-    item_begins t begins next = absurd cc
-
-    item_outcome : (tokens : List Placed) → Ended tokens → parsing.begins_item tokens ≡ true → OutcomeIf ⊥ (Tested parsing.begins_item true) parsing.item_at FollowsItem (Unit {0}) (ReasonsIf ⊥ (Tested parsing.begins_item true) parsing.item_at FollowsItem) tokens (parsing.item_at tokens)
-    item_outcome tokens e next =
-        subst (OutcomeIf ⊥ (Tested parsing.begins_item true) parsing.item_at FollowsItem (Unit {0}) (ReasonsIf ⊥ (Tested parsing.begins_item true) parsing.item_at FollowsItem) tokens) (sym (item_from tokens next))
-        (reasons_transferred parsing.begins_item item_next true (some_token_at >>= behind_item) parsing.item_at item_from ⊥ ⊥ (Unit {0}) (λ v. v) item_open (Tested parsing.begins_item true) (Tested parsing.begins_item true) FollowsItem item_begins (λ t d. d) (λ t d. d) tokens next ((some_token_at >>= behind_item) tokens) (item-good.outcome tokens e))
-
--- ---- items that no word follows
+-- ---- what items take
 
 -- a part that is read is so whatever stands behind it
 abbrev Local : Part → Type 0
@@ -210,6 +286,55 @@ one_more (item ∷ items) last tokens rest (between, one, more) =
       a.1 ∙ ap (λ (ts : List Placed). a.0 ++ ts) b.1 ∙ sym (append_assoc a.0 b.0 rest),
       λ middle others is. rw (append_assoc a.0 b.0 middle) (b.0 ++ middle, a.2 (b.0 ++ middle), b.2 middle others is),
     )
+
+-- behind items no flag is next, since it would be one more
+items_apart : ReadsApart parsing.items_at
+unfolding parsing.items_at is_item_word type_in
+items_apart tokens x is =
+    let m = one_more x.0 [] tokens x.1 (items_at-is tokens x is) in
+    let none = (repeat-is parsing.begins_item (another_at parsing.item_at) (λ a ts b rest. Unit {0}) (λ a ts. tt) (λ a ts y b rest next one more. tt) _ [] tokens x is).1 in
+    (m.0, m.1, inr (no_flag x.1 none))
+  where
+    item : (flag : Flag) → is_item_word (flag_keyword flag) ≡ true
+    item Nuw = refl
+    item Nsw = refl
+    item Exact = refl
+
+    no_flag : (rest : List Placed) → parsing.begins_item rest ≡ false → NoFlagNext rest
+    no_flag [] none = tt
+    no_flag ((line, t) ∷ rest) none = λ flag same.
+        let next : parsing.begins_item ((line, Word (flag_keyword flag)) ∷ rest) ≡ true = item flag in
+        let other : parsing.begins_item ((line, Word (flag_keyword flag)) ∷ rest) ≡ false = subst (λ (u : Token). parsing.begins_item ((line, u) ∷ rest) ≡ false) same none in
+        is_one (parsing.begins_item ((line, Word (flag_keyword flag)) ∷ rest)) next other
+      where
+        is_one : (b : Bool) → b ≡ true → b ≡ false → ⊥
+        is_one b holds fails = cc
+
+pub items-good : GoodIf (Unit {0}) Anything parsing.items_at FollowsItems ⊥
+unfolding parsing.items_at
+items-good = record {
+  sample = loop_sample ⊥ FollowsItem FollowsItems ⊥ parsing.begins_item (another_at parsing.item_at) steps Anything (λ t f. tt) [];
+  outcome = λ tokens e.
+      repeat_outcomes ⊥ FollowsItem FollowsItems ⊥ parsing.begins_item (another_at parsing.item_at) steps (λ a. ReasonsIf ⊥ (Tested parsing.begins_item true) (another_at parsing.item_at a) FollowsItem) (λ E a. Reasons E (each_at parsing.begins_item parsing.item_at a) FollowsItems)
+      (loop_lifts ⊥ FollowsItem FollowsItems ⊥ parsing.begins_item (another_at parsing.item_at) steps)
+      (λ a ts. nothing_new ⊥ (Unit {0}) (Tested parsing.begins_item true) FollowsItem FollowsItems (another_at parsing.item_at a) (each_at parsing.begins_item parsing.item_at) (λ b. Reasons FollowsItem (each_at parsing.begins_item parsing.item_at b) FollowsItems) ts items_nothing)
+      (λ a ts ended next. another ⊥ (Tested parsing.begins_item true) FollowsItem parsing.item_at a ts (item_outcome ts ended next)) (suc (length tokens)) Anything (λ t f. tt) (λ t n. tt) [] tokens (omega arith) e;
+  apart = items_apart;
+}
+  where
+    steps : Steps ⊥ FollowsItem FollowsItems ⊥ parsing.begins_item (another_at parsing.item_at)
+    steps = steps_of (record { asks = item_next; takes = item-takes; ends = λ t f. f.0; ends_part = λ t f. f.1; next_ends_part = item_follows_item; opens = item_open; shuts = item_shut; records = item_records })
+
+    item_begins : OpensRecords parsing.begins_item true (Tested parsing.begins_item true) parsing.item_at FollowsItem
+    item_begins (Mark m) begins next = absurd cc
+    item_begins t begins next = absurd cc
+
+    item_outcome : (tokens : List Placed) → Ended tokens → parsing.begins_item tokens ≡ true → OutcomeIf ⊥ (Tested parsing.begins_item true) parsing.item_at FollowsItem (Unit {0}) (ReasonsIf ⊥ (Tested parsing.begins_item true) parsing.item_at FollowsItem) tokens (parsing.item_at tokens)
+    item_outcome tokens e next =
+        subst (OutcomeIf ⊥ (Tested parsing.begins_item true) parsing.item_at FollowsItem (Unit {0}) (ReasonsIf ⊥ (Tested parsing.begins_item true) parsing.item_at FollowsItem) tokens) (sym (item_from tokens next))
+        (reasons_transferred parsing.begins_item item_next true (some_token_at >>= behind_item) parsing.item_at item_from ⊥ ⊥ (Unit {0}) (λ v. v) item_open (Tested parsing.begins_item true) (Tested parsing.begins_item true) FollowsItem item_begins (λ t d. d) (λ t d. d) tokens next ((some_token_at >>= behind_item) tokens) (item_parts_outcome tokens e))
+
+-- ---- items that no word follows
 
 -- a word that is an item and a value
 abbrev a_word : List ℕ
@@ -270,10 +395,19 @@ behind_halts items none (like_function written other) = λ l more. inl refl
 behind_halts items none (like_width w other width out is) = absurd cc
 behind_halts items none (like_number digits other) = λ l more. inl refl
 
+no_word_apart : ReadsApart parsing.no_word_at
+unfolding parsing.no_word_at
+no_word_apart [] x is = read_as (λ y. Leaves [] y.1) (tt, []) x is (leaves_all [])
+no_word_apart ((line, Word w) ∷ rest) x is = absurd cc
+no_word_apart ((line, t) ∷ rest) x is = read_as (λ y. Leaves ((line, t) ∷ rest) y.1) (tt, (line, t) ∷ rest) x is (leaves_all ((line, t) ∷ rest))
+
+behind_apart : (items : List (List ℕ)) → ReadsApart (Behind items)
+behind_apart items = both_apart parsing.no_word_at (λ u. done items) no_word_apart (λ u. done_apart items)
+
 behind_outcome : (items : List (List ℕ)) (tokens : List Placed) → Ended tokens → OutcomeIf ⊥ FollowsItems (Behind items) FollowsLast (Unit {0}) IsWordFirst tokens (Behind items tokens)
 unfolding parsing.no_word_at
 behind_outcome items [] e = absurd e
-behind_outcome items ((line, Word w) ∷ rest) e = record { front = []; token = Word w; behind = rest; there = refl; refused = λ more. refl; completes = tt; why = (refl, w, refl, refl) }
+behind_outcome items ((line, Word w) ∷ rest) e = record { front = []; token = Word w; behind = rest; there = refl; refused = λ more. refl; completes = tt; why = (refl, w, refl, refl); new = λ left. none_repeated (Word w) }
 behind_outcome items ((line, t) ∷ rest) e = record { front = []; there = refl; ended = e; stopped = λ l more. refl; follows = λ u f l more. let s = no_word_stops u f.1 l more in rw s refl; nothing = λ none u f. f.0; halts = λ u like. behind_halts items refl like; records = λ begins. inr (λ ending l more. inr (fault l (LeftOut (ending_word ending)), refl)); groups = λ end begins text l more. inl refl; words = λ none u like. like_other refl like }
 
 abbrev three : List Placed → Token → IrFaultKind → List Placed × Token × IrFaultKind
@@ -295,6 +429,7 @@ last_items_outcome tokens e =
       first = λ front l t behind there kind why. reason_map _ _ _ _ _ _ _ _ t (maps_first (Unit {0}) Anything FollowsItems FollowsLast parsing.items_at Behind behind_sample front t) kind why;
       second = λ x is o front l t behind there kind why. second x is o.front o.there front t kind (λ u ws. bad_second (Unit {0}) ⊥ Anything FollowsItems parsing.items_at Behind tokens x o front l t behind there u (no_type x.0 front t u why.0 ws)) why;
     })
+    (apart_new (Unit {0}) ⊥ Anything FollowsItems FollowsLast parsing.items_at Behind (λ items. IsWordFirst) tokens items_apart)
     behind_sample (parsing.items_at tokens) refl (items-good.outcome tokens e) (λ x is ended. behind_outcome x.0 x.1 ended)
   where
     second : (x : List (List ℕ) × List Placed) → parsing.items_at tokens ≡ Ok x → (first : List Placed) → tokens ≡ first ++ x.1 → (front : List Placed) (t : Token) (kind : IrFaultKind) → ((u : Token) → Widths t u → Bad (Unit {0}) parsing.last_items_at (first ++ front) t u) → IsWordFirst front t kind → Reasons Anything parsing.last_items_at FollowsLast (first ++ front) t kind
@@ -317,4 +452,4 @@ last_items_outcome tokens e =
 
 pub last_items-good : Good Anything parsing.last_items_at FollowsLast
 unfolding parsing.last_items_at
-last_items-good = record { sample = sample_both Anything FollowsItems FollowsLast parsing.items_at Behind items-good.sample behind_sample; outcome = last_items_outcome }
+last_items-good = record { sample = sample_both Anything FollowsItems FollowsLast parsing.items_at Behind items-good.sample behind_sample; outcome = last_items_outcome; apart = both_apart parsing.items_at Behind items_apart behind_apart }

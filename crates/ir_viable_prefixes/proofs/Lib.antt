@@ -1,6 +1,7 @@
 pub mod Choices
 pub mod Entries
 pub mod FlagReaders
+pub mod FlagRuns
 pub mod Functions
 pub mod Instructions
 pub mod Items

@@ -1,5 +1,5 @@
--- What two kinds say of one token: they are the same, unless it repeats a flag.
-use Rattle.std.proofs.Common.{◌≡◌, ℕ, ◌<◌, ◌^◌, true, false, List, refl, sym, ap, subst, ◌∙◌, ◌⊎◌, inl, inr, pos, arith}
+-- What two kinds say of one token: they are the same.
+use Rattle.std.proofs.Common.{◌≡◌, ℕ, ◌<◌, ◌^◌, true, false, List, refl, sym, ap, subst, ◌∙◌, pos, arith}
 use Rattle.std.specs.Prelude.{codes, IsSome}
 use Rattle.std.proofs.lemmas.Int.{ints}
 use Rattle.std.proofs.lemmas.Nat.{pow_pos}
@@ -7,7 +7,12 @@ use Rattle.ir_tokens.specs.Numbers.{constant_of, is_in_range, number_of}
 use Rattle.ir_tokens.specs.Tokens.{Token, Placed, End, Bad as Bad_token, Word, Number, is_last}
 use Rattle.ir_tokens.specs.declared.fault.IrFaultKind.{IrFaultKind}
 use Rattle.ir_tokens.specs.declared.fault.IrFaultKind.TheVariants.{BadByte, Syntax, LeftOut, Width, ConstRange}
+use Rattle.ir_instructions.specs.Keywords.{type_in}
 use Rattle.ir_instructions.specs.Places.{begins_record, begins_type}
+use Rattle.ir_instructions.specs.declared.word.TypeWord.TheVariants.{OutOfRange}
+use Rattle.ops.specs.declared.keywords.flag.Flag.{Flag}
+use Rattle.ops.specs.declared.keywords.flag.Flag.TheVariants.{Nuw, Nsw, Exact}
+use Rattle.ops.specs.FlagKeywords.{flag_keyword}
 use Rattle.ir_viable_prefixes.specs.Fits.{FitsBehind}
 use Rattle.ir_viable_prefixes.specs.Misfits.{AnotherFits, of_word, of_mark, of_function, IsLeftOut, another, mark_of_record, entry, IsRepeated, IsNothingElse, IsWrongWidth, IsWrongNumber, IsMisfit, type}
 
@@ -55,9 +60,22 @@ bad_left_out (entry goes fits) bad = let no_entry : is_last Bad_token ≡ false 
 width_number : (front : List Placed) {t : Token} → IsWrongWidth front t → IsWrongNumber front t → ⊥
 width_number front wide wrong = let same : Word wide.0 ≡ Number wrong.0 = sym wide.1 ∙ wrong.2 in cc
 
-width_nothing : (front : List Placed) {t : Token} → IsWrongWidth front t → IsNothingElse front t → IsRepeated front t
+-- a flag is no type but for its width
+flag_no_width : (front : List Placed) {t : Token} (word : List ℕ) → t ≡ Word word → type_in word ≡ OutOfRange → IsRepeated front t → ⊥
+unfolding type_in
+flag_no_width front {t} word is out (w, same, (before, run, flag, flags, stands, keyword, each)) = by flag (subst (λ (v : List ℕ). type_in v ≡ OutOfRange) (sym (word_is w word (sym same ∙ is)) ∙ keyword) out)
+  where
+    word_is : (v w : List ℕ) → Word v ≡ Word w → v ≡ w
+    word_is v w equal = cc
+
+    by : (flag : Flag) → type_in (flag_keyword flag) ≡ OutOfRange → ⊥
+    by Nuw wide = cc
+    by Nsw wide = cc
+    by Exact wide = cc
+
+width_nothing : (front : List Placed) {t : Token} → IsWrongWidth front t → IsNothingElse front t → ⊥
 width_nothing front {t} (word, is, out, (other, width, is_type, fits)) nothing =
-    nothing.another (subst (AnotherFits front) (sym is) (of_word word (other, type width is_type, fits)))
+    flag_no_width front word is out (nothing.another (subst (AnotherFits front) (sym is) (of_word word (other, type width is_type, fits))))
 
 number_another : {front : List Placed} {t : Token} → AnotherFits front t → (digits : List ℕ) → t ≡ Number digits → ⊥
 number_another (of_word word fits) digits is = cc
@@ -83,47 +101,47 @@ left_out_nothing (entry goes fits) nothing = absurd (nothing.entry goes fits)
 -- ---- each two kinds
 
 module _ (front : List Placed) (t : Token) (no_numbers : EndsHaveNoNumbers front) where
-  one_bad : t ≡ Bad_token → (b : IrFaultKind) → IsMisfit front t b → (BadByte ≡ b) ⊎ IsRepeated front t
-  one_bad bad BadByte h = inl refl
+  one_bad : t ≡ Bad_token → (b : IrFaultKind) → IsMisfit front t b → BadByte ≡ b
+  one_bad bad BadByte h = refl
   one_bad bad Width h = absurd (bad_width front bad h)
   one_bad bad ConstRange h = absurd (bad_number front bad h)
   one_bad bad (LeftOut text) h = absurd (bad_left_out h.1 bad)
   one_bad bad Syntax h = absurd (h.no_bad_byte bad)
   one_bad bad b h = absurd h
 
-  one_width : IsWrongWidth front t → (b : IrFaultKind) → IsMisfit front t b → (Width ≡ b) ⊎ IsRepeated front t
+  one_width : IsWrongWidth front t → (b : IrFaultKind) → IsMisfit front t b → Width ≡ b
   one_width wide BadByte h = absurd (bad_width front h wide)
-  one_width wide Width h = inl refl
+  one_width wide Width h = refl
   one_width wide ConstRange h = absurd (width_number front wide h)
   one_width wide (LeftOut text) h = absurd (h.2 wide)
-  one_width wide Syntax h = inr (width_nothing front wide h)
+  one_width wide Syntax h = absurd (width_nothing front wide h)
   one_width wide b h = absurd h
 
-  one_number : IsWrongNumber front t → (b : IrFaultKind) → IsMisfit front t b → (ConstRange ≡ b) ⊎ IsRepeated front t
+  one_number : IsWrongNumber front t → (b : IrFaultKind) → IsMisfit front t b → ConstRange ≡ b
   one_number wrong BadByte h = absurd (bad_number front h wrong)
   one_number wrong Width h = absurd (width_number front h wrong)
-  one_number wrong ConstRange h = inl refl
+  one_number wrong ConstRange h = refl
   one_number wrong (LeftOut text) h = absurd (number_left_out no_numbers h.1 wrong)
   one_number wrong Syntax h = absurd (number_nothing front t wrong h)
   one_number wrong b h = absurd h
 
-  one_left_out : (shown : List ℕ) → IsMisfit front t (LeftOut shown) → (b : IrFaultKind) → IsMisfit front t b → (LeftOut shown ≡ b) ⊎ IsRepeated front t
+  one_left_out : (shown : List ℕ) → IsMisfit front t (LeftOut shown) → (b : IrFaultKind) → IsMisfit front t b → LeftOut shown ≡ b
   one_left_out shown left BadByte h = absurd (bad_left_out left.1 h)
   one_left_out shown left Width h = absurd (left.2 h)
   one_left_out shown left ConstRange h = absurd (number_left_out no_numbers left.1 h)
-  one_left_out shown left (LeftOut text) h = inl (ap LeftOut (left.0 ∙ sym h.0))
-  one_left_out shown left Syntax h = inr (left_out_nothing left.1 h)
+  one_left_out shown left (LeftOut text) h = ap LeftOut (left.0 ∙ sym h.0)
+  one_left_out shown left Syntax h = absurd (left.3 (left_out_nothing left.1 h))
   one_left_out shown left b h = absurd h
 
-  one_nothing : IsNothingElse front t → (b : IrFaultKind) → IsMisfit front t b → (Syntax ≡ b) ⊎ IsRepeated front t
+  one_nothing : IsNothingElse front t → (b : IrFaultKind) → IsMisfit front t b → Syntax ≡ b
   one_nothing nothing BadByte h = absurd (nothing.no_bad_byte h)
-  one_nothing nothing Width h = inr (width_nothing front h nothing)
+  one_nothing nothing Width h = absurd (width_nothing front h nothing)
   one_nothing nothing ConstRange h = absurd (number_nothing front t h nothing)
-  one_nothing nothing (LeftOut text) h = inr (left_out_nothing h.1 nothing)
-  one_nothing nothing Syntax h = inl refl
+  one_nothing nothing (LeftOut text) h = absurd (h.3 (left_out_nothing h.1 nothing))
+  one_nothing nothing Syntax h = refl
   one_nothing nothing b h = absurd h
 
-  pub one_kind : (a b : IrFaultKind) → IsMisfit front t a → IsMisfit front t b → (a ≡ b) ⊎ IsRepeated front t
+  pub one_kind : (a b : IrFaultKind) → IsMisfit front t a → IsMisfit front t b → a ≡ b
   one_kind BadByte b told h = one_bad told b h
   one_kind Width b told h = one_width told b h
   one_kind ConstRange b told h = one_number told b h

@@ -1,7 +1,7 @@
 -- What a reader makes of tokens, said so that it composes: it goes behind a front of them whatever stands further behind, or it refuses
 -- the token behind a front that it can be made to read by other tokens.
 use Rattle.std.proofs.Common.{◌≡◌, ℕ, true, false, List, [], ◌∷◌, ◌++◌, Ok, Err, refl, sym, ap, subst, ◌∙◌, ◌⊎◌, inl, inr, append_assoc}
-use Rattle.std.proofs.lemmas.List.{append-nil}
+use Rattle.std.proofs.lemmas.List.{append-nil, append_cancel_right}
 use Rattle.ir_tokens.specs.Tokens.{Token, Placed, Word, Group, is_last}
 use Rattle.ir_tokens.specs.declared.fault.IrFaultKind.{IrFaultKind}
 use Rattle.refusal.specs.declared.fault.Fault.{Fault}
@@ -9,7 +9,11 @@ use Rattle.ir_instructions.specs.declared.word.Ending.{Ending}
 use Rattle.ir_instructions.specs.Places.{begins_record}
 use Rattle.ir_instructions.specs.Keywords.{ending_word}
 use Rattle.ir_instructions.specs.Readers.{Read, Reader, fault, goes_on, ◌>>=◌, done}
-use Rattle.ir_viable_prefixes.specs.Misfits.{RepeatsFlag}
+use Rattle.ir_instructions.proofs.Steps.{ok_is, read_as}
+use Rattle.ops.specs.declared.keywords.flag.Flag.{Flag}
+use Rattle.ops.specs.FlagKeywords.{flag_keyword}
+use Rattle.ir_viable_prefixes.specs.Misfits.{RepeatsFlag, IsRepeated}
+use Rattle.ir_viable_prefixes.proofs.FlagRuns.{NoFlag, Parted, new_behind, none_repeated, ReadsApart, done_apart, both_apart, IsLeft, LeavesNothingOut}
 use Rattle.ir_viable_prefixes.proofs.Reasons.{an_end, a_group, Like, NoRecord, NoGroup, Maps, Reason, reason_map}
 
 -- ---- what stands next
@@ -123,6 +127,8 @@ pub record IsRefused {A : Type 0} (R : Reader A) (F : Follow) (W : Why) (tokens 
   pub refused : (more : List Placed) → R (front ++ (found.line, token) ∷ more) ≡ Err found
   pub completes : CompletesBegun R F front
   pub why : W front token found.kind
+  -- what is left out repeats no flag
+  pub new : IsLeft found.kind → ¬ IsRepeated front token
 
 abbrev pub OutcomeIf : {A : Type 0} → Type 0 → Follow → Reader A → Follow → Type 0 → Why → List Placed → Read A → Type 0
 OutcomeIf V E R F W Y tokens (Ok x) = IsReadIf V E R F W tokens x.0 x.1
@@ -139,6 +145,7 @@ OutcomesIf V E R F W = (tokens : List Placed) → Ended tokens → OutcomeIf V E
 pub record GoodIf {A : Type 0} (V : Type 0) (E : Follow) (R : Reader A) (F : Follow) (W : Type 0) : Type 0 where
   pub sample : Sample E R F
   pub outcome : OutcomesIf V E R F W
+  pub apart : ReadsApart R
 
 abbrev pub Good : {A : Type 0} → Follow → Reader A → Follow → Type 0
 Good E R F = GoodIf (Unit {0}) E R F (Unit {0})
@@ -175,14 +182,34 @@ taken V E R F W Y line t rest e (takes x going h) =
       words = λ none. absurd cc;
     })
 taken V E R F W Y line t rest e (refuses kind why h) =
-    subst (OutcomeIf V E R F W Y ((line, t) ∷ rest)) (sym (h rest)) (record { front = []; token = t; behind = rest; there = refl; refused = h; completes = tt; why = why })
+    subst (OutcomeIf V E R F W Y ((line, t) ∷ rest)) (sym (h rest)) (record { front = []; token = t; behind = rest; there = refl; refused = h; completes = tt; why = why; new = λ left. none_repeated t })
 
 pub token_outcome : {A : Type 0} (V : Type 0) (E : Follow) (R : Reader A) (F : Follow) (W : Type 0) (Y : Why) → ((line : ℕ) (t : Token) → Takes R Y line t) → (tokens : List Placed) → Ended tokens → OutcomeIf V E R F W Y tokens (R tokens)
 token_outcome V E R F W Y one [] e = absurd e
 token_outcome V E R F W Y one ((line, t) ∷ rest) e = taken V E R F W Y line t rest e (one line t)
 
-pub one_token : {A : Type 0} {V : Type 0} {E : Follow} {R : Reader A} {F : Follow} {W : Type 0} → SampleToken E R → ((line : ℕ) (t : Token) → Takes R (ReasonsIf V E R F) line t) → GoodIf V E R F W
-one_token some one = record { sample = (some.2, (0, some.0) ∷ [], λ tokens next. (some.3 tokens, some.1)); outcome = token_outcome _ _ _ _ _ _ one }
+-- it refuses flags, and takes none of no tokens
+abbrev pub TakesNoFlag : {A : Type 0} → Reader A → Type 0
+TakesNoFlag R = ((e : Fault IrFaultKind) × (R [] ≡ Err e)) × ((flag : Flag) → RefusesAt R [] (Word (flag_keyword flag)))
+
+abbrev the_read : {A : Type 0} → Read A → Read A
+the_read r = r
+
+pub token_apart : {A : Type 0} (R : Reader A) (Y : Why) → TakesNoFlag R → ((line : ℕ) (t : Token) → Takes R Y line t) → ReadsApart R
+token_apart R Y flags one [] x is = let both : the_read (Err flags.0.0) ≡ Ok x = sym flags.0.1 ∙ is in absurd cc
+token_apart R Y flags one ((line, t) ∷ rest) x is = by (one line t)
+  where
+    no_flag : (y : _) → ((more : List Placed) → R ((line, t) ∷ more) ≡ Ok (y, more)) → NoFlag t
+    no_flag y h flag same =
+        let r = flags.1 flag line [] in
+        let both : the_read (Err r.0) ≡ Ok (y, []) = sym r.1 ∙ ap (λ (u : Token). R ((line, u) ∷ [])) (sym same) ∙ h [] in absurd cc
+
+    by : Takes R Y line t → (front : List Placed) × ((line, t) ∷ rest ≡ front ++ x.1) × Parted front x.1
+    by (takes y going h) = read_as (λ z. (front : List Placed) × ((line, t) ∷ rest ≡ front ++ z.1) × Parted front z.1) (y, rest) x (sym (h rest) ∙ is) ((line, t) ∷ [], refl, inl (no_flag y h))
+    by (refuses kind why h) = let both : the_read (Err (fault line kind)) ≡ Ok x = sym (h rest) ∙ is in absurd cc
+
+pub one_token : {A : Type 0} {V : Type 0} {E : Follow} {R : Reader A} {F : Follow} {W : Type 0} → SampleToken E R → TakesNoFlag R → ((line : ℕ) (t : Token) → Takes R (ReasonsIf V E R F) line t) → GoodIf V E R F W
+one_token some flags one = record { sample = (some.2, (0, some.0) ∷ [], λ tokens next. (some.3 tokens, some.1)); outcome = token_outcome _ _ _ _ _ _ one; apart = token_apart _ _ flags one }
 
 -- ---- one token, or none
 
@@ -190,12 +217,32 @@ pub data MayTake {A : Type 0} (R : Reader A) (Y : Why) (x : A) (line : ℕ) (t :
   may_take : Takes R Y line t → MayTake R Y x line t
   leaves : StopsAt R [] x t → ((u : Token) → Like (Unit {0}) t u → StopsAt R [] x u) → (begins_record t ≡ true → ((ending : Ending) → StopsAt R [] x (Word (ending_word ending))) × NoGroup (StopsAt R [] x)) → MayTake R Y x line t
 
-pub token_or_none : {A : Type 0} {E : Follow} {R : Reader A} {F : Follow} (x : A) → ((t : Token) → F t → StopsAt R [] x t) → ((t : Token) → F t → E t) → ((line : ℕ) (t : Token) → MayTake R (Reasons E R F) x line t) → Good E R F
-token_or_none {A} {E} {R} {F} x none_at enters one = record {
+-- it leaves flags, and takes none of no tokens
+abbrev pub LeavesFlags : {A : Type 0} → Reader A → A → Type 0
+LeavesFlags R x = (R [] ≡ Ok (x, [])) × ((flag : Flag) → StopsAt R [] x (Word (flag_keyword flag)))
+
+no_longer : {A : Type 0} (x y : A) (t : Placed) → the_read (Ok (x, t ∷ [])) ≡ the_read (Ok (y, [])) → ⊥
+no_longer x y t same = let both = ap (λ z. z.1) (ok_is (x, t ∷ []) (y, []) same) in cc
+
+pub token_or_none : {A : Type 0} {E : Follow} {R : Reader A} {F : Follow} (x : A) → ((t : Token) → F t → StopsAt R [] x t) → ((t : Token) → F t → E t) → LeavesFlags R x → ((line : ℕ) (t : Token) → MayTake R (Reasons E R F) x line t) → Good E R F
+token_or_none {A} {E} {R} {F} x none_at enters flags one = record {
   sample = (x, [], λ tokens next. (stops R [] x tokens (next_map F (StopsAt R [] x) tokens none_at next), next_map F E tokens enters next));
   outcome = outcome;
+  apart = apart;
 }
   where
+    apart : ReadsApart R
+    apart [] y is = read_as (λ z. (front : List Placed) × ([] ≡ front ++ z.1) × Parted front z.1) (x, []) y (sym flags.0 ∙ is) ([], refl, inl tt)
+    apart ((line, t) ∷ rest) y is = of (one line t)
+      where
+        no_flag : (z : A) → ((more : List Placed) → R ((line, t) ∷ more) ≡ Ok (z, more)) → NoFlag t
+        no_flag z h flag same = no_longer x z (line, Word (flag_keyword flag)) (sym (flags.1 flag line []) ∙ ap (λ (u : Token). R ((line, u) ∷ [])) (sym same) ∙ h [])
+
+        of : MayTake R (Reasons E R F) x line t → (front : List Placed) × ((line, t) ∷ rest ≡ front ++ y.1) × Parted front y.1
+        of (may_take (takes z going h)) = read_as (λ z. (front : List Placed) × ((line, t) ∷ rest ≡ front ++ z.1) × Parted front z.1) (z, rest) y (sym (h rest) ∙ is) ((line, t) ∷ [], refl, inl (no_flag z h))
+        of (may_take (refuses kind why h)) = let both : the_read (Err (fault line kind)) ≡ Ok y = sym (h rest) ∙ is in absurd cc
+        of (leaves h k j) = read_as (λ z. (front : List Placed) × ((line, t) ∷ rest ≡ front ++ z.1) × Parted front z.1) (x, (line, t) ∷ rest) y (sym (h line rest) ∙ is) ([], refl, inl tt)
+
     outcome : (tokens : List Placed) → Ended tokens → Outcome E R F (Reasons E R F) tokens (R tokens)
     outcome [] e = absurd e
     outcome ((line, t) ∷ rest) e = of (one line t)
@@ -234,6 +281,7 @@ done-good {A} {V} {E} {F} enters x = record {
     nothing = λ none. enters;
     words = λ none. next_any _ tokens e (λ t u like. like);
   };
+  apart = done_apart x;
 }
 
 -- ---- one reader behind another
@@ -263,6 +311,7 @@ first_refuses {A} {B} {F} {G} {V} {W} R S s tokens found o why = record {
   refused = λ more. rw (o.refused more) refl;
   completes = completes o.front o.completes;
   why = why;
+  new = o.new;
 }
   where
     completes : (front : List Placed) → CompletesBegun R F front → CompletesBegun (R >>= S) G front
@@ -378,8 +427,8 @@ both_read {A} {B} {U} {V} {W} {E} {F} {G} R S tokens x y s o p = record {
         by_front ((l, u) ∷ front) same h = subst (Next (StopsAt R o.front x.0)) same o.stopped
 
 second_refuses : {A B : Type 0} {U U' : Type 0} {E F G : Follow} {V W : Why} (R : Reader A) (S : A → Reader B) → ((x : A) → Sample F (S x) G) → (tokens : List Placed) (x : A × List Placed) (found : Fault IrFaultKind) (o : IsReadIf U E R F U' tokens x.0 x.1) (p : IsRefused (S x.0) G V x.1 found)
-    → W (o.front ++ p.front) p.token found.kind → IsRefused (R >>= S) G W tokens found
-second_refuses {A} {B} {U} {U'} {E} {F} {G} {V} {W} R S s tokens x found o p why = record {
+    → W (o.front ++ p.front) p.token found.kind → (IsLeft found.kind → ¬ IsRepeated (o.front ++ p.front) p.token) → IsRefused (R >>= S) G W tokens found
+second_refuses {A} {B} {U} {U'} {E} {F} {G} {V} {W} R S s tokens x found o p why new = record {
   front = o.front ++ p.front;
   token = p.token;
   behind = p.behind;
@@ -387,6 +436,7 @@ second_refuses {A} {B} {U} {U'} {E} {F} {G} {V} {W} R S s tokens x found o p why
   refused = λ more. rw (append_assoc o.front p.front ((found.line, p.token) ∷ more), stops R o.front x.0 (p.front ++ (found.line, p.token) ∷ more) (next_same (StopsAt R o.front x.0) p.front ((found.line, p.token) ∷ p.behind) ((found.line, p.token) ∷ more) (λ n. n) (subst (Next (StopsAt R o.front x.0)) p.there o.stopped))) (p.refused more);
   completes = completes p.front p.there p.completes;
   why = why;
+  new = new;
 }
   where
     completes : (front : List Placed) → x.1 ≡ front ++ (found.line, p.token) ∷ p.behind → CompletesBegun (S x.0) G front → CompletesBegun (R >>= S) G (o.front ++ front)
@@ -444,14 +494,31 @@ pub record Lifts {A B : Type 0} (T U : Type 0) (E F G : Follow) (R : Reader A) (
   pub second : (x : A × List Placed) → R tokens ≡ Ok x → (o : IsReadIf T E R F U tokens x.0 x.1) (front : List Placed) (l : ℕ) (t : Token) (behind : List Placed) → x.1 ≡ front ++ (l, t) ∷ behind
       → (kind : IrFaultKind) → V x.0 front t kind → W (o.front ++ front) t kind
 
-pub outcome_both : {A B : Type 0} (T U Z : Type 0) (E F G : Follow) (R : Reader A) (S : A → Reader B) (X : Why) (V : A → Why) (W : Why) (tokens : List Placed) → Lifts T U E F G R S X V W tokens → ((x : A) → Sample F (S x) G) → (r : Read A) → R tokens ≡ r → OutcomeIf T E R F U X tokens r
+-- What the second leaves out repeats no flag of the first either.
+abbrev pub StaysNew : {A B : Type 0} (T U : Type 0) (E F G : Follow) (R : Reader A) (S : A → Reader B) (V : A → Why) (tokens : List Placed) → Type 0
+StaysNew {A} T U E F G R S V tokens =
+    (x : A × List Placed) → R tokens ≡ Ok x → (o : IsReadIf T E R F U tokens x.0 x.1) (found : Fault IrFaultKind) (p : IsRefused (S x.0) G (V x.0) x.1 found) → S x.0 x.1 ≡ Err found → IsLeft found.kind → ¬ IsRepeated (o.front ++ p.front) p.token
+
+-- so it is behind what is read apart
+pub apart_new : {A B : Type 0} (T U : Type 0) (E F G : Follow) (R : Reader A) (S : A → Reader B) (V : A → Why) (tokens : List Placed) → ReadsApart R → StaysNew T U E F G R S V tokens
+apart_new T U E F G R S V tokens apart x is o found p failed left =
+    let a = apart tokens x is in
+    let same : a.0 ≡ o.front = append_cancel_right a.0 o.front x.1 (sym a.1 ∙ o.there) in
+    let parted : Parted o.front (p.front ++ (found.line, p.token) ∷ p.behind) = subst (Parted o.front) p.there (subst (λ (f : List Placed). Parted f x.1) same a.2) in
+    new_behind o.front p.front found.line p.token p.behind parted (p.new left)
+
+-- and where the second leaves nothing out
+pub nothing_new : {A B : Type 0} (T U : Type 0) (E F G : Follow) (R : Reader A) (S : A → Reader B) (V : A → Why) (tokens : List Placed) → ((x : A) → LeavesNothingOut (S x)) → StaysNew T U E F G R S V tokens
+nothing_new T U E F G R S V tokens nothing x is o found p failed left = absurd (nothing x.0 x.1 found failed left)
+
+pub outcome_both : {A B : Type 0} (T U Z : Type 0) (E F G : Follow) (R : Reader A) (S : A → Reader B) (X : Why) (V : A → Why) (W : Why) (tokens : List Placed) → Lifts T U E F G R S X V W tokens → StaysNew T U E F G R S V tokens → ((x : A) → Sample F (S x) G) → (r : Read A) → R tokens ≡ r → OutcomeIf T E R F U X tokens r
     → ((x : A × List Placed) → R tokens ≡ Ok x → Ended x.1 → OutcomeIf U F (S x.0) G Z (V x.0) x.1 (S x.0 x.1)) → OutcomeIf T E (R >>= S) G Z W tokens (goes_on r S)
-outcome_both T U Z E F G R S X V W tokens lifts s (Err e) is o p = first_refuses R S s tokens e o (lifts.first o.front e.line o.token o.behind o.there e.kind o.why)
-outcome_both {A} {B} T U Z E F G R S X V W tokens lifts s (Ok x) is o p = behind (S x.0 x.1) (p x is o.ended)
+outcome_both T U Z E F G R S X V W tokens lifts new s (Err e) is o p = first_refuses R S s tokens e o (lifts.first o.front e.line o.token o.behind o.there e.kind o.why)
+outcome_both {A} {B} T U Z E F G R S X V W tokens lifts new s (Ok x) is o p = behind (S x.0 x.1) refl (p x is o.ended)
   where
-    behind : (q : Read B) → OutcomeIf U F (S x.0) G Z (V x.0) x.1 q → OutcomeIf T E (R >>= S) G Z W tokens q
-    behind (Ok y) p = both_read R S tokens x y s o p
-    behind (Err e) p = second_refuses R S s tokens x e o p (lifts.second x is o p.front e.line p.token p.behind p.there e.kind p.why)
+    behind : (q : Read B) → S x.0 x.1 ≡ q → OutcomeIf U F (S x.0) G Z (V x.0) x.1 q → OutcomeIf T E (R >>= S) G Z W tokens q
+    behind (Ok y) made p = both_read R S tokens x y s o p
+    behind (Err e) made p = second_refuses R S s tokens x e o p (lifts.second x is o p.front e.line p.token p.behind p.there e.kind p.why) (new x is o e p made)
 
 pub maps_first : {A B : Type 0} (V : Type 0) (E F G : Follow) (R : Reader A) (S : A → Reader B) → ((x : A) → Sample F (S x) G) → (front : List Placed) (t : Token)
     → Maps (Fit E R F front) (Fit E (R >>= S) G front) (Bad V R front) (Bad V (R >>= S) front) (RepeatsFlag front) (RepeatsFlag front) (RefusesAt R front) (RefusesAt (R >>= S) front) t
@@ -511,18 +578,20 @@ reasons_lift U V E F G R S s tokens = record {
 }
 
 -- what a reader behind another does
-pub both : {A B : Type 0} (U V W : Type 0) (E F G : Follow) (R : Reader A) (S : A → Reader B) → ((x : A) → Sample F (S x) G) → (tokens : List Placed) → OutcomeIf U E R F V (ReasonsIf U E R F) tokens (R tokens)
+pub both : {A B : Type 0} (U V W : Type 0) (E F G : Follow) (R : Reader A) (S : A → Reader B) → ReadsApart R → ((x : A) → Sample F (S x) G) → (tokens : List Placed) → OutcomeIf U E R F V (ReasonsIf U E R F) tokens (R tokens)
     → ((x : A × List Placed) → R tokens ≡ Ok x → Ended x.1 → OutcomeIf V F (S x.0) G W (ReasonsIf V F (S x.0) G) x.1 (S x.0 x.1)) → OutcomeIf U E (R >>= S) G W (ReasonsIf U E (R >>= S) G) tokens ((R >>= S) tokens)
-both U V W E F G R S s tokens o p = outcome_both U V W E F G R S (ReasonsIf U E R F) (λ x. ReasonsIf V F (S x) G) (ReasonsIf U E (R >>= S) G) tokens (reasons_lift U V E F G R S s tokens) s (R tokens) refl o p
+both U V W E F G R S apart s tokens o p =
+    outcome_both U V W E F G R S (ReasonsIf U E R F) (λ x. ReasonsIf V F (S x) G) (ReasonsIf U E (R >>= S) G) tokens (reasons_lift U V E F G R S s tokens) (apart_new U V E F G R S (λ x. ReasonsIf V F (S x) G) tokens apart) s (R tokens) refl o p
 
 infixr 15 ◌then◌
 pub ◌then◌ : {A B : Type 0} {U V W : Type 0} {E F G : Follow} {R : Reader A} {S : A → Reader B} → GoodIf U E R F V → ((x : A) → GoodIf V F (S x) G W) → GoodIf U E (R >>= S) G W
 ◌then◌ {A} {B} {U} {V} {W} {E} {F} {G} {R} {S} r s = record {
   sample = sample_both E F G R S r.sample (λ x. (s x).sample);
-  outcome = λ tokens e. both U V W E F G R S (λ x. (s x).sample) tokens (r.outcome tokens e) (λ x is ended. (s x.0).outcome x.1 ended);
+  outcome = λ tokens e. both U V W E F G R S r.apart (λ x. (s x).sample) tokens (r.outcome tokens e) (λ x is ended. (s x.0).outcome x.1 ended);
+  apart = both_apart R S r.apart (λ x. (s x).apart);
 }
 
 -- what a refusal says, and what follows from that
 pub outcome_map : {A : Type 0} (V : Type 0) (E : Follow) (R : Reader A) (F : Follow) (W : Type 0) (X Y : Why) → ((front : List Placed) (t : Token) (kind : IrFaultKind) → X front t kind → Y front t kind) → (tokens : List Placed) (r : Read A) → OutcomeIf V E R F W X tokens r → OutcomeIf V E R F W Y tokens r
 outcome_map V E R F W X Y f tokens (Ok x) o = o
-outcome_map V E R F W X Y f tokens (Err e) o = record { front = o.front; token = o.token; behind = o.behind; there = o.there; refused = o.refused; completes = o.completes; why = f o.front o.token e.kind o.why }
+outcome_map V E R F W X Y f tokens (Err e) o = record { front = o.front; token = o.token; behind = o.behind; there = o.there; refused = o.refused; completes = o.completes; why = f o.front o.token e.kind o.why; new = o.new }

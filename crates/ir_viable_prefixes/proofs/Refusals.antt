@@ -30,6 +30,7 @@ use Rattle.ir_viable_prefixes.proofs.Entries.{EndsAt, EndsText, OrEnds, entries_
 use Rattle.ir_viable_prefixes.proofs.Outcomes.{Next, Anything, Ended, CompletesBegun, Fit, RefusesAt, Bad, Reasons, IsRefused, Outcome}
 use Rattle.ir_viable_prefixes.proofs.Reasons.{a_type, an_end, a_group, LeftOutBy, NoRecord, NoGroup, Widths, widths, Like, like_word, like_type, like_function, like_number}
 use Rattle.ir_viable_prefixes.proofs.Reasons as reasons
+use Rattle.ir_viable_prefixes.proofs.FlagRuns.{IsLeft}
 use Rattle.ir_viable_prefixes.proofs.OneKind.{EndsHaveNoNumbers, one_kind}
 use Rattle.ir_viable_prefixes.proofs.Statements.{no_record}
 use Rattle.ir_viable_prefixes.proofs.TextEnds.{UpTo, ended_before, is_left_out, refused_at_end, types_refused_at_end, numbers_refused_at_end}
@@ -140,19 +141,19 @@ no_number_is law front {t} h digits other is fits = by (h (Number other) (subst 
     by (inl bad) = bad_misfits law front (Number other) bad.0 fits
     by (inr repeats) = let word = repeats.1 in absurd cc
 
-reason_is : ModulesAreReadAsSpelled → (front : List Placed) (t : Token) (kind : IrFaultKind) → EndsLeaveOut front t kind → Reasons Anything entries_at EndsText front t kind → IsMisfit front t kind
-reason_is law front t BadByte ends h = h
-reason_is law front t Width ends h = (h.0, h.1, h.2, (codes "i8", 8, i8, token_fits law front a_type h.3))
-reason_is law front t ConstRange ends h = number_is law front t h
-reason_is law front t (LeftOut text) ends h = (h.0, left_out_is law front (λ begins. no_attributes law front (h.3 begins)) h.1, no_width_is law front t h.2)
-reason_is law front t Syntax ends h = record {
+reason_is : ModulesAreReadAsSpelled → (front : List Placed) (t : Token) (kind : IrFaultKind) → EndsLeaveOut front t kind → (IsLeft kind → ¬ IsRepeated front t) → Reasons Anything entries_at EndsText front t kind → IsMisfit front t kind
+reason_is law front t BadByte ends new h = h
+reason_is law front t Width ends new h = (h.0, h.1, h.2, (codes "i8", 8, i8, token_fits law front a_type h.3))
+reason_is law front t ConstRange ends new h = number_is law front t h
+reason_is law front t (LeftOut text) ends new h = (h.0, left_out_is law front (λ begins. no_attributes law front (h.3 begins)) h.1, no_width_is law front t h.2, new (text, refl))
+reason_is law front t Syntax ends new h = record {
   no_bad_byte = h.2;
   another = syntax_is law front h.0;
   mark_of_record = λ begins. terminator_is law front (h.1 begins);
   number = no_number_is law front h.0;
   entry = λ goes fits. is_left_out t goes (ends goes fits);
 }
-reason_is law front t kind ends h = absurd h
+reason_is law front t kind ends new h = absurd h
 
 -- the end, and what stands in no module, have no others of their sort
 last_none : {front : List Placed} {t : Token} → is_last t ≡ true → begins_type t ≡ false → AnotherFits front t → IsRepeated front t
@@ -166,16 +167,17 @@ last_is {t = t} end none no_bad = record { no_bad_byte = no_bad; another = last_
     is_one : (b : Bool) → b ≡ true → b ≡ false → ⊥
     is_one b holds fails = cc
 
-entry_is : (front : List Placed) (t : Token) → FitsBehind front End → EndsHaveNoTypes front → IsMisfit front t (misfit_at places.Entry t)
+entry_is : (front : List Placed) (t : Token) → FitsBehind front End → EndsHaveNoTypes front → (IsLeft (misfit_at places.Entry t) → ¬ IsRepeated front t) → IsMisfit front t (misfit_at places.Entry t)
 unfolding misfit_at leaves_out
-entry_is front Bad_token ends types = refl
-entry_is front Other ends types = last_is refl refl (λ bad. cc)
-entry_is front End ends types = last_is refl refl (λ bad. cc)
-entry_is front t ends types = (refl, nouns.entry refl ends, λ wrong. types ends wrong.3)
+entry_is front Bad_token ends types new = refl
+entry_is front Other ends types new = last_is refl refl (λ bad. cc)
+entry_is front End ends types new = last_is refl refl (λ bad. cc)
+entry_is front t ends types new = (refl, nouns.entry refl ends, λ wrong. types ends wrong.3, new (_, refl))
 
-kind_is : ModulesAreReadAsSpelled → (front : List Placed) (t : Token) (kind : IrFaultKind) → EndsLeaveOut front t kind → EndsHaveNoTypes front → OrEnds Anything entries_at EndsText front t kind → IsMisfit front t kind
-kind_is law front t kind ends types (inl why) = subst (IsMisfit front t) (sym why.1) (entry_is front t (end_fits law front why.0) types)
-kind_is law front t kind ends types (inr why) = reason_is law front t kind ends why
+kind_is : ModulesAreReadAsSpelled → (front : List Placed) (t : Token) (kind : IrFaultKind) → EndsLeaveOut front t kind → EndsHaveNoTypes front → (IsLeft kind → ¬ IsRepeated front t) → OrEnds Anything entries_at EndsText front t kind → IsMisfit front t kind
+kind_is law front t kind ends types new (inl why) =
+    subst (IsMisfit front t) (sym why.1) (entry_is front t (end_fits law front why.0) types (subst (λ (k : IrFaultKind). IsLeft k → ¬ IsRepeated front t) why.1 new))
+kind_is law front t kind ends types new (inr why) = reason_is law front t kind ends new why
 
 -- ---- where a fault stands
 
@@ -229,10 +231,10 @@ first_misfit law tokens found e o = record {
   stands = o.there;
   fits = front_fits law o.front o.completes;
   misfit = refused_misfits law o.front (found.line, o.token) found o.refused;
-  kind = kind_is law o.front o.token found.kind (ends_leave_out law tokens found e o) (ends_have_no_types law tokens found e o) o.why;
+  kind = kind_is law o.front o.token found.kind (ends_leave_out law tokens found e o) (ends_have_no_types law tokens found e o) o.new o.why;
   only = λ other h.
       one_kind o.front o.token (ends_have_no_numbers law tokens found e o) found.kind other
-      (kind_is law o.front o.token found.kind (ends_leave_out law tokens found e o) (ends_have_no_types law tokens found e o) o.why) h;
+      (kind_is law o.front o.token found.kind (ends_leave_out law tokens found e o) (ends_have_no_types law tokens found e o) o.new o.why) h;
 }
 
 refused_at : ModulesAreReadAsSpelled → (tokens : List Placed) (found : Fault IrFaultKind) (r : Read (List RawEntry)) → module_from r ≡ Err found → Ended tokens → Outcome Anything entries_at EndsText (OrEnds Anything entries_at EndsText) tokens r → IsFirstMisfit tokens found

@@ -4,8 +4,9 @@ use Rattle.ir_tokens.specs.Tokens.{Token, Placed}
 use Rattle.ir_tokens.specs.declared.fault.IrFaultKind.{IrFaultKind}
 use Rattle.ir_instructions.specs.Readers.{Read, Reader, goes_on, ◌>>=◌, done, TakesSome, steps_at, repeat_at, another_at, each_at}
 use Rattle.ir_instructions.proofs.Loops.{repeat-more, repeat-done}
+use Rattle.ir_viable_prefixes.proofs.FlagRuns.{ReadsApart, done_apart, both_apart, loop_apart}
 use Rattle.ir_viable_prefixes.proofs.Choices.{AsksNext, Tested, tested_next, Opens, OpensRecords, opens_wider, transfer, And, maps_transferred}
-use Rattle.ir_viable_prefixes.proofs.Outcomes.{Follow, next_map, Ended, Sample, Why, Reasons, ReasonsIf, Lifts, OutcomeIf, outcome_both, both, maps_first, maps_second, GoodIf, done-good}
+use Rattle.ir_viable_prefixes.proofs.Outcomes.{Follow, next_map, Ended, Sample, Why, Reasons, ReasonsIf, Lifts, OutcomeIf, StaysNew, apart_new, outcome_both, reasons_lift, maps_first, maps_second, GoodIf, done-good}
 use Rattle.ir_viable_prefixes.proofs.Reasons.{reason_map}
 
 -- What a loop has of its steps: one is next or not by the next token, takes some, and ends before such tokens as D, as before each that
@@ -36,11 +37,12 @@ one_step {A} is_next step takes a tokens next = by (step a tokens) refl
 -- What a loop makes of tokens, where what its steps say of refusals goes over to it.
 pub repeat_outcomes : {A : Type 0} (V : Type 0) (D F : Follow) (W : Type 0) (is_next : List Placed → Bool) (step : A → Reader A) → Steps V D F W is_next step → (X : A → Why) (Y : Follow → A → Why)
     → ((E : Follow) → ((t : Token) → Tested is_next true t → E t) → (a : A) (tokens : List Placed) → is_next tokens ≡ true → Lifts V (Unit {0}) (Tested is_next true) D F (step a) (repeat_at is_next step) (X a) (Y D) (Y E a) tokens)
+    → ((a : A) (tokens : List Placed) → StaysNew V (Unit {0}) (Tested is_next true) D F (step a) (repeat_at is_next step) (Y D) tokens)
     → ((a : A) (tokens : List Placed) → Ended tokens → is_next tokens ≡ true → OutcomeIf V (Tested is_next true) (step a) D (Unit {0}) (X a) tokens (step a tokens))
     → (n : ℕ) (E : Follow) → ((t : Token) → F t → E t) → ((t : Token) → Tested is_next true t → E t) → (a : A) (tokens : List Placed) → length tokens < n → Ended tokens → OutcomeIf (Unit {0}) E (repeat_at is_next step a) F W (Y E a) tokens (repeat_at is_next step a tokens)
-repeat_outcomes V D F W is_next step s X Y lifts good zero E enters next_enters a tokens short e = absurd (omega arith)
-repeat_outcomes {A} V D F W is_next step s X Y lifts good (suc n) E enters next_enters a tokens short e =
-    by (λ x fewer ended. repeat_outcomes V D F W is_next step s X Y lifts good n D s.ends_step s.next_ends_step x.0 x.1 (omega arith) ended) (is_next tokens) refl
+repeat_outcomes V D F W is_next step s X Y lifts new good zero E enters next_enters a tokens short e = absurd (omega arith)
+repeat_outcomes {A} V D F W is_next step s X Y lifts new good (suc n) E enters next_enters a tokens short e =
+    by (λ x fewer ended. repeat_outcomes V D F W is_next step s X Y lifts new good n D s.ends_step s.next_ends_step x.0 x.1 (omega arith) ended) (is_next tokens) refl
   where
     by : ((x : A × List Placed) → length x.1 < length tokens → Ended x.1 → OutcomeIf (Unit {0}) D (repeat_at is_next step x.0) F W (Y D x.0) x.1 (repeat_at is_next step x.0 x.1)) → (b : Bool) → is_next tokens ≡ b
         → OutcomeIf (Unit {0}) E (repeat_at is_next step a) F W (Y E a) tokens (repeat_at is_next step a tokens)
@@ -52,7 +54,7 @@ repeat_outcomes {A} V D F W is_next step s X Y lifts good (suc n) E enters next_
         subst (OutcomeIf (Unit {0}) E (repeat_at is_next step a) F W (Y E a) tokens) (sym (one_step is_next step s.takes a tokens next))
         (transfer is_next s.asks true (step a >>= repeat_at is_next step) (repeat_at is_next step a) (one_step is_next step s.takes a) V (Unit {0}) W (λ v. tt) s.opens (Tested is_next true) E F (opens_wider is_next true (Tested is_next true) E (repeat_at is_next step a) F next_enters (s.records a true)) (Y E a) (Y E a) (λ t d. d) next_enters
         tokens (λ front l t behind there kind why. why) next (goes_on (step a tokens) (repeat_at is_next step))
-        (outcome_both V (Unit {0}) W (Tested is_next true) D F (step a) (repeat_at is_next step) (X a) (Y D) (Y E a) tokens (lifts E next_enters a tokens next) (λ x. loop_sample V D F W is_next step s D s.ends_step x) (step a tokens) refl (good a tokens e next)
+        (outcome_both V (Unit {0}) W (Tested is_next true) D F (step a) (repeat_at is_next step) (X a) (Y D) (Y E a) tokens (lifts E next_enters a tokens next) (new a tokens) (λ x. loop_sample V D F W is_next step s D s.ends_step x) (step a tokens) refl (good a tokens e next)
         (λ x is ended. more x (s.takes a tokens x next is) ended)))
 
 -- what fits a step fits the loop, and what a step refuses the loop does
@@ -71,13 +73,15 @@ loop_lifts {A} V D F W is_next step s E next_enters a tokens next = record {
     over front l t behind there kind why =
         reason_map _ _ _ _ _ _ _ _ t (maps_transferred is_next s.asks true (step a >>= repeat_at is_next step) (repeat_at is_next step a) (one_step is_next step s.takes a) V (Unit {0}) (λ v. tt) s.opens (Tested is_next true) E F (opens_wider is_next true (Tested is_next true) E (repeat_at is_next step a) F next_enters (s.records a true)) (λ v d. d) next_enters tokens next front l t behind there) kind why
 
-pub repeat-good : {A : Type 0} {E F : Follow} {W : Type 0} (V : Type 0) (D : Follow) (is_next : List Placed → Bool) (step : A → Reader A) → Steps V D F W is_next step
+pub repeat-good : {A : Type 0} {E F : Follow} {W : Type 0} (V : Type 0) (D : Follow) (is_next : List Placed → Bool) (step : A → Reader A) → Steps V D F W is_next step → ((a : A) → ReadsApart (step a))
     → ((a : A) (tokens : List Placed) → Ended tokens → is_next tokens ≡ true → OutcomeIf V (Tested is_next true) (step a) D (Unit {0}) (ReasonsIf V (Tested is_next true) (step a) D) tokens (step a tokens))
     → ((t : Token) → F t → E t) → ((t : Token) → Tested is_next true t → E t) → (a : A) → GoodIf (Unit {0}) E (repeat_at is_next step a) F W
-repeat-good {A} {E} {F} {W} V D is_next step s good enters next_enters a = record {
+repeat-good {A} {E} {F} {W} V D is_next step s apart good enters next_enters a = record {
   sample = loop_sample V D F W is_next step s E enters a;
   outcome = λ tokens e.
-      repeat_outcomes V D F W is_next step s (λ b. ReasonsIf V (Tested is_next true) (step b) D) (λ G b. Reasons G (repeat_at is_next step b) F) (loop_lifts V D F W is_next step s) good (suc (length tokens)) E enters next_enters a tokens (omega arith) e;
+      repeat_outcomes V D F W is_next step s (λ b. ReasonsIf V (Tested is_next true) (step b) D) (λ G b. Reasons G (repeat_at is_next step b) F) (loop_lifts V D F W is_next step s)
+      (λ b ts. apart_new V (Unit {0}) (Tested is_next true) D F (step b) (repeat_at is_next step) (λ c. Reasons D (repeat_at is_next step c) F) ts (apart b)) good (suc (length tokens)) E enters next_enters a tokens (omega arith) e;
+  apart = loop_apart is_next step apart a;
 }
 
 -- ---- the same for parts
@@ -106,13 +110,20 @@ steps_of {is_next = is_next} {part = part} p = record { asks = p.asks; takes = a
 pub another : {A : Type 0} (V : Type 0) (E D : Follow) (part : Reader A) (before : List A) (tokens : List Placed) → OutcomeIf V E part D (Unit {0}) (ReasonsIf V E part D) tokens (part tokens)
     → OutcomeIf V E (another_at part before) D (Unit {0}) (ReasonsIf V E (another_at part before) D) tokens (another_at part before tokens)
 another {A} V E D part before tokens good =
-    both V (Unit {0}) (Unit {0}) E D D part (λ x. done (before ++ x ∷ [])) (λ x. (end x).sample) tokens good (λ x is ended. (end x.0).outcome x.1 ended)
+    outcome_both V (Unit {0}) (Unit {0}) E D D part more (ReasonsIf V E part D) (λ x. Reasons D (more x) D) (ReasonsIf V E (another_at part before) D) tokens (reasons_lift V (Unit {0}) E D D part more (λ x. (end x).sample) tokens)
+    (λ x is o found p failed left. absurd cc) (λ x. (end x).sample) (part tokens) refl good (λ x is ended. (end x.0).outcome x.1 ended)
   where
+    more : A → Reader (List A)
+    more x = done (before ++ x ∷ [])
+
     end : (x : A) → GoodIf (Unit {0}) D (done (before ++ x ∷ [])) D (Unit {0})
     end x = done-good (λ t d. d) (before ++ x ∷ [])
 
-pub each-good : {A : Type 0} {E F : Follow} {W : Type 0} (V : Type 0) (D : Follow) (is_next : List Placed → Bool) (part : Reader A) → Parts V D F W is_next part
+pub another_apart : {A : Type 0} (part : Reader A) → ReadsApart part → (before : List A) → ReadsApart (another_at part before)
+another_apart part apart before = both_apart part (λ x. done (before ++ x ∷ [])) apart (λ x. done_apart (before ++ x ∷ []))
+
+pub each-good : {A : Type 0} {E F : Follow} {W : Type 0} (V : Type 0) (D : Follow) (is_next : List Placed → Bool) (part : Reader A) → Parts V D F W is_next part → ReadsApart part
     → ((tokens : List Placed) → Ended tokens → is_next tokens ≡ true → OutcomeIf V (Tested is_next true) part D (Unit {0}) (ReasonsIf V (Tested is_next true) part D) tokens (part tokens))
     → ((t : Token) → F t → E t) → ((t : Token) → Tested is_next true t → E t) → (front : List A) → GoodIf (Unit {0}) E (each_at is_next part front) F W
-each-good V D is_next part p good enters next_enters front =
-    repeat-good V D is_next (another_at part) (steps_of p) (λ before tokens e next. another V (Tested is_next true) D part before tokens (good tokens e next)) enters next_enters front
+each-good V D is_next part p apart good enters next_enters front =
+    repeat-good V D is_next (another_at part) (steps_of p) (λ before. another_apart part apart before) (λ before tokens e next. another V (Tested is_next true) D part before tokens (good tokens e next)) enters next_enters front

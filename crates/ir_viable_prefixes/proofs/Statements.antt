@@ -1,5 +1,5 @@
 -- Readers of instructions and terminators.
-use Rattle.std.proofs.Common.{◌≡◌, ℕ, Bool, true, false, cond, not, eqb, List, [], ◌∷◌, ◌++◌, Option, Some, None, Ok, Err, refl, sym, subst, ◌∙◌, inr}
+use Rattle.std.proofs.Common.{◌≡◌, ℕ, Bool, true, false, not, eqb, List, [], ◌∷◌, Option, Some, None, refl, sym, subst, ◌∙◌, inr}
 use Rattle.std.proofs.lemmas.Bool.{eqb-true}
 use Rattle.std.specs.Prelude.{codes}
 use Rattle.std.specs.Str.{bytes_eq}
@@ -10,28 +10,28 @@ use Rattle.scan.specs.Bytes as bytes
 use Rattle.scan.specs.IrTokens.{is_plain_name}
 use Rattle.ir_tokens.specs.Numbers.{is_number}
 use Rattle.ir_tokens.specs.Tokens.{Token, Placed, Word, Register, Metadata, Mark, is_last}
+use Rattle.ir_tokens.specs.declared.raw.RawIdentifier.{RawIdentifier}
 use Rattle.ir_tokens.specs.declared.raw.RawTerminator.{RawTerminator}
 use Rattle.ir_tokens.specs.declared.raw.RawTerminator.TheVariants.{Jump}
-use Rattle.ir_tokens.specs.declared.fault.IrFaultKind.TheVariants.{Syntax}
-use Rattle.ir_instructions.specs.declared.place.Place.TheVariants as places
 use Rattle.ir_instructions.specs.declared.word.Ending.{Ending}
 use Rattle.ir_instructions.specs.declared.word.Ending.TheVariants as endings
 use Rattle.ir_instructions.specs.declared.word.TypeWord.TheVariants.{OutOfRange}
 use Rattle.ir_instructions.specs.InstructionReaders as parsing
-use Rattle.ir_instructions.specs.Places.{begins_record, begins_type, misfit}
-use Rattle.ir_instructions.specs.Readers.{Reader, fault, ◌>>=◌, done, each_at}
+use Rattle.ir_instructions.specs.Places.{begins_record, begins_type}
+use Rattle.ir_instructions.specs.Readers.{Reader, ◌>>=◌, done, each_at}
 use Rattle.ir_instructions.specs.Keywords.{ending_in, ending_word, type_in}
 use Rattle.ops.specs.FlagKeywords.{flag_in}
 use Rattle.ir_instructions.specs.Punctuation as marks
 use Rattle.ir_instructions.proofs.Takings.{attachment-takes, tail-takes, case-takes}
-use Rattle.ir_viable_prefixes.proofs.Choices.{AsksNext, Tested, tested_next, Opens, SaysOfRecords, And, either_outcome, either_sample, reasons_transferred, same-good}
+use Rattle.ir_viable_prefixes.proofs.Choices.{AsksNext, Tested, Opens, SaysOfRecords, And, either_outcome, either_sample, same-good}
 use Rattle.ir_viable_prefixes.specs.Misfits.{IsNoun, RepeatsFlag}
 use Rattle.ir_viable_prefixes.specs.Misfits as nouns
-use Rattle.ir_viable_prefixes.proofs.Outcomes.{Follow, next_map, Anything, Ended, Sample, Fit, RefusesAt, Bad, ReasonsIf, OutcomeIf, Takes, takes, refuses, one_token, Good, GoodIf, done-good, ◌then◌}
-use Rattle.ir_viable_prefixes.proofs.Reasons.{a_type, an_end, Like, like_word, like_type, like_function, like_width, like_number, fixed_reason}
-use Rattle.ir_viable_prefixes.proofs.FlagReaders.{flags-good}
+use Rattle.ir_viable_prefixes.proofs.Outcomes.{Follow, Anything, Ended, ReasonsIf, OutcomeIf, takes, Good, done-good, ◌then◌, taken, both}
+use Rattle.ir_viable_prefixes.proofs.Reasons.{a_type, an_end, Like, like_word, like_type, like_function, like_width, like_number}
+use Rattle.ir_viable_prefixes.proofs.FlagReaders.{flags_then}
+use Rattle.ir_viable_prefixes.proofs.FlagRuns.{either_apart}
 use Rattle.ir_viable_prefixes.proofs.Repeats.{repeat-good, each-good}
-use Rattle.ir_viable_prefixes.proofs.TokenReaders.{no_label, no_to, mark-good, keyword-good, register-good, type-good, operand-good, case_value-good, metadata-good, pred-good, ending_word_at, ending-good}
+use Rattle.ir_viable_prefixes.proofs.TokenReaders.{no_label, no_to, type_flags, mark-good, keyword-good, register-good, type-good, operand-good, case_value-good, metadata-good, pred-good, ending_word_at, ending-good}
 
 -- ---- what stands next
 
@@ -177,7 +177,7 @@ unfolding parsing.attachments_at
 attachments-good ends enters next_enters =
     repeat-good (Unit {0}) Anything parsing.is_metadata (λ before. parsing.attachment_at)
     (record { asks = metadata_next; takes = λ before. attachment-takes; ends = ends; ends_step = λ t f. tt; next_ends_step = λ t n. tt; opens = metadata_open; shuts = metadata_shut; records = λ a b t begins h. let r = metadata_records b t begins h in (inr r.0, λ end. r.1) })
-    (λ before tokens e next. (attachment-good {E = Tested parsing.is_metadata true} refl).outcome tokens e) enters next_enters tt
+    (λ before. (attachment-good {E = Anything} tt).apart) (λ before tokens e next. (attachment-good {E = Tested parsing.is_metadata true} refl).outcome tokens e) enters next_enters tt
 
 tail_attachment-good : {E : Follow} → E (Mark marks.comma) → Good E parsing.tail_attachment_at Anything
 unfolding parsing.tail_attachment_at
@@ -188,14 +188,16 @@ unfolding parsing.tail_at
 tail-good =
     repeat-good (Unit {0}) Anything (parsing.is_mark marks.comma) (λ before. parsing.tail_attachment_at)
     (record { asks = mark_next marks.comma; takes = λ before. tail-takes; ends = λ t f. f; ends_step = λ t f. tt; next_ends_step = λ t n. tt; opens = mark_open marks.comma refl; shuts = mark_shut marks.comma; records = λ a b t begins h. let r = mark_records marks.comma refl b t begins h in (inr r.0, λ end. r.1) })
-    (λ before tokens e next. (tail_attachment-good {E = Tested (parsing.is_mark marks.comma) true} refl).outcome tokens e) (λ t f. tt) (λ t n. tt) tt
+    (λ before. (tail_attachment-good {E = Anything} tt).apart) (λ before tokens e next. (tail_attachment-good {E = Tested (parsing.is_mark marks.comma) true} refl).outcome tokens e) (λ t f. tt) (λ t n. tt) tt
 
 -- ---- operations
 
 pub binary-good : (op : Opcode) → Good Anything (parsing.binary_at op) Anything
 unfolding parsing.binary_at flag_in
 binary-good op =
-    flags-good op then (λ flags. type-good refl then (λ width. operand-good width then (λ left. mark-good marks.comma tt then (λ u. operand-good width then (λ right. done-good (λ t f. tt) _)))))
+    flags_then op
+    (λ flags. type-good refl then (λ width. operand-good width then (λ left. mark-good marks.comma tt then (λ u. operand-good width then (λ right. done-good (λ t f. tt) _)))))
+    (λ flags flag line more. let r = type_flags.1 flag line more in (r.0, rw r.1 refl))
 
 pub compare-good : Good Anything parsing.compare_at Anything
 unfolding parsing.compare_at
@@ -227,11 +229,6 @@ conditional-good : {E : Follow} → E a_type → Good E parsing.conditional_at A
 unfolding parsing.conditional_at
 conditional-good e = typed-good e then (λ typed. mark-good marks.comma tt then (λ u. target-good tt then (λ if_true. mark-good marks.comma tt then (λ v. target-good tt then (λ if_false. done-good (λ t f. tt) _)))))
 
--- a token that is no last one
-abbrev any_token_at : Reader (Unit {0})
-any_token_at [] = Err (fault 0 Syntax)
-any_token_at ((line, t) ∷ rest) = cond (is_last t) (Err (fault line (misfit places.Fixed t))) (Ok (tt, rest))
-
 pub none_like : {t u : Token} → Like (Unit {0}) t u → is_last t ≡ true → ⊥
 none_like (like_word v w other noun) h = cc
 none_like (like_type m other width begins is) h = cc
@@ -242,22 +239,6 @@ none_like (like_number digits other) h = cc
 pub no_record : (t : Token) → begins_record t ≡ true → is_last t ≡ true → ⊥
 no_record (Mark m) begins h = cc
 no_record t begins h = cc
-
--- behind a last token nothing is read, and none has others of its sort
-any_token_takes : (E F : Follow) (line : ℕ) (t : Token) → Takes any_token_at (ReasonsIf ⊥ E any_token_at F) line t
-any_token_takes E F line t = by (is_last t) refl
-  where
-    by : (b : Bool) → is_last t ≡ b → Takes any_token_at (ReasonsIf ⊥ E any_token_at F) line t
-    by true h =
-        refuses (misfit places.Fixed t) (fixed_reason (Fit E any_token_at F []) (Bad ⊥ any_token_at []) (RepeatsFlag []) (RefusesAt any_token_at []) t (λ u like. absurd (none_like like h), λ begins. absurd (no_record t begins h)))
-        (λ more. rw h refl)
-    by false h = takes tt h (λ more. rw h refl)
-
--- where `label` stands, any token does as well as it
-jump_from : (tokens : List Placed) → parsing.is_keyword (codes "label") tokens ≡ true → parsing.jump_at tokens ≡ (any_token_at >>= λ u. parsing.register_at >>= λ target. done (Jump target)) tokens
-unfolding parsing.jump_at parsing.target_at parsing.keyword_at
-jump_from ((line, Word w) ∷ rest) next = rw next refl
-jump_from tokens next = absurd cc
 
 label_is_no_width : (w : List ℕ) → type_in w ≡ OutOfRange → bytes_eq w (codes "label") ≡ true → ⊥
 unfolding type_in
@@ -284,35 +265,37 @@ label_records b t begins says = absurd cc
 abbrev IsLabel : Follow
 IsLabel = And Anything (Tested (parsing.is_keyword (codes "label")) true)
 
-jumped-good : GoodIf ⊥ IsLabel (any_token_at >>= λ u. parsing.register_at >>= λ target. done (Jump target)) Anything (Unit {0})
-jumped-good = label then (λ u. register-good tt then (λ target. done-good (λ t f. tt) _))
-  where
-    label : GoodIf ⊥ IsLabel any_token_at Anything (Unit {0})
-    label = one_token (Word (codes "label"), (tt, refl), tt, λ more. refl) (any_token_takes IsLabel Anything)
+-- the word of a target, where it stands
+label_outcome : (tokens : List Placed) → Ended tokens → parsing.is_keyword (codes "label") tokens ≡ true → OutcomeIf ⊥ IsLabel (parsing.keyword_at (codes "label")) Anything (Unit {0}) (ReasonsIf ⊥ IsLabel (parsing.keyword_at (codes "label")) Anything) tokens (parsing.keyword_at (codes "label") tokens)
+unfolding parsing.keyword_at
+label_outcome ((line, Word w) ∷ rest) e next =
+    taken ⊥ IsLabel (parsing.keyword_at (codes "label")) Anything (Unit {0}) (ReasonsIf ⊥ IsLabel (parsing.keyword_at (codes "label")) Anything) line (Word w) rest e (takes tt refl (λ more. rw next refl))
+label_outcome tokens e next = absurd cc
 
-jump_sample : Sample IsLabel parsing.jump_at Anything
-jump_sample =
-    let s = jumped-good.sample in (
-      s.0,
-      s.1,
-      λ ts next.
-          let h = s.2 ts next in
-          let labels = tested_next (parsing.is_keyword (codes "label")) (keyword_next (codes "label")) true (s.1 ++ ts) (next_map IsLabel (Tested (parsing.is_keyword (codes "label")) true) (s.1 ++ ts) (λ t d. d.1) h.1) in
-          (jump_from (s.1 ++ ts) labels ∙ h.0, h.1),
-    )
+jumping-good : {E : Follow} → E (Word (codes "label")) → Good E parsing.jump_at Anything
+unfolding parsing.jump_at
+jumping-good e = target-good e then (λ target. done-good (λ t f. tt) (Jump target))
 
 jump_outcome : (tokens : List Placed) → Ended tokens → parsing.is_keyword (codes "label") tokens ≡ true → OutcomeIf ⊥ IsLabel parsing.jump_at Anything (Unit {0}) (ReasonsIf ⊥ IsLabel parsing.jump_at Anything) tokens (parsing.jump_at tokens)
+unfolding parsing.jump_at parsing.target_at
 jump_outcome tokens e next =
-    let read = any_token_at >>= λ u. parsing.register_at >>= λ target. done (Jump target) in
-    subst (OutcomeIf ⊥ IsLabel parsing.jump_at Anything (Unit {0}) (ReasonsIf ⊥ IsLabel parsing.jump_at Anything) tokens) (sym (jump_from tokens next))
-    (reasons_transferred (parsing.is_keyword (codes "label")) (keyword_next (codes "label")) true read parsing.jump_at jump_from ⊥ ⊥ (Unit {0}) (λ v. v) label_open IsLabel IsLabel Anything (λ t begins says. let r = label_records true t begins says in (inr r.0, λ end. r.1)) (λ t d. d.1) (λ t d. d) tokens next (read tokens) (jumped-good.outcome tokens e))
+    both ⊥ (Unit {0}) (Unit {0}) IsLabel Anything Anything parsing.target_at (λ target. done (Jump target)) (target-good {E = Anything} tt).apart (λ target. (last target).sample) tokens
+    (both ⊥ (Unit {0}) (Unit {0}) IsLabel Anything Anything (parsing.keyword_at (codes "label")) (λ u. parsing.register_at) (keyword-good {E = Anything} (codes "label") no_label tt).apart (λ u. register.sample) tokens (label_outcome tokens e next) (λ x is ended. register.outcome x.1 ended))
+    (λ x is ended. (last x.0).outcome x.1 ended)
+  where
+    register : Good Anything parsing.register_at Anything
+    register = register-good tt
+
+    last : (target : RawIdentifier) → Good Anything (done (Jump target)) Anything
+    last target = done-good (λ t f. tt) (Jump target)
 
 branch-good : Good Anything parsing.branch_at Anything
 unfolding parsing.branch_at
 branch-good = record {
-  sample = either_sample Anything Anything parsing.jump_at parsing.conditional_at (parsing.is_keyword (codes "label")) (keyword_next (codes "label")) jump_sample;
+  sample = either_sample Anything Anything parsing.jump_at parsing.conditional_at (parsing.is_keyword (codes "label")) (keyword_next (codes "label")) (jumping-good (tt, refl)).sample;
   outcome = λ tokens e.
       either_outcome ⊥ Anything Anything parsing.jump_at parsing.conditional_at (parsing.is_keyword (codes "label")) (keyword_next (codes "label")) label_open label_shut label_records tokens (jump_outcome tokens e) (λ next. (conditional-good (tt, refl)).outcome tokens e);
+  apart = either_apart (parsing.is_keyword (codes "label")) parsing.jump_at parsing.conditional_at (jumping-good {E = Anything} tt).apart (conditional-good {E = Anything} tt).apart;
 }
 
 case-good : {E : Follow} → E a_type → Good E parsing.case_at Anything
@@ -326,7 +309,7 @@ cases-good = mark-good marks.open_bracket tt then (λ u. each then (λ cases. ma
     each : Good Anything (each_at parsing.begins_case parsing.case_at []) (Tested parsing.begins_case false)
     each =
         each-good (Unit {0}) Anything parsing.begins_case parsing.case_at (record { asks = case_next; takes = case-takes; ends = λ t f. f; ends_part = λ t f. tt; next_ends_part = λ t n. tt; opens = case_open; shuts = case_shut; records = λ a b t begins h. let r = case_records b t begins h in (inr r.0, λ end. r.1) })
-        (λ tokens e next. (case-good {E = Tested parsing.begins_case true} refl).outcome tokens e) (λ t f. tt) (λ t n. tt) []
+        (case-good {E = Anything} tt).apart (λ tokens e next. (case-good {E = Tested parsing.begins_case true} refl).outcome tokens e) (λ t f. tt) (λ t n. tt) []
 
 switch-good : Good Anything parsing.switch_at Anything
 unfolding parsing.switch_at

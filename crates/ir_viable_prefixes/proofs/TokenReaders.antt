@@ -35,9 +35,12 @@ use Rattle.ops.specs.Keywords.{predicate_keyword, pred_in}
 use Rattle.ops.specs.FlagKeywords.{flag_keyword}
 use Rattle.ir_instructions.proofs.WordLemmas.{operation_in-is, type_in-of}
 use Rattle.ops.proofs.KeywordLemmas.{word_is}
+use Rattle.ops.specs.declared.keywords.flag.Flag.{Flag}
+use Rattle.ops.specs.declared.keywords.flag.Flag.TheVariants.{Nuw, Nsw, Exact}
+use Rattle.ops.specs.FlagKeywords.{flag_keyword}
 use Rattle.ir_viable_prefixes.specs.Misfits.{IsNoun, RepeatsFlag}
 use Rattle.ir_viable_prefixes.specs.Misfits as nouns
-use Rattle.ir_viable_prefixes.proofs.Outcomes.{Follow, Anything, Fit, RefusesAt, Bad, Reasons, ReasonsIf, Takes, takes, refuses, fits_alone, Good, GoodIf, one_token}
+use Rattle.ir_viable_prefixes.proofs.Outcomes.{Follow, Anything, Fit, RefusesAt, Bad, Reasons, ReasonsIf, Takes, takes, refuses, fits_alone, Good, GoodIf, one_token, TakesNoFlag}
 use Rattle.ir_viable_prefixes.proofs.Reasons.{a_type, an_end, Widths, widths, no_other_widths, Like, like_word, like_type, like_function, like_width, like_number, word_reason, fixed_reason, choice_reason, type_reason, instruction_reason}
 
 -- ---- nouns
@@ -276,9 +279,13 @@ mark_takes E F wanted line (Mark m) = by (eqb m wanted) refl
     by false h = refuses Syntax (λ u like. inl (mark_bad wanted like), λ begins. inr (mark_refuses wanted), λ bad. cc) (λ more. rw h refl)
 mark_takes E F wanted line t = refuses (misfit places.Fixed t) (fixed_reason (Fit E (mark_at wanted) F []) (Bad (Unit {0}) (mark_at wanted) []) (RepeatsFlag []) (RefusesAt (mark_at wanted) []) t (λ u like. mark_bad wanted like, λ begins. inr (mark_refuses wanted))) (λ more. refl)
 
+mark_flags : (wanted : ℕ) → TakesNoFlag (mark_at wanted)
+unfolding mark_at unexpected
+mark_flags wanted = ((unexpected places.Fixed [], refl), λ flag line more. (fault line (misfit places.Fixed (Word (flag_keyword flag))), refl))
+
 pub mark-good : {E : Follow} (wanted : ℕ) → E (Mark wanted) → Good E (mark_at wanted) Anything
 unfolding mark_at
-mark-good {E} wanted e = one_token (Mark wanted, e, tt, λ more. rw (eq-eqb wanted wanted refl) refl) (mark_takes E Anything wanted)
+mark-good {E} wanted e = one_token (Mark wanted, e, tt, λ more. rw (eq-eqb wanted wanted refl) refl) (mark_flags wanted) (mark_takes E Anything wanted)
 
 keyword_refuses : (wanted : List ℕ) → ((u : List ℕ) → IsNoun u → bytes_eq u wanted ≡ false) → (ending : Ending) → RefusesAt (keyword_at wanted) [] (Word (ending_word ending))
 unfolding keyword_at unexpected
@@ -293,9 +300,13 @@ keyword_takes E F wanted free line (Word w) = by (bytes_eq w wanted) refl
     by false h = refuses Syntax (λ u like. inl (keyword_bad wanted free like), λ begins. absurd cc, λ bad. cc) (λ more. rw h refl)
 keyword_takes E F wanted free line t = refuses (misfit places.Fixed t) (fixed_reason (Fit E (keyword_at wanted) F []) (Bad (Unit {0}) (keyword_at wanted) []) (RepeatsFlag []) (RefusesAt (keyword_at wanted) []) t (λ u like. keyword_bad wanted free like, λ begins. inr (keyword_refuses wanted free))) (λ more. refl)
 
+pub keyword_flags : (wanted : List ℕ) → ((u : List ℕ) → IsNoun u → bytes_eq u wanted ≡ false) → TakesNoFlag (keyword_at wanted)
+unfolding keyword_at
+keyword_flags wanted free = ((unexpected places.Fixed [], refl), λ flag line more. (fault line Syntax, rw (free (flag_keyword flag) (nouns.flag flag refl)) refl))
+
 pub keyword-good : {E : Follow} (wanted : List ℕ) → ((u : List ℕ) → IsNoun u → bytes_eq u wanted ≡ false) → E (Word wanted) → Good E (keyword_at wanted) Anything
 unfolding keyword_at
-keyword-good {E} wanted free e = one_token (Word wanted, e, tt, λ more. rw (word_is wanted) refl) (keyword_takes E Anything wanted free)
+keyword-good {E} wanted free e = one_token (Word wanted, e, tt, λ more. rw (word_is wanted) refl) (keyword_flags wanted free) (keyword_takes E Anything wanted free)
 
 -- a name of a register
 abbrev pub a_register : Token
@@ -306,9 +317,13 @@ unfolding register_at unexpected
 register_takes E F line (Register written) = takes _ refl (λ more. refl)
 register_takes E F line t = refuses (misfit places.Fixed t) (fixed_reason (Fit E register_at F []) (Bad (Unit {0}) register_at []) (RepeatsFlag []) (RefusesAt register_at []) t (λ u like. register_bad like, λ begins. inr (λ ending l more. (fault l (misfit places.Fixed (Word (ending_word ending))), refl)))) (λ more. refl)
 
+register_flags : TakesNoFlag register_at
+unfolding register_at unexpected
+register_flags = ((unexpected places.Fixed [], refl), λ flag line more. (fault line (misfit places.Fixed (Word (flag_keyword flag))), refl))
+
 pub register-good : {E : Follow} → E a_register → Good E register_at Anything
 unfolding register_at
-register-good {E} e = one_token (a_register, e, _, λ more. refl) (register_takes E Anything)
+register-good {E} e = one_token (a_register, e, _, λ more. refl) register_flags (register_takes E Anything)
 
 -- ---- types and values
 
@@ -344,9 +359,18 @@ type_takes V E F fit line (Word w) = by (type_in w) refl
     by (types.Integer width) h = takes width refl (λ more. rw h refl)
 type_takes V E F fit line t = refuses (misfit places.Type t) (type_reason (Fit E type_at F []) (Bad V type_at []) (RepeatsFlag []) (RefusesAt type_at []) t refl fit (λ no_type. (λ u like. type_bad refl no_type like, λ begins. inr type_refuses))) (λ more. refl)
 
+pub type_flags : TakesNoFlag type_at
+unfolding type_at type_in
+type_flags = ((unexpected places.Type [], refl), by)
+  where
+    by : (flag : Flag) → RefusesAt type_at [] (Word (flag_keyword flag))
+    by Nuw line more = (fault line (LeftOut (codes "nuw")), refl)
+    by Nsw line more = (fault line (LeftOut (codes "nsw")), refl)
+    by Exact line more = (fault line (LeftOut (codes "exact")), refl)
+
 pub type-good : {V : Type 0} {E : Follow} → E a_type → GoodIf V E type_at Anything (Unit {0})
 unfolding type_at type_in bytes.is_digit
-type-good {V} {E} e = one_token (a_type, e, 8, λ more. refl) (type_takes V E Anything (fits_alone E type_at Anything a_type 8 e (λ more. refl)))
+type-good {V} {E} e = one_token (a_type, e, 8, λ more. refl) type_flags (type_takes V E Anything (fits_alone E type_at Anything a_type 8 e (λ more. refl)))
 
 operand_refuses : (width : ℕ) (ending : Ending) → RefusesAt (operand_at width) [] (Word (ending_word ending))
 unfolding operand_at value_in truth_in
@@ -370,9 +394,18 @@ operand_takes E F width fit numbers line (Word w) = by (value_in w) refl
     by None h = refuses (LeftOut w) (word_reason (Fit E (operand_at width) F []) (Bad (Unit {0}) (operand_at width) []) (RepeatsFlag []) (RefusesAt (operand_at width) []) w (codes "true") (nouns.value 1 values.True refl) fit (λ u ws. types_bad (operand_at width) (operand_no_type width) ws)) (λ more. rw h refl)
 operand_takes E F width fit numbers line t = refuses (misfit places.Choice t) (choice_reason (Fit E (operand_at width) F []) (Bad (Unit {0}) (operand_at width) []) (RepeatsFlag []) (RefusesAt (operand_at width) []) t refl (λ u like. operand_bad width refl refl like, λ begins. inr (operand_refuses width))) (λ more. refl)
 
+operand_flags : (width : ℕ) → TakesNoFlag (operand_at width)
+unfolding operand_at value_in truth_in
+operand_flags width = ((unexpected places.Choice [], refl), by)
+  where
+    by : (flag : Flag) → RefusesAt (operand_at width) [] (Word (flag_keyword flag))
+    by Nuw line more = (fault line (LeftOut (codes "nuw")), refl)
+    by Nsw line more = (fault line (LeftOut (codes "nsw")), refl)
+    by Exact line more = (fault line (LeftOut (codes "exact")), refl)
+
 pub operand-good : (width : ℕ) → Good Anything (operand_at width) Anything
 unfolding operand_at value_in truth_in
-operand-good width = one_token (a_register, tt, _, λ more. refl) (operand_takes Anything Anything width (fits_alone Anything (operand_at width) Anything a_truth (record { line = 0; value = values.True }) tt (λ more. refl))
+operand-good width = one_token (a_register, tt, _, λ more. refl) (operand_flags width) (operand_takes Anything Anything width (fits_alone Anything (operand_at width) Anything a_truth (record { line = 0; value = values.True }) tt (λ more. refl))
     (λ other number is. fits_alone Anything (operand_at width) Anything (Number other) (record { line = 0; value = values.Number number }) tt (λ more. rw is refl)))
 
 case_value_refuses : (width : ℕ) (ending : Ending) → RefusesAt (case_value_at width) [] (Word (ending_word ending))
@@ -396,9 +429,18 @@ case_value_takes E F width fit numbers line (Word w) = by (truth_in w) refl
     by None h = refuses (LeftOut w) (word_reason (Fit E (case_value_at width) F []) (Bad (Unit {0}) (case_value_at width) []) (RepeatsFlag []) (RefusesAt (case_value_at width) []) w (codes "true") (nouns.value 1 values.True refl) fit (λ u ws. types_bad (case_value_at width) (case_value_no_type width) ws)) (λ more. rw h refl)
 case_value_takes E F width fit numbers line t = refuses (misfit places.Choice t) (choice_reason (Fit E (case_value_at width) F []) (Bad (Unit {0}) (case_value_at width) []) (RepeatsFlag []) (RefusesAt (case_value_at width) []) t refl (λ u like. case_value_bad width refl refl like, λ begins. inr (case_value_refuses width))) (λ more. refl)
 
+case_value_flags : (width : ℕ) → TakesNoFlag (case_value_at width)
+unfolding case_value_at truth_in
+case_value_flags width = ((unexpected places.Choice [], refl), by)
+  where
+    by : (flag : Flag) → RefusesAt (case_value_at width) [] (Word (flag_keyword flag))
+    by Nuw line more = (fault line (LeftOut (codes "nuw")), refl)
+    by Nsw line more = (fault line (LeftOut (codes "nsw")), refl)
+    by Exact line more = (fault line (LeftOut (codes "exact")), refl)
+
 pub case_value-good : (width : ℕ) → Good Anything (case_value_at width) Anything
 unfolding case_value_at truth_in
-case_value-good width = one_token (a_truth, tt, _, λ more. refl) (case_value_takes Anything Anything width (fits_alone Anything (case_value_at width) Anything a_truth (record { line = 0; value = values.True }) tt (λ more. refl))
+case_value-good width = one_token (a_truth, tt, _, λ more. refl) (case_value_flags width) (case_value_takes Anything Anything width (fits_alone Anything (case_value_at width) Anything a_truth (record { line = 0; value = values.True }) tt (λ more. refl))
     (λ other number is. fits_alone Anything (case_value_at width) Anything (Number other) (record { line = 0; value = values.Number number }) tt (λ more. rw is refl)))
 
 -- ---- metadata, opcodes, predicates and terminators
@@ -412,9 +454,13 @@ metadata_takes E F test line (Metadata text) = by (test text) refl
     by false h = refuses Syntax (λ u like. inl (metadata_bad test like), λ begins. absurd cc, λ bad. cc) (λ more. rw h refl)
 metadata_takes E F test line t = refuses (misfit places.Fixed t) (fixed_reason (Fit E (metadata_at test) F []) (Bad (Unit {0}) (metadata_at test) []) (RepeatsFlag []) (RefusesAt (metadata_at test) []) t (λ u like. metadata_bad test like, λ begins. inr (λ ending l more. (fault l (misfit places.Fixed (Word (ending_word ending))), refl)))) (λ more. refl)
 
+metadata_flags : (test : List ℕ → Bool) → TakesNoFlag (metadata_at test)
+unfolding metadata_at unexpected
+metadata_flags test = ((unexpected places.Fixed [], refl), λ flag line more. (fault line (misfit places.Fixed (Word (flag_keyword flag))), refl))
+
 pub metadata-good : {E : Follow} (test : List ℕ → Bool) (text : List ℕ) → test text ≡ true → E (Metadata text) → Good E (metadata_at test) Anything
 unfolding metadata_at
-metadata-good {E} test text h e = one_token (Metadata text, e, tt, λ more. rw h refl) (metadata_takes E Anything test)
+metadata-good {E} test text h e = one_token (Metadata text, e, tt, λ more. rw h refl) (metadata_flags test) (metadata_takes E Anything test)
 
 pred_refuses : (ending : Ending) → RefusesAt pred_at [] (Word (ending_word ending))
 unfolding pred_at pred_in
@@ -432,9 +478,18 @@ pred_takes E F fit line (Word w) = by (pred_in w) refl
     by None h = refuses (LeftOut w) (word_reason (Fit E pred_at F []) (Bad (Unit {0}) pred_at []) (RepeatsFlag []) (RefusesAt pred_at []) w (codes "eq") (nouns.predicate Eq refl) fit (λ u ws. types_bad pred_at pred_no_type ws)) (λ more. rw h refl)
 pred_takes E F fit line t = refuses (misfit places.Choice t) (choice_reason (Fit E pred_at F []) (Bad (Unit {0}) pred_at []) (RepeatsFlag []) (RefusesAt pred_at []) t refl (λ u like. pred_bad refl like, λ begins. inr pred_refuses)) (λ more. refl)
 
+pred_flags : TakesNoFlag pred_at
+unfolding pred_at pred_in
+pred_flags = ((unexpected places.Choice [], refl), by)
+  where
+    by : (flag : Flag) → RefusesAt pred_at [] (Word (flag_keyword flag))
+    by Nuw line more = (fault line (LeftOut (codes "nuw")), refl)
+    by Nsw line more = (fault line (LeftOut (codes "nsw")), refl)
+    by Exact line more = (fault line (LeftOut (codes "exact")), refl)
+
 pub pred-good : Good Anything pred_at Anything
 unfolding pred_at pred_in
-pred-good = one_token (Word (codes "eq"), tt, _, λ more. refl) (pred_takes Anything Anything (fits_alone Anything pred_at Anything (Word (codes "eq")) Eq tt (λ more. refl)))
+pred-good = one_token (Word (codes "eq"), tt, _, λ more. refl) pred_flags (pred_takes Anything Anything (fits_alone Anything pred_at Anything (Word (codes "eq")) Eq tt (λ more. refl)))
 
 -- the word of an operation
 abbrev pub opcode_at : Reader Operation
@@ -464,9 +519,18 @@ opcode_takes E F fit line (Word w) = by (operation_in w) refl
     by None h = refuses (LeftOut w) (word_reason (Fit E opcode_at F []) (Bad (Unit {0}) opcode_at []) (RepeatsFlag []) (RefusesAt opcode_at []) w (codes "freeze") (nouns.opcode operations.Freeze refl) fit (λ u ws. types_bad opcode_at opcode_no_type ws)) (λ more. rw h refl)
 opcode_takes E F fit line t = refuses (misfit places.Choice t) (choice_reason (Fit E opcode_at F []) (Bad (Unit {0}) opcode_at []) (RepeatsFlag []) (RefusesAt opcode_at []) t refl (λ u like. opcode_bad refl like, λ begins. inr opcode_refuses)) (λ more. refl)
 
+opcode_flags : TakesNoFlag opcode_at
+unfolding operation_in
+opcode_flags = ((unexpected places.Choice [], refl), by)
+  where
+    by : (flag : Flag) → RefusesAt opcode_at [] (Word (flag_keyword flag))
+    by Nuw line more = (fault line (LeftOut (codes "nuw")), refl)
+    by Nsw line more = (fault line (LeftOut (codes "nsw")), refl)
+    by Exact line more = (fault line (LeftOut (codes "exact")), refl)
+
 pub opcode-good : Good Anything opcode_at Anything
 unfolding operation_in
-opcode-good = one_token (Word (codes "freeze"), tt, _, λ more. refl) (opcode_takes Anything Anything (fits_alone Anything opcode_at Anything (Word (codes "freeze")) operations.Freeze tt (λ more. refl)))
+opcode-good = one_token (Word (codes "freeze"), tt, _, λ more. refl) opcode_flags (opcode_takes Anything Anything (fits_alone Anything opcode_at Anything (Word (codes "freeze")) operations.Freeze tt (λ more. refl)))
 
 -- the line and the first word of a terminator
 abbrev pub placed_ending : ℕ → List ℕ → Option Ending → Reader (ℕ × Ending)
@@ -493,6 +557,15 @@ ending_takes E F fit line (Word w) = by (ending_in w) refl
     by None h = refuses (LeftOut w) (word_reason (Fit E ending_word_at F []) (Bad (Unit {0}) ending_word_at []) (RepeatsFlag []) (RefusesAt ending_word_at []) w (codes "unreachable") (nouns.terminator endings.Unreachable refl) fit (λ u ws. types_bad ending_word_at ending_no_type ws)) (λ more. rw h refl)
 ending_takes E F fit line t = refuses (misfit places.Instruction t) (instruction_reason (Fit E ending_word_at F []) (Bad (Unit {0}) ending_word_at []) (RepeatsFlag []) (RefusesAt ending_word_at []) t refl fit (λ text l more. (fault l (misfit places.Instruction (Group text)), refl)) (λ u like. ending_bad refl like)) (λ more. refl)
 
+ending_flags : TakesNoFlag ending_word_at
+unfolding ending_in
+ending_flags = ((unexpected places.Instruction [], refl), by)
+  where
+    by : (flag : Flag) → RefusesAt ending_word_at [] (Word (flag_keyword flag))
+    by Nuw line more = (fault line (LeftOut (codes "nuw")), refl)
+    by Nsw line more = (fault line (LeftOut (codes "nsw")), refl)
+    by Exact line more = (fault line (LeftOut (codes "exact")), refl)
+
 pub ending-good : {E : Follow} → E an_end → Good E ending_word_at Anything
 unfolding ending_in
-ending-good {E} e = one_token (an_end, e, _, λ more. refl) (ending_takes E Anything (fits_alone E ending_word_at Anything an_end (0, endings.Unreachable) e (λ more. refl)))
+ending-good {E} e = one_token (an_end, e, _, λ more. refl) ending_flags (ending_takes E Anything (fits_alone E ending_word_at Anything an_end (0, endings.Unreachable) e (λ more. refl)))

@@ -81,11 +81,12 @@ IsWrongNumber front token =
     (digits : List ℕ) × (width : ℕ) × (token ≡ Number digits) × (constant_of digits width ≡ None)
     × ((other : List ℕ) → FitsBehind front (Number other) ↔ IsSome (constant_of other width))
 
--- What a kind of fault says of the token, which does not fit behind the others; no other kind is told of a token.
+-- What a kind of fault says of the token, which does not fit behind the others; no other kind is told of a token. A word that repeats
+-- a flag is nothing else, and is not left out.
 abbrev pub IsMisfit : List Placed → Token → IrFaultKind → Type 0
 IsMisfit front token BadByte = token ≡ Bad
 IsMisfit front token Width = IsWrongWidth front token
 IsMisfit front token ConstRange = IsWrongNumber front token
-IsMisfit front token (LeftOut text) = (text ≡ shown token) × IsLeftOut front token × ¬ IsWrongWidth front token
+IsMisfit front token (LeftOut text) = (text ≡ shown token) × IsLeftOut front token × ¬ IsWrongWidth front token × ¬ IsRepeated front token
 IsMisfit front token Syntax = IsNothingElse front token
 IsMisfit front token kind = ⊥

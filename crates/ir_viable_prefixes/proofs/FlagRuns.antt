@@ -1,0 +1,163 @@
+-- Where flags stand one behind the other, and readers between whose parts none do.
+use Rattle.std.proofs.Common.{◌≡◌, ℕ, zero, suc, Bool, true, false, cond, List, [], ◌∷◌, ◌++◌, Ok, Err, refl, sym, ap, subst, ◌∙◌, ◌⊎◌, inl, inr, append_assoc}
+use Rattle.std.proofs.lemmas.List.{append-nil}
+use Rattle.refusal.specs.declared.fault.Fault.{Fault}
+use Rattle.ir_tokens.specs.Tokens.{Token, Placed, Word}
+use Rattle.ir_tokens.specs.declared.fault.IrFaultKind.{IrFaultKind}
+use Rattle.ir_tokens.specs.declared.fault.IrFaultKind.TheVariants.{Syntax, LeftOut}
+use Rattle.ir_instructions.specs.Parts.{Is, Each}
+use Rattle.ir_instructions.specs.Readers.{Read, Reader, fault, goes_on, ◌>>=◌, done, steps_at, repeat_at}
+use Rattle.ir_instructions.proofs.Loops.{repeat-is}
+use Rattle.ir_instructions.proofs.Steps.{bind_ok, read_as}
+use Rattle.ops.specs.declared.keywords.flag.Flag.{Flag}
+use Rattle.ops.specs.FlagKeywords.{flag_keyword}
+use Rattle.ir_viable_prefixes.specs.Misfits.{IsRepeated}
+
+abbrev pub NoFlag : Token → Type 0
+NoFlag t = (flag : Flag) → t ≡ Word (flag_keyword flag) → ⊥
+
+-- the last one is no flag
+abbrev pub NoFlagLast : List Placed → Type 0
+NoFlagLast [] = Unit {0}
+NoFlagLast (t ∷ []) = NoFlag t.1
+NoFlagLast (t ∷ u ∷ tokens) = NoFlagLast (u ∷ tokens)
+
+-- the first one is no flag
+abbrev pub NoFlagNext : List Placed → Type 0
+NoFlagNext [] = Unit {0}
+NoFlagNext (t ∷ tokens) = NoFlag t.1
+
+-- no flag of the first tokens has one of the others right behind it
+abbrev pub Parted : List Placed → List Placed → Type 0
+Parted front rest = NoFlagLast front ⊎ NoFlagNext rest
+
+-- ---- flags that stand last
+
+abbrev AreFlags : List Placed → Type 0
+AreFlags [] = Unit {0}
+AreFlags (t ∷ tokens) = ((flag : Flag) × (t.1 ≡ Word (flag_keyword flag))) × AreFlags tokens
+
+are_flags : (flags : List Flag) (run : List Placed) → Each (λ f. Is (Word (flag_keyword f))) flags run [] → AreFlags run
+are_flags [] run same = subst AreFlags (sym same) tt
+are_flags (f ∷ flags) run (between, (l, one), more) = subst AreFlags (sym one) ((f, refl), are_flags flags between more)
+
+second_flags : (first front : List Placed) → AreFlags (first ++ front) → AreFlags front
+second_flags [] front flags = flags
+second_flags (u ∷ first) front flags = second_flags first front flags.1
+
+-- of such flags none has the last one apart from what is next
+no_last : (u : Placed) (first front : List Placed) → AreFlags (u ∷ (first ++ front)) → NoFlagLast (u ∷ first) → ⊥
+no_last u [] front flags none = none flags.0.0 flags.0.1
+no_last u (v ∷ first) front flags none = no_last v first front flags.1 none
+
+no_next : (front : List Placed) (line : ℕ) (t : Token) (behind : List Placed) → AreFlags front → (flag : Flag) → t ≡ Word (flag_keyword flag) → NoFlagNext (front ++ (line, t) ∷ behind) → ⊥
+no_next [] line t behind flags flag is none = none flag is
+no_next (u ∷ front) line t behind flags flag is none = none flags.0.0 flags.0.1
+
+parted_tail : (u : Placed) (first rest : List Placed) → Parted (u ∷ first) rest → Parted first rest
+parted_tail u [] rest p = inl tt
+parted_tail u (v ∷ first) rest p = p
+
+-- flags that stand last stand all behind where the tokens are parted
+pub new_behind : (first front : List Placed) (line : ℕ) (t : Token) (behind : List Placed) → Parted first (front ++ (line, t) ∷ behind) → ¬ IsRepeated front t → ¬ IsRepeated (first ++ front) t
+new_behind [] front line t behind parted new again = new again
+new_behind (u ∷ first) front line t behind parted new (w, is, ([], run, flag, flags, same, word, each)) = by parted
+  where
+    all : AreFlags (u ∷ (first ++ front))
+    all = subst AreFlags (sym same) (are_flags (flag ∷ flags) run each)
+
+    by : Parted (u ∷ first) (front ++ (line, t) ∷ behind) → ⊥
+    by (inl last) = no_last u first front all last
+    by (inr next) = no_next front line t behind (second_flags (u ∷ first) front all) flag (is ∙ ap Word word) next
+new_behind (u ∷ first) front line t behind parted new (w, is, (v ∷ before, run, flag, flags, same, word, each)) =
+    new_behind first front line t behind (parted_tail u first (front ++ (line, t) ∷ behind) parted) new (w, is, (before, run, flag, flags, cc, word, each))
+
+pub none_repeated : (t : Token) → ¬ IsRepeated [] t
+none_repeated t (w, is, (before, run, flag, flags, same, word, (between, (l, one), each))) = by before (same ∙ ap (λ (ts : List Placed). before ++ ts) one)
+  where
+    by : (before : List Placed) → [] ≡ before ++ (l, Word (flag_keyword flag)) ∷ between → ⊥
+    by [] none = cc
+    by (u ∷ before) none = cc
+
+-- ---- readers
+
+-- what it reads is parted from what it leaves
+abbrev pub ReadsApart : {A : Type 0} → Reader A → Type 0
+ReadsApart {A} R = (tokens : List Placed) (x : A × List Placed) → R tokens ≡ Ok x → (front : List Placed) × (tokens ≡ front ++ x.1) × Parted front x.1
+
+last_both : (first : List Placed) (u : Placed) (front : List Placed) → NoFlagLast (u ∷ front) → NoFlagLast (first ++ u ∷ front)
+last_both [] u front last = last
+last_both (v ∷ []) u front last = last
+last_both (v ∷ w ∷ first) u front last = last_both (w ∷ first) u front last
+
+parted_both : (first front rest : List Placed) → Parted first (front ++ rest) → Parted front rest → Parted (first ++ front) rest
+parted_both first [] rest one two = subst (λ (ts : List Placed). Parted ts rest) (sym (append-nil first)) one
+parted_both first (u ∷ front) rest one (inl last) = inl (last_both first u front last)
+parted_both first (u ∷ front) rest one (inr next) = inr next
+
+-- tokens that begin with such, and what is left
+abbrev pub Leaves : List Placed → List Placed → Type 0
+Leaves tokens rest = (front : List Placed) × (tokens ≡ front ++ rest) × Parted front rest
+
+pub leaves_all : (tokens : List Placed) → Leaves tokens tokens
+leaves_all tokens = ([], refl, inl tt)
+
+pub leaves_both : (tokens middle rest : List Placed) → Leaves tokens middle → Leaves middle rest → Leaves tokens rest
+leaves_both tokens middle rest (first, one, parted) (front, two, parted_too) = (
+  first ++ front,
+  one ∙ ap (λ (ts : List Placed). first ++ ts) two ∙ sym (append_assoc first front rest),
+  parted_both first front rest (subst (Parted first) two parted) parted_too,
+)
+
+pub done_apart : {A : Type 0} (x : A) → ReadsApart (done x)
+done_apart x tokens y is = read_as (λ z. Leaves tokens z.1) (x, tokens) y is (leaves_all tokens)
+
+pub both_apart : {A B : Type 0} (R : Reader A) (S : A → Reader B) → ReadsApart R → ((x : A) → ReadsApart (S x)) → ReadsApart (R >>= S)
+both_apart R S r s tokens y is =
+    let one = bind_ok (R tokens) S y is in
+    leaves_both tokens one.0.1 y.1 (r tokens one.0 one.1) (s one.0.0 one.0.1 y one.2)
+
+pub either_apart : {A : Type 0} (test : List Placed → Bool) (R S : Reader A) → ReadsApart R → ReadsApart S → ReadsApart (λ tokens. cond (test tokens) (R tokens) (S tokens))
+either_apart {A} test R S r s tokens x = by (test tokens)
+  where
+    by : (b : Bool) → cond b (R tokens) (S tokens) ≡ Ok x → Leaves tokens x.1
+    by true is = r tokens x is
+    by false is = s tokens x is
+
+pub loop_apart : {A : Type 0} (is_next : List Placed → Bool) (step : A → Reader A) → ((a : A) → ReadsApart (step a)) → (a : A) → ReadsApart (repeat_at is_next step a)
+loop_apart {A} is_next step parts a tokens x is =
+    (repeat-is is_next step (λ b ts c rest. Leaves ts rest) (λ b ts. leaves_all ts) (λ b ts y c rest next one more. leaves_both ts y.1 rest (parts b ts y one) more) _ a tokens x is).0
+
+-- ---- readers that leave nothing out
+
+abbrev pub IsLeft : IrFaultKind → Type 0
+IsLeft kind = (text : List ℕ) × (kind ≡ LeftOut text)
+
+abbrev pub LeavesNothingOut : {A : Type 0} → Reader A → Type 0
+LeavesNothingOut R = (tokens : List Placed) (found : Fault IrFaultKind) → R tokens ≡ Err found → ¬ IsLeft found.kind
+
+abbrev the_read : {A : Type 0} → Read A → Read A
+the_read r = r
+
+-- the fault that is found is the one that is made
+pub fault_left : {A : Type 0} (made found : Fault IrFaultKind) → the_read {A = A} (Err made) ≡ the_read (Err found) → ¬ IsLeft made.kind → ¬ IsLeft found.kind
+fault_left made found same none = let is : made ≡ found = cc in subst (λ (e : Fault IrFaultKind). ¬ IsLeft e.kind) is none
+
+pub done_nothing : {A : Type 0} (x : A) → LeavesNothingOut (done x)
+done_nothing x tokens found is = absurd cc
+
+pub both_nothing : {A B : Type 0} (R : Reader A) (S : A → Reader B) → LeavesNothingOut R → ((x : A) → LeavesNothingOut (S x)) → LeavesNothingOut (R >>= S)
+both_nothing {A} {B} R S r s tokens found = by (R tokens) refl
+  where
+    by : (q : Read A) → R tokens ≡ q → goes_on q S ≡ Err found → ¬ IsLeft found.kind
+    by (Ok x) read is = s x.0 x.1 found is
+    by (Err e) read is = fault_left e found is (r tokens e read)
+
+pub loop_nothing : {A : Type 0} (is_next : List Placed → Bool) (step : A → Reader A) → ((a : A) → LeavesNothingOut (step a)) → (n : ℕ) (a : A) → LeavesNothingOut (steps_at is_next step n a)
+unfolding steps_at
+loop_nothing is_next step s zero a tokens found = λ is. fault_left (fault 0 Syntax) found is (λ left. let both = left.1 in cc)
+loop_nothing {A} is_next step s (suc n) a tokens found = by (is_next tokens) (λ x. loop_nothing is_next step s n x)
+  where
+    by : (b : Bool) → ((x : A) → LeavesNothingOut (steps_at is_next step n x)) → cond b ((step a >>= steps_at is_next step n) tokens) (Ok (a, tokens)) ≡ Err found → ¬ IsLeft found.kind
+    by true more is = both_nothing (step a) (steps_at is_next step n) (s a) more tokens found is
+    by false more is = absurd cc
