@@ -1,0 +1,48 @@
+//! A word that no command line of the system can hold: a list of 64 widths, again and again.
+
+use super::words_of;
+use alive_top::alive;
+use outside::{MemoryFiles, MemorySink};
+use std::alloc::{AllocError, Global};
+use std::test::Fail;
+
+const ADD_ZERO: &str = "Name: add-zero\n%r = add %x, 0\n=>\n%r = %x\n";
+
+/// How often the widths stand in the list.
+const TIMES: usize = 20_000;
+
+/// How many lines `verify` writes of the rule.
+const LINES: usize = 64;
+
+/// The widths from 1 to 64, that often.
+fn widths(alloc: Global) -> Result<String, AllocError> {
+    let mut one = String::new(alloc);
+    for width in 1u32..=64 {
+        one.push_str(format!(in alloc; "{width},")?.as_str())?;
+    }
+    let mut all = String::new(alloc);
+    for _ in 0..TIMES {
+        all.push_str(one.as_str())?;
+    }
+    all.push_str("1")?;
+    Ok(all)
+}
+
+/// The status of `verify` over that list, and how many lines it writes.
+fn verified(alloc: Global) -> Result<(u8, usize), Fail> {
+    let mut words = words_of(alloc, "alive verify r --widths")?;
+    words.push(widths(alloc)?)?;
+    let mut files = MemoryFiles::new(alloc);
+    files.add(alloc, "r", ADD_ZERO.as_bytes())?;
+    let mut out = MemorySink::with_room(alloc, 10_000)?;
+    let mut err = MemorySink::with_room(alloc, 1000)?;
+    let ended = alive(alloc, &words, &mut files, &mut out, &mut err);
+    let lines = out.contents().iter().filter(|byte| **byte == b'\n').count();
+    Ok((ended.status.code(), lines))
+}
+
+#[test]
+fn widths_may_stand_again_and_again(rt: HostRuntime) -> Result<(), Fail> {
+    assert_eq!(rt; verified(rt.alloc())?, (0, LINES));
+    Ok(())
+}

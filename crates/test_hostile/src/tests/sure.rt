@@ -1,0 +1,66 @@
+//! Each status that comes over files and sinks that never fail.
+
+use super::{MODULE, NOT_ADD, words_of};
+use crate::sure_status;
+use outside::SureFiles;
+use std::alloc::Global;
+use std::test::Fail;
+
+/// A command, and its status. What is under a name that nothing is held under is empty.
+struct Row {
+    line: &'static str,
+    status: u8,
+}
+
+const ROWS: [Row; 7] = [
+    Row {
+        line: "alive optimise r m",
+        status: 0,
+    },
+    Row {
+        line: "alive verify r --widths 1-5",
+        status: 0,
+    },
+    Row {
+        line: "alive optimise r missing",
+        status: 0,
+    },
+    Row {
+        line: "alive optimise r",
+        status: 2,
+    },
+    Row {
+        line: "alive optimise m m",
+        status: 3,
+    },
+    Row {
+        line: "alive optimise r r",
+        status: 4,
+    },
+    Row {
+        line: "alive run m f 16",
+        status: 8,
+    },
+];
+
+/// The status of a command over a rule file `r` and a module `m`.
+fn status_of(alloc: Global, line: &str) -> Result<u8, Fail> {
+    let mut files = SureFiles::new(alloc);
+    files.add(alloc, "r", NOT_ADD.as_bytes())?;
+    files.add(alloc, "m", MODULE.as_bytes())?;
+    let words = words_of(alloc, line)?;
+    Ok(sure_status(alloc, &words, &mut files).code())
+}
+
+#[test]
+fn each_status_comes_over_what_never_fails(rt: HostRuntime) -> Result<(), Fail> {
+    for row in &ROWS {
+        assert_eq!(rt;
+            status_of(rt.alloc(), row.line)?,
+            row.status,
+            "{}",
+            row.line
+        );
+    }
+    Ok(())
+}
