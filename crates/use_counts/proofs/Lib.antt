@@ -1,0 +1,3 @@
+pub mod OneCount
+pub mod Rows
+pub mod Places

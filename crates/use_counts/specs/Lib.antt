@@ -1,0 +1,4 @@
+pub mod Uses
+pub mod Tables
+pub mod Counting
+pub mod Laws
