@@ -6,7 +6,6 @@ pub mod Knowing
 pub mod Bound
 pub mod Fitting
 pub mod Uses
-pub mod UseCounts
 pub mod Widths
 pub mod SourceSlots
 pub mod Candidates

@@ -16,8 +16,8 @@ use Rattle.rule_typing.specs.Classes.{HasClasses}
 use Rattle.matcher.specs.Slots.{AreAsMany, AreSlotsOf, HasName, KnowsFrom}
 use Rattle.matcher.specs.declared.binding.Binding.{Binding}
 use Rattle.matcher.specs.declared.slots.Slots.{Slots}
-use Rattle.matcher.proofs.UseCounts.{set_same}
 use Rattle.matcher.proofs.Knowing.{has_statement}
+use Rattle.matcher.proofs.Lists.{set_here}
 
 -- what a source statement may read has a slot
 has_name : (rule : Rule) (slots : Slots) (k : ℕ) (a : Argument) → k < length rule.source → length slots.statements.items ≡ length rule.source → length slots.inputs.items ≡ length rule.inputs → length slots.constants.items ≡ length rule.constants
@@ -71,7 +71,7 @@ known_first rule slots m unfilled root count filled classes fixed typing rooted 
   root = λ k last.
       let place : k ≡ length unfilled - 1 = omega arith in
       ap (λ (l : List (Option Result)). slice_get l k) filled
-      ∙ subst (λ (x : ℕ). slice_get (slice_set unfilled x (Some root)) k ≡ Some (Some root)) place (set_same unfilled k (Some root) (omega arith))
+      ∙ subst (λ (x : ℕ). slice_get (slice_set unfilled x (Some root)) k ≡ Some (Some root)) place (set_here unfilled k (Some root) (omega arith))
       ∙ ap (λ (o : Option Result). Some o) (sym (rooted k last));
   fixed = λ c N is.
       let at : slice_get m.typing c ≡ Some N = typing.fixed c N is in

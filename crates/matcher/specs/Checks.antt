@@ -5,7 +5,6 @@ use Rattle.ir_core.specs.Reads.{Read, IsRead}
 use Rattle.ir_core.specs.declared.function.Function.{Function}
 use Rattle.ir_core.specs.declared.instruction.Inst.{Inst}
 use Rattle.ir_core.specs.declared.operand.Register.{Register}
-use Rattle.ir_core.specs.declared.operand.Register.TheVariants as registers
 use Rattle.rule_core.specs.Positions.{operands_of}
 use Rattle.rule_core.specs.declared.rule.Formula.{Formula}
 use Rattle.rule_core.specs.declared.rule.Formula.TheVariants as formulas
@@ -13,26 +12,19 @@ use Rattle.rule_core.specs.declared.rule.Op.{Op}
 use Rattle.rule_core.specs.declared.rule.Operand.{Operand}
 use Rattle.rule_core.specs.declared.rule.Rule.{Rule}
 use Rattle.rule_core.specs.declared.rule.Statement.{Statement}
+use Rattle.use_counts.specs.Tables.{count_of}
 use Rattle.matcher.specs.Operands.{OperandMatches}
 use Rattle.matcher.specs.Statements.{IsSameOperation}
-use Rattle.matcher.specs.UseTables.{count_at}
 use Rattle.matcher.specs.declared.binding.Binding.{Binding}
-use Rattle.matcher.specs.declared.counting.UseCount.TheVariants as counts
-use Rattle.matcher.specs.declared.counting.UseTable.{UseTable}
 use Rattle.matcher.specs.declared.facts.FunctionFacts.{FunctionFacts}
 
 -- what an instruction reads as operand i matches that of an operation, if there are both
 abbrev pub MatchesAt : Function → Binding → Op → ℕ → ℕ → ℕ → Type 0
 MatchesAt f binding op b p i = (o : Operand) (r : Read) → slice_get (operands_of op) i ≡ Some o → IsRead f b p i r → OperandMatches binding o r
 
--- a register is the result of an instruction, and the table counts one use of it
-abbrev pub IsCountedOnce : UseTable → Register → Type 0
-IsCountedOnce table (registers.Parameter p) = ⊥
-IsCountedOnce table (registers.Result d p) = count_at table d p ≡ Some counts.Once
-
--- the register that a formula asks one use of, if it does, has one by the table
+-- the register that a formula asks one use of, if it does, has one by the counts
 abbrev pub IsOneUse : FunctionFacts → Binding → Formula → Type 0
-IsOneUse facts binding (formulas.HasOneUse j) = (r : Register) → slice_get binding.statements j ≡ Some r → IsCountedOnce facts.uses r
+IsOneUse facts binding (formulas.HasOneUse j) = (r : Register) → slice_get binding.statements j ≡ Some r → count_of facts.uses r ≡ 1
 IsOneUse facts binding formula = Unit {0}
 
 -- instruction k of block b is one operation with the root of the source

@@ -1,9 +1,9 @@
+pub use Rattle.use_counts.specs.Tables
+pub use Rattle.use_counts.specs.Uses
 pub mod Operands
 pub mod Statements
-pub mod Uses
 pub mod Match
 pub mod Laws
 pub mod Slots
-pub mod UseTables
 pub mod Facts
 pub mod Checks

@@ -9,8 +9,8 @@ use Rattle.rule_core.specs.Typing.{IsTyping}
 use Rattle.rule_core.specs.declared.rule.Formula.TheVariants as formulas
 use Rattle.rule_core.specs.declared.rule.Rule.{Rule}
 use Rattle.rule_core.specs.declared.rule.Statement.{Statement}
+use Rattle.use_counts.specs.Uses.{IsUsedOnce}
 use Rattle.matcher.specs.Statements.{StatementMatches}
-use Rattle.matcher.specs.Uses.{IsUsedOnce}
 use Rattle.matcher.specs.declared.binding.Binding.{Binding}
 
 -- The rule matches at instruction k of block b of the function, with this binding.

@@ -24,6 +24,7 @@ use ir_core::{Function, Inst, Op as InstOp, Operand, Register, read_at};
 use precond::holds;
 use rule_core::{Argument, Formula, Op, Register as Name, Rule, Statement};
 use rule_typing::is_typing;
+use use_counts::uses_of;
 
 /// Whether the rule matches with this binding at the instruction that the binding names.
 pub(crate) fn is_match(f: &Function, facts: &FunctionFacts, rule: &Rule, binding: &Binding) -> bool
@@ -250,7 +251,7 @@ fn has_one_use(facts: &FunctionFacts, binding: &Binding, formula: Formula) -> bo
         return true;
     };
     match binding.statements.as_slice().get(j as usize) {
-        Some(register) => facts.uses.is_used_once(*register),
+        Some(register) => uses_of(&facts.uses, *register) == 1,
         None => true,
     }
 }

@@ -4,16 +4,16 @@ ghost use Rattle.std.specs.Prelude.{◌<◌, ◌^◌, length, All, IfOk};
 ghost use Rattle.ir_core.specs.Checks.{MeetsChecks};
 ghost use Rattle.matcher.specs.Facts.{AreFactsOf};
 
-use crate::counting::UseTable;
 use assigned_flow::Assigned;
 use ir_core::Function;
 use std::alloc::{AllocError, Global};
+use use_counts::{Uses, count_uses};
 
 /// Which blocks of a function are reached, and how often its registers are used.
 #[derive(Debug, Drop)]
 pub struct FunctionFacts {
     pub flow: Assigned,
-    pub uses: UseTable,
+    pub uses: Uses,
 }
 
 impl FunctionFacts {
@@ -26,7 +26,7 @@ impl FunctionFacts {
     {
         Ok(FunctionFacts {
             flow: Assigned::new(alloc, f)?,
-            uses: UseTable::of(alloc, f)?,
+            uses: count_uses(alloc, f)?,
         })
     }
 }

@@ -1,14 +1,13 @@
 //! Where rules match in functions.
 //!
 //! The definitions stand in `specs/`: `Match` says when a rule matches at an instruction with a binding, `Statements` which
-//! instructions its statements match, `Operands` what its operands stand for, and `Uses` how often a register is used. `Slots` and
-//! `UseTables` serve the private functions.
+//! instructions its statements match, `Operands` what its operands stand for, and `Uses` of `use_counts` how often a register is used.
+//! `Slots` and `Checks` serve the private functions.
 #![tactic(auto)]
 
 mod binding;
 mod candidate;
 mod check;
-mod counting;
 mod facts;
 mod inst;
 mod laws;
@@ -19,7 +18,6 @@ mod slots;
 mod standing;
 
 pub use binding::Binding;
-pub use counting::{UseCount, UseTable};
 pub use facts::FunctionFacts;
 pub use laws::every_match_has_one_binding;
 pub use matching::{match_at, match_in};

@@ -1,4 +1,4 @@
-//! Tests of rules and functions that are read: where the rules match, and which functions come of it.
+//! Tests of rules and functions that are read: where the rules match, which functions come of it, and how often registers are used.
 #![tactic(auto)]
 
 #[cfg(test)]
@@ -7,3 +7,5 @@ mod applied;
 mod matches;
 #[cfg(test)]
 mod reading;
+#[cfg(test)]
+mod uses;

@@ -32,11 +32,11 @@ returns c =
         constant_count = sizes.2;
         typing = holds c.is_typing.result c.is_typing.ensures c.if-not-is_typing.false;
         precondition = holds c.holds.result c.holds.ensures c.if-not-holds.false;
-        one_use = uses_met c.args.f.now c.args.rule.now c.args.binding.now c.args.facts.now c.requires.rule c.requires.facts match
+        one_use = uses_met c.args.f.now c.args.rule.now c.args.binding.now c.args.facts.now c.requires.facts
             (λ formula among. c.have_one_use.ensures.0 yes formula (subst (λ (fs : List Formula). Contains fs formula) (sym c.as_slice-2.ensures) among));
       },
       λ m. c.have_one_use.ensures.1 (λ formula among.
-          uses_asked c.args.f.now c.args.rule.now c.args.binding.now c.args.facts.now c.requires.rule c.requires.facts match m.one_use formula (subst (λ (fs : List Formula). Contains fs formula) c.as_slice-2.ensures among)),
+          uses_asked c.args.f.now c.args.rule.now c.args.binding.now c.args.facts.now c.requires.facts m.one_use formula (subst (λ (fs : List Formula). Contains fs formula) c.as_slice-2.ensures among)),
     )
 
 pub returns-then-not-reached : goal.returns-then-not-reached
