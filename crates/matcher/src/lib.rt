@@ -1,8 +1,8 @@
 //! Where rules match in functions.
 //!
 //! The definitions stand in `specs/`: `Match` says when a rule matches at an instruction with a binding, `Statements` which
-//! instructions its statements match, `Operands` what its operands stand for, and `Uses` of `use_counts` how often a register is used.
-//! `Slots` and `Checks` serve the private functions.
+//! instructions its statements match, and `Operands` what its operands stand for; `Uses` of `use_counts` says how often a
+//! register is used. `Slots` and `Checks` serve the private functions.
 #![tactic(auto)]
 
 mod binding;

@@ -17,8 +17,8 @@ pub record AreUsesAmong (f : Function) (register : Register) (P : ℕ → ℕ �
 abbrev pub IsCountAmong : Function → Register → (ℕ → ℕ → ℕ → Type 0) → ℕ → Type 0
 IsCountAmong f register P n = (places : List UsePlace) × AreUsesAmong f register P places × (length places ≡ n)
 
--- the table has a number for each register of the function, and its number for a register is how many operands name it at places of
--- which P holds
+-- the table has a number for each register of the function, and its number for a register is how many operands name it
+-- at places of which P holds
 pub record AreCountsAmong (f : Function) (P : ℕ → ℕ → ℕ → Type 0) (uses : Uses) : Type 0 where
   pub there : (register : Register) → IsKnown f (operands.Register register) → HasNumber uses register
   pub exact : (register : Register) → IsCountAmong f register P (count_of uses register)

@@ -13,8 +13,8 @@ use ir_core::{Block, Function, Operand, Register, end_of, read_at, read_count};
 use lists::List;
 use std::alloc::{AllocError, Global};
 
-/// How often each register of a function is used. The only error is want of memory. A count that no `usize` holds is answered as that,
-/// and comes of no function that fits in memory.
+/// How often each register of a function is used; it reads each operand once. The only error is want of memory. A count
+/// that no `usize` holds is answered as that, and comes of no function that fits in memory.
 pub fn count_uses(alloc: Global, f: &Function) -> Result<Uses, AllocError>
     // Blocks, and the instructions of each, are counted in 32 bits.
     requires blocks { length f.now.blocks < 2 ^ 32 }

@@ -1,7 +1,7 @@
 //! How often each register of a function is used (LangRef, "Identifiers").
 //!
-//! The definitions stand in `specs/`: `Uses` says which operands name a register and how many they are, `Tables` when a table has these
-//! numbers, and `Laws` what holds of them. `Counting` serves the private functions.
+//! The definitions stand in `specs/`: `Uses` says which operands name a register and how many they are, `Tables` when a
+//! table has these numbers, and `Laws` what holds of them. `Counting` serves the private functions.
 #![tactic(auto)]
 
 mod counting;

@@ -8,7 +8,8 @@ ghost use Rattle.use_counts.specs.Uses.{IsUseCount};
 use ir_core::Register;
 use lists::List;
 
-/// For each parameter of a function and each result of an instruction a number: how many operands of the whole function name it.
+/// For each parameter of a function and each result of an instruction a number: how many operands of the whole function
+/// name it.
 #[derive(Debug, Drop)]
 pub struct Uses {
     pub parameters: List<usize>,
@@ -16,8 +17,8 @@ pub struct Uses {
     pub results: Vec<List<usize>>,
 }
 
-/// The number that a table has for a register, which is the register's count where the table is a function's; and 0 where it has none.
-/// It takes no memory.
+/// The number that a table has for a register, and 0 where it has none. Where the table is exact for a function, that is
+/// how many of its operands name the register. It takes no memory.
 pub fn uses_of(uses: &Uses, register: Register) -> usize
     ensures number { result ≡ count_of uses.now register }
     ensures count { (f : Function) → AreCounts f uses.now → IsUseCount f register result }
