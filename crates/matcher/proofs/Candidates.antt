@@ -17,15 +17,15 @@ use Rattle.rule_core.specs.declared.rule.Statement.{Statement}
 use Rattle.rule_core.proofs.Members.{Contains-from_get}
 use Rattle.rule_typing.specs.Classes.{HasClasses, IsNamedInSource}
 use Rattle.rule_typing.specs.Faults.{HasNoFault}
-use Rattle.matcher.specs.Match.{IsMatch}
+use Rattle.bindings.specs.Match.{IsMatch}
 use Rattle.matcher.specs.Slots.{AreSlotsOf, IsFilledAs, Keeps, Knows, KnowsFrom, KnowsName, KnowsOperand, KnowsStatement, OperandsMatch}
-use Rattle.matcher.specs.declared.binding.Binding.{Binding}
+use Rattle.bindings.specs.declared.binding.Binding.{Binding}
 use Rattle.matcher.specs.declared.slots.Slots.{Slots}
-use Rattle.matcher.proofs.Bound.{statement_at}
-use Rattle.matcher.proofs.Fitting.{SourceOperand, source_operand, met_at}
+use Rattle.bindings.proofs.Bound.{statement_at}
+use Rattle.bindings.proofs.Fitting.{SourceOperand, source_operand, met_at}
 use Rattle.matcher.proofs.Knowing.{keeps_statement}
-use Rattle.matcher.proofs.Lists.{place_of, all_filled}
-use Rattle.matcher.proofs.Reading.{width_of_inst}
+use Rattle.bindings.proofs.Lists.{place_of, all_filled}
+use Rattle.bindings.proofs.Reading.{width_of_inst}
 use Rattle.matcher.proofs.Widths.{as_many, stable}
 
 -- the root is bound to the instruction at which the match stands

@@ -11,9 +11,9 @@ use Rattle.rule_core.specs.declared.rule.Register.{Register as Name}
 use Rattle.rule_core.specs.declared.rule.Register.TheVariants as names
 use Rattle.rule_core.specs.declared.rule.Statement.{Statement}
 use Rattle.matcher.specs.Slots.{AreAsMany, HasName, HasOperand, HasStatement, Keeps, Knows, KnowsName, KnowsOperand, KnowsStatement}
-use Rattle.matcher.specs.declared.binding.Binding.{Binding}
+use Rattle.bindings.specs.declared.binding.Binding.{Binding}
 use Rattle.matcher.specs.declared.slots.Slots.{Slots}
-use Rattle.matcher.proofs.Lists.{set_here, set_elsewhere}
+use Rattle.bindings.proofs.Lists.{set_here, set_elsewhere}
 
 -- what is kept stays known
 pub keeps_name : (m : Binding) (old new : Slots) (a : Argument) → Keeps m old new → KnowsName old m a → KnowsName new m a

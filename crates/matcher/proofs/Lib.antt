@@ -1,13 +1,7 @@
-pub mod Lists
-pub mod Reading
-pub mod Naming
-pub mod Temporaries
 pub mod Knowing
-pub mod Bound
-pub mod Fitting
-pub mod Uses
+pub mod NameSlots
 pub mod Widths
 pub mod SourceSlots
 pub mod Candidates
 pub mod OneBinding
-pub mod Roots
+pub mod Rooted

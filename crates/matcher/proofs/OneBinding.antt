@@ -24,15 +24,15 @@ use Rattle.rule_core.proofs.Members.{Contains-from_get}
 use Rattle.rule_typing.specs.Classes.{IsNamedInSource}
 use Rattle.rule_typing.specs.Faults.{HasNoFault}
 use Rattle.matcher.specs.Laws.{MatchesHaveOneBinding}
-use Rattle.matcher.specs.Match.{IsMatch}
-use Rattle.matcher.specs.Operands.{StandsFor, OperandMatches}
-use Rattle.matcher.specs.Statements.{StatementMatches}
-use Rattle.matcher.specs.declared.binding.Binding.{Binding}
-use Rattle.matcher.proofs.Bound.{same_place}
+use Rattle.bindings.specs.Match.{IsMatch}
+use Rattle.bindings.specs.Operands.{StandsFor, OperandMatches}
+use Rattle.bindings.specs.Statements.{StatementMatches}
+use Rattle.bindings.specs.declared.binding.Binding.{Binding}
+use Rattle.bindings.proofs.Bound.{same_place}
 use Rattle.matcher.proofs.Candidates.{root_bound}
-use Rattle.matcher.proofs.Fitting.{SourceOperand, source_operand, met_at}
-use Rattle.matcher.proofs.Lists.{place_of, same_list}
-use Rattle.matcher.proofs.Reading.{same_inst}
+use Rattle.bindings.proofs.Fitting.{SourceOperand, source_operand, met_at}
+use Rattle.bindings.proofs.Lists.{place_of, same_list}
+use Rattle.bindings.proofs.Reading.{same_inst}
 use Rattle.matcher.proofs.Widths.{as_many, stable}
 
 one_register : (a : Operand) (r q : Register) → a ≡ operands.Register r → a ≡ operands.Register q → r ≡ q

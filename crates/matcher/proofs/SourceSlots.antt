@@ -14,10 +14,10 @@ use Rattle.rule_core.specs.declared.rule.Statement.{Statement}
 use Rattle.rule_core.proofs.Members.{Contains-from_get, source_statement, class_stands, operand_class_stands}
 use Rattle.rule_typing.specs.Classes.{HasClasses}
 use Rattle.matcher.specs.Slots.{AreAsMany, AreSlotsOf, HasName, KnowsFrom}
-use Rattle.matcher.specs.declared.binding.Binding.{Binding}
+use Rattle.bindings.specs.declared.binding.Binding.{Binding}
 use Rattle.matcher.specs.declared.slots.Slots.{Slots}
 use Rattle.matcher.proofs.Knowing.{has_statement}
-use Rattle.matcher.proofs.Lists.{set_here}
+use Rattle.bindings.proofs.Lists.{set_here}
 
 -- what a source statement may read has a slot
 has_name : (rule : Rule) (slots : Slots) (k : ℕ) (a : Argument) → k < length rule.source → length slots.statements.items ≡ length rule.source → length slots.inputs.items ≡ length rule.inputs → length slots.constants.items ≡ length rule.constants

@@ -4,8 +4,8 @@ use Rattle.ir_core.specs.declared.function.Function.{Function}
 use Rattle.rule_core.specs.Checks.{IsRule}
 use Rattle.rule_core.specs.declared.rule.Rule.{Rule}
 use Rattle.rule_typing.specs.Faults.{HasNoFault}
-use Rattle.matcher.specs.Match.{IsMatch}
-use Rattle.matcher.specs.declared.binding.Binding.{Binding}
+use Rattle.bindings.specs.Match.{IsMatch}
+use Rattle.bindings.specs.declared.binding.Binding.{Binding}
 
 -- a rule that is read matches at an instruction with one binding at most
 abbrev pub MatchesHaveOneBinding : Type 0

@@ -1,9 +1,4 @@
-pub use Rattle.use_counts.specs.Tables
-pub use Rattle.use_counts.specs.Uses
-pub mod Operands
-pub mod Statements
-pub mod Match
+pub use Rattle.bindings.specs.Facts
+pub use Rattle.bindings.specs.Match
 pub mod Laws
 pub mod Slots
-pub mod Facts
-pub mod Checks

@@ -4,11 +4,11 @@ ghost use Rattle.std.specs.Prelude.{◌≡◌, ◌<◌, ◌^◌, length, All, If
 ghost use Rattle.rule_core.specs.Checks.{IsRule};
 ghost use Rattle.rule_typing.specs.Classes.{IsClassified};
 ghost use Rattle.rule_typing.specs.Faults.{HasNoFault};
-ghost use Rattle.matcher.specs.Match.{IsMatch};
-ghost use Rattle.matcher.specs.declared.binding.Binding.{Binding};
+ghost use Rattle.bindings.specs.Match.{IsMatch};
+ghost use Rattle.bindings.specs.declared.binding.Binding.{Binding};
 
-use crate::binding::Binding;
 use crate::slots::Slots;
+use bindings::Binding;
 use ir_core::{Function, Register};
 use rule_core::Rule;
 use std::alloc::{AllocError, Global};

@@ -6,15 +6,12 @@ ghost use Rattle.ir_core.specs.Checks.{MeetsChecks};
 ghost use Rattle.rule_core.specs.Checks.{IsRule};
 ghost use Rattle.rule_typing.specs.Classes.{IsClassified};
 ghost use Rattle.rule_typing.specs.Faults.{HasNoFault};
-ghost use Rattle.matcher.specs.Facts.{AreFactsOf};
-ghost use Rattle.matcher.specs.Match.{IsMatch};
-ghost use Rattle.matcher.specs.declared.binding.Binding.{Binding};
+ghost use Rattle.bindings.specs.Facts.{AreFactsOf};
+ghost use Rattle.bindings.specs.Match.{IsMatch};
+ghost use Rattle.bindings.specs.declared.binding.Binding.{Binding};
 
-use crate::binding::Binding;
 use crate::candidate::candidate;
-use crate::check::is_match;
-use crate::facts::FunctionFacts;
-use crate::root::is_root_operation;
+use bindings::{Binding, FunctionFacts, is_match, is_root_operation};
 use ir_core::Function;
 use rule_core::Rule;
 use std::alloc::{AllocError, Global};
@@ -23,7 +20,7 @@ use std::alloc::{AllocError, Global};
 ///
 /// Where the instruction is one operation with the rule's root, all blocks are looked at, for which are reached and how often registers
 /// are used: [`match_in`] takes that as an argument. Elsewhere it takes no memory.
-#[tactic(auto, using(crate::proofs::Roots::matched_operation))]
+#[tactic(auto, using(crate::proofs::Rooted::matched_operation))]
 pub fn match_at(
     alloc: Global,
     f: &Function,
@@ -53,7 +50,7 @@ pub fn match_at(
 
 /// The same, with what is known of the whole function. It takes as many steps as the rule has operands and nodes, for each of its
 /// classes; and no memory where the block isn't reached, or the instruction isn't one operation with the rule's root.
-#[tactic(auto, using(crate::proofs::Roots::matched_operation))]
+#[tactic(auto, using(crate::proofs::Rooted::matched_operation))]
 pub fn match_in(
     alloc: Global,
     f: &Function,

@@ -8,12 +8,10 @@ ghost use Rattle.rule_core.specs.Positions.{Fixed, operands_of};
 ghost use Rattle.rule_core.specs.Typing.{IsTyping};
 ghost use Rattle.rule_core.specs.declared.rule.Operand.{Operand as SourceOperand};
 ghost use Rattle.rule_typing.specs.Classes.{IsClassified, HasClasses};
-ghost use Rattle.matcher.specs.Operands.{OperandMatches, StandsFor};
-ghost use Rattle.matcher.specs.declared.binding.Binding.{Binding};
+ghost use Rattle.bindings.specs.Operands.{OperandMatches, StandsFor};
+ghost use Rattle.bindings.specs.declared.binding.Binding.{Binding};
 
-use crate::binding::Binding;
-use crate::inst::inst_at;
-use crate::operation::{MOST_OPERANDS, operand_of};
+use bindings::{Binding, MOST_OPERANDS, inst_at, operand_of};
 use ir_core::{Function, Operand, Read, Register, read_at};
 use lists::List;
 use ops::{Width, Word};

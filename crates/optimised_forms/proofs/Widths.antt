@@ -28,7 +28,7 @@ use Rattle.substitution.specs.declared.rewrite.Rewrite.{Rewrite}
 use Rattle.substitution.proofs.Arriving.{inst_reads}
 use Rattle.substitution.proofs.Assigning.{end_reads}
 use Rattle.substitution.proofs.Placing.{InstPut, block_back, inst_back}
-use Rattle.matcher.specs.declared.binding.Binding.{Binding}
+use Rattle.bindings.specs.declared.binding.Binding.{Binding}
 use Rattle.rewriter.specs.Put.{class_width, rewrite_of}
 use Rattle.rewriter.proofs.Placed.{PutFor, put_from, all_aligned}
 use Rattle.rewriter.proofs.Putting.{IsNoCopy, put_op}

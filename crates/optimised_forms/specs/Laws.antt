@@ -6,8 +6,8 @@ use Rattle.ir_core.specs.declared.module.Module.{Module}
 use Rattle.rule_core.specs.Checks.{IsRule}
 use Rattle.rule_core.specs.declared.rule.Rule.{Rule}
 use Rattle.verdict.specs.declared.verdict.Row.{Row}
-use Rattle.matcher.specs.Match.{IsMatch}
-use Rattle.matcher.specs.declared.binding.Binding.{Binding}
+use Rattle.bindings.specs.Match.{IsMatch}
+use Rattle.bindings.specs.declared.binding.Binding.{Binding}
 use Rattle.rewriter.specs.Applied.{IsRewritten}
 use Rattle.rule_matches.specs.Ready.{AreReady}
 use Rattle.strategy.specs.Countable.{ModuleIsCountable}

@@ -52,9 +52,9 @@ use Rattle.substitution.specs.declared.rewrite.Rewrite.{Rewrite}
 use Rattle.substitution.specs.Substitution.{value_of, pulled_back}
 use Rattle.substitution.proofs.Arriving.{inst_reads}
 use Rattle.substitution.proofs.Placing.{IsTheRoot, stands_root, stands_other, moved_unmoved, is_moved}
-use Rattle.matcher.specs.Match.{IsMatch}
-use Rattle.matcher.specs.Statements.{StatementMatches}
-use Rattle.matcher.specs.declared.binding.Binding.{Binding}
+use Rattle.bindings.specs.Match.{IsMatch}
+use Rattle.bindings.specs.Statements.{StatementMatches}
+use Rattle.bindings.specs.declared.binding.Binding.{Binding}
 use Rattle.rewriter.specs.Put.{rewrite_of}
 use Rattle.rewriter.proofs.Computing.{IsComputed}
 use Rattle.rewriter.proofs.Effects.{source_gives}

@@ -12,7 +12,7 @@ use Rattle.rule_core.specs.Terms.{in_turn}
 use Rattle.rule_core.specs.declared.rule.Rule.{Rule}
 use Rattle.rule_core.specs.declared.rule.Statement.{Statement}
 use Rattle.rule_core.proofs.Turns.{in_turn-step, in_turn-length}
-use Rattle.matcher.specs.declared.binding.Binding.{Binding}
+use Rattle.bindings.specs.declared.binding.Binding.{Binding}
 use Rattle.rewriter.specs.Put.{is_copy, count_put, result_put, results_put, insts_with, insts_put}
 
 module _ (rule : Rule) (binding : Binding) where

@@ -46,9 +46,9 @@ use Rattle.substitution.specs.Fits.{Fits, IsOfItsWidth, IsOld, MayBeRead}
 use Rattle.substitution.specs.declared.rewrite.Rewrite.{Rewrite}
 use Rattle.substitution.proofs.Pieces.{mapped}
 use Rattle.substitution.proofs.Standing.{width_at}
-use Rattle.matcher.specs.Match.{IsMatch}
-use Rattle.matcher.specs.Statements.{StatementMatches}
-use Rattle.matcher.specs.declared.binding.Binding.{Binding}
+use Rattle.bindings.specs.Match.{IsMatch}
+use Rattle.bindings.specs.Statements.{StatementMatches}
+use Rattle.bindings.specs.declared.binding.Binding.{Binding}
 use Rattle.rewriter.specs.Put.{literal_of, is_copy, argument_put, class_width, operand_put, insts_put, rewrite_of}
 use Rattle.rewriter.proofs.Allowed.{reached, input_assigned, statements_settled, stands_itself}
 use Rattle.rewriter.proofs.Matched.{computed_no_phi, same_is_computed}

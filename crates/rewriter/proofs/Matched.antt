@@ -19,7 +19,7 @@ use Rattle.rule_core.specs.Positions.{operands_of}
 use Rattle.rule_core.specs.declared.rule.Op.{Op as RuleOp}
 use Rattle.rule_core.specs.declared.rule.Op.TheVariants as rule_ops
 use Rattle.rule_core.specs.declared.rule.Operand.{Operand as RuleOperand}
-use Rattle.matcher.specs.Statements.{IsSameOperation, flags_of_statement, flags_of_inst}
+use Rattle.bindings.specs.Statements.{IsSameOperation, flags_of_statement, flags_of_inst}
 use Rattle.rewriter.proofs.Flags.{more_flags_allow}
 use Rattle.rewriter.proofs.Computing.{Computation, Compares, Selects, Converts, effect_of, computed, computed_by, IsComputed}
 

@@ -6,7 +6,7 @@ use Rattle.ir_core.specs.Names.{Name}
 use Rattle.ir_core.specs.declared.instruction.Inst.{Inst}
 use Rattle.rule_core.specs.declared.rule.Rule.{Rule}
 use Rattle.rule_core.specs.declared.rule.Statement.{Statement}
-use Rattle.matcher.specs.declared.binding.Binding.{Binding}
+use Rattle.bindings.specs.declared.binding.Binding.{Binding}
 use Rattle.rewriter.specs.Put.{is_copy, class_width, insts_of_op, insts_with, insts_put}
 use Rattle.rewriter.proofs.Putting.{IsNoCopy, put_before, count_more, count_same, put_inst, insts_are, insts_none}
 

@@ -32,7 +32,7 @@ use Rattle.rule_core.specs.declared.rule.Statement.{Statement}
 use Rattle.rule_core.proofs.Members.{Contains-from_get, operand_class_stands}
 use Rattle.rule_core.proofs.Ready.{class_width as width_of_class}
 use Rattle.rule_core.proofs.Turns.{in_turn-length, at_place, before_place}
-use Rattle.matcher.specs.declared.binding.Binding.{Binding}
+use Rattle.bindings.specs.declared.binding.Binding.{Binding}
 use Rattle.rewriter.specs.Put.{literal_of, is_copy, count_put, argument_put, class_width, operand_put, result_of_op, result_put, results_put, insts_of_op, insts_with, insts_put}
 use Rattle.rewriter.proofs.Computing.{computed, computed_by, IsComputed}
 

@@ -12,7 +12,7 @@ use Rattle.rule_core.specs.declared.rule.Register.TheVariants as names
 use Rattle.rule_core.specs.declared.rule.Rule.{Rule}
 use Rattle.rule_core.specs.declared.rule.Statement.{Statement}
 use Rattle.rule_core.proofs.Members.{Contains-from_get, target_statement, class_stands, operand_class_stands}
-use Rattle.matcher.specs.declared.binding.Binding.{Binding}
+use Rattle.bindings.specs.declared.binding.Binding.{Binding}
 use Rattle.rewriter.specs.Ready.{IsBound, OperandIsReady, OpIsReady, StatementIsReady}
 
 module _ (rule : Rule) (binding : Binding) where

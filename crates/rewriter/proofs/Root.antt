@@ -25,9 +25,9 @@ use Rattle.rule_core.specs.declared.rule.Register.TheVariants as names
 use Rattle.rule_core.specs.declared.rule.Rule.{Rule}
 use Rattle.rule_core.specs.declared.rule.Statement.{Statement}
 use Rattle.rule_core.proofs.Members.{Contains-from_get}
-use Rattle.matcher.specs.Operands.{StandsFor, OperandMatches}
-use Rattle.matcher.specs.Statements.{StatementMatches}
-use Rattle.matcher.specs.declared.binding.Binding.{Binding}
+use Rattle.bindings.specs.Operands.{StandsFor, OperandMatches}
+use Rattle.bindings.specs.Statements.{StatementMatches}
+use Rattle.bindings.specs.declared.binding.Binding.{Binding}
 use Rattle.rewriter.proofs.Computing.{effect_of, computed, computed_by, IsComputed, collected, rule_gives, op_gives, effects_allow}
 use Rattle.rewriter.proofs.Matched.{read_there, operand_there, inst_allows}
 use Rattle.rewriter.proofs.Source.{IsDefined, Standing, argument_gives, operand_matches, widths_agree, may_read, among, truth_width, is_computed}

@@ -13,10 +13,10 @@ use Rattle.rule_core.specs.declared.rule.Op.{Op as RuleOp}
 use Rattle.rule_core.specs.declared.rule.Op.TheVariants.{Binary, Compare, Select, Convert, Copy}
 use Rattle.rule_core.specs.declared.rule.Rule.{Rule}
 use Rattle.rule_core.specs.declared.rule.Statement.{Statement}
-use Rattle.matcher.specs.Match.{IsMatch}
-use Rattle.matcher.specs.Statements.{StatementMatches}
-use Rattle.matcher.specs.declared.binding.Binding.{Binding}
-use Rattle.matcher.proofs.Fitting.{constants_fit}
+use Rattle.bindings.specs.Match.{IsMatch}
+use Rattle.bindings.specs.Statements.{StatementMatches}
+use Rattle.bindings.specs.declared.binding.Binding.{Binding}
+use Rattle.bindings.proofs.Fitting.{constants_fit}
 use Rattle.rewriter.specs.Put.{class_width, insts_of_op, insts_with, insts_put}
 use Rattle.rewriter.specs.Ready.{IsBound}
 

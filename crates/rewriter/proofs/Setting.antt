@@ -36,10 +36,10 @@ use Rattle.rule_core.proofs.Ready.{constant_values_fit}
 use Rattle.run_history.specs.Laws.{NumbersFit}
 use Rattle.substitution.specs.Fits.{IsOfItsWidth}
 use Rattle.substitution.proofs.Arriving.{inst_reads}
-use Rattle.matcher.specs.Match.{IsMatch}
-use Rattle.matcher.specs.Operands.{StandsFor, OperandMatches}
-use Rattle.matcher.specs.Statements.{StatementMatches}
-use Rattle.matcher.specs.declared.binding.Binding.{Binding}
+use Rattle.bindings.specs.Match.{IsMatch}
+use Rattle.bindings.specs.Operands.{StandsFor, OperandMatches}
+use Rattle.bindings.specs.Statements.{StatementMatches}
+use Rattle.bindings.specs.declared.binding.Binding.{Binding}
 use Rattle.rewriter.proofs.Matched.{read_there, same_is_computed, reads_here}
 use Rattle.rewriter.proofs.Source.{input_value, input_values}
 use Rattle.rewriter.proofs.Target.{TermFits, flat_map_from}

@@ -37,9 +37,9 @@ use Rattle.run_history.specs.Laws.{EquationHolds}
 use Rattle.substitution.specs.Substitution.{value_of}
 use Rattle.substitution.proofs.Pieces.{get_left, get_right}
 use Rattle.substitution.proofs.Arriving.{inst_reads}
-use Rattle.matcher.specs.Operands.{StandsFor, OperandMatches}
-use Rattle.matcher.specs.Statements.{StatementMatches, TargetReadsTemporary}
-use Rattle.matcher.specs.declared.binding.Binding.{Binding}
+use Rattle.bindings.specs.Operands.{StandsFor, OperandMatches}
+use Rattle.bindings.specs.Statements.{StatementMatches, TargetReadsTemporary}
+use Rattle.bindings.specs.declared.binding.Binding.{Binding}
 use Rattle.rewriter.proofs.Computing.{Computation, effect_of, computed, computed_by, IsComputed, collected, rule_gives, op_computes, effects_allow, effects_same}
 use Rattle.rewriter.proofs.Matched.{same_is_computed, read_there, inst_allows, inst_same}
 

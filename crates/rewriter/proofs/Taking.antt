@@ -8,7 +8,7 @@ use Rattle.rule_core.specs.Checks.{IsRule}
 use Rattle.rule_core.specs.declared.rule.Rule.{Rule}
 use Rattle.rule_core.specs.declared.rule.Statement.{Statement}
 use Rattle.substitution.proofs.Pieces.{get_left}
-use Rattle.matcher.specs.declared.binding.Binding.{Binding}
+use Rattle.bindings.specs.declared.binding.Binding.{Binding}
 use Rattle.rewriter.specs.Put.{results_put}
 use Rattle.rewriter.specs.Ready.{IsBound, StatementIsReady}
 use Rattle.rewriter.proofs.Counting.{results-length}

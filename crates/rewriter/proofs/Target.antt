@@ -40,8 +40,8 @@ use Rattle.rule_core.proofs.Ready.{class_width as width_of_class}
 use Rattle.substitution.specs.Rewritten.{RunsOn, RunsThrough}
 use Rattle.substitution.proofs.Pieces.{get_left, get_right, get_cases}
 use Rattle.run_history.proofs.Steps.{held_here, held_elsewhere}
-use Rattle.matcher.specs.Statements.{IsTemporary, TargetReadsTemporary}
-use Rattle.matcher.specs.declared.binding.Binding.{Binding}
+use Rattle.bindings.specs.Statements.{IsTemporary, TargetReadsTemporary}
+use Rattle.bindings.specs.declared.binding.Binding.{Binding}
 use Rattle.rewriter.specs.Put.{literal_of, is_copy, argument_put, class_width, operand_put, insts_with, insts_put}
 use Rattle.rewriter.proofs.Computing.{Computation, effect_of, computed, IsComputed, collected, rule_gives, op_computes, effects_allow, no_values}
 use Rattle.rewriter.proofs.Source.{IsDefined, given_of}

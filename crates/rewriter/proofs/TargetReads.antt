@@ -15,7 +15,7 @@ use Rattle.rule_core.specs.declared.rule.Argument.TheVariants as arguments
 use Rattle.rule_core.specs.declared.rule.Register.{Register as RuleRegister}
 use Rattle.rule_core.specs.declared.rule.Register.TheVariants as names
 use Rattle.rule_core.specs.declared.rule.Rule.{Rule}
-use Rattle.matcher.specs.declared.binding.Binding.{Binding}
+use Rattle.bindings.specs.declared.binding.Binding.{Binding}
 use Rattle.rewriter.specs.Put.{argument_put}
 use Rattle.rewriter.specs.Ready.{IsBound}
 

@@ -5,7 +5,7 @@ use Rattle.ir_core.specs.declared.function.Function.{Function}
 use Rattle.ir_core.specs.declared.instruction.Inst.{Inst}
 use Rattle.rule_core.specs.declared.rule.Rule.{Rule}
 use Rattle.substitution.specs.Rewritten.{rewritten_function}
-use Rattle.matcher.specs.declared.binding.Binding.{Binding}
+use Rattle.bindings.specs.declared.binding.Binding.{Binding}
 use Rattle.rewriter.specs.Put.{rewrite_of}
 
 -- The new function is the old one with what the rule puts in the place of its root.

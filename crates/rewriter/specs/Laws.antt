@@ -8,8 +8,8 @@ use Rattle.rule_core.specs.Valid.{IsValid}
 use Rattle.rule_core.specs.declared.rule.Rule.{Rule}
 use Rattle.rule_typing.specs.Faults.{HasNoFault}
 use Rattle.run_history.specs.Laws.{NumbersFit}
-use Rattle.matcher.specs.Match.{IsMatch}
-use Rattle.matcher.specs.declared.binding.Binding.{Binding}
+use Rattle.bindings.specs.Match.{IsMatch}
+use Rattle.bindings.specs.declared.binding.Binding.{Binding}
 use Rattle.rewriter.specs.Applied.{IsRewritten}
 
 -- Where a rule is valid at the widths at which it matches, the function to which it is applied there may stand in the place of the old one.

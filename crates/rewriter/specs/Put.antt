@@ -21,7 +21,7 @@ use Rattle.rule_core.specs.declared.rule.Register.TheVariants as names
 use Rattle.rule_core.specs.declared.rule.Rule.{Rule}
 use Rattle.rule_core.specs.declared.rule.Statement.{Statement}
 use Rattle.substitution.specs.declared.rewrite.Rewrite.{Rewrite}
-use Rattle.matcher.specs.declared.binding.Binding.{Binding}
+use Rattle.bindings.specs.declared.binding.Binding.{Binding}
 
 -- the number that a value is, as a literal
 abbrev pub literal_of : Value → Operand

@@ -11,7 +11,7 @@ use Rattle.rule_core.specs.declared.rule.Op.TheVariants.{Binary, Compare, Select
 use Rattle.rule_core.specs.declared.rule.Operand.{Operand}
 use Rattle.rule_core.specs.declared.rule.Rule.{Rule}
 use Rattle.rule_core.specs.declared.rule.Statement.{Statement}
-use Rattle.matcher.specs.declared.binding.Binding.{Binding}
+use Rattle.bindings.specs.declared.binding.Binding.{Binding}
 use Rattle.rewriter.specs.Put.{class_width, operand_put}
 
 -- each statement of the source, each input, each constant and each class is bound

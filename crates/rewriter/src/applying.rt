@@ -6,13 +6,13 @@ ghost use Rattle.ir_core.specs.Checks.{IsInst, MeetsChecks};
 ghost use Rattle.ir_core.specs.declared.function.Block.{Block};
 ghost use Rattle.ir_core.specs.declared.instruction.Inst.{Inst};
 ghost use Rattle.rule_core.specs.Checks.{IsRule};
-ghost use Rattle.matcher.specs.Match.{IsMatch};
+ghost use Rattle.bindings.specs.Match.{IsMatch};
 ghost use Rattle.rewriter.specs.Applied.{IsRewritten};
 
 use crate::insts::rewrite_of;
+use bindings::Binding;
 use ir_core::Function;
 use lists::{List, Text};
-use matcher::Binding;
 use rule_core::Rule;
 use std::alloc::{AllocError, Global};
 use substitution::rewrite_function;

@@ -8,9 +8,9 @@ ghost use Rattle.rewriter.specs.Put as put;
 ghost use Rattle.rewriter.specs.Ready.{IsBound, OpIsReady, StatementIsReady, op_put};
 
 use crate::operands::{class_width, operand_put};
+use bindings::Binding;
 use ir_core::{Inst, Op, Operand, Register};
 use lists::{List, Text};
-use matcher::Binding;
 use rule_core::{Op as RuleOp, Rule, Statement};
 use std::alloc::{AllocError, Global};
 use substitution::Rewrite;

@@ -6,8 +6,8 @@ ghost use Rattle.rule_core.specs.Terms.{constant_values, value_at};
 ghost use Rattle.rewriter.specs.Put as put;
 ghost use Rattle.rewriter.specs.Ready.{IsBound, OperandIsReady};
 
+use bindings::Binding;
 use ir_core::Operand;
-use matcher::Binding;
 use ops::{Width, Word, residue};
 use precond::term;
 use rule_core::{Argument, Operand as RuleOperand, Register, Rule};

@@ -11,10 +11,10 @@ use Rattle.ir_core.specs.declared.function.Block.{Block}
 use Rattle.ir_core.specs.declared.function.Function.{Function}
 use Rattle.ir_core.specs.declared.instruction.Inst.{Inst}
 use Rattle.rule_core.specs.declared.rule.Rule.{Rule}
-use Rattle.matcher.specs.Match.{IsMatch}
-use Rattle.matcher.specs.declared.binding.Binding.{Binding}
+use Rattle.bindings.specs.Match.{IsMatch}
+use Rattle.bindings.specs.declared.binding.Binding.{Binding}
 use Rattle.matcher.proofs.OneBinding.{matches_have_one_binding}
-use Rattle.matcher.proofs.Reading.{same_inst}
+use Rattle.bindings.proofs.Reading.{same_inst}
 use Rattle.rule_matches.specs.declared.matches.Match.{Match}
 use Rattle.rule_matches.specs.Found.{AddsMatches, AreMatchesWhere, IsAt, IsInBlock, IsOf}
 use Rattle.rule_matches.specs.Matches.{AreMatches, ComesBefore, IsMatchAmong}

@@ -11,7 +11,7 @@ use Rattle.rule_core.specs.declared.rule.Op.{Op as RuleOp}
 use Rattle.rule_core.specs.declared.rule.Op.TheVariants as rule_ops
 use Rattle.rule_core.specs.declared.rule.Rule.{Rule}
 use Rattle.rule_core.specs.declared.rule.Statement.{Statement}
-use Rattle.matcher.specs.Statements.{IsSameOperation, StatementMatches}
+use Rattle.bindings.specs.Statements.{IsSameOperation, StatementMatches}
 use Rattle.rule_matches.specs.declared.matches.Match.{Match}
 use Rattle.rule_matches.specs.declared.roots.RootKind.{RootKind}
 use Rattle.rule_matches.specs.declared.roots.RootKind.TheVariants.{Binary, Compare, Select, Convert}

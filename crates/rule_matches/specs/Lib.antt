@@ -1,4 +1,4 @@
-pub use Rattle.matcher.specs.Match
+pub use Rattle.bindings.specs.Match
 pub mod Matches
 pub mod Ready
 pub mod Roots

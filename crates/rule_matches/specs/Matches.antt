@@ -3,7 +3,7 @@ use Rattle.std.specs.Prelude.{◌≡◌, List, Some, All, AllPairs, Contains, sl
 use Rattle.ir_core.specs.Assigned.{IsBefore}
 use Rattle.ir_core.specs.declared.function.Function.{Function}
 use Rattle.rule_core.specs.declared.rule.Rule.{Rule}
-use Rattle.matcher.specs.Match.{IsMatch}
+use Rattle.bindings.specs.Match.{IsMatch}
 use Rattle.rule_matches.specs.declared.matches.Match.{Match}
 
 -- the rule that it names matches in the function, at the place and with what its binding says

@@ -3,16 +3,17 @@
 ghost use Rattle.std.specs.Prelude.{◌≡◌, ◌<◌, ◌^◌, ◌++◌, length, option_to_list, All, IfOk, OnOk};
 ghost use Rattle.ir_core.specs.Blocks.{HasInst};
 ghost use Rattle.ir_core.specs.Checks.{IsInst, MeetsChecks};
-ghost use Rattle.matcher.specs.Facts.{AreFactsOf};
+ghost use Rattle.bindings.specs.Facts.{AreFactsOf};
 ghost use Rattle.rule_matches.specs.Found.{AddsMatches, AreMatchesWhere, IsAt, IsInBlock, IsOf};
 ghost use Rattle.rule_matches.specs.Ready.{AreReady};
 ghost use Rattle.rule_matches.specs.Matches.{AreMatches};
 ghost use Rattle.rule_matches.specs.Roots.{AreByRoot};
 
 use crate::roots::RulesByRoot;
+use bindings::{Binding, FunctionFacts};
 use ir_core::{Function, Inst, end_of};
 use lists::List;
-use matcher::{Binding, FunctionFacts, match_in};
+use matcher::match_in;
 use rule_core::Rule;
 use std::alloc::{AllocError, Global};
 

@@ -14,8 +14,8 @@ use Rattle.rule_core.specs.Checks.{IsRule}
 use Rattle.rule_core.specs.declared.rule.Rule.{Rule}
 use Rattle.rule_typing.specs.Classes.{IsClassified}
 use Rattle.rule_typing.specs.Faults.{HasNoFault}
-use Rattle.matcher.specs.Match.{IsMatch}
-use Rattle.matcher.specs.declared.binding.Binding.{Binding}
+use Rattle.bindings.specs.Match.{IsMatch}
+use Rattle.bindings.specs.declared.binding.Binding.{Binding}
 use Rattle.test_rewriting.specs.Ready.{FunctionIsReady, RuleIsReady}
 
 -- each rule meets what a rule that is read meets

@@ -6,8 +6,8 @@ use crate::reading::{
     ADD_ZERO, MUL_TWO, NOT_ADD, NOT_ADD_ONCE, SEL_INC, ZEXT_TWICE, function_of, match_there,
     rule_of,
 };
+use bindings::Binding;
 use ir_core::{Function, Operand, Register, end_of};
-use matcher::Binding;
 use rule_core::Rule;
 use std::alloc::Global;
 use std::test::Fail;

@@ -3,12 +3,13 @@
 ghost use Rattle.std.specs.Prelude.{◌<◌, ◌-◌, ◌^◌, length, All, IsTrue, IfOk, IfSome};
 ghost use Rattle.ir_core.specs.Blocks.{HasInst};
 ghost use Rattle.ir_core.specs.Checks.{MeetsChecks, ModuleMeetsChecks};
-ghost use Rattle.matcher.specs.Match.{IsMatch};
+ghost use Rattle.bindings.specs.Match.{IsMatch};
 ghost use Rattle.test_rewriting.specs.Ready.{FunctionIsReady, RuleIsReady};
 
+use bindings::Binding;
 use ir_core::{Entry, Function, Module};
 use ir_reader::read_module;
-use matcher::{Binding, match_at};
+use matcher::match_at;
 use rule_core::Rule;
 use rule_reader::read_rules;
 use std::alloc::Global;

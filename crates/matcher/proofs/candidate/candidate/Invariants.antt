@@ -1,7 +1,7 @@
 -- what the statements from this one on name is known
-use Rattle.matcher.specs.Match.{IsMatch}
+use Rattle.bindings.specs.Match.{IsMatch}
 use Rattle.matcher.specs.Slots.{AreSlotsOf, KnowsFrom}
-use Rattle.matcher.specs.declared.binding.Binding.{Binding}
+use Rattle.bindings.specs.declared.binding.Binding.{Binding}
 use Rattle.matcher.proofs.candidate.candidate.Given as goal
 
 abbrev pub invariant-loop-j : goal.invariant-loop-j

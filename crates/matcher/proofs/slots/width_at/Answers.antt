@@ -1,5 +1,5 @@
 use Rattle.std.proofs.Common.{sym, ◌∙◌}
-use Rattle.matcher.proofs.Reading.{no_width, width_of_inst}
+use Rattle.bindings.proofs.Reading.{no_width, width_of_inst}
 use Rattle.matcher.proofs.slots.width_at.Goals as goal
 
 pub returns-in_err-inst : goal.returns-in_err-inst

@@ -4,7 +4,7 @@ use Rattle.std.proofs.lemmas.Option.{same_Some}
 use Rattle.ir_core.specs.declared.read.Read.{Read}
 use Rattle.rule_core.specs.Positions.{operands_of}
 use Rattle.rule_core.specs.declared.rule.Operand.{Operand}
-use Rattle.matcher.specs.Operands.{OperandMatches}
+use Rattle.bindings.specs.Operands.{OperandMatches}
 use Rattle.matcher.specs.Slots.{KnowsOperand}
 use Rattle.matcher.proofs.slots.Slots.take_operand_at.Goals as goal
 

@@ -3,7 +3,7 @@ use Rattle.std.specs.Prelude.{slice_get}
 use Rattle.std.proofs.lemmas.Bool.{cases_eq}
 use Rattle.rule_core.specs.Positions.{operands_of}
 use Rattle.matcher.proofs.Knowing.{as_many_along, keeps_along, keeps_operand, each_operand}
-use Rattle.matcher.proofs.Reading.{at_most_three}
+use Rattle.bindings.proofs.Reading.{at_most_three}
 use Rattle.matcher.proofs.slots.Slots.take_operands.Goals as goal
 
 pub returns-then-not-take_operand_at-clause-knows : goal.returns-then-not-take_operand_at-clause-knows

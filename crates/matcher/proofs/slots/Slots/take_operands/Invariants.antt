@@ -4,7 +4,7 @@ use Rattle.std.specs.Prelude.{slice_get}
 use Rattle.rule_core.specs.Positions.{operands_of}
 use Rattle.rule_core.specs.declared.rule.Operand.{Operand}
 use Rattle.matcher.specs.Slots.{AreAsMany, Keeps, KnowsOperand, OperandsMatch}
-use Rattle.matcher.specs.declared.binding.Binding.{Binding}
+use Rattle.bindings.specs.declared.binding.Binding.{Binding}
 use Rattle.matcher.proofs.slots.Slots.take_operands.Given as goal
 
 abbrev pub invariant-loop-index : goal.invariant-loop-index

@@ -2,7 +2,8 @@ use Rattle.std.proofs.Common.{◌≡◌, ◌<◌, Some, length, refl, arith}
 use Rattle.std.specs.Prelude.{slice_get}
 use Rattle.std.proofs.lemmas.List.{length-set}
 use Rattle.matcher.proofs.Knowing.{as_many_themselves, keeps_slots, knows_here}
-use Rattle.matcher.proofs.Naming.{input_at, source_at, has_input, has_source, knows_input, knows_source, source_register, target_stands}
+use Rattle.bindings.proofs.Naming.{input_at, source_at, source_register, target_stands}
+use Rattle.matcher.proofs.NameSlots.{has_input, has_source, knows_input, knows_source}
 use Rattle.matcher.proofs.slots.Slots.take_register.Goals as goal
 
 pub index_mut-requires : goal.index_mut-requires

@@ -5,7 +5,7 @@ use Rattle.ir_core.specs.Names.{width_of}
 use Rattle.ir_core.specs.declared.operand.Register.{Register}
 use Rattle.ir_core.specs.declared.operand.Register.TheVariants as registers
 use Rattle.matcher.specs.Slots.{OperandsMatch}
-use Rattle.matcher.proofs.Bound.{same_block, same_place}
+use Rattle.bindings.proofs.Bound.{same_block, same_place}
 use Rattle.matcher.proofs.Knowing.{keeps_along}
 use Rattle.matcher.proofs.slots.Slots.take_statement.Goals as goal
 

@@ -1,0 +1,54 @@
+-- The root of a rule and the instruction at which it matches are one operation.
+use Rattle.std.proofs.Common.{◌≡◌, ◌↔◌, ◌∙◌, ℕ, suc, ◌-◌, length, Bool, false, IsTrue, Some, sym, subst, arith}
+use Rattle.std.specs.Prelude.{slice_get}
+use Rattle.std.proofs.lemmas.Option.{same_Some}
+use Rattle.ir_core.specs.Blocks.{HasInst}
+use Rattle.ir_core.specs.Checks.{IsInst}
+use Rattle.ir_core.specs.declared.function.Function.{Function}
+use Rattle.ir_core.specs.declared.instruction.Inst.{Inst}
+use Rattle.rule_core.specs.Checks.{IsRule}
+use Rattle.rule_core.specs.declared.rule.Rule.{Rule}
+use Rattle.rule_core.specs.declared.rule.Statement.{Statement}
+use Rattle.bindings.specs.Checks.{IsRootOperation}
+use Rattle.bindings.specs.Match.{IsMatch}
+use Rattle.bindings.specs.Statements.{IsSameOperation}
+use Rattle.bindings.specs.declared.binding.Binding.{Binding}
+use Rattle.bindings.proofs.Bound.{statement_at}
+use Rattle.bindings.proofs.Reading.{has_inst_at, same_inst}
+
+pub matched_operation : (f : Function) (b k : ℕ) (rule : Rule) (m : Binding) → IsRule rule → IsMatch f b k rule m → IsRootOperation f b k rule
+matched_operation f b k rule m is_rule is =
+    let some = is_rule.source_root in
+    let (s, at) = statement_at rule (length rule.source - 1) (omega arith) in
+    let bound = is.statements (length rule.source - 1) s at in
+    let last : suc (length rule.source - 1) ≡ length rule.source = omega arith in
+    let place : bound.place ≡ k = bound.matches.root last ∙ is.place in
+    record {
+      root = s;
+      inst = bound.inst;
+      is_root = at;
+      is_inst = subst (λ (d : ℕ). IsInst f d k bound.inst) is.block (subst (λ (p : ℕ). IsInst f m.block p bound.inst) place bound.is_inst);
+      operation = bound.matches.operation;
+    }
+
+-- the operation of the one root and of the one instruction there tells
+pub root_operation : (f : Function) (b k : ℕ) (rule : Rule) (s : Statement) (inst : Inst) (same : Bool) → slice_get rule.source (length rule.source - 1) ≡ Some s → IsInst f b k inst
+    → (IsTrue same ↔ IsSameOperation s.op inst.op) → IsTrue same ↔ IsRootOperation f b k rule
+root_operation f b k rule s inst same at is operation = (
+  λ yes. record { root = s; inst = inst; is_root = at; is_inst = is; operation = operation.0 yes },
+  λ root. operation.1 (subst (λ (t : Statement). IsSameOperation t.op inst.op) (same_Some root.root s (sym root.is_root ∙ at))
+      (subst (λ (i : Inst). IsSameOperation root.root.op i.op) (same_inst f b k root.inst inst root.is_inst is) root.operation)),
+)
+
+pub no_root_operation : (f : Function) (b k : ℕ) (rule : Rule) → ¬ HasInst f b k → IsTrue false ↔ IsRootOperation f b k rule
+no_root_operation f b k rule none = (λ h. absurd cc, λ root. absurd (none (has_inst_at f b k root.inst root.is_inst)))
+
+-- a match stands where it says
+pub match_there : (f : Function) (b k : ℕ) (rule : Rule) (m n : Binding) → IsMatch f b k rule m → n ≡ m → IsMatch f n.block n.place rule n
+match_there f b k rule m n is same =
+    subst (λ (x : Binding). IsMatch f x.block x.place rule x) (sym same)
+    (subst (λ (d : ℕ). IsMatch f d m.place rule m) (sym is.block) (subst (λ (p : ℕ). IsMatch f b p rule m) (sym is.place) is))
+
+pub match_here : (f : Function) (b k : ℕ) (rule : Rule) (m : Binding) → (m.block ≡ b) × (m.place ≡ k) → IsMatch f m.block m.place rule m → IsMatch f b k rule m
+match_here f b k rule m there is =
+    subst (λ (p : ℕ). IsMatch f b p rule m) there.1 (subst (λ (d : ℕ). IsMatch f d m.place rule m) there.0 is)

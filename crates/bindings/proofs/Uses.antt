@@ -1,0 +1,39 @@
+-- What counts of uses tell.
+use Rattle.std.proofs.Common.{◌≡◌, ◌↔◌, ℕ, Some, subst}
+use Rattle.std.specs.Prelude.{slice_get, Contains}
+use Rattle.ir_core.specs.declared.function.Function.{Function}
+use Rattle.ir_core.specs.declared.operand.Register.{Register}
+use Rattle.rule_core.specs.declared.rule.Formula.{Formula}
+use Rattle.rule_core.specs.declared.rule.Formula.TheVariants as formulas
+use Rattle.rule_core.specs.declared.rule.Rule.{Rule}
+use Rattle.use_counts.specs.Tables.{count_of}
+use Rattle.use_counts.specs.Uses.{IsUsedOnce, IsUseCount}
+use Rattle.use_counts.proofs.OneCount.{count_of_one, use_counts_are_one}
+use Rattle.bindings.specs.Checks.{IsOneUse}
+use Rattle.bindings.specs.Facts.{AreFactsOf}
+use Rattle.bindings.specs.declared.binding.Binding.{Binding}
+use Rattle.bindings.specs.declared.facts.FunctionFacts.{FunctionFacts}
+
+-- a count of one is one use
+one_is_once : (f : Function) (facts : FunctionFacts) → AreFactsOf f facts → (r : Register) → (count_of facts.uses r ≡ 1) ↔ IsUsedOnce f r
+one_is_once f facts are r = (
+  λ one. (count_of_one f r).0 (subst (λ (n : ℕ). IsUseCount f r n) one (are.uses.exact r)),
+  λ once. use_counts_are_one f r (count_of facts.uses r) 1 (are.uses.exact r) ((count_of_one f r).1 once),
+)
+
+-- the formulas that ask for one use are met exactly where the registers have one
+pub uses_met : (f : Function) (rule : Rule) (binding : Binding) (facts : FunctionFacts) → AreFactsOf f facts
+    → ((formula : Formula) → Contains rule.precondition formula → IsOneUse facts binding formula)
+    → (j : ℕ) (r : Register) → Contains rule.precondition (formulas.HasOneUse j) → slice_get binding.statements j ≡ Some r → IsUsedOnce f r
+uses_met f rule binding facts are met j r among at = (one_is_once f facts are r).0 (met (formulas.HasOneUse j) among r at)
+
+pub uses_asked : (f : Function) (rule : Rule) (binding : Binding) (facts : FunctionFacts) → AreFactsOf f facts
+    → ((j : ℕ) (r : Register) → Contains rule.precondition (formulas.HasOneUse j) → slice_get binding.statements j ≡ Some r → IsUsedOnce f r)
+    → (formula : Formula) → Contains rule.precondition formula → IsOneUse facts binding formula
+uses_asked f rule binding facts are used (formulas.HasOneUse j) among = λ r at. (one_is_once f facts are r).1 (used j r among at)
+uses_asked f rule binding facts are used (formulas.Compare pred a b) among = tt
+uses_asked f rule binding facts are used (formulas.IsPowerOfTwo a) among = tt
+uses_asked f rule binding facts are used (formulas.IsSignBit a) among = tt
+uses_asked f rule binding facts are used (formulas.Not a) among = tt
+uses_asked f rule binding facts are used (formulas.And a b) among = tt
+uses_asked f rule binding facts are used (formulas.Or a b) among = tt

@@ -1,0 +1,7 @@
+-- the operands so far match
+use Rattle.std.proofs.Common.{ℕ, ◌<◌}
+use Rattle.bindings.specs.Checks.{MatchesAt}
+use Rattle.bindings.proofs.check.operands_match.Given as goal
+
+abbrev pub invariant-loop-index : goal.invariant-loop-index
+invariant-loop-index l = (i : ℕ) → i < l.index → MatchesAt l.f l.binding l.op l.block l.place i

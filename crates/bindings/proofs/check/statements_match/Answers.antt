@@ -1,0 +1,18 @@
+use Rattle.std.proofs.Common.{◌≡◌, ℕ, inl, inr, refl, sym, subst, Some, arith}
+use Rattle.std.specs.Prelude.{slice_get}
+use Rattle.std.proofs.lemmas.Bool.{cases_eq}
+use Rattle.std.proofs.lemmas.Option.{slice_get_within}
+use Rattle.rule_typing.proofs.Among.{holds}
+use Rattle.bindings.specs.Statements.{StatementMatches}
+use Rattle.bindings.proofs.check.statements_match.Goals as goal
+
+pub loop-j-preserved : goal.loop-j-preserved
+loop-j-preserved c k s less at = elim (cases_eq k c.loop-j.j) [
+  | inl same ↦
+      subst (λ (i : ℕ). StatementMatches c.args.f.now c.args.rule.now c.args.binding.now i s) (sym same)
+      (holds c.statement_matches.result c.statement_matches.ensures c.if-not-statement_matches.false s (subst (λ (i : ℕ). slice_get c.args.rule.now.source i ≡ Some s) same at))
+  | inr other ↦ c.loop-j.invariant k s (omega arith) at
+]
+
+pub returns : goal.returns
+returns c = (λ h j s at. c.loop-j.invariant j s (omega (arith, slice_get_within c.args.rule.now.source j s at)) at, λ h. refl)

@@ -1,0 +1,9 @@
+-- the statements so far match
+use Rattle.std.proofs.Common.{◌≡◌, ℕ, ◌<◌, Some}
+use Rattle.std.specs.Prelude.{slice_get}
+use Rattle.rule_core.specs.declared.rule.Statement.{Statement}
+use Rattle.bindings.specs.Statements.{StatementMatches}
+use Rattle.bindings.proofs.check.statements_match.Given as goal
+
+abbrev pub invariant-loop-j : goal.invariant-loop-j
+invariant-loop-j l = (k : ℕ) (s : Statement) → k < l.j → slice_get l.rule.source k ≡ Some s → StatementMatches l.f l.rule l.binding k s

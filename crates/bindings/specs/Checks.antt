@@ -1,0 +1,36 @@
+-- Parts of a match, as the code looks at them.
+use Rattle.std.specs.Prelude.{◌≡◌, ℕ, ◌-◌, length, Some, slice_get}
+use Rattle.ir_core.specs.Checks.{IsInst}
+use Rattle.ir_core.specs.Reads.{Read, IsRead}
+use Rattle.ir_core.specs.declared.function.Function.{Function}
+use Rattle.ir_core.specs.declared.instruction.Inst.{Inst}
+use Rattle.ir_core.specs.declared.operand.Register.{Register}
+use Rattle.rule_core.specs.Positions.{operands_of}
+use Rattle.rule_core.specs.declared.rule.Formula.{Formula}
+use Rattle.rule_core.specs.declared.rule.Formula.TheVariants as formulas
+use Rattle.rule_core.specs.declared.rule.Op.{Op}
+use Rattle.rule_core.specs.declared.rule.Operand.{Operand}
+use Rattle.rule_core.specs.declared.rule.Rule.{Rule}
+use Rattle.rule_core.specs.declared.rule.Statement.{Statement}
+use Rattle.use_counts.specs.Tables.{count_of}
+use Rattle.bindings.specs.Operands.{OperandMatches}
+use Rattle.bindings.specs.Statements.{IsSameOperation}
+use Rattle.bindings.specs.declared.binding.Binding.{Binding}
+use Rattle.bindings.specs.declared.facts.FunctionFacts.{FunctionFacts}
+
+-- what an instruction reads as operand i matches that of an operation, if there are both
+abbrev pub MatchesAt : Function → Binding → Op → ℕ → ℕ → ℕ → Type 0
+MatchesAt f binding op b p i = (o : Operand) (r : Read) → slice_get (operands_of op) i ≡ Some o → IsRead f b p i r → OperandMatches binding o r
+
+-- the register that a formula asks one use of, if it does, has one by the counts
+abbrev pub IsOneUse : FunctionFacts → Binding → Formula → Type 0
+IsOneUse facts binding (formulas.HasOneUse j) = (r : Register) → slice_get binding.statements j ≡ Some r → count_of facts.uses r ≡ 1
+IsOneUse facts binding formula = Unit {0}
+
+-- instruction k of block b is one operation with the root of the source
+pub record IsRootOperation (f : Function) (b k : ℕ) (rule : Rule) : Type 0 where
+  pub root : Statement
+  pub inst : Inst
+  pub is_root : slice_get rule.source (length rule.source - 1) ≡ Some root
+  pub is_inst : IsInst f b k inst
+  pub operation : IsSameOperation root.op inst.op

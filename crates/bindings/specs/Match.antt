@@ -1,0 +1,33 @@
+-- When a rule may be applied at an instruction: what its names are bound to there.
+use Rattle.std.specs.Prelude.{◌≡◌, ℕ, length, Some, Contains, slice_get}
+use Rattle.ir_core.specs.Walks.{IsReached}
+use Rattle.ir_core.specs.declared.function.Function.{Function}
+use Rattle.ir_core.specs.declared.operand.Operand.TheVariants as operands
+use Rattle.ir_core.specs.declared.operand.Register.{Register}
+use Rattle.rule_core.specs.Terms.{PreconditionHolds}
+use Rattle.rule_core.specs.Typing.{IsTyping}
+use Rattle.rule_core.specs.declared.rule.Formula.TheVariants as formulas
+use Rattle.rule_core.specs.declared.rule.Rule.{Rule}
+use Rattle.rule_core.specs.declared.rule.Statement.{Statement}
+use Rattle.use_counts.specs.Uses.{IsUsedOnce}
+use Rattle.bindings.specs.Statements.{StatementMatches}
+use Rattle.bindings.specs.declared.binding.Binding.{Binding}
+
+-- The rule matches at instruction k of block b of the function, with this binding.
+pub record IsMatch (f : Function) (b k : ℕ) (rule : Rule) (binding : Binding) : Type 0 where
+  -- the root is instruction k of block b, which the entry reaches
+  pub block : binding.block ≡ b
+  pub place : binding.place ≡ k
+  pub reached : IsReached f b
+  -- each source statement is bound to an instruction that it matches
+  pub statement_count : length binding.statements ≡ length rule.source
+  pub statements : (j : ℕ) (s : Statement) → slice_get rule.source j ≡ Some s → StatementMatches f rule binding j s
+  -- each input is bound to an operand that is no `undef`, and each constant to a number
+  pub input_count : length binding.inputs ≡ length rule.inputs
+  pub no_undef : ¬ Contains binding.inputs operands.Undef
+  pub constant_count : length binding.constants ≡ length rule.constants
+  -- the widths are a typing, and the precondition holds
+  pub typing : IsTyping rule binding.typing
+  pub precondition : PreconditionHolds rule binding.typing binding.constants
+  -- each register that is to have one use is named by exactly one operand of the function
+  pub one_use : (j : ℕ) (r : Register) → Contains rule.precondition (formulas.HasOneUse j) → slice_get binding.statements j ≡ Some r → IsUsedOnce f r

@@ -1,0 +1,74 @@
+-- Which instructions the statements of a rule's source match.
+use Rattle.std.specs.Prelude.{◌≡◌, ℕ, suc, ◌<◌, List, length, Some, Contains, slice_get}
+use Rattle.ops.specs.Flags.{AreWithin, no_flags}
+use Rattle.ops.specs.declared.opcode.Flags.{Flags}
+use Rattle.ir_core.specs.Checks.{IsInst}
+use Rattle.ir_core.specs.Reads.{Read, IsRead}
+use Rattle.ir_core.specs.declared.function.Function.{Function}
+use Rattle.ir_core.specs.declared.instruction.Inst.{Inst}
+use Rattle.ir_core.specs.declared.instruction.Op.{Op}
+use Rattle.ir_core.specs.declared.instruction.Op.TheVariants as ops
+use Rattle.ir_core.specs.declared.operand.Register.TheVariants as registers
+use Rattle.rule_core.specs.Positions.{operands_of, operands_among}
+use Rattle.rule_core.specs.declared.rule.Argument.{Argument}
+use Rattle.rule_core.specs.declared.rule.Argument.TheVariants as arguments
+use Rattle.rule_core.specs.declared.rule.Op.{Op as RuleOp}
+use Rattle.rule_core.specs.declared.rule.Op.TheVariants as rule_ops
+use Rattle.rule_core.specs.declared.rule.Operand.{Operand as RuleOperand}
+use Rattle.rule_core.specs.declared.rule.Register.TheVariants as names
+use Rattle.rule_core.specs.declared.rule.Rule.{Rule}
+use Rattle.rule_core.specs.declared.rule.Statement.{Statement}
+use Rattle.bindings.specs.Operands.{OperandMatches}
+use Rattle.bindings.specs.declared.binding.Binding.{Binding}
+
+-- both are one operation: of one opcode, one predicate or one cast
+abbrev pub IsSameOperation : RuleOp → Op → Type 0
+IsSameOperation (rule_ops.Binary opcode flags a b) (ops.Binary opcode' flags' x y) = opcode ≡ opcode'
+IsSameOperation (rule_ops.Compare pred a b) (ops.Compare pred' width x y) = pred ≡ pred'
+IsSameOperation (rule_ops.Select c a b) (ops.Select z x y) = Unit {0}
+IsSameOperation (rule_ops.Convert cast a to) (ops.Convert cast' from x) = cast ≡ cast'
+IsSameOperation s i = ⊥
+
+-- the flags of a statement, and those of an instruction
+abbrev pub flags_of_statement : RuleOp → Flags
+flags_of_statement (rule_ops.Binary opcode flags a b) = flags
+flags_of_statement op = no_flags
+
+abbrev pub flags_of_inst : Op → Flags
+flags_of_inst (ops.Binary opcode flags x y) = flags
+flags_of_inst op = no_flags
+
+-- an argument is what a statement of the source assigns
+abbrev pub IsTemporary : Argument → Type 0
+IsTemporary (arguments.Register (names.Source j)) = Unit {0}
+IsTemporary argument = ⊥
+
+-- one of these operands is
+abbrev pub ReadsTemporary : List RuleOperand → Type 0
+ReadsTemporary operands = (o : RuleOperand) × Contains operands o × IsTemporary o.value
+
+-- the target reads what a statement of the source assigns
+abbrev pub TargetReadsTemporary : Rule → Type 0
+TargetReadsTemporary rule = ReadsTemporary (operands_among rule.target)
+
+-- instruction k of the binding's block is what source statement j, which is this one, looks for
+pub record InstMatches (f : Function) (rule : Rule) (binding : Binding) (j : ℕ) (s : Statement) (k : ℕ) (inst : Inst) : Type 0 where
+  -- the root's is that at which the match stands, and a temporary's stands before it
+  pub root : suc j ≡ length rule.source → k ≡ binding.place
+  pub temporary : suc j < length rule.source → k < binding.place
+  -- the same opcode, predicate or cast
+  pub operation : IsSameOperation s.op inst.op
+  -- it has at least the statement's flags; a temporary's has no others where the target reads a temporary
+  pub flags : AreWithin (flags_of_statement s.op) (flags_of_inst inst.op)
+  pub no_more_flags : suc j < length rule.source → TargetReadsTemporary rule → flags_of_inst inst.op ≡ flags_of_statement s.op
+  -- the width of the result, and the operands from left to right
+  pub width : slice_get binding.typing s.class ≡ Some inst.width
+  pub operands : (i : ℕ) (o : RuleOperand) (r : Read) → slice_get (operands_of s.op) i ≡ Some o → IsRead f binding.block k i r → OperandMatches binding o r
+
+-- source statement j is this one, and is bound to an instruction of the root's block, which it matches
+pub record StatementMatches (f : Function) (rule : Rule) (binding : Binding) (j : ℕ) (s : Statement) : Type 0 where
+  pub place : ℕ
+  pub inst : Inst
+  pub bound : slice_get binding.statements j ≡ Some (registers.Result binding.block place)
+  pub is_inst : IsInst f binding.block place inst
+  pub matches : InstMatches f rule binding j s place inst

@@ -1,0 +1,257 @@
+//! Whether a binding is a match.
+
+ghost use Rattle.std.specs.Prelude.{◌≡◌, ◌+◌, ◌<◌, ◌^◌, ◌↔◌, ℕ, suc, length, All, Contains, IsTrue, Some, slice_get};
+ghost use Rattle.ops.specs.Flags.{AreWithin};
+ghost use Rattle.ir_core.specs.Checks.{MeetsChecks};
+ghost use Rattle.rule_core.specs.Checks.{IsRule};
+ghost use Rattle.rule_core.specs.Positions.{operands_among, operands_of};
+ghost use Rattle.rule_core.specs.declared.rule.Formula.{Formula as Asked};
+ghost use Rattle.rule_core.specs.declared.rule.Statement.{Statement as SourceStatement};
+ghost use Rattle.rule_typing.specs.Classes.{IsClassified};
+ghost use Rattle.bindings.specs.Checks.{IsOneUse, MatchesAt};
+ghost use Rattle.bindings.specs.Facts.{AreFactsOf};
+ghost use Rattle.bindings.specs.Match.{IsMatch};
+ghost use Rattle.bindings.specs.Statements.{InstMatches, IsTemporary, ReadsTemporary, StatementMatches, TargetReadsTemporary, flags_of_inst, flags_of_statement};
+
+use crate::binding::Binding;
+use crate::facts::FunctionFacts;
+use crate::inst::inst_at;
+use crate::operation::{
+    MOST_OPERANDS, flags_of_inst, flags_of_statement, is_same_operation, operand_of,
+};
+use crate::standing::{has_width, operand_matches};
+use ir_core::{Function, Inst, Op as InstOp, Operand, Register, read_at};
+use precond::holds;
+use rule_core::{Argument, Formula, Op, Register as Name, Rule, Statement};
+use rule_typing::is_typing;
+use use_counts::uses_of;
+
+/// Whether the rule matches with this binding at the instruction that the binding names.
+pub fn is_match(f: &Function, facts: &FunctionFacts, rule: &Rule, binding: &Binding) -> bool
+    requires checks { MeetsChecks f.now }
+    requires insts { All (λ b. length b.insts < 2 ^ 32) f.now.blocks }
+    requires facts { AreFactsOf f.now facts.now }
+    requires rule { IsRule rule.now }
+    requires classes { IsClassified rule.now }
+    ensures { IsTrue result ↔ IsMatch f.now binding.now.block binding.now.place rule.now binding.now }
+{
+    if !facts.flow.reached(binding.block) || !has_sizes(rule, binding) {
+        return false;
+    }
+    if !statements_match(f, rule, binding) || has_undef(binding.inputs.as_slice()) {
+        return false;
+    }
+    if !is_typing(rule, &binding.typing) || !holds(rule, &binding.typing, &binding.constants) {
+        return false;
+    }
+    have_one_use(facts, binding, rule.precondition.as_slice())
+}
+
+/// Whether there is something for each statement, each input and each constant of the rule.
+fn has_sizes(rule: &Rule, binding: &Binding) -> bool
+    ensures { IsTrue result ↔ ((length binding.now.statements ≡ length rule.now.source)
+        × (length binding.now.inputs ≡ length rule.now.inputs)
+        × (length binding.now.constants ≡ length rule.now.constants)) }
+{
+    binding.statements.len() == rule.source.len()
+        && binding.inputs.len() == rule.inputs.len()
+        && binding.constants.len() == rule.constants.len()
+}
+
+/// Whether each statement of the source matches the instruction that it is bound to.
+fn statements_match(f: &Function, rule: &Rule, binding: &Binding) -> bool
+    requires insts { All (λ b. length b.insts < 2 ^ 32) f.now.blocks }
+    requires count { length binding.now.statements ≡ length rule.now.source }
+    ensures { IsTrue result ↔ ((j : ℕ) (s : SourceStatement) → slice_get rule.now.source j ≡ Some s → StatementMatches f.now rule.now binding.now j s) }
+{
+    let exact = read_temporary(rule.target.as_slice());
+    for j in 0..rule.source.len() {
+        if !statement_matches(f, rule, binding, exact, j) {
+            return false;
+        }
+    }
+    true
+}
+
+/// Whether one of these statements reads what one of the source assigns.
+fn read_temporary(statements: &[Statement]) -> bool
+    ensures { IsTrue result ↔ ReadsTemporary (operands_among statements.now) }
+{
+    for statement in statements {
+        if reads_temporary(statement.op) {
+            return true;
+        }
+    }
+    false
+}
+
+/// Whether an operand of an operation is what a statement of the source assigns.
+fn reads_temporary(op: Op) -> bool
+    ensures { IsTrue result ↔ ReadsTemporary (operands_of op) }
+{
+    match op {
+        Op::Binary(_, _, a, b) | Op::Compare(_, a, b) => {
+            is_temporary(a.value) || is_temporary(b.value)
+        }
+        Op::Select(c, a, b) => {
+            is_temporary(c.value) || is_temporary(a.value) || is_temporary(b.value)
+        }
+        Op::Convert(_, a, _) | Op::Copy(a) => is_temporary(a.value),
+    }
+}
+
+/// Whether an argument is what a statement of the source assigns.
+fn is_temporary(argument: Argument) -> bool
+    ensures { IsTrue result ↔ IsTemporary argument }
+{
+    match argument {
+        Argument::Register(Name::Source(_)) => true,
+        Argument::Register(Name::Input(_) | Name::Target(_)) => false,
+        Argument::Literal(_) | Argument::Truth(_) | Argument::Constant(_) => false,
+        Argument::Undef(_) | Argument::Term(_) => false,
+    }
+}
+
+/// Whether a statement of the source matches the instruction that it is bound to, with no more flags where they are to be exact.
+fn statement_matches(f: &Function, rule: &Rule, binding: &Binding, exact: bool, j: usize) -> bool
+    requires insts { All (λ b. length b.insts < 2 ^ 32) f.now.blocks }
+    requires count { length binding.now.statements ≡ length rule.now.source }
+    requires place { j < length rule.now.source }
+    requires exact { IsTrue exact ↔ TargetReadsTemporary rule.now }
+    ensures { IsTrue result ↔ ((s : SourceStatement) → slice_get rule.now.source j ≡ Some s → StatementMatches f.now rule.now binding.now j s) }
+{
+    let Register::Result(block, place) = binding.statements.as_slice()[j] else {
+        return false;
+    };
+    if block != binding.block {
+        return false;
+    }
+    match inst_at(f, block, place) {
+        Some(inst) => inst_matches(f, rule, binding, exact, j, place, inst),
+        None => false,
+    }
+}
+
+/// Whether an instruction of the binding's block is what a statement of the source looks for.
+fn inst_matches(
+    f: &Function,
+    rule: &Rule,
+    binding: &Binding,
+    exact: bool,
+    j: usize,
+    place: u32,
+    inst: &Inst,
+) -> bool
+    requires insts { All (λ b. length b.insts < 2 ^ 32) f.now.blocks }
+    requires place { j < length rule.now.source }
+    requires exact { IsTrue exact ↔ TargetReadsTemporary rule.now }
+    ensures { (s : SourceStatement) → slice_get rule.now.source j ≡ Some s
+        → IsTrue result ↔ InstMatches f.now rule.now binding.now j s place inst.now }
+{
+    let statement = &rule.source.as_slice()[j];
+    let is_root = is_root(rule, j);
+    if !stands_well(binding, is_root, place) {
+        return false;
+    }
+    if !is_same_operation(statement.op, &inst.op) {
+        return false;
+    }
+    if !flags_match(statement.op, &inst.op, exact, is_root) {
+        return false;
+    }
+    if !has_width(binding, statement.class, inst.width) {
+        return false;
+    }
+    operands_match(f, binding, &statement.op, binding.block, place)
+}
+
+/// Whether the root is at the place of the match, and another statement's instruction before it.
+fn stands_well(binding: &Binding, is_root: bool, place: u32) -> bool
+    ensures { IsTrue result ↔ ((IsTrue is_root → place ≡ binding.now.place) × (¬ IsTrue is_root → place < binding.now.place)) }
+{
+    if is_root {
+        place == binding.place
+    } else {
+        place < binding.place
+    }
+}
+
+/// Whether an instruction has the statement's flags, and, where they are to be exact and it is no root's, no others.
+fn flags_match(statement: Op, inst: &InstOp, exact: bool, is_root: bool) -> bool
+    ensures { IsTrue result ↔ (AreWithin (flags_of_statement statement) (flags_of_inst inst.now)
+        × (IsTrue exact → ¬ IsTrue is_root → flags_of_inst inst.now ≡ flags_of_statement statement)) }
+{
+    let (asked, found) = (flags_of_statement(statement), flags_of_inst(inst));
+    asked.are_within(found) && (is_root || !exact || found == asked)
+}
+
+/// Whether a statement of the source is the root's.
+fn is_root(rule: &Rule, j: usize) -> bool
+    requires { j < length rule.now.source }
+    ensures { IsTrue result ↔ (suc j ≡ length rule.now.source) }
+{
+    j == rule.source.len() - 1
+}
+
+/// Whether what an instruction reads matches the operands of an operation, as far as there are both.
+fn operands_match(f: &Function, binding: &Binding, op: &Op, block: u32, place: u32) -> bool
+    requires { All (λ b. length b.insts < 2 ^ 32) f.now.blocks }
+    ensures { IsTrue result ↔ ((i : ℕ) → MatchesAt f.now binding.now op.now block place i) }
+{
+    for index in 0..MOST_OPERANDS {
+        if !operand_matches_at(f, binding, op, block, place, index) {
+            return false;
+        }
+    }
+    true
+}
+
+/// The same for one operand.
+fn operand_matches_at(
+    f: &Function,
+    binding: &Binding,
+    op: &Op,
+    block: u32,
+    place: u32,
+    index: usize,
+) -> bool
+    requires { All (λ b. length b.insts < 2 ^ 32) f.now.blocks }
+    ensures { IsTrue result ↔ MatchesAt f.now binding.now op.now block place index }
+{
+    match (operand_of(*op, index), read_at(f, block, place, index)) {
+        (Some(operand), Some(read)) => operand_matches(binding, operand, read),
+        _ => true,
+    }
+}
+
+/// Whether one of the operands is `undef`.
+fn has_undef(operands: &[Operand]) -> bool
+    ensures { IsTrue result ↔ Contains operands.now Operand.Undef }
+{
+    operands.contains(&Operand::Undef)
+}
+
+/// Whether each register of which these formulas ask one use has one.
+fn have_one_use(facts: &FunctionFacts, binding: &Binding, formulas: &[Formula]) -> bool
+    ensures { IsTrue result ↔ ((formula : Asked) → Contains formulas.now formula → IsOneUse facts.now binding.now formula) }
+{
+    for formula in formulas {
+        if !has_one_use(facts, binding, *formula) {
+            return false;
+        }
+    }
+    true
+}
+
+/// Whether the register that a formula asks one use of, if it does, has one.
+fn has_one_use(facts: &FunctionFacts, binding: &Binding, formula: Formula) -> bool
+    ensures { IsTrue result ↔ IsOneUse facts.now binding.now formula }
+{
+    let Formula::HasOneUse(j) = formula else {
+        return true;
+    };
+    match binding.statements.as_slice().get(j as usize) {
+        Some(register) => uses_of(&facts.uses, *register) == 1,
+        None => true,
+    }
+}

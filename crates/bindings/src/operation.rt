@@ -1,0 +1,65 @@
+//! Operations of rules beside those of functions.
+
+ghost use Rattle.std.specs.Prelude.{◌≡◌, ◌↔◌, IsTrue, slice_get};
+ghost use Rattle.rule_core.specs.Positions.{operands_of};
+ghost use Rattle.bindings.specs.Statements.{IsSameOperation, flags_of_statement, flags_of_inst};
+
+use ir_core::Op;
+use ops::Flags;
+use rule_core::{Op as RuleOp, Operand as RuleOperand};
+
+/// How many operands an operation of a rule has at most.
+pub const MOST_OPERANDS: usize = 3;
+
+/// One of the operands of an operation, from left to right.
+pub fn operand_of(op: RuleOp, index: usize) -> Option<RuleOperand>
+    ensures { result ≡ slice_get (operands_of op) index }
+{
+    match op {
+        RuleOp::Binary(_, _, a, b) | RuleOp::Compare(_, a, b) => one_of(&[a, b], index),
+        RuleOp::Select(c, a, b) => one_of(&[c, a, b], index),
+        RuleOp::Convert(_, a, _) | RuleOp::Copy(a) => one_of(&[a], index),
+    }
+}
+
+/// One of these, if there are so many.
+fn one_of(operands: &[RuleOperand], index: usize) -> Option<RuleOperand>
+    ensures { result ≡ slice_get operands.now index }
+{
+    operands.get(index).copied()
+}
+
+/// Whether both are one operation: of one opcode, one predicate or one cast.
+pub(crate) fn is_same_operation(statement: RuleOp, inst: &Op) -> bool
+    ensures { IsTrue result ↔ IsSameOperation statement inst.now }
+{
+    match (statement, inst) {
+        (RuleOp::Binary(opcode, _, _, _), Op::Binary(other, _, _, _)) => opcode == *other,
+        (RuleOp::Compare(pred, _, _), Op::Compare(other, _, _, _)) => pred == *other,
+        (RuleOp::Select(_, _, _), Op::Select(_, _, _)) => true,
+        (RuleOp::Convert(cast, _, _), Op::Convert(other, _, _)) => cast == *other,
+        _ => false,
+    }
+}
+
+/// The flags of a statement.
+pub(crate) fn flags_of_statement(op: RuleOp) -> Flags
+    ensures { result ≡ flags_of_statement op }
+{
+    match op {
+        RuleOp::Binary(_, flags, _, _) => flags,
+        RuleOp::Compare(_, _, _) | RuleOp::Select(_, _, _) => Flags::NONE,
+        RuleOp::Convert(_, _, _) | RuleOp::Copy(_) => Flags::NONE,
+    }
+}
+
+/// The flags of an instruction.
+pub(crate) fn flags_of_inst(op: &Op) -> Flags
+    ensures { result ≡ flags_of_inst op.now }
+{
+    match op {
+        Op::Binary(_, flags, _, _) => *flags,
+        Op::Compare(_, _, _, _) | Op::Select(_, _, _) => Flags::NONE,
+        Op::Convert(_, _, _) | Op::Freeze(_) | Op::Phi(_) => Flags::NONE,
+    }
+}

@@ -1,7 +1,0 @@
--- the operands so far match
-use Rattle.std.proofs.Common.{ℕ, ◌<◌}
-use Rattle.matcher.specs.Checks.{MatchesAt}
-use Rattle.matcher.proofs.check.operands_match.Given as goal
-
-abbrev pub invariant-loop-index : goal.invariant-loop-index
-invariant-loop-index l = (i : ℕ) → i < l.index → MatchesAt l.f l.binding l.op l.block l.place i

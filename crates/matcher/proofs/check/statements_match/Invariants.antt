@@ -1,9 +1,0 @@
--- the statements so far match
-use Rattle.std.proofs.Common.{◌≡◌, ℕ, ◌<◌, Some}
-use Rattle.std.specs.Prelude.{slice_get}
-use Rattle.rule_core.specs.declared.rule.Statement.{Statement}
-use Rattle.matcher.specs.Statements.{StatementMatches}
-use Rattle.matcher.proofs.check.statements_match.Given as goal
-
-abbrev pub invariant-loop-j : goal.invariant-loop-j
-invariant-loop-j l = (k : ℕ) (s : Statement) → k < l.j → slice_get l.rule.source k ≡ Some s → StatementMatches l.f l.rule l.binding k s
