@@ -20,6 +20,7 @@ use Rattle.rule_parse.proofs.Spellings.{rules_at-of}
 use Rattle.rule_viable_prefixes.specs.Fits.{Fits, FitsBehind, LineFits, line_behind, line_of}
 use Rattle.rule_viable_prefixes.proofs.Lines.{IsNameLine, NamesEndLines, names_behind, name_follows, name_verdict, IsPrecondition, precondition_verdict, IsWitness, witness_verdict, IsHalf, half_opens, some_of_opens, Follows, by_arrow, by_rule, follows_open, source_verdict, target_verdict, IsArrow, arrow_follows, arrow_verdict, verdict_made}
 use Rattle.rule_viable_prefixes.specs.Misfits.{Fitting, IsNoun, NounFits, RepeatsFlag, IsExcused, one_use, repeated, nested, Says, IsMisfit}
+use Rattle.rule_viable_prefixes.proofs.FlagRuns.{IsNew, new_on_line}
 use Rattle.rule_viable_prefixes.proofs.Outcomes.{lack_wider, Excuse, repeats_behind, Akin, akin, akin_behind, akin_noun, Told, says_wider, Alike, same, ended, pair, bare, IsErr, SaysFirst}
 use Rattle.rule_viable_prefixes.proofs.Rules.{GoesOn, Whole, Within, Missed, Verdict, verdict_both, verdict_wider, begins_line, line_of_both, starts_line}
 
@@ -148,6 +149,7 @@ record RefusedWithin (tokens : List Token) (found : RuleFault) : Type 0 where
   misfit : (more : List Token) → Alike behind more → AreRules (Line number ∷ front ++ more) → ⊥
   here : found.line ≡ line_behind number front
   says : SaysFirst (RulesGoOn number front) (RulesLack number front) behind found.kind
+  new : IsNew front found.kind
 
 -- missed at the end
 record MissedAtEnd (last : ℕ) (tokens : List Token) (found : RuleFault) : Type 0 where
@@ -176,6 +178,7 @@ rule_refused last tokens found (inl w) = inl (record {
       (λ word r is_word. lack_wider [] w.front w.front word refl (λ n noun is_noun more rules.
       let f = rules_first last (Line w.number) (w.front ++ Word noun ∷ more) rules in
       ok_no_err (rule_at last (Line w.number ∷ w.front ++ Word noun ∷ more)) f.0 f.1 (n noun is_noun more))) found.kind w.says;
+  new = w.new;
 })
 rule_refused last tokens found (inr m) = inr (record { begins = λ number. let c = m.begins number in (c.0, rules_made ((tokens ++ Line number ∷ []) ++ c.0) c.1); here = m.here; says = m.says })
 
@@ -231,6 +234,7 @@ refused_behind last tokens x found ends o (inl w) = by_own o.own refl
               (λ word r is_word. lack_wider (own ++ Line w.number ∷ []) w.front (own ++ Line w.number ∷ w.front) word (sym (append_assoc own (Line w.number ∷ []) w.front)) (λ n noun is_noun more rules.
               no_rules (Line start.0) own (Word noun ∷ more) as_line (akin_noun w.front w.behind word r is_word noun is_noun more) (n noun is_noun more)
               (subst (λ (ts : List Token). AreRules (Line start.0 ∷ ts)) (append_assoc own (Line w.number ∷ w.front) (Word noun ∷ more)) rules))) found.kind w.says;
+          new = new_on_line own w.number w.front found.kind w.new;
         })
 
 rules_refused : (n last : ℕ) (tokens : List Token) (found : RuleFault) → length tokens ≤ n → EndsLine tokens → NamesEndLines tokens → rules_at n last tokens ≡ Err found → Refused last tokens found
@@ -269,6 +273,7 @@ pub record AtToken (tokens : List Token) (found : RuleFault) : Type 0 where
   pub excess : token ≡ Excess → found.kind ≡ TooMany
   pub in_front : token ≢ Excess → (more : List Token) → behind ≡ Excess ∷ more → Says (FitsBehind front) token found.kind
   pub no_noun : found.kind ≡ Syntax → (word : List ℕ) → token ≡ Word word → NounFits (FitsBehind front) → IsExcused (FitsBehind front) front word
+  pub new : IsNew front found.kind
 
 -- at the end
 pub record AtEnd (tokens : List Token) (last : ℕ) (found : RuleFault) : Type 0 where
@@ -295,6 +300,7 @@ at_token_or_end last tokens found w (token ∷ behind) is = inl (record {
   excess = told.excess;
   in_front = told.in_front;
   no_noun = λ syntax_ word is_word noun. by word (told.lacks syntax_ word is_word) noun;
+  new = new_on_line [] w.number w.front found.kind w.new;
 })
   where
     told : Told (FitsBehind (Line w.number ∷ w.front)) (RulesLack w.number w.front) token behind found.kind

@@ -41,8 +41,9 @@ use Rattle.rule_terms.proofs.Spellings.{term_at-is}
 use Rattle.rule_terms.proofs.Starts.{mark_at-is}
 use Rattle.rule_viable_prefixes.specs.Misfits as kinds
 use Rattle.rule_viable_prefixes.specs.Misfits.{Fitting, IsNoun, Nests, IsTooDeep}
-use Rattle.rule_viable_prefixes.proofs.Nouns.{constant_noun, not_in_formulas}
-use Rattle.rule_viable_prefixes.proofs.Outcomes.{lack_wider, Lack, NoNoun, Told, Takes, IsTold, says_syntax, says_too_many, says_deep, says_wider, Alike, same, ended, NoLine, Spelling, Sample, pair, bare, Reader, IsErr, IsErrOn, IsRead, IsRefused, Outcome, Good, then_at, then, refused_here, passed, took, led, alike_as, widen, Branch, takes, refuses, by_token, with_none, widened, on_line, then_done, says_unexpected}
+use Rattle.rule_viable_prefixes.proofs.Nouns.{constant_noun, not_in_formulas, predicate_other, one_use_other}
+use Rattle.rule_viable_prefixes.proofs.Outcomes.{lack_wider, Lack, NoNoun, Told, Takes, IsTold, says_syntax, says_too_many, says_deep, says_wider, Alike, same, ended, NoLine, Spelling, Sample, pair, bare, Reader, IsErr, IsErrOn, IsRead, IsRefused, Outcome, Good, then_at, then, refused_here, passed, took, led, alike_as, widen, Branch, takes, refuses, by_token, with_none, widened, on_line, then_done, says_unexpected, own_last}
+use Rattle.rule_viable_prefixes.proofs.FlagRuns.{IsNew, new_behind}
 use Rattle.rule_viable_prefixes.proofs.Parentheses.{word_and_equals, seen_again, unseen_again, shorter, longer, cut, opens_at_end, closes, formula_seen, BeginsTerm, loosened, not_both, term_instead, Enclosed, parenthesis_begins}
 use Rattle.rule_viable_prefixes.proofs.Parts.{Spelled, then_seq, ends_alike, refused_token, then_end, chain_good}
 use Rattle.rule_viable_prefixes.proofs.Terms.{Named, is_short, is_long, named, mark_good, IsTerm, Term, term_good, Closed, parenthesis_missed}
@@ -388,6 +389,7 @@ formula_outcome standing nesting line before good rest seen =
       there = ap (λ (ts : List Token). Mark (codes "(") ∷ ts) o.there;
       is = o.is;
       kept = λ more alike. as_formula nesting line before (o.own ++ more) (formula_seen (o.is_own.1 0).1 o.own (Mark (codes ")") ∷ []) more 0 o.is_own.2) ∙ o.kept more alike;
+      apart = own_last (Mark (codes "(")) o.own tt o.apart;
     }
     by (Err e) o = record {
       front = Mark (codes "(") ∷ o.front;
@@ -399,6 +401,7 @@ formula_outcome standing nesting line before good rest seen =
       here = o.here;
       says = says_wider (Takes (Spelled (Closed (IsFormula Within Alternatives nesting))) o.front) (Takes (Spelled (IsFormula standing Member (suc nesting))) (Mark (codes "(") ∷ o.front))
           (λ token b. (b.0, b.1, closed_formula standing nesting ((o.front ++ token ∷ []) ++ b.1) b.2)) o.behind (λ word r is_word. lack_wider (Mark (codes "(") ∷ []) o.front (Mark (codes "(") ∷ o.front) word refl (λ n noun is_noun more. no_noun n noun is_noun more (opens_formula 0 (o.front ++ Word noun ∷ more)) refl)) e.kind o.says;
+      new = new_behind (Mark (codes "(") ∷ []) o.front e.kind (inl (λ flag is. cc)) o.new;
     }
       where
         seen_here : opens_formula 0 (o.front ++ o.behind) ≡ true
@@ -434,6 +437,7 @@ term_outcome standing nesting line before rest unseen =
       there = o.there;
       is = o.is;
       kept = λ more alike. member-compares (suc nesting) line before (o.own ++ more) (still o.own more o.is_own) ∙ o.kept more alike;
+      apart = o.apart;
     }
       where
         still : (own more : List Token) → IsCompared (suc nesting) own → Compares ≡ opening_at (own ++ more)
@@ -484,6 +488,7 @@ term_outcome standing nesting line before rest unseen =
               says = says_wider (Takes (Spelled (IsCompared (suc nesting))) o.front) (Takes (Spelled (IsFormula standing Member (suc nesting))) (Mark (codes "(") ∷ front))
                   (λ token b. (b.0, b.1, subst (λ (ts : List Token). IsFormula standing Member (suc nesting) ((ts ++ token ∷ []) ++ b.1)) whole (compared standing (suc nesting) ((o.front ++ token ∷ []) ++ b.1) b.2))) o.behind
                   (λ word r is_word. lack_wider [] o.front (Mark (codes "(") ∷ front) word (sym whole) (λ n noun is_noun more. no_noun front whole there (subst (NoNoun (compares_at (suc nesting) line before)) whole n) noun is_noun more (opens_formula 0 (front ++ Word noun ∷ more)) refl)) e.kind o.says;
+              new = subst (λ (ts : List Token). IsNew ts e.kind) whole o.new;
             }
 
 -- what fits where a member may stand
@@ -614,7 +619,7 @@ predicate_outcome standing zero line before word rest predicate f =
 predicate_outcome standing (suc nesting) line before word rest predicate f =
     let opened : opening_at (Word word ∷ []) ≡ Tests predicate = rw f refl in
     let is : Word word ∷ [] ≡ Word (predicate_word predicate) ∷ [] = subst (λ (o : Opening). Rattle.rule_terms.proofs.FormulaReadings.StartsSo o (Word word ∷ [])) opened (opening_at-is (Word word ∷ [])) in
-    led pair (member_at (suc nesting) line before) (tests_at predicate (suc nesting) line before) (Spelled (IsFormula standing Member (suc nesting))) line (Word word) rest tt (λ more. member-tests (suc nesting) line predicate before (Word word ∷ more) (rw f refl))
+    led pair (member_at (suc nesting) line before) (tests_at predicate (suc nesting) line before) (Spelled (IsFormula standing Member (suc nesting))) line (Word word) rest (λ flag equal. predicate_other predicate flag (let word_is : predicate_word predicate ≡ word = cc in word_is ∙ equal)) (λ more. member-tests (suc nesting) line predicate before (Word word ∷ more) (rw f refl))
     (widen pair (tests_at predicate (suc nesting) line before) (Spelled (Is (Mark (codes "(")) ⨾ IsTerm Constant nesting loosest ⨾ Is (Mark (codes ")")))) (λ x own. IsFormula standing Member (suc nesting) (Word word ∷ own)) line rest
     (λ x own h. subst (λ (ts : List Token). IsFormula standing Member (suc nesting) (ts ++ own)) (sym is) (tested standing predicate nesting own h)) (tests_at predicate (suc nesting) line before rest) ((tests_good predicate nesting line before).outcome rest))
 
@@ -668,7 +673,7 @@ outer_outcome line before [] = outer_as_member line before [] (λ more alike. by
 outer_outcome line before (Word word ∷ rest) = by (bytes_eq word (codes "hasOneUse")) refl
   where
     by : (b : Bool) → bytes_eq word (codes "hasOneUse") ≡ b → OuterIs line before (Word word ∷ rest)
-    by true h = led pair (outer_member_at line before) (one_use_at line before) (Spelled (IsFormula Outermost Member most_nested)) line (Word word) rest tt (λ more. rw h refl)
+    by true h = led pair (outer_member_at line before) (one_use_at line before) (Spelled (IsFormula Outermost Member most_nested)) line (Word word) rest (λ flag equal. one_use_other flag (sym (same_word word (codes "hasOneUse") h) ∙ equal)) (λ more. rw h refl)
         (widen pair (one_use_at line before) (Spelled (Is (Mark (codes "(")) ⨾ IsName ⨾ Is (Mark (codes ")")))) (λ x own. IsFormula Outermost Member most_nested (Word word ∷ own)) line rest
         (λ x own is. subst (λ (w : List ℕ). IsFormula Outermost Member most_nested (Word w ∷ own)) (sym (same_word word (codes "hasOneUse") h)) (used_once most_nested own is)) (one_use_at line before rest) ((one_use_good line before).outcome rest))
     by false h = outer_as_member line before (Word word ∷ rest) (outer_alike line before (Word word) rest (λ more. rw h refl))
@@ -709,8 +714,9 @@ first_good line = record { sample = (HasOneUse [] ∷ [], good.sample.1, any_fir
       there = o.there;
       is = o.is;
       kept = o.kept;
+      apart = o.apart;
     }
-    by tokens (Err f) e o = record { front = o.front; behind = o.behind; there = o.there; begins = (HasOneUse [] ∷ [], o.begins.1, any_first (o.front ++ o.begins.1) o.begins.2); inline = o.inline; refused = o.refused; here = o.here; says = says_wider (Takes (Spelled (IsFormula Outermost Members most_nested) {A = List RawFormula}) o.front) (Takes First o.front) (λ token b. (HasOneUse [] ∷ [], b.1, any_first ((o.front ++ token ∷ []) ++ b.1) b.2)) o.behind (λ word r is_word n. n) f.kind o.says }
+    by tokens (Err f) e o = record { front = o.front; behind = o.behind; there = o.there; begins = (HasOneUse [] ∷ [], o.begins.1, any_first (o.front ++ o.begins.1) o.begins.2); inline = o.inline; refused = o.refused; here = o.here; says = says_wider (Takes (Spelled (IsFormula Outermost Members most_nested) {A = List RawFormula}) o.front) (Takes First o.front) (λ token b. (HasOneUse [] ∷ [], b.1, any_first ((o.front ++ token ∷ []) ++ b.1) b.2)) o.behind (λ word r is_word n. n) f.kind o.says; new = o.new }
 
 -- what onward on with members, of which one may ask for one use
 abbrev After : Bool → Part

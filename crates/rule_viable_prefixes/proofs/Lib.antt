@@ -1,4 +1,5 @@
 pub mod Files
+pub mod FlagRuns
 pub mod Formulas
 pub mod Lines
 pub mod Nouns

@@ -36,6 +36,7 @@ use Rattle.rule_parse.proofs.Readings.{name_at-is}
 use Rattle.rule_viable_prefixes.proofs.Formulas.{IsWholeFormula, formula_good}
 use Rattle.rule_viable_prefixes.specs.Misfits as kinds
 use Rattle.rule_viable_prefixes.specs.Misfits.{HalfEnds}
+use Rattle.rule_viable_prefixes.proofs.FlagRuns.{none_new}
 use Rattle.rule_viable_prefixes.proofs.Outcomes.{lack_wider, Lack, Akin, same_next, noun_next, ended_next, akin, akin_behind, akin_noun, NoNoun, says_wider, says_syntax, says_too_many, Alike, same, ended, alike_itself, alike_behind, Spelling, Shape, pair, bare, Reader, IsErr, IsErrOn, Outcome, Good, then, led, widen, Branch, takes, refuses, by_token, then_done, none_behind, with_none, widened, says_unexpected}
 use Rattle.rule_viable_prefixes.proofs.Parts.{Spelled, then_end, Joined, chain_good, line_end_good}
 use Rattle.rule_viable_prefixes.proofs.Rules.{Completes, GoesOn, Opens, Verdict, verdict_both, on_a_line, verdict_wider}
@@ -146,6 +147,7 @@ verdict_as {A} {X} shape R S L F last number a h v = subst (Verdict shape R L F 
                 subst (λ (k : ℕ). R (Line k ∷ w.front ++ Word noun ∷ more) ≡ S (Line k ∷ w.front ++ Word noun ∷ more)) first
                     (h (w.front ++ Word noun ∷ more) (subst (λ (ts : List Token). Akin ts (w.front ++ Word noun ∷ more)) (sym rest) (akin_noun w.front w.behind word r is_word noun is_noun more))) ∙ f.1,
               ))) e.kind w.says;
+          new = w.new;
         })
     by (Err e) (inr m) = inr m
 
@@ -154,7 +156,7 @@ verdict_made {A} {B} R f L F last tokens v = by (R tokens) v
   where
     by : (r : Result (A × List Token) RuleFault) → Verdict pair R L F last tokens r → Verdict pair (λ ts. R ts >>= λ x. Ok (f x.0, x.1)) L F last tokens (r >>= λ x. Ok (f x.0, x.1))
     by (Ok x) o = record { value = f o.value; own = o.own; rest = o.rest; is_own = o.is_own; there = o.there; ends = o.ends; is = ap (λ (y : A × List Token). (f y.0, y.1)) o.is; kept = λ n a b e alike. rw (o.kept n a b e alike) refl }
-    by (Err e) (inl w) = inl (record { number = w.number; front = w.front; behind = w.behind; there = w.there; begins = w.begins; refused = λ more alike. let g = w.refused more alike in (g.0, rw g.1 refl); here = w.here; says = says_wider (GoesOn L F w.number w.front) (GoesOn L F w.number w.front) (λ t fits. fits) w.behind (λ word r is_word. lack_wider [] w.front w.front word refl (λ n noun is_noun more. let g = n noun is_noun more in (g.0, rw g.1 refl))) e.kind w.says })
+    by (Err e) (inl w) = inl (record { number = w.number; front = w.front; behind = w.behind; there = w.there; begins = w.begins; refused = λ more alike. let g = w.refused more alike in (g.0, rw g.1 refl); here = w.here; says = says_wider (GoesOn L F w.number w.front) (GoesOn L F w.number w.front) (λ t fits. fits) w.behind (λ word r is_word. lack_wider [] w.front w.front word refl (λ n noun is_noun more. let g = n noun is_noun more in (g.0, rw g.1 refl))) e.kind w.says; new = w.new })
     by (Err e) (inr m) = inr (record { begins = m.begins; here = m.here; says = m.says })
 
 -- ---- a part that may be absent
@@ -401,7 +403,7 @@ refused_behind_line : {A X : Type 0} (shape : Shape A X) (R : Reader X) (L F : P
 refused_behind_line {A} {X} shape R L F last line behind begins h =
     let e = h behind (alike_itself behind) in
     subst (Verdict shape R L F last (Line line ∷ behind)) (sym e.1)
-    (inl (record { number = line; front = []; behind = behind; there = refl; begins = begins; refused = λ more alike. let f = h more alike in (f.0, f.1); here = e.2 ∙ sym (none_behind line); says = e.3 }))
+    (inl (record { number = line; front = []; behind = behind; there = refl; begins = begins; refused = λ more alike. let f = h more alike in (f.0, f.1); here = e.2 ∙ sym (none_behind line); says = e.3; new = none_new e.0.kind }))
 
 register_akin : (Q : List Token → Type 0) (name : List ℕ) (rest : List Token) → ((more : List Token) → Q (Register name ∷ more)) → (b : List Token) → Akin (Register name ∷ rest) b → Q b
 register_akin Q name rest h b (same_next t c d) = h d

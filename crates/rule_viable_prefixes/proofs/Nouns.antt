@@ -1,5 +1,5 @@
 -- Words that are no nouns.
-use Rattle.std.proofs.Common.{◌≡◌, ℕ, Bool, true, false, List, Option, Some, None, refl, ap, subst, ◌∙◌}
+use Rattle.std.proofs.Common.{◌≡◌, ℕ, Bool, true, false, List, Option, Some, None, refl, sym, ap, subst, ◌∙◌}
 use Rattle.std.specs.Prelude.{codes}
 use Rattle.std.specs.Str.{bytes_eq}
 use Rattle.ops.specs.declared.opcode.Opcode.{Opcode}
@@ -15,9 +15,12 @@ use Rattle.rule_tokens.specs.Numbers.{type_in}
 use Rattle.rule_tokens.proofs.Types.{type_in-of}
 use Rattle.rule_terms.specs.declared.place.TermPlace.TheVariants.{Witness}
 use Rattle.rule_terms.specs.declared.word.Meaning.TheVariants.{Constant, Choice, Call, Width}
-use Rattle.rule_terms.specs.FormulaKeywords.{formula_words}
+use Rattle.rule_terms.specs.FormulaKeywords.{formula_words, predicate_word}
+use Rattle.rule_terms.specs.declared.formula_word.Predicate.{Predicate}
+use Rattle.rule_terms.specs.declared.formula_word.Predicate.TheVariants.{IsPowerOfTwo, IsSignBit}
 use Rattle.rule_terms.specs.Keywords.{choice_in, name_in, meaning_in}
 use Rattle.rule_terms.proofs.Meanings.{meaning_in-of}
+use Rattle.rule_parse.specs.declared.raw.RawArgument.{RawArgument}
 use Rattle.rule_parse.specs.Keywords.{operation_in, source_word_in}
 use Rattle.rule_parse.proofs.Pieces.{operation_in-of}
 use Rattle.rule_viable_prefixes.specs.Misfits as kinds
@@ -60,6 +63,10 @@ no_flag_noun Nuw is = not_noun (codes "nuw") (record { no_opcode = λ x e. absur
 no_flag_noun Nsw is = not_noun (codes "nsw") (record { no_opcode = λ x e. absurd cc; no_predicate = λ x e. absurd cc; no_type = λ x e. absurd cc; no_operand = λ x e. absurd cc; no_term = λ x e. absurd cc }) is
 no_flag_noun Exact is = not_noun (codes "exact") (record { no_opcode = λ x e. absurd cc; no_predicate = λ x e. absurd cc; no_type = λ x e. absurd cc; no_operand = λ x e. absurd cc; no_term = λ x e. absurd cc }) is
 
+-- no noun is a flag
+pub noun_other : (noun : List ℕ) → IsNoun noun → (flag : Flag) → noun ≡ flag_keyword flag → ⊥
+noun_other noun is flag same = no_flag_noun flag (subst IsNoun same is)
+
 pub no_flag_in : (op : Opcode) (noun : List ℕ) → IsNoun noun → flag_in op noun ≡ None
 no_flag_in op noun is = by (flag_in op noun) refl
   where
@@ -83,3 +90,32 @@ not_in_formulas noun is =
 pub constant_noun : IsNoun (codes "C")
 unfolding is_constant
 constant_noun = kinds.constant refl
+
+-- ---- other words that are no flags
+
+pub source_other : (word : List ℕ) (value : RawArgument) → source_word_in word ≡ Some value → (flag : Flag) → word ≡ flag_keyword flag → ⊥
+unfolding source_word_in
+source_other word value found flag same = by flag (ap source_word_in (sym same) ∙ found)
+  where
+    by : (flag : Flag) → source_word_in (flag_keyword flag) ≡ Some value → ⊥
+    by Nuw is = cc
+    by Nsw is = cc
+    by Exact is = cc
+
+pub to_other : (flag : Flag) → codes "to" ≡ flag_keyword flag → ⊥
+to_other Nuw is = cc
+to_other Nsw is = cc
+to_other Exact is = cc
+
+pub one_use_other : (flag : Flag) → codes "hasOneUse" ≡ flag_keyword flag → ⊥
+one_use_other Nuw is = cc
+one_use_other Nsw is = cc
+one_use_other Exact is = cc
+
+pub predicate_other : (predicate : Predicate) (flag : Flag) → predicate_word predicate ≡ flag_keyword flag → ⊥
+predicate_other IsPowerOfTwo Nuw is = cc
+predicate_other IsPowerOfTwo Nsw is = cc
+predicate_other IsPowerOfTwo Exact is = cc
+predicate_other IsSignBit Nuw is = cc
+predicate_other IsSignBit Nsw is = cc
+predicate_other IsSignBit Exact is = cc

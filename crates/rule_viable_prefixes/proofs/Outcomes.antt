@@ -15,6 +15,8 @@ use Rattle.rule_viable_prefixes.specs.Fits.{line_behind}
 use Rattle.rule_viable_prefixes.specs.Misfits.{Fitting, IsNoun, NounFits, IsTooDeep, IsTooMany, name, register, constant, choice, statement, nesting, Says, kind_at, IsMisfit, itself, read_on, RepeatsFlag}
 use Rattle.ops.specs.FlagKeywords.{flag_keyword}
 use Rattle.ops.proofs.KeywordLemmas.{same_word}
+use Rattle.ops.specs.declared.keywords.flag.Flag.{Flag}
+use Rattle.rule_viable_prefixes.proofs.FlagRuns.{NoFlag, NoFlagLast, IsNew, new_behind, none_new, last_of_both}
 
 -- ---- what stands next
 
@@ -56,6 +58,24 @@ Inline own = (line : ℕ) (more : List Token) → line_behind line (own ++ more)
 abbrev pub NoLine : Token → Type 0
 NoLine (Line number) = ⊥
 NoLine token = Unit {0}
+
+-- a token that one reads by itself is no flag either
+abbrev pub IsOwn : Token → Type 0
+IsOwn (Line number) = ⊥
+IsOwn (Word word) = (flag : Flag) → word ≡ flag_keyword flag → ⊥
+IsOwn token = Unit {0}
+
+own_line : (token : Token) → IsOwn token → NoLine token
+own_line (Line number) own = own
+own_line token own = tt
+
+own_flag : (token : Token) → IsOwn token → NoFlag token
+own_flag (Word word) own = λ flag is. own flag cc
+own_flag token own = λ flag is. cc
+
+pub own_last : (token : Token) (own : List Token) → IsOwn token → NoFlagLast own → NoFlagLast (token ∷ own)
+own_last token [] is last = own_flag token is
+own_last token (t ∷ own) is last = last
 
 pub inline_none : Inline []
 inline_none = λ line more. refl
@@ -254,7 +274,7 @@ says_wider {C} {D} P Q f (token ∷ tokens) g kind is = record { misfit = λ rea
     by word is_word (inl (inr (nests, fits))) = inl (inr (nests, f (Number (codes "0")) fits))
     by word is_word (inr none) = inr (g word tokens (ap (λ (t : Token). t ∷ tokens) is_word) none)
 
-pub record IsRead {A X : Type 0} (shape : Shape A X) (R : Reader X) (L : Spelling A) (tokens : List Token) (found : X) : Type 0 where
+pub record IsRead {A X : Type 0} (C : List Token → List Token → Type 0) (shape : Shape A X) (R : Reader X) (L : Spelling A) (tokens : List Token) (found : X) : Type 0 where
   pub value : A
   pub own : List Token
   pub rest : List Token
@@ -263,6 +283,7 @@ pub record IsRead {A X : Type 0} (shape : Shape A X) (R : Reader X) (L : Spellin
   pub there : tokens ≡ own ++ rest
   pub is : found ≡ shape value rest
   pub kept : (more : List Token) → Akin rest more → R (own ++ more) ≡ Ok (shape value more)
+  pub apart : C own rest
 
 pub record IsRefused {A X : Type 0} (R : Reader X) (L : Spelling A) (line : ℕ) (tokens : List Token) (found : RuleFault) : Type 0 where
   pub front : List Token
@@ -273,10 +294,19 @@ pub record IsRefused {A X : Type 0} (R : Reader X) (L : Spelling A) (line : ℕ)
   pub refused : (more : List Token) → Alike behind more → IsErr (R (front ++ more))
   pub here : found.line ≡ line
   pub says : SaysFirst (Takes L front) (Lack R front) behind found.kind
+  pub new : IsNew front found.kind
+
+-- this holds of the tokens that are read and those that are left
+abbrev pub OutcomeBy : {A X : Type 0} → (List Token → List Token → Type 0) → Shape A X → Reader X → Spelling A → ℕ → List Token → Result X RuleFault → Type 0
+OutcomeBy C shape R L line tokens (Ok x) = IsRead C shape R L tokens x
+OutcomeBy C shape R L line tokens (Err e) = IsRefused R L line tokens e
+
+-- the last token that is read is no flag
+abbrev pub EndsOther : List Token → List Token → Type 0
+EndsOther own rest = NoFlagLast own
 
 abbrev pub Outcome : {A X : Type 0} → Shape A X → Reader X → Spelling A → ℕ → List Token → Result X RuleFault → Type 0
-Outcome shape R L line tokens (Ok x) = IsRead shape R L tokens x
-Outcome shape R L line tokens (Err e) = IsRefused R L line tokens e
+Outcome shape R L line tokens r = OutcomeBy EndsOther shape R L line tokens r
 
 pub record Good {A X : Type 0} (shape : Shape A X) (R : Reader X) (L : Spelling A) (line : ℕ) : Type 0 where
   pub sample : Sample L
@@ -290,18 +320,26 @@ Joins {A} {B} L M N = (x : A) (y : B) (front back : List Token) → L x front �
 abbrev pub Samples : {A B : Type 0} → Spelling A → (A → Spelling B) → Type 0
 Samples {A} {B} L M = (x : A) (own : List Token) → L x own → Sample (M x)
 
-pub then_at : {A B X Y : Type 0} (s : Shape A X) (t : Shape B Y) (R : Reader X) (S : X → Result Y RuleFault) (L : Spelling A) (M : A → Spelling B) (N : Spelling B) (line : ℕ) (tokens : List Token)
-    → Joins L M N → Samples L M → Outcome s R L line tokens (R tokens)
+-- behind what is read so, what is left out is new, and the last token no flag
+pub record Parts {A B X Y : Type 0} (C : List Token → List Token → Type 0) (s : Shape A X) (S : X → Result Y RuleFault) (M : A → Spelling B) (line : ℕ) : Type 0 where
+  pub new : (own rest : List Token) → C own rest → (x : A) (found : RuleFault) (p : IsRefused (λ ts. S (s x ts)) (M x) line rest found) → IsNew (own ++ p.front) found.kind
+  pub last : (own rest : List Token) → C own rest → (x : A) (y : B) (more : List Token) → M x y more → NoFlagLast more → NoFlagLast (own ++ more)
+
+parts : {A B X Y : Type 0} (s : Shape A X) (S : X → Result Y RuleFault) (M : A → Spelling B) (line : ℕ) → Parts EndsOther s S M line
+parts s S M line = record { new = λ own rest last x found p. new_behind own p.front found.kind (inl last) p.new; last = λ own rest last x y more is last_too. last_of_both own more last last_too }
+
+pub then_by : {A B X Y : Type 0} (C : List Token → List Token → Type 0) (s : Shape A X) (t : Shape B Y) (R : Reader X) (S : X → Result Y RuleFault) (L : Spelling A) (M : A → Spelling B) (N : Spelling B) (line : ℕ) (tokens : List Token)
+    → Joins L M N → Samples L M → Parts C s S M line → OutcomeBy C s R L line tokens (R tokens)
     → ((x : A) (rest : List Token) → R tokens ≡ Ok (s x rest) → Outcome t (λ ts. S (s x ts)) (M x) line rest (S (s x rest)))
     → Outcome t (λ ts. R ts >>= S) N line tokens (R tokens >>= S)
-then_at {A} {B} {X} {Y} s t R S L M N line tokens join sample one two = by (R tokens) refl one
+then_by {A} {B} {X} {Y} C s t R S L M N line tokens join sample parted one two = by (R tokens) refl one
   where
     begun : (front : List Token) → Begins L front → Begins N front
     begun front b =
         let other = sample b.0 (front ++ b.1) b.2 in
         (other.0, b.1 ++ other.1, subst (N other.0) (append_assoc front b.1 other.1) (join b.0 other.0 (front ++ b.1) other.1 b.2 other.2))
 
-    by : (r : Result X RuleFault) → R tokens ≡ r → Outcome s R L line tokens r → Outcome t (λ ts. R ts >>= S) N line tokens (r >>= S)
+    by : (r : Result X RuleFault) → R tokens ≡ r → OutcomeBy C s R L line tokens r → Outcome t (λ ts. R ts >>= S) N line tokens (r >>= S)
     by (Err e) is o = record {
       front = o.front;
       behind = o.behind;
@@ -312,6 +350,7 @@ then_at {A} {B} {X} {Y} s t R S L M N line tokens join sample one two = by (R to
       here = o.here;
       says = says_wider (Takes L o.front) (Takes N o.front) (λ token. begun (o.front ++ token ∷ [])) o.behind
           (λ word rest is_word. lack_wider [] o.front o.front word refl (λ n noun is_noun more. let f = n noun is_noun more in (f.0, rw f.1 refl))) e.kind o.says;
+      new = o.new;
     }
     by (Ok x) is o = behind (S x) (subst (λ (y : X). Outcome t (λ ts. S (s o.value ts)) (M o.value) line o.rest (S y)) (sym o.is) (two o.value o.rest (is ∙ ap Ok o.is)))
       where
@@ -334,6 +373,7 @@ then_at {A} {B} {X} {Y} s t R S L M N line tokens join sample one two = by (R to
           there = o.there ∙ ap (λ (ts : List Token). o.own ++ ts) p.there ∙ sym (append_assoc o.own p.own p.rest);
           is = p.is;
           kept = λ more alike. read p.own more p.rest (t p.value more) (akin_behind p.own p.rest more alike) p.there (p.kept more alike);
+          apart = parted.last o.own o.rest o.apart o.value p.value p.own p.is_own p.apart;
         }
         behind (Err e) p = record {
           front = o.own ++ p.front;
@@ -346,7 +386,14 @@ then_at {A} {B} {X} {Y} s t R S L M N line tokens join sample one two = by (R to
           says = says_wider (Takes (M o.value) p.front) (Takes N (o.own ++ p.front))
               (λ token is. subst (Begins N) (sym (append_assoc o.own p.front (token ∷ []))) (own_begun (p.front ++ token ∷ []) is)) p.behind
               (λ word rest is_word. lack_wider o.own p.front (o.own ++ p.front) word refl (λ n noun is_noun more. failed p.front (Word noun ∷ more) p.behind (akin_noun p.front p.behind word rest is_word noun is_noun more) p.there (n noun is_noun more))) e.kind p.says;
+          new = parted.new o.own o.rest o.apart o.value e p;
         }
+
+pub then_at : {A B X Y : Type 0} (s : Shape A X) (t : Shape B Y) (R : Reader X) (S : X → Result Y RuleFault) (L : Spelling A) (M : A → Spelling B) (N : Spelling B) (line : ℕ) (tokens : List Token)
+    → Joins L M N → Samples L M → Outcome s R L line tokens (R tokens)
+    → ((x : A) (rest : List Token) → R tokens ≡ Ok (s x rest) → Outcome t (λ ts. S (s x ts)) (M x) line rest (S (s x rest)))
+    → Outcome t (λ ts. R ts >>= S) N line tokens (R tokens >>= S)
+then_at s t R S L M N line tokens join sample one two = then_by EndsOther s t R S L M N line tokens join sample (parts s S M line) one two
 
 pub then : {A B X Y : Type 0} {s : Shape A X} {t : Shape B Y} {R : Reader X} (S : X → Result Y RuleFault) {L : Spelling A} {M : A → Spelling B} {N : Spelling B} {line : ℕ}
     → Joins L M N → Good s R L line → ((x : A) → Good t (λ ts. S (s x ts)) (M x) line) → Good t (λ ts. R ts >>= S) N line
@@ -374,22 +421,23 @@ refused_here {A} {X} shape R L line tokens sample h =
       refused = λ more alike. let g = h more alike in (g.0, g.1);
       here = f.2;
       says = f.3;
+      new = none_new f.0.kind;
     })
 
 -- nothing is read
 pub passed : {A X : Type 0} (shape : Shape A X) (R : Reader X) (L : Spelling A) (line : ℕ) (tokens : List Token) (x : A) → L x [] → ((more : List Token) → Akin tokens more → R more ≡ Ok (shape x more)) → Outcome shape R L line tokens (R tokens)
 passed shape R L line tokens x is h =
     subst (Outcome shape R L line tokens) (sym (h tokens (akin (alike_itself tokens))))
-    (record { value = x; own = []; rest = tokens; is_own = is; inline = inline_none; there = refl; is = refl; kept = h })
+    (record { value = x; own = []; rest = tokens; is_own = is; inline = inline_none; there = refl; is = refl; kept = h; apart = tt })
 
 -- the first token is read
-pub took : {A X : Type 0} (shape : Shape A X) (R : Reader X) (L : Spelling A) (line : ℕ) (token : Token) (rest : List Token) (x : A) → NoLine token → L x (token ∷ []) → ((more : List Token) → R (token ∷ more) ≡ Ok (shape x more)) → Outcome shape R L line (token ∷ rest) (R (token ∷ rest))
+pub took : {A X : Type 0} (shape : Shape A X) (R : Reader X) (L : Spelling A) (line : ℕ) (token : Token) (rest : List Token) (x : A) → IsOwn token → L x (token ∷ []) → ((more : List Token) → R (token ∷ more) ≡ Ok (shape x more)) → Outcome shape R L line (token ∷ rest) (R (token ∷ rest))
 took shape R L line token rest x stays is h =
     subst (Outcome shape R L line (token ∷ rest)) (sym (h rest))
-    (record { value = x; own = token ∷ []; rest = rest; is_own = is; inline = inline_token token [] stays inline_none; there = refl; is = refl; kept = λ more alike. h more })
+    (record { value = x; own = token ∷ []; rest = rest; is_own = is; inline = inline_token token [] (own_line token stays) inline_none; there = refl; is = refl; kept = λ more alike. h more; apart = own_flag token stays })
 
 -- behind the first token another reader goes on
-pub led : {A X : Type 0} (shape : Shape A X) (R S : Reader X) (L : Spelling A) (line : ℕ) (token : Token) (rest : List Token) → NoLine token → ((more : List Token) → R (token ∷ more) ≡ S more)
+pub led : {A X : Type 0} (shape : Shape A X) (R S : Reader X) (L : Spelling A) (line : ℕ) (token : Token) (rest : List Token) → IsOwn token → ((more : List Token) → R (token ∷ more) ≡ S more)
     → Outcome shape S (λ x own. L x (token ∷ own)) line rest (S rest) → Outcome shape R L line (token ∷ rest) (R (token ∷ rest))
 led {A} {X} shape R S L line token rest stays h o = subst (Outcome shape R L line (token ∷ rest)) (sym (h rest)) (by (S rest) o)
   where
@@ -399,20 +447,22 @@ led {A} {X} shape R S L line token rest stays h o = subst (Outcome shape R L lin
       own = token ∷ o.own;
       rest = o.rest;
       is_own = o.is_own;
-      inline = inline_token token o.own stays o.inline;
+      inline = inline_token token o.own (own_line token stays) o.inline;
       there = ap (λ (ts : List Token). token ∷ ts) o.there;
       is = o.is;
       kept = λ more alike. h (o.own ++ more) ∙ o.kept more alike;
+      apart = own_last token o.own stays o.apart;
     }
     by (Err e) o = record {
       front = token ∷ o.front;
       behind = o.behind;
       there = ap (λ (ts : List Token). token ∷ ts) o.there;
       begins = o.begins;
-      inline = inline_token token o.front stays o.inline;
+      inline = inline_token token o.front (own_line token stays) o.inline;
       refused = λ more alike. let f = o.refused more alike in (f.0, h (o.front ++ more) ∙ f.1);
       here = o.here;
       says = says_wider (Takes L (token ∷ o.front)) (Takes L (token ∷ o.front)) (λ t fits. fits) o.behind (λ word r is_word. lack_wider (token ∷ []) o.front (token ∷ o.front) word refl (λ n noun is_noun more. let f = n noun is_noun more in (f.0, h (o.front ++ Word noun ∷ more) ∙ f.1))) e.kind o.says;
+      new = new_behind (token ∷ []) o.front e.kind (inl (own_flag token stays)) o.new;
     }
 
 -- ---- the same reader, by other words
@@ -421,7 +471,7 @@ pub same_as : {A X : Type 0} (shape : Shape A X) (R S : Reader X) (L : Spelling 
 same_as {A} {X} shape R S L line tokens h o = subst (Outcome shape R L line tokens) (sym (h tokens)) (by (S tokens) o)
   where
     by : (r : Result X RuleFault) → Outcome shape S L line tokens r → Outcome shape R L line tokens r
-    by (Ok x) o = record { value = o.value; own = o.own; rest = o.rest; is_own = o.is_own; inline = o.inline; there = o.there; is = o.is; kept = λ more alike. h (o.own ++ more) ∙ o.kept more alike }
+    by (Ok x) o = record { value = o.value; own = o.own; rest = o.rest; is_own = o.is_own; inline = o.inline; there = o.there; is = o.is; kept = λ more alike. h (o.own ++ more) ∙ o.kept more alike; apart = o.apart }
     by (Err e) o = record {
       front = o.front;
       behind = o.behind;
@@ -431,6 +481,7 @@ same_as {A} {X} shape R S L line tokens h o = subst (Outcome shape R L line toke
       refused = λ more alike. let f = o.refused more alike in (f.0, h (o.front ++ more) ∙ f.1);
       here = o.here;
       says = says_wider (Takes L o.front) (Takes L o.front) (λ t fits. fits) o.behind (λ word r is_word. lack_wider [] o.front o.front word refl (λ n noun is_noun more. let f = n noun is_noun more in (f.0, h (o.front ++ Word noun ∷ more) ∙ f.1))) e.kind o.says;
+      new = o.new;
     }
 
 -- the same where the first token is the same: the other reader reads something, and some noun
@@ -459,6 +510,7 @@ alike_as {A} {X} shape R S L line tokens some reads h o = subst (Outcome shape R
       there = o.there;
       is = o.is;
       kept = λ more alike. h (o.own ++ more) (alike_own o.own o.rest more o.there (λ none. some o.value (subst (L o.value) none o.is_own))) ∙ o.kept more alike;
+      apart = o.apart;
     }
     by (Err e) o = record {
       front = o.front;
@@ -469,20 +521,21 @@ alike_as {A} {X} shape R S L line tokens some reads h o = subst (Outcome shape R
       refused = λ more alike. let f = o.refused more alike in (f.0, h (o.front ++ more) (alike_front o.front o.behind more o.there alike) ∙ f.1);
       here = o.here;
       says = says_wider (Takes L o.front) (Takes L o.front) (λ t fits. fits) o.behind (λ word r is_word. lack_wider [] o.front o.front word refl (no_noun o.front o.behind o.there)) e.kind o.says;
+      new = o.new;
     }
 
 -- a wider spelling
 pub widen : {A X : Type 0} (shape : Shape A X) (R : Reader X) (L N : Spelling A) (line : ℕ) (tokens : List Token) → ((x : A) (own : List Token) → L x own → N x own) → (r : Result X RuleFault) → Outcome shape R L line tokens r → Outcome shape R N line tokens r
-widen shape R L N line tokens f (Ok x) o = record { value = o.value; own = o.own; rest = o.rest; is_own = f o.value o.own o.is_own; inline = o.inline; there = o.there; is = o.is; kept = o.kept }
-widen shape R L N line tokens f (Err e) o = record { front = o.front; behind = o.behind; there = o.there; begins = (o.begins.0, o.begins.1, f o.begins.0 (o.front ++ o.begins.1) o.begins.2); inline = o.inline; refused = o.refused; here = o.here; says = says_wider (Takes L o.front) (Takes N o.front) (λ token b. (b.0, b.1, f b.0 ((o.front ++ token ∷ []) ++ b.1) b.2)) o.behind (λ word r is_word n. n) e.kind o.says }
+widen shape R L N line tokens f (Ok x) o = record { value = o.value; own = o.own; rest = o.rest; is_own = f o.value o.own o.is_own; inline = o.inline; there = o.there; is = o.is; kept = o.kept; apart = o.apart }
+widen shape R L N line tokens f (Err e) o = record { front = o.front; behind = o.behind; there = o.there; begins = (o.begins.0, o.begins.1, f o.begins.0 (o.front ++ o.begins.1) o.begins.2); inline = o.inline; refused = o.refused; here = o.here; says = says_wider (Takes L o.front) (Takes N o.front) (λ token b. (b.0, b.1, f b.0 ((o.front ++ token ∷ []) ++ b.1) b.2)) o.behind (λ word r is_word n. n) e.kind o.says; new = o.new }
 
 -- ---- readers that the first token decides
 
 -- what the reader does with a first token: it takes it, refuses it, or goes on behind it
 pub data Branch {A X : Type 0} (shape : Shape A X) (R : Reader X) (L : Spelling A) (line : ℕ) (token : Token) : Type 0 where
-  takes : (x : A) → NoLine token → L x (token ∷ []) → ((more : List Token) → R (token ∷ more) ≡ Ok (shape x more)) → Branch shape R L line token
+  takes : (x : A) → IsOwn token → L x (token ∷ []) → ((more : List Token) → R (token ∷ more) ≡ Ok (shape x more)) → Branch shape R L line token
   refuses : ((more : List Token) → IsErrOn (Takes L []) (Lack R []) line (token ∷ more) (R (token ∷ more))) → Branch shape R L line token
-  goes : (S : Reader X) → NoLine token → ((more : List Token) → R (token ∷ more) ≡ S more) → Good shape S (λ x own. L x (token ∷ own)) line → Branch shape R L line token
+  goes : (S : Reader X) → IsOwn token → ((more : List Token) → R (token ∷ more) ≡ S more) → Good shape S (λ x own. L x (token ∷ own)) line → Branch shape R L line token
 
 -- where it refuses the end of the line
 pub refused_at_end : {A X : Type 0} (shape : Shape A X) (R : Reader X) (L : Spelling A) (line : ℕ) → ((token : Token) → Branch shape R L line token) → IsErrOn (Takes L []) (Lack R []) line [] (R []) → (more : List Token) → EndsLine more → IsErrOn (Takes L []) (Lack R []) line more (R more)

@@ -18,6 +18,7 @@ use Rattle.rule_terms.specs.Chains.{Reader as Behind, next_is, chain_at}
 use Rattle.rule_terms.proofs.ChainLemmas.{Shortens, next_is-is, chain-more, chain-fault, chain-done}
 use Rattle.rule_viable_prefixes.specs.Misfits as kinds
 use Rattle.rule_viable_prefixes.specs.Misfits.{Fitting, NounFits}
+use Rattle.rule_viable_prefixes.proofs.Nouns.{noun_other}
 use Rattle.rule_viable_prefixes.proofs.Outcomes.{Lack, Akin, same_next, noun_next, ended_next, NoNoun, Takes, says_misplaced, Alike, same, ended, alike_itself, NoLine, Spelling, Sample, Shape, pair, bare, Reader, IsErrOn, Outcome, Good, then_at, then, refused_here, passed, led, Branch, takes, refuses, goes, by_token, with_none, widened, on_line, then_done, says_unexpected}
 
 -- ---- spellings without values
@@ -94,7 +95,7 @@ unfolding type_at
 type_branch line (Word word) = by (type_in word) refl
   where
     by : (found : Option ℕ) → type_in word ≡ found → Branch pair (type_at line) (Spelled IsType) line (Word word)
-    by (Some width) t = takes width tt (width, (word, type_in-is word width t, refl)) (λ more. rw t refl)
+    by (Some width) t = takes width (noun_other word (kinds.type width (type_in-is word width t))) (width, (word, type_in-is word width t, refl)) (λ more. rw t refl)
     by None t = refuses (λ more. (misplaced_word line word, rw t refl, refl, says_misplaced type_fits line word more))
 type_branch line token = refuses (λ more. (unexpected line (token ∷ more), refl, refl, says_unexpected line token more (λ word is. absurd cc)))
 

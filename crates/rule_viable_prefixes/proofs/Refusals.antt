@@ -1,5 +1,5 @@
 -- The law of faults: what is refused of the tokens up to and with one too many, said of those of the whole text.
-use Rattle.std.proofs.Common.{◌≡◌, ◌≢◌, ℕ, zero, suc, ◌+◌, ◌≤◌, false, List, [], ◌∷◌, ◌++◌, length, Ok, Err, refl, sym, ap, subst, ◌∙◌, append_assoc, ◌⊎◌, inl, inr, arith}
+use Rattle.std.proofs.Common.{◌≡◌, ◌≢◌, ℕ, false, List, [], ◌∷◌, ◌++◌, length, Ok, Err, refl, sym, ap, subst, ◌∙◌, append_assoc, ◌⊎◌, inl, inr, arith}
 use Rattle.std.proofs.lemmas.List.{append-nil}
 use Rattle.std.proofs.Math.Nat.{le_refl}
 use Rattle.std.specs.Prelude.{codes}
@@ -12,7 +12,7 @@ use Rattle.rule_parse.specs.declared.raw.RawRule.{RawRule}
 use Rattle.rule_parse.specs.CutTokens.{limited}
 use Rattle.rule_parse.specs.Grammar.{SpellsRules}
 use Rattle.rule_parse.specs.Limits.{most_nodes}
-use Rattle.rule_parse.specs.NodeCounts.{counted_at_end, IsWithinLimit, IsCut}
+use Rattle.rule_parse.specs.NodeCounts.{IsWithinLimit, IsCut}
 use Rattle.rule_parse.specs.RuleReaders.{all_rules}
 use Rattle.rule_parse.specs.Text.{IsTextFault}
 use Rattle.rule_parse.proofs.Counts.{kept_up_to_the_limit, passed_by_no_line}
@@ -20,7 +20,7 @@ use Rattle.rule_parse.proofs.Cuts.{IsOfText, AreOfText, of_back}
 use Rattle.rule_parse.proofs.Spellings.{rules_at-of}
 use Rattle.rule_parse.proofs.Weight.{spelled_of_text}
 use Rattle.rule_viable_prefixes.specs.Fits.{Fits, FitsBehind, line_behind, line_of}
-use Rattle.rule_viable_prefixes.specs.Laws.{DoesNotFit, IsOneTooMany, IsAtToken, IsAtEnd, FaultsAreWhereTextsDoNotFit}
+use Rattle.rule_viable_prefixes.specs.Laws.{IsAtToken, IsAtEnd, FaultsAreWhereTextsDoNotFit}
 use Rattle.rule_viable_prefixes.specs.Misfits.{Fitting, IsReadOn, kind_at, IsMisfit, itself, read_on}
 use Rattle.rule_viable_prefixes.proofs.Files.{AtToken, AtEnd, where_refused}
 use Rattle.rule_viable_prefixes.proofs.Texts.{names_in, of_text, text_begins, limited_begins, limited_names}
@@ -106,7 +106,7 @@ module _ (tokens : List Token) (last : ℕ) (found : RuleFault) (are : AreOfText
     fits = at.fits;
     within = within_front tokens at.front (at.token ∷ at.behind) at.stands within;
     line = at.line;
-    kind = inl (record { misfit = at.misfit; told = at.told (of_text_at tokens at.front at.token at.behind are at.stands); no_noun = at.no_noun });
+    kind = inl (record { misfit = at.misfit; told = at.told (of_text_at tokens at.front at.token at.behind are at.stands); no_noun = at.no_noun; repeats_none = at.new });
   }
 
   whole_at_end : IsWithinLimit tokens → AtEnd tokens last found → IsAtEnd tokens last found
@@ -146,7 +146,7 @@ module _ (tokens : List Token) (last : ℕ) (found : RuleFault) (are : AreOfText
           fits = at.fits;
           within = subst IsWithinLimit (sym before) c.within;
           line = at.line;
-          kind = inl (record { misfit = at.misfit; told = itself (at.in_front (of_text_at tokens at.front at.token c.rest are stands) [] behind); no_noun = at.no_noun });
+          kind = inl (record { misfit = at.misfit; told = itself (at.in_front (of_text_at tokens at.front at.token c.rest are stands) [] behind); no_noun = at.no_noun; repeats_none = at.new });
         }
 
     -- one before it does not fit
@@ -167,6 +167,7 @@ module _ (tokens : List Token) (last : ℕ) (found : RuleFault) (are : AreOfText
                 misfit_before (FitsBehind at.front) at.token c.token g (Excess ∷ []) c.rest found.kind
                 (subst (λ (ts : List Token). IsMisfit (FitsBehind at.front) at.token ts found.kind) behind (at.told (of_text_at tokens at.front at.token (g ++ c.token ∷ c.rest) are stands)));
             no_noun = at.no_noun;
+            repeats_none = at.new;
           });
         }
 

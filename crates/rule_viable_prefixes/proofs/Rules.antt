@@ -9,6 +9,7 @@ use Rattle.rule_tokens.specs.Tokens.{Token, Line, Word}
 use Rattle.rule_tokens.proofs.Ends.{EndsLine}
 use Rattle.rule_viable_prefixes.specs.Fits.{line_behind}
 use Rattle.rule_viable_prefixes.specs.Misfits.{Fitting, IsNoun}
+use Rattle.rule_viable_prefixes.proofs.FlagRuns.{IsNew, new_on_line}
 use Rattle.rule_viable_prefixes.proofs.Outcomes.{Lack, lack_wider, Akin, same_next, akin, akin_behind, akin_noun, NoNoun, Takes, says_wider, Alike, same, ended, alike_behind, Inline, Spelling, Shape, pair, Reader, IsErr, SaysFirst, Begins, Outcome, Good}
 use Rattle.rule_viable_prefixes.proofs.Parts.{Spelled}
 
@@ -46,6 +47,7 @@ pub record Within {X : Type 0} (R : Reader X) (L F : Part) (tokens : List Token)
   pub refused : (more : List Token) → Alike behind more → IsErr (R (Line number ∷ front ++ more))
   pub here : found.line ≡ line_behind number front
   pub says : SaysFirst (GoesOn L F number front) (Lack (λ ts. R (Line number ∷ ts)) front) behind found.kind
+  pub new : IsNew front found.kind
 
 -- missed at the end of the text, where another line may begin
 pub record Missed (L F : Part) (last : ℕ) (tokens : List Token) (found : RuleFault) : Type 0 where
@@ -107,6 +109,7 @@ verdict_both {A} {B} {X} {Y} s t R S L M F last tokens ends one two = by (R toke
       here = w.here;
       says = says_wider (GoesOn L (M ⨾ F) w.number w.front) (GoesOn (L ⨾ M) F w.number w.front) (λ token. completes_first L M F (Line w.number ∷ w.front ++ token ∷ [])) w.behind
           (λ word rest is_word. lack_wider [] w.front w.front word refl (λ n noun is_noun more. let f = n noun is_noun more in (f.0, rw f.1 refl))) e.kind w.says;
+      new = w.new;
     })
     by (Err e) is (inr m) = inr (record { begins = λ number. completes_first L M F (tokens ++ Line number ∷ []) (m.begins number); here = m.here; says = m.says })
     by (Ok x) is o = behind (S x) (subst (λ (y : X). Verdict t (λ ts. S (s o.value ts)) M F last o.rest (S y)) (sym o.is) (two o.value o.rest (is ∙ ap Ok o.is) o.ends))
@@ -168,6 +171,7 @@ verdict_both {A} {B} {X} {Y} s t R S L M F last tokens ends one two = by (R toke
               says = says_wider (GoesOn M F w.number w.front) (GoesOn (L ⨾ M) F w.number w.front)
                   (λ token is. subst (λ (ts : List Token). Completes (L ⨾ M) F (ts ++ Line w.number ∷ (w.front ++ token ∷ []))) none (goes_on token is)) w.behind
                   (λ word rest is_word. lack_wider [] w.front w.front word refl (λ n noun is_noun more. subst (λ (ts : List Token). IsErr (R (ts ++ Line w.number ∷ (w.front ++ Word noun ∷ more)) >>= S)) none (no_noun word rest is_word n noun is_noun more))) e.kind w.says;
+              new = w.new;
             }
             by_own (token ∷ own) is_own =
                 let start = starts_line token own o.rest (subst EndsLine (o.there ∙ ap (λ (ts : List Token). ts ++ o.rest) is_own) ends) in
@@ -189,6 +193,7 @@ verdict_both {A} {B} {X} {Y} s t R S L M F last tokens ends one two = by (R toke
                       (λ word rest is_word. lack_wider (own ++ Line w.number ∷ []) w.front (own ++ Line w.number ∷ w.front) word (sym (append_assoc own (Line w.number ∷ []) w.front)) (λ n noun is_noun more.
                       subst (λ (ts : List Token). IsErr (R (Line start.0 ∷ ts) >>= S)) (sym (append_assoc own (Line w.number ∷ w.front) (Word noun ∷ more)))
                       (subst (λ (ts : List Token). IsErr (R (ts ++ Line w.number ∷ (w.front ++ Word noun ∷ more)) >>= S)) as_line (no_noun word rest is_word n noun is_noun more)))) e.kind w.says;
+                  new = new_on_line own w.number w.front e.kind w.new;
                 }
         behind (Err e) (inr m) = inr (record {
           begins = λ number. subst (Completes (L ⨾ M) F) (sym (ap (λ (ts : List Token). ts ++ Line number ∷ []) o.there ∙ append_assoc o.own o.rest (Line number ∷ []))) (completes_second L M F o.own (o.rest ++ Line number ∷ []) o.is_own (m.begins number));
@@ -224,6 +229,7 @@ on_a_line {A} {X} shape R L F last number tokens sample ends o = by (R (Line num
       refused = o.refused;
       here = o.here ∙ sym (ap (line_behind number) (sym (append-nil o.front)) ∙ o.inline number [] ∙ nothing_behind number);
       says = says_wider (Takes (Spelled (λ own. L (Line number ∷ own)) {A = A}) o.front) (GoesOn L F number o.front) (λ token. completed (o.front ++ token ∷ [])) o.behind (λ word rest is_word n. n) e.kind o.says;
+      new = o.new;
     })
       where
         completed : (front : List Token) → Begins (Spelled (λ own. L (Line number ∷ own)) {A = A}) front → Completes L F (Line number ∷ front)
@@ -244,5 +250,6 @@ verdict_wider shape R L N F last tokens f (Err e) (inl w) = inl (record {
   refused = w.refused;
   here = w.here;
   says = says_wider (GoesOn L F w.number w.front) (GoesOn N F w.number w.front) (λ token c. (c.0, (c.1.0, c.1.1, f c.1.0 c.1.2, c.1.3, c.1.4))) w.behind (λ word rest is_word n. n) e.kind w.says;
+  new = w.new;
 })
 verdict_wider shape R L N F last tokens f (Err e) (inr m) = inr (record { begins = λ number. let c = m.begins number in (c.0, (c.1.0, c.1.1, f c.1.0 c.1.2, c.1.3, c.1.4)); here = m.here; says = m.says })

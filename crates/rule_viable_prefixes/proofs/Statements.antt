@@ -3,6 +3,7 @@ use Rattle.std.proofs.Common.{◌≡◌, ℕ, ◌<◌, Bool, true, false, List, 
 use Rattle.std.specs.Prelude.{IsTrue, codes}
 use Rattle.std.specs.Str.{bytes_eq}
 use Rattle.ops.specs.declared.opcode.Opcode.{Opcode}
+use Rattle.ops.specs.declared.opcode.Opcode.TheVariants.{Add, UDiv}
 use Rattle.ops.specs.declared.opcode.Flags.{Flags}
 use Rattle.ops.specs.declared.comparison.Pred.{Pred}
 use Rattle.ops.specs.declared.comparison.Pred.TheVariants.{Eq}
@@ -17,13 +18,15 @@ use Rattle.ops.specs.FlagKeywords.{AddsFlags, flag_in, flag_keyword, has_flag, w
 use Rattle.ops.proofs.KeywordLemmas.{same_word, pred_in-is}
 use Rattle.ops.proofs.FlagKeywordLemmas.{flag_in-is, flag_in-of}
 use Rattle.scan.specs.RuleTokens.{is_constant}
-use Rattle.rule_tokens.specs.declared.fault.RuleFaultKind.TheVariants.{Syntax, TooMany}
+use Rattle.rule_tokens.specs.declared.fault.RuleFaultKind.{RuleFaultKind}
+use Rattle.rule_tokens.specs.declared.fault.RuleFaultKind.TheVariants.{Syntax, LeftOut, TooMany}
 use Rattle.rule_tokens.specs.Steps.{◌>>=◌}
 use Rattle.rule_tokens.specs.Limits.{most_name_bytes}
 use Rattle.rule_tokens.specs.Numbers.{literal_value, type_in}
+use Rattle.rule_tokens.specs.TypeTokens.{SpellsType}
 use Rattle.rule_tokens.specs.Parts.{Part, Is, Comma, ◌⨾◌, Maybe}
 use Rattle.rule_tokens.specs.PartReaders.{fault, unexpected, misplaced_word, left_out, name_within, type_at, maybe_type, line_end}
-use Rattle.rule_tokens.specs.Tokens.{Token, Line, Register, Word, Number, Mark}
+use Rattle.rule_tokens.specs.Tokens.{Token, Line, Register, Word, Number, Mark, Bad, Excess}
 use Rattle.rule_tokens.proofs.Ends.{EndsLine}
 use Rattle.rule_tokens.proofs.Types.{type_in-is}
 use Rattle.rule_terms.specs.declared.place.TermPlace.TheVariants.{Constant}
@@ -50,11 +53,14 @@ use Rattle.rule_parse.specs.RuleReaders.{source_word, term_argument_at, argument
 use Rattle.rule_parse.specs.Keywords.{argument_of, operation_word, operation_in, source_word_in}
 use Rattle.rule_parse.proofs.Loops.{flags-more, flags-again}
 use Rattle.rule_parse.proofs.OpSpellings.{flags_done}
-use Rattle.rule_parse.proofs.Pieces.{operation_in-is, source_word_in-is}
+use Rattle.rule_parse.proofs.Pieces.{operation_in-is, source_word_in-is, type_is_no_flag}
+use Rattle.rule_parse.proofs.Beginnings.{BeginsOperand, argument_begins}
 use Rattle.rule_viable_prefixes.specs.Misfits as kinds
-use Rattle.rule_viable_prefixes.specs.Misfits.{RepeatsFlag, IsNoun, NounFits, IsTooMany}
-use Rattle.rule_viable_prefixes.proofs.Nouns.{no_flag_in, not_to, constant_noun}
-use Rattle.rule_viable_prefixes.proofs.Outcomes.{akin, alike_itself, Inline, inline_none, inline_token, repeats_behind, Lack, Akin, same_next, noun_next, ended_next, NoNoun, IsErr, same_as, says_word, Takes, says_syntax, says_too_many, says_misplaced, Alike, same, ended, Sample, pair, bare, Reader, IsErrOn, Outcome, Good, then, refused_here, passed, took, led, alike_as, widen, Branch, takes, refuses, by_token, widened, then_done, says_unexpected, says_left_out}
+use Rattle.rule_viable_prefixes.specs.Misfits.{Fitting, RepeatsFlag, IsNoun, NounFits, IsTooMany, kind_at, IsMisfit, itself, read_on}
+use Rattle.rule_viable_prefixes.proofs.Nouns.{no_flag_in, not_to, constant_noun, noun_other, source_other, to_other}
+use Rattle.rule_viable_prefixes.proofs.Outcomes.{akin, alike_itself, Inline, inline_none, inline_token, repeats_behind, Lack, Akin, same_next, noun_next, ended_next, NoNoun, IsErr, same_as, says_word, Takes, says_syntax, says_too_many, says_misplaced, Alike, same, ended, Sample, pair, bare, Reader, IsErrOn, Outcome, Good, then, refused_here, passed, took, led, alike_as, widen, Branch, takes, refuses, by_token, widened, then_done, says_unexpected, says_left_out, OutcomeBy, SaysFirst, then_by}
+use Rattle.rule_viable_prefixes.proofs.Outcomes.{Parts}
+use Rattle.rule_viable_prefixes.proofs.FlagRuns.{NoFlag, NoFlagLast, IsNew, new_behind, last_both}
 use Rattle.rule_viable_prefixes.proofs.Parts.{Spelled, then_seq, ends_alike, ends_akin, refused_token, then_end, IsType, type_good}
 use Rattle.rule_viable_prefixes.proofs.Terms.{Named, is_short, is_long, named, mark_good, Term, term_good}
 
@@ -95,11 +101,11 @@ unfolding argument_at source_word is_constant
 source_word_branch line word = by (is_constant word) refl
   where
     other : (found : Option RawArgument) → is_constant word ≡ false → source_word_in word ≡ found → Branch pair (argument_at Source line) (Spelled (IsArgument Source)) line (Word word)
-    other (Some value) c f = takes value tt (value, source_word_in-is word value f) (λ more. rw (c, f) refl)
+    other (Some value) c f = takes value (source_other word value f) (value, source_word_in-is word value f) (λ more. rw (c, f) refl)
     other None c f = refuses (λ more. (misplaced_word line word, rw (c, f) refl, refl, says_misplaced (codes "C", kinds.constant refl, (arguments.Constant (codes "C"), [], (arguments.Constant (codes "C"), (refl, omega arith, refl)))) line word more))
 
     constant : is_constant word ≡ true → Named line word → Branch pair (argument_at Source line) (Spelled (IsArgument Source)) line (Word word)
-    constant c (is_short le n) = takes (arguments.Constant word) tt (arguments.Constant word, (c, le, refl)) (λ more. rw (c, n) refl)
+    constant c (is_short le n) = takes (arguments.Constant word) (noun_other word (kinds.constant c)) (arguments.Constant word, (c, le, refl)) (λ more. rw (c, n) refl)
     constant c (is_long long n) =
         refuses (λ more. (fault line TooMany, rw (c, n) refl, refl, says_too_many (Word word) more (kinds.constant word (codes "C", long, omega arith, c, refl, (arguments.Constant (codes "C"), [], (arguments.Constant (codes "C"), (refl, omega arith, refl)))))))
 
@@ -200,7 +206,7 @@ target_outcome line (Register name ∷ rest) = by (named line name)
 target_outcome line (Word word ∷ rest) = by (bytes_eq word (codes "undef")) refl
   where
     by : (b : Bool) → bytes_eq word (codes "undef") ≡ b → Outcome pair (argument_at Target line) (Spelled (IsArgument Target)) line (Word word ∷ rest) (argument_at Target line (Word word ∷ rest))
-    by true h = took pair (argument_at Target line) (Spelled (IsArgument Target)) line (Word word) rest arguments.Undef tt (arguments.Undef, ap (λ (w : List ℕ). Word w ∷ []) (same_word word (codes "undef") h)) (λ more. rw h refl)
+    by true h = took pair (argument_at Target line) (Spelled (IsArgument Target)) line (Word word) rest arguments.Undef (noun_other word (kinds.undef (same_word word (codes "undef") h))) (arguments.Undef, ap (λ (w : List ℕ). Word w ∷ []) (same_word word (codes "undef") h)) (λ more. rw h refl)
     by false h = as_term line (Word word ∷ rest) (same_reading (argument_at Target line) (term_argument_at line) (Word word) rest (λ p. p) (λ more. rw h refl)) ((term_argument_good line).outcome (Word word ∷ rest))
 target_outcome line [] = as_term line [] (λ more alike. same_at_end (argument_at Target line) (term_argument_at line) refl (λ number m. refl) [] more tt alike) ((term_argument_good line).outcome [])
 target_outcome line (Line number ∷ rest) = as_term line (Line number ∷ rest) (λ more alike. same_at_end (argument_at Target line) (term_argument_at line) refl (λ number m. refl) (Line number ∷ rest) more tt alike) ((term_argument_good line).outcome (Line number ∷ rest))
@@ -243,7 +249,7 @@ unfolding maybe_type
 operand_outcome half line (Word word ∷ rest) = by (type_in word) refl
   where
     by : (found : Option ℕ) → type_in word ≡ found → Outcome pair (operand_at half line) (Spelled (IsOperand half)) line (Word word ∷ rest) (operand_at half line (Word word ∷ rest))
-    by (Some width) t = led pair (operand_at half line) (typed_at half line (Some width)) (Spelled (IsOperand half)) line (Word word) rest tt (λ more. rw t refl)
+    by (Some width) t = led pair (operand_at half line) (typed_at half line (Some width)) (Spelled (IsOperand half)) line (Word word) rest (noun_other word (kinds.type width (type_in-is word width t))) (λ more. rw t refl)
         (widen pair (typed_at half line (Some width)) (Spelled (IsArgument half)) (λ x own. IsOperand half (Word word ∷ own)) line rest (λ x own is. typed_operand half word width own t is) (typed_at half line (Some width) rest) ((typed_good half line (Some width)).outcome rest))
     by None t = as_untyped half line (Word word ∷ rest) (same_reading (operand_at half line) (typed_at half line None) (Word word) rest (λ p. p) (λ more. rw t refl)) (untyped_outcome half line (Word word ∷ rest))
 operand_outcome half line [] = as_untyped half line [] (λ more alike. same_at_end (operand_at half line) (typed_at half line None) refl (λ number m. refl) [] more tt alike) (untyped_outcome half line [])
@@ -329,14 +335,18 @@ has_none Nuw = refl
 has_none Nsw = refl
 has_none Exact = refl
 
+-- flags of the operation are read, and none is next
+abbrev OwnFlags : Opcode → List Token → List Token → Type 0
+OwnFlags op own rest = Adds op no_flags own × (next_flag op rest ≡ None)
+
 abbrev FlagsAre : Opcode → ℕ → List Token → Type 0
-FlagsAre op line tokens = Outcome pair (flags_at op line no_flags) (Spelled (Adds op no_flags)) line tokens (flags_at op line no_flags tokens)
+FlagsAre op line tokens = OutcomeBy (OwnFlags op) pair (flags_at op line no_flags) (Spelled (Adds op no_flags)) line tokens (flags_at op line no_flags tokens)
 
 -- behind these flags no other stands
 no_more_flags : (op : Opcode) (line : ℕ) (written : List Flag) (before : Flags) (tokens : List Token) → AddsFlags op no_flags written before → next_flag op tokens ≡ None → FlagsAre op line (flag_tokens written ++ tokens)
 no_more_flags op line written before tokens adds none =
-    subst (Outcome pair (flags_at op line no_flags) (Spelled (Adds op no_flags)) line (flag_tokens written ++ tokens)) (sym (kept tokens (akin (alike_itself tokens))))
-    (record { value = before; own = flag_tokens written; rest = tokens; is_own = (written, before, adds, refl); inline = flags_inline written; there = refl; is = refl; kept = kept })
+    subst (OutcomeBy (OwnFlags op) pair (flags_at op line no_flags) (Spelled (Adds op no_flags)) line (flag_tokens written ++ tokens)) (sym (kept tokens (akin (alike_itself tokens))))
+    (record { value = before; own = flag_tokens written; rest = tokens; is_own = (written, before, adds, refl); inline = flags_inline written; there = refl; is = refl; kept = kept; apart = ((written, before, adds, refl), none) })
   where
     kept : (more : List Token) → Akin tokens more → flags_at op line no_flags (flag_tokens written ++ more) ≡ Ok (before, more)
     kept more alike = flags_read op line written no_flags before more adds ∙ flags_done op line before more (no_flag op tokens more alike none)
@@ -344,7 +354,7 @@ no_more_flags op line written before tokens adds none =
 -- or one of them again
 flag_again : (op : Opcode) (line : ℕ) (written : List Flag) (before : Flags) (flag : Flag) (word : List ℕ) (rest : List Token) → AddsFlags op no_flags written before → flag_in op word ≡ Some flag → has_flag before flag ≡ true → FlagsAre op line (flag_tokens written ++ Word word ∷ rest)
 flag_again op line written before flag word rest adds found has =
-    subst (Outcome pair (flags_at op line no_flags) (Spelled (Adds op no_flags)) line (flag_tokens written ++ Word word ∷ rest)) (sym (again rest))
+    subst (OutcomeBy (OwnFlags op) pair (flags_at op line no_flags) (Spelled (Adds op no_flags)) line (flag_tokens written ++ Word word ∷ rest)) (sym (again rest))
     (record {
       front = flag_tokens written;
       behind = Word word ∷ rest;
@@ -354,6 +364,7 @@ flag_again op line written before flag word rest adds found has =
       refused = λ more alike. refused more alike;
       here = refl;
       says = says_word word rest (inr (inl (subst (RepeatsFlag (flag_tokens written)) (sym (flag_in-is op word flag found).0) (repeats op written no_flags before flag adds (has_none flag) has))));
+      new = λ left is. absurd cc;
     })
   where
     again : (more : List Token) → flags_at op line no_flags (flag_tokens written ++ Word word ∷ more) ≡ Err (fault line Syntax)
@@ -381,8 +392,89 @@ flags_behind op line [] written before adds = no_more_flags op line written befo
 flags_behind op line (Word word ∷ rest) written before adds = word_behind op line written before word rest adds (λ more after all. flags_behind op line rest more after all) (flag_in op word) refl
 flags_behind op line (token ∷ rest) written before adds = no_more_flags op line written before (token ∷ rest) adds refl
 
-flags_good : (op : Opcode) (line : ℕ) → Good pair (flags_at op line no_flags) (Spelled (Adds op no_flags)) line
-flags_good op line = record { sample = (no_flags, [], none_added op no_flags); outcome = λ tokens. flags_behind op line tokens [] no_flags refl }
+-- ---- what stands behind flags
+
+-- a flag that stands there is one of the operation
+repeated_own : (op : Opcode) (written : List Flag) (before after : Flags) (left : List ℕ) → AddsFlags op before written after → RepeatsFlag (flag_tokens written) left → flag_in op left ≡ None → ⊥
+repeated_own op [] before after left adds ([], flag, flags, word, whole) none = cc
+repeated_own op [] before after left adds (t ∷ first, flag, flags, word, whole) none = cc
+repeated_own op (f ∷ written) before after left (takes_, new, adds) ([], flag, flags, word, whole) none =
+    let same_flag : flag_keyword f ≡ flag_keyword flag = cc in
+    let both = sym (flag_in-of op f takes_) ∙ ap (flag_in op) (same_flag ∙ sym word) ∙ none in absurd cc
+repeated_own op (f ∷ written) before after left (takes_, new, adds) (t ∷ first, flag, flags, word, whole) none = repeated_own op written (with_flag before f) after left adds (first, flag, flags, word, cc) none
+
+-- what is left out is the next word
+word_left : (fits : Fitting) (none : List ℕ → Type 0) (tokens : List Token) (kind : RuleFaultKind) (left : List ℕ) → SaysFirst fits none tokens kind → kind ≡ LeftOut left → (more : List Token) × (tokens ≡ Word left ∷ more)
+word_left fits none [] kind left says is = let both = sym says ∙ is in absurd cc
+word_left fits none (Excess ∷ tokens) kind left told is = let both = sym (told.excess refl) ∙ is in absurd cc
+word_left fits none (token ∷ tokens) kind left told is = (tokens, ap (λ (t : Token). t ∷ tokens) (of_word (subst (IsMisfit fits token tokens) is (told.misfit (λ e. cc)))))
+  where
+    first_kind : (ts : List Token) → LeftOut left ≡ kind_at ts → ⊥
+    first_kind [] e = cc
+    first_kind (Bad ∷ ts) e = cc
+    first_kind (t ∷ ts) e = cc
+
+    of_word : IsMisfit fits token tokens (LeftOut left) → token ≡ Word left
+    of_word (itself says) = says.0
+    of_word (read_on (word, same_word_, deep, none, e)) = absurd (first_kind tokens e)
+
+begins_other : (op : Opcode) (own rest : List Token) → BeginsOperand own → next_flag op (own ++ rest) ≡ None
+begins_other op (Register name ∷ ts) rest begins = refl
+begins_other op (Number text ∷ ts) rest begins = refl
+begins_other op (Word word ∷ ts) rest begins = begins.no_flag op
+begins_other op (Mark mark ∷ ts) rest begins = refl
+begins_other op tokens rest begins = absurd begins
+
+operand_begins : (op : Opcode) (half : Half) (a : RawOperand) (own rest : List Token) → SpellsOperand half a own → next_flag op (own ++ rest) ≡ None
+operand_begins op half a own rest (front, back, type, argument, whole) = rw (whole, append_assoc front back rest) (by a.written type)
+  where
+    by : (written : Option ℕ) → Maybe SpellsType written front → next_flag op (front ++ (back ++ rest)) ≡ None
+    by None is = rw is (begins_other op back rest (argument_begins half a.value back argument))
+    by (Some width) (word, type_, is) = rw is (type_is_no_flag op word width type_)
+
+pair_begins : (op : Opcode) (half : Half) (own : List Token) → IsPair half own → next_flag op own ≡ None
+pair_begins op half own (a, b, (front, back, operand, others, whole)) = ap (next_flag op) whole ∙ operand_begins op half a front back operand
+
+some_pair : (half : Half) → IsPair half [] → ⊥
+some_pair half (a, b, (front, back, operand, others, whole)) = by front whole operand
+  where
+    by : (front : List Token) → [] ≡ front ++ back → SpellsOperand half a front → ⊥
+    by [] none is = some_operand half (a, is)
+    by (t ∷ front) none is = absurd cc
+
+-- an operation with the flag
+abbrev op_of : Flag → Opcode
+op_of Nuw = Add
+op_of Nsw = Add
+op_of Exact = UDiv
+
+has_own : (flag : Flag) → has_flag (flags_of (op_of flag)) flag ≡ true
+has_own Nuw = refl
+has_own Nsw = refl
+has_own Exact = refl
+
+pair_other : (half : Half) (token : Token) (tokens : List Token) → IsPair half (token ∷ tokens) → NoFlag token
+pair_other half token tokens is flag equal =
+    let none : next_flag (op_of flag) (Word (flag_keyword flag) ∷ tokens) ≡ None = ap (λ (t : Token). next_flag (op_of flag) (t ∷ tokens)) (sym equal) ∙ pair_begins (op_of flag) half (token ∷ tokens) is in
+    let both = sym (flag_in-of (op_of flag) flag (has_own flag)) ∙ none in absurd cc
+
+flags_parts : {B Y : Type 0} (op : Opcode) (half : Half) (S : Flags × List Token → Result Y RuleFault) (line : ℕ) → Parts {A = Flags} {B = B} (OwnFlags op) pair S (λ x. Spelled (IsPair half)) line
+flags_parts {B} {Y} op half S line = record {
+  new = λ own rest c x found p. new _ _ own rest c found.kind p.front p.behind p.there p.begins.1 p.begins.2 p.says p.new;
+  last = λ own rest c x y more is last_. last own more is last_;
+}
+  where
+    new : (fits : Fitting) (none : List ℕ → Type 0) (own rest : List Token) → OwnFlags op own rest → (kind : RuleFaultKind) (front behind : List Token) → rest ≡ front ++ behind → (more : List Token) → IsPair half (front ++ more) → SaysFirst fits none behind kind → IsNew front kind → IsNew (own ++ front) kind
+    new fits none own rest c kind [] behind there more is says new_ = λ left left_out_ again.
+        let w = word_left fits none behind kind left says left_out_ in
+        let flags = c.0 in
+        repeated_own op flags.0 no_flags flags.1 left flags.2 (subst (λ (ts : List Token). RepeatsFlag ts left) (append-nil own ∙ flags.3) again)
+        (subst (λ (ts : List Token). next_flag op ts ≡ None) (there ∙ w.1) c.1)
+    new fits none own rest c kind (u ∷ front) behind there more is says new_ = new_behind own (u ∷ front) kind (inr (pair_other half u (front ++ more) is)) new_
+
+    last : (own more : List Token) → IsPair half more → NoFlagLast more → NoFlagLast (own ++ more)
+    last own [] is last_ = absurd (some_pair half is)
+    last own (u ∷ more) is last_ = last_both own u more last_
 
 -- ---- what a statement computes
 
@@ -393,7 +485,18 @@ binary_made half op own (front, back, (written, after, adds, flags), (a, b, is),
 binary_good : (half : Half) (line : ℕ) (op : Opcode) → Good pair (binary_at half line op) (λ x own. IsOp half (Word (opcode_keyword op) ∷ own)) line
 unfolding binary_at
 binary_good half line op = widened {L = Spelled (Adds op no_flags ⨾ IsPair half)} (λ x own is. binary_made half op own is)
-    (then_seq {s = pair} {t = pair} _ (flags_good op line) (λ flags. then_done {s = pair} {L = Spelled (IsPair half)} (λ p. Binary op flags p.0 p.1) _ (λ x rest. refl) (λ x own is. is) (pair_good half line)))
+    (record {
+      sample = let s = (behind no_flags).sample in (s.0, s.1, ([], s.1, none_added op no_flags, s.2, refl));
+      outcome = λ tokens.
+          then_by (OwnFlags op) pair pair (flags_at op line no_flags) S (Spelled (Adds op no_flags)) (λ x. Spelled (IsPair half)) (Spelled (Adds op no_flags ⨾ IsPair half)) line tokens (λ x y front back p q. (front, back, p, q, refl)) (λ x own is. (behind x).sample)
+          (flags_parts {B = RawOp} op half S line) (flags_behind op line tokens [] no_flags refl) (λ x rest e. (behind x).outcome rest);
+    })
+  where
+    S : Flags × List Token → Result (RawOp × List Token) RuleFault
+    S flags = pair_at half line flags.1 >>= λ p. Ok (Binary op flags.0 p.0.0 p.0.1, p.1)
+
+    behind : (flags : Flags) → Good {A = RawOp} pair (λ ts. S (flags, ts)) (Spelled (IsPair half)) line
+    behind flags = then_done {s = pair} {L = Spelled (IsPair half)} (λ p. Binary op flags p.0 p.1) _ (λ x rest. refl) (λ x own is. is) (pair_good half line)
 
 abbrev IsPred : Part
 IsPred own = (pred : Pred) × Is (Word (predicate_keyword pred)) own
@@ -403,7 +506,7 @@ unfolding pred_at
 pred_branch line (Word word) = by (pred_in word) refl
   where
     by : (found : Option Pred) → pred_in word ≡ found → Branch pair (pred_at line) (Spelled IsPred) line (Word word)
-    by (Some pred) f = takes pred tt (pred, ap (λ (w : List ℕ). Word w ∷ []) (pred_in-is word pred f)) (λ more. rw f refl)
+    by (Some pred) f = takes pred (noun_other word (kinds.predicate pred (pred_in-is word pred f))) (pred, ap (λ (w : List ℕ). Word w ∷ []) (pred_in-is word pred f)) (λ more. rw f refl)
     by None f = refuses (λ more. (misplaced_word line word, rw f refl, refl, says_misplaced (predicate_keyword Eq, kinds.predicate Eq refl, (Eq, [], (Eq, refl))) line word more))
 pred_branch line token = refuses (λ more. (unexpected line (token ∷ more), refl, refl, says_unexpected line token more (λ word is. absurd cc)))
 
@@ -459,7 +562,7 @@ to_outcome line (Word word ∷ rest) = by (bytes_eq word (codes "to")) refl
     made own is (width, type) = (Some width, (Word word ∷ [], own, ap (λ (w : List ℕ). Word w ∷ []) is, type, refl))
 
     by : (b : Bool) → bytes_eq word (codes "to") ≡ b → Outcome pair (to_at line) (Spelled IsTo) line (Word word ∷ rest) (to_at line (Word word ∷ rest))
-    by true h = led pair (to_at line) (λ ts. type_at line ts >>= λ width. (line_end line width.1 >>= λ behind. Ok (Some width.0, behind))) (Spelled IsTo) line (Word word) rest tt (λ more. rw h refl)
+    by true h = led pair (to_at line) (λ ts. type_at line ts >>= λ width. (line_end line width.1 >>= λ behind. Ok (Some width.0, behind))) (Spelled IsTo) line (Word word) rest (λ flag is. to_other flag (sym (same_word word (codes "to") h) ∙ is)) (λ more. rw h refl)
         (widen pair (λ ts. type_at line ts >>= λ width. (line_end line width.1 >>= λ behind. Ok (Some width.0, behind))) (Spelled IsType) (λ x own. IsTo (Word word ∷ own)) line rest (λ x own is. made own (same_word word (codes "to") h) is) _ ((type_end_good line).outcome rest))
     by false h = refused_token pair (to_at line) (Spelled IsTo) line (Word word) rest (None, [], no_to) (λ p. p) (λ more. (fault line Syntax, rw h refl, refl, says_word word more (inr (inr (λ noun is others. (fault line Syntax, rw (not_to noun is) refl))))))
 to_outcome line (token ∷ rest) = refused_token pair (to_at line) (Spelled IsTo) line token rest (None, [], no_to) (λ p. p) (λ more. (unexpected line (token ∷ more), refl, refl, says_unexpected line token more (λ word is. absurd cc)))
@@ -500,7 +603,7 @@ op_fits half =
 op_word_outcome : (half : Half) (line : ℕ) (word : List ℕ) (rest : List Token) (operation : Operation) → operation_in word ≡ Some operation → Outcome pair (op_at half line) (Spelled (IsOp half)) line (Word word ∷ rest) (op_at half line (Word word ∷ rest))
 unfolding op_at
 op_word_outcome half line word rest operation f =
-    led pair (op_at half line) (operation_at half line operation) (Spelled (IsOp half)) line (Word word) rest tt (λ more. rw f refl)
+    led pair (op_at half line) (operation_at half line operation) (Spelled (IsOp half)) line (Word word) rest (noun_other word (kinds.opcode operation (operation_in-is word operation f))) (λ more. rw f refl)
     (widen pair (operation_at half line operation) (λ x own. IsOp half (Word (operation_word operation) ∷ own)) (λ x own. IsOp half (Word word ∷ own)) line rest
     (λ x own is. subst (λ (w : List ℕ). IsOp half (Word w ∷ own)) (sym (operation_in-is word operation f)) is) (operation_at half line operation rest) ((operation_good half line operation).outcome rest))
 

@@ -33,7 +33,8 @@ use Rattle.rule_terms.proofs.Meanings.{operator_at-is, operator_at-of, meaning_i
 use Rattle.rule_terms.proofs.Readings.{operand_shorter}
 use Rattle.rule_viable_prefixes.specs.Misfits as kinds
 use Rattle.rule_viable_prefixes.specs.Misfits.{Fitting, NounFits, Nests, IsTooDeep, IsTooMany}
-use Rattle.rule_viable_prefixes.proofs.Outcomes.{Lack, Akin, same_next, noun_next, ended_next, Takes, says_misplaced, says_syntax, says_too_many, IsTold, says_deep, NoLine, Spelling, pair, bare, IsErrOn, Outcome, Good, then_at, then, passed, led, Branch, takes, refuses, goes, by_token, widened, on_line, then_done, bind_named, says_unexpected}
+use Rattle.rule_viable_prefixes.proofs.Nouns.{noun_other}
+use Rattle.rule_viable_prefixes.proofs.Outcomes.{Lack, Akin, same_next, noun_next, ended_next, Takes, says_misplaced, says_syntax, says_too_many, IsTold, says_deep, IsOwn, Spelling, pair, bare, IsErrOn, Outcome, Good, then_at, then, passed, led, Branch, takes, refuses, goes, by_token, widened, on_line, then_done, bind_named, says_unexpected}
 
 -- ---- names and marks
 
@@ -207,7 +208,7 @@ operand_good place nesting line level primaries before =
 -- what the reader of starts does with the token, whatever stands behind it, where these fit
 data Opens (fits : Fitting) (none : List ℕ → Type 0) (place : TermPlace) (line : ℕ) : Token → Type 0 where
   misfit : (token : Token) → ((more : List Token) → IsErrOn fits none line (token ∷ more) (start_at place line (token ∷ more))) → Opens fits none place line token
-  of_leaf : (token : Token) (node : RawNode) → SpellsLeaf place node (token ∷ []) → NoLine token → ((more : List Token) → start_at place line (token ∷ more) ≡ Ok (Leaf node, more)) → Opens fits none place line token
+  of_leaf : (token : Token) (node : RawNode) → SpellsLeaf place node (token ∷ []) → IsOwn token → ((more : List Token) → start_at place line (token ∷ more) ≡ Ok (Leaf node, more)) → Opens fits none place line token
   of_parenthesis : ((more : List Token) → start_at place line (Mark (codes "(") ∷ more) ≡ Ok (Parenthesis, more)) → Opens fits none place line (Mark (codes "("))
   of_prefix : (function : Function) (mark : List ℕ) → IsPrefix function mark → ((more : List Token) → start_at place line (Mark mark ∷ more) ≡ Ok (Prefix function, more)) → Opens fits none place line (Mark mark)
   of_call : (function : Function) (word : List ℕ) → IsCalled function word
@@ -253,7 +254,7 @@ opens_word fits none place line leaves word (Some (meanings.Call function)) f = 
 opens_word fits none place line leaves word (Some meanings.Constant) f = by (named line word)
   where
     by : Named line word → Opens fits none place line (Word word)
-    by (is_short le n) = of_leaf (Word word) (raw_nodes.Constant word) (meaning_in-is place word meanings.Constant f, le, refl) tt (λ more. rw (f, n) refl)
+    by (is_short le n) = of_leaf (Word word) (raw_nodes.Constant word) (meaning_in-is place word meanings.Constant f, le, refl) (noun_other word (kinds.constant (meaning_in-is place word meanings.Constant f))) (λ more. rw (f, n) refl)
     by (is_long long n) = misfit (Word word) (λ more. (fault line TooMany, rw (f, n) refl, refl, says_too_many (Word word) more (long_constant place fits leaves word long (meaning_in-is place word meanings.Constant f))))
 opens_word fits none place line leaves word (Some (meanings.Choice k)) f = by (named line word)
   where
@@ -261,7 +262,7 @@ opens_word fits none place line leaves word (Some (meanings.Choice k)) f = by (n
     m = meaning_in-is place word (meanings.Choice k) f
 
     by : Named line word → Opens fits none place line (Word word)
-    by (is_short le n) = of_leaf (Word word) (raw_nodes.Undef k) (word, m.0, m.1, le, refl) tt (λ more. rw (f, n) refl)
+    by (is_short le n) = of_leaf (Word word) (raw_nodes.Undef k) (word, m.0, m.1, le, refl) (noun_other word (kinds.choice k m.1)) (λ more. rw (f, n) refl)
     by (is_long long n) =
         let witness : Leaves places.Witness fits = subst (λ (p : TermPlace). Leaves p fits) m.0 leaves in
         misfit (Word word) (λ more. (fault line TooMany, rw (f, n) refl, refl, says_too_many (Word word) more (long_choice fits witness word k long m.1)))
@@ -393,14 +394,14 @@ deep_branch place line nesting before token primaries (of_parenthesis h) = goes 
 deep_branch place line nesting before token primaries (of_prefix function mark is h) = goes (λ ts. primary_at place line nesting before ts >>= λ x. Ok (add_unary function x.0, x.1)) tt (λ more. rw (h more) refl)
     (then_done {s = pair} {L = Term place nesting 0} (add_unary function) (λ x. Ok (add_unary function x.0, x.1)) (λ x rest. refl) (λ x own t. prefixed_term place nesting function mark own is t) (primaries before))
 deep_branch place line nesting before token primaries (of_call function word is h) =
-    goes (λ ts. mark_at (codes "(") line ts >>= λ behind. (inside_at line (primary_at place line nesting) before behind >>= λ x. Ok (add_unary function x.0, x.1))) tt
+    goes (λ ts. mark_at (codes "(") line ts >>= λ behind. (inside_at line (primary_at place line nesting) before behind >>= λ x. Ok (add_unary function x.0, x.1))) (noun_other word (kinds.function function is))
     (λ more. rw (h more) (bind_named (mark_at (codes "(") line more) (Call function) _))
     (then {s = bare} _ {L = λ u own. own ≡ Mark (codes "(") ∷ []} {M = λ u y own. IsTerm place (suc nesting) 0 (Word word ∷ Mark (codes "(") ∷ own)}
     (λ u y front back one two. subst (λ (ts : List Token). IsTerm place (suc nesting) 0 (Word word ∷ (ts ++ back))) (sym one) two)
     (mark_good (codes "(") line)
     (λ u. then_done {s = pair} {L = λ x. Closed (IsTerm place nesting loosest)} (add_unary function) (λ x. Ok (add_unary function x.0, x.1)) (λ x rest. refl) (λ x own c. called_term place nesting function word own is c) (inside_good place nesting line primaries before)))
 deep_branch place line nesting before token primaries (of_width h) =
-    goes (λ ts. mark_at (codes "(") line ts >>= λ behind. (measured_at line behind >>= λ x. Ok (before ++ raw_nodes.Width x.0 ∷ [], x.1))) tt
+    goes (λ ts. mark_at (codes "(") line ts >>= λ behind. (measured_at line behind >>= λ x. Ok (before ++ raw_nodes.Width x.0 ∷ [], x.1))) (noun_other (codes "width") (kinds.width refl))
     (λ more. rw (h more) (bind_named (mark_at (codes "(") line more) Width _))
     (then {s = bare} _ {L = λ u own. own ≡ Mark (codes "(") ∷ []} {M = λ u y own. IsTerm place (suc nesting) 0 (Word (codes "width") ∷ Mark (codes "(") ∷ own)}
     (λ u y front back one two. subst (λ (ts : List Token). IsTerm place (suc nesting) 0 (Word (codes "width") ∷ (ts ++ back))) (sym one) two)

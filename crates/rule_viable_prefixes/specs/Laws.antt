@@ -1,7 +1,7 @@
 -- What holds of the faults of rule files.
 use Rattle.std.specs.Prelude.{◌≡◌, ◌⊎◌, ℕ, ◌+◌, List, [], ◌∷◌, ◌++◌}
 use Rattle.rule_tokens.specs.declared.fault.RuleFaultKind.{RuleFaultKind}
-use Rattle.rule_tokens.specs.declared.fault.RuleFaultKind.TheVariants.{Syntax, TooMany}
+use Rattle.rule_tokens.specs.declared.fault.RuleFaultKind.TheVariants.{Syntax, LeftOut, TooMany}
 use Rattle.rule_tokens.specs.RuleFaults.{RuleFault}
 use Rattle.rule_tokens.specs.Tokens.{Token, Word, AreTokens}
 use Rattle.rule_parse.specs.declared.raw.RawRule.{RawRule}
@@ -10,13 +10,15 @@ use Rattle.rule_parse.specs.Limits.{most_nodes}
 use Rattle.rule_parse.specs.NodeCounts.{counted_at_end, IsWithinLimit}
 use Rattle.rule_parse.specs.Text.{IsTextFault}
 use Rattle.rule_viable_prefixes.specs.Fits.{Fits, FitsBehind, LineFits, line_of}
-use Rattle.rule_viable_prefixes.specs.Misfits.{IsMisfit, IsExcused, NounFits}
+use Rattle.rule_viable_prefixes.specs.Misfits.{IsMisfit, IsExcused, NounFits, RepeatsFlag}
 
--- The token does not fit, and the kind says why: a word is told as `Syntax` only where no noun fits, but for three cases.
+-- The token does not fit, and the kind says why: a word is told as `Syntax` only where no noun fits, but for three cases; and a word
+-- that is left out repeats no flag.
 pub record DoesNotFit (front : List Token) (token : Token) (behind : List Token) (kind : RuleFaultKind) : Type 0 where
   pub misfit : ¬ FitsBehind front token
   pub told : IsMisfit (FitsBehind front) token behind kind
   pub no_noun : kind ≡ Syntax → (word : List ℕ) → token ≡ Word word → NounFits (FitsBehind front) → IsExcused (FitsBehind front) front word
+  pub repeats_none : (left : List ℕ) → kind ≡ LeftOut left → ¬ RepeatsFlag front left
 
 -- The token fits, and with it a rule has more than 256 operands, literals, names, operators and functions.
 pub record IsOneTooMany (front : List Token) (token : Token) (kind : RuleFaultKind) : Type 0 where
