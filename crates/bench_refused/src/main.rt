@@ -5,9 +5,9 @@
 //! the files and the sinks the status is 9, and where the streams can't be written it is 10: no command ends so.
 #![tactic(auto)]
 
-mod world;
+mod memory;
 
-use crate::world::{World, world};
+use crate::memory::{World, prepared};
 use alive_top::alive;
 use std::alloc::AllocError;
 use std::env;
@@ -36,7 +36,7 @@ fn tell(rt: &HostRuntime, world: &World) -> Result<(), std::io::Error> {
 
 /// Runs the command of the words.
 fn run(rt: &HostRuntime, words: &Vec<String>) -> Result<u8, AllocError> {
-    let mut world = world(rt.alloc())?;
+    let mut world = prepared(rt.alloc())?;
     let ended = alive(
         rt.alloc(),
         words,

@@ -32,7 +32,7 @@ fn files(alloc: Global) -> Result<MemoryFiles, AllocError> {
 }
 
 /// The files, and empty sinks.
-pub(crate) fn world(alloc: Global) -> Result<World, AllocError> {
+pub(crate) fn prepared(alloc: Global) -> Result<World, AllocError> {
     Ok(World {
         files: files(alloc)?,
         out: MemorySink::with_room(alloc, ROOM)?,
