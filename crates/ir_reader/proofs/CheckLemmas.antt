@@ -9,6 +9,8 @@ use Rattle.ir_core.specs.declared.instruction.Inst.{Inst}
 use Rattle.ir_core.specs.declared.instruction.Op.{Op}
 use Rattle.ir_core.specs.declared.instruction.Op.TheVariants as core
 use Rattle.ir_core.specs.declared.operand.Operand.{Operand}
+use Rattle.ir_core.specs.Assigned.{ReadsAreAssigned}
+use Rattle.ir_core.specs.Blocks.{Names}
 use Rattle.ir_core.specs.Checks.{IsInst, IsPhi, EntriesFit, MeetsChecks, ModuleMeetsChecks}
 use Rattle.ir_tokens.specs.declared.called.Identifier.{Identifier as Called}
 use Rattle.ir_tokens.specs.Tokens.{Placed}
@@ -31,7 +33,9 @@ use Rattle.ir_resolve.specs.Written.{Thing, Calls}
 use Rattle.ir_resolve.specs.Formed.{IsWellWrittenOp, IsWellWritten, IsWellNamed as IsNamed}
 use Rattle.ir_resolve.proofs.Resolved.{resolved}
 use Rattle.ir_reader.specs.Phis.{OnlyPhisBefore, OpFits}
-use Rattle.ir_reader.specs.Faults.{IsFunctionOf, functions_of, IsEntryOf, IsModuleText}
+use Rattle.ir_reader.specs.Faults.{ResolvesTo, IsFunctionOf, functions_of, IsEntryOf, IsModuleText}
+use Rattle.ir_reader.specs.WellWritten.{IsWellWrittenEntry}
+use Rattle.ir_reader.proofs.Formed.{PhisFit}
 use Rattle.ir_reader.proofs.Meaning.{block_written}
 use Rattle.ir_reader.proofs.Places.{order, there, somewhere, contained, take_at, zip_right, zip_length}
 use Rattle.ir_reader.proofs.ReadEntries.{each_spelled, some_block}
@@ -66,10 +70,14 @@ well_written f tokens rest spelled = record {
       op_written inst.op is'.2.0 is'.2.2.0 is'.2.2.1;
 }
 
-pub all_well_written : (text : List ℕ) (m : RawModule) → IsRaw text m → (k : ℕ) (f : RawFunction) → slice_get m.entries k ≡ Some (raw_entries.Function f) → IsWellWritten f
-all_well_written text m raw k f at =
-    let (t, (r, spelled)) = each_spelled SpellsEntry m.entries k (raw_entries.Function f) raw.tokens raw.spelled.1.0 raw.spelled.1.1 at in
-    well_written f _ _ spelled.2.2.2.2.2.2.2.2.1
+pub entry_written : (entry : RawEntry) (tokens rest : List Placed) → SpellsEntry entry tokens rest → IsWellWrittenEntry entry
+entry_written (raw_entries.Kept text) tokens rest spelled = tt
+entry_written (raw_entries.Function f) tokens rest spelled = well_written f _ _ spelled.2.2.2.2.2.2.2.2.1
+
+pub all_well_written : (text : List ℕ) (m : RawModule) → IsRaw text m → (k : ℕ) (entry : RawEntry) → slice_get m.entries k ≡ Some entry → IsWellWrittenEntry entry
+all_well_written text m raw k entry at =
+    let (t, (r, spelled)) = each_spelled SpellsEntry m.entries k entry raw.tokens raw.spelled.1.0 raw.spelled.1.1 at in
+    entry_written entry t r spelled
 
 -- ---- functions
 
@@ -95,9 +103,9 @@ named : (earlier : List RawFunction) (raw : RawFunction) (f : Function) → HasN
 named earlier raw f none means well =
     resolved raw f means (λ line h. none Duplicate line (inr (inl h))) (λ line h. none Duplicate line (inr (inr h))) (λ line h. none TypeClash line h) well
 
-meets : (earlier : List RawFunction) (raw : RawFunction) (f : Function) → IsWellWritten raw → IsFunctionOf earlier raw f → MeetsChecks f
-meets earlier raw f well is =
-    let names = named earlier raw f is.resolved.0 is.resolved.1 well in
+pub meets : (earlier : List RawFunction) (raw : RawFunction) (f : Function) → IsWellWritten raw → ResolvesTo earlier raw f → PhisFit f → ((b : ℕ) → ¬ Names f b 0) → ReadsAreAssigned f → MeetsChecks f
+meets earlier raw f well resolved fit free assigned =
+    let names = named earlier raw f resolved.0 resolved.1 well in
     record {
       formed = record {
         some_block = names.some_block;
@@ -107,11 +115,11 @@ meets earlier raw f well is =
         operands = names.operands;
         insts = names.insts;
         cases = names.cases;
-        phis_first = λ b j k earlier later early late lt phi. phi_first f b k later.op phi (is.phis b k later late) j earlier lt early;
-        phis = λ b k inst es inst_is e. phi_entries f b k inst.op es e (is.phis b k inst inst_is) (phi_has_entry raw f b k inst es is.resolved.1 well inst_is e);
-        entry = is.entry;
+        phis_first = λ b j k earlier later early late lt phi. phi_first f b k later.op phi (fit b k later late) j earlier lt early;
+        phis = λ b k inst es inst_is e. phi_entries f b k inst.op es e (fit b k inst inst_is) (phi_has_entry raw f b k inst es resolved.1 well inst_is e);
+        entry = free;
       };
-      assigned = is.assigned;
+      assigned = assigned;
     }
 
 -- ---- modules
@@ -146,7 +154,7 @@ module _ (text : List ℕ) (m : Module) (is : IsModuleText text m) where
 
   pub module_meets : ModuleMeetsChecks m
   module_meets = record {
-    functions = λ k f at. let (g, here, own) = written_at k f at in meets (functions_of (take k is.raw.entries)) g f (all_well_written text is.raw is.is_raw k g here) own;
+    functions = λ k f at. let (g, here, own) = written_at k f at in own.checks;
     names = λ j k f g at at' same. elim (order j k) [
       | inl lt ↦ absurd (other_name j k f g at at' same lt)
       | inr (inl e) ↦ e

@@ -2,6 +2,7 @@
 use Rattle.std.proofs.Common.{◌≡◌, ℕ, Bool, List, refl}
 use Rattle.ir_core.specs.declared.function.Function.{Function}
 use Rattle.ir_core.specs.Assigned.{ReadsAreAssigned}
+use Rattle.ir_core.specs.Blocks.{Names}
 use Rattle.ir_tokens.specs.declared.raw.RawFunction.{RawFunction}
 use Rattle.refusal.specs.declared.fault.Fault.{Fault}
 use Rattle.ir_tokens.specs.declared.fault.IrFaultKind.{IrFaultKind}
@@ -13,9 +14,11 @@ use Rattle.ir_tokens.specs.declared.fault.IrFaultKind.TheVariants as kinds
 use Rattle.refusal.specs.declared.refusal.Refusal.{Refusal}
 use Rattle.refusal.specs.declared.refusal.Refusal.TheVariants as errors
 use Rattle.refusal.specs.Refusals.{IfRefused}
-use Rattle.ir_reader.specs.Phis.{PhisFit}
 use Rattle.ir_reader.specs.FlowFaults.{BadPhiAt, EntryPredAt, IsUnassignedFault}
-use Rattle.ir_reader.specs.Faults.{EntryIsFree, IsFunctionOf, IsFaultOfFunction, of_names, bad_phi, entry_pred, unassigned}
+use Rattle.ir_reader.specs.Faults.{ResolvesTo, NoLineHas, IsFunctionOf, IsFaultOfFunction, of_names, bad_phi, entry_pred, unassigned}
+use Rattle.ir_resolve.specs.Formed.{IsWellWritten}
+use Rattle.ir_reader.proofs.CheckLemmas.{meets}
+use Rattle.ir_reader.proofs.Formed.{PhisFit}
 use Rattle.ir_reader.proofs.Meaning.{block_written}
 use Rattle.ir_reader.proofs.Places.{zip_right}
 use Rattle.ir_resolve.proofs.Deciding.{stable}
@@ -31,13 +34,13 @@ module _ (is_repeated : Bool) (raw : RawFunction) where
   names_fault errors.NoMemory first = tt
 
 module _ (raw : RawFunction) (f : Function) (means : Means raw f) where
-  pub phis_fit : ((line : ℕ) → ¬ BadPhiAt raw f line) → PhisFit f
+  pub phis_fit : NoLineHas (BadPhiAt raw f) → PhisFit f
   phis_fit none b k inst is =
       let (w, w_at, block_is) = block_written raw f means b is.block is.is_block in
       let (written, there, all) = zip_right (InstMeans (Calls raw)) w.insts is.block.insts k inst block_is.1 is.is_inst in
       stable (dec_fits f b k inst.op) (λ bad. none written.result.line (b, k, ((inst, is, bad), (written, (w, w_at, there), refl))))
 
-  pub entry_free : ((line : ℕ) → ¬ EntryPredAt raw f line) → EntryIsFree f
+  pub entry_free : NoLineHas (EntryPredAt raw f) → (b : ℕ) → ¬ Names f b 0
   entry_free none b names =
       let (w, w_at, block_is) = block_written raw f means b names.0 names.1 in
       none w.end_line (b, (names, (w, w_at, refl)))
@@ -46,13 +49,15 @@ module _ (is_repeated : Bool) (raw : RawFunction) (f : Function) (means : Means 
   pub bad_phi_fault : (line : ℕ) (e : Refusal (Fault IrFaultKind)) → e ≡ errors.Refused (record { line = line; kind = kinds.BadPhi }) → IsFirstLine (BadPhiAt raw f) line → IfRefused e (λ fault. ForEarlier is_repeated raw (λ earlier. IsFaultOfFunction earlier raw fault))
   bad_phi_fault line e is first = rw is (λ earlier marks. bad_phi f (faultless earlier marks, means) first)
 
-  pub entry_fault : (line : ℕ) (e : Refusal (Fault IrFaultKind)) → e ≡ errors.Refused (record { line = line; kind = kinds.EntryPred }) → ((at : ℕ) → ¬ BadPhiAt raw f at) → IsFirstLine (EntryPredAt raw f) line
+  pub entry_fault : (line : ℕ) (e : Refusal (Fault IrFaultKind)) → e ≡ errors.Refused (record { line = line; kind = kinds.EntryPred }) → NoLineHas (BadPhiAt raw f) → IsFirstLine (EntryPredAt raw f) line
       → IfRefused e (λ fault. ForEarlier is_repeated raw (λ earlier. IsFaultOfFunction earlier raw fault))
-  entry_fault line e is no_phi first = rw is (λ earlier marks. entry_pred f (faultless earlier marks, means) (phis_fit raw f means no_phi) first)
+  entry_fault line e is no_phi first = rw is (λ earlier marks. entry_pred f (faultless earlier marks, means) no_phi first)
 
-  pub reads_fault : (e : Refusal (Fault IrFaultKind)) → ((at : ℕ) → ¬ BadPhiAt raw f at) → ((at : ℕ) → ¬ EntryPredAt raw f at) → IfRefused e (IsUnassignedFault raw f) → IfRefused e (λ fault. ForEarlier is_repeated raw (λ earlier. IsFaultOfFunction earlier raw fault))
-  reads_fault (errors.Refused fault) no_phi no_entry first = λ earlier marks. unassigned f (faultless earlier marks, means) (phis_fit raw f means no_phi) (entry_free raw f means no_entry) first
+  pub reads_fault : (e : Refusal (Fault IrFaultKind)) → NoLineHas (BadPhiAt raw f) → NoLineHas (EntryPredAt raw f) → IfRefused e (IsUnassignedFault raw f) → IfRefused e (λ fault. ForEarlier is_repeated raw (λ earlier. IsFaultOfFunction earlier raw fault))
+  reads_fault (errors.Refused fault) no_phi no_entry first = λ earlier marks. unassigned f (faultless earlier marks, means) no_phi no_entry first
   reads_fault errors.NoMemory no_phi no_entry first = tt
 
-  pub function_of : ((at : ℕ) → ¬ BadPhiAt raw f at) → ((at : ℕ) → ¬ EntryPredAt raw f at) → ReadsAreAssigned f → ForEarlier is_repeated raw (λ earlier. IsFunctionOf earlier raw f)
-  function_of no_phi no_entry assigned earlier marks = record { resolved = (faultless earlier marks, means); phis = phis_fit raw f means no_phi; entry = entry_free raw f means no_entry; assigned = assigned }
+  pub function_of : IsWellWritten raw → NoLineHas (BadPhiAt raw f) → NoLineHas (EntryPredAt raw f) → ReadsAreAssigned f → ForEarlier is_repeated raw (λ earlier. IsFunctionOf earlier raw f)
+  function_of well no_phi no_entry assigned earlier marks =
+      let resolved : ResolvesTo earlier raw f = (faultless earlier marks, means) in
+      record { resolved = resolved; checks = meets earlier raw f well resolved (phis_fit raw f means no_phi) (entry_free raw f means no_entry) assigned }

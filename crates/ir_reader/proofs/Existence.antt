@@ -26,11 +26,14 @@ use Rattle.ir_parse.specs.Laws.{TextsHaveOneReadingOrFault}
 use Rattle.ir_resolve.specs.Laws.{FunctionsHaveOneMeaningOrFault}
 use Rattle.ir_resolve.proofs.Deciding.{FirstOf, first_moved, first_on, first_by_place, first_at, dec_not}
 use Rattle.ir_tokens.specs.declared.fault.IrFaultKind.TheVariants as kinds
-use Rattle.ir_reader.specs.Phis.{OpFits, PhisFit}
+use Rattle.ir_resolve.specs.Formed.{IsWellWritten}
+use Rattle.ir_reader.specs.Phis.{OpFits}
 use Rattle.ir_reader.specs.FlowFaults.{BadPhiHere, BadPhiAt, EntryPredHere, EntryPredAt}
-use Rattle.ir_reader.specs.Faults.{ResolvesTo, EntryIsFree, IsFunctionOf, IsFaultOfFunction, of_names, bad_phi, entry_pred, unassigned, functions_of, IsEntryOf, IsFaultOfEntry, IsFaultOfEntries, IsModuleText, IsFault, of_text, of_entries}
+use Rattle.ir_reader.specs.WellWritten.{IsWellWrittenEntry}
+use Rattle.ir_reader.specs.Faults.{ResolvesTo, NoLineHas, IsFunctionOf, IsFaultOfFunction, of_names, bad_phi, entry_pred, unassigned, functions_of, IsEntryOf, IsFaultOfEntry, IsFaultOfEntries, IsModuleText, IsFault, of_text, of_entries}
 use Rattle.ir_reader.proofs.Places.{there}
 use Rattle.ir_reader.proofs.Meaning.{written_read}
+use Rattle.ir_reader.proofs.CheckLemmas.{meets, all_well_written}
 use Rattle.ir_reader.proofs.Checking.{phis_fit, entry_free}
 use Rattle.ir_reader.proofs.ReadEntries.{AreFirstEntries, first_entries_none, first_entries_more, all_entries}
 use Rattle.ir_reader.proofs.Avoiding.{dec_names}
@@ -82,31 +85,31 @@ module _ (earlier : List RawFunction) (raw : RawFunction) where
   abbrev HasFunctionOrFault : Type 0
   HasFunctionOrFault = ((f : Function) × IsFunctionOf earlier raw f) ⊎ ((fault : Fault IrFaultKind) × IsFaultOfFunction earlier raw fault)
 
-  module _ (f : Function) (resolved : ResolvesTo earlier raw f) where
-    reads_checked : PhisFit f → EntryIsFree f → ReadsAreAssigned f ⊎ ((register : Register) × (b : ℕ) × (k : ℕ) × (i : ℕ) × IsFirstUnassigned f register b k i) → HasFunctionOrFault
-    reads_checked fit free (inl assigned) = inl (f, record { resolved = resolved; phis = fit; entry = free; assigned = assigned })
-    reads_checked fit free (inr (register, b, k, i, first)) =
+  module _ (well : IsWellWritten raw) (f : Function) (resolved : ResolvesTo earlier raw f) where
+    reads_checked : NoLineHas (BadPhiAt raw f) → NoLineHas (EntryPredAt raw f) → ReadsAreAssigned f ⊎ ((register : Register) × (b : ℕ) × (k : ℕ) × (i : ℕ) × IsFirstUnassigned f register b k i) → HasFunctionOrFault
+    reads_checked no_phi no_entry (inl assigned) = inl (f, record { resolved = resolved; checks = meets earlier raw f well resolved (phis_fit raw f resolved.1 no_phi) (entry_free raw f resolved.1 no_entry) assigned })
+    reads_checked no_phi no_entry (inr (register, b, k, i, first)) =
         let r = written_read raw f resolved.1 register b k i first in
         let fault : Fault IrFaultKind = record { line = r.operand.operand.line; kind = kinds.Unassigned r.name b } in
         inr (
           fault,
-          unassigned f resolved fit free (record { register = register; b = b; k = k; i = i; first = first; operand = r.operand; is_written = r.at; name = r.name; is_named = r.named; is_fault = refl }),
+          unassigned f resolved no_phi no_entry (record { register = register; b = b; k = k; i = i; first = first; operand = r.operand; is_written = r.at; name = r.name; is_named = r.named; is_fault = refl }),
         )
 
     checked : FirstOf (BadPhiAt raw f) → FirstOf (EntryPredAt raw f) → HasFunctionOrFault
     checked (Some line, first) entry = inr (record { line = line; kind = kinds.BadPhi }, bad_phi f resolved first)
-    checked (None, none) (Some line, first) = inr (record { line = line; kind = kinds.EntryPred }, entry_pred f resolved (phis_fit raw f resolved.1 none) first)
-    checked (None, none) (None, none_enters) = reads_checked (phis_fit raw f resolved.1 none) (entry_free raw f resolved.1 none_enters) (assigned_or_first f)
+    checked (None, none) (Some line, first) = inr (record { line = line; kind = kinds.EntryPred }, entry_pred f resolved none first)
+    checked (None, none) (None, none_enters) = reads_checked none none_enters (assigned_or_first f)
 
-  function_or_fault : FunctionsHaveOneMeaningOrFault → HasFunctionOrFault
-  function_or_fault law = elim (law.some earlier raw) [
-    | inl (none, (f, means)) ↦ checked f (none, means) (first_bad_phi raw f) (first_entry_pred raw f)
+  function_or_fault : IsWellWritten raw → FunctionsHaveOneMeaningOrFault → HasFunctionOrFault
+  function_or_fault well law = elim (law.some earlier raw) [
+    | inl (none, (f, means)) ↦ checked well f (none, means) (first_bad_phi raw f) (first_entry_pred raw f)
     | inr (fault, first) ↦ inr (fault, of_names first)
   ]
 
-entry_or_fault : FunctionsHaveOneMeaningOrFault → (earlier : List RawFunction) (raw : RawEntry) → ((entry : Entry) × IsEntryOf earlier raw entry) ⊎ ((fault : Fault IrFaultKind) × IsFaultOfEntry earlier raw fault)
-entry_or_fault law earlier (raw_entries.Kept text) = inl (entries.Kept text, refl)
-entry_or_fault law earlier (raw_entries.Function raw) = elim (function_or_fault earlier raw law) [ inl (f, is) ↦ inl (entries.Function f, is) | inr (fault, is) ↦ inr (fault, is) ]
+entry_or_fault : FunctionsHaveOneMeaningOrFault → (earlier : List RawFunction) (raw : RawEntry) → IsWellWrittenEntry raw → ((entry : Entry) × IsEntryOf earlier raw entry) ⊎ ((fault : Fault IrFaultKind) × IsFaultOfEntry earlier raw fault)
+entry_or_fault law earlier (raw_entries.Kept text) well = inl (entries.Kept text, refl)
+entry_or_fault law earlier (raw_entries.Function raw) well = elim (function_or_fault earlier raw well law) [ inl (f, is) ↦ inl (entries.Function f, is) | inr (fault, is) ↦ inr (fault, is) ]
 
 -- ---- a text
 
@@ -118,7 +121,7 @@ module _ (law : FunctionsHaveOneMeaningOrFault) (text : List ℕ) (short : lengt
   entries_from zero place read first end = inl (record { entries = read }, record { raw = m; is_raw = is_raw; entries = all_entries m.entries place read (omega arith) first })
   entries_from (suc left) place read first end =
       let (raw, at) = there m.entries place (omega arith) in
-      elim (entry_or_fault law (functions_of (take place m.entries)) raw) [
+      elim (entry_or_fault law (functions_of (take place m.entries)) raw (all_well_written text m is_raw place raw at)) [
         | inl (entry, is) ↦ entries_from left (place + 1) (read ++ entry ∷ []) (first_entries_more m.entries place raw entry read (read ++ entry ∷ []) first at refl is) (omega arith)
         | inr (fault, is) ↦
             let of_these : IsFaultOfEntries m.entries fault = record {

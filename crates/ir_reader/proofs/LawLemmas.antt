@@ -21,21 +21,22 @@ use Rattle.ir_resolve.specs.TypedReads.{Typed}
 use Rattle.refusal.specs.declared.fault.Fault.{Fault}
 use Rattle.ir_tokens.specs.declared.fault.IrFaultKind.{IrFaultKind}
 use Rattle.ir_tokens.specs.declared.fault.IrFaultKind.TheVariants as kinds
-use Rattle.ir_reader.specs.Phis.{PhisFit}
+use Rattle.ir_core.specs.Blocks.{Names}
+use Rattle.ir_reader.proofs.Formed.{PhisFit, formed_fits}
 use Rattle.ir_reader.specs.Operands.{written_at}
 use Rattle.ir_reader.specs.FlowFaults.{BadPhiAt, EntryPredAt, IsUnassignedFault}
-use Rattle.ir_reader.specs.Faults.{ResolvesTo, EntryIsFree, IsFunctionOf, IsFaultOfFunction, of_names, bad_phi, entry_pred, unassigned, functions_of, IsEntryOf, AreEntriesOf, IsFaultOfEntry, IsFaultOfEntries, IsModuleText, IsFault, of_text, of_entries}
+use Rattle.ir_reader.specs.Faults.{ResolvesTo, NoLineHas, IsFunctionOf, IsFaultOfFunction, of_names, bad_phi, entry_pred, unassigned, functions_of, IsEntryOf, AreEntriesOf, IsFaultOfEntry, IsFaultOfEntries, IsModuleText, IsFault, of_text, of_entries}
 use Rattle.ir_reader.specs.Laws.{TextsHaveOneModuleOrFault}
 use Rattle.ir_reader.proofs.Places.{order, same_at, there}
 use Rattle.ir_reader.proofs.Existence.{module_or_fault}
 
 -- ---- faults of a function that is meant
 
-no_bad_phi : (raw : RawFunction) (f : Function) (line : ℕ) → PhisFit f → ¬ BadPhiAt raw f line
-no_bad_phi raw f line fit (b, k, ((inst, is, bad), on)) = bad (fit b k inst is)
+no_bad_phi : (raw : RawFunction) (f : Function) → PhisFit f → NoLineHas (BadPhiAt raw f)
+no_bad_phi raw f fit line (b, k, ((inst, is, bad), on)) = bad (fit b k inst is)
 
-no_entry_pred : (raw : RawFunction) (f : Function) (line : ℕ) → EntryIsFree f → ¬ EntryPredAt raw f line
-no_entry_pred raw f line free (b, (names, on)) = free b names
+no_entry_pred : (raw : RawFunction) (f : Function) → ((b : ℕ) → ¬ Names f b 0) → NoLineHas (EntryPredAt raw f)
+no_entry_pred raw f free line (b, (names, on)) = free b names
 
 one_line : (P : ℕ → Type 0) (l m : ℕ) → IsFirstLine P l → IsFirstLine P m → l ≡ m
 one_line P l m (p, least) (q, least') = let le : l ≤ m = least m q in let ge : m ≤ l = least' l p in omega arith
@@ -87,11 +88,11 @@ module _ (law : FunctionsHaveOneMeaningOrFault) (earlier : List RawFunction) (ra
   moved : {line : ℕ} (f g : Function) (At : Function → ℕ → Type 0) → ResolvesTo earlier raw f → ResolvesTo earlier raw g → IsFirstLine (At f) line → IsFirstLine (At g) line
   moved {line} f g At p q h = subst (λ k. IsFirstLine (At k) line) (one_resolved f g p q) h
 
-  first_phi : {line : ℕ} (f g : Function) → ResolvesTo earlier raw f → ResolvesTo earlier raw g → IsFirstLine (BadPhiAt raw f) line → ¬ PhisFit g
-  first_phi {line} f g p q h fit = no_bad_phi raw g line fit (moved f g (BadPhiAt raw) p q h).0
+  first_phi : {line : ℕ} (f g : Function) → ResolvesTo earlier raw f → ResolvesTo earlier raw g → IsFirstLine (BadPhiAt raw f) line → ¬ NoLineHas (BadPhiAt raw g)
+  first_phi {line} f g p q h none = none line (moved f g (BadPhiAt raw) p q h).0
 
-  first_entry : {line : ℕ} (f g : Function) → ResolvesTo earlier raw f → ResolvesTo earlier raw g → IsFirstLine (EntryPredAt raw f) line → ¬ EntryIsFree g
-  first_entry {line} f g p q h free = no_entry_pred raw g line free (moved f g (EntryPredAt raw) p q h).0
+  first_entry : {line : ℕ} (f g : Function) → ResolvesTo earlier raw f → ResolvesTo earlier raw g → IsFirstLine (EntryPredAt raw f) line → ¬ NoLineHas (EntryPredAt raw g)
+  first_entry {line} f g p q h none = none line (moved f g (EntryPredAt raw) p q h).0
 
   one_first_fault : (a b : Fault IrFaultKind) → IsFaultOfFunction earlier raw a → IsFaultOfFunction earlier raw b → a ≡ b
   one_first_fault a b (of_names {fault = m} p) (of_names {fault = n} q) = law.one_fault earlier raw m n p q
@@ -113,10 +114,10 @@ module _ (law : FunctionsHaveOneMeaningOrFault) (earlier : List RawFunction) (ra
 
   not_fault : (f : Function) (fault : Fault IrFaultKind) → IsFunctionOf earlier raw f → ¬ IsFaultOfFunction earlier raw fault
   not_fault f fault p (of_names {fault = n} q) = law.not_both earlier raw n p.resolved.0 q
-  not_fault f fault p (bad_phi g s q) = first_phi g f s p.resolved q p.phis
-  not_fault f fault p (entry_pred g s fit q) = first_entry g f s p.resolved q p.entry
+  not_fault f fault p (bad_phi g s q) = first_phi g f s p.resolved q (no_bad_phi raw f (formed_fits f p.checks.formed))
+  not_fault f fault p (entry_pred g s fit q) = first_entry g f s p.resolved q (no_entry_pred raw f p.checks.formed.entry)
   not_fault f fault p (unassigned g s fit free q) =
-      let assigned : ReadsAreAssigned g = subst ReadsAreAssigned (one_resolved f g p.resolved s) p.assigned in
+      let assigned : ReadsAreAssigned g = subst ReadsAreAssigned (one_resolved f g p.resolved s) p.checks.assigned in
       q.first.unassigned (assigned q.b q.k q.i q.first.read q.first.is_read q.register q.first.reads)
 
 -- ---- entries

@@ -8,11 +8,12 @@ pub mod Searching
 pub mod Avoiding
 pub mod Unassigned
 pub mod Fitting
-pub mod Checking
+pub mod Formed
 pub mod ReadEntries
+pub mod CheckLemmas
+pub mod Checking
 pub mod Advancing
 pub mod GoingOn
 pub mod Answered
 pub mod Existence
 pub mod LawLemmas
-pub mod CheckLemmas

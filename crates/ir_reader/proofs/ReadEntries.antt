@@ -11,7 +11,7 @@ use Rattle.ir_tokens.specs.declared.raw.RawFunction.{RawFunction}
 use Rattle.ir_tokens.specs.declared.raw.RawBlock.{RawBlock}
 use Rattle.refusal.specs.declared.fault.Fault.{Fault}
 use Rattle.ir_tokens.specs.declared.fault.IrFaultKind.{IrFaultKind}
-use Rattle.ir_parse.specs.Grammar.{SpellsEntry, SpellsBlocks}
+use Rattle.ir_parse.specs.Grammar.{SpellsBlocks}
 use Rattle.ir_instructions.specs.Parts.{Part, Each}
 use Rattle.ir_parse.specs.Text.{IsTextFault}
 use Rattle.refusal.specs.declared.refusal.Refusal.{Refusal}
@@ -19,7 +19,6 @@ use Rattle.refusal.specs.declared.refusal.Refusal.TheVariants as errors
 use Rattle.refusal.specs.Refusals.{IfRefused}
 use Rattle.ir_reader.specs.Faults.{functions_of, IsEntryOf, AreEntriesOf, IsFunctionOf, IsFault, of_text}
 use Rattle.ir_reader.specs.RepeatedNames.{MarksEntry}
-use Rattle.ir_reader.specs.HasBlock.{HasBlock}
 use Rattle.ir_reader.proofs.Places.{same_at, at_push}
 
 -- ---- each function has a block
@@ -32,10 +31,6 @@ each_spelled P (y ∷ xs) (suc k) x tokens rest each at = each_spelled P xs k x 
 pub some_block : (blocks : List RawBlock) (tokens rest : List Placed) → SpellsBlocks blocks tokens rest → 0 < length blocks
 some_block [] tokens rest spelled = absurd spelled
 some_block (first ∷ others) tokens rest spelled = omega arith
-
-pub has_block : (entry : RawEntry) (tokens rest : List Placed) → SpellsEntry entry tokens rest → HasBlock entry
-has_block (raw_entries.Kept text) tokens rest spelled = tt
-has_block (raw_entries.Function f) tokens rest spelled = some_block f.blocks _ _ spelled.2.2.2.2.2.2.2.2.1
 
 -- ---- the first entries
 

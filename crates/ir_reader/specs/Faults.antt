@@ -4,8 +4,7 @@ use Rattle.ir_core.specs.declared.module.Module.{Module}
 use Rattle.ir_core.specs.declared.module.Entry.{Entry}
 use Rattle.ir_core.specs.declared.module.Entry.TheVariants as entries
 use Rattle.ir_core.specs.declared.function.Function.{Function}
-use Rattle.ir_core.specs.Assigned.{ReadsAreAssigned}
-use Rattle.ir_core.specs.Blocks.{Names}
+use Rattle.ir_core.specs.Checks.{MeetsChecks}
 use Rattle.ir_tokens.specs.declared.raw.RawModule.{RawModule}
 use Rattle.ir_tokens.specs.declared.raw.RawEntry.{RawEntry}
 use Rattle.ir_tokens.specs.declared.raw.RawEntry.TheVariants as raw_entries
@@ -17,7 +16,6 @@ use Rattle.ir_resolve.specs.Faults.{HasNoFault, IsFirstNameFault}
 use Rattle.ir_resolve.specs.FirstLines.{IsFirstLine}
 use Rattle.ir_resolve.specs.Means.{Means}
 use Rattle.ir_tokens.specs.declared.fault.IrFaultKind.TheVariants as kinds
-use Rattle.ir_reader.specs.Phis.{PhisFit}
 use Rattle.ir_reader.specs.FlowFaults.{BadPhiAt, EntryPredAt, IsUnassignedFault}
 
 -- ---- functions
@@ -26,16 +24,14 @@ use Rattle.ir_reader.specs.FlowFaults.{BadPhiAt, EntryPredAt, IsUnassignedFault}
 abbrev pub ResolvesTo : List RawFunction → RawFunction → Function → Type 0
 ResolvesTo earlier raw f = HasNoFault earlier raw × Means raw f
 
--- no terminator names the first block
-abbrev pub EntryIsFree : Function → Type 0
-EntryIsFree f = (b : ℕ) → ¬ Names f b 0
-
--- it passes each check, and is the function
+-- it resolves to the function, which meets the checks
 pub record IsFunctionOf (earlier : List RawFunction) (raw : RawFunction) (f : Function) : Type 0 where
   pub resolved : ResolvesTo earlier raw f
-  pub phis : PhisFit f
-  pub entry : EntryIsFree f
-  pub assigned : ReadsAreAssigned f
+  pub checks : MeetsChecks f
+
+-- no line has the fault
+abbrev pub NoLineHas : (ℕ → Type 0) → Type 0
+NoLineHas At = (line : ℕ) → ¬ At line
 
 -- The first fault of a function as written: of names or types; else, of the function that is meant, a phi that doesn't fit; else a
 -- terminator that names the first block; else the first register that isn't assigned where it is read, as it is written there.
@@ -43,9 +39,10 @@ pub data IsFaultOfFunction (earlier : List RawFunction) (raw : RawFunction) : Fa
   of_names : {fault : Fault IrFaultKind} → IsFirstNameFault earlier raw fault → IsFaultOfFunction earlier raw fault
   bad_phi : {line : ℕ} (f : Function) → ResolvesTo earlier raw f
       → IsFirstLine (BadPhiAt raw f) line → IsFaultOfFunction earlier raw (record { line = line; kind = kinds.BadPhi })
-  entry_pred : {line : ℕ} (f : Function) → ResolvesTo earlier raw f → PhisFit f
+  entry_pred : {line : ℕ} (f : Function) → ResolvesTo earlier raw f → NoLineHas (BadPhiAt raw f)
       → IsFirstLine (EntryPredAt raw f) line → IsFaultOfFunction earlier raw (record { line = line; kind = kinds.EntryPred })
-  unassigned : {fault : Fault IrFaultKind} (f : Function) → ResolvesTo earlier raw f → PhisFit f → EntryIsFree f → IsUnassignedFault raw f fault → IsFaultOfFunction earlier raw fault
+  unassigned : {fault : Fault IrFaultKind} (f : Function) → ResolvesTo earlier raw f → NoLineHas (BadPhiAt raw f) → NoLineHas (EntryPredAt raw f)
+      → IsUnassignedFault raw f fault → IsFaultOfFunction earlier raw fault
 
 -- ---- modules
 

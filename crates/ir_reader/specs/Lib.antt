@@ -10,7 +10,7 @@ pub mod Operands
 pub mod FlowFaults
 pub mod Faults
 pub mod RepeatedNames
-pub mod HasBlock
+pub mod WellWritten
 pub mod Counts
 pub mod Predecessors
 pub mod Laws

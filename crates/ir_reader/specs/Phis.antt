@@ -27,7 +27,3 @@ OpFits f b k (Compare pred width x y) = Unit {0}
 OpFits f b k (Select c x y) = Unit {0}
 OpFits f b k (Convert cast from x) = Unit {0}
 OpFits f b k (Freeze x) = Unit {0}
-
--- all phis fit
-abbrev pub PhisFit : Function → Type 0
-PhisFit f = (b k : ℕ) (inst : Inst) → IsInst f b k inst → OpFits f b k inst.op

@@ -1,8 +1,9 @@
 //! A function of a module, check by check.
 
-ghost use Rattle.std.specs.Prelude.{◌<◌, List as Seq, length, IfOk, IfErr};
+ghost use Rattle.std.specs.Prelude.{List as Seq, IfOk, IfErr};
 ghost use Rattle.ir_tokens.specs.declared.raw.RawFunction.{RawFunction as written_function};
 ghost use Rattle.ir_resolve.specs.Faults.{MarksFunction};
+ghost use Rattle.ir_resolve.specs.Formed.{IsWellWritten};
 ghost use Rattle.refusal.specs.Refusals.{IfRefused};
 ghost use Rattle.ir_reader.specs.Faults.{IsFunctionOf, IsFaultOfFunction};
 
@@ -23,7 +24,7 @@ pub(crate) fn function(
     raw: &RawFunction,
     is_repeated: bool,
 ) -> Result<Function, IrError>
-    requires { 0 < length raw.now.blocks }
+    requires { IsWellWritten raw.now }
     ensures ok { IfOk result (λ f. (earlier : Seq written_function) → MarksFunction is_repeated earlier raw.now → IsFunctionOf earlier raw.now f) }
     ensures refused { IfErr result (λ e. IfRefused e (λ fault. (earlier : Seq written_function) → MarksFunction is_repeated earlier raw.now → IsFaultOfFunction earlier raw.now fault)) }
 {

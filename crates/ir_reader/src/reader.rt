@@ -8,7 +8,7 @@ ghost use Rattle.ir_tokens.specs.declared.raw.RawEntry.{RawEntry as entry_writte
 ghost use Rattle.ir_tokens.specs.declared.raw.RawFunction.{RawFunction as written_function};
 ghost use Rattle.refusal.specs.Refusals.{IfRefused};
 ghost use Rattle.ir_reader.specs.RepeatedNames.{MarksEntry};
-ghost use Rattle.ir_reader.specs.HasBlock.{HasBlock};
+ghost use Rattle.ir_reader.specs.WellWritten.{IsWellWrittenEntry};
 ghost use Rattle.ir_reader.specs.EntriesRead.{HasLeft, IsReadingOf, IsReadingOfText};
 ghost use Rattle.ir_reader.specs.Faults.{IsEntryOf, IsFaultOfEntry, IsModuleText, IsFault};
 
@@ -95,7 +95,7 @@ fn last_entries(alloc: Global, tokens: &[Placed<'_>], reading: Reading) -> Resul
 
 /// An entry, or its first fault.
 pub(crate) fn entry(alloc: Global, written: &RawEntry, is_repeated: bool) -> Result<Entry, IrError>
-    requires { HasBlock written.now }
+    requires { IsWellWrittenEntry written.now }
     ensures ok { IfOk result (λ entry. (earlier : Seq written_function) → MarksEntry is_repeated earlier written.now → IsEntryOf earlier written.now entry) }
     ensures refused { IfErr result (λ e. IfRefused e (λ fault. (earlier : Seq written_function) → MarksEntry is_repeated earlier written.now → IsFaultOfEntry earlier written.now fault)) }
 {

@@ -4,7 +4,7 @@ ghost use Rattle.std.specs.Prelude.{[], ◌∷◌, ◌++◌, List as Seq, IfOk, 
 ghost use Rattle.ir_tokens.specs.declared.raw.RawEntry.{RawEntry as written_entry};
 ghost use Rattle.ir_reader.specs.EntriesRead.{IsReadingOf};
 ghost use Rattle.ir_reader.specs.Faults.{AreEntriesOf, IsFaultOfEntries};
-ghost use Rattle.ir_reader.specs.HasBlock.{HasBlock};
+ghost use Rattle.ir_reader.specs.WellWritten.{IsWellWrittenEntry};
 
 use crate::reader::entry;
 use crate::repeated::is_repeated;
@@ -33,7 +33,7 @@ impl Reading {
 
     /// That of one entry more. Behind a fault none is looked at.
     pub(crate) fn with(self, alloc: Global, written: &RawEntry) -> Result<Reading, AllocError>
-        requires { HasBlock written.now }
+        requires { IsWellWrittenEntry written.now }
         ensures { IfOk result (λ reading. (front : Seq written_entry) →
             IsReadingOf front self → IsReadingOf (front ++ written.now ∷ []) reading) }
     {

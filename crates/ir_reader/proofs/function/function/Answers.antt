@@ -18,6 +18,9 @@ pub returns-in-Some-clause-refused : goal.returns-in-Some-clause-refused
 returns-in-Some-clause-refused c =
     bad_phi_fault c.args.is_repeated c.args.raw.now c.in_ok-f.f c.in_ok-f.ensures.means c.in_ok-f.ensures.faultless c.in-Some.line c.refused.result c.refused.ensures (rw c.in-Some.is at c.in_ok-line.ensures)
 
+pub named_entry-requires-clause-some_block : goal.named_entry-requires-clause-some_block
+named_entry-requires-clause-some_block c = c.requires.some_block
+
 pub named_entry-requires-clause-blocks : goal.named_entry-requires-clause-blocks
 named_entry-requires-clause-blocks c =
     let countable = c.is_countable.ensures c.if-not-is_countable.false in
@@ -33,7 +36,7 @@ returns-in-Some-named_entry-clause-refused c =
     (rw c.in_default.is at c.in_ok-line.ensures) (c.in-Some-named_entry.ensures f (subst (ArePredecessors f) (sym c.as_slice-2.ensures.value) c.in_ok-predecessors.ensures))
 
 pub check_reads-requires-clause-some_block : goal.check_reads-requires-clause-some_block
-check_reads-requires-clause-some_block c = omega (arith, c.requires, same_count c.args.raw.now c.in_ok-f.f c.in_ok-f.ensures.means)
+check_reads-requires-clause-some_block c = omega (arith, c.requires.some_block, same_count c.args.raw.now c.in_ok-f.f c.in_ok-f.ensures.means)
 
 pub check_reads-requires-clause-targets : goal.check_reads-requires-clause-targets
 check_reads-requires-clause-targets c = targets_within c.args.raw.now c.in_ok-f.f c.in_ok-f.ensures.means
@@ -50,5 +53,5 @@ returns-in_err-check_reads-clause-refused c =
 pub returns-clause-ok : goal.returns-clause-ok
 returns-clause-ok c =
     let f = c.in_ok-f.f in
-    function_of c.args.is_repeated c.args.raw.now f c.in_ok-f.ensures.means c.in_ok-f.ensures.faultless
+    function_of c.args.is_repeated c.args.raw.now f c.in_ok-f.ensures.means c.in_ok-f.ensures.faultless c.requires
     (rw c.in_default.is at c.in_ok-line.ensures) (c.in_default-named_entry.ensures f (subst (ArePredecessors f) (sym c.as_slice-2.ensures.value) c.in_ok-predecessors.ensures)) c.in_ok-check_reads.ensures.ok

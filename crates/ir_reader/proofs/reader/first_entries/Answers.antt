@@ -3,14 +3,14 @@ use Rattle.std.specs.Prelude.{IfSome}
 use Rattle.ir_tokens.specs.SeenTokens.{seen}
 use Rattle.ir_parse.specs.Grammar.{SpellsEntry}
 use Rattle.ir_reader.proofs.Advancing.{Came, read_more, left_last, left_rest}
-use Rattle.ir_reader.proofs.ReadEntries.{has_block}
+use Rattle.ir_reader.proofs.CheckLemmas.{entry_written}
 use Rattle.ir_reader.proofs.reader.first_entries.Goals as goal
 
 pub with-requires : goal.with-requires
 with-requires c =
     let taken = seen c.as_slice.result.now in
     let whole = subst (λ o. IfSome o (λ e. SpellsEntry e taken [])) c.in-Some.is c.in_ok-written.ensures in
-    has_block c.in-Some.written taken [] whole
+    entry_written c.in-Some.written taken [] whole
 
 pub loop-reading-preserved-in_ok-reading-in-Some : goal.loop-reading-preserved-in_ok-reading-in-Some
 loop-reading-preserved-in_ok-reading-in-Some c =

@@ -6,7 +6,7 @@ use Rattle.ir_parse.specs.ModuleReaders.{is_end}
 use Rattle.ir_parse.proofs.FunctionReadings.{entry_at-is}
 use Rattle.ir_reader.proofs.Advancing.{left_none, left_fault, left_smaller}
 use Rattle.ir_reader.proofs.GoingOn.{left_step}
-use Rattle.ir_reader.proofs.ReadEntries.{has_block}
+use Rattle.ir_reader.proofs.CheckLemmas.{entry_written}
 use Rattle.ir_reader.proofs.reader.last_entries.Goals as goal
 
 pub loop-left-init : goal.loop-left-init
@@ -16,7 +16,7 @@ pub with-requires : goal.with-requires
 with-requires c =
     let left = seen c.loop-left.left.now in
     let rest = seen c.entry.new.tokens.now in
-    has_block c.in_ok-written.written left rest (entry_at-is left (c.in_ok-written.written, rest) c.in_ok-written.ensures.read)
+    entry_written c.in_ok-written.written left rest (entry_at-is left (c.in_ok-written.written, rest) c.in_ok-written.ensures.read)
 
 pub loop-left-preserved-in_ok-reading : goal.loop-left-preserved-in_ok-reading
 loop-left-preserved-in_ok-reading c =
