@@ -1,9 +1,10 @@
 //! A function of a module, check by check.
 
-ghost use Rattle.std.specs.Prelude.{List as Seq, IfOk, IfErr};
+ghost use Rattle.std.specs.Prelude.{List as Seq, IfOk, OnOk, IfErr};
 ghost use Rattle.ir_tokens.specs.declared.raw.RawFunction.{RawFunction as written_function};
-ghost use Rattle.ir_resolve.specs.Faults.{MarksFunction};
+ghost use Rattle.ir_resolve.specs.Faults.{MarksFunction, HasNoFault};
 ghost use Rattle.ir_resolve.specs.Formed.{IsWellWritten};
+ghost use Rattle.ir_resolve.specs.Means.{Means};
 ghost use Rattle.refusal.specs.Refusals.{IfRefused};
 ghost use Rattle.ir_reader.specs.Faults.{IsFunctionOf, IsFaultOfFunction};
 
@@ -29,16 +30,26 @@ pub(crate) fn function(
     ensures refused { IfErr result (λ e. IfRefused e (λ fault. (earlier : Seq written_function) → MarksFunction is_repeated earlier raw.now → IsFaultOfFunction earlier raw.now fault)) }
 {
     let f = resolve(alloc, raw, is_repeated)?;
-    if !is_countable(&f) {
+    check(alloc, raw, &f)?;
+    Ok(f)
+}
+
+/// Checks the function that is meant, where what is written has no fault of names or types.
+fn check(alloc: Global, raw: &RawFunction, f: &Function) -> Result<(), IrError>
+    requires written { IsWellWritten raw.now }
+    requires means { Means raw.now f.now }
+    ensures ok { OnOk result ((earlier : Seq written_function) → HasNoFault earlier raw.now → IsFunctionOf earlier raw.now f.now) }
+    ensures refused { IfErr result (λ e. IfRefused e (λ fault. (earlier : Seq written_function) → HasNoFault earlier raw.now → IsFaultOfFunction earlier raw.now fault)) }
+{
+    if !is_countable(f) {
         return Err(IrError::NoMemory);
     }
-    let predecessors = predecessors(alloc, &f)?;
-    if let Some(line) = bad_phi(alloc, predecessors.as_slice(), raw, &f)? {
+    let predecessors = predecessors(alloc, f)?;
+    if let Some(line) = bad_phi(alloc, predecessors.as_slice(), raw, f)? {
         return Err(refused(line, IrFaultKind::BadPhi));
     }
     if let Some(line) = named_entry(predecessors.as_slice(), raw) {
         return Err(refused(line, IrFaultKind::EntryPred));
     }
-    check_reads(alloc, raw, &f)?;
-    Ok(f)
+    check_reads(alloc, raw, f)
 }
