@@ -10,7 +10,7 @@ use Rattle.rule_matches.specs.Ready.{AreReady}
 use Rattle.verdict.specs.declared.verdict.Row.{Row}
 use Rattle.ir_round_trip.specs.Laws.{CleanedFunctionsHaveForms}
 use Rattle.ir_text.specs.Forms.{FunctionHasForms, EntryHasForms}
-use Rattle.strategy.specs.Asked.{Pair}
+use Rattle.asked_verdicts.specs.Asked.{Pair}
 use Rattle.strategy.specs.PlainStrategy.{AreOptimised, none, kept, function}
 use Rattle.strategy.proofs.Refining.{PartLaws, IsKept, strategy_keeps}
 use Rattle.optimised_forms.specs.Laws.{OptimisedModulesHaveForms, RewrittenFunctionsHaveForms}

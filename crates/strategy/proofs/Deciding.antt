@@ -10,7 +10,7 @@ use Rattle.ir_core.specs.declared.function.Function.{Function}
 use Rattle.rule_core.specs.declared.rule.Rule.{Rule}
 use Rattle.verdict.specs.declared.verdict.Row.{Row}
 use Rattle.rule_matches.specs.declared.matches.Match.{Match}
-use Rattle.strategy.specs.Asked.{Pair, pair_of, pair_in, IsAdmitted, IsTurnedDown}
+use Rattle.asked_verdicts.specs.Asked.{Pair, pair_of, pair_in, IsAdmitted, IsTurnedDown}
 use Rattle.strategy.specs.PlainStrategy.{IsOptimised, AreOptimised, none, kept, function}
 use Rattle.strategy.specs.Decided.{IsDecided, function_in}
 use Rattle.strategy.specs.Laws.{StrategyDecides}

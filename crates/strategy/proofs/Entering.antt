@@ -1,6 +1,6 @@
 -- One entry after the other, up to what the strategy gives for a module.
-use Rattle.std.proofs.Common.{◌≡◌, ℕ, ◌+◌, ◌<◌, Bool, List, [], ◌∷◌, ◌++◌, length, take, get_or, Some, refl, sym, subst, ◌∙◌, append_assoc, append-nil, arith}
-use Rattle.std.specs.Prelude.{slice_get, map, All, Contains}
+use Rattle.std.proofs.Common.{◌≡◌, ℕ, ◌+◌, ◌<◌, Bool, List, [], ◌∷◌, ◌++◌, length, take, get_or, refl, sym, ap, subst, ◌∙◌, append_assoc, append-nil, arith}
+use Rattle.std.specs.Prelude.{map, All, Contains}
 use Rattle.std.proofs.lemmas.List.{take_more}
 use Rattle.std.proofs.lemmas.Option.{same_Some}
 use Rattle.std.proofs.lemmas.List.Elements.{All-contains}
@@ -21,15 +21,16 @@ use Rattle.verdict.specs.Table.{IsHonestRow, IsHonestTable}
 use Rattle.verdict.specs.declared.verdict.Row.{Row}
 use Rattle.verdict.specs.declared.verdict.Verdict.{Verdict}
 use Rattle.strategy.specs.declared.module.Counts.{Counts}
-use Rattle.strategy.specs.declared.verdicts.Verdicts.{Verdicts}
-use Rattle.strategy.specs.Asked.{Pair, pair_in, AreFirstAsked}
+use Rattle.asked_verdicts.specs.declared.verdicts.Verdicts.{Verdicts}
+use Rattle.asked_verdicts.specs.Asked.{Pair, pair_in, AreFirstAsked}
 use Rattle.strategy.specs.Countable.{ModuleIsCountable}
-use Rattle.strategy.specs.Entries.{EntryIsReady, OptimisesEntry}
+use Rattle.strategy.specs.Entries.{EntriesAreReady, OptimisesEntries, OptimisesEntry}
 use Rattle.strategy.specs.Laws.{AdmittedAreValid, ModuleNumbersFit}
 use Rattle.strategy.specs.PlainStrategy.{AreOptimised, none, kept, function, IsPlainStrategy}
-use Rattle.strategy.specs.Searches.{AreVerdictsOn, Asks, OptimisesFunction}
+use Rattle.asked_verdicts.specs.Asks.{AreVerdictsOn, Asks}
+use Rattle.strategy.specs.Searches.{OptimisesFunction}
 use Rattle.strategy.proofs.Growing.{entries_stay}
-use Rattle.strategy.proofs.Sequence.{asks_nothing, asks_both, row_stays}
+use Rattle.asked_verdicts.proofs.Sequence.{asks_nothing, asks_both, row_stays}
 
 -- before anything is asked
 pub nothing_asked : AreFirstAsked [] []
@@ -41,7 +42,7 @@ nothing_asked = record {
 
 -- what is required of the module is known of each entry
 pub each_ready : (steps : ℕ) (m : Module) → ModuleMeetsChecks m → ModuleNumbersFit m → ModuleIsCountable steps m
-    → (place : ℕ) (e : Entry) → slice_get m.entries place ≡ Some e → EntryIsReady steps e
+    → EntriesAreReady steps m.entries
 each_ready steps m meets fit countable place (entries.Kept line) at = tt
 each_ready steps m meets fit countable place (entries.Function f) at = (meets.functions place f at, fit place f at, countable place f at)
 
@@ -106,36 +107,46 @@ module _ (rules : List Rule) where
   }
 
   -- the first entries have been taken in turn
-  pub record Entered (conflicts steps place : ℕ) (old new : List Entry) (before now : Verdicts) (counts : List ℕ) (limited : List Bool) : Type 0 where
-    pub pairs : List Pair
-    pub asks : Asks rules conflicts pairs before now
-    pub optimised : AreOptimised rules now.table steps (take place old) new counts limited pairs
+  pub none_entered : (conflicts steps : ℕ) (before : Verdicts) (all : Counts) → OptimisesEntries rules conflicts steps [] [] before before all all
+  none_entered conflicts steps before all = record {
+    pairs = [];
+    counts = [];
+    limited = [];
+    asks = asks_nothing rules conflicts before;
+    optimised = none;
+    counts_added = sym (append-nil all.counts);
+    limited_added = sym (append-nil all.limited);
+  }
 
-  pub none_entered : (conflicts steps : ℕ) (old : List Entry) (before : Verdicts) → Entered conflicts steps 0 old [] before before [] []
-  none_entered conflicts steps old before = record { pairs = []; asks = asks_nothing rules conflicts before; optimised = none }
-
-  pub one_entered : (conflicts steps place : ℕ) (old new : List Entry) (d e : Entry) (before now after : Verdicts) (all all' : Counts)
-      → place < length old → Entered conflicts steps place old new before now all.counts all.limited
+  pub one_entered : (conflicts steps place : ℕ) (old made : List Entry) (d e : Entry) (before now after : Verdicts) (first all all' : Counts)
+      → place < length old → OptimisesEntries rules conflicts steps (take place old) made before now first all
       → OptimisesEntry rules conflicts steps (get_or old place d) e now after all all'
-      → Entered conflicts steps (place + 1) old (new ++ e ∷ []) before after all'.counts all'.limited
-  one_entered conflicts steps place old new d e before now after all all' within so_far one =
-      let first = entries_stay rules now.table after.table (row_stays rules conflicts one.pairs now after one.asks) so_far.optimised in
-      let both = optimised_append first one.optimised in
+      → OptimisesEntries rules conflicts steps (take (place + 1) old) (made ++ e ∷ []) before after first all'
+  one_entered conflicts steps place old made d e before now after first all all' within so_far one =
+      let stays = entries_stay rules now.table after.table (row_stays rules conflicts one.pairs now after one.asks) so_far.optimised in
       record {
         pairs = so_far.pairs ++ one.pairs;
+        counts = so_far.counts ++ one.counts;
+        limited = so_far.limited ++ one.limited;
         asks = asks_both rules conflicts so_far.pairs one.pairs before now after so_far.asks one.asks;
         optimised =
-            subst (λ (l : List Entry). AreOptimised rules after.table steps l (new ++ e ∷ []) all'.counts all'.limited (so_far.pairs ++ one.pairs)) (sym (take_more old place d within))
-            (subst (λ (l : List ℕ). AreOptimised rules after.table steps (take place old ++ get_or old place d ∷ []) (new ++ e ∷ []) l all'.limited (so_far.pairs ++ one.pairs)) (sym one.counts_added)
-            (subst (λ (l : List Bool). AreOptimised rules after.table steps (take place old ++ get_or old place d ∷ []) (new ++ e ∷ []) (all.counts ++ one.counts) l (so_far.pairs ++ one.pairs)) (sym one.limited_added) both));
+            subst (λ (l : List Entry). AreOptimised rules after.table steps l (made ++ e ∷ []) (so_far.counts ++ one.counts) (so_far.limited ++ one.limited) (so_far.pairs ++ one.pairs))
+            (sym (take_more old place d within)) (optimised_append stays one.optimised);
+        counts_added = one.counts_added ∙ (ap (λ (l : List ℕ). l ++ one.counts) so_far.counts_added ∙ append_assoc first.counts so_far.counts one.counts);
+        limited_added = one.limited_added ∙ (ap (λ (l : List Bool). l ++ one.limited) so_far.limited_added ∙ append_assoc first.limited so_far.limited one.limited);
       }
 
   -- all have: this is what the strategy gives, by its own table
-  pub given : (conflicts steps : ℕ) (old new : Module) (before now : Verdicts) (counts : List ℕ) (limited : List Bool) (place : ℕ)
-      → take place old.entries ≡ old.entries → AreVerdictsOn rules conflicts [] before → Entered conflicts steps place old.entries new.entries before now counts limited
-      → IsPlainStrategy rules steps now.table old new counts limited
-  given conflicts steps old new before now counts limited place whole first entered = record {
-    asked = entered.pairs;
-    entries = subst (λ (l : List Entry). AreOptimised rules now.table steps l new.entries counts limited entered.pairs) whole entered.optimised;
-    rows = (entered.asks.asked [] first).rows;
-  }
+  pub given : (conflicts steps : ℕ) (old new : Module) (before now : Verdicts) (first all : Counts) → first.counts ≡ [] → first.limited ≡ []
+      → AreVerdictsOn rules conflicts [] before → OptimisesEntries rules conflicts steps old.entries new.entries before now first all
+      → IsPlainStrategy rules steps now.table old new all.counts all.limited
+  given conflicts steps old new before now first all no_counts none_limited nothing made =
+      let counts : all.counts ≡ made.counts = made.counts_added ∙ ap (λ (l : List ℕ). l ++ made.counts) no_counts in
+      let limited : all.limited ≡ made.limited = made.limited_added ∙ ap (λ (l : List Bool). l ++ made.limited) none_limited in
+      record {
+        asked = made.pairs;
+        entries =
+            subst (λ (l : List ℕ). AreOptimised rules now.table steps old.entries new.entries l all.limited made.pairs) (sym counts)
+            (subst (λ (l : List Bool). AreOptimised rules now.table steps old.entries new.entries made.counts l made.pairs) (sym limited) made.optimised);
+        rows = (made.asks.asked [] nothing).rows;
+      }

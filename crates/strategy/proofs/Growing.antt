@@ -1,4 +1,4 @@
--- What a table of verdicts says stays true as it grows.
+-- What the strategy gives by a table of verdicts it gives by a larger one.
 use Rattle.std.proofs.Common.{◌≡◌, ℕ, ◌-◌, Bool, true, false, List}
 use Rattle.std.specs.Prelude.{All, Any, Contains, MatchBool}
 use Rattle.ir_core.specs.declared.module.Entry.{Entry}
@@ -6,30 +6,19 @@ use Rattle.ir_core.specs.declared.function.Function.{Function}
 use Rattle.rule_core.specs.declared.rule.Rule.{Rule}
 use Rattle.verdict.specs.declared.verdict.Row.{Row}
 use Rattle.rule_matches.specs.declared.matches.Match.{Match}
-use Rattle.strategy.specs.Asked.{Pair, IsAdmitted, IsTurnedDown}
+use Rattle.asked_verdicts.specs.Asked.{Pair, IsAdmitted, IsTurnedDown}
+use Rattle.asked_verdicts.proofs.Growing.{admitted_stays, all_turned_down_stay, any_admitted_stays}
 use Rattle.strategy.specs.PlainStrategy.{IsStep, ComesOf, itself, by_step, IsLastSearch, IsOptimised, AreOptimised, none, kept, function}
 
 module _ (rules : List Rule) (table larger : List Row) (grows : (row : Row) → Contains table row → Contains larger row) where
-  pub admitted_stays : (m : Match) → IsAdmitted table m → IsAdmitted larger m
-  admitted_stays m h = (h.0, grows h.0 h.1, h.2, h.3)
-
-  pub turned_down_stays : (m : Match) → IsTurnedDown table m → IsTurnedDown larger m
-  turned_down_stays m h = (h.0, grows h.0 h.1, h.2, h.3)
-
-  pub all_turned_down_stay : (ms : List Match) → All (IsTurnedDown table) ms → All (IsTurnedDown larger) ms
-  all_turned_down_stay ms all k d lt = (let h = all k d lt in (h.0, grows h.0 h.1, h.2, h.3))
-
-  pub any_admitted_stays : (ms : List Match) → Any (IsAdmitted table) ms → Any (IsAdmitted larger) ms
-  any_admitted_stays ms (k, m, within, is, h) = (k, m, within, is, admitted_stays m h)
-
   pub step_stays : (f new : Function) (asked : List Pair) → IsStep rules table f new asked → IsStep rules larger f new asked
   step_stays f new asked s = record {
     passed = s.passed;
     chosen = s.chosen;
     later = s.later;
     matches = s.matches;
-    turned_down = all_turned_down_stay s.passed s.turned_down;
-    admitted = admitted_stays s.chosen s.admitted;
+    turned_down = all_turned_down_stay rules table larger grows s.passed s.turned_down;
+    admitted = admitted_stays rules table larger grows s.chosen s.admitted;
     asks = s.asks;
     is_match = s.is_match;
     rewritten = s.rewritten;
@@ -43,8 +32,8 @@ module _ (rules : List Rule) (table larger : List Row) (grows : (row : Row) → 
 
   ends_stay : (left : ℕ) (limited : Bool) (ms : List Match) → MatchBool limited ((left ≡ 0) × Any (IsAdmitted table) ms) (All (IsTurnedDown table) ms)
       → MatchBool limited ((left ≡ 0) × Any (IsAdmitted larger) ms) (All (IsTurnedDown larger) ms)
-  ends_stay left true ms h = (h.0, any_admitted_stays ms h.1)
-  ends_stay left false ms h = all_turned_down_stay ms h
+  ends_stay left true ms h = (h.0, any_admitted_stays rules table larger grows ms h.1)
+  ends_stay left false ms h = all_turned_down_stay rules table larger grows ms h
 
   pub last_stays : (left : ℕ) (f : Function) (limited : Bool) (asked : List Pair) → IsLastSearch rules table left f limited asked → IsLastSearch rules larger left f limited asked
   last_stays left f limited asked s = record { matches = s.matches; are_matches = s.are_matches; asks = s.asks; ends = ends_stay left limited s.matches s.ends }

@@ -2,10 +2,6 @@ pub mod Numbers
 pub mod Refining
 pub mod Deciding
 pub mod Growing
-pub mod Asking
 pub mod Sizes
-pub mod Sequence
 pub mod Stepping
 pub mod Entering
-pub mod Keeping
-pub mod Passing

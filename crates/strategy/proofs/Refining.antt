@@ -17,7 +17,7 @@ use Rattle.verdict.specs.declared.verdict.Row.{Row}
 use Rattle.rewriter.specs.Applied.{IsRewritten}
 use Rattle.rewriter.specs.Laws.{RewrittenFunctionsRefine, RewrittenFunctionsMeetChecks, RewrittenNumbersFit}
 use Rattle.rule_matches.specs.declared.matches.Match.{Match}
-use Rattle.strategy.specs.Asked.{Pair, pair_of, pair_in, IsAdmitted}
+use Rattle.asked_verdicts.specs.Asked.{Pair, pair_of, pair_in, IsAdmitted}
 use Rattle.rule_matches.specs.Matches.{IsMatchAmong}
 use Rattle.strategy.specs.PlainStrategy.{IsStep, ComesOf, itself, by_step, IsOptimised, AreOptimised, none, kept, function, IsPlainStrategy}
 use Rattle.strategy.specs.Laws.{AdmittedAreValid, ModuleNumbersFit, CleanedNumbersFit, StrategyMeetsChecks, StrategyNumbersFit, StrategyRefines}

@@ -12,16 +12,17 @@ use Rattle.needed.specs.Cleaned.{IsCleaned}
 use Rattle.rewriter.specs.Applied.{IsRewritten}
 use Rattle.verdict.specs.declared.verdict.Row.{Row}
 use Rattle.rule_matches.specs.declared.matches.Match.{Match}
-use Rattle.strategy.specs.declared.verdicts.Verdicts.{Verdicts}
-use Rattle.strategy.specs.Asked.{Pair, pair_of, IsAdmitted, IsTurnedDown}
+use Rattle.asked_verdicts.specs.declared.verdicts.Verdicts.{Verdicts}
+use Rattle.asked_verdicts.specs.Asked.{Pair, pair_of, IsAdmitted, IsTurnedDown}
 use Rattle.strategy.specs.Countable.{IsCountable}
 use Rattle.rule_matches.specs.Matches.{IsMatchAmong, AreMatches}
 use Rattle.strategy.specs.PlainStrategy.{IsStep, ComesOf, itself, by_step, IsLastSearch}
-use Rattle.strategy.specs.Searches.{Asks, AsksToFirst, StepsOrEnds, OptimisesFunction}
+use Rattle.asked_verdicts.specs.Asks.{Asks, AsksToFirst}
+use Rattle.strategy.specs.Searches.{StepsOrEnds, OptimisesFunction}
 use Rattle.strategy.proofs.Growing.{steps_stay}
 use Rattle.rule_matches.specs.Ready.{AreReady}
 use Rattle.strategy.proofs.Sizes.{cleaned_countable, rewritten_countable}
-use Rattle.strategy.proofs.Sequence.{asks_nothing, asks_both, row_stays}
+use Rattle.asked_verdicts.proofs.Sequence.{asks_nothing, asks_both, row_stays}
 
 -- a list before a place, what stands there, and what is behind it
 split_there : {X : Type 0} (xs : List X) (k : ℕ) (x : X) → slice_get xs k ≡ Some x → take k xs ++ x ∷ drop (suc k) xs ≡ xs

@@ -1,28 +1,37 @@
--- What becomes of one entry of a module.
-use Rattle.std.specs.Prelude.{◌≡◌, ℕ, Bool, List, [], ◌∷◌, ◌++◌}
+-- What becomes of the entries of a module.
+use Rattle.std.specs.Prelude.{◌≡◌, ℕ, Bool, List, [], ◌∷◌, ◌++◌, Some, slice_get}
 use Rattle.ir_core.specs.declared.module.Entry.{Entry}
 use Rattle.ir_core.specs.declared.module.Entry.TheVariants as entries
 use Rattle.ir_core.specs.Checks.{MeetsChecks}
 use Rattle.rule_core.specs.declared.rule.Rule.{Rule}
 use Rattle.run_history.specs.Laws.{NumbersFit}
 use Rattle.strategy.specs.declared.module.Counts.{Counts}
-use Rattle.strategy.specs.declared.verdicts.Verdicts.{Verdicts}
-use Rattle.strategy.specs.Asked.{Pair}
+use Rattle.asked_verdicts.specs.declared.verdicts.Verdicts.{Verdicts}
+use Rattle.asked_verdicts.specs.Asked.{Pair}
 use Rattle.strategy.specs.Countable.{IsCountable}
 use Rattle.strategy.specs.PlainStrategy.{AreOptimised}
-use Rattle.strategy.specs.Searches.{Asks}
+use Rattle.asked_verdicts.specs.Asks.{Asks}
 
 -- if the entry is a function, it meets its checks, its numbers are of their widths, and what stands in it is counted
 abbrev pub EntryIsReady : ℕ → Entry → Type 0
 EntryIsReady steps (entries.Kept line) = Unit {0}
 EntryIsReady steps (entries.Function f) = MeetsChecks f × NumbersFit f × IsCountable steps f
 
--- the new entry stands in the place of the old one, and its count is added, and whether it is limited, if it is a function
-pub record OptimisesEntry (rules : List Rule) (conflicts steps : ℕ) (old new : Entry) (before after : Verdicts) (all all' : Counts) : Type 0 where
+-- so it is of each of these entries
+abbrev pub EntriesAreReady : ℕ → List Entry → Type 0
+EntriesAreReady steps entries = (place : ℕ) (e : Entry) → slice_get entries place ≡ Some e → EntryIsReady steps e
+
+-- The new entries stand in the place of the old ones. Of each that is a function its count is added, and whether it is limited.
+pub record OptimisesEntries (rules : List Rule) (conflicts steps : ℕ) (old new : List Entry) (before after : Verdicts) (all all' : Counts) : Type 0 where
   pub pairs : List Pair
   pub counts : List ℕ
   pub limited : List Bool
   pub asks : Asks rules conflicts pairs before after
-  pub optimised : AreOptimised rules after.table steps (old ∷ []) (new ∷ []) counts limited pairs
+  pub optimised : AreOptimised rules after.table steps old new counts limited pairs
   pub counts_added : all'.counts ≡ all.counts ++ counts
   pub limited_added : all'.limited ≡ all.limited ++ limited
+
+-- the same of one entry
+abbrev pub OptimisesEntry : List Rule → ℕ → ℕ → Entry → Entry → Verdicts → Verdicts → Counts → Counts → Type 0
+OptimisesEntry rules conflicts steps old new before after all all' =
+    OptimisesEntries rules conflicts steps (old ∷ []) (new ∷ []) before after all all'

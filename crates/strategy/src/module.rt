@@ -1,6 +1,6 @@
 //! What the plain strategy gives for a module.
 
-ghost use Rattle.std.specs.Prelude.{◌≡◌, ◌<◌, ◌≤◌, ◌^◌, [], length, All, IfOk};
+ghost use Rattle.std.specs.Prelude.{◌≡◌, ◌<◌, ◌≤◌, ◌^◌, [], ◌∷◌, ◌++◌, length, All, IfOk, OnOk};
 ghost use Rattle.ir_core.specs.Checks.{ModuleMeetsChecks};
 ghost use Rattle.ir_core.specs.Refines.{ModuleRefines};
 ghost use Rattle.rule_core.specs.Checks.{IsRule};
@@ -10,17 +10,17 @@ ghost use Rattle.verdict.specs.Limits.{most_conflicts};
 ghost use Rattle.verdict.specs.Table.{IsHonestTable};
 ghost use Rattle.strategy.specs.Countable.{ModuleIsCountable};
 ghost use Rattle.strategy.specs.Decided.{MatchesAreDecided};
-ghost use Rattle.strategy.specs.Entries.{EntryIsReady, OptimisesEntry};
+ghost use Rattle.strategy.specs.Entries.{EntriesAreReady, EntryIsReady, OptimisesEntries, OptimisesEntry};
 ghost use Rattle.strategy.specs.Laws.{ModuleNumbersFit};
 ghost use Rattle.rule_matches.specs.Ready.{AreReady};
 ghost use Rattle.strategy.specs.PlainStrategy.{IsPlainStrategy};
 ghost use Rattle.rule_matches.specs.Roots.{AreByRoot};
-ghost use Rattle.strategy.specs.Searches.{AreVerdicts};
+ghost use Rattle.asked_verdicts.specs.Asks.{AreVerdicts};
 
 use crate::laws::{every_match_left_is_decided, every_optimised_module_refines_the_old};
-use crate::steps::{Bounds, optimise_function};
-use crate::verdicts::Verdicts;
-use ir_core::{Entry, Module, copy_function};
+use crate::steps::{Bounds, Turns, optimise_function};
+use asked_verdicts::Verdicts;
+use ir_core::{Entry, Function, Module, copy_function};
 use lists::List;
 use rule_core::Rule;
 use rule_matches::{Rules, RulesByRoot};
@@ -77,14 +77,28 @@ pub fn optimise(
         all: rules,
         by_root: &by_root,
     };
+    let done = plain_strategy(alloc, module, &rules, Bounds { conflicts, steps })?;
+    Ok(done)
+}
+
+/// What the plain strategy gives for a module, and the verdicts that it asked for.
+fn plain_strategy(
+    alloc: Global,
+    module: &Module,
+    rules: &Rules<'_>,
+    bounds: Bounds,
+) -> Result<Done, AllocError>
+    requires entries { EntriesAreReady bounds.steps module.now.entries }
+    requires ready { AreReady rules.now.all.now }
+    requires by_root { AreByRoot rules.now.all.now rules.now.by_root.now }
+    requires conflicts { bounds.conflicts ≤ most_conflicts }
+    ensures strategy { IfOk result (λ done. IsPlainStrategy rules.now.all.now bounds.steps done.table module.now done.module done.counts done.limited) }
+    ensures honest { IfOk result (λ done. IsHonestTable rules.now.all.now bounds.conflicts done.table) }
+{
     let mut verdicts = Verdicts::new(alloc);
-    let mut entries = List::new(alloc);
     let mut turns = Counts::new(alloc);
-    let bounds = Bounds { conflicts, steps };
-    for entry in module.entries.as_slice() {
-        let optimised = optimise_entry(alloc, entry, &rules, &mut verdicts, bounds, &mut turns)?;
-        entries.push(optimised)?;
-    }
+    let read = module.entries.as_slice();
+    let entries = optimise_entries(alloc, read, rules, &mut verdicts, bounds, &mut turns)?;
     Ok(Done {
         module: Module { entries },
         table: verdicts.table,
@@ -111,6 +125,40 @@ impl Counts {
             limited: List::new(alloc),
         }
     }
+
+    /// Adds those of one more function.
+    fn push(&mut self, turns: Turns) -> Result<(), AllocError>
+        ensures counts { OnOk result (self.new.counts ≡ self.old.counts ++ turns.count ∷ []) }
+        ensures limited { OnOk result (self.new.limited ≡ self.old.limited ++ turns.limited ∷ []) }
+    {
+        self.counts.push(turns.count)?;
+        self.limited.push(turns.limited)?;
+        Ok(())
+    }
+}
+
+/// What the strategy gives for entries, in order.
+fn optimise_entries(
+    alloc: Global,
+    entries: &[Entry],
+    rules: &Rules<'_>,
+    verdicts: &mut Verdicts,
+    bounds: Bounds,
+    all: &mut Counts,
+) -> Result<List<Entry>, AllocError>
+    requires entries { EntriesAreReady bounds.steps entries.now }
+    requires ready { AreReady rules.now.all.now }
+    requires by_root { AreByRoot rules.now.all.now rules.now.by_root.now }
+    requires conflicts { bounds.conflicts ≤ most_conflicts }
+    requires verdicts { AreVerdicts rules.now.all.now bounds.conflicts verdicts.old }
+    ensures { IfOk result (λ made. OptimisesEntries rules.now.all.now bounds.conflicts bounds.steps entries.now made verdicts.old verdicts.new all.old all.new) }
+{
+    let mut made = List::new(alloc);
+    for entry in entries {
+        let optimised = optimise_entry(alloc, entry, rules, verdicts, bounds, all)?;
+        made.push(optimised)?;
+    }
+    Ok(made)
 }
 
 /// What the strategy gives for an entry: a kept line stays.
@@ -135,11 +183,30 @@ fn optimise_entry(
             line.as_slice(),
         )?))),
         Entry::Function(old) => {
-            let mut f = copy_function(alloc, old)?;
-            let turns = optimise_function(alloc, &mut f, rules, verdicts, bounds)?;
-            all.counts.push(turns.count)?;
-            all.limited.push(turns.limited)?;
-            Ok(Entry::Function(f))
+            let optimised = optimise_copy(alloc, old, rules, verdicts, bounds, all)?;
+            Ok(Entry::Function(optimised))
         }
     }
+}
+
+/// What the strategy gives for a function.
+fn optimise_copy(
+    alloc: Global,
+    original: &Function,
+    rules: &Rules<'_>,
+    verdicts: &mut Verdicts,
+    bounds: Bounds,
+    all: &mut Counts,
+) -> Result<Function, AllocError>
+    requires entry { EntryIsReady bounds.steps (Entry.Function original.now) }
+    requires ready { AreReady rules.now.all.now }
+    requires by_root { AreByRoot rules.now.all.now rules.now.by_root.now }
+    requires conflicts { bounds.conflicts ≤ most_conflicts }
+    requires verdicts { AreVerdicts rules.now.all.now bounds.conflicts verdicts.old }
+    ensures { IfOk result (λ made. OptimisesEntry rules.now.all.now bounds.conflicts bounds.steps (Entry.Function original.now) (Entry.Function made) verdicts.old verdicts.new all.old all.new) }
+{
+    let mut f = copy_function(alloc, original)?;
+    let turns = optimise_function(alloc, &mut f, rules, verdicts, bounds)?;
+    all.push(turns)?;
+    Ok(f)
 }

@@ -10,10 +10,10 @@ ghost use Rattle.strategy.specs.Countable.{IsCountable};
 ghost use Rattle.rule_matches.specs.Matches.{IsMatchAmong};
 ghost use Rattle.rule_matches.specs.Ready.{AreReady};
 ghost use Rattle.rule_matches.specs.Roots.{AreByRoot};
-ghost use Rattle.strategy.specs.Searches.{AreVerdicts, OptimisesFunction, StepsOrEnds};
+ghost use Rattle.asked_verdicts.specs.Asks.{AreVerdicts};
+ghost use Rattle.strategy.specs.Searches.{OptimisesFunction, StepsOrEnds};
 
-use crate::searching::{any_admitted, first_admitted};
-use crate::verdicts::Verdicts;
+use asked_verdicts::{Verdicts, any_admitted, first_admitted};
 use ir_core::Function;
 use needed::{clean, every_cleaned_function_refines_the_old, every_cleaned_number_was_there};
 use rewriter::{apply, rewritten_functions_meet_checks};

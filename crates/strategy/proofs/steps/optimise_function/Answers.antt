@@ -1,9 +1,9 @@
 use Rattle.std.proofs.Common.{◌≡◌, ℕ, ◌-◌, true, false, map, sym, subst, arith}
 use Rattle.ir_core.specs.declared.function.Function.{Function}
 use Rattle.rule_matches.specs.Matches.{AreMatches}
-use Rattle.strategy.specs.Asked.{pair_of}
+use Rattle.asked_verdicts.specs.Asked.{pair_of}
 use Rattle.strategy.specs.Searches.{StepsOrEnds, OptimisesFunction}
-use Rattle.strategy.proofs.Sequence.{still_verdicts}
+use Rattle.asked_verdicts.proofs.Sequence.{still_verdicts}
 use Rattle.strategy.proofs.Sizes.{cleaned_countable}
 use Rattle.strategy.proofs.Stepping.{Along, no_step_yet, one_step_more, all_searched, at_the_limit}
 use Rattle.strategy.proofs.steps.optimise_function.Goals as goal

@@ -6,8 +6,8 @@ use Rattle.ir_meaning.proofs.Pieces.{contains_at}
 use Rattle.rule_core.specs.declared.rule.Rule.{Rule}
 use Rattle.rule_matches.specs.Matches.{IsMatchAmong, AreMatches}
 use Rattle.rule_matches.specs.declared.matches.Match.{Match}
-use Rattle.strategy.specs.Searches.{AsksToFirst}
-use Rattle.strategy.specs.declared.verdicts.Verdicts.{Verdicts}
+use Rattle.asked_verdicts.specs.Asks.{AsksToFirst}
+use Rattle.asked_verdicts.specs.declared.verdicts.Verdicts.{Verdicts}
 use Rattle.strategy.proofs.Sizes.{few_insts, rewritten_countable}
 use Rattle.strategy.proofs.Stepping.{step_made, search_ended}
 use Rattle.strategy.proofs.steps.step.Goals as goal

@@ -1,0 +1,20 @@
+-- What a table of verdicts says stays true as it grows.
+use Rattle.std.proofs.Common.{List}
+use Rattle.std.specs.Prelude.{All, Any, Contains}
+use Rattle.rule_core.specs.declared.rule.Rule.{Rule}
+use Rattle.verdict.specs.declared.verdict.Row.{Row}
+use Rattle.rule_matches.specs.declared.matches.Match.{Match}
+use Rattle.asked_verdicts.specs.Asked.{IsAdmitted, IsTurnedDown}
+
+module _ (rules : List Rule) (table larger : List Row) (grows : (row : Row) → Contains table row → Contains larger row) where
+  pub admitted_stays : (m : Match) → IsAdmitted table m → IsAdmitted larger m
+  admitted_stays m h = (h.0, grows h.0 h.1, h.2, h.3)
+
+  pub turned_down_stays : (m : Match) → IsTurnedDown table m → IsTurnedDown larger m
+  turned_down_stays m h = (h.0, grows h.0 h.1, h.2, h.3)
+
+  pub all_turned_down_stay : (ms : List Match) → All (IsTurnedDown table) ms → All (IsTurnedDown larger) ms
+  all_turned_down_stay ms all k d lt = (let h = all k d lt in (h.0, grows h.0 h.1, h.2, h.3))
+
+  pub any_admitted_stays : (ms : List Match) → Any (IsAdmitted table) ms → Any (IsAdmitted larger) ms
+  any_admitted_stays ms (k, m, within, is, h) = (k, m, within, is, admitted_stays m h)

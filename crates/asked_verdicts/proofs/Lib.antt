@@ -1,0 +1,5 @@
+pub mod Growing
+pub mod Asking
+pub mod Sequence
+pub mod Keeping
+pub mod Passing

@@ -1,0 +1,18 @@
+use Rattle.std.proofs.Common.{◌≡◌, subst}
+use Rattle.ir_core.specs.declared.function.Function.{Function}
+use Rattle.strategy.specs.Searches.{OptimisesFunction}
+use Rattle.strategy.proofs.Entering.{entry_optimised}
+use Rattle.strategy.proofs.module.optimise_copy.Goals as goal
+
+pub returns : goal.returns
+returns c =
+    let rules = c.args.rules.now.all.now in
+    let bounds = c.args.bounds in
+    let made = c.optimise_function.new.f in
+    let before = c.args.verdicts.now in
+    let after = c.optimise_function.new.verdicts in
+    let turns = c.in_ok-turns.turns in
+    let same : c.in_ok-f.f ≡ c.args.original.now = c.in_ok-f.ensures in
+    entry_optimised rules bounds.conflicts bounds.steps c.args.original.now made before after c.args.all.now c.push.new.self turns.count turns.limited
+    (subst (λ (f : Function). OptimisesFunction rules bounds.conflicts bounds.steps f made before after turns.count turns.limited) same c.in_ok-turns.ensures)
+    c.in_ok-push.ensures.counts c.in_ok-push.ensures.limited
