@@ -1,5 +1,9 @@
-//! Tests of the whole program: how commands end over files and sinks in memory, and what they write.
+//! Tests of the whole program: how commands end over files and sinks in memory, and what they write; and a caller over files and sinks
+//! that never fail.
 #![tactic(auto)]
 
+mod sure;
 #[cfg(test)]
 mod tests;
+
+pub use sure::sure_status;

@@ -2,12 +2,14 @@
 
 mod faults;
 mod loads;
+mod long_words;
 mod modules;
 mod refused;
 mod rewriting;
 mod rows;
 mod rules;
 mod running;
+mod sure;
 mod texts;
 
 use running::{World, run, world_of};

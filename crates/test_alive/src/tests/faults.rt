@@ -13,7 +13,7 @@ struct FaultyRow {
     row: Row,
 }
 
-const ROWS: [FaultyRow; 10] = [
+const ROWS: [FaultyRow; 16] = [
     FaultyRow {
         read: None,
         out: Some(FailingPut { number: 0, most: 3 }),
@@ -77,6 +77,85 @@ const ROWS: [FaultyRow; 10] = [
             status: 6,
             out: NOT_ADD_WRITTEN,
             err: "not-",
+        },
+    },
+    // where a rule rewrites the module: each read fails in turn, and then each put, at other bytes
+    FaultyRow {
+        read: Some(0),
+        out: None,
+        err: None,
+        row: Row {
+            words: OPTIMISE,
+            rules: NOT_ADD,
+            source: NOT_ADD_SOURCE,
+            status: 5,
+            out: "",
+            err: "read fault: r\n",
+        },
+    },
+    FaultyRow {
+        read: Some(1),
+        out: None,
+        err: None,
+        row: Row {
+            words: OPTIMISE,
+            rules: NOT_ADD,
+            source: NOT_ADD_SOURCE,
+            status: 5,
+            out: "",
+            err: "read fault: m\n",
+        },
+    },
+    FaultyRow {
+        read: Some(0),
+        out: None,
+        err: Some(FailingPut { number: 0, most: 3 }),
+        row: Row {
+            words: OPTIMISE,
+            rules: NOT_ADD,
+            source: NOT_ADD_SOURCE,
+            status: 5,
+            out: "",
+            err: "rea",
+        },
+    },
+    FaultyRow {
+        read: None,
+        out: Some(FailingPut { number: 0, most: 0 }),
+        err: None,
+        row: Row {
+            words: OPTIMISE,
+            rules: NOT_ADD,
+            source: NOT_ADD_SOURCE,
+            status: 6,
+            out: "",
+            err: "",
+        },
+    },
+    FaultyRow {
+        read: None,
+        out: Some(FailingPut { number: 0, most: 7 }),
+        err: None,
+        row: Row {
+            words: OPTIMISE,
+            rules: NOT_ADD,
+            source: NOT_ADD_SOURCE,
+            status: 6,
+            out: "define ",
+            err: "",
+        },
+    },
+    FaultyRow {
+        read: None,
+        out: Some(FailingPut { number: 0, most: 5 }),
+        err: None,
+        row: Row {
+            words: "alive verify r --widths 1-5",
+            rules: NOT_ADD,
+            source: NOT_ADD_SOURCE,
+            status: 6,
+            out: "not-a",
+            err: "",
         },
     },
     // each sink is put to once

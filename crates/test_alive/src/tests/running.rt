@@ -26,11 +26,11 @@ fn files_of(alloc: Global, rules: &[u8], source: &[u8]) -> Result<MemoryFiles, A
     Ok(files)
 }
 
-/// Empty sinks.
+/// Empty sinks, with room for what any row writes.
 fn empty_sinks(alloc: Global) -> Result<Sinks, AllocError> {
     Ok(Sinks {
-        out: MemorySink::with_room(alloc, 1000)?,
-        err: MemorySink::with_room(alloc, 1000)?,
+        out: MemorySink::with_room(alloc, 10_000)?,
+        err: MemorySink::with_room(alloc, 10_000)?,
     })
 }
 
@@ -43,7 +43,7 @@ pub(super) fn world_of(alloc: Global, rules: &[u8], source: &[u8]) -> Result<Wor
 }
 
 /// The words of a line, with one blank between two.
-fn words_of(alloc: Global, line: &str) -> Result<Vec<String>, AllocError> {
+pub(super) fn words_of(alloc: Global, line: &str) -> Result<Vec<String>, AllocError> {
     let mut all = Vec::new(alloc);
     for word in line.split(' ') {
         all.push(String::from_str(alloc, word)?)?;

@@ -1,6 +1,7 @@
 //! Each status that comes over files and sinks that never fail.
 
-use super::{MODULE, NOT_ADD, words_of};
+use super::running::words_of;
+use super::{NOT_ADD, NOT_ADD_SOURCE};
 use crate::sure_status;
 use outside::SureFiles;
 use std::alloc::Global;
@@ -47,7 +48,7 @@ const ROWS: [Row; 7] = [
 fn status_of(alloc: Global, line: &str) -> Result<u8, Fail> {
     let mut files = SureFiles::new(alloc);
     files.add(alloc, "r", NOT_ADD.as_bytes())?;
-    files.add(alloc, "m", MODULE.as_bytes())?;
+    files.add(alloc, "m", NOT_ADD_SOURCE.as_bytes())?;
     let words = words_of(alloc, line)?;
     Ok(sure_status(alloc, &words, &mut files).code())
 }

@@ -1,10 +1,8 @@
 //! A word that no command line of the system can hold: a list of 64 widths, again and again.
 
-use super::words_of;
-use alive_top::alive;
-use outside::{MemoryFiles, MemorySink};
-use std::alloc::{AllocError, Global};
-use std::test::Fail;
+use super::running::{status_of, words_of};
+use super::*;
+use std::alloc::AllocError;
 
 const ADD_ZERO: &str = "Name: add-zero\n%r = add %x, 0\n=>\n%r = %x\n";
 
@@ -32,13 +30,11 @@ fn widths(alloc: Global) -> Result<String, AllocError> {
 fn verified(alloc: Global) -> Result<(u8, usize), Fail> {
     let mut words = words_of(alloc, "alive verify r --widths")?;
     words.push(widths(alloc)?)?;
-    let mut files = MemoryFiles::new(alloc);
-    files.add(alloc, "r", ADD_ZERO.as_bytes())?;
-    let mut out = MemorySink::with_room(alloc, 10_000)?;
-    let mut err = MemorySink::with_room(alloc, 1000)?;
-    let ended = alive(alloc, &words, &mut files, &mut out, &mut err);
-    let lines = out.contents().iter().filter(|byte| **byte == b'\n').count();
-    Ok((ended.status.code(), lines))
+    let mut world = world_of(alloc, ADD_ZERO.as_bytes(), b"")?;
+    let status = status_of(alloc, &words, &mut world);
+    let written = world.sinks.out.contents();
+    let lines = written.iter().filter(|byte| **byte == b'\n').count();
+    Ok((status, lines))
 }
 
 #[test]
