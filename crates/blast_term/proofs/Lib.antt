@@ -4,4 +4,6 @@ pub mod Functions
 pub mod Turns
 pub mod Preconditions
 pub mod Comparing
+pub mod Formulas
+pub mod Nodes
 pub mod Counts

@@ -8,10 +8,9 @@ ghost use Rattle.blast_term.specs.Gates.{comparing_gates, power_test_gates, sign
 ghost use Rattle.blast_term.specs.Terms.{FormulaIsHeld, FormulasAreHeld, PreconditionMet};
 
 use crate::power::blast_exponent;
-use crate::scope::{at, copied};
+use crate::scope::{at, pair};
 use blast_value::{Held, Instruction, blast_value, equals};
 use circuits::{Circuit, or};
-use lists::List;
 use ops::{Pred, Width};
 use rule_core::Formula;
 use std::alloc::{AllocError, Global};
@@ -127,9 +126,7 @@ fn blast_compares<C: Circuit>(
     ensures adds { Adds C.State c.old c.new
         (comparing_gates (length left.now.bits)) }
 {
-    let mut operands = List::new(alloc);
-    operands.push(copied(alloc, left)?)?;
-    operands.push(copied(alloc, right)?)?;
+    let operands = pair(alloc, left, right)?;
     let made = blast_value(alloc, c, Instruction::Compare(pred), one(), &operands)?;
     c.and(alloc, made.bits.as_slice()[0], c.not(made.poison))
 }

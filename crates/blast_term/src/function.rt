@@ -14,10 +14,9 @@ ghost use Rattle.blast_term.specs.Gates.{function_gates};
 
 use crate::numbers::number;
 use crate::power::blast_exponent;
-use crate::scope::copied;
+use crate::scope::pair;
 use blast_value::{Blasted, Held, Instruction, blast_value, constant};
 use circuits::{Bits, Circuit, less_unsigned, neg, or, select};
-use lists::List;
 use ops::{Flags, Opcode, Width};
 use rule_core::Function;
 use std::alloc::{AllocError, Global};
@@ -28,25 +27,23 @@ pub(crate) fn blast_operator<C: Circuit>(
     c: &mut C,
     op: Opcode,
     width: Width,
-    left: Held<C::Literal>,
-    right: Held<C::Literal>,
+    left: &Held<C::Literal>,
+    right: &Held<C::Literal>,
 ) -> Result<Held<C::Literal>, AllocError>
-    requires width_left { length left.bits ≡ width }
-    requires width_right { length right.bits ≡ width }
-    requires own_left { IsOwn (C.has_literal c.old) left }
-    requires own_right { IsOwn (C.has_literal c.old) right }
+    requires width_left { length left.now.bits ≡ width }
+    requires width_right { length right.now.bits ≡ width }
+    requires own_left { IsOwn (C.has_literal c.old) left.now }
+    requires own_right { IsOwn (C.has_literal c.old) right.now }
     ensures value { IfOk result (λ made. (inputs : Seq Bool) → C.admits c.old inputs →
         held_value (C.value c.new inputs) made
         ≡ value_given (instruction op no_flags width
-        (held_value (C.value c.old inputs) left) (held_value (C.value c.old inputs) right))) }
+        (held_value (C.value c.old inputs) left.now) (held_value (C.value c.old inputs) right.now))) }
     ensures width { IfOk result (λ made. length made.bits ≡ width) }
     ensures own { IfOk result (IsOwn (C.has_literal c.new)) }
     ensures adds { Adds C.State c.old c.new (opcode_gates op width + 1) }
 {
     let what = Instruction::Binary(op, Flags::NONE);
-    let mut operands = List::new(alloc);
-    operands.push(left)?;
-    operands.push(right)?;
+    let operands = pair(alloc, left, right)?;
     let Blasted {
         bits,
         poison,
@@ -103,8 +100,7 @@ fn blast_with<C: Circuit>(
     ensures adds { Adds C.State c.old c.new (opcode_gates op width + 1) }
 {
     let left = number(alloc, c, width, left)?;
-    let right = copied(alloc, right)?;
-    blast_operator(alloc, c, op, width, left, right)
+    blast_operator(alloc, c, op, width, &left, right)
 }
 
 /// The number that is -1 in two's complement.

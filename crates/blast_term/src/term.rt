@@ -1,7 +1,9 @@
 //! The nodes of terms in literals.
 ghost use Rattle.std.specs.Prelude.{◌≡◌, ◌<◌, ◌≤◌, Bool, List as Seq, length, map, slice_index, IfOk};
 ghost use Rattle.std.specs.List.{All};
+ghost use Rattle.ops.specs.Integer.{bits};
 ghost use Rattle.circuits.specs.Circuit.{Adds};
+ghost use Rattle.circuits.specs.Gates.{select_gates};
 ghost use Rattle.circuits.specs.Word.{number_of};
 ghost use Rattle.rule_core.specs.Terms.{Meanings, number_or_zero, term_value, values_of};
 ghost use Rattle.blast_value.specs.Effect.{held_value, widths_of, IsOwn};
@@ -11,7 +13,7 @@ ghost use Rattle.blast_term.specs.Scope.{ScopeIsOwn};
 
 use crate::function::{blast_function, blast_operator};
 use crate::numbers::{number, number_or_zero, of_word, residue, valued, within};
-use crate::scope::{Scope, at, copied, register_held};
+use crate::scope::{Scope, at, register_held};
 use crate::width::width_of;
 use blast_value::Held;
 use circuits::{Bits, Circuit};
@@ -69,21 +71,35 @@ fn blast_term<C: Circuit>(
     match term.node {
         Node::Literal(literal) => number(alloc, c, width, residue(width, literal)),
         Node::Constant(k) => of_word(alloc, c, at(scope.constants, k)),
-        Node::Register(register) => {
-            let bits = number_or_zero(alloc, c, register_held(scope, register))?;
-            Ok(valued(c, bits))
-        }
+        Node::Register(register) => of_register(alloc, c, register_held(scope, register)),
         Node::Undef(k) => of_word(alloc, c, at(scope.choices, k)),
         Node::Width(_, class) => within(alloc, c, width, width_of(typing, class).bits()),
         Node::Unary(function, operand) => {
             blast_function(alloc, c, function, width, at(before, operand))
         }
         Node::Binary(op, left, right) => {
-            let left = copied(alloc, at(before, left))?;
-            let right = copied(alloc, at(before, right))?;
-            blast_operator(alloc, c, op, width, left, right)
+            blast_operator(alloc, c, op, width, at(before, left), at(before, right))
         }
     }
+}
+
+/// What a register gives: its number, and 0 where it is poison.
+fn of_register<C: Circuit>(
+    alloc: Global,
+    c: &mut C,
+    held: &Held<C::Literal>,
+) -> Result<Held<C::Literal>, AllocError>
+    requires { IsOwn (C.has_literal c.old) held.now }
+    ensures value { IfOk result (λ made. (inputs : Seq Bool) → C.admits c.old inputs →
+        held_value (C.value c.new inputs) made
+        ≡ bits (length held.now.bits) (number_or_zero (held_value (C.value c.old inputs) held.now))) }
+    ensures width { IfOk result (λ made. length made.bits ≡ length held.now.bits) }
+    ensures own { IfOk result (IsOwn (C.has_literal c.new)) }
+    ensures adds { Adds C.State c.old c.new
+        (select_gates (length held.now.bits)) }
+{
+    let bits = number_or_zero(alloc, c, held)?;
+    Ok(valued(c, bits))
 }
 
 /// The number that each value is, and 0 where it is poison.

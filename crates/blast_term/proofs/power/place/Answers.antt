@@ -1,11 +1,39 @@
-use Rattle.std.proofs.Common.{◌≡◌, ◌^◌, ◌<◌, ◌∙◌, if◌then◌else◌, Some, None, length, map, take, not, ◌&&◌, ap, subst, arith}
+use Rattle.std.proofs.Common.{◌≡◌, ℕ, ◌*◌, ◌^◌, ◌<◌, ◌≤◌, ◌∙◌, if◌then◌else◌, Some, None, length, map, take, not, ◌&&◌, ap, subst, arith}
 use Rattle.std.proofs.lemmas.List.{length-map, length-take, take_all}
+use Rattle.circuits.specs.declared.state.State.{Ghosts}
+use Rattle.circuits.specs.Circuit.{Adds}
 use Rattle.circuits.specs.Word.{number, number_of}
 use Rattle.circuits.proofs.Kept.{Adds-refl, Adds-trans, Adds-weaken, Keeps-trans, All-kept, map-kept, own_at}
 use Rattle.circuits.proofs.Words.{number-below, number-take_more}
 use Rattle.rule_core.specs.Terms.{exponent}
+use Rattle.blast_term.specs.Gates.{power_gates}
 use Rattle.blast_term.proofs.Powers.{scanned-none, scanned-more, scanned-exponent, number-if}
 use Rattle.blast_term.proofs.power.place.Goals as goal
+
+-- a turn that isn't finished
+turn_within : {C L : Type 0} {state : Ghosts C L} {start now next : C} {i n width : ℕ} → Adds state start now (8 * i) → Adds state now next n → i < width → n ≤ 8 → Adds state start next (power_gates width)
+turn_within before turn inside few = Adds-weaken (Adds-trans before turn) (omega arith)
+
+pub returns-in_err-bits-clause-adds : goal.returns-in_err-bits-clause-adds
+returns-in_err-bits-clause-adds g c = Adds-weaken Adds-refl (omega arith)
+
+pub returns-in_err-here-clause-adds : goal.returns-in_err-here-clause-adds
+returns-in_err-here-clause-adds g c = let inside = c.loop-i-test.true in Adds-weaken c.loop-i.invariant.0 (omega arith)
+
+pub returns-in_err-bits-2-clause-adds : goal.returns-in_err-bits-2-clause-adds
+returns-in_err-bits-2-clause-adds g c =
+    turn_within c.loop-i.invariant.0 c.select.ensures.adds c.loop-i-test.true (omega (arith, ap length c.as_slice.ensures, c.in_ok-here.ensures.width, c.requires.few))
+
+pub returns-in_err-one-clause-adds : goal.returns-in_err-one-clause-adds
+returns-in_err-one-clause-adds g c =
+    turn_within c.loop-i.invariant.0 (Adds-trans c.select.ensures.adds c.mux.ensures.adds) c.loop-i-test.true (omega (arith, ap length c.as_slice.ensures, c.in_ok-here.ensures.width, c.requires.few))
+
+pub returns-in_err-none-clause-adds : goal.returns-in_err-none-clause-adds
+returns-in_err-none-clause-adds g c =
+    turn_within c.loop-i.invariant.0 (Adds-trans c.select.ensures.adds (Adds-trans c.mux.ensures.adds c.and.ensures.adds)) c.loop-i-test.true (omega (arith, ap length c.as_slice.ensures, c.in_ok-here.ensures.width, c.requires.few))
+
+pub returns-clause-adds : goal.returns-clause-adds
+returns-clause-adds g c = let within = c.loop-i.auto.i-end in Adds-weaken c.loop-i.invariant.0 (omega arith)
 
 pub loop-i-init : goal.loop-i-init
 loop-i-init g c = (
