@@ -1,8 +1,7 @@
 -- A state that unit propagation adds nothing to: what it shows of derivations from less.
 use Rattle.std.proofs.Common.{◌≡◌, ℕ, true, false, List, [], ◌∷◌, Some, length, get_or, refl, sym, ap, ◌∙◌, inl, inr, subst}
 use Rattle.std.specs.Prelude.{slice_get, remove, ◌⊎◌}
-use Rattle.clauses.specs.declared.literal.Lit.{Lit}
-use Rattle.clauses.specs.Literal.{negation_of, is_same}
+use Rattle.clauses.specs.Literal.{Lit, negation_of, is_same}
 use Rattle.clauses.specs.Propagation.{Derives, IsFalsified, IsUnit, SomeFalsified, is_held, is_false, negations_of}
 use Rattle.clauses.specs.ClauseSet.{IsNew, UnitsRefute}
 use Rattle.std.proofs.lemmas.Bool.{cases_Bool, or_cases, true≢false}

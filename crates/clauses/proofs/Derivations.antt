@@ -1,7 +1,7 @@
 -- Derivations move by move, and hints hint by hint.
 use Rattle.std.proofs.Common.{◌≡◌, ℕ, List, [], ◌∷◌, ◌++◌, Some, refl, sym, ap, ◌∙◌, subst}
 use Rattle.std.specs.Prelude.{slice_get}
-use Rattle.clauses.specs.declared.literal.Lit.{Lit}
+use Rattle.clauses.specs.Literal.{Lit}
 use Rattle.clauses.specs.Propagation.{Derives, HintsRefute, NamesFalse, NamesUnit, IsFalsified, IsUnit}
 use Rattle.clauses.proofs.Units.{not_falsified_by, unit_same, unit_stands}
 

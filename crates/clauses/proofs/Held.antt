@@ -1,9 +1,8 @@
 -- What is held, and where it is true.
-use Rattle.std.proofs.Common.{◌≡◌, ℕ, Bool, true, false, not, ◌&&◌, cond, eqb, List, [], ◌∷◌, refl, sym, ap, ◌∙◌, inl, inr}
-use Rattle.std.specs.Bool.{beq}
+use Rattle.std.proofs.Common.{◌≡◌, ℕ, ◌+◌, ◌*◌, ◌/◌, Bool, true, false, not, ◌&&◌, cond, eqb, List, [], ◌∷◌, refl, sym, ap, ◌∙◌, inl, inr, arith}
 use Rattle.std.proofs.lemmas.Bool.{not-false, and_parts, and_from, or_cases, or_parts, eqb-true, eq-eqb, true≢false, not-true}
-use Rattle.clauses.specs.declared.literal.Lit.{Lit}
-use Rattle.clauses.specs.Literal.{negation_of, is_same, literal_true, clause_true}
+use Rattle.std.proofs.lemmas.Bool.Decides.{nat_tests}
+use Rattle.clauses.specs.Literal.{Lit, code_of, literal_at, negation_of, is_same, literal_true, clause_true}
 use Rattle.clauses.specs.Propagation.{is_held, negations_of}
 
 -- a literal of these parts
@@ -30,17 +29,24 @@ is_same-true l m h =
     made_same l.variable m.variable l.negated m.negated (eqb-true l.variable m.variable parts.0)
     (bool_same l.negated m.negated parts.1)
 
-beq-same : (a b : Bool) → beq a b ≡ true → a ≡ b
-beq-same true true h = refl
-beq-same true false h = sym h
-beq-same false true h = h
-beq-same false false h = refl
+half : (n : ℕ) (b : Bool) → (2 * n + cond b 1 0) / 2 ≡ n
+half n true = omega arith
+half n false = omega arith
+
+odd : (n : ℕ) (b : Bool) → (literal_at (2 * n + cond b 1 0)).negated ≡ b
+odd n true = grind (arith, nat_tests)
+odd n false = grind (arith, nat_tests)
+
+literal_at-code_of : (l : Lit) → literal_at (code_of l) ≡ l
+literal_at-code_of l = made_same _ l.variable _ l.negated (half l.variable l.negated) (odd l.variable l.negated)
+
+-- literals of one code are one
+pub same_code : (l m : Lit) → code_of l ≡ code_of m → l ≡ m
+same_code l m e = sym (literal_at-code_of l) ∙ ap literal_at e ∙ literal_at-code_of m
 
 -- literals of which `!=` is false
-pub equal_literals : (l m : Lit) (differs : Bool) → differs ≡ not (eqb l.variable m.variable && beq l.negated m.negated) → differs ≡ false → l ≡ m
-equal_literals l m differs is same =
-    let parts = and_parts (eqb l.variable m.variable) (beq l.negated m.negated) (not-false _ (sym is ∙ same)) in
-    made_same l.variable m.variable l.negated m.negated (eqb-true l.variable m.variable parts.0) (beq-same l.negated m.negated parts.1)
+pub equal_literals : (l m : Lit) (differs : Bool) → differs ≡ not (eqb (code_of l) (code_of m)) → differs ≡ false → l ≡ m
+equal_literals l m differs is same = same_code l m (eqb-true (code_of l) (code_of m) (not-false _ (sym is ∙ same)))
 
 pub is_same-self : (l : Lit) → is_same l l ≡ true
 is_same-self l =

@@ -1,9 +1,8 @@
 -- What follows where a set stands for a test of its inputs' values.
 use Rattle.std.proofs.Common.{◌≡◌, ℕ, zero, suc, ◌-◌, ◌<◌, ◌≤◌, Bool, true, false, ◌||◌, List, [], ◌∷◌, length, map, take, get_or, refl, sym, ap, ◌∙◌, arith, inl, inr, length-take}
 use Rattle.std.specs.Prelude.{◌↔◌}
-use Rattle.clauses.specs.declared.literal.Lit.{Lit}
 use Rattle.clauses.specs.declared.cnf.Cnf.{Cnf}
-use Rattle.clauses.specs.Literal.{Meets, IsWithin, VariablesWithin, IsVariable, literal_true, clause_true, assignment_of}
+use Rattle.clauses.specs.Literal.{Lit, Meets, IsWithin, VariablesWithin, IsVariable, literal_true, clause_true, assignment_of}
 use Rattle.clauses.specs.ClauseSet.{all_clauses, UnitsDetermine}
 use Rattle.clauses.specs.Settings.{AgreeUpTo, StandsFor, input_values}
 use Rattle.std.proofs.lemmas.List.{same_lists, length-map, get_or-take, get_or_default}

@@ -1,8 +1,7 @@
 -- Reverse unit propagation is sound.
 use Rattle.std.proofs.Common.{◌≡◌, ℕ, Bool, true, false, List, [], ◌∷◌, Some, sym, ap, ◌∙◌, inl, inr, subst}
 use Rattle.std.specs.Prelude.{slice_get}
-use Rattle.clauses.specs.declared.literal.Lit.{Lit}
-use Rattle.clauses.specs.Literal.{literal_true, clause_true, negation_of, Meets}
+use Rattle.clauses.specs.Literal.{Lit, literal_true, clause_true, negation_of, Meets}
 use Rattle.clauses.specs.Propagation.{Derives, HintsRefute, IsFalsified, IsUnit, is_held, is_false, negations_of}
 use Rattle.std.proofs.lemmas.Bool.{cases_Bool, true≢false, false_from_ne_true}
 use Rattle.std.proofs.lemmas.List.Folds.{Any-from_list_any}

@@ -1,10 +1,9 @@
 -- Clause sets, and logs of derived clauses over them: reverse unit propagation (RUP), and clauses that unit propagation
 -- alone doesn't give. Clauses are numbered from 0: the gates of the set, its roots, then the steps.
 use Rattle.std.specs.Prelude.{◌≡◌, ℕ, ◌+◌, ◌-◌, ◌^◌, ◌<◌, ◌⊎◌, ◌++◌, Bool, true, false, List, [], length, take, map, remove, Some, slice_get, IsSomeAnd, All}
-use Rattle.clauses.specs.declared.literal.Lit.{Lit}
 use Rattle.clauses.specs.declared.step.Step.{Step}
 use Rattle.clauses.specs.declared.cnf.Cnf.{Cnf}
-use Rattle.clauses.specs.Literal.{IsVariable, IsWithin, VariablesWithin, literal_of}
+use Rattle.clauses.specs.Literal.{Lit, IsVariable, IsWithin, VariablesWithin, literal_of}
 use Rattle.clauses.specs.Propagation.{Derives, HintsRefute, SomeFalsified, is_held, negations_of}
 
 -- What a set asks of its parts: each variable of a clause and each input is one of the count, and there are fewer than

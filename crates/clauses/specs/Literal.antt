@@ -1,8 +1,26 @@
--- Literals and clauses, and where an assignment makes them true (propositional logic).
+-- Literals and clauses, and where an assignment makes them true (propositional logic). A literal is kept as a code.
 -- An assignment is a function from variables to truth values; the variables are numbered from 1.
-use Rattle.std.specs.Prelude.{◌≡◌, ℕ, ◌-◌, ◌≤◌, Bool, true, false, not, ◌&&◌, ◌==◌, if◌then◌else◌, List, slice_index_or, All}
+use Rattle.std.specs.Prelude.{◌≡◌, ℕ, ◌+◌, ◌-◌, ◌*◌, ◌/◌, ◌%◌, ◌≤◌, Bool, true, false, not, ◌&&◌, ◌==◌, if◌then◌else◌, List, slice_index_or, All}
 use Rattle.std.specs.List.{list_any}
-use Rattle.clauses.specs.declared.literal.Lit.{Lit}
+use Rattle.std.proofs.Common.{arith}
+use Rattle.std.proofs.lemmas.Bool.Decides.{nat_tests}
+
+-- a variable or, where `negated`, its negation
+pub record Lit : Type 0 where
+  pub variable : ℕ
+  pub negated : Bool
+
+-- twice the number of the variable, and one more where the literal is negated
+abbrev pub code_of : Lit → ℕ
+code_of l = 2 * l.variable + (if l.negated then 1 else 0)
+
+-- the literal of a code
+abbrev pub literal_at : ℕ → Lit
+literal_at code = record { variable = code / 2; negated = code % 2 == 1 }
+
+-- each code is that of its literal
+pub code_of-literal_at : (code : ℕ) → code_of (literal_at code) ≡ code
+code_of-literal_at code = grind (arith, nat_tests)
 
 -- the literal of a variable that is true where the variable has this value
 abbrev pub literal_of : ℕ → Bool → Lit

@@ -3,8 +3,7 @@
 -- and of reverse unit propagation.)
 use Rattle.std.specs.Prelude.{◌≡◌, ◌≢◌, ℕ, Bool, true, false, List, [], ◌∷◌, ◌++◌, Some, slice_get, map, All, Any, Contains}
 use Rattle.std.specs.List.{list_any}
-use Rattle.clauses.specs.declared.literal.Lit.{Lit}
-use Rattle.clauses.specs.Literal.{negation_of, is_same}
+use Rattle.clauses.specs.Literal.{Lit, negation_of, is_same}
 
 -- whether the literal is held
 abbrev pub is_held : List Lit → Lit → Bool

@@ -1,8 +1,7 @@
 -- What it is for a clause set to stand for a test of its inputs' values (Tseitin's encoding, with every gate in use).
 use Rattle.std.specs.Prelude.{◌≡◌, ℕ, ◌+◌, ◌<◌, ◌≤◌, ◌⊎◌, ◌↔◌, Bool, true, List, map, length, slice_index, EachIndex, All, Any}
-use Rattle.clauses.specs.declared.literal.Lit.{Lit}
 use Rattle.clauses.specs.declared.cnf.Cnf.{Cnf}
-use Rattle.clauses.specs.Literal.{Meets, IsVariable, literal_of, clause_true}
+use Rattle.clauses.specs.Literal.{Lit, Meets, IsVariable, literal_of, clause_true}
 use Rattle.clauses.specs.Propagation.{Derives, SomeFalsified, is_held}
 use Rattle.clauses.specs.ClauseSet.{all_clauses, setting_literals}
 

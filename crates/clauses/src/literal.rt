@@ -1,33 +1,66 @@
 //! Literals, and clauses as lists of them.
 
-ghost use Rattle.std.specs.Prelude.{◌↔◌, All, IsTrue};
-ghost use Rattle.clauses.specs.Literal.{IsVariable, IsWithin, VariablesWithin};
+ghost use Rattle.std.specs.Prelude.{◌≡◌, ◌^◌, ◌<◌, ◌↔◌, All, IsTrue};
+ghost use Rattle.clauses.specs.Literal.{IsVariable, IsWithin, VariablesWithin, negation_of};
 
 use lists::ShortList;
+use std::marker::Model;
 
 /// A variable or its negation.
+///
+/// It is kept as a code: twice the number of the variable, and one more where it is negated.
 #[derive(Clone, Copy, Debug, Default, PartialEq, Eq)]
 pub struct Lit {
-    /// The number of the variable; those of a set are numbered from 1.
-    pub variable: u32,
-    /// Whether the literal is the variable's negation.
-    pub negated: bool,
+    code: u32,
 }
 
 /// A disjunction of literals: true where one of them is. The empty clause is never true.
 pub type Clause = ShortList<Lit, 4>;
 
+impl Model for Lit {
+    ghost use Rattle.std.proofs.Common.{ap};
+    ghost use Rattle.clauses.specs.Literal.{Lit, literal_at, code_of, code_of-literal_at};
+
+    ghost Value = { Lit };
+
+    ghost view = { λ l. literal_at l.code };
+
+    ghost inverse = { λ l. record { code = code_of l } };
+
+    ghost inverse_ok = { λ l h. ap (λ n. record { code = n }) (code_of-literal_at l.code) };
+}
+
 impl Lit {
-    ghost use Rattle.std.specs.Prelude.{◌≡◌};
-    ghost use Rattle.clauses.specs.Literal.{negation_of};
+    /// The variable of this number, or its negation.
+    pub fn new(variable: u32, negated: bool) -> Lit
+        requires { variable < 2 ^ 31 }
+        ensures { result ≡ record { variable = variable; negated = negated } }
+    {
+        Lit {
+            code: 2 * variable + u32::from(negated),
+        }
+    }
+
+    /// The number of the variable; those of a set are numbered from 1.
+    pub fn variable(self) -> u32
+        ensures { result ≡ self.variable }
+    {
+        self.code / 2
+    }
+
+    /// Whether the literal is the variable's negation.
+    pub fn is_negated(self) -> bool
+        ensures { result ≡ self.negated }
+    {
+        self.code % 2 == 1
+    }
 
     /// The literal that is true exactly where this one is false.
     pub fn negation(self) -> Lit
         ensures { result ≡ negation_of self }
     {
         Lit {
-            variable: self.variable,
-            negated: !self.negated,
+            code: self.code ^ 1,
         }
     }
 }
@@ -36,7 +69,9 @@ impl Lit {
 pub fn is_within(count: u32, clause: &[Lit]) -> bool
     ensures { IsTrue result ↔ IsWithin count clause.now }
 {
-    clause.iter().all(|literal| 1 <= literal.variable && literal.variable <= count)
+    clause
+        .iter()
+        .all(|literal| 1 <= literal.variable() && literal.variable() <= count)
 }
 
 /// Whether each variable of the clauses is one of the numbers from 1 to the count.
