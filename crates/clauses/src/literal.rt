@@ -69,9 +69,7 @@ impl Lit {
 pub fn is_within(count: u32, clause: &[Lit]) -> bool
     ensures { IsTrue result ↔ IsWithin count clause.now }
 {
-    clause
-        .iter()
-        .all(|literal| 1 <= literal.variable() && literal.variable() <= count)
+    clause.iter().all(|literal| 1 <= literal.variable() && literal.variable() <= count)
 }
 
 /// Whether each variable of the clauses is one of the numbers from 1 to the count.

@@ -6,8 +6,7 @@ use Rattle.std.proofs.lemmas.List.{get_or_append_left}
 use Rattle.std.proofs.lemmas.List.Elements.{All-contains}
 use Rattle.std.proofs.lemmas.List.Folds.{list_any_at}
 use Rattle.std.proofs.lemmas.Option.{slice_get_within, get_or_from_slice_get}
-use Rattle.clauses.specs.declared.literal.Lit.{Lit}
-use Rattle.clauses.specs.Literal.{IsVariable, IsWithin, VariablesWithin, is_same}
+use Rattle.clauses.specs.Literal.{Lit, IsVariable, IsWithin, VariablesWithin, is_same}
 use Rattle.clauses.specs.Propagation.{HintsRefute, NamesUnit}
 use Rattle.clauses.proofs.Held.{is_same-true}
 use Rattle.clauses.proofs.Derivations.{HintsRefute-move, NamesUnit-same}

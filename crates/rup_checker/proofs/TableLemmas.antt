@@ -4,8 +4,7 @@ use Rattle.std.specs.Prelude.{Option, slice_get, unwrap_or}
 use Rattle.std.proofs.lemmas.List.{at_drop_more}
 use Rattle.std.proofs.lemmas.Option.{unwrap_or-slice_get}
 use Rattle.std.proofs.lemmas.Bool.{cases_Bool, or_parts, or_from, and_left, and_right, ne_eqb, eqb-false}
-use Rattle.clauses.specs.declared.literal.Lit.{Lit}
-use Rattle.clauses.specs.Literal.{is_same, negation_of}
+use Rattle.clauses.specs.Literal.{Lit, is_same, negation_of}
 use Rattle.clauses.specs.Propagation.{is_held, negations_of}
 use Rattle.rup_checker.specs.declared.table.Held.{Held}
 use Rattle.rup_checker.specs.Table.{Represents, table_holds, stands_in, stands_in_some}

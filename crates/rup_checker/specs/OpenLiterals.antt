@@ -1,6 +1,6 @@
 -- What a clause's open literals, those that aren't false, say of it.
 use Rattle.std.specs.Prelude.{List}
-use Rattle.clauses.specs.declared.literal.Lit.{Lit}
+use Rattle.clauses.specs.Literal.{Lit}
 use Rattle.clauses.specs.Propagation.{IsFalsified, IsUnit}
 use Rattle.rup_checker.specs.declared.open_literals.OpenLiterals.{OpenLiterals}
 use Rattle.rup_checker.specs.declared.open_literals.OpenLiterals.TheVariants.{NoneOpen, OneOpen, SeveralOpen}

@@ -1,7 +1,7 @@
 -- The table of the variables: which literals it says are held, and the variables that a step's clauses name.
 use Rattle.std.specs.Prelude.{◌≡◌, ◌==◌, ℕ, Bool, false, List, [], slice_index_or, if◌then◌else◌}
 use Rattle.std.specs.List.{list_any}
-use Rattle.clauses.specs.declared.literal.Lit.{Lit}
+use Rattle.clauses.specs.Literal.{Lit}
 use Rattle.clauses.specs.Propagation.{is_held}
 use Rattle.rup_checker.specs.declared.table.Held.{Held}
 

@@ -1,8 +1,7 @@
 //! The test of a step's hints: all but the last are moves of unit propagation, and the last names
 //! a clause that is then false.
 ghost use Rattle.std.specs.Prelude.{◌≡◌, ◌↔◌, ◌&&◌, ◌<◌, IsTrue, List, false, not, length, MatchOption};
-ghost use Rattle.clauses.specs.declared.literal.Lit.{Lit as Literal};
-ghost use Rattle.clauses.specs.Literal.{VariablesWithin};
+ghost use Rattle.clauses.specs.Literal.{Lit as Literal, VariablesWithin};
 ghost use Rattle.clauses.specs.Propagation.{HintsRefute, NamesFalse, NamesUnit, negations_of};
 ghost use Rattle.clauses.specs.ClauseSet.{clauses_with};
 ghost use Rattle.rup_checker.specs.Table.{Represents, table_holds, stands_in_some};

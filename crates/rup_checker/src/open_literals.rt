@@ -1,6 +1,6 @@
 //! How many literals of a clause are open, that is, aren't false.
 ghost use Rattle.std.specs.Prelude.{◌<◌, List, length, All};
-ghost use Rattle.clauses.specs.declared.literal.Lit.{Lit as Literal};
+ghost use Rattle.clauses.specs.Literal.{Lit as Literal};
 ghost use Rattle.rup_checker.specs.Table.{Represents};
 ghost use Rattle.rup_checker.specs.OpenLiterals.{Counts};
 

@@ -1,8 +1,7 @@
 //! The table of the variables: which literals are held. It has an entry for each number up to the
 //! count of variables, at the place of that number.
 ghost use Rattle.std.specs.Prelude.{◌≡◌, ◌&&◌, ◌||◌, ◌<◌, not, [], length, All};
-ghost use Rattle.clauses.specs.declared.literal.Lit.{Lit as Literal};
-ghost use Rattle.clauses.specs.Literal.{is_same, negation_of};
+ghost use Rattle.clauses.specs.Literal.{Lit as Literal, is_same, negation_of};
 ghost use Rattle.clauses.specs.Propagation.{negations_of};
 ghost use Rattle.rup_checker.specs.Table.{Represents, table_holds, stands_in};
 
@@ -29,8 +28,8 @@ pub(crate) fn is_false(table: &[Held], literal: Lit) -> bool
     requires { literal.variable < length table.now }
     ensures { result ≡ table_holds table.now (negation_of literal) }
 {
-    let held = table[literal.variable as usize];
-    if literal.negated {
+    let held = table[literal.variable() as usize];
+    if literal.is_negated() {
         held.positive
     } else {
         held.negative
@@ -42,8 +41,8 @@ pub(crate) fn hold(table: &mut [Held], literal: Lit)
     requires { literal.variable < length table.old }
     ensures { (l : Literal) → table_holds table.new l ≡ (is_same l literal || table_holds table.old l) }
 {
-    let place = literal.variable as usize;
-    if literal.negated {
+    let place = literal.variable() as usize;
+    if literal.is_negated() {
         table[place].negative = true;
     } else {
         table[place].positive = true;
@@ -68,6 +67,6 @@ pub(crate) fn release(table: &mut [Held], clause: &[Lit])
         ≡ (table_holds table.old l && not (stands_in l.variable clause.now)) }
 {
     for literal in clause {
-        table[literal.variable as usize] = Held::NEITHER;
+        table[literal.variable() as usize] = Held::NEITHER;
     }
 }

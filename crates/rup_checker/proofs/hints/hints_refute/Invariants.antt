@@ -1,6 +1,6 @@
 use Rattle.std.proofs.Common.{◌≡◌, false, List, [], ◌∷◌, ◌++◌, drop}
 use Rattle.std.specs.Prelude.{◌↔◌}
-use Rattle.clauses.specs.declared.literal.Lit.{Lit}
+use Rattle.clauses.specs.Literal.{Lit}
 use Rattle.clauses.specs.Propagation.{HintsRefute, negations_of}
 use Rattle.rup_checker.specs.Table.{Represents, table_holds, stands_in_some}
 use Rattle.clauses.specs.ClauseSet.{clauses_with}

@@ -1,5 +1,5 @@
 use Rattle.std.proofs.Common.{◌≡◌, ◌&&◌, not, drop}
-use Rattle.clauses.specs.declared.literal.Lit.{Lit}
+use Rattle.clauses.specs.Literal.{Lit}
 use Rattle.rup_checker.specs.Table.{table_holds, stands_in_some}
 use Rattle.clauses.specs.ClauseSet.{clauses_with}
 use Rattle.rup_checker.proofs.hints.release_named.Given as goal

@@ -1,5 +1,5 @@
 use Rattle.std.proofs.Common.{List, take}
-use Rattle.clauses.specs.declared.literal.Lit.{Lit}
+use Rattle.clauses.specs.Literal.{Lit}
 use Rattle.clauses.proofs.Units.{IsSoFar}
 use Rattle.rup_checker.specs.Table.{Represents}
 use Rattle.rup_checker.proofs.open_literals.open_literals_of.Given as goal

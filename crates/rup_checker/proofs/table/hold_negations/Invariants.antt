@@ -1,5 +1,5 @@
 use Rattle.std.proofs.Common.{◌≡◌, ◌||◌, drop}
-use Rattle.clauses.specs.declared.literal.Lit.{Lit}
+use Rattle.clauses.specs.Literal.{Lit}
 use Rattle.clauses.specs.Propagation.{is_held, negations_of}
 use Rattle.rup_checker.specs.Table.{table_holds}
 use Rattle.rup_checker.proofs.table.hold_negations.Given as goal
