@@ -8,8 +8,7 @@ use Rattle.std.proofs.lemmas.Option.{slice_get-get_or, slice_get_within, get_or_
 use Rattle.std.proofs.lemmas.List.{get_or-map, length-map}
 use Rattle.std.proofs.lemmas.List.Elements.{All-nil, All-append}
 use Rattle.std.proofs.lemmas.List.Folds.{Any-from_list_any, list_any_at}
-use Rattle.clauses.specs.declared.literal.Lit.{Lit}
-use Rattle.clauses.specs.Literal.{Meets, literal_of, negation_of, is_same, literal_true, clause_true}
+use Rattle.clauses.specs.Literal.{Lit, Meets, literal_of, negation_of, is_same, literal_true, clause_true}
 use Rattle.clauses.specs.Propagation.{is_held, is_false, Derives, NamesUnit}
 use Rattle.clauses.specs.Settings.{StandsIn, IsGreatest, MeetsDefinition}
 use Rattle.clauses.proofs.Held.{is_same-true, is_same-self, literal_true-negation}

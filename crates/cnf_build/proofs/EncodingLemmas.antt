@@ -1,8 +1,7 @@
 -- What the parts of the encoding give together.
 use Rattle.std.proofs.Common.{◌≡◌, ℕ, ◌+◌, true, List, [], ◌∷◌, length, All, Result, Ok, Err, IfOk, EachIndex, slice_index, sym, subst, ap, ◌∙◌}
-use Rattle.clauses.specs.declared.literal.Lit.{Lit}
 use Rattle.clauses.specs.declared.cnf.Cnf.{Cnf}
-use Rattle.clauses.specs.Literal.{IsVariable}
+use Rattle.clauses.specs.Literal.{Lit, IsVariable}
 use Rattle.clauses.specs.Settings.{StandsFor}
 use Rattle.aig.specs.Literal.{Literal}
 use Rattle.aig.specs.declared.gate.Gate.{Gate}

@@ -3,8 +3,7 @@ use Rattle.std.proofs.Common.{◌≡◌, ◌≢◌, ℕ, zero, suc, ◌+◌, ◌
 use Rattle.std.proofs.lemmas.Bool.{cases_lt}
 use Rattle.std.proofs.lemmas.Option.{slice_get_within, slice_get-get_or, same_Some}
 use Rattle.std.proofs.lemmas.List.Elements.{All-nil, All-cons, All-append}
-use Rattle.clauses.specs.declared.literal.Lit.{Lit}
-use Rattle.clauses.specs.Literal.{literal_of, negation_of}
+use Rattle.clauses.specs.Literal.{Lit, literal_of, negation_of}
 use Rattle.aig.specs.declared.literal.Node.{Node}
 use Rattle.aig.specs.declared.literal.Node.TheVariants.{One, Input, Output}
 use Rattle.aig.specs.declared.gate.Gate.{Gate}

@@ -5,8 +5,7 @@ use Rattle.std.specs.Bool.{xor, beq}
 use Rattle.std.specs.List.{list_all}
 use Rattle.std.proofs.lemmas.Bool.{cases_Bool, and_parts, and_from}
 use Rattle.std.proofs.lemmas.List.Elements.{All-nil, All-cons, All-head, All-tail, All-weaker}
-use Rattle.clauses.specs.declared.literal.Lit.{Lit}
-use Rattle.clauses.specs.Literal.{Meets, IsVariable, IsWithin, literal_of, negation_of, literal_true, clause_true}
+use Rattle.clauses.specs.Literal.{Lit, Meets, IsVariable, IsWithin, literal_of, negation_of, literal_true, clause_true}
 use Rattle.clauses.specs.Propagation.{is_false, IsFalsified, IsUnit}
 use Rattle.clauses.specs.Settings.{StandsIn, IsGreatest}
 use Rattle.clauses.proofs.Held.{literal_true-negation}

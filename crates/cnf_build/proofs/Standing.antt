@@ -5,9 +5,8 @@ use Rattle.std.proofs.lemmas.Bool.{or_cases, or_left, true≢false}
 use Rattle.std.proofs.lemmas.Option.{slice_get-get_or}
 use Rattle.std.proofs.lemmas.List.{get_or_default}
 use Rattle.std.proofs.lemmas.List.Elements.{All-nil, All-cons, All-head, All-tail}
-use Rattle.clauses.specs.declared.literal.Lit.{Lit}
 use Rattle.clauses.specs.declared.cnf.Cnf.{Cnf}
-use Rattle.clauses.specs.Literal.{Meets, literal_of, literal_true, clause_true}
+use Rattle.clauses.specs.Literal.{Lit, Meets, literal_of, literal_true, clause_true}
 use Rattle.clauses.specs.ClauseSet.{all_clauses, setting_literals}
 use Rattle.clauses.specs.Settings.{StandsAt, StandsFor, StandsIn, IsInner, IsDefined, IsUsed, AgreeOn, UnitsDerive, MeetsDefinition, input_values}
 use Rattle.cnf_build.specs.declared.definition.Definition.{Definition}

@@ -1,8 +1,7 @@
 -- Definitions of variables over smaller ones, and their clauses by Tseitin's encoding.
 use Rattle.std.specs.Prelude.{◌≡◌, ◌≢◌, ℕ, ◌+◌, ◌<◌, ◌≤◌, Bool, true, false, ◌&&◌, if◌then◌else◌, List, [], ◌∷◌, ◌++◌, Some, slice_get, AllPairs}
 use Rattle.std.specs.Bool.{xor}
-use Rattle.clauses.specs.declared.literal.Lit.{Lit}
-use Rattle.clauses.specs.Literal.{literal_true, literal_of, negation_of}
+use Rattle.clauses.specs.Literal.{Lit, literal_true, literal_of, negation_of}
 use Rattle.cnf_build.specs.declared.definition.Definition.{Definition}
 use Rattle.cnf_build.specs.declared.definition.Definition.TheVariants.{One, And, Xor, Mux}
 

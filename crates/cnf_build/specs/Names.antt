@@ -1,6 +1,6 @@
 -- Variables for the constant and the gates that are marked, after those of the inputs.
 use Rattle.std.specs.Prelude.{◌≡◌, ℕ, ◌+◌, ◌<◌, ◌≤◌, Bool, true, false, List, [], ◌∷◌, ◌++◌, length, Some, slice_get, slice_index}
-use Rattle.clauses.specs.declared.literal.Lit.{Lit}
+use Rattle.clauses.specs.Literal.{Lit}
 use Rattle.aig.specs.declared.literal.Node.{Node}
 use Rattle.aig.specs.declared.literal.Node.TheVariants.{One, Input, Output}
 use Rattle.aig.specs.Literal.{Literal}

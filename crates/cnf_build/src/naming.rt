@@ -19,15 +19,18 @@ pub(crate) struct Naming {
 }
 
 impl Model for Naming {
+    ghost use Rattle.std.specs.Prelude.{◌<◌, ◌^◌, All};
     ghost use Rattle.cnf_build.specs.Names.{Names};
 
     ghost Value = { Names };
 
     ghost view = { λ n. record { inputs = n.inputs; numbers = n.numbers.items; definitions = n.definitions.items } };
+
+    ghost invariant = { λ n. All (λ number. number < 2 ^ 31) n.numbers.items };
 }
 
 impl Naming {
-    ghost use Rattle.cnf_build.specs.Names.{lit_of, definition_of, with_gate, with_constant, NamesFirst};
+    ghost use Rattle.cnf_build.specs.Names.{variable_of, lit_of, definition_of, with_gate, with_constant, NamesFirst};
     ghost use Rattle.cnf_build.specs.NeededGates.{IsClosed};
 
     /// Names what is needed of a graph with so many inputs and these gates.
@@ -63,21 +66,27 @@ impl Naming {
         self.definitions.as_slice()
     }
 
+    /// The variable of a node.
+    fn variable(&self, node: Node) -> u32
+        requires few { self.now.inputs < 2 ^ 28 }
+        requires own { IsAmong self.now.inputs (length self.now.numbers) node }
+        ensures variable { result ≡ variable_of self.now node }
+        ensures small { result < 2 ^ 31 }
+    {
+        match node {
+            Node::One => self.inputs + 1,
+            Node::Input(place) => place as u32 + 1,
+            Node::Output(place) => self.numbers[place],
+        }
+    }
+
     /// A literal of the graph as a literal of its node's variable.
     pub(crate) fn literal(&self, literal: Literal) -> Lit
         requires few { self.now.inputs < 2 ^ 28 }
         requires own { IsAmong self.now.inputs (length self.now.numbers) literal.node }
         ensures { result ≡ lit_of self.now literal }
     {
-        let variable = match literal.node() {
-            Node::One => self.inputs + 1,
-            Node::Input(place) => place as u32 + 1,
-            Node::Output(place) => self.numbers[place],
-        };
-        Lit {
-            variable,
-            negated: literal.is_negated(),
-        }
+        Lit::new(self.variable(literal.node()), literal.is_negated())
     }
 
     /// A gate's definition over its operands' variables.

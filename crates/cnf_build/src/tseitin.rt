@@ -13,7 +13,7 @@ pub(crate) fn clauses_from(
     first: u32,
     definitions: &[Definition],
 ) -> Result<List<Clause>, AllocError>
-    requires { first + length definitions.now < 2 ^ 32 }
+    requires { first + length definitions.now < 2 ^ 31 }
     ensures { IfOk result (λ clauses. clauses ≡ clauses_from first definitions.now) }
 {
     let mut clauses = List::new(alloc);
@@ -32,12 +32,10 @@ fn push_definition(
     variable: u32,
     definition: Definition,
 ) -> Result<(), AllocError>
+    requires { variable < 2 ^ 31 }
     ensures { OnOk result (clauses.new ≡ clauses.old ++ clauses_of_definition variable definition) }
 {
-    let yes = Lit {
-        variable,
-        negated: false,
-    };
+    let yes = Lit::new(variable, false);
     let no = yes.negation();
     match definition {
         Definition::One => push_clause(alloc, clauses, &[yes]),

@@ -1,4 +1,4 @@
-use Rattle.std.proofs.Common.{◌+◌, ◌<◌, length, refl, sym, ap, ◌∙◌, subst, arith}
+use Rattle.std.proofs.Common.{◌≡◌, ◌+◌, ◌<◌, length, refl, sym, ap, ◌∙◌, subst, arith}
 use Rattle.std.proofs.lemmas.Option.{slice_get_read}
 use Rattle.aig.specs.Graph.{IsInOrder}
 use Rattle.cnf_build.specs.Names.{Names, NamesFirst, with_gate}
@@ -20,3 +20,9 @@ loop-place-preserved c =
       inputs = ap (λ (n : Names). n.inputs) c.in_ok-name_gate.ensures ∙ inputs-with_gate names gate c.has_gate.result ∙ c.loop-place.invariant.inputs;
       named = subst (NamesFirst gates c.args.needed.now (k + 1)) (sym c.in_ok-name_gate.ensures) next;
     }
+
+pub returns-clause-named : goal.returns-clause-named
+returns-clause-named c =
+    let gates = c.args.gates.now in
+    let whole : c.loop-place.place ≡ length gates = omega (arith, c.loop-place.auto.place-end, c.loop-place-test.false) in
+    subst (λ k. NamesFirst gates c.args.needed.now k c.loop-place.naming) whole c.loop-place.invariant.named
