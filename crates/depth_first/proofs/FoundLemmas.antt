@@ -5,10 +5,9 @@ use Rattle.std.proofs.lemmas.Bool.{cases_Bool, true≢false, or_cases, or_left, 
 use Rattle.std.proofs.lemmas.List.{length-map, take-append-drop, length-take-le, get_or-map, map-append}
 use Rattle.std.proofs.lemmas.List.Elements.{All-nil, All-cons, All-head, All-tail}
 use Rattle.std.proofs.lemmas.Option.{slice_get-get_or}
-use Rattle.clauses.specs.declared.literal.Lit.{Lit}
 use Rattle.clauses.specs.declared.cnf.Cnf.{Cnf}
 use Rattle.clauses.specs.declared.step.Step.{Step}
-use Rattle.clauses.specs.Literal.{negation_of, is_same, literal_of, literal_true, clause_true, assignment_of, IsVariable}
+use Rattle.clauses.specs.Literal.{Lit, negation_of, is_same, literal_of, literal_true, clause_true, assignment_of, IsVariable}
 use Rattle.clauses.specs.Propagation.{IsFalsified, is_held, is_false}
 use Rattle.clauses.specs.ClauseSet.{all_clauses, clauses_of_steps, clauses_before, LogFollows, LogIsNew, IsNew, StepFollows, UnitsDetermine, setting_literals, clauses_with}
 use Rattle.clauses.proofs.Held.{is_same-self, is_same-true}

@@ -2,8 +2,7 @@
 use Rattle.std.proofs.Common.{◌≡◌, ℕ, suc, ◌+◌, true, List, [], ◌∷◌, ◌++◌, Some, length, take, sym, ap, ◌∙◌, arith, inl, inr, subst}
 use Rattle.std.specs.Prelude.{slice_get, ◌⊎◌}
 use Rattle.std.proofs.lemmas.Bool.{cases_Bool, cases_order}
-use Rattle.clauses.specs.declared.literal.Lit.{Lit}
-use Rattle.clauses.specs.Literal.{is_same}
+use Rattle.clauses.specs.Literal.{Lit, is_same}
 use Rattle.clauses.specs.Propagation.{is_held}
 use Rattle.clauses.proofs.Held.{is_same-true}
 use Rattle.depth_first.specs.declared.occurrences.Occurrences.{Occurrences}

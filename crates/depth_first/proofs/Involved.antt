@@ -3,10 +3,9 @@ use Rattle.std.proofs.Common.{◌≡◌, ℕ, zero, suc, ◌+◌, ◌<◌, Bool,
 use Rattle.std.specs.Prelude.{slice_get, ◌⊎◌, Option}
 use Rattle.std.proofs.lemmas.Bool.{cases_Bool, cases_eq, cases_order}
 use Rattle.std.proofs.lemmas.List.{get_or-set_same, get_or-set_other, get_or_read}
-use Rattle.clauses.specs.declared.literal.Lit.{Lit}
 use Rattle.clauses.specs.declared.cnf.Cnf.{Cnf}
 use Rattle.clauses.specs.declared.step.Step.{Step}
-use Rattle.clauses.specs.Literal.{negation_of, IsWithin}
+use Rattle.clauses.specs.Literal.{Lit, negation_of, IsWithin}
 use Rattle.clauses.specs.Propagation.{is_held, is_false}
 use Rattle.clauses.proofs.Units.{unit_only}
 use Rattle.clauses.specs.ClauseSet.{all_clauses, clauses_of_steps, LogFollows, clauses_with}

@@ -2,8 +2,7 @@
 use Rattle.std.proofs.Common.{◌≡◌, ℕ, true, false, List, [], ◌∷◌, ◌++◌, sym, ap, ◌∙◌, inl, inr, subst}
 use Rattle.std.proofs.lemmas.Bool.{or_cases, cases_Bool, true≢false, false_from_ne_true}
 use Rattle.std.proofs.lemmas.List.Elements.{All-head, All-tail}
-use Rattle.clauses.specs.declared.literal.Lit.{Lit}
-use Rattle.clauses.specs.Literal.{negation_of, is_same, IsVariable, IsWithin}
+use Rattle.clauses.specs.Literal.{Lit, negation_of, is_same, IsVariable, IsWithin}
 use Rattle.clauses.specs.Propagation.{is_held, is_false, IsUnit}
 use Rattle.clauses.proofs.Held.{is_same-true, is_same-self, negation-negation}
 use Rattle.clauses.proofs.Units.{not_falsified_by, unit_only, unit_same, unit_stands, IsFalsified-agree, IsUnit-agree}

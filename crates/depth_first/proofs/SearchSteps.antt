@@ -2,10 +2,9 @@
 use Rattle.std.proofs.Common.{◌≡◌, ℕ, suc, ◌+◌, ◌<◌, ◌≤◌, Bool, Option, true, false, List, [], ◌∷◌, ◌++◌, Some, None, length, take, set, refl, sym, ap, ◌∙◌, arith, inl, inr, subst}
 use Rattle.std.specs.Prelude.{slice_get, ◌⊎◌, Contains, IfSome, IfNone}
 use Rattle.std.proofs.lemmas.List.{length_push}
-use Rattle.clauses.specs.declared.literal.Lit.{Lit}
 use Rattle.clauses.specs.declared.cnf.Cnf.{Cnf}
 use Rattle.clauses.specs.declared.step.Step.{Step}
-use Rattle.clauses.specs.Literal.{negation_of}
+use Rattle.clauses.specs.Literal.{Lit, negation_of}
 use Rattle.clauses.specs.Propagation.{NamesFalse}
 use Rattle.clauses.specs.ClauseSet.{all_clauses, clauses_of_steps, clauses_with}
 use Rattle.depth_first.specs.declared.trail.Entry.{Entry}

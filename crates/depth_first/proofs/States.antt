@@ -4,10 +4,9 @@ use Rattle.std.specs.Prelude.{slice_get, remove}
 use Rattle.std.proofs.lemmas.List.{append-nil, map-append, drop_all, length-map}
 use Rattle.std.proofs.lemmas.Bool.{or_cases, or_left, or_right}
 use Rattle.std.proofs.lemmas.List.Elements.{All-nil, All-cons}
-use Rattle.clauses.specs.declared.literal.Lit.{Lit}
 use Rattle.clauses.specs.declared.cnf.Cnf.{Cnf}
 use Rattle.clauses.specs.declared.step.Step.{Step}
-use Rattle.clauses.specs.Literal.{negation_of, is_same, IsVariable, IsWithin}
+use Rattle.clauses.specs.Literal.{Lit, negation_of, is_same, IsVariable, IsWithin}
 use Rattle.clauses.specs.Propagation.{NamesUnit, IsFalsified, is_held, is_false, negations_of}
 use Rattle.clauses.specs.ClauseSet.{all_clauses, clauses_of_steps, clauses_before, StepFollows, LogFollows, LogIsNew, IsNew, clauses_with}
 use Rattle.clauses.proofs.Held.{negation-negation, is_same-true, is_same-self}

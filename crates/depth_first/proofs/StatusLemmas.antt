@@ -1,8 +1,7 @@
 -- What a walk along a clause tells of it.
 use Rattle.std.proofs.Common.{◌≡◌, ℕ, ◌<◌, Bool, true, false, List, length, take, get_or, sym, ◌∙◌}
 use Rattle.std.proofs.lemmas.Option.{slice_get-get_or}
-use Rattle.clauses.specs.declared.literal.Lit.{Lit}
-use Rattle.clauses.specs.Literal.{IsWithin, IsVariable}
+use Rattle.clauses.specs.Literal.{Lit, IsWithin, IsVariable}
 use Rattle.clauses.specs.Propagation.{is_held, is_false, IsUnit}
 use Rattle.clauses.proofs.Units.{two_differ, unit_stands}
 use Rattle.depth_first.specs.Propagated.{IsPropagated}

@@ -3,8 +3,7 @@ use Rattle.std.proofs.Common.{◌≡◌, ℕ, ◌+◌, ◌<◌, ◌≤◌, Bool,
 use Rattle.std.proofs.lemmas.Bool.{cases_eq, eq-eqb, ne_eqb, true≢false}
 use Rattle.std.proofs.lemmas.List.{get_or-set_same, get_or-set_other}
 use Rattle.std.proofs.lemmas.List.Sums.{sum_by-set}
-use Rattle.clauses.specs.declared.literal.Lit.{Lit}
-use Rattle.clauses.specs.Literal.{negation_of, is_same}
+use Rattle.clauses.specs.Literal.{Lit, negation_of, is_same}
 use Rattle.clauses.specs.Propagation.{is_held}
 use Rattle.clauses.proofs.Held.{made}
 use Rattle.depth_first.specs.declared.trail.Entry.{Entry}

@@ -1,10 +1,9 @@
 -- A depth-first search for a model: its state between two steps. Each learned clause is satisfied by what is held;
 -- below a decision, it is satisfied already or has the decision's negation, to which the decision is flipped later.
 use Rattle.std.specs.Prelude.{◌≡◌, ℕ, ◌⊎◌, true, List, Some, All, Contains, take, slice_get}
-use Rattle.clauses.specs.declared.literal.Lit.{Lit}
 use Rattle.clauses.specs.declared.cnf.Cnf.{Cnf}
 use Rattle.clauses.specs.declared.step.Step.{Step}
-use Rattle.clauses.specs.Literal.{negation_of, IsVariable}
+use Rattle.clauses.specs.Literal.{Lit, negation_of, IsVariable}
 use Rattle.clauses.specs.Propagation.{NamesUnit, is_held}
 use Rattle.clauses.specs.ClauseSet.{all_clauses, clauses_of_steps, LogFollows, LogIsNew, clauses_with}
 use Rattle.depth_first.specs.declared.trail.Entry.{Entry}

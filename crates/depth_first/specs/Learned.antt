@@ -1,6 +1,6 @@
 -- What is learned of a conflict: which variables it rests on, and the step that shows it.
 use Rattle.std.specs.Prelude.{◌≡◌, ℕ, ◌≤◌, ◌++◌, ◌⊎◌, Bool, true, false, List, [], ◌∷◌, Some, filter, slice_get, slice_index_or}
-use Rattle.clauses.specs.declared.literal.Lit.{Lit}
+use Rattle.clauses.specs.Literal.{Lit}
 use Rattle.clauses.specs.declared.step.Step.{Step}
 use Rattle.clauses.specs.Propagation.{is_held, negations_of}
 use Rattle.depth_first.specs.declared.trail.Entry.{Entry}

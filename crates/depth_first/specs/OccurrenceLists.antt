@@ -1,8 +1,7 @@
 -- Lists of the clauses in which each literal stands.
 use Rattle.std.specs.Prelude.{◌≡◌, ℕ, ◌+◌, ◌<◌, ◌++◌, ◌⊎◌, true, false, List, [], ◌∷◌, Some, if◌then◌else◌, length, slice_get, slice_index_or}
-use Rattle.clauses.specs.declared.literal.Lit.{Lit}
 use Rattle.clauses.specs.declared.cnf.Cnf.{Cnf}
-use Rattle.clauses.specs.Literal.{is_same}
+use Rattle.clauses.specs.Literal.{Lit, is_same}
 use Rattle.clauses.specs.Propagation.{is_held}
 use Rattle.clauses.specs.ClauseSet.{all_clauses}
 use Rattle.depth_first.specs.declared.occurrences.Occurrences.{Occurrences}

@@ -2,8 +2,7 @@
 -- (Davis, Putnam, Logemann, Loveland).
 use Rattle.std.specs.Prelude.{◌≡◌, ℕ, ◌<◌, ◌≤◌, ◌++◌, Bool, true, false, not, List, [], ◌∷◌, Some, None, Option, if◌then◌else◌, map, filter, take, length, slice_get, slice_index_or, unwrap_or}
 use Rattle.std.specs.List.{filter_map, sum_by}
-use Rattle.clauses.specs.declared.literal.Lit.{Lit}
-use Rattle.clauses.specs.Literal.{negation_of, literal_of}
+use Rattle.clauses.specs.Literal.{Lit, negation_of, literal_of}
 use Rattle.clauses.specs.Propagation.{NamesUnit, is_held}
 use Rattle.depth_first.specs.declared.trail.Entry.{Entry}
 use Rattle.depth_first.specs.declared.trail.Cause.{Cause}

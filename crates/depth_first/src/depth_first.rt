@@ -1,6 +1,6 @@
 //! Going down decision by decision.
 
-ghost use Rattle.std.specs.Prelude.{◌≡◌, ◌+◌, ◌<◌, ◌≤◌, ◌↔◌, ℕ, Contains, length, IfOk, IfSome, IfNone, IsTrue};
+ghost use Rattle.std.specs.Prelude.{◌≡◌, ◌+◌, ◌^◌, ◌<◌, ◌≤◌, ◌↔◌, ℕ, Contains, length, IfOk, IfSome, IfNone, IsTrue};
 ghost use Rattle.clauses.specs.Literal.{IsVariable};
 ghost use Rattle.clauses.specs.Propagation.{NamesFalse};
 ghost use Rattle.clauses.specs.ClauseSet.{all_clauses};
@@ -82,14 +82,14 @@ fn next_decision(cnf: &Cnf, trail: &Trail) -> Option<Entry>
 
 /// A variable decided to be false.
 fn decision(variable: u32, cause: Cause) -> Entry
+    requires { variable < 2 ^ 31 }
     ensures variable { result.literal.variable ≡ variable }
     ensures cause { result.cause ≡ cause }
 {
-    let literal = Lit {
-        variable,
-        negated: true,
-    };
-    Entry { literal, cause }
+    Entry {
+        literal: Lit::new(variable, true),
+        cause,
+    }
 }
 
 /// Whether the search may give up at a conflict under this last decision: the inputs are set, and units didn't

@@ -34,7 +34,7 @@ pub(crate) fn learned(
     for entry in &trail.entries {
         match entry.cause.reason() {
             Some(number) => {
-                if involved[entry.literal.variable as usize] {
+                if involved[entry.literal.variable() as usize] {
                     hints.push(number)?;
                 }
             }
@@ -86,7 +86,7 @@ fn involved(
     while place > 0 {
         place -= 1;
         let entry = trail.entries[place];
-        if marked[entry.literal.variable as usize] {
+        if marked[entry.literal.variable() as usize] {
             if let Some(number) = entry.cause.reason() {
                 mark(numbered(cnf, log, number), &mut marked);
             }
@@ -110,6 +110,6 @@ fn mark(clause: &[Lit], marked: &mut Vec<bool>)
     ensures marks { Marks clause.now marked.old.items marked.new.items }
 {
     for literal in clause {
-        marked[literal.variable as usize] = true;
+        marked[literal.variable() as usize] = true;
     }
 }

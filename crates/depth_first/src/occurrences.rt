@@ -15,7 +15,7 @@ pub(crate) struct Occurrences {
 
 impl Occurrences {
     ghost use Rattle.std.specs.Prelude.{◌≡◌, ◌+◌, ◌<◌, ◌^◌, [], length, All, IfOk, OnOk};
-    ghost use Rattle.clauses.specs.declared.literal.Lit.{Lit};
+    ghost use Rattle.clauses.specs.Literal.{Lit};
     ghost use Rattle.depth_first.specs.OccurrenceLists.{numbers_of, CoversBelow, AddsNumber, AddsClause, IsIndexOf};
 
     /// Those of the clauses of a set.
@@ -47,10 +47,10 @@ impl Occurrences {
         requires negative { literal.variable < length self.now.negative.items }
         ensures { result.now ≡ numbers_of self.now literal }
     {
-        if literal.negated {
-            self.negative[literal.variable as usize].as_slice()
+        if literal.is_negated() {
+            self.negative[literal.variable() as usize].as_slice()
         } else {
-            self.positive[literal.variable as usize].as_slice()
+            self.positive[literal.variable() as usize].as_slice()
         }
     }
 
@@ -75,10 +75,10 @@ impl Occurrences {
         ensures negative { length self.new.negative.items ≡ length self.old.negative.items }
         ensures adds { OnOk result (AddsNumber self.old self.new literal number) }
     {
-        if literal.negated {
-            add_at(&mut self.negative, literal.variable, number)?;
+        if literal.is_negated() {
+            add_at(&mut self.negative, literal.variable(), number)?;
         } else {
-            add_at(&mut self.positive, literal.variable, number)?;
+            add_at(&mut self.positive, literal.variable(), number)?;
         }
         Ok(())
     }

@@ -93,8 +93,8 @@ impl Trail {
         requires { literal.variable < length self.now.values.items }
         ensures { result ≡ is_held (literals self.now.entries.items) literal }
     {
-        match self.values[literal.variable as usize] {
-            Some(value) => { if literal.negated { !value } else { value } }
+        match self.values[literal.variable() as usize] {
+            Some(value) => { if literal.is_negated() { !value } else { value } }
             None => false,
         }
     }
@@ -119,8 +119,10 @@ impl Trail {
         ensures err { OnErr result (self.new.entries.items ≡ self.old.entries.items) }
         ensures variables { length self.new.values.items ≡ length self.old.values.items }
     {
+        let place = entry.literal.variable() as usize;
+        let value = !entry.literal.is_negated();
         self.entries.push(entry)?;
-        self.values[entry.literal.variable as usize] = Some(!entry.literal.negated);
+        self.values[place] = Some(value);
         Ok(())
     }
 
@@ -130,7 +132,7 @@ impl Trail {
         ensures variables { length self.new.values.items ≡ length self.old.values.items }
     {
         if let Some(entry) = self.entries.pop() {
-            self.values[entry.literal.variable as usize] = None;
+            self.values[entry.literal.variable() as usize] = None;
         }
     }
 

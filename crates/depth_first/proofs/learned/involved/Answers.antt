@@ -1,4 +1,4 @@
-use Rattle.std.proofs.Common.{◌≡◌, ◌+◌, ◌-◌, ◌<◌, Some, length, refl, sym, ◌∙◌, subst, arith, false}
+use Rattle.std.proofs.Common.{◌≡◌, ◌+◌, ◌-◌, ◌<◌, Some, length, get_or, refl, sym, ap, ◌∙◌, subst, arith, false}
 use Rattle.std.specs.Prelude.{slice_get}
 use Rattle.std.proofs.lemmas.Bool.{true≢false}
 use Rattle.std.proofs.lemmas.List.{get_or_read}
@@ -40,7 +40,7 @@ index-requires c =
     let e = c.index-entry.result.now in
     let at : slice_get entries place ≡ Some e =
     slice_get_read entries (length entries) place e refl (omega (arith, c.loop-place-test.true, c.loop-place.invariant.within)) c.index-entry.ensures in
-    omega (arith, (trail.fresh place e at).1, c.requires.variables, c.loop-place.invariant.size, c.loop-place.marked.ok.0)
+    omega (arith, (trail.fresh place e at).1, c.variable.ensures, c.requires.variables, c.loop-place.invariant.size, c.loop-place.marked.ok.0)
 
 pub numbered-requires-in-Some : goal.numbered-requires-in-Some
 numbered-requires-in-Some c =
@@ -105,7 +105,9 @@ loop-place-preserved c =
     let at : slice_get entries place ≡ Some e =
     slice_get_read entries (length entries) place e refl (omega (arith, c.loop-place-test.true, c.loop-place.invariant.within)) c.index-entry.ensures in
     let room : e.literal.variable < length marks = omega (arith, (trail.fresh place e at).1, c.requires.variables, c.loop-place.invariant.size) in
-    let free : is_marked marks e.literal.variable ≡ false = sym (get_or_read marks e.literal.variable c.index.result.now room c.index.ensures false) ∙ c.if-index.false in
+    let mark : c.index.result.now ≡ get_or marks e.literal.variable c.index.result.now =
+    c.index.ensures ∙ ap (λ n. get_or marks n c.index.result.now) c.variable.ensures in
+    let free : is_marked marks e.literal.variable ≡ false = sym (get_or_read marks e.literal.variable c.index.result.now room mark false) ∙ c.if-index.false in
     record {
       size = c.loop-place.invariant.size;
       within = omega (arith, c.loop-place.invariant.within);

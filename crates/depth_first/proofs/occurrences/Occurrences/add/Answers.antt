@@ -1,4 +1,4 @@
-use Rattle.std.proofs.Common.{arith}
+use Rattle.std.proofs.Common.{Some, sym, ap, ◌∙◌, arith}
 use Rattle.std.proofs.lemmas.Option.{slice_get-get_or}
 use Rattle.depth_first.proofs.Index.{AddsClause-next}
 use Rattle.depth_first.proofs.occurrences.Occurrences.add.Goals as goal
@@ -12,8 +12,8 @@ loop-literal-preserved c =
             negative = omega (arith, c.add_literal.ensures.negative, c.loop-literal.invariant.covers.negative);
           };
       adds =
-          AddsClause-next c.args.self.now c.loop-literal.self c.add_literal.new.self c.args.clause.now c.loop-literal.literal-index c.args.number _
-          (slice_get-get_or c.args.clause.now c.loop-literal.literal-index _ c.loop-literal-test.true)
+          AddsClause-next c.args.self.now c.loop-literal.self c.add_literal.new.self c.args.clause.now c.loop-literal.literal-index c.args.number c.literal-item.result
+          (slice_get-get_or c.args.clause.now c.loop-literal.literal-index c.literal-item.result c.loop-literal-test.true ∙ ap Some (sym c.literal-item.is))
           c.loop-literal.invariant.adds
           c.in_ok-add_literal.ensures.adds;
     }

@@ -1,8 +1,7 @@
 use Rattle.std.proofs.Common.{◌≡◌, List, Some, length, take, ◌++◌, ◌∷◌, [], refl, sym, ap, ◌∙◌, subst}
 use Rattle.std.specs.Prelude.{slice_get}
 use Rattle.std.proofs.lemmas.Option.{slice_get_read}
-use Rattle.clauses.specs.declared.literal.Lit.{Lit}
-use Rattle.clauses.specs.Literal.{negation_of}
+use Rattle.clauses.specs.Literal.{Lit, negation_of}
 use Rattle.depth_first.specs.declared.trail.Entry.{Entry}
 use Rattle.depth_first.specs.declared.trail.Cause.TheVariants.{Reason}
 use Rattle.depth_first.specs.TrailEntries.{IsOpen, literals}

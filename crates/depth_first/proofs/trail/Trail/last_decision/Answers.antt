@@ -1,4 +1,6 @@
 use Rattle.std.proofs.Common.{◌≡◌, Some, cond, sym, ap, ◌∙◌}
+use Rattle.depth_first.specs.declared.trail.Entry.{Entry}
+use Rattle.depth_first.specs.TrailEntries.{is_decision}
 use Rattle.depth_first.proofs.Decisions.{LastBefore-step}
 use Rattle.depth_first.proofs.trail.Trail.last_decision.Goals as goal
 use Rattle.depth_first.proofs.trail.Trail.last_decision.Goals.{then-is_decision, else-is_decision}
@@ -12,5 +14,6 @@ loop-place-preserved c =
       | then-is_decision w ↦ w.last-is ∙ ap (λ b. cond b (Some k) last) (sym w.if-is_decision.true)
       | else-is_decision w ↦ w.last-is ∙ ap (λ b. cond b (Some k) last) (sym w.if-is_decision.false)
     ] in
-    LastBefore-step c.args.self.now.entries.items c.deref-entry-items.result.now k _ last c.if-is_decision.last c.is_decision.result
-    c.deref-entry-items.ensures.value c.loop-place-test.true c.is_decision.ensures c.loop-place.invariant next
+    LastBefore-step c.args.self.now.entries.items c.deref-entry-items.result.now k c.entry-item.result last c.if-is_decision.last c.is_decision.result
+    c.deref-entry-items.ensures.value c.loop-place-test.true
+    (c.is_decision.ensures ∙ ap (λ (e : Entry). is_decision e.cause) c.entry-item.is) c.loop-place.invariant next

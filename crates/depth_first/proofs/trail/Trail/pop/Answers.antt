@@ -1,6 +1,6 @@
-use Rattle.std.proofs.Common.{refl, ◌≡◌, None, length, subst, arith, length-set, ◌++◌, ◌∷◌, []}
+use Rattle.std.proofs.Common.{refl, ◌≡◌, ◌+◌, Bool, Option, List, None, length, set, sym, ap, subst, arith, length-set, ◌++◌, ◌∷◌, []}
 use Rattle.std.proofs.lemmas.List.{length_push}
-use Rattle.depth_first.specs.TrailEntries.{IsTableOf, EachFresh}
+use Rattle.depth_first.specs.TrailEntries.{IsTableOf, EachFresh, open_count}
 use Rattle.depth_first.proofs.TrailTable.{IsTableOf-pop, EachFresh-pop, open_count-pop, last_fresh}
 use Rattle.depth_first.proofs.HeldLists.{literal_at}
 use Rattle.depth_first.proofs.Lists.{slice_get_last}
@@ -17,16 +17,18 @@ invariant_of-self c =
     let table : IsTableOf values (entries ++ e ∷ []) = subst (IsTableOf values) was trail.table in
     let fresh : EachFresh values (entries ++ e ∷ []) = subst (EachFresh values) was trail.fresh in
     let last = last_fresh values entries e fresh in
+    let is : set values l.variable None ≡ set values c.variable.result None = ap (λ k. set values k None) (sym c.variable.ensures) in
     record {
-      table = IsTableOf-pop values entries e table last.0 last.1;
-      fresh = EachFresh-pop values entries e l.variable None fresh;
+      table = subst (λ vs. IsTableOf vs entries) is (IsTableOf-pop values entries e table last.0 last.1);
+      fresh = subst (λ vs. EachFresh vs entries) is (EachFresh-pop values entries e l.variable None fresh);
       counted =
-          omega (
+          subst (λ (vs : List (Option Bool)). open_count vs + length entries ≡ length vs) is
+          (omega (
             arith,
             trail.counted,
             subst (λ es. length trail.entries.items ≡ length es) was refl,
             length_push entries e,
             length-set values l.variable None,
             open_count-pop values (entries ++ e ∷ []) l table last.0 (literal_at (entries ++ e ∷ []) (length entries) e (slice_get_last entries e)),
-          );
+          ));
     }

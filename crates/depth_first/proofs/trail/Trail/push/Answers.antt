@@ -1,4 +1,4 @@
-use Rattle.std.proofs.Common.{◌≡◌, ◌+◌, not, Some, length, set, sym, subst, arith, length-set, ◌++◌, ◌∷◌, [], List}
+use Rattle.std.proofs.Common.{◌≡◌, ◌+◌, not, Some, length, set, sym, ap, ◌∙◌, Bool, Option, subst, arith, length-set, ◌++◌, ◌∷◌, [], List}
 use Rattle.std.proofs.lemmas.List.{length_push}
 use Rattle.depth_first.specs.declared.trail.Entry.{Entry}
 use Rattle.depth_first.specs.TrailEntries.{IsTableOf, EachFresh, open_count}
@@ -13,17 +13,24 @@ invariant_of-self-2 c =
     let e = c.args.entry in
     let n = e.literal.variable in
     let values' = set values n (Some (not e.literal.negated)) in
+    let is : set values c.variable-place.result (Some (not c.is_negated-value.result)) ≡ values' =
+    ap (λ k. set values k (Some (not c.is_negated-value.result))) c.variable-place.ensures ∙ ap (λ b. set values n (Some (not b))) c.is_negated-value.ensures in
     let pushed : c.push.new.self.items ≡ entries ++ e ∷ [] = c.in_ok-push.ensures.items in
     record {
-      table = subst (IsTableOf values') (sym pushed) (IsTableOf-push values entries e trail.table c.requires.last c.requires.open);
-      fresh = subst (EachFresh values') (sym pushed) (EachFresh-push values entries e (Some (not e.literal.negated)) trail.fresh c.requires.first c.requires.last c.requires.open);
+      table =
+          subst (λ vs. IsTableOf vs c.push.new.self.items) (sym is)
+          (subst (IsTableOf values') (sym pushed) (IsTableOf-push values entries e trail.table c.requires.last c.requires.open));
+      fresh =
+          subst (λ vs. EachFresh vs c.push.new.self.items) (sym is)
+          (subst (EachFresh values') (sym pushed) (EachFresh-push values entries e (Some (not e.literal.negated)) trail.fresh c.requires.first c.requires.last c.requires.open));
       counted =
-          subst (λ (es : List Entry). open_count values' + length es ≡ length values') (sym pushed)
+          subst (λ (vs : List (Option Bool)). open_count vs + length c.push.new.self.items ≡ length vs) (sym is)
+          (subst (λ (es : List Entry). open_count values' + length es ≡ length values') (sym pushed)
           (omega (
             arith,
             trail.counted,
             length_push entries e,
             length-set values n (Some (not e.literal.negated)),
             open_count-push values entries n (not e.literal.negated) trail.table c.requires.last c.requires.open,
-          ));
+          )));
     }
