@@ -3,7 +3,7 @@ use Rattle.std.proofs.Common.{◌≡◌, ℕ, suc, ◌+◌, ◌<◌, ◌≤◌, 
 use Rattle.std.specs.Prelude.{slice_get, ◌⊎◌}
 use Rattle.std.proofs.lemmas.Bool.{true≢false}
 use Rattle.std.proofs.lemmas.List.{take-append-le, take_all}
-use Rattle.clauses.specs.declared.literal.Lit.{Lit}
+use Rattle.clauses.specs.Literal.{Lit}
 use Rattle.clauses.specs.Propagation.{is_held, is_false}
 use Rattle.depth_first.specs.declared.trail.Entry.{Entry}
 use Rattle.depth_first.specs.TrailEntries.{literals, is_decision, Grows}

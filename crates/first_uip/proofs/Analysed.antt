@@ -3,10 +3,9 @@ use Rattle.std.proofs.Common.{◌≡◌, ℕ, zero, suc, ◌+◌, ◌<◌, ◌�
 use Rattle.std.specs.Prelude.{slice_get, remove, ◌⊎◌}
 use Rattle.std.proofs.lemmas.Bool.{cases_Bool, cases_order, cases_lt, or_cases, or_left, or_right, true≢false}
 use Rattle.std.proofs.lemmas.List.{get_or-set_same, get_or-set_other}
-use Rattle.clauses.specs.declared.literal.Lit.{Lit}
 use Rattle.clauses.specs.declared.cnf.Cnf.{Cnf}
 use Rattle.clauses.specs.declared.step.Step.{Step}
-use Rattle.clauses.specs.Literal.{negation_of, is_same, IsVariable, IsWithin}
+use Rattle.clauses.specs.Literal.{Lit, negation_of, is_same, IsVariable, IsWithin}
 use Rattle.clauses.specs.Propagation.{HintsRefute, NamesFalse, is_held, is_false, negations_of}
 use Rattle.clauses.specs.ClauseSet.{StepFollows, IsNew, clauses_with}
 use Rattle.clauses.proofs.Held.{is_same-self, is_same-true, negation-negation}

@@ -4,8 +4,7 @@ use Rattle.std.specs.Prelude.{slice_get, ◌⊎◌}
 use Rattle.std.specs.List.{swap_remove}
 use Rattle.std.proofs.lemmas.Bool.{cases_Bool, cases_eq, cases_order, true≢false, false_from_ne_true}
 use Rattle.std.proofs.lemmas.List.{take-append-le, take_all}
-use Rattle.clauses.specs.declared.literal.Lit.{Lit}
-use Rattle.clauses.specs.Literal.{negation_of, is_same}
+use Rattle.clauses.specs.Literal.{Lit, negation_of, is_same}
 use Rattle.clauses.specs.Propagation.{is_held, is_false}
 use Rattle.clauses.proofs.Held.{negation-negation}
 use Rattle.clauses.proofs.Closed.{HeldWithin, IsClosed}

@@ -4,10 +4,9 @@ use Rattle.std.specs.Prelude.{slice_get, MatchOption, All}
 use Rattle.std.proofs.lemmas.Bool.{cases_Bool, true≢false}
 use Rattle.std.proofs.lemmas.List.{length-take-le, take-append-le}
 use Rattle.std.proofs.lemmas.List.Elements.{All-nil}
-use Rattle.clauses.specs.declared.literal.Lit.{Lit}
 use Rattle.clauses.specs.declared.cnf.Cnf.{Cnf}
 use Rattle.clauses.specs.declared.step.Step.{Step}
-use Rattle.clauses.specs.Literal.{is_same, IsVariable, IsWithin}
+use Rattle.clauses.specs.Literal.{Lit, is_same, IsVariable, IsWithin}
 use Rattle.clauses.specs.Propagation.{IsUnit, NamesUnit, is_held, is_false}
 use Rattle.clauses.specs.ClauseSet.{StepFollows, IsNew, clauses_with}
 use Rattle.clauses.proofs.Held.{is_same-true}

@@ -3,8 +3,7 @@ use Rattle.std.proofs.Common.{◌≡◌, ℕ, ◌+◌, ◌<◌, ◌≤◌, true,
 use Rattle.std.specs.Prelude.{slice_get, ◌⊎◌}
 use Rattle.std.specs.List.{swap_remove}
 use Rattle.std.proofs.lemmas.Bool.{cases_Bool, cases_eq, true≢false}
-use Rattle.clauses.specs.declared.literal.Lit.{Lit}
-use Rattle.clauses.specs.Literal.{is_same}
+use Rattle.clauses.specs.Literal.{Lit, is_same}
 use Rattle.clauses.specs.Propagation.{is_held}
 use Rattle.clauses.proofs.Held.{is_same-true, is_same-self}
 use Rattle.depth_first.specs.Propagated.{StandsFrom}

@@ -4,10 +4,9 @@ use Rattle.std.specs.Prelude.{slice_get, All}
 use Rattle.std.proofs.lemmas.Bool.{cases_Bool, true≢false}
 use Rattle.std.proofs.lemmas.List.Elements.{All-contains}
 use Rattle.std.proofs.lemmas.Option.{slice_get_read}
-use Rattle.clauses.specs.declared.literal.Lit.{Lit}
 use Rattle.clauses.specs.declared.cnf.Cnf.{Cnf}
 use Rattle.clauses.specs.declared.step.Step.{Step}
-use Rattle.clauses.specs.Literal.{is_same, IsVariable, IsWithin}
+use Rattle.clauses.specs.Literal.{Lit, is_same, IsVariable, IsWithin}
 use Rattle.clauses.specs.Propagation.{IsUnit, IsFalsified, is_held, is_false}
 use Rattle.clauses.specs.ClauseSet.{LogFollows, clauses_with}
 use Rattle.clauses.proofs.Held.{is_same-true, is_same-self}

@@ -3,8 +3,7 @@ use Rattle.std.proofs.Common.{◌≡◌, ℕ, zero, suc, ◌+◌, ◌<◌, ◌�
 use Rattle.std.specs.Prelude.{slice_get, ◌⊎◌}
 use Rattle.std.proofs.lemmas.Bool.{cases_Bool, cases_eq, cases_order, true≢false}
 use Rattle.std.proofs.lemmas.List.{get_or-set_same, get_or-set_other}
-use Rattle.clauses.specs.declared.literal.Lit.{Lit}
-use Rattle.clauses.specs.Literal.{negation_of}
+use Rattle.clauses.specs.Literal.{Lit, negation_of}
 use Rattle.clauses.specs.Propagation.{is_held, is_false}
 use Rattle.clauses.proofs.Units.{unit_only}
 use Rattle.depth_first.specs.declared.trail.Entry.{Entry}

@@ -3,10 +3,9 @@ use Rattle.std.proofs.Common.{◌≡◌, ℕ, ◌+◌, ◌<◌, ◌≤◌, Bool,
 use Rattle.std.specs.Prelude.{slice_get, ◌⊎◌, unwrap_or, IfSome, IfNone}
 use Rattle.std.proofs.lemmas.Bool.{cases_lt, true≢false}
 use Rattle.std.proofs.lemmas.List.{take_all, append-nil}
-use Rattle.clauses.specs.declared.literal.Lit.{Lit}
 use Rattle.clauses.specs.declared.cnf.Cnf.{Cnf}
 use Rattle.clauses.specs.declared.step.Step.{Step}
-use Rattle.clauses.specs.Literal.{IsVariable}
+use Rattle.clauses.specs.Literal.{Lit, IsVariable}
 use Rattle.clauses.specs.Propagation.{NamesUnit}
 use Rattle.clauses.specs.ClauseSet.{all_clauses, clauses_of_steps, clauses_with}
 use Rattle.clauses.proofs.Closed.{HeldWithin, IsClosed, not_UnitsRefute}

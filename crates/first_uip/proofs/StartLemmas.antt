@@ -1,34 +1,39 @@
 -- Clauses of one literal, and literals that differ.
-use Rattle.std.proofs.Common.{◌≡◌, ℕ, suc, ◌+◌, ◌<◌, true, false, Bool, not, ◌&&◌, eqb, List, [], ◌∷◌, ◌++◌, Some, length, take, get_or, refl, sym, ap, ◌∙◌, arith, subst}
-use Rattle.std.specs.Prelude.{slice_get, All, IfSome}
-use Rattle.std.specs.Bool.{beq}
-use Rattle.std.proofs.lemmas.Bool.{true≢false, eq-eqb, and_from}
-use Rattle.std.proofs.lemmas.List.Elements.{All-nil, All-cons}
-use Rattle.clauses.specs.declared.literal.Lit.{Lit}
+use Rattle.std.proofs.Common.{◌≡◌, ℕ, suc, ◌+◌, ◌<◌, true, false, Bool, not, eqb, List, [], ◌∷◌, ◌++◌, Some, length, take, get_or, refl, sym, ap, ◌∙◌, arith, subst}
+use Rattle.std.specs.Prelude.{slice_get, All, IfSome, MatchOption, Option, None}
+use Rattle.std.proofs.lemmas.Bool.{true≢false, eq-eqb}
+use Rattle.std.proofs.lemmas.List.{take_more}
+use Rattle.std.proofs.lemmas.List.Elements.{All-nil, All-cons, All-more, Contains-push}
 use Rattle.clauses.specs.declared.cnf.Cnf.{Cnf}
-use Rattle.clauses.specs.Literal.{IsVariable}
+use Rattle.clauses.specs.Literal.{Lit, code_of, IsVariable}
 use Rattle.clauses.specs.Propagation.{IsUnit, IsFalsified, is_held, is_false}
 use Rattle.clauses.specs.ClauseSet.{all_clauses}
 use Rattle.depth_first.specs.declared.trail.Entry.{Entry}
 use Rattle.depth_first.specs.TrailEntries.{is_decision, Grows}
-use Rattle.clauses.proofs.Units.{Contains-from_held}
+use Rattle.clauses.proofs.Units.{Contains-from_held, held-from_Contains}
 use Rattle.depth_first.proofs.Lists.{element_at, take_next}
 use Rattle.depth_first.proofs.Open.{variable_within}
 use Rattle.depth_first.proofs.Sets.{clause_within}
 use Rattle.first_uip.specs.declared.start.Shape.TheVariants.{One}
 use Rattle.first_uip.specs.Shapes.{IsShape}
 
-beq-self : (a : Bool) → beq a a ≡ true
-beq-self true = refl
-beq-self false = refl
-
 -- literals of which `!=` is true
-pub differ_by_ne : (l m : Lit) (differs : Bool) → differs ≡ not (eqb l.variable m.variable && beq l.negated m.negated) → differs ≡ true → (l ≡ m) → ⊥
+pub differ_by_ne : (l m : Lit) (differs : Bool) → differs ≡ not (eqb (code_of l) (code_of m)) → differs ≡ true → (l ≡ m) → ⊥
 differ_by_ne l m differs is is_true same =
-    let both : (eqb l.variable m.variable && beq l.negated m.negated) ≡ true =
-    and_from (eqb l.variable m.variable) (beq l.negated m.negated) (eq-eqb l.variable m.variable (ap (λ (k : Lit). k.variable) same))
-    (sym (ap (λ (k : Lit). beq l.negated k.negated) (sym (sym same))) ∙ beq-self l.negated) in
-    true≢false (sym is_true ∙ is ∙ ap not both)
+    true≢false (sym is_true ∙ is ∙ ap not (eq-eqb (code_of l) (code_of m) (ap code_of same)))
+
+-- one literal more of a clause that has this literal alone so far, or none
+pub one_more : (clause : List Lit) (k : ℕ) (x : Lit) (first : Option Lit) → k < length clause → x ≡ get_or clause k x → ((l : Lit) → first ≡ Some l → l ≡ x) → MatchOption first (k ≡ 0) (λ y. (is_held (take k clause) y ≡ true) × All (λ m. m ≡ y) (take k clause)) → (is_held (take (k + 1) clause) x ≡ true) × All (λ m. m ≡ x) (take (k + 1) clause)
+one_more clause k x first within read same so_far =
+    let next : take (k + 1) clause ≡ take k clause ++ x ∷ [] =
+    take_more clause k x within ∙ ap (λ (y : Lit). take k clause ++ y ∷ []) (sym read) in (
+      subst (λ ls. is_held ls x ≡ true) (sym next) (held-from_Contains (take k clause ++ x ∷ []) x (Contains-push (take k clause) x)),
+      All-more (λ (m : Lit). m ≡ x) clause k x within (before first same so_far) (sym read),
+    )
+  where
+    before : (o : Option Lit) → ((l : Lit) → o ≡ Some l → l ≡ x) → MatchOption o (k ≡ 0) (λ y. (is_held (take k clause) y ≡ true) × All (λ m. m ≡ y) (take k clause)) → All (λ m. m ≡ x) (take k clause)
+    before None same none = subst (λ n. All (λ (m : Lit). m ≡ x) (take n clause)) (sym none) (All-nil (λ (m : Lit). m ≡ x))
+    before (Some l) same some = subst (λ (y : Lit). All (λ m. m ≡ y) (take k clause)) (same l refl) some.1
 
 -- the clause of a number that has one literal alone
 pub record IsAloneAt (set : Cnf) (number : ℕ) (l : Lit) : Type 0 where

@@ -1,6 +1,6 @@
 -- How many different literals a clause has, as far as watching asks.
 use Rattle.std.specs.Prelude.{◌≡◌, true, List, [], All}
-use Rattle.clauses.specs.declared.literal.Lit.{Lit}
+use Rattle.clauses.specs.Literal.{Lit}
 use Rattle.clauses.specs.Propagation.{is_held}
 use Rattle.first_uip.specs.declared.start.Shape.{Shape}
 use Rattle.first_uip.specs.declared.start.Shape.TheVariants.{Empty, One, Several}

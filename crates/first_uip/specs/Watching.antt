@@ -1,7 +1,6 @@
 -- Watched literals: which clauses have to be looked at when a literal becomes false (Chaff).
 use Rattle.std.specs.Prelude.{◌≡◌, ℕ, ◌<◌, ◌++◌, ◌⊎◌, true, false, List, [], ◌∷◌, Some, if◌then◌else◌, length, take, slice_get, slice_index_or}
-use Rattle.clauses.specs.declared.literal.Lit.{Lit}
-use Rattle.clauses.specs.Literal.{is_same}
+use Rattle.clauses.specs.Literal.{Lit, is_same}
 use Rattle.clauses.specs.Propagation.{is_held, is_false}
 use Rattle.depth_first.specs.declared.trail.Entry.{Entry}
 use Rattle.depth_first.specs.TrailEntries.{literals, is_decision}

@@ -38,7 +38,7 @@ fn last_seen(trail: &Trail, roles: &[Role], start: usize, end: usize) -> Option<
     let mut place = end;
     while place > start {
         place -= 1;
-        if roles[trail.entries[place].literal.variable as usize] != Role::Unseen {
+        if roles[trail.entries[place].literal.variable() as usize] != Role::Unseen {
             return Some(place);
         }
     }
@@ -81,7 +81,7 @@ fn all_seen(clause: &[Lit], roles: &[Role], but: u32) -> bool
     requires { All (λ l. l.variable < length roles.now) clause.now }
 {
     for literal in clause {
-        if literal.variable != but && roles[literal.variable as usize] == Role::Unseen {
+        if literal.variable() != but && roles[literal.variable() as usize] == Role::Unseen {
             return false;
         }
     }
@@ -109,7 +109,7 @@ fn is_redundant(
     match entry.cause.reason() {
         None => false,
         Some(number) => {
-            place < root || all_seen(numbered(cnf, log, number), roles, entry.literal.variable)
+            place < root || all_seen(numbered(cnf, log, number), roles, entry.literal.variable())
         }
     }
 }
@@ -134,7 +134,7 @@ fn settle_earlier(
     let mut place = start;
     while place > 0 {
         place -= 1;
-        let variable = trail.entries[place].literal.variable as usize;
+        let variable = trail.entries[place].literal.variable() as usize;
         if roles[variable] == Role::Unseen {
             continue;
         }
@@ -195,7 +195,7 @@ fn jump_from(trail: &Trail, roles: &[Role], start: usize) -> Jump
     while place > 0 {
         place -= 1;
         let entry = trail.entries[place];
-        if roles[entry.literal.variable as usize] == Role::Kept {
+        if roles[entry.literal.variable() as usize] == Role::Kept {
             return Jump {
                 place: earliest,
                 below: Some(place),
@@ -226,7 +226,7 @@ fn clause_of(
     let mut clause = Clause::new(alloc);
     for place in 0..start {
         let literal = trail.entries[place].literal;
-        if roles[literal.variable as usize] == Role::Kept {
+        if roles[literal.variable() as usize] == Role::Kept {
             clause.push(literal.negation())?;
         }
     }
@@ -247,7 +247,7 @@ fn hints_of(
     let mut hints = List::new(alloc);
     for place in 0..trail.entries.len() {
         let entry = trail.entries[place];
-        if roles[entry.literal.variable as usize] == Role::Resolved {
+        if roles[entry.literal.variable() as usize] == Role::Resolved {
             if let Some(number) = entry.cause.reason() {
                 hints.push(number)?;
             }
@@ -288,7 +288,7 @@ fn give_parts(
 {
     see(numbered(cnf, log, conflict), roles);
     let point = resolve_level(cnf, log, trail, start, roles);
-    roles[trail.entries[point].literal.variable as usize] = Role::Kept;
+    roles[trail.entries[point].literal.variable() as usize] = Role::Kept;
     let root = first_decision(trail).unwrap_or(0);
     settle_earlier(cnf, log, trail, start, root, roles);
     point

@@ -44,9 +44,16 @@ fn watched_beside(watched: Watched, literal: Lit) -> Option<Lit>
     ensures { MatchOption result (is_held (watched_literals watched) literal ≡ false) (WatchesBoth watched literal) }
 {
     match watched {
-        Watched::Two(first, second) if first == literal => Some(second),
-        Watched::Two(first, second) if second == literal => Some(first),
-        _ => None,
+        Watched::Alone => None,
+        Watched::Two(first, second) => {
+            if first == literal {
+                Some(second)
+            } else if second == literal {
+                Some(first)
+            } else {
+                None
+            }
+        }
     }
 }
 

@@ -63,10 +63,7 @@ impl Policy {
             Some(variable) => variable,
             None => open_variable(cnf, trail)?,
         };
-        Some(Lit {
-            variable,
-            negated: self.negated[variable as usize],
-        })
+        Some(Lit::new(variable, self.negated[variable as usize]))
     }
 
     /// The most active open variable of those in the order.
@@ -93,8 +90,8 @@ impl Policy {
     {
         for released in place..trail.entries.len() {
             let literal = trail.entries[released].literal;
-            self.negated[literal.variable as usize] = literal.negated;
-            self.order.insert(literal.variable)?;
+            self.negated[literal.variable() as usize] = literal.is_negated();
+            self.order.insert(literal.variable())?;
         }
         Ok(())
     }
@@ -106,7 +103,7 @@ impl Policy {
         ensures { length self.new.negated.items ≡ length self.old.negated.items }
     {
         for place in 0..trail.entries.len() {
-            let variable = trail.entries[place].literal.variable;
+            let variable = trail.entries[place].literal.variable();
             if roles[variable as usize] != Role::Unseen {
                 self.order.bump(variable);
             }

@@ -25,7 +25,7 @@ pub(crate) fn see(clause: &[Lit], roles: &mut [Role])
     ensures { Sees clause.now roles.old roles.new }
 {
     for literal in clause {
-        let variable = literal.variable as usize;
+        let variable = literal.variable() as usize;
         if roles[variable] == Role::Unseen {
             roles[variable] = Role::Resolved;
         }
@@ -45,7 +45,7 @@ pub(crate) fn resolve(cnf: &Cnf, log: &[Step], trail: &Trail, place: usize, role
     ensures same_kept { (n : ℕ) → is_kept (role_of roles.new n) ≡ is_kept (role_of roles.old n) }
 {
     let entry = trail.entries[place];
-    if roles[entry.literal.variable as usize] == Role::Unseen {
+    if roles[entry.literal.variable() as usize] == Role::Unseen {
         return;
     }
     if let Some(number) = entry.cause.reason() {

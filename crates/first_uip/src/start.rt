@@ -29,8 +29,12 @@ fn shape_of(clause: &[Lit]) -> Shape
     let mut first = None;
     for &literal in clause {
         match first {
-            Some(other) if other != literal => return Shape::Several(other, literal),
-            _ => first = Some(literal),
+            None => first = Some(literal),
+            Some(other) => {
+                if other != literal {
+                    return Shape::Several(other, literal);
+                }
+            }
         }
     }
     match first {

@@ -28,8 +28,7 @@ pub(crate) struct Watches {
 impl Watches {
     ghost use Rattle.std.specs.Prelude.{◌≡◌, ◌+◌, ◌<◌, ◌^◌, ◌++◌, ◌∷◌, [], false, length, slice_set, All, IfOk, OnOk};
     ghost use Rattle.std.specs.List.{swap_remove};
-    ghost use Rattle.clauses.specs.declared.literal.Lit.{Lit};
-    ghost use Rattle.clauses.specs.Literal.{is_same};
+    ghost use Rattle.clauses.specs.Literal.{Lit, is_same};
     ghost use Rattle.first_uip.specs.declared.watches.Watched.TheVariants.{Two};
     ghost use Rattle.first_uip.specs.Watching.{numbers_of, watched_literals, CoversBelow, AddsNumber, AddsNumbers};
 
@@ -53,10 +52,10 @@ impl Watches {
         requires negative { literal.variable < length self.now.negative.items }
         ensures { result.now ≡ numbers_of self.now literal }
     {
-        if literal.negated {
-            self.negative[literal.variable as usize].as_slice()
+        if literal.is_negated() {
+            self.negative[literal.variable() as usize].as_slice()
         } else {
-            self.positive[literal.variable as usize].as_slice()
+            self.positive[literal.variable() as usize].as_slice()
         }
     }
 
@@ -102,10 +101,10 @@ impl Watches {
         ensures watched { self.new.watched.items ≡ self.old.watched.items }
         ensures adds { OnOk result (AddsNumber self.old self.new literal number) }
     {
-        if literal.negated {
-            add_at(&mut self.negative, literal.variable, number)?;
+        if literal.is_negated() {
+            add_at(&mut self.negative, literal.variable(), number)?;
         } else {
-            add_at(&mut self.positive, literal.variable, number)?;
+            add_at(&mut self.positive, literal.variable(), number)?;
         }
         Ok(())
     }
@@ -121,10 +120,10 @@ impl Watches {
         ensures here { numbers_of self.new literal ≡ swap_remove (numbers_of self.old literal) place 0 }
         ensures others { (m : Lit) → is_same m literal ≡ false → numbers_of self.new m ≡ numbers_of self.old m }
     {
-        if literal.negated {
-            drop_at(&mut self.negative, literal.variable, place);
+        if literal.is_negated() {
+            drop_at(&mut self.negative, literal.variable(), place);
         } else {
-            drop_at(&mut self.positive, literal.variable, place);
+            drop_at(&mut self.positive, literal.variable(), place);
         }
     }
 }

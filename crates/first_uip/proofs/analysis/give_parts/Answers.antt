@@ -1,11 +1,12 @@
-use Rattle.std.proofs.Common.{◌≡◌, ℕ, ◌+◌, ◌<◌, false, Some, length, refl, sym, ap, ◌∙◌, arith}
+use Rattle.std.proofs.Common.{◌≡◌, ℕ, ◌+◌, ◌<◌, false, Some, length, set, refl, sym, ap, ◌∙◌, subst, arith}
 use Rattle.std.specs.Prelude.{slice_get}
 use Rattle.std.proofs.lemmas.Option.{slice_get_read}
 use Rattle.clauses.specs.ClauseSet.{clauses_with}
 use Rattle.depth_first.specs.declared.trail.Entry.{Entry}
 use Rattle.depth_first.proofs.Sets.{below_from_within}
 use Rattle.depth_first.proofs.Involved.{with_within}
-use Rattle.first_uip.specs.Conflict.{IsResolution, is_kept, role_of}
+use Rattle.first_uip.specs.declared.roles.Role.TheVariants.{Kept}
+use Rattle.first_uip.specs.Conflict.{IsResolution, Resolves, SameKeptFrom, is_kept, role_of}
 use Rattle.first_uip.proofs.RoleLemmas.{IsResolution-start}
 use Rattle.first_uip.proofs.Analysed.{last_level_seen, point_kept, IsAnalysis-from}
 use Rattle.first_uip.proofs.analysis.give_parts.Goals as goal
@@ -21,14 +22,14 @@ resolve_level-point-requires-clause-rests c =
     last_level_seen (clauses_with c.args.cnf.now c.args.log.now) c.args.trail.now.entries.items c.args.start c.args.conflict c.numbered.result.now c.args.roles.now c.see.new.roles c.numbered.ensures
     c.requires.falsified c.requires.closed c.see.ensures
 
-pub bounds-roles-index : goal.bounds-roles-index
-bounds-roles-index c =
+pub bounds-roles-variable : goal.bounds-roles-variable
+bounds-roles-variable c =
     let trail = c.args.trail.now in
     let entries = trail.entries.items in
     let point = c.resolve_level-point.result in
     let e : Entry = c.index.result.now in
     let at : slice_get entries point ≡ Some e = slice_get_read entries (length entries) point e refl c.resolve_level-point.ensures.last c.index.ensures in
-    omega (arith, (trail.fresh point e at).1, c.requires.variables, c.requires.size, c.see.auto.roles, c.resolve_level-point.auto.roles)
+    omega (arith, (trail.fresh point e at).1, c.variable.ensures, c.requires.variables, c.requires.size, c.see.auto.roles, c.resolve_level-point.auto.roles)
 
 pub returns : goal.returns
 returns c =
@@ -48,6 +49,11 @@ returns c =
     λ n. c.resolve_level-point.ensures.same_kept n ∙ c.see.ensures.same_kept n ∙ ap is_kept (c.requires.unseen n) in
     let level : IsResolution cs entries conflict (point + 1) mid =
     c.resolve_level-point.ensures.resolves conflict (IsResolution-start cs entries conflict c.numbered.result.now c.args.roles.now c.see.new.roles c.numbered.ensures c.see.ensures) in
-    IsAnalysis-from cs values entries mid c.settle_earlier.new.roles conflict start point e trail.fresh at room c.resolve_level-point.ensures.first none c.settle_earlier.ensures.same_later
-    (c.settle_earlier.ensures.resolves conflict
+    let last = c.settle_earlier.new.roles in
+    let same_later : SameKeptFrom entries (set mid e.literal.variable Kept) last start =
+    subst (λ n. SameKeptFrom entries (set mid n Kept) last start) c.variable.ensures c.settle_earlier.ensures.same_later in
+    let resolves : Resolves cs entries start (set mid e.literal.variable Kept) 0 last =
+    subst (λ n. Resolves cs entries start (set mid n Kept) 0 last) c.variable.ensures c.settle_earlier.ensures.resolves in
+    IsAnalysis-from cs values entries mid last conflict start point e trail.fresh at room c.resolve_level-point.ensures.first none same_later
+    (resolves conflict
     (point_kept cs values entries mid conflict start point e trail.fresh at room c.resolve_level-point.ensures.first c.resolve_level-point.ensures.none_between level))

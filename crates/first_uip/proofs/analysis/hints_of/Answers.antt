@@ -1,10 +1,13 @@
-use Rattle.std.proofs.Common.{◌≡◌, ◌+◌, ◌<◌, true, false, Some, None, [], ◌∷◌, ◌++◌, length, refl, sym, ap, ◌∙◌, arith}
+use Rattle.std.proofs.Common.{◌≡◌, Bool, ◌+◌, ◌<◌, true, false, Some, None, [], ◌∷◌, ◌++◌, length, refl, sym, ap, ◌∙◌, arith}
 use Rattle.std.specs.Prelude.{slice_get}
 use Rattle.std.specs.Option.{option_to_list}
 use Rattle.std.proofs.lemmas.Option.{slice_get_read}
 use Rattle.std.proofs.lemmas.List.{append-nil}
 use Rattle.depth_first.specs.declared.trail.Entry.{Entry}
-use Rattle.first_uip.specs.Conflict.{part_of}
+use denote.Enum.Bare.{sameb}
+use Rattle.first_uip.specs.contracts.roles.Role.{the_type}
+use Rattle.first_uip.specs.declared.roles.Role.TheVariants.{Resolved}
+use Rattle.first_uip.specs.Conflict.{is_resolved, part_of, role_of}
 use Rattle.first_uip.proofs.RoleLemmas.{hints_next, resolved_is}
 use Rattle.first_uip.proofs.analysis.hints_of.Goals as goal
 use Rattle.first_uip.proofs.analysis.hints_of.Goals.{then-eq+in-Some+in_ok-push, then-eq+in_default, else-eq}
@@ -18,14 +21,16 @@ loop-place-preserved c =
     let within : k < length entries.items = omega (arith, c.loop-place-test.true, c.len-place-end.ensures, entries.ok.0) in
     let at : slice_get entries.items k ≡ Some e = slice_get_read entries.items (length entries.items) k e refl within c.index-entry.ensures in
     let so_far = c.loop-place.invariant in
+    let part : (b : Bool) → sameb the_type (role_of roles c.variable.result) Resolved ≡ b → is_resolved (part_of roles e) ≡ b =
+    λ b same. sym (ap (λ n. is_resolved (role_of roles n)) c.variable.ensures) ∙ resolved_is (role_of roles c.variable.result) b same in
     elim c.if-eq.branch [
       | then-eq+in-Some+in_ok-push w ↦
-          hints_next entries.items roles k e c.loop-place.hints c.if-eq.hints (w.in-Some.number ∷ []) true at (resolved_is (part_of roles e) true (sym c.eq.ensures ∙ w.if-eq.true))
+          hints_next entries.items roles k e c.loop-place.hints c.if-eq.hints (w.in-Some.number ∷ []) true at (part true (sym c.eq.ensures ∙ w.if-eq.true))
           (sym (ap option_to_list (sym w.reason.ensures ∙ w.in-Some.is))) so_far (w.hints-is ∙ w.in_ok-push.ensures.ok)
       | then-eq+in_default w ↦
-          hints_next entries.items roles k e c.loop-place.hints c.if-eq.hints [] true at (resolved_is (part_of roles e) true (sym c.eq.ensures ∙ w.if-eq.true))
+          hints_next entries.items roles k e c.loop-place.hints c.if-eq.hints [] true at (part true (sym c.eq.ensures ∙ w.if-eq.true))
           (sym (ap option_to_list (sym w.reason.ensures ∙ w.in_default.is))) so_far (w.hints-is ∙ sym (append-nil c.loop-place.hints))
       | else-eq w ↦
-          hints_next entries.items roles k e c.loop-place.hints c.if-eq.hints [] false at (resolved_is (part_of roles e) false (sym c.eq.ensures ∙ w.if-eq.false))
+          hints_next entries.items roles k e c.loop-place.hints c.if-eq.hints [] false at (part false (sym c.eq.ensures ∙ w.if-eq.false))
           refl so_far (w.hints-is ∙ sym (append-nil c.loop-place.hints))
     ]

@@ -1,4 +1,4 @@
-use Rattle.std.proofs.Common.{◌≡◌, ◌+◌, ◌-◌, ◌<◌, ◌≤◌, Some, length, refl, sym, ap, ◌∙◌, subst, arith}
+use Rattle.std.proofs.Common.{◌≡◌, ◌+◌, ◌-◌, ◌<◌, ◌≤◌, Some, length, set, refl, sym, ap, ◌∙◌, subst, arith}
 use Rattle.std.specs.Prelude.{slice_get}
 use Rattle.std.proofs.lemmas.Bool.{true≢false}
 use Rattle.std.proofs.lemmas.List.{get_or-set_other}
@@ -21,7 +21,8 @@ loop-place-preserved-then-eq c =
     let at : slice_get entries place ≡ Some e =
     slice_get_read entries (length entries) place e refl (omega (arith, inv.within, c.loop-place-test.true, c.requires.within)) c.index.ensures in
     let back : c.loop-place.place ≡ place + 1 = omega (arith, c.loop-place-test.true) in
-    let unseen : part_of mid e ≡ Unseen = unseen_if (part_of mid e) (sym c.eq.ensures ∙ c.if-eq.true) in
+    let unseen : part_of mid e ≡ Unseen =
+    sym (ap (role_of mid) c.variable-variable.ensures) ∙ unseen_if (role_of mid c.variable-variable.result) (sym c.eq.ensures ∙ c.if-eq.true) in
     record {
       within = omega (arith, inv.within);
       resolves = λ conflict so_far.
@@ -62,12 +63,14 @@ loop-place-preserved c =
     record {
       within = omega (arith, inv.within);
       resolves = λ conflict so_far.
-          IsResolution-keep cs trail.values.items entries conflict place e mid trail.fresh at room
-          (subst (λ from. IsResolution cs entries conflict from mid) back (inv.resolves conflict so_far));
+          subst (λ n. IsResolution cs entries conflict place (set mid n Kept)) (sym c.variable-variable.ensures)
+          (IsResolution-keep cs trail.values.items entries conflict place e mid trail.fresh at room
+          (subst (λ from. IsResolution cs entries conflict from mid) back (inv.resolves conflict so_far)));
       same_later = λ k f from there.
           let later : place < k = omega (arith, from, inv.within, c.loop-place-test.true) in
           let differ : f.literal.variable ≡ v → ⊥ = λ q. other_entry trail.values.items entries place k e f trail.fresh at there later (sym q) in
-          ap is_kept (get_or-set_other mid v f.literal.variable Kept Unseen differ) ∙ inv.same_later k f from there;
+          ap (λ n. is_kept (role_of (set mid n Kept) f.literal.variable)) c.variable-variable.ensures
+          ∙ ap is_kept (get_or-set_other mid v f.literal.variable Kept Unseen differ) ∙ inv.same_later k f from there;
     }
 
 pub returns-clause-resolves : goal.returns-clause-resolves

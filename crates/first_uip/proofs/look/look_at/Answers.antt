@@ -1,8 +1,7 @@
 use Rattle.std.proofs.Common.{◌≡◌, ◌+◌, ◌<◌, true, false, [], ◌∷◌, Some, length, refl, sym, ap, ◌∙◌, subst, arith, inl, inr}
 use Rattle.std.specs.Prelude.{slice_get}
 use Rattle.std.proofs.lemmas.Option.{slice_get_read}
-use Rattle.clauses.specs.declared.literal.Lit.{Lit}
-use Rattle.clauses.specs.Literal.{IsVariable}
+use Rattle.clauses.specs.Literal.{Lit, IsVariable}
 use Rattle.clauses.specs.Propagation.{IsUnit, is_held, is_false}
 use Rattle.clauses.specs.ClauseSet.{clauses_with}
 use Rattle.depth_first.specs.declared.trail.Entry.{Entry}

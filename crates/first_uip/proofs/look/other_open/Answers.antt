@@ -2,7 +2,7 @@ use Rattle.std.proofs.Common.{◌≡◌, true, length, take, get_or, sym, ap, �
 use Rattle.std.specs.Prelude.{All, ◌≢◌}
 use Rattle.std.proofs.lemmas.List.{take_all}
 use Rattle.std.proofs.lemmas.List.Elements.{All-more}
-use Rattle.clauses.specs.declared.literal.Lit.{Lit}
+use Rattle.clauses.specs.Literal.{Lit}
 use Rattle.clauses.specs.Propagation.{is_held, is_false}
 use Rattle.clauses.proofs.Held.{equal_literals}
 use Rattle.depth_first.specs.TrailEntries.{literals}
@@ -16,11 +16,11 @@ loop-literal-preserved c =
     let k = c.loop-literal.literal-index in
     elim c.else-ne.branch [
       | else-ne-via-then-ne+else-not-holds w ↦
-          All-more (λ (m : Lit). m ≢ c.args.other → is_false held m ≡ true) clause k _ c.loop-literal-test.true c.loop-literal.invariant
-          (λ other. sym (ap (is_held held) w.negation.ensures) ∙ sym w.holds.ensures ∙ w.if-not-holds.false)
+          All-more (λ (m : Lit). m ≢ c.args.other → is_false held m ≡ true) clause k c.literal-item.result c.loop-literal-test.true c.loop-literal.invariant
+          (λ other. sym (ap (is_false held) c.literal-item.is) ∙ sym (ap (is_held held) w.negation.ensures) ∙ sym w.holds.ensures ∙ w.if-not-holds.false)
       | else-ne-via-else-ne w ↦
-          All-more (λ (m : Lit). m ≢ c.args.other → is_false held m ≡ true) clause k _ c.loop-literal-test.true c.loop-literal.invariant
-          (λ other. absurd (other (equal_literals _ _ c.ne.result c.ne.ensures w.if-ne.false)))
+          All-more (λ (m : Lit). m ≢ c.args.other → is_false held m ≡ true) clause k c.literal-item.result c.loop-literal-test.true c.loop-literal.invariant
+          (λ other. absurd (other (sym c.literal-item.is ∙ equal_literals _ _ c.ne.result c.ne.ensures w.if-ne.false)))
     ]
 
 pub returns-clause-none : goal.returns-clause-none

@@ -1,8 +1,7 @@
 use Rattle.std.proofs.Common.{◌≡◌, ℕ, List, ◌+◌, ◌<◌, ◌≤◌, true, Some, length, take, get_or, refl, sym, ap, ◌∙◌, subst, arith, inl, inr}
 use Rattle.std.specs.Prelude.{slice_get}
 use Rattle.std.proofs.lemmas.Option.{slice_get_read, slice_get-get_or}
-use Rattle.clauses.specs.declared.literal.Lit.{Lit}
-use Rattle.clauses.specs.Literal.{negation_of, IsVariable}
+use Rattle.clauses.specs.Literal.{Lit, negation_of, IsVariable}
 use Rattle.clauses.specs.Propagation.{is_held, is_false}
 use Rattle.clauses.specs.ClauseSet.{clauses_with}
 use Rattle.clauses.proofs.Held.{negation-negation}

@@ -1,8 +1,9 @@
-use Rattle.std.proofs.Common.{◌≡◌, ◌+◌, ◌<◌, true, false, Some, length, take, get_or, sym, ◌∙◌, subst, arith}
+use Rattle.std.proofs.Common.{◌≡◌, ◌+◌, ◌<◌, true, false, Some, length, take, get_or, set, sym, ap, ◌∙◌, subst, arith}
 use Rattle.std.specs.Prelude.{slice_get}
 use Rattle.std.proofs.lemmas.Option.{slice_get-get_or}
-use Rattle.clauses.specs.declared.literal.Lit.{Lit}
-use Rattle.first_uip.specs.Conflict.{Sees, role_of}
+use Rattle.clauses.specs.Literal.{Lit}
+use Rattle.first_uip.specs.declared.roles.Role.TheVariants.{Resolved}
+use Rattle.first_uip.specs.Conflict.{Sees, is_seen, role_of}
 use Rattle.first_uip.proofs.RoleLemmas.{Sees-skip, Sees-next, unseen_if, seen_if}
 use Rattle.first_uip.proofs.roles.see.Goals as goal
 use Rattle.first_uip.proofs.roles.see.Goals.{then-eq, else-eq}
@@ -13,14 +14,20 @@ loop-literal-preserved c =
     let k = c.loop-literal.literal-index in
     let old = c.args.roles.now in
     let mid = c.loop-literal.roles in
-    let l : Lit = get_or clause k (record { variable = 0; negated = false }) in
-    let at : slice_get clause k ≡ Some l = slice_get-get_or clause k _ c.loop-literal-test.true in
-    let room : l.variable < length mid = omega (arith, c.requires k (record { variable = 0; negated = false }) c.loop-literal-test.true, c.loop-literal.auto.roles) in
+    let l : Lit = c.literal-item.result in
+    let at : slice_get clause k ≡ Some l = slice_get-get_or clause k l c.loop-literal-test.true ∙ ap Some (sym c.literal-item.is) in
+    let variable : c.variable-variable.result ≡ l.variable = c.variable-variable.ensures in
+    let within : (get_or clause k l).variable < length old = c.requires k l c.loop-literal-test.true in
+    let room : l.variable < length mid =
+    omega (arith, within, ap (λ (m : Lit). m.variable) c.literal-item.is, c.loop-literal.auto.roles) in
     elim c.if-eq.branch [
       | then-eq w ↦
-          subst (Sees (take (k + 1) clause) old) (sym w.roles-is)
-          (Sees-next clause old mid k l at room (unseen_if (role_of mid l.variable) (sym c.eq.ensures ∙ w.if-eq.true)) c.loop-literal.invariant)
+          subst (Sees (take (k + 1) clause) old) (sym (w.roles-is ∙ ap (λ n. set mid n Resolved) variable))
+          (Sees-next clause old mid k l at room
+          (sym (ap (role_of mid) variable) ∙ unseen_if (role_of mid c.variable-variable.result) (sym c.eq.ensures ∙ w.if-eq.true)) c.loop-literal.invariant)
       | else-eq w ↦
           subst (Sees (take (k + 1) clause) old) (sym w.roles-is)
-          (Sees-skip clause old mid k l at (seen_if (role_of mid l.variable) (sym c.eq.ensures ∙ w.if-eq.false)) c.loop-literal.invariant)
+          (Sees-skip clause old mid k l at
+          (sym (ap (λ n. is_seen (role_of mid n)) variable) ∙ seen_if (role_of mid c.variable-variable.result) (sym c.eq.ensures ∙ w.if-eq.false))
+          c.loop-literal.invariant)
     ]

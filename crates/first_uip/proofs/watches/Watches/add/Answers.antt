@@ -1,5 +1,5 @@
 use Rattle.std.proofs.Common.{◌≡◌, ℕ, [], ◌∷◌, length, refl, sym, ap, ◌∙◌, subst, arith}
-use Rattle.clauses.specs.declared.literal.Lit.{Lit}
+use Rattle.clauses.specs.Literal.{Lit}
 use Rattle.first_uip.specs.declared.watches.Watches.{Watches}
 use Rattle.first_uip.specs.declared.watches.Watched.{Watched}
 use Rattle.first_uip.specs.declared.watches.Watched.TheVariants.{Alone, Two}
