@@ -56,6 +56,11 @@ impl fmt::Display for Family {
     }
 }
 
+/// The variable of this number, or its negation.
+fn literal(variable: u16, negated: bool) -> Lit {
+    Lit::new(u32::from(variable), negated)
+}
+
 /// So many random clauses over the variables from 1 to the count.
 fn random_clauses(
     alloc: Global,
@@ -77,17 +82,15 @@ fn random_clause(
     count: u8,
     generator: &mut Generator,
 ) -> Result<Clause, AllocError> {
-    let mut rest: Vec<u32> = (1..=u32::from(count)).collect(alloc)?;
+    let mut rest: Vec<u8> = (1..=count).collect(alloc)?;
     let mut clause = Clause::new(alloc);
     for _ in 0..LITERALS_A_CLAUSE {
         if rest.is_empty() {
             return Ok(clause);
         }
         let place = generator.below(rest.len());
-        clause.push(Lit {
-            variable: rest.swap_remove(place),
-            negated: generator.below(2) == 1,
-        })?;
+        let variable = u16::from(rest.swap_remove(place));
+        clause.push(literal(variable, generator.below(2) == 1))?;
     }
     Ok(clause)
 }
@@ -140,17 +143,15 @@ fn push_apart(
 
 /// The literal that says that the pigeon sits in the hole, each numbered from 0.
 fn sits(pigeon: u8, hole: u8, holes: u8) -> Lit {
-    Lit {
-        variable: u32::from(pigeon) * u32::from(holes) + u32::from(hole) + 1,
-        negated: false,
-    }
+    let variable = u32::from(pigeon) * u32::from(holes) + u32::from(hole) + 1;
+    Lit::new(variable, false)
 }
 
 /// The clauses of two sums of the same inputs, in two orders, one of which is 1 and one 0.
 fn parity_clauses(alloc: Global, inputs: u8, seed: u64) -> Result<List<Clause>, AllocError> {
     let mut generator = Generator::new(seed);
     let mut clauses = List::new(alloc);
-    let count = u32::from(inputs);
+    let count = u16::from(inputs);
     for parity in 0..2 {
         let order = shuffled(alloc, inputs, &mut generator)?;
         let sums = (parity + 1) * count + 1;
@@ -160,8 +161,8 @@ fn parity_clauses(alloc: Global, inputs: u8, seed: u64) -> Result<List<Clause>, 
 }
 
 /// The numbers from 1 to the count in a random order.
-fn shuffled(alloc: Global, count: u8, generator: &mut Generator) -> Result<Vec<u32>, AllocError> {
-    let mut rest: Vec<u32> = (1..=u32::from(count)).collect(alloc)?;
+fn shuffled(alloc: Global, count: u8, generator: &mut Generator) -> Result<Vec<u8>, AllocError> {
+    let mut rest: Vec<u8> = (1..=count).collect(alloc)?;
     let mut order = Vec::new(alloc);
     for _ in 0..count {
         if rest.is_empty() {
@@ -177,30 +178,27 @@ fn shuffled(alloc: Global, count: u8, generator: &mut Generator) -> Result<Vec<u
 /// more each time, and that the last one is odd or even.
 fn push_sums(
     alloc: Global,
-    inputs: &[u32],
-    first: u32,
+    inputs: &[u8],
+    first: u16,
     is_odd: bool,
     clauses: &mut List<Clause>,
 ) -> Result<(), AllocError> {
     let Some((&start, rest)) = inputs.split_first() else {
         return Ok(());
     };
-    let mut sum = start;
-    for (&input, next) in rest.iter().zip(first..u32::MAX) {
-        push_sum(alloc, [sum, input, next], clauses)?;
+    let mut sum = u16::from(start);
+    for (&input, next) in rest.iter().zip(first..u16::MAX) {
+        push_sum(alloc, [sum, u16::from(input), next], clauses)?;
         sum = next;
     }
-    let last = Lit {
-        variable: sum,
-        negated: !is_odd,
-    };
+    let last = literal(sum, !is_odd);
     clauses.push(Clause::from_slice(alloc, &[last])?)
 }
 
 /// Pushes the clauses that say that an even number of the three variables are true.
 fn push_sum(
     alloc: Global,
-    variables: [u32; 3],
+    variables: [u16; 3],
     clauses: &mut List<Clause>,
 ) -> Result<(), AllocError> {
     let signs = [
@@ -212,7 +210,7 @@ fn push_sum(
     for negated in signs {
         let mut clause = Clause::new(alloc);
         for (variable, negated) in variables.into_iter().zip(negated) {
-            clause.push(Lit { variable, negated })?;
+            clause.push(literal(variable, negated))?;
         }
         clauses.push(clause)?;
     }

@@ -31,8 +31,8 @@ fn write_clauses<W: fmt::Write>(f: &mut fmt::Formatter<W>, clauses: &[Clause]) -
 /// Writes the line of a clause.
 fn write_clause<W: fmt::Write>(f: &mut fmt::Formatter<W>, clause: &[Lit]) -> fmt::Result {
     for literal in clause {
-        let sign = if literal.negated { "-" } else { "" };
-        write!(f, "{sign}{} ", literal.variable)?;
+        let sign = if literal.is_negated() { "-" } else { "" };
+        write!(f, "{sign}{} ", literal.variable())?;
     }
     writeln!(f, "0")
 }

@@ -8,10 +8,10 @@ use std::alloc::{AllocError, Global};
 use std::test::Fail;
 
 /// The steps of a log, each with its literals and its hints.
-type Steps = &'static [(&'static [i32], &'static [u32])];
+type Steps = &'static [(&'static [i16], &'static [u32])];
 
 /// The log of some steps.
-fn log(alloc: Global, steps: &[(&[i32], &[u32])]) -> Result<Log, AllocError> {
+fn log(alloc: Global, steps: &[(&[i16], &[u32])]) -> Result<Log, AllocError> {
     let mut log = List::new(alloc);
     for (literals, hints) in steps {
         log.push(Step {

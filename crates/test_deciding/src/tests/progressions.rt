@@ -11,18 +11,18 @@ use std::test::Fail;
 /// The first numbers, in red and blue with no red progression of so many terms and no blue one of so many.
 #[derive(Clone, Copy, Debug)]
 struct Colouring {
-    numbers: i32,
-    red: i32,
-    blue: i32,
+    numbers: i16,
+    red: i16,
+    blue: i16,
 }
 
 /// The terms of the progression, each a literal of this sign.
 fn progression(
     alloc: Global,
-    first: i32,
-    step: i32,
-    terms: i32,
-    sign: i32,
+    first: i16,
+    step: i16,
+    terms: i16,
+    sign: i16,
 ) -> Result<Clause, AllocError> {
     let mut literals = Vec::new(alloc);
     for term in 0..terms {
@@ -35,9 +35,9 @@ fn progression(
 /// Adds for each progression of so many terms that not all of them have the colour.
 fn add_progressions(
     alloc: Global,
-    numbers: i32,
-    terms: i32,
-    sign: i32,
+    numbers: i16,
+    terms: i16,
+    sign: i16,
     clauses: &mut List<Clause>,
 ) -> Result<(), AllocError> {
     for first in 1..=numbers {
@@ -56,7 +56,7 @@ fn set_of(alloc: Global, colouring: Colouring) -> Result<Cnf, Fail> {
     let mut clauses = List::new(alloc);
     add_progressions(alloc, colouring.numbers, colouring.red, -1, &mut clauses)?;
     add_progressions(alloc, colouring.numbers, colouring.blue, 1, &mut clauses)?;
-    let count = colouring.numbers.unsigned_abs();
+    let count = u32::from(colouring.numbers.unsigned_abs());
     let inputs = List::from_vec((1..=count).collect(alloc)?);
     let set = Cnf::new(List::new(alloc), clauses, inputs, count);
     Ok(set.ok_or("a variable is above the count")?)
@@ -66,15 +66,15 @@ fn set_of(alloc: Global, colouring: Colouring) -> Result<Cnf, Fail> {
 fn is_met(set: &Cnf, values: &[bool]) -> bool {
     set.roots.as_slice().iter().all(|clause| {
         clause.as_slice().iter().any(|literal| {
-            let place = literal.variable.wrapping_sub(1) as usize;
-            values.get(place) == Some(&!literal.negated)
+            let place = literal.variable().wrapping_sub(1) as usize;
+            values.get(place) == Some(&!literal.is_negated())
         })
     })
 }
 
 /// The lengths of red and blue progressions, and the fewest numbers that have no such colouring: the numbers of
 /// van der Waerden.
-const FEWEST: [(i32, i32, i32); 4] = [(3, 4, 18), (3, 5, 22), (3, 6, 32), (4, 4, 35)];
+const FEWEST: [(i16, i16, i16); 4] = [(3, 4, 18), (3, 5, 22), (3, 6, 32), (4, 4, 35)];
 
 #[test]
 fn one_number_fewer_is_coloured(rt: HostRuntime) -> Result<(), Fail> {

@@ -8,22 +8,20 @@ use std::alloc::{AllocError, Global};
 use std::test::Fail;
 
 /// Clauses, a literal by the number of its variable, which is negative for the negation.
-pub(super) type Clauses = &'static [&'static [i32]];
+pub(super) type Clauses = &'static [&'static [i16]];
 
 /// The clause of some literals.
-pub(super) fn clause(alloc: Global, literals: &[i32]) -> Result<Clause, AllocError> {
+pub(super) fn clause(alloc: Global, literals: &[i16]) -> Result<Clause, AllocError> {
     let mut clause = Clause::new(alloc);
     for literal in literals {
-        clause.push(Lit {
-            variable: literal.unsigned_abs(),
-            negated: *literal < 0,
-        })?;
+        let variable = u32::from(literal.unsigned_abs());
+        clause.push(Lit::new(variable, *literal < 0))?;
     }
     Ok(clause)
 }
 
 /// The set of some clauses over the variables up to `count`, which are all inputs.
-pub(super) fn set(alloc: Global, clauses: &[&[i32]], count: u32) -> Result<Cnf, Fail> {
+pub(super) fn set(alloc: Global, clauses: &[&[i16]], count: u32) -> Result<Cnf, Fail> {
     let mut roots = List::new(alloc);
     for literals in clauses {
         roots.push(clause(alloc, literals)?)?;
