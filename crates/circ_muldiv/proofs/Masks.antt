@@ -18,19 +18,24 @@ mask_more old now new word masked i x digit both inside at_x width masked_kept x
     rw (map-append new masked (both ∷ []), masked_kept, number-push (map now masked) (new both), places, both_is, x_kept, digit_kept, number-take_more old word i x inside at_x)
     (mask_step (number (map now masked)) (number (map old (take i word))) (2 ^ i) (old x) (old digit) before)
 
-row_parts : (low high upper q r k d m first : ℕ) → first ≡ 0 → upper + r * k ≡ high + d * m + first → (low + q * upper) + (q * r) * k ≡ (low + q * high) + q * (d * m)
-row_parts low high upper q r k d m first none total = grind (arith, ap (λ t. q * t) total)
+-- a sum with a word that is 0 where a literal is false
+pub sum_where : {L : Type 0} (old mid new : L → Bool) (word added shown bits : List L) (digit carry first : L) → map mid word ≡ map old word → number (map mid shown) ≡ bit (old digit) * number (map old added) → mid first ≡ false → number (map new bits) + 2 ^ length word * bit (new carry) ≡ number (map mid word) + number (map mid shown) + bit (mid first) → number (map new bits) + 2 ^ length word * bit (new carry) ≡ number (map old word) + bit (old digit) * number (map old added)
+sum_where old mid new word added shown bits digit carry first word_kept shown_is first_is total =
+    total ∙ rw (word_kept, shown_is, first_is) (omega arith)
+
+row_parts : (low high upper q r k d m : ℕ) → upper + r * k ≡ high + d * m → (low + q * upper) + (q * r) * k ≡ (low + q * high) + q * (d * m)
+row_parts low high upper q r k d m total = grind (arith, ap (λ t. q * t) total)
 
 -- a word's upper part, with the lowest bits of another word added to it where a literal is true
-pub row_sum : {L : Type 0} (old mid new : L → Bool) (word a shifted upper : List L) (digit carry first : L) (place : ℕ) → place ≤ length a → length word ≡ length a → map new (take place word) ≡ map old (take place word) → map mid (drop place word) ≡ map old (drop place word) → number (map mid shifted) ≡ bit (old digit) * number (map old (take (length a - place) a)) → number (map new upper) + 2 ^ length (drop place word) * bit (new carry) ≡ number (map mid (drop place word)) + number (map mid shifted) + bit (mid first) → mid first ≡ false → number (map new (take place word ++ upper)) + 2 ^ length a * bit (new carry) ≡ number (map old word) + 2 ^ place * (bit (old digit) * (number (map old a) % 2 ^ (length a - place)))
-row_sum old mid new word a shifted upper digit carry first place inside same_width lower_kept upper_kept shifted_is total first_is =
+pub row_sum : {L : Type 0} (old new : L → Bool) (word a upper : List L) (digit carry : L) (place : ℕ) → place ≤ length a → length word ≡ length a → map new (take place word) ≡ map old (take place word) → number (map new upper) + 2 ^ length (drop place word) * bit (new carry) ≡ number (map old (drop place word)) + bit (old digit) * number (map old (take (length a - place) a)) → number (map new (take place word ++ upper)) + 2 ^ length a * bit (new carry) ≡ number (map old word) + 2 ^ place * (bit (old digit) * (number (map old a) % 2 ^ (length a - place)))
+row_sum old new word a upper digit carry place inside same_width lower_kept total =
     let places : length (map old (take place word)) ≡ place = length-map (take place word) old ∙ length-take-le place word (omega arith) in
     let rest : length (drop place word) ≡ length a - place = length-drop place word ∙ ap (λ n. n - place) same_width in
     let whole : place + (length a - place) ≡ length a = omega arith in
     let range : 2 ^ length a ≡ 2 ^ place * 2 ^ (length a - place) = ap (λ n. 2 ^ n) (sym whole) ∙ pow-add 2 place (length a - place) in
     let parts : number (map old word) ≡ number (map old (take place word)) + 2 ^ place * number (map old (drop place word)) =
     ap (λ w. number (map old w)) (sym (take-append-drop place word)) ∙ ap number (map-append old (take place word) (drop place word)) ∙ number-append (map old (take place word)) (map old (drop place word)) ∙ ap (λ n. number (map old (take place word)) + 2 ^ n * number (map old (drop place word))) places in
-    let sum : number (map new upper) + 2 ^ (length a - place) * bit (new carry) ≡ number (map old (drop place word)) + bit (old digit) * (number (map old a) % 2 ^ (length a - place)) + bit (mid first) =
-    rw (rest, upper_kept, shifted_is, number-cut old a (length a - place) (omega arith)) at total in
+    let sum : number (map new upper) + 2 ^ (length a - place) * bit (new carry) ≡ number (map old (drop place word)) + bit (old digit) * (number (map old a) % 2 ^ (length a - place)) =
+    rw (rest, number-cut old a (length a - place) (omega arith)) at total in
     rw (map-append new (take place word) upper, lower_kept, number-append (map old (take place word)) (map new upper), places, range, parts)
-    (row_parts (number (map old (take place word))) (number (map old (drop place word))) (number (map new upper)) (2 ^ place) (2 ^ (length a - place)) (bit (new carry)) (bit (old digit)) (number (map old a) % 2 ^ (length a - place)) (bit (mid first)) (ap bit first_is) sum)
+    (row_parts (number (map old (take place word))) (number (map old (drop place word))) (number (map new upper)) (2 ^ place) (2 ^ (length a - place)) (bit (new carry)) (bit (old digit)) (number (map old a) % 2 ^ (length a - place)) sum)

@@ -1,6 +1,7 @@
 -- A quotient and a remainder after some steps of a division.
-use Rattle.std.proofs.Common.{◌≡◌, ◌≢◌, ℕ, suc, ◌+◌, ◌-◌, ◌*◌, ◌/◌, ◌%◌, ◌^◌, ◌<◌, ◌≤◌, Bool, true, false, not, nat_le, if◌then◌else◌, List, [], ◌∷◌, ◌++◌, map, reverse, length, take, drop, get_or, replicate, refl, sym, ap, subst, ◌∙◌, arith}
+use Rattle.std.proofs.Common.{◌≡◌, ◌≢◌, ℕ, suc, ◌+◌, ◌-◌, ◌*◌, ◌/◌, ◌%◌, ◌^◌, ◌<◌, ◌≤◌, Bool, true, false, not, nat_le, if◌then◌else◌, List, [], ◌∷◌, ◌++◌, map, reverse, length, take, drop, get_or, replicate, refl, sym, ap, subst, ◌∙◌, add-one, arith}
 use Rattle.std.specs.List.{All}
+use Rattle.std.specs.Prelude.{Result, Ok, Err, IfOk}
 use Rattle.std.proofs.lemmas.Bool.Decides.{nat_tests}
 use Rattle.std.proofs.lemmas.Grind.{reverse_onto}
 use Rattle.std.proofs.lemmas.List.{map-append, length-map, length_push, length-replicate, length-reverse, reverse-append, drop_more, drop_all}
@@ -16,42 +17,52 @@ use Rattle.circuits.proofs.Words.{bit-le_one, number-below, number-all_zero, num
 use Rattle.circ_muldiv.specs.Gates.{division_step_gates, division_gates}
 use Rattle.circ_muldiv.proofs.OverflowTests.{number_below}
 
--- a sum with the complement carries exactly where the divisor fits
-step_number : (s p longer negated b : ℕ) (carry : Bool) → s < 2 * p → negated + b + 1 ≡ 2 * p → s + (2 * p) * bit carry ≡ longer + negated + 1 → (carry ≡ nat_le b longer) × ((if carry then s else longer) ≡ (if nat_le b longer then longer - b else longer))
+-- a sum with the complement carries exactly where the divisor fits, and is then the difference
+step_number : (s p longer negated b : ℕ) (carry : Bool) → s < 2 * p → negated + b + 1 ≡ 2 * p → s + (2 * p) * bit carry ≡ longer + negated + 1 → (carry ≡ nat_le b longer) × (b ≤ longer → s ≡ longer - b)
 step_number s p longer negated b true below complement total =
     let fits : nat_le b longer ≡ true = grind (arith, nat_tests) in
-    rw fits (refl, omega arith)
+    (sym fits, λ within. omega arith)
 step_number s p longer negated b false below complement total =
     let exceeds : nat_le b longer ≡ false = grind (arith, nat_tests) in
-    rw exceeds (refl, refl)
+    (sym exceeds, λ within. absurd (omega arith))
+
+chosen_left : (s longer b : ℕ) (carry : Bool) → carry ≡ nat_le b longer → (b ≤ longer → s ≡ longer - b) → (if carry then s else longer) ≡ (if nat_le b longer then longer - b else longer)
+chosen_left s longer b true is left =
+    let within : b ≤ longer = grind (arith, nat_tests) in
+    rw (← is) (left within)
+chosen_left s longer b false is left = rw (← is) refl
 
 cut_choice : {L : Type 0} (value : L → Bool) (n : ℕ) (condition : Bool) (yes no : List L) → n ≤ length yes → n ≤ length no → number (if condition then map value (take n yes) else map value (take n no)) ≡ (if condition then number (map value yes) else number (map value no)) % 2 ^ n
 cut_choice value n true on off in_on in_off = number-cut value on n in_on
 cut_choice value n false on off in_on in_off = number-cut value off n in_off
 
--- one step, over words: the remainder with the next digit below it, and the divisor's complement, have one bit more
-module _ {L : Type 0} (old mid new : L → Bool) (divisor remainder negated bits word : List L) (digit top carry first : L) (same_width : length remainder ≡ length divisor) (negated_width : length negated ≡ length divisor) (width : length bits ≡ suc (length divisor)) (negated_is : map old negated ≡ map not (map old divisor)) (top_is : old top ≡ true) (first_is : old first ≡ true) (total : number (map mid bits) + 2 ^ suc (length divisor) * bit (mid carry) ≡ number (map old (digit ∷ remainder)) + number (map old (negated ++ top ∷ [])) + bit (old first)) where
+-- what holds of a result by two facts about it
+pub both_ok : {T E : Type 0} (r : Result T E) (P Q R : T → Type 0) → ((x : T) → P x → Q x → R x) → IfOk r P → IfOk r Q → IfOk r R
+both_ok (Ok x) P Q R f p q = f x p q
+both_ok (Err e) P Q R f p q = tt
+
+-- a difference, over words: the longer one and the divisor's complement have one bit more than the divisor
+module _ {L : Type 0} (old new : L → Bool) (longer divisor negated bits : List L) (top carry first : L) (negated_width : length negated ≡ length divisor) (width : length bits ≡ length divisor + 1) (negated_is : map old negated ≡ map not (map old divisor)) (top_is : old top ≡ true) (first_is : old first ≡ true) (total : number (map new bits) + 2 ^ (length divisor + 1) * bit (new carry) ≡ number (map old longer) + number (map old (negated ++ top ∷ [])) + bit (old first)) where
   complement : number (map old (negated ++ top ∷ [])) + number (map old divisor) + 1 ≡ 2 * 2 ^ length divisor
   complement =
       let places : length (map not (map old divisor)) ≡ length divisor = length-map (map old divisor) not ∙ length-map divisor old in
       let table : number (map not (map old divisor)) + number (map old divisor) + 1 ≡ 2 ^ length divisor = number-map_not (map old divisor) ∙ ap (λ n. 2 ^ n) (length-map divisor old) in
       rw (map-append old negated (top ∷ []), negated_is, top_is, number-push (map not (map old divisor)) true, places) (omega (arith, table))
 
-  parts : (mid carry ≡ nat_le (number (map old divisor)) (number (map old (digit ∷ remainder)))) × ((if mid carry then number (map mid bits) else number (map old (digit ∷ remainder))) ≡ (if nat_le (number (map old divisor)) (number (map old (digit ∷ remainder))) then number (map old (digit ∷ remainder)) - number (map old divisor) else number (map old (digit ∷ remainder))))
-  parts =
-      let doubled : 2 ^ suc (length divisor) ≡ 2 * 2 ^ length divisor = pow-succ' 2 (length divisor) in
-      let bits_width : length (map mid bits) ≡ suc (length divisor) = length-map bits mid ∙ width in
-      let below : number (map mid bits) < 2 * 2 ^ length divisor = rw (bits_width, doubled) at (number-below (map mid bits)) in
-      step_number (number (map mid bits)) (2 ^ length divisor) (number (map old (digit ∷ remainder))) (number (map old (negated ++ top ∷ []))) (number (map old divisor)) (mid carry) below complement
+  pub taken : (new carry ≡ nat_le (number (map old divisor)) (number (map old longer))) × (number (map old divisor) ≤ number (map old longer) → number (map new bits) ≡ number (map old longer) - number (map old divisor))
+  taken =
+      let doubled : 2 ^ (length divisor + 1) ≡ 2 * 2 ^ length divisor = rw add-one (pow-succ' 2 (length divisor)) in
+      let bits_width : length (map new bits) ≡ length divisor + 1 = length-map bits new ∙ width in
+      let below : number (map new bits) < 2 * 2 ^ length divisor = rw (bits_width, doubled) at (number-below (map new bits)) in
+      step_number (number (map new bits)) (2 ^ length divisor) (number (map old longer)) (number (map old (negated ++ top ∷ []))) (number (map old divisor)) (new carry) below complement
       (rw (doubled, first_is) at total)
 
-  pub step_fits : mid carry ≡ nat_le (number (map old divisor)) (bit (old digit) + 2 * number (map old remainder))
-  step_fits = parts.0
-
-  pub step_left : mid digit ≡ old digit → map mid remainder ≡ map old remainder → map new word ≡ (if mid carry then map mid (take (length divisor) bits) else map mid (take (length divisor) (digit ∷ remainder))) → let longer = bit (old digit) + 2 * number (map old remainder) in let taken = number (map old divisor) in number (map new word) ≡ (if nat_le taken longer then longer - taken else longer) % 2 ^ length divisor
-  step_left digit_kept remainder_kept word_is =
-      rw word_is
-      (cut_choice mid (length divisor) (mid carry) bits (digit ∷ remainder) (omega arith) (omega arith) ∙ ap (λ n. n % 2 ^ length divisor) (rw (digit_kept, remainder_kept) parts.1))
+-- one step, over words: the remainder with the next digit below it has one bit more
+pub step_left : {L : Type 0} (old mid new : L → Bool) (divisor remainder bits word : List L) (digit carry : L) → length remainder ≡ length divisor → length bits ≡ length divisor + 1 → mid carry ≡ nat_le (number (map old divisor)) (bit (old digit) + 2 * number (map old remainder)) → (number (map old divisor) ≤ bit (old digit) + 2 * number (map old remainder) → number (map mid bits) ≡ bit (old digit) + 2 * number (map old remainder) - number (map old divisor)) → mid digit ≡ old digit → map mid remainder ≡ map old remainder → map new word ≡ (if mid carry then map mid (take (length divisor) bits) else map mid (take (length divisor) (digit ∷ remainder))) → let longer = bit (old digit) + 2 * number (map old remainder) in let taken = number (map old divisor) in number (map new word) ≡ (if nat_le taken longer then longer - taken else longer) % 2 ^ length divisor
+step_left old mid new divisor remainder bits word digit carry same_width width fits left digit_kept remainder_kept word_is =
+    rw word_is
+    (cut_choice mid (length divisor) (mid carry) bits (digit ∷ remainder) (omega arith) (omega arith)
+    ∙ ap (λ n. n % 2 ^ length divisor) (rw (digit_kept, remainder_kept) (chosen_left (number (map mid bits)) (bit (old digit) + 2 * number (map old remainder)) (number (map old divisor)) (mid carry) fits left)))
 
 reverse_push : {X : Type 0} (xs : List X) (x : X) → reverse (xs ++ x ∷ []) ≡ x ∷ reverse xs
 reverse_push xs x = reverse-append xs (x ∷ [])

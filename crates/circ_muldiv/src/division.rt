@@ -1,11 +1,13 @@
 //! Quotients and remainders of words, by restoring division.
-ghost use Rattle.std.specs.Prelude.{◌≡◌, ◌≢◌, ◌+◌, ◌-◌, ◌*◌, ◌/◌, ◌%◌, ◌^◌, ◌<◌, nat_le, Bool, if◌then◌else◌, List as Seq, length, IfOk};
+ghost use Rattle.std.specs.Prelude.{◌≡◌, ◌≢◌, ◌+◌, ◌-◌, ◌*◌, ◌/◌, ◌%◌, ◌^◌, ◌<◌, ◌≤◌, nat_le, Bool, if◌then◌else◌, List as Seq, length, IfOk};
 ghost use Rattle.std.specs.List.{All};
 ghost use Rattle.circuits.specs.Circuit.{Adds};
+ghost use Rattle.circuits.specs.Gates.{adder_gates};
 ghost use Rattle.circuits.specs.Word.{bit, number_of};
 ghost use Rattle.circ_muldiv.specs.Gates.{division_gates, division_step_gates};
 
-use circuits::{Bits, Circuit, add_with_carry, inverted, repeated, select};
+use crate::joining::with_lowest;
+use circuits::{Bits, Circuit, Sum, add_with_carry, inverted, repeated, select};
 use lists::List;
 use std::alloc::{AllocError, Global};
 
@@ -71,8 +73,7 @@ struct Step<L> {
 }
 
 /// One step of a restoring division by a word of width N: the next bit of the dividend goes below the remainder so far, and the
-/// divisor is taken off where it fits. Both stand in N + 1 bits, since the longer remainder may be 2^N or more, and the
-/// divisor is taken off by adding its complement: it fits exactly where that sum carries.
+/// divisor is taken off where it fits. Both stand in N + 1 bits, since the longer remainder may be 2^N or more.
 fn divide_step<C: Circuit>(
     alloc: Global,
     c: &mut C,
@@ -99,23 +100,47 @@ fn divide_step<C: Circuit>(
     ensures adds { Adds C.State c.old c.new
         (division_step_gates (length divisor.now)) }
 {
-    let mut complement = inverted(alloc, c, divisor)?;
-    complement.push(c.one())?;
-    let mut longer = Vec::new(alloc);
-    longer.push(digit)?;
-    longer.extend_from_slice(remainder)?;
-    let first = c.one();
-    let less = add_with_carry(alloc, c, longer.as_slice(), complement.as_slice(), first)?;
+    let longer = with_lowest(alloc, digit, remainder)?;
+    let less = difference(alloc, c, longer.as_slice(), divisor)?;
     let width = divisor.len();
     let remainder = select(
         alloc,
         c,
         less.carry,
         &less.bits.as_slice()[..width],
-        &longer[..width],
+        &longer.as_slice()[..width],
     )?;
     Ok(Step {
         fits: less.carry,
         remainder,
     })
+}
+
+/// A word of width N + 1 less a divisor of width N, by adding the divisor's complement: it fits exactly where that sum carries.
+fn difference<C: Circuit>(
+    alloc: Global,
+    c: &mut C,
+    longer: &[C::Literal],
+    divisor: &[C::Literal],
+) -> Result<Sum<C::Literal>, AllocError>
+    requires width { length longer.now ≡ length divisor.now + 1 }
+    requires own_longer { All (C.has_literal c.old) longer.now }
+    requires own_divisor { All (C.has_literal c.old) divisor.now }
+    ensures own_bits { IfOk result (λ less. All (C.has_literal c.new) less.bits) }
+    ensures own_carry { IfOk result (λ less. C.has_literal c.new less.carry) }
+    ensures width { IfOk result (λ less. length less.bits ≡ length divisor.now + 1) }
+    ensures fits { IfOk result (λ less. (inputs : Seq Bool) → C.admits c.old inputs →
+        C.value c.new inputs less.carry
+        ≡ nat_le (number_of (C.value c.old inputs) divisor.now) (number_of (C.value c.old inputs) longer.now)) }
+    ensures left { IfOk result (λ less. (inputs : Seq Bool) → C.admits c.old inputs →
+        number_of (C.value c.old inputs) divisor.now ≤ number_of (C.value c.old inputs) longer.now →
+        number_of (C.value c.new inputs) less.bits
+        ≡ number_of (C.value c.old inputs) longer.now - number_of (C.value c.old inputs) divisor.now) }
+    ensures adds { Adds C.State c.old c.new
+        (adder_gates (length divisor.now + 1)) }
+{
+    let mut complement = inverted(alloc, c, divisor)?;
+    complement.push(c.one())?;
+    let first = c.one();
+    add_with_carry(alloc, c, longer, complement.as_slice(), first)
 }

@@ -5,6 +5,7 @@
 #![tactic(auto)]
 
 mod division;
+mod joining;
 mod magnitude;
 mod overflow;
 mod product;

@@ -5,6 +5,7 @@ ghost use Rattle.circuits.specs.Circuit.{Adds};
 ghost use Rattle.circuits.specs.Word.{bit, number_of};
 ghost use Rattle.circ_muldiv.specs.Gates.{row_gates};
 
+use crate::joining::joined;
 use circuits::{Bits, Circuit, Sum, add_with_carry, or};
 use lists::List;
 use std::alloc::{AllocError, Global};
@@ -57,15 +58,39 @@ pub(crate) fn add_row<C: Circuit>(
     ensures adds { Adds C.State c.old c.new
         (row_gates (length a.now - place)) }
 {
-    let shifted = masked(alloc, c, &a[..a.len() - place], digit)?;
-    let first = c.zero();
-    let upper = add_with_carry(alloc, c, &word[place..], shifted.as_slice(), first)?;
-    let mut bits = Vec::from_slice(alloc, &word[..place])?;
-    bits.extend_from_slice(upper.bits.as_slice())?;
+    let upper = add_where(alloc, c, &word[place..], &a[..a.len() - place], digit)?;
+    let bits = joined(alloc, &word[..place], upper.bits.as_slice())?;
     Ok(Sum {
-        bits: List::from_vec(bits),
+        bits,
         carry: upper.carry,
     })
+}
+
+/// The sum of two words of one width, the second only where `digit` is true.
+fn add_where<C: Circuit>(
+    alloc: Global,
+    c: &mut C,
+    word: &[C::Literal],
+    added: &[C::Literal],
+    digit: C::Literal,
+) -> Result<Sum<C::Literal>, AllocError>
+    requires same_width { length added.now ≡ length word.now }
+    requires own_word { All (C.has_literal c.old) word.now }
+    requires own_added { All (C.has_literal c.old) added.now }
+    requires own_digit { C.has_literal c.old digit }
+    ensures own_bits { IfOk result (λ sum. All (C.has_literal c.new) sum.bits) }
+    ensures own_carry { IfOk result (λ sum. C.has_literal c.new sum.carry) }
+    ensures width { IfOk result (λ sum. length sum.bits ≡ length word.now) }
+    ensures number { IfOk result (λ sum. (inputs : Seq Bool) → C.admits c.old inputs →
+        number_of (C.value c.new inputs) sum.bits + 2 ^ length word.now * bit (C.value c.new inputs sum.carry)
+        ≡ number_of (C.value c.old inputs) word.now
+        + bit (C.value c.old inputs digit) * number_of (C.value c.old inputs) added.now) }
+    ensures adds { Adds C.State c.old c.new
+        (row_gates (length word.now)) }
+{
+    let shown = masked(alloc, c, added, digit)?;
+    let first = c.zero();
+    add_with_carry(alloc, c, word, shown.as_slice(), first)
 }
 
 /// Whether a product lost a bit up to a row: before it, by the row's carry, or because the row's digit is true where `a`,

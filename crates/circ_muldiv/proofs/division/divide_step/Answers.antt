@@ -1,40 +1,46 @@
-use Rattle.std.proofs.Common.{◌≡◌, ◌≤◌, ◌+◌, length, take, suc, [], ◌∷◌, ◌++◌, ap, ◌∙◌, arith}
-use Rattle.std.proofs.lemmas.Grind.{common_steps}
+use Rattle.std.proofs.Common.{◌≡◌, ℕ, ◌≤◌, ◌+◌, List, length, take, ◌∷◌, sym, ap, ◌∙◌, arith}
 use Rattle.std.proofs.lemmas.List.{length-take-le}
+use Rattle.circuits.specs.declared.state.State.{Ghosts}
+use Rattle.circuits.specs.Circuit.{Adds}
 use Rattle.circuits.specs.Gates.{adder_gates, select_gates}
-use Rattle.circuits.proofs.Kept.{map-kept, Adds-trans, Adds-weaken}
+use Rattle.circuits.proofs.Kept.{map-kept, Adds-refl, Adds-trans, Adds-weaken}
 use Rattle.circ_muldiv.specs.Gates.{division_step_gates}
-use Rattle.circ_muldiv.proofs.Quotients.{step_fits, step_left}
+use Rattle.circ_muldiv.proofs.Quotients.{step_left}
 use Rattle.circ_muldiv.proofs.division.divide_step.Goals as goal
+
+-- a difference, and a choice by it of the lowest bits of as long a word
+step_adds : {C L : Type 0} {state : Ghosts C L} {start mid end : C} {bits whole : List L} (width : ℕ) → length bits ≡ width + 1 → whole ≡ bits → Adds state start mid (adder_gates (width + 1)) → Adds state mid end (select_gates (length (take width whole))) → Adds state start end (division_step_gates width)
+step_adds {whole = whole} width longer same less chosen =
+    let within : length whole ≡ width + 1 = ap length same ∙ longer in
+    let cut : length (take width whole) ≡ width = length-take-le width whole (omega arith) in
+    let few : adder_gates (width + 1) + select_gates (length (take width whole)) ≤ division_step_gates width = rw cut (omega arith) in
+    Adds-weaken (Adds-trans less chosen) few
 
 pub returns-clause-fits : goal.returns-clause-fits
 returns-clause-fits g c inputs admitted =
-    let m = g.C.State in
-    let longer_is : c.as_slice.result.now ≡ c.args.digit ∷ c.args.remainder.now = grind (arith, common_steps) in
-    let complement_is : c.as_slice-2.result.now ≡ c.in_ok-complement.complement ++ c.one.result ∷ [] = grind (arith, common_steps) in
-    let after = c.add_with_carry.ensures.adds.keeps.admitted inputs admitted in
-    let width : length c.in_ok-less.less.bits ≡ suc (length c.args.divisor.now) = c.in_ok-less.ensures.width ∙ ap length longer_is ∙ ap suc c.requires.same_width in
-    let total = rw (longer_is, complement_is, c.requires.same_width) at (c.in_ok-less.ensures.number inputs admitted) in
+    let longer_is : c.as_slice.result.now ≡ c.args.digit ∷ c.args.remainder.now = c.as_slice.ensures ∙ c.in_ok-longer.ensures in
+    let after = c.difference.ensures.adds.keeps.admitted inputs admitted in
     c.select.ensures.adds.keeps.values inputs c.in_ok-less.less.carry after c.in_ok-less.ensures.own_carry
-    ∙ step_fits (m.value c.args.c.now inputs) (m.value c.add_with_carry.new.c inputs) (m.value c.select.new.c inputs) c.args.divisor.now c.args.remainder.now c.in_ok-complement.complement c.in_ok-less.less.bits c.in_ok-remainder.remainder c.args.digit c.one.result c.in_ok-less.less.carry c.one-first.result c.requires.same_width c.in_ok-complement.ensures.width width (c.in_ok-complement.ensures.values inputs admitted) (c.one.ensures.value inputs admitted) (c.one-first.ensures.value inputs admitted) total
+    ∙ rw longer_is at (c.in_ok-less.ensures.fits inputs admitted)
 
 pub returns-clause-left : goal.returns-clause-left
 returns-clause-left g c inputs admitted =
     let m = g.C.State in
-    let longer_is : c.as_slice.result.now ≡ c.args.digit ∷ c.args.remainder.now = grind (arith, common_steps) in
-    let complement_is : c.as_slice-2.result.now ≡ c.in_ok-complement.complement ++ c.one.result ∷ [] = grind (arith, common_steps) in
-    let deref_is : c.deref.result.now ≡ c.args.digit ∷ c.args.remainder.now = grind (arith, common_steps) in
-    let keeps = c.add_with_carry.ensures.adds.keeps in
-    let width : length c.in_ok-less.less.bits ≡ suc (length c.args.divisor.now) = c.in_ok-less.ensures.width ∙ ap length longer_is ∙ ap suc c.requires.same_width in
-    let total = rw (longer_is, complement_is, c.requires.same_width) at (c.in_ok-less.ensures.number inputs admitted) in
-    let chosen = rw (c.as_slice-3.ensures, deref_is) at (c.in_ok-remainder.ensures.values inputs (keeps.admitted inputs admitted)) in
-    step_left (m.value c.args.c.now inputs) (m.value c.add_with_carry.new.c inputs) (m.value c.select.new.c inputs) c.args.divisor.now c.args.remainder.now c.in_ok-complement.complement c.in_ok-less.less.bits c.in_ok-remainder.remainder c.args.digit c.one.result c.in_ok-less.less.carry c.one-first.result c.requires.same_width c.in_ok-complement.ensures.width width (c.in_ok-complement.ensures.values inputs admitted) (c.one.ensures.value inputs admitted) (c.one-first.ensures.value inputs admitted) total
+    let longer_is : c.as_slice.result.now ≡ c.args.digit ∷ c.args.remainder.now = c.as_slice.ensures ∙ c.in_ok-longer.ensures in
+    let cut_is : c.as_slice-3.result.now ≡ c.args.digit ∷ c.args.remainder.now = c.as_slice-3.ensures ∙ sym c.as_slice.ensures ∙ longer_is in
+    let keeps = c.difference.ensures.adds.keeps in
+    let chosen = rw (c.as_slice-2.ensures, cut_is) at (c.in_ok-remainder.ensures.values inputs (keeps.admitted inputs admitted)) in
+    step_left (m.value c.args.c.now inputs) (m.value c.difference.new.c inputs) (m.value c.select.new.c inputs) c.args.divisor.now c.args.remainder.now c.in_ok-less.less.bits c.in_ok-remainder.remainder c.args.digit c.in_ok-less.less.carry c.requires.same_width c.in_ok-less.ensures.width (rw longer_is at (c.in_ok-less.ensures.fits inputs admitted)) (rw longer_is at (c.in_ok-less.ensures.left inputs admitted))
     (keeps.values inputs c.args.digit admitted c.requires.own_digit) (map-kept keeps inputs admitted c.args.remainder.now c.requires.own_remainder) chosen
 
+pub returns-in_err-less-clause-adds : goal.returns-in_err-less-clause-adds
+returns-in_err-less-clause-adds g c = Adds-weaken c.difference.ensures.adds (omega arith)
+
+pub returns-in_err-remainder-clause-adds : goal.returns-in_err-remainder-clause-adds
+returns-in_err-remainder-clause-adds g c = step_adds (length c.args.divisor.now) c.in_ok-less.ensures.width c.as_slice-2.ensures c.difference.ensures.adds c.select.ensures.adds
+
 pub returns-clause-adds : goal.returns-clause-adds
-returns-clause-adds g c =
-    let longer_width : length c.as_slice.result.now ≡ length c.args.divisor.now + 1 = grind (arith, common_steps) in
-    let bits_width : length c.as_slice-3.result.now ≡ length c.args.divisor.now + 1 = ap length c.as_slice-3.ensures ∙ c.in_ok-less.ensures.width ∙ longer_width in
-    let cut_width : length (take (length c.args.divisor.now) c.as_slice-3.result.now) ≡ length c.args.divisor.now = length-take-le (length c.args.divisor.now) c.as_slice-3.result.now (omega arith) in
-    let few : adder_gates (length c.as_slice.result.now) + select_gates (length (take (length c.args.divisor.now) c.as_slice-3.result.now)) ≤ division_step_gates (length c.args.divisor.now) = rw (longer_width, cut_width) (omega arith) in
-    Adds-weaken (Adds-trans c.add_with_carry.ensures.adds c.select.ensures.adds) few
+returns-clause-adds g c = step_adds (length c.args.divisor.now) c.in_ok-less.ensures.width c.as_slice-2.ensures c.difference.ensures.adds c.select.ensures.adds
+
+pub returns-in_err-longer-clause-adds : goal.returns-in_err-longer-clause-adds
+returns-in_err-longer-clause-adds g c = Adds-weaken Adds-refl (omega arith)

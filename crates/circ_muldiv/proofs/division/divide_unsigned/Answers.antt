@@ -1,5 +1,5 @@
 use Rattle.std.proofs.Common.{◌-◌, ◌<◌, ◌≤◌, length, ap, sym, ◌∙◌, arith}
-use Rattle.circuits.proofs.Kept.{own_at, All-kept}
+use Rattle.circuits.proofs.Kept.{own_at, All-kept, Adds-refl, Adds-weaken}
 use Rattle.circ_muldiv.proofs.Quotients.{stepped_init, stepped_more, stepped_within, stepped_adds, stepped_own, stepped_width, stepped_quotient, stepped_remainder}
 use Rattle.circ_muldiv.proofs.division.divide_unsigned.Goals as goal
 
@@ -64,3 +64,6 @@ returns-clause-remainder g c = stepped_remainder _ c.loop-i.invariant (omega ari
 
 pub returns-clause-adds : goal.returns-clause-adds
 returns-clause-adds g c = stepped_adds c.loop-i.invariant (omega arith) c.requires.same_width
+
+pub returns-in_err-remainder-clause-adds : goal.returns-in_err-remainder-clause-adds
+returns-in_err-remainder-clause-adds g c = Adds-weaken Adds-refl (omega arith)

@@ -49,3 +49,38 @@ returns-clause-adds g c =
     let width = c.in_ok-greatest.ensures.width ∙ c.len.ensures in
     let few : magnitude_gates (length c.args.a.now) + magnitude_gates (length c.args.b.now) + product_gates (length c.as_slice.result.now) + 1 + comparison_gates (length c.in_ok-greatest.greatest) + 1 ≤ overflow_mul_gates true (length c.args.a.now) = rw (width_a, width, c.requires.same_width) (omega arith) in
     Adds-weaken (Adds-trans (Adds-trans (Adds-trans (Adds-trans (Adds-trans c.magnitude.ensures.adds c.magnitude-2.ensures.adds) c.multiply_with_overflow.ensures.adds) c.xor.ensures.adds) c.less_unsigned.ensures.adds) c.or.ensures.adds) few
+
+pub returns-in_err-magnitude_a-clause-adds : goal.returns-in_err-magnitude_a-clause-adds
+returns-in_err-magnitude_a-clause-adds g c =
+    let few : magnitude_gates (length c.args.a.now) ≤ overflow_mul_gates true (length c.args.a.now) = omega arith in
+    Adds-weaken c.magnitude.ensures.adds few
+
+pub returns-in_err-magnitude_b-clause-adds : goal.returns-in_err-magnitude_b-clause-adds
+returns-in_err-magnitude_b-clause-adds g c =
+    let few : magnitude_gates (length c.args.a.now) + magnitude_gates (length c.args.b.now) ≤ overflow_mul_gates true (length c.args.a.now) = rw (c.requires.same_width) (omega arith) in
+    Adds-weaken (Adds-trans c.magnitude.ensures.adds c.magnitude-2.ensures.adds) few
+
+pub returns-in_err-product-clause-adds : goal.returns-in_err-product-clause-adds
+returns-in_err-product-clause-adds g c =
+    let width_a = ap length c.as_slice.ensures ∙ c.in_ok-magnitude_a.ensures.width in
+    let few : magnitude_gates (length c.args.a.now) + magnitude_gates (length c.args.b.now) + product_gates (length c.as_slice.result.now) ≤ overflow_mul_gates true (length c.args.a.now) = rw (width_a, c.requires.same_width) (omega arith) in
+    Adds-weaken (Adds-trans (Adds-trans c.magnitude.ensures.adds c.magnitude-2.ensures.adds) c.multiply_with_overflow.ensures.adds) few
+
+pub returns-in_err-differ-clause-adds : goal.returns-in_err-differ-clause-adds
+returns-in_err-differ-clause-adds g c =
+    let width_a = ap length c.as_slice.ensures ∙ c.in_ok-magnitude_a.ensures.width in
+    let few : magnitude_gates (length c.args.a.now) + magnitude_gates (length c.args.b.now) + product_gates (length c.as_slice.result.now) + 1 ≤ overflow_mul_gates true (length c.args.a.now) = rw (width_a, c.requires.same_width) (omega arith) in
+    Adds-weaken (Adds-trans (Adds-trans (Adds-trans c.magnitude.ensures.adds c.magnitude-2.ensures.adds) c.multiply_with_overflow.ensures.adds) c.xor.ensures.adds) few
+
+pub returns-in_err-greatest-clause-adds : goal.returns-in_err-greatest-clause-adds
+returns-in_err-greatest-clause-adds g c =
+    let width_a = ap length c.as_slice.ensures ∙ c.in_ok-magnitude_a.ensures.width in
+    let few : magnitude_gates (length c.args.a.now) + magnitude_gates (length c.args.b.now) + product_gates (length c.as_slice.result.now) + 1 ≤ overflow_mul_gates true (length c.args.a.now) = rw (width_a, c.requires.same_width) (omega arith) in
+    Adds-weaken (Adds-trans (Adds-trans (Adds-trans c.magnitude.ensures.adds c.magnitude-2.ensures.adds) c.multiply_with_overflow.ensures.adds) c.xor.ensures.adds) few
+
+pub returns-in_err-exceeds-clause-adds : goal.returns-in_err-exceeds-clause-adds
+returns-in_err-exceeds-clause-adds g c =
+    let width_a = ap length c.as_slice.ensures ∙ c.in_ok-magnitude_a.ensures.width in
+    let width = c.in_ok-greatest.ensures.width ∙ c.len.ensures in
+    let few : magnitude_gates (length c.args.a.now) + magnitude_gates (length c.args.b.now) + product_gates (length c.as_slice.result.now) + 1 + comparison_gates (length c.in_ok-greatest.greatest) ≤ overflow_mul_gates true (length c.args.a.now) = rw (width_a, width, c.requires.same_width) (omega arith) in
+    Adds-weaken (Adds-trans (Adds-trans (Adds-trans (Adds-trans c.magnitude.ensures.adds c.magnitude-2.ensures.adds) c.multiply_with_overflow.ensures.adds) c.xor.ensures.adds) c.less_unsigned.ensures.adds) few

@@ -1,5 +1,5 @@
 use Rattle.std.proofs.Common.{◌<◌, ◌-◌, length, arith}
-use Rattle.circuits.proofs.Kept.{own_at, Adds-trans, Keeps-trans}
+use Rattle.circuits.proofs.Kept.{own_at, Adds-trans, Adds-weaken, Keeps-trans}
 use Rattle.circ_muldiv.proofs.Rows.{multiplied_init, multiplied_more, multiplied_within, multiplied_adds, multiplied_product, multiplied_overflows}
 use Rattle.circ_muldiv.proofs.product.multiply_with_overflow.Goals as goal
 
@@ -35,3 +35,6 @@ returns-clause-overflow g c = multiplied_overflows c.loop-i.invariant (omega ari
 
 pub returns-clause-adds : goal.returns-clause-adds
 returns-clause-adds g c = multiplied_adds c.loop-i.invariant
+
+pub returns-in_err-bits-clause-adds : goal.returns-in_err-bits-clause-adds
+returns-in_err-bits-clause-adds g c = Adds-weaken c.masked.ensures.adds (omega arith)

@@ -1,7 +1,7 @@
 use Rattle.std.proofs.Common.{◌<◌, length, ◌+◌, ◌∙◌, ap, arith}
 use Rattle.std.proofs.lemmas.List.{length_push}
 use Rattle.std.proofs.lemmas.List.Elements.{All-push}
-use Rattle.circuits.proofs.Kept.{Adds-trans, All-kept, map-kept, own_at}
+use Rattle.circuits.proofs.Kept.{Adds-trans, Adds-weaken, All-kept, map-kept, own_at}
 use Rattle.circ_muldiv.proofs.Masks.{mask_more}
 use Rattle.circ_muldiv.proofs.row.masked.Goals as goal
 
@@ -21,3 +21,9 @@ loop-bit-preserved g c =
           rw c.in_ok-push.ensures.ok
           (mask_more (m.value c.args.c.now inputs) (m.value c.loop-bit.c inputs) (m.value c.and.new.self inputs) c.args.word.now c.loop-bit.masked i c.bit-item.result c.args.digit c.in_ok-both.both inside c.bit-item.is before.2 (map-kept c.and.ensures.adds.keeps inputs now_admitted c.loop-bit.masked before.1) (before.0.keeps.values inputs c.bit-item.result admitted own_bit) (before.0.keeps.values inputs c.args.digit admitted c.requires.own_digit) (c.in_ok-both.ensures.value inputs now_admitted) (before.3 inputs admitted)),
     )
+
+pub returns-in_err-both-clause-adds : goal.returns-in_err-both-clause-adds
+returns-in_err-both-clause-adds g c = Adds-weaken (Adds-trans c.loop-bit.invariant.0 c.and.ensures.adds) (omega arith)
+
+pub returns-in_err-push-clause-adds : goal.returns-in_err-push-clause-adds
+returns-in_err-push-clause-adds g c = Adds-weaken (Adds-trans c.loop-bit.invariant.0 c.and.ensures.adds) (omega arith)

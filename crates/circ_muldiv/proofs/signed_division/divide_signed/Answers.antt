@@ -107,3 +107,23 @@ returns-clause-adds g c =
     let remainder_width = c.in_ok-divided.ensures.remainder_width ∙ width in
     let few : magnitude_gates (length c.args.a.now) + magnitude_gates (length c.args.b.now) + division_gates (length c.in_ok-magnitude_a.magnitude_a) + 1 + magnitude_gates (length c.in_ok-divided.divided.quotient) + magnitude_gates (length c.in_ok-divided.divided.remainder) ≤ signed_division_gates (length c.args.a.now) = rw (width, quotient_width, remainder_width, c.requires.same_width) (omega arith) in
     Adds-weaken (Adds-trans (Adds-trans (Adds-trans (Adds-trans (Adds-trans c.magnitude.ensures.adds c.magnitude-2.ensures.adds) c.divide_unsigned.ensures.adds) c.xor.ensures.adds) c.negated_where.ensures.adds) c.negated_where-2.ensures.adds) few
+
+pub returns-in_err-magnitude_a-clause-adds : goal.returns-in_err-magnitude_a-clause-adds
+returns-in_err-magnitude_a-clause-adds g c =
+    let few : magnitude_gates (length c.args.a.now) ≤ signed_division_gates (length c.args.a.now) = omega arith in
+    Adds-weaken c.magnitude.ensures.adds few
+
+pub returns-in_err-magnitude_b-clause-adds : goal.returns-in_err-magnitude_b-clause-adds
+returns-in_err-magnitude_b-clause-adds g c =
+    let few : magnitude_gates (length c.args.a.now) + magnitude_gates (length c.args.b.now) ≤ signed_division_gates (length c.args.a.now) = rw (c.requires.same_width) (omega arith) in
+    Adds-weaken (Adds-trans c.magnitude.ensures.adds c.magnitude-2.ensures.adds) few
+
+pub returns-in_err-divided-clause-adds : goal.returns-in_err-divided-clause-adds
+returns-in_err-divided-clause-adds g c =
+    let few : magnitude_gates (length c.args.a.now) + magnitude_gates (length c.args.b.now) + division_gates (length c.in_ok-magnitude_a.magnitude_a) ≤ signed_division_gates (length c.args.a.now) = rw (c.in_ok-magnitude_a.ensures.width, c.requires.same_width) (omega arith) in
+    Adds-weaken (Adds-trans (Adds-trans c.magnitude.ensures.adds c.magnitude-2.ensures.adds) c.divide_unsigned.ensures.adds) few
+
+pub returns-in_err-differ-clause-adds : goal.returns-in_err-differ-clause-adds
+returns-in_err-differ-clause-adds g c =
+    let few : magnitude_gates (length c.args.a.now) + magnitude_gates (length c.args.b.now) + division_gates (length c.in_ok-magnitude_a.magnitude_a) + 1 ≤ signed_division_gates (length c.args.a.now) = rw (c.in_ok-magnitude_a.ensures.width, c.requires.same_width) (omega arith) in
+    Adds-weaken (Adds-trans (Adds-trans (Adds-trans c.magnitude.ensures.adds c.magnitude-2.ensures.adds) c.divide_unsigned.ensures.adds) c.xor.ensures.adds) few

@@ -1,5 +1,8 @@
+use Rattle.std.proofs.Common.{◌≤◌, ◌+◌, length, ap, ◌∙◌, arith}
 use Rattle.std.proofs.lemmas.Result.{IfOk-weaker}
-use Rattle.circuits.proofs.Kept.{map-kept}
+use Rattle.circuits.specs.Gates.{adder_gates, select_gates}
+use Rattle.circuits.proofs.Kept.{map-kept, Adds-trans, Adds-weaken}
+use Rattle.circ_muldiv.specs.Gates.{magnitude_gates}
 use Rattle.circ_muldiv.proofs.SignedQuotients.{negated_value}
 use Rattle.circ_muldiv.proofs.signed_division.negated_where.Goals as goal
 
@@ -11,3 +14,11 @@ returns-clause-number g c =
     negated_value (m.value c.args.c.now inputs) (m.value c.neg.new.c inputs) (m.value c.select.new.c inputs) c.args.word.now c.in_ok-negation.negation made c.args.negative (keeps.values inputs c.args.negative admitted c.requires.own_negative) (map-kept keeps inputs admitted c.args.word.now c.requires.own_word) (c.in_ok-negation.ensures.number inputs admitted)
     (rw (c.as_slice.ensures, c.as_slice-2.ensures) at (known inputs (keeps.admitted inputs admitted))))
     c.select.ensures.values
+
+pub returns-in_err-negation-clause-adds : goal.returns-in_err-negation-clause-adds
+returns-in_err-negation-clause-adds g c = Adds-weaken c.neg.ensures.adds (omega arith)
+
+pub returns-clause-adds : goal.returns-clause-adds
+returns-clause-adds g c =
+    let few : adder_gates (length c.args.word.now) + select_gates (length c.as_slice.result.now) ≤ magnitude_gates (length c.args.word.now) = rw (ap length c.as_slice.ensures ∙ c.in_ok-negation.ensures.width) (omega arith) in
+    Adds-weaken (Adds-trans c.neg.ensures.adds c.select.ensures.adds) few

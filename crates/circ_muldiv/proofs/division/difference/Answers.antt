@@ -1,0 +1,35 @@
+use Rattle.std.proofs.Common.{◌≡◌, ◌≤◌, ◌+◌, length, [], ◌∷◌, ◌++◌, ◌∙◌, arith}
+use Rattle.std.proofs.lemmas.Grind.{common_steps}
+use Rattle.circuits.specs.Gates.{adder_gates}
+use Rattle.circuits.proofs.Kept.{Adds-refl, Adds-weaken}
+use Rattle.circ_muldiv.proofs.Quotients.{both_ok, taken}
+use Rattle.circ_muldiv.proofs.division.difference.Goals as goal
+
+pub returns-clause-fits : goal.returns-clause-fits
+returns-clause-fits g c =
+    let m = g.C.State in
+    let complement_is : c.as_slice.result.now ≡ c.in_ok-complement.complement ++ c.one.result ∷ [] = grind (arith, common_steps) in
+    both_ok c.add_with_carry.result _ _ _ (λ less width total inputs admitted.
+    (taken (m.value c.args.c.now inputs) (m.value c.add_with_carry.new.c inputs) c.args.longer.now c.args.divisor.now c.in_ok-complement.complement less.bits c.one.result less.carry c.one-first.result c.in_ok-complement.ensures.width (width ∙ c.requires.width) (c.in_ok-complement.ensures.values inputs admitted) (c.one.ensures.value inputs admitted) (c.one-first.ensures.value inputs admitted)
+    (rw (complement_is, c.requires.width) at (total inputs admitted))).0)
+    c.add_with_carry.ensures.width c.add_with_carry.ensures.number
+
+pub returns-clause-left : goal.returns-clause-left
+returns-clause-left g c =
+    let m = g.C.State in
+    let complement_is : c.as_slice.result.now ≡ c.in_ok-complement.complement ++ c.one.result ∷ [] = grind (arith, common_steps) in
+    both_ok c.add_with_carry.result _ _ _ (λ less width total inputs admitted.
+    (taken (m.value c.args.c.now inputs) (m.value c.add_with_carry.new.c inputs) c.args.longer.now c.args.divisor.now c.in_ok-complement.complement less.bits c.one.result less.carry c.one-first.result c.in_ok-complement.ensures.width (width ∙ c.requires.width) (c.in_ok-complement.ensures.values inputs admitted) (c.one.ensures.value inputs admitted) (c.one-first.ensures.value inputs admitted)
+    (rw (complement_is, c.requires.width) at (total inputs admitted))).1)
+    c.add_with_carry.ensures.width c.add_with_carry.ensures.number
+
+pub returns-in_err-complement-clause-adds : goal.returns-in_err-complement-clause-adds
+returns-in_err-complement-clause-adds g c = Adds-weaken Adds-refl (omega arith)
+
+pub returns-in_err-push-clause-adds : goal.returns-in_err-push-clause-adds
+returns-in_err-push-clause-adds g c = Adds-weaken Adds-refl (omega arith)
+
+pub returns-clause-adds : goal.returns-clause-adds
+returns-clause-adds g c =
+    let few : adder_gates (length c.args.longer.now) ≤ adder_gates (length c.args.divisor.now + 1) = rw c.requires.width (omega arith) in
+    Adds-weaken c.add_with_carry.ensures.adds few
