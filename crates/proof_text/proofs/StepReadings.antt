@@ -5,7 +5,7 @@ use Rattle.std.proofs.lemmas.List.{append-nil}
 use Rattle.std.specs.Result.{IfErr}
 use Rattle.refusal.specs.declared.refusal.Refusal.{Refusal}
 use Rattle.scan.specs.Bytes.{is_digit}
-use Rattle.clauses.specs.declared.literal.Lit.{Lit}
+use Rattle.clauses.specs.Literal.{Lit}
 use Rattle.clauses.specs.declared.step.Step.{Step}
 use Rattle.proof_text.specs.Limits.{most_number, most_variable}
 use Rattle.proof_text.specs.Numerals.{numeral}

@@ -1,7 +1,7 @@
 -- The text of proofs.
 use Rattle.std.specs.Prelude.{ℕ, List, [], ◌++◌, length, map, flat_map, if◌then◌else◌, codes}
 use Rattle.std.specs.List.{join_with_byte}
-use Rattle.clauses.specs.declared.literal.Lit.{Lit}
+use Rattle.clauses.specs.Literal.{Lit}
 use Rattle.clauses.specs.declared.step.Step.{Step}
 use Rattle.proof_text.specs.declared.proof.Proof.{Proof}
 use Rattle.proof_text.specs.Numerals.{numeral}

@@ -26,10 +26,7 @@ fn literal(rest: &mut &[u8]) -> Result<Lit, Stopped>
         ends: (b' ', b' '),
     };
     let (variable, _) = number(rest, form)?;
-    Ok(Lit {
-        variable: variable as u32,
-        negated,
-    })
+    Ok(Lit::new(variable as u32, negated))
 }
 
 /// A clause: literals, and `:`.

@@ -22,10 +22,10 @@ fn push_number(out: &mut Vec<u8>, number: u64) -> Result<(), AllocError>
 fn push_literal(out: &mut Vec<u8>, literal: Lit) -> Result<(), AllocError>
     ensures { OnOk result (out.new.items ≡ out.old.items ++ literal_text literal) }
 {
-    if literal.negated {
+    if literal.is_negated() {
         out.push(b'-')?;
     }
-    push_number(out, u64::from(literal.variable))
+    push_number(out, u64::from(literal.variable()))
 }
 
 /// Adds a clause, with `:` behind it.
