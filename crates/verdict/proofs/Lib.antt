@@ -3,4 +3,5 @@ pub mod Examples
 pub mod InputBits
 pub mod Widths
 pub mod Lines
+pub mod Proved
 pub mod Findings

@@ -5,6 +5,7 @@ pub use Rattle.clauses.specs.ClauseSet
 pub use Rattle.cdcl_log.specs.Found
 pub use Rattle.rule_core.specs.Typing
 pub mod Honest
+pub mod Proved
 pub mod WideWords
 pub mod Laws
 pub mod Texts

@@ -1,10 +1,13 @@
 //! The decision on a rule at a typing: a search for a setting at which the source's effect does not allow the target's.
-ghost use Rattle.std.specs.Prelude.{◌≤◌, ℕ, List as Seq, IfOk};
+ghost use Rattle.std.specs.Prelude.{◌≤◌, ℕ, List as Seq, [], IfOk, OnOk};
+ghost use Rattle.clauses.specs.declared.cnf.Cnf.{Cnf as CnfOf};
 ghost use Rattle.clauses.specs.ClauseSet.{IsRefutation};
 ghost use Rattle.cdcl_log.specs.Found.{IsModel};
 ghost use Rattle.rule_core.specs.Checks.{IsRule};
 ghost use Rattle.rule_core.specs.Typing.{IsTyping};
+ghost use Rattle.rule_core.specs.Valid.{IsValid};
 ghost use Rattle.verdict.specs.Honest.{IsHonest, IsRefutedBy, StandsForRule};
+ghost use Rattle.verdict.specs.Proved.{IsLogOf, IsUnrefutedBy, Keeps, IsAttempt};
 
 use crate::reading::{effect_read, words_read};
 use crate::verdict::{Tried, Verdict};
@@ -20,6 +23,17 @@ use lists::List;
 use rule_core::{Example, Rule, Typing, every_rule_has_one_outcome};
 use rup_checker::check_refutation;
 use std::alloc::{AllocError, Global};
+
+/// What a search over the clauses of a rule's counterexamples came to.
+#[derive(Drop)]
+enum Attempt {
+    /// There is no counterexample: the log refutes the clauses.
+    Valid(Log),
+    /// A counterexample.
+    Refuted(Example),
+    /// The clauses that were learned, as many as may be.
+    Limit(Log),
+}
 
 /// Decides whether the rule is valid at the typing, by a search for a counterexample that may learn `limit` clauses, beside the empty
 /// one that ends a refutation. The only error is want of memory.
@@ -38,13 +52,101 @@ pub fn decide(
     ensures honest { IfOk result (IsHonest rule.now typing.now limit) }
 {
     let set = counterexample_clauses(alloc, rule, typing)?;
-    match search(alloc, &set, limit)? {
-        Found::Sat(model) => {
-            let example = example_of(alloc, rule, typing, &set, &model)?;
-            Ok(refusal(rule, example))
+    verdict_by(alloc, rule, typing, set, limit)
+}
+
+/// Decides as `decide` does, and gives beside the verdict a set of clauses that stands for the counterexamples of the rule and, where
+/// the rule is admitted, a log that refutes the set. Else the log is empty.
+pub fn prove(
+    alloc: Global,
+    rule: &Rule,
+    typing: &Typing,
+    limit: u32,
+) -> Result<(Verdict, Cnf, Log), AllocError>
+    requires rule { IsRule rule.now }
+    requires typing { IsTyping rule.now typing.now }
+    requires limit { limit ≤ 1000000 }
+    ensures honest { IfOk result (λ x. IsHonest rule.now typing.now limit x.0) }
+    ensures stands { IfOk result (λ x. StandsForRule rule.now typing.now x.1) }
+    ensures log { IfOk result (λ x. IsLogOf x.0 x.1 x.2) }
+{
+    let set = counterexample_clauses(alloc, rule, typing)?;
+    match searched(alloc, rule, typing, &set, limit)? {
+        Attempt::Valid(log) => Ok((Verdict::Admitted, set, log)),
+        Attempt::Refuted(example) => Ok((refusal(rule, example), set, List::new(alloc))),
+        Attempt::Limit(log) => {
+            let again = counterexample_clauses(alloc, rule, typing)?;
+            Ok((Verdict::Budget(Tried { set, log }), again, List::new(alloc)))
         }
-        Found::Unsat(log) => admitted(alloc, rule, typing, &set, &log),
-        Found::Limit(log) => Ok(Verdict::Budget(Tried { set, log })),
+    }
+}
+
+/// Decides as `decide` does, but without a search where the log refutes the clauses that stand for the counterexamples of the rule.
+/// Any log may be given: one with a literal of an unknown variable, or with a hint that names no earlier clause, refutes nothing.
+pub fn readmit(
+    alloc: Global,
+    rule: &Rule,
+    typing: &Typing,
+    log: &Log,
+    limit: u32,
+) -> Result<Verdict, AllocError>
+    requires rule { IsRule rule.now }
+    requires typing { IsTyping rule.now typing.now }
+    requires limit { limit ≤ 1000000 }
+    ensures honest { IfOk result (IsHonest rule.now typing.now limit) }
+    ensures unrefuted { IfOk result (IsUnrefutedBy log.now) }
+{
+    let set = counterexample_clauses(alloc, rule, typing)?;
+    if check_refutation(alloc, &set, log)? {
+        rules_without_counterexample_read_are_valid();
+        return Ok(Verdict::Admitted);
+    }
+    verdict_by(alloc, rule, typing, set, limit)
+}
+
+/// The verdict by a search over the clauses, which it keeps where the search comes to no end.
+fn verdict_by(
+    alloc: Global,
+    rule: &Rule,
+    typing: &Typing,
+    set: Cnf,
+    limit: u32,
+) -> Result<Verdict, AllocError>
+    requires rule { IsRule rule.now }
+    requires typing { IsTyping rule.now typing.now }
+    requires limit { limit ≤ 1000000 }
+    requires stands { StandsForRule rule.now typing.now set }
+    ensures honest { IfOk result (IsHonest rule.now typing.now limit) }
+    ensures keeps { IfOk result (Keeps set) }
+{
+    match searched(alloc, rule, typing, &set, limit)? {
+        Attempt::Valid(_) => Ok(Verdict::Admitted),
+        Attempt::Refuted(example) => Ok(refusal(rule, example)),
+        Attempt::Limit(log) => Ok(Verdict::Budget(Tried { set, log })),
+    }
+}
+
+/// Searches for a model of the clauses, that is, for a counterexample.
+fn searched(
+    alloc: Global,
+    rule: &Rule,
+    typing: &Typing,
+    set: &Cnf,
+    limit: u32,
+) -> Result<Attempt, AllocError>
+    requires rule { IsRule rule.now }
+    requires typing { IsTyping rule.now typing.now }
+    requires limit { limit ≤ 1000000 }
+    requires stands { StandsForRule rule.now typing.now set.now }
+    ensures { IfOk result (IsAttempt rule.now typing.now set.now limit) }
+{
+    match search(alloc, set, limit)? {
+        Found::Sat(model) => Ok(Attempt::Refuted(example_of(alloc, rule, typing, set, &model)?)),
+        Found::Unsat(log) => {
+            check_again(alloc, rule, typing, set, &log)?;
+            Ok(Attempt::Valid(log))
+        }
+        Found::Limit(log) => Ok(Attempt::Limit(log)),
     }
 }
 
@@ -64,7 +166,9 @@ fn counterexample_clauses(alloc: Global, rule: &Rule, typing: &Typing) -> Result
 /// What is said of a rule that the example refutes. Where the source has an `undef`, another choice for it might do.
 fn refusal(rule: &Rule, example: Example) -> Verdict
     requires { IsRule rule.now }
-    ensures { (typing : Seq ℕ) (limit : ℕ) → IsRefutedBy rule.now typing example → IsHonest rule.now typing limit result }
+    ensures honest { (typing : Seq ℕ) (limit : ℕ) → IsRefutedBy rule.now typing example → IsHonest rule.now typing limit result }
+    ensures no_log { (set : CnfOf) → IsLogOf result set [] }
+    ensures keeps { (set : CnfOf) → Keeps set result }
 {
     if rule.witnesses.is_empty() {
         Verdict::Refuted(example)
@@ -103,23 +207,23 @@ fn example_of(
     })
 }
 
-/// Admits the rule by a log that refutes its clauses. The log is checked once more, by code apart from the search.
-fn admitted(
+/// Checks once more, by code apart from the search, that the log refutes the clauses of the rule, which is valid then.
+fn check_again(
     alloc: Global,
     rule: &Rule,
     typing: &Typing,
     set: &Cnf,
     log: &Log,
-) -> Result<Verdict, AllocError>
+) -> Result<(), AllocError>
     requires rule { IsRule rule.now }
     requires typing { IsTyping rule.now typing.now }
     requires stands { StandsForRule rule.now typing.now set.now }
     requires refuted { IsRefutation set.now log.now }
-    ensures { IfOk result (λ verdict. (limit : ℕ) → IsHonest rule.now typing.now limit verdict) }
+    ensures { OnOk result (IsValid rule.now typing.now) }
 {
     if !check_refutation(alloc, set, log)? {
         unreachable!();
     }
     rules_without_counterexample_read_are_valid();
-    Ok(Verdict::Admitted)
+    Ok(())
 }

@@ -12,7 +12,7 @@ mod verdict;
 mod verification;
 mod words;
 
-pub use decision::decide;
+pub use decision::{decide, prove, readmit};
 pub use laws::few_bits_are_decided;
 pub use text::{push_too_many, push_verdict};
 pub use verdict::{Row, Table, Tried, Verdict};

@@ -1,0 +1,21 @@
+-- What a log that doesn't refute a set says of the verdict that keeps the set.
+use Rattle.std.proofs.Common.{◌≡◌, ◌↔◌, Bool, true, false, IsTrue, List, Result, Ok, Err, IfOk, subst}
+use Rattle.clauses.specs.declared.cnf.Cnf.{Cnf}
+use Rattle.clauses.specs.declared.step.Step.{Step}
+use Rattle.clauses.specs.ClauseSet.{IsRefutation}
+use Rattle.verdict.specs.declared.verdict.Verdict.{Verdict}
+use Rattle.verdict.specs.declared.verdict.Verdict.TheVariants.{Admitted, Refuted, WitnessFails, Budget}
+use Rattle.verdict.specs.Proved.{IsUnrefutedBy, Keeps}
+
+pub not_refuted : (found : Bool) (R : Type 0) → (IsTrue found ↔ R) → found ≡ false → R → ⊥
+not_refuted found R h e r = let is : found ≡ true = h.1 r in absurd cc
+
+unrefuted : (verdict : Verdict) (set : Cnf) (log : List Step) → ¬ (IsRefutation set log) → Keeps set verdict → IsUnrefutedBy log verdict
+unrefuted Admitted set log deny k = tt
+unrefuted (Refuted example) set log deny k = tt
+unrefuted (WitnessFails example) set log deny k = tt
+unrefuted (Budget tried) set log deny k = λ refuted. deny (subst (λ (kept : Cnf). IsRefutation kept log) k refuted)
+
+pub keeps_unrefuted : {E : Type 0} (made : Result Verdict E) (set : Cnf) (log : List Step) → ¬ (IsRefutation set log) → IfOk made (Keeps set) → IfOk made (IsUnrefutedBy log)
+keeps_unrefuted (Ok verdict) set log deny k = unrefuted verdict set log deny k
+keeps_unrefuted (Err e) set log deny k = tt
