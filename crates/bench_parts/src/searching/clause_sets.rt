@@ -1,6 +1,6 @@
 //! The sets of clauses that are searched.
 
-use crate::generator::Generator;
+use super::generator::Generator;
 use clauses::{Clause, Cnf, Lit};
 use lists::List;
 use std::alloc::{AllocError, Global};
@@ -11,7 +11,7 @@ const LITERALS_A_CLAUSE: u32 = 3;
 
 /// A set of clauses to search.
 #[derive(Clone, Copy, Debug)]
-pub(crate) enum Family {
+pub(super) enum Family {
     /// So many random clauses of three literals each.
     Random { inputs: u8, clauses: u16, seed: u64 },
     /// So many pigeons, and one hole less: no two may share one.
@@ -22,7 +22,7 @@ pub(crate) enum Family {
 
 impl Family {
     /// The set of clauses, all of whose variables are inputs.
-    pub(crate) fn clauses(self, alloc: Global) -> Result<Option<Cnf>, AllocError> {
+    pub(super) fn clauses(self, alloc: Global) -> Result<Option<Cnf>, AllocError> {
         let (roots, count) = match self {
             Family::Random {
                 inputs,

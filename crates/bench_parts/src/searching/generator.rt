@@ -4,18 +4,18 @@ ghost use Rattle.std.specs.Prelude.{◌<◌};
 
 /// A linear congruential generator, with the constants of Knuth's MMIX.
 #[derive(Debug, Drop)]
-pub(crate) struct Generator {
+pub(super) struct Generator {
     state: u64,
 }
 
 impl Generator {
     /// The generator that begins at this state.
-    pub(crate) fn new(seed: u64) -> Generator {
+    pub(super) fn new(seed: u64) -> Generator {
         Generator { state: seed }
     }
 
     /// The next number, which is less than the bound.
-    pub(crate) fn below(&mut self, bound: usize) -> usize
+    pub(super) fn below(&mut self, bound: usize) -> usize
         requires { 0 < bound }
         ensures { result < bound }
     {

@@ -4,7 +4,7 @@ use std::alloc::{AllocError, Global};
 use std::fmt::Write;
 
 /// A function of a chain of blocks, so many behind the first.
-pub(crate) fn chain(alloc: Global, blocks: u32) -> Result<String, AllocError> {
+pub(super) fn chain(alloc: Global, blocks: u32) -> Result<String, AllocError> {
     let mut text = String::new(alloc);
     text.push_str("define i32 @chain(i32 %a) {\n")?;
     for block in 0..blocks {
@@ -15,7 +15,7 @@ pub(crate) fn chain(alloc: Global, blocks: u32) -> Result<String, AllocError> {
 }
 
 /// A function that returns at once, with so many blocks that go round in a ring.
-pub(crate) fn ring(alloc: Global, blocks: u32) -> Result<String, AllocError> {
+pub(super) fn ring(alloc: Global, blocks: u32) -> Result<String, AllocError> {
     let mut text = String::new(alloc);
     text.push_str("define i32 @ring(i32 %a) {\n  ret i32 %a\n")?;
     for block in 0..blocks {
@@ -27,7 +27,7 @@ pub(crate) fn ring(alloc: Global, blocks: u32) -> Result<String, AllocError> {
 }
 
 /// A function of one switch of so many cases, which all go to one block.
-pub(crate) fn cases(alloc: Global, cases: u32) -> Result<String, AllocError> {
+pub(super) fn cases(alloc: Global, cases: u32) -> Result<String, AllocError> {
     let mut text = String::new(alloc);
     text.push_str("define i32 @cases(i32 %a) {\n  switch i32 %a, label %b [\n")?;
     for case in 0..cases {

@@ -1,40 +1,34 @@
 //! The words of the command line.
 
-use crate::clause_sets::Family;
+use super::clause_sets::Family;
 
 /// What the words of the command line ask for.
 #[derive(Clone, Copy, Debug)]
-pub(crate) struct Command {
-    pub(crate) family: Family,
+pub(super) struct Command {
+    pub(super) family: Family,
     /// Whether the times are printed.
-    pub(crate) timed: bool,
+    pub(super) timed: bool,
 }
 
 impl Command {
-    /// What the words ask for, of which the first is the program's own name.
-    pub(crate) fn of_words(words: &[String]) -> Option<Command> {
-        match words {
-            [_, rest @ .., last] if last.as_str() == "untimed" => Some(Command {
-                family: family(rest)?,
-                timed: false,
-            }),
-            [_, rest @ ..] => Some(Command {
-                family: family(rest)?,
-                timed: true,
-            }),
-            [] => None,
-        }
+    /// What the words ask for.
+    pub(super) fn of_words(words: &[String]) -> Option<Command> {
+        let (set, timed) = match words {
+            [set @ .., last] if last.as_str() == "untimed" => (set, false),
+            _ => (words, true),
+        };
+        Some(Command {
+            family: family(set)?,
+            timed,
+        })
     }
 }
 
 /// The set that the words name.
 fn family(words: &[String]) -> Option<Family> {
-    let [command, kind, numbers @ ..] = words else {
+    let [kind, numbers @ ..] = words else {
         return None;
     };
-    if command.as_str() != "search" {
-        return None;
-    }
     match (kind.as_str(), numbers) {
         ("random", [inputs, clauses, seed]) => Some(Family::Random {
             inputs: inputs.as_str().parse().ok()?,

@@ -2,6 +2,7 @@
 
 use crate::failure::Failure;
 use clauses::{Clause, Cnf, Lit};
+use std::fs::File;
 use std::io::{BufWriter, Write};
 use std::{fmt, fs};
 
@@ -37,9 +38,24 @@ fn write_clause<W: fmt::Write>(f: &mut fmt::Formatter<W>, clause: &[Lit]) -> fmt
     writeln!(f, "0")
 }
 
-/// Writes a set to the file of this name, which is made or made anew.
-pub(crate) fn write_set(rt: &HostRuntime, name: &str, set: &Cnf) -> Result<(), Failure> {
-    let file = fs::create(rt, name).map_err(|_| Failure::Output)?;
+/// The file for the clause set of the rule at a place.
+#[derive(Clone, Copy, Debug)]
+pub(super) struct SetFile<'a> {
+    /// The folder in which it stands.
+    pub(super) folder: &'a str,
+    /// The place of the rule, from 0, which is its name.
+    pub(super) place: usize,
+}
+
+/// Opens the file, which is made or made anew.
+fn opened(rt: &HostRuntime, set_file: SetFile<'_>) -> Result<File, Failure> {
+    let name = format!(in rt.alloc(); "{}/{}.cnf", set_file.folder, set_file.place)?;
+    fs::create(rt, name.as_str()).map_err(|_| Failure::Output)
+}
+
+/// Writes a set to its file.
+pub(super) fn write_set(rt: &HostRuntime, set_file: SetFile<'_>, set: &Cnf) -> Result<(), Failure> {
+    let file = opened(rt, set_file)?;
     let mut out = BufWriter::new(rt.alloc(), file).map_err(|_| Failure::NoMemory)?;
     write!(out, "{}", Dimacs(set)).map_err(|_| Failure::Output)?;
     out.flush().map_err(|_| Failure::Output)

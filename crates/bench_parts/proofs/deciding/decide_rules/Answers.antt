@@ -1,10 +1,10 @@
 use Rattle.std.proofs.Common.{sym, subst}
 use Rattle.rule_core.specs.declared.rule.Rule.{Rule}
 use Rattle.rule_typing.specs.Classes.{IsClassified}
-use Rattle.bench_verify.proofs.run.Goals as goal
+use Rattle.bench_parts.proofs.deciding.decide_rules.Goals as goal
 
-pub decide-requires-clause-classes : goal.decide-requires-clause-classes
-decide-requires-clause-classes c =
+pub decide_rule-requires-clause-classes : goal.decide_rule-requires-clause-classes
+decide_rule-requires-clause-classes c =
     let P : Rule → Type 0 = λ rule. IsClassified rule in
     let e = c.as_slice-rule-items.ensures.value in
     subst P (sym c.rule-item.is) (rw e (c.in_ok-rules_of.ensures.classes c.loop-rule.rule-index c.rule-item.result (rw (← e) c.loop-rule-test.true)))

@@ -7,7 +7,7 @@ const MOST_CONFLICTS: u32 = 1_000_000;
 
 /// What is printed of a rule.
 #[derive(Clone, Copy, Debug)]
-pub(crate) enum Line {
+pub(super) enum Line {
     /// Its verdict alone.
     Verdict,
     /// Its verdict with sizes and times.
@@ -16,28 +16,28 @@ pub(crate) enum Line {
 
 /// What the words of the command line ask for.
 #[derive(Clone, Copy, Debug)]
-pub(crate) struct Command<'a> {
+pub(super) struct Command<'a> {
     /// The name of the rule file.
-    pub(crate) rules: &'a str,
+    pub(super) rules: &'a str,
     /// The most clauses that a search learns.
-    pub(crate) conflicts: u32,
+    pub(super) conflicts: u32,
     /// What is printed of each rule.
-    pub(crate) line: Line,
+    pub(super) line: Line,
     /// The folder that the clause sets are written to, if any.
-    pub(crate) folder: Option<&'a str>,
+    pub(super) folder: Option<&'a str>,
 }
 
 impl<'a> Command<'a> {
-    /// What the words ask for, of which the first is the program's own name.
-    pub(crate) fn of_words(words: &'a [String]) -> Option<Command<'a>>
+    /// What the words ask for.
+    pub(super) fn of_words(words: &'a [String]) -> Option<Command<'a>>
         ensures { IfSome result (λ command. command.conflicts ≤ 1000000) }
     {
         let (rules, conflicts, line, folder) = match words {
-            [_, rules, conflicts] => (rules, conflicts, Line::Measured, None),
-            [_, rules, conflicts, last] if last.as_str() == "untimed" => {
+            [rules, conflicts] => (rules, conflicts, Line::Measured, None),
+            [rules, conflicts, last] if last.as_str() == "untimed" => {
                 (rules, conflicts, Line::Verdict, None)
             }
-            [_, rules, conflicts, flag, folder] if flag.as_str() == "--dimacs" => {
+            [rules, conflicts, flag, folder] if flag.as_str() == "--dimacs" => {
                 (rules, conflicts, Line::Measured, Some(folder.as_str()))
             }
             _ => return None,

@@ -5,7 +5,7 @@ use std::fmt;
 
 /// How much a module has. Its `Display` is the line that is printed.
 #[derive(Clone, Copy, Debug)]
-pub(crate) struct Counts {
+pub(super) struct Counts {
     entries: usize,
     functions: usize,
     blocks: usize,
@@ -14,7 +14,7 @@ pub(crate) struct Counts {
 }
 
 impl Counts {
-    pub(crate) fn of(module: &Module) -> Counts {
+    pub(super) fn of(module: &Module) -> Counts {
         let mut counts = Counts {
             entries: module.entries.len(),
             functions: 0,
