@@ -1,6 +1,7 @@
-use Rattle.std.proofs.Common.{ap, ◌∙◌}
+use Rattle.std.proofs.Common.{ap, ◌∙◌, ◌≤◌, ◌+◌, length, arith, true, false}
 use Rattle.circuits.specs.Word.{number}
-use Rattle.circuits.proofs.Kept.{map-kept, Keeps-trans}
+use Rattle.circuits.proofs.Kept.{map-kept, Keeps-trans, Adds-trans, Adds-weaken}
+use Rattle.blast_value.specs.Gates.{checked_gates, overflow_gates, result_gates}
 use Rattle.blast_value.proofs.Effects.{checked_value, exact_signed}
 use Rattle.blast_value.proofs.arithmetic.checked.Goals as goal
 
@@ -25,3 +26,28 @@ returns-clause-value g c inputs admitted =
     (wraps_kept ∙ rw (a_1, b_1, c.requires.width_a) at (c.in_ok-wraps.ensures.value inputs at_1))
     (rw (a_2, b_2, c.requires.width_a, exact_signed c.args.op c.args.width (number _) (number _)) at (c.in_ok-wraps_signed.ensures.value inputs at_2))
     (c.in_ok-poison.ensures.value inputs at_3)
+
+pub returns-in_err-bits-clause-adds : goal.returns-in_err-bits-clause-adds
+returns-in_err-bits-clause-adds g c =
+    let few : result_gates c.args.op (length c.args.a.now) ≤ checked_gates c.args.op c.args.width = rw c.requires.width_a (omega arith) in
+    Adds-weaken c.wrapped.ensures.adds few
+
+pub returns-in_err-wraps-clause-adds : goal.returns-in_err-wraps-clause-adds
+returns-in_err-wraps-clause-adds g c =
+    let few : result_gates c.args.op (length c.args.a.now) + overflow_gates false c.args.op (length c.args.a.now) ≤ checked_gates c.args.op c.args.width = rw c.requires.width_a (omega arith) in
+    Adds-weaken (Adds-trans c.wrapped.ensures.adds c.overflows.ensures.adds) few
+
+pub returns-in_err-wraps_signed-clause-adds : goal.returns-in_err-wraps_signed-clause-adds
+returns-in_err-wraps_signed-clause-adds g c =
+    let few : result_gates c.args.op (length c.args.a.now) + overflow_gates false c.args.op (length c.args.a.now) + overflow_gates true c.args.op (length c.args.a.now) ≤ checked_gates c.args.op c.args.width = rw c.requires.width_a (omega arith) in
+    Adds-weaken (Adds-trans (Adds-trans c.wrapped.ensures.adds c.overflows.ensures.adds) c.overflows-2.ensures.adds) few
+
+pub returns-in_err-poison-clause-adds : goal.returns-in_err-poison-clause-adds
+returns-in_err-poison-clause-adds g c =
+    let few : result_gates c.args.op (length c.args.a.now) + overflow_gates false c.args.op (length c.args.a.now) + overflow_gates true c.args.op (length c.args.a.now) + 1 ≤ checked_gates c.args.op c.args.width = rw c.requires.width_a (omega arith) in
+    Adds-weaken (Adds-trans (Adds-trans (Adds-trans c.wrapped.ensures.adds c.overflows.ensures.adds) c.overflows-2.ensures.adds) c.or.ensures.adds) few
+
+pub returns-clause-adds : goal.returns-clause-adds
+returns-clause-adds g c =
+    let few : result_gates c.args.op (length c.args.a.now) + overflow_gates false c.args.op (length c.args.a.now) + overflow_gates true c.args.op (length c.args.a.now) + 1 ≤ checked_gates c.args.op c.args.width = rw c.requires.width_a (omega arith) in
+    Adds-weaken (Adds-trans (Adds-trans (Adds-trans c.wrapped.ensures.adds c.overflows.ensures.adds) c.overflows-2.ensures.adds) c.or.ensures.adds) few

@@ -1,6 +1,7 @@
-use Rattle.std.proofs.Common.{◌<◌, length, ap, ◌∙◌, arith}
+use Rattle.std.proofs.Common.{◌<◌, length, ap, ◌∙◌, arith, ◌≤◌, ◌+◌}
 use Rattle.circuits.specs.Word.{number_of}
-use Rattle.circuits.proofs.Kept.{map-kept, Keeps-trans, own_at}
+use Rattle.circuits.proofs.Kept.{map-kept, Keeps-trans, own_at, Adds-trans, Adds-weaken}
+use Rattle.circuits.specs.Gates.{select_gates}
 use Rattle.blast_value.proofs.Effects.{chosen, chosen_number}
 use Rattle.blast_value.proofs.comparison.choose.Goals as goal
 
@@ -30,3 +31,23 @@ returns-clause-effect g c inputs admitted =
     (chosen (value condition.poison) (value c.args.a.now.poison) (value c.args.b.now.poison) _ _ (value literal) (length c.args.a.now.bits) _ _ (number_of value c.args.a.now.bits) (number_of value c.args.b.now.bits) _ _ (c.zero.ensures.value inputs (k3.admitted inputs at_2))
     (rw (c.in_ok-operand.ensures.value inputs at_1, literal_1, poison_a, poison_b, poison_c) at (c.in_ok-poison.ensures.value inputs at_2))
     numbers.0 numbers.1 c.requires.same_width)
+
+pub returns-in_err-bits-clause-adds : goal.returns-in_err-bits-clause-adds
+returns-in_err-bits-clause-adds g c =
+    let few : select_gates (length c.as_slice-2.result.now) ≤ select_gates (length c.args.a.now.bits) + 2 = rw c.as_slice-2.ensures (omega arith) in
+    Adds-weaken c.select.ensures.adds few
+
+pub returns-in_err-operand-clause-adds : goal.returns-in_err-operand-clause-adds
+returns-in_err-operand-clause-adds g c =
+    let few : select_gates (length c.as_slice-2.result.now) + 1 ≤ select_gates (length c.args.a.now.bits) + 2 = rw c.as_slice-2.ensures (omega arith) in
+    Adds-weaken (Adds-trans c.select.ensures.adds c.mux.ensures.adds) few
+
+pub returns-in_err-poison-clause-adds : goal.returns-in_err-poison-clause-adds
+returns-in_err-poison-clause-adds g c =
+    let few : select_gates (length c.as_slice-2.result.now) + 1 + 1 ≤ select_gates (length c.args.a.now.bits) + 2 = rw c.as_slice-2.ensures (omega arith) in
+    Adds-weaken (Adds-trans (Adds-trans c.select.ensures.adds c.mux.ensures.adds) c.or.ensures.adds) few
+
+pub returns-clause-adds : goal.returns-clause-adds
+returns-clause-adds g c =
+    let few : select_gates (length c.as_slice-2.result.now) + 1 + 1 ≤ select_gates (length c.args.a.now.bits) + 2 = rw c.as_slice-2.ensures (omega arith) in
+    Adds-weaken (Adds-trans (Adds-trans c.select.ensures.adds c.mux.ensures.adds) c.or.ensures.adds) few

@@ -1,4 +1,6 @@
-use Rattle.std.proofs.Common.{◌∙◌}
+use Rattle.std.proofs.Common.{◌∙◌, ◌≤◌, ◌+◌, length, arith}
+use Rattle.circuits.proofs.Kept.{Adds-trans, Adds-weaken}
+use Rattle.circuits.specs.Gates.{comparison_gates}
 use Rattle.blast_value.proofs.Effects.{compared}
 use Rattle.blast_value.proofs.comparison.compare.Goals as goal
 
@@ -16,3 +18,23 @@ returns-clause-effect g c inputs admitted =
     (c.zero.ensures.value inputs at_2)
     (rw (poison_a, poison_b) at (c.in_ok-poison.ensures.value inputs at_1))
     (truth_kept ∙ c.in_ok-truth.ensures.value inputs admitted)
+
+pub returns-in_err-truth-clause-adds : goal.returns-in_err-truth-clause-adds
+returns-in_err-truth-clause-adds g c =
+    let few : comparison_gates (length c.args.a.now.bits) ≤ comparison_gates (length c.args.a.now.bits) + 1 = omega arith in
+    Adds-weaken c.holds.ensures.adds few
+
+pub returns-in_err-poison-clause-adds : goal.returns-in_err-poison-clause-adds
+returns-in_err-poison-clause-adds g c =
+    let few : comparison_gates (length c.args.a.now.bits) + 1 ≤ comparison_gates (length c.args.a.now.bits) + 1 = omega arith in
+    Adds-weaken (Adds-trans c.holds.ensures.adds c.or.ensures.adds) few
+
+pub returns-in_err-repeated-clause-adds : goal.returns-in_err-repeated-clause-adds
+returns-in_err-repeated-clause-adds g c =
+    let few : comparison_gates (length c.args.a.now.bits) + 1 ≤ comparison_gates (length c.args.a.now.bits) + 1 = omega arith in
+    Adds-weaken (Adds-trans c.holds.ensures.adds c.or.ensures.adds) few
+
+pub returns-clause-adds : goal.returns-clause-adds
+returns-clause-adds g c =
+    let few : comparison_gates (length c.args.a.now.bits) + 1 ≤ comparison_gates (length c.args.a.now.bits) + 1 = omega arith in
+    Adds-weaken (Adds-trans c.holds.ensures.adds c.or.ensures.adds) few

@@ -1,5 +1,7 @@
+use Rattle.std.proofs.Common.{◌≤◌, ◌+◌, length, arith, ◌*◌}
 use Rattle.std.proofs.lemmas.Result.{IfOk-weaker}
-use Rattle.circuits.proofs.Kept.{map-kept, Keeps-trans}
+use Rattle.circuits.proofs.Kept.{map-kept, Keeps-trans, Adds-trans, Adds-weaken}
+use Rattle.circuits.specs.Gates.{equality_gates}
 use Rattle.blast_value.proofs.division.may_be_too_large.Goals as goal
 
 pub returns-clause-value : goal.returns-clause-value
@@ -15,3 +17,23 @@ returns-clause-value g c =
     let a_kept = map-kept k1 inputs admitted c.args.a.now.bits c.requires.own_a.bits in
     rw (minus_one_kept, c.in_ok-by_minus_one.ensures.value inputs admitted, c.in_ok-dividend.ensures.value inputs at_2, poison_kept, c.in_ok-of_least.ensures.value inputs at_1, a_kept, c.minus_one.ensures.value, c.least.ensures.value) at (known inputs (k3.admitted inputs at_2)))
     c.and.ensures.value
+
+pub returns-in_err-by_minus_one-clause-adds : goal.returns-in_err-by_minus_one-clause-adds
+returns-in_err-by_minus_one-clause-adds g c =
+    let few : equality_gates (length c.args.b.now.bits) ≤ 2 * equality_gates c.args.width + 2 = rw c.requires.width_b (omega arith) in
+    Adds-weaken c.equals.ensures.adds few
+
+pub returns-in_err-of_least-clause-adds : goal.returns-in_err-of_least-clause-adds
+returns-in_err-of_least-clause-adds g c =
+    let few : equality_gates (length c.args.b.now.bits) + equality_gates (length c.args.a.now.bits) ≤ 2 * equality_gates c.args.width + 2 = rw (c.requires.width_a, c.requires.width_b) (omega arith) in
+    Adds-weaken (Adds-trans c.equals.ensures.adds c.equals-2.ensures.adds) few
+
+pub returns-in_err-dividend-clause-adds : goal.returns-in_err-dividend-clause-adds
+returns-in_err-dividend-clause-adds g c =
+    let few : equality_gates (length c.args.b.now.bits) + equality_gates (length c.args.a.now.bits) + 1 ≤ 2 * equality_gates c.args.width + 2 = rw (c.requires.width_a, c.requires.width_b) (omega arith) in
+    Adds-weaken (Adds-trans (Adds-trans c.equals.ensures.adds c.equals-2.ensures.adds) c.or.ensures.adds) few
+
+pub returns-clause-adds : goal.returns-clause-adds
+returns-clause-adds g c =
+    let few : equality_gates (length c.args.b.now.bits) + equality_gates (length c.args.a.now.bits) + 1 + 1 ≤ 2 * equality_gates c.args.width + 2 = rw (c.requires.width_a, c.requires.width_b) (omega arith) in
+    Adds-weaken (Adds-trans (Adds-trans (Adds-trans c.equals.ensures.adds c.equals-2.ensures.adds) c.or.ensures.adds) c.and.ensures.adds) few

@@ -48,3 +48,33 @@ pub returns-clause-adds : goal.returns-clause-adds
 returns-clause-adds g c =
     let few : comparison_gates c.args.width + shift_gates (length c.args.a.now) (length c.args.b.now) + (shift_gates (length c.args.a.now) (length c.args.a.now) + equality_gates (length c.args.a.now)) + (shift_gates (length c.args.a.now) (length c.args.a.now) + equality_gates (length c.args.a.now)) + 1 + 1 ≤ left_gates c.args.width = rw (c.requires.width_a, c.requires.width_b) (omega arith) in
     Adds-weaken (Adds-trans (Adds-trans (Adds-trans (Adds-trans (Adds-trans c.is_too_far.ensures.adds c.shift_left.ensures.adds) c.loses.ensures.adds) c.loses-2.ensures.adds) c.or.ensures.adds) c.or-2.ensures.adds) few
+
+pub returns-in_err-is_far-clause-adds : goal.returns-in_err-is_far-clause-adds
+returns-in_err-is_far-clause-adds g c =
+    let few : comparison_gates c.args.width ≤ left_gates c.args.width = omega arith in
+    Adds-weaken c.is_too_far.ensures.adds few
+
+pub returns-in_err-bits-clause-adds : goal.returns-in_err-bits-clause-adds
+returns-in_err-bits-clause-adds g c =
+    let few : comparison_gates c.args.width + shift_gates (length c.args.a.now) (length c.args.b.now) ≤ left_gates c.args.width = rw (c.requires.width_a, c.requires.width_b) (omega arith) in
+    Adds-weaken (Adds-trans c.is_too_far.ensures.adds c.shift_left.ensures.adds) few
+
+pub returns-in_err-wraps-clause-adds : goal.returns-in_err-wraps-clause-adds
+returns-in_err-wraps-clause-adds g c =
+    let few : comparison_gates c.args.width + shift_gates (length c.args.a.now) (length c.args.b.now) + (shift_gates (length c.args.a.now) (length c.args.a.now) + equality_gates (length c.args.a.now)) ≤ left_gates c.args.width = rw (c.requires.width_a, c.requires.width_b) (omega arith) in
+    Adds-weaken (Adds-trans (Adds-trans c.is_too_far.ensures.adds c.shift_left.ensures.adds) c.loses.ensures.adds) few
+
+pub returns-in_err-wraps_signed-clause-adds : goal.returns-in_err-wraps_signed-clause-adds
+returns-in_err-wraps_signed-clause-adds g c =
+    let few : comparison_gates c.args.width + shift_gates (length c.args.a.now) (length c.args.b.now) + (shift_gates (length c.args.a.now) (length c.args.a.now) + equality_gates (length c.args.a.now)) + (shift_gates (length c.args.a.now) (length c.args.a.now) + equality_gates (length c.args.a.now)) ≤ left_gates c.args.width = rw (c.requires.width_a, c.requires.width_b) (omega arith) in
+    Adds-weaken (Adds-trans (Adds-trans (Adds-trans c.is_too_far.ensures.adds c.shift_left.ensures.adds) c.loses.ensures.adds) c.loses-2.ensures.adds) few
+
+pub returns-in_err-breaks-clause-adds : goal.returns-in_err-breaks-clause-adds
+returns-in_err-breaks-clause-adds g c =
+    let few : comparison_gates c.args.width + shift_gates (length c.args.a.now) (length c.args.b.now) + (shift_gates (length c.args.a.now) (length c.args.a.now) + equality_gates (length c.args.a.now)) + (shift_gates (length c.args.a.now) (length c.args.a.now) + equality_gates (length c.args.a.now)) + 1 ≤ left_gates c.args.width = rw (c.requires.width_a, c.requires.width_b) (omega arith) in
+    Adds-weaken (Adds-trans (Adds-trans (Adds-trans (Adds-trans c.is_too_far.ensures.adds c.shift_left.ensures.adds) c.loses.ensures.adds) c.loses-2.ensures.adds) c.or.ensures.adds) few
+
+pub returns-in_err-poison-clause-adds : goal.returns-in_err-poison-clause-adds
+returns-in_err-poison-clause-adds g c =
+    let few : comparison_gates c.args.width + shift_gates (length c.args.a.now) (length c.args.b.now) + (shift_gates (length c.args.a.now) (length c.args.a.now) + equality_gates (length c.args.a.now)) + (shift_gates (length c.args.a.now) (length c.args.a.now) + equality_gates (length c.args.a.now)) + 1 + 1 ≤ left_gates c.args.width = rw (c.requires.width_a, c.requires.width_b) (omega arith) in
+    Adds-weaken (Adds-trans (Adds-trans (Adds-trans (Adds-trans (Adds-trans c.is_too_far.ensures.adds c.shift_left.ensures.adds) c.loses.ensures.adds) c.loses-2.ensures.adds) c.or.ensures.adds) c.or-2.ensures.adds) few

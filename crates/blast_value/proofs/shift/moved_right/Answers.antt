@@ -1,7 +1,9 @@
-use Rattle.std.proofs.Common.{◌<◌, ◌^◌, subst, ◌∙◌}
+use Rattle.std.proofs.Common.{◌<◌, ◌^◌, subst, ◌∙◌, ◌≤◌, ◌+◌, length, arith}
 use Rattle.circuits.specs.Word.{number_of}
-use Rattle.circuits.proofs.Kept.{map-kept, Keeps-trans}
+use Rattle.circuits.proofs.Kept.{map-kept, Keeps-trans, Adds-trans, Adds-weaken}
 use Rattle.circ_muldiv.proofs.OverflowTests.{number_below}
+use Rattle.circuits.specs.Gates.{comparison_gates, equality_gates, shift_gates}
+use Rattle.blast_value.specs.Gates.{right_gates}
 use Rattle.blast_value.proofs.Moves.{right_value}
 use Rattle.blast_value.proofs.shift.moved_right.Goals as goal
 
@@ -32,3 +34,28 @@ returns-clause-value g c inputs admitted =
     (far_kept ∙ c.in_ok-is_far.ensures.value inputs admitted)
     (rw (a_2, b_2, c.requires.width_a) at (c.in_ok-lost.ensures.value inputs at_2))
     (c.in_ok-poison.ensures.value inputs at_3))
+
+pub returns-in_err-is_far-clause-adds : goal.returns-in_err-is_far-clause-adds
+returns-in_err-is_far-clause-adds g c =
+    let few : comparison_gates c.args.width ≤ right_gates c.args.width = omega arith in
+    Adds-weaken c.is_too_far.ensures.adds few
+
+pub returns-in_err-bits-clause-adds : goal.returns-in_err-bits-clause-adds
+returns-in_err-bits-clause-adds g c =
+    let few : comparison_gates c.args.width + shift_gates (length c.args.a.now) (length c.args.b.now) ≤ right_gates c.args.width = rw (c.requires.width_a, c.requires.width_b) (omega arith) in
+    Adds-weaken (Adds-trans c.is_too_far.ensures.adds c.shift_right.ensures.adds) few
+
+pub returns-in_err-lost-clause-adds : goal.returns-in_err-lost-clause-adds
+returns-in_err-lost-clause-adds g c =
+    let few : comparison_gates c.args.width + shift_gates (length c.args.a.now) (length c.args.b.now) + (shift_gates (length c.args.a.now) (length c.args.a.now) + equality_gates (length c.args.a.now)) ≤ right_gates c.args.width = rw (c.requires.width_a, c.requires.width_b) (omega arith) in
+    Adds-weaken (Adds-trans (Adds-trans c.is_too_far.ensures.adds c.shift_right.ensures.adds) c.cuts.ensures.adds) few
+
+pub returns-in_err-poison-clause-adds : goal.returns-in_err-poison-clause-adds
+returns-in_err-poison-clause-adds g c =
+    let few : comparison_gates c.args.width + shift_gates (length c.args.a.now) (length c.args.b.now) + (shift_gates (length c.args.a.now) (length c.args.a.now) + equality_gates (length c.args.a.now)) + 1 ≤ right_gates c.args.width = rw (c.requires.width_a, c.requires.width_b) (omega arith) in
+    Adds-weaken (Adds-trans (Adds-trans (Adds-trans c.is_too_far.ensures.adds c.shift_right.ensures.adds) c.cuts.ensures.adds) c.or.ensures.adds) few
+
+pub returns-clause-adds : goal.returns-clause-adds
+returns-clause-adds g c =
+    let few : comparison_gates c.args.width + shift_gates (length c.args.a.now) (length c.args.b.now) + (shift_gates (length c.args.a.now) (length c.args.a.now) + equality_gates (length c.args.a.now)) + 1 ≤ right_gates c.args.width = rw (c.requires.width_a, c.requires.width_b) (omega arith) in
+    Adds-weaken (Adds-trans (Adds-trans (Adds-trans c.is_too_far.ensures.adds c.shift_right.ensures.adds) c.cuts.ensures.adds) c.or.ensures.adds) few
