@@ -14,7 +14,7 @@ use Rattle.alive_top.specs.Answers.{RefusedFor, IsDoneFor}
 use Rattle.alive_top.specs.Cause.{TextIsRefused, MemoryIsRefused}
 use Rattle.alive_top.specs.Ends.{Worked, Refused, EndsWith, EndsAtWords, Ends, IsUsage}
 use Rattle.alive_top.specs.File.{File, files_of}
-use Rattle.alive_top.specs.Lines.{memory_line}
+use Rattle.error_lines.specs.Lines.{memory_line}
 use Rattle.alive_top.specs.Puts.{RefusedAs, WrittenAs}
 use Rattle.alive_top.specs.Request.{AsksNone}
 use Rattle.alive_top.specs.Statuses.{IsWorked}

@@ -7,14 +7,14 @@ use Rattle.command_line.specs.declared.command.VerifyOptions.{VerifyOptions}
 use Rattle.outside.specs.Faults.{Rose}
 use Rattle.outside.specs.Files.{FilesState, FilesFollow, with_name}
 use Rattle.verdict.specs.Rule.{Rule}
-use Rattle.alive_top.specs.Runs.{IsRun, IsMisnamed}
+use Rattle.run_text.specs.Runs.{IsRun, IsMisnamed}
 use Rattle.alive_top.specs.declared.hindrance.Hindrance.{Hindrance}
 use Rattle.alive_top.specs.declared.hindrance.Hindrance.TheVariants.{Rules, Module, Argument, Read, Memory}
 use Rattle.alive_top.specs.declared.status.Status.TheVariants.{RuleRefused, ModuleRefused}
 use Rattle.alive_top.specs.Answers.{IsReadAs, TextOf, FileOf, FileRefused, RefusedFor, IsDoneFor}
 use Rattle.alive_top.specs.Cause.{ComesTo, TextIsRefused, ReadFails, MemoryIsRefused}
 use Rattle.alive_top.specs.File.{File, Rules as RuleFile, Source as ModuleFile, files_of, limit_of}
-use Rattle.alive_top.specs.Lines.{rules_line, module_line}
+use Rattle.error_lines.specs.Lines.{rules_line, module_line}
 use Rattle.alive_top.specs.Request.{AsksOne, with_names}
 use Rattle.alive_top.specs.Taken.{Takes, IsRuleText}
 use Rattle.alive_top.specs.Task.{Task, Verify, Optimise, Run}

@@ -17,7 +17,7 @@ use Rattle.command_line.specs.declared.command.Command.TheVariants as commands
 use Rattle.command_line.specs.declared.command.OptimiseOptions.{OptimiseOptions}
 use Rattle.command_line.specs.declared.command.VerifyOptions.{VerifyOptions}
 use Rattle.verdict.specs.declared.verdict.Row.{Row as VerdictRow}
-use Rattle.alive_top.specs.OutcomeLaws.{RunsAreNotMisnamed}
+use Rattle.run_text.specs.OutcomeLaws.{RunsAreNotMisnamed}
 use Rattle.alive_top.specs.declared.status.Ended.{Ended}
 use Rattle.alive_top.specs.declared.status.Status.{Status}
 use Rattle.alive_top.specs.declared.status.Status.TheVariants.{Done, NotAll, Usage, RuleRefused, ModuleRefused, ReadFault, WriteFault, NoMemory, Argument}
@@ -25,7 +25,7 @@ use Rattle.alive_top.specs.Cause.{TextIsRefused}
 use Rattle.alive_top.specs.Done.{HasVerified, HasOptimised, HasDone}
 use Rattle.alive_top.specs.Ends.{Worked, EndsWith, EndsAtWords, Ends, IsNoCommand, IsUsage}
 use Rattle.alive_top.specs.File.{File, files_of}
-use Rattle.alive_top.specs.Load.{IsLoaded}
+use Rattle.load_text.specs.Load.{IsLoaded}
 use Rattle.alive_top.specs.NoRun.{NamesNoRun}
 use Rattle.alive_top.specs.Optimised.{IsOptimised, optimised_report}
 use Rattle.alive_top.specs.Statuses.{IsDone, IsWorked, IsNoTask, IsNoRun, IsDoneOrNoMemory}

@@ -5,9 +5,3 @@ pub mod Asking
 pub mod Following
 pub mod Reading
 pub mod Taking
-pub mod ArgumentLemmas
-pub mod LawLemmas
-pub mod Misnaming
-pub mod NamedLemmas
-pub mod RunningLemmas
-pub mod LoadLemmas

@@ -8,7 +8,7 @@ use Rattle.alive_top.specs.declared.status.Status.TheVariants as statuses
 use Rattle.alive_top.specs.declared.work.Work.{Work as Stored}
 use Rattle.alive_top.specs.Cause.{TextIsRefused, ReadFails, MemoryIsRefused, ArgumentIsRefused}
 use Rattle.alive_top.specs.File.{File, Kind, files_of}
-use Rattle.alive_top.specs.Lines.{rules_line, module_line}
+use Rattle.error_lines.specs.Lines.{rules_line, module_line}
 use Rattle.alive_top.specs.Request.{AsksNone, AsksOne, AsksAll}
 use Rattle.alive_top.specs.Taken.{Refuses}
 use Rattle.alive_top.specs.Task.{Task}

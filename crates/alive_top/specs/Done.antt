@@ -7,15 +7,15 @@ use Rattle.command_line.specs.declared.command.VerifyOptions.{VerifyOptions}
 use Rattle.ir_core.specs.declared.module.Module.{Module}
 use Rattle.ir_reader.specs.Text.{most_bytes}
 use Rattle.ir_printer.specs.PrintedText.{text_of}
-use Rattle.alive_top.specs.Load.{IsLoaded}
+use Rattle.load_text.specs.Load.{IsLoaded}
 use Rattle.alive_top.specs.Optimised.{IsOptimised, optimised_report}
-use Rattle.alive_top.specs.Runs.{IsRun}
+use Rattle.run_text.specs.Runs.{IsRun}
 use Rattle.verdict.specs.Rule.{Rule}
 use Rattle.verdict.specs.declared.verification.Verified.{Verified}
 use Rattle.verdict.specs.Verified.{IsVerified}
 use Rattle.alive_top.specs.declared.status.Ended.{Ended}
 use Rattle.alive_top.specs.declared.status.Status.TheVariants.{Done}
-use Rattle.alive_top.specs.Taken.{IsRuleText}
+use Rattle.load_text.specs.RuleText.{IsRuleText}
 use Rattle.alive_top.specs.Task.{Task, Verify, Optimise, Run, Load}
 
 -- `verify` decided the rules of a text, handed back their verdicts and wrote the texts of them. All are admitted exactly with status 0.

@@ -9,7 +9,7 @@ use Rattle.alive_top.specs.declared.status.Status.{Status}
 use Rattle.alive_top.specs.declared.status.Status.TheVariants.{Done, NotAll, Usage, RuleRefused, ModuleRefused, ReadFault, WriteFault, NoMemory, Argument}
 use Rattle.alive_top.specs.Cause.{TextIsRefused, ReadFails, MemoryIsRefused, ArgumentIsRefused}
 use Rattle.alive_top.specs.File.{files_of}
-use Rattle.alive_top.specs.Lines.{read_fault_line, argument_line, memory_line}
+use Rattle.error_lines.specs.Lines.{read_fault_line, argument_line, memory_line}
 use Rattle.alive_top.specs.Request.{AsksNone, AsksAll}
 use Rattle.alive_top.specs.Task.{Task, Asks}
 use Rattle.alive_top.specs.Texts.{AreTaken}

@@ -8,8 +8,6 @@ pub mod Cause
 pub mod Done
 pub mod Ends
 pub mod File
-pub mod Lines
-pub mod Load
 pub mod NoRun
 pub mod Puts
 pub mod Request
@@ -20,8 +18,4 @@ pub mod Texts
 pub mod Work
 pub mod Written
 pub mod Optimised
-pub mod Arguments
-pub mod OutcomeText
-pub mod Runs
-pub mod RunFaults
 pub mod OutcomeLaws

@@ -1,6 +1,6 @@
 -- Runs that name nothing to run.
 use Rattle.std.specs.Prelude.{ℕ, List, [], ◌∷◌}
-use Rattle.alive_top.specs.Runs.{IsMisnamed}
+use Rattle.run_text.specs.Runs.{IsMisnamed}
 use Rattle.alive_top.specs.Task.{Task, Run}
 
 -- the text is that of a module which has no function of the run's name, or the arguments do not fit it

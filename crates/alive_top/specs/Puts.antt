@@ -5,7 +5,7 @@ use Rattle.alive_top.specs.declared.hindrance.Hindrance.{Hindrance}
 use Rattle.alive_top.specs.declared.hindrance.Hindrance.TheVariants.{Rules, Module, Argument, Read, Memory}
 use Rattle.alive_top.specs.declared.status.Status.{Status}
 use Rattle.alive_top.specs.declared.status.Status.TheVariants as statuses
-use Rattle.alive_top.specs.Lines.{rules_line, module_line, read_fault_line, argument_line, memory_line}
+use Rattle.error_lines.specs.Lines.{rules_line, module_line, read_fault_line, argument_line, memory_line}
 use Rattle.alive_top.specs.Work.{Work}
 use Rattle.alive_top.specs.Written.{Took, WroteSome}
 

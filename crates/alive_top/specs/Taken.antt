@@ -1,23 +1,18 @@
 -- Which texts are taken, as what their file is read for, and how the others are refused.
-use Rattle.std.specs.Prelude.{◌≡◌, ◌≤◌, ℕ, length, List}
+use Rattle.std.specs.Prelude.{◌≡◌, ℕ, List}
 use Rattle.ir_core.specs.declared.module.Module.{Module}
 use Rattle.refusal.specs.declared.fault.Fault.{Fault}
 use Rattle.ir_reader.specs.IrFaultKind.{IrFaultKind}
 use Rattle.ir_reader.specs.Faults.{IsFault as IsModuleFault}
-use Rattle.alive_top.specs.Runs.{IsReadAs}
+use Rattle.run_text.specs.Runs.{IsReadAs}
 use Rattle.verdict.specs.Rule.{Rule}
 use Rattle.rule_reader.specs.RuleFaultKind.{RuleFaultKind}
-use Rattle.rule_reader.specs.Faults.{IsRuleFile, IsFault}
+use Rattle.rule_reader.specs.Faults.{IsFault}
 use Rattle.alive_top.specs.declared.status.Status.{Status}
 use Rattle.alive_top.specs.declared.status.Status.TheVariants.{RuleRefused, ModuleRefused}
-use Rattle.rule_reader.specs.Limits.{most_bytes}
+pub use Rattle.load_text.specs.RuleText.{IsRuleText}
 use Rattle.alive_top.specs.File.{Kind, Rules, Source}
-use Rattle.alive_top.specs.Lines.{rules_line, module_line}
-
--- the text is a rule file of these rules, and not too long
-pub record IsRuleText (text : List ℕ) (rules : List Rule) : Type 0 where
-  pub short : length text ≤ most_bytes
-  pub file : IsRuleFile text rules
+use Rattle.error_lines.specs.Lines.{rules_line, module_line}
 
 -- the text is taken: it is what its file is read for
 abbrev pub Takes : Kind → List ℕ → Type 0

@@ -4,16 +4,16 @@ use Rattle.command_line.specs.declared.command.OptimiseOptions.{OptimiseOptions}
 use Rattle.command_line.specs.declared.command.RunOptions.{RunOptions}
 use Rattle.command_line.specs.declared.command.VerifyOptions.{VerifyOptions}
 use Rattle.verdict.specs.Rule.{Rule}
-use Rattle.alive_top.specs.Load.{IsLoaded}
+use Rattle.load_text.specs.Load.{IsLoaded}
 use Rattle.alive_top.specs.Optimised.{Prints}
-use Rattle.alive_top.specs.Runs.{IsRun}
+use Rattle.run_text.specs.Runs.{IsRun}
 use Rattle.ir_reader.specs.Text.{most_bytes}
 use Rattle.verdict.specs.declared.verdict.Row.{Row}
 use Rattle.verdict.specs.declared.verification.Verified.{Verified}
 use Rattle.verdict.specs.Verified.{IsVerified}
 use Rattle.alive_top.specs.declared.status.Status.{Status}
 use Rattle.alive_top.specs.declared.status.Status.TheVariants.{Done, NotAll}
-use Rattle.alive_top.specs.Taken.{IsRuleText}
+use Rattle.load_text.specs.RuleText.{IsRuleText}
 use Rattle.alive_top.specs.Task.{Task, Verify, Optimise, Run, Load}
 
 -- a text for the output, a report for the error stream, a table of verdicts, and the status once both are written

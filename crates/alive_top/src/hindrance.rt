@@ -1,16 +1,13 @@
-//! Why a command's work was not done, and the line that says so.
+//! Why a command's work was not done.
 
-ghost use Rattle.std.specs.Prelude.{◌≡◌, ◌++◌, codes, decimal, IfOk, OnOk};
+ghost use Rattle.std.specs.Prelude.{◌≡◌};
 ghost use Rattle.alive_top.specs.declared.hindrance.Hindrance.TheVariants.{Memory};
-ghost use Rattle.alive_top.specs.Lines.{kind_text, rules_line, register_text, ir_kind_text, module_line, read_fault_line};
 
-use ir_printer::push_name;
-use ir_reader::{Identifier, IrFault, IrFaultKind};
-use itoa::Buffer;
-use rule_reader::{RuleFault, RuleFaultKind};
-use std::alloc::{AllocError, Global};
+use ir_reader::IrFault;
+use rule_reader::RuleFault;
+use std::alloc::AllocError;
 
-/// Why a command's work was not done.
+/// What hindered the work.
 #[derive(Drop)]
 pub(crate) enum Hindrance<'a> {
     /// The rule file is none.
@@ -31,118 +28,4 @@ impl From<AllocError> for Hindrance<'_> {
     fn from(_error: AllocError) -> Self {
         Hindrance::Memory
     }
-}
-
-/// Appends the name of a kind of fault, with what was left out.
-#[tactic(auto, unfolding(crate::specs::Lines::kind_text))]
-fn push_kind(out: &mut Vec<u8>, kind: &RuleFaultKind) -> Result<(), AllocError>
-    ensures { OnOk result (out.new.items ≡ out.old.items ++ kind_text kind.now) }
-{
-    match kind {
-        RuleFaultKind::TooLong => out.extend_from_slice(b"TooLong"),
-        RuleFaultKind::BadByte => out.extend_from_slice(b"BadByte"),
-        RuleFaultKind::Syntax => out.extend_from_slice(b"Syntax"),
-        RuleFaultKind::LeftOut(word) => {
-            out.extend_from_slice(b"LeftOut ")?;
-            out.extend_from_slice(word.as_slice())
-        }
-        RuleFaultKind::TooMany => out.extend_from_slice(b"TooMany"),
-        RuleFaultKind::Duplicate => out.extend_from_slice(b"Duplicate"),
-        RuleFaultKind::Unbound => out.extend_from_slice(b"Unbound"),
-        RuleFaultKind::RootMissing => out.extend_from_slice(b"RootMissing"),
-        RuleFaultKind::Redefines => out.extend_from_slice(b"Redefines"),
-        RuleFaultKind::UnusedTemp => out.extend_from_slice(b"UnusedTemp"),
-        RuleFaultKind::UndefInside => out.extend_from_slice(b"UndefInside"),
-        RuleFaultKind::WitnessCount => out.extend_from_slice(b"WitnessCount"),
-        RuleFaultKind::NoType => out.extend_from_slice(b"NoType"),
-        RuleFaultKind::OpenType => out.extend_from_slice(b"OpenType"),
-    }
-}
-
-/// The line on a rule file: where its first fault is, and of which kind.
-pub(crate) fn rules_line(alloc: Global, fault: &RuleFault) -> Result<Vec<u8>, AllocError>
-    ensures { IfOk result (λ line. line.items ≡ rules_line fault.now) }
-{
-    let mut line = Vec::from_slice(alloc, b"rules: line ")?;
-    let mut digits = Buffer::new();
-    line.extend_from_slice(digits.format(fault.line).as_bytes())?;
-    line.extend_from_slice(b": ")?;
-    push_kind(&mut line, &fault.kind)?;
-    line.extend_from_slice(b"\n")?;
-    Ok(line)
-}
-
-/// Appends a register as it is printed.
-#[tactic(auto, unfolding(crate::specs::Lines::register_text))]
-fn push_register(out: &mut Vec<u8>, register: &Identifier) -> Result<(), AllocError>
-    ensures { OnOk result (out.new.items ≡ out.old.items ++ register_text register.now) }
-{
-    out.extend_from_slice(b"%")?;
-    match register {
-        Identifier::Named(name) => push_name(out, name.as_slice()),
-        Identifier::Numbered(number) => {
-            let mut digits = Buffer::new();
-            out.extend_from_slice(digits.format(*number).as_bytes())
-        }
-    }
-}
-
-/// Appends which register isn't assigned where it is read, and in which block.
-fn push_unassigned(out: &mut Vec<u8>, register: &Identifier, block: u32) -> Result<(), AllocError>
-    ensures { OnOk result (out.new.items ≡ out.old.items ++ (codes "Unassigned " ++ register_text register.now ++ codes " in block " ++ decimal block)) }
-{
-    out.extend_from_slice(b"Unassigned ")?;
-    push_register(out, register)?;
-    out.extend_from_slice(b" in block ")?;
-    let mut digits = Buffer::new();
-    out.extend_from_slice(digits.format(block).as_bytes())?;
-    Ok(())
-}
-
-/// Appends the name of a kind of fault of a module, with what was left out or is not assigned.
-#[tactic(auto, unfolding(crate::specs::Lines::ir_kind_text))]
-fn push_ir_kind(out: &mut Vec<u8>, kind: &IrFaultKind) -> Result<(), AllocError>
-    ensures { OnOk result (out.new.items ≡ out.old.items ++ ir_kind_text kind.now) }
-{
-    match kind {
-        IrFaultKind::TooLong => out.extend_from_slice(b"TooLong"),
-        IrFaultKind::BadByte => out.extend_from_slice(b"BadByte"),
-        IrFaultKind::Syntax => out.extend_from_slice(b"Syntax"),
-        IrFaultKind::LeftOut(word) => {
-            out.extend_from_slice(b"LeftOut ")?;
-            out.extend_from_slice(word.as_slice())
-        }
-        IrFaultKind::Width => out.extend_from_slice(b"Width"),
-        IrFaultKind::ConstRange => out.extend_from_slice(b"ConstRange"),
-        IrFaultKind::Numbering => out.extend_from_slice(b"Numbering"),
-        IrFaultKind::Duplicate => out.extend_from_slice(b"Duplicate"),
-        IrFaultKind::Unknown => out.extend_from_slice(b"Unknown"),
-        IrFaultKind::TypeClash => out.extend_from_slice(b"TypeClash"),
-        IrFaultKind::BadPhi => out.extend_from_slice(b"BadPhi"),
-        IrFaultKind::EntryPred => out.extend_from_slice(b"EntryPred"),
-        IrFaultKind::Unassigned(register, block) => push_unassigned(out, register, *block),
-    }
-}
-
-/// The line on a module: where its first fault is, and of which kind.
-pub(crate) fn module_line(alloc: Global, fault: &IrFault) -> Result<Vec<u8>, AllocError>
-    ensures { IfOk result (λ line. line.items ≡ module_line fault.now) }
-{
-    let mut line = Vec::from_slice(alloc, b"module: line ")?;
-    let mut digits = Buffer::new();
-    line.extend_from_slice(digits.format(fault.line).as_bytes())?;
-    line.extend_from_slice(b": ")?;
-    push_ir_kind(&mut line, &fault.kind)?;
-    line.extend_from_slice(b"\n")?;
-    Ok(line)
-}
-
-/// The line that names a file that could not be read.
-pub(crate) fn read_fault_line(alloc: Global, name: &str) -> Result<Vec<u8>, AllocError>
-    ensures { IfOk result (λ line. line.items ≡ read_fault_line name.now) }
-{
-    let mut line = Vec::from_slice(alloc, b"read fault: ")?;
-    line.extend_from_slice(name.as_bytes())?;
-    line.extend_from_slice(b"\n")?;
-    Ok(line)
 }

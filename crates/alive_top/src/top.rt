@@ -15,10 +15,11 @@ ghost use Rattle.alive_top.specs.Task.{Task, Asks, task_of};
 ghost use Rattle.alive_top.specs.Texts.{OfSomeTexts, OfToldTexts, TakesEach, HasBadFile};
 ghost use Rattle.alive_top.specs.Written.{Took};
 
-use crate::hindrance::{Hindrance, module_line, read_fault_line, rules_line};
+use crate::hindrance::Hindrance;
 use crate::status::{Ended, Status};
 use crate::work::{Work, perform};
 use command_line::{Command, CommandError, read_command};
+use error_lines::{module_line, read_fault_line, rules_line};
 use lists::List;
 use outside::{Files, Sink};
 use std::alloc::{AllocError, Global};
@@ -234,6 +235,6 @@ pub fn alive<F: Files, O: Sink, E: Sink>(
     command_line::words_say_one_command();
     rule_reader::every_text_has_one_reading_or_one_fault();
     ir_reader::every_text_has_one_module_or_one_fault();
-    crate::laws::every_run_has_its_function_and_arguments();
+    run_text::every_run_has_its_function_and_arguments();
     run_words(alloc, words.as_slice(), files, out, err)
 }

@@ -2,16 +2,15 @@
 
 ghost use Rattle.std.specs.Prelude.{◌≡◌, ◌≤◌, ◌<◌, ◌+◌, ◌^◌, length, map, take, IfSome, IfOk, if◌then◌else◌};
 ghost use Rattle.command_line.specs.Limits.{most_conflicts, most_steps, IsWithinLimits};
-ghost use Rattle.alive_top.specs.Runs.{IsRun, IsMisnamed};
+ghost use Rattle.run_text.specs.Runs.{IsRun, IsMisnamed};
 ghost use Rattle.outside.specs.Files.{FilesFollow};
 ghost use Rattle.strategy.specs.Ready.{AreReady};
 ghost use Rattle.alive_top.specs.Answers.{ReadOf, TextOf, FileOf, TaskOf, seen_work};
 ghost use Rattle.alive_top.specs.File.{Rules, Source};
-ghost use Rattle.alive_top.specs.Taken.{IsRuleText};
+ghost use Rattle.load_text.specs.RuleText.{IsRuleText};
 ghost use Rattle.alive_top.specs.Task.{Verify, Optimise, Run, task_of};
 ghost use Rattle.alive_top.specs.Work.{IsVerifyWork, IsPrinted, IsLoadWork};
 
-use crate::fault::{RunError, RunFault};
 use crate::hindrance::Hindrance;
 use crate::optimised::Optimised;
 use crate::status::Status;
@@ -20,6 +19,7 @@ use ir_reader::IrError;
 use lists::List;
 use outside::{Files, ReadError};
 use rule_reader::{Rule, RuleError, read_rules};
+use run_text::{RunError, RunFault};
 use std::alloc::{AllocError, Global};
 use verdict::Table;
 
@@ -197,7 +197,7 @@ fn run_of<'a>(
     ensures { TextOf Source source.now (λ text. IsRun source.now name.now (map (λ a. a.now) arguments.now) blocks text.items)
         (IsMisnamed source.now name.now (map (λ a. a.now) arguments.now)) result }
 {
-    match crate::running::run(alloc, source, name.as_bytes(), arguments, blocks) {
+    match run_text::run(alloc, source, name.as_bytes(), arguments, blocks) {
         Ok(text) => Ok(text),
         Err(RunError::Refused(RunFault::Module(fault))) => Err(Hindrance::Module(fault)),
         Err(RunError::Refused(RunFault::Argument)) => Err(Hindrance::Argument),
@@ -249,7 +249,7 @@ fn run<'a, F: Files>(
 fn load(alloc: Global, number: u32) -> Result<Work, AllocError>
     ensures { IfOk result (λ work. IsLoadWork number (seen_work work)) }
 {
-    let loaded = crate::loading::load(alloc, number)?;
+    let loaded = load_text::load(alloc, number)?;
     Ok(Work {
         text: loaded.text,
         report: Vec::new(alloc),

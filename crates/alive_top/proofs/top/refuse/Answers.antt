@@ -3,7 +3,7 @@ use Rattle.std.specs.Prelude.{MatchResult, IfOk}
 use Rattle.outside.specs.Sink.{SinkState}
 use Rattle.alive_top.specs.declared.status.Status.{Status}
 use Rattle.alive_top.specs.declared.status.Status.TheVariants.{RuleRefused, ModuleRefused, ReadFault}
-use Rattle.alive_top.specs.Lines.{rules_line, module_line, read_fault_line}
+use Rattle.error_lines.specs.Lines.{rules_line, module_line, read_fault_line}
 use Rattle.alive_top.specs.Puts.{Says, SaysMemory}
 use Rattle.alive_top.specs.Written.{Took}
 use Rattle.alive_top.proofs.top.refuse.Goals as goal

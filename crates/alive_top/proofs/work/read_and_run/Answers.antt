@@ -1,5 +1,5 @@
 use Rattle.std.proofs.Common.{List, ℕ, map}
-use Rattle.alive_top.specs.Runs.{IsRun, IsMisnamed}
+use Rattle.run_text.specs.Runs.{IsRun, IsMisnamed}
 use Rattle.alive_top.specs.File.{Source}
 use Rattle.alive_top.proofs.Files.{file_from_text}
 use Rattle.alive_top.proofs.work.read_and_run.Goals as goal

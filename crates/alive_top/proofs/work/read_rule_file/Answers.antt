@@ -1,5 +1,5 @@
 use Rattle.alive_top.specs.File.{Rules}
-use Rattle.alive_top.specs.Taken.{IsRuleText}
+use Rattle.load_text.specs.RuleText.{IsRuleText}
 use Rattle.alive_top.proofs.Files.{file_from_text}
 use Rattle.alive_top.proofs.work.read_rule_file.Goals as goal
 

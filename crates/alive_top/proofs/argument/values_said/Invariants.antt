@@ -1,7 +1,0 @@
-use Rattle.std.proofs.Common.{◌≡◌, map, take, Some}
-use Rattle.alive_top.specs.Arguments.{values_said}
-use Rattle.alive_top.proofs.ArgumentLemmas.{texts_of}
-use Rattle.alive_top.proofs.argument.values_said.Given as goal
-
-abbrev pub invariant-loop-place : goal.invariant-loop-place
-invariant-loop-place l = map (λ u. Some u) l.values ≡ take l.place (values_said l.parameters (texts_of l.words))

@@ -1,6 +1,0 @@
-use Rattle.std.proofs.Common.{◌≡◌, take}
-use Rattle.std.specs.Prelude.{count_by}
-use Rattle.alive_top.proofs.counting.count_true.Given as goal
-
-abbrev pub invariant-loop-truth : goal.invariant-loop-truth
-invariant-loop-truth l = l.count ≡ count_by (λ truth. truth) (take l.truth-index l.truths)

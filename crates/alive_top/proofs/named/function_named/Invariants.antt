@@ -1,5 +1,0 @@
-use Rattle.alive_top.proofs.NamedLemmas.{NoneBefore}
-use Rattle.alive_top.proofs.named.function_named.Given as goal
-
-abbrev pub invariant-loop-entry : goal.invariant-loop-entry
-invariant-loop-entry l = NoneBefore l.entry-items l.name l.entry-index

@@ -1,0 +1,13 @@
+//! The lines that say why a command's work was not done.
+//!
+//! The definitions stand in `specs/`: `Lines` says which line there is on a rule file, on a module, on a file that could not be read, on
+//! arguments and on memory.
+#![tactic(auto)]
+
+mod module;
+mod read_fault;
+mod rules;
+
+pub use module::module_line;
+pub use read_fault::read_fault_line;
+pub use rules::rules_line;

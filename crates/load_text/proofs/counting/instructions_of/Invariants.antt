@@ -1,0 +1,6 @@
+use Rattle.std.proofs.Common.{◌≡◌, length, take}
+use Rattle.std.specs.Prelude.{sum_by}
+use Rattle.load_text.proofs.counting.instructions_of.Given as goal
+
+abbrev pub invariant-loop-block : goal.invariant-loop-block
+invariant-loop-block l = l.count ≡ sum_by (λ block. length block.insts) (take l.block-index l.block-items)

@@ -1,0 +1,10 @@
+use Rattle.std.proofs.Common.{◌≡◌, subst}
+use Rattle.load_text.specs.Load.{built_in_text}
+use Rattle.load_text.specs.RuleText.{IsRuleText}
+use Rattle.load_text.proofs.loading.built_in_rules.Goals as goal
+
+-- the text of the code is that of the definition
+pub returns-clause-text : goal.returns-clause-text
+returns-clause-text c =
+    let same : c.as_bytes.result.now ≡ built_in_text = c.as_bytes.ensures.value in
+    subst (λ text. IsRuleText text c.in-Ok.rules.items) same (record { short = c.in-Ok.ensures.limit; file = c.in-Ok.ensures.ok })

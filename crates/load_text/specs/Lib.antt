@@ -1,0 +1,3 @@
+pub mod RuleText
+pub mod Load
+pub mod Loading

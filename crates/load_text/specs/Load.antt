@@ -1,0 +1,71 @@
+-- What `load` writes of a number: how large the generated module is, and what the plain strategy makes of it by the built-in rules.
+use Rattle.std.specs.Prelude.{◌≡◌, ℕ, Bool, List, length, ◌++◌, All, sum, sum_by, count_by, codes, decimal}
+use Rattle.ir_core.specs.declared.module.Module.{Module}
+use Rattle.ir_core.specs.declared.module.Entry.{Entry}
+use Rattle.ir_core.specs.declared.module.Entry.TheVariants as entries
+use Rattle.ir_core.specs.declared.function.Function.{Function}
+use Rattle.load_gen.specs.Generated.{generated}
+use Rattle.strategy.specs.PlainStrategy.{IsPlainStrategy}
+use Rattle.verdict.specs.Rule.{Rule}
+use Rattle.verdict.specs.Table.{IsHonestTable}
+use Rattle.verdict.specs.declared.verdict.Row.{Row}
+use Rattle.verdict.specs.declared.verdict.Verdict.TheVariants.{Admitted}
+use Rattle.load_text.specs.RuleText.{IsRuleText}
+
+-- the built-in rules, as a rule file
+abbrev pub built_in_text : List ℕ
+built_in_text =
+    codes "Name: add-zero\n%r = add %x, 0\n=>\n%r = %x\n"
+    ++ codes "\nName: and-same\n%r = and %x, %x\n=>\n%r = %x\n"
+    ++ codes "\nName: udiv-one\n%r = udiv %x, 1\n=>\n%r = %x\n"
+    ++ codes "\nName: not-not\n%1 = xor %x, -1\n%r = xor %1, -1\n=>\n%r = %x\n"
+    ++ codes "\nName: sub-add\n%1 = sub %x, %y\n%r = add %1, %y\n=>\n%r = %x\n"
+    ++ codes "\nName: not-add\n%1 = xor %x, -1\n%2 = add %1, C\n=>\n%2 = sub C-1, %x\n"
+    ++ codes "\nName: mul-two\n%r = mul %x, 2\n=>\n%r = shl %x, 1\n"
+
+-- the limits of `optimise` where the words tell none
+abbrev pub default_conflicts : ℕ
+default_conflicts = 20000
+
+abbrev pub default_steps : ℕ
+default_steps = 10000
+
+-- how many instructions a function and a module have, terminators not counted
+abbrev pub instructions_of : Function → ℕ
+instructions_of f = sum_by (λ block. length block.insts) f.blocks
+
+abbrev pub instructions_of_entry : Entry → ℕ
+instructions_of_entry (entries.Kept line) = 0
+instructions_of_entry (entries.Function f) = instructions_of f
+
+abbrev pub instructions_in : Module → ℕ
+instructions_in m = sum_by instructions_of_entry m.entries
+
+-- a line of a number, with a text before it
+abbrev pub count_line : List ℕ → ℕ → List ℕ
+count_line text n = text ++ decimal n ++ codes "\n"
+
+-- The lines on a module with so many functions and instructions, on the one that the strategy gives for it, on how often its functions
+-- were rewritten, and on how many of them are limited.
+abbrev pub load_text : ℕ → ℕ → Module → List ℕ → List Bool → List ℕ
+load_text functions before new counts limited =
+    count_line (codes "functions ") functions
+    ++ count_line (codes "instructions before ") before
+    ++ count_line (codes "instructions after ") (instructions_in new)
+    ++ count_line (codes "rewrites ") (sum counts)
+    ++ count_line (codes "limit ") (count_by (λ limited. limited) limited)
+
+-- what is written of a number, and the table of verdicts by which it came to be
+pub record IsLoaded (number : ℕ) (text : List ℕ) (table : List Row) : Type 0 where
+  pub rules : List Rule
+  pub built_in : IsRuleText built_in_text rules
+  pub new : Module
+  pub counts : List ℕ
+  pub limited : List Bool
+  -- they are what the plain strategy gives for the generated module, by this table
+  pub strategy : IsPlainStrategy rules default_steps table (generated number 200) new counts limited
+  pub honest : IsHonestTable rules default_conflicts table
+  -- in which each verdict is that the rule is valid
+  pub admitted : All (λ row. row.verdict ≡ Admitted) table
+  -- the generated module has always as many instructions
+  pub text_is : text ≡ load_text 200 4000 new counts limited

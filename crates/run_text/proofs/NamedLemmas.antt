@@ -1,0 +1,44 @@
+-- The entries of a module up to the function of a name.
+use Rattle.std.proofs.Common.{◌≡◌, ℕ, ◌+◌, ◌<◌, ◌≤◌, Bool, false, List, Some, length, get_or, ap, sym, ◌∙◌, arith, below_more}
+use Rattle.std.specs.Prelude.{slice_get}
+use Rattle.std.specs.Str.{bytes_eq}
+use Rattle.std.proofs.lemmas.Bool.{both_ways}
+use Rattle.std.proofs.lemmas.Slice.Eq.{bytes_eq-Decides}
+use Rattle.std.proofs.lemmas.Option.{slice_get-get_or, get_or_from_slice_get}
+use Rattle.std.proofs.lemmas.List.{get_or_default}
+use Rattle.ir_core.specs.declared.module.Module.{Module}
+use Rattle.ir_core.specs.declared.module.Entry.{Entry}
+use Rattle.ir_core.specs.declared.module.Entry.TheVariants as entries
+use Rattle.ir_core.specs.declared.function.Function.{Function}
+use Rattle.run_text.specs.Runs.{IsNamed}
+
+-- no function among the first entries, so many, has the name
+abbrev pub NoneBefore : List Entry → List ℕ → ℕ → Type 0
+NoneBefore es name n = (k : ℕ) → k < n → (f : Function) → slice_get es k ≡ Some (entries.Function f) → f.name ≡ name → ⊥
+
+-- the entry at a place is no function of the name
+abbrev pub HasOtherName : Entry → List ℕ → Type 0
+HasOtherName e name = (f : Function) → e ≡ entries.Function f → f.name ≡ name → ⊥
+
+module _ (es : List Entry) (name : List ℕ) (n : ℕ) (e d : Entry) where
+  pub none_more : n < length es → e ≡ get_or es n d → NoneBefore es name n → HasOtherName e name → NoneBefore es name (n + 1)
+  none_more lt is before other = below_more (λ k. (f : Function) → slice_get es k ≡ Some (entries.Function f) → f.name ≡ name → ⊥) n before
+      (λ f at. other f (is ∙ get_or_from_slice_get es n (entries.Function f) d at))
+
+pub kept : (e : Entry) (line name : List ℕ) → e ≡ entries.Kept line → HasOtherName e name
+kept e line name is f is_f same = let bad : entries.Kept line ≡ entries.Function f = sym is ∙ is_f in cc
+
+-- a function whose name is not the one that was looked for
+pub other_name : (e : Entry) (g : Function) (seen name : List ℕ) (eq : Bool) → e ≡ entries.Function g → seen ≡ g.name → eq ≡ bytes_eq seen name → eq ≡ false → HasOtherName e name
+other_name e g seen name eq is seen_is eq_is differs f is_f same =
+    let one : entries.Function g ≡ entries.Function f = sym is ∙ is_f in
+    let equal : g ≡ f = cc in
+    both_ways eq differs (eq_is ∙ (bytes_eq-Decides seen name).1 (seen_is ∙ ap (λ (h : Function). h.name) equal ∙ same))
+
+pub none_named : (m : Module) (name : List ℕ) (n : ℕ) → length m.entries ≤ n → NoneBefore m.entries name n → (f : Function) → IsNamed m name f → ⊥
+none_named m name n past before f is =
+    let lt = is.entry.1 in
+    before is.entry.0 (omega arith) f (slice_get-get_or m.entries is.entry.0 (entries.Function f) is.entry.1 ∙ ap (λ (e : Entry). Some e) is.entry.2) is.name_is
+
+pub named_at : (m : Module) (name : List ℕ) (n : ℕ) (d : Entry) (f : Function) → n < length m.entries → get_or m.entries n d ≡ entries.Function f → f.name ≡ name → IsNamed m name f
+named_at m name n d f lt is same = record { entry = (n, lt, get_or_default m.entries n (entries.Function f) d lt ∙ is); name_is = same }
