@@ -27,207 +27,208 @@ use Rattle.rule_tokens.specs.Parts.{Maybe, Comma}
 use Rattle.rule_tokens.specs.Tokens.{Token, Line, Register, Word, Number, Mark}
 use Rattle.rule_parse.specs.Keywords.{truth_word, source_word_in}
 use Rattle.rule_terms.specs.declared.place.TermPlace.TheVariants.{Constant}
-use Rattle.rule_terms.specs.Grammar.{most_nested, EndsTerm}
+use Rattle.rule_terms.specs.Grammar.{EndsTerm}
 use Rattle.rule_terms.specs.TermReaders.{mark_at, term_at}
 use Rattle.rule_terms.specs.Keywords.{operator_in}
 use Rattle.rule_terms.proofs.Starts.{mark_at-of}
-use Rattle.rule_tokens.specs.Limits.{most_name_bytes}
 use Rattle.rule_terms.proofs.Spellings.{term_at-of}
 use Rattle.rule_parse.proofs.Beginnings.{BeginsTerm, BeginsOperand, term_begins, argument_begins}
 use Rattle.rule_tokens.proofs.Ends.{EndsLine, name_within-of, type_at-of, line_end-of}
 use Rattle.rule_parse.proofs.Pieces.{operation_in-of, type_is_no_flag, type_is_no_operation}
 use Rattle.rule_tokens.proofs.Types.{type_in-of}
+use Rattle.rule_tokens.specs.Limits.{Limits}
 
--- ---- types and operands
+module _ (limits : Limits) where
+  -- ---- types and operands
 
-source_word-constant : (line : ℕ) (name : List ℕ) → is_constant name ≡ true → length name ≤ most_name_bytes → source_word line name ≡ Ok (arguments.Constant name)
-unfolding source_word
-source_word-constant line name c le = rw (c, name_within-of line name le) refl
+  source_word-constant : (line : ℕ) (name : List ℕ) → is_constant name ≡ true → length name ≤ limits.name_bytes → source_word limits line name ≡ Ok (arguments.Constant name)
+  unfolding source_word
+  source_word-constant line name c le = rw (c, name_within-of limits line name le) refl
 
-truth_read : (line : ℕ) (truth : Bool) → source_word line (truth_word truth) ≡ Ok (arguments.Truth truth)
-unfolding source_word source_word_in is_constant
-truth_read line true = refl
-truth_read line false = refl
+  truth_read : (line : ℕ) (truth : Bool) → source_word limits line (truth_word truth) ≡ Ok (arguments.Truth truth)
+  unfolding source_word source_word_in is_constant
+  truth_read line true = refl
+  truth_read line false = refl
 
-undef_read : (line : ℕ) → source_word line (codes "undef") ≡ Ok arguments.Undef
-unfolding source_word source_word_in is_constant
-undef_read line = refl
+  undef_read : (line : ℕ) → source_word limits line (codes "undef") ≡ Ok arguments.Undef
+  unfolding source_word source_word_in is_constant
+  undef_read line = refl
 
--- a term is read as one
-term_read : (line : ℕ) (own rest : List Token) → BeginsTerm own → argument_at Target line (own ++ rest) ≡ term_argument_at line (own ++ rest)
-unfolding argument_at
-term_read line (Number text ∷ ts) rest begins = refl
-term_read line (Word word ∷ ts) rest begins = rw begins.1 refl
-term_read line (Mark mark ∷ ts) rest begins = refl
-term_read line tokens rest begins = absurd begins
+  -- a term is read as one
+  term_read : (line : ℕ) (own rest : List Token) → BeginsTerm limits own → argument_at limits Target line (own ++ rest) ≡ term_argument_at limits line (own ++ rest)
+  unfolding argument_at
+  term_read line (Number text ∷ ts) rest begins = refl
+  term_read line (Word word ∷ ts) rest begins = rw begins.1 refl
+  term_read line (Mark mark ∷ ts) rest begins = refl
+  term_read line tokens rest begins = absurd begins
 
-term_argument_at-of : (line : ℕ) (a : RawArgument) (own rest : List Token) → SpellsTermOperand a own → EndsTerm rest → argument_at Target line (own ++ rest) ≡ Ok (a, rest)
-term_argument_at-of line a own rest (nodes, is, same) ends =
-    let read : term_at Constant most_nested line (own ++ rest) ≡ Ok (nodes, rest) = term_at-of Constant most_nested line nodes own rest is ends in
-    term_read line own rest (term_begins is) ∙ rw (read, same) refl
+  term_argument_at-of : (line : ℕ) (a : RawArgument) (own rest : List Token) → SpellsTermOperand limits a own → EndsTerm rest → argument_at limits Target line (own ++ rest) ≡ Ok (a, rest)
+  term_argument_at-of line a own rest (nodes, is, same) ends =
+      let read : term_at limits Constant limits.nested line (own ++ rest) ≡ Ok (nodes, rest) = term_at-of limits Constant limits.nested line nodes own rest is ends in
+      term_read line own rest (term_begins limits is) ∙ rw (read, same) refl
 
-argument_at-of : (half : Half) (line : ℕ) (a : RawArgument) (own rest : List Token) → SpellsArgument half a own → EndsTerm rest → argument_at half line (own ++ rest) ≡ Ok (a, rest)
-unfolding argument_at
-argument_at-of Source line (arguments.Register name) own rest (le, is) ends = rw (is, name_within-of line name le) refl
-argument_at-of Target line (arguments.Register name) own rest (le, is) ends = rw (is, name_within-of line name le) refl
-argument_at-of Source line arguments.Undef own rest is ends = rw (is, undef_read line) refl
-argument_at-of Target line arguments.Undef own rest is ends = rw is refl
-argument_at-of Source line (arguments.Literal z) own rest (text, value, is) ends = rw (is, value) refl
-argument_at-of Source line (arguments.Constant name) own rest (c, le, is) ends = rw (is, source_word-constant line name c le) refl
-argument_at-of Source line (arguments.Truth truth) own rest is ends = rw (is, truth_read line truth) refl
-argument_at-of Source line (arguments.Term nodes) own rest is ends = absurd is
-argument_at-of Target line (arguments.Literal z) own rest is ends = term_argument_at-of line (arguments.Literal z) own rest is ends
-argument_at-of Target line (arguments.Constant name) own rest is ends = term_argument_at-of line (arguments.Constant name) own rest is ends
-argument_at-of Target line (arguments.Truth truth) own rest is ends = absurd is
-argument_at-of Target line (arguments.Term nodes) own rest is ends = term_argument_at-of line (arguments.Term nodes) own rest is ends
+  argument_at-of : (half : Half) (line : ℕ) (a : RawArgument) (own rest : List Token) → SpellsArgument limits half a own → EndsTerm rest → argument_at limits half line (own ++ rest) ≡ Ok (a, rest)
+  unfolding argument_at
+  argument_at-of Source line (arguments.Register name) own rest (le, is) ends = rw (is, name_within-of limits line name le) refl
+  argument_at-of Target line (arguments.Register name) own rest (le, is) ends = rw (is, name_within-of limits line name le) refl
+  argument_at-of Source line arguments.Undef own rest is ends = rw (is, undef_read line) refl
+  argument_at-of Target line arguments.Undef own rest is ends = rw is refl
+  argument_at-of Source line (arguments.Literal z) own rest (text, value, is) ends = rw (is, value) refl
+  argument_at-of Source line (arguments.Constant name) own rest (c, le, is) ends = rw (is, source_word-constant line name c le) refl
+  argument_at-of Source line (arguments.Truth truth) own rest is ends = rw (is, truth_read line truth) refl
+  argument_at-of Source line (arguments.Term nodes) own rest is ends = absurd is
+  argument_at-of Target line (arguments.Literal z) own rest is ends = term_argument_at-of line (arguments.Literal z) own rest is ends
+  argument_at-of Target line (arguments.Constant name) own rest is ends = term_argument_at-of line (arguments.Constant name) own rest is ends
+  argument_at-of Target line (arguments.Truth truth) own rest is ends = absurd is
+  argument_at-of Target line (arguments.Term nodes) own rest is ends = term_argument_at-of line (arguments.Term nodes) own rest is ends
 
--- no type is next before an operand
-no_type : (own rest : List Token) → BeginsOperand own → maybe_type (own ++ rest) ≡ (None, own ++ rest)
-unfolding maybe_type
-no_type (Register name ∷ ts) rest begins = refl
-no_type (Number text ∷ ts) rest begins = refl
-no_type (Word word ∷ ts) rest begins = rw begins.no_type refl
-no_type (Mark mark ∷ ts) rest begins = refl
-no_type tokens rest begins = absurd begins
+  -- no type is next before an operand
+  no_type : (own rest : List Token) → BeginsOperand limits own → maybe_type (own ++ rest) ≡ (None, own ++ rest)
+  unfolding maybe_type
+  no_type (Register name ∷ ts) rest begins = refl
+  no_type (Number text ∷ ts) rest begins = refl
+  no_type (Word word ∷ ts) rest begins = rw begins.no_type refl
+  no_type (Mark mark ∷ ts) rest begins = refl
+  no_type tokens rest begins = absurd begins
 
-maybe_type-of : (written : Option ℕ) (front back rest : List Token) → Maybe SpellsType written front → BeginsOperand back → maybe_type (front ++ (back ++ rest)) ≡ (written, back ++ rest)
-unfolding maybe_type
-maybe_type-of None front back rest is begins = rw is (no_type back rest begins)
-maybe_type-of (Some width) front back rest (written, type, is) begins = rw (is, type_in-of written width type) refl
+  maybe_type-of : (written : Option ℕ) (front back rest : List Token) → Maybe SpellsType written front → BeginsOperand limits back → maybe_type (front ++ (back ++ rest)) ≡ (written, back ++ rest)
+  unfolding maybe_type
+  maybe_type-of None front back rest is begins = rw is (no_type back rest begins)
+  maybe_type-of (Some width) front back rest (written, type, is) begins = rw (is, type_in-of written width type) refl
 
-typed_at-of : (half : Half) (line : ℕ) (a : RawOperand) (own rest : List Token) → SpellsArgument half a.value own → EndsTerm rest → typed_at half line a.written (own ++ rest) ≡ Ok (a, rest)
-unfolding typed_at
-typed_at-of half line a own rest is ends = rw (argument_at-of half line a.value own rest is ends) refl
+  typed_at-of : (half : Half) (line : ℕ) (a : RawOperand) (own rest : List Token) → SpellsArgument limits half a.value own → EndsTerm rest → typed_at limits half line a.written (own ++ rest) ≡ Ok (a, rest)
+  unfolding typed_at
+  typed_at-of half line a own rest is ends = rw (argument_at-of half line a.value own rest is ends) refl
 
-untyped_at-of : (half : Half) (line : ℕ) (a : RawOperand) (own rest : List Token) → SpellsUntyped half a own → EndsTerm rest → typed_at half line None (own ++ rest) ≡ Ok (a, rest)
-untyped_at-of half line a own rest (none, is) ends = rw (← none) (typed_at-of half line a own rest is ends)
+  untyped_at-of : (half : Half) (line : ℕ) (a : RawOperand) (own rest : List Token) → SpellsUntyped limits half a own → EndsTerm rest → typed_at limits half line None (own ++ rest) ≡ Ok (a, rest)
+  untyped_at-of half line a own rest (none, is) ends = rw (← none) (typed_at-of half line a own rest is ends)
 
-operand_at-of : (half : Half) (line : ℕ) (a : RawOperand) (own rest : List Token) → SpellsOperand half a own → EndsTerm rest → operand_at half line (own ++ rest) ≡ Ok (a, rest)
-operand_at-of half line a own rest (front, back, type, argument, whole) ends =
-    rw (whole, append_assoc front back rest, maybe_type-of a.written front back rest type (argument_begins half a.value back argument)) (typed_at-of half line a back rest argument ends)
+  operand_at-of : (half : Half) (line : ℕ) (a : RawOperand) (own rest : List Token) → SpellsOperand limits half a own → EndsTerm rest → operand_at limits half line (own ++ rest) ≡ Ok (a, rest)
+  operand_at-of half line a own rest (front, back, type, argument, whole) ends =
+      rw (whole, append_assoc front back rest, maybe_type-of a.written front back rest type (argument_begins limits half a.value back argument)) (typed_at-of half line a back rest argument ends)
 
--- ---- what stands behind an operand
+  -- ---- what stands behind an operand
 
-pub line_ends_term : (rest : List Token) → EndsLine rest → EndsTerm rest
-line_ends_term [] ends = tt
-line_ends_term (Line next ∷ rest) ends = tt
-line_ends_term tokens ends = absurd ends
+  pub line_ends_term : (rest : List Token) → EndsLine rest → EndsTerm rest
+  line_ends_term [] ends = tt
+  line_ends_term (Line next ∷ rest) ends = tt
+  line_ends_term tokens ends = absurd ends
 
-pub comma_ends_term : (own rest : List Token) → Comma own → EndsTerm (own ++ rest)
-unfolding operator_in
-comma_ends_term own rest is = rw is refl
+  pub comma_ends_term : (own rest : List Token) → Comma own → EndsTerm (own ++ rest)
+  unfolding operator_in
+  comma_ends_term own rest is = rw is refl
 
-comma_at-of : (line : ℕ) (own rest : List Token) → Comma own → mark_at (codes ",") line (own ++ rest) ≡ Ok rest
-comma_at-of line own rest is = rw is (mark_at-of (codes ",") line rest refl)
+  comma_at-of : (line : ℕ) (own rest : List Token) → Comma own → mark_at (codes ",") line (own ++ rest) ≡ Ok rest
+  comma_at-of line own rest is = rw is (mark_at-of limits (codes ",") line rest refl)
 
-no_to : (line : ℕ) (rest : List Token) → EndsLine rest → to_at line rest ≡ Ok (None, rest)
-unfolding to_at
-no_to line [] ends = refl
-no_to line (Line next ∷ rest) ends = refl
-no_to line tokens ends = absurd ends
+  no_to : (line : ℕ) (rest : List Token) → EndsLine rest → to_at line rest ≡ Ok (None, rest)
+  unfolding to_at
+  no_to line [] ends = refl
+  no_to line (Line next ∷ rest) ends = refl
+  no_to line tokens ends = absurd ends
 
-to_at-of : (line : ℕ) (to : Option ℕ) (own rest : List Token) → Maybe SpellsTo to own → EndsLine rest → to_at line (own ++ rest) ≡ Ok (to, rest)
-unfolding to_at
-to_at-of line None own rest is ends = rw is (no_to line rest ends)
-to_at-of line (Some width) own rest (front, back, to, type, whole) ends = rw (whole, to, type_at-of line width back rest type, line_end-of line rest ends) refl
+  to_at-of : (line : ℕ) (to : Option ℕ) (own rest : List Token) → Maybe SpellsTo to own → EndsLine rest → to_at line (own ++ rest) ≡ Ok (to, rest)
+  unfolding to_at
+  to_at-of line None own rest is ends = rw is (no_to line rest ends)
+  to_at-of line (Some width) own rest (front, back, to, type, whole) ends = rw (whole, to, type_at-of line width back rest type, line_end-of line rest ends) refl
 
-to_ends_term : (to : Option ℕ) (own rest : List Token) → Maybe SpellsTo to own → EndsLine rest → EndsTerm (own ++ rest)
-to_ends_term None own rest is ends = rw is (line_ends_term rest ends)
-to_ends_term (Some width) own rest (front, back, to, type, whole) ends = rw (whole, to) tt
+  to_ends_term : (to : Option ℕ) (own rest : List Token) → Maybe SpellsTo to own → EndsLine rest → EndsTerm (own ++ rest)
+  to_ends_term None own rest is ends = rw is (line_ends_term rest ends)
+  to_ends_term (Some width) own rest (front, back, to, type, whole) ends = rw (whole, to) tt
 
--- ---- flags
+  -- ---- flags
 
-pub flags_done : (op : Opcode) (line : ℕ) (before : Flags) (rest : List Token) → next_flag op rest ≡ None → flags_at op line before rest ≡ Ok (before, rest)
-unfolding flags_at
-flags_done op line before [] none = refl
-flags_done op line before (token ∷ rest) none = rw none refl
+  pub flags_done : (op : Opcode) (line : ℕ) (before : Flags) (rest : List Token) → next_flag op rest ≡ None → flags_at op line before rest ≡ Ok (before, rest)
+  unfolding flags_at
+  flags_done op line before [] none = refl
+  flags_done op line before (token ∷ rest) none = rw none refl
 
-flags_added : (op : Opcode) (line : ℕ) (written : List Flag) (before after : Flags) (rest : List Token) → AddsFlags op before written after → next_flag op rest ≡ None → flags_at op line before (map (λ flag. Word (flag_keyword flag)) written ++ rest) ≡ Ok (after, rest)
-unfolding flags_at
-flags_added op line [] before after rest adds none = rw adds (flags_done op line after rest none)
-flags_added op line (flag ∷ written) before after rest (takes, new, adds) none =
-    rw (flag_in-of op flag takes, new) (flags_added op line written (with_flag before flag) after rest adds none)
+  flags_added : (op : Opcode) (line : ℕ) (written : List Flag) (before after : Flags) (rest : List Token) → AddsFlags op before written after → next_flag op rest ≡ None → flags_at op line before (map (λ flag. Word (flag_keyword flag)) written ++ rest) ≡ Ok (after, rest)
+  unfolding flags_at
+  flags_added op line [] before after rest adds none = rw adds (flags_done op line after rest none)
+  flags_added op line (flag ∷ written) before after rest (takes, new, adds) none =
+      rw (flag_in-of op flag takes, new) (flags_added op line written (with_flag before flag) after rest adds none)
 
-flags_at-of : (op : Opcode) (line : ℕ) (flags : Flags) (own rest : List Token) → SpellsFlags op flags own → next_flag op rest ≡ None → flags_at op line no_flags (own ++ rest) ≡ Ok (flags, rest)
-flags_at-of op line flags own rest (written, adds, is) none = rw is (flags_added op line written no_flags flags rest adds none)
+  flags_at-of : (op : Opcode) (line : ℕ) (flags : Flags) (own rest : List Token) → SpellsFlags op flags own → next_flag op rest ≡ None → flags_at op line no_flags (own ++ rest) ≡ Ok (flags, rest)
+  flags_at-of op line flags own rest (written, adds, is) none = rw is (flags_added op line written no_flags flags rest adds none)
 
--- no flag begins an operand
-no_flag : (op : Opcode) (own rest : List Token) → BeginsOperand own → next_flag op (own ++ rest) ≡ None
-no_flag op (Register name ∷ ts) rest begins = refl
-no_flag op (Number text ∷ ts) rest begins = refl
-no_flag op (Word word ∷ ts) rest begins = begins.no_flag op
-no_flag op (Mark mark ∷ ts) rest begins = refl
-no_flag op tokens rest begins = absurd begins
+  -- no flag begins an operand
+  no_flag : (op : Opcode) (own rest : List Token) → BeginsOperand limits own → next_flag op (own ++ rest) ≡ None
+  no_flag op (Register name ∷ ts) rest begins = refl
+  no_flag op (Number text ∷ ts) rest begins = refl
+  no_flag op (Word word ∷ ts) rest begins = begins.no_flag op
+  no_flag op (Mark mark ∷ ts) rest begins = refl
+  no_flag op tokens rest begins = absurd begins
 
-begins_no_flag : (op : Opcode) (written : Option ℕ) (front back rest : List Token) → Maybe SpellsType written front → BeginsOperand back → next_flag op (front ++ (back ++ rest)) ≡ None
-begins_no_flag op None front back rest is begins = rw is (no_flag op back rest begins)
-begins_no_flag op (Some width) front back rest (written, type, is) begins = rw is (type_is_no_flag op written width type)
+  begins_no_flag : (op : Opcode) (written : Option ℕ) (front back rest : List Token) → Maybe SpellsType written front → BeginsOperand limits back → next_flag op (front ++ (back ++ rest)) ≡ None
+  begins_no_flag op None front back rest is begins = rw is (no_flag op back rest begins)
+  begins_no_flag op (Some width) front back rest (written, type, is) begins = rw is (type_is_no_flag limits op written width type)
 
--- ---- what a statement computes
+  -- ---- what a statement computes
 
-pair_at-of : (half : Half) (line : ℕ) (a b : RawOperand) (own rest : List Token) → SpellsPair half a b own → EndsLine rest → pair_at half line (own ++ rest) ≡ Ok ((a, b), rest)
-unfolding pair_at
-pair_at-of half line a b own rest (t1, o1, left, (t2, o2, comma, right, is2), is1) ends =
-    let behind : EndsTerm (o1 ++ rest) = rw (is2, append_assoc t2 o2 rest) (comma_ends_term t2 (o2 ++ rest) comma) in
-    rw (is1, append_assoc t1 o1 rest, operand_at-of half line a t1 (o1 ++ rest) left behind, is2, append_assoc t2 o2 rest, comma_at-of line t2 (o2 ++ rest) comma, untyped_at-of half line b o2 rest right (line_ends_term rest ends), line_end-of line rest ends) refl
+  pair_at-of : (half : Half) (line : ℕ) (a b : RawOperand) (own rest : List Token) → SpellsPair limits half a b own → EndsLine rest → pair_at limits half line (own ++ rest) ≡ Ok ((a, b), rest)
+  unfolding pair_at
+  pair_at-of half line a b own rest (t1, o1, left, (t2, o2, comma, right, is2), is1) ends =
+      let behind : EndsTerm (o1 ++ rest) = rw (is2, append_assoc t2 o2 rest) (comma_ends_term t2 (o2 ++ rest) comma) in
+      rw (is1, append_assoc t1 o1 rest, operand_at-of half line a t1 (o1 ++ rest) left behind, is2, append_assoc t2 o2 rest, comma_at-of line t2 (o2 ++ rest) comma, untyped_at-of half line b o2 rest right (line_ends_term rest ends), line_end-of line rest ends) refl
 
-pair_begins : (op : Opcode) (half : Half) (a b : RawOperand) (own rest : List Token) → SpellsPair half a b own → next_flag op (own ++ rest) ≡ None
-pair_begins op half a b own rest (t1, o1, (front, back, type, argument, is), others, is1) =
-    rw (is1, append_assoc t1 o1 rest, is, append_assoc front back (o1 ++ rest)) (begins_no_flag op a.written front back (o1 ++ rest) type (argument_begins half a.value back argument))
+  pair_begins : (op : Opcode) (half : Half) (a b : RawOperand) (own rest : List Token) → SpellsPair limits half a b own → next_flag op (own ++ rest) ≡ None
+  pair_begins op half a b own rest (t1, o1, (front, back, type, argument, is), others, is1) =
+      rw (is1, append_assoc t1 o1 rest, is, append_assoc front back (o1 ++ rest)) (begins_no_flag op a.written front back (o1 ++ rest) type (argument_begins limits half a.value back argument))
 
-pred_at-of : (line : ℕ) (pred : Pred) (rest : List Token) → pred_at line (Word (predicate_keyword pred) ∷ rest) ≡ Ok (pred, rest)
-unfolding pred_at
-pred_at-of line pred rest = rw (pred_in-of pred) refl
+  pred_at-of : (line : ℕ) (pred : Pred) (rest : List Token) → pred_at line (Word (predicate_keyword pred) ∷ rest) ≡ Ok (pred, rest)
+  unfolding pred_at
+  pred_at-of line pred rest = rw (pred_in-of pred) refl
 
-copy_at-of : (line : ℕ) (a : RawOperand) (own rest : List Token) → SpellsOperand Target a own → EndsLine rest → copy_at line (own ++ rest) ≡ Ok (Copy a, rest)
-unfolding copy_at
-copy_at-of line a own rest is ends = rw (operand_at-of Target line a own rest is (line_ends_term rest ends), line_end-of line rest ends) refl
+  copy_at-of : (line : ℕ) (a : RawOperand) (own rest : List Token) → SpellsOperand limits Target a own → EndsLine rest → copy_at limits line (own ++ rest) ≡ Ok (Copy a, rest)
+  unfolding copy_at
+  copy_at-of line a own rest is ends = rw (operand_at-of Target line a own rest is (line_ends_term rest ends), line_end-of line rest ends) refl
 
--- an operand begins with no opcode
-no_opcode : (line : ℕ) (own rest : List Token) → BeginsOperand own → op_at Target line (own ++ rest) ≡ copy_at line (own ++ rest)
-unfolding op_at
-no_opcode line (Register name ∷ ts) rest begins = refl
-no_opcode line (Number text ∷ ts) rest begins = refl
-no_opcode line (Word word ∷ ts) rest begins = rw begins.no_operation refl
-no_opcode line (Mark mark ∷ ts) rest begins = refl
-no_opcode line tokens rest begins = absurd begins
+  -- an operand begins with no opcode
+  no_opcode : (line : ℕ) (own rest : List Token) → BeginsOperand limits own → op_at limits Target line (own ++ rest) ≡ copy_at limits line (own ++ rest)
+  unfolding op_at
+  no_opcode line (Register name ∷ ts) rest begins = refl
+  no_opcode line (Number text ∷ ts) rest begins = refl
+  no_opcode line (Word word ∷ ts) rest begins = rw begins.no_operation refl
+  no_opcode line (Mark mark ∷ ts) rest begins = refl
+  no_opcode line tokens rest begins = absurd begins
 
-copy_begins : (line : ℕ) (written : Option ℕ) (front back rest : List Token) → Maybe SpellsType written front → BeginsOperand back → op_at Target line (front ++ (back ++ rest)) ≡ copy_at line (front ++ (back ++ rest))
-unfolding op_at
-copy_begins line None front back rest is begins = rw is (no_opcode line back rest begins)
-copy_begins line (Some width) front back rest (written, type, is) begins = rw (is, type_is_no_operation written width type) refl
+  copy_begins : (line : ℕ) (written : Option ℕ) (front back rest : List Token) → Maybe SpellsType written front → BeginsOperand limits back → op_at limits Target line (front ++ (back ++ rest)) ≡ copy_at limits line (front ++ (back ++ rest))
+  unfolding op_at
+  copy_begins line None front back rest is begins = rw is (no_opcode line back rest begins)
+  copy_begins line (Some width) front back rest (written, type, is) begins = rw (is, type_is_no_operation limits written width type) refl
 
-pub op_at-of : (half : Half) (line : ℕ) (op : RawOp) (own rest : List Token) → SpellsOp half op own → EndsLine rest → op_at half line (own ++ rest) ≡ Ok (op, rest)
-unfolding op_at binary_at compare_at select_at convert_at
-op_at-of half line (Binary op flags a b) own rest (t1, o1, word, (t2, o2, fs, pair, is2), is1) ends =
-    rw (is1, word, operation_in-of (operations.Binary op), is2, append_assoc t2 o2 rest, flags_at-of op line flags t2 (o2 ++ rest) fs (pair_begins op half a b o2 rest pair), pair_at-of half line a b o2 rest pair ends) refl
-op_at-of half line (Compare pred a b) own rest (t1, o1, word, (t2, o2, pred_is, pair, is2), is1) ends =
-    rw (is1, word, is2, pred_is, operation_in-of operations.Compare, pred_at-of line pred (o2 ++ rest), pair_at-of half line a b o2 rest pair ends) refl
-op_at-of half line (Select condition a b) own rest (t1, o1, word, (t2, o2, choice, (t3, o3, comma, (t4, o4, left, (t5, o5, comma2, right, is5), is4), is3), is2), is1) ends =
-    let behind : EndsTerm (o2 ++ rest) = rw (is3, append_assoc t3 o3 rest) (comma_ends_term t3 (o3 ++ rest) comma) in
-    let behind2 : EndsTerm (o4 ++ rest) = rw (is5, append_assoc t5 o5 rest) (comma_ends_term t5 (o5 ++ rest) comma2) in
-    rw (
-      is1,
-      word,
-      operation_in-of operations.Select,
-      is2,
-      append_assoc t2 o2 rest,
-      operand_at-of half line condition t2 (o2 ++ rest) choice behind,
-      is3,
-      append_assoc t3 o3 rest,
-      comma_at-of line t3 (o3 ++ rest) comma,
-      is4,
-      append_assoc t4 o4 rest,
-      operand_at-of half line a t4 (o4 ++ rest) left behind2,
-      is5,
-      append_assoc t5 o5 rest,
-      comma_at-of line t5 (o5 ++ rest) comma2,
-      operand_at-of half line b o5 rest right (line_ends_term rest ends),
-      line_end-of line rest ends,
-    ) refl
-op_at-of half line (Convert cast a to) own rest (t1, o1, word, (t2, o2, operand, behind, is2), is1) ends =
-    rw (is1, word, operation_in-of (operations.Convert cast), is2, append_assoc t2 o2 rest, operand_at-of half line a t2 (o2 ++ rest) operand (to_ends_term to o2 rest behind ends), to_at-of line to o2 rest behind ends) refl
-op_at-of Source line (Copy a) own rest is ends = absurd is
-op_at-of Target line (Copy a) own rest (front, back, type, argument, is) ends =
-    rw (is, append_assoc front back rest) (copy_begins line a.written front back rest type (argument_begins Target a.value back argument))
-    ∙ copy_at-of line a own rest (front, back, type, argument, is) ends
+  pub op_at-of : (half : Half) (line : ℕ) (op : RawOp) (own rest : List Token) → SpellsOp limits half op own → EndsLine rest → op_at limits half line (own ++ rest) ≡ Ok (op, rest)
+  unfolding op_at binary_at compare_at select_at convert_at
+  op_at-of half line (Binary op flags a b) own rest (t1, o1, word, (t2, o2, fs, pair, is2), is1) ends =
+      rw (is1, word, operation_in-of limits (operations.Binary op), is2, append_assoc t2 o2 rest, flags_at-of op line flags t2 (o2 ++ rest) fs (pair_begins op half a b o2 rest pair), pair_at-of half line a b o2 rest pair ends) refl
+  op_at-of half line (Compare pred a b) own rest (t1, o1, word, (t2, o2, pred_is, pair, is2), is1) ends =
+      rw (is1, word, is2, pred_is, operation_in-of limits operations.Compare, pred_at-of line pred (o2 ++ rest), pair_at-of half line a b o2 rest pair ends) refl
+  op_at-of half line (Select condition a b) own rest (t1, o1, word, (t2, o2, choice, (t3, o3, comma, (t4, o4, left, (t5, o5, comma2, right, is5), is4), is3), is2), is1) ends =
+      let behind : EndsTerm (o2 ++ rest) = rw (is3, append_assoc t3 o3 rest) (comma_ends_term t3 (o3 ++ rest) comma) in
+      let behind2 : EndsTerm (o4 ++ rest) = rw (is5, append_assoc t5 o5 rest) (comma_ends_term t5 (o5 ++ rest) comma2) in
+      rw (
+        is1,
+        word,
+        operation_in-of limits operations.Select,
+        is2,
+        append_assoc t2 o2 rest,
+        operand_at-of half line condition t2 (o2 ++ rest) choice behind,
+        is3,
+        append_assoc t3 o3 rest,
+        comma_at-of line t3 (o3 ++ rest) comma,
+        is4,
+        append_assoc t4 o4 rest,
+        operand_at-of half line a t4 (o4 ++ rest) left behind2,
+        is5,
+        append_assoc t5 o5 rest,
+        comma_at-of line t5 (o5 ++ rest) comma2,
+        operand_at-of half line b o5 rest right (line_ends_term rest ends),
+        line_end-of line rest ends,
+      ) refl
+  op_at-of half line (Convert cast a to) own rest (t1, o1, word, (t2, o2, operand, behind, is2), is1) ends =
+      rw (is1, word, operation_in-of limits (operations.Convert cast), is2, append_assoc t2 o2 rest, operand_at-of half line a t2 (o2 ++ rest) operand (to_ends_term to o2 rest behind ends), to_at-of line to o2 rest behind ends) refl
+  op_at-of Source line (Copy a) own rest is ends = absurd is
+  op_at-of Target line (Copy a) own rest (front, back, type, argument, is) ends =
+      rw (is, append_assoc front back rest) (copy_begins line a.written front back rest type (argument_begins limits Target a.value back argument))
+      ∙ copy_at-of line a own rest (front, back, type, argument, is) ends

@@ -34,175 +34,177 @@ use Rattle.rule_parse.specs.Weight.{argument_weight, node_weight, raw_weight}
 use Rattle.rule_parse.specs.Keywords.{truth_word, argument_of}
 use Rattle.rule_parse.proofs.Cuts.{step, AreOfText, of_both, first_of, begins_of, Weighs, nothing, join, light, at_least, word, mark, number, register, node_word, assigned, behind_one, precondition_led, witness_led, arrow_led}
 use Rattle.rule_parse.proofs.TermWeights.{constant_counts, nodes_weight, nodes_weight-is, term_weighs, formulas_weight, formulas_weight-is, formula_weighs}
+use Rattle.rule_tokens.specs.Limits.{Limits, rule_limits}
 
--- ---- operands
+module _ (limits : Limits) where
+  -- ---- operands
 
-abbrev one_weight : RawArgument → ℕ
-one_weight (arguments.Term t) = nodes_weight t
-one_weight argument = 1
+  abbrev one_weight : RawArgument → ℕ
+  one_weight (arguments.Term t) = nodes_weight limits t
+  one_weight argument = 1
 
-term_operand : (own : List RawNode) → one_weight (argument_of own) ≤ nodes_weight own
-unfolding argument_of
-term_operand (nodes.Literal z ∷ []) = omega arith
-term_operand (nodes.Constant name ∷ []) = omega arith
-term_operand own = omega arith
+  term_operand : (own : List RawNode) → one_weight (argument_of own) ≤ (nodes_weight limits) own
+  unfolding argument_of
+  term_operand (nodes.Literal z ∷ []) = omega arith
+  term_operand (nodes.Constant name ∷ []) = omega arith
+  term_operand own = omega arith
 
-truth_weighs : (truth : Bool) → Weighs 1 (Word (truth_word truth) ∷ [])
-unfolding is_node_word ends_primary is_constant is_choice is_digit
-truth_weighs true = node_word (codes "true") refl
-truth_weighs false = node_word (codes "false") refl
+  truth_weighs : (truth : Bool) → Weighs 1 (Word (truth_word truth) ∷ [])
+  unfolding is_node_word ends_primary is_constant is_choice is_digit
+  truth_weighs true = node_word (codes "true") refl
+  truth_weighs false = node_word (codes "false") refl
 
-undef_weighs : Weighs 1 (Word (codes "undef") ∷ [])
-unfolding is_node_word ends_primary is_constant is_choice
-undef_weighs = node_word (codes "undef") refl
+  undef_weighs : Weighs 1 (Word (codes "undef") ∷ [])
+  unfolding is_node_word ends_primary is_constant is_choice
+  undef_weighs = node_word (codes "undef") refl
 
-term_operand_weighs : (a : RawArgument) (own : List Token) → SpellsTermOperand a own → Weighs (one_weight a) own
-term_operand_weighs a own (t, is, same) = at_least (one_weight a) (nodes_weight t) own (rw same (term_operand t)) (term_weighs is)
+  term_operand_weighs : (a : RawArgument) (own : List Token) → SpellsTermOperand limits a own → Weighs (one_weight a) own
+  term_operand_weighs a own (t, is, same) = at_least (one_weight a) (nodes_weight limits t) own (rw same (term_operand t)) (term_weighs limits is)
 
-argument_weighs : (half : Half) (a : RawArgument) (own : List Token) → SpellsArgument half a own → Weighs (one_weight a) own
-argument_weighs Source (arguments.Register name) own (le, is) = rw is (register name)
-argument_weighs Target (arguments.Register name) own (le, is) = rw is (register name)
-argument_weighs Source arguments.Undef own is = rw is undef_weighs
-argument_weighs Target arguments.Undef own is = rw is undef_weighs
-argument_weighs Source (arguments.Literal z) own (text, value, is) = rw is (number text)
-argument_weighs Source (arguments.Constant name) own (c, le, is) = rw is (node_word name (constant_counts name c))
-argument_weighs Source (arguments.Truth truth) own is = rw is (truth_weighs truth)
-argument_weighs Source (arguments.Term t) own is = absurd is
-argument_weighs Target (arguments.Literal z) own is = term_operand_weighs (arguments.Literal z) own is
-argument_weighs Target (arguments.Constant name) own is = term_operand_weighs (arguments.Constant name) own is
-argument_weighs Target (arguments.Truth truth) own is = absurd is
-argument_weighs Target (arguments.Term t) own is = term_operand_weighs (arguments.Term t) own is
+  argument_weighs : (half : Half) (a : RawArgument) (own : List Token) → SpellsArgument limits half a own → Weighs (one_weight a) own
+  argument_weighs Source (arguments.Register name) own (le, is) = rw is (register name)
+  argument_weighs Target (arguments.Register name) own (le, is) = rw is (register name)
+  argument_weighs Source arguments.Undef own is = rw is undef_weighs
+  argument_weighs Target arguments.Undef own is = rw is undef_weighs
+  argument_weighs Source (arguments.Literal z) own (text, value, is) = rw is (number text)
+  argument_weighs Source (arguments.Constant name) own (c, le, is) = rw is (node_word name (constant_counts limits name c))
+  argument_weighs Source (arguments.Truth truth) own is = rw is (truth_weighs truth)
+  argument_weighs Source (arguments.Term t) own is = absurd is
+  argument_weighs Target (arguments.Literal z) own is = term_operand_weighs (arguments.Literal z) own is
+  argument_weighs Target (arguments.Constant name) own is = term_operand_weighs (arguments.Constant name) own is
+  argument_weighs Target (arguments.Truth truth) own is = absurd is
+  argument_weighs Target (arguments.Term t) own is = term_operand_weighs (arguments.Term t) own is
 
-type_weighs : (written : Option ℕ) (own : List Token) → Maybe SpellsType written own → Weighs 0 own
-type_weighs None own is = rw is nothing
-type_weighs (Some width) own (text, type, is) = rw is (word text)
+  type_weighs : (written : Option ℕ) (own : List Token) → Maybe SpellsType written own → Weighs 0 own
+  type_weighs None own is = rw is nothing
+  type_weighs (Some width) own (text, type, is) = rw is (word text)
 
-operand_weighs : (half : Half) (a : RawOperand) (own : List Token) → SpellsOperand half a own → Weighs (one_weight a.value) own
-operand_weighs half a own (front, back, type, value, whole) = rw whole (light (one_weight a.value) front back (type_weighs a.written front type) (argument_weighs half a.value back value))
+  operand_weighs : (half : Half) (a : RawOperand) (own : List Token) → SpellsOperand limits half a own → Weighs (one_weight a.value) own
+  operand_weighs half a own (front, back, type, value, whole) = rw whole (light (one_weight a.value) front back (type_weighs a.written front type) (argument_weighs half a.value back value))
 
--- behind a `,`
-behind_comma : (v w : ℕ) (own front back : List Token) → Weighs v front → Weighs w back → own ≡ front ++ Mark (codes ",") ∷ back → Weighs (v + w) own
-behind_comma v w own front back a b whole = rw whole (join v w front (Mark (codes ",") ∷ back) a (light w (Mark (codes ",") ∷ []) back (mark (codes ",")) b))
+  -- behind a `,`
+  behind_comma : (v w : ℕ) (own front back : List Token) → Weighs v front → Weighs w back → own ≡ front ++ Mark (codes ",") ∷ back → Weighs (v + w) own
+  behind_comma v w own front back a b whole = rw whole (join v w front (Mark (codes ",") ∷ back) a (light w (Mark (codes ",") ∷ []) back (mark (codes ",")) b))
 
-pair_weighs : (half : Half) (a b : RawOperand) (own : List Token) → SpellsPair half a b own → Weighs (one_weight a.value + one_weight b.value) own
-pair_weighs half a b own (front, behind, left, (comma, back, is_comma, right, at), whole) =
-    behind_comma (one_weight a.value) (one_weight b.value) own front back (operand_weighs half a front left) (argument_weighs half b.value back right.1)
-    (whole ∙ ap (λ (ts : List Token). front ++ ts) (at ∙ ap (λ (ts : List Token). ts ++ back) is_comma))
+  pair_weighs : (half : Half) (a b : RawOperand) (own : List Token) → SpellsPair limits half a b own → Weighs (one_weight a.value + one_weight b.value) own
+  pair_weighs half a b own (front, behind, left, (comma, back, is_comma, right, at), whole) =
+      behind_comma (one_weight a.value) (one_weight b.value) own front back (operand_weighs half a front left) (argument_weighs half b.value back right.1)
+      (whole ∙ ap (λ (ts : List Token). front ++ ts) (at ∙ ap (λ (ts : List Token). ts ++ back) is_comma))
 
--- ---- operations
+  -- ---- operations
 
-flags_weigh : (flags : List Flag) → Weighs 0 (map (λ (flag : Flag). Word (flag_keyword flag)) flags)
-flags_weigh [] = nothing
-flags_weigh (flag ∷ flags) = join 0 0 (Word (flag_keyword flag) ∷ []) (map (λ (flag : Flag). Word (flag_keyword flag)) flags) (word (flag_keyword flag)) (flags_weigh flags)
+  flags_weigh : (flags : List Flag) → Weighs 0 (map (λ (flag : Flag). Word (flag_keyword flag)) flags)
+  flags_weigh [] = nothing
+  flags_weigh (flag ∷ flags) = join 0 0 (Word (flag_keyword flag) ∷ []) (map (λ (flag : Flag). Word (flag_keyword flag)) flags) (word (flag_keyword flag)) (flags_weigh flags)
 
-behind_word : (w : ℕ) (text : List ℕ) (own front back : List Token) → front ≡ Word text ∷ [] → Weighs w back → own ≡ front ++ back → Weighs w own
-behind_word w text own front back is b whole = rw (whole, is) (light w (Word text ∷ []) back (word text) b)
+  behind_word : (w : ℕ) (text : List ℕ) (own front back : List Token) → front ≡ Word text ∷ [] → Weighs w back → own ≡ front ++ back → Weighs w own
+  behind_word w text own front back is b whole = rw (whole, is) (light w (Word text ∷ []) back (word text) b)
 
-to_weighs : (to : Option ℕ) (own : List Token) → Maybe SpellsTo to own → Weighs 0 own
-to_weighs None own is = rw is nothing
-to_weighs (Some width) own (front, back, is, (text, type, at), whole) = behind_word 0 (codes "to") own front back is (rw at (word text)) whole
+  to_weighs : (to : Option ℕ) (own : List Token) → Maybe SpellsTo to own → Weighs 0 own
+  to_weighs None own is = rw is nothing
+  to_weighs (Some width) own (front, back, is, (text, type, at), whole) = behind_word 0 (codes "to") own front back is (rw at (word text)) whole
 
-abbrev arguments_weight : List RawArgument → ℕ
-arguments_weight [] = 0
-arguments_weight (a ∷ more) = one_weight a + arguments_weight more
+  abbrev arguments_weight : List RawArgument → ℕ
+  arguments_weight [] = 0
+  arguments_weight (a ∷ more) = one_weight a + arguments_weight more
 
-op_weighs : (half : Half) (op : RawOp) (own : List Token) → SpellsOp half op own → Weighs (arguments_weight (arguments_of op)) own
-op_weighs half (Binary op flags a b) own (f, k, is, (g, h, (written, adds, spelled), pair, at), whole) =
-    at_least _ (one_weight a.value + one_weight b.value) own (omega arith)
-    (behind_word _ (opcode_keyword op) own f k is (rw (at, spelled) (light _ (map (λ (flag : Flag). Word (flag_keyword flag)) written) h (flags_weigh written) (pair_weighs half a b h pair))) whole)
-op_weighs half (Compare pred a b) own (f, k, is, (g, h, is_pred, pair, at), whole) =
-    at_least _ (one_weight a.value + one_weight b.value) own (omega arith)
-    (behind_word _ (codes "icmp") own f k is (behind_word _ (predicate_keyword pred) k g h is_pred (pair_weighs half a b h pair) at) whole)
-op_weighs half (Select c a b) own (f, k, is, (x, k1, is_c, (m1, k2, comma1, (y, k3, is_a, (m2, z, comma2, is_b, w4), w3), w2), w1), whole) =
-    at_least _ (one_weight c.value + (one_weight a.value + one_weight b.value)) own (omega arith)
-    (behind_word _ (codes "select") own f k is
-    (behind_comma (one_weight c.value) (one_weight a.value + one_weight b.value) k x k2 (operand_weighs half c x is_c)
-    (behind_comma (one_weight a.value) (one_weight b.value) k2 y z (operand_weighs half a y is_a) (operand_weighs half b z is_b)
-    (w3 ∙ ap (λ (ts : List Token). y ++ ts) (w4 ∙ ap (λ (ts : List Token). ts ++ z) comma2)))
-    (w1 ∙ ap (λ (ts : List Token). x ++ ts) (w2 ∙ ap (λ (ts : List Token). ts ++ k2) comma1)))
-    whole)
-op_weighs half (Convert cast a to) own (f, k, is, (x, y, is_a, is_to, at), whole) =
-    at_least _ (one_weight a.value + 0) own (omega arith)
-    (behind_word _ (cast_keyword cast) own f k is (rw at (join (one_weight a.value) 0 x y (operand_weighs half a x is_a) (to_weighs to y is_to))) whole)
-op_weighs Source (Copy a) own is = absurd is
-op_weighs Target (Copy a) own is = at_least _ (one_weight a.value) own (omega arith) (operand_weighs Target a own is)
+  op_weighs : (half : Half) (op : RawOp) (own : List Token) → SpellsOp limits half op own → Weighs (arguments_weight (arguments_of op)) own
+  op_weighs half (Binary op flags a b) own (f, k, is, (g, h, (written, adds, spelled), pair, at), whole) =
+      at_least _ (one_weight a.value + one_weight b.value) own (omega arith)
+      (behind_word _ (opcode_keyword op) own f k is (rw (at, spelled) (light _ (map (λ (flag : Flag). Word (flag_keyword flag)) written) h (flags_weigh written) (pair_weighs half a b h pair))) whole)
+  op_weighs half (Compare pred a b) own (f, k, is, (g, h, is_pred, pair, at), whole) =
+      at_least _ (one_weight a.value + one_weight b.value) own (omega arith)
+      (behind_word _ (codes "icmp") own f k is (behind_word _ (predicate_keyword pred) k g h is_pred (pair_weighs half a b h pair) at) whole)
+  op_weighs half (Select c a b) own (f, k, is, (x, k1, is_c, (m1, k2, comma1, (y, k3, is_a, (m2, z, comma2, is_b, w4), w3), w2), w1), whole) =
+      at_least _ (one_weight c.value + (one_weight a.value + one_weight b.value)) own (omega arith)
+      (behind_word _ (codes "select") own f k is
+      (behind_comma (one_weight c.value) (one_weight a.value + one_weight b.value) k x k2 (operand_weighs half c x is_c)
+      (behind_comma (one_weight a.value) (one_weight b.value) k2 y z (operand_weighs half a y is_a) (operand_weighs half b z is_b)
+      (w3 ∙ ap (λ (ts : List Token). y ++ ts) (w4 ∙ ap (λ (ts : List Token). ts ++ z) comma2)))
+      (w1 ∙ ap (λ (ts : List Token). x ++ ts) (w2 ∙ ap (λ (ts : List Token). ts ++ k2) comma1)))
+      whole)
+  op_weighs half (Convert cast a to) own (f, k, is, (x, y, is_a, is_to, at), whole) =
+      at_least _ (one_weight a.value + 0) own (omega arith)
+      (behind_word _ (cast_keyword cast) own f k is (rw at (join (one_weight a.value) 0 x y (operand_weighs half a x is_a) (to_weighs to y is_to))) whole)
+  op_weighs Source (Copy a) own is = absurd is
+  op_weighs Target (Copy a) own is = at_least _ (one_weight a.value) own (omega arith) (operand_weighs Target a own is)
 
--- ---- statements
+  -- ---- statements
 
-arguments_append : (xs ys : List RawArgument) → arguments_weight (xs ++ ys) ≡ arguments_weight xs + arguments_weight ys
-arguments_append [] ys = omega arith
-arguments_append (x ∷ xs) ys = omega (arith, arguments_append xs ys)
+  arguments_append : (xs ys : List RawArgument) → arguments_weight (xs ++ ys) ≡ arguments_weight xs + arguments_weight ys
+  arguments_append [] ys = omega arith
+  arguments_append (x ∷ xs) ys = omega (arith, arguments_append xs ys)
 
-statements_weigh : (half : Half) (statements : List RawStatement) (own : List Token) → SpellsStatements half statements own → Weighs (arguments_weight (arguments_among statements)) own
-statements_weigh half [] own is = rw is nothing
-statements_weigh half (s ∷ statements) own (front, back, one, more, whole) =
-    let w = arguments_weight (arguments_of s.op) in
-    let first : Weighs w front = rw one.spelled (assigned w s.line s.name one.op (op_weighs half s.op one.op one.is_op)) in
-    rw whole (at_least _ (w + arguments_weight (arguments_among statements)) (front ++ back) (omega (arith, arguments_append (arguments_of s.op) (arguments_among statements)))
-    (join w (arguments_weight (arguments_among statements)) front back first (statements_weigh half statements back more)))
+  statements_weigh : (half : Half) (statements : List RawStatement) (own : List Token) → SpellsStatements limits half statements own → Weighs (arguments_weight (arguments_among statements)) own
+  statements_weigh half [] own is = rw is nothing
+  statements_weigh half (s ∷ statements) own (front, back, one, more, whole) =
+      let w = arguments_weight (arguments_of s.op) in
+      let first : Weighs w front = rw one.spelled (assigned w s.line s.name one.op (op_weighs half s.op one.op one.is_op)) in
+      rw whole (at_least _ (w + arguments_weight (arguments_among statements)) (front ++ back) (omega (arith, arguments_append (arguments_of s.op) (arguments_among statements)))
+      (join w (arguments_weight (arguments_among statements)) front back first (statements_weigh half statements back more)))
 
--- ---- preconditions and witnesses
+  -- ---- preconditions and witnesses
 
-precondition_weighs : (p : Option RawPrecondition) (own : List Token) → Maybe SpellsPrecondition p own → Weighs (formulas_weight (option_map_or (λ p. p.formula) p [])) own
-precondition_weighs None own is = rw is nothing
-precondition_weighs (Some p) own (tokens, is, whole) = rw whole (precondition_led (formulas_weight p.formula) p.line tokens (formula_weighs is))
+  precondition_weighs : (p : Option RawPrecondition) (own : List Token) → Maybe (SpellsPrecondition limits) p own → Weighs (formulas_weight limits (option_map_or (λ p. p.formula) p [])) own
+  precondition_weighs None own is = rw is nothing
+  precondition_weighs (Some p) own (tokens, is, whole) = rw whole (precondition_led (formulas_weight limits p.formula) p.line tokens (formula_weighs limits is))
 
-abbrev terms_weight : List (List RawNode) → ℕ
-terms_weight [] = 0
-terms_weight (t ∷ ts) = nodes_weight t + terms_weight ts
+  abbrev terms_weight : List (List RawNode) → ℕ
+  terms_weight [] = 0
+  terms_weight (t ∷ ts) = nodes_weight limits t + terms_weight ts
 
-more_weigh : (more : List (List RawNode)) (own : List Token) → SpellsMoreExpressions more own → Weighs (terms_weight more) own
-more_weigh [] own is = rw is nothing
-more_weigh (t ∷ more) own (front, back, one, others, whole) =
-    rw whole (light (nodes_weight t + terms_weight more) (Mark (codes ",") ∷ []) (front ++ back) (mark (codes ",")) (join (nodes_weight t) (terms_weight more) front back (term_weighs one) (more_weigh more back others)))
+  more_weigh : (more : List (List RawNode)) (own : List Token) → SpellsMoreExpressions limits more own → Weighs (terms_weight more) own
+  more_weigh [] own is = rw is nothing
+  more_weigh (t ∷ more) own (front, back, one, others, whole) =
+      rw whole (light (nodes_weight limits t + terms_weight more) (Mark (codes ",") ∷ []) (front ++ back) (mark (codes ",")) (join (nodes_weight limits t) (terms_weight more) front back (term_weighs limits one) (more_weigh more back others)))
 
-expressions_weigh : (all : List (List RawNode)) (own : List Token) → SpellsExpressions all own → Weighs (terms_weight all) own
-expressions_weigh [] own is = absurd is
-expressions_weigh (t ∷ more) own (front, back, one, others, whole) = rw whole (join (nodes_weight t) (terms_weight more) front back (term_weighs one) (more_weigh more back others))
+  expressions_weigh : (all : List (List RawNode)) (own : List Token) → SpellsExpressions limits all own → Weighs (terms_weight all) own
+  expressions_weigh [] own is = absurd is
+  expressions_weigh (t ∷ more) own (front, back, one, others, whole) = rw whole (join (nodes_weight limits t) (terms_weight more) front back (term_weighs limits one) (more_weigh more back others))
 
-witness_weighs : (w : Option RawWitness) (own : List Token) → Maybe SpellsWitness w own → Weighs (terms_weight (option_map_or (λ w. w.expressions) w [])) own
-witness_weighs None own is = rw is nothing
-witness_weighs (Some w) own (tokens, is, whole) = rw whole (witness_led (terms_weight w.expressions) w.line tokens (expressions_weigh w.expressions tokens is))
+  witness_weighs : (w : Option RawWitness) (own : List Token) → Maybe (SpellsWitness limits) w own → Weighs (terms_weight (option_map_or (λ w. w.expressions) w [])) own
+  witness_weighs None own is = rw is nothing
+  witness_weighs (Some w) own (tokens, is, whole) = rw whole (witness_led (terms_weight w.expressions) w.line tokens (expressions_weigh w.expressions tokens is))
 
--- ---- rules
+  -- ---- rules
 
-abbrev body_weight : RawRule → ℕ
-body_weight raw = formulas_weight (formula_of raw) + (terms_weight (expressions_of raw) + (arguments_weight (arguments_among raw.source) + arguments_weight (arguments_among raw.target)))
+  abbrev body_weight : RawRule → ℕ
+  body_weight raw = formulas_weight limits (formula_of raw) + (terms_weight (expressions_of raw) + (arguments_weight (arguments_among raw.source) + arguments_weight (arguments_among raw.target)))
 
-body_weighs : (raw : RawRule) (own : List Token) (s : SpellsRule raw own) → Weighs (body_weight raw) (s.precondition ++ (s.witness ++ (s.source ++ Line s.arrow_line ∷ Arrow ∷ s.target)))
-body_weighs raw own s =
-    join _ _ s.precondition _ (precondition_weighs raw.precondition s.precondition s.is_precondition)
-    (join _ _ s.witness _ (witness_weighs raw.witness s.witness s.is_witness)
-    (join _ _ s.source _ (statements_weigh Source raw.source s.source s.is_source.spelled)
-    (arrow_led _ s.arrow_line s.target (statements_weigh Target raw.target s.target s.is_target.spelled))))
+  body_weighs : (raw : RawRule) (own : List Token) (s : SpellsRule limits raw own) → Weighs (body_weight raw) (s.precondition ++ (s.witness ++ (s.source ++ Line s.arrow_line ∷ Arrow ∷ s.target)))
+  body_weighs raw own s =
+      join _ _ s.precondition _ (precondition_weighs raw.precondition s.precondition s.is_precondition)
+      (join _ _ s.witness _ (witness_weighs raw.witness s.witness s.is_witness)
+      (join _ _ s.source _ (statements_weigh Source raw.source s.source s.is_source.spelled)
+      (arrow_led _ s.arrow_line s.target (statements_weigh Target raw.target s.target s.is_target.spelled))))
 
--- ---- the same weights, by kinds
+  -- ---- the same weights, by kinds
 
-argument_weight-is : (a : RawArgument) → one_weight a ≡ argument_weight a + sum_by (λ t. sum_by node_weight t) (terms_of_argument a)
-argument_weight-is (arguments.Register name) = refl
-argument_weight-is (arguments.Literal z) = refl
-argument_weight-is (arguments.Truth b) = refl
-argument_weight-is (arguments.Constant name) = refl
-argument_weight-is arguments.Undef = refl
-argument_weight-is (arguments.Term t) = omega (arith, nodes_weight-is t)
+  argument_weight-is : (a : RawArgument) → one_weight a ≡ argument_weight a + sum_by (λ t. sum_by node_weight t) (terms_of_argument a)
+  argument_weight-is (arguments.Register name) = refl
+  argument_weight-is (arguments.Literal z) = refl
+  argument_weight-is (arguments.Truth b) = refl
+  argument_weight-is (arguments.Constant name) = refl
+  argument_weight-is arguments.Undef = refl
+  argument_weight-is (arguments.Term t) = omega (arith, nodes_weight-is limits t)
 
-arguments_weight-is : (more : List RawArgument) → arguments_weight more ≡ sum_by argument_weight more + sum_by (λ t. sum_by node_weight t) (flat_map terms_of_argument more)
-arguments_weight-is [] = refl
-arguments_weight-is (a ∷ more) =
-    omega (arith, argument_weight-is a, arguments_weight-is more, sum_by-cons argument_weight a more, sum_by-append (λ (t : List RawNode). sum_by node_weight t) (terms_of_argument a) (flat_map terms_of_argument more))
+  arguments_weight-is : (more : List RawArgument) → arguments_weight more ≡ sum_by argument_weight more + sum_by (λ t. sum_by node_weight t) (flat_map terms_of_argument more)
+  arguments_weight-is [] = refl
+  arguments_weight-is (a ∷ more) =
+      omega (arith, argument_weight-is a, arguments_weight-is more, sum_by-cons argument_weight a more, sum_by-append (λ (t : List RawNode). sum_by node_weight t) (terms_of_argument a) (flat_map terms_of_argument more))
 
-terms_weight-is : (ts : List (List RawNode)) → terms_weight ts ≡ sum_by (λ t. sum_by node_weight t) ts
-terms_weight-is [] = refl
-terms_weight-is (t ∷ ts) = omega (arith, nodes_weight-is t, terms_weight-is ts, sum_by-cons (λ (t : List RawNode). sum_by node_weight t) t ts)
+  terms_weight-is : (ts : List (List RawNode)) → terms_weight ts ≡ sum_by (λ t. sum_by node_weight t) ts
+  terms_weight-is [] = refl
+  terms_weight-is (t ∷ ts) = omega (arith, nodes_weight-is limits t, terms_weight-is ts, sum_by-cons (λ (t : List RawNode). sum_by node_weight t) t ts)
 
-raw_within : (raw : RawRule) → raw_weight raw ≤ body_weight raw
-raw_within raw =
-    let g : List RawNode → ℕ = λ t. sum_by node_weight t in
-    let halves : sum_by argument_weight (arguments_among (raw.source ++ raw.target)) ≡ sum_by argument_weight (arguments_among raw.source) + sum_by argument_weight (arguments_among raw.target) =
-    ap (sum_by argument_weight) (flat_map-append (λ (s : RawStatement). arguments_of s.op) raw.source raw.target) ∙ sum_by-append argument_weight (arguments_among raw.source) (arguments_among raw.target) in
-    let terms = sum_by-append g (terms_of raw) (expressions_of raw) in
-    let constant = sum_by-append g (target_terms raw) (flat_map terms_of_formula (formula_of raw)) in
-    omega (arith, halves, terms, constant, arguments_weight-is (arguments_among raw.source), arguments_weight-is (arguments_among raw.target), terms_weight-is (expressions_of raw), formulas_weight-is (formula_of raw))
+  raw_within : (raw : RawRule) → raw_weight raw ≤ body_weight raw
+  raw_within raw =
+      let g : List RawNode → ℕ = λ t. sum_by node_weight t in
+      let halves : sum_by argument_weight (arguments_among (raw.source ++ raw.target)) ≡ sum_by argument_weight (arguments_among raw.source) + sum_by argument_weight (arguments_among raw.target) =
+      ap (sum_by argument_weight) (flat_map-append (λ (s : RawStatement). arguments_of s.op) raw.source raw.target) ∙ sum_by-append argument_weight (arguments_among raw.source) (arguments_among raw.target) in
+      let terms = sum_by-append g (terms_of raw) (expressions_of raw) in
+      let constant = sum_by-append g (target_terms raw) (flat_map terms_of_formula (formula_of raw)) in
+      omega (arith, halves, terms, constant, arguments_weight-is (arguments_among raw.source), arguments_weight-is (arguments_among raw.target), terms_weight-is (expressions_of raw), formulas_weight-is limits (formula_of raw))
 
 -- ---- texts
 
@@ -228,19 +230,19 @@ one_more first raws small others zero raw at = let same : first ≡ raw = cc in 
 one_more first raws small others (suc k) raw at = others k raw at
 
 -- the tokens of rules are tokens of texts
-pub spelled_of_text : (raws : List RawRule) (tokens : List Token) → SpellsRules raws tokens → AreOfText tokens
-spelled_of_text [] tokens is = subst AreOfText (sym is) tt
-spelled_of_text (raw ∷ raws) tokens (front, back, s, more, whole) =
-    let own : AreOfText front = subst AreOfText (sym s.spelled) (tt, (tt, (tt, (body_weighs raw front s).of_text))) in
-    subst AreOfText (sym whole) (of_both front back own (spelled_of_text raws back more))
+pub spelled_of_text : (limits : Limits) (raws : List RawRule) (tokens : List Token) → SpellsRules limits raws tokens → AreOfText tokens
+spelled_of_text limits [] tokens is = subst AreOfText (sym is) tt
+spelled_of_text limits (raw ∷ raws) tokens (front, back, s, more, whole) =
+    let own : AreOfText front = subst AreOfText (sym s.spelled) (tt, (tt, (tt, (body_weighs limits raw front s).of_text))) in
+    subst AreOfText (sym whole) (of_both front back own (spelled_of_text limits raws back more))
 
-rules_small : (raws : List RawRule) (own tokens : List Token) (room : ℕ) → SpellsRules raws own → own ≡ limited_to room false tokens → AreSmall raws own tokens
+rules_small : (raws : List RawRule) (own tokens : List Token) (room : ℕ) → SpellsRules rule_limits raws own → own ≡ limited_to room false tokens → AreSmall raws own tokens
 rules_small [] own tokens room is e = record { same = none_limited room tokens (sym is ∙ e) ∙ sym is; small = λ k raw at. absurd cc }
 rules_small (raw ∷ raws) own tokens room (front, back, s, more, whole) e =
     let body = s.precondition ++ (s.witness ++ (s.source ++ Line s.arrow_line ∷ Arrow ∷ s.target)) in
     let spelled : own ≡ Line raw.line ∷ Head (codes "Name:") ∷ Name raw.name ∷ body ++ back = whole ∙ ap (λ (ts : List Token). ts ++ back) s.spelled in
-    let weighs = body_weighs raw front s in
-    let begins = begins_of back (spelled_of_text raws back more) in
+    let weighs = body_weighs rule_limits raw front s in
+    let begins = begins_of back (spelled_of_text rule_limits raws back more) in
     let a = step room false (Line raw.line) (Head (codes "Name:") ∷ Name raw.name ∷ body ++ back) tokens tt (sym spelled ∙ e) in
     let b = step a.left true (Head (codes "Name:")) (Name raw.name ∷ body ++ back) a.others tt a.limited in
     let c = step b.left false (Name raw.name) (body ++ back) b.others (first_of body back weighs.of_text begins) b.limited in
@@ -251,10 +253,10 @@ rules_small (raw ∷ raws) own tokens room (front, back, s, more, whole) e =
     let three : b.left ≡ c.left = number_same _ _ c.kept in
     record {
       same = behind_one (Line raw.line) tokens a.others _ a.is (behind_one (Head (codes "Name:")) a.others b.others _ b.is (behind_one (Name raw.name) b.others c.others _ c.is (d.is ∙ ap (λ (ts : List Token). body ++ ts) rest.same))) ∙ sym spelled;
-      small = one_more raw raws (omega (arith, raw_within raw, most, two, three)) rest.small;
+      small = one_more raw raws (omega (arith, raw_within rule_limits raw, most, two, three)) rest.small;
     }
 
-pub spelled_whole : (raws : List RawRule) (tokens : List Token) → SpellsRules raws (limited tokens) → limited tokens ≡ tokens
+pub spelled_whole : (raws : List RawRule) (tokens : List Token) → SpellsRules rule_limits raws (limited tokens) → limited tokens ≡ tokens
 spelled_whole raws tokens is = let a = rules_small raws (limited tokens) tokens most_nodes is refl in sym a.same
 
 pub small_rules : WrittenRulesAreSmall

@@ -1,9 +1,5 @@
--- The limits of a rule as written.
+-- The limit of how much stands in a rule as written.
 use Rattle.std.specs.Prelude.{ℕ}
-
--- the most statements of a half
-abbrev pub most_statements : ℕ
-most_statements = 32
 
 -- the most operands, literals, names, operators and functions
 abbrev pub most_nodes : ℕ

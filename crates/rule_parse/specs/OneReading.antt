@@ -9,11 +9,12 @@ use Rattle.rule_parse.specs.Limits.{most_nodes}
 use Rattle.rule_parse.specs.RuleReaders.{all_rules}
 use Rattle.rule_parse.specs.Text.{IsWritten, IsTextFault}
 use Rattle.rule_parse.specs.Weight.{raw_weight}
+use Rattle.rule_tokens.specs.Limits.{Limits}
 use Rattle.rule_tokens.specs.Tokens.{Token}
 
--- reading from left to right answers rules exactly where the grammar spells them
+-- reading from left to right answers rules exactly where the grammar spells them, within any limits
 abbrev pub RulesAreReadAsSpelled : Type 0
-RulesAreReadAsSpelled = (last : ℕ) (tokens : List Token) (raws : List RawRule) → (all_rules last tokens ≡ Ok raws) ↔ SpellsRules raws tokens
+RulesAreReadAsSpelled = (limits : Limits) (last : ℕ) (tokens : List Token) (raws : List RawRule) → (all_rules limits last tokens ≡ Ok raws) ↔ SpellsRules limits raws tokens
 
 -- a text has one list of rules or one fault, and never both
 pub record TextsHaveOneReadingOrFault : Type 0 where

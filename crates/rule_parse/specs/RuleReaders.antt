@@ -27,56 +27,55 @@ use Rattle.rule_parse.specs.declared.word.Operation.{Operation}
 use Rattle.rule_parse.specs.declared.word.Operation.TheVariants as operations
 use Rattle.rule_terms.specs.declared.raw.RawNode.{RawNode}
 use Rattle.rule_terms.specs.declared.place.TermPlace.TheVariants.{Constant, Witness}
-use Rattle.rule_terms.specs.Grammar.{most_nested}
 use Rattle.rule_terms.specs.TermReaders.{mark_at, term_at}
 use Rattle.rule_terms.specs.FormulaReaders.{formula_at}
 use Rattle.rule_terms.specs.Chains.{Reader, chain_at}
 use Rattle.scan.specs.RuleTokens.{is_constant}
 use Rattle.rule_tokens.specs.Steps.{◌>>=◌}
-use Rattle.rule_parse.specs.Limits.{most_statements}
 use Rattle.rule_tokens.specs.PartReaders.{Read, fault, unexpected, misplaced_word, left_out, or_left_out, name_within, type_at, maybe_type, line_end}
 use Rattle.rule_tokens.specs.Numbers.{literal_value}
 use Rattle.rule_tokens.specs.Tokens.{Token, Line, Head, Name, Register, Word, Number, Arrow}
 use Rattle.rule_parse.specs.Keywords.{operation_in, source_word_in, argument_of}
+use Rattle.rule_tokens.specs.Limits.{Limits}
 
 -- ---- operands
 
 -- a register
-abbrev pub register_at : ℕ → List ℕ → List Token → Read RawArgument
-register_at line name rest = name_within line name >>= λ held. Ok (arguments.Register held, rest)
+abbrev pub register_at : Limits → ℕ → List ℕ → List Token → Read RawArgument
+register_at limits line name rest = name_within limits line name >>= λ held. Ok (arguments.Register held, rest)
 
 -- a word of the source: a constant, a truth or `undef`
 abbrev pub known_or_misplaced : ℕ → List ℕ → Option RawArgument → Result RawArgument RuleFault
 known_or_misplaced line word (Some value) = Ok value
 known_or_misplaced line word None = Err (misplaced_word line word)
 
-unfoldable pub source_word : ℕ → List ℕ → Result RawArgument RuleFault
-source_word line word =
-    if is_constant word then (name_within line word >>= λ held. Ok (arguments.Constant held))
+unfoldable pub source_word : Limits → ℕ → List ℕ → Result RawArgument RuleFault
+source_word limits line word =
+    if is_constant word then (name_within limits line word >>= λ held. Ok (arguments.Constant held))
     else known_or_misplaced line word (source_word_in word)
 
 -- a term, or the literal or the constant that is one
-abbrev pub term_argument_at : ℕ → List Token → Read RawArgument
-term_argument_at line tokens = term_at Constant most_nested line tokens >>= λ term. Ok (argument_of term.0, term.1)
+abbrev pub term_argument_at : Limits → ℕ → List Token → Read RawArgument
+term_argument_at limits line tokens = term_at limits Constant limits.nested line tokens >>= λ term. Ok (argument_of term.0, term.1)
 
 -- an operand without its type
-unfoldable pub argument_at : Half → ℕ → List Token → Read RawArgument
-argument_at Source line (Register name ∷ rest) = register_at line name rest
-argument_at Source line (Number text ∷ rest) = Ok (arguments.Literal (literal_value text), rest)
-argument_at Source line (Word word ∷ rest) = source_word line word >>= λ value. Ok (value, rest)
-argument_at Source line tokens = Err (unexpected line tokens)
-argument_at Target line (Register name ∷ rest) = register_at line name rest
-argument_at Target line (Word word ∷ rest) =
-    if bytes_eq word (codes "undef") then Ok (arguments.Undef, rest) else term_argument_at line (Word word ∷ rest)
-argument_at Target line tokens = term_argument_at line tokens
+unfoldable pub argument_at : Limits → Half → ℕ → List Token → Read RawArgument
+argument_at limits Source line (Register name ∷ rest) = register_at limits line name rest
+argument_at limits Source line (Number text ∷ rest) = Ok (arguments.Literal (literal_value text), rest)
+argument_at limits Source line (Word word ∷ rest) = source_word limits line word >>= λ value. Ok (value, rest)
+argument_at limits Source line tokens = Err (unexpected line tokens)
+argument_at limits Target line (Register name ∷ rest) = register_at limits line name rest
+argument_at limits Target line (Word word ∷ rest) =
+    if bytes_eq word (codes "undef") then Ok (arguments.Undef, rest) else term_argument_at limits line (Word word ∷ rest)
+argument_at limits Target line tokens = term_argument_at limits line tokens
 
 -- an operand with this type before it
-unfoldable pub typed_at : Half → ℕ → Option ℕ → List Token → Read RawOperand
-typed_at half line written tokens = argument_at half line tokens >>= λ value. Ok (record { written = written; value = value.0 }, value.1)
+unfoldable pub typed_at : Limits → Half → ℕ → Option ℕ → List Token → Read RawOperand
+typed_at limits half line written tokens = argument_at limits half line tokens >>= λ value. Ok (record { written = written; value = value.0 }, value.1)
 
 -- an operand, before which a type may be written
-abbrev pub operand_at : Half → ℕ → List Token → Read RawOperand
-operand_at half line tokens = typed_at half line (maybe_type tokens).0 (maybe_type tokens).1
+abbrev pub operand_at : Limits → Half → ℕ → List Token → Read RawOperand
+operand_at limits half line tokens = typed_at limits half line (maybe_type tokens).0 (maybe_type tokens).1
 
 -- the end of the line, maybe behind `to` and a type
 unfoldable pub to_at : ℕ → List Token → Read (Option ℕ)
@@ -105,19 +104,19 @@ flags_at op line before (token ∷ rest) = flag_or_end line before (next_flag op
 -- ---- what a statement computes
 
 -- two operands of one type, and the end of the line
-unfoldable pub pair_at : Half → ℕ → List Token → Read (RawOperand × RawOperand)
-pair_at half line tokens = do
-  left ← operand_at half line tokens
+unfoldable pub pair_at : Limits → Half → ℕ → List Token → Read (RawOperand × RawOperand)
+pair_at limits half line tokens = do
+  left ← operand_at limits half line tokens
   behind ← mark_at (codes ",") line left.1
-  right ← typed_at half line None behind
+  right ← typed_at limits half line None behind
   rest ← line_end line right.1
   Ok ((left.0, right.0), rest)
 
 -- a binary operation, behind its opcode
-unfoldable pub binary_at : Half → ℕ → Opcode → List Token → Read RawOp
-binary_at half line op tokens = do
+unfoldable pub binary_at : Limits → Half → ℕ → Opcode → List Token → Read RawOp
+binary_at limits half line op tokens = do
   flags ← flags_at op line no_flags tokens
-  pair ← pair_at half line flags.1
+  pair ← pair_at limits half line flags.1
   Ok (Binary op flags.0 pair.0.0 pair.0.1, pair.1)
 
 -- a predicate
@@ -126,73 +125,73 @@ pred_at line (Word word ∷ rest) = or_left_out line word (pred_in word) rest
 pred_at line tokens = Err (unexpected line tokens)
 
 -- a comparison, behind `icmp`
-unfoldable pub compare_at : Half → ℕ → List Token → Read RawOp
-compare_at half line tokens = do
+unfoldable pub compare_at : Limits → Half → ℕ → List Token → Read RawOp
+compare_at limits half line tokens = do
   pred ← pred_at line tokens
-  pair ← pair_at half line pred.1
+  pair ← pair_at limits half line pred.1
   Ok (Compare pred.0 pair.0.0 pair.0.1, pair.1)
 
 -- a choice, behind `select`
-unfoldable pub select_at : Half → ℕ → List Token → Read RawOp
-select_at half line tokens = do
-  condition ← operand_at half line tokens
+unfoldable pub select_at : Limits → Half → ℕ → List Token → Read RawOp
+select_at limits half line tokens = do
+  condition ← operand_at limits half line tokens
   first ← mark_at (codes ",") line condition.1
-  if_true ← operand_at half line first
+  if_true ← operand_at limits half line first
   second ← mark_at (codes ",") line if_true.1
-  if_false ← operand_at half line second
+  if_false ← operand_at limits half line second
   rest ← line_end line if_false.1
   Ok (Select condition.0 if_true.0 if_false.0, rest)
 
 -- a cast, behind its opcode
-unfoldable pub convert_at : Half → ℕ → Cast → List Token → Read RawOp
-convert_at half line cast tokens = do
-  from ← operand_at half line tokens
+unfoldable pub convert_at : Limits → Half → ℕ → Cast → List Token → Read RawOp
+convert_at limits half line cast tokens = do
+  from ← operand_at limits half line tokens
   to ← to_at line from.1
   Ok (Convert cast from.0 to.0, to.1)
 
 -- a copy
-unfoldable pub copy_at : ℕ → List Token → Read RawOp
-copy_at line tokens = do
-  operand ← operand_at Target line tokens
+unfoldable pub copy_at : Limits → ℕ → List Token → Read RawOp
+copy_at limits line tokens = do
+  operand ← operand_at limits Target line tokens
   rest ← line_end line operand.1
   Ok (Copy operand.0, rest)
 
 -- behind its opcode
-abbrev pub operation_at : Half → ℕ → Operation → List Token → Read RawOp
-operation_at half line (operations.Binary op) tokens = binary_at half line op tokens
-operation_at half line operations.Compare tokens = compare_at half line tokens
-operation_at half line operations.Select tokens = select_at half line tokens
-operation_at half line (operations.Convert cast) tokens = convert_at half line cast tokens
+abbrev pub operation_at : Limits → Half → ℕ → Operation → List Token → Read RawOp
+operation_at limits half line (operations.Binary op) tokens = binary_at limits half line op tokens
+operation_at limits half line operations.Compare tokens = compare_at limits half line tokens
+operation_at limits half line operations.Select tokens = select_at limits half line tokens
+operation_at limits half line (operations.Convert cast) tokens = convert_at limits half line cast tokens
 
 -- where it begins with no opcode: a copy, in the target
-abbrev pub other_at : Half → ℕ → List Token → Read RawOp
-other_at Source line tokens = Err (left_out line tokens)
-other_at Target line tokens = copy_at line tokens
+abbrev pub other_at : Limits → Half → ℕ → List Token → Read RawOp
+other_at limits Source line tokens = Err (left_out line tokens)
+other_at limits Target line tokens = copy_at limits line tokens
 
-abbrev pub op_word : Half → ℕ → List ℕ → Option Operation → List Token → Read RawOp
-op_word half line word (Some operation) rest = operation_at half line operation rest
-op_word half line word None rest = other_at half line (Word word ∷ rest)
+abbrev pub op_word : Limits → Half → ℕ → List ℕ → Option Operation → List Token → Read RawOp
+op_word limits half line word (Some operation) rest = operation_at limits half line operation rest
+op_word limits half line word None rest = other_at limits half line (Word word ∷ rest)
 
-unfoldable pub op_at : Half → ℕ → List Token → Read RawOp
-op_at half line (Word word ∷ rest) = op_word half line word (operation_in word) rest
-op_at half line tokens = other_at half line tokens
+unfoldable pub op_at : Limits → Half → ℕ → List Token → Read RawOp
+op_at limits half line (Word word ∷ rest) = op_word limits half line word (operation_in word) rest
+op_at limits half line tokens = other_at limits half line tokens
 
 -- the statement of a register, behind it
-unfoldable pub statement_at : Half → ℕ → List ℕ → List Token → Read RawStatement
-statement_at half line register tokens = do
-  name ← name_within line register
+unfoldable pub statement_at : Limits → Half → ℕ → List ℕ → List Token → Read RawStatement
+statement_at limits half line register tokens = do
+  name ← name_within limits line register
   behind ← mark_at (codes "=") line tokens
-  op ← op_at half line behind
+  op ← op_at limits half line behind
   Ok (record { line = line; name = name; op = op.0 }, op.1)
 
 -- Statements as long as a line begins with a register, and room for so many more.
-unfoldable pub statements_at : ℕ → Half → List Token → Read (List RawStatement)
-statements_at zero half (Line line ∷ Register name ∷ rest) = Err (fault line TooMany)
-statements_at (suc room) half (Line line ∷ Register name ∷ rest) = do
-  first ← statement_at half line name rest
-  others ← statements_at room half first.1
+unfoldable pub statements_at : Limits → ℕ → Half → List Token → Read (List RawStatement)
+statements_at limits zero half (Line line ∷ Register name ∷ rest) = Err (fault line TooMany)
+statements_at limits (suc room) half (Line line ∷ Register name ∷ rest) = do
+  first ← statement_at limits half line name rest
+  others ← statements_at limits room half first.1
   Ok (first.0 ∷ others.0, others.1)
-statements_at room half tokens = Ok ([], tokens)
+statements_at limits room half tokens = Ok ([], tokens)
 
 -- no statement begins here
 abbrev pub IsNoStatement : List Token → Type 0
@@ -207,52 +206,52 @@ unexpected_line last (Line line ∷ tokens) = unexpected line tokens
 unexpected_line last tokens = unexpected last tokens
 
 -- the name, behind its head
-abbrev pub name_text : ℕ → List Token → Read (List ℕ)
-name_text line (Name [] ∷ rest) = Err (fault line Syntax)
-name_text line (Name (b ∷ text) ∷ rest) = name_within line (b ∷ text) >>= λ name. Ok (name, rest)
-name_text line tokens = Err (unexpected line tokens)
+abbrev pub name_text : Limits → ℕ → List Token → Read (List ℕ)
+name_text limits line (Name [] ∷ rest) = Err (fault line Syntax)
+name_text limits line (Name (b ∷ text) ∷ rest) = name_within limits line (b ∷ text) >>= λ name. Ok (name, rest)
+name_text limits line tokens = Err (unexpected line tokens)
 
 -- the line of the name, and the name
-unfoldable pub name_at : ℕ → List Token → Read (ℕ × List ℕ)
-name_at last (Line line ∷ Head head ∷ rest) =
-    if bytes_eq head (codes "Name:") then (name_text line rest >>= λ name. Ok ((line, name.0), name.1)) else Err (fault line Syntax)
-name_at last tokens = Err (unexpected_line last tokens)
+unfoldable pub name_at : Limits → ℕ → List Token → Read (ℕ × List ℕ)
+name_at limits last (Line line ∷ Head head ∷ rest) =
+    if bytes_eq head (codes "Name:") then (name_text limits line rest >>= λ name. Ok ((line, name.0), name.1)) else Err (fault line Syntax)
+name_at limits last tokens = Err (unexpected_line last tokens)
 
 -- the precondition, if one is next
-abbrev pub behind_precondition : ℕ → List Token → Read (Option RawPrecondition)
-behind_precondition line tokens = formula_at line tokens >>= λ formula. Ok (Some (record { line = line; formula = formula.0 }), formula.1)
+abbrev pub behind_precondition : Limits → ℕ → List Token → Read (Option RawPrecondition)
+behind_precondition limits line tokens = formula_at limits line tokens >>= λ formula. Ok (Some (record { line = line; formula = formula.0 }), formula.1)
 
-unfoldable pub precondition_at : List Token → Read (Option RawPrecondition)
-precondition_at (Line line ∷ Head head ∷ rest) = if bytes_eq head (codes "Pre:") then behind_precondition line rest else Ok (None, Line line ∷ Head head ∷ rest)
-precondition_at tokens = Ok (None, tokens)
+unfoldable pub precondition_at : Limits → List Token → Read (Option RawPrecondition)
+precondition_at limits (Line line ∷ Head head ∷ rest) = if bytes_eq head (codes "Pre:") then behind_precondition limits line rest else Ok (None, Line line ∷ Head head ∷ rest)
+precondition_at limits tokens = Ok (None, tokens)
 
 -- an expression of a witness, behind others
-abbrev pub expression_at : ℕ → Reader (List (List RawNode))
-expression_at line before tokens = term_at Witness most_nested line tokens >>= λ term. Ok (before ++ term.0 ∷ [], term.1)
+abbrev pub expression_at : Limits → ℕ → Reader (List (List RawNode))
+expression_at limits line before tokens = term_at limits Witness limits.nested line tokens >>= λ term. Ok (before ++ term.0 ∷ [], term.1)
 
-abbrev pub more_expressions : ℕ → Reader (List (List RawNode))
-more_expressions line before tokens = chain_at (codes ",") (expression_at line) before tokens
+abbrev pub more_expressions : Limits → ℕ → Reader (List (List RawNode))
+more_expressions limits line before tokens = chain_at (codes ",") (expression_at limits line) before tokens
 
 -- expressions behind each other, with `,` between them, and the end of the line
-unfoldable pub expressions_at : ℕ → List Token → Read (List (List RawNode))
-expressions_at line tokens = do
-  first ← expression_at line [] tokens
-  all ← more_expressions line first.0 first.1
+unfoldable pub expressions_at : Limits → ℕ → List Token → Read (List (List RawNode))
+expressions_at limits line tokens = do
+  first ← expression_at limits line [] tokens
+  all ← more_expressions limits line first.0 first.1
   rest ← line_end line all.1
   Ok (all.0, rest)
 
 -- the witness, if one is next
-abbrev pub behind_witness : ℕ → List Token → Read (Option RawWitness)
-behind_witness line tokens = expressions_at line tokens >>= λ all. Ok (Some (record { line = line; expressions = all.0 }), all.1)
+abbrev pub behind_witness : Limits → ℕ → List Token → Read (Option RawWitness)
+behind_witness limits line tokens = expressions_at limits line tokens >>= λ all. Ok (Some (record { line = line; expressions = all.0 }), all.1)
 
-unfoldable pub witness_at : List Token → Read (Option RawWitness)
-witness_at (Line line ∷ Head head ∷ rest) = if bytes_eq head (codes "Wit:") then behind_witness line rest else Ok (None, Line line ∷ Head head ∷ rest)
-witness_at tokens = Ok (None, tokens)
+unfoldable pub witness_at : Limits → List Token → Read (Option RawWitness)
+witness_at limits (Line line ∷ Head head ∷ rest) = if bytes_eq head (codes "Wit:") then behind_witness limits line rest else Ok (None, Line line ∷ Head head ∷ rest)
+witness_at limits tokens = Ok (None, tokens)
 
 -- one statement or more
-unfoldable pub source_at : ℕ → List Token → Read (List RawStatement)
-source_at last (Line line ∷ Register name ∷ rest) = statements_at most_statements Source (Line line ∷ Register name ∷ rest)
-source_at last tokens = Err (unexpected_line last tokens)
+unfoldable pub source_at : Limits → ℕ → List Token → Read (List RawStatement)
+source_at limits last (Line line ∷ Register name ∷ rest) = statements_at limits limits.statements Source (Line line ∷ Register name ∷ rest)
+source_at limits last tokens = Err (unexpected_line last tokens)
 
 -- the `=>` on a line of its own
 unfoldable pub arrow_at : ℕ → List Token → Result (List Token) RuleFault
@@ -260,29 +259,29 @@ arrow_at last (Line line ∷ Arrow ∷ rest) = line_end line rest
 arrow_at last tokens = Err (unexpected_line last tokens)
 
 -- one statement or more
-unfoldable pub target_at : ℕ → List Token → Read (List RawStatement)
-target_at last (Line line ∷ Register name ∷ rest) = statements_at most_statements Target (Line line ∷ Register name ∷ rest)
-target_at last tokens = Err (unexpected_line last tokens)
+unfoldable pub target_at : Limits → ℕ → List Token → Read (List RawStatement)
+target_at limits last (Line line ∷ Register name ∷ rest) = statements_at limits limits.statements Target (Line line ∷ Register name ∷ rest)
+target_at limits last tokens = Err (unexpected_line last tokens)
 
-unfoldable pub rule_at : ℕ → List Token → Read RawRule
-rule_at last tokens = do
-  name ← name_at last tokens
-  precondition ← precondition_at name.1
-  witness ← witness_at precondition.1
-  source ← source_at last witness.1
+unfoldable pub rule_at : Limits → ℕ → List Token → Read RawRule
+rule_at limits last tokens = do
+  name ← name_at limits last tokens
+  precondition ← precondition_at limits name.1
+  witness ← witness_at limits precondition.1
+  source ← source_at limits last witness.1
   behind ← arrow_at last source.1
-  target ← target_at last behind
+  target ← target_at limits last behind
   Ok (record { line = name.0.0; name = name.0.1; precondition = precondition.0; witness = witness.0; source = source.0; target = target.0 }, target.1)
 
 -- Rules up to the end of the text. The number bounds how many; that of the tokens is enough.
-unfoldable pub rules_at : ℕ → ℕ → List Token → Result (List RawRule) RuleFault
-rules_at n last [] = Ok []
-rules_at zero last (token ∷ tokens) = Err (fault last Syntax)
-rules_at (suc n) last (token ∷ tokens) = do
-  first ← rule_at last (token ∷ tokens)
-  others ← rules_at n last first.1
+unfoldable pub rules_at : Limits → ℕ → ℕ → List Token → Result (List RawRule) RuleFault
+rules_at limits n last [] = Ok []
+rules_at limits zero last (token ∷ tokens) = Err (fault last Syntax)
+rules_at limits (suc n) last (token ∷ tokens) = do
+  first ← rule_at limits last (token ∷ tokens)
+  others ← rules_at limits n last first.1
   Ok (first.0 ∷ others)
 
 -- all rules of these tokens
-abbrev pub all_rules : ℕ → List Token → Result (List RawRule) RuleFault
-all_rules last tokens = rules_at (length tokens) last tokens
+abbrev pub all_rules : Limits → ℕ → List Token → Result (List RawRule) RuleFault
+all_rules limits last tokens = rules_at limits (length tokens) last tokens

@@ -6,6 +6,7 @@ ghost use Rattle.refusal.specs.Refusals.{Gives};
 ghost use Rattle.rule_parse.specs.RuleReaders as parsing;
 ghost use Rattle.rule_tokens.specs.SeenTokens.{seen};
 ghost use Rattle.rule_tokens.specs.Steps.{Reads};
+ghost use Rattle.rule_tokens.specs.Limits.{rule_limits};
 
 use crate::half::Half;
 use crate::operand::{operand, result_type, typed};
@@ -56,7 +57,7 @@ fn pair(
     line: usize,
     tokens: &mut &[Token<'_>],
 ) -> Result<(RawOperand, RawOperand), RuleError>
-    ensures { Gives (λ x. (x, seen tokens.new.now)) result (parsing.pair_at half line (seen tokens.old.now)) }
+    ensures { Gives (λ x. (x, seen tokens.new.now)) result (parsing.pair_at rule_limits half line (seen tokens.old.now)) }
 {
     let left = operand(alloc, half, line, tokens)?;
     mark(",", line, tokens)?;
@@ -74,7 +75,7 @@ fn binary(
     opcode: Opcode,
     tokens: &mut &[Token<'_>],
 ) -> Result<RawOp, RuleError>
-    ensures { Gives (λ x. (x, seen tokens.new.now)) result (parsing.binary_at half line opcode (seen tokens.old.now)) }
+    ensures { Gives (λ x. (x, seen tokens.new.now)) result (parsing.binary_at rule_limits half line opcode (seen tokens.old.now)) }
 {
     let flags = flags(opcode, line, tokens)?;
     let (left, right) = pair(alloc, half, line, tokens)?;
@@ -106,7 +107,7 @@ fn comparison(
     line: usize,
     tokens: &mut &[Token<'_>],
 ) -> Result<RawOp, RuleError>
-    ensures { Gives (λ x. (x, seen tokens.new.now)) result (parsing.compare_at half line (seen tokens.old.now)) }
+    ensures { Gives (λ x. (x, seen tokens.new.now)) result (parsing.compare_at rule_limits half line (seen tokens.old.now)) }
 {
     let pred = predicate(alloc, line, tokens)?;
     let (left, right) = pair(alloc, half, line, tokens)?;
@@ -121,7 +122,7 @@ fn selection(
     line: usize,
     tokens: &mut &[Token<'_>],
 ) -> Result<RawOp, RuleError>
-    ensures { Gives (λ x. (x, seen tokens.new.now)) result (parsing.select_at half line (seen tokens.old.now)) }
+    ensures { Gives (λ x. (x, seen tokens.new.now)) result (parsing.select_at rule_limits half line (seen tokens.old.now)) }
 {
     let condition = operand(alloc, half, line, tokens)?;
     mark(",", line, tokens)?;
@@ -141,7 +142,7 @@ fn conversion(
     cast: Cast,
     tokens: &mut &[Token<'_>],
 ) -> Result<RawOp, RuleError>
-    ensures { Gives (λ x. (x, seen tokens.new.now)) result (parsing.convert_at half line cast (seen tokens.old.now)) }
+    ensures { Gives (λ x. (x, seen tokens.new.now)) result (parsing.convert_at rule_limits half line cast (seen tokens.old.now)) }
 {
     let from = operand(alloc, half, line, tokens)?;
     let to = result_type(alloc, line, tokens)?;
@@ -151,7 +152,7 @@ fn conversion(
 /// A copy.
 #[tactic(auto, unfolding(crate::specs::RuleReaders::copy_at))]
 fn copy(alloc: Global, line: usize, tokens: &mut &[Token<'_>]) -> Result<RawOp, RuleError>
-    ensures { Gives (λ x. (x, seen tokens.new.now)) result (parsing.copy_at line (seen tokens.old.now)) }
+    ensures { Gives (λ x. (x, seen tokens.new.now)) result (parsing.copy_at rule_limits line (seen tokens.old.now)) }
 {
     let operand = operand(alloc, Half::Target, line, tokens)?;
     line_end(line, *tokens)?;
@@ -166,7 +167,7 @@ fn behind_opcode(
     operation: Operation,
     tokens: &mut &[Token<'_>],
 ) -> Result<RawOp, RuleError>
-    ensures { Gives (λ x. (x, seen tokens.new.now)) result (parsing.operation_at half line operation (seen tokens.old.now)) }
+    ensures { Gives (λ x. (x, seen tokens.new.now)) result (parsing.operation_at rule_limits half line operation (seen tokens.old.now)) }
 {
     match operation {
         Operation::Binary(opcode) => binary(alloc, half, line, opcode, tokens),
@@ -183,7 +184,7 @@ fn other(
     line: usize,
     tokens: &mut &[Token<'_>],
 ) -> Result<RawOp, RuleError>
-    ensures { Gives (λ x. (x, seen tokens.new.now)) result (parsing.other_at half line (seen tokens.old.now)) }
+    ensures { Gives (λ x. (x, seen tokens.new.now)) result (parsing.other_at rule_limits half line (seen tokens.old.now)) }
 {
     match half {
         Half::Source => Err(misplaced(alloc, line, *tokens)),
@@ -199,7 +200,7 @@ pub(crate) fn op(
     line: usize,
     tokens: &mut &[Token<'_>],
 ) -> Result<RawOp, RuleError>
-    ensures { Gives (λ x. (x, seen tokens.new.now)) result (parsing.op_at half line (seen tokens.old.now)) }
+    ensures { Gives (λ x. (x, seen tokens.new.now)) result (parsing.op_at rule_limits half line (seen tokens.old.now)) }
 {
     let [Token::Word(word), rest @ ..] = *tokens else {
         return other(alloc, half, line, tokens);

@@ -6,6 +6,7 @@ ghost use Rattle.rule_tokens.specs.SeenTokens.{seen};
 ghost use Rattle.rule_parse.specs.declared.half.Half.TheVariants as halves;
 ghost use Rattle.rule_parse.specs.RuleReaders as parsing;
 ghost use Rattle.rule_parse.specs.Keywords as spelled;
+ghost use Rattle.rule_tokens.specs.Limits.{rule_limits};
 
 use crate::half::Half;
 use crate::limit::MOST_NESTED;
@@ -25,7 +26,7 @@ use std::alloc::{AllocError, Global};
 /// A word of the source: a constant, a truth or `undef`.
 #[tactic(auto, unfolding(crate::specs::RuleReaders::source_word))]
 fn source_word(alloc: Global, line: usize, word: &[u8]) -> Result<RawArgument, RuleError>
-    ensures { Gives (λ x. x) result (parsing.source_word line word.now) }
+    ensures { Gives (λ x. x) result (parsing.source_word rule_limits line word.now) }
 {
     if is_constant(word) {
         return Ok(RawArgument::Constant(name_within(alloc, line, word)?));
@@ -43,7 +44,7 @@ fn source_argument(
     line: usize,
     tokens: &mut &[Token<'_>],
 ) -> Result<RawArgument, RuleError>
-    ensures { Gives (λ x. (x, seen tokens.new.now)) result (parsing.argument_at halves.Source line (seen tokens.old.now)) }
+    ensures { Gives (λ x. (x, seen tokens.new.now)) result (parsing.argument_at rule_limits halves.Source line (seen tokens.old.now)) }
 {
     match *tokens {
         [Token::Register(name), rest @ ..] => {
@@ -83,7 +84,7 @@ fn term_argument(
     line: usize,
     tokens: &mut &[Token<'_>],
 ) -> Result<RawArgument, RuleError>
-    ensures { Gives (λ x. (x, seen tokens.new.now)) result (parsing.term_argument_at line (seen tokens.old.now)) }
+    ensures { Gives (λ x. (x, seen tokens.new.now)) result (parsing.term_argument_at rule_limits line (seen tokens.old.now)) }
 {
     let nodes = term(alloc, TermPlace::Constant, MOST_NESTED, line, tokens)?;
     Ok(argument_of(alloc, nodes)?)
@@ -96,7 +97,7 @@ fn target_argument(
     line: usize,
     tokens: &mut &[Token<'_>],
 ) -> Result<RawArgument, RuleError>
-    ensures { Gives (λ x. (x, seen tokens.new.now)) result (parsing.argument_at halves.Target line (seen tokens.old.now)) }
+    ensures { Gives (λ x. (x, seen tokens.new.now)) result (parsing.argument_at rule_limits halves.Target line (seen tokens.old.now)) }
 {
     match *tokens {
         [Token::Register(name), rest @ ..] => {
@@ -118,7 +119,7 @@ fn argument(
     line: usize,
     tokens: &mut &[Token<'_>],
 ) -> Result<RawArgument, RuleError>
-    ensures { Gives (λ x. (x, seen tokens.new.now)) result (parsing.argument_at half line (seen tokens.old.now)) }
+    ensures { Gives (λ x. (x, seen tokens.new.now)) result (parsing.argument_at rule_limits half line (seen tokens.old.now)) }
 {
     match half {
         Half::Source => source_argument(alloc, line, tokens),
@@ -135,7 +136,7 @@ pub(crate) fn typed(
     written: Option<Width>,
     tokens: &mut &[Token<'_>],
 ) -> Result<RawOperand, RuleError>
-    ensures { Gives (λ x. (x, seen tokens.new.now)) result (parsing.typed_at half line written (seen tokens.old.now)) }
+    ensures { Gives (λ x. (x, seen tokens.new.now)) result (parsing.typed_at rule_limits half line written (seen tokens.old.now)) }
 {
     let value = argument(alloc, half, line, tokens)?;
     Ok(RawOperand { written, value })
@@ -148,7 +149,7 @@ pub(crate) fn operand(
     line: usize,
     tokens: &mut &[Token<'_>],
 ) -> Result<RawOperand, RuleError>
-    ensures { Gives (λ x. (x, seen tokens.new.now)) result (parsing.operand_at half line (seen tokens.old.now)) }
+    ensures { Gives (λ x. (x, seen tokens.new.now)) result (parsing.operand_at rule_limits half line (seen tokens.old.now)) }
 {
     let written = maybe_type(tokens);
     typed(alloc, half, line, written, tokens)

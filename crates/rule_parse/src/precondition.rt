@@ -4,6 +4,7 @@ ghost use Rattle.std.specs.Prelude.{◌≡◌};
 ghost use Rattle.refusal.specs.Refusals.{Gives};
 ghost use Rattle.rule_tokens.specs.SeenTokens.{seen};
 ghost use Rattle.rule_parse.specs.RuleReaders as parsing;
+ghost use Rattle.rule_tokens.specs.Limits.{rule_limits};
 
 use crate::raw::RawPrecondition;
 use ops::keywords::is;
@@ -17,7 +18,7 @@ pub(crate) fn precondition(
     alloc: Global,
     tokens: &mut &[Token<'_>],
 ) -> Result<Option<RawPrecondition>, RuleError>
-    ensures { Gives (λ x. (x, seen tokens.new.now)) result (parsing.precondition_at (seen tokens.old.now)) }
+    ensures { Gives (λ x. (x, seen tokens.new.now)) result (parsing.precondition_at rule_limits (seen tokens.old.now)) }
 {
     match *tokens {
         [Token::Line(line), Token::Head(head), rest @ ..] if is(head, "Pre:") => {

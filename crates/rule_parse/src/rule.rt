@@ -7,6 +7,7 @@ ghost use Rattle.rule_parse.specs.RuleReaders.{IsNoStatement};
 ghost use Rattle.rule_tokens.specs.SeenTokens.{seen};
 ghost use Rattle.rule_tokens.specs.Steps.{Reads};
 ghost use Rattle.rule_tokens.specs.Tokens.{Line, Register};
+ghost use Rattle.rule_tokens.specs.Limits.{rule_limits};
 
 use crate::half::Half;
 use crate::precondition::precondition;
@@ -34,7 +35,7 @@ fn unexpected_line(last: usize, tokens: &[Token<'_>]) -> RuleFault
 
 /// The name of a rule, behind its head.
 fn name_text(alloc: Global, line: usize, tokens: &mut &[Token<'_>]) -> Result<Text, RuleError>
-    ensures { Gives (λ x. (x, seen tokens.new.now)) result (parsing.name_text line (seen tokens.old.now)) }
+    ensures { Gives (λ x. (x, seen tokens.new.now)) result (parsing.name_text rule_limits line (seen tokens.old.now)) }
 {
     match *tokens {
         [Token::Name([]), ..] => Err(refused(line, RuleFaultKind::Syntax)),
@@ -49,7 +50,7 @@ fn name_text(alloc: Global, line: usize, tokens: &mut &[Token<'_>]) -> Result<Te
 /// The line of a rule's name, and the name.
 #[tactic(auto, unfolding(crate::specs::RuleReaders::name_at))]
 fn name(alloc: Global, last: usize, tokens: &mut &[Token<'_>]) -> Result<(usize, Text), RuleError>
-    ensures { Gives (λ x. (x, seen tokens.new.now)) result (parsing.name_at last (seen tokens.old.now)) }
+    ensures { Gives (λ x. (x, seen tokens.new.now)) result (parsing.name_at rule_limits last (seen tokens.old.now)) }
 {
     match *tokens {
         [Token::Line(line), Token::Head(head), rest @ ..] => {
@@ -85,7 +86,7 @@ fn statements(
     half: Half,
     tokens: &mut &[Token<'_>],
 ) -> Result<List<RawStatement>, RuleError>
-    ensures { Gives (λ x. (x, seen tokens.new.now)) result (parsing.statements_at 32 half (seen tokens.old.now)) }
+    ensures { Gives (λ x. (x, seen tokens.new.now)) result (parsing.statements_at rule_limits 32 half (seen tokens.old.now)) }
 {
     let mut statements = List::new(alloc);
     while let Some((line, name)) = register(tokens) {
@@ -104,7 +105,7 @@ fn source(
     last: usize,
     tokens: &mut &[Token<'_>],
 ) -> Result<List<RawStatement>, RuleError>
-    ensures { Gives (λ x. (x, seen tokens.new.now)) result (parsing.source_at last (seen tokens.old.now)) }
+    ensures { Gives (λ x. (x, seen tokens.new.now)) result (parsing.source_at rule_limits last (seen tokens.old.now)) }
 {
     match *tokens {
         [Token::Line(_), Token::Register(_), ..] => statements(alloc, Half::Source, tokens),
@@ -133,7 +134,7 @@ fn target(
     last: usize,
     tokens: &mut &[Token<'_>],
 ) -> Result<List<RawStatement>, RuleError>
-    ensures { Gives (λ x. (x, seen tokens.new.now)) result (parsing.target_at last (seen tokens.old.now)) }
+    ensures { Gives (λ x. (x, seen tokens.new.now)) result (parsing.target_at rule_limits last (seen tokens.old.now)) }
 {
     match *tokens {
         [Token::Line(_), Token::Register(_), ..] => statements(alloc, Half::Target, tokens),
@@ -144,7 +145,7 @@ fn target(
 /// The first rule of a text.
 #[tactic(auto, unfolding(crate::specs::RuleReaders::rule_at))]
 fn rule(alloc: Global, last: usize, tokens: &mut &[Token<'_>]) -> Result<RawRule, RuleError>
-    ensures { Gives (λ x. (x, seen tokens.new.now)) result (parsing.rule_at last (seen tokens.old.now)) }
+    ensures { Gives (λ x. (x, seen tokens.new.now)) result (parsing.rule_at rule_limits last (seen tokens.old.now)) }
 {
     let (line, name) = name(alloc, last, tokens)?;
     let precondition = precondition(alloc, tokens)?;
@@ -168,7 +169,7 @@ pub(crate) fn rules(
     last: usize,
     tokens: &[Token<'_>],
 ) -> Result<Vec<RawRule>, RuleError>
-    ensures { Gives (λ x. x.items) result (parsing.all_rules last (seen tokens.now)) }
+    ensures { Gives (λ x. x.items) result (parsing.all_rules rule_limits last (seen tokens.now)) }
 {
     let mut rules = Vec::new(alloc);
     let mut rest = tokens;

@@ -4,6 +4,7 @@ ghost use Rattle.std.specs.Prelude.{◌≡◌};
 ghost use Rattle.refusal.specs.Refusals.{Gives};
 ghost use Rattle.rule_parse.specs.RuleReaders as parsing;
 ghost use Rattle.rule_tokens.specs.SeenTokens.{seen};
+ghost use Rattle.rule_tokens.specs.Limits.{rule_limits};
 
 use crate::half::Half;
 use crate::op::op;
@@ -21,7 +22,7 @@ pub(crate) fn statement(
     register: &[u8],
     tokens: &mut &[Token<'_>],
 ) -> Result<RawStatement, RuleError>
-    ensures { Gives (λ x. (x, seen tokens.new.now)) result (parsing.statement_at half line register.now (seen tokens.old.now)) }
+    ensures { Gives (λ x. (x, seen tokens.new.now)) result (parsing.statement_at rule_limits half line register.now (seen tokens.old.now)) }
 {
     let name = name_within(alloc, line, register)?;
     mark("=", line, tokens)?;

@@ -4,6 +4,7 @@ ghost use Rattle.std.specs.Prelude.{◌≡◌};
 ghost use Rattle.refusal.specs.Refusals.{Gives};
 ghost use Rattle.rule_tokens.specs.SeenTokens.{seen};
 ghost use Rattle.rule_parse.specs.RuleReaders as parsing;
+ghost use Rattle.rule_tokens.specs.Limits.{rule_limits};
 
 use crate::limit::MOST_NESTED;
 use crate::raw::RawWitness;
@@ -20,7 +21,7 @@ fn expression(
     expressions: &mut List<RawTerm>,
     tokens: &mut &[Token<'_>],
 ) -> Result<(), RuleError>
-    ensures { Gives (λ _. (expressions.new, seen tokens.new.now)) result (parsing.expression_at line expressions.old (seen tokens.old.now)) }
+    ensures { Gives (λ _. (expressions.new, seen tokens.new.now)) result (parsing.expression_at rule_limits line expressions.old (seen tokens.old.now)) }
 {
     let term = term(alloc, TermPlace::Witness, MOST_NESTED, line, tokens)?;
     expressions.push(term)?;
@@ -34,7 +35,7 @@ fn more_expressions(
     expressions: &mut List<RawTerm>,
     tokens: &mut &[Token<'_>],
 ) -> Result<(), RuleError>
-    ensures { Gives (λ _. (expressions.new, seen tokens.new.now)) result (parsing.more_expressions line expressions.old (seen tokens.old.now)) }
+    ensures { Gives (λ _. (expressions.new, seen tokens.new.now)) result (parsing.more_expressions rule_limits line expressions.old (seen tokens.old.now)) }
 {
     while takes(",", tokens) {
         expression(alloc, line, expressions, tokens)?;
@@ -49,7 +50,7 @@ fn expressions(
     line: usize,
     tokens: &mut &[Token<'_>],
 ) -> Result<List<RawTerm>, RuleError>
-    ensures { Gives (λ x. (x, seen tokens.new.now)) result (parsing.expressions_at line (seen tokens.old.now)) }
+    ensures { Gives (λ x. (x, seen tokens.new.now)) result (parsing.expressions_at rule_limits line (seen tokens.old.now)) }
 {
     let mut expressions = List::new(alloc);
     expression(alloc, line, &mut expressions, tokens)?;
@@ -64,7 +65,7 @@ pub(crate) fn witness(
     alloc: Global,
     tokens: &mut &[Token<'_>],
 ) -> Result<Option<RawWitness>, RuleError>
-    ensures { Gives (λ x. (x, seen tokens.new.now)) result (parsing.witness_at (seen tokens.old.now)) }
+    ensures { Gives (λ x. (x, seen tokens.new.now)) result (parsing.witness_at rule_limits (seen tokens.old.now)) }
 {
     match *tokens {
         [Token::Line(line), Token::Head(head), rest @ ..] if is(head, "Wit:") => {

@@ -18,143 +18,145 @@ use Rattle.rule_terms.proofs.Chains.{chain-more, chain-done}
 use Rattle.rule_terms.proofs.Meanings.{operator_in-of, operator_at-of}
 use Rattle.rule_terms.proofs.Readings.{Adds, join_made, unary_made, operand_shorter, operand_at-is, behind_at-is, primary_at-is}
 use Rattle.rule_terms.proofs.Starts.{mark_at-of, measured_at-of, start_at-of}
+use Rattle.rule_tokens.specs.Limits.{Limits}
 
--- no operator of these levels is next
-abbrev NotTighter : ℕ → List Token → Type 0
-NotTighter level rest = (k : ℕ) → k < level → operator_at k rest ≡ None
+module _ (limits : Limits) where
+  -- no operator of these levels is next
+  abbrev NotTighter : ℕ → List Token → Type 0
+  NotTighter level rest = (k : ℕ) → k < level → operator_at k rest ≡ None
 
--- what goes on with an operand of the level, by operators of this level alone
-abbrev goes_on_at : Reader → ℕ → Reader
-goes_on_at primary zero left tokens = Ok (left, tokens)
-goes_on_at primary (suc level) left tokens = whole_chain_at (operand_at primary level) (suc level) left tokens
+  -- what goes on with an operand of the level, by operators of this level alone
+  abbrev goes_on_at : Reader → ℕ → Reader
+  goes_on_at primary zero left tokens = Ok (left, tokens)
+  goes_on_at primary (suc level) left tokens = whole_chain_at (operand_at primary level) (suc level) left tokens
 
-goes_on-done : (primary : Reader) (level : ℕ) (left : List RawNode) (tokens : List Token) → operator_at level tokens ≡ None → goes_on_at primary level left tokens ≡ Ok (left, tokens)
-goes_on-done primary zero left tokens none = refl
-goes_on-done primary (suc level) left tokens none = chain-done (operand_at primary level) (suc level) left tokens none
+  goes_on-done : (primary : Reader) (level : ℕ) (left : List RawNode) (tokens : List Token) → operator_at level tokens ≡ None → goes_on_at primary level left tokens ≡ Ok (left, tokens)
+  goes_on-done primary zero left tokens none = refl
+  goes_on-done primary (suc level) left tokens none = chain-done limits (operand_at primary level) (suc level) left tokens none
 
-bind_assoc : {A B C : Type 0} (r : Result A RuleFault) (f : A → Result B RuleFault) (g : B → Result C RuleFault) → (r >>= λ x. (f x >>= g)) ≡ ((r >>= f) >>= g)
-bind_assoc (Ok x) f g = refl
-bind_assoc (Err e) f g = refl
+  bind_assoc : {A B C : Type 0} (r : Result A RuleFault) (f : A → Result B RuleFault) (g : B → Result C RuleFault) → (r >>= λ x. (f x >>= g)) ≡ ((r >>= f) >>= g)
+  bind_assoc (Ok x) f g = refl
+  bind_assoc (Err e) f g = refl
 
-operand_at-more : (primary : Reader) (level : ℕ) (before : List RawNode) (tokens : List Token) → operand_at primary (suc level) before tokens ≡ (operand_at primary level before tokens >>= λ x. whole_chain_at (operand_at primary level) (suc level) x.0 x.1)
-unfolding behind_at
-operand_at-more primary level before tokens = bind_assoc (primary before tokens) (λ x. behind_at primary level x.0 x.1) (λ x. whole_chain_at (operand_at primary level) (suc level) x.0 x.1)
+  operand_at-more : (primary : Reader) (level : ℕ) (before : List RawNode) (tokens : List Token) → operand_at primary (suc level) before tokens ≡ (operand_at primary level before tokens >>= λ x. whole_chain_at (operand_at primary level) (suc level) x.0 x.1)
+  unfolding behind_at
+  operand_at-more primary level before tokens = bind_assoc (primary before tokens) (λ x. behind_at primary level x.0 x.1) (λ x. whole_chain_at (operand_at primary level) (suc level) x.0 x.1)
 
-alone : (primary : Reader) (before : List RawNode) (tokens : List Token) → operand_at primary 0 before tokens ≡ primary before tokens
-unfolding behind_at
-alone primary before tokens = same (primary before tokens)
-  where
-    same : (r : Result (List RawNode × List Token) RuleFault) → (r >>= λ x. behind_at primary 0 x.0 x.1) ≡ r
-    same (Ok x) = refl
-    same (Err e) = refl
+  alone : (primary : Reader) (before : List RawNode) (tokens : List Token) → operand_at primary 0 before tokens ≡ primary before tokens
+  unfolding behind_at
+  alone primary before tokens = same (primary before tokens)
+    where
+      same : (r : Result (List RawNode × List Token) RuleFault) → (r >>= λ x. behind_at primary 0 x.0 x.1) ≡ r
+      same (Ok x) = refl
+      same (Err e) = refl
 
--- an operator is of its own level alone
-other_level : (level : ℕ) (op : Opcode) (rest : List Token) → level_of op ≢ level → operator_at level (Mark (operator_mark op) ∷ rest) ≡ None
-unfolding operator_at
-other_level level op rest other = rw (operator_in-of op, ne_eqb (level_of op) level other) refl
+  -- an operator is of its own level alone
+  other_level : (level : ℕ) (op : Opcode) (rest : List Token) → level_of op ≢ level → operator_at level (Mark (operator_mark op) ∷ rest) ≡ None
+  unfolding operator_at
+  other_level level op rest other = rw (operator_in-of op, ne_eqb (level_of op) level other) refl
 
-closed : (level : ℕ) (rest : List Token) → operator_at level (Mark (codes ")") ∷ rest) ≡ None
-unfolding operator_at operator_in
-closed level rest = refl
+  closed : (level : ℕ) (rest : List Token) → operator_at level (Mark (codes ")") ∷ rest) ≡ None
+  unfolding operator_at operator_in
+  closed level rest = refl
 
-ended : (level : ℕ) (rest : List Token) → EndsTerm rest → operator_at level rest ≡ None
-unfolding operator_at
-ended level (Mark mark ∷ rest) ends = rw ends refl
-ended level rest ends = refl
+  ended : (level : ℕ) (rest : List Token) → EndsTerm rest → operator_at level rest ≡ None
+  unfolding operator_at
+  ended level (Mark mark ∷ rest) ends = rw ends refl
+  ended level rest ends = refl
 
--- ---- operands of the level 0
+  -- ---- operands of the level 0
 
-leaf_read : (place : TermPlace) (line nesting : ℕ) (before : List RawNode) (node : RawNode) (tokens rest : List Token) → start_at place line tokens ≡ Ok (Leaf node, rest) → primary_at place line nesting before tokens ≡ Ok (before ++ node ∷ [], rest)
-unfolding primary_at
-leaf_read place line zero before node tokens rest e = rw e refl
-leaf_read place line (suc nesting) before node tokens rest e = rw e refl
+  leaf_read : (place : TermPlace) (line nesting : ℕ) (before : List RawNode) (node : RawNode) (tokens rest : List Token) → start_at limits place line tokens ≡ Ok (Leaf node, rest) → primary_at limits place line nesting before tokens ≡ Ok (before ++ node ∷ [], rest)
+  unfolding primary_at
+  leaf_read place line zero before node tokens rest e = rw e refl
+  leaf_read place line (suc nesting) before node tokens rest e = rw e refl
 
-inside_read : (line : ℕ) (primary : Reader) (before nodes : List RawNode) (tokens rest : List Token) → operand_at primary loosest before (tokens ++ Mark (codes ")") ∷ rest) ≡ Ok (before ++ nodes, Mark (codes ")") ∷ rest) → inside_at line primary before ((tokens ++ Mark (codes ")") ∷ []) ++ rest) ≡ Ok (before ++ nodes, rest)
-inside_read line primary before nodes tokens rest e = rw (append_assoc tokens (Mark (codes ")") ∷ []) rest, e, mark_at-of (codes ")") line rest refl) refl
+  inside_read : (line : ℕ) (primary : Reader) (before nodes : List RawNode) (tokens rest : List Token) → operand_at primary loosest before (tokens ++ Mark (codes ")") ∷ rest) ≡ Ok (before ++ nodes, Mark (codes ")") ∷ rest) → inside_at line primary before ((tokens ++ Mark (codes ")") ∷ []) ++ rest) ≡ Ok (before ++ nodes, rest)
+  inside_read line primary before nodes tokens rest e = rw (append_assoc tokens (Mark (codes ")") ∷ []) rest, e, mark_at-of limits (codes ")") line rest refl) refl
 
-unary_as : (function : Function) (start : ℕ) (before nodes : List RawNode) → start ≡ length before → add_unary function (before ++ nodes) ≡ before ++ (nodes ++ raw_nodes.Unary function (last_place (start + length nodes)) ∷ [])
-unary_as function start before nodes e = rw e (unary_made function before nodes)
+  unary_as : (function : Function) (start : ℕ) (before nodes : List RawNode) → start ≡ length before → add_unary function (before ++ nodes) ≡ before ++ (nodes ++ raw_nodes.Unary function (last_place (start + length nodes)) ∷ [])
+  unary_as function start before nodes e = rw e (unary_made limits function before nodes)
 
-join_as : (op : Opcode) (start : ℕ) (before left right : List RawNode) → start ≡ length before → join op (before ++ left) ((before ++ left) ++ right) ≡ before ++ (left ++ right ++ raw_nodes.Binary op (last_place (start + length left)) (last_place (start + length left + length right)) ∷ [])
-join_as op start before left right e = rw e (join_made op before left right)
+  join_as : (op : Opcode) (start : ℕ) (before left right : List RawNode) → start ≡ length before → join op (before ++ left) ((before ++ left) ++ right) ≡ before ++ (left ++ right ++ raw_nodes.Binary op (last_place (start + length left)) (last_place (start + length left + length right)) ∷ [])
+  join_as op start before left right e = rw e (join_made limits op before left right)
 
-starts_behind : (start : ℕ) (before left : List RawNode) → start ≡ length before → start + length left ≡ length (before ++ left)
-starts_behind start before left e = omega (arith, e, length-append before left)
+  starts_behind : (start : ℕ) (before left : List RawNode) → start ≡ length before → start + length left ≡ length (before ++ left)
+  starts_behind start before left e = omega (arith, e, length-append before left)
 
--- ---- terms
+  -- ---- terms
 
-pub spelled_read : {place : TermPlace} {nesting start level : ℕ} {nodes : List RawNode} {own : List Token} → SpellsTerm place nesting start level nodes own → (line : ℕ) (before : List RawNode) (rest : List Token) → start ≡ length before → NotTighter level rest
-    → operand_at (primary_at place line nesting) level before (own ++ rest) ≡ goes_on_at (primary_at place line nesting) level (before ++ nodes) rest
-unfolding primary_at
-spelled_read {place = place} {nesting = nesting} (leaf node own s) line before rest e next =
-    alone (primary_at place line nesting) before (own ++ rest) ∙ leaf_read place line nesting before node (own ++ rest) rest (start_at-of place line (Leaf node) (own ++ rest) rest (own, s, refl))
-spelled_read {place = place} (width {nesting = nesting} name le) line before rest e next =
-    alone (primary_at place line (suc nesting)) before _
-    ∙ rw (start_at-of place line Width (Word (codes "width") ∷ Mark (codes "(") ∷ Register name ∷ Mark (codes ")") ∷ rest) (Register name ∷ Mark (codes ")") ∷ rest) refl, measured_at-of line name rest le) refl
-spelled_read {place = place} (parenthesised {nesting = nesting} {nodes = nodes} {tokens = tokens} s) line before rest e next =
-    let inner = spelled_read s line before (Mark (codes ")") ∷ rest) e (λ k lt. closed k rest) ∙ goes_on-done (primary_at place line nesting) loosest (before ++ nodes) (Mark (codes ")") ∷ rest) (closed loosest rest) in
-    alone (primary_at place line (suc nesting)) before _
-    ∙ rw (start_at-of place line Parenthesis (Mark (codes "(") ∷ ((tokens ++ Mark (codes ")") ∷ []) ++ rest)) ((tokens ++ Mark (codes ")") ∷ []) ++ rest) refl) (inside_read line (primary_at place line nesting) before nodes tokens rest inner)
-spelled_read {place = place} (called {nesting = nesting} {start = start} {nodes = nodes} {tokens = tokens} function word is s) line before rest e next =
-    let inner = spelled_read s line before (Mark (codes ")") ∷ rest) e (λ k lt. closed k rest) ∙ goes_on-done (primary_at place line nesting) loosest (before ++ nodes) (Mark (codes ")") ∷ rest) (closed loosest rest) in
-    alone (primary_at place line (suc nesting)) before _
-    ∙ rw (start_at-of place line (Call function) (Word word ∷ Mark (codes "(") ∷ ((tokens ++ Mark (codes ")") ∷ []) ++ rest)) ((tokens ++ Mark (codes ")") ∷ []) ++ rest) (word, is, refl), inside_read line (primary_at place line nesting) before nodes tokens rest inner)
-    (ap (λ (ns : List RawNode). Ok (ns, rest)) (unary_as function start before nodes e))
-spelled_read {place = place} (prefixed {nesting = nesting} {start = start} {nodes = nodes} {tokens = tokens} function mark is s) line before rest e next =
-    let inner = sym (alone (primary_at place line nesting) before (tokens ++ rest)) ∙ spelled_read s line before rest e (λ k lt. next k lt) in
-    alone (primary_at place line (suc nesting)) before _
-    ∙ rw (start_at-of place line (Prefix function) (Mark mark ∷ (tokens ++ rest)) (tokens ++ rest) (mark, is, refl), inner) (ap (λ (ns : List RawNode). Ok (ns, rest)) (unary_as function start before nodes e))
-spelled_read {place = place} (tighter {nesting = nesting} {level = level} {nodes = nodes} {tokens = tokens} s) line before rest e next =
-    let inner = spelled_read s line before rest e (λ k lt. next k (omega arith)) ∙ goes_on-done (primary_at place line nesting) level (before ++ nodes) rest (next level (omega arith)) in
-    operand_at-more (primary_at place line nesting) level before (tokens ++ rest) ∙ rw inner refl
-spelled_read {place = place} (joined {nesting = nesting} {start = start} {level = level} {left = left} {right = right} {front = front} {back = back} op is a b) line before rest e next =
-    let first = spelled_read a line before (Mark (operator_mark op) ∷ (back ++ rest)) e (λ k lt. other_level k op (back ++ rest) (λ same. omega (arith, same, is))) in
-    let second = spelled_read b line (before ++ left) rest (starts_behind start before left e) (λ k lt. next k (omega arith)) ∙ goes_on-done (primary_at place line nesting) level ((before ++ left) ++ right) rest (next level (omega arith)) in
-    rw (append_assoc front (Mark (operator_mark op) ∷ back) rest)
-    (first
-    ∙ chain-more (operand_at (primary_at place line nesting) level) (suc level) (before ++ left) (Mark (operator_mark op) ∷ (back ++ rest)) (op, back ++ rest) ((before ++ left) ++ right, rest) (operand_shorter place line nesting level) (operator_at-of (suc level) op (back ++ rest) is) second
-    ∙ ap (λ (ns : List RawNode). whole_chain_at (operand_at (primary_at place line nesting) level) (suc level) ns rest) (join_as op start before left right e))
+  pub spelled_read : {place : TermPlace} {nesting start level : ℕ} {nodes : List RawNode} {own : List Token} → SpellsTerm limits place nesting start level nodes own → (line : ℕ) (before : List RawNode) (rest : List Token) → start ≡ length before → NotTighter level rest
+      → operand_at (primary_at limits place line nesting) level before (own ++ rest) ≡ goes_on_at (primary_at limits place line nesting) level (before ++ nodes) rest
+  unfolding primary_at
+  spelled_read {place = place} {nesting = nesting} (leaf node own s) line before rest e next =
+      alone (primary_at limits place line nesting) before (own ++ rest) ∙ leaf_read place line nesting before node (own ++ rest) rest (start_at-of limits place line (Leaf node) (own ++ rest) rest (own, s, refl))
+  spelled_read {place = place} (width {nesting = nesting} name le) line before rest e next =
+      alone (primary_at limits place line (suc nesting)) before _
+      ∙ rw (start_at-of limits place line Width (Word (codes "width") ∷ Mark (codes "(") ∷ Register name ∷ Mark (codes ")") ∷ rest) (Register name ∷ Mark (codes ")") ∷ rest) refl, measured_at-of limits line name rest le) refl
+  spelled_read {place = place} (parenthesised {nesting = nesting} {nodes = nodes} {tokens = tokens} s) line before rest e next =
+      let inner = spelled_read s line before (Mark (codes ")") ∷ rest) e (λ k lt. closed k rest) ∙ goes_on-done (primary_at limits place line nesting) loosest (before ++ nodes) (Mark (codes ")") ∷ rest) (closed loosest rest) in
+      alone (primary_at limits place line (suc nesting)) before _
+      ∙ rw (start_at-of limits place line Parenthesis (Mark (codes "(") ∷ ((tokens ++ Mark (codes ")") ∷ []) ++ rest)) ((tokens ++ Mark (codes ")") ∷ []) ++ rest) refl) (inside_read line (primary_at limits place line nesting) before nodes tokens rest inner)
+  spelled_read {place = place} (called {nesting = nesting} {start = start} {nodes = nodes} {tokens = tokens} function word is s) line before rest e next =
+      let inner = spelled_read s line before (Mark (codes ")") ∷ rest) e (λ k lt. closed k rest) ∙ goes_on-done (primary_at limits place line nesting) loosest (before ++ nodes) (Mark (codes ")") ∷ rest) (closed loosest rest) in
+      alone (primary_at limits place line (suc nesting)) before _
+      ∙ rw (start_at-of limits place line (Call function) (Word word ∷ Mark (codes "(") ∷ ((tokens ++ Mark (codes ")") ∷ []) ++ rest)) ((tokens ++ Mark (codes ")") ∷ []) ++ rest) (word, is, refl), inside_read line (primary_at limits place line nesting) before nodes tokens rest inner)
+      (ap (λ (ns : List RawNode). Ok (ns, rest)) (unary_as function start before nodes e))
+  spelled_read {place = place} (prefixed {nesting = nesting} {start = start} {nodes = nodes} {tokens = tokens} function mark is s) line before rest e next =
+      let inner = sym (alone (primary_at limits place line nesting) before (tokens ++ rest)) ∙ spelled_read s line before rest e (λ k lt. next k lt) in
+      alone (primary_at limits place line (suc nesting)) before _
+      ∙ rw (start_at-of limits place line (Prefix function) (Mark mark ∷ (tokens ++ rest)) (tokens ++ rest) (mark, is, refl), inner) (ap (λ (ns : List RawNode). Ok (ns, rest)) (unary_as function start before nodes e))
+  spelled_read {place = place} (tighter {nesting = nesting} {level = level} {nodes = nodes} {tokens = tokens} s) line before rest e next =
+      let inner = spelled_read s line before rest e (λ k lt. next k (omega arith)) ∙ goes_on-done (primary_at limits place line nesting) level (before ++ nodes) rest (next level (omega arith)) in
+      operand_at-more (primary_at limits place line nesting) level before (tokens ++ rest) ∙ rw inner refl
+  spelled_read {place = place} (joined {nesting = nesting} {start = start} {level = level} {left = left} {right = right} {front = front} {back = back} op is a b) line before rest e next =
+      let first = spelled_read a line before (Mark (operator_mark op) ∷ (back ++ rest)) e (λ k lt. other_level k op (back ++ rest) (λ same. omega (arith, same, is))) in
+      let second = spelled_read b line (before ++ left) rest (starts_behind start before left e) (λ k lt. next k (omega arith)) ∙ goes_on-done (primary_at limits place line nesting) level ((before ++ left) ++ right) rest (next level (omega arith)) in
+      rw (append_assoc front (Mark (operator_mark op) ∷ back) rest)
+      (first
+      ∙ chain-more limits (operand_at (primary_at limits place line nesting) level) (suc level) (before ++ left) (Mark (operator_mark op) ∷ (back ++ rest)) (op, back ++ rest) ((before ++ left) ++ right, rest) (operand_shorter limits place line nesting level) (operator_at-of (suc level) op (back ++ rest) is) second
+      ∙ ap (λ (ns : List RawNode). whole_chain_at (operand_at (primary_at limits place line nesting) level) (suc level) ns rest) (join_as op start before left right e))
 
--- ---- whole terms
+  -- ---- whole terms
 
-pub term_at-of : (place : TermPlace) (nesting line : ℕ) (nodes : List RawNode) (own rest : List Token) → SpellsWholeTerm place nesting nodes own → EndsTerm rest → term_at place nesting line (own ++ rest) ≡ Ok (nodes, rest)
-unfolding term_at
-term_at-of place nesting line nodes own rest s ends =
-    spelled_read s line [] rest refl (λ k lt. ended k rest ends) ∙ goes_on-done (primary_at place line nesting) loosest nodes rest (ended loosest rest ends)
+  pub term_at-of : (place : TermPlace) (nesting line : ℕ) (nodes : List RawNode) (own rest : List Token) → SpellsWholeTerm limits place nesting nodes own → EndsTerm rest → term_at limits place nesting line (own ++ rest) ≡ Ok (nodes, rest)
+  unfolding term_at
+  term_at-of place nesting line nodes own rest s ends =
+      spelled_read s line [] rest refl (λ k lt. ended k rest ends) ∙ goes_on-done (primary_at limits place line nesting) loosest nodes rest (ended loosest rest ends)
 
--- the nodes that are read, spelled by tokens in front of those that are left
-pub record TakesTerm (place : TermPlace) (nesting : ℕ) (tokens : List Token) (x : List RawNode × List Token) : Type 0 where
-  pub own : List Token
-  pub is_own : SpellsWholeTerm place nesting x.0 own
-  pub whole : tokens ≡ own ++ x.1
+  -- the nodes that are read, spelled by tokens in front of those that are left
+  pub record TakesTerm (place : TermPlace) (nesting : ℕ) (tokens : List Token) (x : List RawNode × List Token) : Type 0 where
+    pub own : List Token
+    pub is_own : SpellsWholeTerm limits place nesting x.0 own
+    pub whole : tokens ≡ own ++ x.1
 
-takes_of : {place : TermPlace} {nesting : ℕ} {tokens : List Token} {x : List RawNode × List Token} → Adds place nesting loosest [] tokens x → TakesTerm place nesting tokens x
-takes_of {place} {nesting} {tokens} {x} a = record { own = a.own; is_own = subst (λ (ns : List RawNode). SpellsWholeTerm place nesting ns a.own) (sym a.made) a.is_own; whole = a.whole }
+  takes_of : {place : TermPlace} {nesting : ℕ} {tokens : List Token} {x : List RawNode × List Token} → Adds limits place nesting loosest [] tokens x → TakesTerm place nesting tokens x
+  takes_of {place} {nesting} {tokens} {x} a = record { own = a.own; is_own = subst (λ (ns : List RawNode). SpellsWholeTerm limits place nesting ns a.own) (sym a.made) a.is_own; whole = a.whole }
 
-pub term_at-is : (place : TermPlace) (nesting line : ℕ) (tokens : List Token) (x : List RawNode × List Token) → term_at place nesting line tokens ≡ Ok x → TakesTerm place nesting tokens x
-unfolding term_at
-term_at-is place nesting line tokens x e = takes_of (operand_at-is place nesting loosest (primary_at place line nesting) (primary_at-is place line nesting) [] tokens x e)
+  pub term_at-is : (place : TermPlace) (nesting line : ℕ) (tokens : List Token) (x : List RawNode × List Token) → term_at limits place nesting line tokens ≡ Ok x → TakesTerm place nesting tokens x
+  unfolding term_at
+  term_at-is place nesting line tokens x e = takes_of (operand_at-is limits place nesting loosest (primary_at limits place line nesting) (primary_at-is limits place line nesting) [] tokens x e)
 
--- a term whose first operand is spelled so
-pub rest_of_term_at-is : (place : TermPlace) (nesting line : ℕ) (first : List RawNode) (front tokens : List Token) (x : List RawNode × List Token) → SpellsTerm place nesting 0 0 first front → rest_of_term_at place nesting line first tokens ≡ Ok x → TakesTerm place nesting (front ++ tokens) x
-unfolding rest_of_term_at
-rest_of_term_at-is place nesting line first front tokens x s e =
-    takes_of (behind_at-is place nesting loosest (primary_at place line nesting) [] (front ++ tokens) (first, tokens) x (primary_at-is place line nesting) (record { nodes = first; own = front; is_own = s; made = refl; whole = refl }) e)
+  -- a term whose first operand is spelled so
+  pub rest_of_term_at-is : (place : TermPlace) (nesting line : ℕ) (first : List RawNode) (front tokens : List Token) (x : List RawNode × List Token) → SpellsTerm limits place nesting 0 0 first front → rest_of_term_at limits place nesting line first tokens ≡ Ok x → TakesTerm place nesting (front ++ tokens) x
+  unfolding rest_of_term_at
+  rest_of_term_at-is place nesting line first front tokens x s e =
+      takes_of (behind_at-is limits place nesting loosest (primary_at limits place line nesting) [] (front ++ tokens) (first, tokens) x (primary_at-is limits place line nesting) (record { nodes = first; own = front; is_own = s; made = refl; whole = refl }) e)
 
--- a term that begins with a parenthesis is the term in it, and what goes on behind
-pub term_at-parenthesis : (place : TermPlace) (nesting line : ℕ) (rest : List Token) →
-    term_at place (suc nesting) line (Mark (codes "(") ∷ rest)
-    ≡ (term_at place nesting line rest >>= λ inside. (mark_at (codes ")") line inside.1 >>= λ behind. rest_of_term_at place (suc nesting) line inside.0 behind))
-unfolding term_at rest_of_term_at primary_at
-term_at-parenthesis place nesting line rest =
-    rw (start_at-of place line Parenthesis (Mark (codes "(") ∷ rest) rest refl)
-    (through (operand_at (primary_at place line nesting) loosest [] rest) (λ inside. mark_at (codes ")") line inside.1) (λ x. behind_at (primary_at place line (suc nesting)) loosest x.0 x.1))
-  where
-    through : (r : Result (List RawNode × List Token) RuleFault) (f : List RawNode × List Token → Result (List Token) RuleFault) (g : List RawNode × List Token → Result (List RawNode × List Token) RuleFault)
-        → ((r >>= λ inside. (f inside >>= λ behind. Ok (inside.0, behind))) >>= g) ≡ (r >>= λ inside. (f inside >>= λ behind. g (inside.0, behind)))
-    through (Ok x) f g = last (f x)
-      where
-        last : (s : Result (List Token) RuleFault) → ((s >>= λ behind. Ok (x.0, behind)) >>= g) ≡ (s >>= λ behind. g (x.0, behind))
-        last (Ok y) = refl
-        last (Err e) = refl
-    through (Err e) f g = refl
+  -- a term that begins with a parenthesis is the term in it, and what goes on behind
+  pub term_at-parenthesis : (place : TermPlace) (nesting line : ℕ) (rest : List Token) →
+      term_at limits place (suc nesting) line (Mark (codes "(") ∷ rest)
+      ≡ (term_at limits place nesting line rest >>= λ inside. (mark_at (codes ")") line inside.1 >>= λ behind. rest_of_term_at limits place (suc nesting) line inside.0 behind))
+  unfolding term_at rest_of_term_at primary_at
+  term_at-parenthesis place nesting line rest =
+      rw (start_at-of limits place line Parenthesis (Mark (codes "(") ∷ rest) rest refl)
+      (through (operand_at (primary_at limits place line nesting) loosest [] rest) (λ inside. mark_at (codes ")") line inside.1) (λ x. behind_at (primary_at limits place line (suc nesting)) loosest x.0 x.1))
+    where
+      through : (r : Result (List RawNode × List Token) RuleFault) (f : List RawNode × List Token → Result (List Token) RuleFault) (g : List RawNode × List Token → Result (List RawNode × List Token) RuleFault)
+          → ((r >>= λ inside. (f inside >>= λ behind. Ok (inside.0, behind))) >>= g) ≡ (r >>= λ inside. (f inside >>= λ behind. g (inside.0, behind)))
+      through (Ok x) f g = last (f x)
+        where
+          last : (s : Result (List Token) RuleFault) → ((s >>= λ behind. Ok (x.0, behind)) >>= g) ≡ (s >>= λ behind. g (x.0, behind))
+          last (Ok y) = refl
+          last (Err e) = refl
+      through (Err e) f g = refl

@@ -18,9 +18,10 @@ use Rattle.rule_terms.specs.declared.formula_word.Sign.{Sign}
 use Rattle.rule_terms.specs.declared.formula_word.Sign.TheVariants as signs
 use Rattle.rule_terms.specs.declared.place.TermPlace.TheVariants.{Constant}
 use Rattle.rule_terms.specs.Chains.{Reader, chain_at}
-use Rattle.rule_terms.specs.Grammar.{most_nested, last_place}
+use Rattle.rule_terms.specs.Grammar.{last_place}
 use Rattle.rule_terms.specs.TermReaders.{mark_at, term_at}
 use Rattle.rule_terms.specs.FormulaKeywords.{comparison_in, predicate_in, predicate_node, formula_marks, formula_words}
+use Rattle.rule_tokens.specs.Limits.{Limits}
 
 -- ---- what begins here
 
@@ -81,11 +82,11 @@ comparison_at line (Mark mark ∷ rest) = comparison_or_fault line (comparison_i
 comparison_at line tokens = Err (unexpected line tokens)
 
 -- two terms and a comparison between them
-unfoldable pub compares_at : ℕ → ℕ → Reader (List RawFormula)
-compares_at nesting line before tokens = do
-  left ← term_at Constant nesting line tokens
+unfoldable pub compares_at : Limits → ℕ → ℕ → Reader (List RawFormula)
+compares_at limits nesting line before tokens = do
+  left ← term_at limits Constant nesting line tokens
   pred ← comparison_at line left.1
-  right ← term_at Constant nesting line pred.1
+  right ← term_at limits Constant nesting line pred.1
   Ok (before ++ Compare pred.0 left.0 right.0 ∷ [], right.1)
 
 -- one level of nesting more, if the limit leaves it
@@ -94,23 +95,23 @@ deeper line zero = Err (fault line TooMany)
 deeper line (suc nesting) = Ok nesting
 
 -- a term in parentheses, behind a predicate
-unfoldable pub tests_at : Predicate → ℕ → ℕ → Reader (List RawFormula)
-tests_at predicate nesting line before tokens = do
+unfoldable pub tests_at : Limits → Predicate → ℕ → ℕ → Reader (List RawFormula)
+tests_at limits predicate nesting line before tokens = do
   opened ← mark_at (codes "(") line tokens
   inside ← deeper line nesting
-  term ← term_at Constant inside line opened
+  term ← term_at limits Constant inside line opened
   rest ← mark_at (codes ")") line term.1
   Ok (before ++ predicate_node predicate term.0 ∷ [], rest)
 
 -- a register in parentheses, behind `hasOneUse`
-abbrev pub register_at : ℕ → List Token → Read (List ℕ)
-register_at line (Register name ∷ rest) = name_within line name >>= λ held. Ok (held, rest)
-register_at line tokens = Err (unexpected line tokens)
+abbrev pub register_at : Limits → ℕ → List Token → Read (List ℕ)
+register_at limits line (Register name ∷ rest) = name_within limits line name >>= λ held. Ok (held, rest)
+register_at limits line tokens = Err (unexpected line tokens)
 
-unfoldable pub one_use_at : ℕ → Reader (List RawFormula)
-one_use_at line before tokens = do
+unfoldable pub one_use_at : Limits → ℕ → Reader (List RawFormula)
+one_use_at limits line before tokens = do
   opened ← mark_at (codes "(") line tokens
-  register ← register_at line opened
+  register ← register_at limits line opened
   rest ← mark_at (codes ")") line register.1
   Ok (before ++ HasOneUse register.0 ∷ [], rest)
 
@@ -145,25 +146,25 @@ encloses_at line inside before tokens = do
   Ok (formula.0, rest)
 
 -- a member that begins so, where `inside` reads those one level further in
-abbrev pub begun_at : Opening → ℕ → ℕ → Reader (List RawFormula) → Reader (List RawFormula)
-begun_at Turns nesting line inside before tokens = turns_at inside before (drop 1 tokens)
-begun_at Encloses nesting line inside before tokens = encloses_at line inside before (drop 1 tokens)
-begun_at (Tests predicate) nesting line inside before tokens = tests_at predicate nesting line before (drop 1 tokens)
-begun_at Compares nesting line inside before tokens = compares_at nesting line before tokens
+abbrev pub begun_at : Limits → Opening → ℕ → ℕ → Reader (List RawFormula) → Reader (List RawFormula)
+begun_at limits Turns nesting line inside before tokens = turns_at inside before (drop 1 tokens)
+begun_at limits Encloses nesting line inside before tokens = encloses_at line inside before (drop 1 tokens)
+begun_at limits (Tests predicate) nesting line inside before tokens = tests_at limits predicate nesting line before (drop 1 tokens)
+begun_at limits Compares nesting line inside before tokens = compares_at limits nesting line before tokens
 
 -- no level further in is left
 abbrev pub too_deep : ℕ → Reader (List RawFormula)
 too_deep line before tokens = Err (fault line TooMany)
 
 -- a member, where so many levels of nesting are left
-unfoldable pub member_at : ℕ → ℕ → Reader (List RawFormula)
-member_at zero line before tokens = begun_at (opening_at tokens) zero line (too_deep line) before tokens
-member_at (suc nesting) line before tokens = begun_at (opening_at tokens) (suc nesting) line (member_at nesting line) before tokens
+unfoldable pub member_at : Limits → ℕ → ℕ → Reader (List RawFormula)
+member_at limits zero line before tokens = begun_at limits (opening_at tokens) zero line (too_deep line) before tokens
+member_at limits (suc nesting) line before tokens = begun_at limits (opening_at tokens) (suc nesting) line (member_at limits nesting line) before tokens
 
 -- a member of the outermost `&&`
-unfoldable pub outer_member_at : ℕ → Reader (List RawFormula)
-outer_member_at line before (Word word ∷ rest) = if bytes_eq word (codes "hasOneUse") then one_use_at line before rest else member_at most_nested line before (Word word ∷ rest)
-outer_member_at line before tokens = member_at most_nested line before tokens
+unfoldable pub outer_member_at : Limits → ℕ → Reader (List RawFormula)
+outer_member_at limits line before (Word word ∷ rest) = if bytes_eq word (codes "hasOneUse") then one_use_at limits line before rest else member_at limits limits.nested line before (Word word ∷ rest)
+outer_member_at limits line before tokens = member_at limits limits.nested line before tokens
 
 -- `hasOneUse` is among the nodes
 abbrev pub asks_one_use : RawFormula → Bool
@@ -171,14 +172,14 @@ asks_one_use (HasOneUse name) = true
 asks_one_use node = false
 
 -- `||` may only go on with what has no `hasOneUse` in it
-abbrev pub or_alternatives : ℕ → Bool → Reader (List RawFormula)
-or_alternatives line true before tokens = Ok (before, tokens)
-or_alternatives line false before tokens = more_alternatives (member_at most_nested line) before tokens
+abbrev pub or_alternatives : Limits → ℕ → Bool → Reader (List RawFormula)
+or_alternatives limits line true before tokens = Ok (before, tokens)
+or_alternatives limits line false before tokens = more_alternatives (member_at limits limits.nested line) before tokens
 
 -- the formula of a precondition, behind its head, and the end of its line
-unfoldable pub formula_at : ℕ → List Token → Read (List RawFormula)
-formula_at line tokens = do
-  first ← members_of (outer_member_at line) [] tokens
-  whole ← or_alternatives line (list_any asks_one_use first.0) first.0 first.1
+unfoldable pub formula_at : Limits → ℕ → List Token → Read (List RawFormula)
+formula_at limits line tokens = do
+  first ← members_of (outer_member_at limits line) [] tokens
+  whole ← or_alternatives limits line (list_any asks_one_use first.0) first.0 first.1
   rest ← line_end line whole.1
   Ok (whole.0, rest)

@@ -1,14 +1,14 @@
 -- The formulas of `Pre:`, and which tokens spell them. A node stands behind its operands and names their places, which count from 0
 -- at the first node of the whole formula.
 use Rattle.std.specs.Prelude.{ℕ, suc, ◌+◌, ◌≤◌, List, [], ◌∷◌, ◌++◌, length, codes}
-use Rattle.rule_tokens.specs.Limits.{most_name_bytes}
+use Rattle.rule_tokens.specs.Limits.{Limits}
 use Rattle.rule_tokens.specs.Tokens.{Token, Word, Register, Mark}
 use Rattle.rule_terms.specs.declared.raw.RawNode.{RawNode}
 use Rattle.rule_terms.specs.declared.raw.RawFormula.{RawFormula}
 use Rattle.rule_terms.specs.declared.raw.RawFormula.TheVariants.{Compare, HasOneUse, Not, And, Or}
 use Rattle.rule_terms.specs.declared.formula_word.Predicate.{Predicate}
 use Rattle.rule_terms.specs.declared.place.TermPlace.TheVariants.{Constant}
-use Rattle.rule_terms.specs.Grammar.{most_nested, last_place, SpellsWholeTerm}
+use Rattle.rule_terms.specs.Grammar.{last_place, SpellsWholeTerm}
 use Rattle.ops.specs.declared.comparison.Pred.{Pred}
 use Rattle.rule_tokens.specs.Parts.{Part}
 use Rattle.rule_terms.specs.FormulaKeywords.{comparison_mark, predicate_word, predicate_node}
@@ -29,39 +29,39 @@ abbrev pub joined : (ℕ → ℕ → RawFormula) → ℕ → List RawFormula →
 joined operator start left right = left ++ right ++ operator (last_place (start + length left)) (last_place (start + length left + length right)) ∷ []
 
 -- the tokens spell the nodes of a formula, of which the first has the place `start`, where so many levels of nesting are left
-pub data SpellsFormula : Standing → Level → ℕ → ℕ → List RawFormula → List Token → Type 0 where
+pub data SpellsFormula (limits : Limits) : Standing → Level → ℕ → ℕ → List RawFormula → List Token → Type 0 where
   -- t == t
   compares : {standing : Standing} {nesting start : ℕ} {left right : List RawNode} {front back : List Token} (pred : Pred)
-      → SpellsWholeTerm Constant nesting left front → SpellsWholeTerm Constant nesting right back
-      → SpellsFormula standing Member nesting start (Compare pred left right ∷ []) (front ++ Mark (comparison_mark pred) ∷ back)
+      → SpellsWholeTerm limits Constant nesting left front → SpellsWholeTerm limits Constant nesting right back
+      → SpellsFormula limits standing Member nesting start (Compare pred left right ∷ []) (front ++ Mark (comparison_mark pred) ∷ back)
   -- isPowerOf2(t), isSignBit(t)
   tests : {standing : Standing} {nesting start : ℕ} {term : List RawNode} {own : List Token} (predicate : Predicate)
-      → SpellsWholeTerm Constant nesting term own
-      → SpellsFormula standing Member (suc nesting) start (predicate_node predicate term ∷ []) (Word (predicate_word predicate) ∷ Mark (codes "(") ∷ own ++ Mark (codes ")") ∷ [])
+      → SpellsWholeTerm limits Constant nesting term own
+      → SpellsFormula limits standing Member (suc nesting) start (predicate_node predicate term ∷ []) (Word (predicate_word predicate) ∷ Mark (codes "(") ∷ own ++ Mark (codes ")") ∷ [])
   -- hasOneUse(%t), as a member of the outermost `&&` alone
-  one_use : {nesting start : ℕ} {name : List ℕ} → length name ≤ most_name_bytes
-      → SpellsFormula Outermost Member nesting start (HasOneUse name ∷ []) (Word (codes "hasOneUse") ∷ Mark (codes "(") ∷ Register name ∷ Mark (codes ")") ∷ [])
+  one_use : {nesting start : ℕ} {name : List ℕ} → length name ≤ limits.name_bytes
+      → SpellsFormula limits Outermost Member nesting start (HasOneUse name ∷ []) (Word (codes "hasOneUse") ∷ Mark (codes "(") ∷ Register name ∷ Mark (codes ")") ∷ [])
   -- ! f
   turns : {standing : Standing} {nesting start : ℕ} {nodes : List RawFormula} {own : List Token}
-      → SpellsFormula Within Member nesting start nodes own
-      → SpellsFormula standing Member (suc nesting) start (nodes ++ Not (last_place (start + length nodes)) ∷ []) (Mark (codes "!") ∷ own)
+      → SpellsFormula limits Within Member nesting start nodes own
+      → SpellsFormula limits standing Member (suc nesting) start (nodes ++ Not (last_place (start + length nodes)) ∷ []) (Mark (codes "!") ∷ own)
   -- ( f )
   encloses : {standing : Standing} {nesting start : ℕ} {nodes : List RawFormula} {own : List Token}
-      → SpellsFormula Within Alternatives nesting start nodes own
-      → SpellsFormula standing Member (suc nesting) start nodes (Mark (codes "(") ∷ own ++ Mark (codes ")") ∷ [])
+      → SpellsFormula limits Within Alternatives nesting start nodes own
+      → SpellsFormula limits standing Member (suc nesting) start nodes (Mark (codes "(") ∷ own ++ Mark (codes ")") ∷ [])
   -- f && f, from left to right
   member : {standing : Standing} {nesting start : ℕ} {nodes : List RawFormula} {own : List Token}
-      → SpellsFormula standing Member nesting start nodes own → SpellsFormula standing Members nesting start nodes own
+      → SpellsFormula limits standing Member nesting start nodes own → SpellsFormula limits standing Members nesting start nodes own
   both : {standing : Standing} {nesting start : ℕ} {left right : List RawFormula} {front back : List Token}
-      → SpellsFormula standing Members nesting start left front → SpellsFormula standing Member nesting (start + length left) right back
-      → SpellsFormula standing Members nesting start (joined And start left right) (front ++ Mark (codes "&&") ∷ back)
+      → SpellsFormula limits standing Members nesting start left front → SpellsFormula limits standing Member nesting (start + length left) right back
+      → SpellsFormula limits standing Members nesting start (joined And start left right) (front ++ Mark (codes "&&") ∷ back)
   -- f || f, from left to right
   members : {standing : Standing} {nesting start : ℕ} {nodes : List RawFormula} {own : List Token}
-      → SpellsFormula standing Members nesting start nodes own → SpellsFormula standing Alternatives nesting start nodes own
+      → SpellsFormula limits standing Members nesting start nodes own → SpellsFormula limits standing Alternatives nesting start nodes own
   either : {standing : Standing} {nesting start : ℕ} {left right : List RawFormula} {front back : List Token}
-      → SpellsFormula Within Alternatives nesting start left front → SpellsFormula Within Members nesting (start + length left) right back
-      → SpellsFormula standing Alternatives nesting start (joined Or start left right) (front ++ Mark (codes "||") ∷ back)
+      → SpellsFormula limits Within Alternatives nesting start left front → SpellsFormula limits Within Members nesting (start + length left) right back
+      → SpellsFormula limits standing Alternatives nesting start (joined Or start left right) (front ++ Mark (codes "||") ∷ back)
 
 -- the formula of a precondition
-abbrev pub SpellsWholeFormula : List RawFormula → Part
-SpellsWholeFormula nodes tokens = SpellsFormula Outermost Alternatives most_nested 0 nodes tokens
+abbrev pub SpellsWholeFormula : Limits → List RawFormula → Part
+SpellsWholeFormula limits nodes tokens = SpellsFormula limits Outermost Alternatives limits.nested 0 nodes tokens

@@ -3,7 +3,7 @@ use Rattle.std.specs.Prelude.{◌≡◌, ℕ, suc, ◌+◌, ◌-◌, ◌≤◌, 
 use Rattle.ops.specs.declared.opcode.Opcode.{Opcode}
 use Rattle.rule_core.specs.declared.rule.Function.{Function}
 use Rattle.scan.specs.RuleTokens.{is_constant}
-use Rattle.rule_tokens.specs.Limits.{most_name_bytes}
+use Rattle.rule_tokens.specs.Limits.{Limits}
 use Rattle.rule_tokens.specs.Numbers.{literal_value}
 use Rattle.rule_tokens.specs.Parts.{Part, Is}
 use Rattle.rule_tokens.specs.Tokens.{Token, Register as RegisterToken, Word, Number, Mark}
@@ -13,62 +13,58 @@ use Rattle.rule_terms.specs.declared.raw.RawNode.{RawNode}
 use Rattle.rule_terms.specs.declared.raw.RawNode.TheVariants.{Literal, Constant, Register, Undef, Width, Unary, Binary}
 use Rattle.rule_terms.specs.Keywords.{operator_mark, operator_in, level_of, loosest, IsPrefix, IsCalled, held_place, IsChoice}
 
--- the most open parentheses and pending operators of one operand at a token
-abbrev pub most_nested : ℕ
-most_nested = 32
-
 -- the place of the last of so many nodes
 abbrev pub last_place : ℕ → ℕ
 last_place count = held_place (count - 1)
 
 -- a node of one token: a literal or a constant, and in a witness a register or an `undef` of the target too
-abbrev pub SpellsLeaf : TermPlace → RawNode → Part
-SpellsLeaf place (Literal z) tokens = (text : List ℕ) × (z ≡ literal_value text) × Is (Number text) tokens
-SpellsLeaf place (Constant name) tokens = IsTrue (is_constant name) × (length name ≤ most_name_bytes) × Is (Word name) tokens
-SpellsLeaf place (Register name) tokens = (place ≡ Witness) × (length name ≤ most_name_bytes) × Is (RegisterToken name) tokens
-SpellsLeaf place (Undef k) tokens = (word : List ℕ) × (place ≡ Witness) × IsChoice word k × (length word ≤ most_name_bytes) × Is (Word word) tokens
-SpellsLeaf place node tokens = ⊥
+abbrev pub SpellsLeaf : Limits → TermPlace → RawNode → Part
+SpellsLeaf limits place (Literal z) tokens = (text : List ℕ) × (z ≡ literal_value text) × Is (Number text) tokens
+SpellsLeaf limits place (Constant name) tokens = IsTrue (is_constant name) × (length name ≤ limits.name_bytes) × Is (Word name) tokens
+SpellsLeaf limits place (Register name) tokens = (place ≡ Witness) × (length name ≤ limits.name_bytes) × Is (RegisterToken name) tokens
+SpellsLeaf limits place (Undef k) tokens = (word : List ℕ) × (place ≡ Witness) × IsChoice word k × (length word ≤ limits.name_bytes) × Is (Word word) tokens
+SpellsLeaf limits place node tokens = ⊥
 
 -- The tokens spell a term of these nodes, each behind its operands, where the first node has the place `start`: at most `nesting`
 -- open parentheses and pending operators of one operand at each token, and no operator looser than the level outside parentheses.
-pub data SpellsTerm (place : TermPlace) : ℕ → ℕ → ℕ → List RawNode → List Token → Type 0 where
+pub data SpellsTerm (limits : Limits) (place : TermPlace) : ℕ → ℕ → ℕ → List RawNode → List Token → Type 0 where
   leaf : {nesting start : ℕ} (node : RawNode) (tokens : List Token)
-      → SpellsLeaf place node tokens
-      → SpellsTerm place nesting start 0 (node ∷ []) tokens
+      → SpellsLeaf limits place node tokens
+      → SpellsTerm limits place nesting start 0 (node ∷ []) tokens
   -- 'width' '(' REG ')'
-  width : {nesting start : ℕ} (name : List ℕ) → length name ≤ most_name_bytes
-      → SpellsTerm place (suc nesting) start 0 (Width name ∷ []) (Word (codes "width") ∷ Mark (codes "(") ∷ RegisterToken name ∷ Mark (codes ")") ∷ [])
+  width : {nesting start : ℕ} (name : List ℕ) → length name ≤ limits.name_bytes
+      → SpellsTerm limits place (suc nesting) start 0 (Width name ∷ []) (Word (codes "width") ∷ Mark (codes "(") ∷ RegisterToken name ∷ Mark (codes ")") ∷ [])
   -- '(' term ')'
   parenthesised : {nesting start : ℕ} {nodes : List RawNode} {tokens : List Token}
-      → SpellsTerm place nesting start loosest nodes tokens
-      → SpellsTerm place (suc nesting) start 0 nodes (Mark (codes "(") ∷ tokens ++ Mark (codes ")") ∷ [])
+      → SpellsTerm limits place nesting start loosest nodes tokens
+      → SpellsTerm limits place (suc nesting) start 0 nodes (Mark (codes "(") ∷ tokens ++ Mark (codes ")") ∷ [])
   -- ('log2' | 'abs') '(' term ')'
   called : {nesting start : ℕ} {nodes : List RawNode} {tokens : List Token} (function : Function) (word : List ℕ)
       → IsCalled function word
-      → SpellsTerm place nesting start loosest nodes tokens
-      → SpellsTerm place (suc nesting) start 0 (nodes ++ Unary function (last_place (start + length nodes)) ∷ [])
+      → SpellsTerm limits place nesting start loosest nodes tokens
+      → SpellsTerm limits place (suc nesting) start 0 (nodes ++ Unary function (last_place (start + length nodes)) ∷ [])
       (Word word ∷ Mark (codes "(") ∷ tokens ++ Mark (codes ")") ∷ [])
   -- ('-' | '~') and a term without operators of two operands
   prefixed : {nesting start : ℕ} {nodes : List RawNode} {tokens : List Token} (function : Function) (mark : List ℕ)
       → IsPrefix function mark
-      → SpellsTerm place nesting start 0 nodes tokens
-      → SpellsTerm place (suc nesting) start 0 (nodes ++ Unary function (last_place (start + length nodes)) ∷ []) (Mark mark ∷ tokens)
+      → SpellsTerm limits place nesting start 0 nodes tokens
+      → SpellsTerm limits place (suc nesting) start 0 (nodes ++ Unary function (last_place (start + length nodes)) ∷ []) (Mark mark ∷ tokens)
   -- a term without operators of a level
   tighter : {nesting start level : ℕ} {nodes : List RawNode} {tokens : List Token}
-      → SpellsTerm place nesting start level nodes tokens
-      → SpellsTerm place nesting start (suc level) nodes tokens
+      → SpellsTerm limits place nesting start level nodes tokens
+      → SpellsTerm limits place nesting start (suc level) nodes tokens
   -- operators of one level, from left to right
   joined : {nesting start level : ℕ} {left right : List RawNode} {front back : List Token} (op : Opcode)
       → level_of op ≡ suc level
-      → SpellsTerm place nesting start (suc level) left front
-      → SpellsTerm place nesting (start + length left) level right back
-      → SpellsTerm place nesting start (suc level)
+      → SpellsTerm limits place nesting start (suc level) left front
+      → SpellsTerm limits place nesting (start + length left) level right back
+      → SpellsTerm limits place nesting start (suc level)
       (left ++ right ++ Binary op (last_place (start + length left)) (last_place (start + length left + length right)) ∷ [])
       (front ++ Mark (operator_mark op) ∷ back)
 
 -- a whole term
-abbrev pub SpellsWholeTerm : TermPlace → ℕ → List RawNode → Part
-SpellsWholeTerm place nesting nodes = SpellsTerm place nesting 0 loosest nodes
+abbrev pub SpellsWholeTerm : Limits → TermPlace → ℕ → List RawNode → Part
+SpellsWholeTerm limits place nesting nodes = SpellsTerm limits place nesting 0 loosest nodes
 
 -- no operator of two operands is next
 abbrev pub EndsTerm : List Token → Type 0

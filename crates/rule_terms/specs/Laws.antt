@@ -1,5 +1,6 @@
--- What holds of all tokens.
+-- What holds of all tokens, within any limits.
 use Rattle.std.specs.Prelude.{◌≡◌, ◌↔◌, ℕ, List, ◌++◌, Ok}
+use Rattle.rule_tokens.specs.Limits.{Limits}
 use Rattle.rule_tokens.specs.Tokens.{Token}
 use Rattle.rule_terms.specs.declared.place.TermPlace.{TermPlace}
 use Rattle.rule_terms.specs.declared.raw.RawNode.{RawNode}
@@ -9,6 +10,6 @@ use Rattle.rule_terms.specs.TermReaders.{term_at}
 -- Reading from left to right answers nodes and the tokens behind exactly where the grammar spells the nodes by the tokens before those,
 -- and no operator is next behind them.
 abbrev pub TermsAreReadAsSpelled : Type 0
-TermsAreReadAsSpelled = (place : TermPlace) (nesting line : ℕ) (tokens : List Token) (nodes : List RawNode) (rest : List Token) →
-    (term_at place nesting line tokens ≡ Ok (nodes, rest))
-    ↔ ((own : List Token) × SpellsWholeTerm place nesting nodes own × EndsTerm rest × (tokens ≡ own ++ rest))
+TermsAreReadAsSpelled = (limits : Limits) (place : TermPlace) (nesting line : ℕ) (tokens : List Token) (nodes : List RawNode) (rest : List Token) →
+    (term_at limits place nesting line tokens ≡ Ok (nodes, rest))
+    ↔ ((own : List Token) × SpellsWholeTerm limits place nesting nodes own × EndsTerm rest × (tokens ≡ own ++ rest))

@@ -1,5 +1,6 @@
 -- The order of a term's nodes.
 use Rattle.std.specs.Prelude.{◌≡◌, ℕ, ◌<◌, List, length, slice_get, Some}
+use Rattle.rule_tokens.specs.Limits.{Limits}
 use Rattle.rule_tokens.specs.Tokens.{Token}
 use Rattle.rule_terms.specs.declared.place.TermPlace.{TermPlace}
 use Rattle.rule_terms.specs.declared.raw.RawNode.{RawNode}
@@ -14,5 +15,5 @@ IsBehindOperands k node = Unit {0}
 
 -- a term that is spelled has a node or more, each behind its operands
 abbrev pub NodesStandBehindOperands : Type 0
-NodesStandBehindOperands = (place : TermPlace) (nesting : ℕ) (nodes : List RawNode) (tokens : List Token) → SpellsWholeTerm place nesting nodes tokens
+NodesStandBehindOperands = (limits : Limits) (place : TermPlace) (nesting : ℕ) (nodes : List RawNode) (tokens : List Token) → SpellsWholeTerm limits place nesting nodes tokens
     → (0 < length nodes) × ((k : ℕ) (node : RawNode) → slice_get nodes k ≡ Some node → IsBehindOperands k node)

@@ -21,6 +21,7 @@ use Rattle.rule_terms.specs.declared.word.Meaning.{Meaning}
 use Rattle.rule_terms.specs.declared.word.Meaning.TheVariants as meanings
 use Rattle.rule_terms.specs.Grammar.{last_place}
 use Rattle.rule_terms.specs.Keywords.{operator_in, level_of, loosest, meaning_in}
+use Rattle.rule_tokens.specs.Limits.{Limits}
 
 -- ---- marks
 
@@ -32,17 +33,17 @@ mark_at wanted line tokens = Err (unexpected line tokens)
 -- ---- what an operand begins with, and the tokens behind it
 
 -- a register, which stands in a witness alone
-abbrev pub register_in : TermPlace → ℕ → List ℕ → Result Start RuleFault
-register_in places.Constant line name = Err (fault line Syntax)
-register_in places.Witness line name = name_within line name >>= λ held. Ok (Leaf (nodes.Register held))
+abbrev pub register_in : Limits → TermPlace → ℕ → List ℕ → Result Start RuleFault
+register_in limits places.Constant line name = Err (fault line Syntax)
+register_in limits places.Witness line name = name_within limits line name >>= λ held. Ok (Leaf (nodes.Register held))
 
 -- a word with a meaning
-abbrev pub word_at : ℕ → List ℕ → Option Meaning → List Token → Read Start
-word_at line word (Some meanings.Width) rest = mark_at (codes "(") line rest >>= λ behind. Ok (Width, behind)
-word_at line word (Some (meanings.Call function)) rest = mark_at (codes "(") line rest >>= λ behind. Ok (Call function, behind)
-word_at line word (Some meanings.Constant) rest = name_within line word >>= λ name. Ok (Leaf (nodes.Constant name), rest)
-word_at line word (Some (meanings.Choice place)) rest = name_within line word >>= λ name. Ok (Leaf (nodes.Undef place), rest)
-word_at line word None rest = Err (misplaced_word line word)
+abbrev pub word_at : Limits → ℕ → List ℕ → Option Meaning → List Token → Read Start
+word_at limits line word (Some meanings.Width) rest = mark_at (codes "(") line rest >>= λ behind. Ok (Width, behind)
+word_at limits line word (Some (meanings.Call function)) rest = mark_at (codes "(") line rest >>= λ behind. Ok (Call function, behind)
+word_at limits line word (Some meanings.Constant) rest = name_within limits line word >>= λ name. Ok (Leaf (nodes.Constant name), rest)
+word_at limits line word (Some (meanings.Choice place)) rest = name_within limits line word >>= λ name. Ok (Leaf (nodes.Undef place), rest)
+word_at limits line word None rest = Err (misplaced_word line word)
 
 -- a parenthesis, or an operator of one operand
 unfoldable pub opening_in : List ℕ → Option Start
@@ -55,12 +56,12 @@ abbrev pub opening_at : ℕ → Option Start → List Token → Read Start
 opening_at line (Some start) rest = Ok (start, rest)
 opening_at line None rest = Err (fault line Syntax)
 
-unfoldable pub start_at : TermPlace → ℕ → List Token → Read Start
-start_at place line (Number text ∷ rest) = Ok (Leaf (nodes.Literal (literal_value text)), rest)
-start_at place line (Register name ∷ rest) = register_in place line name >>= λ start. Ok (start, rest)
-start_at place line (Word word ∷ rest) = word_at line word (meaning_in place word) rest
-start_at place line (Mark mark ∷ rest) = opening_at line (opening_in mark) rest
-start_at place line tokens = Err (unexpected line tokens)
+unfoldable pub start_at : Limits → TermPlace → ℕ → List Token → Read Start
+start_at limits place line (Number text ∷ rest) = Ok (Leaf (nodes.Literal (literal_value text)), rest)
+start_at limits place line (Register name ∷ rest) = register_in limits place line name >>= λ start. Ok (start, rest)
+start_at limits place line (Word word ∷ rest) = word_at limits line word (meaning_in place word) rest
+start_at limits place line (Mark mark ∷ rest) = opening_at line (opening_in mark) rest
+start_at limits place line tokens = Err (unexpected line tokens)
 
 -- ---- operators of two operands
 
@@ -119,20 +120,20 @@ inside_at line primary before tokens = do
   Ok (inside.0, behind)
 
 -- the register of `width`, and the parenthesis behind it
-unfoldable pub measured_at : ℕ → List Token → Read (List ℕ)
-measured_at line (Register name ∷ rest) = do
-  held ← name_within line name
+unfoldable pub measured_at : Limits → ℕ → List Token → Read (List ℕ)
+measured_at limits line (Register name ∷ rest) = do
+  held ← name_within limits line name
   behind ← mark_at (codes ")") line rest
   Ok (held, behind)
-measured_at line tokens = Err (unexpected line tokens)
+measured_at limits line tokens = Err (unexpected line tokens)
 
 -- behind its beginning, where the primaries in it are read so
-abbrev pub begun_at : ℕ → Reader → List RawNode → Start → List Token → Read (List RawNode)
-begun_at line primary before (Leaf node) rest = Ok (before ++ node ∷ [], rest)
-begun_at line primary before (Prefix function) rest = primary before rest >>= λ x. Ok (add_unary function x.0, x.1)
-begun_at line primary before Parenthesis rest = inside_at line primary before rest
-begun_at line primary before (Call function) rest = inside_at line primary before rest >>= λ x. Ok (add_unary function x.0, x.1)
-begun_at line primary before Width rest = measured_at line rest >>= λ x. Ok (before ++ nodes.Width x.0 ∷ [], x.1)
+abbrev pub begun_at : Limits → ℕ → Reader → List RawNode → Start → List Token → Read (List RawNode)
+begun_at limits line primary before (Leaf node) rest = Ok (before ++ node ∷ [], rest)
+begun_at limits line primary before (Prefix function) rest = primary before rest >>= λ x. Ok (add_unary function x.0, x.1)
+begun_at limits line primary before Parenthesis rest = inside_at line primary before rest
+begun_at limits line primary before (Call function) rest = inside_at line primary before rest >>= λ x. Ok (add_unary function x.0, x.1)
+begun_at limits line primary before Width rest = measured_at limits line rest >>= λ x. Ok (before ++ nodes.Width x.0 ∷ [], x.1)
 
 -- the same where nothing more may be nested
 abbrev pub shallow_in : ℕ → List RawNode → Start → Result (List RawNode) RuleFault
@@ -140,17 +141,17 @@ shallow_in line before (Leaf node) = Ok (before ++ node ∷ [])
 shallow_in line before start = Err (fault line TooMany)
 
 -- an operand of the level 0, with so many more nested at most
-unfoldable pub primary_at : TermPlace → ℕ → ℕ → Reader
-primary_at place line zero before tokens = start_at place line tokens >>= λ start. shallow_in line before start.0 >>= λ nodes. Ok (nodes, start.1)
-primary_at place line (suc nesting) before tokens =
-    start_at place line tokens >>= λ start. begun_at line (λ ns ts. primary_at place line nesting ns ts) before start.0 start.1
+unfoldable pub primary_at : Limits → TermPlace → ℕ → ℕ → Reader
+primary_at limits place line zero before tokens = start_at limits place line tokens >>= λ start. shallow_in line before start.0 >>= λ nodes. Ok (nodes, start.1)
+primary_at limits place line (suc nesting) before tokens =
+    start_at limits place line tokens >>= λ start. begun_at limits line (λ ns ts. primary_at limits place line nesting ns ts) before start.0 start.1
 
 -- ---- terms
 
 -- a term
-unfoldable pub term_at : TermPlace → ℕ → ℕ → List Token → Read (List RawNode)
-term_at place nesting line tokens = operand_at (primary_at place line nesting) loosest [] tokens
+unfoldable pub term_at : Limits → TermPlace → ℕ → ℕ → List Token → Read (List RawNode)
+term_at limits place nesting line tokens = operand_at (primary_at limits place line nesting) loosest [] tokens
 
 -- a term that begins with an operand of the level 0 of these nodes
-unfoldable pub rest_of_term_at : TermPlace → ℕ → ℕ → List RawNode → List Token → Read (List RawNode)
-rest_of_term_at place nesting line first tokens = behind_at (primary_at place line nesting) loosest first tokens
+unfoldable pub rest_of_term_at : Limits → TermPlace → ℕ → ℕ → List RawNode → List Token → Read (List RawNode)
+rest_of_term_at limits place nesting line first tokens = behind_at (primary_at limits place line nesting) loosest first tokens

@@ -9,6 +9,7 @@ ghost use Rattle.rule_tokens.specs.SeenTokens.{seen};
 ghost use Rattle.rule_tokens.specs.Steps.{Reads};
 ghost use Rattle.rule_terms.specs.FormulaReaders as reading;
 ghost use Rattle.rule_terms.specs.Grammar.{last_place};
+ghost use Rattle.rule_tokens.specs.Limits.{rule_limits};
 
 use crate::formula_word::{Opening, Predicate, comparison_of, opening_of, predicate_node};
 use crate::place::TermPlace;
@@ -76,7 +77,7 @@ fn compares(
     nodes: &mut List<RawFormula>,
     tokens: &mut &[Token<'_>],
 ) -> Result<(), RuleError>
-    ensures { Gives (λ _. (nodes.new, seen tokens.new.now)) result (reading.compares_at nesting line nodes.old (seen tokens.old.now)) }
+    ensures { Gives (λ _. (nodes.new, seen tokens.new.now)) result (reading.compares_at rule_limits nesting line nodes.old (seen tokens.old.now)) }
 {
     let left = term(alloc, TermPlace::Constant, nesting, line, tokens)?;
     let pred = comparison(line, tokens)?;
@@ -95,7 +96,7 @@ fn tests(
     nodes: &mut List<RawFormula>,
     tokens: &mut &[Token<'_>],
 ) -> Result<(), RuleError>
-    ensures { Gives (λ _. (nodes.new, seen tokens.new.now)) result (reading.tests_at predicate nesting line nodes.old (seen tokens.old.now)) }
+    ensures { Gives (λ _. (nodes.new, seen tokens.new.now)) result (reading.tests_at rule_limits predicate nesting line nodes.old (seen tokens.old.now)) }
 {
     mark("(", line, tokens)?;
     let inside = deeper(line, nesting)?;
@@ -107,7 +108,7 @@ fn tests(
 
 /// A register.
 fn register(alloc: Global, line: usize, tokens: &mut &[Token<'_>]) -> Result<Text, RuleError>
-    ensures { Gives (λ x. (x, seen tokens.new.now)) result (reading.register_at line (seen tokens.old.now)) }
+    ensures { Gives (λ x. (x, seen tokens.new.now)) result (reading.register_at rule_limits line (seen tokens.old.now)) }
 {
     match *tokens {
         [Token::Register(name), rest @ ..] => {
@@ -126,7 +127,7 @@ fn one_use(
     nodes: &mut List<RawFormula>,
     tokens: &mut &[Token<'_>],
 ) -> Result<(), RuleError>
-    ensures { Gives (λ _. (nodes.new, seen tokens.new.now)) result (reading.one_use_at line nodes.old (seen tokens.old.now)) }
+    ensures { Gives (λ _. (nodes.new, seen tokens.new.now)) result (reading.one_use_at rule_limits line nodes.old (seen tokens.old.now)) }
 {
     mark("(", line, tokens)?;
     let register = register(alloc, line, tokens)?;
@@ -153,7 +154,7 @@ fn member(
     nodes: &mut List<RawFormula>,
     tokens: &mut &[Token<'_>],
 ) -> Result<(), RuleError>
-    ensures { Gives (λ _. (nodes.new, seen tokens.new.now)) result (reading.member_at nesting line nodes.old (seen tokens.old.now)) }
+    ensures { Gives (λ _. (nodes.new, seen tokens.new.now)) result (reading.member_at rule_limits nesting line nodes.old (seen tokens.old.now)) }
 {
     match opening_of(*tokens) {
         Opening::Turns => {
@@ -188,7 +189,7 @@ fn members(
     nodes: &mut List<RawFormula>,
     tokens: &mut &[Token<'_>],
 ) -> Result<(), RuleError>
-    ensures { Gives (λ _. (nodes.new, seen tokens.new.now)) result (reading.members_of (reading.member_at nesting line) nodes.old (seen tokens.old.now)) }
+    ensures { Gives (λ _. (nodes.new, seen tokens.new.now)) result (reading.members_of (reading.member_at rule_limits nesting line) nodes.old (seen tokens.old.now)) }
 {
     member(alloc, nesting, line, nodes, tokens)?;
     more_members(alloc, nesting, line, nodes, tokens)
@@ -203,7 +204,7 @@ fn more_members(
     nodes: &mut List<RawFormula>,
     tokens: &mut &[Token<'_>],
 ) -> Result<(), RuleError>
-    ensures { Gives (λ _. (nodes.new, seen tokens.new.now)) result (reading.more_members (reading.member_at nesting line) nodes.old (seen tokens.old.now)) }
+    ensures { Gives (λ _. (nodes.new, seen tokens.new.now)) result (reading.more_members (reading.member_at rule_limits nesting line) nodes.old (seen tokens.old.now)) }
 {
     while takes("&&", tokens) {
         let left = last_place(nodes);
@@ -223,7 +224,7 @@ fn alternatives(
     nodes: &mut List<RawFormula>,
     tokens: &mut &[Token<'_>],
 ) -> Result<(), RuleError>
-    ensures { Gives (λ _. (nodes.new, seen tokens.new.now)) result (reading.alternatives_of (reading.member_at nesting line) nodes.old (seen tokens.old.now)) }
+    ensures { Gives (λ _. (nodes.new, seen tokens.new.now)) result (reading.alternatives_of (reading.member_at rule_limits nesting line) nodes.old (seen tokens.old.now)) }
 {
     members(alloc, nesting, line, nodes, tokens)?;
     more_alternatives(alloc, nesting, line, nodes, tokens)
@@ -238,7 +239,7 @@ fn more_alternatives(
     nodes: &mut List<RawFormula>,
     tokens: &mut &[Token<'_>],
 ) -> Result<(), RuleError>
-    ensures { Gives (λ _. (nodes.new, seen tokens.new.now)) result (reading.more_alternatives (reading.member_at nesting line) nodes.old (seen tokens.old.now)) }
+    ensures { Gives (λ _. (nodes.new, seen tokens.new.now)) result (reading.more_alternatives (reading.member_at rule_limits nesting line) nodes.old (seen tokens.old.now)) }
 {
     while takes("||", tokens) {
         let left = last_place(nodes);
@@ -257,7 +258,7 @@ fn outer_member(
     nodes: &mut List<RawFormula>,
     tokens: &mut &[Token<'_>],
 ) -> Result<(), RuleError>
-    ensures { Gives (λ _. (nodes.new, seen tokens.new.now)) result (reading.outer_member_at line nodes.old (seen tokens.old.now)) }
+    ensures { Gives (λ _. (nodes.new, seen tokens.new.now)) result (reading.outer_member_at rule_limits line nodes.old (seen tokens.old.now)) }
 {
     match *tokens {
         [Token::Word(word), rest @ ..] if is(word, "hasOneUse") => {
@@ -275,7 +276,7 @@ fn more_outer_members(
     nodes: &mut List<RawFormula>,
     tokens: &mut &[Token<'_>],
 ) -> Result<(), RuleError>
-    ensures { Gives (λ _. (nodes.new, seen tokens.new.now)) result (reading.more_members (reading.outer_member_at line) nodes.old (seen tokens.old.now)) }
+    ensures { Gives (λ _. (nodes.new, seen tokens.new.now)) result (reading.more_members (reading.outer_member_at rule_limits line) nodes.old (seen tokens.old.now)) }
 {
     while takes("&&", tokens) {
         let left = last_place(nodes);
@@ -306,7 +307,7 @@ pub fn formula(
     line: usize,
     tokens: &mut &[Token<'_>],
 ) -> Result<List<RawFormula>, RuleError>
-    ensures { Gives (λ x. (x, seen tokens.new.now)) result (reading.formula_at line (seen tokens.old.now)) }
+    ensures { Gives (λ x. (x, seen tokens.new.now)) result (reading.formula_at rule_limits line (seen tokens.old.now)) }
 {
     let mut nodes = List::new(alloc);
     outer_member(alloc, line, &mut nodes, tokens)?;

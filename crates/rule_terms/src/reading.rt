@@ -5,6 +5,7 @@ ghost use Rattle.refusal.specs.Refusals.{Gives};
 ghost use Rattle.rule_tokens.specs.SeenTokens.{seen};
 ghost use Rattle.rule_terms.specs.Grammar.{last_place};
 ghost use Rattle.rule_terms.specs.TermReaders as parsing;
+ghost use Rattle.rule_tokens.specs.Limits.{rule_limits};
 
 use crate::place::TermPlace;
 use crate::raw::{RawNode, RawTerm};
@@ -74,7 +75,7 @@ fn behind(
     nodes: &mut RawTerm,
     tokens: &mut &[Token<'_>],
 ) -> Result<(), RuleError>
-    ensures { Gives (λ _. (nodes.new, seen tokens.new.now)) result (parsing.behind_at (parsing.primary_at site.now.place site.now.line nesting) level nodes.old (seen tokens.old.now)) }
+    ensures { Gives (λ _. (nodes.new, seen tokens.new.now)) result (parsing.behind_at (parsing.primary_at rule_limits site.now.place site.now.line nesting) level nodes.old (seen tokens.old.now)) }
 {
     if level == 0 {
         return Ok(());
@@ -98,7 +99,7 @@ fn operand(
     nodes: &mut RawTerm,
     tokens: &mut &[Token<'_>],
 ) -> Result<(), RuleError>
-    ensures { Gives (λ _. (nodes.new, seen tokens.new.now)) result (parsing.operand_at (parsing.primary_at site.now.place site.now.line nesting) level nodes.old (seen tokens.old.now)) }
+    ensures { Gives (λ _. (nodes.new, seen tokens.new.now)) result (parsing.operand_at (parsing.primary_at rule_limits site.now.place site.now.line nesting) level nodes.old (seen tokens.old.now)) }
 {
     primary(site, nesting, nodes, tokens)?;
     behind(site, nesting, level, nodes, tokens)
@@ -112,7 +113,7 @@ fn inside(
     nodes: &mut RawTerm,
     tokens: &mut &[Token<'_>],
 ) -> Result<(), RuleError>
-    ensures { Gives (λ _. (nodes.new, seen tokens.new.now)) result (parsing.inside_at site.now.line (parsing.primary_at site.now.place site.now.line nesting) nodes.old (seen tokens.old.now)) }
+    ensures { Gives (λ _. (nodes.new, seen tokens.new.now)) result (parsing.inside_at site.now.line (parsing.primary_at rule_limits site.now.place site.now.line nesting) nodes.old (seen tokens.old.now)) }
 {
     operand(site, nesting, LOOSEST, nodes, tokens)?;
     mark(")", site.line, tokens)?;
@@ -143,7 +144,7 @@ fn begun(
     nodes: &mut RawTerm,
     tokens: &mut &[Token<'_>],
 ) -> Result<(), RuleError>
-    ensures { Gives (λ _. (nodes.new, seen tokens.new.now)) result (parsing.begun_at site.now.line (parsing.primary_at site.now.place site.now.line nesting) nodes.old start (seen tokens.old.now)) }
+    ensures { Gives (λ _. (nodes.new, seen tokens.new.now)) result (parsing.begun_at rule_limits site.now.line (parsing.primary_at rule_limits site.now.place site.now.line nesting) nodes.old start (seen tokens.old.now)) }
 {
     match start {
         Start::Leaf(node) => nodes.push(node)?,
@@ -172,7 +173,7 @@ fn primary(
     nodes: &mut RawTerm,
     tokens: &mut &[Token<'_>],
 ) -> Result<(), RuleError>
-    ensures { Gives (λ _. (nodes.new, seen tokens.new.now)) result (parsing.primary_at site.now.place site.now.line nesting nodes.old (seen tokens.old.now)) }
+    ensures { Gives (λ _. (nodes.new, seen tokens.new.now)) result (parsing.primary_at rule_limits site.now.place site.now.line nesting nodes.old (seen tokens.old.now)) }
 {
     let start = begin(site.alloc, site.place, site.line, tokens)?;
     if nesting == 0 {
@@ -191,7 +192,7 @@ pub fn term(
     line: usize,
     tokens: &mut &[Token<'_>],
 ) -> Result<RawTerm, RuleError>
-    ensures { Gives (λ x. (x, seen tokens.new.now)) result (parsing.term_at place nesting line (seen tokens.old.now)) }
+    ensures { Gives (λ x. (x, seen tokens.new.now)) result (parsing.term_at rule_limits place nesting line (seen tokens.old.now)) }
 {
     let site = Site { alloc, place, line };
     let mut nodes = RawTerm::new(alloc);
@@ -209,7 +210,7 @@ pub fn rest_of_term(
     first: RawTerm,
     tokens: &mut &[Token<'_>],
 ) -> Result<RawTerm, RuleError>
-    ensures { Gives (λ x. (x, seen tokens.new.now)) result (parsing.rest_of_term_at place nesting line first (seen tokens.old.now)) }
+    ensures { Gives (λ x. (x, seen tokens.new.now)) result (parsing.rest_of_term_at rule_limits place nesting line first (seen tokens.old.now)) }
 {
     let site = Site { alloc, place, line };
     let mut nodes = first;

@@ -5,6 +5,7 @@ ghost use Rattle.refusal.specs.Refusals.{Gives};
 ghost use Rattle.rule_tokens.specs.SeenTokens.{seen};
 ghost use Rattle.rule_tokens.specs.Steps.{Reads};
 ghost use Rattle.rule_terms.specs.TermReaders as parsing;
+ghost use Rattle.rule_tokens.specs.Limits.{rule_limits};
 
 use crate::place::TermPlace;
 use crate::raw::RawNode;
@@ -54,7 +55,7 @@ pub fn mark(wanted: &str, line: usize, tokens: &mut &[Token<'_>]) -> Result<(), 
 
 /// A register, which stands in a witness alone.
 fn register(alloc: Global, place: TermPlace, line: usize, name: &[u8]) -> Result<Start, RuleError>
-    ensures { Gives (λ x. x) result (parsing.register_in place line name.now) }
+    ensures { Gives (λ x. x) result (parsing.register_in rule_limits place line name.now) }
 {
     match place {
         TermPlace::Constant => Err(refused(line, RuleFaultKind::Syntax)),
@@ -70,7 +71,7 @@ fn word(
     meaning: Option<Meaning>,
     tokens: &mut &[Token<'_>],
 ) -> Result<Start, RuleError>
-    ensures { Gives (λ x. (x, seen tokens.new.now)) result (parsing.word_at line word.now meaning (seen tokens.old.now)) }
+    ensures { Gives (λ x. (x, seen tokens.new.now)) result (parsing.word_at rule_limits line word.now meaning (seen tokens.old.now)) }
 {
     match meaning {
         Some(Meaning::Width) => {
@@ -117,7 +118,7 @@ pub(crate) fn begin(
     line: usize,
     tokens: &mut &[Token<'_>],
 ) -> Result<Start, RuleError>
-    ensures { Gives (λ x. (x, seen tokens.new.now)) result (parsing.start_at place line (seen tokens.old.now)) }
+    ensures { Gives (λ x. (x, seen tokens.new.now)) result (parsing.start_at rule_limits place line (seen tokens.old.now)) }
 {
     match *tokens {
         [Token::Number(text), rest @ ..] => {
@@ -150,7 +151,7 @@ pub(crate) fn measured(
     line: usize,
     tokens: &mut &[Token<'_>],
 ) -> Result<Text, RuleError>
-    ensures { Gives (λ x. (x, seen tokens.new.now)) result (parsing.measured_at line (seen tokens.old.now)) }
+    ensures { Gives (λ x. (x, seen tokens.new.now)) result (parsing.measured_at rule_limits line (seen tokens.old.now)) }
 {
     match *tokens {
         [Token::Register(name), rest @ ..] => {

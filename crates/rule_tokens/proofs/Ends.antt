@@ -1,7 +1,7 @@
 -- What is spelled is read, where the line of its last token ends behind it.
 use Rattle.std.proofs.Common.{◌≡◌, ℕ, ◌≤◌, List, [], ◌∷◌, ◌++◌, length, Ok, refl}
 use Rattle.std.proofs.lemmas.Bool.{le-leb}
-use Rattle.rule_tokens.specs.Limits.{most_name_bytes}
+use Rattle.rule_tokens.specs.Limits.{Limits}
 use Rattle.rule_tokens.specs.PartReaders.{name_within, type_at, line_end}
 use Rattle.rule_tokens.specs.TypeTokens.{SpellsType}
 use Rattle.rule_tokens.specs.Tokens.{Token, Line}
@@ -13,9 +13,9 @@ EndsLine [] = Unit {0}
 EndsLine (Line next ∷ rest) = Unit {0}
 EndsLine tokens = ⊥
 
-pub name_within-of : (line : ℕ) (name : List ℕ) → length name ≤ most_name_bytes → name_within line name ≡ Ok name
+pub name_within-of : (limits : Limits) (line : ℕ) (name : List ℕ) → length name ≤ limits.name_bytes → name_within limits line name ≡ Ok name
 unfolding name_within
-name_within-of line name le = rw (le-leb (length name) most_name_bytes le) refl
+name_within-of limits line name le = rw (le-leb (length name) limits.name_bytes le) refl
 
 pub type_at-of : (line width : ℕ) (own rest : List Token) → SpellsType width own → type_at line (own ++ rest) ≡ Ok (width, rest)
 unfolding type_at

@@ -4,7 +4,7 @@ use Rattle.std.specs.Str.{bytes_eq}
 use Rattle.std.proofs.lemmas.Bool.{leb-true}
 use Rattle.ops.proofs.KeywordLemmas.{same_word}
 use Rattle.rule_tokens.specs.declared.fault.RuleFaultKind.TheVariants.{TooMany}
-use Rattle.rule_tokens.specs.Limits.{most_name_bytes}
+use Rattle.rule_tokens.specs.Limits.{Limits}
 use Rattle.rule_tokens.specs.Numbers.{type_in}
 use Rattle.rule_tokens.specs.Parts.{Part, Is, Nothing, ◌⨾◌, Maybe}
 use Rattle.rule_tokens.specs.PartReaders.{fault, name_within, type_at, type_or_word, maybe_type, line_end}
@@ -39,11 +39,11 @@ one token rest is = record { own = token ∷ []; is_own = is; whole = refl }
 pub word_as : (word wanted : List ℕ) (rest : List Token) → word ≡ wanted → Takes (Is (Word wanted)) (Word word ∷ rest) rest
 word_as word wanted rest same = one (Word word) rest (ap (λ (w : List ℕ). Word w ∷ []) same)
 
-pub name_within-is : (line : ℕ) (name held : List ℕ) → name_within line name ≡ Ok held → (length held ≤ most_name_bytes) × (name ≡ held)
+pub name_within-is : (limits : Limits) (line : ℕ) (name held : List ℕ) → name_within limits line name ≡ Ok held → (length held ≤ limits.name_bytes) × (name ≡ held)
 unfolding name_within
-name_within-is line name held e =
-    let t = tested (leb (length name) most_name_bytes) name held (fault line TooMany) e in
-    (subst (λ (n : List ℕ). length n ≤ most_name_bytes) t.1 (leb-true (length name) most_name_bytes t.0), t.1)
+name_within-is limits line name held e =
+    let t = tested (leb (length name) limits.name_bytes) name held (fault line TooMany) e in
+    (subst (λ (n : List ℕ). length n ≤ limits.name_bytes) t.1 (leb-true (length name) limits.name_bytes t.0), t.1)
 
 pub type_at-is : (line : ℕ) (tokens : List Token) (x : ℕ × List Token) → type_at line tokens ≡ Ok x → Takes (SpellsType x.0) tokens x.1
 unfolding type_at

@@ -4,7 +4,7 @@ use Rattle.std.specs.Str.{bytes_eq}
 use Rattle.rule_tokens.specs.declared.fault.RuleFaultKind.{RuleFaultKind}
 use Rattle.rule_tokens.specs.declared.fault.RuleFaultKind.TheVariants.{BadByte, Syntax, LeftOut, TooMany}
 use Rattle.rule_tokens.specs.RuleFaults.{RuleFault}
-use Rattle.rule_tokens.specs.Limits.{most_name_bytes}
+use Rattle.rule_tokens.specs.Limits.{Limits}
 use Rattle.rule_tokens.specs.Numbers.{type_in}
 use Rattle.rule_tokens.specs.Tokens.{Token, Line, Word, Bad, Excess}
 
@@ -39,9 +39,9 @@ abbrev pub or_left_out : {A : Type 0} → ℕ → List ℕ → Option A → List
 or_left_out line word (Some x) rest = Ok (x, rest)
 or_left_out line word None rest = Err (misplaced_word line word)
 
--- a name of at most 200 bytes
-unfoldable pub name_within : ℕ → List ℕ → Result (List ℕ) RuleFault
-name_within line name = if nat_le (length name) most_name_bytes then Ok name else Err (fault line TooMany)
+-- a name within the limit
+unfoldable pub name_within : Limits → ℕ → List ℕ → Result (List ℕ) RuleFault
+name_within limits line name = if nat_le (length name) limits.name_bytes then Ok name else Err (fault line TooMany)
 
 -- a type
 unfoldable pub type_at : ℕ → List Token → Read ℕ

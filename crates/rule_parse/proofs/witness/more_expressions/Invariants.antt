@@ -2,9 +2,10 @@ use Rattle.std.proofs.Common.{◌≡◌, length}
 use Rattle.rule_tokens.specs.SeenTokens.{seen}
 use Rattle.rule_parse.specs.RuleReaders.{more_expressions}
 use Rattle.rule_parse.proofs.witness.more_expressions.Given as goal
+use Rattle.rule_tokens.specs.Limits.{rule_limits}
 
 abbrev pub invariant-loop-alloc : goal.invariant-loop-alloc
-invariant-loop-alloc l = more_expressions l.line l.expressions (seen l.tokens.now) ≡ more_expressions l.line l.fn.expressions (seen l.fn.tokens.now)
+invariant-loop-alloc l = more_expressions rule_limits l.line l.expressions (seen l.tokens.now) ≡ more_expressions rule_limits l.line l.fn.expressions (seen l.fn.tokens.now)
 
 abbrev pub decreases-loop-alloc : goal.decreases-loop-alloc
 decreases-loop-alloc l = length (seen l.tokens.now)

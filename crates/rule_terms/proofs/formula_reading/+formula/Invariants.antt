@@ -2,6 +2,7 @@ use Rattle.std.proofs.Common.{◌≡◌, ◌+◌, ◌*◌, length}
 use Rattle.rule_tokens.specs.SeenTokens.{seen}
 use Rattle.rule_terms.specs.FormulaReaders.{member_at, more_members, more_alternatives}
 use Rattle.rule_terms.proofs.formula_reading.+formula.Given as goal
+use Rattle.rule_tokens.specs.Limits.{rule_limits}
 
 -- one level of nesting counts more than all levels of operators
 abbrev pub decreases-member : goal.decreases-member
@@ -21,15 +22,15 @@ decreases-alternatives l = 8 * l.nesting + 4
 
 abbrev pub invariant-more_members-loop-alloc : goal.invariant-more_members-loop-alloc
 invariant-more_members-loop-alloc l =
-    more_members (member_at l.nesting l.line) l.nodes (seen l.tokens.now) ≡ more_members (member_at l.nesting l.line) l.fn.nodes (seen l.fn.tokens.now)
+    more_members (member_at rule_limits l.nesting l.line) l.nodes (seen l.tokens.now) ≡ more_members (member_at rule_limits l.nesting l.line) l.fn.nodes (seen l.fn.tokens.now)
 
 abbrev pub decreases-more_members-loop-alloc : goal.decreases-more_members-loop-alloc
 decreases-more_members-loop-alloc l = length (seen l.tokens.now)
 
 abbrev pub invariant-more_alternatives-loop-alloc : goal.invariant-more_alternatives-loop-alloc
 invariant-more_alternatives-loop-alloc l =
-    more_alternatives (member_at l.nesting l.line) l.nodes (seen l.tokens.now)
-    ≡ more_alternatives (member_at l.nesting l.line) l.fn.nodes (seen l.fn.tokens.now)
+    more_alternatives (member_at rule_limits l.nesting l.line) l.nodes (seen l.tokens.now)
+    ≡ more_alternatives (member_at rule_limits l.nesting l.line) l.fn.nodes (seen l.fn.tokens.now)
 
 abbrev pub decreases-more_alternatives-loop-alloc : goal.decreases-more_alternatives-loop-alloc
 decreases-more_alternatives-loop-alloc l = length (seen l.tokens.now)

@@ -2,6 +2,7 @@ use Rattle.std.proofs.Common.{◌≡◌, ◌+◌, ◌*◌, ◌-◌, length}
 use Rattle.rule_tokens.specs.SeenTokens.{seen}
 use Rattle.rule_terms.specs.TermReaders.{behind_at, operand_at, primary_at, whole_chain_at}
 use Rattle.rule_terms.proofs.reading.+terms.Given as goal
+use Rattle.rule_tokens.specs.Limits.{rule_limits}
 
 -- one level more counts 2, and one nested more as much as all levels
 abbrev pub decreases-primary : goal.decreases-primary
@@ -21,8 +22,8 @@ decreases-begun l = 17 * l.nesting + 16
 
 abbrev pub invariant-behind-loop-opcode : goal.invariant-behind-loop-opcode
 invariant-behind-loop-opcode l =
-    whole_chain_at (operand_at (primary_at l.site.place l.site.line l.nesting) (l.level - 1)) l.level l.nodes (seen l.tokens.now)
-    ≡ behind_at (primary_at l.site.place l.site.line l.nesting) l.level l.fn.nodes (seen l.fn.tokens.now)
+    whole_chain_at (operand_at (primary_at rule_limits l.site.place l.site.line l.nesting) (l.level - 1)) l.level l.nodes (seen l.tokens.now)
+    ≡ behind_at (primary_at rule_limits l.site.place l.site.line l.nesting) l.level l.fn.nodes (seen l.fn.tokens.now)
 
 abbrev pub decreases-behind-loop-opcode : goal.decreases-behind-loop-opcode
 decreases-behind-loop-opcode l = length (seen l.tokens.now)
