@@ -25,6 +25,7 @@ use Rattle.rule_parse.specs.Keywords.{operation_in, source_word_in}
 use Rattle.rule_parse.proofs.Pieces.{operation_in-of}
 use Rattle.rule_viable_prefixes.specs.Misfits as kinds
 use Rattle.rule_viable_prefixes.specs.Misfits.{IsNoun}
+use Rattle.rule_tokens.specs.Limits.{rule_limits}
 
 abbrev IsNone : {A : Type 0} → Option A → Type 0
 IsNone {A} o = (x : A) → o ≡ Some x → ⊥
@@ -39,7 +40,7 @@ record IsUnknown (word : List ℕ) : Type 0 where
 
 not_noun : (word : List ℕ) → IsUnknown word → IsNoun word → ⊥
 unfolding source_word_in
-not_noun word u (kinds.opcode operation is) = u.no_opcode operation (ap operation_in is ∙ operation_in-of operation)
+not_noun word u (kinds.opcode operation is) = u.no_opcode operation (ap operation_in is ∙ operation_in-of rule_limits operation)
 not_noun word u (kinds.predicate pred is) = u.no_predicate pred (ap pred_in is ∙ pred_in-of pred)
 not_noun word u (kinds.type width is) = u.no_type width (type_in-of word width is)
 not_noun word u (kinds.constant is) = u.no_term Constant (meaning_in-of Witness Constant word is)

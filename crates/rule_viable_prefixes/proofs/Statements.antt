@@ -21,18 +21,17 @@ use Rattle.scan.specs.RuleTokens.{is_constant}
 use Rattle.rule_tokens.specs.declared.fault.RuleFaultKind.{RuleFaultKind}
 use Rattle.rule_tokens.specs.declared.fault.RuleFaultKind.TheVariants.{Syntax, LeftOut, TooMany}
 use Rattle.rule_tokens.specs.Steps.{◌>>=◌}
-use Rattle.rule_tokens.specs.Limits.{most_name_bytes}
 use Rattle.rule_tokens.specs.Numbers.{literal_value, type_in}
 use Rattle.rule_tokens.specs.TypeTokens.{SpellsType}
 use Rattle.rule_tokens.specs.Parts.{Part, Is, Comma, ◌⨾◌, Maybe}
 use Rattle.rule_tokens.specs.PartReaders.{fault, unexpected, misplaced_word, left_out, name_within, type_at, maybe_type, line_end}
 use Rattle.rule_tokens.specs.Tokens.{Token, Line, Register, Word, Number, Mark, Bad, Excess}
-use Rattle.rule_tokens.proofs.Ends.{EndsLine}
+use Rattle.rule_tokens.proofs.Ends.{EndsLine, name_within-of}
 use Rattle.rule_tokens.proofs.Types.{type_in-is}
 use Rattle.rule_terms.specs.declared.place.TermPlace.TheVariants.{Constant}
 use Rattle.rule_terms.specs.declared.raw.RawNode.{RawNode}
 use Rattle.rule_terms.specs.declared.raw.RawNode.TheVariants as raw_nodes
-use Rattle.rule_terms.specs.Grammar.{most_nested, SpellsWholeTerm, leaf}
+use Rattle.rule_terms.specs.Grammar.{SpellsWholeTerm, leaf}
 use Rattle.rule_terms.specs.TermReaders.{mark_at, term_at}
 use Rattle.rule_terms.specs.Keywords.{loosest}
 use Rattle.rule_terms.proofs.Readings.{spells_some}
@@ -63,633 +62,639 @@ use Rattle.rule_viable_prefixes.proofs.Outcomes.{Parts}
 use Rattle.rule_viable_prefixes.proofs.FlagRuns.{NoFlag, NoFlagLast, IsNew, new_behind, last_both}
 use Rattle.rule_viable_prefixes.proofs.Parts.{Spelled, then_seq, ends_alike, ends_akin, refused_token, then_end, IsType, type_good}
 use Rattle.rule_viable_prefixes.proofs.Terms.{Named, is_short, is_long, named, mark_good, Term, term_good}
-
--- ---- spellings without values
-
-abbrev pub IsArgument : Half → Part
-IsArgument half own = (a : RawArgument) × SpellsArgument half a own
-
-abbrev pub IsOperand : Half → Part
-IsOperand half own = (a : RawOperand) × SpellsOperand half a own
-
-abbrev IsPair : Half → Part
-IsPair half own = (a b : RawOperand) × SpellsPair half a b own
-
-abbrev pub IsOp : Half → Part
-IsOp half own = (op : RawOp) × SpellsOp half op own
-
--- ---- operands
-
-term_argument : (nodes : List RawNode) (own : List Token) → SpellsWholeTerm Constant most_nested nodes own → IsArgument Target own
-unfolding argument_of
-term_argument (raw_nodes.Literal z ∷ []) own is = (arguments.Literal z, (raw_nodes.Literal z ∷ [], is, refl))
-term_argument (raw_nodes.Constant name ∷ []) own is = (arguments.Constant name, (raw_nodes.Constant name ∷ [], is, refl))
-term_argument nodes own is = (arguments.Term nodes, (nodes, is, refl))
-
-term_argument_good : (line : ℕ) → Good pair (term_argument_at line) (Spelled (IsArgument Target)) line
-term_argument_good line = then_done {s = pair} {L = Term Constant most_nested loosest} argument_of (λ term. Ok (argument_of term.0, term.1)) (λ x rest. refl) (λ x own is. let t = is 0 in term_argument t.0 own t.1) (term_good Constant most_nested line)
-
-undef_sample : (half : Half) → IsArgument half (Word (codes "undef") ∷ [])
-undef_sample half = (arguments.Undef, refl)
-
--- a register whose name is too long
-long_register : (half : Half) (name : List ℕ) → most_name_bytes < length name → IsTooMany (Takes (Spelled (IsArgument half) {A = RawArgument}) []) (Register name)
-long_register half name long = kinds.register name (codes "a", long, omega arith, tt, tt, (arguments.Register (codes "a"), [], (arguments.Register (codes "a"), (omega arith, refl))))
-
-source_word_branch : (line : ℕ) (word : List ℕ) → Branch pair (argument_at Source line) (Spelled (IsArgument Source)) line (Word word)
-unfolding argument_at source_word is_constant
-source_word_branch line word = by (is_constant word) refl
-  where
-    other : (found : Option RawArgument) → is_constant word ≡ false → source_word_in word ≡ found → Branch pair (argument_at Source line) (Spelled (IsArgument Source)) line (Word word)
-    other (Some value) c f = takes value (source_other word value f) (value, source_word_in-is word value f) (λ more. rw (c, f) refl)
-    other None c f = refuses (λ more. (misplaced_word line word, rw (c, f) refl, refl, says_misplaced (codes "C", kinds.constant refl, (arguments.Constant (codes "C"), [], (arguments.Constant (codes "C"), (refl, omega arith, refl)))) line word more))
-
-    constant : is_constant word ≡ true → Named line word → Branch pair (argument_at Source line) (Spelled (IsArgument Source)) line (Word word)
-    constant c (is_short le n) = takes (arguments.Constant word) (noun_other word (kinds.constant c)) (arguments.Constant word, (c, le, refl)) (λ more. rw (c, n) refl)
-    constant c (is_long long n) =
-        refuses (λ more. (fault line TooMany, rw (c, n) refl, refl, says_too_many (Word word) more (kinds.constant word (codes "C", long, omega arith, c, refl, (arguments.Constant (codes "C"), [], (arguments.Constant (codes "C"), (refl, omega arith, refl)))))))
-
-    by : (c : Bool) → is_constant word ≡ c → Branch pair (argument_at Source line) (Spelled (IsArgument Source)) line (Word word)
-    by true c = constant c (named line word)
-    by false c = other (source_word_in word) c refl
-
-source_branch : (line : ℕ) (token : Token) → Branch pair (argument_at Source line) (Spelled (IsArgument Source)) line token
-unfolding argument_at
-source_branch line (Register name) = by (named line name)
-  where
-    by : Named line name → Branch pair (argument_at Source line) (Spelled (IsArgument Source)) line (Register name)
-    by (is_short le n) = takes (arguments.Register name) tt (arguments.Register name, (le, refl)) (λ more. rw n refl)
-    by (is_long long n) = refuses (λ more. (fault line TooMany, rw n refl, refl, says_too_many (Register name) more (long_register Source name long)))
-source_branch line (Number text) = takes (arguments.Literal (literal_value text)) tt (arguments.Literal (literal_value text), (text, refl, refl)) (λ more. refl)
-source_branch line (Word word) = source_word_branch line word
-source_branch line token = refuses (λ more. (unexpected line (token ∷ more), refl, refl, says_unexpected line token more (λ word is. absurd cc)))
-
--- tokens that another reader reads the same way
-same_reading : {X : Type 0} (R S : Reader X) (token : Token) (rest : List Token) → (EndsLine (token ∷ rest) → ⊥) → ((more : List Token) → R (token ∷ more) ≡ S (token ∷ more)) → (more : List Token) → Alike (token ∷ rest) more → R more ≡ S more
-same_reading R S token rest going h more (same t a b) = h b
-same_reading R S token rest going h more (ended a b p q) = absurd (going p)
-
-same_at_end : {X : Type 0} (R S : Reader X) → R [] ≡ S [] → ((number : ℕ) (more : List Token) → R (Line number ∷ more) ≡ S (Line number ∷ more)) → (tokens more : List Token) → EndsLine tokens → Alike tokens more → R more ≡ S more
-same_at_end R S none new tokens more ends alike = by more (ends_alike tokens more alike ends)
-  where
-    by : (more : List Token) → EndsLine more → R more ≡ S more
-    by [] ends = none
-    by (Line number ∷ more) ends = new number more
-    by more ends = absurd ends
-
-no_term : 1 ≤ 0 → ⊥
-no_term some = omega arith
-
-some_argument : (half : Half) → IsArgument half [] → ⊥
-some_argument Source (arguments.Register name, (le, is)) = absurd cc
-some_argument Source (arguments.Undef, is) = absurd cc
-some_argument Source (arguments.Literal z, (text, value, is)) = absurd cc
-some_argument Source (arguments.Constant name, (c, le, is)) = absurd cc
-some_argument Source (arguments.Truth truth, is) = absurd cc
-some_argument Source (arguments.Term nodes, is) = absurd is
-some_argument Target (arguments.Register name, (le, is)) = absurd cc
-some_argument Target (arguments.Undef, is) = absurd cc
-some_argument Target (arguments.Truth truth, is) = absurd is
-some_argument Target (arguments.Literal z, (nodes, is, whole)) = no_term (spells_some is)
-some_argument Target (arguments.Constant name, (nodes, is, whole)) = no_term (spells_some is)
-some_argument Target (arguments.Term nodes, (others, is, whole)) = no_term (spells_some is)
-
-constant_is : IsTrue (is_constant (codes "C"))
-unfolding is_constant
-constant_is = refl
-
--- a constant is read
-ok_no_err : {X : Type 0} (r : Result X RuleFault) (x : X) → r ≡ Ok x → IsErr r → ⊥
-ok_no_err r x p (e, q) = let both = sym p ∙ q in absurd cc
-
-term_reads : (line : ℕ) → NoNoun (term_argument_at line) [] → ⊥
-unfolding is_constant
-term_reads line n =
-    let leaf_ : SpellsWholeTerm Constant most_nested (raw_nodes.Constant (codes "C") ∷ []) (Word (codes "C") ∷ []) = loosened most_nested 0 (raw_nodes.Constant (codes "C") ∷ []) (Word (codes "C") ∷ []) (leaf (raw_nodes.Constant (codes "C")) (Word (codes "C") ∷ []) (refl, omega arith, refl)) in
-    let read : term_at Constant most_nested line (Word (codes "C") ∷ []) ≡ Ok (raw_nodes.Constant (codes "C") ∷ [], []) = term_at-of Constant most_nested line (raw_nodes.Constant (codes "C") ∷ []) (Word (codes "C") ∷ []) [] leaf_ tt in
-    let whole : term_argument_at line (Word (codes "C") ∷ []) ≡ Ok (argument_of (raw_nodes.Constant (codes "C") ∷ []), []) = rw read refl in
-    ok_no_err (term_argument_at line (Word (codes "C") ∷ [])) _ whole (n (codes "C") constant_noun [])
-
-as_term : (line : ℕ) (tokens : List Token) → ((more : List Token) → Alike tokens more → argument_at Target line more ≡ term_argument_at line more) → Outcome pair (term_argument_at line) (Spelled (IsArgument Target)) line tokens (term_argument_at line tokens)
-    → Outcome pair (argument_at Target line) (Spelled (IsArgument Target)) line tokens (argument_at Target line tokens)
-as_term line tokens h o = alike_as pair (argument_at Target line) (term_argument_at line) (Spelled (IsArgument Target)) line tokens (λ x is. some_argument Target is) (term_reads line) h o
-
-argument_reads : (half : Half) (line : ℕ) (written : Option ℕ) → NoNoun (typed_at half line written) [] → ⊥
-unfolding typed_at argument_at source_word is_constant name_within
-argument_reads Source line written n = ok_no_err (typed_at Source line written (Word (codes "C") ∷ [])) _ refl (n (codes "C") constant_noun [])
-argument_reads Target line written n = term_reads line (λ noun is more. by noun more (n noun is more))
-  where
-    made : RawArgument × List Token → Result (RawOperand × List Token) RuleFault
-    made value = Ok (record { written = written; value = value.0 }, value.1)
-
-    by : (noun : List ℕ) (more : List Token) → IsErr (typed_at Target line written (Word noun ∷ more)) → IsErr (term_argument_at line (Word noun ∷ more))
-    by noun more (e, is) = undef (bytes_eq noun (codes "undef")) refl
-      where
-        undef : (b : Bool) → bytes_eq noun (codes "undef") ≡ b → IsErr (term_argument_at line (Word noun ∷ more))
-        undef true h = let read : typed_at Target line written (Word noun ∷ more) ≡ Ok (record { written = written; value = arguments.Undef }, more) = rw h refl in let both = sym read ∙ is in absurd cc
-        undef false h =
-            let same_read : typed_at Target line written (Word noun ∷ more) ≡ (term_argument_at line (Word noun ∷ more) >>= made) = rw h refl in
-            err (term_argument_at line (Word noun ∷ more)) (sym same_read ∙ is)
-          where
-            err : (r : Result (RawArgument × List Token) RuleFault) → (r >>= made) ≡ Err e → IsErr r
-            err (Ok x) q = absurd cc
-            err (Err f) q = (f, refl)
-
-target_outcome : (line : ℕ) (tokens : List Token) → Outcome pair (argument_at Target line) (Spelled (IsArgument Target)) line tokens (argument_at Target line tokens)
-unfolding argument_at
-target_outcome line (Register name ∷ rest) = by (named line name)
-  where
-    by : Named line name → Outcome pair (argument_at Target line) (Spelled (IsArgument Target)) line (Register name ∷ rest) (argument_at Target line (Register name ∷ rest))
-    by (is_short le n) = took pair (argument_at Target line) (Spelled (IsArgument Target)) line (Register name) rest (arguments.Register name) tt (arguments.Register name, (le, refl)) (λ more. rw n refl)
-    by (is_long long n) = refused_token pair (argument_at Target line) (Spelled (IsArgument Target)) line (Register name) rest (arguments.Undef, Word (codes "undef") ∷ [], undef_sample Target) (λ p. p)
-        (λ more. (fault line TooMany, rw n refl, refl, says_too_many (Register name) more (long_register Target name long)))
-target_outcome line (Word word ∷ rest) = by (bytes_eq word (codes "undef")) refl
-  where
-    by : (b : Bool) → bytes_eq word (codes "undef") ≡ b → Outcome pair (argument_at Target line) (Spelled (IsArgument Target)) line (Word word ∷ rest) (argument_at Target line (Word word ∷ rest))
-    by true h = took pair (argument_at Target line) (Spelled (IsArgument Target)) line (Word word) rest arguments.Undef (noun_other word (kinds.undef (same_word word (codes "undef") h))) (arguments.Undef, ap (λ (w : List ℕ). Word w ∷ []) (same_word word (codes "undef") h)) (λ more. rw h refl)
-    by false h = as_term line (Word word ∷ rest) (same_reading (argument_at Target line) (term_argument_at line) (Word word) rest (λ p. p) (λ more. rw h refl)) ((term_argument_good line).outcome (Word word ∷ rest))
-target_outcome line [] = as_term line [] (λ more alike. same_at_end (argument_at Target line) (term_argument_at line) refl (λ number m. refl) [] more tt alike) ((term_argument_good line).outcome [])
-target_outcome line (Line number ∷ rest) = as_term line (Line number ∷ rest) (λ more alike. same_at_end (argument_at Target line) (term_argument_at line) refl (λ number m. refl) (Line number ∷ rest) more tt alike) ((term_argument_good line).outcome (Line number ∷ rest))
-target_outcome line (token ∷ rest) = as_term line (token ∷ rest) (same_reading (argument_at Target line) (term_argument_at line) token rest (λ p. p) (λ more. refl)) ((term_argument_good line).outcome (token ∷ rest))
-
-argument_good : (half : Half) (line : ℕ) → Good pair (argument_at half line) (Spelled (IsArgument half)) line
-unfolding argument_at
-argument_good Source line = by_token (arguments.Undef, Word (codes "undef") ∷ [], undef_sample Source) (source_branch line) (fault line Syntax, refl, refl, refl)
-argument_good Target line = record { sample = (arguments.Undef, Word (codes "undef") ∷ [], undef_sample Target); outcome = target_outcome line }
-
-typed_good : (half : Half) (line : ℕ) (written : Option ℕ) → Good pair (typed_at half line written) (Spelled (IsArgument half)) line
-unfolding typed_at
-typed_good half line written = then_done {s = pair} {L = Spelled (IsArgument half)} (λ value. record { written = written; value = value }) (λ value. Ok (record { written = written; value = value.0 }, value.1)) (λ x rest. refl) (λ x own is. is) (argument_good half line)
-
-typed_operand : (half : Half) (word : List ℕ) (width : ℕ) (own : List Token) → type_in word ≡ Some width → IsArgument half own → IsOperand half (Word word ∷ own)
-typed_operand half word width own t (a, is) = (record { written = Some width; value = a }, (Word word ∷ [], own, (word, type_in-is word width t, refl), is, refl))
-
-untyped_operand : (half : Half) (own : List Token) → IsArgument half own → IsOperand half own
-untyped_operand half own (a, is) = (record { written = None; value = a }, ([], own, refl, is, refl))
-
-untyped_outcome : (half : Half) (line : ℕ) (tokens : List Token) → Outcome pair (typed_at half line None) (Spelled (IsOperand half)) line tokens (typed_at half line None tokens)
-untyped_outcome half line tokens = widen pair (typed_at half line None) (Spelled (IsArgument half)) (Spelled (IsOperand half)) line tokens (λ x own is. untyped_operand half own is) (typed_at half line None tokens) ((typed_good half line None).outcome tokens)
-
-some_operand : (half : Half) → IsOperand half [] → ⊥
-some_operand half (a, (front, back, type, is, whole)) = none back (nothing_behind front back (sym whole)) is
-  where
-    nothing_behind : (front back : List Token) → front ++ back ≡ [] → back ≡ []
-    nothing_behind [] back e = e
-    nothing_behind (t ∷ front) back e = absurd cc
-
-    none : (back : List Token) → back ≡ [] → SpellsArgument half a.value back → ⊥
-    none back e is = some_argument half (a.value, subst (SpellsArgument half a.value) e is)
-
-as_untyped : (half : Half) (line : ℕ) (tokens : List Token) → ((more : List Token) → Alike tokens more → operand_at half line more ≡ typed_at half line None more) → Outcome pair (typed_at half line None) (Spelled (IsOperand half)) line tokens (typed_at half line None tokens)
-    → Outcome pair (operand_at half line) (Spelled (IsOperand half)) line tokens (operand_at half line tokens)
-as_untyped half line tokens h o = alike_as pair (operand_at half line) (typed_at half line None) (Spelled (IsOperand half)) line tokens (λ x is. some_operand half is) (argument_reads half line None) h o
-
-operand_outcome : (half : Half) (line : ℕ) (tokens : List Token) → Outcome pair (operand_at half line) (Spelled (IsOperand half)) line tokens (operand_at half line tokens)
-unfolding maybe_type
-operand_outcome half line (Word word ∷ rest) = by (type_in word) refl
-  where
-    by : (found : Option ℕ) → type_in word ≡ found → Outcome pair (operand_at half line) (Spelled (IsOperand half)) line (Word word ∷ rest) (operand_at half line (Word word ∷ rest))
-    by (Some width) t = led pair (operand_at half line) (typed_at half line (Some width)) (Spelled (IsOperand half)) line (Word word) rest (noun_other word (kinds.type width (type_in-is word width t))) (λ more. rw t refl)
-        (widen pair (typed_at half line (Some width)) (Spelled (IsArgument half)) (λ x own. IsOperand half (Word word ∷ own)) line rest (λ x own is. typed_operand half word width own t is) (typed_at half line (Some width) rest) ((typed_good half line (Some width)).outcome rest))
-    by None t = as_untyped half line (Word word ∷ rest) (same_reading (operand_at half line) (typed_at half line None) (Word word) rest (λ p. p) (λ more. rw t refl)) (untyped_outcome half line (Word word ∷ rest))
-operand_outcome half line [] = as_untyped half line [] (λ more alike. same_at_end (operand_at half line) (typed_at half line None) refl (λ number m. refl) [] more tt alike) (untyped_outcome half line [])
-operand_outcome half line (Line number ∷ rest) = as_untyped half line (Line number ∷ rest) (λ more alike. same_at_end (operand_at half line) (typed_at half line None) refl (λ number m. refl) (Line number ∷ rest) more tt alike) (untyped_outcome half line (Line number ∷ rest))
-operand_outcome half line (token ∷ rest) = as_untyped half line (token ∷ rest) (same_reading (operand_at half line) (typed_at half line None) token rest (λ p. p) (λ more. refl)) (untyped_outcome half line (token ∷ rest))
-
-operand_sample : RawOperand
-operand_sample = record { written = None; value = arguments.Undef }
-
-operand_good : (half : Half) (line : ℕ) → Good pair (operand_at half line) (Spelled (IsOperand half)) line
-operand_good half line = record { sample = (operand_sample, Word (codes "undef") ∷ [], untyped_operand half (Word (codes "undef") ∷ []) (undef_sample half)); outcome = operand_outcome half line }
-
--- ---- two operands
-
-comma_good : (line : ℕ) → Good bare (mark_at (codes ",") line) (Spelled Comma) line
-comma_good line = mark_good (codes ",") line
-
-pair_made : (half : Half) (own : List Token) → (IsOperand half ⨾ Comma ⨾ IsArgument half) own → IsPair half own
-pair_made half own (front, back, (a, is_a), (comma, rest, c, (b, is_b), whole), all) =
-    (a, record { written = None; value = b }, (front, back, is_a, (comma, rest, c, (refl, is_b), whole), all))
-
-pair_good : (half : Half) (line : ℕ) → Good pair (pair_at half line) (Spelled (IsPair half)) line
-unfolding pair_at
-pair_good half line = widened (λ x own is. pair_made half own is)
-    (then_seq {s = pair} {t = pair} _ (operand_good half line) (λ left.
-    then_seq {s = bare} {t = pair} _ (comma_good line) (λ u.
-    then_end _ (λ right. (left, right)) (λ right rest. refl) (typed_good half line None))))
-
--- ---- flags
-
-abbrev Adds : Opcode → Flags → Part
-Adds op before own = (written : List Flag) × (after : Flags) × AddsFlags op before written after × (own ≡ map (λ flag. Word (flag_keyword flag)) written)
-
-no_flag : (op : Opcode) (tokens more : List Token) → Akin tokens more → next_flag op tokens ≡ None → next_flag op more ≡ None
-no_flag op tokens more (same_next (Word word) a b) none = none
-no_flag op tokens more (same_next token a b) none = refl
-no_flag op tokens more (noun_next word noun a b is) none = no_flag_in op noun is
-no_flag op tokens more (ended_next a [] p q) none = refl
-no_flag op tokens more (ended_next a (Line number ∷ b) p q) none = refl
-no_flag op tokens more (ended_next a b p q) none = absurd q
-
-none_added : (op : Opcode) (before : Flags) → Adds op before []
-none_added op before = ([], before, refl, refl)
-
--- ---- a flag again
-
-abbrev flag_tokens : List Flag → List Token
-flag_tokens flags = map (λ flag. Word (flag_keyword flag)) flags
-
--- the flags of an instruction are read
-flags_read : (op : Opcode) (line : ℕ) (written : List Flag) (before after : Flags) (more : List Token) → AddsFlags op before written after → flags_at op line before (flag_tokens written ++ more) ≡ flags_at op line after more
-flags_read op line [] before after more adds = ap (λ (flags : Flags). flags_at op line flags more) adds
-flags_read op line (flag ∷ written) before after more (takes_, new, adds) =
-    flags-more op line before flag (Word (flag_keyword flag) ∷ flag_tokens written ++ more) (flag_in-of op flag takes_) new ∙ flags_read op line written (with_flag before flag) after more adds
-
-one_more : (op : Opcode) (written : List Flag) (before middle : Flags) (flag : Flag) → AddsFlags op before written middle → has_flag (flags_of op) flag ≡ true → has_flag middle flag ≡ false → AddsFlags op before (written ++ flag ∷ []) (with_flag middle flag)
-one_more op [] before middle flag adds own new =
-    let first : has_flag before flag ≡ false = subst (λ (flags : Flags). has_flag flags flag ≡ false) (sym adds) new in
-    (own, first, ap (λ (flags : Flags). with_flag flags flag) adds)
-one_more op (f ∷ written) before middle flag (takes_, new_, adds) own new = (takes_, new_, one_more op written (with_flag before f) middle flag adds own new)
-
-flags_inline : (written : List Flag) → Inline (flag_tokens written)
-flags_inline [] = inline_none
-flags_inline (flag ∷ written) = inline_token (Word (flag_keyword flag)) (flag_tokens written) tt (flags_inline written)
-
--- a flag that is new is the one that is added
-added_is : (before : Flags) (f flag : Flag) → has_flag before flag ≡ false → has_flag (with_flag before f) flag ≡ true → flag ≡ f
-added_is before Nuw Nuw new has = refl
-added_is before Nsw Nsw new has = refl
-added_is before Exact Exact new has = refl
-added_is before f flag new has = let both = sym new ∙ has in absurd cc
-
-repeats : (op : Opcode) (written : List Flag) (before after : Flags) (flag : Flag) → AddsFlags op before written after → has_flag before flag ≡ false → has_flag after flag ≡ true → RepeatsFlag (flag_tokens written) (flag_keyword flag)
-repeats op [] before after flag adds none has = let both = sym none ∙ (ap (λ (flags : Flags). has_flag flags flag) adds ∙ has) in absurd cc
-repeats op (f ∷ written) before after flag (takes_, new, adds) none has = by (has_flag (with_flag before f) flag) refl (λ h. repeats op written (with_flag before f) after flag adds h has)
-  where
-    by : (b : Bool) → has_flag (with_flag before f) flag ≡ b → (has_flag (with_flag before f) flag ≡ false → RepeatsFlag (flag_tokens written) (flag_keyword flag)) → RepeatsFlag (flag_tokens (f ∷ written)) (flag_keyword flag)
-    by true h further = ([], f, written, ap flag_keyword (added_is before f flag none h), refl)
-    by false h further = repeats_behind (Word (flag_keyword f) ∷ []) (flag_tokens written) (flag_tokens (f ∷ written)) (flag_keyword flag) refl (further h)
-
-has_none : (flag : Flag) → has_flag no_flags flag ≡ false
-has_none Nuw = refl
-has_none Nsw = refl
-has_none Exact = refl
-
--- flags of the operation are read, and none is next
-abbrev OwnFlags : Opcode → List Token → List Token → Type 0
-OwnFlags op own rest = Adds op no_flags own × (next_flag op rest ≡ None)
-
-abbrev FlagsAre : Opcode → ℕ → List Token → Type 0
-FlagsAre op line tokens = OutcomeBy (OwnFlags op) pair (flags_at op line no_flags) (Spelled (Adds op no_flags)) line tokens (flags_at op line no_flags tokens)
-
--- behind these flags no other stands
-no_more_flags : (op : Opcode) (line : ℕ) (written : List Flag) (before : Flags) (tokens : List Token) → AddsFlags op no_flags written before → next_flag op tokens ≡ None → FlagsAre op line (flag_tokens written ++ tokens)
-no_more_flags op line written before tokens adds none =
-    subst (OutcomeBy (OwnFlags op) pair (flags_at op line no_flags) (Spelled (Adds op no_flags)) line (flag_tokens written ++ tokens)) (sym (kept tokens (akin (alike_itself tokens))))
-    (record { value = before; own = flag_tokens written; rest = tokens; is_own = (written, before, adds, refl); inline = flags_inline written; there = refl; is = refl; kept = kept; apart = ((written, before, adds, refl), none) })
-  where
-    kept : (more : List Token) → Akin tokens more → flags_at op line no_flags (flag_tokens written ++ more) ≡ Ok (before, more)
-    kept more alike = flags_read op line written no_flags before more adds ∙ flags_done op line before more (no_flag op tokens more alike none)
-
--- or one of them again
-flag_again : (op : Opcode) (line : ℕ) (written : List Flag) (before : Flags) (flag : Flag) (word : List ℕ) (rest : List Token) → AddsFlags op no_flags written before → flag_in op word ≡ Some flag → has_flag before flag ≡ true → FlagsAre op line (flag_tokens written ++ Word word ∷ rest)
-flag_again op line written before flag word rest adds found has =
-    subst (OutcomeBy (OwnFlags op) pair (flags_at op line no_flags) (Spelled (Adds op no_flags)) line (flag_tokens written ++ Word word ∷ rest)) (sym (again rest))
-    (record {
-      front = flag_tokens written;
-      behind = Word word ∷ rest;
-      there = refl;
-      begins = (before, [], (written, before, adds, append-nil (flag_tokens written)));
-      inline = flags_inline written;
-      refused = λ more alike. refused more alike;
-      here = refl;
-      says = says_word word rest (inr (inl (subst (RepeatsFlag (flag_tokens written)) (sym (flag_in-is op word flag found).0) (repeats op written no_flags before flag adds (has_none flag) has))));
-      new = λ left is. absurd cc;
-    })
-  where
-    again : (more : List Token) → flags_at op line no_flags (flag_tokens written ++ Word word ∷ more) ≡ Err (fault line Syntax)
-    again more = flags_read op line written no_flags before (Word word ∷ more) adds ∙ flags-again op line before flag (Word word ∷ more) found has
-
-    refused : (more : List Token) → Alike (Word word ∷ rest) more → IsErr (flags_at op line no_flags (flag_tokens written ++ more))
-    refused more (same t a b) = (fault line Syntax, again b)
-    refused more (ended a b p q) = absurd p
-
-word_behind : (op : Opcode) (line : ℕ) (written : List Flag) (before : Flags) (word : List ℕ) (rest : List Token) → AddsFlags op no_flags written before
-    → ((more : List Flag) (after : Flags) → AddsFlags op no_flags more after → FlagsAre op line (flag_tokens more ++ rest)) → (found : Option Flag) → flag_in op word ≡ found → FlagsAre op line (flag_tokens written ++ Word word ∷ rest)
-word_behind op line written before word rest adds further None f = no_more_flags op line written before (Word word ∷ rest) adds f
-word_behind op line written before word rest adds further (Some flag) f = by (has_flag before flag) refl
-  where
-    by : (b : Bool) → has_flag before flag ≡ b → FlagsAre op line (flag_tokens written ++ Word word ∷ rest)
-    by true h = flag_again op line written before flag word rest adds f h
-    by false h =
-        let is = flag_in-is op word flag f in
-        let whole : flag_tokens (written ++ flag ∷ []) ++ rest ≡ flag_tokens written ++ Word word ∷ rest =
-        ap (λ (ts : List Token). ts ++ rest) (map-append (λ (g : Flag). Word (flag_keyword g)) written (flag ∷ [])) ∙ append_assoc (flag_tokens written) (Word (flag_keyword flag) ∷ []) rest ∙ ap (λ (w : List ℕ). flag_tokens written ++ Word w ∷ rest) (sym is.0) in
-        subst (FlagsAre op line) whole (further (written ++ flag ∷ []) (with_flag before flag) (one_more op written no_flags before flag adds is.1 h))
-
-flags_behind : (op : Opcode) (line : ℕ) (tokens : List Token) (written : List Flag) (before : Flags) → AddsFlags op no_flags written before → FlagsAre op line (flag_tokens written ++ tokens)
-flags_behind op line [] written before adds = no_more_flags op line written before [] adds refl
-flags_behind op line (Word word ∷ rest) written before adds = word_behind op line written before word rest adds (λ more after all. flags_behind op line rest more after all) (flag_in op word) refl
-flags_behind op line (token ∷ rest) written before adds = no_more_flags op line written before (token ∷ rest) adds refl
-
--- ---- what stands behind flags
-
--- a flag that stands there is one of the operation
-repeated_own : (op : Opcode) (written : List Flag) (before after : Flags) (left : List ℕ) → AddsFlags op before written after → RepeatsFlag (flag_tokens written) left → flag_in op left ≡ None → ⊥
-repeated_own op [] before after left adds ([], flag, flags, word, whole) none = cc
-repeated_own op [] before after left adds (t ∷ first, flag, flags, word, whole) none = cc
-repeated_own op (f ∷ written) before after left (takes_, new, adds) ([], flag, flags, word, whole) none =
-    let same_flag : flag_keyword f ≡ flag_keyword flag = cc in
-    let both = sym (flag_in-of op f takes_) ∙ ap (flag_in op) (same_flag ∙ sym word) ∙ none in absurd cc
-repeated_own op (f ∷ written) before after left (takes_, new, adds) (t ∷ first, flag, flags, word, whole) none = repeated_own op written (with_flag before f) after left adds (first, flag, flags, word, cc) none
-
--- what is left out is the next word
-word_left : (fits : Fitting) (none : List ℕ → Type 0) (tokens : List Token) (kind : RuleFaultKind) (left : List ℕ) → SaysFirst fits none tokens kind → kind ≡ LeftOut left → (more : List Token) × (tokens ≡ Word left ∷ more)
-word_left fits none [] kind left says is = let both = sym says ∙ is in absurd cc
-word_left fits none (Excess ∷ tokens) kind left told is = let both = sym (told.excess refl) ∙ is in absurd cc
-word_left fits none (token ∷ tokens) kind left told is = (tokens, ap (λ (t : Token). t ∷ tokens) (of_word (subst (IsMisfit fits token tokens) is (told.misfit (λ e. cc)))))
-  where
-    first_kind : (ts : List Token) → LeftOut left ≡ kind_at ts → ⊥
-    first_kind [] e = cc
-    first_kind (Bad ∷ ts) e = cc
-    first_kind (t ∷ ts) e = cc
-
-    of_word : IsMisfit fits token tokens (LeftOut left) → token ≡ Word left
-    of_word (itself says) = says.0
-    of_word (read_on (word, same_word_, deep, none, e)) = absurd (first_kind tokens e)
-
-begins_other : (op : Opcode) (own rest : List Token) → BeginsOperand own → next_flag op (own ++ rest) ≡ None
-begins_other op (Register name ∷ ts) rest begins = refl
-begins_other op (Number text ∷ ts) rest begins = refl
-begins_other op (Word word ∷ ts) rest begins = begins.no_flag op
-begins_other op (Mark mark ∷ ts) rest begins = refl
-begins_other op tokens rest begins = absurd begins
-
-operand_begins : (op : Opcode) (half : Half) (a : RawOperand) (own rest : List Token) → SpellsOperand half a own → next_flag op (own ++ rest) ≡ None
-operand_begins op half a own rest (front, back, type, argument, whole) = rw (whole, append_assoc front back rest) (by a.written type)
-  where
-    by : (written : Option ℕ) → Maybe SpellsType written front → next_flag op (front ++ (back ++ rest)) ≡ None
-    by None is = rw is (begins_other op back rest (argument_begins half a.value back argument))
-    by (Some width) (word, type_, is) = rw is (type_is_no_flag op word width type_)
-
-pair_begins : (op : Opcode) (half : Half) (own : List Token) → IsPair half own → next_flag op own ≡ None
-pair_begins op half own (a, b, (front, back, operand, others, whole)) = ap (next_flag op) whole ∙ operand_begins op half a front back operand
-
-some_pair : (half : Half) → IsPair half [] → ⊥
-some_pair half (a, b, (front, back, operand, others, whole)) = by front whole operand
-  where
-    by : (front : List Token) → [] ≡ front ++ back → SpellsOperand half a front → ⊥
-    by [] none is = some_operand half (a, is)
-    by (t ∷ front) none is = absurd cc
-
--- an operation with the flag
-abbrev op_of : Flag → Opcode
-op_of Nuw = Add
-op_of Nsw = Add
-op_of Exact = UDiv
-
-has_own : (flag : Flag) → has_flag (flags_of (op_of flag)) flag ≡ true
-has_own Nuw = refl
-has_own Nsw = refl
-has_own Exact = refl
-
-pair_other : (half : Half) (token : Token) (tokens : List Token) → IsPair half (token ∷ tokens) → NoFlag token
-pair_other half token tokens is flag equal =
-    let none : next_flag (op_of flag) (Word (flag_keyword flag) ∷ tokens) ≡ None = ap (λ (t : Token). next_flag (op_of flag) (t ∷ tokens)) (sym equal) ∙ pair_begins (op_of flag) half (token ∷ tokens) is in
-    let both = sym (flag_in-of (op_of flag) flag (has_own flag)) ∙ none in absurd cc
-
-flags_parts : {B Y : Type 0} (op : Opcode) (half : Half) (S : Flags × List Token → Result Y RuleFault) (line : ℕ) → Parts {A = Flags} {B = B} (OwnFlags op) pair S (λ x. Spelled (IsPair half)) line
-flags_parts {B} {Y} op half S line = record {
-  new = λ own rest c x found p. new _ _ own rest c found.kind p.front p.behind p.there p.begins.1 p.begins.2 p.says p.new;
-  last = λ own rest c x y more is last_. last own more is last_;
-}
-  where
-    new : (fits : Fitting) (none : List ℕ → Type 0) (own rest : List Token) → OwnFlags op own rest → (kind : RuleFaultKind) (front behind : List Token) → rest ≡ front ++ behind → (more : List Token) → IsPair half (front ++ more) → SaysFirst fits none behind kind → IsNew front kind → IsNew (own ++ front) kind
-    new fits none own rest c kind [] behind there more is says new_ = λ left left_out_ again.
-        let w = word_left fits none behind kind left says left_out_ in
-        let flags = c.0 in
-        repeated_own op flags.0 no_flags flags.1 left flags.2 (subst (λ (ts : List Token). RepeatsFlag ts left) (append-nil own ∙ flags.3) again)
-        (subst (λ (ts : List Token). next_flag op ts ≡ None) (there ∙ w.1) c.1)
-    new fits none own rest c kind (u ∷ front) behind there more is says new_ = new_behind own (u ∷ front) kind (inr (pair_other half u (front ++ more) is)) new_
-
-    last : (own more : List Token) → IsPair half more → NoFlagLast more → NoFlagLast (own ++ more)
-    last own [] is last_ = absurd (some_pair half is)
-    last own (u ∷ more) is last_ = last_both own u more last_
-
--- ---- what a statement computes
-
-binary_made : (half : Half) (op : Opcode) (own : List Token) → (Adds op no_flags ⨾ IsPair half) own → IsOp half (Word (opcode_keyword op) ∷ own)
-binary_made half op own (front, back, (written, after, adds, flags), (a, b, is), whole) =
-    (Binary op after a b, (Word (opcode_keyword op) ∷ [], own, refl, (front, back, (written, adds, flags), is, whole), refl))
-
-binary_good : (half : Half) (line : ℕ) (op : Opcode) → Good pair (binary_at half line op) (λ x own. IsOp half (Word (opcode_keyword op) ∷ own)) line
-unfolding binary_at
-binary_good half line op = widened {L = Spelled (Adds op no_flags ⨾ IsPair half)} (λ x own is. binary_made half op own is)
-    (record {
-      sample = let s = (behind no_flags).sample in (s.0, s.1, ([], s.1, none_added op no_flags, s.2, refl));
-      outcome = λ tokens.
-          then_by (OwnFlags op) pair pair (flags_at op line no_flags) S (Spelled (Adds op no_flags)) (λ x. Spelled (IsPair half)) (Spelled (Adds op no_flags ⨾ IsPair half)) line tokens (λ x y front back p q. (front, back, p, q, refl)) (λ x own is. (behind x).sample)
-          (flags_parts {B = RawOp} op half S line) (flags_behind op line tokens [] no_flags refl) (λ x rest e. (behind x).outcome rest);
-    })
-  where
-    S : Flags × List Token → Result (RawOp × List Token) RuleFault
-    S flags = pair_at half line flags.1 >>= λ p. Ok (Binary op flags.0 p.0.0 p.0.1, p.1)
-
-    behind : (flags : Flags) → Good {A = RawOp} pair (λ ts. S (flags, ts)) (Spelled (IsPair half)) line
-    behind flags = then_done {s = pair} {L = Spelled (IsPair half)} (λ p. Binary op flags p.0 p.1) _ (λ x rest. refl) (λ x own is. is) (pair_good half line)
-
-abbrev IsPred : Part
-IsPred own = (pred : Pred) × Is (Word (predicate_keyword pred)) own
-
-pred_branch : (line : ℕ) (token : Token) → Branch pair (pred_at line) (Spelled IsPred) line token
-unfolding pred_at
-pred_branch line (Word word) = by (pred_in word) refl
-  where
-    by : (found : Option Pred) → pred_in word ≡ found → Branch pair (pred_at line) (Spelled IsPred) line (Word word)
-    by (Some pred) f = takes pred (noun_other word (kinds.predicate pred (pred_in-is word pred f))) (pred, ap (λ (w : List ℕ). Word w ∷ []) (pred_in-is word pred f)) (λ more. rw f refl)
-    by None f = refuses (λ more. (misplaced_word line word, rw f refl, refl, says_misplaced (predicate_keyword Eq, kinds.predicate Eq refl, (Eq, [], (Eq, refl))) line word more))
-pred_branch line token = refuses (λ more. (unexpected line (token ∷ more), refl, refl, says_unexpected line token more (λ word is. absurd cc)))
-
-pred_good : (line : ℕ) → Good pair (pred_at line) (Spelled IsPred) line
-unfolding pred_at
-pred_good line = by_token (Eq, Word (predicate_keyword Eq) ∷ [], (Eq, refl)) (pred_branch line) (fault line Syntax, refl, refl, refl)
-
-compare_made : (half : Half) (own : List Token) → (IsPred ⨾ IsPair half) own → IsOp half (Word (codes "icmp") ∷ own)
-compare_made half own (front, back, (pred, p), (a, b, is), whole) = (Compare pred a b, (Word (codes "icmp") ∷ [], own, refl, (front, back, p, is, whole), refl))
-
-compare_good : (half : Half) (line : ℕ) → Good pair (compare_at half line) (λ x own. IsOp half (Word (codes "icmp") ∷ own)) line
-unfolding compare_at
-compare_good half line = widened {L = Spelled (IsPred ⨾ IsPair half)} (λ x own is. compare_made half own is)
-    (then_seq {s = pair} {t = pair} _ (pred_good line) (λ pred. then_done {s = pair} {L = Spelled (IsPair half)} (λ p. Compare pred p.0 p.1) _ (λ x rest. refl) (λ x own is. is) (pair_good half line)))
-
-select_made : (half : Half) (own : List Token) → (IsOperand half ⨾ Comma ⨾ IsOperand half ⨾ Comma ⨾ IsOperand half) own → IsOp half (Word (codes "select") ∷ own)
-select_made half own (f, b, (condition, is_c), (g, c, comma, (h, d, (first, is_first), (i, e, other, (second, is_second), w4), w3), w2), w1) =
-    (Select condition first second, (Word (codes "select") ∷ [], own, refl, (f, b, is_c, (g, c, comma, (h, d, is_first, (i, e, other, is_second, w4), w3), w2), w1), refl))
-
-select_good : (half : Half) (line : ℕ) → Good pair (select_at half line) (λ x own. IsOp half (Word (codes "select") ∷ own)) line
-unfolding select_at
-select_good half line = widened {L = Spelled (IsOperand half ⨾ Comma ⨾ IsOperand half ⨾ Comma ⨾ IsOperand half)} (λ x own is. select_made half own is)
-    (then_seq {s = pair} {t = pair} _ (operand_good half line) (λ condition.
-    then_seq {s = bare} {t = pair} _ (comma_good line) (λ u.
-    then_seq {s = pair} {t = pair} _ (operand_good half line) (λ if_true.
-    then_seq {s = bare} {t = pair} _ (comma_good line) (λ v.
-    then_end _ (λ if_false. Select condition if_true if_false) (λ if_false rest. refl) (operand_good half line))))))
-
--- ---- casts
-
-abbrev IsTo : Part
-IsTo own = (to : Option ℕ) × Maybe SpellsTo to own
-
-no_to : IsTo []
-no_to = (None, refl)
-
-to_ends : (line : ℕ) (more : List Token) → EndsLine more → to_at line more ≡ Ok (None, more)
-unfolding to_at
-to_ends line [] ends = refl
-to_ends line (Line number ∷ more) ends = refl
-to_ends line more ends = absurd ends
-
-type_end_good : (line : ℕ) → Good pair (λ ts. type_at line ts >>= λ width. (line_end line width.1 >>= λ behind. Ok (Some width.0, behind))) (Spelled IsType) line
-type_end_good line = then_end _ (λ width. Some width) (λ width rest. refl) (type_good line)
-
-to_outcome : (line : ℕ) (tokens : List Token) → Outcome pair (to_at line) (Spelled IsTo) line tokens (to_at line tokens)
-unfolding to_at
-to_outcome line [] = passed pair (to_at line) (Spelled IsTo) line [] None no_to (λ more alike. to_ends line more (ends_akin [] more alike tt))
-to_outcome line (Line number ∷ rest) = passed pair (to_at line) (Spelled IsTo) line (Line number ∷ rest) None no_to (λ more alike. to_ends line more (ends_akin (Line number ∷ rest) more alike tt))
-to_outcome line (Word word ∷ rest) = by (bytes_eq word (codes "to")) refl
-  where
-    made : (own : List Token) → word ≡ codes "to" → IsType own → IsTo (Word word ∷ own)
-    made own is (width, type) = (Some width, (Word word ∷ [], own, ap (λ (w : List ℕ). Word w ∷ []) is, type, refl))
-
-    by : (b : Bool) → bytes_eq word (codes "to") ≡ b → Outcome pair (to_at line) (Spelled IsTo) line (Word word ∷ rest) (to_at line (Word word ∷ rest))
-    by true h = led pair (to_at line) (λ ts. type_at line ts >>= λ width. (line_end line width.1 >>= λ behind. Ok (Some width.0, behind))) (Spelled IsTo) line (Word word) rest (λ flag is. to_other flag (sym (same_word word (codes "to") h) ∙ is)) (λ more. rw h refl)
-        (widen pair (λ ts. type_at line ts >>= λ width. (line_end line width.1 >>= λ behind. Ok (Some width.0, behind))) (Spelled IsType) (λ x own. IsTo (Word word ∷ own)) line rest (λ x own is. made own (same_word word (codes "to") h) is) _ ((type_end_good line).outcome rest))
-    by false h = refused_token pair (to_at line) (Spelled IsTo) line (Word word) rest (None, [], no_to) (λ p. p) (λ more. (fault line Syntax, rw h refl, refl, says_word word more (inr (inr (λ noun is others. (fault line Syntax, rw (not_to noun is) refl))))))
-to_outcome line (token ∷ rest) = refused_token pair (to_at line) (Spelled IsTo) line token rest (None, [], no_to) (λ p. p) (λ more. (unexpected line (token ∷ more), refl, refl, says_unexpected line token more (λ word is. absurd cc)))
-
-to_good : (line : ℕ) → Good pair (to_at line) (Spelled IsTo) line
-to_good line = record { sample = (None, [], no_to); outcome = to_outcome line }
-
-convert_made : (half : Half) (cast : Cast) (own : List Token) → (IsOperand half ⨾ IsTo) own → IsOp half (Word (cast_keyword cast) ∷ own)
-convert_made half cast own (front, back, (a, is), (to, t), whole) = (Convert cast a to, (Word (cast_keyword cast) ∷ [], own, refl, (front, back, is, t, whole), refl))
-
-convert_good : (half : Half) (line : ℕ) (cast : Cast) → Good pair (convert_at half line cast) (λ x own. IsOp half (Word (cast_keyword cast) ∷ own)) line
-unfolding convert_at
-convert_good half line cast = widened {L = Spelled (IsOperand half ⨾ IsTo)} (λ x own is. convert_made half cast own is)
-    (then_seq {s = pair} {t = pair} _ (operand_good half line) (λ from. then_done {s = pair} {L = Spelled IsTo} (λ to. Convert cast from to) _ (λ x rest. refl) (λ x own is. is) (to_good line)))
-
--- ---- operations
-
-copy_good : (line : ℕ) → Good pair (copy_at line) (Spelled (IsOp Target)) line
-unfolding copy_at
-copy_good line = widened {L = Spelled (IsOperand Target)} (λ x own is. (Copy is.0, is.1)) (then_end _ (λ operand. Copy operand) (λ operand rest. refl) (operand_good Target line))
-
-operation_good : (half : Half) (line : ℕ) (operation : Operation) → Good pair (operation_at half line operation) (λ x own. IsOp half (Word (operation_word operation) ∷ own)) line
-operation_good half line (operations.Binary op) = binary_good half line op
-operation_good half line operations.Compare = compare_good half line
-operation_good half line operations.Select = select_good half line
-operation_good half line (operations.Convert cast) = convert_good half line cast
-
-op_sample : (half : Half) → Sample (Spelled (IsOp half) {A = RawOp})
-op_sample half =
-    let s = (operation_good half 0 operations.Select).sample in
-    (s.0, Word (codes "select") ∷ s.1, s.2)
-
-op_fits : (half : Half) → NounFits (Takes (Spelled (IsOp half) {A = RawOp}) [])
-op_fits half =
-    let s = (operation_good half 0 operations.Select).sample in
-    (codes "select", kinds.opcode operations.Select refl, (s.0, s.1, s.2))
-
-op_word_outcome : (half : Half) (line : ℕ) (word : List ℕ) (rest : List Token) (operation : Operation) → operation_in word ≡ Some operation → Outcome pair (op_at half line) (Spelled (IsOp half)) line (Word word ∷ rest) (op_at half line (Word word ∷ rest))
-unfolding op_at
-op_word_outcome half line word rest operation f =
-    led pair (op_at half line) (operation_at half line operation) (Spelled (IsOp half)) line (Word word) rest (noun_other word (kinds.opcode operation (operation_in-is word operation f))) (λ more. rw f refl)
-    (widen pair (operation_at half line operation) (λ x own. IsOp half (Word (operation_word operation) ∷ own)) (λ x own. IsOp half (Word word ∷ own)) line rest
-    (λ x own is. subst (λ (w : List ℕ). IsOp half (Word w ∷ own)) (sym (operation_in-is word operation f)) is) (operation_at half line operation rest) ((operation_good half line operation).outcome rest))
-
-left_out_on : (line : ℕ) (token : Token) (more : List Token) → (left_out line (token ∷ more)).line ≡ line
-left_out_on line (Word word) more = refl
-left_out_on line token more = refl
-
-source_op_outcome : (line : ℕ) (tokens : List Token) → Outcome pair (op_at Source line) (Spelled (IsOp Source)) line tokens (op_at Source line tokens)
-unfolding op_at
-source_op_outcome line [] = refused_here pair (op_at Source line) (Spelled (IsOp Source)) line [] (op_sample Source) (λ more alike. by more (ends_alike [] more alike tt))
-  where
-    by : (more : List Token) → EndsLine more → IsErrOn (Takes (Spelled (IsOp Source) {A = RawOp}) []) (Lack (op_at Source line) []) line more (op_at Source line more)
-    by [] ends = (fault line Syntax, refl, refl, refl)
-    by (Line number ∷ more) ends = (fault line Syntax, refl, refl, says_syntax (Line number) more tt)
-    by more ends = absurd ends
-source_op_outcome line (Line n ∷ rest) = refused_here pair (op_at Source line) (Spelled (IsOp Source)) line (Line n ∷ rest) (op_sample Source) (λ more alike. by more (ends_alike (Line n ∷ rest) more alike tt))
-  where
-    by : (more : List Token) → EndsLine more → IsErrOn (Takes (Spelled (IsOp Source) {A = RawOp}) []) (Lack (op_at Source line) []) line more (op_at Source line more)
-    by [] ends = (fault line Syntax, refl, refl, refl)
-    by (Line number ∷ more) ends = (fault line Syntax, refl, refl, says_syntax (Line number) more tt)
-    by more ends = absurd ends
-source_op_outcome line (Word word ∷ rest) = by (operation_in word) refl
-  where
-    by : (found : Option Operation) → operation_in word ≡ found → Outcome pair (op_at Source line) (Spelled (IsOp Source)) line (Word word ∷ rest) (op_at Source line (Word word ∷ rest))
-    by (Some operation) f = op_word_outcome Source line word rest operation f
-    by None f = refused_token pair (op_at Source line) (Spelled (IsOp Source)) line (Word word) rest (op_sample Source) (λ p. p) (λ more. (misplaced_word line word, rw f refl, refl, says_misplaced (op_fits Source) line word more))
-source_op_outcome line (token ∷ rest) =
-    refused_token pair (op_at Source line) (Spelled (IsOp Source)) line token rest (op_sample Source) (λ p. p) (λ more. (left_out line (token ∷ more), refl, left_out_on line token more, says_left_out (op_fits Source) line token more))
-
-copy_reads : (line : ℕ) → NoNoun (copy_at line) [] → ⊥
-unfolding copy_at maybe_type type_in typed_at argument_at
-copy_reads line n =
-    let leaf_ : SpellsWholeTerm Constant most_nested (raw_nodes.Constant (codes "C") ∷ []) (Word (codes "C") ∷ []) = loosened most_nested 0 (raw_nodes.Constant (codes "C") ∷ []) (Word (codes "C") ∷ []) (leaf (raw_nodes.Constant (codes "C")) (Word (codes "C") ∷ []) (constant_is, omega arith, refl)) in
-    let read : term_at Constant most_nested line (Word (codes "C") ∷ []) ≡ Ok (raw_nodes.Constant (codes "C") ∷ [], []) = term_at-of Constant most_nested line (raw_nodes.Constant (codes "C") ∷ []) (Word (codes "C") ∷ []) [] leaf_ tt in
-    let whole : copy_at line (Word (codes "C") ∷ []) ≡ Ok (Copy (record { written = None; value = argument_of (raw_nodes.Constant (codes "C") ∷ []) }), []) = rw read refl in
-    ok_no_err (copy_at line (Word (codes "C") ∷ [])) _ whole (n (codes "C") constant_noun [])
-
-first_no : (token : Token) (front back : List Token) → front ≡ token ∷ [] → front ++ back ≡ [] → ⊥
-first_no token [] back is whole = absurd cc
-first_no token (t ∷ front) back is whole = absurd cc
-
-some_op : IsOp Target [] → ⊥
-some_op (Binary op flags a b, (front, back, is, behind, whole)) = first_no (Word (opcode_keyword op)) front back is (sym whole)
-some_op (Compare pred a b, (front, back, is, behind, whole)) = first_no (Word (codes "icmp")) front back is (sym whole)
-some_op (Select a b c, (front, back, is, behind, whole)) = first_no (Word (codes "select")) front back is (sym whole)
-some_op (Convert cast a to, (front, back, is, behind, whole)) = first_no (Word (cast_keyword cast)) front back is (sym whole)
-some_op (Copy a, is) = some_operand Target (a, is)
-
-as_copy : (line : ℕ) (tokens : List Token) → ((more : List Token) → Alike tokens more → op_at Target line more ≡ copy_at line more) → Outcome pair (copy_at line) (Spelled (IsOp Target)) line tokens (copy_at line tokens) → Outcome pair (op_at Target line) (Spelled (IsOp Target)) line tokens (op_at Target line tokens)
-as_copy line tokens h o = alike_as pair (op_at Target line) (copy_at line) (Spelled (IsOp Target)) line tokens (λ x is. some_op is) (copy_reads line) h o
-
-target_op_outcome : (line : ℕ) (tokens : List Token) → Outcome pair (op_at Target line) (Spelled (IsOp Target)) line tokens (op_at Target line tokens)
-unfolding op_at
-target_op_outcome line (Word word ∷ rest) = by (operation_in word) refl
-  where
-    by : (found : Option Operation) → operation_in word ≡ found → Outcome pair (op_at Target line) (Spelled (IsOp Target)) line (Word word ∷ rest) (op_at Target line (Word word ∷ rest))
-    by (Some operation) f = op_word_outcome Target line word rest operation f
-    by None f = as_copy line (Word word ∷ rest) (same_reading (op_at Target line) (copy_at line) (Word word) rest (λ p. p) (λ more. rw f refl)) ((copy_good line).outcome (Word word ∷ rest))
-target_op_outcome line [] = as_copy line [] (λ more alike. same_at_end (op_at Target line) (copy_at line) refl (λ number m. refl) [] more tt alike) ((copy_good line).outcome [])
-target_op_outcome line (Line n ∷ rest) = as_copy line (Line n ∷ rest) (λ more alike. same_at_end (op_at Target line) (copy_at line) refl (λ number m. refl) (Line n ∷ rest) more tt alike) ((copy_good line).outcome (Line n ∷ rest))
-target_op_outcome line (token ∷ rest) = as_copy line (token ∷ rest) (same_reading (op_at Target line) (copy_at line) token rest (λ p. p) (λ more. refl)) ((copy_good line).outcome (token ∷ rest))
-
-op_good : (half : Half) (line : ℕ) → Good pair (op_at half line) (Spelled (IsOp half)) line
-op_good Source line = record { sample = op_sample Source; outcome = source_op_outcome line }
-op_good Target line = record { sample = op_sample Target; outcome = target_op_outcome line }
-
--- ---- statements
-
--- what stands behind the register of a statement
-abbrev pub IsAssigned : Half → Part
-IsAssigned half own = (op : List Token) × IsOp half op × (own ≡ Mark (codes "=") ∷ op)
-
-assigned_join : (half : Half) (front back : List Token) → Is (Mark (codes "=")) front → IsOp half back → IsAssigned half (front ++ back)
-assigned_join half front back mark op = (back, op, ap (λ (ts : List Token). ts ++ back) mark)
-
--- the reader of a statement whose name is short
-pub statement_good : (half : Half) (line : ℕ) (name : List ℕ) → name_within line name ≡ Ok name → Good pair (statement_at half line name) (Spelled (IsAssigned half)) line
-unfolding statement_at
-statement_good half line name short = record { sample = behind.sample; outcome = λ tokens. same_as pair (statement_at half line name) R (Spelled (IsAssigned half)) line tokens (λ more. rw short refl) (behind.outcome tokens) }
-  where
-    R : Reader (RawStatement × List Token)
-    R ts = mark_at (codes "=") line ts >>= λ rest. (op_at half line rest >>= λ op. Ok (record { line = line; name = name; op = op.0 }, op.1))
-
-    made : RawOp → RawStatement
-    made op = record { line = line; name = name; op = op }
-
-    behind : Good {A = RawStatement} pair (λ ts. mark_at (codes "=") line ts >>= λ rest. (op_at half line rest >>= λ op. Ok (made op.0, op.1))) (Spelled (IsAssigned half)) line
-    behind = then {s = bare} {t = pair} _ {L = Spelled (Is (Mark (codes "=")))} {M = λ x. Spelled (IsOp half)} (λ x y front back mark op. assigned_join half front back mark op) (mark_good (codes "=") line)
-        (λ u. then_done {s = pair} {L = Spelled (IsOp half)} made _ (λ x rest. refl) (λ x own is. is) (op_good half line))
+use Rattle.rule_tokens.specs.Limits.{Limits}
+use Rattle.rule_viable_prefixes.proofs.Roomy.{roomy}
+
+module _ (spare_bytes deepest spare_statements : ℕ) where
+  abbrev limits : Limits
+  limits = roomy spare_bytes deepest spare_statements
+
+  -- ---- spellings without values
+
+  abbrev pub IsArgument : Half → Part
+  IsArgument half own = (a : RawArgument) × SpellsArgument limits half a own
+
+  abbrev pub IsOperand : Half → Part
+  IsOperand half own = (a : RawOperand) × SpellsOperand limits half a own
+
+  abbrev IsPair : Half → Part
+  IsPair half own = (a b : RawOperand) × SpellsPair limits half a b own
+
+  abbrev pub IsOp : Half → Part
+  IsOp half own = (op : RawOp) × SpellsOp limits half op own
+
+  -- ---- operands
+
+  term_argument : (nodes : List RawNode) (own : List Token) → SpellsWholeTerm limits Constant limits.nested nodes own → IsArgument Target own
+  unfolding argument_of
+  term_argument (raw_nodes.Literal z ∷ []) own is = (arguments.Literal z, (raw_nodes.Literal z ∷ [], is, refl))
+  term_argument (raw_nodes.Constant name ∷ []) own is = (arguments.Constant name, (raw_nodes.Constant name ∷ [], is, refl))
+  term_argument nodes own is = (arguments.Term nodes, (nodes, is, refl))
+
+  term_argument_good : (line : ℕ) → Good limits (pair limits) (term_argument_at limits line) (Spelled limits (IsArgument Target)) line
+  term_argument_good line = then_done limits {s = (pair limits)} {L = Term spare_bytes deepest spare_statements Constant limits.nested loosest} argument_of (λ term. Ok (argument_of term.0, term.1)) (λ x rest. refl) (λ x own is. let t = is 0 in term_argument t.0 own t.1) (term_good spare_bytes deepest spare_statements Constant limits.nested line)
+
+  undef_sample : (half : Half) → IsArgument half (Word (codes "undef") ∷ [])
+  undef_sample half = (arguments.Undef, refl)
+
+  -- a register whose name is too long
+  long_register : (half : Half) (name : List ℕ) → limits.name_bytes < length name → IsTooMany limits (Takes limits (Spelled limits (IsArgument half) {A = RawArgument}) []) (Register name)
+  long_register half name long = kinds.register name (codes "a", long, omega arith, tt, tt, (arguments.Register (codes "a"), [], (arguments.Register (codes "a"), (omega arith, refl))))
+
+  source_word_branch : (line : ℕ) (word : List ℕ) → Branch limits (pair limits) (argument_at limits Source line) (Spelled limits (IsArgument Source)) line (Word word)
+  unfolding argument_at source_word is_constant
+  source_word_branch line word = by (is_constant word) refl
+    where
+      other : (found : Option RawArgument) → is_constant word ≡ false → source_word_in word ≡ found → Branch limits (pair limits) (argument_at limits Source line) (Spelled limits (IsArgument Source)) line (Word word)
+      other (Some value) c f = takes value (source_other word value f) (value, source_word_in-is limits word value f) (λ more. rw (c, f) refl)
+      other None c f = refuses (λ more. (misplaced_word line word, rw (c, f) refl, refl, says_misplaced limits (codes "C", kinds.constant refl, (arguments.Constant (codes "C"), [], (arguments.Constant (codes "C"), (refl, omega arith, refl)))) line word more))
+
+      constant : is_constant word ≡ true → Named spare_bytes deepest spare_statements line word → Branch limits (pair limits) (argument_at limits Source line) (Spelled limits (IsArgument Source)) line (Word word)
+      constant c (is_short le n) = takes (arguments.Constant word) (noun_other word (kinds.constant c)) (arguments.Constant word, (c, le, refl)) (λ more. rw (c, n) refl)
+      constant c (is_long long n) =
+          refuses (λ more. (fault line TooMany, rw (c, n) refl, refl, says_too_many limits (Word word) more (kinds.constant word (codes "C", long, omega arith, c, refl, (arguments.Constant (codes "C"), [], (arguments.Constant (codes "C"), (refl, omega arith, refl)))))))
+
+      by : (c : Bool) → is_constant word ≡ c → Branch limits (pair limits) (argument_at limits Source line) (Spelled limits (IsArgument Source)) line (Word word)
+      by true c = constant c (named spare_bytes deepest spare_statements line word)
+      by false c = other (source_word_in word) c refl
+
+  source_branch : (line : ℕ) (token : Token) → Branch limits (pair limits) (argument_at limits Source line) (Spelled limits (IsArgument Source)) line token
+  unfolding argument_at
+  source_branch line (Register name) = by (named spare_bytes deepest spare_statements line name)
+    where
+      by : Named spare_bytes deepest spare_statements line name → Branch limits (pair limits) (argument_at limits Source line) (Spelled limits (IsArgument Source)) line (Register name)
+      by (is_short le n) = takes (arguments.Register name) tt (arguments.Register name, (le, refl)) (λ more. rw n refl)
+      by (is_long long n) = refuses (λ more. (fault line TooMany, rw n refl, refl, says_too_many limits (Register name) more (long_register Source name long)))
+  source_branch line (Number text) = takes (arguments.Literal (literal_value text)) tt (arguments.Literal (literal_value text), (text, refl, refl)) (λ more. refl)
+  source_branch line (Word word) = source_word_branch line word
+  source_branch line token = refuses (λ more. (unexpected line (token ∷ more), refl, refl, says_unexpected limits line token more (λ word is. absurd cc)))
+
+  -- tokens that another reader reads the same way
+  same_reading : {X : Type 0} (R S : Reader limits X) (token : Token) (rest : List Token) → (EndsLine (token ∷ rest) → ⊥) → ((more : List Token) → R (token ∷ more) ≡ S (token ∷ more)) → (more : List Token) → Alike limits (token ∷ rest) more → R more ≡ S more
+  same_reading R S token rest going h more (same t a b) = h b
+  same_reading R S token rest going h more (ended a b p q) = absurd (going p)
+
+  same_at_end : {X : Type 0} (R S : Reader limits X) → R [] ≡ S [] → ((number : ℕ) (more : List Token) → R (Line number ∷ more) ≡ S (Line number ∷ more)) → (tokens more : List Token) → EndsLine tokens → Alike limits tokens more → R more ≡ S more
+  same_at_end R S none new tokens more ends alike = by more (ends_alike limits tokens more alike ends)
+    where
+      by : (more : List Token) → EndsLine more → R more ≡ S more
+      by [] ends = none
+      by (Line number ∷ more) ends = new number more
+      by more ends = absurd ends
+
+  no_term : 1 ≤ 0 → ⊥
+  no_term some = omega arith
+
+  some_argument : (half : Half) → IsArgument half [] → ⊥
+  some_argument Source (arguments.Register name, (le, is)) = absurd cc
+  some_argument Source (arguments.Undef, is) = absurd cc
+  some_argument Source (arguments.Literal z, (text, value, is)) = absurd cc
+  some_argument Source (arguments.Constant name, (c, le, is)) = absurd cc
+  some_argument Source (arguments.Truth truth, is) = absurd cc
+  some_argument Source (arguments.Term nodes, is) = absurd is
+  some_argument Target (arguments.Register name, (le, is)) = absurd cc
+  some_argument Target (arguments.Undef, is) = absurd cc
+  some_argument Target (arguments.Truth truth, is) = absurd is
+  some_argument Target (arguments.Literal z, (nodes, is, whole)) = no_term (spells_some limits is)
+  some_argument Target (arguments.Constant name, (nodes, is, whole)) = no_term (spells_some limits is)
+  some_argument Target (arguments.Term nodes, (others, is, whole)) = no_term (spells_some limits is)
+
+  constant_is : IsTrue (is_constant (codes "C"))
+  unfolding is_constant
+  constant_is = refl
+
+  -- a constant is read
+  ok_no_err : {X : Type 0} (r : Result X RuleFault) (x : X) → r ≡ Ok x → IsErr limits r → ⊥
+  ok_no_err r x p (e, q) = let both = sym p ∙ q in absurd cc
+
+  term_reads : (line : ℕ) → NoNoun limits (term_argument_at limits line) [] → ⊥
+  unfolding is_constant
+  term_reads line n =
+      let leaf_ : SpellsWholeTerm limits Constant limits.nested (raw_nodes.Constant (codes "C") ∷ []) (Word (codes "C") ∷ []) = loosened spare_bytes deepest spare_statements limits.nested 0 (raw_nodes.Constant (codes "C") ∷ []) (Word (codes "C") ∷ []) (leaf (raw_nodes.Constant (codes "C")) (Word (codes "C") ∷ []) (refl, omega arith, refl)) in
+      let read : term_at limits Constant limits.nested line (Word (codes "C") ∷ []) ≡ Ok (raw_nodes.Constant (codes "C") ∷ [], []) = term_at-of limits Constant limits.nested line (raw_nodes.Constant (codes "C") ∷ []) (Word (codes "C") ∷ []) [] leaf_ tt in
+      let whole : term_argument_at limits line (Word (codes "C") ∷ []) ≡ Ok (argument_of (raw_nodes.Constant (codes "C") ∷ []), []) = rw read refl in
+      ok_no_err (term_argument_at limits line (Word (codes "C") ∷ [])) _ whole (n (codes "C") constant_noun [])
+
+  as_term : (line : ℕ) (tokens : List Token) → ((more : List Token) → Alike limits tokens more → argument_at limits Target line more ≡ term_argument_at limits line more) → Outcome limits (pair limits) (term_argument_at limits line) (Spelled limits (IsArgument Target)) line tokens (term_argument_at limits line tokens)
+      → Outcome limits (pair limits) (argument_at limits Target line) (Spelled limits (IsArgument Target)) line tokens (argument_at limits Target line tokens)
+  as_term line tokens h o = alike_as limits (pair limits) (argument_at limits Target line) (term_argument_at limits line) (Spelled limits (IsArgument Target)) line tokens (λ x is. some_argument Target is) (term_reads line) h o
+
+  argument_reads : (half : Half) (line : ℕ) (written : Option ℕ) → NoNoun limits (typed_at limits half line written) [] → ⊥
+  unfolding typed_at argument_at source_word is_constant
+  argument_reads Source line written n = ok_no_err (typed_at limits Source line written (Word (codes "C") ∷ [])) (record { written = written; value = arguments.Constant (codes "C") }, []) (rw (name_within-of limits line (codes "C") (omega arith)) refl) (n (codes "C") constant_noun [])
+  argument_reads Target line written n = term_reads line (λ noun is more. by noun more (n noun is more))
+    where
+      made : RawArgument × List Token → Result (RawOperand × List Token) RuleFault
+      made value = Ok (record { written = written; value = value.0 }, value.1)
+
+      by : (noun : List ℕ) (more : List Token) → IsErr limits (typed_at limits Target line written (Word noun ∷ more)) → IsErr limits (term_argument_at limits line (Word noun ∷ more))
+      by noun more (e, is) = undef (bytes_eq noun (codes "undef")) refl
+        where
+          undef : (b : Bool) → bytes_eq noun (codes "undef") ≡ b → IsErr limits (term_argument_at limits line (Word noun ∷ more))
+          undef true h = let read : typed_at limits Target line written (Word noun ∷ more) ≡ Ok (record { written = written; value = arguments.Undef }, more) = rw h refl in let both = sym read ∙ is in absurd cc
+          undef false h =
+              let same_read : typed_at limits Target line written (Word noun ∷ more) ≡ (term_argument_at limits line (Word noun ∷ more) >>= made) = rw h refl in
+              err (term_argument_at limits line (Word noun ∷ more)) (sym same_read ∙ is)
+            where
+              err : (r : Result (RawArgument × List Token) RuleFault) → (r >>= made) ≡ Err e → IsErr limits r
+              err (Ok x) q = absurd cc
+              err (Err f) q = (f, refl)
+
+  target_outcome : (line : ℕ) (tokens : List Token) → Outcome limits (pair limits) (argument_at limits Target line) (Spelled limits (IsArgument Target)) line tokens (argument_at limits Target line tokens)
+  unfolding argument_at
+  target_outcome line (Register name ∷ rest) = by (named spare_bytes deepest spare_statements line name)
+    where
+      by : Named spare_bytes deepest spare_statements line name → Outcome limits (pair limits) (argument_at limits Target line) (Spelled limits (IsArgument Target)) line (Register name ∷ rest) (argument_at limits Target line (Register name ∷ rest))
+      by (is_short le n) = took limits (pair limits) (argument_at limits Target line) (Spelled limits (IsArgument Target)) line (Register name) rest (arguments.Register name) tt (arguments.Register name, (le, refl)) (λ more. rw n refl)
+      by (is_long long n) = refused_token limits (pair limits) (argument_at limits Target line) (Spelled limits (IsArgument Target)) line (Register name) rest (arguments.Undef, Word (codes "undef") ∷ [], undef_sample Target) (λ p. p)
+          (λ more. (fault line TooMany, rw n refl, refl, says_too_many limits (Register name) more (long_register Target name long)))
+  target_outcome line (Word word ∷ rest) = by (bytes_eq word (codes "undef")) refl
+    where
+      by : (b : Bool) → bytes_eq word (codes "undef") ≡ b → Outcome limits (pair limits) (argument_at limits Target line) (Spelled limits (IsArgument Target)) line (Word word ∷ rest) (argument_at limits Target line (Word word ∷ rest))
+      by true h = took limits (pair limits) (argument_at limits Target line) (Spelled limits (IsArgument Target)) line (Word word) rest arguments.Undef (noun_other word (kinds.undef (same_word word (codes "undef") h))) (arguments.Undef, ap (λ (w : List ℕ). Word w ∷ []) (same_word word (codes "undef") h)) (λ more. rw h refl)
+      by false h = as_term line (Word word ∷ rest) (same_reading (argument_at limits Target line) (term_argument_at limits line) (Word word) rest (λ p. p) (λ more. rw h refl)) ((term_argument_good line).outcome (Word word ∷ rest))
+  target_outcome line [] = as_term line [] (λ more alike. same_at_end (argument_at limits Target line) (term_argument_at limits line) refl (λ number m. refl) [] more tt alike) ((term_argument_good line).outcome [])
+  target_outcome line (Line number ∷ rest) = as_term line (Line number ∷ rest) (λ more alike. same_at_end (argument_at limits Target line) (term_argument_at limits line) refl (λ number m. refl) (Line number ∷ rest) more tt alike) ((term_argument_good line).outcome (Line number ∷ rest))
+  target_outcome line (token ∷ rest) = as_term line (token ∷ rest) (same_reading (argument_at limits Target line) (term_argument_at limits line) token rest (λ p. p) (λ more. refl)) ((term_argument_good line).outcome (token ∷ rest))
+
+  argument_good : (half : Half) (line : ℕ) → Good limits (pair limits) (argument_at limits half line) (Spelled limits (IsArgument half)) line
+  unfolding argument_at
+  argument_good Source line = by_token limits (arguments.Undef, Word (codes "undef") ∷ [], undef_sample Source) (source_branch line) (fault line Syntax, refl, refl, refl)
+  argument_good Target line = record { sample = (arguments.Undef, Word (codes "undef") ∷ [], undef_sample Target); outcome = target_outcome line }
+
+  typed_good : (half : Half) (line : ℕ) (written : Option ℕ) → Good limits (pair limits) (typed_at limits half line written) (Spelled limits (IsArgument half)) line
+  unfolding typed_at
+  typed_good half line written = then_done limits {s = (pair limits)} {L = Spelled limits (IsArgument half)} (λ value. record { written = written; value = value }) (λ value. Ok (record { written = written; value = value.0 }, value.1)) (λ x rest. refl) (λ x own is. is) (argument_good half line)
+
+  typed_operand : (half : Half) (word : List ℕ) (width : ℕ) (own : List Token) → type_in word ≡ Some width → IsArgument half own → IsOperand half (Word word ∷ own)
+  typed_operand half word width own t (a, is) = (record { written = Some width; value = a }, (Word word ∷ [], own, (word, type_in-is word width t, refl), is, refl))
+
+  untyped_operand : (half : Half) (own : List Token) → IsArgument half own → IsOperand half own
+  untyped_operand half own (a, is) = (record { written = None; value = a }, ([], own, refl, is, refl))
+
+  untyped_outcome : (half : Half) (line : ℕ) (tokens : List Token) → Outcome limits (pair limits) (typed_at limits half line None) (Spelled limits (IsOperand half)) line tokens (typed_at limits half line None tokens)
+  untyped_outcome half line tokens = widen limits (pair limits) (typed_at limits half line None) (Spelled limits (IsArgument half)) (Spelled limits (IsOperand half)) line tokens (λ x own is. untyped_operand half own is) (typed_at limits half line None tokens) ((typed_good half line None).outcome tokens)
+
+  some_operand : (half : Half) → IsOperand half [] → ⊥
+  some_operand half (a, (front, back, type, is, whole)) = none back (nothing_behind front back (sym whole)) is
+    where
+      nothing_behind : (front back : List Token) → front ++ back ≡ [] → back ≡ []
+      nothing_behind [] back e = e
+      nothing_behind (t ∷ front) back e = absurd cc
+
+      none : (back : List Token) → back ≡ [] → SpellsArgument limits half a.value back → ⊥
+      none back e is = some_argument half (a.value, subst (SpellsArgument limits half a.value) e is)
+
+  as_untyped : (half : Half) (line : ℕ) (tokens : List Token) → ((more : List Token) → Alike limits tokens more → operand_at limits half line more ≡ typed_at limits half line None more) → Outcome limits (pair limits) (typed_at limits half line None) (Spelled limits (IsOperand half)) line tokens (typed_at limits half line None tokens)
+      → Outcome limits (pair limits) (operand_at limits half line) (Spelled limits (IsOperand half)) line tokens (operand_at limits half line tokens)
+  as_untyped half line tokens h o = alike_as limits (pair limits) (operand_at limits half line) (typed_at limits half line None) (Spelled limits (IsOperand half)) line tokens (λ x is. some_operand half is) (argument_reads half line None) h o
+
+  operand_outcome : (half : Half) (line : ℕ) (tokens : List Token) → Outcome limits (pair limits) (operand_at limits half line) (Spelled limits (IsOperand half)) line tokens (operand_at limits half line tokens)
+  unfolding maybe_type
+  operand_outcome half line (Word word ∷ rest) = by (type_in word) refl
+    where
+      by : (found : Option ℕ) → type_in word ≡ found → Outcome limits (pair limits) (operand_at limits half line) (Spelled limits (IsOperand half)) line (Word word ∷ rest) (operand_at limits half line (Word word ∷ rest))
+      by (Some width) t = led limits (pair limits) (operand_at limits half line) (typed_at limits half line (Some width)) (Spelled limits (IsOperand half)) line (Word word) rest (noun_other word (kinds.type width (type_in-is word width t))) (λ more. rw t refl)
+          (widen limits (pair limits) (typed_at limits half line (Some width)) (Spelled limits (IsArgument half)) (λ x own. IsOperand half (Word word ∷ own)) line rest (λ x own is. typed_operand half word width own t is) (typed_at limits half line (Some width) rest) ((typed_good half line (Some width)).outcome rest))
+      by None t = as_untyped half line (Word word ∷ rest) (same_reading (operand_at limits half line) (typed_at limits half line None) (Word word) rest (λ p. p) (λ more. rw t refl)) (untyped_outcome half line (Word word ∷ rest))
+  operand_outcome half line [] = as_untyped half line [] (λ more alike. same_at_end (operand_at limits half line) (typed_at limits half line None) refl (λ number m. refl) [] more tt alike) (untyped_outcome half line [])
+  operand_outcome half line (Line number ∷ rest) = as_untyped half line (Line number ∷ rest) (λ more alike. same_at_end (operand_at limits half line) (typed_at limits half line None) refl (λ number m. refl) (Line number ∷ rest) more tt alike) (untyped_outcome half line (Line number ∷ rest))
+  operand_outcome half line (token ∷ rest) = as_untyped half line (token ∷ rest) (same_reading (operand_at limits half line) (typed_at limits half line None) token rest (λ p. p) (λ more. refl)) (untyped_outcome half line (token ∷ rest))
+
+  operand_sample : RawOperand
+  operand_sample = record { written = None; value = arguments.Undef }
+
+  operand_good : (half : Half) (line : ℕ) → Good limits (pair limits) (operand_at limits half line) (Spelled limits (IsOperand half)) line
+  operand_good half line = record { sample = (operand_sample, Word (codes "undef") ∷ [], untyped_operand half (Word (codes "undef") ∷ []) (undef_sample half)); outcome = operand_outcome half line }
+
+  -- ---- two operands
+
+  comma_good : (line : ℕ) → Good limits (bare limits) (mark_at (codes ",") line) (Spelled limits Comma) line
+  comma_good line = mark_good spare_bytes deepest spare_statements (codes ",") line
+
+  pair_made : (half : Half) (own : List Token) → (IsOperand half ⨾ Comma ⨾ IsArgument half) own → IsPair half own
+  pair_made half own (front, back, (a, is_a), (comma, rest, c, (b, is_b), whole), all) =
+      (a, record { written = None; value = b }, (front, back, is_a, (comma, rest, c, (refl, is_b), whole), all))
+
+  pair_good : (half : Half) (line : ℕ) → Good limits (pair limits) (pair_at limits half line) (Spelled limits (IsPair half)) line
+  unfolding pair_at
+  pair_good half line = widened limits (λ x own is. pair_made half own is)
+      (then_seq limits {s = (pair limits)} {t = (pair limits)} _ (operand_good half line) (λ left.
+      then_seq limits {s = (bare limits)} {t = (pair limits)} _ (comma_good line) (λ u.
+      then_end limits _ (λ right. (left, right)) (λ right rest. refl) (typed_good half line None))))
+
+  -- ---- flags
+
+  abbrev Adds : Opcode → Flags → Part
+  Adds op before own = (written : List Flag) × (after : Flags) × AddsFlags op before written after × (own ≡ map (λ flag. Word (flag_keyword flag)) written)
+
+  no_flag : (op : Opcode) (tokens more : List Token) → Akin limits tokens more → next_flag op tokens ≡ None → next_flag op more ≡ None
+  no_flag op tokens more (same_next (Word word) a b) none = none
+  no_flag op tokens more (same_next token a b) none = refl
+  no_flag op tokens more (noun_next word noun a b is) none = no_flag_in op noun is
+  no_flag op tokens more (ended_next a [] p q) none = refl
+  no_flag op tokens more (ended_next a (Line number ∷ b) p q) none = refl
+  no_flag op tokens more (ended_next a b p q) none = absurd q
+
+  none_added : (op : Opcode) (before : Flags) → Adds op before []
+  none_added op before = ([], before, refl, refl)
+
+  -- ---- a flag again
+
+  abbrev flag_tokens : List Flag → List Token
+  flag_tokens flags = map (λ flag. Word (flag_keyword flag)) flags
+
+  -- the flags of an instruction are read
+  flags_read : (op : Opcode) (line : ℕ) (written : List Flag) (before after : Flags) (more : List Token) → AddsFlags op before written after → flags_at op line before (flag_tokens written ++ more) ≡ flags_at op line after more
+  flags_read op line [] before after more adds = ap (λ (flags : Flags). flags_at op line flags more) adds
+  flags_read op line (flag ∷ written) before after more (takes_, new, adds) =
+      flags-more limits op line before flag (Word (flag_keyword flag) ∷ flag_tokens written ++ more) (flag_in-of op flag takes_) new ∙ flags_read op line written (with_flag before flag) after more adds
+
+  one_more : (op : Opcode) (written : List Flag) (before middle : Flags) (flag : Flag) → AddsFlags op before written middle → has_flag (flags_of op) flag ≡ true → has_flag middle flag ≡ false → AddsFlags op before (written ++ flag ∷ []) (with_flag middle flag)
+  one_more op [] before middle flag adds own new =
+      let first : has_flag before flag ≡ false = subst (λ (flags : Flags). has_flag flags flag ≡ false) (sym adds) new in
+      (own, first, ap (λ (flags : Flags). with_flag flags flag) adds)
+  one_more op (f ∷ written) before middle flag (takes_, new_, adds) own new = (takes_, new_, one_more op written (with_flag before f) middle flag adds own new)
+
+  flags_inline : (written : List Flag) → Inline limits (flag_tokens written)
+  flags_inline [] = inline_none limits
+  flags_inline (flag ∷ written) = inline_token limits (Word (flag_keyword flag)) (flag_tokens written) tt (flags_inline written)
+
+  -- a flag that is new is the one that is added
+  added_is : (before : Flags) (f flag : Flag) → has_flag before flag ≡ false → has_flag (with_flag before f) flag ≡ true → flag ≡ f
+  added_is before Nuw Nuw new has = refl
+  added_is before Nsw Nsw new has = refl
+  added_is before Exact Exact new has = refl
+  added_is before f flag new has = let both = sym new ∙ has in absurd cc
+
+  repeats : (op : Opcode) (written : List Flag) (before after : Flags) (flag : Flag) → AddsFlags op before written after → has_flag before flag ≡ false → has_flag after flag ≡ true → RepeatsFlag (flag_tokens written) (flag_keyword flag)
+  repeats op [] before after flag adds none has = let both = sym none ∙ (ap (λ (flags : Flags). has_flag flags flag) adds ∙ has) in absurd cc
+  repeats op (f ∷ written) before after flag (takes_, new, adds) none has = by (has_flag (with_flag before f) flag) refl (λ h. repeats op written (with_flag before f) after flag adds h has)
+    where
+      by : (b : Bool) → has_flag (with_flag before f) flag ≡ b → (has_flag (with_flag before f) flag ≡ false → RepeatsFlag (flag_tokens written) (flag_keyword flag)) → RepeatsFlag (flag_tokens (f ∷ written)) (flag_keyword flag)
+      by true h further = ([], f, written, ap flag_keyword (added_is before f flag none h), refl)
+      by false h further = repeats_behind limits (Word (flag_keyword f) ∷ []) (flag_tokens written) (flag_tokens (f ∷ written)) (flag_keyword flag) refl (further h)
+
+  has_none : (flag : Flag) → has_flag no_flags flag ≡ false
+  has_none Nuw = refl
+  has_none Nsw = refl
+  has_none Exact = refl
+
+  -- flags of the operation are read, and none is next
+  abbrev OwnFlags : Opcode → List Token → List Token → Type 0
+  OwnFlags op own rest = Adds op no_flags own × (next_flag op rest ≡ None)
+
+  abbrev FlagsAre : Opcode → ℕ → List Token → Type 0
+  FlagsAre op line tokens = OutcomeBy limits (OwnFlags op) (pair limits) (flags_at op line no_flags) (Spelled limits (Adds op no_flags)) line tokens (flags_at op line no_flags tokens)
+
+  -- behind these flags no other stands
+  no_more_flags : (op : Opcode) (line : ℕ) (written : List Flag) (before : Flags) (tokens : List Token) → AddsFlags op no_flags written before → next_flag op tokens ≡ None → FlagsAre op line (flag_tokens written ++ tokens)
+  no_more_flags op line written before tokens adds none =
+      subst (OutcomeBy limits (OwnFlags op) (pair limits) (flags_at op line no_flags) (Spelled limits (Adds op no_flags)) line (flag_tokens written ++ tokens)) (sym (kept tokens (akin limits (alike_itself limits tokens))))
+      (record { value = before; own = flag_tokens written; rest = tokens; is_own = (written, before, adds, refl); inline = flags_inline written; there = refl; is = refl; kept = kept; apart = ((written, before, adds, refl), none) })
+    where
+      kept : (more : List Token) → Akin limits tokens more → flags_at op line no_flags (flag_tokens written ++ more) ≡ Ok (before, more)
+      kept more alike = flags_read op line written no_flags before more adds ∙ flags_done limits op line before more (no_flag op tokens more alike none)
+
+  -- or one of them again
+  flag_again : (op : Opcode) (line : ℕ) (written : List Flag) (before : Flags) (flag : Flag) (word : List ℕ) (rest : List Token) → AddsFlags op no_flags written before → flag_in op word ≡ Some flag → has_flag before flag ≡ true → FlagsAre op line (flag_tokens written ++ Word word ∷ rest)
+  flag_again op line written before flag word rest adds found has =
+      subst (OutcomeBy limits (OwnFlags op) (pair limits) (flags_at op line no_flags) (Spelled limits (Adds op no_flags)) line (flag_tokens written ++ Word word ∷ rest)) (sym (again rest))
+      (record {
+        front = flag_tokens written;
+        behind = Word word ∷ rest;
+        there = refl;
+        begins = (before, [], (written, before, adds, append-nil (flag_tokens written)));
+        inline = flags_inline written;
+        refused = λ more alike. refused more alike;
+        here = refl;
+        says = says_word limits word rest (inr (inl (subst (RepeatsFlag (flag_tokens written)) (sym (flag_in-is op word flag found).0) (repeats op written no_flags before flag adds (has_none flag) has))));
+        new = λ left is. absurd cc;
+      })
+    where
+      again : (more : List Token) → flags_at op line no_flags (flag_tokens written ++ Word word ∷ more) ≡ Err (fault line Syntax)
+      again more = flags_read op line written no_flags before (Word word ∷ more) adds ∙ flags-again limits op line before flag (Word word ∷ more) found has
+
+      refused : (more : List Token) → Alike limits (Word word ∷ rest) more → IsErr limits (flags_at op line no_flags (flag_tokens written ++ more))
+      refused more (same t a b) = (fault line Syntax, again b)
+      refused more (ended a b p q) = absurd p
+
+  word_behind : (op : Opcode) (line : ℕ) (written : List Flag) (before : Flags) (word : List ℕ) (rest : List Token) → AddsFlags op no_flags written before
+      → ((more : List Flag) (after : Flags) → AddsFlags op no_flags more after → FlagsAre op line (flag_tokens more ++ rest)) → (found : Option Flag) → flag_in op word ≡ found → FlagsAre op line (flag_tokens written ++ Word word ∷ rest)
+  word_behind op line written before word rest adds further None f = no_more_flags op line written before (Word word ∷ rest) adds f
+  word_behind op line written before word rest adds further (Some flag) f = by (has_flag before flag) refl
+    where
+      by : (b : Bool) → has_flag before flag ≡ b → FlagsAre op line (flag_tokens written ++ Word word ∷ rest)
+      by true h = flag_again op line written before flag word rest adds f h
+      by false h =
+          let is = flag_in-is op word flag f in
+          let whole : flag_tokens (written ++ flag ∷ []) ++ rest ≡ flag_tokens written ++ Word word ∷ rest =
+          ap (λ (ts : List Token). ts ++ rest) (map-append (λ (g : Flag). Word (flag_keyword g)) written (flag ∷ [])) ∙ append_assoc (flag_tokens written) (Word (flag_keyword flag) ∷ []) rest ∙ ap (λ (w : List ℕ). flag_tokens written ++ Word w ∷ rest) (sym is.0) in
+          subst (FlagsAre op line) whole (further (written ++ flag ∷ []) (with_flag before flag) (one_more op written no_flags before flag adds is.1 h))
+
+  flags_behind : (op : Opcode) (line : ℕ) (tokens : List Token) (written : List Flag) (before : Flags) → AddsFlags op no_flags written before → FlagsAre op line (flag_tokens written ++ tokens)
+  flags_behind op line [] written before adds = no_more_flags op line written before [] adds refl
+  flags_behind op line (Word word ∷ rest) written before adds = word_behind op line written before word rest adds (λ more after all. flags_behind op line rest more after all) (flag_in op word) refl
+  flags_behind op line (token ∷ rest) written before adds = no_more_flags op line written before (token ∷ rest) adds refl
+
+  -- ---- what stands behind flags
+
+  -- a flag that stands there is one of the operation
+  repeated_own : (op : Opcode) (written : List Flag) (before after : Flags) (left : List ℕ) → AddsFlags op before written after → RepeatsFlag (flag_tokens written) left → flag_in op left ≡ None → ⊥
+  repeated_own op [] before after left adds ([], flag, flags, word, whole) none = cc
+  repeated_own op [] before after left adds (t ∷ first, flag, flags, word, whole) none = cc
+  repeated_own op (f ∷ written) before after left (takes_, new, adds) ([], flag, flags, word, whole) none =
+      let same_flag : flag_keyword f ≡ flag_keyword flag = cc in
+      let both = sym (flag_in-of op f takes_) ∙ ap (flag_in op) (same_flag ∙ sym word) ∙ none in absurd cc
+  repeated_own op (f ∷ written) before after left (takes_, new, adds) (t ∷ first, flag, flags, word, whole) none = repeated_own op written (with_flag before f) after left adds (first, flag, flags, word, cc) none
+
+  -- what is left out is the next word
+  word_left : (fits : Fitting) (none : List ℕ → Type 0) (tokens : List Token) (kind : RuleFaultKind) (left : List ℕ) → SaysFirst limits fits none tokens kind → kind ≡ LeftOut left → (more : List Token) × (tokens ≡ Word left ∷ more)
+  word_left fits none [] kind left says is = let both = sym says ∙ is in absurd cc
+  word_left fits none (Excess ∷ tokens) kind left told is = let both = sym (told.excess refl) ∙ is in absurd cc
+  word_left fits none (token ∷ tokens) kind left told is = (tokens, ap (λ (t : Token). t ∷ tokens) (of_word (subst (IsMisfit limits fits token tokens) is (told.misfit (λ e. cc)))))
+    where
+      first_kind : (ts : List Token) → LeftOut left ≡ kind_at ts → ⊥
+      first_kind [] e = cc
+      first_kind (Bad ∷ ts) e = cc
+      first_kind (t ∷ ts) e = cc
+
+      of_word : IsMisfit limits fits token tokens (LeftOut left) → token ≡ Word left
+      of_word (itself says) = says.0
+      of_word (read_on (word, same_word_, deep, none, e)) = absurd (first_kind tokens e)
+
+  begins_other : (op : Opcode) (own rest : List Token) → BeginsOperand limits own → next_flag op (own ++ rest) ≡ None
+  begins_other op (Register name ∷ ts) rest begins = refl
+  begins_other op (Number text ∷ ts) rest begins = refl
+  begins_other op (Word word ∷ ts) rest begins = begins.no_flag op
+  begins_other op (Mark mark ∷ ts) rest begins = refl
+  begins_other op tokens rest begins = absurd begins
+
+  operand_begins : (op : Opcode) (half : Half) (a : RawOperand) (own rest : List Token) → SpellsOperand limits half a own → next_flag op (own ++ rest) ≡ None
+  operand_begins op half a own rest (front, back, type, argument, whole) = rw (whole, append_assoc front back rest) (by a.written type)
+    where
+      by : (written : Option ℕ) → Maybe SpellsType written front → next_flag op (front ++ (back ++ rest)) ≡ None
+      by None is = rw is (begins_other op back rest (argument_begins limits half a.value back argument))
+      by (Some width) (word, type_, is) = rw is (type_is_no_flag limits op word width type_)
+
+  pair_begins : (op : Opcode) (half : Half) (own : List Token) → IsPair half own → next_flag op own ≡ None
+  pair_begins op half own (a, b, (front, back, operand, others, whole)) = ap (next_flag op) whole ∙ operand_begins op half a front back operand
+
+  some_pair : (half : Half) → IsPair half [] → ⊥
+  some_pair half (a, b, (front, back, operand, others, whole)) = by front whole operand
+    where
+      by : (front : List Token) → [] ≡ front ++ back → SpellsOperand limits half a front → ⊥
+      by [] none is = some_operand half (a, is)
+      by (t ∷ front) none is = absurd cc
+
+  -- an operation with the flag
+  abbrev op_of : Flag → Opcode
+  op_of Nuw = Add
+  op_of Nsw = Add
+  op_of Exact = UDiv
+
+  has_own : (flag : Flag) → has_flag (flags_of (op_of flag)) flag ≡ true
+  has_own Nuw = refl
+  has_own Nsw = refl
+  has_own Exact = refl
+
+  pair_other : (half : Half) (token : Token) (tokens : List Token) → IsPair half (token ∷ tokens) → NoFlag token
+  pair_other half token tokens is flag equal =
+      let none : next_flag (op_of flag) (Word (flag_keyword flag) ∷ tokens) ≡ None = ap (λ (t : Token). next_flag (op_of flag) (t ∷ tokens)) (sym equal) ∙ pair_begins (op_of flag) half (token ∷ tokens) is in
+      let both = sym (flag_in-of (op_of flag) flag (has_own flag)) ∙ none in absurd cc
+
+  flags_parts : {B Y : Type 0} (op : Opcode) (half : Half) (S : Flags × List Token → Result Y RuleFault) (line : ℕ) → Parts limits {A = Flags} {B = B} (OwnFlags op) (pair limits) S (λ x. Spelled limits (IsPair half)) line
+  flags_parts {B} {Y} op half S line = record {
+    new = λ own rest c x found p. new _ _ own rest c found.kind p.front p.behind p.there p.begins.1 p.begins.2 p.says p.new;
+    last = λ own rest c x y more is last_. last own more is last_;
+  }
+    where
+      new : (fits : Fitting) (none : List ℕ → Type 0) (own rest : List Token) → OwnFlags op own rest → (kind : RuleFaultKind) (front behind : List Token) → rest ≡ front ++ behind → (more : List Token) → IsPair half (front ++ more) → SaysFirst limits fits none behind kind → IsNew front kind → IsNew (own ++ front) kind
+      new fits none own rest c kind [] behind there more is says new_ = λ left left_out_ again.
+          let w = word_left fits none behind kind left says left_out_ in
+          let flags = c.0 in
+          repeated_own op flags.0 no_flags flags.1 left flags.2 (subst (λ (ts : List Token). RepeatsFlag ts left) (append-nil own ∙ flags.3) again)
+          (subst (λ (ts : List Token). next_flag op ts ≡ None) (there ∙ w.1) c.1)
+      new fits none own rest c kind (u ∷ front) behind there more is says new_ = new_behind own (u ∷ front) kind (inr (pair_other half u (front ++ more) is)) new_
+
+      last : (own more : List Token) → IsPair half more → NoFlagLast more → NoFlagLast (own ++ more)
+      last own [] is last_ = absurd (some_pair half is)
+      last own (u ∷ more) is last_ = last_both own u more last_
+
+  -- ---- what a statement computes
+
+  binary_made : (half : Half) (op : Opcode) (own : List Token) → (Adds op no_flags ⨾ IsPair half) own → IsOp half (Word (opcode_keyword op) ∷ own)
+  binary_made half op own (front, back, (written, after, adds, flags), (a, b, is), whole) =
+      (Binary op after a b, (Word (opcode_keyword op) ∷ [], own, refl, (front, back, (written, adds, flags), is, whole), refl))
+
+  binary_good : (half : Half) (line : ℕ) (op : Opcode) → Good limits (pair limits) (binary_at limits half line op) (λ x own. IsOp half (Word (opcode_keyword op) ∷ own)) line
+  unfolding binary_at
+  binary_good half line op = widened limits {L = Spelled limits (Adds op no_flags ⨾ IsPair half)} (λ x own is. binary_made half op own is)
+      (record {
+        sample = let s = (behind no_flags).sample in (s.0, s.1, ([], s.1, none_added op no_flags, s.2, refl));
+        outcome = λ tokens.
+            then_by limits (OwnFlags op) (pair limits) (pair limits) (flags_at op line no_flags) S (Spelled limits (Adds op no_flags)) (λ x. Spelled limits (IsPair half)) (Spelled limits (Adds op no_flags ⨾ IsPair half)) line tokens (λ x y front back p q. (front, back, p, q, refl)) (λ x own is. (behind x).sample)
+            (flags_parts {B = RawOp} op half S line) (flags_behind op line tokens [] no_flags refl) (λ x rest e. (behind x).outcome rest);
+      })
+    where
+      S : Flags × List Token → Result (RawOp × List Token) RuleFault
+      S flags = pair_at limits half line flags.1 >>= λ p. Ok (Binary op flags.0 p.0.0 p.0.1, p.1)
+
+      behind : (flags : Flags) → Good limits {A = RawOp} (pair limits) (λ ts. S (flags, ts)) (Spelled limits (IsPair half)) line
+      behind flags = then_done limits {s = (pair limits)} {L = Spelled limits (IsPair half)} (λ p. Binary op flags p.0 p.1) _ (λ x rest. refl) (λ x own is. is) (pair_good half line)
+
+  abbrev IsPred : Part
+  IsPred own = (pred : Pred) × Is (Word (predicate_keyword pred)) own
+
+  pred_branch : (line : ℕ) (token : Token) → Branch limits (pair limits) (pred_at line) (Spelled limits IsPred) line token
+  unfolding pred_at
+  pred_branch line (Word word) = by (pred_in word) refl
+    where
+      by : (found : Option Pred) → pred_in word ≡ found → Branch limits (pair limits) (pred_at line) (Spelled limits IsPred) line (Word word)
+      by (Some pred) f = takes pred (noun_other word (kinds.predicate pred (pred_in-is word pred f))) (pred, ap (λ (w : List ℕ). Word w ∷ []) (pred_in-is word pred f)) (λ more. rw f refl)
+      by None f = refuses (λ more. (misplaced_word line word, rw f refl, refl, says_misplaced limits (predicate_keyword Eq, kinds.predicate Eq refl, (Eq, [], (Eq, refl))) line word more))
+  pred_branch line token = refuses (λ more. (unexpected line (token ∷ more), refl, refl, says_unexpected limits line token more (λ word is. absurd cc)))
+
+  pred_good : (line : ℕ) → Good limits (pair limits) (pred_at line) (Spelled limits IsPred) line
+  unfolding pred_at
+  pred_good line = by_token limits (Eq, Word (predicate_keyword Eq) ∷ [], (Eq, refl)) (pred_branch line) (fault line Syntax, refl, refl, refl)
+
+  compare_made : (half : Half) (own : List Token) → (IsPred ⨾ IsPair half) own → IsOp half (Word (codes "icmp") ∷ own)
+  compare_made half own (front, back, (pred, p), (a, b, is), whole) = (Compare pred a b, (Word (codes "icmp") ∷ [], own, refl, (front, back, p, is, whole), refl))
+
+  compare_good : (half : Half) (line : ℕ) → Good limits (pair limits) (compare_at limits half line) (λ x own. IsOp half (Word (codes "icmp") ∷ own)) line
+  unfolding compare_at
+  compare_good half line = widened limits {L = Spelled limits (IsPred ⨾ IsPair half)} (λ x own is. compare_made half own is)
+      (then_seq limits {s = (pair limits)} {t = (pair limits)} _ (pred_good line) (λ pred. then_done limits {s = (pair limits)} {L = Spelled limits (IsPair half)} (λ p. Compare pred p.0 p.1) _ (λ x rest. refl) (λ x own is. is) (pair_good half line)))
+
+  select_made : (half : Half) (own : List Token) → (IsOperand half ⨾ Comma ⨾ IsOperand half ⨾ Comma ⨾ IsOperand half) own → IsOp half (Word (codes "select") ∷ own)
+  select_made half own (f, b, (condition, is_c), (g, c, comma, (h, d, (first, is_first), (i, e, other, (second, is_second), w4), w3), w2), w1) =
+      (Select condition first second, (Word (codes "select") ∷ [], own, refl, (f, b, is_c, (g, c, comma, (h, d, is_first, (i, e, other, is_second, w4), w3), w2), w1), refl))
+
+  select_good : (half : Half) (line : ℕ) → Good limits (pair limits) (select_at limits half line) (λ x own. IsOp half (Word (codes "select") ∷ own)) line
+  unfolding select_at
+  select_good half line = widened limits {L = Spelled limits (IsOperand half ⨾ Comma ⨾ IsOperand half ⨾ Comma ⨾ IsOperand half)} (λ x own is. select_made half own is)
+      (then_seq limits {s = (pair limits)} {t = (pair limits)} _ (operand_good half line) (λ condition.
+      then_seq limits {s = (bare limits)} {t = (pair limits)} _ (comma_good line) (λ u.
+      then_seq limits {s = (pair limits)} {t = (pair limits)} _ (operand_good half line) (λ if_true.
+      then_seq limits {s = (bare limits)} {t = (pair limits)} _ (comma_good line) (λ v.
+      then_end limits _ (λ if_false. Select condition if_true if_false) (λ if_false rest. refl) (operand_good half line))))))
+
+  -- ---- casts
+
+  abbrev IsTo : Part
+  IsTo own = (to : Option ℕ) × Maybe SpellsTo to own
+
+  no_to : IsTo []
+  no_to = (None, refl)
+
+  to_ends : (line : ℕ) (more : List Token) → EndsLine more → to_at line more ≡ Ok (None, more)
+  unfolding to_at
+  to_ends line [] ends = refl
+  to_ends line (Line number ∷ more) ends = refl
+  to_ends line more ends = absurd ends
+
+  type_end_good : (line : ℕ) → Good limits (pair limits) (λ ts. type_at line ts >>= λ width. (line_end line width.1 >>= λ behind. Ok (Some width.0, behind))) (Spelled limits (IsType limits)) line
+  type_end_good line = then_end limits _ (λ width. Some width) (λ width rest. refl) (type_good limits line)
+
+  to_outcome : (line : ℕ) (tokens : List Token) → Outcome limits (pair limits) (to_at line) (Spelled limits IsTo) line tokens (to_at line tokens)
+  unfolding to_at
+  to_outcome line [] = passed limits (pair limits) (to_at line) (Spelled limits IsTo) line [] None no_to (λ more alike. to_ends line more (ends_akin limits [] more alike tt))
+  to_outcome line (Line number ∷ rest) = passed limits (pair limits) (to_at line) (Spelled limits IsTo) line (Line number ∷ rest) None no_to (λ more alike. to_ends line more (ends_akin limits (Line number ∷ rest) more alike tt))
+  to_outcome line (Word word ∷ rest) = by (bytes_eq word (codes "to")) refl
+    where
+      made : (own : List Token) → word ≡ codes "to" → IsType limits own → IsTo (Word word ∷ own)
+      made own is (width, type) = (Some width, (Word word ∷ [], own, ap (λ (w : List ℕ). Word w ∷ []) is, type, refl))
+
+      by : (b : Bool) → bytes_eq word (codes "to") ≡ b → Outcome limits (pair limits) (to_at line) (Spelled limits IsTo) line (Word word ∷ rest) (to_at line (Word word ∷ rest))
+      by true h = led limits (pair limits) (to_at line) (λ ts. type_at line ts >>= λ width. (line_end line width.1 >>= λ behind. Ok (Some width.0, behind))) (Spelled limits IsTo) line (Word word) rest (λ flag is. to_other flag (sym (same_word word (codes "to") h) ∙ is)) (λ more. rw h refl)
+          (widen limits (pair limits) (λ ts. type_at line ts >>= λ width. (line_end line width.1 >>= λ behind. Ok (Some width.0, behind))) (Spelled limits (IsType limits)) (λ x own. IsTo (Word word ∷ own)) line rest (λ x own is. made own (same_word word (codes "to") h) is) _ ((type_end_good line).outcome rest))
+      by false h = refused_token limits (pair limits) (to_at line) (Spelled limits IsTo) line (Word word) rest (None, [], no_to) (λ p. p) (λ more. (fault line Syntax, rw h refl, refl, says_word limits word more (inr (inr (λ noun is others. (fault line Syntax, rw (not_to noun is) refl))))))
+  to_outcome line (token ∷ rest) = refused_token limits (pair limits) (to_at line) (Spelled limits IsTo) line token rest (None, [], no_to) (λ p. p) (λ more. (unexpected line (token ∷ more), refl, refl, says_unexpected limits line token more (λ word is. absurd cc)))
+
+  to_good : (line : ℕ) → Good limits (pair limits) (to_at line) (Spelled limits IsTo) line
+  to_good line = record { sample = (None, [], no_to); outcome = to_outcome line }
+
+  convert_made : (half : Half) (cast : Cast) (own : List Token) → (IsOperand half ⨾ IsTo) own → IsOp half (Word (cast_keyword cast) ∷ own)
+  convert_made half cast own (front, back, (a, is), (to, t), whole) = (Convert cast a to, (Word (cast_keyword cast) ∷ [], own, refl, (front, back, is, t, whole), refl))
+
+  convert_good : (half : Half) (line : ℕ) (cast : Cast) → Good limits (pair limits) (convert_at limits half line cast) (λ x own. IsOp half (Word (cast_keyword cast) ∷ own)) line
+  unfolding convert_at
+  convert_good half line cast = widened limits {L = Spelled limits (IsOperand half ⨾ IsTo)} (λ x own is. convert_made half cast own is)
+      (then_seq limits {s = (pair limits)} {t = (pair limits)} _ (operand_good half line) (λ from. then_done limits {s = (pair limits)} {L = Spelled limits IsTo} (λ to. Convert cast from to) _ (λ x rest. refl) (λ x own is. is) (to_good line)))
+
+  -- ---- operations
+
+  copy_good : (line : ℕ) → Good limits (pair limits) (copy_at limits line) (Spelled limits (IsOp Target)) line
+  unfolding copy_at
+  copy_good line = widened limits {L = Spelled limits (IsOperand Target)} (λ x own is. (Copy is.0, is.1)) (then_end limits _ (λ operand. Copy operand) (λ operand rest. refl) (operand_good Target line))
+
+  operation_good : (half : Half) (line : ℕ) (operation : Operation) → Good limits (pair limits) (operation_at limits half line operation) (λ x own. IsOp half (Word (operation_word operation) ∷ own)) line
+  operation_good half line (operations.Binary op) = binary_good half line op
+  operation_good half line operations.Compare = compare_good half line
+  operation_good half line operations.Select = select_good half line
+  operation_good half line (operations.Convert cast) = convert_good half line cast
+
+  op_sample : (half : Half) → Sample limits (Spelled limits (IsOp half) {A = RawOp})
+  op_sample half =
+      let s = (operation_good half 0 operations.Select).sample in
+      (s.0, Word (codes "select") ∷ s.1, s.2)
+
+  op_fits : (half : Half) → NounFits (Takes limits (Spelled limits (IsOp half) {A = RawOp}) [])
+  op_fits half =
+      let s = (operation_good half 0 operations.Select).sample in
+      (codes "select", kinds.opcode operations.Select refl, (s.0, s.1, s.2))
+
+  op_word_outcome : (half : Half) (line : ℕ) (word : List ℕ) (rest : List Token) (operation : Operation) → operation_in word ≡ Some operation → Outcome limits (pair limits) (op_at limits half line) (Spelled limits (IsOp half)) line (Word word ∷ rest) (op_at limits half line (Word word ∷ rest))
+  unfolding op_at
+  op_word_outcome half line word rest operation f =
+      led limits (pair limits) (op_at limits half line) (operation_at limits half line operation) (Spelled limits (IsOp half)) line (Word word) rest (noun_other word (kinds.opcode operation (operation_in-is limits word operation f))) (λ more. rw f refl)
+      (widen limits (pair limits) (operation_at limits half line operation) (λ x own. IsOp half (Word (operation_word operation) ∷ own)) (λ x own. IsOp half (Word word ∷ own)) line rest
+      (λ x own is. subst (λ (w : List ℕ). IsOp half (Word w ∷ own)) (sym (operation_in-is limits word operation f)) is) (operation_at limits half line operation rest) ((operation_good half line operation).outcome rest))
+
+  left_out_on : (line : ℕ) (token : Token) (more : List Token) → (left_out line (token ∷ more)).line ≡ line
+  left_out_on line (Word word) more = refl
+  left_out_on line token more = refl
+
+  source_op_outcome : (line : ℕ) (tokens : List Token) → Outcome limits (pair limits) (op_at limits Source line) (Spelled limits (IsOp Source)) line tokens (op_at limits Source line tokens)
+  unfolding op_at
+  source_op_outcome line [] = refused_here limits (pair limits) (op_at limits Source line) (Spelled limits (IsOp Source)) line [] (op_sample Source) (λ more alike. by more (ends_alike limits [] more alike tt))
+    where
+      by : (more : List Token) → EndsLine more → IsErrOn limits (Takes limits (Spelled limits (IsOp Source) {A = RawOp}) []) (Lack limits (op_at limits Source line) []) line more (op_at limits Source line more)
+      by [] ends = (fault line Syntax, refl, refl, refl)
+      by (Line number ∷ more) ends = (fault line Syntax, refl, refl, says_syntax limits (Line number) more tt)
+      by more ends = absurd ends
+  source_op_outcome line (Line n ∷ rest) = refused_here limits (pair limits) (op_at limits Source line) (Spelled limits (IsOp Source)) line (Line n ∷ rest) (op_sample Source) (λ more alike. by more (ends_alike limits (Line n ∷ rest) more alike tt))
+    where
+      by : (more : List Token) → EndsLine more → IsErrOn limits (Takes limits (Spelled limits (IsOp Source) {A = RawOp}) []) (Lack limits (op_at limits Source line) []) line more (op_at limits Source line more)
+      by [] ends = (fault line Syntax, refl, refl, refl)
+      by (Line number ∷ more) ends = (fault line Syntax, refl, refl, says_syntax limits (Line number) more tt)
+      by more ends = absurd ends
+  source_op_outcome line (Word word ∷ rest) = by (operation_in word) refl
+    where
+      by : (found : Option Operation) → operation_in word ≡ found → Outcome limits (pair limits) (op_at limits Source line) (Spelled limits (IsOp Source)) line (Word word ∷ rest) (op_at limits Source line (Word word ∷ rest))
+      by (Some operation) f = op_word_outcome Source line word rest operation f
+      by None f = refused_token limits (pair limits) (op_at limits Source line) (Spelled limits (IsOp Source)) line (Word word) rest (op_sample Source) (λ p. p) (λ more. (misplaced_word line word, rw f refl, refl, says_misplaced limits (op_fits Source) line word more))
+  source_op_outcome line (token ∷ rest) =
+      refused_token limits (pair limits) (op_at limits Source line) (Spelled limits (IsOp Source)) line token rest (op_sample Source) (λ p. p) (λ more. (left_out line (token ∷ more), refl, left_out_on line token more, says_left_out limits (op_fits Source) line token more))
+
+  copy_reads : (line : ℕ) → NoNoun limits (copy_at limits line) [] → ⊥
+  unfolding copy_at maybe_type type_in typed_at argument_at
+  copy_reads line n =
+      let leaf_ : SpellsWholeTerm limits Constant limits.nested (raw_nodes.Constant (codes "C") ∷ []) (Word (codes "C") ∷ []) = loosened spare_bytes deepest spare_statements limits.nested 0 (raw_nodes.Constant (codes "C") ∷ []) (Word (codes "C") ∷ []) (leaf (raw_nodes.Constant (codes "C")) (Word (codes "C") ∷ []) (constant_is, omega arith, refl)) in
+      let read : term_at limits Constant limits.nested line (Word (codes "C") ∷ []) ≡ Ok (raw_nodes.Constant (codes "C") ∷ [], []) = term_at-of limits Constant limits.nested line (raw_nodes.Constant (codes "C") ∷ []) (Word (codes "C") ∷ []) [] leaf_ tt in
+      let whole : copy_at limits line (Word (codes "C") ∷ []) ≡ Ok (Copy (record { written = None; value = argument_of (raw_nodes.Constant (codes "C") ∷ []) }), []) = rw read refl in
+      ok_no_err (copy_at limits line (Word (codes "C") ∷ [])) _ whole (n (codes "C") constant_noun [])
+
+  first_no : (token : Token) (front back : List Token) → front ≡ token ∷ [] → front ++ back ≡ [] → ⊥
+  first_no token [] back is whole = absurd cc
+  first_no token (t ∷ front) back is whole = absurd cc
+
+  some_op : IsOp Target [] → ⊥
+  some_op (Binary op flags a b, (front, back, is, behind, whole)) = first_no (Word (opcode_keyword op)) front back is (sym whole)
+  some_op (Compare pred a b, (front, back, is, behind, whole)) = first_no (Word (codes "icmp")) front back is (sym whole)
+  some_op (Select a b c, (front, back, is, behind, whole)) = first_no (Word (codes "select")) front back is (sym whole)
+  some_op (Convert cast a to, (front, back, is, behind, whole)) = first_no (Word (cast_keyword cast)) front back is (sym whole)
+  some_op (Copy a, is) = some_operand Target (a, is)
+
+  as_copy : (line : ℕ) (tokens : List Token) → ((more : List Token) → Alike limits tokens more → op_at limits Target line more ≡ copy_at limits line more) → Outcome limits (pair limits) (copy_at limits line) (Spelled limits (IsOp Target)) line tokens (copy_at limits line tokens) → Outcome limits (pair limits) (op_at limits Target line) (Spelled limits (IsOp Target)) line tokens (op_at limits Target line tokens)
+  as_copy line tokens h o = alike_as limits (pair limits) (op_at limits Target line) (copy_at limits line) (Spelled limits (IsOp Target)) line tokens (λ x is. some_op is) (copy_reads line) h o
+
+  target_op_outcome : (line : ℕ) (tokens : List Token) → Outcome limits (pair limits) (op_at limits Target line) (Spelled limits (IsOp Target)) line tokens (op_at limits Target line tokens)
+  unfolding op_at
+  target_op_outcome line (Word word ∷ rest) = by (operation_in word) refl
+    where
+      by : (found : Option Operation) → operation_in word ≡ found → Outcome limits (pair limits) (op_at limits Target line) (Spelled limits (IsOp Target)) line (Word word ∷ rest) (op_at limits Target line (Word word ∷ rest))
+      by (Some operation) f = op_word_outcome Target line word rest operation f
+      by None f = as_copy line (Word word ∷ rest) (same_reading (op_at limits Target line) (copy_at limits line) (Word word) rest (λ p. p) (λ more. rw f refl)) ((copy_good line).outcome (Word word ∷ rest))
+  target_op_outcome line [] = as_copy line [] (λ more alike. same_at_end (op_at limits Target line) (copy_at limits line) refl (λ number m. refl) [] more tt alike) ((copy_good line).outcome [])
+  target_op_outcome line (Line n ∷ rest) = as_copy line (Line n ∷ rest) (λ more alike. same_at_end (op_at limits Target line) (copy_at limits line) refl (λ number m. refl) (Line n ∷ rest) more tt alike) ((copy_good line).outcome (Line n ∷ rest))
+  target_op_outcome line (token ∷ rest) = as_copy line (token ∷ rest) (same_reading (op_at limits Target line) (copy_at limits line) token rest (λ p. p) (λ more. refl)) ((copy_good line).outcome (token ∷ rest))
+
+  op_good : (half : Half) (line : ℕ) → Good limits (pair limits) (op_at limits half line) (Spelled limits (IsOp half)) line
+  op_good Source line = record { sample = op_sample Source; outcome = source_op_outcome line }
+  op_good Target line = record { sample = op_sample Target; outcome = target_op_outcome line }
+
+  -- ---- statements
+
+  -- what stands behind the register of a statement
+  abbrev pub IsAssigned : Half → Part
+  IsAssigned half own = (op : List Token) × IsOp half op × (own ≡ Mark (codes "=") ∷ op)
+
+  assigned_join : (half : Half) (front back : List Token) → Is (Mark (codes "=")) front → IsOp half back → IsAssigned half (front ++ back)
+  assigned_join half front back mark op = (back, op, ap (λ (ts : List Token). ts ++ back) mark)
+
+  -- the reader of a statement whose name is short
+  pub statement_good : (half : Half) (line : ℕ) (name : List ℕ) → name_within limits line name ≡ Ok name → Good limits (pair limits) (statement_at limits half line name) (Spelled limits (IsAssigned half)) line
+  unfolding statement_at
+  statement_good half line name short = record { sample = behind.sample; outcome = λ tokens. same_as limits (pair limits) (statement_at limits half line name) R (Spelled limits (IsAssigned half)) line tokens (λ more. rw short refl) (behind.outcome tokens) }
+    where
+      R : Reader limits (RawStatement × List Token)
+      R ts = mark_at (codes "=") line ts >>= λ rest. (op_at limits half line rest >>= λ op. Ok (record { line = line; name = name; op = op.0 }, op.1))
+
+      made : RawOp → RawStatement
+      made op = record { line = line; name = name; op = op }
+
+      behind : Good limits {A = RawStatement} (pair limits) (λ ts. mark_at (codes "=") line ts >>= λ rest. (op_at limits half line rest >>= λ op. Ok (made op.0, op.1))) (Spelled limits (IsAssigned half)) line
+      behind = then limits {s = (bare limits)} {t = (pair limits)} _ {L = Spelled limits (Is (Mark (codes "=")))} {M = λ x. Spelled limits (IsOp half)} (λ x y front back mark op. assigned_join half front back mark op) (mark_good spare_bytes deepest spare_statements (codes "=") line)
+          (λ u. then_done limits {s = (pair limits)} {L = Spelled limits (IsOp half)} made _ (λ x rest. refl) (λ x own is. is) (op_good half line))

@@ -1,3 +1,4 @@
 pub mod Fits
 pub mod Laws
 pub mod Misfits
+pub mod WiderLimits

@@ -8,7 +8,6 @@ use Rattle.scan.specs.RuleTokens.{is_constant}
 use Rattle.rule_core.specs.declared.rule.Function.{Function}
 use Rattle.rule_tokens.specs.declared.fault.RuleFaultKind.{RuleFaultKind}
 use Rattle.rule_tokens.specs.declared.fault.RuleFaultKind.TheVariants.{BadByte, Syntax, LeftOut, TooMany}
-use Rattle.rule_tokens.specs.Limits.{most_name_bytes}
 use Rattle.rule_tokens.specs.Numbers.{IsWrittenType}
 use Rattle.rule_tokens.specs.Tokens.{Token, Head, Name, Register, Word, Number, Arrow, Mark, Bad}
 use Rattle.rule_terms.specs.declared.formula_word.Predicate.{Predicate}
@@ -16,6 +15,7 @@ use Rattle.rule_terms.specs.FormulaKeywords.{predicate_word}
 use Rattle.rule_terms.specs.Keywords.{IsPrefix, IsCalled, IsChoice}
 use Rattle.rule_parse.specs.declared.word.Operation.{Operation}
 use Rattle.rule_parse.specs.Keywords.{operation_word, truth_word}
+use Rattle.rule_tokens.specs.Limits.{Limits}
 
 -- which tokens fit in the place of the one that does not
 abbrev pub Fitting : Type 1
@@ -72,35 +72,35 @@ pub data IsExcused (fits : Fitting) (front : List Token) (word : List ℕ) : Typ
 
 -- ---- limits
 
--- a name of more than 200 bytes, where another of its sort with at most 200 fits
-abbrev pub IsTooLong : Fitting → (List ℕ → Token) → (List ℕ → Type 0) → List ℕ → Type 0
-IsTooLong fits token IsOfSort name =
-    (short : List ℕ) × (most_name_bytes < length name) × (length short ≤ most_name_bytes) × IsOfSort name × IsOfSort short × fits (token short)
+-- a name of more bytes than the limit, where another of its sort within it fits
+abbrev pub IsTooLong : Limits → Fitting → (List ℕ → Token) → (List ℕ → Type 0) → List ℕ → Type 0
+IsTooLong limits fits token IsOfSort name =
+    (short : List ℕ) × (limits.name_bytes < length name) × (length short ≤ limits.name_bytes) × IsOfSort name × IsOfSort short × fits (token short)
 
 -- a half of the rule may end: the arrow fits, or another rule
 abbrev pub HalfEnds : Fitting → Type 0
 HalfEnds fits = fits Arrow ⊎ fits (Head (codes "Name:"))
 
 -- With the token a limit of names, statements or nesting is passed.
-pub data IsTooMany (fits : Fitting) : Token → Type 0 where
-  name : (name : List ℕ) → IsTooLong fits Name (λ text. 1 ≤ length text) name → IsTooMany fits (Name name)
-  register : (name : List ℕ) → IsTooLong fits Register (λ text. Unit {0}) name → IsTooMany fits (Register name)
-  constant : (name : List ℕ) → IsTooLong fits Word (λ word. IsTrue (is_constant word)) name → IsTooMany fits (Word name)
-  choice : (name : List ℕ) → IsTooLong fits Word (λ word. (place : ℕ) × IsChoice word place) name → IsTooMany fits (Word name)
+pub data IsTooMany (limits : Limits) (fits : Fitting) : Token → Type 0 where
+  name : (name : List ℕ) → IsTooLong limits fits Name (λ text. 1 ≤ length text) name → IsTooMany limits fits (Name name)
+  register : (name : List ℕ) → IsTooLong limits fits Register (λ text. Unit {0}) name → IsTooMany limits fits (Register name)
+  constant : (name : List ℕ) → IsTooLong limits fits Word (λ word. IsTrue (is_constant word)) name → IsTooMany limits fits (Word name)
+  choice : (name : List ℕ) → IsTooLong limits fits Word (λ word. (place : ℕ) × IsChoice word place) name → IsTooMany limits fits (Word name)
   -- the register of one more statement, where the half may end
-  statement : (name : List ℕ) → HalfEnds fits → IsTooMany fits (Register name)
-  nesting : (token : Token) → IsTooDeep fits token → IsTooMany fits token
+  statement : (name : List ℕ) → HalfEnds fits → IsTooMany limits fits (Register name)
+  nesting : (token : Token) → IsTooDeep fits token → IsTooMany limits fits token
 
 -- ---- kinds
 
 -- What a kind says of the token itself: it is a byte that may not stand; with it a limit is passed; it is a word that is left out, not
 -- `hasOneUse`, and a noun fits in its place; or it is no byte that may not stand. No token is of another kind.
-abbrev pub Says : Fitting → Token → RuleFaultKind → Type 0
-Says fits token BadByte = token ≡ Bad
-Says fits token TooMany = IsTooMany fits token
-Says fits token (LeftOut left) = (token ≡ Word left) × (left ≢ codes "hasOneUse") × NounFits fits
-Says fits token Syntax = token ≢ Bad
-Says fits token kind = ⊥
+abbrev pub Says : Limits → Fitting → Token → RuleFaultKind → Type 0
+Says limits fits token BadByte = token ≡ Bad
+Says limits fits token TooMany = IsTooMany limits fits token
+Says limits fits token (LeftOut left) = (token ≡ Word left) × (left ≢ codes "hasOneUse") × NounFits fits
+Says limits fits token Syntax = token ≢ Bad
+Says limits fits token kind = ⊥
 
 -- what the kind of a fault at the first of these tokens is where no word is left out and no other limit is passed
 abbrev pub kind_at : List Token → RuleFaultKind
@@ -113,6 +113,6 @@ IsReadOn fits token behind kind =
     (word : List ℕ) × (token ≡ Word word) × IsTooDeep fits token × ((more : List Token) → behind ≢ Mark (codes "(") ∷ more) × (kind ≡ kind_at behind)
 
 -- what the kind of a fault says of its token, before these others
-pub data IsMisfit (fits : Fitting) (token : Token) (behind : List Token) (kind : RuleFaultKind) : Type 0 where
-  itself : Says fits token kind → IsMisfit fits token behind kind
-  read_on : IsReadOn fits token behind kind → IsMisfit fits token behind kind
+pub data IsMisfit (limits : Limits) (fits : Fitting) (token : Token) (behind : List Token) (kind : RuleFaultKind) : Type 0 where
+  itself : Says limits fits token kind → IsMisfit limits fits token behind kind
+  read_on : IsReadOn fits token behind kind → IsMisfit limits fits token behind kind

@@ -1,10 +1,23 @@
 //! The laws of faults, each the contract of a function that does nothing.
 ghost use Rattle.rule_viable_prefixes.specs.Laws.{FaultsAreWhereTextsDoNotFit};
+ghost use Rattle.rule_viable_prefixes.specs.WiderLimits.{
+  TextsAreRefusedByLimitsAsTooMany,
+  WiderLimitsChangeTooManyAlone,
+};
 
 /// A text is refused at the first token with which its tokens begin no rules of the grammar, or at its end if they all begin some
 /// and spell none. One whose tokens spell rules is not refused.
 pub fn faults_are_where_texts_do_not_fit()
     ensures { FaultsAreWhereTextsDoNotFit }
+{
+    scan::every_place_has_one_rule_token();
+}
+
+/// Limits of names, nesting and statements change what is read and refused by `TooMany` alone: a text that some limits let pass is read,
+/// or refused as `TooMany`.
+pub fn limits_are_told_as_too_many()
+    ensures wider { WiderLimitsChangeTooManyAlone }
+    ensures texts { TextsAreRefusedByLimitsAsTooMany }
 {
     scan::every_place_has_one_rule_token();
 }

@@ -1,0 +1,6 @@
+-- Limits within which a name of two bytes and a statement are.
+use Rattle.std.specs.Prelude.{ℕ, suc}
+use Rattle.rule_tokens.specs.Limits.{Limits}
+
+abbrev pub roomy : ℕ → ℕ → ℕ → Limits
+roomy spare_bytes deepest spare_statements = record { name_bytes = suc (suc spare_bytes); nested = deepest; statements = suc spare_statements }

@@ -1,0 +1,25 @@
+-- What the limits change.
+use Rattle.std.specs.Prelude.{◌≡◌, ◌⊎◌, ℕ, List, Err}
+use Rattle.rule_tokens.specs.declared.fault.RuleFaultKind.TheVariants.{TooMany}
+use Rattle.rule_tokens.specs.Limits.{Limits, AreWithin}
+use Rattle.rule_tokens.specs.PartReaders.{fault}
+use Rattle.rule_tokens.specs.RuleFaults.{RuleFault}
+use Rattle.rule_tokens.specs.Tokens.{Token, AreTokens}
+use Rattle.rule_parse.specs.declared.raw.RawRule.{RawRule}
+use Rattle.rule_parse.specs.Grammar.{SpellsRules}
+use Rattle.rule_parse.specs.RuleReaders.{all_rules}
+use Rattle.rule_parse.specs.Text.{IsFaultWithin}
+
+-- the tokens spell rules where no limit is too narrow
+abbrev pub SpellsWithoutLimits : List RawRule → List Token → Type 0
+SpellsWithoutLimits rules tokens = (limits : Limits) × SpellsRules limits rules tokens
+
+-- Wider limits change nothing but what is told as `TooMany`: the same rules are read of the same tokens, and the same faults are found.
+abbrev pub WiderLimitsChangeTooManyAlone : Type 0
+WiderLimitsChangeTooManyAlone = (limits wider : Limits) → AreWithin wider limits → (last : ℕ) (tokens : List Token)
+    → (all_rules limits last tokens ≡ all_rules wider last tokens) ⊎ ((line : ℕ) × (all_rules limits last tokens ≡ Err (fault line TooMany)))
+
+-- A text of the grammar without limits is refused as `TooMany` alone, whatever the limits are.
+abbrev pub TextsAreRefusedByLimitsAsTooMany : Type 0
+TextsAreRefusedByLimitsAsTooMany = (limits : Limits) (text : List ℕ) (tokens : List Token) (last : ℕ) (rules : List RawRule) (found : RuleFault)
+    → AreTokens text tokens last → SpellsWithoutLimits rules tokens → IsFaultWithin limits text found → found.kind ≡ TooMany
