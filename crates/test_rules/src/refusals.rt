@@ -1,4 +1,4 @@
-//! Rule files at and past the limit of 256 nodes, and words that are told as `Syntax`: the kind and the line of the first fault,
+//! Rule files at and past the limits of nodes and nesting, and words that are told as `Syntax`: the kind and the line of the first fault,
 //! worked out by hand.
 
 use rule_reader::{RuleError, RuleFault, RuleFaultKind, read_rules};
@@ -7,7 +7,7 @@ use std::test::Fail;
 
 /// How many comparisons of two numbers `Pre:` has, the text behind them, and the line and the kind of the first fault. They are three
 /// nodes each, and each `&&` between two is one.
-const ROWS: [(u32, &str, usize, &str); 12] = [
+const ROWS: [(u32, &str, usize, &str); 16] = [
     // behind 256 nodes
     (64, "\n%t = trunc %x\n%u = true\n", 4, "LeftOut"),
     (64, "\n%t = trunc %x\n%u = or true, 0\n", 4, "TooMany"),
@@ -32,6 +32,31 @@ const ROWS: [(u32, &str, usize, &str); 12] = [
     (1, "\n%r = hasOneUse\n", 3, "Syntax"),
     (1, "\n%r = or %x, hasOneUse(%x)\n", 3, "Syntax"),
     (1, "\n%r = isPowerOf2\n", 3, "LeftOut"),
+    // behind 32 `(`: a function's parenthesis and a sign nest, its word does not
+    (
+        1,
+        "\n%r = or %x, C\n=>\n%r = ((((((((((((((((((((((((((((((((log2(C)\n",
+        5,
+        "TooMany",
+    ),
+    (
+        1,
+        "\n%r = or %x, C\n=>\n%r = ((((((((((((((((((((((((((((((((log2 + C\n",
+        5,
+        "Syntax",
+    ),
+    (
+        1,
+        "\n%r = or %x, C\n=>\n%r = ((((((((((((((((((((((((((((((((abs\n",
+        5,
+        "Syntax",
+    ),
+    (
+        1,
+        "\n%r = or %x, C\n=>\n%r = ((((((((((((((((((((((((((((((((-C\n",
+        5,
+        "TooMany",
+    ),
 ];
 
 /// A rule with so many comparisons in `Pre:`, and the text behind them.
