@@ -15,6 +15,7 @@ use Rattle.rule_parse.specs.Grammar.{SpellsStatements}
 use Rattle.rule_tokens.specs.Parts.{Part, Maybe}
 use Rattle.rule_tokens.specs.Tokens.{Token, Line, Head, Name, Register, Word, Number, Arrow, Mark, Other, Bad, Excess, token_of, Place, TokensFrom, ends, token, name as at_name, bad_token, bad_name}
 use Rattle.rule_reader.specs.WellFormed.{AreInLineOrder}
+use Rattle.rule_tokens.specs.Limits.{rule_limits}
 
 -- the lines begin in their order, none before a line
 unfoldable pub Ascend : ℕ → List Token → Type 0
@@ -127,7 +128,7 @@ pub none_at : {X : Type 0} (k : ℕ) (x : X) → slice_get [] k ≡ Some x → �
 none_at zero x at = cc
 none_at (suc k) x at = cc
 
-pub ordered : (half : _) (low : ℕ) (ss : List RawStatement) (tokens behind : List Token) → SpellsStatements half ss tokens → Ascend low (tokens ++ behind) → Ordered low ss behind
+pub ordered : (half : _) (low : ℕ) (ss : List RawStatement) (tokens behind : List Token) → SpellsStatements rule_limits half ss tokens → Ascend low (tokens ++ behind) → Ordered low ss behind
 unfolding Ascend
 ordered half low [] tokens behind is up =
     record {

@@ -18,6 +18,7 @@ use Rattle.rule_parse.specs.Weight.{formula_weight}
 use Rattle.rule_tokens.specs.Parts.{Maybe}
 use Rattle.rule_reader.specs.WellFormed.{raw_joint}
 use Rattle.rule_reader.proofs.Places.{at_append, at_map, map_at, there}
+use Rattle.rule_tokens.specs.Limits.{rule_limits}
 
 left_at : {X : Type 0} (xs ys : List X) (i : ℕ) (x : X) → slice_get xs i ≡ Some x → slice_get (xs ++ ys) i ≡ Some x
 left_at [] ys i x at = elim i as (λ j. slice_get [] j ≡ Some x → slice_get ys j ≡ Some x) [ zero ↦ λ h. absurd (cc) | suc j ↦ λ h. absurd (cc) ] at
@@ -172,7 +173,7 @@ module _ (joints : List Joint) where
       → (last_place (start + length left) ≡ start + (length left - 1)) × (last_place (start + length left + length right) ≡ start + length left + (length right - 1))
   joined_at start left right some other few = (omega (arith, some, other, few), omega (arith, some, other, few))
 
-  made : {standing : Standing} {level : Level} {nesting start : ℕ} {nodes : List RawFormula} {tokens : List Token} → SpellsFormula standing level nesting start nodes tokens → start + length nodes ≤ 2 ^ 32 → StandFrom start nodes → Made standing level start nodes
+  made : {standing : Standing} {level : Level} {nesting start : ℕ} {nodes : List RawFormula} {tokens : List Token} → SpellsFormula rule_limits standing level nesting start nodes tokens → start + length nodes ≤ 2 ^ 32 → StandFrom start nodes → Made standing level start nodes
   made {standing} (compares {start = start} {left = left} {right = right} pred a b) few stand = lone standing start (raw_formulas.Compare pred left right) refl
   made {standing} (tests {start = start} {term = term} predicate s) few stand = elim (predicates predicate term) [
     | inl power ↦ subst (λ f. Made standing Member start (f ∷ [])) (sym power.1) (lone standing start (raw_formulas.IsPowerOfTwo term) refl)
@@ -255,7 +256,7 @@ module _ (joints : List Joint) where
       }
 
 -- the formula of a precondition, where there is one
-pub precondition_one_use : (p : Option RawPrecondition) (tokens : List Token) → Maybe SpellsPrecondition p tokens → length (option_map_or (λ q. q.formula) p []) ≤ 2 ^ 32 → OneUseIsOutermost (map raw_joint (option_map_or (λ q. q.formula) p []))
+pub precondition_one_use : (p : Option RawPrecondition) (tokens : List Token) → Maybe (SpellsPrecondition rule_limits) p tokens → length (option_map_or (λ q. q.formula) p []) ≤ 2 ^ 32 → OneUseIsOutermost (map raw_joint (option_map_or (λ q. q.formula) p []))
 precondition_one_use None tokens spelled few n node at = elim n as (λ j. slice_get [] j ≡ Some node → OneUseMayStand [] node) [ zero ↦ λ h. absurd (cc) | suc j ↦ λ h. absurd (cc) ] at
 precondition_one_use (Some p) tokens spelled few n node at =
     let joints : List Joint = map raw_joint p.formula in

@@ -7,7 +7,6 @@ use Rattle.rule_tokens.specs.Parts.{Part}
 use Rattle.rule_tokens.specs.Tokens.{Token}
 use Rattle.rule_terms.specs.declared.raw.RawNode.{RawNode}
 use Rattle.rule_terms.specs.declared.raw.RawNode.TheVariants as raw_nodes
-use Rattle.rule_terms.specs.Grammar.{most_nested}
 use Rattle.rule_parse.specs.declared.raw.RawStatement.{RawStatement}
 use Rattle.rule_parse.specs.declared.raw.RawOp.{RawOp}
 use Rattle.rule_parse.specs.declared.raw.RawOp.TheVariants.{Binary, Compare, Select, Convert, Copy}
@@ -21,6 +20,7 @@ use Rattle.rule_parse.specs.Contents.{arguments_of, arguments_among, terms_of_ar
 use Rattle.rule_reader.specs.WellFormed.{MayStandInSource, FlagsFitOp}
 use Rattle.rule_reader.proofs.Members.{each_in, each_append}
 use Rattle.rule_reader.proofs.SpelledTerms.{IsConstantNode, IsConstantTerm, constant_term}
+use Rattle.rule_tokens.specs.Limits.{rule_limits}
 
 -- some tokens spell it
 abbrev pub IsSpelled : {A : Type 0} → (A → Part) → A → Type 0
@@ -28,17 +28,17 @@ IsSpelled Spells x = (own : List Token) × Spells x own
 
 -- ---- what statements read
 
-operand : (half : _) (a : RawOperand) (tokens : List Token) → SpellsOperand half a tokens → IsSpelled (SpellsArgument half) a.value
+operand : (half : _) (a : RawOperand) (tokens : List Token) → SpellsOperand rule_limits half a tokens → IsSpelled (SpellsArgument rule_limits half) a.value
 operand half a tokens spelled = (spelled.1, spelled.3)
 
-untyped : (half : _) (a : RawOperand) (tokens : List Token) → SpellsUntyped half a tokens → IsSpelled (SpellsArgument half) a.value
+untyped : (half : _) (a : RawOperand) (tokens : List Token) → SpellsUntyped rule_limits half a tokens → IsSpelled (SpellsArgument rule_limits half) a.value
 untyped half a tokens spelled = (tokens, spelled.1)
 
-pair : (half : _) (a b : RawOperand) (tokens : List Token) → SpellsPair half a b tokens → Each (IsSpelled (SpellsArgument half)) (a.value ∷ b.value ∷ [])
+pair : (half : _) (a b : RawOperand) (tokens : List Token) → SpellsPair rule_limits half a b tokens → Each (IsSpelled (SpellsArgument rule_limits half)) (a.value ∷ b.value ∷ [])
 pair half a b tokens spelled = (operand half a spelled.0 spelled.2, (untyped half b spelled.3.1 spelled.3.3, tt))
 
 -- What an operation reads is spelled. A copy, where the half has one, is an operand.
-arguments_spelled : (half : _) → ((a : RawOperand) (tokens : List Token) → SpellsOp half (Copy a) tokens → SpellsOperand half a tokens) → (op : RawOp) (tokens : List Token) → SpellsOp half op tokens → Each (IsSpelled (SpellsArgument half)) (arguments_of op)
+arguments_spelled : (half : _) → ((a : RawOperand) (tokens : List Token) → SpellsOp rule_limits half (Copy a) tokens → SpellsOperand rule_limits half a tokens) → (op : RawOp) (tokens : List Token) → SpellsOp rule_limits half op tokens → Each (IsSpelled (SpellsArgument rule_limits half)) (arguments_of op)
 arguments_spelled half copies (Binary op flags a b) tokens spelled = pair half a b spelled.3.1 spelled.3.3
 arguments_spelled half copies (Compare pred a b) tokens spelled = pair half a b spelled.3.1 spelled.3.3
 arguments_spelled half copies (Select c a b) tokens spelled =
@@ -46,14 +46,14 @@ arguments_spelled half copies (Select c a b) tokens spelled =
 arguments_spelled half copies (Convert cast a to) tokens spelled = (operand half a spelled.3.0 spelled.3.2, tt)
 arguments_spelled half copies (Copy a) tokens spelled = (operand half a tokens (copies a tokens spelled), tt)
 
-pub argument_spelled : (half : _) → ((a : RawOperand) (tokens : List Token) → SpellsOp half (Copy a) tokens → SpellsOperand half a tokens) → (op : RawOp) (tokens : List Token) (a : RawArgument) → SpellsOp half op tokens → Contains (arguments_of op) a → IsSpelled (SpellsArgument half) a
-argument_spelled half copies op tokens a spelled among = each_in (IsSpelled (SpellsArgument half)) (arguments_of op) a (arguments_spelled half copies op tokens spelled) among
+pub argument_spelled : (half : _) → ((a : RawOperand) (tokens : List Token) → SpellsOp rule_limits half (Copy a) tokens → SpellsOperand rule_limits half a tokens) → (op : RawOp) (tokens : List Token) (a : RawArgument) → SpellsOp rule_limits half op tokens → Contains (arguments_of op) a → IsSpelled (SpellsArgument rule_limits half) a
+argument_spelled half copies op tokens a spelled among = each_in (IsSpelled (SpellsArgument rule_limits half)) (arguments_of op) a (arguments_spelled half copies op tokens spelled) among
 
 -- and what statements read
-among_spelled : (half : _) → ((a : RawOperand) (tokens : List Token) → SpellsOp half (Copy a) tokens → SpellsOperand half a tokens) → (ss : List RawStatement) (tokens : List Token) → SpellsStatements half ss tokens → Each (IsSpelled (SpellsArgument half)) (arguments_among ss)
+among_spelled : (half : _) → ((a : RawOperand) (tokens : List Token) → SpellsOp rule_limits half (Copy a) tokens → SpellsOperand rule_limits half a tokens) → (ss : List RawStatement) (tokens : List Token) → SpellsStatements rule_limits half ss tokens → Each (IsSpelled (SpellsArgument rule_limits half)) (arguments_among ss)
 among_spelled half copies [] tokens spelled = tt
 among_spelled half copies (s ∷ ss) tokens (own, rest, spelled, others, is) =
-    each_append (IsSpelled (SpellsArgument half)) (arguments_of s.op) (arguments_among ss) (arguments_spelled half copies s.op spelled.op spelled.is_op) (among_spelled half copies ss rest others)
+    each_append (IsSpelled (SpellsArgument rule_limits half)) (arguments_of s.op) (arguments_among ss) (arguments_spelled half copies s.op spelled.op spelled.is_op) (among_spelled half copies ss rest others)
 
 -- ---- the terms of a target
 
@@ -64,8 +64,8 @@ constant_alone name (raw_nodes.Constant other ∷ []) e each = let same : other 
 constant_alone name (raw_nodes.Literal z ∷ []) e each = absurd (cc)
 constant_alone name nodes e each = absurd (cc)
 
-pub short_alone : (name : List ℕ) (tokens : List Token) → SpellsTermOperand (Constant name) tokens → length name ≤ 200
-short_alone name tokens spelled = constant_alone name spelled.0 spelled.2 (constant_term most_nested spelled.0 tokens spelled.1).1
+pub short_alone : (name : List ℕ) (tokens : List Token) → SpellsTermOperand rule_limits (Constant name) tokens → length name ≤ 200
+short_alone name tokens spelled = constant_alone name spelled.0 spelled.2 (constant_term rule_limits.nested spelled.0 tokens spelled.1).1
 
 same_term : (t nodes : List RawNode) → Term t ≡ argument_of nodes → nodes ≡ t
 unfolding argument_of
@@ -73,26 +73,26 @@ same_term t (raw_nodes.Literal z ∷ []) e = absurd (cc)
 same_term t (raw_nodes.Constant name ∷ []) e = absurd (cc)
 same_term t nodes e = cc
 
-pub term_operand : (t : List RawNode) (tokens : List Token) → SpellsTermOperand (Term t) tokens → IsConstantTerm t
-term_operand t tokens spelled = subst IsConstantTerm (same_term t spelled.0 spelled.2) (constant_term most_nested spelled.0 tokens spelled.1)
+pub term_operand : (t : List RawNode) (tokens : List Token) → SpellsTermOperand rule_limits (Term t) tokens → IsConstantTerm t
+term_operand t tokens spelled = subst IsConstantTerm (same_term t spelled.0 spelled.2) (constant_term rule_limits.nested spelled.0 tokens spelled.1)
 
 -- the terms of what is read, where each term is a constant one
-terms_among : (half : _) → ((t : List RawNode) (tokens : List Token) → SpellsArgument half (Term t) tokens → IsConstantTerm t) → (arguments : List RawArgument) → Each (IsSpelled (SpellsArgument half)) arguments → Each IsConstantTerm (flat_map terms_of_argument arguments)
+terms_among : (half : _) → ((t : List RawNode) (tokens : List Token) → SpellsArgument rule_limits half (Term t) tokens → IsConstantTerm t) → (arguments : List RawArgument) → Each (IsSpelled (SpellsArgument rule_limits half)) arguments → Each IsConstantTerm (flat_map terms_of_argument arguments)
 terms_among half constant [] spelled = tt
 terms_among half constant (Term t ∷ arguments) spelled = (constant t spelled.0.0 spelled.0.1, terms_among half constant arguments spelled.1)
 terms_among half constant (a ∷ arguments) spelled = terms_among half constant arguments spelled.1
 
-pub spelled_terms : (half : _) → ((a : RawOperand) (tokens : List Token) → SpellsOp half (Copy a) tokens → SpellsOperand half a tokens) → ((t : List RawNode) (tokens : List Token) → SpellsArgument half (Term t) tokens → IsConstantTerm t) → (ss : List RawStatement) (tokens : List Token) → SpellsHalf half ss tokens → Each IsConstantTerm (flat_map terms_of_argument (arguments_among ss))
+pub spelled_terms : (half : _) → ((a : RawOperand) (tokens : List Token) → SpellsOp rule_limits half (Copy a) tokens → SpellsOperand rule_limits half a tokens) → ((t : List RawNode) (tokens : List Token) → SpellsArgument rule_limits half (Term t) tokens → IsConstantTerm t) → (ss : List RawStatement) (tokens : List Token) → SpellsHalf rule_limits half ss tokens → Each IsConstantTerm (flat_map terms_of_argument (arguments_among ss))
 spelled_terms half copies constant ss tokens spelled = terms_among half constant (arguments_among ss) (among_spelled half copies ss tokens spelled.spelled)
 
 -- ---- flags and copies
 
 -- flags fit their opcode
-pub written_flags : (half : _) (op : RawOp) (tokens : List Token) → SpellsOp half op tokens → FlagsFitOp op
+pub written_flags : (half : _) (op : RawOp) (tokens : List Token) → SpellsOp rule_limits half op tokens → FlagsFitOp op
 written_flags half (Binary op flags a b) tokens spelled = let written = spelled.3.2 in own_flags op written.0 flags written.1
 written_flags half op tokens spelled = tt
 
 -- a half that spells no copies has none
-pub no_copies : (half : _) → ((a : RawOperand) (tokens : List Token) → ¬ SpellsOp half (Copy a) tokens) → (op : RawOp) (tokens : List Token) → SpellsOp half op tokens → MayStandInSource op
+pub no_copies : (half : _) → ((a : RawOperand) (tokens : List Token) → ¬ (SpellsOp rule_limits) half (Copy a) tokens) → (op : RawOp) (tokens : List Token) → SpellsOp rule_limits half op tokens → MayStandInSource op
 no_copies half none (Copy a) tokens spelled = absurd (none a tokens spelled)
 no_copies half none op tokens spelled = tt

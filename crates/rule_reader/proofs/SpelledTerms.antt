@@ -22,6 +22,7 @@ use Rattle.rule_reader.specs.FaultKinds.{Each}
 use Rattle.rule_parse.specs.Contents.{terms_of_formula}
 use Rattle.rule_reader.specs.WellFormed.{IsTerm, MayStandInTerm, IsBehindFormulas}
 use Rattle.rule_reader.proofs.Members.{each_append, each_push}
+use Rattle.rule_tokens.specs.Limits.{rule_limits}
 
 -- a node of a constant term, whose constant has a short name
 abbrev pub IsConstantNode : RawNode → Type 0
@@ -37,10 +38,10 @@ IsConstantTerm t = IsTerm t × Each IsConstantNode t
 
 -- ---- terms
 
-pub is_term : (place : TermPlace) (nesting : ℕ) (t : List RawNode) (tokens : List Token) → SpellsWholeTerm place nesting t tokens → IsTerm t
-is_term place nesting t tokens spelled = let n = nodes_behind place nesting t tokens spelled in record { some = n.0; each = n.1 }
+pub is_term : (place : TermPlace) (nesting : ℕ) (t : List RawNode) (tokens : List Token) → SpellsWholeTerm rule_limits place nesting t tokens → IsTerm t
+is_term place nesting t tokens spelled = let n = nodes_behind rule_limits place nesting t tokens spelled in record { some = n.0; each = n.1 }
 
-constant_nodes : {nesting start level : ℕ} {nodes : List RawNode} {tokens : List Token} → SpellsTerm term_places.Constant nesting start level nodes tokens → Each IsConstantNode nodes
+constant_nodes : {nesting start level : ℕ} {nodes : List RawNode} {tokens : List Token} → SpellsTerm rule_limits term_places.Constant nesting start level nodes tokens → Each IsConstantNode nodes
 constant_nodes (leaf (raw_nodes.Literal z) tokens s) = (tt, tt)
 constant_nodes (leaf (raw_nodes.Constant name) tokens s) = (s.1, tt)
 constant_nodes (leaf (raw_nodes.Register name) tokens s) = let e : term_places.Constant ≡ term_places.Witness = s.0 in absurd (cc)
@@ -54,7 +55,7 @@ constant_nodes (tighter s) = constant_nodes s
 constant_nodes (joined {left = left} {right = right} op is a b) =
     each_push IsConstantNode (left ++ right) _ (each_append IsConstantNode left right (constant_nodes a) (constant_nodes b)) tt
 
-pub constant_term : (nesting : ℕ) (t : List RawNode) (tokens : List Token) → SpellsWholeTerm term_places.Constant nesting t tokens → IsConstantTerm t
+pub constant_term : (nesting : ℕ) (t : List RawNode) (tokens : List Token) → SpellsWholeTerm rule_limits term_places.Constant nesting t tokens → IsConstantTerm t
 constant_term nesting t tokens spelled = (is_term term_places.Constant nesting t tokens spelled, constant_nodes spelled)
 
 -- ---- formulas
@@ -125,7 +126,7 @@ below start left right a b =
     let both : start + length (left ++ right) ≡ start + length left + length right = omega (arith, length-append left right) in
     (last_below (start + length left) (start + length (left ++ right)) (omega arith) (omega arith), last_below (start + length left + length right) (start + length (left ++ right)) (omega arith) (omega arith))
 
-spelled_formula : {standing : Standing} {level : Level} {nesting start : ℕ} {nodes : List RawFormula} {tokens : List Token} → SpellsFormula standing level nesting start nodes tokens → Nodes start nodes
+spelled_formula : {standing : Standing} {level : Level} {nesting start : ℕ} {nodes : List RawFormula} {tokens : List Token} → SpellsFormula rule_limits standing level nesting start nodes tokens → Nodes start nodes
 spelled_formula (compares {nesting = nesting} {start = start} {left = left} {right = right} {front = front} {back = back} pred a b) =
     lone start (raw_formulas.Compare pred left right) tt (constant_term nesting left front a, (constant_term nesting right back b, tt))
 spelled_formula (tests {nesting = nesting} {start = start} {term = term} {own = own} predicate s) =
@@ -149,24 +150,24 @@ spelled_formula (either {start = start} {left = left} {right = right} a b) =
     joins start left right _ x y (below start left right x y) tt
 
 -- the formula of a precondition, where there is one
-pub formula_behind : (p : Option RawPrecondition) (tokens : List Token) → Maybe SpellsPrecondition p tokens → (k : ℕ) (f : RawFormula) → slice_get (option_map_or (λ q. q.formula) p []) k ≡ Some f → IsBehindFormulas k f
+pub formula_behind : (p : Option RawPrecondition) (tokens : List Token) → Maybe (SpellsPrecondition rule_limits) p tokens → (k : ℕ) (f : RawFormula) → slice_get (option_map_or (λ q. q.formula) p []) k ≡ Some f → IsBehindFormulas k f
 formula_behind None tokens spelled k f at = absurd cc
 formula_behind (Some p) tokens spelled k f at = at_place (0 + k) k f (omega arith) (behind_at 0 p.formula k f (spelled_formula spelled.1).behind at)
 
-pub formula_terms : (p : Option RawPrecondition) (tokens : List Token) → Maybe SpellsPrecondition p tokens → Each HasConstantTerms (option_map_or (λ q. q.formula) p [])
+pub formula_terms : (p : Option RawPrecondition) (tokens : List Token) → Maybe (SpellsPrecondition rule_limits) p tokens → Each HasConstantTerms (option_map_or (λ q. q.formula) p [])
 formula_terms None tokens spelled = tt
 formula_terms (Some p) tokens spelled = (spelled_formula spelled.1).terms
 
 -- ---- expressions
 
-more_terms : (expressions : List (List RawNode)) (tokens : List Token) → SpellsMoreExpressions expressions tokens → Each IsTerm expressions
+more_terms : (expressions : List (List RawNode)) (tokens : List Token) → SpellsMoreExpressions rule_limits expressions tokens → Each IsTerm expressions
 more_terms [] tokens spelled = tt
 more_terms (t ∷ expressions) tokens (own, rest, first, others, is) = (is_term term_places.Witness _ t own first, more_terms expressions rest others)
 
-terms_in_order : (expressions : List (List RawNode)) (tokens : List Token) → SpellsExpressions expressions tokens → Each IsTerm expressions
+terms_in_order : (expressions : List (List RawNode)) (tokens : List Token) → SpellsExpressions rule_limits expressions tokens → Each IsTerm expressions
 terms_in_order [] tokens spelled = tt
 terms_in_order (t ∷ expressions) tokens (own, rest, first, others, is) = (is_term term_places.Witness _ t own first, more_terms expressions rest others)
 
-pub expression_terms : (w : Option RawWitness) (tokens : List Token) → Maybe SpellsWitness w tokens → Each IsTerm (option_map_or (λ v. v.expressions) w [])
+pub expression_terms : (w : Option RawWitness) (tokens : List Token) → Maybe (SpellsWitness rule_limits) w tokens → Each IsTerm (option_map_or (λ v. v.expressions) w [])
 expression_terms None tokens spelled = tt
 expression_terms (Some w) tokens spelled = terms_in_order w.expressions spelled.0 spelled.1

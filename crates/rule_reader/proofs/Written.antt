@@ -24,14 +24,15 @@ use Rattle.rule_reader.proofs.LineOrder.{Ascend, skip, up_from, none_at, ordered
 use Rattle.rule_reader.proofs.SpelledTerms.{IsConstantNode, may_stand, IsConstantTerm, formula_behind, formula_terms, expression_terms}
 use Rattle.rule_reader.proofs.OneUses.{precondition_one_use, formula_weighs}
 use Rattle.rule_reader.proofs.Spelled.{argument_spelled, short_alone, term_operand, spelled_terms, written_flags, no_copies}
+use Rattle.rule_tokens.specs.Limits.{rule_limits}
 
 -- a statement of a half is spelled
-spelled_at : (half : _) (ss : List RawStatement) (tokens : List Token) (k : ℕ) (s : RawStatement) → SpellsStatements half ss tokens → slice_get ss k ≡ Some s → (own : List Token) × SpellsStatement half s own
+spelled_at : (half : _) (ss : List RawStatement) (tokens : List Token) (k : ℕ) (s : RawStatement) → SpellsStatements rule_limits half ss tokens → slice_get ss k ≡ Some s → (own : List Token) × SpellsStatement rule_limits half s own
 spelled_at half [] tokens k s is at = absurd (none_at k s at)
-spelled_at half (s ∷ ss) tokens zero t (own, rest, spelled, others, is) at = (own, subst (λ x. SpellsStatement half x own) (same_Some s t at) spelled)
+spelled_at half (s ∷ ss) tokens zero t (own, rest, spelled, others, is) at = (own, subst (λ x. SpellsStatement rule_limits half x own) (same_Some s t at) spelled)
 spelled_at half (s ∷ ss) tokens (suc k) t (own, rest, spelled, others, is) at = spelled_at half ss rest k t others at
 
-is_half : (half : _) → ((a : RawOperand) (tokens : List Token) → SpellsOp half (Copy a) tokens → SpellsOperand half a tokens) → ((name : List ℕ) (tokens : List Token) → SpellsArgument half (raw_arguments.Constant name) tokens → length name ≤ 200) → (ss : List RawStatement) (tokens : List Token) → SpellsHalf half ss tokens → AreInLineOrder ss → IsHalf ss
+is_half : (half : _) → ((a : RawOperand) (tokens : List Token) → SpellsOp rule_limits half (Copy a) tokens → SpellsOperand rule_limits half a tokens) → ((name : List ℕ) (tokens : List Token) → SpellsArgument rule_limits half (raw_arguments.Constant name) tokens → length name ≤ 200) → (ss : List RawStatement) (tokens : List Token) → SpellsHalf rule_limits half ss tokens → AreInLineOrder ss → IsHalf ss
 is_half half copies constants ss tokens spelled in_order =
     record {
       some = spelled.some;
@@ -45,17 +46,17 @@ is_half half copies constants ss tokens spelled in_order =
       flags_fit = λ k s at. let own = (spelled_at half ss tokens k s spelled.spelled at).1 in written_flags half s.op own.op own.is_op;
     }
 
-source_ops : (half : _) → ((a : RawOperand) (tokens : List Token) → ¬ SpellsOp half (Copy a) tokens) → (ss : List RawStatement) (tokens : List Token) → SpellsHalf half ss tokens → (k : ℕ) (s : RawStatement) → slice_get ss k ≡ Some s → MayStandInSource s.op
+source_ops : (half : _) → ((a : RawOperand) (tokens : List Token) → ¬ (SpellsOp rule_limits) half (Copy a) tokens) → (ss : List RawStatement) (tokens : List Token) → SpellsHalf rule_limits half ss tokens → (k : ℕ) (s : RawStatement) → slice_get ss k ≡ Some s → MayStandInSource s.op
 source_ops half none ss tokens spelled k s at = let own = (spelled_at half ss tokens k s spelled.spelled at).1 in no_copies half none s.op own.op own.is_op
 
-source_arguments : (half : _) → ((a : RawOperand) (tokens : List Token) → ¬ SpellsOp half (Copy a) tokens) → ((t : List RawNode) (tokens : List Token) → ¬ SpellsArgument half (raw_arguments.Term t) tokens) → (ss : List RawStatement) (tokens : List Token) → SpellsHalf half ss tokens → (k : ℕ) (s : RawStatement) (t : List RawNode) → slice_get ss k ≡ Some s → ¬ Contains (arguments_of s.op) (raw_arguments.Term t)
+source_arguments : (half : _) → ((a : RawOperand) (tokens : List Token) → ¬ (SpellsOp rule_limits) half (Copy a) tokens) → ((t : List RawNode) (tokens : List Token) → ¬ (SpellsArgument rule_limits) half (raw_arguments.Term t) tokens) → (ss : List RawStatement) (tokens : List Token) → SpellsHalf rule_limits half ss tokens → (k : ℕ) (s : RawStatement) (t : List RawNode) → slice_get ss k ≡ Some s → ¬ Contains (arguments_of s.op) (raw_arguments.Term t)
 source_arguments half none never ss tokens spelled k s t at among =
     let own = (spelled_at half ss tokens k s spelled.spelled at).1 in
     let term = argument_spelled half (λ a own' copy. absurd (none a own' copy)) s.op own.op (raw_arguments.Term t) own.is_op among in
     never t term.0 term.1
 
 -- the constant terms of a rule
-all_terms : (raw : RawRule) (tokens : List Token) → SpellsRule raw tokens → Each IsConstantTerm (terms_of raw)
+all_terms : (raw : RawRule) (tokens : List Token) → SpellsRule rule_limits raw tokens → Each IsConstantTerm (terms_of raw)
 all_terms raw tokens spelled =
     each_append IsConstantTerm (target_terms raw) (flat_map terms_of_formula (formula_of raw))
     (spelled_terms _ (λ a own copy. copy) term_operand raw.target spelled.target spelled.is_target)
@@ -65,14 +66,14 @@ all_terms raw tokens spelled =
 behind_part : (low : ℕ) (xs ys zs : List Token) → Ascend low ((xs ++ ys) ++ zs) → Ascend low (xs ++ (ys ++ zs))
 behind_part low xs ys zs up = subst (λ l. Ascend low l) (append_assoc xs ys zs) up
 
-well_formed : (low : ℕ) (raw : RawRule) (tokens behind : List Token) → SpellsRule raw tokens → raw_weight raw ≤ 256 → Ascend low (tokens ++ behind) → IsWellFormed raw
+well_formed : (low : ℕ) (raw : RawRule) (tokens behind : List Token) → SpellsRule rule_limits raw tokens → raw_weight raw ≤ 256 → Ascend low (tokens ++ behind) → IsWellFormed raw
 unfolding Ascend
 well_formed low raw tokens behind spelled small up =
     let halves = spelled.source ++ Line spelled.arrow_line ∷ Arrow ∷ spelled.target in
     let start = subst (λ l. Ascend low (l ++ behind)) spelled.spelled up in
-    let pre = headed (λ (p : RawPrecondition). p.line) SpellsPrecondition raw.line raw.precondition spelled.precondition ((spelled.witness ++ halves) ++ behind) (λ p own s. (Head (codes "Pre:") ∷ s.0, s.2)) spelled.is_precondition
+    let pre = headed (λ (p : RawPrecondition). p.line) (SpellsPrecondition rule_limits) raw.line raw.precondition spelled.precondition ((spelled.witness ++ halves) ++ behind) (λ p own s. (Head (codes "Pre:") ∷ s.0, s.2)) spelled.is_precondition
     (behind_part raw.line spelled.precondition (spelled.witness ++ halves) behind start.1) in
-    let wit = headed (λ (w : RawWitness). w.line) SpellsWitness pre.last raw.witness spelled.witness (halves ++ behind) (λ w own s. (Head (codes "Wit:") ∷ s.0, s.2)) spelled.is_witness
+    let wit = headed (λ (w : RawWitness). w.line) (SpellsWitness rule_limits) pre.last raw.witness spelled.witness (halves ++ behind) (λ w own s. (Head (codes "Wit:") ∷ s.0, s.2)) spelled.is_witness
     (behind_part pre.last spelled.witness halves behind pre.goes_on) in
     let source = ordered _ wit.last raw.source spelled.source (Line spelled.arrow_line ∷ Arrow ∷ (spelled.target ++ behind)) spelled.is_source.spelled
     (behind_part wit.last spelled.source (Line spelled.arrow_line ∷ Arrow ∷ spelled.target) behind wit.goes_on) in
@@ -98,10 +99,10 @@ well_formed low raw tokens behind spelled small up =
       weight = small;
     }
 
-rules_well_formed : (low : ℕ) (raws : List RawRule) (tokens : List Token) → SpellsRules raws tokens → Ascend low tokens → (k : ℕ) (raw : RawRule) → slice_get raws k ≡ Some raw → raw_weight raw ≤ 256 → IsWellFormed raw
+rules_well_formed : (low : ℕ) (raws : List RawRule) (tokens : List Token) → SpellsRules rule_limits raws tokens → Ascend low tokens → (k : ℕ) (raw : RawRule) → slice_get raws k ≡ Some raw → raw_weight raw ≤ 256 → IsWellFormed raw
 rules_well_formed low [] tokens spelled up k raw at small = absurd (none_at k raw at)
 rules_well_formed low (rule ∷ rules) tokens (own, rest, spelled, others, is) up zero raw at small =
-    well_formed low raw own rest (subst (λ r. SpellsRule r own) (same_Some rule raw at) spelled) small (subst (Ascend low) is up)
+    well_formed low raw own rest (subst (λ r. SpellsRule rule_limits r own) (same_Some rule raw at) spelled) small (subst (Ascend low) is up)
 rules_well_formed low (rule ∷ rules) tokens (own, rest, spelled, others, is) up (suc k) raw at small =
     let (m, le, later) = skip low own rest (subst (Ascend low) is up) in
     rules_well_formed m rules rest others later k raw at small
