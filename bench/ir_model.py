@@ -7,7 +7,7 @@ An outcome is UNDEFINED, ('return', value) or ('running', block). A literal `und
 import itertools
 import re
 
-from rule_model import BINARY, POISON, UNDEFINED, binary, compare, signed
+from rule_model import BINARY, CASTS, FLAGS, POISON, UNDEFINED, binary, cast, compare
 
 HEAD = re.compile(r'define (noundef )?i(\d+) @([\w.]+)\((.*)\)(?: .*)? \{')
 
@@ -45,14 +45,14 @@ class Function:
         """The register that is assigned, or None, the opcode, what belongs to it, and the operands with their widths."""
         register, text = line.split(' = ', 1) if ' = ' in line else (None, line)
         word, rest = text.split(None, 1) if ' ' in text else (text, '')
+        words = rest.replace(',', ' ').split()
+        flags = [w for w in words if w in FLAGS.get(word, [])]
         if word in BINARY:
-            words = rest.replace(',', ' ').split()
-            flags = [w for w in words if w in ('nuw', 'nsw', 'exact')]
             width, a, b = words[len(flags):]
             return register, word, flags, [(int(width[1:]), a), (int(width[1:]), b)], int(width[1:])
         if word == 'icmp':
-            predicate, width, a, b = rest.replace(',', ' ').split()
-            return register, word, predicate, [(int(width[1:]), a), (int(width[1:]), b)], 1
+            predicate, width, a, b = words[len(flags):]
+            return register, word, (flags, predicate), [(int(width[1:]), a), (int(width[1:]), b)], 1
         if word == 'phi':
             width = int(rest.split()[0][1:])
             return register, word, None, re.findall(r'\[ (\S+), (\S+) \]', rest), width
@@ -63,10 +63,10 @@ class Function:
             return None, 'branch', (one, other), [(1, condition)], None
         if word == 'unreachable':
             return None, word, None, [], None
-        words = rest.replace(',', ' ').split()
+        words = words[len(flags):]
         typed = [(int(t[1:]), v) for t, v in zip(words[::2], words[1::2]) if t[0] == 'i']
-        if word in ('trunc', 'zext', 'sext'):
-            return register, word, None, typed[:1], int(words[-1][1:])
+        if word in CASTS:
+            return register, word, flags, typed[:1], int(words[-1][1:])
         if word == 'select':
             return register, word, None, typed, typed[1][0]
         return register, word, None, typed, typed[0][0]
@@ -92,12 +92,10 @@ class Function:
         if op in BINARY:
             return binary(op, extra, width, *values)
         if op == 'icmp':
-            return compare(extra, operands[0][0], *values)
+            return compare(extra[1], operands[0][0], *values, extra[0])
         if op == 'select':
             return POISON if values[0] == POISON else values[1] if values[0] else values[2]
-        if values[0] == POISON:
-            return POISON
-        return {'trunc': values[0], 'zext': values[0], 'sext': signed(values[0], operands[0][0])}[op] % (1 << width)
+        return cast(op, extra, operands[0][0], width, values[0])
 
     def enter(self, block, before, held):
         """The ends of one block: UNDEFINED, ('return', value) or ('go', block, registers held)."""

@@ -18,7 +18,7 @@ import tempfile
 sys.path.insert(0, os.path.dirname(os.path.abspath(__file__)))
 from ir_model import functions_of, refines
 from random_rules import Maker
-from rule_model import BINARY, EXACT, POISON, UNDEFINED, WRAPPING, rules_of
+from rule_model import BINARY, FLAGS, POISON, UNDEFINED, rules_of
 
 MOST_BLOCKS = 6
 IN_MODULE = 50
@@ -134,6 +134,10 @@ class Writer:
         self.count += 1
         return f'%v{self.count}'
 
+    def flags(self, op, own, p):
+        """These flags and some more that it takes, each with a space behind it."""
+        return ''.join(f'{flag} ' for flag in FLAGS.get(op, []) if flag in own or self.chance(p))
+
     def filler(self, there):
         """An instruction that has no part in the rule."""
         width = self.random.choice([w for _, w in there] or [2])
@@ -141,10 +145,9 @@ class Writer:
         a, b = self.any_of(there, width), self.any_of(there, width)
         if kind < 0.7:
             op = self.random.choice(['add', 'sub', 'mul', 'and', 'or', 'xor', 'shl', 'lshr', 'udiv'])
-            flags = ''.join(f'{flag} ' for flag in ('nuw', 'nsw') if op in WRAPPING and self.chance(0.3))
-            self.lines.append(f'  {name} = {op} {flags}i{width} {a}, {b}')
+            self.lines.append(f'  {name} = {op} {self.flags(op, [], 0.3)}i{width} {a}, {b}')
         elif kind < 0.9:
-            self.lines.append(f'  {name} = icmp {self.random.choice(["eq", "ult", "sgt"])} i{width} {a}, {b}')
+            self.lines.append(f'  {name} = icmp {self.flags("icmp", [], 0.3)}{self.random.choice(["eq", "ult", "sgt"])} i{width} {a}, {b}')
             width = 1
         else:
             self.lines.append(f'  {name} = freeze i{width} {a}')
@@ -171,15 +174,13 @@ class Writer:
             texts = [self.operand(v, there) for _, v in operands]
             widths = [self.width(v) for _, v in operands]
             if op in BINARY:
-                more = [f for f in ('nuw', 'nsw') if op in WRAPPING] + ['exact'] * (op in EXACT)
-                flags = ''.join(f'{flag} ' for flag in more if flag in extra or self.chance(0.04))
-                text = f'{op} {flags}i{width} {", ".join(texts)}'
+                text = f'{op} {self.flags(op, extra, 0.04)}i{width} {", ".join(texts)}'
             elif op == 'icmp':
-                text = f'icmp {extra} i{widths[0]} {", ".join(texts)}'
+                text = f'icmp {self.flags(op, extra[0], 0.04)}{extra[1]} i{widths[0]} {", ".join(texts)}'
             elif op == 'select':
                 text = 'select ' + ', '.join(f'i{w} {t}' for w, t in zip(widths, texts))
             else:
-                text = f'{op} i{widths[0]} {texts[0]} to i{width}'
+                text = f'{op} {self.flags(op, extra, 0.04)}i{widths[0]} {texts[0]} to i{width}'
             self.bound[register] = name
             self.lines.append(f'  {name} = {text}')
             there.append((name, width))

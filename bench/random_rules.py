@@ -12,7 +12,7 @@ import sys
 import tempfile
 
 sys.path.insert(0, os.path.dirname(os.path.abspath(__file__)))
-from rule_model import BINARY, COMPARISONS, EXACT, LEVELS, WRAPPING, rules_of
+from rule_model import BINARY, CASTS, COMPARISONS, FLAGS, LEVELS, rules_of
 
 PREDICATES = 'eq ne ugt uge ult ule sgt sge slt sle'.split()
 OPERATORS = [op for level in LEVELS for op in level]
@@ -72,6 +72,10 @@ class Maker:
             return self.term(2, self.constants) if target and self.chance(0.6) else self.pick(self.constants)
         return self.literal()
 
+    def flagged(self, op):
+        """An opcode with some of its flags."""
+        return ' '.join([op, *[f for f in FLAGS.get(op, []) if self.chance(0.25)], ''])
+
     def statement(self, register, registers, target, undef):
         kind, written = self.random.random(), self.type(0.1)
 
@@ -79,18 +83,13 @@ class Maker:
             return self.operand(registers, target, undef)
 
         if kind < 0.62:
-            op, flags = self.pick(BINARY), []
-            if op in WRAPPING:
-                flags = [f for f in ('nuw', 'nsw') if self.chance(0.25)]
-            if op in EXACT and self.chance(0.3):
-                flags = ['exact']
-            return f'{register} = {op} {" ".join(flags + [""])}{written}{o()}, {o()}'
+            return f'{register} = {self.flagged(self.pick(BINARY))}{written}{o()}, {o()}'
         if kind < 0.75:
-            return f'{register} = icmp {self.pick(PREDICATES)} {written}{o()}, {o()}'
+            return f'{register} = {self.flagged("icmp")}{self.pick(PREDICATES)} {written}{o()}, {o()}'
         if kind < 0.87:
             return f'{register} = select {self.type(.05)}{o()}, {self.type(.05)}{o()}, {self.type(.05)}{o()}'
         to = f' to i{self.random.randint(1, 3)}' if self.chance(0.2) else ''
-        return f'{register} = {self.pick(["trunc", "zext", "sext"])} {written}{o()}{to}'
+        return f'{register} = {self.flagged(self.pick(CASTS))}{written}{o()}{to}'
 
     def rule(self, name):
         """The text of a rule, or None where it would have another fault than one of classes."""

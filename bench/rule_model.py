@@ -11,8 +11,9 @@ import re
 import sys
 
 BINARY = 'add sub mul udiv sdiv urem srem shl lshr ashr and or xor'.split()
-WRAPPING = {'add', 'sub', 'mul', 'shl'}
-EXACT = {'udiv', 'sdiv', 'lshr', 'ashr'}
+CASTS = 'trunc zext sext'.split()
+FLAGS = {**dict.fromkeys(['add', 'sub', 'mul', 'shl', 'trunc'], ['nuw', 'nsw']), **dict.fromkeys(['udiv', 'sdiv', 'lshr', 'ashr'], ['exact']),
+         'or': ['disjoint'], 'zext': ['nneg'], 'icmp': ['samesign']}
 POISON = 'poison'
 UNDEFINED = 'undefined'
 TOKEN = re.compile(r'\s*(u>>|u<=|u>=|u<|u>|%[A-Za-z0-9_.]+|[A-Za-z][A-Za-z0-9_]*|\d+|<<|>>|==|!=|<=|>=|&&|\|\||/u(?![A-Za-z0-9_.$-])|%u(?![A-Za-z0-9_.$-])|%|[-+*/&^|~!<>(),=])')
@@ -65,11 +66,25 @@ def binary(op, flags, width, a, b):
         if b >= width or 'exact' in flags and a % (1 << b):
             return POISON
         return a >> b if op == 'lshr' else (signed(a, width) >> b) % modulus
+    if 'disjoint' in flags and a & b:
+        return POISON
     return {'and': a & b, 'or': a | b, 'xor': a ^ b}[op]
 
 
-def compare(predicate, width, a, b):
+def cast(op, flags, width, to, a):
+    """What a cast from the one width to the other gives."""
+    if a == POISON or 'nneg' in flags and signed(a, width) < 0:
+        return POISON
+    made = (signed(a, width) if op == 'sext' else a) % (1 << to)
+    if op == 'trunc' and ('nuw' in flags and made != a or 'nsw' in flags and signed(made, to) != signed(a, width)):
+        return POISON
+    return made
+
+
+def compare(predicate, width, a, b, flags=()):
     if POISON in (a, b):
+        return POISON
+    if 'samesign' in flags and (signed(a, width) < 0) != (signed(b, width) < 0):
         return POISON
     if predicate[0] == 's':
         a, b = signed(a, width), signed(b, width)
@@ -210,26 +225,35 @@ def parts(text):
     return out + [text[start:]]
 
 
+def flags_before(word, text):
+    """The flags that stand behind an opcode, and what stands behind them."""
+    flags = []
+    while text.split()[0] in FLAGS.get(word, []):
+        flag, text = text.split(None, 1)
+        flags.append(flag)
+    return flags, text
+
+
 def statement(line, target):
+    """The register, the opcode, its flags (an `icmp`: and the predicate), the operands and the type that is written behind `to`."""
     register, right = (part.strip() for part in line.split('=', 1))
     word = right.split()[0]
     if word in BINARY:
-        rest, flags = right.split(None, 1)[1], []
-        while rest.split()[0] in ('nuw', 'nsw', 'exact'):
-            flags.append(rest.split()[0])
-            rest = rest.split(None, 1)[1]
+        flags, rest = flags_before(word, right.split(None, 1)[1])
         return register, word, flags, [operand(x, target) for x in parts(rest)], None
     if word == 'icmp':
-        predicate, rest = right.split(None, 2)[1:]
-        return register, 'icmp', predicate, [operand(x, target) for x in parts(rest)], None
+        flags, rest = flags_before(word, right.split(None, 1)[1])
+        predicate, rest = rest.split(None, 1)
+        return register, 'icmp', (flags, predicate), [operand(x, target) for x in parts(rest)], None
     if word == 'select':
         return register, 'select', None, [operand(x, target) for x in parts(right.split(None, 1)[1])], None
-    if word in ('trunc', 'zext', 'sext'):
-        rest, to = right.split(None, 1)[1], None
+    if word in CASTS:
+        flags, rest = flags_before(word, right.split(None, 1)[1])
+        to = None
         if ' to ' in rest:
             rest, to = rest.split(' to ')
             to = int(to.strip()[1:])
-        return register, word, None, [operand(rest, target)], to
+        return register, word, flags, [operand(rest, target)], to
     return register, 'copy', None, [operand(right, target)], None
 
 
@@ -472,15 +496,13 @@ class Rule:
             if op in BINARY:
                 effect = binary(op, extra, width, *values)
             elif op == 'icmp':
-                effect = compare(extra, widths[0], *values)
+                effect = compare(extra[1], widths[0], *values, extra[0])
             elif op == 'select':
                 effect = POISON if values[0] == POISON else values[1] if values[0] else values[2]
             elif op == 'copy':
                 effect = values[0]
-            elif values[0] == POISON:
-                effect = POISON
             else:
-                effect = {'trunc': values[0], 'zext': values[0], 'sext': signed(values[0], widths[0])}[op] % (1 << width)
+                effect = cast(op, extra, widths[0], width, values[0])
             if effect == UNDEFINED:
                 return UNDEFINED, env
             env = dict(env)

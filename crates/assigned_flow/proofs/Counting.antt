@@ -20,9 +20,9 @@ All_at P (x ∷ xs) (suc k) all = All_at P xs k (All-tail P x xs all)
 
 few_of : (f : Function) (b k width : ℕ) (op : Op) → HasFewEntries op → length (reads_of f b k width op) < 2 ^ 32
 few_of f b k width (Binary op flags x y) few = omega arith
-few_of f b k width (Compare pred compared x y) few = omega arith
+few_of f b k width (Compare pred samesign compared x y) few = omega arith
 few_of f b k width (Select c x y) few = omega arith
-few_of f b k width (Convert cast from x) few = omega arith
+few_of f b k width (Convert cast flags from x) few = omega arith
 few_of f b k width (Freeze x) few = omega arith
 few_of f b k width (Phi entries) few = simp length-map few
 

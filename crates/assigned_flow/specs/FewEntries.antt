@@ -7,7 +7,7 @@ use Rattle.ir_core.specs.declared.instruction.Op.TheVariants.{Binary, Compare, S
 abbrev pub HasFewEntries : Op → Type 0
 HasFewEntries (Phi entries) = length entries < 2 ^ 32
 HasFewEntries (Binary op flags x y) = Unit {0}
-HasFewEntries (Compare pred width x y) = Unit {0}
+HasFewEntries (Compare pred samesign width x y) = Unit {0}
 HasFewEntries (Select c x y) = Unit {0}
-HasFewEntries (Convert cast from x) = Unit {0}
+HasFewEntries (Convert cast flags from x) = Unit {0}
 HasFewEntries (Freeze x) = Unit {0}

@@ -46,11 +46,11 @@ fn read_by(f: &Function, block: u32, place: u32, op: &Op, operand: u32) -> Optio
     ensures { (width : ℕ) → result ≡ option_map located (slice_get (reads_of f.now block place width op.now) operand) }
 {
     match op {
-        Op::Binary(_, _, x, y) | Op::Compare(_, _, x, y) => {
+        Op::Binary(_, _, x, y) | Op::Compare(_, _, _, x, y) => {
             read_here(block, place, &[*x, *y], operand)
         }
         Op::Select(condition, x, y) => read_here(block, place, &[*condition, *x, *y], operand),
-        Op::Convert(_, _, x) | Op::Freeze(x) => read_here(block, place, &[*x], operand),
+        Op::Convert(_, _, _, x) | Op::Freeze(x) => read_here(block, place, &[*x], operand),
         Op::Phi(entries) => {
             let (value, from) = *entries.as_slice().get(operand as usize)?;
             Some(Read {

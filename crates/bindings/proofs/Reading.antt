@@ -58,9 +58,9 @@ at_most_three op zero o at = omega arith
 at_most_three op (suc zero) o at = omega arith
 at_most_three op (suc (suc zero)) o at = omega arith
 at_most_three (rule_ops.Binary opcode flags a b) (suc (suc (suc i))) o at = absurd cc
-at_most_three (rule_ops.Compare pred a b) (suc (suc (suc i))) o at = absurd cc
+at_most_three (rule_ops.Compare pred samesign a b) (suc (suc (suc i))) o at = absurd cc
 at_most_three (rule_ops.Select c a b) (suc (suc (suc i))) o at = absurd cc
-at_most_three (rule_ops.Convert cast a to) (suc (suc (suc i))) o at = absurd cc
+at_most_three (rule_ops.Convert cast flags a to) (suc (suc (suc i))) o at = absurd cc
 at_most_three (rule_ops.Copy a) (suc (suc (suc i))) o at = absurd cc
 
 -- an instruction of the same operation reads as many operands
@@ -68,15 +68,15 @@ pub reads_too : (f : Function) (b k N : ℕ) (s : RuleOp) (op : Op) → IsSameOp
 reads_too f b k N (rule_ops.Binary opcode flags a c) (ops.Binary opcode' flags' x y) same zero o at = (read b k N x, refl)
 reads_too f b k N (rule_ops.Binary opcode flags a c) (ops.Binary opcode' flags' x y) same (suc zero) o at = (read b k N y, refl)
 reads_too f b k N (rule_ops.Binary opcode flags a c) (ops.Binary opcode' flags' x y) same (suc (suc i)) o at = absurd cc
-reads_too f b k N (rule_ops.Compare pred a c) (ops.Compare pred' M x y) same zero o at = (read b k M x, refl)
-reads_too f b k N (rule_ops.Compare pred a c) (ops.Compare pred' M x y) same (suc zero) o at = (read b k M y, refl)
-reads_too f b k N (rule_ops.Compare pred a c) (ops.Compare pred' M x y) same (suc (suc i)) o at = absurd cc
+reads_too f b k N (rule_ops.Compare pred samesign a c) (ops.Compare pred' samesign' M x y) same zero o at = (read b k M x, refl)
+reads_too f b k N (rule_ops.Compare pred samesign a c) (ops.Compare pred' samesign' M x y) same (suc zero) o at = (read b k M y, refl)
+reads_too f b k N (rule_ops.Compare pred samesign a c) (ops.Compare pred' samesign' M x y) same (suc (suc i)) o at = absurd cc
 reads_too f b k N (rule_ops.Select z a c) (ops.Select w x y) same zero o at = (read b k 1 w, refl)
 reads_too f b k N (rule_ops.Select z a c) (ops.Select w x y) same (suc zero) o at = (read b k N x, refl)
 reads_too f b k N (rule_ops.Select z a c) (ops.Select w x y) same (suc (suc zero)) o at = (read b k N y, refl)
 reads_too f b k N (rule_ops.Select z a c) (ops.Select w x y) same (suc (suc (suc i))) o at = absurd cc
-reads_too f b k N (rule_ops.Convert cast a to) (ops.Convert cast' M x) same zero o at = (read b k M x, refl)
-reads_too f b k N (rule_ops.Convert cast a to) (ops.Convert cast' M x) same (suc i) o at = absurd cc
+reads_too f b k N (rule_ops.Convert cast flags a to) (ops.Convert cast' flags' M x) same zero o at = (read b k M x, refl)
+reads_too f b k N (rule_ops.Convert cast flags a to) (ops.Convert cast' flags' M x) same (suc i) o at = absurd cc
 reads_too f b k N s op same i o at = absurd same
 
 -- at the place of the instruction there is a read for each operand

@@ -1,6 +1,6 @@
 -- Which instructions the statements of a rule's source match.
 use Rattle.std.specs.Prelude.{◌≡◌, ℕ, suc, ◌<◌, List, length, Some, Contains, slice_get}
-use Rattle.ops.specs.Flags.{AreWithin, no_flags}
+use Rattle.ops.specs.Flags.{AreWithin, no_flags, icmp_flags}
 use Rattle.ops.specs.declared.opcode.Flags.{Flags}
 use Rattle.ir_core.specs.Checks.{IsInst}
 use Rattle.ir_core.specs.Reads.{Read, IsRead}
@@ -24,18 +24,22 @@ use Rattle.bindings.specs.declared.binding.Binding.{Binding}
 -- both are one operation: of one opcode, one predicate or one cast
 abbrev pub IsSameOperation : RuleOp → Op → Type 0
 IsSameOperation (rule_ops.Binary opcode flags a b) (ops.Binary opcode' flags' x y) = opcode ≡ opcode'
-IsSameOperation (rule_ops.Compare pred a b) (ops.Compare pred' width x y) = pred ≡ pred'
+IsSameOperation (rule_ops.Compare pred samesign a b) (ops.Compare pred' samesign' width x y) = pred ≡ pred'
 IsSameOperation (rule_ops.Select c a b) (ops.Select z x y) = Unit {0}
-IsSameOperation (rule_ops.Convert cast a to) (ops.Convert cast' from x) = cast ≡ cast'
+IsSameOperation (rule_ops.Convert cast flags a to) (ops.Convert cast' flags' from x) = cast ≡ cast'
 IsSameOperation s i = ⊥
 
 -- the flags of a statement, and those of an instruction
 abbrev pub flags_of_statement : RuleOp → Flags
 flags_of_statement (rule_ops.Binary opcode flags a b) = flags
+flags_of_statement (rule_ops.Compare pred samesign a b) = icmp_flags samesign
+flags_of_statement (rule_ops.Convert cast flags a to) = flags
 flags_of_statement op = no_flags
 
 abbrev pub flags_of_inst : Op → Flags
 flags_of_inst (ops.Binary opcode flags x y) = flags
+flags_of_inst (ops.Compare pred samesign width x y) = icmp_flags samesign
+flags_of_inst (ops.Convert cast flags from x) = flags
 flags_of_inst op = no_flags
 
 -- an argument is what a statement of the source assigns

@@ -90,13 +90,13 @@ fn reads_temporary(op: Op) -> bool
     ensures { IsTrue result ↔ ReadsTemporary (operands_of op) }
 {
     match op {
-        Op::Binary(_, _, a, b) | Op::Compare(_, a, b) => {
+        Op::Binary(_, _, a, b) | Op::Compare(_, _, a, b) => {
             is_temporary(a.value) || is_temporary(b.value)
         }
         Op::Select(c, a, b) => {
             is_temporary(c.value) || is_temporary(a.value) || is_temporary(b.value)
         }
-        Op::Convert(_, a, _) | Op::Copy(a) => is_temporary(a.value),
+        Op::Convert(_, _, a, _) | Op::Copy(a) => is_temporary(a.value),
     }
 }
 

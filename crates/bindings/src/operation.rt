@@ -16,9 +16,9 @@ pub fn operand_of(op: RuleOp, index: usize) -> Option<RuleOperand>
     ensures { result ≡ slice_get (operands_of op) index }
 {
     match op {
-        RuleOp::Binary(_, _, a, b) | RuleOp::Compare(_, a, b) => one_of(&[a, b], index),
+        RuleOp::Binary(_, _, a, b) | RuleOp::Compare(_, _, a, b) => one_of(&[a, b], index),
         RuleOp::Select(c, a, b) => one_of(&[c, a, b], index),
-        RuleOp::Convert(_, a, _) | RuleOp::Copy(a) => one_of(&[a], index),
+        RuleOp::Convert(_, _, a, _) | RuleOp::Copy(a) => one_of(&[a], index),
     }
 }
 
@@ -35,9 +35,9 @@ pub(crate) fn is_same_operation(statement: RuleOp, inst: &Op) -> bool
 {
     match (statement, inst) {
         (RuleOp::Binary(opcode, _, _, _), Op::Binary(other, _, _, _)) => opcode == *other,
-        (RuleOp::Compare(pred, _, _), Op::Compare(other, _, _, _)) => pred == *other,
+        (RuleOp::Compare(pred, _, _, _), Op::Compare(other, _, _, _, _)) => pred == *other,
         (RuleOp::Select(_, _, _), Op::Select(_, _, _)) => true,
-        (RuleOp::Convert(cast, _, _), Op::Convert(other, _, _)) => cast == *other,
+        (RuleOp::Convert(cast, _, _, _), Op::Convert(other, _, _, _)) => cast == *other,
         _ => false,
     }
 }
@@ -48,8 +48,9 @@ pub(crate) fn flags_of_statement(op: RuleOp) -> Flags
 {
     match op {
         RuleOp::Binary(_, flags, _, _) => flags,
-        RuleOp::Compare(_, _, _) | RuleOp::Select(_, _, _) => Flags::NONE,
-        RuleOp::Convert(_, _, _) | RuleOp::Copy(_) => Flags::NONE,
+        RuleOp::Compare(_, samesign, _, _) => Flags::of_icmp(samesign),
+        RuleOp::Convert(_, flags, _, _) => flags,
+        RuleOp::Select(_, _, _) | RuleOp::Copy(_) => Flags::NONE,
     }
 }
 
@@ -59,7 +60,8 @@ pub(crate) fn flags_of_inst(op: &Op) -> Flags
 {
     match op {
         Op::Binary(_, flags, _, _) => *flags,
-        Op::Compare(_, _, _, _) | Op::Select(_, _, _) => Flags::NONE,
-        Op::Convert(_, _, _) | Op::Freeze(_) | Op::Phi(_) => Flags::NONE,
+        Op::Compare(_, samesign, _, _, _) => Flags::of_icmp(*samesign),
+        Op::Convert(_, flags, _, _) => *flags,
+        Op::Select(_, _, _) | Op::Freeze(_) | Op::Phi(_) => Flags::NONE,
     }
 }

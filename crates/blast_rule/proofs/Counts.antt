@@ -9,6 +9,7 @@ use Rattle.std.proofs.lemmas.List.Elements.{All-nil, All-cons, All-head, All-tai
 use Rattle.std.proofs.lemmas.List.Sums.{sum_by-cons, sum_by-le}
 use Rattle.std.proofs.lemmas.Option.{slice_get-get_or, slice_get_within, slice_get-map, get_or_from_slice_get, same_Some}
 use Rattle.ops.specs.declared.opcode.Opcode.TheVariants.{Add, Sub, Mul, UDiv, SDiv, URem, SRem, Shl, LShr, AShr, And, Or, Xor}
+use Rattle.ops.specs.declared.conversion.Cast.TheVariants.{Trunc, ZExt, SExt}
 use Rattle.rule_core.specs.declared.rule.Rule.{Rule}
 use Rattle.rule_core.specs.declared.rule.Statement.{Statement}
 use Rattle.rule_core.specs.declared.rule.Operand.{Operand}
@@ -50,9 +51,11 @@ op-few typing N K (Binary AShr flags a b) some low below all = omega (arith, shi
 op-few typing N K (Binary And flags a b) some low below all = omega arith
 op-few typing N K (Binary Or flags a b) some low below all = omega arith
 op-few typing N K (Binary Xor flags a b) some low below all = omega arith
-op-few typing N K (Compare pred a b) some low below all = omega (arith, all 0 0 (omega arith))
+op-few typing N K (Compare pred samesign a b) some low below all = omega (arith, all 0 0 (omega arith))
 op-few typing N K (Select c a b) some low below all = omega arith
-op-few typing N K (Convert cast a to) some low below all = omega arith
+op-few typing N K (Convert Trunc flags a to) some low below all = omega (arith, all 0 0 (omega arith))
+op-few typing N K (Convert ZExt flags a to) some low below all = omega arith
+op-few typing N K (Convert SExt flags a to) some low below all = omega arith
 op-few typing N K (Copy a) some low below all = omega arith
 
 bound-few : (N : ℕ) (op : Op) → N ≤ 64 → op_bound op N ≤ 266240

@@ -5,6 +5,7 @@ use Rattle.std.specs.List.{All, AllZip}
 use Rattle.std.proofs.lemmas.List.Elements.{All-nil, All-cons, All-from_recursion}
 use Rattle.std.proofs.lemmas.Option.{same_Some, get_or_from_slice_get}
 use Rattle.ops.specs.Value.{HasWidth}
+use Rattle.ops.specs.declared.conversion.Cast.{Cast}
 use Rattle.ops.specs.Integer.{bits}
 use Rattle.ops.specs.declared.value.Value.{Value}
 use Rattle.ops.specs.declared.value.Value.TheVariants.{Poison}
@@ -25,7 +26,7 @@ use Rattle.blast_value.specs.declared.held.Blasted.{Blasted}
 use Rattle.blast_value.specs.declared.instruction.Instruction.{Instruction}
 use Rattle.blast_value.specs.declared.instruction.Instruction.TheVariants as instructions
 use Rattle.blast_value.specs.Meaning.{Takes, HasEffect}
-use Rattle.blast_value.specs.Gates.{gates_of, greatest}
+use Rattle.blast_value.specs.Gates.{cast_gates, gates_of, greatest}
 use Rattle.blast_value.specs.Effect.{held_value, effect_of, widths_of, IsOwn, IsOwnEffect}
 use Rattle.blast_term.specs.declared.scope.Scope.{Scope}
 use Rattle.blast_rule.specs.Gates.{op_gates}
@@ -56,6 +57,10 @@ three R a b c ys all =
     let first = uncons R a (b ∷ c ∷ []) ys all in
     let others = two R b c first.1 first.4 in
     (first.0, others.0, others.1, first.2 ∙ ap (λ rest. first.0 ∷ rest) others.2, first.3, others.3, others.4)
+
+-- the widest operand of a cast is its one
+cast_greatest : (cast : Cast) (M : ℕ) → cast_gates cast (greatest (M ∷ [])) ≡ cast_gates cast M
+cast_greatest cast M = let one : greatest (M ∷ []) ≡ M = omega arith in ap (cast_gates cast) one
 
 module _ {L : Type 0} (has_literal : L → Type 0) (admits : List Bool → Type 0) (value : List Bool → L → Bool) (typing : List ℕ) (r : Scope L) where
   abbrev Holds : Operand → Held L → Type 0
@@ -91,12 +96,12 @@ module _ {L : Type 0} (has_literal : L → Type 0) (admits : List Bool → Type 
         gates = refl;
         gives = λ inputs given e admitted is_given effect. (held_value (value inputs) h.0, held_value (value inputs) h.1, h.3.gives inputs given admitted is_given, h.4.gives inputs given admitted is_given, effect);
       }
-  blasts (Compare pred a b) what N held is ready all =
+  blasts (Compare pred samesign a b) what N held is ready all =
       let h = two Holds a b held all in
       let left = width_is ready.0 a h.0 ready.1.0 h.3 in
       let right = width_is ready.0 b h.1 ready.2.0 h.4 in
       let told = get_or_from_slice_get typing a.class ready.0 0 ready.1.0 in
-      rw (sym (same_Some (instructions.Compare pred) what is), h.2) record {
+      rw (sym (same_Some (instructions.Compare pred samesign) what is), h.2) record {
         takes = (ready.0, rw left at h.3.some, rw (left, right) refl, ready.3);
         gates = rw (left, right, told) (omega arith);
         gives = λ inputs given e admitted is_given effect. (
@@ -127,12 +132,13 @@ module _ {L : Type 0} (has_literal : L → Type 0) (admits : List Bool → Type 
           effect,
         );
       }
-  blasts (Convert cast a to) what N held is ready all =
+  blasts (Convert cast flags a to) what N held is ready all =
       let h = one Holds a held all in
       let from = width_is ready.0 a h.0 ready.1.0 h.2 in
-      rw (sym (same_Some (instructions.Convert cast) what is), h.1) record {
+      let told = get_or_from_slice_get typing a.class ready.0 0 ready.1.0 in
+      rw (sym (same_Some (instructions.Convert cast flags) what is), h.1) record {
         takes = (ready.0, rw from at h.2.some, rw from refl, ready.2);
-        gates = refl;
+        gates = rw (from, told) (cast_greatest cast ready.0);
         gives = λ inputs given e admitted is_given effect. (ready.0, held_value (value inputs) h.0, ready.1.0, h.2.gives inputs given admitted is_given, effect ready.0 (of_width inputs ready.0 h.0 from));
       }
   blasts (Copy a) what N held is ready all = cc
@@ -143,9 +149,9 @@ CanBeRead typing given held o = (N : ℕ) × OperandIsReady typing given held N 
 
 pub all_ready : (typing : List ℕ) (given : Given) (held : Registry) (N : ℕ) (op : Op) → OpIsReady typing given held N op → All (CanBeRead typing given held) (operands_of op)
 all_ready typing given held N (Binary op flags a b) ready = All-from_recursion (CanBeRead typing given held) (a ∷ b ∷ []) ((N, ready.1), ((N, ready.2), tt))
-all_ready typing given held N (Compare pred a b) ready = All-from_recursion (CanBeRead typing given held) (a ∷ b ∷ []) ((ready.0, ready.1), ((ready.0, ready.2), tt))
+all_ready typing given held N (Compare pred samesign a b) ready = All-from_recursion (CanBeRead typing given held) (a ∷ b ∷ []) ((ready.0, ready.1), ((ready.0, ready.2), tt))
 all_ready typing given held N (Select c a b) ready = All-from_recursion (CanBeRead typing given held) (c ∷ a ∷ b ∷ []) ((1, ready.0), ((N, ready.1), ((N, ready.2), tt)))
-all_ready typing given held N (Convert cast a to) ready = All-from_recursion (CanBeRead typing given held) (a ∷ []) ((ready.0, ready.1), tt)
+all_ready typing given held N (Convert cast flags a to) ready = All-from_recursion (CanBeRead typing given held) (a ∷ []) ((ready.0, ready.1), tt)
 all_ready typing given held N (Copy a) ready = All-from_recursion (CanBeRead typing given held) (a ∷ []) ((N, ready), tt)
 
 -- a copy gives what its operand does

@@ -15,9 +15,9 @@ use Rattle.blast_term.specs.Gates.{terms_gates, numbers_gates, choices_gates, pr
 -- an operation with a result of iN: its instruction's circuit, of a comparison one over the width of its operands; a copy takes none
 abbrev pub op_gates : List ℕ → ℕ → Op → ℕ
 op_gates typing N (Binary op flags a b) = gates_of (instructions.Binary op flags) N N
-op_gates typing N (Compare pred a b) = gates_of (instructions.Compare pred) N (slice_index typing a.class)
+op_gates typing N (Compare pred samesign a b) = gates_of (instructions.Compare pred samesign) N (slice_index typing a.class)
 op_gates typing N (Select c a b) = gates_of instructions.Select N N
-op_gates typing N (Convert cast a to) = gates_of (instructions.Convert cast) N (slice_index typing a.class)
+op_gates typing N (Convert cast flags a to) = gates_of (instructions.Convert cast flags) N (slice_index typing a.class)
 op_gates typing N (Copy a) = 0
 
 -- a statement: its operation's, and one for whether it or one before it has undefined behaviour

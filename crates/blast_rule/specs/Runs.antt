@@ -43,9 +43,9 @@ given_shape s =
 -- the instruction of an operation; a copy has none
 abbrev pub instruction_of : Op → Option Instruction
 instruction_of (Binary op flags a b) = Some (instructions.Binary op flags)
-instruction_of (Compare pred a b) = Some (instructions.Compare pred)
+instruction_of (Compare pred samesign a b) = Some (instructions.Compare pred samesign)
 instruction_of (Select c a b) = Some instructions.Select
-instruction_of (Convert cast a to) = Some (instructions.Convert cast)
+instruction_of (Convert cast flags a to) = Some (instructions.Convert cast flags)
 instruction_of (Copy a) = None
 
 -- these literals of a circuit stand for what the operand gives

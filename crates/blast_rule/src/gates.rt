@@ -101,17 +101,17 @@ fn op_gates(typing: &[Width], width: Width, op: Op) -> u32
         Op::Binary(opcode, flags, _, _) => {
             gates_of(Instruction::Binary(opcode, flags), width, width)
         }
-        Op::Compare(pred, left, _) => {
+        Op::Compare(pred, samesign, left, _) => {
             gates_of(
-                Instruction::Compare(pred),
+                Instruction::Compare(pred, samesign),
                 width,
                 width_of(typing, left.class),
             )
         }
         Op::Select(_, _, _) => gates_of(Instruction::Select, width, width),
-        Op::Convert(cast, operand, _) => {
+        Op::Convert(cast, flags, operand, _) => {
             gates_of(
-                Instruction::Convert(cast),
+                Instruction::Convert(cast, flags),
                 width,
                 width_of(typing, operand.class),
             )

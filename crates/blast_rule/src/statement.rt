@@ -78,8 +78,8 @@ fn blast_statement<C: Circuit>(
             let what = Instruction::Binary(opcode, flags);
             blast_instruction(alloc, c, typing, scope, statement, what, &[left, right])
         }
-        Op::Compare(pred, left, right) => {
-            let what = Instruction::Compare(pred);
+        Op::Compare(pred, samesign, left, right) => {
+            let what = Instruction::Compare(pred, samesign);
             blast_instruction(alloc, c, typing, scope, statement, what, &[left, right])
         }
         Op::Select(condition, yes, no) => {
@@ -94,8 +94,8 @@ fn blast_statement<C: Circuit>(
                 &[condition, yes, no],
             )
         }
-        Op::Convert(cast, operand, _) => {
-            let what = Instruction::Convert(cast);
+        Op::Convert(cast, flags, operand, _) => {
+            let what = Instruction::Convert(cast, flags);
             blast_instruction(alloc, c, typing, scope, statement, what, &[operand])
         }
         Op::Copy(operand) => blast_copy(alloc, c, typing, scope, statement, operand),

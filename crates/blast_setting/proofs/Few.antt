@@ -23,9 +23,9 @@ few_kept {X} {Y} f (x ∷ xs) = elim (f x) as (λ o. length (cons_option o (filt
 
 op_operands : (op : Op) → length (operands_of op) ≤ 3
 op_operands (Binary op flags a b) = omega arith
-op_operands (Compare pred a b) = omega arith
+op_operands (Compare pred samesign a b) = omega arith
 op_operands (Select c a b) = omega arith
-op_operands (Convert cast a to) = omega arith
+op_operands (Convert cast flags a to) = omega arith
 op_operands (Copy a) = omega arith
 
 pub few_operands : (statements : List Statement) → length (operands_among statements) ≤ 3 * length statements

@@ -56,11 +56,11 @@ fn class_naming(op: Op, kind: Kind, k: usize) -> Option<u32>
     ensures { result ≡ option_map (λ o. o.class) (find (λ o. names kind k o.value) (operands_of op)) }
 {
     match op {
-        Op::Binary(_, _, left, right) | Op::Compare(_, left, right) => {
+        Op::Binary(_, _, left, right) | Op::Compare(_, _, left, right) => {
             class_among(&[left, right], kind, k)
         }
         Op::Select(condition, yes, no) => class_among(&[condition, yes, no], kind, k),
-        Op::Convert(_, operand, _) | Op::Copy(operand) => class_among(&[operand], kind, k),
+        Op::Convert(_, _, operand, _) | Op::Copy(operand) => class_among(&[operand], kind, k),
     }
 }
 
@@ -104,13 +104,13 @@ fn undefs_of(op: Op) -> usize
     ensures few { result ≤ 3 }
 {
     match op {
-        Op::Binary(_, _, left, right) | Op::Compare(_, left, right) => {
+        Op::Binary(_, _, left, right) | Op::Compare(_, _, left, right) => {
             undef_count(left) + undef_count(right)
         }
         Op::Select(condition, yes, no) => {
             undef_count(condition) + undef_count(yes) + undef_count(no)
         }
-        Op::Convert(_, operand, _) | Op::Copy(operand) => undef_count(operand),
+        Op::Convert(_, _, operand, _) | Op::Copy(operand) => undef_count(operand),
     }
 }
 

@@ -28,7 +28,7 @@ digit-is false true e = absurd (omega arith)
 digit-is false false e = refl
 
 pub compares-value : (pred : Pred) (left right undefined poison digit : Bool) (M K a b : ℕ)
-    → (if undefined then Undefined else Gives (value_or_poison poison 1 (number (digit ∷ [])))) ≡ Gives (comparison pred M (value_or_poison left M a) (value_or_poison right K b))
+    → (if undefined then Undefined else Gives (value_or_poison poison 1 (number (digit ∷ [])))) ≡ Gives (comparison pred false M (value_or_poison left M a) (value_or_poison right K b))
     → (digit && not poison) ≡ compares pred (value_or_poison left M a) (value_or_poison right K b)
 unfolding comparison
 compares-value pred left right true poison digit M K a b is = cc

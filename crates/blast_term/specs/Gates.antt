@@ -11,7 +11,7 @@ use Rattle.rule_core.specs.declared.rule.Function.TheVariants.{Negate, Not, Log2
 use Rattle.rule_core.specs.declared.rule.Formula.{Formula}
 use Rattle.rule_core.specs.declared.rule.Formula.TheVariants as formulas
 use Rattle.blast_value.specs.declared.instruction.Instruction.TheVariants as instructions
-use Rattle.blast_value.specs.Gates.{opcode_gates}
+use Rattle.blast_value.specs.Gates.{opcode_gates, sign_gates}
 use Rattle.blast_value.specs.Laws.{bound}
 
 -- the exponent of a power of two of iN: six for the place of a bit, and two for whether it is the only one
@@ -51,7 +51,7 @@ choices_gates widths places = sum_by (λ n. select_gates (slice_index widths n))
 
 -- a comparison of terms of iN, and whether one is a power of two or the least number; each with whether it is a number
 abbrev pub comparing_gates : ℕ → ℕ
-comparing_gates N = comparison_gates N + 2
+comparing_gates N = comparison_gates N + sign_gates + 1
 
 abbrev pub power_test_gates : ℕ → ℕ
 power_test_gates N = power_gates N + 1

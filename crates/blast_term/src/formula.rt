@@ -127,7 +127,13 @@ fn blast_compares<C: Circuit>(
         (comparing_gates (length left.now.bits)) }
 {
     let operands = pair(alloc, left, right)?;
-    let made = blast_value(alloc, c, Instruction::Compare(pred), one(), &operands)?;
+    let made = blast_value(
+        alloc,
+        c,
+        Instruction::Compare(pred, false),
+        one(),
+        &operands,
+    )?;
     c.and(alloc, made.bits.as_slice()[0], c.not(made.poison))
 }
 

@@ -101,7 +101,7 @@ fn formula_gates(typing: &[Width], terms: &[Term], formula: Formula) -> u32
     ensures few { result ≤ 514 }
 {
     match formula {
-        Formula::Compare(_, a, _) => 2 * node_width(typing, terms, a).bits() + 2,
+        Formula::Compare(_, a, _) => 2 * node_width(typing, terms, a).bits() + 4,
         Formula::IsPowerOfTwo(a) => 8 * node_width(typing, terms, a).bits() + 1,
         Formula::IsSignBit(a) => 2 * node_width(typing, terms, a).bits() + 1,
         Formula::HasOneUse(_) | Formula::Not(_) => 0,

@@ -2,6 +2,7 @@
 use Rattle.std.proofs.Common.{ℕ, zero, suc, ◌+◌, ◌-◌, ◌*◌, ◌^◌, ◌≤◌, max, min, Bool, true, false, nat_lt, if◌then◌else◌, arith}
 use Rattle.std.proofs.Math.Nat.{mul-le-mul_left, mul-le-mul}
 use Rattle.ops.specs.declared.opcode.Opcode.TheVariants.{Add, Sub, Mul, UDiv, SDiv, URem, SRem, Shl, LShr, AShr, And, Or, Xor}
+use Rattle.ops.specs.declared.conversion.Cast.TheVariants.{Trunc, ZExt, SExt}
 use Rattle.circuits.specs.Gates.{stages, shift_gates}
 use Rattle.circuits.proofs.Stages.{stages-least}
 use Rattle.circ_muldiv.specs.Gates.{product_gates}
@@ -48,9 +49,11 @@ few_at (Binary AShr flags) n m k some low h g = omega (arith, shift-few n low)
 few_at (Binary And flags) n m k some low h g = omega arith
 few_at (Binary Or flags) n m k some low h g = omega arith
 few_at (Binary Xor flags) n m k some low h g = omega arith
-few_at (Compare pred) n m k some low h g = omega arith
+few_at (Compare pred samesign) n m k some low h g = omega arith
 few_at Select n m k some low h g = omega arith
-few_at (Convert cast) n m k some low h g = omega arith
+few_at (Convert Trunc flags) n m k some low h g = omega arith
+few_at (Convert ZExt flags) n m k some low h g = omega arith
+few_at (Convert SExt flags) n m k some low h g = omega arith
 
 pub gates_are_few : GatesAreFew
 gates_are_few what n m some low some_m low_m = few_at what n m (max n m) some low (omega arith) (omega arith)

@@ -1,6 +1,6 @@
 -- What instructions do where operands may be poison.
 use Rattle.std.proofs.Common.{◌≡◌, ◌≢◌, ◌==◌, ℕ, zero, suc, ◌+◌, ◌-◌, ◌*◌, ◌%◌, ◌/◌, ◌^◌, ◌<◌, ◌≤◌, ◌⊎◌, Bool, true, false, not, ◌&&◌, ◌||◌, nat_lt, nat_le, if◌then◌else◌, List, [], ◌∷◌, map, length, get_or, replicate, refl, sym, ap, ◌∙◌, ⊎_elim, arith}
-use Rattle.std.specs.Prelude.{ℤ, pos, negsuc, neg_ℤ, ◌-ℤ◌, int_le, int_lt, unsigned_abs}
+use Rattle.std.specs.Prelude.{bit_and, ℤ, pos, negsuc, neg_ℤ, ◌-ℤ◌, int_le, int_lt, unsigned_abs}
 use Rattle.std.proofs.lemmas.Bool.{cases_lt}
 use Rattle.std.proofs.lemmas.Bool.Decides.{nat_tests}
 use Rattle.std.proofs.lemmas.Int.{ints}
@@ -19,8 +19,9 @@ use Rattle.ops.specs.Integer.{bits, minus_one, least, signed, residue, fits_unsi
 use Rattle.ops.specs.Arithmetic.{arithmetic}
 use Rattle.ops.specs.Instruction.{instruction, on_numbers, on_poison}
 use Rattle.ops.specs.Division.{udiv, sdiv, urem, srem, divides, quotient, remainder}
-use Rattle.ops.specs.Comparison.{comparison, holds, selection}
-use Rattle.ops.specs.Conversion.{conversion, converted}
+use Rattle.ops.specs.Comparison.{comparison, holds, selection, signs_differ}
+use Rattle.ops.specs.Bitwise.{or}
+use Rattle.ops.specs.Conversion.{conversion, converted, breaks_flags}
 use Rattle.circuits.specs.Word.{bit, number_of}
 use Rattle.circuits.specs.Word as words
 use Rattle.circ_muldiv.specs.Division as circuits
@@ -34,7 +35,7 @@ use Rattle.blast_value.specs.declared.division.Division.{Division}
 use Rattle.blast_value.specs.declared.division.Division.TheVariants.{UDiv, SDiv, URem, SRem}
 use Rattle.blast_value.specs.declared.strict.Strict.{Strict}
 use Rattle.blast_value.specs.declared.strict.Strict.TheVariants as strict
-use Rattle.blast_value.specs.Families.{arithmetic_opcode, bitwise_opcode, bitwise, division_opcode, strict_opcode, divided, exact, is_signed, is_negation}
+use Rattle.blast_value.specs.Families.{arithmetic_opcode, bitwise_opcode, bitwise, promises_disjoint, division_opcode, strict_opcode, divided, exact, is_signed, is_negation}
 use Rattle.blast_value.proofs.Numbers.{signed_same, residue-pos, residue-difference}
 
 -- ---- instructions that give poison where an operand is
@@ -68,11 +69,14 @@ bitwise_poison And N w = refl
 bitwise_poison Or N w = refl
 bitwise_poison Xor N w = refl
 
-pub bitwise_numbers : (op : Bitwise) (flags : Flags) (N a b : ℕ) → on_numbers (bitwise_opcode op) flags N a b ≡ Gives (bits N (bitwise op a b))
-unfolding on_numbers
+bitwise_numbers : (op : Bitwise) (flags : Flags) (N a b : ℕ) → on_numbers (bitwise_opcode op) flags N a b ≡ Gives (if promises_disjoint op flags && not (bit_and a b == 0) then Poison else bits N (bitwise op a b))
+unfolding on_numbers or
 bitwise_numbers And flags N a b = refl
 bitwise_numbers Or flags N a b = refl
 bitwise_numbers Xor flags N a b = refl
+
+pub bitwise_value : (op : Bitwise) (flags : Flags) (N l n a b : ℕ) (asked poison : Bool) → l ≡ N → n ≡ bitwise op a b → asked ≡ promises_disjoint op flags → poison ≡ (asked && not (bit_and a b == 0)) → Gives (if poison then Poison else bits l n) ≡ on_numbers (bitwise_opcode op) flags N a b
+bitwise_value op flags N l n a b asked poison width n_is asked_is poison_is = rw (poison_is, asked_is, width, n_is) (sym (bitwise_numbers op flags N a b))
 
 pub strict_poison : (op : Strict) (N : ℕ) (w : Value) → on_poison (strict_opcode op) N w ≡ Gives Poison
 unfolding on_poison
@@ -151,11 +155,11 @@ one_bit false = refl
 number_one : {L : Type 0} (value : L → Bool) (l : L) → number_of value (l ∷ []) ≡ bit (value l)
 number_one value l = omega arith
 
-pub compared : {L : Type 0} (value : L → Bool) (word : List L) (truth : L) (pred : Pred) (N m a b : ℕ) (undefined poison x y : Bool) → word ≡ replicate 1 truth → m ≡ N → undefined ≡ false → poison ≡ (x || y) → value truth ≡ holds pred N a b → (if undefined then Undefined else Gives (if poison then Poison else bits (length word) (number_of value word))) ≡ Gives (comparison pred N (if x then Poison else bits N a) (if y then Poison else bits m b))
+pub compared : {L : Type 0} (value : L → Bool) (word : List L) (truth : L) (pred : Pred) (samesign : Bool) (N m a b : ℕ) (undefined poison x y differ : Bool) → word ≡ replicate 1 truth → m ≡ N → undefined ≡ false → poison ≡ ((x || y) || differ) → differ ≡ (samesign && signs_differ N a b) → value truth ≡ holds pred N a b → (if undefined then Undefined else Gives (if poison then Poison else bits (length word) (number_of value word))) ≡ Gives (comparison pred samesign N (if x then Poison else bits N a) (if y then Poison else bits m b))
 unfolding comparison
-compared value word truth pred N m a b undefined poison true y word_is width u p t = rw (u, p) refl
-compared value word truth pred N m a b undefined poison false true word_is width u p t = rw (u, p) refl
-compared value word truth pred N m a b undefined poison false false word_is width u p t = rw (u, p, word_is, number_one value truth, t, one_bit (holds pred N a b)) refl
+compared value word truth pred samesign N m a b undefined poison true y differ word_is width u p d t = rw (u, p) refl
+compared value word truth pred samesign N m a b undefined poison false true differ word_is width u p d t = rw (u, p) refl
+compared value word truth pred samesign N m a b undefined poison false false differ word_is width u p d t = rw (u, p, d, word_is, number_one value truth, t, one_bit (holds pred N a b)) refl
 
 -- ---- choices
 only : {L : Type 0} (value : L → Bool) (word : List L) (l : L) → length word ≡ 1 → l ≡ get_or word 0 l → number_of value word ≡ bit (value l)
@@ -177,10 +181,10 @@ pub chosen_number : {L : Type 0} (old new : L → Bool) (c : L) (a b word condit
 chosen_number old new c a b word condition word_is width at = (ap words.number word_is ∙ chosen_bits old (old c) a b, only old condition c width at)
 
 -- ---- casts
-pub cast_effect : (cast : Cast) (from to a n l : ℕ) (undefined poison : Bool) → undefined ≡ false → l ≡ to → n ≡ converted cast from to a → (if undefined then Undefined else Gives (if poison then Poison else bits l n)) ≡ Gives (conversion cast from to (if poison then Poison else bits from a))
+pub cast_effect : (cast : Cast) (flags : Flags) (from to a n l : ℕ) (undefined poison x breaks : Bool) → undefined ≡ false → l ≡ to → n ≡ converted cast from to a → breaks ≡ breaks_flags cast flags from to a → poison ≡ (x || breaks) → (if undefined then Undefined else Gives (if poison then Poison else bits l n)) ≡ Gives (conversion cast flags from to (if x then Poison else bits from a))
 unfolding conversion
-cast_effect cast from to a n l undefined true u width n_is = rw u refl
-cast_effect cast from to a n l undefined false u width n_is = rw (u, width, n_is) refl
+cast_effect cast flags from to a n l undefined poison true breaks u width n_is b p = rw (u, p) refl
+cast_effect cast flags from to a n l undefined poison false breaks u width n_is b p = rw (u, p, b, width, n_is) refl
 
 -- ---- divisions
 pub quotients : (N a b : ℕ) → circuits.residue N (circuits.quotient (words.signed N a) (words.signed N b)) ≡ residue N (quotient (signed N a) (signed N b))

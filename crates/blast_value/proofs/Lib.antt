@@ -1,4 +1,5 @@
 pub mod Counts
+pub mod Cuts
 pub mod Digits
 pub mod Effects
 pub mod Numbers

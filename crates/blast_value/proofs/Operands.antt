@@ -2,6 +2,7 @@
 use Rattle.std.proofs.Common.{◌≡◌, ℕ, Bool, true, false, if◌then◌else◌, List, [], ◌∷◌, get_or, refl}
 use Rattle.ops.specs.declared.value.Value.TheVariants.{Poison}
 use Rattle.ops.specs.declared.comparison.Pred.{Pred}
+use Rattle.ops.specs.declared.opcode.Flags.{Flags}
 use Rattle.ops.specs.declared.conversion.Cast.{Cast}
 use Rattle.ops.specs.Value.{HasWidth}
 use Rattle.ops.specs.Integer.{bits}
@@ -29,13 +30,13 @@ three_operands (a ∷ b ∷ d ∷ []) k l m x y z widths at_x at_y at_z = cc
 three_operands (a ∷ b ∷ d ∷ e ∷ operands) k l m x y z widths at_x at_y at_z = cc
 
 -- whatever width the values have, the effect is the one over that of the words
-pub comparison_width : (x y : Bool) (pred : Pred) (l k a b m : ℕ) → HasWidth (if x then Poison else bits l a) m → comparison pred l (if x then Poison else bits l a) (if y then Poison else bits k b) ≡ comparison pred m (if x then Poison else bits l a) (if y then Poison else bits k b)
+pub comparison_width : (x y : Bool) (pred : Pred) (samesign : Bool) (l k a b m : ℕ) → HasWidth (if x then Poison else bits l a) m → comparison pred samesign l (if x then Poison else bits l a) (if y then Poison else bits k b) ≡ comparison pred samesign m (if x then Poison else bits l a) (if y then Poison else bits k b)
 unfolding comparison
-comparison_width true y pred l k a b m width = refl
-comparison_width false true pred l k a b m width = refl
-comparison_width false false pred l k a b m width = rw (← width) refl
+comparison_width true y pred samesign l k a b m width = refl
+comparison_width false true pred samesign l k a b m width = refl
+comparison_width false false pred samesign l k a b m width = rw (← width) refl
 
-pub conversion_width : (x : Bool) (cast : Cast) (l to a m : ℕ) → HasWidth (if x then Poison else bits l a) m → conversion cast l to (if x then Poison else bits l a) ≡ conversion cast m to (if x then Poison else bits l a)
+pub conversion_width : (x : Bool) (cast : Cast) (flags : Flags) (l to a m : ℕ) → HasWidth (if x then Poison else bits l a) m → conversion cast flags l to (if x then Poison else bits l a) ≡ conversion cast flags m to (if x then Poison else bits l a)
 unfolding conversion
-conversion_width true cast l to a m width = refl
-conversion_width false cast l to a m width = rw (← width) refl
+conversion_width true cast flags l to a m width = refl
+conversion_width false cast flags l to a m width = rw (← width) refl

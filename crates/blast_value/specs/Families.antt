@@ -81,6 +81,17 @@ bitwise And a b = bit_and a b
 bitwise Or a b = bit_or a b
 bitwise Xor a b = bit_xor a b
 
+-- the number n of N bits made longer, its highest bit coming in above where it is read as signed
+abbrev pub extended : Bool → ℕ → ℕ → ℕ → ℕ
+extended false N M n = n
+extended true N M n = residue M (signed N n)
+
+-- the operands were promised to share no bit
+abbrev pub promises_disjoint : Bitwise → Flags → Bool
+promises_disjoint And flags = false
+promises_disjoint Or flags = flags.disjoint
+promises_disjoint Xor flags = false
+
 -- the predicate is the negation of one by which numbers are equal or one of them is below the other
 abbrev pub is_negation : Pred → Bool
 is_negation Eq = false

@@ -2,6 +2,8 @@
 use Rattle.std.specs.Prelude.{ℕ, ◌+◌, ◌*◌, max, fold, Bool, true, false, List}
 use Rattle.ops.specs.declared.opcode.Opcode.{Opcode}
 use Rattle.ops.specs.declared.opcode.Opcode.TheVariants.{Add, Sub, Mul, UDiv, SDiv, URem, SRem, Shl, LShr, AShr, And, Or, Xor}
+use Rattle.ops.specs.declared.conversion.Cast.{Cast}
+use Rattle.ops.specs.declared.conversion.Cast.TheVariants.{Trunc, ZExt, SExt}
 use Rattle.circuits.specs.Gates.{adder_gates, comparison_gates, equality_gates, select_gates, shift_gates}
 use Rattle.circ_muldiv.specs.Gates.{product_gates, overflow_add_gates, overflow_mul_gates, division_gates, signed_division_gates}
 use Rattle.blast_value.specs.declared.arithmetic.Arithmetic.{Arithmetic}
@@ -38,13 +40,17 @@ left_gates width = comparison_gates width + 3 * shift_gates width width + 2 * eq
 abbrev pub right_gates : ℕ → ℕ
 right_gates width = comparison_gates width + 2 * shift_gates width width + equality_gates width + 1
 
+-- Two words bit by bit, the bits that both have, and whether one is true.
+abbrev pub bitwise_gates : ℕ → ℕ
+bitwise_gates width = width + (width + equality_gates width)
+
 -- What is made of two numbers where no division is asked.
 abbrev pub number_gates : Strict → ℕ → ℕ
 number_gates (strict.Arithmetic op) width = checked_gates op width
 number_gates strict.Shl width = left_gates width
 number_gates strict.LShr width = right_gates width
 number_gates strict.AShr width = right_gates width
-number_gates (strict.Bitwise op) width = width
+number_gates (strict.Bitwise op) width = bitwise_gates width
 
 -- A quotient and a remainder, unsigned or signed.
 abbrev pub quotient_gates : Bool → ℕ → ℕ
@@ -71,16 +77,30 @@ opcode_gates SRem width = signed_gates width
 opcode_gates Shl width = left_gates width + poison_gates
 opcode_gates LShr width = right_gates width + poison_gates
 opcode_gates AShr width = right_gates width + poison_gates
-opcode_gates And width = width + poison_gates
-opcode_gates Or width = width + poison_gates
-opcode_gates Xor width = width + poison_gates
+opcode_gates And width = bitwise_gates width + poison_gates
+opcode_gates Or width = bitwise_gates width + poison_gates
+opcode_gates Xor width = bitwise_gates width + poison_gates
+
+-- Whether sign bits differ, and the poison of that and of two operands.
+abbrev pub sign_gates : ℕ
+sign_gates = 1 + poison_gates
+
+-- Whether a flag of a cast is broken: of what is cut off, whether extending it unsigned or signed gives another number.
+abbrev pub broken_gates : Cast → ℕ → ℕ
+broken_gates Trunc operand_width = 2 * equality_gates operand_width + 1
+broken_gates ZExt operand_width = 0
+broken_gates SExt operand_width = 0
+
+-- The same, and the poison of the operand.
+abbrev pub cast_gates : Cast → ℕ → ℕ
+cast_gates cast operand_width = broken_gates cast operand_width + 1
 
 -- An instruction whose result has `width` bits, and whose widest operand has `operand_width`.
 abbrev pub gates_of : Instruction → ℕ → ℕ → ℕ
 gates_of (Binary op flags) width operand_width = opcode_gates op width
-gates_of (Compare pred) width operand_width = comparison_gates operand_width + 1
+gates_of (Compare pred samesign) width operand_width = comparison_gates operand_width + sign_gates
 gates_of Select width operand_width = select_gates width + 2
-gates_of (Convert cast) width operand_width = 0
+gates_of (Convert cast flags) width operand_width = cast_gates cast operand_width
 
 -- The greatest of widths.
 abbrev pub greatest : List ℕ → ℕ

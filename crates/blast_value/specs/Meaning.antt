@@ -13,15 +13,16 @@ use Rattle.blast_value.specs.declared.instruction.Instruction.TheVariants.{Binar
 -- an instruction with a result of iN takes operands of these widths
 abbrev pub Takes : Instruction → ℕ → List ℕ → Type 0
 Takes (Binary op flags) N widths = widths ≡ N ∷ N ∷ []
-Takes (Compare pred) N widths = (M : ℕ) × (1 ≤ M) × (widths ≡ M ∷ M ∷ []) × (N ≡ 1)
+Takes (Compare pred samesign) N widths = (M : ℕ) × (1 ≤ M) × (widths ≡ M ∷ M ∷ []) × (N ≡ 1)
 Takes Select N widths = widths ≡ 1 ∷ N ∷ N ∷ []
-Takes (Convert cast) N widths = (M : ℕ) × (1 ≤ M) × (widths ≡ M ∷ []) × CastFits cast M N
+Takes (Convert cast flags) N widths = (M : ℕ) × (1 ≤ M) × (widths ≡ M ∷ []) × CastFits cast M N
 
 -- An instruction with a result of iN has this effect on operands of these values. Whatever width M the operands of a comparison
 -- or of a cast are of, its effect is the one over that width.
 abbrev pub HasEffect : Instruction → ℕ → List Value → Effect → Type 0
 HasEffect (Binary op flags) N (a ∷ b ∷ []) e = e ≡ instruction op flags N a b
-HasEffect (Compare pred) N (a ∷ b ∷ []) e = (M : ℕ) → HasWidth a M → HasWidth b M → e ≡ Gives (comparison pred M a b)
+HasEffect (Compare pred samesign) N (a ∷ b ∷ []) e =
+    (M : ℕ) → HasWidth a M → HasWidth b M → e ≡ Gives (comparison pred samesign M a b)
 HasEffect Select N (c ∷ a ∷ b ∷ []) e = e ≡ Gives (selection c a b)
-HasEffect (Convert cast) N (a ∷ []) e = (M : ℕ) → HasWidth a M → e ≡ Gives (conversion cast M N a)
+HasEffect (Convert cast flags) N (a ∷ []) e = (M : ℕ) → HasWidth a M → e ≡ Gives (conversion cast flags M N a)
 HasEffect what N values e = ⊥

@@ -43,9 +43,11 @@ pub fn blast_value<C: Circuit>(
         Instruction::Binary(op, flags) => {
             binary(alloc, c, op, flags, width, &operands[0], &operands[1])
         }
-        Instruction::Compare(pred) => compare(alloc, c, pred, &operands[0], &operands[1]),
+        Instruction::Compare(pred, samesign) => {
+            compare(alloc, c, pred, samesign, &operands[0], &operands[1])
+        }
         Instruction::Select => choose(alloc, c, &operands[0], &operands[1], &operands[2]),
-        Instruction::Convert(cast) => convert(alloc, c, cast, width, &operands[0]),
+        Instruction::Convert(cast, flags) => { convert(alloc, c, cast, flags, width, &operands[0]) }
     }
 }
 

@@ -1,24 +1,27 @@
 //! Comparisons and choices. (LLVM Language Reference, "Other Operations".)
-ghost use Rattle.std.specs.Prelude.{◌≡◌, ◌+◌, ◌<◌, Bool, not, if◌then◌else◌, List as Seq, length, IfOk};
+ghost use Rattle.std.specs.Prelude.{◌≡◌, ◌+◌, ◌<◌, Bool, not, ◌&&◌, if◌then◌else◌, List as Seq, length, IfOk};
 ghost use Rattle.std.specs.List.{All};
 ghost use Rattle.ops.specs.declared.value.Effect.TheVariants.{Gives};
-ghost use Rattle.ops.specs.Comparison.{comparison, holds, selection};
+ghost use Rattle.ops.specs.Comparison.{comparison, holds, selection, signs_differ};
 ghost use Rattle.circuits.specs.Circuit.{Adds};
 ghost use Rattle.circuits.specs.Gates.{comparison_gates, select_gates};
 ghost use Rattle.circuits.specs.Word.{number_of};
 ghost use Rattle.blast_value.specs.Effect.{held_value, effect_of, IsOwn, IsOwnEffect};
 ghost use Rattle.blast_value.specs.Families.{is_negation};
+ghost use Rattle.blast_value.specs.Gates.{sign_gates};
 
 use crate::held::{Blasted, Held};
+use circ_muldiv::sign;
 use circuits::{Bits, Circuit, equal, less_signed, less_unsigned, or, repeated};
 use ops::Pred;
 use std::alloc::{AllocError, Global};
 
-/// The effect of `icmp`: 1 or 0, or poison where an operand is.
+/// The effect of `icmp`: 1 or 0, or poison where an operand is, and with `samesign` where the sign bits differ.
 pub(crate) fn compare<C: Circuit>(
     alloc: Global,
     c: &mut C,
     pred: Pred,
+    samesign: bool,
     a: &Held<C::Literal>,
     b: &Held<C::Literal>,
 ) -> Result<Blasted<C::Literal>, AllocError>
@@ -28,19 +31,46 @@ pub(crate) fn compare<C: Circuit>(
     requires own_b { IsOwn (C.has_literal c.old) b.now }
     ensures effect { IfOk result (λ made. (inputs : Seq Bool) → C.admits c.old inputs →
         effect_of (C.value c.new inputs) made
-        ≡ Gives (comparison pred (length a.now.bits)
+        ≡ Gives (comparison pred samesign (length a.now.bits)
         (held_value (C.value c.old inputs) a.now) (held_value (C.value c.old inputs) b.now))) }
     ensures width { IfOk result (λ made. length made.bits ≡ 1) }
     ensures own { IfOk result (IsOwnEffect (C.has_literal c.new)) }
-    ensures adds { Adds C.State c.old c.new (comparison_gates (length a.now.bits) + 1) }
+    ensures adds { Adds C.State c.old c.new (comparison_gates (length a.now.bits) + sign_gates) }
 {
     let truth = holds(alloc, c, pred, &a.bits, &b.bits)?;
-    let poison = or(alloc, c, a.poison, b.poison)?;
+    let differ = signs_differ(alloc, c, samesign, &a.bits, &b.bits)?;
+    let operands = or(alloc, c, a.poison, b.poison)?;
+    let poison = or(alloc, c, operands, differ)?;
     Ok(Blasted {
         bits: repeated(alloc, truth, 1)?,
         poison,
         undefined: c.zero(),
     })
+}
+
+/// Whether the sign bits of two numbers differ; false where that isn't asked.
+fn signs_differ<C: Circuit>(
+    alloc: Global,
+    c: &mut C,
+    asked: bool,
+    a: &Bits<C::Literal>,
+    b: &Bits<C::Literal>,
+) -> Result<C::Literal, AllocError>
+    requires width { 0 < length a.now }
+    requires same_width { length b.now ≡ length a.now }
+    requires own_a { All (C.has_literal c.old) a.now }
+    requires own_b { All (C.has_literal c.old) b.now }
+    ensures own { IfOk result (λ differ. C.has_literal c.new differ) }
+    ensures value { IfOk result (λ differ. (inputs : Seq Bool) → C.admits c.old inputs →
+        C.value c.new inputs differ
+        ≡ (asked && signs_differ (length a.now)
+        (number_of (C.value c.old inputs) a.now) (number_of (C.value c.old inputs) b.now))) }
+    ensures adds { Adds C.State c.old c.new 1 }
+{
+    if !asked {
+        return Ok(c.zero());
+    }
+    c.xor(alloc, sign(a), sign(b))
 }
 
 /// Whether a predicate holds of two numbers.

@@ -5,7 +5,7 @@ ghost use Rattle.blast_value.specs.Gates.{gates_of, opcode_gates};
 ghost use Rattle.blast_value.specs.Laws.{GatesAreFew};
 
 use crate::instruction::Instruction;
-use ops::{Opcode, Width};
+use ops::{Cast, Opcode, Width};
 
 /// The most gates that [`blast_value`](crate::blast_value) adds for an instruction whose result has `width` bits, and whose widest
 /// operand has `operand_width`. It takes no memory.
@@ -15,9 +15,10 @@ pub fn gates_of(what: Instruction, width: Width, operand_width: Width) -> u32
     let width = width.bits();
     match what {
         Instruction::Binary(op, _) => opcode_gates(op, width),
-        Instruction::Compare(_) => 2 * operand_width.bits() + 1,
+        Instruction::Compare(_, _) => 2 * operand_width.bits() + 3,
         Instruction::Select => width + 2,
-        Instruction::Convert(_) => 0,
+        Instruction::Convert(Cast::Trunc, _) => 4 * operand_width.bits() + 2,
+        Instruction::Convert(Cast::ZExt | Cast::SExt, _) => 1,
     }
 }
 
@@ -41,7 +42,7 @@ fn opcode_gates(op: Opcode, width: u32) -> u32
         Opcode::SDiv | Opcode::SRem => 6 * square + 37 * width + 6,
         Opcode::Shl => 3 * shift_gates(width) + 6 * width + 4,
         Opcode::LShr | Opcode::AShr => 2 * shift_gates(width) + 4 * width + 3,
-        Opcode::And | Opcode::Or | Opcode::Xor => width + 2,
+        Opcode::And | Opcode::Or | Opcode::Xor => 4 * width + 2,
     }
 }
 

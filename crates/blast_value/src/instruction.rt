@@ -7,10 +7,10 @@ use ops::{Cast, Flags, Opcode, Pred};
 pub enum Instruction {
     /// An instruction with two operands of the result's width.
     Binary(Opcode, Flags),
-    /// `icmp`: two operands of one width, and a result of one bit.
-    Compare(Pred),
+    /// `icmp`, with `samesign` where that is true: two operands of one width, and a result of one bit.
+    Compare(Pred, bool),
     /// `select`: a condition of one bit, and two operands of the result's width.
     Select,
-    /// A cast: one operand of another width.
-    Convert(Cast),
+    /// A cast with its flags: one operand of another width.
+    Convert(Cast, Flags),
 }

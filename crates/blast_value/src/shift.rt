@@ -45,8 +45,8 @@ pub(crate) fn moved_left<C: Circuit>(
     Ok(Held { bits, poison })
 }
 
-/// What comes in as a word is shifted to the right: where it is read as signed, its highest bit.
-fn incoming<C: Circuit>(c: &C, signed: bool, word: &Bits<C::Literal>) -> C::Literal
+/// The highest bit of a word where it is read as signed, and else 0: what comes in above it where it is shifted or made longer.
+pub(crate) fn sign_where<C: Circuit>(c: &C, signed: bool, word: &Bits<C::Literal>) -> C::Literal
     requires width { 0 < length word.now }
     requires own { All (C.has_literal c.now) word.now }
     ensures own { C.has_literal c.now result }
@@ -86,7 +86,7 @@ fn loses<C: Circuit>(
     if !asked {
         return Ok(c.zero());
     }
-    let top = incoming(c, signed, shifted);
+    let top = sign_where(c, signed, shifted);
     let back = shift_right(alloc, c, shifted, amount, top)?;
     let same = equal(alloc, c, &back, before)?;
     Ok(c.not(same))
@@ -114,7 +114,7 @@ pub(crate) fn moved_right<C: Circuit>(
     ensures adds { Adds C.State c.old c.new (right_gates width) }
 {
     let is_far = is_too_far(alloc, c, width, b)?;
-    let top = incoming(c, signed, a);
+    let top = sign_where(c, signed, a);
     let bits = shift_right(alloc, c, a, b, top)?;
     let lost = cuts(alloc, c, exact, a, &bits, b)?;
     let poison = or(alloc, c, is_far, lost)?;

@@ -11,7 +11,7 @@ ghost use Rattle.blast_value.specs.Families.{strict_opcode};
 ghost use Rattle.blast_value.specs.Gates.{number_gates, poison_gates};
 
 use crate::arithmetic::{Arithmetic, checked};
-use crate::bitwise::{Bitwise, each_bit};
+use crate::bitwise::{Bitwise, bit_by_bit};
 use crate::held::{Blasted, Held};
 use crate::shift::{moved_left, moved_right};
 use circuits::{Bits, Circuit, or};
@@ -81,11 +81,7 @@ fn at_numbers<C: Circuit>(
         Strict::Shl => moved_left(alloc, c, flags, width, a, b),
         Strict::LShr => moved_right(alloc, c, flags.exact, false, width, a, b),
         Strict::AShr => moved_right(alloc, c, flags.exact, true, width, a, b),
-        Strict::Bitwise(which) => {
-            let bits = each_bit(alloc, c, which, a.as_slice(), b.as_slice())?;
-            let poison = c.zero();
-            Ok(Held { bits, poison })
-        }
+        Strict::Bitwise(which) => bit_by_bit(alloc, c, which, flags, width, a, b),
     }
 }
 

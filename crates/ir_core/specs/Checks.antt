@@ -2,7 +2,7 @@
 -- "switch", and the types that each instruction asks for).
 use Rattle.std.specs.Prelude.{◌≡◌, ℕ, ◌<◌, ◌↔◌, List, length, Option, Some, IsSome, All, Contains, slice_get}
 use Rattle.ops.specs.Conversion.{CastFits}
-use Rattle.ops.specs.Flags.{FlagsFit}
+use Rattle.ops.specs.Flags.{FlagsFit, CastFlagsFit}
 use Rattle.ops.specs.Number.{Number}
 use Rattle.ops.specs.declared.conversion.Cast.{Cast}
 use Rattle.ops.specs.declared.conversion.Cast.TheVariants.{Trunc, ZExt, SExt}
@@ -53,9 +53,9 @@ OperandHasWidth f width operands.Poison = Unit {0}
 -- the types that an instruction asks for beside those of its operands, and its flags
 abbrev pub IsTyped : ℕ → Op → Type 0
 IsTyped width (Binary op flags x y) = FlagsFit op flags
-IsTyped width (Compare pred compared x y) = width ≡ 1
+IsTyped width (Compare pred samesign compared x y) = width ≡ 1
 IsTyped width (Select c x y) = Unit {0}
-IsTyped width (Convert cast from x) = CastFits cast from width
+IsTyped width (Convert cast flags from x) = CastFlagsFit cast flags × CastFits cast from width
 IsTyped width (Freeze x) = Unit {0}
 IsTyped width (Phi entries) = Unit {0}
 
@@ -70,9 +70,9 @@ CasesFit terminators.Unreachable = Unit {0}
 abbrev pub IsPhi : Op → Type 0
 IsPhi (Phi entries) = Unit {0}
 IsPhi (Binary op flags x y) = ⊥
-IsPhi (Compare pred width x y) = ⊥
+IsPhi (Compare pred samesign width x y) = ⊥
 IsPhi (Select c x y) = ⊥
-IsPhi (Convert cast from x) = ⊥
+IsPhi (Convert cast flags from x) = ⊥
 IsPhi (Freeze x) = ⊥
 
 -- A phi has an entry, one for each block that names this one and for no other block, and one operand only for each; a block may have

@@ -27,9 +27,9 @@ end_of f b = unwrap_or (option_map (λ block. length block.insts) (slice_get f.b
 -- what an instruction of this width at place k of block b reads; a phi reads each operand at the end of the block that it is for
 abbrev pub reads_of : Function → ℕ → ℕ → ℕ → Op → List Read
 reads_of f b k width (Binary op flags x y) = read b k width x ∷ read b k width y ∷ []
-reads_of f b k width (Compare pred compared x y) = read b k compared x ∷ read b k compared y ∷ []
+reads_of f b k width (Compare pred samesign compared x y) = read b k compared x ∷ read b k compared y ∷ []
 reads_of f b k width (Select c x y) = read b k 1 c ∷ read b k width x ∷ read b k width y ∷ []
-reads_of f b k width (Convert cast from x) = read b k from x ∷ []
+reads_of f b k width (Convert cast flags from x) = read b k from x ∷ []
 reads_of f b k width (Freeze x) = read b k width x ∷ []
 reads_of f b k width (Phi entries) = map (λ e. read e.1 (end_of f e.1) width e.0) entries
 

@@ -131,9 +131,9 @@ module _ (MayChoose : ℕ → ℕ → Type 0) where
   -- Operations", "Other Operations"). A phi has none of its own: it takes its value where its block is entered.
   abbrev pub OpGives : Registers → ℕ → Op → Effect → Type 0
   OpGives held width (Binary op flags a b) e = (x : Value) × (y : Value) × OperandGives held width a x × OperandGives held width b y × (e ≡ instruction op flags width x y)
-  OpGives held width (Compare pred compared a b) e = (x : Value) × (y : Value) × OperandGives held compared a x × OperandGives held compared b y × (e ≡ effects.Gives (comparison pred compared x y))
+  OpGives held width (Compare pred samesign compared a b) e = (x : Value) × (y : Value) × OperandGives held compared a x × OperandGives held compared b y × (e ≡ effects.Gives (comparison pred samesign compared x y))
   OpGives held width (Select c a b) e = (z : Value) × (x : Value) × (y : Value) × OperandGives held 1 c z × OperandGives held width a x × OperandGives held width b y × (e ≡ effects.Gives (selection z x y))
-  OpGives held width (Convert cast from a) e = (x : Value) × OperandGives held from a x × (e ≡ effects.Gives (conversion cast from width x))
+  OpGives held width (Convert cast flags from a) e = (x : Value) × OperandGives held from a x × (e ≡ effects.Gives (conversion cast flags from width x))
   OpGives held width (Freeze a) e = (x : Value) × (v : Value) × OperandGives held width a x × Freezes width x v × (e ≡ effects.Gives v)
   OpGives held width (Phi entries) e = ⊥
 

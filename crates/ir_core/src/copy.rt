@@ -98,9 +98,11 @@ fn copy_op(alloc: Global, op: &Op) -> Result<Op, AllocError>
 {
     match op {
         Op::Binary(opcode, flags, x, y) => Ok(Op::Binary(*opcode, *flags, *x, *y)),
-        Op::Compare(pred, width, x, y) => Ok(Op::Compare(*pred, *width, *x, *y)),
+        Op::Compare(pred, samesign, width, x, y) => Ok(Op::Compare(
+            *pred, *samesign, *width, *x, *y,
+        )),
         Op::Select(condition, x, y) => Ok(Op::Select(*condition, *x, *y)),
-        Op::Convert(cast, from, x) => Ok(Op::Convert(*cast, *from, *x)),
+        Op::Convert(cast, flags, from, x) => Ok(Op::Convert(*cast, *flags, *from, *x)),
         Op::Freeze(x) => Ok(Op::Freeze(*x)),
         Op::Phi(entries) => Ok(Op::Phi(copy_of(alloc, entries)?)),
     }

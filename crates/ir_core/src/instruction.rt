@@ -19,12 +19,12 @@ pub struct Inst {
 pub enum Op {
     /// A binary operation on two operands of the result's width.
     Binary(Opcode, Flags, Operand, Operand),
-    /// `icmp`: a comparison of two operands of the width; the result is an i1.
-    Compare(Pred, Width, Operand, Operand),
+    /// `icmp`, with `samesign` where that is true: a comparison of two operands of the width; the result is an i1.
+    Compare(Pred, bool, Width, Operand, Operand),
     /// `select`: an i1, what it gives where that is 1, and what it gives where that is 0.
     Select(Operand, Operand, Operand),
     /// `trunc`, `zext` or `sext` of an operand of the width.
-    Convert(Cast, Width, Operand),
+    Convert(Cast, Flags, Width, Operand),
     /// `freeze`: the operand, or some number where that is poison.
     Freeze(Operand),
     /// `phi`: for each block from which this one may be entered, what it gives then.

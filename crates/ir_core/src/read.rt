@@ -50,9 +50,9 @@ fn count_by(op: &Op) -> usize
     ensures { (f : Function) (b k width : ℕ) → result ≡ length (reads_of f b k width op.now) }
 {
     match op {
-        Op::Binary(_, _, _, _) | Op::Compare(_, _, _, _) => 2,
+        Op::Binary(_, _, _, _) | Op::Compare(_, _, _, _, _) => 2,
         Op::Select(_, _, _) => 3,
-        Op::Convert(_, _, _) | Op::Freeze(_) => 1,
+        Op::Convert(_, _, _, _) | Op::Freeze(_) => 1,
         Op::Phi(entries) => entries.len(),
     }
 }
@@ -102,7 +102,7 @@ fn read_by(
                 operand,
             )
         }
-        Op::Compare(_, compared, x, y) => {
+        Op::Compare(_, _, compared, x, y) => {
             let compared = *compared;
             one_of(
                 &[
@@ -117,7 +117,7 @@ fn read_by(
             let arms = [here(block, place, width, *x), here(block, place, width, *y)];
             one_of(&[condition, arms[0], arms[1]], operand)
         }
-        Op::Convert(_, from, x) => one_of(&[here(block, place, *from, *x)], operand),
+        Op::Convert(_, _, from, x) => one_of(&[here(block, place, *from, *x)], operand),
         Op::Freeze(x) => one_of(&[here(block, place, width, *x)], operand),
         Op::Phi(entries) => {
             let (value, from) = *entries.as_slice().get(operand)?;

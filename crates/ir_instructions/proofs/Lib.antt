@@ -1,12 +1,11 @@
 pub mod Loops
-pub mod OwnFlags
 pub mod OpReadings
 pub mod OpSpellings
 pub mod Readings
 pub mod Shorter
 pub mod Spellings
 pub mod Steps
+pub mod TakenFlags
 pub mod Takings
 pub mod TerminatorReadings
 pub mod WordLemmas
-pub mod WrittenFlags

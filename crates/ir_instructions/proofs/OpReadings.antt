@@ -4,12 +4,12 @@ use Rattle.std.specs.Prelude.{codes}
 use Rattle.ops.specs.declared.opcode.Opcode.{Opcode}
 use Rattle.ops.specs.declared.opcode.Flags.{Flags}
 use Rattle.ops.specs.declared.conversion.Cast.{Cast}
-use Rattle.ops.specs.Flags.{no_flags}
+use Rattle.ops.specs.Flags.{no_flags, flags_of, flags_of_cast, flags_of_icmp, icmp_flags}
 use Rattle.ops.specs.declared.keywords.flag.Flag.{Flag}
 use Rattle.ops.specs.Keywords.{predicate_keyword, pred_in}
 use Rattle.ops.specs.FlagKeywords.{AddsFlags, flag_keyword, has_flag, with_flag, flag_in}
 use Rattle.ops.proofs.KeywordLemmas.{pred_in-is}
-use Rattle.ops.proofs.FlagKeywordLemmas.{flag_in-is}
+use Rattle.ops.proofs.FlagKeywordLemmas.{flag_in-is, flags_are_icmp}
 use Rattle.ir_tokens.specs.Tokens.{Placed, Word}
 use Rattle.ir_tokens.specs.declared.fault.IrFaultKind.TheVariants.{Syntax}
 use Rattle.ir_tokens.specs.declared.raw.RawOp.{RawOp}
@@ -24,35 +24,36 @@ use Rattle.ir_instructions.specs.Keywords.{operation_word, operation_in}
 use Rattle.ir_instructions.proofs.Loops.{Adds, repeat-is, each-is, all_read}
 use Rattle.ir_instructions.proofs.Readings.{mark_at-is, keyword_at-is, register_at-is, type_at-is, operand_at-is, typed_at-is, tail_at-is}
 use Rattle.ir_instructions.proofs.Steps.{Reads, bind_ok, read_as, not_left_out, same_front}
+use Rattle.ir_instructions.proofs.TakenFlags.{taken_flags}
 use Rattle.ir_instructions.proofs.WordLemmas.{operation_in-is}
 use Rattle.ir_instructions.specs.Punctuation as marks
 
 -- ---- flags
 
 -- flags before, and flags behind these
-abbrev AddsRead : Opcode → Flags → List Placed → Flags → List Placed → Type 0
-AddsRead op before tokens after rest = (written : List Flag) × AddsFlags op before written after × Each (λ flag. Is (Word (flag_keyword flag))) written tokens rest
+abbrev AddsRead : Flags → Flags → List Placed → Flags → List Placed → Type 0
+AddsRead taken before tokens after rest = (written : List Flag) × AddsFlags taken before written after × Each (λ flag. Is (Word (flag_keyword flag))) written tokens rest
 
-add_flag-is : (op : Opcode) (before : Flags) (line : ℕ) (word : List ℕ) (found : Option Flag) (rest : List Placed) (x : Flags × List Placed) (after : Flags) (behind : List Placed) → flag_in op word ≡ found → add_flag before line found rest ≡ Ok x → AddsRead op x.0 x.1 after behind → AddsRead op before ((line, Word word) ∷ rest) after behind
-add_flag-is op before line word (Some flag) rest x after behind f e = added (has_flag before flag) refl e
+add_flag-is : (taken : Flags) (before : Flags) (line : ℕ) (word : List ℕ) (found : Option Flag) (rest : List Placed) (x : Flags × List Placed) (after : Flags) (behind : List Placed) → flag_in taken word ≡ found → add_flag before line found rest ≡ Ok x → AddsRead taken x.0 x.1 after behind → AddsRead taken before ((line, Word word) ∷ rest) after behind
+add_flag-is taken before line word (Some flag) rest x after behind f e = added (has_flag before flag) refl e
   where
-    added : (b : Bool) → has_flag before flag ≡ b → cond b (Err (fault line Syntax)) (Ok (with_flag before flag, rest)) ≡ Ok x → AddsRead op x.0 x.1 after behind → AddsRead op before ((line, Word word) ∷ rest) after behind
+    added : (b : Bool) → has_flag before flag ≡ b → cond b (Err (fault line Syntax)) (Ok (with_flag before flag, rest)) ≡ Ok x → AddsRead taken x.0 x.1 after behind → AddsRead taken before ((line, Word word) ∷ rest) after behind
     added true h e = absurd cc
     added false h e =
-        let is = flag_in-is op word flag f in
-        read_as (λ y. AddsRead op y.0 y.1 after behind → AddsRead op before ((line, Word word) ∷ rest) after behind) (with_flag before flag, rest) x e
+        let is = flag_in-is taken word flag f in
+        read_as (λ y. AddsRead taken y.0 y.1 after behind → AddsRead taken before ((line, Word word) ∷ rest) after behind) (with_flag before flag, rest) x e
         (λ (written, adds, each). (flag ∷ written, (is.1, h, adds), (rest, (line, ap (λ (w : List ℕ). (line, Word w) ∷ rest) is.0), each)))
-add_flag-is op before line word None rest x after behind f e = absurd cc
+add_flag-is taken before line word None rest x after behind f e = absurd cc
 
-flag_at-is : (op : Opcode) (before : Flags) (tokens : List Placed) (x : Flags × List Placed) (after : Flags) (rest : List Placed) → is_flag op tokens ≡ true → flag_at op before tokens ≡ Ok x → AddsRead op x.0 x.1 after rest → AddsRead op before tokens after rest
+flag_at-is : (taken : Flags) (before : Flags) (tokens : List Placed) (x : Flags × List Placed) (after : Flags) (rest : List Placed) → is_flag taken tokens ≡ true → flag_at taken before tokens ≡ Ok x → AddsRead taken x.0 x.1 after rest → AddsRead taken before tokens after rest
 unfolding flag_at
-flag_at-is op before ((line, Word word) ∷ others) x after rest next e = add_flag-is op before line word (flag_in op word) others x after rest refl e
-flag_at-is op before tokens x after rest next e = absurd cc
+flag_at-is taken before ((line, Word word) ∷ others) x after rest next e = add_flag-is taken before line word (flag_in taken word) others x after rest refl e
+flag_at-is taken before tokens x after rest next e = absurd cc
 
-flags_at-is : (op : Opcode) → Reads (flags_at op) (SpellsFlags op)
+flags_at-is : (taken : Flags) → Reads (flags_at taken) (SpellsFlags taken)
 unfolding flags_at
-flags_at-is op tokens x e =
-    let r = repeat-is (is_flag op) (flag_at op) (AddsRead op) (λ a ts. ([], refl, refl)) (flag_at-is op) (suc (length tokens)) no_flags tokens x e in
+flags_at-is taken tokens x e =
+    let r = repeat-is (is_flag taken) (flag_at taken) (AddsRead taken) (λ a ts. ([], refl, refl)) (flag_at-is taken) (suc (length tokens)) no_flags tokens x e in
     r.0
 
 -- ---- instructions
@@ -64,13 +65,13 @@ ReadsOp operation line tokens x = SpellsOp x.0 ((line, Word (operation_word oper
 binary_at-is : (op : Opcode) (line : ℕ) (tokens : List Placed) (x : RawOp × List Placed) → binary_at op tokens ≡ Ok x → ReadsOp (operations.Binary op) line tokens x
 unfolding binary_at
 binary_at-is op line tokens x e =
-    let a = bind_ok (flags_at op tokens) _ _ e in
+    let a = bind_ok (flags_at (flags_of op) tokens) _ _ e in
     let b = bind_ok (type_at a.0.1) _ _ a.2 in
     let c = bind_ok (operand_at b.0.0 b.0.1) _ _ b.2 in
     let d = bind_ok (mark_at marks.comma c.0.1) _ _ c.2 in
     let f = bind_ok (operand_at b.0.0 d.0.1) _ _ d.2 in
     read_as (ReadsOp (operations.Binary op) line tokens) (Binary op a.0.0 b.0.0 c.0.0 f.0.0, f.0.1) x f.2
-    (tokens, (line, refl), (a.0.1, flags_at-is op tokens a.0 a.1, (b.0.1, type_at-is a.0.1 b.0 b.1, (c.0.1, operand_at-is b.0.0 b.0.1 c.0 c.1, (d.0.1, mark_at-is marks.comma c.0.1 d.0 d.1, operand_at-is b.0.0 d.0.1 f.0 f.1)))))
+    (tokens, (line, refl), (a.0.1, flags_at-is (flags_of op) tokens a.0 a.1, (b.0.1, type_at-is a.0.1 b.0 b.1, (c.0.1, operand_at-is b.0.0 b.0.1 c.0 c.1, (d.0.1, mark_at-is marks.comma c.0.1 d.0 d.1, operand_at-is b.0.0 d.0.1 f.0 f.1)))))
 
 pred_at-is : Reads pred_at (λ pred. Is (Word (predicate_keyword pred)))
 unfolding pred_at
@@ -79,16 +80,23 @@ pred_at-is ((line, Word word) ∷ rest) x e =
     (line, same_front line word (predicate_keyword x.0) rest x.1 (pred_in-is word x.0 named.0) named.1)
 pred_at-is tokens x e = absurd cc
 
+-- the flags that are read are those of an `icmp` with `samesign` or without
+icmp_flags-are : (tokens : List Placed) (x : Flags × List Placed) → flags_at flags_of_icmp tokens ≡ Ok x → SpellsFlags flags_of_icmp (icmp_flags x.0.samesign) tokens x.1
+icmp_flags-are tokens x e =
+    let spelled = flags_at-is flags_of_icmp tokens x e in
+    subst (λ (flags : Flags). SpellsFlags flags_of_icmp flags tokens x.1) (flags_are_icmp x.0 (taken_flags flags_of_icmp x.0 tokens x.1 spelled)) spelled
+
 compare_at-is : (line : ℕ) (tokens : List Placed) (x : RawOp × List Placed) → compare_at tokens ≡ Ok x → ReadsOp operations.Compare line tokens x
 unfolding compare_at
 compare_at-is line tokens x e =
-    let a = bind_ok (pred_at tokens) _ _ e in
+    let fs = bind_ok (flags_at flags_of_icmp tokens) _ _ e in
+    let a = bind_ok (pred_at fs.0.1) _ _ fs.2 in
     let b = bind_ok (type_at a.0.1) _ _ a.2 in
     let c = bind_ok (operand_at b.0.0 b.0.1) _ _ b.2 in
     let d = bind_ok (mark_at marks.comma c.0.1) _ _ c.2 in
     let f = bind_ok (operand_at b.0.0 d.0.1) _ _ d.2 in
-    read_as (ReadsOp operations.Compare line tokens) (Compare a.0.0 b.0.0 c.0.0 f.0.0, f.0.1) x f.2
-    (tokens, (line, refl), (a.0.1, pred_at-is tokens a.0 a.1, (b.0.1, type_at-is a.0.1 b.0 b.1, (c.0.1, operand_at-is b.0.0 b.0.1 c.0 c.1, (d.0.1, mark_at-is marks.comma c.0.1 d.0 d.1, operand_at-is b.0.0 d.0.1 f.0 f.1)))))
+    read_as (ReadsOp operations.Compare line tokens) (Compare a.0.0 fs.0.0.samesign b.0.0 c.0.0 f.0.0, f.0.1) x f.2
+    (tokens, (line, refl), (fs.0.1, icmp_flags-are tokens fs.0 fs.1, (a.0.1, pred_at-is fs.0.1 a.0 a.1, (b.0.1, type_at-is a.0.1 b.0 b.1, (c.0.1, operand_at-is b.0.0 b.0.1 c.0 c.1, (d.0.1, mark_at-is marks.comma c.0.1 d.0 d.1, operand_at-is b.0.0 d.0.1 f.0 f.1))))))
 
 select_at-is : (line : ℕ) (tokens : List Placed) (x : RawOp × List Placed) → select_at tokens ≡ Ok x → ReadsOp operations.Select line tokens x
 unfolding select_at
@@ -104,12 +112,13 @@ select_at-is line tokens x e =
 convert_at-is : (cast : Cast) (line : ℕ) (tokens : List Placed) (x : RawOp × List Placed) → convert_at cast tokens ≡ Ok x → ReadsOp (operations.Convert cast) line tokens x
 unfolding convert_at
 convert_at-is cast line tokens x e =
-    let a = bind_ok (typed_at tokens) _ _ e in
+    let fs = bind_ok (flags_at (flags_of_cast cast) tokens) _ _ e in
+    let a = bind_ok (typed_at fs.0.1) _ _ fs.2 in
     let b = bind_ok (keyword_at (codes "to") a.0.1) _ _ a.2 in
     let c = bind_ok (type_at b.0.1) _ _ b.2 in
-    let typed = typed_at-is tokens a.0 a.1 in
-    read_as (ReadsOp (operations.Convert cast) line tokens) (Convert cast a.0.0.width a.0.0.operand c.0.0, c.0.1) x c.2
-    (tokens, (line, refl), (typed.0, typed.1, (a.0.1, typed.2, (b.0.1, keyword_at-is (codes "to") a.0.1 b.0 b.1, type_at-is b.0.1 c.0 c.1))))
+    let typed = typed_at-is fs.0.1 a.0 a.1 in
+    read_as (ReadsOp (operations.Convert cast) line tokens) (Convert cast fs.0.0 a.0.0.width a.0.0.operand c.0.0, c.0.1) x c.2
+    (tokens, (line, refl), (fs.0.1, flags_at-is (flags_of_cast cast) tokens fs.0 fs.1, (typed.0, typed.1, (a.0.1, typed.2, (b.0.1, keyword_at-is (codes "to") a.0.1 b.0 b.1, type_at-is b.0.1 c.0 c.1)))))
 
 freeze_at-is : (line : ℕ) (tokens : List Placed) (x : RawOp × List Placed) → freeze_at tokens ≡ Ok x → ReadsOp operations.Freeze line tokens x
 unfolding freeze_at

@@ -1,15 +1,14 @@
 -- What is spelled of instructions and terminators is read, where what follows may follow.
 use Rattle.std.proofs.Common.{◌≡◌, ℕ, true, false, List, [], ◌∷◌, Ok, refl, ◌∙◌}
 use Rattle.std.specs.Prelude.{codes}
-use Rattle.ops.specs.declared.opcode.Opcode.{Opcode}
 use Rattle.ops.specs.declared.opcode.Flags.{Flags}
 use Rattle.ops.specs.declared.comparison.Pred.{Pred}
-use Rattle.ops.specs.Flags.{no_flags}
+use Rattle.ops.specs.Flags.{no_flags, flags_of, flags_of_cast, flags_of_icmp, icmp_flags}
 use Rattle.ops.specs.declared.keywords.flag.Flag.{Flag}
 use Rattle.ops.specs.Keywords.{predicate_keyword}
 use Rattle.ops.specs.FlagKeywords.{AddsFlags, flag_keyword, with_flag}
 use Rattle.ops.proofs.KeywordLemmas.{pred_in-of}
-use Rattle.ops.proofs.FlagKeywordLemmas.{flag_in-of}
+use Rattle.ops.proofs.FlagKeywordLemmas.{flag_in-of, predicate_is_no_flag}
 use Rattle.ir_tokens.specs.Tokens.{Placed, Word, Mark}
 use Rattle.ir_tokens.specs.declared.raw.RawIncoming.{RawIncoming}
 use Rattle.ir_tokens.specs.declared.raw.RawInst.{RawInst}
@@ -32,18 +31,18 @@ use Rattle.ir_instructions.proofs.WordLemmas.{operation_in-of, ending_in-of}
 
 -- ---- flags
 
-flags_are_read : (op : Opcode) (written : List Flag) (before after : Flags) (tokens rest : List Placed) → AddsFlags op before written after → Each (λ flag. Is (Word (flag_keyword flag))) written tokens rest → is_flag op rest ≡ false → repeat_at (is_flag op) (flag_at op) before tokens ≡ Ok (after, rest)
+flags_are_read : (taken : Flags) (written : List Flag) (before after : Flags) (tokens rest : List Placed) → AddsFlags taken before written after → Each (λ flag. Is (Word (flag_keyword flag))) written tokens rest → is_flag taken rest ≡ false → repeat_at (is_flag taken) (flag_at taken) before tokens ≡ Ok (after, rest)
 unfolding flag_at
-flags_are_read op [] before after tokens rest adds each none = rw (adds, each) (repeat-done (is_flag op) (flag_at op) after rest none)
-flags_are_read op (flag ∷ written) before after tokens rest (takes, new, adds) (middle, (line, is), each) none =
-    let next : is_flag op tokens ≡ true = rw (is, flag_in-of op flag takes) refl in
-    let one : flag_at op before tokens ≡ Ok (with_flag before flag, middle) = rw (is, flag_in-of op flag takes, new) refl in
-    repeat-more (is_flag op) (flag_at op) (flag-takes op) before tokens (with_flag before flag, middle) next one
-    ∙ flags_are_read op written (with_flag before flag) after middle rest adds each none
+flags_are_read taken [] before after tokens rest adds each none = rw (adds, each) (repeat-done (is_flag taken) (flag_at taken) after rest none)
+flags_are_read taken (flag ∷ written) before after tokens rest (is_taken, new, adds) (middle, (line, is), each) none =
+    let next : is_flag taken tokens ≡ true = rw (is, flag_in-of taken flag is_taken) refl in
+    let one : flag_at taken before tokens ≡ Ok (with_flag before flag, middle) = rw (is, flag_in-of taken flag is_taken, new) refl in
+    repeat-more (is_flag taken) (flag_at taken) (flag-takes taken) before tokens (with_flag before flag, middle) next one
+    ∙ flags_are_read taken written (with_flag before flag) after middle rest adds each none
 
-flags_at-of : (op : Opcode) (flags : Flags) (tokens rest : List Placed) → SpellsFlags op flags tokens rest → is_flag op rest ≡ false → flags_at op tokens ≡ Ok (flags, rest)
+flags_at-of : (taken : Flags) (flags : Flags) (tokens rest : List Placed) → SpellsFlags taken flags tokens rest → is_flag taken rest ≡ false → flags_at taken tokens ≡ Ok (flags, rest)
 unfolding flags_at
-flags_at-of op flags tokens rest (written, adds, each) none = flags_are_read op written no_flags flags tokens rest adds each none
+flags_at-of taken flags tokens rest (written, adds, each) none = flags_are_read taken written no_flags flags tokens rest adds each none
 
 -- ---- instructions
 
@@ -75,16 +74,19 @@ phi_at-of width (first ∷ others) tokens t1 rest type (t2, one, each) none =
     (record { takes = incoming-takes width; next = further_is_next width; follows = λ x ts r h. tt; reads = further_is_read width }) others (first ∷ []) t2 rest each none tt in
     rw (type_at-of width tokens t1 type, incoming_at-of width first t1 t2 one, more) refl
 
+predicate_begins_no_flag : (taken : Flags) (pred : Pred) (tokens rest : List Placed) → Is (Word (predicate_keyword pred)) tokens rest → is_flag taken tokens ≡ false
+predicate_begins_no_flag taken pred tokens rest (line, is) = rw (is, predicate_is_no_flag taken pred) refl
+
 op_at-of : (o : RawOp) (tokens rest : List Placed) → SpellsOp o tokens rest → begins_incoming rest ≡ false → op_at tokens ≡ Ok (o, rest)
 unfolding op_at binary_at compare_at select_at convert_at freeze_at
 op_at-of (Binary op flags width a b) tokens rest (t1, (line, is), (t2, fs, (t3, type, (t4, left, (t5, comma, right))))) none =
-    rw (is, operation_in-of (operations.Binary op), flags_at-of op flags t1 t2 fs (type_begins_no_flag op width t2 t3 type), type_at-of width t2 t3 type, operand_at-of width a t3 t4 left, mark_at-of marks.comma t4 t5 comma, operand_at-of width b t5 rest right) refl
-op_at-of (Compare pred width a b) tokens rest (t1, (line, is), (t2, p, (t3, type, (t4, left, (t5, comma, right))))) none =
-    rw (is, operation_in-of operations.Compare, pred_at-of pred t1 t2 p, type_at-of width t2 t3 type, operand_at-of width a t3 t4 left, mark_at-of marks.comma t4 t5 comma, operand_at-of width b t5 rest right) refl
+    rw (is, operation_in-of (operations.Binary op), flags_at-of (flags_of op) flags t1 t2 fs (type_begins_no_flag (flags_of op) width t2 t3 type), type_at-of width t2 t3 type, operand_at-of width a t3 t4 left, mark_at-of marks.comma t4 t5 comma, operand_at-of width b t5 rest right) refl
+op_at-of (Compare pred samesign width a b) tokens rest (t1, (line, is), (t2, fs, (t3, p, (t4, type, (t5, left, (t6, comma, right)))))) none =
+    rw (is, operation_in-of operations.Compare, flags_at-of flags_of_icmp (icmp_flags samesign) t1 t2 fs (predicate_begins_no_flag flags_of_icmp pred t2 t3 p), pred_at-of pred t2 t3 p, type_at-of width t3 t4 type, operand_at-of width a t4 t5 left, mark_at-of marks.comma t5 t6 comma, operand_at-of width b t6 rest right) refl
 op_at-of (Select condition if_true if_false) tokens rest (t1, (line, is), (t2, c, (t3, comma, (t4, yes_part, (t5, comma', no_part))))) none =
     rw (is, operation_in-of operations.Select, typed_at-of condition t1 t2 c, mark_at-of marks.comma t2 t3 comma, typed_at-of if_true t3 t4 yes_part, mark_at-of marks.comma t4 t5 comma', typed_at-of if_false t5 rest no_part) refl
-op_at-of (Convert cast from a to) tokens rest (t1, (line, is), (t2, type, (t3, operand, (t4, keyword, type')))) none =
-    rw (is, operation_in-of (operations.Convert cast), typed_at-of (record { width = from; operand = a }) t1 t3 (t2, type, operand), keyword_at-of (codes "to") t3 t4 keyword, type_at-of to t4 rest type') refl
+op_at-of (Convert cast flags from a to) tokens rest (t1, (line, is), (t2, fs, (t3, type, (t4, operand, (t5, keyword, type'))))) none =
+    rw (is, operation_in-of (operations.Convert cast), flags_at-of (flags_of_cast cast) flags t1 t2 fs (type_begins_no_flag (flags_of_cast cast) from t2 t3 type), typed_at-of (record { width = from; operand = a }) t2 t4 (t3, type, operand), keyword_at-of (codes "to") t4 t5 keyword, type_at-of to t5 rest type') refl
 op_at-of (Freeze width a) tokens rest (t1, (line, is), (t2, type, operand)) none =
     rw (is, operation_in-of operations.Freeze, typed_at-of (record { width = width; operand = a }) t1 rest (t2, type, operand)) refl
 op_at-of (Phi width incomings) tokens rest (t1, (line, is), (t2, type, separated)) none =

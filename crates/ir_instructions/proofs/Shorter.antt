@@ -1,7 +1,7 @@
 -- Behind a part fewer tokens are left, or no more.
 use Rattle.std.proofs.Common.{◌≡◌, ◌<◌, ◌≤◌, ℕ, List, [], ◌∷◌, length, Option, Some, None, ap, arith}
-use Rattle.ops.specs.declared.opcode.Opcode.{Opcode}
 use Rattle.ops.specs.declared.opcode.Flags.{Flags}
+use Rattle.ops.specs.Flags.{flags_of, flags_of_cast, flags_of_icmp, icmp_flags}
 use Rattle.ir_tokens.specs.Tokens.{Token, Placed}
 use Rattle.ir_tokens.specs.declared.raw.RawIdentifier.{RawIdentifier}
 use Rattle.ir_tokens.specs.declared.raw.RawInst.{RawInst}
@@ -96,8 +96,8 @@ tail = repeated (Comma ⨾ Attachment) (weaker (Comma ⨾ Attachment) tail_attac
 
 -- ---- instructions and terminators
 
-flags : (op : Opcode) (fs : Flags) → NoLonger (SpellsFlags op fs)
-flags op fs tokens rest (written, adds, h) = each _ (λ flag. a_token _) written tokens rest h
+flags : (taken fs : Flags) → NoLonger (SpellsFlags taken fs)
+flags taken fs tokens rest (written, adds, h) = each _ (λ flag. a_token _) written tokens rest h
 
 incoming : (width : ℕ) (i : RawIncoming) → NoLonger (SpellsIncoming width i)
 incoming width i = both _ _ (a_token _) (both _ _ (operand width i.value) (both _ _ (a_token _) (both _ _ (a_register i.block) (a_token _))))
@@ -110,10 +110,12 @@ separated P p [] tokens rest h = absurd h
 separated P p (x ∷ xs) tokens rest h = both (P x) (Each (λ y. Comma ⨾ P y) xs) (p x) (each (λ y. Comma ⨾ P y) (λ y. both Comma (P y) (a_token _) (p y)) xs) tokens rest h
 
 op : (o : RawOp) → NoLonger (SpellsOp o)
-op (Binary opcode fs width a b) = both _ _ (a_token _) (both _ _ (flags opcode fs) (both _ _ (a_type width) (both _ _ (operand width a) (both _ _ (a_token _) (operand width b)))))
-op (Compare pred width a b) = both _ _ (a_token _) (both _ _ (a_token _) (both _ _ (a_type width) (both _ _ (operand width a) (both _ _ (a_token _) (operand width b)))))
+op (Binary opcode fs width a b) = both _ _ (a_token _) (both _ _ (flags (flags_of opcode) fs) (both _ _ (a_type width) (both _ _ (operand width a) (both _ _ (a_token _) (operand width b)))))
+op (Compare pred samesign width a b) =
+    both _ _ (a_token _) (both _ _ (flags flags_of_icmp (icmp_flags samesign)) (both _ _ (a_token _) (both _ _ (a_type width) (both _ _ (operand width a) (both _ _ (a_token _) (operand width b))))))
 op (Select condition if_true if_false) = both _ _ (a_token _) (both _ _ (typed condition) (both _ _ (a_token _) (both _ _ (typed if_true) (both _ _ (a_token _) (typed if_false)))))
-op (Convert cast from a to) = both _ _ (a_token _) (both _ _ (a_type from) (both _ _ (operand from a) (both _ _ (a_token _) (a_type to))))
+op (Convert cast fs from a to) =
+    both _ _ (a_token _) (both _ _ (flags (flags_of_cast cast) fs) (both _ _ (a_type from) (both _ _ (operand from a) (both _ _ (a_token _) (a_type to)))))
 op (Freeze width a) = both _ _ (a_token _) (both _ _ (a_type width) (operand width a))
 op (Phi width incomings) = both _ _ (a_token _) (both _ _ (a_type width) (separated (SpellsIncoming width) (incoming width) incomings))
 

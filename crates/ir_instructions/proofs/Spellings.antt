@@ -1,7 +1,7 @@
 -- What is spelled is read, where what follows may follow: names, values, attachments and items.
 use Rattle.std.proofs.Common.{◌≡◌, ℕ, true, false, eq-eqb, List, ◌∷◌, Ok, refl}
 use Rattle.std.specs.Prelude.{codes}
-use Rattle.ops.specs.declared.opcode.Opcode.{Opcode}
+use Rattle.ops.specs.declared.opcode.Flags.{Flags}
 use Rattle.ops.proofs.KeywordLemmas.{word_is}
 use Rattle.ir_tokens.specs.Tokens.{Token, Placed, Word, Mark}
 use Rattle.ir_tokens.specs.declared.raw.RawIdentifier.{RawIdentifier}
@@ -41,8 +41,8 @@ unfolding type_at
 type_at-of width tokens rest (word, type, (line, is)) = rw (is, type_in-of word width type) refl
 
 -- no flag and no `label` begins a type
-pub type_begins_no_flag : (op : Opcode) (width : ℕ) (tokens rest : List Placed) → SpellsType width tokens rest → is_flag op tokens ≡ false
-type_begins_no_flag op width tokens rest (word, type, (line, is)) = rw (is, type_is_no_flag op word width type) refl
+pub type_begins_no_flag : (taken : Flags) (width : ℕ) (tokens rest : List Placed) → SpellsType width tokens rest → is_flag taken tokens ≡ false
+type_begins_no_flag taken width tokens rest (word, type, (line, is)) = rw (is, type_is_no_flag taken word width type) refl
 
 pub type_is_no_keyword : (width : ℕ) (tokens rest : List Placed) → SpellsType width tokens rest → is_keyword (codes "label") tokens ≡ false
 type_is_no_keyword width tokens rest (word, type, (line, is)) = rw (is, type_is_no_label word width type) refl

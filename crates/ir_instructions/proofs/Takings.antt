@@ -1,6 +1,5 @@
 -- Each part that may stand any number of times takes a token at least.
 use Rattle.std.proofs.Common.{◌≡◌, ℕ, Bool, true, false, cond, List, ◌∷◌, Option, Some, None, Ok, Err, refl, arith}
-use Rattle.ops.specs.declared.opcode.Opcode.{Opcode}
 use Rattle.ops.specs.declared.opcode.Flags.{Flags}
 use Rattle.ops.specs.declared.keywords.flag.Flag.{Flag}
 use Rattle.ops.specs.FlagKeywords.{has_flag, with_flag, flag_in}
@@ -29,10 +28,10 @@ added_takes before line (Some flag) rest x e = added (has_flag before flag) e
     added false e = read_as (λ y. rest ≡ y.1) (with_flag before flag, rest) x e refl
 added_takes before line None rest x e = absurd cc
 
-pub flag-takes : (op : Opcode) (before : Flags) → TakesSome (is_flag op) (flag_at op before)
+pub flag-takes : (taken before : Flags) → TakesSome (is_flag taken) (flag_at taken before)
 unfolding flag_at
-flag-takes op before ((line, Word word) ∷ rest) x next e = rw (added_takes before line (flag_in op word) rest x e) (omega arith)
-flag-takes op before tokens x next e = absurd cc
+flag-takes taken before ((line, Word word) ∷ rest) x next e = rw (added_takes before line (flag_in taken word) rest x e) (omega arith)
+flag-takes taken before tokens x next e = absurd cc
 
 pub incoming-takes : (width : ℕ) → TakesSome begins_incoming (further_incoming_at width)
 incoming-takes width tokens x next e = further_incoming-shorter width x.0 tokens x.1 (further_incoming_at-is width tokens x e)

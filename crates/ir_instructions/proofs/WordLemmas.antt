@@ -3,7 +3,7 @@ use Rattle.std.proofs.Common.{◌≡◌, ℕ, ◌≤◌, Bool, true, false, cond
 use Rattle.std.specs.Prelude.{codes}
 use Rattle.std.specs.Str.{bytes_eq}
 use Rattle.std.proofs.lemmas.Bool.{eqb-true, leb-true, le-leb}
-use Rattle.ops.specs.declared.opcode.Opcode.{Opcode}
+use Rattle.ops.specs.declared.opcode.Flags.{Flags}
 use Rattle.ops.specs.declared.opcode.Opcode.TheVariants.{Add, Sub, Mul, UDiv, SDiv, URem, SRem, Shl, LShr, AShr, And, Or, Xor}
 use Rattle.ops.specs.declared.conversion.Cast.TheVariants.{Trunc, ZExt, SExt}
 use Rattle.ops.specs.FlagKeywords.{flag_in}
@@ -44,9 +44,9 @@ type_in-of word width (digits, is, all, value, low, high) =
     rw (is, all, least, most) (ap types.Integer value)
 
 -- the word of a type is no flag and not `label`
-pub type_is_no_flag : (op : Opcode) (word : List ℕ) (width : ℕ) → IsTypeWord word width → flag_in op word ≡ None
+pub type_is_no_flag : (taken : Flags) (word : List ℕ) (width : ℕ) → IsTypeWord word width → flag_in taken word ≡ None
 unfolding flag_in
-type_is_no_flag op word width is = rw is.1 refl
+type_is_no_flag taken word width is = rw is.1 refl
 
 pub type_is_no_label : (word : List ℕ) (width : ℕ) → IsTypeWord word width → bytes_eq word (codes "label") ≡ false
 type_is_no_label word width is = rw is.1 refl

@@ -1,9 +1,8 @@
 -- What instructions and terminators are in a text: each part as it is written, and the tokens that spell it (LLVM Language Reference,
 -- "Instruction Reference", "Metadata"). Attachments of metadata are dropped.
 use Rattle.std.specs.Prelude.{◌≡◌, ℕ, List, Some, IsTrue, codes}
-use Rattle.ops.specs.declared.opcode.Opcode.{Opcode}
 use Rattle.ops.specs.declared.opcode.Flags.{Flags}
-use Rattle.ops.specs.Flags.{no_flags}
+use Rattle.ops.specs.Flags.{no_flags, flags_of, flags_of_cast, flags_of_icmp, icmp_flags}
 use Rattle.ops.specs.declared.keywords.flag.Flag.{Flag}
 use Rattle.ops.specs.Keywords.{opcode_keyword, cast_keyword, predicate_keyword}
 use Rattle.ops.specs.FlagKeywords.{AddsFlags, flag_keyword}
@@ -69,27 +68,28 @@ Tail = Repeated (Comma ⨾ Attachment)
 
 -- ---- instructions
 
--- flag*, each once, in any order
-abbrev pub SpellsFlags : Opcode → Flags → Part
-SpellsFlags op flags tokens rest = (written : List Flag) × AddsFlags op no_flags written flags × Each (λ flag. Is (Word (flag_keyword flag))) written tokens rest
+-- flag*, each one that the instruction takes, each once, in any order
+abbrev pub SpellsFlags : Flags → Flags → Part
+SpellsFlags taken flags tokens rest = (written : List Flag) × AddsFlags taken no_flags written flags × Each (λ flag. Is (Word (flag_keyword flag))) written tokens rest
 
 -- incoming := '[' val ',' REGISTER ']'
 abbrev pub SpellsIncoming : ℕ → RawIncoming → Part
 SpellsIncoming width i = Is (Mark marks.open_bracket) ⨾ SpellsOperand width i.value ⨾ Comma ⨾ SpellsRegister i.block ⨾ Is (Mark marks.close_bracket)
 
 -- op := binop flag* type val ',' val
---     | 'icmp' pred type val ',' val
+--     | 'icmp' flag* pred type val ',' val
 --     | 'select' type val ',' type val ',' type val
---     | ('trunc' | 'zext' | 'sext') type val 'to' type
+--     | ('trunc' | 'zext' | 'sext') flag* type val 'to' type
 --     | 'freeze' type val
 --     | 'phi' type incoming (',' incoming)*
 abbrev pub SpellsOp : RawOp → Part
 SpellsOp (Binary op flags width a b) =
-    Is (Word (opcode_keyword op)) ⨾ SpellsFlags op flags ⨾ SpellsType width ⨾ SpellsOperand width a ⨾ Comma ⨾ SpellsOperand width b
-SpellsOp (Compare pred width a b) =
-    Is (Word (codes "icmp")) ⨾ Is (Word (predicate_keyword pred)) ⨾ SpellsType width ⨾ SpellsOperand width a ⨾ Comma ⨾ SpellsOperand width b
+    Is (Word (opcode_keyword op)) ⨾ SpellsFlags (flags_of op) flags ⨾ SpellsType width ⨾ SpellsOperand width a ⨾ Comma ⨾ SpellsOperand width b
+SpellsOp (Compare pred samesign width a b) =
+    Is (Word (codes "icmp")) ⨾ SpellsFlags flags_of_icmp (icmp_flags samesign) ⨾ Is (Word (predicate_keyword pred)) ⨾ SpellsType width ⨾ SpellsOperand width a ⨾ Comma ⨾ SpellsOperand width b
 SpellsOp (Select condition if_true if_false) = Is (Word (codes "select")) ⨾ SpellsTyped condition ⨾ Comma ⨾ SpellsTyped if_true ⨾ Comma ⨾ SpellsTyped if_false
-SpellsOp (Convert cast from a to) = Is (Word (cast_keyword cast)) ⨾ SpellsType from ⨾ SpellsOperand from a ⨾ Is (Word (codes "to")) ⨾ SpellsType to
+SpellsOp (Convert cast flags from a to) =
+    Is (Word (cast_keyword cast)) ⨾ SpellsFlags (flags_of_cast cast) flags ⨾ SpellsType from ⨾ SpellsOperand from a ⨾ Is (Word (codes "to")) ⨾ SpellsType to
 SpellsOp (Freeze width a) = Is (Word (codes "freeze")) ⨾ SpellsType width ⨾ SpellsOperand width a
 SpellsOp (Phi width incomings) = Is (Word (codes "phi")) ⨾ SpellsType width ⨾ Separated (SpellsIncoming width) incomings
 

@@ -6,7 +6,7 @@ use Rattle.ops.specs.declared.opcode.Opcode.{Opcode}
 use Rattle.ops.specs.declared.opcode.Flags.{Flags}
 use Rattle.ops.specs.declared.comparison.Pred.{Pred}
 use Rattle.ops.specs.declared.conversion.Cast.{Cast}
-use Rattle.ops.specs.Flags.{no_flags}
+use Rattle.ops.specs.Flags.{no_flags, flags_of, flags_of_cast, flags_of_icmp}
 use Rattle.ops.specs.Number.{Number as Numeral}
 use Rattle.ops.specs.declared.keywords.flag.Flag.{Flag}
 use Rattle.ops.specs.Keywords.{pred_in}
@@ -148,26 +148,26 @@ tail_at = repeat_at (is_mark marks.comma) (λ before. tail_attachment_at) tt
 
 -- ---- instructions
 
--- a flag of the instruction
-abbrev pub is_flag : Opcode → List Placed → Bool
-is_flag op ((line, Word word) ∷ rest) = is_some (flag_in op word)
-is_flag op tokens = false
+-- a flag that the instruction takes
+abbrev pub is_flag : Flags → List Placed → Bool
+is_flag taken ((line, Word word) ∷ rest) = is_some (flag_in taken word)
+is_flag taken tokens = false
 
 -- the flags before, and a flag that is new
 abbrev pub add_flag : Flags → ℕ → Option Flag → Reader Flags
 add_flag before line (Some flag) rest = if has_flag before flag then Err (fault line Syntax) else Ok (with_flag before flag, rest)
 add_flag before line None rest = Err (fault line Syntax)
 
-unfoldable pub flag_at : Opcode → Flags → Reader Flags
-flag_at op before ((line, Word word) ∷ rest) = add_flag before line (flag_in op word) rest
-flag_at op before tokens = Err (unexpected places.Fixed tokens)
+unfoldable pub flag_at : Flags → Flags → Reader Flags
+flag_at taken before ((line, Word word) ∷ rest) = add_flag before line (flag_in taken word) rest
+flag_at taken before tokens = Err (unexpected places.Fixed tokens)
 
-unfoldable pub flags_at : Opcode → Reader Flags
-flags_at op = repeat_at (is_flag op) (flag_at op) no_flags
+unfoldable pub flags_at : Flags → Reader Flags
+flags_at taken = repeat_at (is_flag taken) (flag_at taken) no_flags
 
 unfoldable pub binary_at : Opcode → Reader RawOp
 binary_at op = do
-  flags ← flags_at op
+  flags ← flags_at (flags_of op)
   width ← type_at
   left ← operand_at width
   _ ← mark_at marks.comma
@@ -180,12 +180,13 @@ pred_at tokens = Err (unexpected places.Choice tokens)
 
 unfoldable pub compare_at : Reader RawOp
 compare_at = do
+  flags ← flags_at flags_of_icmp
   pred ← pred_at
   width ← type_at
   left ← operand_at width
   _ ← mark_at marks.comma
   right ← operand_at width
-  done (Compare pred width left right)
+  done (Compare pred flags.samesign width left right)
 
 unfoldable pub select_at : Reader RawOp
 select_at = do
@@ -198,10 +199,11 @@ select_at = do
 
 unfoldable pub convert_at : Cast → Reader RawOp
 convert_at cast = do
+  flags ← flags_at (flags_of_cast cast)
   from ← typed_at
   _ ← keyword_at (codes "to")
   to ← type_at
-  done (Convert cast from.width from.operand to)
+  done (Convert cast flags from.width from.operand to)
 
 unfoldable pub freeze_at : Reader RawOp
 freeze_at = do

@@ -18,13 +18,13 @@ use ops::keywords::{flag_of, has_flag, predicate_of, with_flag};
 use ops::{Cast, Flags, Opcode, Pred, Width};
 use std::alloc::Global;
 
-/// Whether a flag of the instruction is next.
-fn is_flag(opcode: Opcode, tokens: &[Placed<'_>]) -> bool
-    ensures { result ≡ parsing.is_flag opcode (seen tokens.now) }
+/// Whether a flag that the instruction takes is next.
+fn is_flag(taken: Flags, tokens: &[Placed<'_>]) -> bool
+    ensures { result ≡ parsing.is_flag taken (seen tokens.now) }
 {
     match tokens {
         [Placed { token, .. }, ..] => match *token {
-            Token::Word(word) => flag_of(opcode, word).is_some(),
+            Token::Word(word) => flag_of(taken, word).is_some(),
             _ => false,
         },
         [] => false,
@@ -33,12 +33,12 @@ fn is_flag(opcode: Opcode, tokens: &[Placed<'_>]) -> bool
 
 /// The flags before, and another that is not among them.
 #[tactic(auto, unfolding(crate::specs::InstructionReaders::flag_at))]
-fn flag(opcode: Opcode, before: Flags, tokens: &mut &[Placed<'_>]) -> Result<Flags, IrFault>
-    ensures { parsing.flag_at opcode before (seen tokens.old.now) ≡ readers.given result (seen tokens.new.now) }
+fn flag(taken: Flags, before: Flags, tokens: &mut &[Placed<'_>]) -> Result<Flags, IrFault>
+    ensures { parsing.flag_at taken before (seen tokens.old.now) ≡ readers.given result (seen tokens.new.now) }
 {
     match *tokens {
         [Placed { line, token }, rest @ ..] => match *token {
-            Token::Word(word) => match flag_of(opcode, word) {
+            Token::Word(word) => match flag_of(taken, word) {
                 Some(flag) => {
                     if has_flag(before, flag) {
                         Err(fault(*line, IrFaultKind::Syntax))
@@ -55,14 +55,14 @@ fn flag(opcode: Opcode, before: Flags, tokens: &mut &[Placed<'_>]) -> Result<Fla
     }
 }
 
-/// The flags of an instruction, in any order.
+/// The flags of an instruction, of those that it takes, in any order.
 #[tactic(auto, unfolding(crate::specs::InstructionReaders::flags_at))]
-fn flags(opcode: Opcode, tokens: &mut &[Placed<'_>]) -> Result<Flags, IrFault>
-    ensures { parsing.flags_at opcode (seen tokens.old.now) ≡ readers.given result (seen tokens.new.now) }
+fn flags(taken: Flags, tokens: &mut &[Placed<'_>]) -> Result<Flags, IrFault>
+    ensures { parsing.flags_at taken (seen tokens.old.now) ≡ readers.given result (seen tokens.new.now) }
 {
     let mut flags = Flags::NONE;
-    'flags: while is_flag(opcode, *tokens) {
-        flags = flag(opcode, flags, tokens)?;
+    'flags: while is_flag(taken, *tokens) {
+        flags = flag(taken, flags, tokens)?;
     }
     Ok(flags)
 }
@@ -72,7 +72,7 @@ fn flags(opcode: Opcode, tokens: &mut &[Placed<'_>]) -> Result<Flags, IrFault>
 fn binary(alloc: Global, opcode: Opcode, tokens: &mut &[Placed<'_>]) -> Result<RawOp, IrError>
     ensures { Gives (λ x. (x, seen tokens.new.now)) result (parsing.binary_at opcode (seen tokens.old.now)) }
 {
-    let flags = flags(opcode, tokens)?;
+    let flags = flags(opcode.flags(), tokens)?;
     let width = integer_type(alloc, tokens)?;
     let left = operand(alloc, width, tokens)?;
     mark(b',', tokens)?;
@@ -105,12 +105,13 @@ fn predicate(alloc: Global, tokens: &mut &[Placed<'_>]) -> Result<Pred, IrError>
 fn comparison(alloc: Global, tokens: &mut &[Placed<'_>]) -> Result<RawOp, IrError>
     ensures { Gives (λ x. (x, seen tokens.new.now)) result (parsing.compare_at (seen tokens.old.now)) }
 {
+    let flags = flags(Flags::SAMESIGN, tokens)?;
     let pred = predicate(alloc, tokens)?;
     let width = integer_type(alloc, tokens)?;
     let left = operand(alloc, width, tokens)?;
     mark(b',', tokens)?;
     let right = operand(alloc, width, tokens)?;
-    Ok(RawOp::Compare(pred, width, left, right))
+    Ok(RawOp::Compare(pred, flags.samesign, width, left, right))
 }
 
 /// A choice, behind `select`.
@@ -131,10 +132,11 @@ fn selection(alloc: Global, tokens: &mut &[Placed<'_>]) -> Result<RawOp, IrError
 fn conversion(alloc: Global, cast: Cast, tokens: &mut &[Placed<'_>]) -> Result<RawOp, IrError>
     ensures { Gives (λ x. (x, seen tokens.new.now)) result (parsing.convert_at cast (seen tokens.old.now)) }
 {
+    let flags = flags(cast.flags(), tokens)?;
     let from = typed(alloc, tokens)?;
     keyword("to", tokens)?;
     let to = integer_type(alloc, tokens)?;
-    Ok(RawOp::Convert(cast, from.width, from.operand, to))
+    Ok(RawOp::Convert(cast, flags, from.width, from.operand, to))
 }
 
 /// A `freeze`, behind that word.

@@ -37,9 +37,9 @@ use Rattle.ir_meaning.proofs.Totality.{AreEnterable, HasEntry, NoPhis, is_phi_or
 
 op_fits_by : (f : Function) (b k w : ℕ) (op : Op) → ((i : ℕ) (r : Read) → slice_get (reads_of f b k w op) i ≡ Some r → OperandHasWidth f r.width r.operand) → IsTyped w op → ¬ IsPhi op → OpFits f w op
 op_fits_by f b k w (Binary op flags x y) reads typed no_phi = (typed, reads 0 (read b k w x) refl, reads 1 (read b k w y) refl)
-op_fits_by f b k w (Compare pred compared x y) reads typed no_phi = (typed, reads 0 (read b k compared x) refl, reads 1 (read b k compared y) refl)
+op_fits_by f b k w (Compare pred samesign compared x y) reads typed no_phi = (typed, reads 0 (read b k compared x) refl, reads 1 (read b k compared y) refl)
 op_fits_by f b k w (Select c x y) reads typed no_phi = (reads 0 (read b k 1 c) refl, reads 1 (read b k w x) refl, reads 2 (read b k w y) refl)
-op_fits_by f b k w (Convert cast from x) reads typed no_phi = (typed, reads 0 (read b k from x) refl)
+op_fits_by f b k w (Convert cast flags from x) reads typed no_phi = (typed.1, reads 0 (read b k from x) refl)
 op_fits_by f b k w (Freeze x) reads typed no_phi = reads 0 (read b k w x) refl
 op_fits_by f b k w (Phi entries) reads typed no_phi = no_phi tt
 
@@ -120,17 +120,17 @@ switch_goes t a w other cases n to is goes =
 if_phi_then : (op : Op) (P : List (Operand × ℕ) → Type 0) (R : Type 0) → ((entries : List (Operand × ℕ)) → op ≡ Phi entries → P entries → R) → IfPhi P ⊥ op → R
 if_phi_then (Phi entries) P R f h = f entries refl h
 if_phi_then (Binary op flags a b) P R f h = absurd h
-if_phi_then (Compare pred width a b) P R f h = absurd h
+if_phi_then (Compare pred samesign width a b) P R f h = absurd h
 if_phi_then (Select c a b) P R f h = absurd h
-if_phi_then (Convert cast from a) P R f h = absurd h
+if_phi_then (Convert cast flags from a) P R f h = absurd h
 if_phi_then (Freeze a) P R f h = absurd h
 
 if_phi_not : (op : Op) (P : List (Operand × ℕ) → Type 0) (Q : Type 0) → ((entries : List (Operand × ℕ)) → P entries → ⊥) → IfPhi P Q op → ¬ IsPhi op
 if_phi_not (Phi entries) P Q f h = λ is. f entries h
 if_phi_not (Binary op flags a b) P Q f h = λ is. is
-if_phi_not (Compare pred width a b) P Q f h = λ is. is
+if_phi_not (Compare pred samesign width a b) P Q f h = λ is. is
 if_phi_not (Select c a b) P Q f h = λ is. is
-if_phi_not (Convert cast from a) P Q f h = λ is. is
+if_phi_not (Convert cast flags from a) P Q f h = λ is. is
 if_phi_not (Freeze a) P Q f h = λ is. is
 
 -- what a phi takes, and what those behind it take
@@ -206,9 +206,9 @@ enters_all f from old b n insts vs t end taken is rest =
 pub not_phi : (op : Op) → ((entries : List (Operand × ℕ)) → op ≡ Phi entries → ⊥) → ¬ IsPhi op
 not_phi (Phi entries) h = λ is. h entries refl
 not_phi (Binary op flags a b) h = λ is. is
-not_phi (Compare pred width a b) h = λ is. is
+not_phi (Compare pred samesign width a b) h = λ is. is
 not_phi (Select c a b) h = λ is. is
-not_phi (Convert cast from a) h = λ is. is
+not_phi (Convert cast flags from a) h = λ is. is
 not_phi (Freeze a) h = λ is. is
 
 pub holding_next : (held : Registers) (b k : ℕ) (vs : List Value) (v : Value) → k < length vs → v ≡ get_or vs k v → holding_all (holding held b k v) b (k + 1) (drop (k + 1) vs) ≡ holding_all held b k (drop k vs)

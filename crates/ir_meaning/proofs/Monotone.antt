@@ -57,18 +57,18 @@ instructions-monotone f held held' w (Binary op flags a b) e' fits widths more h
     let x = operand_allows held held' more w a h.0 h.2 in
     let y = operand_allows held held' more w b h.1 h.3 in
     (instruction op flags w x.0 y.0, (x.0, y.0, x.1, y.1, refl), allows_same _ _ e' (instruction-monotone op flags w x.0 y.0 h.0 h.1 x.2 y.2) h.4)
-instructions-monotone f held held' w (Compare pred compared a b) e' fits widths more h =
+instructions-monotone f held held' w (Compare pred samesign compared a b) e' fits widths more h =
     let x = operand_allows held held' more compared a h.0 h.2 in
     let y = operand_allows held held' more compared b h.1 h.3 in
-    (effects.Gives (comparison pred compared x.0 y.0), (x.0, y.0, x.1, y.1, refl), allows_same (effects.Gives (comparison pred compared x.0 y.0)) (effects.Gives (comparison pred compared h.0 h.1)) e' (comparison-monotone pred compared x.0 y.0 h.0 h.1 x.2 y.2) h.4)
+    (effects.Gives (comparison pred samesign compared x.0 y.0), (x.0, y.0, x.1, y.1, refl), allows_same (effects.Gives (comparison pred samesign compared x.0 y.0)) (effects.Gives (comparison pred samesign compared h.0 h.1)) e' (comparison-monotone pred samesign compared x.0 y.0 h.0 h.1 x.2 y.2) h.4)
 instructions-monotone f held held' w (Select c a b) e' fits widths more h =
     let z = operand_allows held held' more 1 c h.0 h.3 in
     let x = operand_allows held held' more w a h.1 h.4 in
     let y = operand_allows held held' more w b h.2 h.5 in
     (effects.Gives (selection z.0 x.0 y.0), (z.0, x.0, y.0, z.1, x.1, y.1, refl), allows_same (effects.Gives (selection z.0 x.0 y.0)) (effects.Gives (selection h.0 h.1 h.2)) e' (selection-monotone z.0 x.0 y.0 h.0 h.1 h.2 z.2 x.2 y.2) h.6)
-instructions-monotone f held held' w (Convert cast from a) e' fits widths more h =
+instructions-monotone f held held' w (Convert cast flags from a) e' fits widths more h =
     let x = operand_allows held held' more from a h.0 h.1 in
-    (effects.Gives (conversion cast from w x.0), (x.0, x.1, refl), allows_same (effects.Gives (conversion cast from w x.0)) (effects.Gives (conversion cast from w h.0)) e' (conversion-monotone cast from w x.0 h.0 x.2) h.2)
+    (effects.Gives (conversion cast flags from w x.0), (x.0, x.1, refl), allows_same (effects.Gives (conversion cast flags from w x.0)) (effects.Gives (conversion cast flags from w h.0)) e' (conversion-monotone cast flags from w x.0 h.0 x.2) h.2)
 instructions-monotone f held held' w (Freeze a) e' fits widths more h =
     let x = freeze_allows f held held' more widths w a (fits 0 0 0 (read 0 0 w a) refl) h.0 h.1 h.2 h.3 in
     (effects.Gives x.1, (x.0, x.1, x.2, x.3, refl), allows_same (effects.Gives x.1) (effects.Gives h.1) e' x.4 h.4)

@@ -62,9 +62,9 @@ all_from_0 P xs h = all_at P 0 xs (λ i x e. subst (λ n. P n x) (omega arith) (
 pub if_phi_map : (op : Op) (P P' : List (Operand × ℕ) → Type 0) (Q Q' : Type 0) → ((entries : List (Operand × ℕ)) → P entries → P' entries) → (Q → Q') → IfPhi P Q op → IfPhi P' Q' op
 if_phi_map (Phi entries) P P' Q Q' f g h = f entries h
 if_phi_map (Binary op flags a b) P P' Q Q' f g h = g h
-if_phi_map (Compare pred width a b) P P' Q Q' f g h = g h
+if_phi_map (Compare pred samesign width a b) P P' Q Q' f g h = g h
 if_phi_map (Select c a b) P P' Q Q' f g h = g h
-if_phi_map (Convert cast from a) P P' Q Q' f g h = g h
+if_phi_map (Convert cast flags from a) P P' Q Q' f g h = g h
 if_phi_map (Freeze a) P P' Q Q' f g h = g h
 
 -- the same where an ending is to be found
@@ -74,9 +74,9 @@ pub if_phi_ends : (op : Op) (P : List (Operand × ℕ) → Type 0) (P' : List (O
     → IfPhi P Q op → (end : Ending) × IfPhi (λ entries. P' entries end) (Q' end) op × S end
 if_phi_ends (Phi entries) P P' Q Q' S f g h = f entries refl h
 if_phi_ends (Binary op flags a b) P P' Q Q' S f g h = g h
-if_phi_ends (Compare pred width a b) P P' Q Q' S f g h = g h
+if_phi_ends (Compare pred samesign width a b) P P' Q Q' S f g h = g h
 if_phi_ends (Select c a b) P P' Q Q' S f g h = g h
-if_phi_ends (Convert cast from a) P P' Q Q' S f g h = g h
+if_phi_ends (Convert cast flags from a) P P' Q Q' S f g h = g h
 if_phi_ends (Freeze a) P P' Q Q' S f g h = g h
 
 -- ---- where terminators go

@@ -108,7 +108,7 @@ op_restricts C held full within f b k w (Binary op flags x y) e reads h = (
   operand_restricts C held full within w y h.1 (λ r is. reads 1 (read b k w y) r refl refl refl is) h.3,
   h.4,
 )
-op_restricts C held full within f b k w (Compare pred compared x y) e reads h = (
+op_restricts C held full within f b k w (Compare pred samesign compared x y) e reads h = (
   h.0,
   h.1,
   operand_restricts C held full within compared x h.0 (λ r is. reads 0 (read b k compared x) r refl refl refl is) h.2,
@@ -124,7 +124,7 @@ op_restricts C held full within f b k w (Select c x y) e reads h = (
   operand_restricts C held full within w y h.2 (λ r is. reads 2 (read b k w y) r refl refl refl is) h.5,
   h.6,
 )
-op_restricts C held full within f b k w (Convert cast from x) e reads h =
+op_restricts C held full within f b k w (Convert cast flags from x) e reads h =
     (h.0, operand_restricts C held full within from x h.0 (λ r is. reads 0 (read b k from x) r refl refl refl is) h.1, h.2)
 op_restricts C held full within f b k w (Freeze x) e reads h =
     (h.0, h.1, operand_restricts C held full within w x h.0 (λ r is. reads 0 (read b k w x) r refl refl refl is) h.2, h.3, h.4)

@@ -49,18 +49,18 @@ op_gives held all w (Binary op flags a b) no_phi =
     let x = operand_gives held all w a in
     let y = operand_gives held all w b in
     (instruction op flags w x.0 y.0, (x.0, y.0, x.1, y.1, refl))
-op_gives held all w (Compare pred compared a b) no_phi =
+op_gives held all w (Compare pred samesign compared a b) no_phi =
     let x = operand_gives held all compared a in
     let y = operand_gives held all compared b in
-    (effects.Gives (comparison pred compared x.0 y.0), (x.0, y.0, x.1, y.1, refl))
+    (effects.Gives (comparison pred samesign compared x.0 y.0), (x.0, y.0, x.1, y.1, refl))
 op_gives held all w (Select c a b) no_phi =
     let z = operand_gives held all 1 c in
     let x = operand_gives held all w a in
     let y = operand_gives held all w b in
     (effects.Gives (selection z.0 x.0 y.0), (z.0, x.0, y.0, z.1, x.1, y.1, refl))
-op_gives held all w (Convert cast from a) no_phi =
+op_gives held all w (Convert cast flags from a) no_phi =
     let x = operand_gives held all from a in
-    (effects.Gives (conversion cast from w x.0), (x.0, x.1, refl))
+    (effects.Gives (conversion cast flags from w x.0), (x.0, x.1, refl))
 op_gives held all w (Freeze a) no_phi =
     let x = operand_gives held all w a in
     let v = freezes w x.0 in
@@ -153,9 +153,9 @@ no_phis_by_place (i ∷ insts) h = (h 0 i refl, no_phis_by_place insts (λ k j i
 pub is_phi_or_not : (op : Op) (P : List (Operand × ℕ) → Type 0) (Q : Type 0) → ((entries : List (Operand × ℕ)) → op ≡ Phi entries → P entries) → (¬ IsPhi op → Q) → IfPhi P Q op
 is_phi_or_not (Phi entries) P Q f g = f entries refl
 is_phi_or_not (Binary op flags a b) P Q f g = g (λ is. is)
-is_phi_or_not (Compare pred width a b) P Q f g = g (λ is. is)
+is_phi_or_not (Compare pred samesign width a b) P Q f g = g (λ is. is)
 is_phi_or_not (Select c a b) P Q f g = g (λ is. is)
-is_phi_or_not (Convert cast from a) P Q f g = g (λ is. is)
+is_phi_or_not (Convert cast flags from a) P Q f g = g (λ is. is)
 is_phi_or_not (Freeze a) P Q f g = g (λ is. is)
 
 -- a phi later has a phi before it

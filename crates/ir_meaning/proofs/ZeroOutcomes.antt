@@ -33,9 +33,9 @@ freezes_any w (values.Bits n) v h = h
 
 op_any : (held : Registers) (w : ℕ) (op : Op) (e : Effect) → OpGives OnlyZero held w op e → OpGives AnyNumber held w op e
 op_any held w (Binary op flags a b) e h = (h.0, h.1, operand_any held w a h.0 h.2, operand_any held w b h.1 h.3, h.4)
-op_any held w (Compare pred compared a b) e h = (h.0, h.1, operand_any held compared a h.0 h.2, operand_any held compared b h.1 h.3, h.4)
+op_any held w (Compare pred samesign compared a b) e h = (h.0, h.1, operand_any held compared a h.0 h.2, operand_any held compared b h.1 h.3, h.4)
 op_any held w (Select c a b) e h = (h.0, h.1, h.2, operand_any held 1 c h.0 h.3, operand_any held w a h.1 h.4, operand_any held w b h.2 h.5, h.6)
-op_any held w (Convert cast from a) e h = (h.0, operand_any held from a h.0 h.1, h.2)
+op_any held w (Convert cast flags from a) e h = (h.0, operand_any held from a h.0 h.1, h.2)
 op_any held w (Freeze a) e h = (h.0, h.1, operand_any held w a h.0 h.2, freezes_any w h.0 h.1 h.3, h.4)
 op_any held w (Phi entries) e h = h
 

@@ -35,9 +35,9 @@ IsEntered f (Some c) b = Names f c b
 -- the operation is no phi, and its operands, flags and types fit a result of the width
 abbrev pub OpFits : Function → ℕ → Op → Type 0
 OpFits f width (Binary op flags x y) = FlagsFit op flags × OperandHasWidth f width x × OperandHasWidth f width y
-OpFits f width (Compare pred compared x y) = (width ≡ 1) × OperandHasWidth f compared x × OperandHasWidth f compared y
+OpFits f width (Compare pred samesign compared x y) = (width ≡ 1) × OperandHasWidth f compared x × OperandHasWidth f compared y
 OpFits f width (Select c x y) = OperandHasWidth f 1 c × OperandHasWidth f width x × OperandHasWidth f width y
-OpFits f width (Convert cast from x) = CastFits cast from width × OperandHasWidth f from x
+OpFits f width (Convert cast flags from x) = CastFits cast from width × OperandHasWidth f from x
 OpFits f width (Freeze x) = OperandHasWidth f width x
 OpFits f width (Phi entries) = ⊥
 

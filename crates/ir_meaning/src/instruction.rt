@@ -24,10 +24,10 @@ pub(crate) fn instruction(f: &Function, table: &Table, width: Width, op: &Op) ->
             let right = operand(f, table, width, *y);
             evaluate(*op, *flags, width, left, right)
         }
-        Op::Compare(pred, compared, x, y) => {
+        Op::Compare(pred, samesign, compared, x, y) => {
             let left = operand(f, table, *compared, *x);
             let right = operand(f, table, *compared, *y);
-            Effect::Gives(compare(*pred, *compared, left, right))
+            Effect::Gives(compare(*pred, *samesign, *compared, left, right))
         }
         Op::Select(c, x, y) => {
             let condition = operand(f, table, Width::ONE, *c);
@@ -35,9 +35,9 @@ pub(crate) fn instruction(f: &Function, table: &Table, width: Width, op: &Op) ->
             let other = operand(f, table, width, *y);
             Effect::Gives(choose(condition, chosen, other))
         }
-        Op::Convert(cast, from, x) => {
+        Op::Convert(cast, flags, from, x) => {
             let converted = operand(f, table, *from, *x);
-            Effect::Gives(convert(*cast, *from, width, converted))
+            Effect::Gives(convert(*cast, *flags, *from, width, converted))
         }
         Op::Freeze(x) => Effect::Gives(frozen(width, operand(f, table, width, *x))),
         Op::Phi(_) => unreachable!(),

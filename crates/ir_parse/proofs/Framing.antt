@@ -1,7 +1,7 @@
 -- What is spelled by tokens is spelled by them where more tokens stand behind.
 use Rattle.std.proofs.Common.{ℕ, List, [], ◌∷◌, ◌++◌, Option, Some, None, ap}
-use Rattle.ops.specs.declared.opcode.Opcode.{Opcode}
 use Rattle.ops.specs.declared.opcode.Flags.{Flags}
+use Rattle.ops.specs.Flags.{flags_of, flags_of_cast, flags_of_icmp, icmp_flags}
 use Rattle.ir_tokens.specs.Tokens.{Token, Placed}
 use Rattle.ir_tokens.specs.declared.raw.RawEntry.{RawEntry}
 use Rattle.ir_tokens.specs.declared.raw.RawEntry.TheVariants as entries
@@ -83,8 +83,8 @@ tail = repeated (Comma ⨾ Attachment) (both Comma Attachment (is _) attachment)
 
 -- ---- instructions
 
-flags : (op : Opcode) (fs : Flags) → Frames (SpellsFlags op fs)
-flags op fs more tokens rest (written, adds, h) = (written, adds, each _ (λ flag. is _) written more tokens rest h)
+flags : (taken fs : Flags) → Frames (SpellsFlags taken fs)
+flags taken fs more tokens rest (written, adds, h) = (written, adds, each _ (λ flag. is _) written more tokens rest h)
 
 two_values : (width : ℕ) (a b : RawOperand) → Frames (SpellsType width ⨾ SpellsOperand width a ⨾ Comma ⨾ SpellsOperand width b)
 two_values width a b = both _ _ (type width) (both _ _ (operand width a) (both _ _ (is _) (operand width b)))
@@ -93,10 +93,10 @@ incoming : (width : ℕ) (i : RawIncoming) → Frames (SpellsIncoming width i)
 incoming width i = both _ _ (is _) (both _ _ (operand width i.value) (both _ _ (is _) (both _ _ (register i.block) (is _))))
 
 op : (o : RawOp) → Frames (SpellsOp o)
-op (Binary opcode fs width a b) = both _ _ (is _) (both _ _ (flags opcode fs) (two_values width a b))
-op (Compare pred width a b) = both _ _ (is _) (both _ _ (is _) (two_values width a b))
+op (Binary opcode fs width a b) = both _ _ (is _) (both _ _ (flags (flags_of opcode) fs) (two_values width a b))
+op (Compare pred samesign width a b) = both _ _ (is _) (both _ _ (flags flags_of_icmp (icmp_flags samesign)) (both _ _ (is _) (two_values width a b)))
 op (Select c a b) = both _ _ (is _) (both _ _ (typed c) (both _ _ (is _) (both _ _ (typed a) (both _ _ (is _) (typed b)))))
-op (Convert cast from a to) = both _ _ (is _) (both _ _ (type from) (both _ _ (operand from a) (both _ _ (is _) (type to))))
+op (Convert cast fs from a to) = both _ _ (is _) (both _ _ (flags (flags_of_cast cast) fs) (both _ _ (type from) (both _ _ (operand from a) (both _ _ (is _) (type to)))))
 op (Freeze width a) = both _ _ (is _) (typed_value width a)
 op (Phi width incomings) = both _ _ (is _) (both _ _ (type width) (separated (SpellsIncoming width) (incoming width) incomings))
 

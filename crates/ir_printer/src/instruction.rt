@@ -41,14 +41,17 @@ fn push_compare(
     called: &Identifiers<'_>,
     width: Width,
     pred: Pred,
+    samesign: bool,
     compared: Width,
     left: Operand,
     right: Operand,
 ) -> Result<(), AllocError>
     ensures { OnOk result (out.new.items
-        ≡ out.old.items ++ op_text called.now.function.now width (Op.Compare pred compared left right)) }
+        ≡ out.old.items ++ op_text called.now.function.now width (Op.Compare pred samesign compared left right)) }
 {
-    out.extend_from_slice(b"icmp ")?;
+    out.extend_from_slice(b"icmp")?;
+    push_flags(out, Flags::of_icmp(samesign))?;
+    out.push(b' ')?;
     push_pred(out, pred)?;
     out.push(b' ')?;
     push_typed(out, called, compared, left)?;
@@ -82,14 +85,16 @@ fn push_convert(
     out: &mut Vec<u8>,
     called: &Identifiers<'_>,
     cast: Cast,
+    flags: Flags,
     from: Width,
     operand: Operand,
     to: Width,
 ) -> Result<(), AllocError>
     ensures { OnOk result (out.new.items
-        ≡ out.old.items ++ op_text called.now.function.now to (Op.Convert cast from operand)) }
+        ≡ out.old.items ++ op_text called.now.function.now to (Op.Convert cast flags from operand)) }
 {
     push_cast(out, cast)?;
+    push_flags(out, flags)?;
     out.push(b' ')?;
     push_typed(out, called, from, operand)?;
     out.extend_from_slice(b" to ")?;
@@ -177,14 +182,16 @@ fn push_op(
         Op::Binary(opcode, flags, left, right) => {
             push_binary(out, called, width, *opcode, *flags, *left, *right)
         }
-        Op::Compare(pred, compared, left, right) => {
-            push_compare(out, called, width, *pred, *compared, *left, *right)
+        Op::Compare(pred, samesign, compared, left, right) => {
+            push_compare(
+                out, called, width, *pred, *samesign, *compared, *left, *right,
+            )
         }
         Op::Select(condition, first, second) => {
             push_select(out, called, width, *condition, *first, *second)
         }
-        Op::Convert(cast, from, operand) => {
-            push_convert(out, called, *cast, *from, *operand, width)
+        Op::Convert(cast, flags, from, operand) => {
+            push_convert(out, called, *cast, *flags, *from, *operand, width)
         }
         Op::Freeze(operand) => push_freeze(out, called, width, *operand),
         Op::Phi(entries) => push_phi(out, called, width, entries.as_slice()),

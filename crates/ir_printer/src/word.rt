@@ -2,8 +2,10 @@
 
 ghost use Rattle.std.specs.Prelude.{◌≡◌, ◌++◌, OnOk};
 ghost use Rattle.ops.specs.Keywords.{opcode_keyword, predicate_keyword, cast_keyword};
-ghost use Rattle.ir_text.specs.PrintedText.{flags_text};
+ghost use Rattle.std.specs.List.{flat_map};
+ghost use Rattle.ir_text.specs.PrintedText.{flag_text, flags_text};
 
+use ops::keywords::{EVERY_FLAG, Flag, flag_name, has_flag};
 use ops::{Cast, Flags, Opcode, Pred};
 use std::alloc::AllocError;
 
@@ -60,19 +62,31 @@ pub(crate) fn push_cast(out: &mut Vec<u8>, cast: Cast) -> Result<(), AllocError>
     out.extend_from_slice(word)
 }
 
+/// Adds a flag behind a space, where it is among these.
+fn push_flag(out: &mut Vec<u8>, flags: Flags, flag: Flag) -> Result<(), AllocError>
+    ensures { OnOk result (out.new.items ≡ out.old.items ++ flag_text flags flag) }
+{
+    if has_flag(flags, flag) {
+        out.push(b' ')?;
+        out.extend_from_slice(flag_name(flag).as_bytes())?;
+    }
+    Ok(())
+}
+
+/// Adds those that are among the flags, each behind a space.
+fn push_each_flag(out: &mut Vec<u8>, flags: Flags, each: &[Flag]) -> Result<(), AllocError>
+    ensures { OnOk result (out.new.items ≡ out.old.items ++ flat_map (flag_text flags) each.now) }
+{
+    for flag in each {
+        push_flag(out, flags, *flag)?;
+    }
+    Ok(())
+}
+
 /// Adds flags, each behind a space.
 #[tactic(auto, unfolding(ir_text::specs::PrintedText::flags_text))]
 pub(crate) fn push_flags(out: &mut Vec<u8>, flags: Flags) -> Result<(), AllocError>
     ensures { OnOk result (out.new.items ≡ out.old.items ++ flags_text flags) }
 {
-    if flags.nuw {
-        out.extend_from_slice(b" nuw")?;
-    }
-    if flags.nsw {
-        out.extend_from_slice(b" nsw")?;
-    }
-    if flags.exact {
-        out.extend_from_slice(b" exact")?;
-    }
-    Ok(())
+    push_each_flag(out, flags, &EVERY_FLAG)
 }

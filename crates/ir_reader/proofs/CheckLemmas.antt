@@ -2,6 +2,7 @@
 use Rattle.std.proofs.Common.{◌≡◌, inl, inr, ℕ, zero, suc, ◌<◌, List, [], ◌∷◌, length, take, Some, refl, sym, ap, subst, ◌∙◌, arith}
 use Rattle.std.specs.Prelude.{slice_get}
 use Rattle.std.proofs.lemmas.Option.{slice_get_within}
+use Rattle.ops.specs.Flags.{flags_of, flags_of_cast}
 use Rattle.ir_core.specs.declared.module.Module.{Module}
 use Rattle.ir_core.specs.declared.module.Entry.TheVariants as entries
 use Rattle.ir_core.specs.declared.function.Function.{Function}
@@ -25,7 +26,7 @@ use Rattle.ir_instructions.specs.Grammar.{SpellsIncoming, SpellsOp, SpellsInst}
 use Rattle.ir_instructions.specs.Parts.{Part, Separated}
 use Rattle.ir_parse.specs.Grammar.{SpellsBlock, SpellsBlocks, SpellsLabelledBlock, SpellsEntry}
 use Rattle.ir_parse.specs.Text.{IsRaw}
-use Rattle.ir_instructions.proofs.OwnFlags.{own_flags}
+use Rattle.ir_instructions.proofs.TakenFlags.{taken_flags}
 use Rattle.ir_tokens.specs.declared.fault.IrFaultKind.TheVariants.{Duplicate, TypeClash}
 use Rattle.ir_resolve.specs.Faults.{HasNoFault}
 use Rattle.ir_resolve.specs.Means.{Means, IncomingMeans, OpMeans, InstMeans}
@@ -47,10 +48,10 @@ some_separated P [] tokens rest spelled = absurd spelled
 some_separated P (x ∷ xs) tokens rest spelled = omega arith
 
 op_written : (op : RawOp) (tokens rest : List Placed) → SpellsOp op tokens rest → IsWellWrittenOp op
-op_written (ops.Binary op flags width a b) tokens rest spelled = own_flags op flags _ _ spelled.2.1
-op_written (ops.Compare pred width a b) tokens rest spelled = tt
+op_written (ops.Binary op flags width a b) tokens rest spelled = taken_flags (flags_of op) flags _ _ spelled.2.1
+op_written (ops.Compare pred samesign width a b) tokens rest spelled = tt
 op_written (ops.Select c a b) tokens rest spelled = tt
-op_written (ops.Convert cast from a to) tokens rest spelled = tt
+op_written (ops.Convert cast flags from a to) tokens rest spelled = taken_flags (flags_of_cast cast) flags _ _ spelled.2.1
 op_written (ops.Freeze width a) tokens rest spelled = tt
 op_written (ops.Phi width incoming) tokens rest spelled = some_separated (SpellsIncoming width) incoming _ _ spelled.2.2
 

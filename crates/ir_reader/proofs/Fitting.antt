@@ -47,9 +47,9 @@ dec_operand a b = no (λ e. cc)
 dec_is_phi : (op : Op) → Dec (IsPhi op)
 dec_is_phi (Phi entries) = yes tt
 dec_is_phi (Binary op flags x y) = no (λ h. h)
-dec_is_phi (Compare pred width x y) = no (λ h. h)
+dec_is_phi (Compare pred samesign width x y) = no (λ h. h)
 dec_is_phi (Select c x y) = no (λ h. h)
-dec_is_phi (Convert cast from x) = no (λ h. h)
+dec_is_phi (Convert cast flags from x) = no (λ h. h)
 dec_is_phi (Freeze x) = no (λ h. h)
 
 -- an instruction stands at the place
@@ -126,7 +126,7 @@ module _ (f : Function) (b k : ℕ) (entries : List (Operand × ℕ)) where
 pub dec_fits : (f : Function) (b k : ℕ) (op : Op) → Dec (OpFits f b k op)
 dec_fits f b k (Phi entries) = dec_phi f b k entries
 dec_fits f b k (Binary op flags x y) = yes tt
-dec_fits f b k (Compare pred width x y) = yes tt
+dec_fits f b k (Compare pred samesign width x y) = yes tt
 dec_fits f b k (Select c x y) = yes tt
-dec_fits f b k (Convert cast from x) = yes tt
+dec_fits f b k (Convert cast flags from x) = yes tt
 dec_fits f b k (Freeze x) = yes tt

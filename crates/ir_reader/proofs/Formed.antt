@@ -17,9 +17,9 @@ module _ (f : Function) (formed : IsFormed f) (b k : ℕ) (inst : Inst) (is : Is
       let fit = formed.phis b k inst entries is e in
       record { only_phis = λ j earlier lt there. formed.phis_first b j k earlier inst there is lt (subst IsPhi (sym e) tt); from = fit.from; one = fit.one }
   phi_fits (Binary op flags x y) e = tt
-  phi_fits (Compare pred width x y) e = tt
+  phi_fits (Compare pred samesign width x y) e = tt
   phi_fits (Select c x y) e = tt
-  phi_fits (Convert cast from x) e = tt
+  phi_fits (Convert cast flags from x) e = tt
   phi_fits (Freeze x) e = tt
 
 pub formed_fits : (f : Function) → IsFormed f → PhisFit f

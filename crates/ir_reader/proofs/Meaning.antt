@@ -79,9 +79,9 @@ module _ (CallsThing : Called → Thing → Type 0) where
 
   op_reads : (f : Function) (b k width : ℕ) (w : RawOp) (op : Op) → OpMeans CallsThing w op → AllZip ReadMeans (read_by w) (reads_of f b k width op)
   op_reads f b k wide (ops.Binary op flags width a c) (core.Binary opcode set x y) means = (means.2, (means.3, tt))
-  op_reads f b k wide (ops.Compare pred width a c) (core.Compare p w x y) means = (means.2, (means.3, tt))
+  op_reads f b k wide (ops.Compare pred samesign width a c) (core.Compare p s w x y) means = (means.3, (means.4, tt))
   op_reads f b k wide (ops.Select d a c) (core.Select z x y) means = (means.0, (means.1, (means.2, tt)))
-  op_reads f b k wide (ops.Convert cast from a to) (core.Convert d w x) means = (means.2, tt)
+  op_reads f b k wide (ops.Convert cast flags from a to) (core.Convert d g w x) means = (means.3, tt)
   op_reads f b k wide (ops.Freeze width a) (core.Freeze x) means = (means, tt)
   op_reads f b k wide (ops.Phi width ws) (core.Phi entries) means = incoming_reads f width wide ws entries means
   op_reads f b k wide w op means = absurd means

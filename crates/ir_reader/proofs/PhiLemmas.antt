@@ -148,9 +148,9 @@ module _ {R : Type 0} (set : IndexSet ℕ R) where
   fits_where : (P Q : Type 0) → (P → Q) → (op : Op) → OpFitsIn set P op → OpFitsIn set Q op
   fits_where P Q f (Phi entries) h = (f h.0, h.1)
   fits_where P Q f (Binary op flags x y) h = tt
-  fits_where P Q f (Compare pred width x y) h = tt
+  fits_where P Q f (Compare pred samesign width x y) h = tt
   fits_where P Q f (Select c x y) h = tt
-  fits_where P Q f (Convert cast from x) h = tt
+  fits_where P Q f (Convert cast flags from x) h = tt
   fits_where P Q f (Freeze x) h = tt
 
   module _ (written : List RawInst) (insts : List Inst) (k : ℕ) (inst : Inst) (w : RawInst) (here : slice_get insts k ≡ Some inst) (w_here : slice_get written k ≡ Some w) where
@@ -200,9 +200,9 @@ module _ {R : Type 0} (raw : RawFunction) (f : Function) (sets : List (IndexSet 
     ),
   )
   op_fits k (Binary op flags x y) = (λ h. tt, λ h. tt)
-  op_fits k (Compare pred width x y) = (λ h. tt, λ h. tt)
+  op_fits k (Compare pred samesign width x y) = (λ h. tt, λ h. tt)
   op_fits k (Select c x y) = (λ h. tt, λ h. tt)
-  op_fits k (Convert cast from x) = (λ h. tt, λ h. tt)
+  op_fits k (Convert cast flags from x) = (λ h. tt, λ h. tt)
   op_fits k (Freeze x) = (λ h. tt, λ h. tt)
 
   pub bad_in_block : (found : Option ℕ) → IsFirst (λ line. (k : ℕ) × BadPhiIn set w.insts block.insts k line) found → IsFirst (λ line. (k : ℕ) × BadPhiHere raw f b k line) found

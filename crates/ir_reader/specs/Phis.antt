@@ -23,7 +23,7 @@ pub record PhiFits (f : Function) (b k : ℕ) (entries : List (Operand × ℕ)) 
 abbrev pub OpFits : Function → ℕ → ℕ → Op → Type 0
 OpFits f b k (Phi entries) = PhiFits f b k entries
 OpFits f b k (Binary op flags x y) = Unit {0}
-OpFits f b k (Compare pred width x y) = Unit {0}
+OpFits f b k (Compare pred samesign width x y) = Unit {0}
 OpFits f b k (Select c x y) = Unit {0}
-OpFits f b k (Convert cast from x) = Unit {0}
+OpFits f b k (Convert cast flags from x) = Unit {0}
 OpFits f b k (Freeze x) = Unit {0}

@@ -40,9 +40,9 @@ module _ {S : Type 0} where
   abbrev pub OpFitsIn : IndexSet ℕ S → Type 0 → Op → Type 0
   OpFitsIn set may_stand (Phi entries) = may_stand × EntriesFitIn set entries
   OpFitsIn set may_stand (Binary op flags x y) = Unit {0}
-  OpFitsIn set may_stand (Compare pred width x y) = Unit {0}
+  OpFitsIn set may_stand (Compare pred samesign width x y) = Unit {0}
   OpFitsIn set may_stand (Select c x y) = Unit {0}
-  OpFitsIn set may_stand (Convert cast from x) = Unit {0}
+  OpFitsIn set may_stand (Convert cast flags from x) = Unit {0}
   OpFitsIn set may_stand (Freeze x) = Unit {0}
 
 -- the first instructions, so many, are phis

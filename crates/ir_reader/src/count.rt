@@ -16,9 +16,9 @@ fn has_few_entries(op: &Op) -> bool
     match op {
         Op::Phi(entries) => entries.len() <= MOST,
         Op::Binary(_, _, _, _)
-        | Op::Compare(_, _, _, _)
+        | Op::Compare(_, _, _, _, _)
         | Op::Select(_, _, _)
-        | Op::Convert(_, _, _)
+        | Op::Convert(_, _, _, _)
         | Op::Freeze(_) => true,
     }
 }

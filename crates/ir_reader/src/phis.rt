@@ -113,9 +113,9 @@ fn op_fits(
     match op {
         Op::Phi(entries) => Ok(only_phis && entries_fit(alloc, predecessors, entries.as_slice())?),
         Op::Binary(_, _, _, _)
-        | Op::Compare(_, _, _, _)
+        | Op::Compare(_, _, _, _, _)
         | Op::Select(_, _, _)
-        | Op::Convert(_, _, _)
+        | Op::Convert(_, _, _, _)
         | Op::Freeze(_) => Ok(true),
     }
 }
@@ -126,9 +126,9 @@ fn is_phi(op: &Op) -> bool
     match op {
         Op::Phi(_) => true,
         Op::Binary(_, _, _, _)
-        | Op::Compare(_, _, _, _)
+        | Op::Compare(_, _, _, _, _)
         | Op::Select(_, _, _)
-        | Op::Convert(_, _, _)
+        | Op::Convert(_, _, _, _)
         | Op::Freeze(_) => false,
     }
 }

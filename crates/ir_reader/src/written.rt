@@ -24,7 +24,7 @@ fn operand_of(op: &RawOp, index: u32) -> Option<&RawOperand>
     ensures { option_copied result ≡ option_map (λ t. t.operand) (slice_get (read_by op.now) index) }
 {
     match op {
-        RawOp::Binary(_, _, _, left, right) | RawOp::Compare(_, _, left, right) => match index {
+        RawOp::Binary(_, _, _, left, right) | RawOp::Compare(_, _, _, left, right) => match index {
             0 => Some(left),
             1 => Some(right),
             _ => None,
@@ -35,7 +35,7 @@ fn operand_of(op: &RawOp, index: u32) -> Option<&RawOperand>
             2 => Some(&second.operand),
             _ => None,
         },
-        RawOp::Convert(_, _, operand, _) | RawOp::Freeze(_, operand) => only(operand, index),
+        RawOp::Convert(_, _, _, operand, _) | RawOp::Freeze(_, operand) => only(operand, index),
         RawOp::Phi(_, incoming) => Some(&incoming.as_slice().get(index as usize)?.value),
     }
 }

@@ -187,9 +187,9 @@ first_op_clash : (op : RawOp) → FirstOf (OpClashesAt op)
 first_op_clash (ops.Select c a b) =
     first_of_two (λ line. (c.width ≢ 1) × (c.operand.line ≡ line)) (λ line. (a.width ≢ b.width) × (b.operand.line ≡ line))
     (first_on c.operand.line (dec_not (dec_number c.width 1))) (first_on b.operand.line (dec_not (dec_number a.width b.width)))
-first_op_clash (ops.Convert cast from a to) = first_on a.line (dec_not (dec_cast cast from to))
+first_op_clash (ops.Convert cast flags from a to) = first_on a.line (dec_not (dec_cast cast from to))
 first_op_clash (ops.Binary op flags width a b) = (None, λ line h. h)
-first_op_clash (ops.Compare pred width a b) = (None, λ line h. h)
+first_op_clash (ops.Compare pred samesign width a b) = (None, λ line h. h)
 first_op_clash (ops.Freeze width a) = (None, λ line h. h)
 first_op_clash (ops.Phi width incoming) = (None, λ line h. h)
 

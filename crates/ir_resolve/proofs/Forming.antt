@@ -102,12 +102,12 @@ ReadMeans C t r = ValueMeans C t.operand.value r.operand × (t.width ≡ r.width
 module _ (C : Called → Thing → Type 0) (f : Function) (b k : ℕ) where
   pub reads_meant : (w : RawOp) (width : ℕ) (o : Op) → OpMeans C w o → width ≡ result_width w → ((line : ℕ) → ¬ OpClashesAt w line) → AllZip (ReadMeans C) (read_by w) (reads_of f b k width o)
   reads_meant (ops.Binary op flags n a c) width (core.Binary op' flags' x y) h wide typed = ((h.2, sym wide), ((h.3, sym wide), tt))
-  reads_meant (ops.Compare pred n a c) width (core.Compare pred' m x y) h wide typed = ((h.2, sym h.1), ((h.3, sym h.1), tt))
+  reads_meant (ops.Compare pred samesign n a c) width (core.Compare pred' samesign' m x y) h wide typed = ((h.3, sym h.2), ((h.4, sym h.2), tt))
   reads_meant (ops.Select z a c) width (core.Select z' x y) h wide typed =
       let one : z.width ≡ 1 = same_unless z.width 1 (λ apart. typed z.operand.line (inl (apart, refl))) in
       let arms : a.width ≡ c.width = same_unless a.width c.width (λ apart. typed c.operand.line (inr (apart, refl))) in
       ((h.0, one), ((h.1, sym wide), ((h.2, sym arms ∙ sym wide), tt)))
-  reads_meant (ops.Convert cast from a to) width (core.Convert cast' n x) h wide typed = ((h.2, sym h.1), tt)
+  reads_meant (ops.Convert cast flags from a to) width (core.Convert cast' flags' n x) h wide typed = ((h.3, sym h.2), tt)
   reads_meant (ops.Freeze n a) width (core.Freeze x) h wide typed = ((h, sym wide), tt)
   reads_meant (ops.Phi n incoming) width (core.Phi entries) h wide typed =
       made_pairs (ReadMeans C) (IncomingMeans C) (λ i. record { width = n; operand = i.value }) (λ (e : Operand × ℕ). read e.1 (end_of f e.1) width e.0) (λ i e means. (means.0, sym wide)) incoming entries h
@@ -134,9 +134,9 @@ targets_meant C w t h = absurd h
 
 pub op_typed : (C : Called → Thing → Type 0) (w : RawOp) (width : ℕ) (o : Op) → OpMeans C w o → width ≡ result_width w → ((line : ℕ) → ¬ OpClashesAt w line) → IsWellWrittenOp w → IsTyped width o
 op_typed C (ops.Binary op flags n a c) width (core.Binary op' flags' x y) h wide typed own = rw (h.0, h.1) own
-op_typed C (ops.Compare pred n a c) width (core.Compare pred' m x y) h wide typed own = wide
+op_typed C (ops.Compare pred samesign n a c) width (core.Compare pred' samesign' m x y) h wide typed own = wide
 op_typed C (ops.Select z a c) width (core.Select z' x y) h wide typed own = tt
-op_typed C (ops.Convert cast from a to) width (core.Convert cast' n x) h wide typed own = rw (h.0, h.1, wide) (fits_unless cast from to (λ unfit. typed a.line (unfit, refl)))
+op_typed C (ops.Convert cast flags from a to) width (core.Convert cast' flags' n x) h wide typed own = rw (h.0, h.1, h.2, wide) (own, fits_unless cast from to (λ unfit. typed a.line (unfit, refl)))
 op_typed C (ops.Freeze n a) width (core.Freeze x) h wide typed own = tt
 op_typed C (ops.Phi n incoming) width (core.Phi entries) h wide typed own = tt
 op_typed C w width o h wide typed own = absurd h

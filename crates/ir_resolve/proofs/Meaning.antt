@@ -44,9 +44,9 @@ module _ (F G : Called → Thing → Type 0) (to : (x : Called) (thing : Thing) 
 
   op : (w : RawOp) (o : Op) → OpMeans F w o → OpMeans G w o
   op (ops.Binary opcode flags width a b) (core.Binary c set x y) h = (h.0, h.1, value a.value x h.2, value b.value y h.3)
-  op (ops.Compare pred width a b) (core.Compare p n x y) h = (h.0, h.1, value a.value x h.2, value b.value y h.3)
+  op (ops.Compare pred samesign width a b) (core.Compare p s n x y) h = (h.0, h.1, h.2, value a.value x h.3, value b.value y h.4)
   op (ops.Select c a b) (core.Select z x y) h = (value c.operand.value z h.0, value a.operand.value x h.1, value b.operand.value y h.2)
-  op (ops.Convert cast from a to') (core.Convert c n x) h = (h.0, h.1, value a.value x h.2)
+  op (ops.Convert cast flags from a to') (core.Convert c g n x) h = (h.0, h.1, h.2, value a.value x h.3)
   op (ops.Freeze width a) (core.Freeze x) h = value a.value x h
   op (ops.Phi width written) (core.Phi entries) h = zip_weaker (IncomingMeans F) (IncomingMeans G) incoming written entries h
   op w o h = h

@@ -80,16 +80,16 @@ module _ (known : List Known) where
       let (x, x_is) = some_value a.value reads.0 in
       let (y, y_is) = some_value b.value reads.1.0 in
       (core.Binary op flags x y, (refl, refl, x_is, y_is))
-  some_op (ops.Compare pred width a b) reads targets =
+  some_op (ops.Compare pred samesign width a b) reads targets =
       let (x, x_is) = some_value a.value reads.0 in
       let (y, y_is) = some_value b.value reads.1.0 in
-      (core.Compare pred width x y, (refl, refl, x_is, y_is))
+      (core.Compare pred samesign width x y, (refl, refl, refl, x_is, y_is))
   some_op (ops.Select c a b) reads targets =
       let (z, z_is) = some_value c.operand.value reads.0 in
       let (x, x_is) = some_value a.operand.value reads.1.0 in
       let (y, y_is) = some_value b.operand.value reads.1.1.0 in
       (core.Select z x y, (z_is, x_is, y_is))
-  some_op (ops.Convert cast from a to) reads targets = let (x, x_is) = some_value a.value reads.0 in (core.Convert cast from x, (refl, refl, x_is))
+  some_op (ops.Convert cast flags from a to) reads targets = let (x, x_is) = some_value a.value reads.0 in (core.Convert cast flags from x, (refl, refl, refl, x_is))
   some_op (ops.Freeze width a) reads targets = let (x, x_is) = some_value a.value reads.0 in (core.Freeze x, x_is)
   some_op (ops.Phi width ws) reads targets = let (entries, all) = some_entries width ws reads targets in (core.Phi entries, all)
 

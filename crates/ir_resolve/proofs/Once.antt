@@ -1,5 +1,5 @@
 -- A function as written means one function at most, and has one first fault at most.
-use Rattle.std.proofs.Common.{◌≡◌, inl, inr, ℕ, zero, suc, ◌≤◌, List, [], ◌∷◌, map, Some, refl, sym, ap, subst, ◌∙◌, arith}
+use Rattle.std.proofs.Common.{◌≡◌, inl, inr, ℕ, Bool, zero, suc, ◌≤◌, List, [], ◌∷◌, map, Some, refl, sym, ap, subst, ◌∙◌, arith}
 use Rattle.std.specs.List.{AllZip, zip}
 use Rattle.std.proofs.lemmas.Bool.{cases_lt}
 use Rattle.ops.specs.Number.{Number}
@@ -106,20 +106,20 @@ module _ (C : Called → Thing → Type 0) (one_register : (x : Called) (r s : R
   binary (ops.Binary op flags n a b) c set x y p h k = absurd k
   binary w c set x y p h k = absurd h
 
-  compare : (w : RawOp) (c : Pred) (m : ℕ) (x y : Operand) (p : Op) → OpMeans C w (core.Compare c m x y) → OpMeans C w p → core.Compare c m x y ≡ p
-  compare (ops.Compare pred n a b) c m x y (core.Compare c' m' x' y') h k = cc (h.0, h.1, k.0, k.1, value a.value x x' h.2 k.2, value b.value y y' h.3 k.3)
-  compare (ops.Compare pred n a b) c m x y p h k = absurd k
-  compare w c m x y p h k = absurd h
+  compare : (w : RawOp) (c : Pred) (s : Bool) (m : ℕ) (x y : Operand) (p : Op) → OpMeans C w (core.Compare c s m x y) → OpMeans C w p → core.Compare c s m x y ≡ p
+  compare (ops.Compare pred samesign n a b) c s m x y (core.Compare c' s' m' x' y') h k = cc (h.0, h.1, h.2, k.0, k.1, k.2, value a.value x x' h.3 k.3, value b.value y y' h.4 k.4)
+  compare (ops.Compare pred samesign n a b) c s m x y p h k = absurd k
+  compare w c s m x y p h k = absurd h
 
   select : (w : RawOp) (z x y : Operand) (p : Op) → OpMeans C w (core.Select z x y) → OpMeans C w p → core.Select z x y ≡ p
   select (ops.Select c a b) z x y (core.Select z' x' y') h k = cc (value c.operand.value z z' h.0 k.0, value a.operand.value x x' h.1 k.1, value b.operand.value y y' h.2 k.2)
   select (ops.Select c a b) z x y p h k = absurd k
   select w z x y p h k = absurd h
 
-  convert : (w : RawOp) (c : Cast) (m : ℕ) (x : Operand) (p : Op) → OpMeans C w (core.Convert c m x) → OpMeans C w p → core.Convert c m x ≡ p
-  convert (ops.Convert cast from a to) c m x (core.Convert c' m' x') h k = cc (h.0, h.1, k.0, k.1, value a.value x x' h.2 k.2)
-  convert (ops.Convert cast from a to) c m x p h k = absurd k
-  convert w c m x p h k = absurd h
+  convert : (w : RawOp) (c : Cast) (g : Flags) (m : ℕ) (x : Operand) (p : Op) → OpMeans C w (core.Convert c g m x) → OpMeans C w p → core.Convert c g m x ≡ p
+  convert (ops.Convert cast flags from a to) c g m x (core.Convert c' g' m' x') h k = cc (h.0, h.1, h.2, k.0, k.1, k.2, value a.value x x' h.3 k.3)
+  convert (ops.Convert cast flags from a to) c g m x p h k = absurd k
+  convert w c g m x p h k = absurd h
 
   freeze : (w : RawOp) (x : Operand) (p : Op) → OpMeans C w (core.Freeze x) → OpMeans C w p → core.Freeze x ≡ p
   freeze (ops.Freeze n a) x (core.Freeze x') h k = ap core.Freeze (value a.value x x' h k)
@@ -133,9 +133,9 @@ module _ (C : Called → Thing → Type 0) (one_register : (x : Called) (r s : R
 
   op : (w : RawOp) (o p : Op) → OpMeans C w o → OpMeans C w p → o ≡ p
   op w (core.Binary c set x y) p h k = binary w c set x y p h k
-  op w (core.Compare c m x y) p h k = compare w c m x y p h k
+  op w (core.Compare c s m x y) p h k = compare w c s m x y p h k
   op w (core.Select z x y) p h k = select w z x y p h k
-  op w (core.Convert c m x) p h k = convert w c m x p h k
+  op w (core.Convert c g m x) p h k = convert w c g m x p h k
   op w (core.Freeze x) p h k = freeze w x p h k
   op w (core.Phi entries) p h k = phi w entries p h k
 

@@ -109,9 +109,9 @@ UnknownAt raw = UnknownIn (Calls raw) (reads_of raw) (targets_of raw)
 -- the width of what an instruction gives, as written; that of a select is its first arm's
 abbrev pub result_width : RawOp → ℕ
 result_width (ops.Binary op flags width a b) = width
-result_width (ops.Compare pred width a b) = 1
+result_width (ops.Compare pred samesign width a b) = 1
 result_width (ops.Select c a b) = a.width
-result_width (ops.Convert cast from a to) = to
+result_width (ops.Convert cast flags from a to) = to
 result_width (ops.Freeze width a) = width
 result_width (ops.Phi width incoming) = width
 
@@ -143,9 +143,9 @@ ReadClashesIn CallsThis reads = SomeAt reads (λ t at. ValueClashes CallsThis t.
 -- not to a strictly smaller or larger type; on the line of that operand, of the second arm, or of what is cast
 abbrev pub OpClashesAt : RawOp → ℕ → Type 0
 OpClashesAt (ops.Select c a b) line = ((c.width ≢ 1) × (c.operand.line ≡ line)) ⊎ ((a.width ≢ b.width) × (b.operand.line ≡ line))
-OpClashesAt (ops.Convert cast from a to) line = ¬ CastFits cast from to × (a.line ≡ line)
+OpClashesAt (ops.Convert cast flags from a to) line = ¬ CastFits cast from to × (a.line ≡ line)
 OpClashesAt (ops.Binary op flags width a b) line = ⊥
-OpClashesAt (ops.Compare pred width a b) line = ⊥
+OpClashesAt (ops.Compare pred samesign width a b) line = ⊥
 OpClashesAt (ops.Freeze width a) line = ⊥
 OpClashesAt (ops.Phi width incoming) line = ⊥
 

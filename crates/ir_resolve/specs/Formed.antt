@@ -1,7 +1,7 @@
 -- What a function that is read meets, as far as names, types and cases go (`IsFormed` in `ir_core`), where it is written as the grammar
 -- has it.
 use Rattle.std.specs.Prelude.{ℕ, ◌<◌, length, Contains}
-use Rattle.ops.specs.Flags.{FlagsFit}
+use Rattle.ops.specs.Flags.{FlagsFit, CastFlagsFit}
 use Rattle.ir_core.specs.declared.function.Function.{Function}
 use Rattle.ir_core.specs.declared.function.Block.{Block}
 use Rattle.ir_core.specs.declared.instruction.Inst.{Inst}
@@ -18,9 +18,9 @@ use Rattle.ir_tokens.specs.declared.raw.RawOp.TheVariants.{Binary, Compare, Sele
 -- the flags of an operation are its own, and a phi has an entry
 abbrev pub IsWellWrittenOp : RawOp → Type 0
 IsWellWrittenOp (Binary op flags width a b) = FlagsFit op flags
-IsWellWrittenOp (Compare pred width a b) = Unit {0}
+IsWellWrittenOp (Compare pred samesign width a b) = Unit {0}
 IsWellWrittenOp (Select c a b) = Unit {0}
-IsWellWrittenOp (Convert cast from a to) = Unit {0}
+IsWellWrittenOp (Convert cast flags from a to) = CastFlagsFit cast flags
 IsWellWrittenOp (Freeze width a) = Unit {0}
 IsWellWrittenOp (Phi width incoming) = 0 < length incoming
 

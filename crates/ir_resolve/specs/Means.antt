@@ -48,9 +48,9 @@ module _ (CallsThing : Called → Thing → Type 0) where
 
   abbrev pub OpMeans : RawOp → Op → Type 0
   OpMeans (ops.Binary op flags width a b) (core.Binary opcode set x y) = (opcode ≡ op) × (set ≡ flags) × ValueMeans a.value x × ValueMeans b.value y
-  OpMeans (ops.Compare pred width a b) (core.Compare p w x y) = (p ≡ pred) × (w ≡ width) × ValueMeans a.value x × ValueMeans b.value y
+  OpMeans (ops.Compare pred samesign width a b) (core.Compare p s w x y) = (p ≡ pred) × (s ≡ samesign) × (w ≡ width) × ValueMeans a.value x × ValueMeans b.value y
   OpMeans (ops.Select c a b) (core.Select z x y) = ValueMeans c.operand.value z × ValueMeans a.operand.value x × ValueMeans b.operand.value y
-  OpMeans (ops.Convert cast from a to) (core.Convert c w x) = (c ≡ cast) × (w ≡ from) × ValueMeans a.value x
+  OpMeans (ops.Convert cast flags from a to) (core.Convert c g w x) = (c ≡ cast) × (g ≡ flags) × (w ≡ from) × ValueMeans a.value x
   OpMeans (ops.Freeze width a) (core.Freeze x) = ValueMeans a.value x
   OpMeans (ops.Phi width incoming) (core.Phi entries) = AllZip IncomingMeans incoming entries
   -- no other instruction is meant

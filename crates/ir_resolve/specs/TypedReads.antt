@@ -22,18 +22,18 @@ typed width operand = record { width = width; operand = operand }
 -- what an instruction reads
 abbrev pub read_by : RawOp → List Typed
 read_by (ops.Binary op flags width a b) = typed width a ∷ typed width b ∷ []
-read_by (ops.Compare pred width a b) = typed width a ∷ typed width b ∷ []
+read_by (ops.Compare pred samesign width a b) = typed width a ∷ typed width b ∷ []
 read_by (ops.Select c a b) = typed c.width c.operand ∷ typed a.width a.operand ∷ typed b.width b.operand ∷ []
-read_by (ops.Convert cast from a to) = typed from a ∷ []
+read_by (ops.Convert cast flags from a to) = typed from a ∷ []
 read_by (ops.Freeze width a) = typed width a ∷ []
 read_by (ops.Phi width incoming) = map (λ i. typed width i.value) incoming
 
 -- the blocks that it names
 abbrev pub named_by : RawOp → List RawIdentifier
 named_by (ops.Binary op flags width a b) = []
-named_by (ops.Compare pred width a b) = []
+named_by (ops.Compare pred samesign width a b) = []
 named_by (ops.Select c a b) = []
-named_by (ops.Convert cast from a to) = []
+named_by (ops.Convert cast flags from a to) = []
 named_by (ops.Freeze width a) = []
 named_by (ops.Phi width incoming) = map (λ i. i.block) incoming
 

@@ -69,11 +69,11 @@ fn op_clash(op: &RawOp) -> Option<usize>
             (condition.width.bits() != 1).then_some(condition.operand.line),
             (first.width != second.width).then_some(second.operand.line),
         ),
-        RawOp::Convert(cast, from, operand, to) => {
+        RawOp::Convert(cast, _, from, operand, to) => {
             (!cast_fits(*cast, *from, *to)).then_some(operand.line)
         }
         RawOp::Binary(_, _, _, _, _)
-        | RawOp::Compare(_, _, _, _)
+        | RawOp::Compare(_, _, _, _, _)
         | RawOp::Freeze(_, _)
         | RawOp::Phi(_, _) => None,
     }

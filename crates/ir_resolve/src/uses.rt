@@ -66,7 +66,7 @@ impl<'a> Uses<'a> {
         ensures { OnOk result (Adds self.old self.new (read_by op.now) (named_by op.now)) }
     {
         match op {
-            RawOp::Binary(_, _, width, left, right) | RawOp::Compare(_, width, left, right) => {
+            RawOp::Binary(_, _, width, left, right) | RawOp::Compare(_, _, width, left, right) => {
                 self.add_read(*width, left)?;
                 self.add_read(*width, right)
             }
@@ -75,7 +75,7 @@ impl<'a> Uses<'a> {
                 self.add_read(first.width, &first.operand)?;
                 self.add_read(second.width, &second.operand)
             }
-            RawOp::Convert(_, from, operand, _) => self.add_read(*from, operand),
+            RawOp::Convert(_, _, from, operand, _) => self.add_read(*from, operand),
             RawOp::Freeze(width, operand) => self.add_read(*width, operand),
             RawOp::Phi(width, incoming) => self.add_incoming(*width, incoming.as_slice()),
         }

@@ -60,9 +60,9 @@ module _ (kept : KeptMarks) where
 
     op_moved : (w : ℕ) (op : Op) → AreMoved (reads_of f b k w op) (reads_of g b c w (moved_op kept op))
     op_moved w (Binary op flags x y) = refl
-    op_moved w (Compare pred compared x y) = refl
+    op_moved w (Compare pred samesign compared x y) = refl
     op_moved w (Select z x y) = refl
-    op_moved w (Convert cast from x) = refl
+    op_moved w (Convert cast flags from x) = refl
     op_moved w (Freeze x) = refl
     op_moved w (Phi entries) = entries_moved w entries
 

@@ -91,10 +91,10 @@ module _ (F G : Called → Thing → Type 0) (f : Function) (to_register : (x : 
 
   op : (b k width : ℕ) (w : RawOp) (o : Op) → AllKnown f (reads_of f b k width o) → ((entries : List (Operand × ℕ)) → o ≡ core.Phi entries → AllThere f (map (λ e. e.1) entries)) → OpMeans F w o → OpMeans G w o
   op b k width (ops.Binary opcode flags n v w) (core.Binary c set x y) known there h = (h.0, h.1, value v.value x known.0 h.2, value w.value y known.1.0 h.3)
-  op b k width (ops.Compare pred n v w) (core.Compare p m x y) known there h = (h.0, h.1, value v.value x known.0 h.2, value w.value y known.1.0 h.3)
+  op b k width (ops.Compare pred samesign n v w) (core.Compare p s m x y) known there h = (h.0, h.1, h.2, value v.value x known.0 h.3, value w.value y known.1.0 h.4)
   op b k width (ops.Select c v w) (core.Select z x y) known there h =
       (value c.operand.value z known.0 h.0, value v.operand.value x known.1.0 h.1, value w.operand.value y known.1.1.0 h.2)
-  op b k width (ops.Convert cast from v to) (core.Convert c n x) known there h = (h.0, h.1, value v.value x known.0 h.2)
+  op b k width (ops.Convert cast flags from v to) (core.Convert c g n x) known there h = (h.0, h.1, h.2, value v.value x known.0 h.3)
   op b k width (ops.Freeze n v) (core.Freeze x) known there h = value v.value x known.0 h
   op b k width (ops.Phi n written) (core.Phi entries) known there h = incoming width written entries known (there entries refl) h
   op b k width w o known there h = h

@@ -58,9 +58,9 @@ one_wide = (omega arith, omega arith)
 
 result_wide : (w : RawOp) → OpFormed w → IsWidth (result_width w)
 result_wide (ops.Binary op flags width a b) formed = formed.0
-result_wide (ops.Compare pred width a b) formed = one_wide
+result_wide (ops.Compare pred samesign width a b) formed = one_wide
 result_wide (ops.Select c a b) formed = formed.1.0.0
-result_wide (ops.Convert cast from a to) formed = formed.1.1
+result_wide (ops.Convert cast flags from a to) formed = formed.1.1
 result_wide (ops.Freeze width a) formed = formed.0
 result_wide (ops.Phi width incoming) formed = formed.0
 
@@ -85,12 +85,12 @@ module _ (C : Called → Thing → Type 0) where
 
     op_reads : (f : Function) (width : ℕ) (w : RawOp) (o : Op) → OpMeans C w o → IsWidth width → OpFormed w → AllByRecursion ReadHasForms (reads_of f b k width o)
     op_reads f width (ops.Binary op flags n a c) (core.Binary opcode set x y) means wide formed = (reads_so width a.value x wide means.2 formed.1.0, (reads_so width c.value y wide means.3 formed.1.1, tt))
-    op_reads f width (ops.Compare pred n a c) (core.Compare p m x y) means wide formed =
-        let compared : IsWidth m = subst IsWidth (sym means.1) formed.0 in
-        (reads_so m a.value x compared means.2 formed.1.0, (reads_so m c.value y compared means.3 formed.1.1, tt))
+    op_reads f width (ops.Compare pred samesign n a c) (core.Compare p s m x y) means wide formed =
+        let compared : IsWidth m = subst IsWidth (sym means.2) formed.0 in
+        (reads_so m a.value x compared means.3 formed.1.0, (reads_so m c.value y compared means.4 formed.1.1, tt))
     op_reads f width (ops.Select z a c) (core.Select i x y) means wide formed =
         (reads_so 1 z.operand.value i one_wide means.0 formed.0.1, (reads_so width a.operand.value x wide means.1 formed.1.0.1, (reads_so width c.operand.value y wide means.2 formed.1.1.1, tt)))
-    op_reads f width (ops.Convert cast from a to) (core.Convert d m x) means wide formed = (reads_so m a.value x (subst IsWidth (sym means.1) formed.0) means.2 formed.1.0, tt)
+    op_reads f width (ops.Convert cast flags from a to) (core.Convert d g m x) means wide formed = (reads_so m a.value x (subst IsWidth (sym means.2) formed.0) means.3 formed.1.0, tt)
     op_reads f width (ops.Freeze n a) (core.Freeze x) means wide formed = (reads_so width a.value x wide means formed.1, tt)
     op_reads f width (ops.Phi n incoming) (core.Phi entries) means wide formed = entries_read f width incoming entries wide means formed.1
     op_reads f width w o means wide formed = absurd means

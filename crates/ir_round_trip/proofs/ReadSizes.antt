@@ -30,9 +30,9 @@ module _ (n : ℕ) where
   phi_has : (raw : RawFunction) (o : RawOp) (phi : List (Operand × ℕ)) → OpMeans (Calls raw) o (core.Phi phi) → OpFew n o → length phi ≤ n
   phi_has raw (Phi width incoming) phi means few = omega (arith, same_length (IncomingMeans (Calls raw)) incoming phi means)
   phi_has raw (Binary op flags width a b) phi means few = absurd means
-  phi_has raw (Compare pred width a b) phi means few = absurd means
+  phi_has raw (Compare pred samesign width a b) phi means few = absurd means
   phi_has raw (Select condition a b) phi means few = absurd means
-  phi_has raw (Convert cast from a to) phi means few = absurd means
+  phi_has raw (Convert cast flags from a to) phi means few = absurd means
   phi_has raw (Freeze width a) phi means few = absurd means
 
   function_has : (raw : RawFunction) (f : Function) → Means raw f → FunctionFew n raw → HasAtMost n f

@@ -3,8 +3,8 @@ use Rattle.std.proofs.Common.{◌≡◌, ℕ, Bool, true, false, cond, List, [],
 use Rattle.std.specs.List.{AllByRecursion}
 use Rattle.ops.specs.Number.{Number as OpsNumber}
 use Rattle.ops.specs.Integer.{residue}
-use Rattle.ops.specs.declared.opcode.Opcode.{Opcode}
 use Rattle.ops.specs.declared.opcode.Flags.{Flags}
+use Rattle.ops.specs.Flags.{flags_of, flags_of_cast, flags_of_icmp, icmp_flags}
 use Rattle.ops.proofs.Signed.{residue-lt}
 use Rattle.ir_tokens.specs.Numbers.{constant_of, is_in_range, number_of}
 use Rattle.ir_tokens.specs.Tokens.{Placed, Token}
@@ -142,17 +142,17 @@ tail = repeated (Comma ⨾ Attachment) (keep_both Comma Attachment (token _) att
 
 abbrev pub OpFormed : RawOp → Type 0
 OpFormed (Binary op flags width a b) = IsWidth width × (ValueFormed a.value × ValueFormed b.value)
-OpFormed (Compare pred width a b) = IsWidth width × (ValueFormed a.value × ValueFormed b.value)
+OpFormed (Compare pred samesign width a b) = IsWidth width × (ValueFormed a.value × ValueFormed b.value)
 OpFormed (Select c a b) = TypedFormed c.width c.operand × (TypedFormed a.width a.operand × TypedFormed b.width b.operand)
-OpFormed (Convert cast from a to) = IsWidth from × (ValueFormed a.value × IsWidth to)
+OpFormed (Convert cast flags from a to) = IsWidth from × (ValueFormed a.value × IsWidth to)
 OpFormed (Freeze width a) = TypedFormed width a
 OpFormed (Phi width incoming) = IsWidth width × AllByRecursion (λ i. ValueFormed i.value.value) incoming
 
 abbrev pub InstFormed : RawInst → Type 0
 InstFormed i = CalledFormed i.result.identifier × OpFormed i.op
 
-flags : (op : Opcode) (fs : Flags) → Keeps (SpellsFlags op fs)
-flags op fs tokens rest (written, adds, h) = keep_each _ (λ flag. token _) written tokens rest h
+flags : (taken fs : Flags) → Keeps (SpellsFlags taken fs)
+flags taken fs tokens rest (written, adds, h) = keep_each _ (λ flag. token _) written tokens rest h
 
 two_values : (width : ℕ) (a b : RawOperand) → Yields (SpellsType width ⨾ SpellsOperand width a ⨾ Comma ⨾ SpellsOperand width b) (IsWidth width × (ValueFormed a.value × ValueFormed b.value))
 two_values width a b = both _ _ _ _ (type width) (both _ _ _ _ (operand width a) (after _ _ _ (token _) (operand width b)))
@@ -161,10 +161,10 @@ incoming : (width : ℕ) (i : RawIncoming) → Yields (SpellsIncoming width i) (
 incoming width i = after _ _ _ (token _) (before _ _ _ (operand width i.value) (keep_both _ _ (token _) (keep_both _ _ (a_register i.block) (token _))))
 
 op : (o : RawOp) → Yields (SpellsOp o) (OpFormed o)
-op (Binary opcode fs width a b) = after _ _ _ (token _) (after _ _ _ (flags opcode fs) (two_values width a b))
-op (Compare pred width a b) = after _ _ _ (token _) (after _ _ _ (token _) (two_values width a b))
+op (Binary opcode fs width a b) = after _ _ _ (token _) (after _ _ _ (flags (flags_of opcode) fs) (two_values width a b))
+op (Compare pred samesign width a b) = after _ _ _ (token _) (after _ _ _ (flags flags_of_icmp (icmp_flags samesign)) (after _ _ _ (token _) (two_values width a b)))
 op (Select c a b) = after _ _ _ (token _) (both _ _ _ _ (typed c) (after _ _ _ (token _) (both _ _ _ _ (typed a) (after _ _ _ (token _) (typed b)))))
-op (Convert cast from a to) = after _ _ _ (token _) (both _ _ _ _ (type from) (both _ _ _ _ (operand from a) (after _ _ _ (token _) (type to))))
+op (Convert cast fs from a to) = after _ _ _ (token _) (after _ _ _ (flags (flags_of_cast cast) fs) (both _ _ _ _ (type from) (both _ _ _ _ (operand from a) (after _ _ _ (token _) (type to)))))
 op (Freeze width a) = after _ _ _ (token _) (typed_value width a)
 op (Phi width incomings) = after _ _ _ (token _) (both _ _ _ _ (type width) (separated (SpellsIncoming width) (λ i. ValueFormed i.value.value) (incoming width) incomings))
 

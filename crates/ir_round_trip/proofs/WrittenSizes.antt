@@ -76,9 +76,9 @@ behind_comma P p tokens rest h =
 abbrev pub OpFew : ℕ → RawOp → Type 0
 OpFew n (Phi width incoming) = length incoming ≤ n
 OpFew n (Binary op flags width a b) = Unit {0}
-OpFew n (Compare pred width a b) = Unit {0}
+OpFew n (Compare pred samesign width a b) = Unit {0}
 OpFew n (Select condition a b) = Unit {0}
-OpFew n (Convert cast from a to) = Unit {0}
+OpFew n (Convert cast flags from a to) = Unit {0}
 OpFew n (Freeze width a) = Unit {0}
 
 abbrev pub InstFew : ℕ → RawInst → Type 0
@@ -104,9 +104,9 @@ module _ (n : ℕ) where
       let few = few_separated (SpellsIncoming width) (λ i. behind_comma (SpellsIncoming width i) (further_incoming-shorter width i)) (further_incoming-shorter width) incoming second rest separated in
       omega arith
   op_few (Binary op flags width a b) tokens rest h within = tt
-  op_few (Compare pred width a b) tokens rest h within = tt
+  op_few (Compare pred samesign width a b) tokens rest h within = tt
   op_few (Select condition a b) tokens rest h within = tt
-  op_few (Convert cast from a to) tokens rest h within = tt
+  op_few (Convert cast flags from a to) tokens rest h within = tt
   op_few (Freeze width a) tokens rest h within = tt
 
   inst_few : (i : RawInst) (tokens rest : List Placed) → SpellsInst i tokens rest → length tokens ≤ n → InstFew n i

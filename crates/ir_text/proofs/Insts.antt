@@ -1,7 +1,7 @@
 -- Instructions as they are printed and read.
 use Rattle.std.proofs.Common.{◌≡◌, ℕ, suc, ◌<◌, Bool, true, false, cond, List, [], ◌∷◌, ◌++◌, Some, codes, length, refl, ap, ◌∙◌, arith}
-use Rattle.std.specs.Prelude.{slice_get, option_map}
-use Rattle.std.specs.List.{flat_map, join_by, AllZip, AllByRecursion}
+use Rattle.std.specs.Prelude.{slice_get, option_map, filter}
+use Rattle.std.specs.List.{flat_map, join_by, AllZip}
 use Rattle.std.proofs.lemmas.Option.{slice_get-map}
 use Rattle.scan.specs.Bytes.{begins_name, begins_word, is_letter, is_name_byte}
 use Rattle.scan.specs.IrTokens.{is_word}
@@ -12,7 +12,11 @@ use Rattle.ops.specs.declared.comparison.Pred.{Pred}
 use Rattle.ops.specs.declared.comparison.Pred.TheVariants.{Eq, Ne, Ugt, Uge, Ult, Ule, Sgt, Sge, Slt, Sle}
 use Rattle.ops.specs.declared.conversion.Cast.{Cast}
 use Rattle.ops.specs.declared.conversion.Cast.TheVariants.{Trunc, ZExt, SExt}
-use Rattle.ops.specs.Flags.{FlagsFit}
+use Rattle.ops.specs.declared.keywords.flag.Flag.{Flag}
+use Rattle.ops.specs.declared.keywords.flag.Flag.TheVariants.{Nuw, Nsw, Exact, NNeg, Disjoint, SameSign}
+use Rattle.ops.specs.Flags.{AreWithin, flags_of, flags_of_cast, flags_of_icmp, icmp_flags}
+use Rattle.ops.specs.FlagKeywords.{flag_keyword, every_flag, has_flag}
+use Rattle.ops.proofs.FlagKeywordLemmas.{flags_in_order, icmp_flags-fit}
 use Rattle.ops.specs.Keywords.{opcode_keyword, cast_keyword, predicate_keyword}
 use Rattle.ir_tokens.specs.Tokens.{Word}
 use Rattle.ir_core.specs.declared.function.Function.{Function}
@@ -31,16 +35,15 @@ use Rattle.ir_tokens.specs.declared.raw.RawOp.{RawOp}
 use Rattle.ir_tokens.specs.declared.raw.RawOp.TheVariants as ops
 use Rattle.ir_tokens.specs.declared.raw.RawIncoming.{RawIncoming}
 use Rattle.ir_instructions.specs.Grammar.{SpellsType, SpellsOperand, SpellsFlags, SpellsIncoming, SpellsOp, SpellsInst}
-use Rattle.ir_instructions.specs.Parts.{Is, ◌⨾◌, Each, Comma, Separated}
-use Rattle.ir_instructions.proofs.WrittenFlags.{words_of_flags, spells_flags}
+use Rattle.ir_instructions.specs.Parts.{Part, Is, ◌⨾◌, Each, Comma, Separated}
 use Rattle.ir_resolve.specs.FaultKinds.{result_width}
 use Rattle.ir_resolve.specs.Means.{IncomingMeans, OpMeans, InstMeans}
 use Rattle.ir_resolve.specs.Written.{Value}
 use Rattle.ir_text.specs.Forms.{IsWidth, ReadHasForms}
 use Rattle.ir_text.proofs.Placing.{space_stops, comma_stops}
-use Rattle.ir_text.specs.PrintedText.{operand_text, typed_text, flags_text, incoming_text, op_text, inst_text}
+use Rattle.ir_text.specs.PrintedText.{operand_text, typed_text, flag_text, flags_text, incoming_text, op_text, inst_text}
 use Rattle.ir_text.specs.CanonicalModule.{Identifies, TypesFit}
-use Rattle.ir_text.proofs.Prints.{Body, Prints, Reads, prints_map, prints_weak, prints_nothing, prints_then, prints_next, prints_lines, behind_space, Opens, opens_with, opens_none, opens_first, opens_each}
+use Rattle.ir_text.proofs.Prints.{Body, Prints, Reads, prints_map, prints_weak, prints_nothing, prints_then, prints_next, prints_lines, behind_space, Opens, opens_with, opens_none, opens_each}
 use Rattle.ir_text.proofs.Tokens.{in_body, word_in_body, equals_in_body, open_in_body, close_in_body, blank, indent, spaced, mark_spaced, line_ends, comma_space}
 use Rattle.ir_text.proofs.Calling.{IsPrintable, is_called, result_named}
 use Rattle.ir_text.proofs.Operands.{type_prints, register_called, block_name_prints, MeansOperand, operand_prints, typed_prints}
@@ -91,32 +94,43 @@ opens_comma = opens_with 44 (codes " ") comma_stops
 
 -- ---- flags
 
-words_print : (words : List (List ℕ)) → AllByRecursion (λ word. is_word word ≡ true) words → Prints Body Body false (Each (λ word. Is (Word word)) words) (flat_map (λ word. 32 ∷ word) words)
-words_print [] all = prints_nothing Body false
-words_print (word ∷ words) (is, all) =
-    prints_then (behind_space (codes " ") blank tt (word_in_body word is)) (words_print words all) (opens_each (λ w. 32 ∷ w) (λ w. opens_with 32 w space_stops) words)
+-- the keyword of a flag is a word of the language
+flag_is_word : (flag : Flag) → is_word (flag_keyword flag) ≡ true
+unfolding is_word begins_word begins_name is_letter is_name_byte
+flag_is_word Nuw = refl
+flag_is_word Nsw = refl
+flag_is_word Exact = refl
+flag_is_word NNeg = refl
+flag_is_word Disjoint = refl
+flag_is_word SameSign = refl
 
-flags_are : (nuw nsw exact : Bool) → (flags : Flags) → flags ≡ record { nuw = nuw; nsw = nsw; exact = exact } → Prints Body Body false (Each (λ word. Is (Word word)) (words_of_flags flags)) (flags_text flags)
-unfolding flags_text is_word begins_word begins_name is_letter is_name_byte
-flags_are false false false flags is = rw is (words_print [] tt)
-flags_are true false false flags is = rw is (words_print (codes "nuw" ∷ []) (refl, tt))
-flags_are false true false flags is = rw is (words_print (codes "nsw" ∷ []) (refl, tt))
-flags_are false false true flags is = rw is (words_print (codes "exact" ∷ []) (refl, tt))
-flags_are true true false flags is = rw is (words_print (codes "nuw" ∷ codes "nsw" ∷ []) (refl, (refl, tt)))
-flags_are true false true flags is = rw is (words_print (codes "nuw" ∷ codes "exact" ∷ []) (refl, (refl, tt)))
-flags_are false true true flags is = rw is (words_print (codes "nsw" ∷ codes "exact" ∷ []) (refl, (refl, tt)))
-flags_are true true true flags is = rw is (words_print (codes "nuw" ∷ codes "nsw" ∷ codes "exact" ∷ []) (refl, (refl, (refl, tt))))
-
-flags_print : (op : Opcode) (flags : Flags) → FlagsFit op flags → Prints Body Body false (SpellsFlags op flags) (flags_text flags)
-flags_print op flags fit = prints_map (SpellsFlags op flags) (spells_flags op flags fit) (flags_are flags.nuw flags.nsw flags.exact flags refl)
+abbrev IsFlag : Flag → Part
+IsFlag flag = Is (Word (flag_keyword flag))
 
 flag_opens : (on : Bool) (word : List ℕ) → Opens false (cond on (32 ∷ word) [])
 flag_opens true word = opens_with 32 word space_stops
 flag_opens false word = opens_none
 
+flags_among_open : (flags : Flags) (among : List Flag) → Opens false (flat_map (flag_text flags) among)
+flags_among_open flags among = opens_each (flag_text flags) (λ flag. flag_opens (has_flag flags flag) (flag_keyword flag)) among
+
+one_print : (on : Bool) (flag : Flag) (others : List Flag) (text : List ℕ) → Prints Body Body false (Each IsFlag others) text → Opens false text → Prints Body Body false (Each IsFlag (cond on (flag ∷ others) others)) (cond on (32 ∷ flag_keyword flag) [] ++ text)
+one_print true flag others text prints opens = prints_then (behind_space (codes " ") blank tt (word_in_body (flag_keyword flag) (flag_is_word flag))) prints opens
+one_print false flag others text prints opens = prints
+
+flags_among_print : (flags : Flags) (among : List Flag) → Prints Body Body false (Each IsFlag (filter (has_flag flags) among)) (flat_map (flag_text flags) among)
+flags_among_print flags [] = prints_nothing Body false
+flags_among_print flags (flag ∷ among) =
+    one_print (has_flag flags flag) flag (filter (has_flag flags) among) (flat_map (flag_text flags) among) (flags_among_print flags among) (flags_among_open flags among)
+
+flags_print : (taken flags : Flags) → AreWithin flags taken → Prints Body Body false (SpellsFlags taken flags) (flags_text flags)
+unfolding flags_text
+flags_print taken flags fit =
+    prints_map (SpellsFlags taken flags) (λ tokens rest each. (filter (has_flag flags) every_flag, flags_in_order taken flags fit, each)) (flags_among_print flags every_flag)
+
 flags_open : (flags : Flags) → Opens false (flags_text flags)
 unfolding flags_text
-flags_open flags = opens_first _ _ (opens_first _ _ (flag_opens flags.nuw (codes "nuw")) (flag_opens flags.nsw (codes "nsw"))) (flag_opens flags.exact (codes "exact"))
+flags_open flags = flags_among_open flags every_flag
 
 -- ---- operations
 
@@ -171,15 +185,16 @@ op_prints f fits b k width (core.Binary op flags x y) ok reads typed phi =
     (ops.Binary op flags width a c, (m4, word, (m3, flag, (m5, type, (m2, spell, (m1, comma, spells))))), ((refl, refl, mean, means), refl, tt)))
     (prints_next
     (prints_then
-    (prints_next (spaced tt (prints_then (word_in_body (opcode_keyword op) (opcode_is_word op)) (flags_print op flags typed) (flags_open flags))) (read_typed f fits (read b k width x) (reads 0 (read b k width x) refl)))
+    (prints_next (spaced tt (prints_then (word_in_body (opcode_keyword op) (opcode_is_word op)) (flags_print (flags_of op) flags typed) (flags_open flags))) (read_typed f fits (read b k width x) (reads 0 (read b k width x) refl)))
     comma_space opens_comma)
     (read_prints f fits (read b k width y) (reads 1 (read b k width y) refl)))
-op_prints f fits b k width (core.Compare pred compared x y) ok reads typed phi =
-    prints_map _ (λ tokens rest (m1, (m2, (m3, (m4, word, is), (m5, type, (a, spell, mean))), comma), (c, spells, means)).
-    (ops.Compare pred compared a c, (m4, word, (m3, is, (m5, type, (m2, spell, (m1, comma, spells))))), ((refl, refl, mean, means), typed, tt)))
+op_prints f fits b k width (core.Compare pred samesign compared x y) ok reads typed phi =
+    let icmp = spaced tt (prints_then (word_in_body (codes "icmp") refl) (flags_print flags_of_icmp (icmp_flags samesign) (icmp_flags-fit samesign)) (flags_open (icmp_flags samesign))) in
+    prints_map _ (λ tokens rest (m1, (m2, (m3, (m4, (m5, word, flag), is), (m6, type, (a, spell, mean))), comma), (c, spells, means)).
+    (ops.Compare pred samesign compared a c, (m5, word, (m4, flag, (m3, is, (m6, type, (m2, spell, (m1, comma, spells)))))), ((refl, refl, refl, mean, means), typed, tt)))
     (prints_next
     (prints_then
-    (prints_next (spaced tt (prints_next (word_spaced (codes "icmp") refl) (word_in_body (predicate_keyword pred) (pred_is_word pred)))) (read_typed f fits (read b k compared x) (reads 0 (read b k compared x) refl)))
+    (prints_next (spaced tt (prints_next icmp (word_in_body (predicate_keyword pred) (pred_is_word pred)))) (read_typed f fits (read b k compared x) (reads 0 (read b k compared x) refl)))
     comma_space opens_comma)
     (read_prints f fits (read b k compared y) (reads 1 (read b k compared y) refl)))
 op_prints f fits b k width (core.Select c x y) ok reads typed phi =
@@ -195,11 +210,12 @@ op_prints f fits b k width (core.Select c x y) ok reads typed phi =
     (read_typed f fits (read b k width x) (reads 1 (read b k width x) refl)))
     comma_space opens_comma)
     (read_typed f fits (read b k width y) (reads 2 (read b k width y) refl)))
-op_prints f fits b k width (core.Convert cast from x) ok reads typed phi =
-    prints_map _ (λ tokens rest (m1, (m2, (m3, word, (m4, type, (a, spell, mean))), to), type_to). (ops.Convert cast from a width, (m3, word, (m4, type, (m2, spell, (m1, to, type_to)))), ((refl, refl, mean), refl, tt)))
+op_prints f fits b k width (core.Convert cast flags from x) ok reads typed phi =
+    prints_map _ (λ tokens rest (m1, (m2, (m3, (m4, word, flag), (m5, type, (a, spell, mean))), to), type_to).
+    (ops.Convert cast flags from a width, (m4, word, (m3, flag, (m5, type, (m2, spell, (m1, to, type_to))))), ((refl, refl, refl, mean), refl, tt)))
     (prints_next
     (prints_then
-    (prints_next (word_spaced (cast_keyword cast) (cast_is_word cast)) (read_typed f fits (read b k from x) (reads 0 (read b k from x) refl)))
+    (prints_next (spaced tt (prints_then (word_in_body (cast_keyword cast) (cast_is_word cast)) (flags_print (flags_of_cast cast) flags typed.0) (flags_open flags))) (read_typed f fits (read b k from x) (reads 0 (read b k from x) refl)))
     (behind_space (codes " ") blank tt (word_spaced (codes "to") refl)) (opens_with 32 (codes "to ") space_stops))
     (type_prints in_body width ok))
 op_prints f fits b k width (core.Freeze x) ok reads typed phi =

@@ -63,7 +63,7 @@ opens_with c text is = record { opens = λ rest follows. is }
 pub opens_none : Opens false []
 opens_none = record { opens = λ rest stop. stop }
 
-pub opens_first : {lone : Bool} (s t : List ℕ) → Opens false s → Opens lone t → Opens lone (s ++ t)
+opens_first : {lone : Bool} (s t : List ℕ) → Opens false s → Opens lone t → Opens lone (s ++ t)
 opens_first s t first second = record { opens = λ rest follows. rw (append_assoc s t rest) (first.opens (t ++ rest) (second.opens rest follows)) }
 
 pub opens_each : {X : Type 0} (text : X → List ℕ) → ((x : X) → Opens false (text x)) → (xs : List X) → Opens false (flat_map text xs)

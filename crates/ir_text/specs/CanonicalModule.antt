@@ -31,8 +31,8 @@ Identifies f x (Block b) = block_identifier f b ≡ Some (identifier x)
 abbrev pub TypesFit : RawOp → Type 0
 TypesFit (ops.Select c a b) = (c.width ≡ 1) × (b.width ≡ a.width)
 TypesFit (ops.Binary op flags width a b) = Unit {0}
-TypesFit (ops.Compare pred width a b) = Unit {0}
-TypesFit (ops.Convert cast from a to) = Unit {0}
+TypesFit (ops.Compare pred samesign width a b) = Unit {0}
+TypesFit (ops.Convert cast flags from a to) = Unit {0}
 TypesFit (ops.Freeze width a) = Unit {0}
 TypesFit (ops.Phi width incoming) = Unit {0}
 

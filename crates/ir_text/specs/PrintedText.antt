@@ -4,6 +4,9 @@ use Rattle.std.specs.Prelude.{ℕ, ◌==◌, if◌then◌else◌, List, [], ◌�
 use Rattle.std.specs.List.{flat_map, enumerate_from, join_by}
 use Rattle.ops.specs.Number.{Number}
 use Rattle.ops.specs.declared.opcode.Flags.{Flags}
+use Rattle.ops.specs.declared.keywords.flag.Flag.{Flag}
+use Rattle.ops.specs.Flags.{icmp_flags}
+use Rattle.ops.specs.FlagKeywords.{flag_keyword, every_flag, has_flag}
 use Rattle.ops.specs.Keywords.{opcode_keyword, predicate_keyword, cast_keyword}
 use Rattle.ir_text.specs.NameText.{name_text}
 use Rattle.ir_text.specs.NumberText.{number_text}
@@ -72,12 +75,13 @@ typed_text f width a = type_text width ++ codes " " ++ operand_text f a
 
 -- ---- instructions and terminators
 
--- the flags behind an opcode, in this order
+-- a flag behind a space, where it is among these
+abbrev pub flag_text : Flags → Flag → List ℕ
+flag_text flags flag = if has_flag flags flag then codes " " ++ flag_keyword flag else []
+
+-- the flags behind an opcode, in the order of their list
 unfoldable pub flags_text : Flags → List ℕ
-flags_text flags =
-    (if flags.nuw then codes " nuw" else [])
-    ++ (if flags.nsw then codes " nsw" else [])
-    ++ (if flags.exact then codes " exact" else [])
+flags_text flags = flat_map (flag_text flags) every_flag
 
 -- what a phi gives behind a block
 unfoldable pub incoming_text : Function → Operand × ℕ → List ℕ
@@ -86,9 +90,11 @@ incoming_text f entry = codes "[ " ++ operand_text f entry.0 ++ codes ", " ++ bl
 -- what stands behind the `=` of an instruction
 unfoldable pub op_text : Function → ℕ → Op → List ℕ
 op_text f width (Binary op flags a b) = opcode_keyword op ++ flags_text flags ++ codes " " ++ typed_text f width a ++ codes ", " ++ operand_text f b
-op_text f width (Compare pred compared a b) = codes "icmp " ++ predicate_keyword pred ++ codes " " ++ typed_text f compared a ++ codes ", " ++ operand_text f b
+op_text f width (Compare pred samesign compared a b) =
+    codes "icmp" ++ flags_text (icmp_flags samesign) ++ codes " " ++ predicate_keyword pred ++ codes " " ++ typed_text f compared a
+    ++ codes ", " ++ operand_text f b
 op_text f width (Select c a b) = codes "select " ++ typed_text f 1 c ++ codes ", " ++ typed_text f width a ++ codes ", " ++ typed_text f width b
-op_text f width (Convert cast from a) = cast_keyword cast ++ codes " " ++ typed_text f from a ++ codes " to " ++ type_text width
+op_text f width (Convert cast flags from a) = cast_keyword cast ++ flags_text flags ++ codes " " ++ typed_text f from a ++ codes " to " ++ type_text width
 op_text f width (Freeze a) = codes "freeze " ++ typed_text f width a
 op_text f width (Phi entries) = codes "phi " ++ type_text width ++ codes " " ++ join_by (incoming_text f) (codes ", ") entries
 

@@ -77,12 +77,12 @@ pub struct RawInst {
 pub enum RawOp {
     /// A binary operation with its flags; the width is that of both operands.
     Binary(Opcode, Flags, Width, RawOperand, RawOperand),
-    /// `icmp`; the width is that of both operands.
-    Compare(Pred, Width, RawOperand, RawOperand),
+    /// `icmp`, with `samesign` where that is true; the width is that of both operands.
+    Compare(Pred, bool, Width, RawOperand, RawOperand),
     /// `select`: the condition, what it gives where the condition is true, and what where it is false.
     Select(TypedOperand, TypedOperand, TypedOperand),
-    /// A cast from a width to another.
-    Convert(Cast, Width, RawOperand, Width),
+    /// A cast with its flags, from a width to another.
+    Convert(Cast, Flags, Width, RawOperand, Width),
     /// `freeze`.
     Freeze(Width, RawOperand),
     /// `phi`, with one incoming value or more.

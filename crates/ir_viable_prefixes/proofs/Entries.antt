@@ -18,7 +18,7 @@ use Rattle.ir_viable_prefixes.proofs.Functions.{function-good}
 use Rattle.ir_viable_prefixes.proofs.Outcomes.{Follow, Next, next_map, Anything, Ended, StopsAt, stops, Sample, Why, Reasons, IsReadIf, Lifts, Outcome, outcome_both, maps_first, maps_second, Takes, takes, refuses, token_outcome, Good, done-good, ◌then◌, TakesNoFlag, RefusesAt, token_apart, apart_new}
 use Rattle.ir_viable_prefixes.proofs.FlagRuns.{ReadsApart, both_apart}
 use Rattle.ops.specs.declared.keywords.flag.Flag.{Flag}
-use Rattle.ops.specs.declared.keywords.flag.Flag.TheVariants.{Nuw, Nsw, Exact}
+use Rattle.ops.specs.declared.keywords.flag.Flag.TheVariants.{Nuw, Nsw, Exact, NNeg, Disjoint, SameSign}
 use Rattle.ops.specs.FlagKeywords.{flag_keyword}
 use Rattle.ir_viable_prefixes.proofs.Reasons.{like_word, like_type, like_function, like_width, like_number, reason_map}
 use Rattle.ir_viable_prefixes.proofs.Repeats.{Steps, steps_of, another_apart, loop_sample, loop_lifts, one_step, repeat_outcomes}
@@ -66,6 +66,9 @@ entry_flags = ((unexpected places.Entry [], refl), by)
     by Nuw line more = (fault line (LeftOut (codes "nuw")), refl)
     by Nsw line more = (fault line (LeftOut (codes "nsw")), refl)
     by Exact line more = (fault line (LeftOut (codes "exact")), refl)
+    by NNeg line more = (fault line (LeftOut (codes "nneg")), refl)
+    by Disjoint line more = (fault line (LeftOut (codes "disjoint")), refl)
+    by SameSign line more = (fault line (LeftOut (codes "samesign")), refl)
 
 pub behind_entry-good : (begun : Option (List ℕ)) → Good Anything (behind_entry begun) Anything
 behind_entry-good (Some text) = done-good (λ t f. tt) _

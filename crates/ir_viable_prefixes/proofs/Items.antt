@@ -12,7 +12,7 @@ use Rattle.ir_instructions.specs.Parts.{Part, Each}
 use Rattle.ir_instructions.specs.Places.{is_word, leaves_out, misfit}
 use Rattle.ir_instructions.specs.Readers.{Read, Reader, fault, unexpected, ◌>>=◌, done, another_at, each_at}
 use Rattle.ops.specs.declared.keywords.flag.Flag.{Flag}
-use Rattle.ops.specs.declared.keywords.flag.Flag.TheVariants.{Nuw, Nsw, Exact}
+use Rattle.ops.specs.declared.keywords.flag.Flag.TheVariants.{Nuw, Nsw, Exact, NNeg, Disjoint, SameSign}
 use Rattle.ops.specs.FlagKeywords.{flag_keyword}
 use Rattle.ir_instructions.specs.Keywords.{ending_word, type_in}
 use Rattle.ir_instructions.specs.Punctuation as marks
@@ -299,6 +299,9 @@ items_apart tokens x is =
     item Nuw = refl
     item Nsw = refl
     item Exact = refl
+    item NNeg = refl
+    item Disjoint = refl
+    item SameSign = refl
 
     no_flag : (rest : List Placed) → parsing.begins_item rest ≡ false → NoFlagNext rest
     no_flag [] none = tt

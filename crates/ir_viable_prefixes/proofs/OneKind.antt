@@ -11,7 +11,7 @@ use Rattle.ir_instructions.specs.Keywords.{type_in}
 use Rattle.ir_instructions.specs.Places.{begins_record, begins_type}
 use Rattle.ir_instructions.specs.declared.word.TypeWord.TheVariants.{OutOfRange}
 use Rattle.ops.specs.declared.keywords.flag.Flag.{Flag}
-use Rattle.ops.specs.declared.keywords.flag.Flag.TheVariants.{Nuw, Nsw, Exact}
+use Rattle.ops.specs.declared.keywords.flag.Flag.TheVariants.{Nuw, Nsw, Exact, NNeg, Disjoint, SameSign}
 use Rattle.ops.specs.FlagKeywords.{flag_keyword}
 use Rattle.ir_viable_prefixes.specs.Fits.{FitsBehind}
 use Rattle.ir_viable_prefixes.specs.Misfits.{AnotherFits, of_word, of_mark, of_function, IsLeftOut, another, mark_of_record, entry, IsRepeated, IsNothingElse, IsWrongWidth, IsWrongNumber, IsMisfit, type}
@@ -72,6 +72,9 @@ flag_no_width front {t} word is out (w, same, (before, run, flag, flags, stands,
     by Nuw wide = cc
     by Nsw wide = cc
     by Exact wide = cc
+    by NNeg wide = cc
+    by Disjoint wide = cc
+    by SameSign wide = cc
 
 width_nothing : (front : List Placed) {t : Token} → IsWrongWidth front t → IsNothingElse front t → ⊥
 width_nothing front {t} (word, is, out, (other, width, is_type, fits)) nothing =

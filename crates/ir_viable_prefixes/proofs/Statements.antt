@@ -20,18 +20,19 @@ use Rattle.ir_instructions.specs.InstructionReaders as parsing
 use Rattle.ir_instructions.specs.Places.{begins_record, begins_type}
 use Rattle.ir_instructions.specs.Readers.{Reader, ◌>>=◌, done, each_at}
 use Rattle.ir_instructions.specs.Keywords.{ending_in, ending_word, type_in}
+use Rattle.ops.specs.Flags.{flags_of, flags_of_cast, flags_of_icmp}
 use Rattle.ops.specs.FlagKeywords.{flag_in}
 use Rattle.ir_instructions.specs.Punctuation as marks
 use Rattle.ir_instructions.proofs.Takings.{attachment-takes, tail-takes, case-takes}
 use Rattle.ir_viable_prefixes.proofs.Choices.{AsksNext, Tested, Opens, SaysOfRecords, And, either_outcome, either_sample, same-good}
 use Rattle.ir_viable_prefixes.specs.Misfits.{IsNoun, RepeatsFlag}
 use Rattle.ir_viable_prefixes.specs.Misfits as nouns
-use Rattle.ir_viable_prefixes.proofs.Outcomes.{Follow, Anything, Ended, ReasonsIf, OutcomeIf, takes, Good, done-good, ◌then◌, taken, both}
+use Rattle.ir_viable_prefixes.proofs.Outcomes.{Follow, Anything, Ended, ReasonsIf, OutcomeIf, takes, GoodIf, Good, done-good, ◌then◌, taken, both}
 use Rattle.ir_viable_prefixes.proofs.Reasons.{a_type, an_end, Like, like_word, like_type, like_function, like_width, like_number}
 use Rattle.ir_viable_prefixes.proofs.FlagReaders.{flags_then}
 use Rattle.ir_viable_prefixes.proofs.FlagRuns.{either_apart}
 use Rattle.ir_viable_prefixes.proofs.Repeats.{repeat-good, each-good}
-use Rattle.ir_viable_prefixes.proofs.TokenReaders.{no_label, no_to, type_flags, mark-good, keyword-good, register-good, type-good, operand-good, case_value-good, metadata-good, pred-good, ending_word_at, ending-good}
+use Rattle.ir_viable_prefixes.proofs.TokenReaders.{no_label, no_to, type_flags, pred_flags, mark-good, keyword-good, register-good, type-good, operand-good, case_value-good, metadata-good, pred-good, ending_word_at, ending-good}
 
 -- ---- what stands next
 
@@ -161,7 +162,7 @@ target-good : {E : Follow} → E (Word (codes "label")) → Good E parsing.targe
 unfolding parsing.target_at
 target-good e = keyword-good (codes "label") no_label e then (λ u. register-good tt)
 
-typed-good : {E : Follow} → E a_type → Good E parsing.typed_at Anything
+typed-good : {V : Type 0} {E : Follow} → E a_type → GoodIf V E parsing.typed_at Anything (Unit {0})
 unfolding parsing.typed_at
 typed-good e = type-good e then (λ width. operand-good width then (λ operand. done-good (λ t f. tt) _))
 
@@ -195,21 +196,27 @@ tail-good =
 pub binary-good : (op : Opcode) → Good Anything (parsing.binary_at op) Anything
 unfolding parsing.binary_at flag_in
 binary-good op =
-    flags_then op
+    flags_then (flags_of op)
     (λ flags. type-good refl then (λ width. operand-good width then (λ left. mark-good marks.comma tt then (λ u. operand-good width then (λ right. done-good (λ t f. tt) _)))))
     (λ flags flag line more. let r = type_flags.1 flag line more in (r.0, rw r.1 refl))
 
 pub compare-good : Good Anything parsing.compare_at Anything
-unfolding parsing.compare_at
-compare-good = pred-good then (λ pred. type-good tt then (λ width. operand-good width then (λ left. mark-good marks.comma tt then (λ u. operand-good width then (λ right. done-good (λ t f. tt) _)))))
+unfolding parsing.compare_at flag_in
+compare-good =
+    flags_then flags_of_icmp
+    (λ flags. pred-good refl then (λ pred. type-good tt then (λ width. operand-good width then (λ left. mark-good marks.comma tt then (λ u. operand-good width then (λ right. done-good (λ t f. tt) _))))))
+    (λ flags flag line more. let r = pred_flags.1 flag line more in (r.0, rw r.1 refl))
 
 pub select-good : Good Anything parsing.select_at Anything
 unfolding parsing.select_at
 select-good = typed-good tt then (λ condition. mark-good marks.comma tt then (λ u. typed-good tt then (λ if_true. mark-good marks.comma tt then (λ v. typed-good tt then (λ if_false. done-good (λ t f. tt) _)))))
 
 pub convert-good : (cast : Cast) → Good Anything (parsing.convert_at cast) Anything
-unfolding parsing.convert_at
-convert-good cast = typed-good tt then (λ from. keyword-good (codes "to") no_to tt then (λ u. type-good tt then (λ to. done-good (λ t f. tt) _)))
+unfolding parsing.convert_at parsing.typed_at flag_in
+convert-good cast =
+    flags_then (flags_of_cast cast)
+    (λ flags. typed-good refl then (λ from. keyword-good (codes "to") no_to tt then (λ u. type-good tt then (λ to. done-good (λ t f. tt) _))))
+    (λ flags flag line more. let r = type_flags.1 flag line more in (r.0, rw r.1 refl))
 
 pub freeze-good : Good Anything parsing.freeze_at Anything
 unfolding parsing.freeze_at

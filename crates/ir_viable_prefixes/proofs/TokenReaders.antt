@@ -36,7 +36,7 @@ use Rattle.ops.specs.FlagKeywords.{flag_keyword}
 use Rattle.ir_instructions.proofs.WordLemmas.{operation_in-is, type_in-of}
 use Rattle.ops.proofs.KeywordLemmas.{word_is}
 use Rattle.ops.specs.declared.keywords.flag.Flag.{Flag}
-use Rattle.ops.specs.declared.keywords.flag.Flag.TheVariants.{Nuw, Nsw, Exact}
+use Rattle.ops.specs.declared.keywords.flag.Flag.TheVariants.{Nuw, Nsw, Exact, NNeg, Disjoint, SameSign}
 use Rattle.ops.specs.FlagKeywords.{flag_keyword}
 use Rattle.ir_viable_prefixes.specs.Misfits.{IsNoun, RepeatsFlag}
 use Rattle.ir_viable_prefixes.specs.Misfits as nouns
@@ -87,6 +87,9 @@ flag_is_free : (f : Flag) → IsFree (flag_keyword f)
 flag_is_free flags.Nuw = (refl, refl)
 flag_is_free flags.Nsw = (refl, refl)
 flag_is_free flags.Exact = (refl, refl)
+flag_is_free flags.NNeg = (refl, refl)
+flag_is_free flags.Disjoint = (refl, refl)
+flag_is_free flags.SameSign = (refl, refl)
 
 ending_is_free : (e : Ending) → IsFree (ending_word e)
 ending_is_free endings.Return = (refl, refl)
@@ -260,7 +263,7 @@ pred_no_type : (w : List ℕ) (n : ℕ) → IsTypeWord w n → Refusing pred_at 
 unfolding pred_at
 pred_no_type w n is line more = (fault line (LeftOut w), rw (type_is_no_pred w n is) refl)
 
-pred_bad : {t u : Token} → is_word t ≡ false → Like (Unit {0}) t u → Bad (Unit {0}) pred_at [] t u
+pred_bad : {V : Type 0} {t u : Token} → is_word t ≡ false → Like V t u → Bad V pred_at [] t u
 unfolding pred_at unexpected
 pred_bad none like = other_bad pred_at none pred_no_type (λ f line more. (fault line (misfit places.Choice (Function f)), refl)) (λ digits n is line more. (fault line (misfit places.Choice (Number n)), refl)) like
 
@@ -367,6 +370,9 @@ type_flags = ((unexpected places.Type [], refl), by)
     by Nuw line more = (fault line (LeftOut (codes "nuw")), refl)
     by Nsw line more = (fault line (LeftOut (codes "nsw")), refl)
     by Exact line more = (fault line (LeftOut (codes "exact")), refl)
+    by NNeg line more = (fault line (LeftOut (codes "nneg")), refl)
+    by Disjoint line more = (fault line (LeftOut (codes "disjoint")), refl)
+    by SameSign line more = (fault line (LeftOut (codes "samesign")), refl)
 
 pub type-good : {V : Type 0} {E : Follow} → E a_type → GoodIf V E type_at Anything (Unit {0})
 unfolding type_at type_in bytes.is_digit
@@ -402,6 +408,9 @@ operand_flags width = ((unexpected places.Choice [], refl), by)
     by Nuw line more = (fault line (LeftOut (codes "nuw")), refl)
     by Nsw line more = (fault line (LeftOut (codes "nsw")), refl)
     by Exact line more = (fault line (LeftOut (codes "exact")), refl)
+    by NNeg line more = (fault line (LeftOut (codes "nneg")), refl)
+    by Disjoint line more = (fault line (LeftOut (codes "disjoint")), refl)
+    by SameSign line more = (fault line (LeftOut (codes "samesign")), refl)
 
 pub operand-good : (width : ℕ) → Good Anything (operand_at width) Anything
 unfolding operand_at value_in truth_in
@@ -437,6 +446,9 @@ case_value_flags width = ((unexpected places.Choice [], refl), by)
     by Nuw line more = (fault line (LeftOut (codes "nuw")), refl)
     by Nsw line more = (fault line (LeftOut (codes "nsw")), refl)
     by Exact line more = (fault line (LeftOut (codes "exact")), refl)
+    by NNeg line more = (fault line (LeftOut (codes "nneg")), refl)
+    by Disjoint line more = (fault line (LeftOut (codes "disjoint")), refl)
+    by SameSign line more = (fault line (LeftOut (codes "samesign")), refl)
 
 pub case_value-good : (width : ℕ) → Good Anything (case_value_at width) Anything
 unfolding case_value_at truth_in
@@ -469,16 +481,16 @@ pred_refuses endings.Unreachable line more = (fault line (LeftOut (codes "unreac
 pred_refuses endings.Branch line more = (fault line (LeftOut (codes "br")), refl)
 pred_refuses endings.Switch line more = (fault line (LeftOut (codes "switch")), refl)
 
-pred_takes : (E F : Follow) → Fit E pred_at F [] (Word (codes "eq")) → (line : ℕ) (t : Token) → Takes pred_at (Reasons E pred_at F) line t
+pred_takes : (V : Type 0) (E F : Follow) → Fit E pred_at F [] (Word (codes "eq")) → (line : ℕ) (t : Token) → Takes pred_at (ReasonsIf V E pred_at F) line t
 unfolding pred_at unexpected
-pred_takes E F fit line (Word w) = by (pred_in w) refl
+pred_takes V E F fit line (Word w) = by (pred_in w) refl
   where
-    by : (pred : Option Pred) → pred_in w ≡ pred → Takes pred_at (Reasons E pred_at F) line (Word w)
+    by : (pred : Option Pred) → pred_in w ≡ pred → Takes pred_at (ReasonsIf V E pred_at F) line (Word w)
     by (Some pred) h = takes pred refl (λ more. rw h refl)
-    by None h = refuses (LeftOut w) (word_reason (Fit E pred_at F []) (Bad (Unit {0}) pred_at []) (RepeatsFlag []) (RefusesAt pred_at []) w (codes "eq") (nouns.predicate Eq refl) fit (λ u ws. types_bad pred_at pred_no_type ws)) (λ more. rw h refl)
-pred_takes E F fit line t = refuses (misfit places.Choice t) (choice_reason (Fit E pred_at F []) (Bad (Unit {0}) pred_at []) (RepeatsFlag []) (RefusesAt pred_at []) t refl (λ u like. pred_bad refl like, λ begins. inr pred_refuses)) (λ more. refl)
+    by None h = refuses (LeftOut w) (word_reason (Fit E pred_at F []) (Bad V pred_at []) (RepeatsFlag []) (RefusesAt pred_at []) w (codes "eq") (nouns.predicate Eq refl) fit (λ u ws. types_bad pred_at pred_no_type ws)) (λ more. rw h refl)
+pred_takes V E F fit line t = refuses (misfit places.Choice t) (choice_reason (Fit E pred_at F []) (Bad V pred_at []) (RepeatsFlag []) (RefusesAt pred_at []) t refl (λ u like. pred_bad refl like, λ begins. inr pred_refuses)) (λ more. refl)
 
-pred_flags : TakesNoFlag pred_at
+pub pred_flags : TakesNoFlag pred_at
 unfolding pred_at pred_in
 pred_flags = ((unexpected places.Choice [], refl), by)
   where
@@ -486,10 +498,13 @@ pred_flags = ((unexpected places.Choice [], refl), by)
     by Nuw line more = (fault line (LeftOut (codes "nuw")), refl)
     by Nsw line more = (fault line (LeftOut (codes "nsw")), refl)
     by Exact line more = (fault line (LeftOut (codes "exact")), refl)
+    by NNeg line more = (fault line (LeftOut (codes "nneg")), refl)
+    by Disjoint line more = (fault line (LeftOut (codes "disjoint")), refl)
+    by SameSign line more = (fault line (LeftOut (codes "samesign")), refl)
 
-pub pred-good : Good Anything pred_at Anything
+pub pred-good : {V : Type 0} {E : Follow} → E (Word (codes "eq")) → GoodIf V E pred_at Anything (Unit {0})
 unfolding pred_at pred_in
-pred-good = one_token (Word (codes "eq"), tt, _, λ more. refl) pred_flags (pred_takes Anything Anything (fits_alone Anything pred_at Anything (Word (codes "eq")) Eq tt (λ more. refl)))
+pred-good {V} {E} e = one_token (Word (codes "eq"), e, _, λ more. refl) pred_flags (pred_takes V E Anything (fits_alone E pred_at Anything (Word (codes "eq")) Eq e (λ more. refl)))
 
 -- the word of an operation
 abbrev pub opcode_at : Reader Operation
@@ -527,6 +542,9 @@ opcode_flags = ((unexpected places.Choice [], refl), by)
     by Nuw line more = (fault line (LeftOut (codes "nuw")), refl)
     by Nsw line more = (fault line (LeftOut (codes "nsw")), refl)
     by Exact line more = (fault line (LeftOut (codes "exact")), refl)
+    by NNeg line more = (fault line (LeftOut (codes "nneg")), refl)
+    by Disjoint line more = (fault line (LeftOut (codes "disjoint")), refl)
+    by SameSign line more = (fault line (LeftOut (codes "samesign")), refl)
 
 pub opcode-good : Good Anything opcode_at Anything
 unfolding operation_in
@@ -565,6 +583,9 @@ ending_flags = ((unexpected places.Instruction [], refl), by)
     by Nuw line more = (fault line (LeftOut (codes "nuw")), refl)
     by Nsw line more = (fault line (LeftOut (codes "nsw")), refl)
     by Exact line more = (fault line (LeftOut (codes "exact")), refl)
+    by NNeg line more = (fault line (LeftOut (codes "nneg")), refl)
+    by Disjoint line more = (fault line (LeftOut (codes "disjoint")), refl)
+    by SameSign line more = (fault line (LeftOut (codes "samesign")), refl)
 
 pub ending-good : {E : Follow} → E an_end → Good E ending_word_at Anything
 unfolding ending_in

@@ -1,5 +1,5 @@
 -- Which instruction stands at which place of a generated loop.
-use Rattle.std.proofs.Common.{◌≡◌, ℕ, zero, suc, ◌+◌, ◌-◌, ◌<◌, ◌≤◌, List, [], ◌∷◌, ◌++◌, length, Option, None, Some, refl, sym, ap, subst, ◌∙◌, arith, inl, inr, codes, length-append, slice_get}
+use Rattle.std.proofs.Common.{◌≡◌, ℕ, false, zero, suc, ◌+◌, ◌-◌, ◌<◌, ◌≤◌, List, [], ◌∷◌, ◌++◌, length, Option, None, Some, refl, sym, ap, subst, ◌∙◌, arith, inl, inr, codes, length-append, slice_get}
 use Rattle.std.proofs.lemmas.Bool.{cases_lt}
 use Rattle.ops.specs.Flags.{no_flags}
 use Rattle.ops.specs.declared.opcode.Opcode.TheVariants.{Add}
@@ -40,7 +40,7 @@ abbrev pub next : ℕ → Inst
 next W = fixed (codes "next") W (Binary Add no_flags (in_loop 0) (number W 1))
 
 abbrev pub condition : ℕ → Inst
-condition W = fixed (codes "c") 1 (Compare Ult W (in_loop 0) b)
+condition W = fixed (codes "c") 1 (Compare Ult false W (in_loop 0) b)
 
 -- what holds of each of them at its place, of the drawn ones at theirs, and behind them all holds at every place
 pub record HoldsInLoop (W s : ℕ) (P : ℕ → Option Inst → Type 0) : Type 0 where

@@ -1,5 +1,5 @@
 -- The module that a number stands for: functions of one shape, a loop of 20 instructions, 16 of which are drawn.
-use Rattle.std.specs.Prelude.{ℕ, zero, suc, ◌+◌, ◌==◌, if◌then◌else◌, ◌++◌, List, [], ◌∷◌, Some, codes, decimal}
+use Rattle.std.specs.Prelude.{ℕ, false, zero, suc, ◌+◌, ◌==◌, if◌then◌else◌, ◌++◌, List, [], ◌∷◌, Some, codes, decimal}
 use Rattle.ops.specs.Flags.{no_flags}
 use Rattle.ops.specs.Integer.{minus_one}
 use Rattle.ops.specs.declared.opcode.Opcode.TheVariants.{Add, Sub, Mul, UDiv, Shl, And, Xor}
@@ -92,7 +92,7 @@ loop_insts W s =
     ∷ fixed (codes "p") W (Phi ((a, 0) ∷ (in_loop 17, 1) ∷ []))
     ∷ drawn_insts W s 16
     ++ fixed (codes "next") W (Binary Add no_flags (in_loop 0) (number W 1))
-    ∷ fixed (codes "c") 1 (Compare Ult W (in_loop 0) b)
+    ∷ fixed (codes "c") 1 (Compare Ult false W (in_loop 0) b)
     ∷ []
 
 abbrev pub parameter : ℕ → List ℕ → Parameter

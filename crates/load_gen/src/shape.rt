@@ -100,7 +100,7 @@ fn loop_insts(alloc: Global, draws: &mut Draws, width: Width) -> Result<List<Ins
     let counter = phi(alloc, number(width, 0), in_loop(NEXT))?;
     let previous = phi(alloc, a, in_loop(LAST_DRAWN))?;
     let next = binary(Opcode::Add, in_loop(COUNTER), number(width, 1));
-    let condition = Op::Compare(Pred::Ult, width, in_loop(COUNTER), b);
+    let condition = Op::Compare(Pred::Ult, false, width, in_loop(COUNTER), b);
     let mut insts = List::new(alloc);
     insts.push(inst(name(alloc, b"i")?, width, counter))?;
     insts.push(inst(name(alloc, b"p")?, width, previous))?;

@@ -121,25 +121,25 @@ targets-moved kept terminators.Unreachable = refl
 
 typed-moved : (kept : KeptMarks) (w : ℕ) (op : Op) → IsTyped w op → IsTyped w (moved_op kept op)
 typed-moved kept w (Binary op flags x y) h = h
-typed-moved kept w (Compare pred compared x y) h = h
+typed-moved kept w (Compare pred samesign compared x y) h = h
 typed-moved kept w (Select c x y) h = h
-typed-moved kept w (Convert cast from x) h = h
+typed-moved kept w (Convert cast flags from x) h = h
 typed-moved kept w (Freeze x) h = h
 typed-moved kept w (Phi entries) h = h
 
 phi-moved : (kept : KeptMarks) (op : Op) → IsPhi op → IsPhi (moved_op kept op)
 phi-moved kept (Binary op flags x y) h = h
-phi-moved kept (Compare pred compared x y) h = h
+phi-moved kept (Compare pred samesign compared x y) h = h
 phi-moved kept (Select c x y) h = h
-phi-moved kept (Convert cast from x) h = h
+phi-moved kept (Convert cast flags from x) h = h
 phi-moved kept (Freeze x) h = h
 phi-moved kept (Phi entries) h = h
 
 phi-back : (kept : KeptMarks) (op : Op) → IsPhi (moved_op kept op) → IsPhi op
 phi-back kept (Binary op flags x y) h = h
-phi-back kept (Compare pred compared x y) h = h
+phi-back kept (Compare pred samesign compared x y) h = h
 phi-back kept (Select c x y) h = h
-phi-back kept (Convert cast from x) h = h
+phi-back kept (Convert cast flags from x) h = h
 phi-back kept (Freeze x) h = h
 phi-back kept (Phi entries) h = h
 
@@ -155,9 +155,9 @@ moved_entries kept entries = map (λ (e : Operand × ℕ). (moved_operand kept e
 
 entries_back : (kept : KeptMarks) (op : Op) (new : List (Operand × ℕ)) → moved_op kept op ≡ Phi new → (entries : List (Operand × ℕ)) × (op ≡ Phi entries) × (moved_entries kept entries ≡ new)
 entries_back kept (Binary op flags x y) new e = absurd cc
-entries_back kept (Compare pred compared x y) new e = absurd cc
+entries_back kept (Compare pred samesign compared x y) new e = absurd cc
 entries_back kept (Select c x y) new e = absurd cc
-entries_back kept (Convert cast from x) new e = absurd cc
+entries_back kept (Convert cast flags from x) new e = absurd cc
 entries_back kept (Freeze x) new e = absurd cc
 entries_back kept (Phi entries) new e = (entries, refl, cc)
 
@@ -294,9 +294,9 @@ module _ (f : Function) (m : MeetsChecks f) (kept : KeptMarks) (needed : KeepsNe
 
   reads_of-moved : (b k w : ℕ) (op : Op) → reads_of cleaned b (kept_before kept b k) w (moved_op kept op) ≡ map (moved_read kept) (reads_of f b k w op)
   reads_of-moved b k w (Binary op flags x y) = refl
-  reads_of-moved b k w (Compare pred compared x y) = refl
+  reads_of-moved b k w (Compare pred samesign compared x y) = refl
   reads_of-moved b k w (Select c x y) = refl
-  reads_of-moved b k w (Convert cast from x) = refl
+  reads_of-moved b k w (Convert cast flags from x) = refl
   reads_of-moved b k w (Freeze x) = refl
   reads_of-moved b k w (Phi entries) = entry_reads-moved w entries
 

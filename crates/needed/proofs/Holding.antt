@@ -145,18 +145,18 @@ op_gives f b k w held (Binary op flags x y) h n =
     let p : (v : Value) × OperandGives AnyNumber held w x v = operand_gives held w x (h 0 (read b k w x) refl) in
     let q : (v : Value) × OperandGives AnyNumber held w y v = operand_gives held w y (h 1 (read b k w y) refl) in
     (instruction op flags w p.0 q.0, (p.0, q.0, p.1, q.1, refl))
-op_gives f b k w held (Compare pred compared x y) h n =
+op_gives f b k w held (Compare pred samesign compared x y) h n =
     let p : (v : Value) × OperandGives AnyNumber held compared x v = operand_gives held compared x (h 0 (read b k compared x) refl) in
     let q : (v : Value) × OperandGives AnyNumber held compared y v = operand_gives held compared y (h 1 (read b k compared y) refl) in
-    (effects.Gives (comparison pred compared p.0 q.0), (p.0, q.0, p.1, q.1, refl))
+    (effects.Gives (comparison pred samesign compared p.0 q.0), (p.0, q.0, p.1, q.1, refl))
 op_gives f b k w held (Select c x y) h n =
     let z : (v : Value) × OperandGives AnyNumber held 1 c v = operand_gives held 1 c (h 0 (read b k 1 c) refl) in
     let p : (v : Value) × OperandGives AnyNumber held w x v = operand_gives held w x (h 1 (read b k w x) refl) in
     let q : (v : Value) × OperandGives AnyNumber held w y v = operand_gives held w y (h 2 (read b k w y) refl) in
     (effects.Gives (selection z.0 p.0 q.0), (z.0, p.0, q.0, z.1, p.1, q.1, refl))
-op_gives f b k w held (Convert cast from x) h n =
+op_gives f b k w held (Convert cast flags from x) h n =
     let p : (v : Value) × OperandGives AnyNumber held from x v = operand_gives held from x (h 0 (read b k from x) refl) in
-    (effects.Gives (conversion cast from w p.0), (p.0, p.1, refl))
+    (effects.Gives (conversion cast flags from w p.0), (p.0, p.1, refl))
 op_gives f b k w held (Freeze x) h n =
     let p : (v : Value) × OperandGives AnyNumber held w x v = operand_gives held w x (h 0 (read b k w x) refl) in
     let q : (v : Value) × Freezes AnyNumber w p.0 v = freezes w p.0 in
@@ -215,11 +215,11 @@ operand_back kept held new w operands.Poison v h s g = g
 pub op_back : (f : Function) (kept : KeptMarks) (b k w : ℕ) (held new : Registers) (op : Op) (e : Effect) → Agree kept held new → ReadsStay kept (reads_of f b k w op) → OpGives AnyNumber new w (moved_op kept op) e → OpGives AnyNumber held w op e
 op_back f kept b k w held new (Binary op flags x y) e h s g =
     (g.0, g.1, operand_back kept held new w x g.0 h (s 0 (read b k w x) refl) g.2, operand_back kept held new w y g.1 h (s 1 (read b k w y) refl) g.3, g.4)
-op_back f kept b k w held new (Compare pred compared x y) e h s g =
+op_back f kept b k w held new (Compare pred samesign compared x y) e h s g =
     (g.0, g.1, operand_back kept held new compared x g.0 h (s 0 (read b k compared x) refl) g.2, operand_back kept held new compared y g.1 h (s 1 (read b k compared y) refl) g.3, g.4)
 op_back f kept b k w held new (Select c x y) e h s g =
     (g.0, g.1, g.2, operand_back kept held new 1 c g.0 h (s 0 (read b k 1 c) refl) g.3, operand_back kept held new w x g.1 h (s 1 (read b k w x) refl) g.4, operand_back kept held new w y g.2 h (s 2 (read b k w y) refl) g.5, g.6)
-op_back f kept b k w held new (Convert cast from x) e h s g = (g.0, operand_back kept held new from x g.0 h (s 0 (read b k from x) refl) g.1, g.2)
+op_back f kept b k w held new (Convert cast flags from x) e h s g = (g.0, operand_back kept held new from x g.0 h (s 0 (read b k from x) refl) g.1, g.2)
 op_back f kept b k w held new (Freeze x) e h s g = (g.0, g.1, operand_back kept held new w x g.0 h (s 0 (read b k w x) refl) g.2, g.3, g.4)
 op_back f kept b k w held new (Phi entries) e h s g = g
 

@@ -38,25 +38,25 @@ use Rattle.needed.proofs.Holding.{IsHeld, Held, assigned_held, held_next, held_o
 
 phi_or_not : (op : Op) → ((entries : List (Operand × ℕ)) × (op ≡ Phi entries)) ⊎ ¬ IsPhi op
 phi_or_not (Binary op flags x y) = inr (λ h. h)
-phi_or_not (Compare pred compared x y) = inr (λ h. h)
+phi_or_not (Compare pred samesign compared x y) = inr (λ h. h)
 phi_or_not (Select c x y) = inr (λ h. h)
-phi_or_not (Convert cast from x) = inr (λ h. h)
+phi_or_not (Convert cast flags from x) = inr (λ h. h)
 phi_or_not (Freeze x) = inr (λ h. h)
 phi_or_not (Phi entries) = inl (entries, refl)
 
 no_phi_to : (P : List (Operand × ℕ) → Type 0) (Q : Type 0) (op : Op) → ¬ IsPhi op → Q → IfPhi P Q op
 no_phi_to P Q (Binary op flags x y) n q = q
-no_phi_to P Q (Compare pred compared x y) n q = q
+no_phi_to P Q (Compare pred samesign compared x y) n q = q
 no_phi_to P Q (Select c x y) n q = q
-no_phi_to P Q (Convert cast from x) n q = q
+no_phi_to P Q (Convert cast flags from x) n q = q
 no_phi_to P Q (Freeze x) n q = q
 no_phi_to P Q (Phi entries) n q = absurd (n tt)
 
 no_phi_from : (kept : KeptMarks) (P : List (Operand × ℕ) → Type 0) (Q : Type 0) (op : Op) → ¬ IsPhi op → IfPhi P Q (moved_op kept op) → Q
 no_phi_from kept P Q (Binary op flags x y) n q = q
-no_phi_from kept P Q (Compare pred compared x y) n q = q
+no_phi_from kept P Q (Compare pred samesign compared x y) n q = q
 no_phi_from kept P Q (Select c x y) n q = q
-no_phi_from kept P Q (Convert cast from x) n q = q
+no_phi_from kept P Q (Convert cast flags from x) n q = q
 no_phi_from kept P Q (Freeze x) n q = q
 no_phi_from kept P Q (Phi entries) n q = absurd (n tt)
 

@@ -55,9 +55,9 @@ two_there b k w x y = each_first (IsThere b k) (read b k w x) (read b k w y ∷ 
 -- all but a phi reads where it stands
 pub own_place : (f : Function) (b k w : ℕ) (op : Op) → ¬ IsPhi op → (i : ℕ) (r : Read) → slice_get (reads_of f b k w op) i ≡ Some r → IsThere b k r
 own_place f b k w (Binary op flags x y) other = two_there b k w x y
-own_place f b k w (Compare pred compared x y) other = two_there b k compared x y
+own_place f b k w (Compare pred samesign compared x y) other = two_there b k compared x y
 own_place f b k w (Select c x y) other = each_first (IsThere b k) (read b k 1 c) (read b k w x ∷ read b k w y ∷ []) (refl, refl) (two_there b k w x y)
-own_place f b k w (Convert cast from x) other = one_there b k from x
+own_place f b k w (Convert cast flags from x) other = one_there b k from x
 own_place f b k w (Freeze x) other = one_there b k w x
 own_place f b k w (Phi entries) other = absurd (other tt)
 

@@ -59,9 +59,9 @@ entries_in f w (e ∷ entries) = ap (λ l. e.0 ∷ l) (entries_in f w entries)
 
 operands-of : (f : Function) (b k w : ℕ) (op : Op) → operands_in (reads_of f b k w op) ≡ operands_of op
 operands-of f b k w (Binary op flags x y) = refl
-operands-of f b k w (Compare pred compared x y) = refl
+operands-of f b k w (Compare pred samesign compared x y) = refl
 operands-of f b k w (Select c x y) = refl
-operands-of f b k w (Convert cast from x) = refl
+operands-of f b k w (Convert cast flags from x) = refl
 operands-of f b k w (Freeze x) = refl
 operands-of f b k w (Phi entries) = entries_in f w entries
 

@@ -34,9 +34,9 @@ moved_operand kept operands.Poison = operands.Poison
 
 abbrev pub moved_op : KeptMarks → Op → Op
 moved_op kept (Binary op flags x y) = Binary op flags (moved_operand kept x) (moved_operand kept y)
-moved_op kept (Compare pred width x y) = Compare pred width (moved_operand kept x) (moved_operand kept y)
+moved_op kept (Compare pred samesign width x y) = Compare pred samesign width (moved_operand kept x) (moved_operand kept y)
 moved_op kept (Select c x y) = Select (moved_operand kept c) (moved_operand kept x) (moved_operand kept y)
-moved_op kept (Convert cast from x) = Convert cast from (moved_operand kept x)
+moved_op kept (Convert cast flags from x) = Convert cast flags from (moved_operand kept x)
 moved_op kept (Freeze x) = Freeze (moved_operand kept x)
 moved_op kept (Phi entries) = Phi (map (λ e. (moved_operand kept e.0, e.1)) entries)
 

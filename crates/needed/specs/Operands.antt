@@ -8,9 +8,9 @@ use Rattle.ir_core.specs.declared.terminator.Terminator.TheVariants as terminato
 
 abbrev pub operands_of : Op → List Operand
 operands_of (Binary op flags x y) = x ∷ y ∷ []
-operands_of (Compare pred compared x y) = x ∷ y ∷ []
+operands_of (Compare pred samesign compared x y) = x ∷ y ∷ []
 operands_of (Select c x y) = c ∷ x ∷ y ∷ []
-operands_of (Convert cast from x) = x ∷ []
+operands_of (Convert cast flags from x) = x ∷ []
 operands_of (Freeze x) = x ∷ []
 operands_of (Phi entries) = map (λ e. e.0) entries
 

@@ -58,16 +58,16 @@ fn moved_op(kept: &Kept, op: Op) -> Op
             let x = moved_operand(kept, x);
             Op::Binary(opcode, flags, x, moved_operand(kept, y))
         }
-        Op::Compare(pred, width, x, y) => {
+        Op::Compare(pred, samesign, width, x, y) => {
             let x = moved_operand(kept, x);
-            Op::Compare(pred, width, x, moved_operand(kept, y))
+            Op::Compare(pred, samesign, width, x, moved_operand(kept, y))
         }
         Op::Select(condition, x, y) => {
             let condition = moved_operand(kept, condition);
             let x = moved_operand(kept, x);
             Op::Select(condition, x, moved_operand(kept, y))
         }
-        Op::Convert(cast, from, x) => Op::Convert(cast, from, moved_operand(kept, x)),
+        Op::Convert(cast, flags, from, x) => Op::Convert(cast, flags, from, moved_operand(kept, x)),
         Op::Freeze(x) => Op::Freeze(moved_operand(kept, x)),
         Op::Phi(entries) => Op::Phi(moved_entries(kept, entries)),
     }

@@ -83,9 +83,12 @@ impl Search {
             Marked numbers.now.firsts.items (operands_of op.now) self.old self.new) }
     {
         match op {
-            Op::Binary(_, _, x, y) | Op::Compare(_, _, x, y) => self.mark_all(numbers, &[*x, *y]),
+            Op::Binary(_, _, x, y) | Op::Compare(_, _, _, x, y) => self.mark_all(
+                numbers,
+                &[*x, *y],
+            ),
             Op::Select(condition, x, y) => self.mark_all(numbers, &[*condition, *x, *y]),
-            Op::Convert(_, _, x) | Op::Freeze(x) => self.mark_all(numbers, &[*x]),
+            Op::Convert(_, _, _, x) | Op::Freeze(x) => self.mark_all(numbers, &[*x]),
             Op::Phi(entries) => self.mark_entries(numbers, entries.as_slice()),
         }
     }

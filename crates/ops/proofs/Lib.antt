@@ -4,5 +4,6 @@ pub mod Signed
 pub mod Undefined
 pub mod Values
 pub mod Widths
+pub mod FlagSets
 pub mod FlagKeywordLemmas
 pub mod KeywordLemmas

@@ -62,14 +62,15 @@ instruction-monotone op flags N (Bits a) (Bits b) a' b' p q = rw (p, q) (AllowsE
 
 pub comparison-monotone : ComparisonIsMonotone
 unfolding comparison
-comparison-monotone pred N Poison b a' b' p q = tt
-comparison-monotone pred N (Bits a) Poison a' b' p q = tt
-comparison-monotone pred N (Bits a) (Bits b) a' b' p q = rw (p, q) (AllowsValue-refl (comparison pred N (Bits a) (Bits b)))
+comparison-monotone pred samesign N Poison b a' b' p q = tt
+comparison-monotone pred samesign N (Bits a) Poison a' b' p q = tt
+comparison-monotone pred samesign N (Bits a) (Bits b) a' b' p q =
+    rw (p, q) (AllowsValue-refl (comparison pred samesign N (Bits a) (Bits b)))
 
 pub conversion-monotone : ConversionIsMonotone
 unfolding conversion
-conversion-monotone cast from to Poison a' p = tt
-conversion-monotone cast from to (Bits a) a' p = rw p (AllowsValue-refl (conversion cast from to (Bits a)))
+conversion-monotone cast flags from to Poison a' p = tt
+conversion-monotone cast flags from to (Bits a) a' p = rw p (AllowsValue-refl (conversion cast flags from to (Bits a)))
 
 chosen : (c : Bool) (a b a' b' : Value) → AllowsValue a a' → AllowsValue b b' → AllowsValue (cond c a b) (cond c a' b')
 chosen true a b a' b' p q = p

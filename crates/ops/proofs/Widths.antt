@@ -16,6 +16,7 @@ use Rattle.ops.specs.Integer.{bits, signed, residue}
 use Rattle.ops.specs.Arithmetic.{arithmetic}
 use Rattle.ops.specs.Division.{udiv, sdiv, urem, srem, exactly, divides, quotient, has_no_quotient}
 use Rattle.ops.specs.Shifts.{shl, lshr, ashr}
+use Rattle.ops.specs.Bitwise.{or}
 use Rattle.ops.specs.Instruction.{instruction, on_numbers, on_poison}
 use Rattle.ops.specs.Comparison.{comparison, selection, holds}
 use Rattle.ops.specs.Conversion.{conversion, converted}
@@ -41,7 +42,7 @@ IsValueOf-exactly : (N : ℕ) (flags : Flags) (divided : Bool) (n : ℕ) → n <
 IsValueOf-exactly N flags divided n h = IsValueOf-cond N (flags.exact && not divided) (bits N n) (refl, h)
 
 pub IsEffectOf-on_numbers : (op : Opcode) (flags : Flags) (N a b : ℕ) → a < 2 ^ N → b < 2 ^ N → IsEffectOf N (on_numbers op flags N a b)
-unfolding on_numbers udiv sdiv urem srem shl lshr ashr
+unfolding on_numbers udiv sdiv urem srem shl lshr ashr or
 IsEffectOf-on_numbers Add flags N a b p q = IsValueOf-arithmetic flags N _ _
 IsEffectOf-on_numbers Sub flags N a b p q = IsValueOf-arithmetic flags N _ _
 IsEffectOf-on_numbers Mul flags N a b p q = IsValueOf-arithmetic flags N _ _
@@ -61,7 +62,7 @@ IsEffectOf-on_numbers AShr flags N a b p q =
     let floor = int_div_euclid (signed N a) (pos (2 ^ b)) in
     IsValueOf-cond N (nat_le N b) _ (IsValueOf-exactly N flags (divides (2 ^ b) a) (residue N floor) (residue-lt N floor))
 IsEffectOf-on_numbers And flags N a b p q = (refl, omega (arith, and_le_l a b))
-IsEffectOf-on_numbers Or flags N a b p q = (refl, or_lt N a b p q)
+IsEffectOf-on_numbers Or flags N a b p q = IsValueOf-cond N _ (bits N _) (refl, or_lt N a b p q)
 IsEffectOf-on_numbers Xor flags N a b p q = (refl, xor_lt N a b p q)
 
 pub IsEffectOf-on_poison : (op : Opcode) (N : ℕ) (b : Value) → IsEffectOf N (on_poison op N b)
@@ -88,16 +89,17 @@ truth-lt false = omega arith
 
 pub IsValueOf-comparison : ComparisonIsOneBit
 unfolding comparison
-IsValueOf-comparison pred N (Bits a) (Bits b) = (refl, truth-lt (holds pred N a.number b.number))
-IsValueOf-comparison pred N (Bits a) Poison = tt
-IsValueOf-comparison pred N Poison b = tt
+IsValueOf-comparison pred samesign N (Bits a) (Bits b) =
+    IsValueOf-cond 1 _ (bits 1 _) (refl, truth-lt (holds pred N a.number b.number))
+IsValueOf-comparison pred samesign N (Bits a) Poison = tt
+IsValueOf-comparison pred samesign N Poison b = tt
 
 pub IsValueOf-conversion : ConversionHasWidth
 unfolding conversion converted
-IsValueOf-conversion cast from to Poison h p = tt
-IsValueOf-conversion Trunc from to (Bits a) h p = (refl, mod-lt a.number (pow_pos to))
-IsValueOf-conversion ZExt from to (Bits a) h p = (refl, omega (arith, p.1, pow_below from to h))
-IsValueOf-conversion SExt from to (Bits a) h p = (refl, residue-lt to _)
+IsValueOf-conversion cast flags from to Poison h p = tt
+IsValueOf-conversion Trunc flags from to (Bits a) h p = IsValueOf-cond to _ (bits to _) (refl, mod-lt a.number (pow_pos to))
+IsValueOf-conversion ZExt flags from to (Bits a) h p = IsValueOf-cond to _ (bits to _) (refl, omega (arith, p.1, pow_below from to h))
+IsValueOf-conversion SExt flags from to (Bits a) h p = IsValueOf-cond to _ (bits to _) (refl, residue-lt to _)
 
 selected : (N : ℕ) (c : Bool) (a b : Value) → IsValueOf N a → IsValueOf N b → IsValueOf N (cond c a b)
 selected N true a b p q = p

@@ -1,5 +1,5 @@
 -- What one instruction with two operands of iN does (LLVM Language Reference, "Binary Operations", "Bitwise Binary Operations").
-use Rattle.std.specs.Prelude.{ℕ, bit_and, bit_or, bit_xor}
+use Rattle.std.specs.Prelude.{ℕ, bit_and, bit_xor}
 use Rattle.ops.specs.declared.value.Value.{Value}
 use Rattle.ops.specs.declared.value.Value.TheVariants.{Poison, Bits}
 use Rattle.ops.specs.declared.value.Effect.{Effect}
@@ -11,6 +11,7 @@ use Rattle.ops.specs.Integer.{bits}
 use Rattle.ops.specs.Arithmetic.{add, sub, mul}
 use Rattle.ops.specs.Division.{udiv, sdiv, urem, srem, unsigned_poison, signed_poison}
 use Rattle.ops.specs.Shifts.{shl, lshr, ashr}
+use Rattle.ops.specs.Bitwise.{or}
 
 -- the instruction's effect at the numbers a and b
 unfoldable pub on_numbers : Opcode → Flags → ℕ → ℕ → ℕ → Effect
@@ -25,7 +26,7 @@ on_numbers Shl flags N a b = Gives (shl flags N a b)
 on_numbers LShr flags N a b = Gives (lshr flags N a b)
 on_numbers AShr flags N a b = Gives (ashr flags N a b)
 on_numbers And flags N a b = Gives (bits N (bit_and a b))
-on_numbers Or flags N a b = Gives (bits N (bit_or a b))
+on_numbers Or flags N a b = Gives (or flags N a b)
 on_numbers Xor flags N a b = Gives (bits N (bit_xor a b))
 
 -- the instruction's effect where an operand is poison, and b is the one on the right: poison, but for divisions

@@ -1,5 +1,5 @@
 -- Numbers of iN without a sign and in two's complement (LLVM Language Reference, "Integer Type").
-use Rattle.std.specs.Prelude.{ℕ, ◌-◌, ◌^◌, Bool, if◌then◌else◌, ◌&&◌, nat_lt}
+use Rattle.std.specs.Prelude.{ℕ, ◌-◌, ◌^◌, Bool, if◌then◌else◌, ◌&&◌, nat_lt, nat_le}
 use Rattle.std.specs.Prelude.{ℤ, pos, neg_ℤ, ◌-ℤ◌, int_le, int_lt, unsigned_abs}
 use Rattle.std.specs.Int.{int_rem_euclid}
 use Rattle.ops.specs.declared.value.Value.{Value}
@@ -12,6 +12,10 @@ bits N n = Bits (record { width = N; number = n })
 -- a, read in two's complement: a, less 2^N where a is at least 2^(N-1)
 unfoldable pub signed : ℕ → ℕ → ℤ
 signed N a = if nat_lt a (2 ^ (N - 1)) then pos a else pos a -ℤ pos (2 ^ N)
+
+-- a is negative in two's complement: its highest bit, the sign bit, is 1
+abbrev pub negative : ℕ → ℕ → Bool
+negative N a = nat_le (2 ^ (N - 1)) a
 
 -- the number that is -1 in two's complement, and the one that is the least, -2^(N-1)
 abbrev pub minus_one : ℕ → ℕ

@@ -1,5 +1,5 @@
 -- Laws of values, effects and instructions.
-use Rattle.std.specs.Prelude.{ℕ, ◌≡◌, ◌≤◌, ◌-◌, ◌^◌, ◌⊎◌, ◌↔◌, ℤ, pos, neg_ℤ}
+use Rattle.std.specs.Prelude.{ℕ, ◌≡◌, ◌≤◌, ◌-◌, ◌^◌, ◌⊎◌, ◌↔◌, Bool, ℤ, pos, neg_ℤ}
 use Rattle.ops.specs.declared.value.Value.{Value}
 use Rattle.ops.specs.declared.value.Value.TheVariants.{Poison, Bits}
 use Rattle.ops.specs.declared.value.Effect.{Effect}
@@ -35,12 +35,12 @@ InstructionIsMonotone = (op : Opcode) (flags : Flags) (N : ℕ) (a b a' b' : Val
     AllowsValue a a' → AllowsValue b b' → AllowsEffect (instruction op flags N a b) (instruction op flags N a' b')
 
 abbrev pub ComparisonIsMonotone : Type 0
-ComparisonIsMonotone = (pred : Pred) (N : ℕ) (a b a' b' : Value) →
-    AllowsValue a a' → AllowsValue b b' → AllowsValue (comparison pred N a b) (comparison pred N a' b')
+ComparisonIsMonotone = (pred : Pred) (samesign : Bool) (N : ℕ) (a b a' b' : Value) →
+    AllowsValue a a' → AllowsValue b b' → AllowsValue (comparison pred samesign N a b) (comparison pred samesign N a' b')
 
 abbrev pub ConversionIsMonotone : Type 0
-ConversionIsMonotone = (cast : Cast) (from to : ℕ) (a a' : Value) →
-    AllowsValue a a' → AllowsValue (conversion cast from to a) (conversion cast from to a')
+ConversionIsMonotone = (cast : Cast) (flags : Flags) (from to : ℕ) (a a' : Value) →
+    AllowsValue a a' → AllowsValue (conversion cast flags from to a) (conversion cast flags from to a')
 
 abbrev pub SelectionIsMonotone : Type 0
 SelectionIsMonotone = (c a b c' a' b' : Value) →
@@ -52,11 +52,11 @@ InstructionKeepsWidth = (op : Opcode) (flags : Flags) (N : ℕ) (a b : Value) �
     IsValueOf N a → IsValueOf N b → IsEffectOf N (instruction op flags N a b)
 
 abbrev pub ComparisonIsOneBit : Type 0
-ComparisonIsOneBit = (pred : Pred) (N : ℕ) (a b : Value) → IsValueOf 1 (comparison pred N a b)
+ComparisonIsOneBit = (pred : Pred) (samesign : Bool) (N : ℕ) (a b : Value) → IsValueOf 1 (comparison pred samesign N a b)
 
 abbrev pub ConversionHasWidth : Type 0
-ConversionHasWidth = (cast : Cast) (from to : ℕ) (a : Value) →
-    CastFits cast from to → IsValueOf from a → IsValueOf to (conversion cast from to a)
+ConversionHasWidth = (cast : Cast) (flags : Flags) (from to : ℕ) (a : Value) →
+    CastFits cast from to → IsValueOf from a → IsValueOf to (conversion cast flags from to a)
 
 abbrev pub SelectionKeepsWidth : Type 0
 SelectionKeepsWidth = (N : ℕ) (c a b : Value) → IsValueOf N a → IsValueOf N b → IsValueOf N (selection c a b)

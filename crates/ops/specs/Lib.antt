@@ -1,4 +1,5 @@
 pub mod Arithmetic
+pub mod Bitwise
 pub mod Comparison
 pub mod Conversion
 pub mod Division

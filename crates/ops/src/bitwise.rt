@@ -1,8 +1,10 @@
 //! Bit by bit. (LLVM Language Reference, "Bitwise Binary Operations".)
 
-ghost use Rattle.std.specs.Prelude.{◌≡◌, ◌<◌, ◌^◌, bit_and, bit_or, bit_xor};
+ghost use Rattle.std.specs.Prelude.{◌≡◌, ◌<◌, ◌^◌, bit_and, bit_xor};
+ghost use Rattle.ops.specs.Bitwise.{or};
 ghost use Rattle.ops.specs.Integer.{bits};
 
+use crate::opcode::Flags;
 use crate::value::Value;
 use crate::width::Width;
 use crate::word::Word;
@@ -17,12 +19,17 @@ pub(crate) fn and(width: Width, a: u64, b: u64) -> Value
 }
 
 /// `or` of two numbers.
-pub(crate) fn or(width: Width, a: u64, b: u64) -> Value
+#[tactic(auto, unfolding(crate::specs::Bitwise::or))]
+pub(crate) fn or(flags: Flags, width: Width, a: u64, b: u64) -> Value
     requires left { a < 2 ^ width }
     requires right { b < 2 ^ width }
-    ensures { result ≡ bits width (bit_or a b) }
+    ensures { result ≡ or flags width a b }
 {
-    Value::Bits(Word::fitting(width, a | b))
+    if flags.disjoint && a & b != 0 {
+        Value::Poison
+    } else {
+        Value::Bits(Word::fitting(width, a | b))
+    }
 }
 
 /// `xor` of two numbers.

@@ -1,10 +1,10 @@
 //! Comparisons and choices. (LLVM Language Reference, "Other Operations".)
 
 ghost use Rattle.std.specs.Prelude.{◌≡◌, ◌<◌, ◌^◌};
-ghost use Rattle.ops.specs.Comparison.{holds, comparison, selection};
+ghost use Rattle.ops.specs.Comparison.{holds, comparison, selection, signs_differ};
 ghost use Rattle.ops.specs.Value.{HasWidth, IsValueOf};
 
-use crate::integer::signed;
+use crate::integer::{negative, signed};
 use crate::value::Value;
 use crate::width::Width;
 use crate::word::Word;
@@ -24,12 +24,13 @@ pub enum Pred {
     Sle,
 }
 
-/// What `icmp` gives at these operands of type `iN`, where N is `width`: 1 or 0 of type `i1`, or poison.
+/// What `icmp`, written with `samesign` or without, gives at these operands of type `iN`, where N is `width`: 1 or 0 of
+/// type `i1`, or poison.
 #[tactic(auto, unfolding(crate::specs::Comparison::comparison))]
-pub fn compare(pred: Pred, width: Width, a: Value, b: Value) -> Value
+pub fn compare(pred: Pred, samesign: bool, width: Width, a: Value, b: Value) -> Value
     requires left { HasWidth a width }
     requires right { HasWidth b width }
-    ensures value { result ≡ comparison pred width a b }
+    ensures value { result ≡ comparison pred samesign width a b }
     ensures width { IsValueOf 1 result }
 {
     let Value::Bits(left) = a else {
@@ -38,8 +39,18 @@ pub fn compare(pred: Pred, width: Width, a: Value, b: Value) -> Value
     let Value::Bits(right) = b else {
         return Value::Poison;
     };
+    if samesign && signs_differ(width, left.number(), right.number()) {
+        return Value::Poison;
+    }
     let holds = holds(pred, width, left.number(), right.number());
     Value::Bits(Word::truth(holds))
+}
+
+/// Whether just one of two numbers is negative.
+fn signs_differ(width: Width, a: u64, b: u64) -> bool
+    ensures { result ≡ signs_differ width a b }
+{
+    negative(width, a) ^ negative(width, b)
 }
 
 /// Whether the predicate holds of two numbers.

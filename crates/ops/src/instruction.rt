@@ -70,7 +70,7 @@ fn on_numbers(op: Opcode, flags: Flags, width: Width, a: u64, b: u64) -> Effect
         Opcode::LShr => Effect::Gives(lshr(flags, width, a, b)),
         Opcode::AShr => Effect::Gives(ashr(flags, width, a, b)),
         Opcode::And => Effect::Gives(and(width, a, b)),
-        Opcode::Or => Effect::Gives(or(width, a, b)),
+        Opcode::Or => Effect::Gives(or(flags, width, a, b)),
         Opcode::Xor => Effect::Gives(xor(width, a, b)),
     }
 }

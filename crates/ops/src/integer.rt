@@ -1,7 +1,7 @@
 //! Numbers of an integer type, without a sign and in two's complement. (LLVM Language Reference, "Integer Type".)
 
 ghost use Rattle.std.specs.Prelude.{◌≡◌, ◌<◌, ◌≤ℤ◌, ◌<ℤ◌, ◌-◌, ◌^◌, pos, neg_ℤ};
-ghost use Rattle.ops.specs.Integer.{signed, fits_signed, fits_unsigned, minus_one, residue};
+ghost use Rattle.ops.specs.Integer.{signed, fits_signed, fits_unsigned, minus_one, negative, residue};
 
 use crate::width::Width;
 
@@ -19,6 +19,13 @@ pub(crate) fn signed(width: Width, number: u64) -> i128
     } else {
         number - width.modulus()
     }
+}
+
+/// Whether the number of `width` bits is negative in two's complement.
+pub(crate) fn negative(width: Width, number: u64) -> bool
+    ensures { result ≡ negative width number }
+{
+    width.half_modulus() <= i128::from(number)
 }
 
 /// Whether the number is one of `width` bits without a sign.

@@ -5,7 +5,7 @@ mod instruction;
 mod predicate;
 mod spelling;
 
-pub use flag::{Flag, flag_of, has_flag, with_flag};
+pub use flag::{EVERY_FLAG, Flag, flag_name, flag_of, has_flag, with_flag};
 pub use instruction::{cast_name, opcode_name};
 pub use predicate::predicate_of;
 pub use spelling::is;

@@ -58,9 +58,9 @@ module _ (to : Substitution) (f g : Function) (b k n : ℕ) where
 
   stayed_op : (width : ℕ) (op : Op) → IsWidth width → AllHaveForms (reads_of f b k width op) → HaveWidths (reads_of g b n width (substituted_op to op))
   stayed_op width (ops.Binary op flags x y) own forms = (own, (own, tt))
-  stayed_op width (ops.Compare pred compared x y) own forms = let w : IsWidth compared = (forms 0 (read b k compared x) refl).width in (w, (w, tt))
+  stayed_op width (ops.Compare pred samesign compared x y) own forms = let w : IsWidth compared = (forms 0 (read b k compared x) refl).width in (w, (w, tt))
   stayed_op width (ops.Select c x y) own forms = (one, (own, (own, tt)))
-  stayed_op width (ops.Convert cast from x) own forms = ((forms 0 (read b k from x) refl).width, tt)
+  stayed_op width (ops.Convert cast flags from x) own forms = ((forms 0 (read b k from x) refl).width, tt)
   stayed_op width (ops.Freeze x) own forms = (own, tt)
   stayed_op width (ops.Phi entries) own forms = entries_have width own (substituted_entries to entries)
 
@@ -89,11 +89,11 @@ module _ (rule : Rule) (binding : Binding) (typed : IsTyping rule binding.typing
 
     put_reads : (op : RuleOp) → s.op ≡ op → IsNoCopy op → HaveWidths (reads_of g b n N (put_op rule binding N op))
     put_reads (rule_ops.Binary opcode flags x y) is kept = let own : IsWidth N = own_class t s at in (own, (own, tt))
-    put_reads (rule_ops.Compare pred x y) is kept =
+    put_reads (rule_ops.Compare pred samesign x y) is kept =
         let w : IsWidth (class_width rule binding x.class) = operand_has x (subst (λ (op : RuleOp). Contains (operands_of op) x) (sym is) (Contains-from_get (x ∷ y ∷ []) 0 x refl)) in
         (w, (w, tt))
     put_reads (rule_ops.Select c x y) is kept = let own : IsWidth N = own_class t s at in (one, (own, (own, tt)))
-    put_reads (rule_ops.Convert cast x to) is kept = (operand_has x (subst (λ (op : RuleOp). Contains (operands_of op) x) (sym is) (Contains-from_get (x ∷ []) 0 x refl)), tt)
+    put_reads (rule_ops.Convert cast flags x to) is kept = (operand_has x (subst (λ (op : RuleOp). Contains (operands_of op) x) (sym is) (Contains-from_get (x ∷ []) 0 x refl)), tt)
     put_reads (rule_ops.Copy x) is kept = absurd cc
 
 -- ---- the new function

@@ -32,7 +32,7 @@ fn compares(pred: Pred, a: Value, b: Value) -> bool
     let Value::Bits(left) = a else {
         return false;
     };
-    match compare(pred, left.width(), a, b) {
+    match compare(pred, false, left.width(), a, b) {
         Value::Poison => false,
         Value::Bits(truth) => truth.number() == 1,
     }

@@ -1,5 +1,5 @@
 -- What operations of rules and of functions compute on the values that they read.
-use Rattle.std.proofs.Common.{◌≡◌, ℕ, zero, suc, List, [], ◌∷◌, Some, refl, sym, ap, subst, ◌∙◌}
+use Rattle.std.proofs.Common.{◌≡◌, ℕ, Bool, zero, suc, List, [], ◌∷◌, Some, refl, sym, ap, subst, ◌∙◌}
 use Rattle.std.specs.Prelude.{slice_get, slice_index}
 use Rattle.std.proofs.lemmas.Option.{same_Some, get_or_from_slice_get}
 use Rattle.ops.specs.Value.{AllowsValue, AllowsEffect}
@@ -29,41 +29,41 @@ use Rattle.rule_core.specs.declared.rule.Operand.{Operand as RuleOperand}
 -- an operation without its operands
 pub data Computation : Type 0 where
   Calculates : (op : Opcode) (flags : Flags) (N : ℕ) → Computation
-  Compares : (pred : Pred) (N : ℕ) → Computation
+  Compares : (pred : Pred) (samesign : Bool) (N : ℕ) → Computation
   Selects : Computation
-  Converts : (cast : Cast) (from to : ℕ) → Computation
+  Converts : (cast : Cast) (flags : Flags) (from to : ℕ) → Computation
   Copies : Computation
 
 -- its effect on values by place
 abbrev pub effect_of : Computation → (ℕ → Value) → Effect
 effect_of (Calculates op flags N) v = instruction op flags N (v 0) (v 1)
-effect_of (Compares pred N) v = effects.Gives (comparison pred N (v 0) (v 1))
+effect_of (Compares pred samesign N) v = effects.Gives (comparison pred samesign N (v 0) (v 1))
 effect_of Selects v = effects.Gives (selection (v 0) (v 1) (v 2))
-effect_of (Converts cast from to) v = effects.Gives (conversion cast from to (v 0))
+effect_of (Converts cast flags from to) v = effects.Gives (conversion cast flags from to (v 0))
 effect_of Copies v = effects.Gives (v 0)
 
 -- what an operation of a rule computes at the width N, and one of a function
 abbrev pub computed : List ℕ → ℕ → RuleOp → Computation
 computed typing N (rule_ops.Binary op flags a b) = Calculates op flags N
-computed typing N (rule_ops.Compare pred a b) = Compares pred (slice_index typing a.class)
+computed typing N (rule_ops.Compare pred samesign a b) = Compares pred samesign (slice_index typing a.class)
 computed typing N (rule_ops.Select c a b) = Selects
-computed typing N (rule_ops.Convert cast a to) = Converts cast (slice_index typing a.class) N
+computed typing N (rule_ops.Convert cast flags a to) = Converts cast flags (slice_index typing a.class) N
 computed typing N (rule_ops.Copy a) = Copies
 
 abbrev pub computed_by : ℕ → Op → Computation
 computed_by w (Binary op flags x y) = Calculates op flags w
-computed_by w (Compare pred compared x y) = Compares pred compared
+computed_by w (Compare pred samesign compared x y) = Compares pred samesign compared
 computed_by w (Select c x y) = Selects
-computed_by w (Convert cast from x) = Converts cast from w
+computed_by w (Convert cast flags from x) = Converts cast flags from w
 computed_by w (Freeze x) = Copies
 computed_by w (Phi entries) = Copies
 
 -- it computes from its operands alone
 abbrev pub IsComputed : Op → Type 0
 IsComputed (Binary op flags x y) = Unit {0}
-IsComputed (Compare pred compared x y) = Unit {0}
+IsComputed (Compare pred samesign compared x y) = Unit {0}
 IsComputed (Select c x y) = Unit {0}
-IsComputed (Convert cast from x) = Unit {0}
+IsComputed (Convert cast flags from x) = Unit {0}
 IsComputed (Freeze x) = ⊥
 IsComputed (Phi entries) = ⊥
 
@@ -117,22 +117,22 @@ module _ (typing : List ℕ) (given : Given) (held : Held) where
   pub rule_computes : (N : ℕ) (op : RuleOp) (e : Effect) → RuleOpGives typing given held N op e → (v : ℕ → Value) × RuleValues (operands_of op) v × (e ≡ effect_of (computed typing N op) v)
   rule_computes N (rule_ops.Binary op flags a b) e (x, y, p, q, is) =
       (before_all x (before_all y no_values), one a x p (b ∷ []) (before_all y no_values) (one b y q [] no_values (none no_values)), is)
-  rule_computes N (rule_ops.Compare pred a b) e (M, x, y, at, p, q, is) =
-      (before_all x (before_all y no_values), one a x p (b ∷ []) (before_all y no_values) (one b y q [] no_values (none no_values)), is ∙ ap (λ M. effects.Gives (comparison pred M x y)) (sym (width_of a M at)))
+  rule_computes N (rule_ops.Compare pred samesign a b) e (M, x, y, at, p, q, is) =
+      (before_all x (before_all y no_values), one a x p (b ∷ []) (before_all y no_values) (one b y q [] no_values (none no_values)), is ∙ ap (λ M. effects.Gives (comparison pred samesign M x y)) (sym (width_of a M at)))
   rule_computes N (rule_ops.Select c a b) e (z, x, y, o, p, q, is) =
       (before_all z (before_all x (before_all y no_values)), one c z o (a ∷ b ∷ []) (before_all x (before_all y no_values)) (one a x p (b ∷ []) (before_all y no_values) (one b y q [] no_values (none no_values))), is)
-  rule_computes N (rule_ops.Convert cast a to) e (M, x, at, p, is) =
-      (before_all x no_values, one a x p [] no_values (none no_values), is ∙ ap (λ M. effects.Gives (conversion cast M N x)) (sym (width_of a M at)))
+  rule_computes N (rule_ops.Convert cast flags a to) e (M, x, at, p, is) =
+      (before_all x no_values, one a x p [] no_values (none no_values), is ∙ ap (λ M. effects.Gives (conversion cast flags M N x)) (sym (width_of a M at)))
   rule_computes N (rule_ops.Copy a) e (x, p, is) = (before_all x no_values, one a x p [] no_values (none no_values), is)
 
   -- and what is computed so it gives
   pub rule_gives : (N : ℕ) (op : RuleOp) (v : ℕ → Value) → RuleValues (operands_of op) v → RuleOpGives typing given held N op (effect_of (computed typing N op) v)
   rule_gives N (rule_ops.Binary op flags a b) v each = (v 0, v 1, each 0 a refl, each 1 b refl, refl)
-  rule_gives N (rule_ops.Compare pred a b) v each =
-      ((each 0 a refl).0, v 0, v 1, (each 0 a refl).1, each 0 a refl, each 1 b refl, ap (λ M. effects.Gives (comparison pred M (v 0) (v 1))) (width_of a (each 0 a refl).0 (each 0 a refl).1))
+  rule_gives N (rule_ops.Compare pred samesign a b) v each =
+      ((each 0 a refl).0, v 0, v 1, (each 0 a refl).1, each 0 a refl, each 1 b refl, ap (λ M. effects.Gives (comparison pred samesign M (v 0) (v 1))) (width_of a (each 0 a refl).0 (each 0 a refl).1))
   rule_gives N (rule_ops.Select c a b) v each = (v 0, v 1, v 2, each 0 c refl, each 1 a refl, each 2 b refl, refl)
-  rule_gives N (rule_ops.Convert cast a to) v each =
-      ((each 0 a refl).0, v 0, (each 0 a refl).1, each 0 a refl, ap (λ M. effects.Gives (conversion cast M N (v 0))) (width_of a (each 0 a refl).0 (each 0 a refl).1))
+  rule_gives N (rule_ops.Convert cast flags a to) v each =
+      ((each 0 a refl).0, v 0, (each 0 a refl).1, each 0 a refl, ap (λ M. effects.Gives (conversion cast flags M N (v 0))) (width_of a (each 0 a refl).0 (each 0 a refl).1))
   rule_gives N (rule_ops.Copy a) v each = (v 0, each 0 a refl, refl)
 
 -- ---- operations of functions
@@ -150,19 +150,19 @@ module _ (f : Function) (b k : ℕ) (held : Registers) where
   pub op_computes : (w : ℕ) (op : Op) (e : Effect) → IsComputed op → OpGives AnyNumber held w op e → (v : ℕ → Value) × ReadValues (reads_of f b k w op) v × (e ≡ effect_of (computed_by w op) v)
   op_computes w (Binary op flags x y) e is h =
       (before_all h.0 (before_all h.1 no_values), first (read b k w x) h.0 h.2 (read b k w y ∷ []) (before_all h.1 no_values) (first (read b k w y) h.1 h.3 [] no_values (nothing no_values)), h.4)
-  op_computes w (Compare pred compared x y) e is h =
+  op_computes w (Compare pred samesign compared x y) e is h =
       (before_all h.0 (before_all h.1 no_values), first (read b k compared x) h.0 h.2 (read b k compared y ∷ []) (before_all h.1 no_values) (first (read b k compared y) h.1 h.3 [] no_values (nothing no_values)), h.4)
   op_computes w (Select c x y) e is h =
       (before_all h.0 (before_all h.1 (before_all h.2 no_values)), first (read b k 1 c) h.0 h.3 (read b k w x ∷ read b k w y ∷ []) (before_all h.1 (before_all h.2 no_values)) (first (read b k w x) h.1 h.4 (read b k w y ∷ []) (before_all h.2 no_values) (first (read b k w y) h.2 h.5 [] no_values (nothing no_values))), h.6)
-  op_computes w (Convert cast from x) e is h = (before_all h.0 no_values, first (read b k from x) h.0 h.1 [] no_values (nothing no_values), h.2)
+  op_computes w (Convert cast flags from x) e is h = (before_all h.0 no_values, first (read b k from x) h.0 h.1 [] no_values (nothing no_values), h.2)
   op_computes w (Freeze x) e is h = absurd is
   op_computes w (Phi entries) e is h = absurd is
 
   pub op_gives : (w : ℕ) (op : Op) (v : ℕ → Value) → IsComputed op → ReadValues (reads_of f b k w op) v → OpGives AnyNumber held w op (effect_of (computed_by w op) v)
   op_gives w (Binary op flags x y) v is each = (v 0, v 1, each 0 (read b k w x) refl, each 1 (read b k w y) refl, refl)
-  op_gives w (Compare pred compared x y) v is each = (v 0, v 1, each 0 (read b k compared x) refl, each 1 (read b k compared y) refl, refl)
+  op_gives w (Compare pred samesign compared x y) v is each = (v 0, v 1, each 0 (read b k compared x) refl, each 1 (read b k compared y) refl, refl)
   op_gives w (Select c x y) v is each = (v 0, v 1, v 2, each 0 (read b k 1 c) refl, each 1 (read b k w x) refl, each 2 (read b k w y) refl, refl)
-  op_gives w (Convert cast from x) v is each = (v 0, each 0 (read b k from x) refl, refl)
+  op_gives w (Convert cast flags from x) v is each = (v 0, each 0 (read b k from x) refl, refl)
   op_gives w (Freeze x) v is each = absurd is
   op_gives w (Phi entries) v is each = absurd is
 
@@ -172,16 +172,16 @@ module _ (f : Function) (b k : ℕ) (held : Registers) where
 pub effects_allow : (typing : List ℕ) (N : ℕ) (op : RuleOp) (v v' : ℕ → Value) → ((i : ℕ) (o : RuleOperand) → slice_get (operands_of op) i ≡ Some o → AllowsValue (v i) (v' i))
     → AllowsEffect (effect_of (computed typing N op) v) (effect_of (computed typing N op) v')
 effects_allow typing N (rule_ops.Binary op flags a b) v v' h = instruction-monotone op flags N (v 0) (v 1) (v' 0) (v' 1) (h 0 a refl) (h 1 b refl)
-effects_allow typing N (rule_ops.Compare pred a b) v v' h = comparison-monotone pred (slice_index typing a.class) (v 0) (v 1) (v' 0) (v' 1) (h 0 a refl) (h 1 b refl)
+effects_allow typing N (rule_ops.Compare pred samesign a b) v v' h = comparison-monotone pred samesign (slice_index typing a.class) (v 0) (v 1) (v' 0) (v' 1) (h 0 a refl) (h 1 b refl)
 effects_allow typing N (rule_ops.Select c a b) v v' h = selection-monotone (v 0) (v 1) (v 2) (v' 0) (v' 1) (v' 2) (h 0 c refl) (h 1 a refl) (h 2 b refl)
-effects_allow typing N (rule_ops.Convert cast a to) v v' h = conversion-monotone cast (slice_index typing a.class) N (v 0) (v' 0) (h 0 a refl)
+effects_allow typing N (rule_ops.Convert cast flags a to) v v' h = conversion-monotone cast flags (slice_index typing a.class) N (v 0) (v' 0) (h 0 a refl)
 effects_allow typing N (rule_ops.Copy a) v v' h = h 0 a refl
 
 -- and equal ones the same
 pub effects_same : (typing : List ℕ) (N : ℕ) (op : RuleOp) (v v' : ℕ → Value) → ((i : ℕ) (o : RuleOperand) → slice_get (operands_of op) i ≡ Some o → v i ≡ v' i)
     → effect_of (computed typing N op) v ≡ effect_of (computed typing N op) v'
 effects_same typing N (rule_ops.Binary op flags a b) v v' h = let p : v 0 ≡ v' 0 = h 0 a refl in let q : v 1 ≡ v' 1 = h 1 b refl in cc
-effects_same typing N (rule_ops.Compare pred a b) v v' h = let p : v 0 ≡ v' 0 = h 0 a refl in let q : v 1 ≡ v' 1 = h 1 b refl in cc
+effects_same typing N (rule_ops.Compare pred samesign a b) v v' h = let p : v 0 ≡ v' 0 = h 0 a refl in let q : v 1 ≡ v' 1 = h 1 b refl in cc
 effects_same typing N (rule_ops.Select c a b) v v' h = let o : v 0 ≡ v' 0 = h 0 c refl in let p : v 1 ≡ v' 1 = h 1 a refl in let q : v 2 ≡ v' 2 = h 2 b refl in cc
-effects_same typing N (rule_ops.Convert cast a to) v v' h = let p : v 0 ≡ v' 0 = h 0 a refl in cc
+effects_same typing N (rule_ops.Convert cast flags a to) v v' h = let p : v 0 ≡ v' 0 = h 0 a refl in cc
 effects_same typing N (rule_ops.Copy a) v v' h = let p : v 0 ≡ v' 0 = h 0 a refl in cc

@@ -8,6 +8,7 @@ use Rattle.ops.specs.Conversion.{CastFits}
 use Rattle.ops.specs.Integer.{residue}
 use Rattle.ops.specs.Number.{Number}
 use Rattle.ops.specs.Value.{IsValueOf}
+use Rattle.ops.specs.declared.opcode.Flags.{Flags}
 use Rattle.ops.specs.declared.conversion.Cast.{Cast}
 use Rattle.ops.specs.declared.conversion.Cast.TheVariants as casts
 use Rattle.ops.specs.declared.value.Value.{Value}
@@ -199,9 +200,9 @@ module _ (f : Function) (b k : ℕ) (rule : Rule) (binding : Binding) (checked :
       let among : Contains (operands_of s.op) a = subst (λ (op : RuleOp). Contains (operands_of op) a) (sym is) (Contains-from_get (a ∷ []) 0 a refl) in
       more_may (put_before rule binding t) (put_before rule binding (suc t)) width (operand_put rule binding (results rule binding) a) (count_grows rule binding t s at) (operand_may t s at first a among width own)
   result_may t s width at first class (rule_ops.Binary opcode flags x y) is = own_may t s width at class (rule_ops.Binary opcode flags x y) is refl
-  result_may t s width at first class (rule_ops.Compare pred x y) is = own_may t s width at class (rule_ops.Compare pred x y) is refl
+  result_may t s width at first class (rule_ops.Compare pred samesign x y) is = own_may t s width at class (rule_ops.Compare pred samesign x y) is refl
   result_may t s width at first class (rule_ops.Select c x y) is = own_may t s width at class (rule_ops.Select c x y) is refl
-  result_may t s width at first class (rule_ops.Convert cast x to) is = own_may t s width at class (rule_ops.Convert cast x to) is refl
+  result_may t s width at first class (rule_ops.Convert cast flags x to) is = own_may t s width at class (rule_ops.Convert cast flags x to) is refl
 
   first_may : (t : ℕ) → t ≤ length rule.target → FirstMay t
   first_may zero le j s width lt at class = absurd (omega arith)
@@ -221,29 +222,29 @@ module _ (f : Function) (b k : ℕ) (rule : Rule) (binding : Binding) (checked :
 
   -- ---- each instruction that is put
 
-  cast_fits : (s : Statement) (cast : Cast) (a : RuleOperand) (to : Option ℕ) → IsStatementOf rule s → s.op ≡ rule_ops.Convert cast a to → (N M : ℕ) → slice_get binding.typing s.class ≡ Some N → slice_get binding.typing a.class ≡ Some M → CastFits cast M N
-  cast_fits s casts.Trunc a to stands is N M class own = match.typing.smaller s.class a.class N M (truncated stands is) class own
-  cast_fits s casts.ZExt a to stands is N M class own = match.typing.smaller a.class s.class M N (zero_extended stands is) own class
-  cast_fits s casts.SExt a to stands is N M class own = match.typing.smaller a.class s.class M N (sign_extended stands is) own class
+  cast_fits : (s : Statement) (cast : Cast) (flags : Flags) (a : RuleOperand) (to : Option ℕ) → IsStatementOf rule s → s.op ≡ rule_ops.Convert cast flags a to → (N M : ℕ) → slice_get binding.typing s.class ≡ Some N → slice_get binding.typing a.class ≡ Some M → CastFits cast M N
+  cast_fits s casts.Trunc flags a to stands is N M class own = match.typing.smaller s.class a.class N M (truncated stands is) class own
+  cast_fits s casts.ZExt flags a to stands is N M class own = match.typing.smaller a.class s.class M N (zero_extended stands is) own class
+  cast_fits s casts.SExt flags a to stands is N M class own = match.typing.smaller a.class s.class M N (sign_extended stands is) own class
 
   put_typed : (t : ℕ) (s : Statement) → slice_get rule.target t ≡ Some s → (op : RuleOp) → s.op ≡ op → IsNoCopy op → IsTyped (class_width rule binding s.class) (put_op rule binding (class_width rule binding s.class) op)
   put_typed t s at (rule_ops.Binary opcode flags a c) is kept = subst FlagsFitOp is (checked.target_flags t s at)
-  put_typed t s at (rule_ops.Compare pred a c) is kept =
+  put_typed t s at (rule_ops.Compare pred samesign a c) is kept =
       let stands : IsStatementOf rule s = target_statement rule t s at in
       same_Some (class_width rule binding s.class) 1 (sym (own_class s stands) ∙ match.typing.fixed s.class 1 (comparison stands is))
   put_typed t s at (rule_ops.Select c a d) is kept = tt
-  put_typed t s at (rule_ops.Convert cast a to) is kept =
+  put_typed t s at (rule_ops.Convert cast flags a to) is kept =
       let stands : IsStatementOf rule s = target_statement rule t s at in
       let x = width_of_class rule binding.typing a.class match.typing (operand_class_stands rule s a stands (subst (λ (op : RuleOp). Contains (operands_of op) a) (sym is) (Contains-from_get (a ∷ []) 0 a refl))) in
       let own : slice_get binding.typing a.class ≡ Some (class_width rule binding a.class) = x.1 ∙ ap (λ (n : ℕ). Some n) (sym (get_or_from_slice_get binding.typing a.class x.0 0 x.1)) in
-      cast_fits s cast a to stands is (class_width rule binding s.class) (class_width rule binding a.class) (own_class s stands) own
+      (subst FlagsFitOp is (checked.target_flags t s at), cast_fits s cast flags a to stands is (class_width rule binding s.class) (class_width rule binding a.class) (own_class s stands) own)
   put_typed t s at (rule_ops.Copy a) is kept = absurd cc
 
   put_arity : (N : ℕ) (op : RuleOp) → IsNoCopy op → length (operands_of op) ≡ length (reads_of f binding.block binding.place N (put_op rule binding N op))
   put_arity N (rule_ops.Binary opcode flags a c) kept = refl
-  put_arity N (rule_ops.Compare pred a c) kept = refl
+  put_arity N (rule_ops.Compare pred samesign a c) kept = refl
   put_arity N (rule_ops.Select c a d) kept = refl
-  put_arity N (rule_ops.Convert cast a to) kept = refl
+  put_arity N (rule_ops.Convert cast flags a to) kept = refl
   put_arity N (rule_ops.Copy a) kept = absurd cc
 
   put_is : (i : ℕ) (inst : Inst) → slice_get (insts_put rule binding root.name rule.target) i ≡ Some inst → PutFor rule binding root.name 0 i inst
@@ -337,9 +338,9 @@ module _ (f : Function) (b k : ℕ) (rule : Rule) (binding : Binding) (checked :
       let among : Contains (operands_of s.op) a = subst (λ (op : RuleOp). Contains (operands_of op) a) (sym is) (Contains-from_get (a ∷ []) 0 a refl) in
       argument_definite t (class_width rule binding a.class) a.value (omega arith) first (checked.target_reads t s a at among) (subst IsNoUndefCopy is (checked.target_copies t s at)) e
   result_definite t s at first (rule_ops.Binary opcode flags x y) is e = cc
-  result_definite t s at first (rule_ops.Compare pred x y) is e = cc
+  result_definite t s at first (rule_ops.Compare pred samesign x y) is e = cc
   result_definite t s at first (rule_ops.Select c x y) is e = cc
-  result_definite t s at first (rule_ops.Convert cast x to) is e = cc
+  result_definite t s at first (rule_ops.Convert cast flags x to) is e = cc
 
   first_definite : (t : ℕ) → t ≤ length rule.target → FirstDefinite t
   first_definite zero le j a lt at e = omega arith

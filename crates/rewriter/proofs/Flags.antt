@@ -1,18 +1,24 @@
 -- An instruction with more flags gives poison where it doesn't give the same.
 use Rattle.std.proofs.Common.{◌≡◌, ℕ, ℤ, Bool, true, false, cond, not, ◌&&◌, ◌||◌, ap}
-use Rattle.std.specs.Prelude.{bit_and, bit_or, bit_xor}
+use Rattle.std.specs.Prelude.{◌==◌, ◌^◌, nat_le, bit_and, bit_or, bit_xor}
 use Rattle.ops.specs.declared.value.Value.{Value}
 use Rattle.ops.specs.declared.value.Value.TheVariants.{Poison, Bits}
 use Rattle.ops.specs.declared.value.Effect.TheVariants.{Undefined, Gives}
 use Rattle.ops.specs.declared.opcode.Opcode.{Opcode}
 use Rattle.ops.specs.declared.opcode.Opcode.TheVariants.{Add, Sub, Mul, UDiv, SDiv, URem, SRem, Shl, LShr, AShr, And, Or, Xor}
 use Rattle.ops.specs.declared.opcode.Flags.{Flags}
-use Rattle.ops.specs.Flags.{AreWithin}
+use Rattle.ops.specs.declared.comparison.Pred.{Pred}
+use Rattle.ops.specs.declared.conversion.Cast.{Cast}
+use Rattle.ops.specs.declared.conversion.Cast.TheVariants.{Trunc, ZExt, SExt}
+use Rattle.ops.specs.Flags.{AreWithin, icmp_flags}
 use Rattle.ops.specs.Value.{AllowsValue, AllowsEffect}
-use Rattle.ops.specs.Integer.{bits, fits_unsigned, fits_signed, residue}
+use Rattle.ops.specs.Integer.{bits, signed, negative, fits_unsigned, fits_signed, residue}
 use Rattle.ops.specs.Arithmetic.{arithmetic}
 use Rattle.ops.specs.Division.{exactly, udiv, sdiv, urem, srem}
 use Rattle.ops.specs.Shifts.{shl, lshr, ashr}
+use Rattle.ops.specs.Bitwise.{or}
+use Rattle.ops.specs.Comparison.{comparison, holds, signs_differ}
+use Rattle.ops.specs.Conversion.{conversion, converted, breaks_flags}
 use Rattle.ops.specs.Instruction.{instruction, on_numbers, on_poison}
 use Rattle.ops.proofs.Values.{AllowsValue-refl, AllowsEffect-refl}
 
@@ -64,6 +70,12 @@ module _ (f g : Flags) (within : AreWithin f g) where
   exact_within : Within f.exact g.exact
   exact_within = ap (λ (h : Flags). h.exact) within
 
+  nneg_within : Within f.nneg g.nneg
+  nneg_within = ap (λ (h : Flags). h.nneg) within
+
+  disjoint_within : Within f.disjoint g.disjoint
+  disjoint_within = ap (λ (h : Flags). h.disjoint) within
+
   arithmetic_allows : (N : ℕ) (u s : ℤ) → AllowsValue (arithmetic g N u s) (arithmetic f N u s)
   unfolding arithmetic
   arithmetic_allows N u s = by_two g.nuw g.nsw f.nuw f.nsw (not (fits_unsigned N u)) (not (fits_signed N s)) (bits N (residue N u)) nuw_within nsw_within
@@ -72,7 +84,7 @@ module _ (f g : Flags) (within : AreWithin f g) where
   exactly_allows divided v = by_one g.exact f.exact (not divided) v exact_within
 
   numbers_allow : (op : Opcode) (N a b : ℕ) → AllowsEffect (on_numbers op g N a b) (on_numbers op f N a b)
-  unfolding on_numbers udiv sdiv shl lshr ashr
+  unfolding on_numbers udiv sdiv shl lshr ashr or
   numbers_allow Add N a b = arithmetic_allows N _ _
   numbers_allow Sub N a b = arithmetic_allows N _ _
   numbers_allow Mul N a b = arithmetic_allows N _ _
@@ -84,7 +96,7 @@ module _ (f g : Flags) (within : AreWithin f g) where
   numbers_allow LShr N a b = poison_where _ _ _ (exactly_allows _ _)
   numbers_allow AShr N a b = poison_where _ _ _ (exactly_allows _ _)
   numbers_allow And N a b = AllowsValue-refl (bits N (bit_and a b))
-  numbers_allow Or N a b = AllowsValue-refl (bits N (bit_or a b))
+  numbers_allow Or N a b = by_one g.disjoint f.disjoint (not (bit_and a b == 0)) (bits N (bit_or a b)) disjoint_within
   numbers_allow Xor N a b = AllowsValue-refl (bits N (bit_xor a b))
 
   -- an instruction with more flags allows what it does with these
@@ -93,3 +105,21 @@ module _ (f g : Flags) (within : AreWithin f g) where
   more_flags_allow op N (Bits a) (Bits b) = numbers_allow op N a.number b.number
   more_flags_allow op N (Bits a) Poison = AllowsEffect-refl (on_poison op N Poison)
   more_flags_allow op N Poison b = AllowsEffect-refl (on_poison op N b)
+
+  -- and so does a cast
+  pub more_cast_flags_allow : (cast : Cast) (from to : ℕ) (a : Value) → AllowsValue (conversion cast g from to a) (conversion cast f from to a)
+  unfolding conversion breaks_flags
+  more_cast_flags_allow Trunc from to (Bits a) =
+      by_two g.nuw g.nsw f.nuw f.nsw (nat_le (2 ^ to) a.number) (not (fits_signed to (signed from a.number))) (bits to (converted Trunc from to a.number)) nuw_within nsw_within
+  more_cast_flags_allow ZExt from to (Bits a) = by_one g.nneg f.nneg (negative from a.number) (bits to (converted ZExt from to a.number)) nneg_within
+  more_cast_flags_allow SExt from to (Bits a) = AllowsValue-refl (bits to (converted SExt from to a.number))
+  more_cast_flags_allow cast from to Poison = tt
+
+-- and so does a comparison with `samesign`
+pub more_samesign_allows : (samesign samesign' : Bool) → AreWithin (icmp_flags samesign) (icmp_flags samesign') → (pred : Pred) (N : ℕ) (a b : Value)
+    → AllowsValue (comparison pred samesign' N a b) (comparison pred samesign N a b)
+unfolding comparison
+more_samesign_allows samesign samesign' within pred N (Bits a) (Bits b) =
+    by_one samesign' samesign (signs_differ N a.number b.number) (bits 1 (cond (holds pred N a.number b.number) 1 0)) (ap (λ (h : Flags). h.samesign) within)
+more_samesign_allows samesign samesign' within pred N (Bits a) Poison = tt
+more_samesign_allows samesign samesign' within pred N Poison b = tt

@@ -58,9 +58,9 @@ module _ (rule : Rule) (binding : Binding) where
 
   pub result_put_at : (t : ℕ) (op : RuleOp) → IsNoCopy op → result_at t op ≡ operands.Register (registers.Result binding.block (binding.place + put_before t))
   result_put_at t (rule_ops.Binary opcode flags a b) kept = refl
-  result_put_at t (rule_ops.Compare pred a b) kept = refl
+  result_put_at t (rule_ops.Compare pred samesign a b) kept = refl
   result_put_at t (rule_ops.Select c a b) kept = refl
-  result_put_at t (rule_ops.Convert cast a to) kept = refl
+  result_put_at t (rule_ops.Convert cast flags a to) kept = refl
   result_put_at t (rule_ops.Copy a) kept = absurd cc
 
   -- an argument is put the same by results that agree at the places that it may read
@@ -79,9 +79,9 @@ module _ (rule : Rule) (binding : Binding) where
   op_agrees some all t (rule_ops.Copy a) count may same is =
       argument_agrees some all t (class_width rule binding a.class) a.value (may a (Contains-from_get (a ∷ []) 0 a refl)) same ∙ ap (λ (l : List Operand). argument_put rule binding l (class_width rule binding a.class) a.value) is
   op_agrees some all t (rule_ops.Binary opcode flags a b) count may same is = ap (λ n. operands.Register (registers.Result binding.block (binding.place + put_before n))) count
-  op_agrees some all t (rule_ops.Compare pred a b) count may same is = ap (λ n. operands.Register (registers.Result binding.block (binding.place + put_before n))) count
+  op_agrees some all t (rule_ops.Compare pred samesign a b) count may same is = ap (λ n. operands.Register (registers.Result binding.block (binding.place + put_before n))) count
   op_agrees some all t (rule_ops.Select c a b) count may same is = ap (λ n. operands.Register (registers.Result binding.block (binding.place + put_before n))) count
-  op_agrees some all t (rule_ops.Convert cast a to) count may same is = ap (λ n. operands.Register (registers.Result binding.block (binding.place + put_before n))) count
+  op_agrees some all t (rule_ops.Convert cast flags a to) count may same is = ap (λ n. operands.Register (registers.Result binding.block (binding.place + put_before n))) count
 
   module _ (target_reads : (t : ℕ) (s : Statement) (o : RuleOperand) → slice_get rule.target t ≡ Some s → Contains (operands_of s.op) o → TargetMayRead rule t o.value) where
     pub result_is : (t : ℕ) (s : Statement) → slice_get rule.target t ≡ Some s → slice_get results t ≡ Some (result_at t s.op)
@@ -120,9 +120,9 @@ module _ (rule : Rule) (binding : Binding) where
 
   abbrev pub put_op : ℕ → RuleOp → Op
   put_op N (rule_ops.Binary opcode flags a b) = ops.Binary opcode flags (operand_put rule binding results a) (operand_put rule binding results b)
-  put_op N (rule_ops.Compare pred a b) = ops.Compare pred (class_width rule binding a.class) (operand_put rule binding results a) (operand_put rule binding results b)
+  put_op N (rule_ops.Compare pred samesign a b) = ops.Compare pred samesign (class_width rule binding a.class) (operand_put rule binding results a) (operand_put rule binding results b)
   put_op N (rule_ops.Select c a b) = ops.Select (operand_put rule binding results c) (operand_put rule binding results a) (operand_put rule binding results b)
-  put_op N (rule_ops.Convert cast a to) = ops.Convert cast (class_width rule binding a.class) (operand_put rule binding results a)
+  put_op N (rule_ops.Convert cast flags a to) = ops.Convert cast flags (class_width rule binding a.class) (operand_put rule binding results a)
   put_op N (rule_ops.Copy a) = ops.Freeze (operand_put rule binding results a)
 
   abbrev pub put_inst : Name → ℕ → RuleOp → Inst
@@ -130,16 +130,16 @@ module _ (rule : Rule) (binding : Binding) where
 
   pub insts_are : (name : Name) (N : ℕ) (op : RuleOp) → IsNoCopy op → insts_of_op rule binding name N op ≡ put_inst name N op ∷ []
   insts_are name N (rule_ops.Binary opcode flags a b) kept = refl
-  insts_are name N (rule_ops.Compare pred a b) kept = refl
+  insts_are name N (rule_ops.Compare pred samesign a b) kept = refl
   insts_are name N (rule_ops.Select c a b) kept = refl
-  insts_are name N (rule_ops.Convert cast a to) kept = refl
+  insts_are name N (rule_ops.Convert cast flags a to) kept = refl
   insts_are name N (rule_ops.Copy a) kept = absurd cc
 
   pub insts_none : (name : Name) (N : ℕ) (op : RuleOp) → is_copy op ≡ true → insts_of_op rule binding name N op ≡ []
   insts_none name N (rule_ops.Binary opcode flags a b) kept = absurd cc
-  insts_none name N (rule_ops.Compare pred a b) kept = absurd cc
+  insts_none name N (rule_ops.Compare pred samesign a b) kept = absurd cc
   insts_none name N (rule_ops.Select c a b) kept = absurd cc
-  insts_none name N (rule_ops.Convert cast a to) kept = absurd cc
+  insts_none name N (rule_ops.Convert cast flags a to) kept = absurd cc
   insts_none name N (rule_ops.Copy a) kept = refl
 
   -- the instructions of a statement come before those of the statements behind it
@@ -149,16 +149,16 @@ module _ (rule : Rule) (binding : Binding) where
 
   pub computed_same : (N : ℕ) (op : RuleOp) → IsNoCopy op → computed_by N (put_op N op) ≡ computed binding.typing N op
   computed_same N (rule_ops.Binary opcode flags a b) kept = refl
-  computed_same N (rule_ops.Compare pred a b) kept = refl
+  computed_same N (rule_ops.Compare pred samesign a b) kept = refl
   computed_same N (rule_ops.Select c a b) kept = refl
-  computed_same N (rule_ops.Convert cast a to) kept = refl
+  computed_same N (rule_ops.Convert cast flags a to) kept = refl
   computed_same N (rule_ops.Copy a) kept = absurd cc
 
   pub put_is_computed : (N : ℕ) (op : RuleOp) → IsNoCopy op → IsComputed (put_op N op)
   put_is_computed N (rule_ops.Binary opcode flags a b) kept = tt
-  put_is_computed N (rule_ops.Compare pred a b) kept = tt
+  put_is_computed N (rule_ops.Compare pred samesign a b) kept = tt
   put_is_computed N (rule_ops.Select c a b) kept = tt
-  put_is_computed N (rule_ops.Convert cast a to) kept = tt
+  put_is_computed N (rule_ops.Convert cast flags a to) kept = tt
   put_is_computed N (rule_ops.Copy a) kept = absurd cc
 
   -- ---- what it reads
@@ -192,7 +192,7 @@ module _ (rule : Rule) (binding : Binding) where
     reads_paired s N (rule_ops.Binary opcode flags a c) is stands width kept =
         paired_more a (c ∷ []) (read b k N (operand_put rule binding results a)) (read b k N (operand_put rule binding results c) ∷ []) (read_for a N (sym (typed.same s.class a.class (binary_left stands is)) ∙ width))
         (paired_more c [] (read b k N (operand_put rule binding results c)) [] (read_for c N (sym (typed.same s.class c.class (binary_right stands is)) ∙ width)) paired_none)
-    reads_paired s N (rule_ops.Compare pred a c) is stands width kept =
+    reads_paired s N (rule_ops.Compare pred samesign a c) is stands width kept =
         let w : ℕ = class_width rule binding a.class in
         let first : slice_get binding.typing a.class ≡ Some w = own_width s a stands (subst (λ (op : RuleOp). Contains (operands_of op) a) (sym is) (Contains-from_get (a ∷ c ∷ []) 0 a refl)) in
         paired_more a (c ∷ []) (read b k w (operand_put rule binding results a)) (read b k w (operand_put rule binding results c) ∷ []) (read_for a w first)
@@ -201,7 +201,7 @@ module _ (rule : Rule) (binding : Binding) where
         paired_more c (x ∷ y ∷ []) (read b k 1 (operand_put rule binding results c)) (read b k N (operand_put rule binding results x) ∷ read b k N (operand_put rule binding results y) ∷ []) (read_for c 1 (typed.fixed c.class 1 (condition stands is)))
         (paired_more x (y ∷ []) (read b k N (operand_put rule binding results x)) (read b k N (operand_put rule binding results y) ∷ []) (read_for x N (sym (typed.same s.class x.class (select_true stands is)) ∙ width))
         (paired_more y [] (read b k N (operand_put rule binding results y)) [] (read_for y N (sym (typed.same s.class y.class (select_false stands is)) ∙ width)) paired_none))
-    reads_paired s N (rule_ops.Convert cast a to) is stands width kept =
+    reads_paired s N (rule_ops.Convert cast flags a to) is stands width kept =
         let w : ℕ = class_width rule binding a.class in
         paired_more a [] (read b k w (operand_put rule binding results a)) []
         (read_for a w (own_width s a stands (subst (λ (op : RuleOp). Contains (operands_of op) a) (sym is) (Contains-from_get (a ∷ []) 0 a refl)))) paired_none
@@ -264,9 +264,9 @@ module _ (rule : Rule) (binding : Binding) where
         subst (λ n. IsSettled n (operand_put rule binding results a)) (sym same)
         (argument_settled t (class_width rule binding a.class) a.value (omega arith) first (target_reads t s a at (subst (λ (op : RuleOp). Contains (operands_of op) a) (sym is) (Contains-from_get (a ∷ []) 0 a refl))))
     result_settled t s (rule_ops.Binary opcode flags a b) is at first = own_settled t s at (ap is_copy is)
-    result_settled t s (rule_ops.Compare pred a b) is at first = own_settled t s at (ap is_copy is)
+    result_settled t s (rule_ops.Compare pred samesign a b) is at first = own_settled t s at (ap is_copy is)
     result_settled t s (rule_ops.Select c a b) is at first = own_settled t s at (ap is_copy is)
-    result_settled t s (rule_ops.Convert cast a to) is at first = own_settled t s at (ap is_copy is)
+    result_settled t s (rule_ops.Convert cast flags a to) is at first = own_settled t s at (ap is_copy is)
 
     pub first_settled : (t : ℕ) → t ≤ length rule.target → FirstSettled t
     first_settled zero le j a lt at = absurd (omega arith)

@@ -18,9 +18,9 @@ use Rattle.rewriter.specs.Ready.{IsBound, OperandIsReady, OpIsReady, StatementIs
 module _ (rule : Rule) (binding : Binding) where
   by_operand : (k : ℕ) (op : Op) → ((o : Operand) → Contains (operands_of op) o → OperandIsReady rule binding k o) → OpIsReady rule binding k op
   by_operand k (Binary opcode flags a b) h = (h a (Contains-from_get (a ∷ b ∷ []) 0 a refl), h b (Contains-from_get (a ∷ b ∷ []) 1 b refl))
-  by_operand k (Compare pred a b) h = (h a (Contains-from_get (a ∷ b ∷ []) 0 a refl), h b (Contains-from_get (a ∷ b ∷ []) 1 b refl))
+  by_operand k (Compare pred samesign a b) h = (h a (Contains-from_get (a ∷ b ∷ []) 0 a refl), h b (Contains-from_get (a ∷ b ∷ []) 1 b refl))
   by_operand k (Select c a b) h = (h c (Contains-from_get (c ∷ a ∷ b ∷ []) 0 c refl), h a (Contains-from_get (c ∷ a ∷ b ∷ []) 1 a refl), h b (Contains-from_get (c ∷ a ∷ b ∷ []) 2 b refl))
-  by_operand k (Convert cast a to) h = h a (Contains-from_get (a ∷ []) 0 a refl)
+  by_operand k (Convert cast flags a to) h = h a (Contains-from_get (a ∷ []) 0 a refl)
   by_operand k (Copy a) h = h a (Contains-from_get (a ∷ []) 0 a refl)
 
   -- what a statement may read, a later one may

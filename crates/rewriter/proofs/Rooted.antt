@@ -50,9 +50,9 @@ module _ (f : Function) (rule : Rule) (binding : Binding) (is_rule : IsRule rule
 module _ (rule : Rule) (binding : Binding) where
   one_put : (name : Name) (N : ℕ) (op : RuleOp) → length (insts_of_op rule binding name N op) ≤ 1
   one_put name N (Binary opcode flags a b) = omega arith
-  one_put name N (Compare pred a b) = omega arith
+  one_put name N (Compare pred samesign a b) = omega arith
   one_put name N (Select c a b) = omega arith
-  one_put name N (Convert cast a to) = omega arith
+  one_put name N (Convert cast flags a to) = omega arith
   one_put name N (Copy a) = omega arith
 
   few_put : (name : Name) (statements : List Statement) → length (insts_put rule binding name statements) ≤ length statements

@@ -69,9 +69,9 @@ flat_map_from f (a ∷ xs) y among =
 copied_of : (op : RuleOp) → is_copy op ≡ true → (a : RuleOperand) × (op ≡ rule_ops.Copy a)
 copied_of (rule_ops.Copy a) is = (a, refl)
 copied_of (rule_ops.Binary opcode flags a b) is = absurd cc
-copied_of (rule_ops.Compare pred a b) is = absurd cc
+copied_of (rule_ops.Compare pred samesign a b) is = absurd cc
 copied_of (rule_ops.Select c a b) is = absurd cc
-copied_of (rule_ops.Convert cast a to) is = absurd cc
+copied_of (rule_ops.Convert cast flags a to) is = absurd cc
 
 -- the one operand of a copy is no `undef`
 only_operand : (a : RuleOperand) (i : ℕ) (o : RuleOperand) (k : ℕ) → IsDefined a.value → slice_get (a ∷ []) i ≡ Some o → o.value ≡ arguments.Undef k → ⊥

@@ -72,9 +72,9 @@ module _ (rule : Rule) (binding : Binding) where
   -- a target statement as instructions with this name: one, and none for a copy
   abbrev pub insts_of_op : Name → ℕ → RuleOp → List Inst
   insts_of_op name N (rule_ops.Binary opcode flags a b) = record { name = name; width = N; op = ops.Binary opcode flags (operand_put results_put a) (operand_put results_put b) } ∷ []
-  insts_of_op name N (rule_ops.Compare pred a b) = record { name = name; width = N; op = ops.Compare pred (class_width a.class) (operand_put results_put a) (operand_put results_put b) } ∷ []
+  insts_of_op name N (rule_ops.Compare pred samesign a b) = record { name = name; width = N; op = ops.Compare pred samesign (class_width a.class) (operand_put results_put a) (operand_put results_put b) } ∷ []
   insts_of_op name N (rule_ops.Select c a b) = record { name = name; width = N; op = ops.Select (operand_put results_put c) (operand_put results_put a) (operand_put results_put b) } ∷ []
-  insts_of_op name N (rule_ops.Convert cast a to) = record { name = name; width = N; op = ops.Convert cast (class_width a.class) (operand_put results_put a) } ∷ []
+  insts_of_op name N (rule_ops.Convert cast flags a to) = record { name = name; width = N; op = ops.Convert cast flags (class_width a.class) (operand_put results_put a) } ∷ []
   insts_of_op name N (rule_ops.Copy a) = []
 
   abbrev pub insts_with : Name → Statement → List Inst

@@ -29,9 +29,9 @@ module _ (rule : Rule) (binding : Binding) where
 
   abbrev pub OpIsReady : ℕ → Op → Type 0
   OpIsReady k (Binary opcode flags a b) = OperandIsReady k a × OperandIsReady k b
-  OpIsReady k (Compare pred a b) = OperandIsReady k a × OperandIsReady k b
+  OpIsReady k (Compare pred samesign a b) = OperandIsReady k a × OperandIsReady k b
   OpIsReady k (Select c a b) = OperandIsReady k c × OperandIsReady k a × OperandIsReady k b
-  OpIsReady k (Convert cast a to) = OperandIsReady k a
+  OpIsReady k (Convert cast flags a to) = OperandIsReady k a
   OpIsReady k (Copy a) = OperandIsReady k a
 
   pub record StatementIsReady (k : ℕ) (s : Statement) : Type 0 where
@@ -41,7 +41,7 @@ module _ (rule : Rule) (binding : Binding) where
   -- what a target statement computes, where these operands stand for the target's registers: nothing for a copy
   abbrev pub op_put : List PutOperand → Op → Option PutOp
   op_put results (Binary opcode flags a b) = Some (ops.Binary opcode flags (operand_put rule binding results a) (operand_put rule binding results b))
-  op_put results (Compare pred a b) = Some (ops.Compare pred (class_width rule binding a.class) (operand_put rule binding results a) (operand_put rule binding results b))
+  op_put results (Compare pred samesign a b) = Some (ops.Compare pred samesign (class_width rule binding a.class) (operand_put rule binding results a) (operand_put rule binding results b))
   op_put results (Select c a b) = Some (ops.Select (operand_put rule binding results c) (operand_put rule binding results a) (operand_put rule binding results b))
-  op_put results (Convert cast a to) = Some (ops.Convert cast (class_width rule binding a.class) (operand_put rule binding results a))
+  op_put results (Convert cast flags a to) = Some (ops.Convert cast flags (class_width rule binding a.class) (operand_put rule binding results a))
   op_put results (Copy a) = None

@@ -77,19 +77,25 @@ fn op_put(rule: &Rule, binding: &Binding, results: &[Operand], op: RuleOp) -> Op
             let x = operand_put(rule, binding, results, x);
             Some(Op::Binary(opcode, flags, x, operand_put(rule, binding, results, y)))
         }
-        RuleOp::Compare(pred, x, y) => {
+        RuleOp::Compare(pred, samesign, x, y) => {
             let width = class_width(binding, x.class);
             let x = operand_put(rule, binding, results, x);
-            Some(Op::Compare(pred, width, x, operand_put(rule, binding, results, y)))
+            Some(Op::Compare(
+                pred,
+                samesign,
+                width,
+                x,
+                operand_put(rule, binding, results, y),
+            ))
         }
         RuleOp::Select(condition, x, y) => {
             let condition = operand_put(rule, binding, results, condition);
             let x = operand_put(rule, binding, results, x);
             Some(Op::Select(condition, x, operand_put(rule, binding, results, y)))
         }
-        RuleOp::Convert(cast, x, _) => {
+        RuleOp::Convert(cast, flags, x, _) => {
             let from = class_width(binding, x.class);
-            Some(Op::Convert(cast, from, operand_put(rule, binding, results, x)))
+            Some(Op::Convert(cast, flags, from, operand_put(rule, binding, results, x)))
         }
         RuleOp::Copy(_) => None,
     }

@@ -33,7 +33,7 @@ module _ (typing : List ℕ) (given : Given) where
       let left : x ≡ x' = operand_once held a x x' px qx in
       let right : y ≡ y' = operand_once held b y y' py qy in
       cc
-  op_once held N (Compare pred a b) d e (M, x, y, at, px, py, is) (M', x', y', at', qx, qy, is') =
+  op_once held N (Compare pred samesign a b) d e (M, x, y, at, px, py, is) (M', x', y', at', qx, qy, is') =
       let from : M ≡ M' = same_Some M M' (sym at ∙ at') in
       let left : x ≡ x' = operand_once held a x x' px qx in
       let right : y ≡ y' = operand_once held b y y' py qy in
@@ -43,7 +43,7 @@ module _ (typing : List ℕ) (given : Given) where
       let yes : x ≡ x' = operand_once held a x x' px qx in
       let no : y ≡ y' = operand_once held b y y' py qy in
       cc
-  op_once held N (Convert cast a to) d e (M, x, at, px, is) (M', x', at', qx, is') =
+  op_once held N (Convert cast flags a to) d e (M, x, at, px, is) (M', x', at', qx, is') =
       let from : M ≡ M' = same_Some M M' (sym at ∙ at') in
       let operand : x ≡ x' = operand_once held a x x' px qx in
       cc

@@ -52,21 +52,21 @@ module _ (typing : List ℕ) (given : Given) (held : Held) where
       let x = argument_gives N a.value a_ready in
       let y = argument_gives N b.value b_ready in
       (instruction op flags N x.0 y.0, (x.0, y.0, (N, a_width, x.1), (N, b_width, y.1), refl), IsEffectOf-instruction op flags N x.0 y.0 x.2 y.2)
-  op_gives N (Compare pred a b) (M, (a_width, a_ready), (b_width, b_ready), one) =
+  op_gives N (Compare pred samesign a b) (M, (a_width, a_ready), (b_width, b_ready), one) =
       let x = argument_gives M a.value a_ready in
       let y = argument_gives M b.value b_ready in
-      let value = comparison pred M x.0 y.0 in
-      (effects.Gives value, (M, x.0, y.0, a_width, (M, a_width, x.1), (M, b_width, y.1), refl), rw one (IsValueOf-comparison pred M x.0 y.0))
+      let value = comparison pred samesign M x.0 y.0 in
+      (effects.Gives value, (M, x.0, y.0, a_width, (M, a_width, x.1), (M, b_width, y.1), refl), rw one (IsValueOf-comparison pred samesign M x.0 y.0))
   op_gives N (Select c a b) ((c_width, c_ready), (a_width, a_ready), (b_width, b_ready)) =
       let z = argument_gives 1 c.value c_ready in
       let x = argument_gives N a.value a_ready in
       let y = argument_gives N b.value b_ready in
       let value = selection z.0 x.0 y.0 in
       (effects.Gives value, (z.0, x.0, y.0, (1, c_width, z.1), (N, a_width, x.1), (N, b_width, y.1), refl), IsValueOf-selection N z.0 x.0 y.0 x.2 y.2)
-  op_gives N (Convert cast a to) (M, (a_width, a_ready), fit) =
+  op_gives N (Convert cast flags a to) (M, (a_width, a_ready), fit) =
       let x = argument_gives M a.value a_ready in
-      let value = conversion cast M N x.0 in
-      (effects.Gives value, (M, x.0, a_width, (M, a_width, x.1), refl), IsValueOf-conversion cast M N x.0 fit x.2)
+      let value = conversion cast flags M N x.0 in
+      (effects.Gives value, (M, x.0, a_width, (M, a_width, x.1), refl), IsValueOf-conversion cast flags M N x.0 fit x.2)
   op_gives N (Copy a) (a_width, a_ready) =
       let x = argument_gives N a.value a_ready in
       (effects.Gives x.0, (x.0, (N, a_width, x.1), refl), x.2)

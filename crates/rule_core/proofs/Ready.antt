@@ -6,6 +6,7 @@ use Rattle.std.proofs.lemmas.Option.{slice_get-get_or, slice_get_within, get_or_
 use Rattle.ops.specs.Number.{Number}
 use Rattle.ops.specs.Value.{IsValueOf}
 use Rattle.ops.specs.Conversion.{CastFits}
+use Rattle.ops.specs.declared.opcode.Flags.{Flags}
 use Rattle.ops.specs.declared.conversion.Cast.{Cast}
 use Rattle.ops.specs.declared.conversion.Cast.TheVariants.{Trunc, ZExt, SExt}
 use Rattle.ops.specs.declared.value.Value.{Value}
@@ -110,10 +111,10 @@ module _ (rule : Rule) (typing : List ℕ) (half : List Statement) (given : Give
 AllReady : List ℕ → Given → Held → Op → Type 0
 AllReady typing given held op = (o : Operand) (N : ℕ) → Contains (operands_of op) o → slice_get typing o.class ≡ Some N → ArgumentIsReady given held N o.value
 
-cast_fits : (rule : Rule) (typing : List ℕ) (s : Statement) (a : Operand) (to : Option ℕ) (cast : Cast) (M N : ℕ) → IsTyping rule typing → IsStatementOf rule s → s.op ≡ Convert cast a to → slice_get typing a.class ≡ Some M → slice_get typing s.class ≡ Some N → CastFits cast M N
-cast_fits rule typing s a to Trunc M N typed stands is from width = typed.smaller s.class a.class N M (truncated stands is) width from
-cast_fits rule typing s a to ZExt M N typed stands is from width = typed.smaller a.class s.class M N (zero_extended stands is) from width
-cast_fits rule typing s a to SExt M N typed stands is from width = typed.smaller a.class s.class M N (sign_extended stands is) from width
+cast_fits : (rule : Rule) (typing : List ℕ) (s : Statement) (a : Operand) (to : Option ℕ) (cast : Cast) (flags : Flags) (M N : ℕ) → IsTyping rule typing → IsStatementOf rule s → s.op ≡ Convert cast flags a to → slice_get typing a.class ≡ Some M → slice_get typing s.class ≡ Some N → CastFits cast M N
+cast_fits rule typing s a to Trunc flags M N typed stands is from width = typed.smaller s.class a.class N M (truncated stands is) width from
+cast_fits rule typing s a to ZExt flags M N typed stands is from width = typed.smaller a.class s.class M N (zero_extended stands is) from width
+cast_fits rule typing s a to SExt flags M N typed stands is from width = typed.smaller a.class s.class M N (sign_extended stands is) from width
 
 op_ready : (rule : Rule) (typing : List ℕ) (given : Given) (held : Held) (s : Statement) (N : ℕ) (op : Op) → IsTyping rule typing → IsStatementOf rule s → slice_get typing s.class ≡ Some N → s.op ≡ op → FlagsFitOp op → AllReady typing given held op → OpIsReady typing given held N op
 unfolding AllReady
@@ -121,7 +122,7 @@ op_ready rule typing given held s N (Binary op flags a b) typed stands width is 
     let left : slice_get typing a.class ≡ Some N = sym (typed.same s.class a.class (binary_left stands is)) ∙ width in
     let right : slice_get typing b.class ≡ Some N = sym (typed.same s.class b.class (binary_right stands is)) ∙ width in
     (fit, (left, ready a N (Contains-from_get (a ∷ b ∷ []) 0 a refl) left), (right, ready b N (Contains-from_get (a ∷ b ∷ []) 1 b refl) right))
-op_ready rule typing given held s N (Compare pred a b) typed stands width is fit ready =
+op_ready rule typing given held s N (Compare pred samesign a b) typed stands width is fit ready =
     let M = class_width rule typing a.class typed (operand_class_stands rule s a stands (subst (λ op. Contains (operands_of op) a) (sym is) (Contains-from_get (a ∷ b ∷ []) 0 a refl))) in
     let right : slice_get typing b.class ≡ Some M.0 = sym (typed.same a.class b.class (compared stands is)) ∙ M.1 in
     let one : N ≡ 1 = same_Some N 1 (sym width ∙ typed.fixed s.class 1 (comparison stands is)) in
@@ -135,9 +136,9 @@ op_ready rule typing given held s N (Select c a b) typed stands width is fit rea
       (yes, ready a N (Contains-from_get among 1 a refl) yes),
       (no, ready b N (Contains-from_get among 2 b refl) no),
     )
-op_ready rule typing given held s N (Convert cast a to) typed stands width is fit ready =
+op_ready rule typing given held s N (Convert cast flags a to) typed stands width is fit ready =
     let M = class_width rule typing a.class typed (operand_class_stands rule s a stands (subst (λ op. Contains (operands_of op) a) (sym is) (Contains-from_get (a ∷ []) 0 a refl))) in
-    (M.0, (M.1, ready a M.0 (Contains-from_get (a ∷ []) 0 a refl) M.1), cast_fits rule typing s a to cast M.0 N typed stands is M.1 width)
+    (M.0, (M.1, ready a M.0 (Contains-from_get (a ∷ []) 0 a refl) M.1), cast_fits rule typing s a to cast flags M.0 N typed stands is M.1 width)
 op_ready rule typing given held s N (Copy a) typed stands width is fit ready =
     let same : slice_get typing a.class ≡ Some N = sym (typed.same s.class a.class (copy stands is)) ∙ width in
     (same, ready a N (Contains-from_get (a ∷ []) 0 a refl) same)

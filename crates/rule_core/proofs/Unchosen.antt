@@ -50,7 +50,7 @@ module _ (rule : Rule) (typing : List ℕ) (constants choices : List Number) whe
   op_same held N (Binary op flags a b) e none (x, y, p, q, is) =
       let among = a ∷ b ∷ [] in
       (x, y, operand_same held a x (none a (Contains-from_get among 0 a refl)) p, operand_same held b y (none b (Contains-from_get among 1 b refl)) q, is)
-  op_same held N (Compare pred a b) e none (M, x, y, at, p, q, is) =
+  op_same held N (Compare pred samesign a b) e none (M, x, y, at, p, q, is) =
       let among = a ∷ b ∷ [] in
       (M, x, y, at, operand_same held a x (none a (Contains-from_get among 0 a refl)) p, operand_same held b y (none b (Contains-from_get among 1 b refl)) q, is)
   op_same held N (Select c a b) e none (z, x, y, o, p, q, is) =
@@ -63,7 +63,7 @@ module _ (rule : Rule) (typing : List ℕ) (constants choices : List Number) whe
         operand_same held b y (none b (Contains-from_get among 2 b refl)) q,
         is,
       )
-  op_same held N (Convert cast a to) e none (M, x, at, p, is) = (M, x, at, operand_same held a x (none a (Contains-from_get (a ∷ []) 0 a refl)) p, is)
+  op_same held N (Convert cast flags a to) e none (M, x, at, p, is) = (M, x, at, operand_same held a x (none a (Contains-from_get (a ∷ []) 0 a refl)) p, is)
   op_same held N (Copy a) e none (x, p, is) = (x, operand_same held a x (none a (Contains-from_get (a ∷ []) 0 a refl)) p, is)
 
   follows_same : (statements : List Statement) (held : Held) (end : Ending) → ((k : ℕ) (s : Statement) → slice_get statements k ≡ Some s → (o : Operand) → Contains (operands_of s.op) o → NoUndef o.value)

@@ -1,11 +1,11 @@
 -- What a rule that is read meets: a field for each kind of fault that its text could have had.
 use Rattle.std.specs.Prelude.{◌≡◌, ℕ, suc, ◌+◌, ◌<◌, ◌≤◌, List, length, Some, Contains, slice_get, map, sum_by}
 use Rattle.std.specs.List.{range_with_len}
-use Rattle.ops.specs.Flags.{FlagsFit}
+use Rattle.ops.specs.Flags.{FlagsFit, CastFlagsFit}
 use Rattle.rule_core.specs.declared.rule.Rule.{Rule}
 use Rattle.rule_core.specs.declared.rule.Statement.{Statement}
 use Rattle.rule_core.specs.declared.rule.Op.{Op}
-use Rattle.rule_core.specs.declared.rule.Op.TheVariants.{Binary, Copy}
+use Rattle.rule_core.specs.declared.rule.Op.TheVariants.{Binary, Convert, Copy}
 use Rattle.rule_core.specs.declared.rule.Operand.{Operand}
 use Rattle.rule_core.specs.declared.rule.Argument.{Argument}
 use Rattle.rule_core.specs.declared.rule.Argument.TheVariants as arguments
@@ -100,9 +100,10 @@ MayBeFormula rule n (formulas.Not a) = a < n
 MayBeFormula rule n (formulas.And a b) = (a < n) × (b < n)
 MayBeFormula rule n (formulas.Or a b) = (a < n) × (b < n)
 
--- the flags that are written fit the opcode
+-- the flags that are written are ones that the instruction takes
 abbrev pub FlagsFitOp : Op → Type 0
 FlagsFitOp (Binary op flags a b) = FlagsFit op flags
+FlagsFitOp (Convert cast flags a to) = CastFlagsFit cast flags
 FlagsFitOp op = Unit {0}
 
 -- an operation that may stand in the source: all but copies

@@ -26,9 +26,9 @@ use Rattle.rule_core.specs.declared.rule.Register.TheVariants as registers
 -- the operands from left to right
 abbrev pub operands_of : Op → List Operand
 operands_of (Binary op flags a b) = a ∷ b ∷ []
-operands_of (Compare pred a b) = a ∷ b ∷ []
+operands_of (Compare pred samesign a b) = a ∷ b ∷ []
 operands_of (Select c a b) = c ∷ a ∷ b ∷ []
-operands_of (Convert cast a to) = a ∷ []
+operands_of (Convert cast flags a to) = a ∷ []
 operands_of (Copy a) = a ∷ []
 
 -- the operands of statements, in the order of the text
@@ -110,7 +110,7 @@ pub data Line (rule : Rule) : ℕ → ℕ → Type 0 where
   binary_left : {s : Statement} {op : Opcode} {flags : Flags} {a b : Operand} → IsStatementOf rule s → s.op ≡ Binary op flags a b → Line rule s.class a.class
   binary_right : {s : Statement} {op : Opcode} {flags : Flags} {a b : Operand} → IsStatementOf rule s → s.op ≡ Binary op flags a b → Line rule s.class b.class
   -- both operands of a comparison
-  compared : {s : Statement} {pred : Pred} {a b : Operand} → IsStatementOf rule s → s.op ≡ Compare pred a b → Line rule a.class b.class
+  compared : {s : Statement} {pred : Pred} {samesign : Bool} {a b : Operand} → IsStatementOf rule s → s.op ≡ Compare pred samesign a b → Line rule a.class b.class
   -- the result and both arms of a select
   select_true : {s : Statement} {c a b : Operand} → IsStatementOf rule s → s.op ≡ Select c a b → Line rule s.class a.class
   select_false : {s : Statement} {c a b : Operand} → IsStatementOf rule s → s.op ≡ Select c a b → Line rule s.class b.class
@@ -131,11 +131,11 @@ pub data Line (rule : Rule) : ℕ → ℕ → Type 0 where
 -- one line of the table of types gives positions of the class c the width N
 pub data Fixed (rule : Rule) : ℕ → ℕ → Type 0 where
   -- the result of a comparison
-  comparison : {s : Statement} {pred : Pred} {a b : Operand} → IsStatementOf rule s → s.op ≡ Compare pred a b → Fixed rule s.class 1
+  comparison : {s : Statement} {pred : Pred} {samesign : Bool} {a b : Operand} → IsStatementOf rule s → s.op ≡ Compare pred samesign a b → Fixed rule s.class 1
   -- the condition of a select
   condition : {s : Statement} {c a b : Operand} → IsStatementOf rule s → s.op ≡ Select c a b → Fixed rule c.class 1
   -- the result of a cast `to` a type that is written
-  cast_to : {s : Statement} {cast : Cast} {a : Operand} {N : ℕ} → IsStatementOf rule s → s.op ≡ Convert cast a (Some N) → Fixed rule s.class N
+  cast_to : {s : Statement} {cast : Cast} {flags : Flags} {a : Operand} {N : ℕ} → IsStatementOf rule s → s.op ≡ Convert cast flags a (Some N) → Fixed rule s.class N
   -- an operand before which a type is written
   written : {o : Operand} {N : ℕ} → Contains (operands_in rule) o → o.written ≡ Some N → Fixed rule o.class N
   -- `true` and `false`
@@ -143,6 +143,6 @@ pub data Fixed (rule : Rule) : ℕ → ℕ → Type 0 where
 
 -- one line of the table of types keeps the width of positions of the class c below that of positions of the class d
 pub data Smaller (rule : Rule) : ℕ → ℕ → Type 0 where
-  truncated : {s : Statement} {a : Operand} {to : Option ℕ} → IsStatementOf rule s → s.op ≡ Convert Trunc a to → Smaller rule s.class a.class
-  zero_extended : {s : Statement} {a : Operand} {to : Option ℕ} → IsStatementOf rule s → s.op ≡ Convert ZExt a to → Smaller rule a.class s.class
-  sign_extended : {s : Statement} {a : Operand} {to : Option ℕ} → IsStatementOf rule s → s.op ≡ Convert SExt a to → Smaller rule a.class s.class
+  truncated : {s : Statement} {flags : Flags} {a : Operand} {to : Option ℕ} → IsStatementOf rule s → s.op ≡ Convert Trunc flags a to → Smaller rule s.class a.class
+  zero_extended : {s : Statement} {flags : Flags} {a : Operand} {to : Option ℕ} → IsStatementOf rule s → s.op ≡ Convert ZExt flags a to → Smaller rule a.class s.class
+  sign_extended : {s : Statement} {flags : Flags} {a : Operand} {to : Option ℕ} → IsStatementOf rule s → s.op ≡ Convert SExt flags a to → Smaller rule a.class s.class

@@ -44,9 +44,9 @@ OperandIsReady typing given held N o = (slice_get typing o.class ≡ Some N) × 
 
 abbrev pub OpIsReady : List ℕ → Given → Held → ℕ → Op → Type 0
 OpIsReady typing given held N (Binary op flags a b) = FlagsFit op flags × OperandIsReady typing given held N a × OperandIsReady typing given held N b
-OpIsReady typing given held N (Compare pred a b) = (M : ℕ) × OperandIsReady typing given held M a × OperandIsReady typing given held M b × (N ≡ 1)
+OpIsReady typing given held N (Compare pred samesign a b) = (M : ℕ) × OperandIsReady typing given held M a × OperandIsReady typing given held M b × (N ≡ 1)
 OpIsReady typing given held N (Select c a b) = OperandIsReady typing given held 1 c × OperandIsReady typing given held N a × OperandIsReady typing given held N b
-OpIsReady typing given held N (Convert cast a to) = (M : ℕ) × OperandIsReady typing given held M a × CastFits cast M N
+OpIsReady typing given held N (Convert cast flags a to) = (M : ℕ) × OperandIsReady typing given held M a × CastFits cast M N
 OpIsReady typing given held N (Copy a) = OperandIsReady typing given held N a
 
 abbrev pub StatementIsReady : List ℕ → Given → Held → Statement → Type 0

@@ -95,14 +95,14 @@ module _ (typing : List ℕ) (given : Given) where
   -- its operands, and a cast one from its operand's width to N. A copy gives its operand.
   abbrev pub OpGives : Held → ℕ → Op → Effect → Type 0
   OpGives held N (Binary op flags a b) e = (x : Value) × (y : Value) × OperandGives held a x × OperandGives held b y × (e ≡ instruction op flags N x y)
-  OpGives held N (Compare pred a b) e =
+  OpGives held N (Compare pred samesign a b) e =
       (M : ℕ) × (x : Value) × (y : Value)
-      × (slice_get typing a.class ≡ Some M) × OperandGives held a x × OperandGives held b y × (e ≡ effects.Gives (comparison pred M x y))
+      × (slice_get typing a.class ≡ Some M) × OperandGives held a x × OperandGives held b y × (e ≡ effects.Gives (comparison pred samesign M x y))
   OpGives held N (Select c a b) e =
       (z : Value) × (x : Value) × (y : Value)
       × OperandGives held c z × OperandGives held a x × OperandGives held b y × (e ≡ effects.Gives (selection z x y))
-  OpGives held N (Convert cast a to) e =
-      (M : ℕ) × (x : Value) × (slice_get typing a.class ≡ Some M) × OperandGives held a x × (e ≡ effects.Gives (conversion cast M N x))
+  OpGives held N (Convert cast flags a to) e =
+      (M : ℕ) × (x : Value) × (slice_get typing a.class ≡ Some M) × OperandGives held a x × (e ≡ effects.Gives (conversion cast flags M N x))
   OpGives held N (Copy a) e = (x : Value) × OperandGives held a x × (e ≡ effects.Gives x)
 
   abbrev pub StatementGives : Held → Statement → Effect → Type 0

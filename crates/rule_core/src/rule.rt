@@ -49,12 +49,12 @@ pub struct Statement {
 pub enum Op {
     /// A binary operation on two operands of the result's class.
     Binary(Opcode, Flags, Operand, Operand),
-    /// `icmp`: a comparison of two operands of one class. The result has the width 1.
-    Compare(Pred, Operand, Operand),
+    /// `icmp`, with `samesign` where that is true: a comparison of two operands of one class. The result has the width 1.
+    Compare(Pred, bool, Operand, Operand),
     /// `select`: the second operand where the first, of width 1, is 1, and else the third; both are of the result's class.
     Select(Operand, Operand, Operand),
     /// A cast of the operand to the result's width, which the last type says, if it is written.
-    Convert(Cast, Operand, Option<Width>),
+    Convert(Cast, Flags, Operand, Option<Width>),
     /// The operand itself, which has the result's class. It stands in a target alone.
     Copy(Operand),
 }

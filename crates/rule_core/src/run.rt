@@ -200,8 +200,9 @@ fn effect_of(given: Given, held: Held, statement: &Statement) -> Effect
             operand_value(given, held, left),
             operand_value(given, held, right),
         ),
-        Op::Compare(pred, left, right) => Effect::Gives(compare(
+        Op::Compare(pred, samesign, left, right) => Effect::Gives(compare(
             pred,
+            samesign,
             width_of(given, left.class),
             operand_value(given, held, left),
             operand_value(given, held, right),
@@ -211,8 +212,9 @@ fn effect_of(given: Given, held: Held, statement: &Statement) -> Effect
             operand_value(given, held, yes),
             operand_value(given, held, no),
         )),
-        Op::Convert(cast, operand, _) => Effect::Gives(convert(
+        Op::Convert(cast, flags, operand, _) => Effect::Gives(convert(
             cast,
+            flags,
             width_of(given, operand.class),
             width_of(given, statement.class),
             operand_value(given, held, operand),

@@ -11,13 +11,6 @@ ghost use Rattle.rule_core.specs.Readiness.{TermIsReady};
 use crate::rule::{Function, Node, Term};
 use ops::{Effect, Flags, Opcode, Value, Width, Word, evaluate, minus_one, residue};
 
-/// No flags: a term's operators have none.
-const NO_FLAGS: Flags = Flags {
-    nuw: false,
-    nsw: false,
-    exact: false,
-};
-
 /// What a node of a constant term gives, from what the nodes before it give; poison where it has no value.
 pub fn term_value(typing: &[Width], constants: &[Word], before: &[Value], term: Term) -> Value
     requires { TermIsReady typing.now constants.now before.now term }
@@ -35,7 +28,7 @@ pub fn term_value(typing: &[Width], constants: &[Word], before: &[Value], term: 
         },
         Node::Binary(opcode, left, right) => value_given(evaluate(
             opcode,
-            NO_FLAGS,
+            Flags::NONE,
             width,
             before[left as usize],
             before[right as usize],
@@ -53,14 +46,14 @@ fn function_value(function: Function, width: Width, a: Word) -> Value
     match function {
         Function::Negate => value_given(evaluate(
             Opcode::Sub,
-            NO_FLAGS,
+            Flags::NONE,
             width,
             Value::Bits(Word::fitting(width, 0)),
             Value::Bits(a),
         )),
         Function::Not => value_given(evaluate(
             Opcode::Xor,
-            NO_FLAGS,
+            Flags::NONE,
             width,
             Value::Bits(Word::fitting(width, minus_one(width))),
             Value::Bits(a),

@@ -57,8 +57,8 @@ fn positions_of(statements: &[Statement]) -> u32
     for statement in statements {
         count += match statement.op {
             Op::Select(_, _, _) => 4,
-            Op::Binary(_, _, _, _) | Op::Compare(_, _, _) => 3,
-            Op::Convert(_, _, _) | Op::Copy(_) => 2,
+            Op::Binary(_, _, _, _) | Op::Compare(_, _, _, _) => 3,
+            Op::Convert(_, _, _, _) | Op::Copy(_) => 2,
         };
     }
     count
@@ -138,14 +138,14 @@ fn class_in(statement: &Statement, position: usize) -> Result<u32, usize>
 {
     match (position, statement.op) {
         (0, _) => Ok(statement.class),
-        (1, Op::Binary(_, _, left, _) | Op::Compare(_, left, _)) => Ok(left.class),
-        (2, Op::Binary(_, _, _, right) | Op::Compare(_, _, right)) => Ok(right.class),
-        (_, Op::Binary(_, _, _, _) | Op::Compare(_, _, _)) => Err(position - 3),
+        (1, Op::Binary(_, _, left, _) | Op::Compare(_, _, left, _)) => Ok(left.class),
+        (2, Op::Binary(_, _, _, right) | Op::Compare(_, _, _, right)) => Ok(right.class),
+        (_, Op::Binary(_, _, _, _) | Op::Compare(_, _, _, _)) => Err(position - 3),
         (1, Op::Select(condition, _, _)) => Ok(condition.class),
         (2, Op::Select(_, yes, _)) => Ok(yes.class),
         (3, Op::Select(_, _, no)) => Ok(no.class),
         (_, Op::Select(_, _, _)) => Err(position - 4),
-        (1, Op::Convert(_, operand, _) | Op::Copy(operand)) => Ok(operand.class),
-        (_, Op::Convert(_, _, _) | Op::Copy(_)) => Err(position - 2),
+        (1, Op::Convert(_, _, operand, _) | Op::Copy(operand)) => Ok(operand.class),
+        (_, Op::Convert(_, _, _, _) | Op::Copy(_)) => Err(position - 2),
     }
 }

@@ -12,16 +12,16 @@ use Rattle.rule_matches.specs.declared.roots.Group.{Group}
 
 abbrev pub kind_of_statement : RuleOp → Option RootKind
 kind_of_statement (rule_ops.Binary opcode flags a b) = Some (Binary opcode)
-kind_of_statement (rule_ops.Compare pred a b) = Some (Compare pred)
+kind_of_statement (rule_ops.Compare pred samesign a b) = Some (Compare pred)
 kind_of_statement (rule_ops.Select c a b) = Some Select
-kind_of_statement (rule_ops.Convert cast a to) = Some (Convert cast)
+kind_of_statement (rule_ops.Convert cast flags a to) = Some (Convert cast)
 kind_of_statement (rule_ops.Copy a) = None
 
 abbrev pub kind_of_inst : InstOp → Option RootKind
 kind_of_inst (ops.Binary opcode flags x y) = Some (Binary opcode)
-kind_of_inst (ops.Compare pred width x y) = Some (Compare pred)
+kind_of_inst (ops.Compare pred samesign width x y) = Some (Compare pred)
 kind_of_inst (ops.Select c x y) = Some Select
-kind_of_inst (ops.Convert cast from x) = Some (Convert cast)
+kind_of_inst (ops.Convert cast flags from x) = Some (Convert cast)
 kind_of_inst (ops.Freeze x) = None
 kind_of_inst (ops.Phi entries) = None
 

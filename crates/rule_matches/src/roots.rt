@@ -38,9 +38,9 @@ fn kind_of_statement(op: RuleOp) -> Option<RootKind>
 {
     match op {
         RuleOp::Binary(opcode, _, _, _) => Some(RootKind::Binary(opcode)),
-        RuleOp::Compare(pred, _, _) => Some(RootKind::Compare(pred)),
+        RuleOp::Compare(pred, _, _, _) => Some(RootKind::Compare(pred)),
         RuleOp::Select(_, _, _) => Some(RootKind::Select),
-        RuleOp::Convert(cast, _, _) => Some(RootKind::Convert(cast)),
+        RuleOp::Convert(cast, _, _, _) => Some(RootKind::Convert(cast)),
         RuleOp::Copy(_) => None,
     }
 }
@@ -59,9 +59,9 @@ fn kind_of_inst(op: &Op) -> Option<RootKind>
 {
     match op {
         Op::Binary(opcode, _, _, _) => Some(RootKind::Binary(*opcode)),
-        Op::Compare(pred, _, _, _) => Some(RootKind::Compare(*pred)),
+        Op::Compare(pred, _, _, _, _) => Some(RootKind::Compare(*pred)),
         Op::Select(_, _, _) => Some(RootKind::Select),
-        Op::Convert(cast, _, _) => Some(RootKind::Convert(*cast)),
+        Op::Convert(cast, _, _, _) => Some(RootKind::Convert(*cast)),
         Op::Freeze(_) | Op::Phi(_) => None,
     }
 }

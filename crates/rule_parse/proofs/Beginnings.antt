@@ -4,7 +4,7 @@ use Rattle.std.specs.Prelude.{codes}
 use Rattle.std.specs.List.{list_all}
 use Rattle.std.specs.Str.{bytes_eq}
 use Rattle.std.proofs.lemmas.Bool.{eqb-true}
-use Rattle.ops.specs.declared.opcode.Opcode.{Opcode}
+use Rattle.ops.specs.declared.opcode.Flags.{Flags}
 use Rattle.rule_core.specs.declared.rule.Function.{Function}
 use Rattle.rule_core.specs.declared.rule.Function.TheVariants.{Negate, Not, Log2, Abs}
 use Rattle.ops.specs.FlagKeywords.{flag_in}
@@ -31,7 +31,7 @@ module _ (limits : Limits) where
   pub record IsOperandWord (word : List ℕ) : Type 0 where
     pub no_type : type_in word ≡ None
     pub no_operation : operation_in word ≡ None
-    pub no_flag : (op : Opcode) → flag_in op word ≡ None
+    pub no_flag : (taken : Flags) → flag_in taken word ≡ None
 
   abbrev pub BeginsOperand : List Token → Type 0
   BeginsOperand (Register name ∷ tokens) = Unit {0}
@@ -63,7 +63,7 @@ module _ (limits : Limits) where
 
   constant_word : (digits : List ℕ) → IsOperandWord (67 ∷ digits) × (bytes_eq (67 ∷ digits) (codes "undef") ≡ false)
   unfolding type_in operation_in flag_in
-  constant_word digits = (record { no_type = refl; no_operation = refl; no_flag = λ op. refl }, refl)
+  constant_word digits = (record { no_type = refl; no_operation = refl; no_flag = λ taken. refl }, refl)
 
   constant_begins : (word : List ℕ) → is_constant word ≡ true → IsOperandWord word × (bytes_eq word (codes "undef") ≡ false)
   unfolding is_constant
@@ -72,21 +72,21 @@ module _ (limits : Limits) where
 
   width_word : IsOperandWord (codes "width") × (bytes_eq (codes "width") (codes "undef") ≡ false)
   unfolding type_in operation_in flag_in
-  width_word = (record { no_type = refl; no_operation = refl; no_flag = λ op. refl }, refl)
+  width_word = (record { no_type = refl; no_operation = refl; no_flag = λ taken. refl }, refl)
 
   called_word : (function : Function) (word : List ℕ) → IsCalled function word → IsOperandWord word × (bytes_eq word (codes "undef") ≡ false)
   unfolding type_in operation_in flag_in
-  called_word Log2 word is = rw is (record { no_type = refl; no_operation = refl; no_flag = λ op. refl }, refl)
-  called_word Abs word is = rw is (record { no_type = refl; no_operation = refl; no_flag = λ op. refl }, refl)
+  called_word Log2 word is = rw is (record { no_type = refl; no_operation = refl; no_flag = λ taken. refl }, refl)
+  called_word Abs word is = rw is (record { no_type = refl; no_operation = refl; no_flag = λ taken. refl }, refl)
   called_word Negate word is = absurd is
   called_word Not word is = absurd is
 
   source_word_begins : (word : List ℕ) → ((word ≡ codes "true") → IsOperandWord word) × ((word ≡ codes "false") → IsOperandWord word) × ((word ≡ codes "undef") → IsOperandWord word)
   unfolding type_in operation_in flag_in
   source_word_begins word = (
-    (λ is. rw is (record { no_type = refl; no_operation = refl; no_flag = λ op. refl })),
-    (λ is. rw is (record { no_type = refl; no_operation = refl; no_flag = λ op. refl })),
-    (λ is. rw is (record { no_type = refl; no_operation = refl; no_flag = λ op. refl })),
+    (λ is. rw is (record { no_type = refl; no_operation = refl; no_flag = λ taken. refl })),
+    (λ is. rw is (record { no_type = refl; no_operation = refl; no_flag = λ taken. refl })),
+    (λ is. rw is (record { no_type = refl; no_operation = refl; no_flag = λ taken. refl })),
   )
 
   -- ---- terms

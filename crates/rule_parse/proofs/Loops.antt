@@ -1,7 +1,6 @@
 -- Loops that read one part after another.
 use Rattle.std.proofs.Common.{◌≡◌, ℕ, zero, suc, ◌+◌, ◌-◌, ◌<◌, ◌≤◌, List, [], ◌∷◌, ◌++◌, length, drop, true, false, Some, Result, Ok, Err, refl, sym, ap, ◌∙◌, append_assoc, length-append, arith}
 use Rattle.std.proofs.lemmas.List.{append-nil}
-use Rattle.ops.specs.declared.opcode.Opcode.{Opcode}
 use Rattle.ops.specs.declared.opcode.Flags.{Flags}
 use Rattle.ops.specs.declared.keywords.flag.Flag.{Flag}
 use Rattle.ops.specs.FlagKeywords.{has_flag, with_flag}
@@ -74,15 +73,15 @@ module _ (limits : Limits) where
 
   -- ---- flags
 
-  pub flags-more : (op : Opcode) (line : ℕ) (before : Flags) (flag : Flag) (tokens : List Token) → next_flag op tokens ≡ Some flag → has_flag before flag ≡ false → flags_at op line before tokens ≡ flags_at op line (with_flag before flag) (drop 1 tokens)
+  pub flags-more : (taken : Flags) (line : ℕ) (before : Flags) (flag : Flag) (tokens : List Token) → next_flag taken tokens ≡ Some flag → has_flag before flag ≡ false → flags_at taken line before tokens ≡ flags_at taken line (with_flag before flag) (drop 1 tokens)
   unfolding flags_at
-  flags-more op line before flag [] next new = absurd cc
-  flags-more op line before flag (token ∷ rest) next new = rw (next, new) refl
+  flags-more taken line before flag [] next new = absurd cc
+  flags-more taken line before flag (token ∷ rest) next new = rw (next, new) refl
 
-  pub flags-again : (op : Opcode) (line : ℕ) (before : Flags) (flag : Flag) (tokens : List Token) → next_flag op tokens ≡ Some flag → has_flag before flag ≡ true → flags_at op line before tokens ≡ Err (fault line Syntax)
+  pub flags-again : (taken : Flags) (line : ℕ) (before : Flags) (flag : Flag) (tokens : List Token) → next_flag taken tokens ≡ Some flag → has_flag before flag ≡ true → flags_at taken line before tokens ≡ Err (fault line Syntax)
   unfolding flags_at
-  flags-again op line before flag [] next again = absurd cc
-  flags-again op line before flag (token ∷ rest) next again = rw (next, again) refl
+  flags-again taken line before flag [] next again = absurd cc
+  flags-again taken line before flag (token ∷ rest) next again = rw (next, again) refl
 
   -- ---- rules
 

@@ -6,12 +6,12 @@ use Rattle.ops.specs.declared.opcode.Opcode.{Opcode}
 use Rattle.ops.specs.declared.opcode.Flags.{Flags}
 use Rattle.ops.specs.declared.comparison.Pred.{Pred}
 use Rattle.ops.specs.declared.conversion.Cast.{Cast}
-use Rattle.ops.specs.Flags.{no_flags, flags_of}
+use Rattle.ops.specs.Flags.{no_flags, flags_of, flags_of_cast, flags_of_icmp, icmp_flags}
 use Rattle.ops.specs.declared.keywords.flag.Flag.{Flag}
 use Rattle.ops.specs.Keywords.{opcode_keyword, cast_keyword, predicate_keyword, pred_in}
 use Rattle.ops.specs.FlagKeywords.{AddsFlags, flag_keyword, has_flag, with_flag}
 use Rattle.ops.proofs.KeywordLemmas.{same_word, pred_in-is}
-use Rattle.ops.proofs.FlagKeywordLemmas.{flag_in-is}
+use Rattle.ops.proofs.FlagKeywordLemmas.{flag_in-is, flags_are_icmp, taken_flags}
 use Rattle.rule_tokens.specs.declared.fault.RuleFaultKind.TheVariants.{Syntax}
 use Rattle.rule_parse.specs.declared.half.Half.{Half}
 use Rattle.rule_parse.specs.declared.half.Half.TheVariants.{Source, Target}
@@ -163,33 +163,33 @@ module _ (limits : Limits) where
 
   -- ---- flags
 
-  -- a token that is one of the instruction's flags
-  flag_token : (op : Opcode) (token : Token) (rest : List Token) (flag : Flag) → next_flag op (token ∷ rest) ≡ Some flag → (token ≡ Word (flag_keyword flag)) × (has_flag (flags_of op) flag ≡ true)
-  flag_token op (Word word) rest flag e = let is = flag_in-is op word flag e in (ap Word is.0, is.1)
-  flag_token op token rest flag e = absurd cc
+  -- a token that is a flag which the instruction takes
+  flag_token : (taken : Flags) (token : Token) (rest : List Token) (flag : Flag) → next_flag taken (token ∷ rest) ≡ Some flag → (token ≡ Word (flag_keyword flag)) × (has_flag taken flag ≡ true)
+  flag_token taken (Word word) rest flag e = let is = flag_in-is taken word flag e in (ap Word is.0, is.1)
+  flag_token taken token rest flag e = absurd cc
 
   -- flags before, and flags behind these
-  abbrev AddsRead : Opcode → Flags → List Token → Flags × List Token → Type 0
-  AddsRead op before tokens x = (written : List Flag) × AddsFlags op before written x.0 × (tokens ≡ map (λ flag. Word (flag_keyword flag)) written ++ x.1)
+  abbrev AddsRead : Flags → Flags → List Token → Flags × List Token → Type 0
+  AddsRead taken before tokens x = (written : List Flag) × AddsFlags taken before written x.0 × (tokens ≡ map (λ flag. Word (flag_keyword flag)) written ++ x.1)
 
-  flag_or_end-is : (op : Opcode) (line : ℕ) (before : Flags) (token : Token) (rest : List Token) (x : Flags × List Token) (found : Option Flag) → next_flag op (token ∷ rest) ≡ found → flag_or_end line before found (λ flags. flags_at op line flags rest) (token ∷ rest) ≡ Ok x
-      → ((flags : Flags) → flags_at op line flags rest ≡ Ok x → AddsRead op flags rest x) → AddsRead op before (token ∷ rest) x
-  flag_or_end-is op line before token rest x None f e others = read_as (AddsRead op before (token ∷ rest)) (before, token ∷ rest) x e ([], refl, refl)
-  flag_or_end-is op line before token rest x (Some flag) f e others =
+  flag_or_end-is : (taken : Flags) (line : ℕ) (before : Flags) (token : Token) (rest : List Token) (x : Flags × List Token) (found : Option Flag) → next_flag taken (token ∷ rest) ≡ found → flag_or_end line before found (λ flags. flags_at taken line flags rest) (token ∷ rest) ≡ Ok x
+      → ((flags : Flags) → flags_at taken line flags rest ≡ Ok x → AddsRead taken flags rest x) → AddsRead taken before (token ∷ rest) x
+  flag_or_end-is taken line before token rest x None f e others = read_as (AddsRead taken before (token ∷ rest)) (before, token ∷ rest) x e ([], refl, refl)
+  flag_or_end-is taken line before token rest x (Some flag) f e others =
       let new = refused_not (has_flag before flag) _ x (fault line Syntax) e in
       let more = others (with_flag before flag) new.1 in
-      let is = flag_token op token rest flag f in
+      let is = flag_token taken token rest flag f in
       (flag ∷ more.0, (is.1, new.0, more.1), ap (λ (t : Token). t ∷ rest) is.0 ∙ ap (λ (ts : List Token). Word (flag_keyword flag) ∷ ts) more.2)
 
-  flags_read : (op : Opcode) (line : ℕ) (before : Flags) (tokens : List Token) (x : Flags × List Token) → flags_at op line before tokens ≡ Ok x → AddsRead op before tokens x
+  flags_read : (taken : Flags) (line : ℕ) (before : Flags) (tokens : List Token) (x : Flags × List Token) → flags_at taken line before tokens ≡ Ok x → AddsRead taken before tokens x
   unfolding flags_at
-  flags_read op line before [] x e = read_as (AddsRead op before []) (before, []) x e ([], refl, refl)
-  flags_read op line before (token ∷ rest) x e =
-      flag_or_end-is op line before token rest x (next_flag op (token ∷ rest)) refl e (λ flags f. flags_read op line flags rest x f)
+  flags_read taken line before [] x e = read_as (AddsRead taken before []) (before, []) x e ([], refl, refl)
+  flags_read taken line before (token ∷ rest) x e =
+      flag_or_end-is taken line before token rest x (next_flag taken (token ∷ rest)) refl e (λ flags f. flags_read taken line flags rest x f)
 
-  flags_at-is : (op : Opcode) (line : ℕ) (tokens : List Token) (x : Flags × List Token) → flags_at op line no_flags tokens ≡ Ok x → Takes (SpellsFlags op x.0) tokens x.1
-  flags_at-is op line tokens x e =
-      let f = flags_read op line no_flags tokens x e in
+  flags_at-is : (taken : Flags) (line : ℕ) (tokens : List Token) (x : Flags × List Token) → flags_at taken line no_flags tokens ≡ Ok x → Takes (SpellsFlags taken x.0) tokens x.1
+  flags_at-is taken line tokens x e =
+      let f = flags_read taken line no_flags tokens x e in
       record { own = map (λ (flag : Flag). Word (flag_keyword flag)) f.0; is_own = (f.0, f.1, refl); whole = f.2 }
 
   -- ---- what a statement computes
@@ -212,10 +212,10 @@ module _ (limits : Limits) where
   binary_at-is : (half : Half) (line : ℕ) (op : Opcode) (word : List ℕ) (tokens : List Token) (x : RawOp × List Token) → word ≡ opcode_keyword op → binary_at limits half line op tokens ≡ Ok x → IsOpBehind half word tokens x
   unfolding binary_at
   binary_at-is half line op word tokens x is e =
-      bound (flags_at op line no_flags tokens) _ _ e (λ flags f e1.
+      bound (flags_at (flags_of op) line no_flags tokens) _ _ e (λ flags f e1.
       bound (pair_at limits half line flags.1) _ _ e1 (λ pair p e2.
       read_as (IsOpBehind half word tokens) (Binary op flags.0 pair.0.0 pair.0.1, pair.1) x e2
-      (both (word_as word (opcode_keyword op) tokens is) (both (flags_at-is op line tokens flags f) (pair_at-is half line flags.1 pair p)))))
+      (both (word_as word (opcode_keyword op) tokens is) (both (flags_at-is (flags_of op) line tokens flags f) (pair_at-is half line flags.1 pair p)))))
 
   pred_at-is : (line : ℕ) (tokens : List Token) (x : Pred × List Token) → pred_at line tokens ≡ Ok x → Takes (Is (Word (predicate_keyword x.0))) tokens x.1
   unfolding pred_at
@@ -224,13 +224,20 @@ module _ (limits : Limits) where
       taken_to (word_as word (predicate_keyword x.0) rest (pred_in-is word x.0 n.0)) n.1
   pred_at-is line tokens x e = absurd cc
 
+  -- the flags that are read are those of an `icmp` with `samesign` or without
+  icmp_flags-are : (line : ℕ) (tokens : List Token) (x : Flags × List Token) → flags_at flags_of_icmp line no_flags tokens ≡ Ok x → Takes (SpellsFlags flags_of_icmp (icmp_flags x.0.samesign)) tokens x.1
+  icmp_flags-are line tokens x e =
+      let t = flags_at-is flags_of_icmp line tokens x e in
+      subst (λ (flags : Flags). Takes (SpellsFlags flags_of_icmp flags) tokens x.1) (flags_are_icmp x.0 (taken_flags flags_of_icmp t.is_own.0 x.0 t.is_own.1)) t
+
   compare_at-is : (half : Half) (line : ℕ) (word : List ℕ) (tokens : List Token) (x : RawOp × List Token) → word ≡ codes "icmp" → compare_at limits half line tokens ≡ Ok x → IsOpBehind half word tokens x
   unfolding compare_at
   compare_at-is half line word tokens x is e =
-      bound (pred_at line tokens) _ _ e (λ pred f e1.
-      bound (pair_at limits half line pred.1) _ _ e1 (λ pair p e2.
-      read_as (IsOpBehind half word tokens) (Compare pred.0 pair.0.0 pair.0.1, pair.1) x e2
-      (both (word_as word (codes "icmp") tokens is) (both (pred_at-is line tokens pred f) (pair_at-is half line pred.1 pair p)))))
+      bound (flags_at flags_of_icmp line no_flags tokens) _ _ e (λ flags g e1.
+      bound (pred_at line flags.1) _ _ e1 (λ pred f e2.
+      bound (pair_at limits half line pred.1) _ _ e2 (λ pair p e3.
+      read_as (IsOpBehind half word tokens) (Compare pred.0 flags.0.samesign pair.0.0 pair.0.1, pair.1) x e3
+      (both (word_as word (codes "icmp") tokens is) (both (icmp_flags-are line tokens flags g) (both (pred_at-is line flags.1 pred f) (pair_at-is half line pred.1 pair p)))))))
 
   select_at-is : (half : Half) (line : ℕ) (word : List ℕ) (tokens : List Token) (x : RawOp × List Token) → word ≡ codes "select" → select_at limits half line tokens ≡ Ok x → IsOpBehind half word tokens x
   unfolding select_at
@@ -248,10 +255,11 @@ module _ (limits : Limits) where
   convert_at-is : (half : Half) (line : ℕ) (cast : Cast) (word : List ℕ) (tokens : List Token) (x : RawOp × List Token) → word ≡ cast_keyword cast → convert_at limits half line cast tokens ≡ Ok x → IsOpBehind half word tokens x
   unfolding convert_at
   convert_at-is half line cast word tokens x is e =
-      bound (operand_at limits half line tokens) _ _ e (λ from p e1.
-      bound (to_at line from.1) _ _ e1 (λ to q e2.
-      read_as (IsOpBehind half word tokens) (Convert cast from.0 to.0, to.1) x e2
-      (both (word_as word (cast_keyword cast) tokens is) (both (operand_at-is half line tokens from p) (to_at-is line from.1 to q)))))
+      bound (flags_at (flags_of_cast cast) line no_flags tokens) _ _ e (λ flags f e1.
+      bound (operand_at limits half line flags.1) _ _ e1 (λ from p e2.
+      bound (to_at line from.1) _ _ e2 (λ to q e3.
+      read_as (IsOpBehind half word tokens) (Convert cast flags.0 from.0 to.0, to.1) x e3
+      (both (word_as word (cast_keyword cast) tokens is) (both (flags_at-is (flags_of_cast cast) line tokens flags f) (both (operand_at-is half line flags.1 from p) (to_at-is line from.1 to q)))))))
 
   copy_at-is : (line : ℕ) (tokens : List Token) (x : RawOp × List Token) → copy_at limits line tokens ≡ Ok x → Takes (SpellsOp limits Target x.0) tokens x.1
   unfolding copy_at

@@ -1,15 +1,14 @@
 -- What is spelled of a statement is read, where the line of its last token ends behind it.
 use Rattle.std.specs.Prelude.{codes}
 use Rattle.std.proofs.Common.{◌≡◌, ◌≤◌, ℕ, length, Bool, true, false, List, [], ◌∷◌, ◌++◌, map, Option, Some, None, Ok, refl, ◌∙◌, append_assoc}
-use Rattle.ops.specs.declared.opcode.Opcode.{Opcode}
 use Rattle.ops.specs.declared.opcode.Flags.{Flags}
 use Rattle.ops.specs.declared.comparison.Pred.{Pred}
-use Rattle.ops.specs.Flags.{no_flags}
+use Rattle.ops.specs.Flags.{no_flags, flags_of, flags_of_cast, flags_of_icmp, icmp_flags}
 use Rattle.ops.specs.declared.keywords.flag.Flag.{Flag}
 use Rattle.ops.specs.Keywords.{predicate_keyword}
 use Rattle.ops.specs.FlagKeywords.{AddsFlags, flag_keyword, with_flag}
 use Rattle.ops.proofs.KeywordLemmas.{pred_in-of}
-use Rattle.ops.proofs.FlagKeywordLemmas.{flag_in-of}
+use Rattle.ops.proofs.FlagKeywordLemmas.{flag_in-of, predicate_is_no_flag}
 use Rattle.scan.specs.RuleTokens.{is_constant}
 use Rattle.rule_parse.specs.declared.half.Half.{Half}
 use Rattle.rule_parse.specs.declared.half.Half.TheVariants.{Source, Target}
@@ -138,31 +137,31 @@ module _ (limits : Limits) where
 
   -- ---- flags
 
-  pub flags_done : (op : Opcode) (line : ℕ) (before : Flags) (rest : List Token) → next_flag op rest ≡ None → flags_at op line before rest ≡ Ok (before, rest)
+  pub flags_done : (taken : Flags) (line : ℕ) (before : Flags) (rest : List Token) → next_flag taken rest ≡ None → flags_at taken line before rest ≡ Ok (before, rest)
   unfolding flags_at
-  flags_done op line before [] none = refl
-  flags_done op line before (token ∷ rest) none = rw none refl
+  flags_done taken line before [] none = refl
+  flags_done taken line before (token ∷ rest) none = rw none refl
 
-  flags_added : (op : Opcode) (line : ℕ) (written : List Flag) (before after : Flags) (rest : List Token) → AddsFlags op before written after → next_flag op rest ≡ None → flags_at op line before (map (λ flag. Word (flag_keyword flag)) written ++ rest) ≡ Ok (after, rest)
+  flags_added : (taken : Flags) (line : ℕ) (written : List Flag) (before after : Flags) (rest : List Token) → AddsFlags taken before written after → next_flag taken rest ≡ None → flags_at taken line before (map (λ flag. Word (flag_keyword flag)) written ++ rest) ≡ Ok (after, rest)
   unfolding flags_at
-  flags_added op line [] before after rest adds none = rw adds (flags_done op line after rest none)
-  flags_added op line (flag ∷ written) before after rest (takes, new, adds) none =
-      rw (flag_in-of op flag takes, new) (flags_added op line written (with_flag before flag) after rest adds none)
+  flags_added taken line [] before after rest adds none = rw adds (flags_done taken line after rest none)
+  flags_added taken line (flag ∷ written) before after rest (is_taken, new, adds) none =
+      rw (flag_in-of taken flag is_taken, new) (flags_added taken line written (with_flag before flag) after rest adds none)
 
-  flags_at-of : (op : Opcode) (line : ℕ) (flags : Flags) (own rest : List Token) → SpellsFlags op flags own → next_flag op rest ≡ None → flags_at op line no_flags (own ++ rest) ≡ Ok (flags, rest)
-  flags_at-of op line flags own rest (written, adds, is) none = rw is (flags_added op line written no_flags flags rest adds none)
+  flags_at-of : (taken : Flags) (line : ℕ) (flags : Flags) (own rest : List Token) → SpellsFlags taken flags own → next_flag taken rest ≡ None → flags_at taken line no_flags (own ++ rest) ≡ Ok (flags, rest)
+  flags_at-of taken line flags own rest (written, adds, is) none = rw is (flags_added taken line written no_flags flags rest adds none)
 
   -- no flag begins an operand
-  no_flag : (op : Opcode) (own rest : List Token) → BeginsOperand limits own → next_flag op (own ++ rest) ≡ None
-  no_flag op (Register name ∷ ts) rest begins = refl
-  no_flag op (Number text ∷ ts) rest begins = refl
-  no_flag op (Word word ∷ ts) rest begins = begins.no_flag op
-  no_flag op (Mark mark ∷ ts) rest begins = refl
-  no_flag op tokens rest begins = absurd begins
+  no_flag : (taken : Flags) (own rest : List Token) → BeginsOperand limits own → next_flag taken (own ++ rest) ≡ None
+  no_flag taken (Register name ∷ ts) rest begins = refl
+  no_flag taken (Number text ∷ ts) rest begins = refl
+  no_flag taken (Word word ∷ ts) rest begins = begins.no_flag taken
+  no_flag taken (Mark mark ∷ ts) rest begins = refl
+  no_flag taken tokens rest begins = absurd begins
 
-  begins_no_flag : (op : Opcode) (written : Option ℕ) (front back rest : List Token) → Maybe SpellsType written front → BeginsOperand limits back → next_flag op (front ++ (back ++ rest)) ≡ None
-  begins_no_flag op None front back rest is begins = rw is (no_flag op back rest begins)
-  begins_no_flag op (Some width) front back rest (written, type, is) begins = rw is (type_is_no_flag limits op written width type)
+  begins_no_flag : (taken : Flags) (written : Option ℕ) (front back rest : List Token) → Maybe SpellsType written front → BeginsOperand limits back → next_flag taken (front ++ (back ++ rest)) ≡ None
+  begins_no_flag taken None front back rest is begins = rw is (no_flag taken back rest begins)
+  begins_no_flag taken (Some width) front back rest (written, type, is) begins = rw is (type_is_no_flag limits taken written width type)
 
   -- ---- what a statement computes
 
@@ -172,9 +171,17 @@ module _ (limits : Limits) where
       let behind : EndsTerm (o1 ++ rest) = rw (is2, append_assoc t2 o2 rest) (comma_ends_term t2 (o2 ++ rest) comma) in
       rw (is1, append_assoc t1 o1 rest, operand_at-of half line a t1 (o1 ++ rest) left behind, is2, append_assoc t2 o2 rest, comma_at-of line t2 (o2 ++ rest) comma, untyped_at-of half line b o2 rest right (line_ends_term rest ends), line_end-of line rest ends) refl
 
-  pair_begins : (op : Opcode) (half : Half) (a b : RawOperand) (own rest : List Token) → SpellsPair limits half a b own → next_flag op (own ++ rest) ≡ None
-  pair_begins op half a b own rest (t1, o1, (front, back, type, argument, is), others, is1) =
-      rw (is1, append_assoc t1 o1 rest, is, append_assoc front back (o1 ++ rest)) (begins_no_flag op a.written front back (o1 ++ rest) type (argument_begins limits half a.value back argument))
+  -- no flag begins what an operand begins
+  operand_begins : (taken : Flags) (half : Half) (a : RawOperand) (first others own rest : List Token) → SpellsOperand limits half a first → own ≡ first ++ others → next_flag taken (own ++ rest) ≡ None
+  operand_begins taken half a first others own rest (front, back, type, argument, is) whole =
+      rw (whole, append_assoc first others rest, is, append_assoc front back (others ++ rest)) (begins_no_flag taken a.written front back (others ++ rest) type (argument_begins limits half a.value back argument))
+
+  pair_begins : (taken : Flags) (half : Half) (a b : RawOperand) (own rest : List Token) → SpellsPair limits half a b own → next_flag taken (own ++ rest) ≡ None
+  pair_begins taken half a b own rest (t1, o1, left, others, is1) = operand_begins taken half a t1 o1 own rest left is1
+
+  -- nor begins one a predicate
+  predicate_begins : (taken : Flags) (pred : Pred) (first others own rest : List Token) → first ≡ Word (predicate_keyword pred) ∷ [] → own ≡ first ++ others → next_flag taken (own ++ rest) ≡ None
+  predicate_begins taken pred first others own rest is whole = rw (whole, is) (predicate_is_no_flag taken pred)
 
   pred_at-of : (line : ℕ) (pred : Pred) (rest : List Token) → pred_at line (Word (predicate_keyword pred) ∷ rest) ≡ Ok (pred, rest)
   unfolding pred_at
@@ -201,9 +208,9 @@ module _ (limits : Limits) where
   pub op_at-of : (half : Half) (line : ℕ) (op : RawOp) (own rest : List Token) → SpellsOp limits half op own → EndsLine rest → op_at limits half line (own ++ rest) ≡ Ok (op, rest)
   unfolding op_at binary_at compare_at select_at convert_at
   op_at-of half line (Binary op flags a b) own rest (t1, o1, word, (t2, o2, fs, pair, is2), is1) ends =
-      rw (is1, word, operation_in-of limits (operations.Binary op), is2, append_assoc t2 o2 rest, flags_at-of op line flags t2 (o2 ++ rest) fs (pair_begins op half a b o2 rest pair), pair_at-of half line a b o2 rest pair ends) refl
-  op_at-of half line (Compare pred a b) own rest (t1, o1, word, (t2, o2, pred_is, pair, is2), is1) ends =
-      rw (is1, word, is2, pred_is, operation_in-of limits operations.Compare, pred_at-of line pred (o2 ++ rest), pair_at-of half line a b o2 rest pair ends) refl
+      rw (is1, word, operation_in-of limits (operations.Binary op), is2, append_assoc t2 o2 rest, flags_at-of (flags_of op) line flags t2 (o2 ++ rest) fs (pair_begins (flags_of op) half a b o2 rest pair), pair_at-of half line a b o2 rest pair ends) refl
+  op_at-of half line (Compare pred samesign a b) own rest (t1, o1, word, (t2, o2, fs, (t3, o3, pred_is, pair, is3), is2), is1) ends =
+      rw (is1, word, operation_in-of limits operations.Compare, is2, append_assoc t2 o2 rest, flags_at-of flags_of_icmp line (icmp_flags samesign) t2 (o2 ++ rest) fs (predicate_begins flags_of_icmp pred t3 o3 o2 rest pred_is is3), is3, pred_is, pred_at-of line pred (o3 ++ rest), pair_at-of half line a b o3 rest pair ends) refl
   op_at-of half line (Select condition a b) own rest (t1, o1, word, (t2, o2, choice, (t3, o3, comma, (t4, o4, left, (t5, o5, comma2, right, is5), is4), is3), is2), is1) ends =
       let behind : EndsTerm (o2 ++ rest) = rw (is3, append_assoc t3 o3 rest) (comma_ends_term t3 (o3 ++ rest) comma) in
       let behind2 : EndsTerm (o4 ++ rest) = rw (is5, append_assoc t5 o5 rest) (comma_ends_term t5 (o5 ++ rest) comma2) in
@@ -226,8 +233,8 @@ module _ (limits : Limits) where
         operand_at-of half line b o5 rest right (line_ends_term rest ends),
         line_end-of line rest ends,
       ) refl
-  op_at-of half line (Convert cast a to) own rest (t1, o1, word, (t2, o2, operand, behind, is2), is1) ends =
-      rw (is1, word, operation_in-of limits (operations.Convert cast), is2, append_assoc t2 o2 rest, operand_at-of half line a t2 (o2 ++ rest) operand (to_ends_term to o2 rest behind ends), to_at-of line to o2 rest behind ends) refl
+  op_at-of half line (Convert cast flags a to) own rest (t1, o1, word, (t2, o2, fs, (t3, o3, operand, behind, is3), is2), is1) ends =
+      rw (is1, word, operation_in-of limits (operations.Convert cast), is2, append_assoc t2 o2 rest, flags_at-of (flags_of_cast cast) line flags t2 (o2 ++ rest) fs (operand_begins (flags_of_cast cast) half a t3 o3 o2 rest operand is3), is3, append_assoc t3 o3 rest, operand_at-of half line a t3 (o3 ++ rest) operand (to_ends_term to o3 rest behind ends), to_at-of line to o3 rest behind ends) refl
   op_at-of Source line (Copy a) own rest is ends = absurd is
   op_at-of Target line (Copy a) own rest (front, back, type, argument, is) ends =
       rw (is, append_assoc front back rest) (copy_begins line a.written front back rest type (argument_begins limits Target a.value back argument))

@@ -2,7 +2,7 @@
 use Rattle.std.proofs.Common.{◌≡◌, ℕ, true, false, cond, List, [], ◌∷◌, Option, Some, None, refl, sym, subst, ⊎_elim}
 use Rattle.std.specs.Prelude.{codes}
 use Rattle.std.specs.Str.{bytes_eq}
-use Rattle.ops.specs.declared.opcode.Opcode.{Opcode}
+use Rattle.ops.specs.declared.opcode.Flags.{Flags}
 use Rattle.ops.specs.declared.opcode.Opcode.TheVariants.{Add, Sub, Mul, UDiv, SDiv, URem, SRem, Shl, LShr, AShr, And, Or, Xor}
 use Rattle.ops.specs.declared.conversion.Cast.TheVariants.{Trunc, ZExt, SExt}
 use Rattle.ops.specs.FlagKeywords.{flag_in}
@@ -68,9 +68,9 @@ module _ (limits : Limits) where
   -- ---- types
 
   -- the word of a type is none of a flag or an operation
-  pub type_is_no_flag : (op : Opcode) (word : List ℕ) (width : ℕ) → IsWrittenType word width → flag_in op word ≡ None
+  pub type_is_no_flag : (taken : Flags) (word : List ℕ) (width : ℕ) → IsWrittenType word width → flag_in taken word ≡ None
   unfolding flag_in
-  type_is_no_flag op word width is = rw is.1 refl
+  type_is_no_flag taken word width is = rw is.1 refl
 
   digits_are_no_letters : (digits : List ℕ) → are_digits digits ≡ true → bytes_eq digits (codes "cmp") ≡ false
   unfolding is_digit

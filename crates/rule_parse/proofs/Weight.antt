@@ -100,6 +100,9 @@ module _ (limits : Limits) where
   behind_word : (w : ℕ) (text : List ℕ) (own front back : List Token) → front ≡ Word text ∷ [] → Weighs w back → own ≡ front ++ back → Weighs w own
   behind_word w text own front back is b whole = rw (whole, is) (light w (Word text ∷ []) back (word text) b)
 
+  behind_flags : (w : ℕ) (flags : List Flag) (own front back : List Token) → front ≡ map (λ (flag : Flag). Word (flag_keyword flag)) flags → Weighs w back → own ≡ front ++ back → Weighs w own
+  behind_flags w flags own front back is b whole = rw (whole, is) (light w (map (λ (flag : Flag). Word (flag_keyword flag)) flags) back (flags_weigh flags) b)
+
   to_weighs : (to : Option ℕ) (own : List Token) → Maybe SpellsTo to own → Weighs 0 own
   to_weighs None own is = rw is nothing
   to_weighs (Some width) own (front, back, is, (text, type, at), whole) = behind_word 0 (codes "to") own front back is (rw at (word text)) whole
@@ -111,10 +114,10 @@ module _ (limits : Limits) where
   op_weighs : (half : Half) (op : RawOp) (own : List Token) → SpellsOp limits half op own → Weighs (arguments_weight (arguments_of op)) own
   op_weighs half (Binary op flags a b) own (f, k, is, (g, h, (written, adds, spelled), pair, at), whole) =
       at_least _ (one_weight a.value + one_weight b.value) own (omega arith)
-      (behind_word _ (opcode_keyword op) own f k is (rw (at, spelled) (light _ (map (λ (flag : Flag). Word (flag_keyword flag)) written) h (flags_weigh written) (pair_weighs half a b h pair))) whole)
-  op_weighs half (Compare pred a b) own (f, k, is, (g, h, is_pred, pair, at), whole) =
+      (behind_word _ (opcode_keyword op) own f k is (behind_flags _ written k g h spelled (pair_weighs half a b h pair) at) whole)
+  op_weighs half (Compare pred samesign a b) own (f, k, is, (g, h, (written, adds, spelled), (m, n, is_pred, pair, at'), at), whole) =
       at_least _ (one_weight a.value + one_weight b.value) own (omega arith)
-      (behind_word _ (codes "icmp") own f k is (behind_word _ (predicate_keyword pred) k g h is_pred (pair_weighs half a b h pair) at) whole)
+      (behind_word _ (codes "icmp") own f k is (behind_flags _ written k g h spelled (behind_word _ (predicate_keyword pred) h m n is_pred (pair_weighs half a b n pair) at') at) whole)
   op_weighs half (Select c a b) own (f, k, is, (x, k1, is_c, (m1, k2, comma1, (y, k3, is_a, (m2, z, comma2, is_b, w4), w3), w2), w1), whole) =
       at_least _ (one_weight c.value + (one_weight a.value + one_weight b.value)) own (omega arith)
       (behind_word _ (codes "select") own f k is
@@ -123,9 +126,9 @@ module _ (limits : Limits) where
       (w3 ∙ ap (λ (ts : List Token). y ++ ts) (w4 ∙ ap (λ (ts : List Token). ts ++ z) comma2)))
       (w1 ∙ ap (λ (ts : List Token). x ++ ts) (w2 ∙ ap (λ (ts : List Token). ts ++ k2) comma1)))
       whole)
-  op_weighs half (Convert cast a to) own (f, k, is, (x, y, is_a, is_to, at), whole) =
+  op_weighs half (Convert cast flags a to) own (f, k, is, (g, h, (written, adds, spelled), (x, y, is_a, is_to, at'), at), whole) =
       at_least _ (one_weight a.value + 0) own (omega arith)
-      (behind_word _ (cast_keyword cast) own f k is (rw at (join (one_weight a.value) 0 x y (operand_weighs half a x is_a) (to_weighs to y is_to))) whole)
+      (behind_word _ (cast_keyword cast) own f k is (behind_flags _ written k g h spelled (rw at' (join (one_weight a.value) 0 x y (operand_weighs half a x is_a) (to_weighs to y is_to))) at) whole)
   op_weighs Source (Copy a) own is = absurd is
   op_weighs Target (Copy a) own is = at_least _ (one_weight a.value) own (omega arith) (operand_weighs Target a own is)
 

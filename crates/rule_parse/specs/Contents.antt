@@ -14,9 +14,9 @@ use Rattle.rule_terms.specs.declared.raw.RawFormula.TheVariants as raw_formulas
 -- what a statement reads, from left to right
 abbrev pub arguments_of : RawOp → List RawArgument
 arguments_of (raw_ops.Binary op flags a b) = a.value ∷ b.value ∷ []
-arguments_of (raw_ops.Compare pred a b) = a.value ∷ b.value ∷ []
+arguments_of (raw_ops.Compare pred samesign a b) = a.value ∷ b.value ∷ []
 arguments_of (raw_ops.Select c a b) = c.value ∷ a.value ∷ b.value ∷ []
-arguments_of (raw_ops.Convert cast a to) = a.value ∷ []
+arguments_of (raw_ops.Convert cast flags a to) = a.value ∷ []
 arguments_of (raw_ops.Copy a) = a.value ∷ []
 
 -- what statements read, in the order of the text

@@ -1,8 +1,7 @@
 -- The parts of a rule as written, and which tokens spell them. Each part stands on a line of its own.
 use Rattle.std.specs.Prelude.{◌≡◌, IsTrue, ℕ, ◌≤◌, List, [], ◌∷◌, ◌++◌, length, map, None, codes}
-use Rattle.ops.specs.declared.opcode.Opcode.{Opcode}
 use Rattle.ops.specs.declared.opcode.Flags.{Flags}
-use Rattle.ops.specs.Flags.{no_flags}
+use Rattle.ops.specs.Flags.{no_flags, flags_of, flags_of_cast, flags_of_icmp, icmp_flags}
 use Rattle.ops.specs.declared.keywords.flag.Flag.{Flag}
 use Rattle.ops.specs.Keywords.{opcode_keyword, cast_keyword, predicate_keyword}
 use Rattle.ops.specs.FlagKeywords.{AddsFlags, flag_keyword}
@@ -59,25 +58,27 @@ SpellsUntyped limits half a tokens = (a.written ≡ None) × SpellsArgument limi
 abbrev pub SpellsPair : Limits → Half → RawOperand → RawOperand → Part
 SpellsPair limits half a b = SpellsOperand limits half a ⨾ Comma ⨾ SpellsUntyped limits half b
 
--- flag*, each once, in any order
-abbrev pub SpellsFlags : Opcode → Flags → Part
-SpellsFlags op flags tokens = (written : List Flag) × AddsFlags op no_flags written flags × (tokens ≡ map (λ flag. Word (flag_keyword flag)) written)
+-- flag*, each one that the instruction takes, each once, in any order
+abbrev pub SpellsFlags : Flags → Flags → Part
+SpellsFlags taken flags tokens = (written : List Flag) × AddsFlags taken no_flags written flags × (tokens ≡ map (λ flag. Word (flag_keyword flag)) written)
 
 -- 'to' type
 abbrev pub SpellsTo : ℕ → Part
 SpellsTo width = Is (Word (codes "to")) ⨾ SpellsType width
 
 -- op := binop flag* [type] o ',' o
---     | 'icmp' pred [type] o ',' o
+--     | 'icmp' flag* pred [type] o ',' o
 --     | 'select' [type] o ',' [type] o ',' [type] o
---     | ('trunc' | 'zext' | 'sext') [type] o ['to' type]
+--     | ('trunc' | 'zext' | 'sext') flag* [type] o ['to' type]
 -- and in the target a copy: [type] o
 abbrev pub SpellsOp : Limits → Half → RawOp → Part
-SpellsOp limits half (Binary op flags a b) = Is (Word (opcode_keyword op)) ⨾ SpellsFlags op flags ⨾ SpellsPair limits half a b
-SpellsOp limits half (Compare pred a b) = Is (Word (codes "icmp")) ⨾ Is (Word (predicate_keyword pred)) ⨾ SpellsPair limits half a b
+SpellsOp limits half (Binary op flags a b) = Is (Word (opcode_keyword op)) ⨾ SpellsFlags (flags_of op) flags ⨾ SpellsPair limits half a b
+SpellsOp limits half (Compare pred samesign a b) =
+    Is (Word (codes "icmp")) ⨾ SpellsFlags flags_of_icmp (icmp_flags samesign) ⨾ Is (Word (predicate_keyword pred)) ⨾ SpellsPair limits half a b
 SpellsOp limits half (Select condition if_true if_false) =
     Is (Word (codes "select")) ⨾ SpellsOperand limits half condition ⨾ Comma ⨾ SpellsOperand limits half if_true ⨾ Comma ⨾ SpellsOperand limits half if_false
-SpellsOp limits half (Convert cast a to) = Is (Word (cast_keyword cast)) ⨾ SpellsOperand limits half a ⨾ Maybe SpellsTo to
+SpellsOp limits half (Convert cast flags a to) =
+    Is (Word (cast_keyword cast)) ⨾ SpellsFlags (flags_of_cast cast) flags ⨾ SpellsOperand limits half a ⨾ Maybe SpellsTo to
 SpellsOp limits Source (Copy a) = Never
 SpellsOp limits Target (Copy a) = SpellsOperand limits Target a
 

@@ -6,7 +6,7 @@ use Rattle.ops.specs.declared.opcode.Opcode.{Opcode}
 use Rattle.ops.specs.declared.opcode.Flags.{Flags}
 use Rattle.ops.specs.declared.comparison.Pred.{Pred}
 use Rattle.ops.specs.declared.conversion.Cast.{Cast}
-use Rattle.ops.specs.Flags.{no_flags}
+use Rattle.ops.specs.Flags.{no_flags, flags_of, flags_of_cast, flags_of_icmp}
 use Rattle.ops.specs.declared.keywords.flag.Flag.{Flag}
 use Rattle.ops.specs.Keywords.{pred_in}
 use Rattle.ops.specs.FlagKeywords.{flag_in, has_flag, with_flag}
@@ -87,19 +87,20 @@ to_at line tokens = line_end line tokens >>= λ rest. Ok (None, rest)
 
 -- ---- flags
 
--- the flag of the instruction that is next
-abbrev pub next_flag : Opcode → List Token → Option Flag
-next_flag op (Word word ∷ rest) = flag_in op word
-next_flag op tokens = None
+-- the flag that is next, where the instruction takes it
+abbrev pub next_flag : Flags → List Token → Option Flag
+next_flag taken (Word word ∷ rest) = flag_in taken word
+next_flag taken tokens = None
 
 -- the flags before, and those that stand here; one that stands among them is no further one
 abbrev pub flag_or_end : ℕ → Flags → Option Flag → (Flags → Read Flags) → List Token → Read Flags
 flag_or_end line before None others tokens = Ok (before, tokens)
 flag_or_end line before (Some flag) others tokens = if has_flag before flag then Err (fault line Syntax) else others (with_flag before flag)
 
-unfoldable pub flags_at : Opcode → ℕ → Flags → List Token → Read Flags
-flags_at op line before [] = Ok (before, [])
-flags_at op line before (token ∷ rest) = flag_or_end line before (next_flag op (token ∷ rest)) (λ flags. flags_at op line flags rest) (token ∷ rest)
+unfoldable pub flags_at : Flags → ℕ → Flags → List Token → Read Flags
+flags_at taken line before [] = Ok (before, [])
+flags_at taken line before (token ∷ rest) =
+    flag_or_end line before (next_flag taken (token ∷ rest)) (λ flags. flags_at taken line flags rest) (token ∷ rest)
 
 -- ---- what a statement computes
 
@@ -115,7 +116,7 @@ pair_at limits half line tokens = do
 -- a binary operation, behind its opcode
 unfoldable pub binary_at : Limits → Half → ℕ → Opcode → List Token → Read RawOp
 binary_at limits half line op tokens = do
-  flags ← flags_at op line no_flags tokens
+  flags ← flags_at (flags_of op) line no_flags tokens
   pair ← pair_at limits half line flags.1
   Ok (Binary op flags.0 pair.0.0 pair.0.1, pair.1)
 
@@ -127,9 +128,10 @@ pred_at line tokens = Err (unexpected line tokens)
 -- a comparison, behind `icmp`
 unfoldable pub compare_at : Limits → Half → ℕ → List Token → Read RawOp
 compare_at limits half line tokens = do
-  pred ← pred_at line tokens
+  flags ← flags_at flags_of_icmp line no_flags tokens
+  pred ← pred_at line flags.1
   pair ← pair_at limits half line pred.1
-  Ok (Compare pred.0 pair.0.0 pair.0.1, pair.1)
+  Ok (Compare pred.0 flags.0.samesign pair.0.0 pair.0.1, pair.1)
 
 -- a choice, behind `select`
 unfoldable pub select_at : Limits → Half → ℕ → List Token → Read RawOp
@@ -145,9 +147,10 @@ select_at limits half line tokens = do
 -- a cast, behind its opcode
 unfoldable pub convert_at : Limits → Half → ℕ → Cast → List Token → Read RawOp
 convert_at limits half line cast tokens = do
-  from ← operand_at limits half line tokens
+  flags ← flags_at (flags_of_cast cast) line no_flags tokens
+  from ← operand_at limits half line flags.1
   to ← to_at line from.1
-  Ok (Convert cast from.0 to.0, to.1)
+  Ok (Convert cast flags.0 from.0 to.0, to.1)
 
 -- a copy
 unfoldable pub copy_at : Limits → ℕ → List Token → Read RawOp

@@ -20,26 +20,26 @@ use rule_tokens::{
 };
 use std::alloc::Global;
 
-/// The flag of the instruction that is next, if one is; goes behind it.
-fn flag(opcode: Opcode, tokens: &mut &[Token<'_>]) -> Option<Flag>
-    ensures flag { result ≡ parsing.next_flag opcode (seen tokens.old.now) }
+/// The flag that is next, if one that the instruction takes is; goes behind it.
+fn flag(taken: Flags, tokens: &mut &[Token<'_>]) -> Option<Flag>
+    ensures flag { result ≡ parsing.next_flag taken (seen tokens.old.now) }
     ensures goes { IfSome result (λ _. seen tokens.new.now ≡ drop 1 (seen tokens.old.now)) }
     ensures stays { IfNone result (seen tokens.new.now ≡ seen tokens.old.now) }
 {
     let [Token::Word(word), rest @ ..] = *tokens else {
         return None;
     };
-    let flag = flag_of(opcode, word)?;
+    let flag = flag_of(taken, word)?;
     *tokens = rest;
     Some(flag)
 }
 
-/// The flags of an instruction, in any order.
-fn flags(opcode: Opcode, line: usize, tokens: &mut &[Token<'_>]) -> Result<Flags, RuleFault>
-    ensures { Reads (λ x. (x, seen tokens.new.now)) result (parsing.flags_at opcode line no_flags (seen tokens.old.now)) }
+/// The flags of an instruction, of those that it takes, in any order.
+fn flags(taken: Flags, line: usize, tokens: &mut &[Token<'_>]) -> Result<Flags, RuleFault>
+    ensures { Reads (λ x. (x, seen tokens.new.now)) result (parsing.flags_at taken line no_flags (seen tokens.old.now)) }
 {
     let mut flags = Flags::NONE;
-    while let Some(flag) = flag(opcode, tokens) {
+    while let Some(flag) = flag(taken, tokens) {
         if has_flag(flags, flag) {
             let kind = RuleFaultKind::Syntax;
             return Err(RuleFault { line, kind });
@@ -77,7 +77,7 @@ fn binary(
 ) -> Result<RawOp, RuleError>
     ensures { Gives (λ x. (x, seen tokens.new.now)) result (parsing.binary_at rule_limits half line opcode (seen tokens.old.now)) }
 {
-    let flags = flags(opcode, line, tokens)?;
+    let flags = flags(opcode.flags(), line, tokens)?;
     let (left, right) = pair(alloc, half, line, tokens)?;
     Ok(RawOp::Binary(opcode, flags, left, right))
 }
@@ -109,9 +109,10 @@ fn comparison(
 ) -> Result<RawOp, RuleError>
     ensures { Gives (λ x. (x, seen tokens.new.now)) result (parsing.compare_at rule_limits half line (seen tokens.old.now)) }
 {
+    let flags = flags(Flags::SAMESIGN, line, tokens)?;
     let pred = predicate(alloc, line, tokens)?;
     let (left, right) = pair(alloc, half, line, tokens)?;
-    Ok(RawOp::Compare(pred, left, right))
+    Ok(RawOp::Compare(pred, flags.samesign, left, right))
 }
 
 /// A choice, behind `select`.
@@ -144,9 +145,10 @@ fn conversion(
 ) -> Result<RawOp, RuleError>
     ensures { Gives (λ x. (x, seen tokens.new.now)) result (parsing.convert_at rule_limits half line cast (seen tokens.old.now)) }
 {
+    let flags = flags(cast.flags(), line, tokens)?;
     let from = operand(alloc, half, line, tokens)?;
     let to = result_type(alloc, line, tokens)?;
-    Ok(RawOp::Convert(cast, from, to))
+    Ok(RawOp::Convert(cast, flags, from, to))
 }
 
 /// A copy.

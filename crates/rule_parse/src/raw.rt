@@ -51,12 +51,12 @@ pub struct RawStatement {
 pub enum RawOp {
     /// A binary operation. Before its second operand no type is written.
     Binary(Opcode, Flags, RawOperand, RawOperand),
-    /// `icmp`. Before its second operand no type is written.
-    Compare(Pred, RawOperand, RawOperand),
+    /// `icmp`, with `samesign` where that is true. Before its second operand no type is written.
+    Compare(Pred, bool, RawOperand, RawOperand),
     /// `select`: the condition, and the operands for 1 and for 0.
     Select(RawOperand, RawOperand, RawOperand),
     /// A cast, with the type that is written behind `to`, if one is.
-    Convert(Cast, RawOperand, Option<Width>),
+    Convert(Cast, Flags, RawOperand, Option<Width>),
     /// A copy.
     Copy(RawOperand),
 }

@@ -7,7 +7,8 @@ use Rattle.std.proofs.lemmas.List.FromFn.{length-range_with_len}
 use Rattle.std.proofs.lemmas.Grind.{flat_map-append}
 use Rattle.ops.specs.declared.opcode.Opcode.{Opcode}
 use Rattle.ops.specs.declared.opcode.Flags.{Flags}
-use Rattle.ops.specs.Flags.{FlagsFit}
+use Rattle.ops.specs.declared.conversion.Cast.{Cast}
+use Rattle.ops.specs.Flags.{FlagsFit, CastFlagsFit}
 use Rattle.rule_parse.specs.declared.raw.RawRule.{RawRule}
 use Rattle.rule_parse.specs.declared.raw.RawStatement.{RawStatement}
 use Rattle.rule_parse.specs.declared.raw.RawOp.{RawOp}
@@ -72,10 +73,15 @@ pub record IsBound (raw : RawRule) : Type 0 where
 same_fit : (op op' : Opcode) (flags flags' : Flags) → op' ≡ op → flags' ≡ flags → FlagsFit op flags → FlagsFit op' flags'
 same_fit op op' flags flags' same same' fit = subst (λ o. FlagsFit o flags') (sym same) (subst (FlagsFit op) (sym same') fit)
 
+same_cast_fit : (cast cast' : Cast) (flags flags' : Flags) → cast' ≡ cast → flags' ≡ flags → CastFlagsFit cast flags → CastFlagsFit cast' flags'
+same_cast_fit cast cast' flags flags' same same' fit = subst (λ c. CastFlagsFit c flags') (sym same) (subst (CastFlagsFit cast) (sym same') fit)
+
 module _ (raw : RawRule) (names : Names) where
   fits : (b : Counts) (w : RawOp) (op : Op) → OpMeans raw names b w op → FlagsFitRaw w → FlagsFitOp op
   fits b (raw_ops.Binary op flags a c) (ops.Binary op' flags' x y) means fit = same_fit op op' flags flags' means.0 means.1 fit
+  fits b (raw_ops.Convert cast flags a to) (ops.Convert cast' flags' x to') means fit = same_cast_fit cast cast' flags flags' means.0 means.1 fit
   fits b w (ops.Binary op flags x y) means fit = absurd means
+  fits b w (ops.Convert cast flags x to) means fit = absurd means
   fits b w op means fit = tt
 
   no_copy : (b : Counts) (w : RawOp) (op : Op) → OpMeans raw names b w op → MayStandInSource w → MayBeInSource op

@@ -39,20 +39,22 @@ module _ (raw : RawRule) (names : Names) where
       let opcodes : o ≡ o' = cc in
       let flags : f ≡ f' = cc in
       (sym opcodes ∙ means.0, sym flags ∙ means.1, same_operand u a x x' m n (cc) means.2, same_operand (past u a.value) b y y' (m + 1) (n + 1) (cc) means.3)
-  same_op u m n (raw_ops.Compare pred a b) (ops.Compare o x y) (ops.Compare o' x' y') e means =
+  same_op u m n (raw_ops.Compare pred samesign a b) (ops.Compare o s x y) (ops.Compare o' s' x' y') e means =
       let predicates : o ≡ o' = cc in
-      (sym predicates ∙ means.0, same_operand u a x x' m n (cc) means.1, same_operand (past u a.value) b y y' (m + 1) (n + 1) (cc) means.2)
+      let signs : s ≡ s' = cc in
+      (sym predicates ∙ means.0, sym signs ∙ means.1, same_operand u a x x' m n (cc) means.2, same_operand (past u a.value) b y y' (m + 1) (n + 1) (cc) means.3)
   same_op u m n (raw_ops.Select c a b) (ops.Select z x y) (ops.Select z' x' y') e means =
       (same_operand u c z z' m n (cc) means.0, same_operand (past u c.value) a x x' (m + 1) (n + 1) (cc) means.1, same_operand (past (past u c.value) a.value) b y y' (m + 2) (n + 2) (cc) means.2)
-  same_op u m n (raw_ops.Convert cast a to) (ops.Convert o x t) (ops.Convert o' x' t') e means =
+  same_op u m n (raw_ops.Convert cast flags a to) (ops.Convert o f x t) (ops.Convert o' f' x' t') e means =
       let casts : o ≡ o' = cc in
+      let same_flags : f ≡ f' = cc in
       let types : t ≡ t' = cc in
-      (sym casts ∙ means.0, same_operand u a x x' m n (cc) means.1, sym types ∙ means.2)
+      (sym casts ∙ means.0, sym same_flags ∙ means.1, same_operand u a x x' m n (cc) means.2, sym types ∙ means.3)
   same_op u m n (raw_ops.Copy a) (ops.Copy x) (ops.Copy x') e means = same_operand u a x x' m n (cc) means
   same_op u m n (raw_ops.Binary op flags a b) (ops.Binary o f x y) q e means = absurd (cc)
-  same_op u m n (raw_ops.Compare pred a b) (ops.Compare o x y) q e means = absurd (cc)
+  same_op u m n (raw_ops.Compare pred samesign a b) (ops.Compare o s x y) q e means = absurd (cc)
   same_op u m n (raw_ops.Select c a b) (ops.Select z x y) q e means = absurd (cc)
-  same_op u m n (raw_ops.Convert cast a to) (ops.Convert o x t) q e means = absurd (cc)
+  same_op u m n (raw_ops.Convert cast flags a to) (ops.Convert o f x t) q e means = absurd (cc)
   same_op u m n (raw_ops.Copy a) (ops.Copy x) q e means = absurd (cc)
   same_op u m n w p q e means = absurd means
 

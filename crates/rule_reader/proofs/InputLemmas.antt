@@ -154,9 +154,9 @@ at_most Gives os names (suc h) q name first at given =
 
 few_of_op : (op : RawOp) → length (arguments_of op) ≤ 3
 few_of_op (Binary op flags a b) = omega arith
-few_of_op (Compare pred a b) = omega arith
+few_of_op (Compare pred samesign a b) = omega arith
 few_of_op (Select c a b) = omega arith
-few_of_op (Convert cast a to) = omega arith
+few_of_op (Convert cast flags a to) = omega arith
 few_of_op (Copy a) = omega arith
 
 few_of : (ss : List RawStatement) → length (arguments_among ss) ≤ 3 * length ss

@@ -87,9 +87,9 @@ module _ (raw : RawRule) (names : Names) where
 
   pub operands_go : (b : Counts) (w : RawOp) (op : Op) → OpMeans raw names b w op → Go b (arguments_of w) (operands_meant op)
   operands_go b (raw_ops.Binary op flags a c) (ops.Binary op' flags' x y) means = (means.2.1, (means.3.1, tt))
-  operands_go b (raw_ops.Compare pred a c) (ops.Compare pred' x y) means = (means.1.1, (means.2.1, tt))
+  operands_go b (raw_ops.Compare pred samesign a c) (ops.Compare pred' samesign' x y) means = (means.2.1, (means.3.1, tt))
   operands_go b (raw_ops.Select c a d) (ops.Select z x y) means = (means.0.1, (means.1.1, (means.2.1, tt)))
-  operands_go b (raw_ops.Convert cast a to) (ops.Convert cast' x to') means = (means.1.1, tt)
+  operands_go b (raw_ops.Convert cast flags a to) (ops.Convert cast' flags' x to') means = (means.2.1, tt)
   operands_go b (raw_ops.Copy a) (ops.Copy x) means = (means.1, tt)
   operands_go b w op means = absurd means
 

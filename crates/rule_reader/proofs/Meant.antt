@@ -110,16 +110,16 @@ module _ (raw : RawRule) (names : Names) (are : AreNames raw.source names) where
       let (x, left) = some_operand place u a bound.0 whole.0 in
       let (y, right) = some_operand place (past u a.value) b bound.1.0 whole.1.0 in
       (ops.Binary op flags x y, (refl, refl, left, right))
-  some_op place u (raw_ops.Compare pred a b) bound whole =
+  some_op place u (raw_ops.Compare pred samesign a b) bound whole =
       let (x, left) = some_operand place u a bound.0 whole.0 in
       let (y, right) = some_operand place (past u a.value) b bound.1.0 whole.1.0 in
-      (ops.Compare pred x y, (refl, left, right))
+      (ops.Compare pred samesign x y, (refl, refl, left, right))
   some_op place u (raw_ops.Select c a b) bound whole =
       let (z, condition) = some_operand place u c bound.0 whole.0 in
       let (x, if_true) = some_operand place (past u c.value) a bound.1.0 whole.1.0 in
       let (y, if_false) = some_operand place (past (past u c.value) a.value) b bound.1.1.0 whole.1.1.0 in
       (ops.Select z x y, (condition, if_true, if_false))
-  some_op place u (raw_ops.Convert cast a to) bound whole = let (x, means) = some_operand place u a bound.0 whole.0 in (ops.Convert cast x to, (refl, means, refl))
+  some_op place u (raw_ops.Convert cast flags a to) bound whole = let (x, means) = some_operand place u a bound.0 whole.0 in (ops.Convert cast flags x to, (refl, refl, means, refl))
   some_op place u (raw_ops.Copy a) bound whole = let (x, means) = some_operand place u a bound.0 whole.0 in (ops.Copy x, means)
 
   some_statements : (u : Counts) (ws : List RawStatement) → ((k : ℕ) (w : RawStatement) (v : Counts) → slice_get ws k ≡ Some w → (op : Op) × OpMeans raw names v w.op op) → (ss : List Statement) × AllZip (λ w s. StatementMeans raw names w.0 w.1 s) (with_counts u ws) ss

@@ -129,9 +129,9 @@ dec_undef_inside source k s =
 pub dec_undef_copy : (op : RawOp) → Dec (IsUndefCopy op)
 dec_undef_copy (ops.Copy a) = dec_undef_argument a.value
 dec_undef_copy (ops.Binary op flags a b) = no (λ e. e)
-dec_undef_copy (ops.Compare pred a b) = no (λ e. e)
+dec_undef_copy (ops.Compare pred samesign a b) = no (λ e. e)
 dec_undef_copy (ops.Select c a b) = no (λ e. e)
-dec_undef_copy (ops.Convert cast a to) = no (λ e. e)
+dec_undef_copy (ops.Convert cast flags a to) = no (λ e. e)
 
 pub dec_unused : (source : List RawStatement) (k : ℕ) (s : RawStatement) → Dec (IsUnused source k s)
 dec_unused source k s =

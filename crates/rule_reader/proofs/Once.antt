@@ -147,26 +147,28 @@ module _ (raw : RawRule) (names : Names) (plain : IsPlain raw) (are : AreNames r
       let opcodes : o ≡ o' = p.0 ∙ sym q.0 in
       let same_flags : f ≡ f' = p.1 ∙ sym q.1 in
       (cc, refl)
-  one_op n u (raw_ops.Compare pred a b) (ops.Compare o x y) (ops.Compare o' x' y') free p q =
-      let lefts = one_operand n u a x x' free.0 p.1 q.1 in
-      let rights = one_operand (n + 1) (past u a.value) b y y' free.1.0 p.2 q.2 in
+  one_op n u (raw_ops.Compare pred samesign a b) (ops.Compare o s x y) (ops.Compare o' s' x' y') free p q =
+      let lefts = one_operand n u a x x' free.0 p.2 q.2 in
+      let rights = one_operand (n + 1) (past u a.value) b y y' free.1.0 p.3 q.3 in
       let predicates : o ≡ o' = p.0 ∙ sym q.0 in
+      let signs : s ≡ s' = p.1 ∙ sym q.1 in
       (cc, refl)
   one_op n u (raw_ops.Select c a b) (ops.Select z x y) (ops.Select z' x' y') free p q =
       let conditions = one_operand n u c z z' free.0 p.0 q.0 in
       let arms = one_operand (n + 1) (past u c.value) a x x' free.1.0 p.1 q.1 in
       let others = one_operand (n + 2) (past (past u c.value) a.value) b y y' free.1.1.0 p.2 q.2 in
       (cc, refl)
-  one_op n u (raw_ops.Convert cast a to) (ops.Convert o x t) (ops.Convert o' x' t') free p q =
-      let operands = one_operand n u a x x' free.0 p.1 q.1 in
+  one_op n u (raw_ops.Convert cast flags a to) (ops.Convert o f x t) (ops.Convert o' f' x' t') free p q =
+      let operands = one_operand n u a x x' free.0 p.2 q.2 in
       let casts : o ≡ o' = p.0 ∙ sym q.0 in
-      let types : t ≡ t' = p.2 ∙ sym q.2 in
+      let same_flags : f ≡ f' = p.1 ∙ sym q.1 in
+      let types : t ≡ t' = p.3 ∙ sym q.3 in
       (cc, refl)
   one_op n u (raw_ops.Copy a) (ops.Copy x) (ops.Copy x') free p q = (ap (λ z. ops.Copy z) (one_operand n u a x x' free.0 p q), refl)
   one_op n u (raw_ops.Binary op flags a b) (ops.Binary o f x y) q' free p q = absurd q
-  one_op n u (raw_ops.Compare pred a b) (ops.Compare o x y) q' free p q = absurd q
+  one_op n u (raw_ops.Compare pred samesign a b) (ops.Compare o s x y) q' free p q = absurd q
   one_op n u (raw_ops.Select c a b) (ops.Select z x y) q' free p q = absurd q
-  one_op n u (raw_ops.Convert cast a to) (ops.Convert o x t) q' free p q = absurd q
+  one_op n u (raw_ops.Convert cast flags a to) (ops.Convert o f x t) q' free p q = absurd q
   one_op n u (raw_ops.Copy a) (ops.Copy x) q' free p q = absurd q
   one_op n u w p' q' free p q = absurd p
 
@@ -400,19 +402,21 @@ same_op m n (ops.Binary o f x y) (ops.Binary o' f' x' y') xs ys e classes =
     let opcodes : o ≡ o' = cc in
     let flags : f ≡ f' = cc in
     (cc, cc)
-same_op m n (ops.Compare o x y) (ops.Compare o' x' y') xs ys e classes =
+same_op m n (ops.Compare o s x y) (ops.Compare o' s' x' y') xs ys e classes =
     let left : x ≡ x' = same_operand x x' m n (cc) (cc) in
     let right : y ≡ y' = same_operand y y' (m + 1) (n + 1) (cc) (cc) in
     let predicates : o ≡ o' = cc in
+    let signs : s ≡ s' = cc in
     (cc, cc)
 same_op m n (ops.Select z x y) (ops.Select z' x' y') xs ys e classes =
     let condition : z ≡ z' = same_operand z z' m n (cc) (cc) in
     let arm : x ≡ x' = same_operand x x' (m + 1) (n + 1) (cc) (cc) in
     let other : y ≡ y' = same_operand y y' (m + 2) (n + 2) (cc) (cc) in
     (cc, cc)
-same_op m n (ops.Convert o x t) (ops.Convert o' x' t') xs ys e classes =
+same_op m n (ops.Convert o f x t) (ops.Convert o' f' x' t') xs ys e classes =
     let converted : x ≡ x' = same_operand x x' m n (cc) (cc) in
     let casts : o ≡ o' = cc in
+    let same_flags : f ≡ f' = cc in
     let types : t ≡ t' = cc in
     (cc, cc)
 same_op m n (ops.Copy x) (ops.Copy x') xs ys e classes = let copied : x ≡ x' = same_operand x x' m n (cc) (cc) in (cc, cc)
@@ -437,9 +441,9 @@ same_statements m n (s ∷ ss) (t ∷ ts) xs ys e classes =
 -- rules that differ in their classes alone have as many of them
 as_many_of : (m n : ℕ) (p q : Op) → numbered_op m p ≡ numbered_op n q → length (op_classes p) ≡ length (op_classes q)
 as_many_of m n (ops.Binary o f x y) (ops.Binary o' f' x' y') e = refl
-as_many_of m n (ops.Compare o x y) (ops.Compare o' x' y') e = refl
+as_many_of m n (ops.Compare o s x y) (ops.Compare o' s' x' y') e = refl
 as_many_of m n (ops.Select z x y) (ops.Select z' x' y') e = refl
-as_many_of m n (ops.Convert o x t) (ops.Convert o' x' t') e = refl
+as_many_of m n (ops.Convert o f x t) (ops.Convert o' f' x' t') e = refl
 as_many_of m n (ops.Copy x) (ops.Copy x') e = refl
 as_many_of m n p q e = absurd (cc)
 

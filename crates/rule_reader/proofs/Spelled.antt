@@ -2,7 +2,8 @@
 -- A half is known by what its copies are.
 use Rattle.std.proofs.Common.{◌≡◌, ℕ, ◌≤◌, List, [], ◌∷◌, length, subst}
 use Rattle.std.specs.Prelude.{Contains, flat_map}
-use Rattle.ops.proofs.FlagKeywordLemmas.{own_flags}
+use Rattle.ops.specs.Flags.{flags_of, flags_of_cast}
+use Rattle.ops.proofs.FlagKeywordLemmas.{taken_flags}
 use Rattle.rule_tokens.specs.Parts.{Part}
 use Rattle.rule_tokens.specs.Tokens.{Token}
 use Rattle.rule_terms.specs.declared.raw.RawNode.{RawNode}
@@ -40,10 +41,10 @@ pair half a b tokens spelled = (operand half a spelled.0 spelled.2, (untyped hal
 -- What an operation reads is spelled. A copy, where the half has one, is an operand.
 arguments_spelled : (half : _) → ((a : RawOperand) (tokens : List Token) → SpellsOp rule_limits half (Copy a) tokens → SpellsOperand rule_limits half a tokens) → (op : RawOp) (tokens : List Token) → SpellsOp rule_limits half op tokens → Each (IsSpelled (SpellsArgument rule_limits half)) (arguments_of op)
 arguments_spelled half copies (Binary op flags a b) tokens spelled = pair half a b spelled.3.1 spelled.3.3
-arguments_spelled half copies (Compare pred a b) tokens spelled = pair half a b spelled.3.1 spelled.3.3
+arguments_spelled half copies (Compare pred samesign a b) tokens spelled = pair half a b spelled.3.3.1 spelled.3.3.3
 arguments_spelled half copies (Select c a b) tokens spelled =
     (operand half c spelled.3.0 spelled.3.2, (operand half a spelled.3.3.3.0 spelled.3.3.3.2, (operand half b spelled.3.3.3.3.1 spelled.3.3.3.3.3, tt)))
-arguments_spelled half copies (Convert cast a to) tokens spelled = (operand half a spelled.3.0 spelled.3.2, tt)
+arguments_spelled half copies (Convert cast flags a to) tokens spelled = (operand half a spelled.3.3.0 spelled.3.3.2, tt)
 arguments_spelled half copies (Copy a) tokens spelled = (operand half a tokens (copies a tokens spelled), tt)
 
 pub argument_spelled : (half : _) → ((a : RawOperand) (tokens : List Token) → SpellsOp rule_limits half (Copy a) tokens → SpellsOperand rule_limits half a tokens) → (op : RawOp) (tokens : List Token) (a : RawArgument) → SpellsOp rule_limits half op tokens → Contains (arguments_of op) a → IsSpelled (SpellsArgument rule_limits half) a
@@ -87,9 +88,10 @@ spelled_terms half copies constant ss tokens spelled = terms_among half constant
 
 -- ---- flags and copies
 
--- flags fit their opcode
+-- flags are ones that the instruction takes
 pub written_flags : (half : _) (op : RawOp) (tokens : List Token) → SpellsOp rule_limits half op tokens → FlagsFitOp op
-written_flags half (Binary op flags a b) tokens spelled = let written = spelled.3.2 in own_flags op written.0 flags written.1
+written_flags half (Binary op flags a b) tokens spelled = let written = spelled.3.2 in taken_flags (flags_of op) written.0 flags written.1
+written_flags half (Convert cast flags a to) tokens spelled = let written = spelled.3.2 in taken_flags (flags_of_cast cast) written.0 flags written.1
 written_flags half op tokens spelled = tt
 
 -- a half that spells no copies has none

@@ -165,11 +165,12 @@ module _ (raw : RawRule) (names : Names) where
   abbrev pub OpMeans : Counts → RawOp → Op → Type 0
   OpMeans before (raw_ops.Binary op flags a b) (ops.Binary op' flags' x y) =
       (op' ≡ op) × (flags' ≡ flags) × OperandMeans before a x × OperandMeans (past before a.value) b y
-  OpMeans before (raw_ops.Compare pred a b) (ops.Compare pred' x y) =
-      (pred' ≡ pred) × OperandMeans before a x × OperandMeans (past before a.value) b y
+  OpMeans before (raw_ops.Compare pred samesign a b) (ops.Compare pred' samesign' x y) =
+      (pred' ≡ pred) × (samesign' ≡ samesign) × OperandMeans before a x × OperandMeans (past before a.value) b y
   OpMeans before (raw_ops.Select c a b) (ops.Select z x y) =
       OperandMeans before c z × OperandMeans (past before c.value) a x × OperandMeans (past (past before c.value) a.value) b y
-  OpMeans before (raw_ops.Convert cast a to) (ops.Convert cast' x to') = (cast' ≡ cast) × OperandMeans before a x × (to' ≡ to)
+  OpMeans before (raw_ops.Convert cast flags a to) (ops.Convert cast' flags' x to') =
+      (cast' ≡ cast) × (flags' ≡ flags) × OperandMeans before a x × (to' ≡ to)
   OpMeans before (raw_ops.Copy a) (ops.Copy x) = OperandMeans before a x
   OpMeans before raw_op op = ⊥
 

@@ -77,7 +77,7 @@ fn op_is_bound(rule: &RawRule, names: &Names, place: Place, op: &RawOp) -> bool
     ensures { IsTrue result ↔ OpIsBound rule.now place op.now }
 {
     match op {
-        RawOp::Binary(_, _, left, right) | RawOp::Compare(_, left, right) => {
+        RawOp::Binary(_, _, left, right) | RawOp::Compare(_, _, left, right) => {
             argument_is_bound(rule, names, place, &left.value)
                 && argument_is_bound(rule, names, place, &right.value)
         }
@@ -86,7 +86,7 @@ fn op_is_bound(rule: &RawRule, names: &Names, place: Place, op: &RawOp) -> bool
                 && argument_is_bound(rule, names, place, &if_true.value)
                 && argument_is_bound(rule, names, place, &if_false.value)
         }
-        RawOp::Convert(_, operand, _) | RawOp::Copy(operand) => {
+        RawOp::Convert(_, _, operand, _) | RawOp::Copy(operand) => {
             argument_is_bound(rule, names, place, &operand.value)
         }
     }

@@ -50,14 +50,14 @@ impl Counts {
         ensures { result ≡ past_all self (arguments_of op.now) }
     {
         match op {
-            RawOp::Binary(_, _, left, right) | RawOp::Compare(_, left, right) => {
+            RawOp::Binary(_, _, left, right) | RawOp::Compare(_, _, left, right) => {
                 self.past(&left.value).past(&right.value)
             }
             RawOp::Select(condition, if_true, if_false) => self
                 .past(&condition.value)
                 .past(&if_true.value)
                 .past(&if_false.value),
-            RawOp::Convert(_, operand, _) | RawOp::Copy(operand) => self.past(&operand.value),
+            RawOp::Convert(_, _, operand, _) | RawOp::Copy(operand) => self.past(&operand.value),
         }
     }
 }

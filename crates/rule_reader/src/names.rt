@@ -43,7 +43,7 @@ fn add_names(
     ensures { OnOk result (AddsUses source.now names.old (arguments_of op.now) names.new) }
 {
     match op {
-        RawOp::Binary(_, _, left, right) | RawOp::Compare(_, left, right) => {
+        RawOp::Binary(_, _, left, right) | RawOp::Compare(_, _, left, right) => {
             add_name(alloc, names, source, &left.value)?;
             add_name(alloc, names, source, &right.value)?;
         }
@@ -52,7 +52,7 @@ fn add_names(
             add_name(alloc, names, source, &if_true.value)?;
             add_name(alloc, names, source, &if_false.value)?;
         }
-        RawOp::Convert(_, operand, _) | RawOp::Copy(operand) => {
+        RawOp::Convert(_, _, operand, _) | RawOp::Copy(operand) => {
             add_name(alloc, names, source, &operand.value)?;
         }
     }

@@ -77,7 +77,7 @@ pub(crate) fn uses(op: &RawOp, name: &[u8]) -> bool
     ensures { IsTrue result ↔ Uses op.now name.now }
 {
     match op {
-        RawOp::Binary(_, _, left, right) | RawOp::Compare(_, left, right) => {
+        RawOp::Binary(_, _, left, right) | RawOp::Compare(_, _, left, right) => {
             is_register(left, name) || is_register(right, name)
         }
         RawOp::Select(condition, if_true, if_false) => {
@@ -85,6 +85,6 @@ pub(crate) fn uses(op: &RawOp, name: &[u8]) -> bool
                 || is_register(if_true, name)
                 || is_register(if_false, name)
         }
-        RawOp::Convert(_, operand, _) | RawOp::Copy(operand) => is_register(operand, name),
+        RawOp::Convert(_, _, operand, _) | RawOp::Copy(operand) => is_register(operand, name),
     }
 }

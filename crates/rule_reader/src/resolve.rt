@@ -177,8 +177,9 @@ fn op(rule: &RawRule, names: &Names, place: Place, before: Counts, written: &Raw
             operand(rule, names, place, before, left),
             operand(rule, names, place, before.past(&left.value), right),
         ),
-        RawOp::Compare(predicate, left, right) => Op::Compare(
+        RawOp::Compare(predicate, samesign, left, right) => Op::Compare(
             *predicate,
+            *samesign,
             operand(rule, names, place, before, left),
             operand(rule, names, place, before.past(&left.value), right),
         ),
@@ -190,8 +191,9 @@ fn op(rule: &RawRule, names: &Names, place: Place, before: Counts, written: &Raw
                 operand(rule, names, place, arms.past(&if_true.value), if_false),
             )
         }
-        RawOp::Convert(cast, converted, to) => Op::Convert(
+        RawOp::Convert(cast, flags, converted, to) => Op::Convert(
             *cast,
+            *flags,
             operand(rule, names, place, before, converted),
             *to,
         ),

@@ -105,7 +105,7 @@ fn add_op(
     ensures count { OnOk result (length terms.new ≡ length terms.old + sum_by (λ a. nodes_in (terms_of_argument a)) (arguments_of op.now)) }
 {
     match op {
-        RawOp::Binary(_, _, left, right) | RawOp::Compare(_, left, right) => {
+        RawOp::Binary(_, _, left, right) | RawOp::Compare(_, _, left, right) => {
             add_argument(alloc, terms, rule, names, place, &left.value)?;
             add_argument(alloc, terms, rule, names, place, &right.value)
         }
@@ -114,7 +114,7 @@ fn add_op(
             add_argument(alloc, terms, rule, names, place, &if_true.value)?;
             add_argument(alloc, terms, rule, names, place, &if_false.value)
         }
-        RawOp::Convert(_, operand, _) | RawOp::Copy(operand) => {
+        RawOp::Convert(_, _, operand, _) | RawOp::Copy(operand) => {
             add_argument(alloc, terms, rule, names, place, &operand.value)
         }
     }

@@ -24,13 +24,13 @@ fn reads_undef(op: &RawOp) -> bool
     ensures { IsTrue result ↔ Contains (arguments_of op.now) undef }
 {
     match op {
-        RawOp::Binary(_, _, left, right) | RawOp::Compare(_, left, right) => {
+        RawOp::Binary(_, _, left, right) | RawOp::Compare(_, _, left, right) => {
             is_undef(left) || is_undef(right)
         }
         RawOp::Select(condition, if_true, if_false) => {
             is_undef(condition) || is_undef(if_true) || is_undef(if_false)
         }
-        RawOp::Convert(_, operand, _) | RawOp::Copy(operand) => is_undef(operand),
+        RawOp::Convert(_, _, operand, _) | RawOp::Copy(operand) => is_undef(operand),
     }
 }
 

@@ -54,16 +54,16 @@ same_operands_of s t same = sym (operands-mapped_op (λ c. 0) s.op) ∙ ap (λ (
 
 source_op : (f : ℕ → ℕ) (op : Op) → MayStandInSource (mapped_op f op) ≡ MayStandInSource op
 source_op f (Binary op flags a b) = refl
-source_op f (Compare pred a b) = refl
+source_op f (Compare pred samesign a b) = refl
 source_op f (Select z a b) = refl
-source_op f (Convert cast a to) = refl
+source_op f (Convert cast flags a to) = refl
 source_op f (Copy a) = refl
 
 flags_op : (f : ℕ → ℕ) (op : Op) → FlagsFitOp (mapped_op f op) ≡ FlagsFitOp op
 flags_op f (Binary op flags a b) = refl
-flags_op f (Compare pred a b) = refl
+flags_op f (Compare pred samesign a b) = refl
 flags_op f (Select z a b) = refl
-flags_op f (Convert cast a to) = refl
+flags_op f (Convert cast flags a to) = refl
 flags_op f (Copy a) = refl
 
 -- what is said of the operation alone, without its classes, carries over
@@ -90,9 +90,9 @@ stands_at r s same q argument (o, at, is) =
 
 copies_op : (f : ℕ → ℕ) (op : Op) → IsNoUndefCopy (mapped_op f op) ≡ IsNoUndefCopy op
 copies_op f (Binary op flags a b) = refl
-copies_op f (Compare pred a b) = refl
+copies_op f (Compare pred samesign a b) = refl
 copies_op f (Select z a b) = refl
-copies_op f (Convert cast a to) = refl
+copies_op f (Convert cast flags a to) = refl
 copies_op f (Copy a) = refl
 
 -- what is summed or gathered over elements is the same over their images, where it is the same of each

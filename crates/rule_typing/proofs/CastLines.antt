@@ -5,6 +5,7 @@ use Rattle.std.proofs.Math.Decide.{map_dec, dec_lt}
 use Rattle.std.proofs.lemmas.Bool.{cases_lt}
 use Rattle.std.proofs.lemmas.List.Elements.{Contains-append_left, Contains-append_right}
 use Rattle.std.proofs.lemmas.Option.{slice_get-get_or, slice_get_within, get_or_from_slice_get, some_pair_parts}
+use Rattle.ops.specs.declared.opcode.Flags.{Flags}
 use Rattle.ops.specs.declared.conversion.Cast.{Cast}
 use Rattle.ops.specs.declared.conversion.Cast.TheVariants.{Trunc, ZExt, SExt}
 use Rattle.rule_core.specs.declared.rule.Rule.{Rule}
@@ -52,13 +53,13 @@ none_broken rule widths (Some line) source target = tt
 none_broken rule widths None source target = (each_cast rule widths).0 ((each_half (MeetsCastLine widths) rule).0 (source, target))
 
 -- the classes of a cast stand in the rule
-of_operand : (rule : Rule) (s : Statement) (cast : Cast) (a : Operand) (to : Option ℕ) → IsStatementOf rule s → s.op ≡ Convert cast a to → Contains (classes_of rule) a.class
-of_operand rule s cast a to stands is = operand_class rule a (operand_stands rule s a stands (subst (λ op. Contains (operands_of op) a) (sym is) (0, omega arith, refl)))
+of_operand : (rule : Rule) (s : Statement) (cast : Cast) (flags : Flags) (a : Operand) (to : Option ℕ) → IsStatementOf rule s → s.op ≡ Convert cast flags a to → Contains (classes_of rule) a.class
+of_operand rule s cast flags a to stands is = operand_class rule a (operand_stands rule s a stands (subst (λ op. Contains (operands_of op) a) (sym is) (0, omega arith, refl)))
 
 pub smaller_stands : (rule : Rule) (c d : ℕ) → Smaller rule c d → Contains (classes_of rule) c × Contains (classes_of rule) d
-smaller_stands rule c d (truncated {s = s} {a = a} {to = to} stands is) = (class_stands rule s stands, of_operand rule s Trunc a to stands is)
-smaller_stands rule c d (zero_extended {s = s} {a = a} {to = to} stands is) = (of_operand rule s ZExt a to stands is, class_stands rule s stands)
-smaller_stands rule c d (sign_extended {s = s} {a = a} {to = to} stands is) = (of_operand rule s SExt a to stands is, class_stands rule s stands)
+smaller_stands rule c d (truncated {s = s} {flags = flags} {a = a} {to = to} stands is) = (class_stands rule s stands, of_operand rule s Trunc flags a to stands is)
+smaller_stands rule c d (zero_extended {s = s} {flags = flags} {a = a} {to = to} stands is) = (of_operand rule s ZExt flags a to stands is, class_stands rule s stands)
+smaller_stands rule c d (sign_extended {s = s} {flags = flags} {a = a} {to = to} stands is) = (of_operand rule s SExt flags a to stands is, class_stands rule s stands)
 
 -- whether casts fit can be decided
 dec_below : (widths : List ℕ) (c d : ℕ) → Dec (IsBelow widths c d)

@@ -25,9 +25,9 @@ count_classes (s ∷ xs) = omega (arith, count_classes xs, length-append (classe
   where
     four_classes : (c : ℕ) (op : Op) → length (c ∷ map (λ o. o.class) (operands_of op)) ≤ 4
     four_classes c (Binary op flags a b) = omega arith
-    four_classes c (Compare pred a b) = omega arith
+    four_classes c (Compare pred samesign a b) = omega arith
     four_classes c (Select z a b) = omega arith
-    four_classes c (Convert cast a to) = omega arith
+    four_classes c (Convert cast flags a to) = omega arith
     four_classes c (Copy a) = omega arith
 
 node_weighs : (c : ℕ) (node : Node) → length (classes_of_node c node) ≡ node_weight node

@@ -21,18 +21,18 @@ of_operand rule o among = from_flat_map (λ (t : Statement). operands_of t.op) (
 -- ---- widths that are fixed
 
 pub of_fixed : (rule : Rule) (c N : ℕ) → Fixed rule c N → (s : Statement) × IsStatementOf rule s × StatementFixes c N s
-of_fixed rule c N (comparison {s} {pred} {a} {b} stands is) = (s, stands, inl (ap (fixed_line s.class) is))
+of_fixed rule c N (comparison {s} {pred} {samesign} {a} {b} stands is) = (s, stands, inl (ap (fixed_line s.class) is))
 of_fixed rule c N (condition {s} {c = z} {a} {b} stands is) = (s, stands, inl (ap (fixed_line s.class) is))
-of_fixed rule c N (cast_to {s} {cast} {a} {N = M} stands is) = (s, stands, inl (ap (fixed_line s.class) is))
+of_fixed rule c N (cast_to {s} {cast} {flags} {a} {N = M} stands is) = (s, stands, inl (ap (fixed_line s.class) is))
 of_fixed rule c N (written {o} {N = M} among is) = let (s, stands, here) = of_operand rule o among in (s, stands, inr (o, here, (refl, inl is)))
 of_fixed rule c N (truth {o} {b} among is) = let (s, stands, here) = of_operand rule o among in (s, stands, inr (o, here, (refl, inr ((b, is), refl))))
 
 at_line : (rule : Rule) (s : Statement) (op : Op) (c N : ℕ) → IsStatementOf rule s → s.op ≡ op → fixed_line s.class op ≡ Some (c, N) → Fixed rule c N
 at_line rule s (Binary op flags a b) c N stands is e = cc
-at_line rule s (Compare pred a b) c N stands is e = subst (λ (p : ℕ × ℕ). Fixed rule p.0 p.1) (same_Some (s.class, 1) (c, N) e) (comparison stands is)
+at_line rule s (Compare pred samesign a b) c N stands is e = subst (λ (p : ℕ × ℕ). Fixed rule p.0 p.1) (same_Some (s.class, 1) (c, N) e) (comparison stands is)
 at_line rule s (Select z a b) c N stands is e = subst (λ (p : ℕ × ℕ). Fixed rule p.0 p.1) (same_Some (z.class, 1) (c, N) e) (condition stands is)
-at_line rule s (Convert cast a None) c N stands is e = cc
-at_line rule s (Convert cast a (Some M)) c N stands is e = subst (λ (p : ℕ × ℕ). Fixed rule p.0 p.1) (same_Some (s.class, M) (c, N) e) (cast_to stands is)
+at_line rule s (Convert cast flags a None) c N stands is e = cc
+at_line rule s (Convert cast flags a (Some M)) c N stands is e = subst (λ (p : ℕ × ℕ). Fixed rule p.0 p.1) (same_Some (s.class, M) (c, N) e) (cast_to stands is)
 at_line rule s (Copy a) c N stands is e = cc
 
 by_operand : (rule : Rule) (o : Operand) (c N : ℕ) → Contains (operands_in rule) o → FixesWidth c N o → Fixed rule c N
@@ -45,26 +45,26 @@ fixed_of rule s c N stands (inr (o, among, fixes)) = by_operand rule o c N (oper
 
 -- a class with a fixed width stands in the rule
 pub fixed_class : (rule : Rule) (c N : ℕ) → Fixed rule c N → Contains (classes_of rule) c
-fixed_class rule c N (comparison {s} {pred} {a} {b} stands is) = class_stands rule s stands
+fixed_class rule c N (comparison {s} {pred} {samesign} {a} {b} stands is) = class_stands rule s stands
 fixed_class rule c N (condition {s} {c = z} {a} {b} stands is) = operand_class rule z (operand_stands rule s z stands (subst (λ x. Contains (operands_of x) z) (sym is) (0, omega arith, refl)))
-fixed_class rule c N (cast_to {s} {cast} {a} {N = M} stands is) = class_stands rule s stands
+fixed_class rule c N (cast_to {s} {cast} {flags} {a} {N = M} stands is) = class_stands rule s stands
 fixed_class rule c N (written {o} {N = M} among is) = operand_class rule o among
 fixed_class rule c N (truth {o} {b} among is) = operand_class rule o among
 
 -- ---- widths that are kept below others
 
 pub of_smaller : (rule : Rule) (c d : ℕ) → Smaller rule c d → (s : Statement) × IsStatementOf rule s × (smaller_line s.class s.op ≡ Some (c, d))
-of_smaller rule c d (truncated {s} {a} {to} stands is) = (s, stands, ap (smaller_line s.class) is)
-of_smaller rule c d (zero_extended {s} {a} {to} stands is) = (s, stands, ap (smaller_line s.class) is)
-of_smaller rule c d (sign_extended {s} {a} {to} stands is) = (s, stands, ap (smaller_line s.class) is)
+of_smaller rule c d (truncated {s} {flags} {a} {to} stands is) = (s, stands, ap (smaller_line s.class) is)
+of_smaller rule c d (zero_extended {s} {flags} {a} {to} stands is) = (s, stands, ap (smaller_line s.class) is)
+of_smaller rule c d (sign_extended {s} {flags} {a} {to} stands is) = (s, stands, ap (smaller_line s.class) is)
 
 pub at_cast : (rule : Rule) (s : Statement) (op : Op) (c d : ℕ) → IsStatementOf rule s → s.op ≡ op → smaller_line s.class op ≡ Some (c, d) → Smaller rule c d
 at_cast rule s (Binary op flags a b) c d stands is e = cc
-at_cast rule s (Compare pred a b) c d stands is e = cc
+at_cast rule s (Compare pred samesign a b) c d stands is e = cc
 at_cast rule s (Select z a b) c d stands is e = cc
-at_cast rule s (Convert Trunc a to) c d stands is e = subst (λ (p : ℕ × ℕ). Smaller rule p.0 p.1) (same_Some (s.class, a.class) (c, d) e) (truncated stands is)
-at_cast rule s (Convert ZExt a to) c d stands is e = subst (λ (p : ℕ × ℕ). Smaller rule p.0 p.1) (same_Some (a.class, s.class) (c, d) e) (zero_extended stands is)
-at_cast rule s (Convert SExt a to) c d stands is e = subst (λ (p : ℕ × ℕ). Smaller rule p.0 p.1) (same_Some (a.class, s.class) (c, d) e) (sign_extended stands is)
+at_cast rule s (Convert Trunc flags a to) c d stands is e = subst (λ (p : ℕ × ℕ). Smaller rule p.0 p.1) (same_Some (s.class, a.class) (c, d) e) (truncated stands is)
+at_cast rule s (Convert ZExt flags a to) c d stands is e = subst (λ (p : ℕ × ℕ). Smaller rule p.0 p.1) (same_Some (a.class, s.class) (c, d) e) (zero_extended stands is)
+at_cast rule s (Convert SExt flags a to) c d stands is e = subst (λ (p : ℕ × ℕ). Smaller rule p.0 p.1) (same_Some (a.class, s.class) (c, d) e) (sign_extended stands is)
 at_cast rule s (Copy a) c d stands is e = cc
 
 -- widths meet what casts demand exactly where they meet the line of each statement

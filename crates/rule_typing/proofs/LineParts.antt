@@ -80,9 +80,9 @@ On rule p = Line rule p.0 p.1
 
 at_op : (rule : Rule) (s : Statement) (op : Op) (p : ℕ × ℕ) → IsStatementOf rule s → s.op ≡ op → Contains (op_pairs s.class op) p → On rule p
 at_op rule s (Binary op flags a b) p stands is among = elim (two_pairs (s.class, a.class) (s.class, b.class) p among) [ inl e ↦ subst (On rule) e (binary_left stands is) | inr e ↦ subst (On rule) e (binary_right stands is) ]
-at_op rule s (Compare pred a b) p stands is among = subst (On rule) (one_pair (a.class, b.class) p among) (compared stands is)
+at_op rule s (Compare pred samesign a b) p stands is among = subst (On rule) (one_pair (a.class, b.class) p among) (compared stands is)
 at_op rule s (Select z a b) p stands is among = elim (two_pairs (s.class, a.class) (s.class, b.class) p among) [ inl e ↦ subst (On rule) e (select_true stands is) | inr e ↦ subst (On rule) e (select_false stands is) ]
-at_op rule s (Convert cast a to) p stands is among = absurd (no_pair p among)
+at_op rule s (Convert cast flags a to) p stands is among = absurd (no_pair p among)
 at_op rule s (Copy a) p stands is among = subst (On rule) (one_pair (s.class, a.class) p among) (copy stands is)
 
 at_value : (rule : Rule) (half : Half) (o : Operand) (value : Argument) (d : ℕ) → Contains (operands_among (statements_of rule half)) o → o.value ≡ value → term_class rule half value ≡ Some d → Line rule o.class d
@@ -169,7 +169,7 @@ value_pair rule half o value d is class = to_paired (Some o.class) (term_class r
 pub line_cases : (rule : Rule) (c d : ℕ) → Line rule c d → OnLine rule c d
 line_cases rule c d (binary_left {s} {op} {flags} {a} {b} stands is) = op_pair rule s (Binary op flags a b) s.class a.class stands is (here ((s.class, b.class) ∷ []) (s.class, a.class))
 line_cases rule c d (binary_right {s} {op} {flags} {a} {b} stands is) = op_pair rule s (Binary op flags a b) s.class b.class stands is (later (s.class, a.class) (s.class, b.class))
-line_cases rule c d (compared {s} {pred} {a} {b} stands is) = op_pair rule s (Compare pred a b) a.class b.class stands is (here [] (a.class, b.class))
+line_cases rule c d (compared {s} {pred} {samesign} {a} {b} stands is) = op_pair rule s (Compare pred samesign a b) a.class b.class stands is (here [] (a.class, b.class))
 line_cases rule c d (select_true {s} {c = z} {a} {b} stands is) = op_pair rule s (Select z a b) s.class a.class stands is (here ((s.class, b.class) ∷ []) (s.class, a.class))
 line_cases rule c d (select_false {s} {c = z} {a} {b} stands is) = op_pair rule s (Select z a b) s.class b.class stands is (later (s.class, a.class) (s.class, b.class))
 line_cases rule c d (copy {s} {a} stands is) = op_pair rule s (Copy a) s.class a.class stands is (here [] (s.class, a.class))

@@ -66,7 +66,7 @@ term_ends rule terms c d stands placed (right {t} {x} {op} {a} {b} among is ther
 pub line_classes : (rule : Rule) (c d : ℕ) → Line rule c d → Contains (classes_of rule) c × Contains (classes_of rule) d
 line_classes rule c d (binary_left {s} {op} {flags} {a} {b} stands is) = (class_stands rule s stands, first_of rule s (Binary op flags a b) a stands is (at (b ∷ []) a))
 line_classes rule c d (binary_right {s} {op} {flags} {a} {b} stands is) = (class_stands rule s stands, first_of rule s (Binary op flags a b) b stands is (behind a b []))
-line_classes rule c d (compared {s} {pred} {a} {b} stands is) = (first_of rule s (Compare pred a b) a stands is (at (b ∷ []) a), first_of rule s (Compare pred a b) b stands is (behind a b []))
+line_classes rule c d (compared {s} {pred} {samesign} {a} {b} stands is) = (first_of rule s (Compare pred samesign a b) a stands is (at (b ∷ []) a), first_of rule s (Compare pred samesign a b) b stands is (behind a b []))
 line_classes rule c d (select_true {s} {c = z} {a} {b} stands is) = (class_stands rule s stands, first_of rule s (Select z a b) a stands is (behind z a (b ∷ [])))
 line_classes rule c d (select_false {s} {c = z} {a} {b} stands is) = (class_stands rule s stands, first_of rule s (Select z a b) b stands is (2, omega arith, refl))
 line_classes rule c d (copy {s} {a} stands is) = (class_stands rule s stands, first_of rule s (Copy a) a stands is (at [] a))
@@ -90,9 +90,9 @@ module _ (f : ℕ → ℕ) where
 
   op_pairs-mapped : (r : ℕ) (op : Op) → op_pairs (f r) (mapped_op f op) ≡ map (both f) (op_pairs r op)
   op_pairs-mapped r (Binary op flags a b) = refl
-  op_pairs-mapped r (Compare pred a b) = refl
+  op_pairs-mapped r (Compare pred samesign a b) = refl
   op_pairs-mapped r (Select z a b) = refl
-  op_pairs-mapped r (Convert cast a to) = refl
+  op_pairs-mapped r (Convert cast flags a to) = refl
   op_pairs-mapped r (Copy a) = refl
 
   term_option : (o : Option Term) → option_map (λ t. t.class) (option_map (mapped_term f) o) ≡ option_map f (option_map (λ t. t.class) o)

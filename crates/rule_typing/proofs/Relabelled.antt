@@ -22,16 +22,16 @@ mapped_operand f o = record o { class = f o.class }
 
 pub operands-mapped_op : (f : ℕ → ℕ) (op : Op) → operands_of (mapped_op f op) ≡ map (mapped_operand f) (operands_of op)
 operands-mapped_op f (Binary op flags a b) = refl
-operands-mapped_op f (Compare pred a b) = refl
+operands-mapped_op f (Compare pred samesign a b) = refl
 operands-mapped_op f (Select z a b) = refl
-operands-mapped_op f (Convert cast a to) = refl
+operands-mapped_op f (Convert cast flags a to) = refl
 operands-mapped_op f (Copy a) = refl
 
 op_classes : (f : ℕ → ℕ) (op : Op) → map (λ o. o.class) (operands_of (mapped_op f op)) ≡ map f (map (λ o. o.class) (operands_of op))
 op_classes f (Binary op flags a b) = refl
-op_classes f (Compare pred a b) = refl
+op_classes f (Compare pred samesign a b) = refl
 op_classes f (Select z a b) = refl
-op_classes f (Convert cast a to) = refl
+op_classes f (Convert cast flags a to) = refl
 op_classes f (Copy a) = refl
 
 node_classes : (f : ℕ → ℕ) (c : ℕ) (node : Node) → classes_of_node (f c) (mapped_node f node) ≡ map f (classes_of_node c node)
@@ -78,9 +78,9 @@ operands_in-mapped f rule = ap operands_among (statements_mapped f rule) ∙ ope
 -- one map after the other is one map
 mapped_op-mapped_op : (g f : ℕ → ℕ) (op : Op) → mapped_op g (mapped_op f op) ≡ mapped_op (λ c. g (f c)) op
 mapped_op-mapped_op g f (Binary op flags a b) = refl
-mapped_op-mapped_op g f (Compare pred a b) = refl
+mapped_op-mapped_op g f (Compare pred samesign a b) = refl
 mapped_op-mapped_op g f (Select z a b) = refl
-mapped_op-mapped_op g f (Convert cast a to) = refl
+mapped_op-mapped_op g f (Convert cast flags a to) = refl
 mapped_op-mapped_op g f (Copy a) = refl
 
 statements-mapped : (g f : ℕ → ℕ) (xs : List Statement) → map (mapped_statement g) (map (mapped_statement f) xs) ≡ map (mapped_statement (λ c. g (f c))) xs
@@ -106,9 +106,9 @@ mapped-mapped g f rule = rw (statements-mapped g f rule.source, statements-mappe
 -- a map that changes no class changes nothing
 mapped_op-id : (op : Op) → mapped_op (λ c. c) op ≡ op
 mapped_op-id (Binary op flags a b) = refl
-mapped_op-id (Compare pred a b) = refl
+mapped_op-id (Compare pred samesign a b) = refl
 mapped_op-id (Select z a b) = refl
-mapped_op-id (Convert cast a to) = refl
+mapped_op-id (Convert cast flags a to) = refl
 mapped_op-id (Copy a) = refl
 
 statements-id : (xs : List Statement) → map (mapped_statement (λ c. c)) xs ≡ xs
@@ -140,9 +140,9 @@ alike_mapped f rule = mapped-mapped (λ c. 0) f rule
 
 numbered_op_bare : (n : ℕ) (op : Op) → mapped_op (λ c. 0) (numbered_op n op) ≡ mapped_op (λ c. 0) op
 numbered_op_bare n (Binary op flags a b) = refl
-numbered_op_bare n (Compare pred a b) = refl
+numbered_op_bare n (Compare pred samesign a b) = refl
 numbered_op_bare n (Select z a b) = refl
-numbered_op_bare n (Convert cast a to) = refl
+numbered_op_bare n (Convert cast flags a to) = refl
 numbered_op_bare n (Copy a) = refl
 
 numbered_statement_bare : (n : ℕ) (s : Statement) → mapped_statement (λ c. 0) (numbered_statement n s) ≡ mapped_statement (λ c. 0) s
@@ -178,16 +178,16 @@ alike_numbered rule =
 -- the classes before play no part in the numbering
 numbered_mapped_op : (f : ℕ → ℕ) (n : ℕ) (op : Op) → numbered_op n (mapped_op f op) ≡ numbered_op n op
 numbered_mapped_op f n (Binary op flags a b) = refl
-numbered_mapped_op f n (Compare pred a b) = refl
+numbered_mapped_op f n (Compare pred samesign a b) = refl
 numbered_mapped_op f n (Select z a b) = refl
-numbered_mapped_op f n (Convert cast a to) = refl
+numbered_mapped_op f n (Convert cast flags a to) = refl
 numbered_mapped_op f n (Copy a) = refl
 
 count-mapped_op : (f : ℕ → ℕ) (op : Op) → length (map (λ o. o.class) (operands_of (mapped_op f op))) ≡ length (map (λ o. o.class) (operands_of op))
 count-mapped_op f (Binary op flags a b) = refl
-count-mapped_op f (Compare pred a b) = refl
+count-mapped_op f (Compare pred samesign a b) = refl
 count-mapped_op f (Select z a b) = refl
-count-mapped_op f (Convert cast a to) = refl
+count-mapped_op f (Convert cast flags a to) = refl
 count-mapped_op f (Copy a) = refl
 
 numbered_mapped_node : (f : ℕ → ℕ) (n : ℕ) (node : Node) → numbered_node n (mapped_node f node) ≡ numbered_node n node
@@ -240,9 +240,9 @@ numbered_alike r s same = sym (numbered-mapped (λ c. 0) r) ∙ ap numbered same
 -- in the numbered rule the class at each position is the position
 count-numbered_op : (n : ℕ) (op : Op) → length (map (λ o. o.class) (operands_of (numbered_op n op))) ≡ length (map (λ o. o.class) (operands_of op))
 count-numbered_op n (Binary op flags a b) = refl
-count-numbered_op n (Compare pred a b) = refl
+count-numbered_op n (Compare pred samesign a b) = refl
 count-numbered_op n (Select z a b) = refl
-count-numbered_op n (Convert cast a to) = refl
+count-numbered_op n (Convert cast flags a to) = refl
 count-numbered_op n (Copy a) = refl
 
 classes-numbered_op : (n : ℕ) (op : Op) (k c : ℕ) → slice_get (n ∷ map (λ o. o.class) (operands_of (numbered_op (n + 1) op))) k ≡ Some c → c ≡ n + k
@@ -250,18 +250,18 @@ classes-numbered_op n (Binary op flags a b) zero c at = let h = same_Some n c at
 classes-numbered_op n (Binary op flags a b) (suc zero) c at = let h = same_Some (n + 1) c at in omega arith
 classes-numbered_op n (Binary op flags a b) (suc (suc zero)) c at = let h = same_Some (n + 1 + 1) c at in omega arith
 classes-numbered_op n (Binary op flags a b) (suc (suc (suc k))) c at = cc
-classes-numbered_op n (Compare pred a b) zero c at = let h = same_Some n c at in omega arith
-classes-numbered_op n (Compare pred a b) (suc zero) c at = let h = same_Some (n + 1) c at in omega arith
-classes-numbered_op n (Compare pred a b) (suc (suc zero)) c at = let h = same_Some (n + 1 + 1) c at in omega arith
-classes-numbered_op n (Compare pred a b) (suc (suc (suc k))) c at = cc
+classes-numbered_op n (Compare pred samesign a b) zero c at = let h = same_Some n c at in omega arith
+classes-numbered_op n (Compare pred samesign a b) (suc zero) c at = let h = same_Some (n + 1) c at in omega arith
+classes-numbered_op n (Compare pred samesign a b) (suc (suc zero)) c at = let h = same_Some (n + 1 + 1) c at in omega arith
+classes-numbered_op n (Compare pred samesign a b) (suc (suc (suc k))) c at = cc
 classes-numbered_op n (Select z a b) zero c at = let h = same_Some n c at in omega arith
 classes-numbered_op n (Select z a b) (suc zero) c at = let h = same_Some (n + 1) c at in omega arith
 classes-numbered_op n (Select z a b) (suc (suc zero)) c at = let h = same_Some (n + 1 + 1) c at in omega arith
 classes-numbered_op n (Select z a b) (suc (suc (suc zero))) c at = let h = same_Some (n + 1 + 2) c at in omega arith
 classes-numbered_op n (Select z a b) (suc (suc (suc (suc k)))) c at = cc
-classes-numbered_op n (Convert cast a to) zero c at = let h = same_Some n c at in omega arith
-classes-numbered_op n (Convert cast a to) (suc zero) c at = let h = same_Some (n + 1) c at in omega arith
-classes-numbered_op n (Convert cast a to) (suc (suc k)) c at = cc
+classes-numbered_op n (Convert cast flags a to) zero c at = let h = same_Some n c at in omega arith
+classes-numbered_op n (Convert cast flags a to) (suc zero) c at = let h = same_Some (n + 1) c at in omega arith
+classes-numbered_op n (Convert cast flags a to) (suc (suc k)) c at = cc
 classes-numbered_op n (Copy a) zero c at = let h = same_Some n c at in omega arith
 classes-numbered_op n (Copy a) (suc zero) c at = let h = same_Some (n + 1) c at in omega arith
 classes-numbered_op n (Copy a) (suc (suc k)) c at = cc

@@ -28,7 +28,7 @@ restored_op f n (Binary op flags a b) gives =
     let left : f n ≡ a.class = ap f (sym (add-zero n)) ∙ gives 0 a.class refl in
     let right : f (n + 1) ≡ b.class = gives 1 b.class refl in
     rw (left, right) refl
-restored_op f n (Compare pred a b) gives =
+restored_op f n (Compare pred samesign a b) gives =
     let left : f n ≡ a.class = ap f (sym (add-zero n)) ∙ gives 0 a.class refl in
     let right : f (n + 1) ≡ b.class = gives 1 b.class refl in
     rw (left, right) refl
@@ -37,7 +37,7 @@ restored_op f n (Select z a b) gives =
     let second : f (n + 1) ≡ a.class = gives 1 a.class refl in
     let third : f (n + 2) ≡ b.class = gives 2 b.class refl in
     rw (first, second, third) refl
-restored_op f n (Convert cast a to) gives = let left : f n ≡ a.class = ap f (sym (add-zero n)) ∙ gives 0 a.class refl in rw left refl
+restored_op f n (Convert cast flags a to) gives = let left : f n ≡ a.class = ap f (sym (add-zero n)) ∙ gives 0 a.class refl in rw left refl
 restored_op f n (Copy a) gives = let left : f n ≡ a.class = ap f (sym (add-zero n)) ∙ gives 0 a.class refl in rw left refl
 
 restored_statement : (f : ℕ → ℕ) (n : ℕ) (s : Statement) → ((k c : ℕ) → slice_get (classes_of_statement s) k ≡ Some c → f (n + k) ≡ c) → mapped_statement f (numbered_statement n s) ≡ s

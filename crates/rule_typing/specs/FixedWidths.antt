@@ -11,10 +11,10 @@ use Rattle.rule_core.specs.Positions.{operands_of}
 -- the class for which the line of an operation fixes a width, and that width, where the result has the class r
 abbrev pub fixed_line : ℕ → Op → Option (ℕ × ℕ)
 fixed_line r (Binary op flags a b) = None
-fixed_line r (Compare pred a b) = Some (r, 1)
+fixed_line r (Compare pred samesign a b) = Some (r, 1)
 fixed_line r (Select z a b) = Some (z.class, 1)
-fixed_line r (Convert cast a None) = None
-fixed_line r (Convert cast a (Some N)) = Some (r, N)
+fixed_line r (Convert cast flags a None) = None
+fixed_line r (Convert cast flags a (Some N)) = Some (r, N)
 fixed_line r (Copy a) = None
 
 -- the operand fixes the width N for its class, which is c: by its type, or as `true` or `false`
@@ -32,11 +32,11 @@ StatementFixes c N s = (fixed_line s.class s.op ≡ Some (c, N)) ⊎ OperandFixe
 -- the class whose width the line of an operation keeps below that of another, and the other, where the result has the class r
 abbrev pub smaller_line : ℕ → Op → Option (ℕ × ℕ)
 smaller_line r (Binary op flags a b) = None
-smaller_line r (Compare pred a b) = None
+smaller_line r (Compare pred samesign a b) = None
 smaller_line r (Select z a b) = None
-smaller_line r (Convert Trunc a to) = Some (r, a.class)
-smaller_line r (Convert ZExt a to) = Some (a.class, r)
-smaller_line r (Convert SExt a to) = Some (a.class, r)
+smaller_line r (Convert Trunc flags a to) = Some (r, a.class)
+smaller_line r (Convert ZExt flags a to) = Some (a.class, r)
+smaller_line r (Convert SExt flags a to) = Some (a.class, r)
 smaller_line r (Copy a) = None
 
 -- these widths keep that of class c below that of class d, if there are both

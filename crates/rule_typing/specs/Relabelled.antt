@@ -14,9 +14,9 @@ use Rattle.rule_core.specs.Positions.{classes_of_statement, classes_of_term}
 -- each class c is f c
 abbrev pub mapped_op : (ℕ → ℕ) → Op → Op
 mapped_op f (Binary op flags a b) = Binary op flags (record a { class = f a.class }) (record b { class = f b.class })
-mapped_op f (Compare pred a b) = Compare pred (record a { class = f a.class }) (record b { class = f b.class })
+mapped_op f (Compare pred samesign a b) = Compare pred samesign (record a { class = f a.class }) (record b { class = f b.class })
 mapped_op f (Select c a b) = Select (record c { class = f c.class }) (record a { class = f a.class }) (record b { class = f b.class })
-mapped_op f (Convert cast a to) = Convert cast (record a { class = f a.class }) to
+mapped_op f (Convert cast flags a to) = Convert cast flags (record a { class = f a.class }) to
 mapped_op f (Copy a) = Copy (record a { class = f a.class })
 
 abbrev pub mapped_statement : (ℕ → ℕ) → Statement → Statement
@@ -46,9 +46,9 @@ mapped f rule =
 -- the class at each position is the position, from n on
 abbrev pub numbered_op : ℕ → Op → Op
 numbered_op n (Binary op flags a b) = Binary op flags (record a { class = n }) (record b { class = n + 1 })
-numbered_op n (Compare pred a b) = Compare pred (record a { class = n }) (record b { class = n + 1 })
+numbered_op n (Compare pred samesign a b) = Compare pred samesign (record a { class = n }) (record b { class = n + 1 })
 numbered_op n (Select c a b) = Select (record c { class = n }) (record a { class = n + 1 }) (record b { class = n + 2 })
-numbered_op n (Convert cast a to) = Convert cast (record a { class = n }) to
+numbered_op n (Convert cast flags a to) = Convert cast flags (record a { class = n }) to
 numbered_op n (Copy a) = Copy (record a { class = n })
 
 abbrev pub numbered_statement : ℕ → Statement → Statement

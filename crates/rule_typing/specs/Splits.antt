@@ -32,9 +32,9 @@ paired (Some c) (Some d) = (c, d) ∷ []
 -- the line of an operation whose result has the class r
 abbrev pub op_pairs : ℕ → Op → List (ℕ × ℕ)
 op_pairs r (Binary op flags a b) = (r, a.class) ∷ (r, b.class) ∷ []
-op_pairs r (Compare pred a b) = (a.class, b.class) ∷ []
+op_pairs r (Compare pred samesign a b) = (a.class, b.class) ∷ []
 op_pairs r (Select z a b) = (r, a.class) ∷ (r, b.class) ∷ []
-op_pairs r (Convert cast a to) = []
+op_pairs r (Convert cast flags a to) = []
 op_pairs r (Copy a) = (r, a.class) ∷ []
 
 abbrev pub statement_pairs : Statement → List (ℕ × ℕ)

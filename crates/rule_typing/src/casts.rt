@@ -61,13 +61,13 @@ fn smaller_line(result_class: u32, op: Op) -> Option<(u32, u32)>
     ensures { result ≡ smaller_line result_class op }
 {
     match op {
-        Op::Convert(cast, operand, _) => match cast {
+        Op::Convert(cast, _, operand, _) => match cast {
             Cast::Trunc => Some((result_class, operand.class)),
             Cast::ZExt => Some((operand.class, result_class)),
             Cast::SExt => Some((operand.class, result_class)),
         },
         Op::Binary(_, _, _, _) => None,
-        Op::Compare(_, _, _) => None,
+        Op::Compare(_, _, _, _) => None,
         Op::Select(_, _, _) => None,
         Op::Copy(_) => None,
     }

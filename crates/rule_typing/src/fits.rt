@@ -197,9 +197,9 @@ fn past_statement(statement: &Statement) -> usize
     let first = statement.class;
     let class = match statement.op {
         Op::Binary(_, _, left, right) => first.max(left.class).max(right.class),
-        Op::Compare(_, left, right) => first.max(left.class).max(right.class),
+        Op::Compare(_, _, left, right) => first.max(left.class).max(right.class),
         Op::Select(condition, yes, no) => first.max(condition.class).max(yes.class).max(no.class),
-        Op::Convert(_, operand, _) => first.max(operand.class),
+        Op::Convert(_, _, operand, _) => first.max(operand.class),
         Op::Copy(operand) => first.max(operand.class),
     };
     class as usize + 1

@@ -73,10 +73,10 @@ fn fixed_line(result_class: u32, op: Op) -> Option<(u32, Width)>
 {
     match op {
         Op::Binary(_, _, _, _) => None,
-        Op::Compare(_, _, _) => Some((result_class, Width::ONE)),
+        Op::Compare(_, _, _, _) => Some((result_class, Width::ONE)),
         Op::Select(condition, _, _) => Some((condition.class, Width::ONE)),
-        Op::Convert(_, _, None) => None,
-        Op::Convert(_, _, Some(width)) => Some((result_class, width)),
+        Op::Convert(_, _, _, None) => None,
+        Op::Convert(_, _, _, Some(width)) => Some((result_class, width)),
         Op::Copy(_) => None,
     }
 }

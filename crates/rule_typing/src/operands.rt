@@ -32,7 +32,7 @@ impl Operands {
                 held: [left, right, NO_OPERAND],
                 count: 2,
             },
-            Op::Compare(_, left, right) => Operands {
+            Op::Compare(_, _, left, right) => Operands {
                 held: [left, right, NO_OPERAND],
                 count: 2,
             },
@@ -40,7 +40,7 @@ impl Operands {
                 held: [condition, yes, no],
                 count: 3,
             },
-            Op::Convert(_, operand, _) => Operands {
+            Op::Convert(_, _, operand, _) => Operands {
                 held: [operand, NO_OPERAND, NO_OPERAND],
                 count: 1,
             },

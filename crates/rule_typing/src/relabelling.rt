@@ -51,8 +51,9 @@ impl Renaming {
                 self.operand(left),
                 self.operand(right),
             ),
-            Op::Compare(pred, left, right) => Op::Compare(
+            Op::Compare(pred, samesign, left, right) => Op::Compare(
                 pred,
+                samesign,
                 self.operand(left),
                 self.operand(right),
             ),
@@ -61,7 +62,12 @@ impl Renaming {
                 self.operand(yes),
                 self.operand(no),
             ),
-            Op::Convert(cast, operand, to) => Op::Convert(cast, self.operand(operand), to),
+            Op::Convert(cast, flags, operand, to) => Op::Convert(
+                cast,
+                flags,
+                self.operand(operand),
+                to,
+            ),
             Op::Copy(operand) => Op::Copy(self.operand(operand)),
         }
     }
@@ -193,10 +199,10 @@ fn numbered_op(op: Op, first: u32) -> (Op, u32)
                 first + 2,
             )
         }
-        Op::Compare(pred, left, right) => {
+        Op::Compare(pred, samesign, left, right) => {
             let left = with_class(left, first);
             (
-                Op::Compare(pred, left, with_class(right, first + 1)),
+                Op::Compare(pred, samesign, left, with_class(right, first + 1)),
                 first + 2,
             )
         }
@@ -208,8 +214,8 @@ fn numbered_op(op: Op, first: u32) -> (Op, u32)
                 first + 3,
             )
         }
-        Op::Convert(cast, operand, to) => (
-            Op::Convert(cast, with_class(operand, first), to),
+        Op::Convert(cast, flags, operand, to) => (
+            Op::Convert(cast, flags, with_class(operand, first), to),
             first + 1,
         ),
         Op::Copy(operand) => (Op::Copy(with_class(operand, first)), first + 1),

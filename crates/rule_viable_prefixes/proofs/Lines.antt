@@ -4,7 +4,7 @@ use Rattle.std.specs.Prelude.{codes}
 use Rattle.std.specs.Str.{bytes_eq}
 use Rattle.std.proofs.lemmas.List.{append-nil}
 use Rattle.ops.proofs.KeywordLemmas.{same_word}
-use Rattle.ops.specs.Flags.{no_flags}
+use Rattle.ops.specs.Flags.{no_flags, flags_of, flags_of_cast, flags_of_icmp}
 use Rattle.rule_tokens.specs.declared.fault.RuleFaultKind.TheVariants.{Syntax, TooMany}
 use Rattle.rule_tokens.specs.RuleFaults.{RuleFault}
 use Rattle.rule_tokens.specs.Steps.{◌>>=◌}
@@ -93,12 +93,14 @@ module _ (spare_bytes deepest spare_statements : ℕ) where
 
   operation_ends : (half : Half) (line : ℕ) (operation : Operation) (tokens : List Token) → Ends (operation_at limits half line operation tokens)
   unfolding binary_at compare_at select_at convert_at
-  operation_ends half line (operations.Binary op) tokens = ends_behind (flags_at op line no_flags tokens) _ (λ flags. λ x rest e. bound (pair_at limits half line flags.1) _ (x, rest) e (λ y p e1. read_as (λ z. EndsLine z.1) _ (x, rest) e1 (pair_ends half line flags.1 y.0 y.1 p)))
-  operation_ends half line operations.Compare tokens = ends_behind (pred_at line tokens) _ (λ pred. λ x rest e. bound (pair_at limits half line pred.1) _ (x, rest) e (λ y p e1. read_as (λ z. EndsLine z.1) _ (x, rest) e1 (pair_ends half line pred.1 y.0 y.1 p)))
+  operation_ends half line (operations.Binary op) tokens = ends_behind (flags_at (flags_of op) line no_flags tokens) _ (λ flags. λ x rest e. bound (pair_at limits half line flags.1) _ (x, rest) e (λ y p e1. read_as (λ z. EndsLine z.1) _ (x, rest) e1 (pair_ends half line flags.1 y.0 y.1 p)))
+  operation_ends half line operations.Compare tokens =
+      ends_behind (flags_at flags_of_icmp line no_flags tokens) _ (λ flags. ends_behind (pred_at line flags.1) _ (λ pred. λ x rest e. bound (pair_at limits half line pred.1) _ (x, rest) e (λ y p e1. read_as (λ z. EndsLine z.1) _ (x, rest) e1 (pair_ends half line pred.1 y.0 y.1 p))))
   operation_ends half line operations.Select tokens =
       ends_behind (operand_at limits half line tokens) _ (λ condition. ends_behind (mark_at (codes ",") line condition.1) _ (λ first. ends_behind (operand_at limits half line first) _ (λ if_true. ends_behind (mark_at (codes ",") line if_true.1) _ (λ second.
       ends_behind (operand_at limits half line second) _ (λ if_false. ends_line line if_false.1 _)))))
-  operation_ends half line (operations.Convert cast) tokens = ends_behind (operand_at limits half line tokens) _ (λ from. λ x rest e. bound (to_at line from.1) _ (x, rest) e (λ y p e1. read_as (λ z. EndsLine z.1) _ (x, rest) e1 (to_ends_line line from.1 y.0 y.1 p)))
+  operation_ends half line (operations.Convert cast) tokens =
+      ends_behind (flags_at (flags_of_cast cast) line no_flags tokens) _ (λ flags. ends_behind (operand_at limits half line flags.1) _ (λ from. λ x rest e. bound (to_at line from.1) _ (x, rest) e (λ y p e1. read_as (λ z. EndsLine z.1) _ (x, rest) e1 (to_ends_line line from.1 y.0 y.1 p))))
 
   copy_ends : (line : ℕ) (tokens : List Token) → Ends (copy_at limits line tokens)
   unfolding copy_at

@@ -2,9 +2,9 @@
 use Rattle.std.proofs.Common.{◌≡◌, ℕ, Bool, true, false, List, Option, Some, None, refl, sym, ap, subst, ◌∙◌}
 use Rattle.std.specs.Prelude.{codes}
 use Rattle.std.specs.Str.{bytes_eq}
-use Rattle.ops.specs.declared.opcode.Opcode.{Opcode}
+use Rattle.ops.specs.declared.opcode.Flags.{Flags}
 use Rattle.ops.specs.declared.keywords.flag.Flag.{Flag}
-use Rattle.ops.specs.declared.keywords.flag.Flag.TheVariants.{Nuw, Nsw, Exact}
+use Rattle.ops.specs.declared.keywords.flag.Flag.TheVariants.{Nuw, Nsw, Exact, NNeg, Disjoint, SameSign}
 use Rattle.ops.specs.Keywords.{pred_in}
 use Rattle.ops.specs.FlagKeywords.{flag_in, flag_keyword}
 use Rattle.ops.proofs.KeywordLemmas.{same_word, pred_in-of}
@@ -63,17 +63,20 @@ unfolding operation_in pred_in type_in source_word_in meaning_in name_in choice_
 no_flag_noun Nuw is = not_noun (codes "nuw") (record { no_opcode = λ x e. absurd cc; no_predicate = λ x e. absurd cc; no_type = λ x e. absurd cc; no_operand = λ x e. absurd cc; no_term = λ x e. absurd cc }) is
 no_flag_noun Nsw is = not_noun (codes "nsw") (record { no_opcode = λ x e. absurd cc; no_predicate = λ x e. absurd cc; no_type = λ x e. absurd cc; no_operand = λ x e. absurd cc; no_term = λ x e. absurd cc }) is
 no_flag_noun Exact is = not_noun (codes "exact") (record { no_opcode = λ x e. absurd cc; no_predicate = λ x e. absurd cc; no_type = λ x e. absurd cc; no_operand = λ x e. absurd cc; no_term = λ x e. absurd cc }) is
+no_flag_noun NNeg is = not_noun (codes "nneg") (record { no_opcode = λ x e. absurd cc; no_predicate = λ x e. absurd cc; no_type = λ x e. absurd cc; no_operand = λ x e. absurd cc; no_term = λ x e. absurd cc }) is
+no_flag_noun Disjoint is = not_noun (codes "disjoint") (record { no_opcode = λ x e. absurd cc; no_predicate = λ x e. absurd cc; no_type = λ x e. absurd cc; no_operand = λ x e. absurd cc; no_term = λ x e. absurd cc }) is
+no_flag_noun SameSign is = not_noun (codes "samesign") (record { no_opcode = λ x e. absurd cc; no_predicate = λ x e. absurd cc; no_type = λ x e. absurd cc; no_operand = λ x e. absurd cc; no_term = λ x e. absurd cc }) is
 
 -- no noun is a flag
 pub noun_other : (noun : List ℕ) → IsNoun noun → (flag : Flag) → noun ≡ flag_keyword flag → ⊥
 noun_other noun is flag same = no_flag_noun flag (subst IsNoun same is)
 
-pub no_flag_in : (op : Opcode) (noun : List ℕ) → IsNoun noun → flag_in op noun ≡ None
-no_flag_in op noun is = by (flag_in op noun) refl
+pub no_flag_in : (taken : Flags) (noun : List ℕ) → IsNoun noun → flag_in taken noun ≡ None
+no_flag_in taken noun is = by (flag_in taken noun) refl
   where
-    by : (found : Option Flag) → flag_in op noun ≡ found → flag_in op noun ≡ None
+    by : (found : Option Flag) → flag_in taken noun ≡ found → flag_in taken noun ≡ None
     by None f = f
-    by (Some flag) f = absurd (no_flag_noun flag (subst IsNoun (flag_in-is op noun flag f).0 is))
+    by (Some flag) f = absurd (no_flag_noun flag (subst IsNoun (flag_in-is taken noun flag f).0 is))
 
 pub not_to : (noun : List ℕ) → IsNoun noun → bytes_eq noun (codes "to") ≡ false
 unfolding operation_in pred_in type_in source_word_in meaning_in name_in choice_in is_constant is_digit
@@ -102,21 +105,36 @@ source_other word value found flag same = by flag (ap source_word_in (sym same) 
     by Nuw is = cc
     by Nsw is = cc
     by Exact is = cc
+    by NNeg is = cc
+    by Disjoint is = cc
+    by SameSign is = cc
 
 pub to_other : (flag : Flag) → codes "to" ≡ flag_keyword flag → ⊥
 to_other Nuw is = cc
 to_other Nsw is = cc
 to_other Exact is = cc
+to_other NNeg is = cc
+to_other Disjoint is = cc
+to_other SameSign is = cc
 
 pub one_use_other : (flag : Flag) → codes "hasOneUse" ≡ flag_keyword flag → ⊥
 one_use_other Nuw is = cc
 one_use_other Nsw is = cc
 one_use_other Exact is = cc
+one_use_other NNeg is = cc
+one_use_other Disjoint is = cc
+one_use_other SameSign is = cc
 
 pub predicate_other : (predicate : Predicate) (flag : Flag) → predicate_word predicate ≡ flag_keyword flag → ⊥
 predicate_other IsPowerOfTwo Nuw is = cc
 predicate_other IsPowerOfTwo Nsw is = cc
 predicate_other IsPowerOfTwo Exact is = cc
+predicate_other IsPowerOfTwo NNeg is = cc
+predicate_other IsPowerOfTwo Disjoint is = cc
+predicate_other IsPowerOfTwo SameSign is = cc
 predicate_other IsSignBit Nuw is = cc
 predicate_other IsSignBit Nsw is = cc
 predicate_other IsSignBit Exact is = cc
+predicate_other IsSignBit NNeg is = cc
+predicate_other IsSignBit Disjoint is = cc
+predicate_other IsSignBit SameSign is = cc

@@ -3,20 +3,19 @@ use Rattle.std.proofs.Common.{◌≡◌, ℕ, ◌<◌, Bool, true, false, List, 
 use Rattle.std.specs.Prelude.{IsTrue, codes}
 use Rattle.std.specs.Str.{bytes_eq}
 use Rattle.ops.specs.declared.opcode.Opcode.{Opcode}
-use Rattle.ops.specs.declared.opcode.Opcode.TheVariants.{Add, UDiv}
 use Rattle.ops.specs.declared.opcode.Flags.{Flags}
 use Rattle.ops.specs.declared.comparison.Pred.{Pred}
 use Rattle.ops.specs.declared.comparison.Pred.TheVariants.{Eq}
 use Rattle.ops.specs.declared.conversion.Cast.{Cast}
-use Rattle.ops.specs.Flags.{no_flags, flags_of}
+use Rattle.ops.specs.Flags.{no_flags, flags_of, flags_of_cast, flags_of_icmp, icmp_flags}
 use Rattle.std.proofs.lemmas.List.{append-nil, map-append}
 use Rattle.ops.specs.declared.keywords.flag.Flag.{Flag}
-use Rattle.ops.specs.declared.keywords.flag.Flag.TheVariants.{Nuw, Nsw, Exact}
+use Rattle.ops.specs.declared.keywords.flag.Flag.TheVariants.{Nuw, Nsw, Exact, NNeg, Disjoint, SameSign}
 use Rattle.rule_tokens.specs.RuleFaults.{RuleFault}
 use Rattle.ops.specs.Keywords.{predicate_keyword, pred_in, opcode_keyword, cast_keyword}
 use Rattle.ops.specs.FlagKeywords.{AddsFlags, flag_in, flag_keyword, has_flag, with_flag}
 use Rattle.ops.proofs.KeywordLemmas.{same_word, pred_in-is}
-use Rattle.ops.proofs.FlagKeywordLemmas.{flag_in-is, flag_in-of}
+use Rattle.ops.proofs.FlagKeywordLemmas.{flag_in-is, flag_in-of, flags_are_icmp, taken_flags}
 use Rattle.scan.specs.RuleTokens.{is_constant}
 use Rattle.rule_tokens.specs.declared.fault.RuleFaultKind.{RuleFaultKind}
 use Rattle.rule_tokens.specs.declared.fault.RuleFaultKind.TheVariants.{Syntax, LeftOut, TooMany}
@@ -285,19 +284,19 @@ module _ (spare_bytes deepest spare_statements : ℕ) where
 
   -- ---- flags
 
-  abbrev Adds : Opcode → Flags → Part
-  Adds op before own = (written : List Flag) × (after : Flags) × AddsFlags op before written after × (own ≡ map (λ flag. Word (flag_keyword flag)) written)
+  abbrev Adds : Flags → Flags → Part
+  Adds set before own = (written : List Flag) × (after : Flags) × AddsFlags set before written after × (own ≡ map (λ flag. Word (flag_keyword flag)) written)
 
-  no_flag : (op : Opcode) (tokens more : List Token) → Akin limits tokens more → next_flag op tokens ≡ None → next_flag op more ≡ None
-  no_flag op tokens more (same_next (Word word) a b) none = none
-  no_flag op tokens more (same_next token a b) none = refl
-  no_flag op tokens more (noun_next word noun a b is) none = no_flag_in op noun is
-  no_flag op tokens more (ended_next a [] p q) none = refl
-  no_flag op tokens more (ended_next a (Line number ∷ b) p q) none = refl
-  no_flag op tokens more (ended_next a b p q) none = absurd q
+  no_flag : (set : Flags) (tokens more : List Token) → Akin limits tokens more → next_flag set tokens ≡ None → next_flag set more ≡ None
+  no_flag set tokens more (same_next (Word word) a b) none = none
+  no_flag set tokens more (same_next token a b) none = refl
+  no_flag set tokens more (noun_next word noun a b is) none = no_flag_in set noun is
+  no_flag set tokens more (ended_next a [] p q) none = refl
+  no_flag set tokens more (ended_next a (Line number ∷ b) p q) none = refl
+  no_flag set tokens more (ended_next a b p q) none = absurd q
 
-  none_added : (op : Opcode) (before : Flags) → Adds op before []
-  none_added op before = ([], before, refl, refl)
+  none_added : (set : Flags) (before : Flags) → Adds set before []
+  none_added set before = ([], before, refl, refl)
 
   -- ---- a flag again
 
@@ -305,16 +304,16 @@ module _ (spare_bytes deepest spare_statements : ℕ) where
   flag_tokens flags = map (λ flag. Word (flag_keyword flag)) flags
 
   -- the flags of an instruction are read
-  flags_read : (op : Opcode) (line : ℕ) (written : List Flag) (before after : Flags) (more : List Token) → AddsFlags op before written after → flags_at op line before (flag_tokens written ++ more) ≡ flags_at op line after more
-  flags_read op line [] before after more adds = ap (λ (flags : Flags). flags_at op line flags more) adds
-  flags_read op line (flag ∷ written) before after more (takes_, new, adds) =
-      flags-more limits op line before flag (Word (flag_keyword flag) ∷ flag_tokens written ++ more) (flag_in-of op flag takes_) new ∙ flags_read op line written (with_flag before flag) after more adds
+  flags_read : (set : Flags) (line : ℕ) (written : List Flag) (before after : Flags) (more : List Token) → AddsFlags set before written after → flags_at set line before (flag_tokens written ++ more) ≡ flags_at set line after more
+  flags_read set line [] before after more adds = ap (λ (flags : Flags). flags_at set line flags more) adds
+  flags_read set line (flag ∷ written) before after more (takes_, new, adds) =
+      flags-more limits set line before flag (Word (flag_keyword flag) ∷ flag_tokens written ++ more) (flag_in-of set flag takes_) new ∙ flags_read set line written (with_flag before flag) after more adds
 
-  one_more : (op : Opcode) (written : List Flag) (before middle : Flags) (flag : Flag) → AddsFlags op before written middle → has_flag (flags_of op) flag ≡ true → has_flag middle flag ≡ false → AddsFlags op before (written ++ flag ∷ []) (with_flag middle flag)
-  one_more op [] before middle flag adds own new =
+  one_more : (set : Flags) (written : List Flag) (before middle : Flags) (flag : Flag) → AddsFlags set before written middle → has_flag set flag ≡ true → has_flag middle flag ≡ false → AddsFlags set before (written ++ flag ∷ []) (with_flag middle flag)
+  one_more set [] before middle flag adds own new =
       let first : has_flag before flag ≡ false = subst (λ (flags : Flags). has_flag flags flag ≡ false) (sym adds) new in
       (own, first, ap (λ (flags : Flags). with_flag flags flag) adds)
-  one_more op (f ∷ written) before middle flag (takes_, new_, adds) own new = (takes_, new_, one_more op written (with_flag before f) middle flag adds own new)
+  one_more set (f ∷ written) before middle flag (takes_, new_, adds) own new = (takes_, new_, one_more set written (with_flag before f) middle flag adds own new)
 
   flags_inline : (written : List Flag) → Inline limits (flag_tokens written)
   flags_inline [] = inline_none limits
@@ -325,11 +324,14 @@ module _ (spare_bytes deepest spare_statements : ℕ) where
   added_is before Nuw Nuw new has = refl
   added_is before Nsw Nsw new has = refl
   added_is before Exact Exact new has = refl
+  added_is before NNeg NNeg new has = refl
+  added_is before Disjoint Disjoint new has = refl
+  added_is before SameSign SameSign new has = refl
   added_is before f flag new has = let both = sym new ∙ has in absurd cc
 
-  repeats : (op : Opcode) (written : List Flag) (before after : Flags) (flag : Flag) → AddsFlags op before written after → has_flag before flag ≡ false → has_flag after flag ≡ true → RepeatsFlag (flag_tokens written) (flag_keyword flag)
-  repeats op [] before after flag adds none has = let both = sym none ∙ (ap (λ (flags : Flags). has_flag flags flag) adds ∙ has) in absurd cc
-  repeats op (f ∷ written) before after flag (takes_, new, adds) none has = by (has_flag (with_flag before f) flag) refl (λ h. repeats op written (with_flag before f) after flag adds h has)
+  repeats : (set : Flags) (written : List Flag) (before after : Flags) (flag : Flag) → AddsFlags set before written after → has_flag before flag ≡ false → has_flag after flag ≡ true → RepeatsFlag (flag_tokens written) (flag_keyword flag)
+  repeats set [] before after flag adds none has = let both = sym none ∙ (ap (λ (flags : Flags). has_flag flags flag) adds ∙ has) in absurd cc
+  repeats set (f ∷ written) before after flag (takes_, new, adds) none has = by (has_flag (with_flag before f) flag) refl (λ h. repeats set written (with_flag before f) after flag adds h has)
     where
       by : (b : Bool) → has_flag (with_flag before f) flag ≡ b → (has_flag (with_flag before f) flag ≡ false → RepeatsFlag (flag_tokens written) (flag_keyword flag)) → RepeatsFlag (flag_tokens (f ∷ written)) (flag_keyword flag)
       by true h further = ([], f, written, ap flag_keyword (added_is before f flag none h), refl)
@@ -339,27 +341,30 @@ module _ (spare_bytes deepest spare_statements : ℕ) where
   has_none Nuw = refl
   has_none Nsw = refl
   has_none Exact = refl
+  has_none NNeg = refl
+  has_none Disjoint = refl
+  has_none SameSign = refl
 
   -- flags of the operation are read, and none is next
-  abbrev OwnFlags : Opcode → List Token → List Token → Type 0
-  OwnFlags op own rest = Adds op no_flags own × (next_flag op rest ≡ None)
+  abbrev OwnFlags : Flags → List Token → List Token → Type 0
+  OwnFlags set own rest = Adds set no_flags own × (next_flag set rest ≡ None)
 
-  abbrev FlagsAre : Opcode → ℕ → List Token → Type 0
-  FlagsAre op line tokens = OutcomeBy limits (OwnFlags op) (pair limits) (flags_at op line no_flags) (Spelled limits (Adds op no_flags)) line tokens (flags_at op line no_flags tokens)
+  abbrev FlagsAre : Flags → ℕ → List Token → Type 0
+  FlagsAre set line tokens = OutcomeBy limits (OwnFlags set) (pair limits) (flags_at set line no_flags) (Spelled limits (Adds set no_flags)) line tokens (flags_at set line no_flags tokens)
 
   -- behind these flags no other stands
-  no_more_flags : (op : Opcode) (line : ℕ) (written : List Flag) (before : Flags) (tokens : List Token) → AddsFlags op no_flags written before → next_flag op tokens ≡ None → FlagsAre op line (flag_tokens written ++ tokens)
-  no_more_flags op line written before tokens adds none =
-      subst (OutcomeBy limits (OwnFlags op) (pair limits) (flags_at op line no_flags) (Spelled limits (Adds op no_flags)) line (flag_tokens written ++ tokens)) (sym (kept tokens (akin limits (alike_itself limits tokens))))
+  no_more_flags : (set : Flags) (line : ℕ) (written : List Flag) (before : Flags) (tokens : List Token) → AddsFlags set no_flags written before → next_flag set tokens ≡ None → FlagsAre set line (flag_tokens written ++ tokens)
+  no_more_flags set line written before tokens adds none =
+      subst (OutcomeBy limits (OwnFlags set) (pair limits) (flags_at set line no_flags) (Spelled limits (Adds set no_flags)) line (flag_tokens written ++ tokens)) (sym (kept tokens (akin limits (alike_itself limits tokens))))
       (record { value = before; own = flag_tokens written; rest = tokens; is_own = (written, before, adds, refl); inline = flags_inline written; there = refl; is = refl; kept = kept; apart = ((written, before, adds, refl), none) })
     where
-      kept : (more : List Token) → Akin limits tokens more → flags_at op line no_flags (flag_tokens written ++ more) ≡ Ok (before, more)
-      kept more alike = flags_read op line written no_flags before more adds ∙ flags_done limits op line before more (no_flag op tokens more alike none)
+      kept : (more : List Token) → Akin limits tokens more → flags_at set line no_flags (flag_tokens written ++ more) ≡ Ok (before, more)
+      kept more alike = flags_read set line written no_flags before more adds ∙ flags_done limits set line before more (no_flag set tokens more alike none)
 
   -- or one of them again
-  flag_again : (op : Opcode) (line : ℕ) (written : List Flag) (before : Flags) (flag : Flag) (word : List ℕ) (rest : List Token) → AddsFlags op no_flags written before → flag_in op word ≡ Some flag → has_flag before flag ≡ true → FlagsAre op line (flag_tokens written ++ Word word ∷ rest)
-  flag_again op line written before flag word rest adds found has =
-      subst (OutcomeBy limits (OwnFlags op) (pair limits) (flags_at op line no_flags) (Spelled limits (Adds op no_flags)) line (flag_tokens written ++ Word word ∷ rest)) (sym (again rest))
+  flag_again : (set : Flags) (line : ℕ) (written : List Flag) (before : Flags) (flag : Flag) (word : List ℕ) (rest : List Token) → AddsFlags set no_flags written before → flag_in set word ≡ Some flag → has_flag before flag ≡ true → FlagsAre set line (flag_tokens written ++ Word word ∷ rest)
+  flag_again set line written before flag word rest adds found has =
+      subst (OutcomeBy limits (OwnFlags set) (pair limits) (flags_at set line no_flags) (Spelled limits (Adds set no_flags)) line (flag_tokens written ++ Word word ∷ rest)) (sym (again rest))
       (record {
         front = flag_tokens written;
         behind = Word word ∷ rest;
@@ -368,45 +373,45 @@ module _ (spare_bytes deepest spare_statements : ℕ) where
         inline = flags_inline written;
         refused = λ more alike. refused more alike;
         here = refl;
-        says = says_word limits word rest (inr (inl (subst (RepeatsFlag (flag_tokens written)) (sym (flag_in-is op word flag found).0) (repeats op written no_flags before flag adds (has_none flag) has))));
+        says = says_word limits word rest (inr (inl (subst (RepeatsFlag (flag_tokens written)) (sym (flag_in-is set word flag found).0) (repeats set written no_flags before flag adds (has_none flag) has))));
         new = λ left is. absurd cc;
       })
     where
-      again : (more : List Token) → flags_at op line no_flags (flag_tokens written ++ Word word ∷ more) ≡ Err (fault line Syntax)
-      again more = flags_read op line written no_flags before (Word word ∷ more) adds ∙ flags-again limits op line before flag (Word word ∷ more) found has
+      again : (more : List Token) → flags_at set line no_flags (flag_tokens written ++ Word word ∷ more) ≡ Err (fault line Syntax)
+      again more = flags_read set line written no_flags before (Word word ∷ more) adds ∙ flags-again limits set line before flag (Word word ∷ more) found has
 
-      refused : (more : List Token) → Alike limits (Word word ∷ rest) more → IsErr limits (flags_at op line no_flags (flag_tokens written ++ more))
+      refused : (more : List Token) → Alike limits (Word word ∷ rest) more → IsErr limits (flags_at set line no_flags (flag_tokens written ++ more))
       refused more (same t a b) = (fault line Syntax, again b)
       refused more (ended a b p q) = absurd p
 
-  word_behind : (op : Opcode) (line : ℕ) (written : List Flag) (before : Flags) (word : List ℕ) (rest : List Token) → AddsFlags op no_flags written before
-      → ((more : List Flag) (after : Flags) → AddsFlags op no_flags more after → FlagsAre op line (flag_tokens more ++ rest)) → (found : Option Flag) → flag_in op word ≡ found → FlagsAre op line (flag_tokens written ++ Word word ∷ rest)
-  word_behind op line written before word rest adds further None f = no_more_flags op line written before (Word word ∷ rest) adds f
-  word_behind op line written before word rest adds further (Some flag) f = by (has_flag before flag) refl
+  word_behind : (set : Flags) (line : ℕ) (written : List Flag) (before : Flags) (word : List ℕ) (rest : List Token) → AddsFlags set no_flags written before
+      → ((more : List Flag) (after : Flags) → AddsFlags set no_flags more after → FlagsAre set line (flag_tokens more ++ rest)) → (found : Option Flag) → flag_in set word ≡ found → FlagsAre set line (flag_tokens written ++ Word word ∷ rest)
+  word_behind set line written before word rest adds further None f = no_more_flags set line written before (Word word ∷ rest) adds f
+  word_behind set line written before word rest adds further (Some flag) f = by (has_flag before flag) refl
     where
-      by : (b : Bool) → has_flag before flag ≡ b → FlagsAre op line (flag_tokens written ++ Word word ∷ rest)
-      by true h = flag_again op line written before flag word rest adds f h
+      by : (b : Bool) → has_flag before flag ≡ b → FlagsAre set line (flag_tokens written ++ Word word ∷ rest)
+      by true h = flag_again set line written before flag word rest adds f h
       by false h =
-          let is = flag_in-is op word flag f in
+          let is = flag_in-is set word flag f in
           let whole : flag_tokens (written ++ flag ∷ []) ++ rest ≡ flag_tokens written ++ Word word ∷ rest =
           ap (λ (ts : List Token). ts ++ rest) (map-append (λ (g : Flag). Word (flag_keyword g)) written (flag ∷ [])) ∙ append_assoc (flag_tokens written) (Word (flag_keyword flag) ∷ []) rest ∙ ap (λ (w : List ℕ). flag_tokens written ++ Word w ∷ rest) (sym is.0) in
-          subst (FlagsAre op line) whole (further (written ++ flag ∷ []) (with_flag before flag) (one_more op written no_flags before flag adds is.1 h))
+          subst (FlagsAre set line) whole (further (written ++ flag ∷ []) (with_flag before flag) (one_more set written no_flags before flag adds is.1 h))
 
-  flags_behind : (op : Opcode) (line : ℕ) (tokens : List Token) (written : List Flag) (before : Flags) → AddsFlags op no_flags written before → FlagsAre op line (flag_tokens written ++ tokens)
-  flags_behind op line [] written before adds = no_more_flags op line written before [] adds refl
-  flags_behind op line (Word word ∷ rest) written before adds = word_behind op line written before word rest adds (λ more after all. flags_behind op line rest more after all) (flag_in op word) refl
-  flags_behind op line (token ∷ rest) written before adds = no_more_flags op line written before (token ∷ rest) adds refl
+  flags_behind : (set : Flags) (line : ℕ) (tokens : List Token) (written : List Flag) (before : Flags) → AddsFlags set no_flags written before → FlagsAre set line (flag_tokens written ++ tokens)
+  flags_behind set line [] written before adds = no_more_flags set line written before [] adds refl
+  flags_behind set line (Word word ∷ rest) written before adds = word_behind set line written before word rest adds (λ more after all. flags_behind set line rest more after all) (flag_in set word) refl
+  flags_behind set line (token ∷ rest) written before adds = no_more_flags set line written before (token ∷ rest) adds refl
 
   -- ---- what stands behind flags
 
   -- a flag that stands there is one of the operation
-  repeated_own : (op : Opcode) (written : List Flag) (before after : Flags) (left : List ℕ) → AddsFlags op before written after → RepeatsFlag (flag_tokens written) left → flag_in op left ≡ None → ⊥
-  repeated_own op [] before after left adds ([], flag, flags, word, whole) none = cc
-  repeated_own op [] before after left adds (t ∷ first, flag, flags, word, whole) none = cc
-  repeated_own op (f ∷ written) before after left (takes_, new, adds) ([], flag, flags, word, whole) none =
+  repeated_own : (set : Flags) (written : List Flag) (before after : Flags) (left : List ℕ) → AddsFlags set before written after → RepeatsFlag (flag_tokens written) left → flag_in set left ≡ None → ⊥
+  repeated_own set [] before after left adds ([], flag, flags, word, whole) none = cc
+  repeated_own set [] before after left adds (t ∷ first, flag, flags, word, whole) none = cc
+  repeated_own set (f ∷ written) before after left (takes_, new, adds) ([], flag, flags, word, whole) none =
       let same_flag : flag_keyword f ≡ flag_keyword flag = cc in
-      let both = sym (flag_in-of op f takes_) ∙ ap (flag_in op) (same_flag ∙ sym word) ∙ none in absurd cc
-  repeated_own op (f ∷ written) before after left (takes_, new, adds) (t ∷ first, flag, flags, word, whole) none = repeated_own op written (with_flag before f) after left adds (first, flag, flags, word, cc) none
+      let both = sym (flag_in-of set f takes_) ∙ ap (flag_in set) (same_flag ∙ sym word) ∙ none in absurd cc
+  repeated_own set (f ∷ written) before after left (takes_, new, adds) (t ∷ first, flag, flags, word, whole) none = repeated_own set written (with_flag before f) after left adds (first, flag, flags, word, cc) none
 
   -- what is left out is the next word
   word_left : (fits : Fitting) (none : List ℕ → Type 0) (tokens : List Token) (kind : RuleFaultKind) (left : List ℕ) → SaysFirst limits fits none tokens kind → kind ≡ LeftOut left → (more : List Token) × (tokens ≡ Word left ∷ more)
@@ -423,79 +428,85 @@ module _ (spare_bytes deepest spare_statements : ℕ) where
       of_word (itself says) = says.0
       of_word (read_on (word, same_word_, deep, none, e)) = absurd (first_kind tokens e)
 
-  begins_other : (op : Opcode) (own rest : List Token) → BeginsOperand limits own → next_flag op (own ++ rest) ≡ None
-  begins_other op (Register name ∷ ts) rest begins = refl
-  begins_other op (Number text ∷ ts) rest begins = refl
-  begins_other op (Word word ∷ ts) rest begins = begins.no_flag op
-  begins_other op (Mark mark ∷ ts) rest begins = refl
-  begins_other op tokens rest begins = absurd begins
+  begins_other : (set : Flags) (own rest : List Token) → BeginsOperand limits own → next_flag set (own ++ rest) ≡ None
+  begins_other set (Register name ∷ ts) rest begins = refl
+  begins_other set (Number text ∷ ts) rest begins = refl
+  begins_other set (Word word ∷ ts) rest begins = begins.no_flag set
+  begins_other set (Mark mark ∷ ts) rest begins = refl
+  begins_other set tokens rest begins = absurd begins
 
-  operand_begins : (op : Opcode) (half : Half) (a : RawOperand) (own rest : List Token) → SpellsOperand limits half a own → next_flag op (own ++ rest) ≡ None
-  operand_begins op half a own rest (front, back, type, argument, whole) = rw (whole, append_assoc front back rest) (by a.written type)
+  operand_begins : (set : Flags) (half : Half) (a : RawOperand) (own rest : List Token) → SpellsOperand limits half a own → next_flag set (own ++ rest) ≡ None
+  operand_begins set half a own rest (front, back, type, argument, whole) = rw (whole, append_assoc front back rest) (by a.written type)
     where
-      by : (written : Option ℕ) → Maybe SpellsType written front → next_flag op (front ++ (back ++ rest)) ≡ None
-      by None is = rw is (begins_other op back rest (argument_begins limits half a.value back argument))
-      by (Some width) (word, type_, is) = rw is (type_is_no_flag limits op word width type_)
+      by : (written : Option ℕ) → Maybe SpellsType written front → next_flag set (front ++ (back ++ rest)) ≡ None
+      by None is = rw is (begins_other set back rest (argument_begins limits half a.value back argument))
+      by (Some width) (word, type_, is) = rw is (type_is_no_flag limits set word width type_)
 
-  pair_begins : (op : Opcode) (half : Half) (own : List Token) → IsPair half own → next_flag op own ≡ None
-  pair_begins op half own (a, b, (front, back, operand, others, whole)) = ap (next_flag op) whole ∙ operand_begins op half a front back operand
+  -- an operand stands there, and no flag begins it
+  some_behind : (half : Half) (a : RawOperand) (front back : List Token) → SpellsOperand limits half a front → [] ≡ front ++ back → ⊥
+  some_behind half a [] back is none = some_operand half (a, is)
+  some_behind half a (t ∷ front) back is none = absurd cc
 
-  some_pair : (half : Half) → IsPair half [] → ⊥
-  some_pair half (a, b, (front, back, operand, others, whole)) = by front whole operand
-    where
-      by : (front : List Token) → [] ≡ front ++ back → SpellsOperand limits half a front → ⊥
-      by [] none is = some_operand half (a, is)
-      by (t ∷ front) none is = absurd cc
-
-  -- an operation with the flag
-  abbrev op_of : Flag → Opcode
-  op_of Nuw = Add
-  op_of Nsw = Add
-  op_of Exact = UDiv
-
-  has_own : (flag : Flag) → has_flag (flags_of (op_of flag)) flag ≡ true
+  has_own : (flag : Flag) → has_flag (with_flag no_flags flag) flag ≡ true
   has_own Nuw = refl
   has_own Nsw = refl
   has_own Exact = refl
+  has_own NNeg = refl
+  has_own Disjoint = refl
+  has_own SameSign = refl
+
+  operand_other : (half : Half) (a : RawOperand) (front back : List Token) (token : Token) (tokens : List Token) → SpellsOperand limits half a front → token ∷ tokens ≡ front ++ back → NoFlag token
+  operand_other half a front back token tokens is whole flag equal =
+      let set = with_flag no_flags flag in
+      let none : next_flag set (Word (flag_keyword flag) ∷ tokens) ≡ None = ap (λ (t : Token). next_flag set (t ∷ tokens)) (sym equal) ∙ ap (next_flag set) whole ∙ operand_begins set half a front back is in
+      let both = sym (flag_in-of set flag (has_own flag)) ∙ none in absurd cc
+
+  some_pair : (half : Half) → IsPair half [] → ⊥
+  some_pair half (a, b, (front, back, operand, others, whole)) = some_behind half a front back operand whole
 
   pair_other : (half : Half) (token : Token) (tokens : List Token) → IsPair half (token ∷ tokens) → NoFlag token
-  pair_other half token tokens is flag equal =
-      let none : next_flag (op_of flag) (Word (flag_keyword flag) ∷ tokens) ≡ None = ap (λ (t : Token). next_flag (op_of flag) (t ∷ tokens)) (sym equal) ∙ pair_begins (op_of flag) half (token ∷ tokens) is in
-      let both = sym (flag_in-of (op_of flag) flag (has_own flag)) ∙ none in absurd cc
+  pair_other half token tokens (a, b, (front, back, operand, others, whole)) = operand_other half a front back token tokens operand whole
 
-  flags_parts : {B Y : Type 0} (op : Opcode) (half : Half) (S : Flags × List Token → Result Y RuleFault) (line : ℕ) → Parts limits {A = Flags} {B = B} (OwnFlags op) (pair limits) S (λ x. Spelled limits (IsPair half)) line
-  flags_parts {B} {Y} op half S line = record {
+  -- What stands behind flags takes a token that is none.
+  flags_parts : {B Y : Type 0} (set : Flags) (M : Part) → (M [] → ⊥) → ((token : Token) (tokens : List Token) → M (token ∷ tokens) → NoFlag token)
+      → (S : Flags × List Token → Result Y RuleFault) (line : ℕ) → Parts limits {A = Flags} {B = B} (OwnFlags set) (pair limits) S (λ x. Spelled limits M) line
+  flags_parts {B} {Y} set M some other S line = record {
     new = λ own rest c x found p. new _ _ own rest c found.kind p.front p.behind p.there p.begins.1 p.begins.2 p.says p.new;
     last = λ own rest c x y more is last_. last own more is last_;
   }
     where
-      new : (fits : Fitting) (none : List ℕ → Type 0) (own rest : List Token) → OwnFlags op own rest → (kind : RuleFaultKind) (front behind : List Token) → rest ≡ front ++ behind → (more : List Token) → IsPair half (front ++ more) → SaysFirst limits fits none behind kind → IsNew front kind → IsNew (own ++ front) kind
+      new : (fits : Fitting) (none : List ℕ → Type 0) (own rest : List Token) → OwnFlags set own rest → (kind : RuleFaultKind) (front behind : List Token) → rest ≡ front ++ behind → (more : List Token) → M (front ++ more) → SaysFirst limits fits none behind kind → IsNew front kind → IsNew (own ++ front) kind
       new fits none own rest c kind [] behind there more is says new_ = λ left left_out_ again.
           let w = word_left fits none behind kind left says left_out_ in
           let flags = c.0 in
-          repeated_own op flags.0 no_flags flags.1 left flags.2 (subst (λ (ts : List Token). RepeatsFlag ts left) (append-nil own ∙ flags.3) again)
-          (subst (λ (ts : List Token). next_flag op ts ≡ None) (there ∙ w.1) c.1)
-      new fits none own rest c kind (u ∷ front) behind there more is says new_ = new_behind own (u ∷ front) kind (inr (pair_other half u (front ++ more) is)) new_
+          repeated_own set flags.0 no_flags flags.1 left flags.2 (subst (λ (ts : List Token). RepeatsFlag ts left) (append-nil own ∙ flags.3) again)
+          (subst (λ (ts : List Token). next_flag set ts ≡ None) (there ∙ w.1) c.1)
+      new fits none own rest c kind (u ∷ front) behind there more is says new_ = new_behind own (u ∷ front) kind (inr (other u (front ++ more) is)) new_
 
-      last : (own more : List Token) → IsPair half more → NoFlagLast more → NoFlagLast (own ++ more)
-      last own [] is last_ = absurd (some_pair half is)
+      last : (own more : List Token) → M more → NoFlagLast more → NoFlagLast (own ++ more)
+      last own [] is last_ = absurd (some is)
       last own (u ∷ more) is last_ = last_both own u more last_
+
+  -- flags, and a reader behind them
+  flags_good : (set : Flags) (M : Part) → (M [] → ⊥) → ((token : Token) (tokens : List Token) → M (token ∷ tokens) → NoFlag token) → (line : ℕ) (S : Flags × List Token → Result (RawOp × List Token) RuleFault)
+      → ((flags : Flags) → Good limits {A = RawOp} (pair limits) (λ ts. S (flags, ts)) (Spelled limits M) line) → Good limits {A = RawOp} (pair limits) (λ ts. flags_at set line no_flags ts >>= S) (Spelled limits (Adds set no_flags ⨾ M)) line
+  flags_good set M some other line S behind = record {
+    sample = let s = (behind no_flags).sample in (s.0, s.1, ([], s.1, none_added set no_flags, s.2, refl));
+    outcome = λ tokens.
+        then_by limits (OwnFlags set) (pair limits) (pair limits) (flags_at set line no_flags) S (Spelled limits (Adds set no_flags)) (λ x. Spelled limits M) (Spelled limits (Adds set no_flags ⨾ M)) line tokens (λ x y front back p q. (front, back, p, q, refl)) (λ x own is. (behind x).sample)
+        (flags_parts {B = RawOp} set M some other S line) (flags_behind set line tokens [] no_flags refl) (λ x rest e. (behind x).outcome rest);
+  }
 
   -- ---- what a statement computes
 
-  binary_made : (half : Half) (op : Opcode) (own : List Token) → (Adds op no_flags ⨾ IsPair half) own → IsOp half (Word (opcode_keyword op) ∷ own)
+  binary_made : (half : Half) (op : Opcode) (own : List Token) → (Adds (flags_of op) no_flags ⨾ IsPair half) own → IsOp half (Word (opcode_keyword op) ∷ own)
   binary_made half op own (front, back, (written, after, adds, flags), (a, b, is), whole) =
       (Binary op after a b, (Word (opcode_keyword op) ∷ [], own, refl, (front, back, (written, adds, flags), is, whole), refl))
 
   binary_good : (half : Half) (line : ℕ) (op : Opcode) → Good limits (pair limits) (binary_at limits half line op) (λ x own. IsOp half (Word (opcode_keyword op) ∷ own)) line
   unfolding binary_at
-  binary_good half line op = widened limits {L = Spelled limits (Adds op no_flags ⨾ IsPair half)} (λ x own is. binary_made half op own is)
-      (record {
-        sample = let s = (behind no_flags).sample in (s.0, s.1, ([], s.1, none_added op no_flags, s.2, refl));
-        outcome = λ tokens.
-            then_by limits (OwnFlags op) (pair limits) (pair limits) (flags_at op line no_flags) S (Spelled limits (Adds op no_flags)) (λ x. Spelled limits (IsPair half)) (Spelled limits (Adds op no_flags ⨾ IsPair half)) line tokens (λ x y front back p q. (front, back, p, q, refl)) (λ x own is. (behind x).sample)
-            (flags_parts {B = RawOp} op half S line) (flags_behind op line tokens [] no_flags refl) (λ x rest e. (behind x).outcome rest);
-      })
+  binary_good half line op = widened limits {L = Spelled limits (Adds (flags_of op) no_flags ⨾ IsPair half)} (λ x own is. binary_made half op own is)
+      (flags_good (flags_of op) (IsPair half) (some_pair half) (pair_other half) line S behind)
     where
       S : Flags × List Token → Result (RawOp × List Token) RuleFault
       S flags = pair_at limits half line flags.1 >>= λ p. Ok (Binary op flags.0 p.0.0 p.0.1, p.1)
@@ -519,13 +530,34 @@ module _ (spare_bytes deepest spare_statements : ℕ) where
   unfolding pred_at
   pred_good line = by_token limits (Eq, Word (predicate_keyword Eq) ∷ [], (Eq, refl)) (pred_branch line) (fault line Syntax, refl, refl, refl)
 
-  compare_made : (half : Half) (own : List Token) → (IsPred ⨾ IsPair half) own → IsOp half (Word (codes "icmp") ∷ own)
-  compare_made half own (front, back, (pred, p), (a, b, is), whole) = (Compare pred a b, (Word (codes "icmp") ∷ [], own, refl, (front, back, p, is, whole), refl))
+  first_no : (token : Token) (front back : List Token) → front ≡ token ∷ [] → front ++ back ≡ [] → ⊥
+  first_no token [] back is whole = absurd cc
+  first_no token (t ∷ front) back is whole = absurd cc
+
+  some_predicate : (half : Half) → (IsPred ⨾ IsPair half) [] → ⊥
+  some_predicate half (front, back, (pred, p), others, whole) = first_no (Word (predicate_keyword pred)) front back p (sym whole)
+
+  predicate_other : (half : Half) (token : Token) (tokens : List Token) → (IsPred ⨾ IsPair half) (token ∷ tokens) → NoFlag token
+  predicate_other half token tokens (front, back, (pred, p), others, whole) flag equal =
+      let first : token ∷ tokens ≡ Word (predicate_keyword pred) ∷ back = whole ∙ ap (λ (ts : List Token). ts ++ back) p in
+      let same : predicate_keyword pred ≡ flag_keyword flag = cc in
+      noun_other (predicate_keyword pred) (kinds.predicate pred refl) flag same
+
+  compare_made : (half : Half) (own : List Token) → (Adds flags_of_icmp no_flags ⨾ (IsPred ⨾ IsPair half)) own → IsOp half (Word (codes "icmp") ∷ own)
+  compare_made half own (front, back, (written, after, adds, flags), (first, others, (pred, p), (a, b, is), behind), whole) =
+      let own_flags : AddsFlags flags_of_icmp no_flags written (icmp_flags after.samesign) = subst (λ (f : Flags). AddsFlags flags_of_icmp no_flags written f) (flags_are_icmp after (taken_flags flags_of_icmp written after adds)) adds in
+      (Compare pred after.samesign a b, (Word (codes "icmp") ∷ [], own, refl, (front, back, (written, own_flags, flags), (first, others, p, is, behind), whole), refl))
 
   compare_good : (half : Half) (line : ℕ) → Good limits (pair limits) (compare_at limits half line) (λ x own. IsOp half (Word (codes "icmp") ∷ own)) line
   unfolding compare_at
-  compare_good half line = widened limits {L = Spelled limits (IsPred ⨾ IsPair half)} (λ x own is. compare_made half own is)
-      (then_seq limits {s = (pair limits)} {t = (pair limits)} _ (pred_good line) (λ pred. then_done limits {s = (pair limits)} {L = Spelled limits (IsPair half)} (λ p. Compare pred p.0 p.1) _ (λ x rest. refl) (λ x own is. is) (pair_good half line)))
+  compare_good half line = widened limits {L = Spelled limits (Adds flags_of_icmp no_flags ⨾ (IsPred ⨾ IsPair half))} (λ x own is. compare_made half own is)
+      (flags_good flags_of_icmp (IsPred ⨾ IsPair half) (some_predicate half) (predicate_other half) line S behind)
+    where
+      S : Flags × List Token → Result (RawOp × List Token) RuleFault
+      S flags = pred_at line flags.1 >>= λ pred. (pair_at limits half line pred.1 >>= λ p. Ok (Compare pred.0 flags.0.samesign p.0.0 p.0.1, p.1))
+
+      behind : (flags : Flags) → Good limits {A = RawOp} (pair limits) (λ ts. S (flags, ts)) (Spelled limits (IsPred ⨾ IsPair half)) line
+      behind flags = then_seq limits {s = (pair limits)} {t = (pair limits)} _ (pred_good line) (λ pred. then_done limits {s = (pair limits)} {L = Spelled limits (IsPair half)} (λ p. Compare pred flags.samesign p.0 p.1) _ (λ x rest. refl) (λ x own is. is) (pair_good half line))
 
   select_made : (half : Half) (own : List Token) → (IsOperand half ⨾ Comma ⨾ IsOperand half ⨾ Comma ⨾ IsOperand half) own → IsOp half (Word (codes "select") ∷ own)
   select_made half own (f, b, (condition, is_c), (g, c, comma, (h, d, (first, is_first), (i, e, other, (second, is_second), w4), w3), w2), w1) =
@@ -575,13 +607,26 @@ module _ (spare_bytes deepest spare_statements : ℕ) where
   to_good : (line : ℕ) → Good limits (pair limits) (to_at line) (Spelled limits IsTo) line
   to_good line = record { sample = (None, [], no_to); outcome = to_outcome line }
 
-  convert_made : (half : Half) (cast : Cast) (own : List Token) → (IsOperand half ⨾ IsTo) own → IsOp half (Word (cast_keyword cast) ∷ own)
-  convert_made half cast own (front, back, (a, is), (to, t), whole) = (Convert cast a to, (Word (cast_keyword cast) ∷ [], own, refl, (front, back, is, t, whole), refl))
+  some_cast : (half : Half) → (IsOperand half ⨾ IsTo) [] → ⊥
+  some_cast half (front, back, (a, is), others, whole) = some_behind half a front back is whole
+
+  cast_other : (half : Half) (token : Token) (tokens : List Token) → (IsOperand half ⨾ IsTo) (token ∷ tokens) → NoFlag token
+  cast_other half token tokens (front, back, (a, is), others, whole) = operand_other half a front back token tokens is whole
+
+  convert_made : (half : Half) (cast : Cast) (own : List Token) → (Adds (flags_of_cast cast) no_flags ⨾ (IsOperand half ⨾ IsTo)) own → IsOp half (Word (cast_keyword cast) ∷ own)
+  convert_made half cast own (front, back, (written, after, adds, flags), (first, others, (a, is), (to, t), behind), whole) =
+      (Convert cast after a to, (Word (cast_keyword cast) ∷ [], own, refl, (front, back, (written, adds, flags), (first, others, is, t, behind), whole), refl))
 
   convert_good : (half : Half) (line : ℕ) (cast : Cast) → Good limits (pair limits) (convert_at limits half line cast) (λ x own. IsOp half (Word (cast_keyword cast) ∷ own)) line
   unfolding convert_at
-  convert_good half line cast = widened limits {L = Spelled limits (IsOperand half ⨾ IsTo)} (λ x own is. convert_made half cast own is)
-      (then_seq limits {s = (pair limits)} {t = (pair limits)} _ (operand_good half line) (λ from. then_done limits {s = (pair limits)} {L = Spelled limits IsTo} (λ to. Convert cast from to) _ (λ x rest. refl) (λ x own is. is) (to_good line)))
+  convert_good half line cast = widened limits {L = Spelled limits (Adds (flags_of_cast cast) no_flags ⨾ (IsOperand half ⨾ IsTo))} (λ x own is. convert_made half cast own is)
+      (flags_good (flags_of_cast cast) (IsOperand half ⨾ IsTo) (some_cast half) (cast_other half) line S behind)
+    where
+      S : Flags × List Token → Result (RawOp × List Token) RuleFault
+      S flags = operand_at limits half line flags.1 >>= λ from. (to_at line from.1 >>= λ to. Ok (Convert cast flags.0 from.0 to.0, to.1))
+
+      behind : (flags : Flags) → Good limits {A = RawOp} (pair limits) (λ ts. S (flags, ts)) (Spelled limits (IsOperand half ⨾ IsTo)) line
+      behind flags = then_seq limits {s = (pair limits)} {t = (pair limits)} _ (operand_good half line) (λ from. then_done limits {s = (pair limits)} {L = Spelled limits IsTo} (λ to. Convert cast flags from to) _ (λ x rest. refl) (λ x own is. is) (to_good line))
 
   -- ---- operations
 
@@ -646,15 +691,11 @@ module _ (spare_bytes deepest spare_statements : ℕ) where
       let whole : copy_at limits line (Word (codes "C") ∷ []) ≡ Ok (Copy (record { written = None; value = argument_of (raw_nodes.Constant (codes "C") ∷ []) }), []) = rw read refl in
       ok_no_err (copy_at limits line (Word (codes "C") ∷ [])) _ whole (n (codes "C") constant_noun [])
 
-  first_no : (token : Token) (front back : List Token) → front ≡ token ∷ [] → front ++ back ≡ [] → ⊥
-  first_no token [] back is whole = absurd cc
-  first_no token (t ∷ front) back is whole = absurd cc
-
   some_op : IsOp Target [] → ⊥
   some_op (Binary op flags a b, (front, back, is, behind, whole)) = first_no (Word (opcode_keyword op)) front back is (sym whole)
-  some_op (Compare pred a b, (front, back, is, behind, whole)) = first_no (Word (codes "icmp")) front back is (sym whole)
+  some_op (Compare pred samesign a b, (front, back, is, behind, whole)) = first_no (Word (codes "icmp")) front back is (sym whole)
   some_op (Select a b c, (front, back, is, behind, whole)) = first_no (Word (codes "select")) front back is (sym whole)
-  some_op (Convert cast a to, (front, back, is, behind, whole)) = first_no (Word (cast_keyword cast)) front back is (sym whole)
+  some_op (Convert cast flags a to, (front, back, is, behind, whole)) = first_no (Word (cast_keyword cast)) front back is (sym whole)
   some_op (Copy a, is) = some_operand Target (a, is)
 
   as_copy : (line : ℕ) (tokens : List Token) → ((more : List Token) → Alike limits tokens more → op_at limits Target line more ≡ copy_at limits line more) → Outcome limits (pair limits) (copy_at limits line) (Spelled limits (IsOp Target)) line tokens (copy_at limits line tokens) → Outcome limits (pair limits) (op_at limits Target line) (Spelled limits (IsOp Target)) line tokens (op_at limits Target line tokens)

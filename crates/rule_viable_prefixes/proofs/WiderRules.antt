@@ -60,7 +60,8 @@ module _ (limits wider : Limits) (within : AreWithin wider limits) where
 
   compare_below : (half : Half) (line : ℕ) (tokens : List Token) → Below (compare_at limits half line tokens) (compare_at wider half line tokens)
   unfolding compare_at
-  compare_below half line tokens = below_bind (same_answer refl) (λ pred. below_bind (pair_below half line pred.1) (λ pair. same_answer refl))
+  compare_below half line tokens =
+      below_bind (same_answer refl) (λ flags. below_bind (same_answer refl) (λ pred. below_bind (pair_below half line pred.1) (λ pair. same_answer refl)))
 
   select_below : (half : Half) (line : ℕ) (tokens : List Token) → Below (select_at limits half line tokens) (select_at wider half line tokens)
   unfolding select_at
@@ -70,7 +71,7 @@ module _ (limits wider : Limits) (within : AreWithin wider limits) where
 
   convert_below : (half : Half) (line : ℕ) (cast : Cast) (tokens : List Token) → Below (convert_at limits half line cast tokens) (convert_at wider half line cast tokens)
   unfolding convert_at
-  convert_below half line cast tokens = below_bind (operand_below half line tokens) (λ from. same_answer refl)
+  convert_below half line cast tokens = below_bind (same_answer refl) (λ flags. below_bind (operand_below half line flags.1) (λ from. same_answer refl))
 
   copy_below : (line : ℕ) (tokens : List Token) → Below (copy_at limits line tokens) (copy_at wider line tokens)
   unfolding copy_at

@@ -42,10 +42,10 @@ module _ (f : Function) (d j : ℕ) (held now : Registers) (same : (r : Register
 
   op_kept : (w : ℕ) (op : Op) (e : Effect) → ¬ IsPhi op → ((i : ℕ) (r : Read) → slice_get (reads_of f d j w op) i ≡ Some r → ReadIsAssigned f r) → OpGives AnyNumber held w op e → OpGives AnyNumber now w op e
   op_kept w (Binary op flags x y) e other a h = (h.0, h.1, kept w x h.0 (a 0 (read d j w x) refl) h.2, kept w y h.1 (a 1 (read d j w y) refl) h.3, h.4)
-  op_kept w (Compare pred compared x y) e other a h = (h.0, h.1, kept compared x h.0 (a 0 (read d j compared x) refl) h.2, kept compared y h.1 (a 1 (read d j compared y) refl) h.3, h.4)
+  op_kept w (Compare pred samesign compared x y) e other a h = (h.0, h.1, kept compared x h.0 (a 0 (read d j compared x) refl) h.2, kept compared y h.1 (a 1 (read d j compared y) refl) h.3, h.4)
   op_kept w (Select c x y) e other a h =
       (h.0, h.1, h.2, kept 1 c h.0 (a 0 (read d j 1 c) refl) h.3, kept w x h.1 (a 1 (read d j w x) refl) h.4, kept w y h.2 (a 2 (read d j w y) refl) h.5, h.6)
-  op_kept w (Convert cast from x) e other a h = (h.0, kept from x h.0 (a 0 (read d j from x) refl) h.1, h.2)
+  op_kept w (Convert cast flags from x) e other a h = (h.0, kept from x h.0 (a 0 (read d j from x) refl) h.1, h.2)
   op_kept w (Freeze x) e other a h = (h.0, h.1, kept w x h.0 (a 0 (read d j w x) refl) h.2, h.3, h.4)
   op_kept w (Phi entries) e other a h = absurd (other tt)
 
@@ -53,9 +53,9 @@ module _ (f : Function) (d j : ℕ) (held now : Registers) (same : (r : Register
 
 pub if_no_phi : (op : Op) (P : List (Operand × ℕ) → Type 0) (Q : Type 0) → ¬ IsPhi op → IfPhi P Q op → Q
 if_no_phi (Binary op flags x y) P Q other h = h
-if_no_phi (Compare pred compared x y) P Q other h = h
+if_no_phi (Compare pred samesign compared x y) P Q other h = h
 if_no_phi (Select c x y) P Q other h = h
-if_no_phi (Convert cast from x) P Q other h = h
+if_no_phi (Convert cast flags from x) P Q other h = h
 if_no_phi (Freeze x) P Q other h = h
 if_no_phi (Phi entries) P Q other h = absurd (other tt)
 

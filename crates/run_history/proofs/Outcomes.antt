@@ -29,9 +29,9 @@ rest_next all k x rest h i = ap (slice_get all) (omega arith) ∙ h (suc i)
 pub phi_cases : (op : Op) (P : List (Operand × ℕ) → Type 0) (Q R : Type 0) → ((entries : List (Operand × ℕ)) → op ≡ Phi entries → P entries → R) → (Q → R) → IfPhi P Q op → R
 phi_cases (Phi entries) P Q R f g h = f entries refl h
 phi_cases (Binary op flags x y) P Q R f g h = g h
-phi_cases (Compare pred compared x y) P Q R f g h = g h
+phi_cases (Compare pred samesign compared x y) P Q R f g h = g h
 phi_cases (Select c x y) P Q R f g h = g h
-phi_cases (Convert cast from x) P Q R f g h = g h
+phi_cases (Convert cast flags from x) P Q R f g h = g h
 phi_cases (Freeze x) P Q R f g h = g h
 
 -- ---- a block
@@ -67,9 +67,9 @@ module _ (f : Function) (args : List Value) (b : ℕ) (block : Block) (at : IsBl
   inst_from_op : (k : ℕ) (held : Registers) (w : ℕ) (op : Op) (e : Effect) → OpGives AnyNumber held w op e
       → IfPhi (λ entries. (v : Value) × PhiGives AnyNumber entered from w entries v × (e ≡ effects.Gives v)) (OpGives AnyNumber held w op e) op
   inst_from_op k held w (Binary op flags x y) e g = g
-  inst_from_op k held w (Compare pred compared x y) e g = g
+  inst_from_op k held w (Compare pred samesign compared x y) e g = g
   inst_from_op k held w (Select c x y) e g = g
-  inst_from_op k held w (Convert cast from' x) e g = g
+  inst_from_op k held w (Convert cast flags from' x) e g = g
   inst_from_op k held w (Freeze x) e g = g
   inst_from_op k held w (Phi entries) e g = absurd g
 

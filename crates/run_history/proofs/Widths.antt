@@ -55,10 +55,10 @@ ReadHasWidth f r = OperandHasWidth f r.width r.operand
 -- what an instruction reads at its place has its widths, so it has them at every place
 widths_anywhere : (f : Function) (b k w : ℕ) (op : Op) → ¬ IsPhi op → ((i : ℕ) (r : Read) → slice_get (reads_of f b k w op) i ≡ Some r → ReadHasWidth f r) → OperandsHaveWidths f w op
 widths_anywhere f b k w (Binary op flags x y) other h = λ c j. two_reads (ReadHasWidth f) (read c j w x) (read c j w y) (h 0 (read b k w x) refl) (h 1 (read b k w y) refl)
-widths_anywhere f b k w (Compare pred compared x y) other h = λ c j. two_reads (ReadHasWidth f) (read c j compared x) (read c j compared y) (h 0 (read b k compared x) refl) (h 1 (read b k compared y) refl)
+widths_anywhere f b k w (Compare pred samesign compared x y) other h = λ c j. two_reads (ReadHasWidth f) (read c j compared x) (read c j compared y) (h 0 (read b k compared x) refl) (h 1 (read b k compared y) refl)
 widths_anywhere f b k w (Select c x y) other h =
     λ d j. three_reads (ReadHasWidth f) (read d j 1 c) (read d j w x) (read d j w y) (h 0 (read b k 1 c) refl) (h 1 (read b k w x) refl) (h 2 (read b k w y) refl)
-widths_anywhere f b k w (Convert cast from x) other h = λ c j. one_read (ReadHasWidth f) (read c j from x) (h 0 (read b k from x) refl)
+widths_anywhere f b k w (Convert cast flags from x) other h = λ c j. one_read (ReadHasWidth f) (read c j from x) (h 0 (read b k from x) refl)
 widths_anywhere f b k w (Freeze x) other h = λ c j. one_read (ReadHasWidth f) (read c j w x) (h 0 (read b k w x) refl)
 widths_anywhere f b k w (Phi entries) other h = absurd (other tt)
 
@@ -99,15 +99,15 @@ op_width f held widths b k w (Binary op flags x y) v fits typed h =
     let q = fits 1 (read b k w y) refl in
     effect_width w (instruction op flags w h.0 h.1) v h.4
     (IsEffectOf-instruction op flags w h.0 h.1 (operand_width f held widths w x h.0 p.0 p.1 h.2) (operand_width f held widths w y h.1 q.0 q.1 h.3))
-op_width f held widths b k w (Compare pred compared x y) v fits typed h =
-    given_width w (comparison pred compared h.0 h.1) v h.4 (subst (λ n. IsValueOf n (comparison pred compared h.0 h.1)) (sym typed) (IsValueOf-comparison pred compared h.0 h.1))
+op_width f held widths b k w (Compare pred samesign compared x y) v fits typed h =
+    given_width w (comparison pred samesign compared h.0 h.1) v h.4 (subst (λ n. IsValueOf n (comparison pred samesign compared h.0 h.1)) (sym typed) (IsValueOf-comparison pred samesign compared h.0 h.1))
 op_width f held widths b k w (Select c x y) v fits typed h =
     let p = fits 1 (read b k w x) refl in
     let q = fits 2 (read b k w y) refl in
     given_width w (selection h.0 h.1 h.2) v h.6 (IsValueOf-selection w h.0 h.1 h.2 (operand_width f held widths w x h.1 p.0 p.1 h.4) (operand_width f held widths w y h.2 q.0 q.1 h.5))
-op_width f held widths b k w (Convert cast from x) v fits typed h =
+op_width f held widths b k w (Convert cast flags from x) v fits typed h =
     let p = fits 0 (read b k from x) refl in
-    given_width w (conversion cast from w h.0) v h.2 (IsValueOf-conversion cast from w h.0 typed (operand_width f held widths from x h.0 p.0 p.1 h.1))
+    given_width w (conversion cast flags from w h.0) v h.2 (IsValueOf-conversion cast flags from w h.0 typed.1 (operand_width f held widths from x h.0 p.0 p.1 h.1))
 op_width f held widths b k w (Freeze x) v fits typed h =
     let p = fits 0 (read b k w x) refl in
     given_width w h.1 v h.4 (freeze_width w h.0 h.1 (operand_width f held widths w x h.0 p.0 p.1 h.2) h.3)

@@ -72,9 +72,9 @@ cleaned_countable steps f g c cleaned = subst (IsCountable steps) (sym cleaned.2
 module _ (rule : Rule) (binding : Binding) where
   one_put : (name : Name) (N : ℕ) (op : RuleOp) → length (insts_of_op rule binding name N op) ≤ 1
   one_put name N (rule_ops.Binary opcode flags a b) = omega arith
-  one_put name N (rule_ops.Compare pred a b) = omega arith
+  one_put name N (rule_ops.Compare pred samesign a b) = omega arith
   one_put name N (rule_ops.Select c a b) = omega arith
-  one_put name N (rule_ops.Convert cast a to) = omega arith
+  one_put name N (rule_ops.Convert cast flags a to) = omega arith
   one_put name N (rule_ops.Copy a) = omega arith
 
   few_put : (name : Name) (statements : List Statement) → length (insts_put rule binding name statements) ≤ length statements

@@ -78,18 +78,18 @@ instructions_monotone f held held' b k w (Binary op flags a c) e' fits widths mo
     let x : GivesAllowing held w a h.0 = operand_allows held held' w a h.0 (read_allows held held' (reads_of f b k w (Binary op flags a c)) more 0 (read b k w a) refl) h.2 in
     let y : GivesAllowing held w c h.1 = operand_allows held held' w c h.1 (read_allows held held' (reads_of f b k w (Binary op flags a c)) more 1 (read b k w c) refl) h.3 in
     (instruction op flags w x.0 y.0, (x.0, y.0, x.1, y.1, refl), allows_same _ _ e' (instruction-monotone op flags w x.0 y.0 h.0 h.1 x.2 y.2) h.4)
-instructions_monotone f held held' b k w (Compare pred compared a c) e' fits widths more h =
-    let x : GivesAllowing held compared a h.0 = operand_allows held held' compared a h.0 (read_allows held held' (reads_of f b k w (Compare pred compared a c)) more 0 (read b k compared a) refl) h.2 in
-    let y : GivesAllowing held compared c h.1 = operand_allows held held' compared c h.1 (read_allows held held' (reads_of f b k w (Compare pred compared a c)) more 1 (read b k compared c) refl) h.3 in
-    (effects.Gives (comparison pred compared x.0 y.0), (x.0, y.0, x.1, y.1, refl), allows_same (effects.Gives (comparison pred compared x.0 y.0)) (effects.Gives (comparison pred compared h.0 h.1)) e' (comparison-monotone pred compared x.0 y.0 h.0 h.1 x.2 y.2) h.4)
+instructions_monotone f held held' b k w (Compare pred samesign compared a c) e' fits widths more h =
+    let x : GivesAllowing held compared a h.0 = operand_allows held held' compared a h.0 (read_allows held held' (reads_of f b k w (Compare pred samesign compared a c)) more 0 (read b k compared a) refl) h.2 in
+    let y : GivesAllowing held compared c h.1 = operand_allows held held' compared c h.1 (read_allows held held' (reads_of f b k w (Compare pred samesign compared a c)) more 1 (read b k compared c) refl) h.3 in
+    (effects.Gives (comparison pred samesign compared x.0 y.0), (x.0, y.0, x.1, y.1, refl), allows_same (effects.Gives (comparison pred samesign compared x.0 y.0)) (effects.Gives (comparison pred samesign compared h.0 h.1)) e' (comparison-monotone pred samesign compared x.0 y.0 h.0 h.1 x.2 y.2) h.4)
 instructions_monotone f held held' b k w (Select c x y) e' fits widths more h =
     let z : GivesAllowing held 1 c h.0 = operand_allows held held' 1 c h.0 (read_allows held held' (reads_of f b k w (Select c x y)) more 0 (read b k 1 c) refl) h.3 in
     let p : GivesAllowing held w x h.1 = operand_allows held held' w x h.1 (read_allows held held' (reads_of f b k w (Select c x y)) more 1 (read b k w x) refl) h.4 in
     let q : GivesAllowing held w y h.2 = operand_allows held held' w y h.2 (read_allows held held' (reads_of f b k w (Select c x y)) more 2 (read b k w y) refl) h.5 in
     (effects.Gives (selection z.0 p.0 q.0), (z.0, p.0, q.0, z.1, p.1, q.1, refl), allows_same (effects.Gives (selection z.0 p.0 q.0)) (effects.Gives (selection h.0 h.1 h.2)) e' (selection-monotone z.0 p.0 q.0 h.0 h.1 h.2 z.2 p.2 q.2) h.6)
-instructions_monotone f held held' b k w (Convert cast from a) e' fits widths more h =
-    let x : GivesAllowing held from a h.0 = operand_allows held held' from a h.0 (read_allows held held' (reads_of f b k w (Convert cast from a)) more 0 (read b k from a) refl) h.1 in
-    (effects.Gives (conversion cast from w x.0), (x.0, x.1, refl), allows_same (effects.Gives (conversion cast from w x.0)) (effects.Gives (conversion cast from w h.0)) e' (conversion-monotone cast from w x.0 h.0 x.2) h.2)
+instructions_monotone f held held' b k w (Convert cast flags from a) e' fits widths more h =
+    let x : GivesAllowing held from a h.0 = operand_allows held held' from a h.0 (read_allows held held' (reads_of f b k w (Convert cast flags from a)) more 0 (read b k from a) refl) h.1 in
+    (effects.Gives (conversion cast flags from w x.0), (x.0, x.1, refl), allows_same (effects.Gives (conversion cast flags from w x.0)) (effects.Gives (conversion cast flags from w h.0)) e' (conversion-monotone cast flags from w x.0 h.0 x.2) h.2)
 instructions_monotone f held held' b k w (Freeze a) e' fits widths more h =
     let x : (x : Value) × (v : Value) × OperandGives AnyNumber held w a x × Freezes AnyNumber w x v × AllowsValue v h.1 =
     freeze_allows f held held' widths w a (fits 0 0 0 (read 0 0 w a) refl) h.0 h.1 (read_allows held held' (reads_of f b k w (Freeze a)) more 0 (read b k w a) refl) h.2 h.3 in

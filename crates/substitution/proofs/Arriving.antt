@@ -68,9 +68,9 @@ arrive_phi f args before b k entered held inst entries v run is phi gives =
 
 as_no_phi : (P : List (Operand × ℕ) → Type 0) (held : Registers) (w : ℕ) (op : Op) (v : Value) → OpGives AnyNumber held w op (effects.Gives v) → IfPhi P (OpGives AnyNumber held w op (effects.Gives v)) op
 as_no_phi P held w (Binary op flags x y) v h = h
-as_no_phi P held w (Compare pred compared x y) v h = h
+as_no_phi P held w (Compare pred samesign compared x y) v h = h
 as_no_phi P held w (Select c x y) v h = h
-as_no_phi P held w (Convert cast from x) v h = h
+as_no_phi P held w (Convert cast flags from x) v h = h
 as_no_phi P held w (Freeze x) v h = h
 as_no_phi P held w (Phi entries) v h = absurd h
 

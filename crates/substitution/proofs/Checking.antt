@@ -35,25 +35,25 @@ use Rattle.substitution.proofs.Standing.{width_on, read_width, number_on, read_n
 
 typed_on : (w : Rewrite) (width : ℕ) (op : Op) → IsTyped width op → IsTyped width (substituted_op (stands_for w) op)
 typed_on w width (Binary op flags x y) h = h
-typed_on w width (Compare pred compared x y) h = h
+typed_on w width (Compare pred samesign compared x y) h = h
 typed_on w width (Select c x y) h = h
-typed_on w width (Convert cast from x) h = h
+typed_on w width (Convert cast flags from x) h = h
 typed_on w width (Freeze x) h = h
 typed_on w width (Phi entries) h = h
 
 phi_on : (w : Rewrite) (op : Op) → IsPhi op → IsPhi (substituted_op (stands_for w) op)
 phi_on w (Binary op flags x y) h = h
-phi_on w (Compare pred compared x y) h = h
+phi_on w (Compare pred samesign compared x y) h = h
 phi_on w (Select c x y) h = h
-phi_on w (Convert cast from x) h = h
+phi_on w (Convert cast flags from x) h = h
 phi_on w (Freeze x) h = h
 phi_on w (Phi entries) h = h
 
 phi_back : (w : Rewrite) (op : Op) → IsPhi (substituted_op (stands_for w) op) → IsPhi op
 phi_back w (Binary op flags x y) h = h
-phi_back w (Compare pred compared x y) h = h
+phi_back w (Compare pred samesign compared x y) h = h
 phi_back w (Select c x y) h = h
-phi_back w (Convert cast from x) h = h
+phi_back w (Convert cast flags from x) h = h
 phi_back w (Freeze x) h = h
 phi_back w (Phi entries) h = h
 
@@ -66,18 +66,18 @@ cases_on w terminators.Unreachable h = h
 
 entries_back : (w : Rewrite) (op : Op) (new : List (Operand × ℕ)) → substituted_op (stands_for w) op ≡ Phi new → (entries : List (Operand × ℕ)) × (op ≡ Phi entries) × (substituted_entries (stands_for w) entries ≡ new)
 entries_back w (Binary op flags x y) new e = absurd cc
-entries_back w (Compare pred compared x y) new e = absurd cc
+entries_back w (Compare pred samesign compared x y) new e = absurd cc
 entries_back w (Select c x y) new e = absurd cc
-entries_back w (Convert cast from x) new e = absurd cc
+entries_back w (Convert cast flags from x) new e = absurd cc
 entries_back w (Freeze x) new e = absurd cc
 entries_back w (Phi entries) new e = (entries, refl, cc)
 
 -- all but a phi reads the same at another place of another function
 reads_elsewhere : (f g : Function) (b k c n width : ℕ) (op : Op) → ¬ IsPhi op → reads_of f b k width op ≡ map (λ (r : Read). read b k r.width r.operand) (reads_of g c n width op)
 reads_elsewhere f g b k c n width (Binary op flags x y) other = refl
-reads_elsewhere f g b k c n width (Compare pred compared x y) other = refl
+reads_elsewhere f g b k c n width (Compare pred samesign compared x y) other = refl
 reads_elsewhere f g b k c n width (Select z x y) other = refl
-reads_elsewhere f g b k c n width (Convert cast from x) other = refl
+reads_elsewhere f g b k c n width (Convert cast flags from x) other = refl
 reads_elsewhere f g b k c n width (Freeze x) other = refl
 reads_elsewhere f g b k c n width (Phi entries) other = absurd (other tt)
 
@@ -126,9 +126,9 @@ module _ (f : Function) (w : Rewrite) where
 
   reads_of-moved : (b k width : ℕ) (op : Op) → reads_of new b (moved_place w b k) width (substituted_op to op) ≡ map moved_read (reads_of f b k width op)
   reads_of-moved b k width (Binary op flags x y) = refl
-  reads_of-moved b k width (Compare pred compared x y) = refl
+  reads_of-moved b k width (Compare pred samesign compared x y) = refl
   reads_of-moved b k width (Select c x y) = refl
-  reads_of-moved b k width (Convert cast from x) = refl
+  reads_of-moved b k width (Convert cast flags from x) = refl
   reads_of-moved b k width (Freeze x) = refl
   reads_of-moved b k width (Phi entries) = entry_reads-moved width entries
 

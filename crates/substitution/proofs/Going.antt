@@ -23,33 +23,33 @@ use Rattle.run_history.proofs.Steps.{held_elsewhere}
 
 pub phi_or_not : (op : Op) → ((entries : List (Operand × ℕ)) × (op ≡ Phi entries)) ⊎ ¬ IsPhi op
 phi_or_not (Binary op flags x y) = inr (λ h. h)
-phi_or_not (Compare pred compared x y) = inr (λ h. h)
+phi_or_not (Compare pred samesign compared x y) = inr (λ h. h)
 phi_or_not (Select c x y) = inr (λ h. h)
-phi_or_not (Convert cast from x) = inr (λ h. h)
+phi_or_not (Convert cast flags from x) = inr (λ h. h)
 phi_or_not (Freeze x) = inr (λ h. h)
 phi_or_not (Phi entries) = inl (entries, refl)
 
 pub no_phi_to : (P : List (Operand × ℕ) → Type 0) (Q : Type 0) (op : Op) → ¬ IsPhi op → Q → IfPhi P Q op
 no_phi_to P Q (Binary op flags x y) n q = q
-no_phi_to P Q (Compare pred compared x y) n q = q
+no_phi_to P Q (Compare pred samesign compared x y) n q = q
 no_phi_to P Q (Select c x y) n q = q
-no_phi_to P Q (Convert cast from x) n q = q
+no_phi_to P Q (Convert cast flags from x) n q = q
 no_phi_to P Q (Freeze x) n q = q
 no_phi_to P Q (Phi entries) n q = absurd (n tt)
 
 pub no_phi_from : (P : List (Operand × ℕ) → Type 0) (Q : Type 0) (op : Op) → ¬ IsPhi op → IfPhi P Q op → Q
 no_phi_from P Q (Binary op flags x y) n q = q
-no_phi_from P Q (Compare pred compared x y) n q = q
+no_phi_from P Q (Compare pred samesign compared x y) n q = q
 no_phi_from P Q (Select c x y) n q = q
-no_phi_from P Q (Convert cast from x) n q = q
+no_phi_from P Q (Convert cast flags from x) n q = q
 no_phi_from P Q (Freeze x) n q = q
 no_phi_from P Q (Phi entries) n q = absurd (n tt)
 
 pub no_phi_substituted : (w : Rewrite) (op : Op) → ¬ IsPhi op → ¬ IsPhi (substituted_op (stands_for w) op)
 no_phi_substituted w (Binary op flags x y) n h = h
-no_phi_substituted w (Compare pred compared x y) n h = h
+no_phi_substituted w (Compare pred samesign compared x y) n h = h
 no_phi_substituted w (Select c x y) n h = h
-no_phi_substituted w (Convert cast from x) n h = h
+no_phi_substituted w (Convert cast flags from x) n h = h
 no_phi_substituted w (Freeze x) n h = h
 no_phi_substituted w (Phi entries) n h = n h
 

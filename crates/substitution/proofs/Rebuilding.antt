@@ -104,9 +104,9 @@ module _ (w : Rewrite) where
 
     op_room : (b k width : ℕ) (op : Op) → AreKnown (reads_of f b k width op) → OpHasRoom w op
     op_room b k width (Binary op flags x y) h = (operand_room x (h 0 (read b k width x) refl), operand_room y (h 1 (read b k width y) refl))
-    op_room b k width (Compare pred compared x y) h = (operand_room x (h 0 (read b k compared x) refl), operand_room y (h 1 (read b k compared y) refl))
+    op_room b k width (Compare pred samesign compared x y) h = (operand_room x (h 0 (read b k compared x) refl), operand_room y (h 1 (read b k compared y) refl))
     op_room b k width (Select c x y) h = (operand_room c (h 0 (read b k 1 c) refl), operand_room x (h 1 (read b k width x) refl), operand_room y (h 2 (read b k width y) refl))
-    op_room b k width (Convert cast from x) h = operand_room x (h 0 (read b k from x) refl)
+    op_room b k width (Convert cast flags from x) h = operand_room x (h 0 (read b k from x) refl)
     op_room b k width (Freeze x) h = operand_room x (h 0 (read b k width x) refl)
     op_room b k width (Phi entries) h = λ i d lt.
         let of_entry : Operand × ℕ → Read = λ e. read e.1 (end_of f e.1) width e.0 in

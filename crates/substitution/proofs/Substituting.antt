@@ -47,17 +47,17 @@ operand_on to held w operands.Poison v h = h
 
 pub op_back : (to : Substitution) (held : Registers) → IsDefinite to → (w : ℕ) (op : Op) (e : Effect) → OpGives AnyNumber held w (substituted_op to op) e → OpGives AnyNumber (pulled_back to held) w op e
 op_back to held d w (Binary op flags x y) e h = (h.0, h.1, operand_back to held d w x h.0 h.2, operand_back to held d w y h.1 h.3, h.4)
-op_back to held d w (Compare pred compared x y) e h = (h.0, h.1, operand_back to held d compared x h.0 h.2, operand_back to held d compared y h.1 h.3, h.4)
+op_back to held d w (Compare pred samesign compared x y) e h = (h.0, h.1, operand_back to held d compared x h.0 h.2, operand_back to held d compared y h.1 h.3, h.4)
 op_back to held d w (Select c x y) e h = (h.0, h.1, h.2, operand_back to held d 1 c h.0 h.3, operand_back to held d w x h.1 h.4, operand_back to held d w y h.2 h.5, h.6)
-op_back to held d w (Convert cast from x) e h = (h.0, operand_back to held d from x h.0 h.1, h.2)
+op_back to held d w (Convert cast flags from x) e h = (h.0, operand_back to held d from x h.0 h.1, h.2)
 op_back to held d w (Freeze x) e h = (h.0, h.1, operand_back to held d w x h.0 h.2, h.3, h.4)
 op_back to held d w (Phi entries) e h = h
 
 op_on : (to : Substitution) (held : Registers) (w : ℕ) (op : Op) (e : Effect) → OpGives AnyNumber (pulled_back to held) w op e → OpGives AnyNumber held w (substituted_op to op) e
 op_on to held w (Binary op flags x y) e h = (h.0, h.1, operand_on to held w x h.0 h.2, operand_on to held w y h.1 h.3, h.4)
-op_on to held w (Compare pred compared x y) e h = (h.0, h.1, operand_on to held compared x h.0 h.2, operand_on to held compared y h.1 h.3, h.4)
+op_on to held w (Compare pred samesign compared x y) e h = (h.0, h.1, operand_on to held compared x h.0 h.2, operand_on to held compared y h.1 h.3, h.4)
 op_on to held w (Select c x y) e h = (h.0, h.1, h.2, operand_on to held 1 c h.0 h.3, operand_on to held w x h.1 h.4, operand_on to held w y h.2 h.5, h.6)
-op_on to held w (Convert cast from x) e h = (h.0, operand_on to held from x h.0 h.1, h.2)
+op_on to held w (Convert cast flags from x) e h = (h.0, operand_on to held from x h.0 h.1, h.2)
 op_on to held w (Freeze x) e h = (h.0, h.1, operand_on to held w x h.0 h.2, h.3, h.4)
 op_on to held w (Phi entries) e h = h
 

@@ -22,9 +22,9 @@ HasRoom w operands.Poison = Unit {0}
 -- so has each register that an operation, a terminator or a block reads
 abbrev pub OpHasRoom : Rewrite → Op → Type 0
 OpHasRoom w (Binary op flags x y) = HasRoom w x × HasRoom w y
-OpHasRoom w (Compare pred width x y) = HasRoom w x × HasRoom w y
+OpHasRoom w (Compare pred samesign width x y) = HasRoom w x × HasRoom w y
 OpHasRoom w (Select c x y) = HasRoom w c × HasRoom w x × HasRoom w y
-OpHasRoom w (Convert cast from x) = HasRoom w x
+OpHasRoom w (Convert cast flags from x) = HasRoom w x
 OpHasRoom w (Freeze x) = HasRoom w x
 OpHasRoom w (Phi entries) = All (λ (e : Operand × ℕ). HasRoom w e.0) entries
 

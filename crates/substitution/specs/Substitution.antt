@@ -30,9 +30,9 @@ substituted_entries to entries = map (λ e. (substituted_operand to e.0, e.1)) e
 
 abbrev pub substituted_op : Substitution → Op → Op
 substituted_op to (Binary op flags x y) = Binary op flags (substituted_operand to x) (substituted_operand to y)
-substituted_op to (Compare pred width x y) = Compare pred width (substituted_operand to x) (substituted_operand to y)
+substituted_op to (Compare pred samesign width x y) = Compare pred samesign width (substituted_operand to x) (substituted_operand to y)
 substituted_op to (Select c x y) = Select (substituted_operand to c) (substituted_operand to x) (substituted_operand to y)
-substituted_op to (Convert cast from x) = Convert cast from (substituted_operand to x)
+substituted_op to (Convert cast flags from x) = Convert cast flags from (substituted_operand to x)
 substituted_op to (Freeze x) = Freeze (substituted_operand to x)
 substituted_op to (Phi entries) = Phi (substituted_entries to entries)
 

@@ -44,16 +44,21 @@ fn substituted_op(rewrite: &Rewrite, op: Op) -> Op
             let x = substituted_operand(rewrite, x);
             Op::Binary(opcode, flags, x, substituted_operand(rewrite, y))
         }
-        Op::Compare(pred, width, x, y) => {
+        Op::Compare(pred, samesign, width, x, y) => {
             let x = substituted_operand(rewrite, x);
-            Op::Compare(pred, width, x, substituted_operand(rewrite, y))
+            Op::Compare(pred, samesign, width, x, substituted_operand(rewrite, y))
         }
         Op::Select(condition, x, y) => {
             let condition = substituted_operand(rewrite, condition);
             let x = substituted_operand(rewrite, x);
             Op::Select(condition, x, substituted_operand(rewrite, y))
         }
-        Op::Convert(cast, from, x) => Op::Convert(cast, from, substituted_operand(rewrite, x)),
+        Op::Convert(cast, flags, from, x) => Op::Convert(
+            cast,
+            flags,
+            from,
+            substituted_operand(rewrite, x),
+        ),
         Op::Freeze(x) => Op::Freeze(substituted_operand(rewrite, x)),
         Op::Phi(entries) => Op::Phi(substituted_entries(rewrite, entries)),
     }

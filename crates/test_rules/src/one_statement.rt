@@ -21,7 +21,7 @@ const WIDENED: &str =
     "r [2 1]: admitted\nr [3 1]: admitted\nr [3 2]: admitted\nr [4 1]: admitted\nr [4 2]: admitted\nr [4 3]: admitted\n";
 
 /// What the source computes, what the target computes, and the lines of the verdicts.
-const ROWS: [(&str, &str, &str); 49] = [
+const ROWS: [(&str, &str, &str); 58] = [
     ("add %x, %y", "add %y, %x", ONE),
     ("add nuw %x, %y", "add %x, %y", ONE),
     ("add nsw %x, %y", "add %x, %y", ONE),
@@ -103,6 +103,12 @@ const ROWS: [(&str, &str, &str); 49] = [
     ),
     ("and %x, %x", "%x", ONE),
     ("or %x, %y", "or %y, %x", ONE),
+    ("or disjoint %x, %y", "add nuw nsw %x, %y", ONE),
+    (
+        "or i1 1, %x",
+        "or disjoint i1 1, %x",
+        "r [1]: refuted\n  %x = 1\n  source 1\n  target poison\n",
+    ),
     ("xor %x, %x", "0", ONE),
     (
         "or i1 %x, %y",
@@ -120,6 +126,12 @@ const ROWS: [(&str, &str, &str); 49] = [
         "icmp slt i1 0, %x",
         "r [1 1]: refuted\n  %x = 1\n  source 1\n  target 0\n",
     ),
+    ("icmp samesign slt %x, %y", "icmp ult %x, %y", COMPARED),
+    (
+        "icmp ult i1 0, %x",
+        "icmp samesign ult i1 0, %x",
+        "r [1 1]: refuted\n  %x = 1\n  source 1\n  target poison\n",
+    ),
     ("select %c, %x, %x", "%x", CHOSEN),
     ("select true, %x, %y", "%x", CHOSEN),
     (
@@ -128,6 +140,23 @@ const ROWS: [(&str, &str, &str); 49] = [
         "r [1]: refuted\n  %c = 1\n  %y = poison\n  source 1\n  target poison\n",
     ),
     ("trunc %x", "trunc %x", NARROWED),
+    ("trunc nsw nuw %x", "trunc nsw %x", NARROWED),
+    (
+        "trunc nuw i2 %x to i1",
+        "trunc nuw nsw i2 %x to i1",
+        "r [1 2]: refuted\n  %x = 1\n  source 1\n  target poison\n",
+    ),
+    (
+        "trunc nsw i2 %x to i1",
+        "trunc nuw nsw i2 %x to i1",
+        "r [1 2]: refuted\n  %x = 3\n  source 1\n  target poison\n",
+    ),
+    ("zext nneg %x", "sext %x", WIDENED),
+    (
+        "zext i1 %x to i2",
+        "zext nneg i1 %x to i2",
+        "r [2 1]: refuted\n  %x = 1\n  source 1\n  target poison\n",
+    ),
     ("zext %x", "zext %x", WIDENED),
     (
         "zext i1 %x to i2",

@@ -7,7 +7,7 @@ use std::test::Fail;
 
 /// How many comparisons of two numbers `Pre:` has, the text behind them, and the line and the kind of the first fault. They are three
 /// nodes each, and each `&&` between two is one.
-const ROWS: [(u32, &str, usize, &str); 16] = [
+const ROWS: [(u32, &str, usize, &str); 23] = [
     // behind 256 nodes
     (64, "\n%t = trunc %x\n%u = true\n", 4, "LeftOut"),
     (64, "\n%t = trunc %x\n%u = or true, 0\n", 4, "TooMany"),
@@ -29,6 +29,13 @@ const ROWS: [(u32, &str, usize, &str); 16] = [
     ),
     // words that are no others
     (1, "\n%r = add nuw nuw %x, 0\n", 3, "Syntax"),
+    (1, "\n%r = or disjoint disjoint %x, 0\n", 3, "Syntax"),
+    (1, "\n%r = icmp samesign samesign ult %x, 0\n", 3, "Syntax"),
+    (1, "\n%r = trunc nuw nsw nuw %x\n", 3, "Syntax"),
+    (1, "\n%r = icmp nuw ult %x, 0\n", 3, "LeftOut"),
+    (1, "\n%r = and disjoint %x, 0\n", 3, "LeftOut"),
+    (1, "\n%r = sext nneg %x\n", 3, "LeftOut"),
+    (1, "\n%r = zext nuw %x\n", 3, "LeftOut"),
     (1, "\n%r = hasOneUse\n", 3, "Syntax"),
     (1, "\n%r = or %x, hasOneUse(%x)\n", 3, "Syntax"),
     (1, "\n%r = isPowerOf2\n", 3, "LeftOut"),

@@ -25,9 +25,9 @@ use Rattle.blast_rule.specs.Inputs.{input_widths, constant_widths, undef_widths,
 -- a statement has at most three operands
 three : (op : Op) → length (operands_of op) ≤ 3
 three (Binary op flags a b) = omega arith
-three (Compare pred a b) = omega arith
+three (Compare pred samesign a b) = omega arith
 three (Select c a b) = omega arith
-three (Convert cast a to) = omega arith
+three (Convert cast flags a to) = omega arith
 three (Copy a) = omega arith
 
 operands_few : (statements : List Statement) → length (operands_among statements) ≤ 3 * length statements

@@ -50,8 +50,9 @@ fn op(alloc: Global, names: &Names<'_>, written: &RawOp) -> Result<Op, AllocErro
             operand(names, &left.value),
             operand(names, &right.value),
         )),
-        RawOp::Compare(pred, width, left, right) => Ok(Op::Compare(
+        RawOp::Compare(pred, samesign, width, left, right) => Ok(Op::Compare(
             *pred,
+            *samesign,
             *width,
             operand(names, &left.value),
             operand(names, &right.value),
@@ -61,8 +62,9 @@ fn op(alloc: Global, names: &Names<'_>, written: &RawOp) -> Result<Op, AllocErro
             operand(names, &first.operand.value),
             operand(names, &second.operand.value),
         )),
-        RawOp::Convert(cast, from, converted, _) => Ok(Op::Convert(
+        RawOp::Convert(cast, flags, from, converted, _) => Ok(Op::Convert(
             *cast,
+            *flags,
             *from,
             operand(names, &converted.value),
         )),

@@ -40,9 +40,9 @@ pub(crate) fn result_width(op: &RawOp) -> Width
 {
     match op {
         RawOp::Binary(_, _, width, _, _) => *width,
-        RawOp::Compare(_, _, _, _) => Width::ONE,
+        RawOp::Compare(_, _, _, _, _) => Width::ONE,
         RawOp::Select(_, first, _) => first.width,
-        RawOp::Convert(_, _, _, to) => *to,
+        RawOp::Convert(_, _, _, _, to) => *to,
         RawOp::Freeze(width, _) => *width,
         RawOp::Phi(width, _) => *width,
     }

@@ -3,24 +3,31 @@
 ghost use Rattle.std.specs.Prelude.{◌≡◌};
 ghost use Rattle.ops.specs.FlagKeywords as keywords;
 
+use crate::Flags;
 use crate::keywords::spelling::is;
-use crate::{Flags, Opcode};
 
-/// A flag of a binary operation.
+/// A flag of an instruction.
 #[derive(Clone, Copy, Debug)]
 pub enum Flag {
     Nuw,
     Nsw,
     Exact,
+    NNeg,
+    Disjoint,
+    SameSign,
 }
 
-fn flag_name(flag: Flag) -> &'static str
+/// The keyword of a flag.
+pub fn flag_name(flag: Flag) -> &'static str
     ensures { result.now ≡ keywords.flag_keyword flag }
 {
     match flag {
         Flag::Nuw => "nuw",
         Flag::Nsw => "nsw",
         Flag::Exact => "exact",
+        Flag::NNeg => "nneg",
+        Flag::Disjoint => "disjoint",
+        Flag::SameSign => "samesign",
     }
 }
 
@@ -32,6 +39,9 @@ pub fn has_flag(flags: Flags, flag: Flag) -> bool
         Flag::Nuw => flags.nuw,
         Flag::Nsw => flags.nsw,
         Flag::Exact => flags.exact,
+        Flag::NNeg => flags.nneg,
+        Flag::Disjoint => flags.disjoint,
+        Flag::SameSign => flags.samesign,
     }
 }
 
@@ -46,16 +56,35 @@ pub fn with_flag(flags: Flags, flag: Flag) -> Flags
             exact: true,
             ..flags
         },
+        Flag::NNeg => Flags {
+            nneg: true,
+            ..flags
+        },
+        Flag::Disjoint => Flags {
+            disjoint: true,
+            ..flags
+        },
+        Flag::SameSign => Flags {
+            samesign: true,
+            ..flags
+        },
     }
 }
 
-const FLAGS: [Flag; 3] = [Flag::Nuw, Flag::Nsw, Flag::Exact];
+/// Every flag, in the order in which those of an instruction are written.
+pub const EVERY_FLAG: [Flag; 6] = [
+    Flag::Nuw,
+    Flag::Nsw,
+    Flag::Exact,
+    Flag::NNeg,
+    Flag::Disjoint,
+    Flag::SameSign,
+];
 
-/// The flag of the instruction that a keyword is.
+/// The flag that a keyword is, among those that an instruction takes.
 #[tactic(auto, unfolding(crate::specs::FlagKeywords::flag_in))]
-pub fn flag_of(opcode: Opcode, word: &[u8]) -> Option<Flag>
-    ensures { result ≡ keywords.flag_in opcode word.now }
+pub fn flag_of(taken: Flags, word: &[u8]) -> Option<Flag>
+    ensures { result ≡ keywords.flag_in taken word.now }
 {
-    let allowed = opcode.flags();
-    FLAGS.iter().copied().find(|flag| is(word, flag_name(*flag)) && has_flag(allowed, *flag))
+    EVERY_FLAG.iter().copied().find(|flag| is(word, flag_name(*flag)) && has_flag(taken, *flag))
 }

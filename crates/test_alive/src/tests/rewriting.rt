@@ -1,7 +1,7 @@
 //! Modules that rules rewrite, and the reports on them.
 
 use super::modules::CLEANED_COUNT;
-use super::rules::{ADD_SELF, MUL_ADD, MUL_TWO, SEL_INC};
+use super::rules::{ADD_SELF, MUL_ADD, MUL_TWO, OR_ADD, SEL_INC};
 use super::*;
 
 const NOT_ADD_ONCE: &str =
@@ -96,7 +96,7 @@ const NOT_ADD_TWICE: &str =
 const SUM_TIMES: &str =
     "define i16 @w(i16 %x, i16 %y, i16 %z) {\n  %a = add i16 %x, %y\n  %r = mul i16 %a, %z\n  ret i16 %r\n}\n";
 
-const ROWS: [Row; 14] = [
+const ROWS: [Row; 17] = [
     Row {
         words: OPTIMISE,
         rules: NOT_ADD,
@@ -201,6 +201,31 @@ const ROWS: [Row; 14] = [
         status: 0,
         out: ONE_SHIFTED,
         err: "add-self [1]: refuted\n  %x = 0\n  source 0\n  target poison\nadd-self [2]: admitted\n@b: 1 rewrites\n",
+    },
+    Row {
+        words: OPTIMISE,
+        rules: OR_ADD,
+        source: "define i5 @o(i5 %a, i5 %b) {\n  %1 = or disjoint i5 %a, %b\n  ret i5 %1\n}\n",
+        status: 0,
+        out: "define i5 @o(i5 %a, i5 %b) {\n  %1 = add nuw i5 %a, %b\n  ret i5 %1\n}\n",
+        err: "or-add [5]: admitted\n@o: 1 rewrites\n",
+    },
+    Row {
+        words: OPTIMISE,
+        rules: OR_ADD,
+        source: "define i5 @o(i5 %a, i5 %b) {\n  %1 = or i5 %a, %b\n  ret i5 %1\n}\n",
+        status: 0,
+        out: "define i5 @o(i5 %a, i5 %b) {\n  %1 = or i5 %a, %b\n  ret i5 %1\n}\n",
+        err: "@o: 0 rewrites\n",
+    },
+    // the flags of a cast and of a comparison are written
+    Row {
+        words: OPTIMISE,
+        rules: "Name: widen\n%c = icmp samesign slt %x, %y\n%r = zext nneg %c\n=>\n%d = icmp samesign ult %x, %y\n%r = zext nneg %d\n",
+        source: "define i5 @o(i4 %a, i4 %b) {\n  %c = icmp samesign slt i4 %a, %b\n  %r = zext nneg i1 %c to i5\n  ret i5 %r\n}\n",
+        status: 0,
+        out: "define i5 @o(i4 %a, i4 %b) {\n  %1 = icmp samesign ult i4 %a, %b\n  %r = zext nneg i1 %1 to i5\n  ret i5 %r\n}\n",
+        err: "widen [1 4 5 1]: admitted\n@o: 1 rewrites\n",
     },
     // a verdict is asked once for the whole module
     Row {

@@ -12,10 +12,44 @@ pub(super) const ADD_SELF: &str = "Name: add-self\n%r = add nsw %x, %x\n=>\n%r =
 
 pub(super) const MUL_TWO: &str = "Name: mul-two\n%r = mul %x, 2\n=>\n%r = shl %x, 1\n";
 
+pub(super) const OR_ADD: &str = "Name: or-add\n%r = or disjoint %x, %y\n=>\n%r = add nuw %x, %y\n";
+
 pub(super) const SEL_INC: &str =
     "Name: sel-inc\n%t = add %x, 1\n%r = select %c, %x, %t\n=>\n%u = sub %t, 1\n%r = select %c, %u, %t\n";
 
-const ROWS: [Row; 19] = [
+const ROWS: [Row; 23] = [
+    Row {
+        words: "alive verify r --widths 1-5",
+        rules: OR_ADD,
+        source: "",
+        status: 0,
+        out: "or-add [1]: admitted\nor-add [2]: admitted\nor-add [3]: admitted\nor-add [4]: admitted\nor-add [5]: admitted\n",
+        err: "",
+    },
+    Row {
+        words: "alive verify r --widths 1-3",
+        rules: "Name: zext-sext\n%r = zext nneg %x\n=>\n%r = sext %x\n",
+        source: "",
+        status: 0,
+        out: "zext-sext [2 1]: admitted\nzext-sext [3 1]: admitted\nzext-sext [3 2]: admitted\n",
+        err: "",
+    },
+    Row {
+        words: "alive verify r --widths 1-3",
+        rules: "Name: cut-back\n%t = trunc nuw %x\n%r = zext %t\n=>\n%r = %x\n",
+        source: "",
+        status: 0,
+        out: "cut-back [1 2]: admitted\ncut-back [1 3]: admitted\ncut-back [2 3]: admitted\n",
+        err: "",
+    },
+    Row {
+        words: "alive verify r --widths 1-5",
+        rules: "Name: same\n%r = icmp samesign slt %x, %y\n=>\n%r = icmp ult %x, %y\n",
+        source: "",
+        status: 0,
+        out: "same [1 1]: admitted\nsame [1 2]: admitted\nsame [1 3]: admitted\nsame [1 4]: admitted\nsame [1 5]: admitted\n",
+        err: "",
+    },
     Row {
         words: "alive verify r --widths 16 --conflicts 1",
         rules: MUL_ADD,

@@ -18,16 +18,18 @@ const WRAP: Flags = Flags::WRAP;
 
 const EXACT: Flags = Flags::EXACT;
 
+const NNEG: Flags = Flags::NNEG;
+
+const DISJOINT: Flags = Flags::DISJOINT;
+
 const NUW: Flags = Flags {
     nuw: true,
-    nsw: false,
-    exact: false,
+    ..Flags::NONE
 };
 
 const NSW: Flags = Flags {
-    nuw: false,
     nsw: true,
-    exact: false,
+    ..Flags::NONE
 };
 
 // An operand or an effect at a width of N bits. A number is taken modulo 2^N.
@@ -47,7 +49,7 @@ enum Cell {
 // An instruction, its flags, its operands and its effect.
 type Row = (Opcode, Flags, Cell, Cell, Cell);
 
-static ONE_BIT: [Row; 36] = [
+static ONE_BIT: [Row; 39] = [
     (Add, NONE, Is(1), Is(1), Is(0)),
     (Add, NUW, Is(1), Is(0), Is(1)),
     (Add, NUW, Is(1), Is(1), Poison),
@@ -83,10 +85,13 @@ static ONE_BIT: [Row; 36] = [
     (AShr, NONE, Is(1), Is(1), Poison),
     (And, NONE, Is(1), Is(0), Is(0)),
     (Or, NONE, Is(1), Is(0), Is(1)),
+    (Or, DISJOINT, Is(0), Is(0), Is(0)),
+    (Or, DISJOINT, Is(1), Is(0), Is(1)),
+    (Or, DISJOINT, Is(1), Is(1), Poison),
     (Xor, NONE, Is(1), Is(1), Is(0)),
 ];
 
-static TWO_BITS: [Row; 47] = [
+static TWO_BITS: [Row; 50] = [
     (Add, NUW, Is(-2), Is(1), Is(-1)),
     (Add, NUW, Is(-1), Is(1), Poison),
     (Add, NSW, Is(0), Is(1), Is(1)),
@@ -133,11 +138,14 @@ static TWO_BITS: [Row; 47] = [
     (AShr, EXACT, Is(-1), Is(1), Poison),
     (And, NONE, Is(-2), Is(-1), Is(-2)),
     (Or, NONE, Is(-2), Is(1), Is(-1)),
+    (Or, DISJOINT, Is(-2), Is(1), Is(-1)),
+    (Or, DISJOINT, Is(-1), Is(1), Poison),
+    (Or, DISJOINT, Is(-2), Is(-1), Poison),
     (Xor, NONE, Is(-2), Is(-1), Is(1)),
 ];
 
 // At each width of seven bits or more.
-static EDGES: [Row; 99] = [
+static EDGES: [Row; 105] = [
     (Add, NUW, Is(-2), Is(1), Is(-1)),
     (Add, NUW, Is(-1), Is(1), Poison),
     (Add, NSW, Half(-2), Is(1), Half(-1)),
@@ -213,6 +221,12 @@ static EDGES: [Row; 99] = [
     (AShr, EXACT, Is(-2), Is(2), Poison),
     (And, NONE, Half(1), Is(-2), Half(0)),
     (Or, NONE, Half(1), Is(6), Half(7)),
+    (Or, DISJOINT, Half(1), Is(6), Half(7)),
+    (Or, DISJOINT, Half(0), Half(-1), Is(-1)),
+    (Or, DISJOINT, Half(0), Is(-1), Poison),
+    (Or, DISJOINT, Half(1), Is(7), Poison),
+    (Or, DISJOINT, Is(-1), Is(0), Is(-1)),
+    (Or, DISJOINT, Poison, Is(0), Poison),
     (Xor, NONE, Half(1), Is(-1), Half(-2)),
     (Add, NONE, Poison, Is(0), Poison),
     (Sub, NONE, Is(0), Poison, Poison),
@@ -271,15 +285,56 @@ static CASTS: [(Cast, u32, u32, i64, i64); 28] = [
     (SExt, 63, 64, -4611686018427387904, -4611686018427387904),
 ];
 
+// A cast, its flags, the widths from and to, a number, and whether it breaks a flag.
+static BROKEN: [(Cast, Flags, u32, u32, Cell, bool); 37] = [
+    (Trunc, NUW, 2, 1, Is(1), false),
+    (Trunc, NUW, 2, 1, Is(2), true),
+    (Trunc, NUW, 2, 1, Is(-1), true),
+    (Trunc, NSW, 2, 1, Is(0), false),
+    (Trunc, NSW, 2, 1, Is(1), true),
+    (Trunc, NSW, 2, 1, Is(-2), true),
+    (Trunc, NSW, 2, 1, Is(-1), false),
+    (Trunc, NUW, 8, 7, Half(-1), false),
+    (Trunc, NUW, 8, 7, Half(0), true),
+    (Trunc, NUW, 8, 7, Is(-1), true),
+    (Trunc, NSW, 8, 7, Quarter(-1), false),
+    (Trunc, NSW, 8, 7, Quarter(0), true),
+    (Trunc, NSW, 8, 7, Is(-64), false),
+    (Trunc, NSW, 8, 7, Is(-65), true),
+    (Trunc, WRAP, 8, 7, Is(63), false),
+    (Trunc, WRAP, 8, 7, Is(64), true),
+    (Trunc, WRAP, 8, 7, Is(-1), true),
+    (Trunc, NUW, 64, 63, Half(-1), false),
+    (Trunc, NUW, 64, 63, Half(0), true),
+    (Trunc, NSW, 64, 63, Quarter(-1), false),
+    (Trunc, NSW, 64, 63, Quarter(0), true),
+    (Trunc, NSW, 64, 63, Is(-4611686018427387904), false),
+    (Trunc, NSW, 64, 63, Is(-4611686018427387905), true),
+    (Trunc, NUW, 64, 1, Is(1), false),
+    (Trunc, NUW, 64, 1, Half(1), true),
+    (Trunc, NSW, 64, 1, Is(-1), false),
+    (Trunc, NSW, 64, 1, Is(1), true),
+    (ZExt, NNEG, 1, 2, Is(0), false),
+    (ZExt, NNEG, 1, 2, Is(1), true),
+    (ZExt, NNEG, 7, 8, Half(-1), false),
+    (ZExt, NNEG, 7, 8, Half(0), true),
+    (ZExt, NNEG, 7, 8, Is(-1), true),
+    (ZExt, NNEG, 63, 64, Half(-1), false),
+    (ZExt, NNEG, 63, 64, Half(0), true),
+    (ZExt, NNEG, 1, 64, Is(1), true),
+    (ZExt, NNEG, 8, 64, Is(127), false),
+    (ZExt, NNEG, 8, 64, Is(128), true),
+];
+
 static PREDICATES: [Pred; 10] = [Eq, Ne, Ugt, Uge, Ult, Ule, Sgt, Sge, Slt, Sle];
 
-// The least width at which the row holds, two operands and the predicates that hold of them.
-static COMPARISONS: [(u32, Cell, Cell, &[Pred]); 5] = [
-    (1, Is(0), Is(-1), &[Ne, Ult, Ule, Sgt, Sge]),
-    (1, Half(0), Half(-1), &[Ne, Ugt, Uge, Slt, Sle]),
-    (1, Is(-1), Is(-1), &[Eq, Uge, Ule, Sge, Sle]),
-    (2, Half(-2), Half(-1), &[Ne, Ult, Ule, Slt, Sle]),
-    (2, Half(1), Half(0), &[Ne, Ugt, Uge, Sgt, Sge]),
+// The least width at which the row holds, two operands, whether they have one sign, and the predicates that hold of them.
+static COMPARISONS: [(u32, Cell, Cell, bool, &[Pred]); 5] = [
+    (1, Is(0), Is(-1), false, &[Ne, Ult, Ule, Sgt, Sge]),
+    (1, Half(0), Half(-1), false, &[Ne, Ugt, Uge, Slt, Sle]),
+    (1, Is(-1), Is(-1), true, &[Eq, Uge, Ule, Sge, Sle]),
+    (2, Half(-2), Half(-1), true, &[Ne, Ult, Ule, Slt, Sle]),
+    (2, Half(1), Half(0), true, &[Ne, Ugt, Uge, Sgt, Sge]),
 ];
 
 fn width(rt: &impl Abort, bits: u32) -> Width
@@ -338,12 +393,29 @@ fn instructions_give_the_worked_effects(rt: HostRuntime) {
 fn comparisons_give(rt: &impl Abort, bits: u32, pred: Pred) {
     let bit = width(rt, 1);
     let width = width(rt, bits);
-    for (row, &(least, a, b, holding)) in COMPARISONS.iter().enumerate() {
+    for (row, &(least, a, b, one_sign, holding)) in COMPARISONS.iter().enumerate() {
         if least <= bits {
-            let found = compare(pred, width, value(width, a), value(width, b));
+            let found = compare(pred, false, width, value(width, a), value(width, b));
             let expected = number(bit, i64::from(holding.contains(&pred)));
             assert_eq!(rt; found, expected, "row {row} at i{bits}");
+            let promised = compare(pred, true, width, value(width, a), value(width, b));
+            let kept = if one_sign { expected } else { Value::Poison };
+            assert_eq!(rt; promised, kept, "row {row} with samesign at i{bits}");
         }
+    }
+}
+
+fn casts_keep_or_break_flags(rt: &impl Abort) {
+    for (row, &(cast, flags, from, to, a, broken)) in BROKEN.iter().enumerate() {
+        let (from, to) = (width(rt, from), width(rt, to));
+        assert!(rt;
+            (cast == Trunc && to.bits() < from.bits()) || (cast != Trunc && from.bits() < to.bits())
+        );
+        assert!(rt; cast.takes(flags), "row {row}");
+        let a = value(from, a);
+        let kept = convert(cast, NONE, from, to, a);
+        let expected = if broken { Value::Poison } else { kept };
+        assert_eq!(rt; convert(cast, flags, from, to, a), expected, "row {row}");
     }
 }
 
@@ -355,16 +427,17 @@ fn casts_comparisons_and_choices_give_the_worked_values(rt: HostRuntime) {
             (cast == Trunc && to.bits() < from.bits()) || (cast != Trunc && from.bits() < to.bits())
         );
         assert_eq!(rt;
-            convert(cast, from, to, number(from, a)),
+            convert(cast, NONE, from, to, number(from, a)),
             number(to, expected),
             "{cast:?} of {a}"
         );
         assert_eq!(rt;
-            convert(cast, from, to, Value::Poison),
+            convert(cast, cast.flags(), from, to, Value::Poison),
             Value::Poison,
             "{cast:?}"
         );
     }
+    casts_keep_or_break_flags(&rt);
     for pred in PREDICATES {
         for bits in [1, 2, 7, 8, 63, 64] {
             comparisons_give(&rt, bits, pred);
@@ -374,8 +447,8 @@ fn casts_comparisons_and_choices_give_the_worked_values(rt: HostRuntime) {
     let byte = width(&rt, 8);
     let (yes, no) = (number(bit, 1), number(bit, 0));
     let (one, two) = (number(byte, 1), number(byte, 2));
-    assert_eq!(rt; compare(Eq, byte, Value::Poison, one), Value::Poison);
-    assert_eq!(rt; compare(Ne, byte, one, Value::Poison), Value::Poison);
+    assert_eq!(rt; compare(Eq, false, byte, Value::Poison, one), Value::Poison);
+    assert_eq!(rt; compare(Ne, true, byte, one, Value::Poison), Value::Poison);
     assert_eq!(rt; choose(yes, one, two), one);
     assert_eq!(rt; choose(no, one, two), two);
     assert_eq!(rt; choose(yes, one, Value::Poison), one);

@@ -59,8 +59,32 @@ const DEFINED: &str = "define noundef i8 @f() {
 }
 ";
 
+const DISJOINT: &str = "define i8 @f(i8 %x) {
+  %r = or disjoint i8 %x, 1
+  ret i8 %r
+}
+";
+
+const CUT: &str = "define i4 @f(i8 %x) {
+  %r = trunc nuw nsw i8 %x to i4
+  ret i4 %r
+}
+";
+
+const WIDENED: &str = "define i16 @f(i8 %x) {
+  %r = zext nneg i8 %x to i16
+  ret i16 %r
+}
+";
+
+const ONE_SIGN: &str = "define i1 @f(i8 %x) {
+  %r = icmp samesign ult i8 %x, -1
+  ret i1 %r
+}
+";
+
 /// A text, the arguments of `@f`, the most blocks entered, and the line that is written, or `argument`.
-const ROWS: [(&str, &[&str], u32, &str); 21] = [
+const ROWS: [(&str, &[&str], u32, &str); 29] = [
     (SWAP, &["2"], 10, "return 1\n"),
     (SWAP, &["3"], 10, "return 2\n"),
     (SWAP, &["3"], 3, "running block 1\n"),
@@ -82,6 +106,14 @@ const ROWS: [(&str, &[&str], u32, &str); 21] = [
     (SELECT, &["0"], 1, "return poison\n"),
     (UNDEF, &[], 1, "return 0\n"),
     (DEFINED, &[], 1, "undefined\n"),
+    (DISJOINT, &["2"], 1, "return 3\n"),
+    (DISJOINT, &["3"], 1, "return poison\n"),
+    (CUT, &["7"], 1, "return 7\n"),
+    (CUT, &["8"], 1, "return poison\n"),
+    (WIDENED, &["127"], 1, "return 127\n"),
+    (WIDENED, &["128"], 1, "return poison\n"),
+    (ONE_SIGN, &["128"], 1, "return true\n"),
+    (ONE_SIGN, &["127"], 1, "return poison\n"),
 ];
 
 /// What is written of a run.

@@ -51,7 +51,7 @@ define i64 @""(i64 %-a.$_9) {
 const REPORT: &str = "@f: 0 rewrites\n@\"5\\22\": 0 rewrites\n@\"\": 0 rewrites\n";
 
 /// Texts, and what is written of their modules.
-const ROWS: [(&str, &str); 8] = [
+const ROWS: [(&str, &str); 9] = [
     ("; none\n\n", ""),
     (CANONICAL, CANONICAL),
 
@@ -117,6 +117,22 @@ attributes #0 = { a }
 
 1:
   ret i8 %o
+}
+",
+    ),
+
+    // The flags of an `or`, of casts and of comparisons.
+    (
+        "define i1 @f(i8 %x) { %a = or disjoint i8 %x, 1 %b = trunc nsw nuw i8 %a to i4 %c = zext nneg i4 %b to i8
+%d = trunc nsw i8 %c to i1 %e = icmp samesign ult i8 %x, %c %g = select i1 %d, i1 %e, i1 %d ret i1 %g }",
+        "define i1 @f(i8 %x) {
+  %a = or disjoint i8 %x, 1
+  %b = trunc nuw nsw i8 %a to i4
+  %c = zext nneg i4 %b to i8
+  %d = trunc nsw i8 %c to i1
+  %e = icmp samesign ult i8 %x, %c
+  %g = select i1 %d, i1 %e, i1 %d
+  ret i1 %g
 }
 ",
     ),

@@ -1,4 +1,4 @@
-use Rattle.std.proofs.Common.{◌≡◌, ◌∷◌, [], if◌then◌else◌, length, map, ap, subst, ◌∙◌, arith}
+use Rattle.std.proofs.Common.{◌≡◌, false, ◌∷◌, [], if◌then◌else◌, length, map, ap, subst, ◌∙◌, arith}
 use Rattle.std.proofs.lemmas.Result.{IfOk-weaker}
 use Rattle.ops.specs.Comparison.{comparison}
 use Rattle.ops.specs.Integer.{bits}
@@ -25,12 +25,12 @@ returns-clause-value g c = IfOk-weaker c.and.result _ _ (λ made known inputs ad
     let effect = c.in_ok-made.made in
     let bit = c.index-as_slice-0.result in
     let word : effect.bits ≡ bit ∷ [] = one-word effect.bits bit (c.in_ok-made.ensures.width ∙ c.one.ensures) (rw c.as_slice.ensures at c.index-as_slice-0.is) in
-    let has = subst (λ l. HasEffect (Compare c.args.pred) c.one.result (map (held_value start) l) (effect_of mid effect)) c.in_ok-operands.ensures (c.in_ok-made.ensures.effect inputs admitted) in
-    let gives : effect_of mid effect ≡ Gives (comparison c.args.pred (length left.bits) (held_value start left) (held_value start right)) =
+    let has = subst (λ l. HasEffect (Compare c.args.pred false) c.one.result (map (held_value start) l) (effect_of mid effect)) c.in_ok-operands.ensures (c.in_ok-made.ensures.effect inputs admitted) in
+    let gives : effect_of mid effect ≡ Gives (comparison c.args.pred false (length left.bits) (held_value start left) (held_value start right)) =
     has (length left.bits) (held_value-width start left) (subst (HasWidth (held_value start right)) c.requires.same_width (held_value-width start right)) in
     rw (c.not.ensures.value inputs now) at (known inputs now)
     ∙ compares-value c.args.pred (start left.poison) (start right.poison) (mid effect.undefined) (mid effect.poison) (mid bit) (length left.bits) (length right.bits) (number_of start left.bits) (number_of start right.bits)
-    (subst (λ w. (if mid effect.undefined then Undefined else Gives (if mid effect.poison then Poison else bits (length w) (number_of mid w))) ≡ Gives (comparison c.args.pred (length left.bits) (held_value start left) (held_value start right))) word gives))
+    (subst (λ w. (if mid effect.undefined then Undefined else Gives (if mid effect.poison then Poison else bits (length w) (number_of mid w))) ≡ Gives (comparison c.args.pred false (length left.bits) (held_value start left) (held_value start right))) word gives))
     c.and.ensures.value
 
 pub blast_value-requires-clause-operands : goal.blast_value-requires-clause-operands

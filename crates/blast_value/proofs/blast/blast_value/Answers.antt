@@ -24,7 +24,7 @@ returns-in-Compare-clause-effect g c =
     IfOk-weaker c.compare.result _ _ (λ made known inputs admitted.
     let value = g.C.State.value c.args.c.now inputs in
     rw (c.in-Compare.is, list) (λ m width_x width_y.
-    known inputs admitted ∙ ap Gives (comparison_width (value x.poison) (value y.poison) c.in-Compare.pred (length x.bits) (length y.bits) (number_of value x.bits) (number_of value y.bits) m width_x)))
+    known inputs admitted ∙ ap Gives (comparison_width (value x.poison) (value y.poison) c.in-Compare.pred c.in-Compare.samesign (length x.bits) (length y.bits) (number_of value x.bits) (number_of value y.bits) m width_x)))
     c.compare.ensures.effect
 
 pub returns-in-Select-clause-effect : goal.returns-in-Select-clause-effect
@@ -45,5 +45,5 @@ returns-in-Convert-clause-effect g c =
     IfOk-weaker c.convert.result _ _ (λ made known inputs admitted.
     let value = g.C.State.value c.args.c.now inputs in
     rw (c.in-Convert.is, list) (λ m width_x.
-    known inputs admitted ∙ ap Gives (conversion_width (value x.poison) c.in-Convert.cast (length x.bits) c.args.width (number_of value x.bits) m width_x)))
+    known inputs admitted ∙ ap Gives (conversion_width (value x.poison) c.in-Convert.cast c.in-Convert.flags (length x.bits) c.args.width (number_of value x.bits) m width_x)))
     c.convert.ensures.effect

@@ -26,11 +26,11 @@ returns-clause-value g c inputs admitted =
     let bits = c.in_ok-bits.bits in
     let bits_4 = map-kept (Keeps-trans k3 k4) inputs at_2 bits c.in_ok-bits.ensures.own in
     let below : number_of (m.value c.args.c.now inputs) c.args.a.now < 2 ^ c.args.width = subst (λ n. number_of (m.value c.args.c.now inputs) c.args.a.now < 2 ^ n) c.requires.width_a (number_below (m.value c.args.c.now inputs) c.args.a.now) in
-    let top = rw (a_1, c.requires.width_a) at (c.incoming-top.ensures.value inputs at_1) in
+    let top = rw (a_1, c.requires.width_a) at (c.sign_where-top.ensures.value inputs at_1) in
     let number_2 = rw (a_1, b_1, c.requires.width_a) at (c.in_ok-bits.ensures.number inputs at_1) in
     let far_kept = (Keeps-trans k2 k3).values inputs c.in_ok-is_far.is_far at_1 c.in_ok-is_far.ensures.own in
     rw bits_4
-    (right_value c.args.exact c.args.signed c.args.width (number_of (m.value c.args.c.now inputs) c.args.a.now) (number_of (m.value c.args.c.now inputs) c.args.b.now) _ _ _ _ _ (m.value c.is_too_far.new.c inputs c.incoming-top.result) below width top number_2
+    (right_value c.args.exact c.args.signed c.args.width (number_of (m.value c.args.c.now inputs) c.args.a.now) (number_of (m.value c.args.c.now inputs) c.args.b.now) _ _ _ _ _ (m.value c.is_too_far.new.c inputs c.sign_where-top.result) below width top number_2
     (far_kept ∙ c.in_ok-is_far.ensures.value inputs admitted)
     (rw (a_2, b_2, c.requires.width_a) at (c.in_ok-lost.ensures.value inputs at_2))
     (c.in_ok-poison.ensures.value inputs at_3))

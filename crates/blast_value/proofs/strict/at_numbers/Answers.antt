@@ -1,9 +1,9 @@
-use Rattle.std.proofs.Common.{length, sym, ap, ◌∙◌}
+use Rattle.std.proofs.Common.{sym, ap, ◌∙◌}
 use Rattle.std.proofs.lemmas.Result.{IfOk-weaker}
 use Rattle.ops.specs.declared.value.Effect.TheVariants.{Gives}
 use Rattle.ops.specs.Instruction.{on_numbers}
 use Rattle.ops.specs.Shifts.{lshr, ashr}
-use Rattle.blast_value.proofs.Effects.{arithmetic_numbers, bitwise_numbers}
+use Rattle.blast_value.proofs.Effects.{arithmetic_numbers}
 use Rattle.blast_value.proofs.strict.at_numbers.Goals as goal
 
 pub returns-in-Arithmetic-clause-value : goal.returns-in-Arithmetic-clause-value
@@ -27,10 +27,6 @@ unfolding on_numbers ashr
 returns-in-AShr-clause-value g c =
     IfOk-weaker c.moved_right-in-AShr.result _ _ (λ made known inputs admitted. rw c.in-AShr.is (ap Gives (known inputs admitted))) c.moved_right-in-AShr.ensures.value
 
-pub returns-in_ok-bits-in-Bitwise-clause-value : goal.returns-in_ok-bits-in-Bitwise-clause-value
-returns-in_ok-bits-in-Bitwise-clause-value g c inputs admitted =
-    let keeps = c.each_bit.ensures.adds.keeps in
-    let width = c.in_ok-bits-in-Bitwise.ensures.width ∙ ap length c.as_slice.ensures ∙ c.requires.width_a in
-    let number = rw (c.as_slice.ensures, c.as_slice-in-Bitwise.ensures) at (c.in_ok-bits-in-Bitwise.ensures.number inputs admitted) in
-    rw (c.in-Bitwise.is, c.zero-poison.ensures.value inputs (keeps.admitted inputs admitted), width, number)
-    (sym (bitwise_numbers c.in-Bitwise.which c.args.flags c.args.width _ _))
+pub returns-in-Bitwise-clause-value : goal.returns-in-Bitwise-clause-value
+returns-in-Bitwise-clause-value g c =
+    IfOk-weaker c.bit_by_bit.result _ _ (λ made known inputs admitted. rw c.in-Bitwise.is (known inputs admitted)) c.bit_by_bit.ensures.value

@@ -17,12 +17,12 @@ truth_is_one : (t : Bool) → ((if t then 1 else 0) == 1) ≡ t
 truth_is_one true = refl
 truth_is_one false = refl
 
-compared : (pred : Pred) (a : Number) (b v : Value) → v ≡ comparison pred a.width (Bits a) b → is_one v ≡ compares pred (Bits a) b
+compared : (pred : Pred) (a : Number) (b v : Value) → v ≡ comparison pred false a.width (Bits a) b → is_one v ≡ compares pred (Bits a) b
 unfolding comparison is_one
 compared pred a Poison v is = rw is refl
 compared pred a (Bits b) v is = rw is (truth_is_one (holds pred a.width a.number b.number))
 
-decided : (pred : Pred) (n : Number) (a b v : Value) (N : ℕ) → a ≡ Bits n → N ≡ n.width → v ≡ comparison pred N (Bits n) b → is_one v ≡ compares pred a b
+decided : (pred : Pred) (n : Number) (a b v : Value) (N : ℕ) → a ≡ Bits n → N ≡ n.width → v ≡ comparison pred false N (Bits n) b → is_one v ≡ compares pred a b
 decided pred n a b v N are width is = rw are (compared pred n b v (rw width at is))
 
 pub returns-in-Poison : goal.returns-in-Poison

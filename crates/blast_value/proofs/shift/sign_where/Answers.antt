@@ -1,5 +1,5 @@
 use Rattle.circ_muldiv.proofs.Rows.{highest_bit}
-use Rattle.blast_value.proofs.shift.incoming.Goals as goal
+use Rattle.blast_value.proofs.shift.sign_where.Goals as goal
 
 pub returns-then-signed-clause-value : goal.returns-then-signed-clause-value
 returns-then-signed-clause-value g c inputs admitted =
