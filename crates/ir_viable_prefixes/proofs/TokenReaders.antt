@@ -263,7 +263,7 @@ pred_no_type : (w : List ℕ) (n : ℕ) → IsTypeWord w n → Refusing pred_at 
 unfolding pred_at
 pred_no_type w n is line more = (fault line (LeftOut w), rw (type_is_no_pred w n is) refl)
 
-pred_bad : {V : Type 0} {t u : Token} → is_word t ≡ false → Like V t u → Bad V pred_at [] t u
+pred_bad : {V : Type 0} {t u : Token} → is_word t ≡ false → Like (Unit {0}) t u → Bad V pred_at [] t u
 unfolding pred_at unexpected
 pred_bad none like = other_bad pred_at none pred_no_type (λ f line more. (fault line (misfit places.Choice (Function f)), refl)) (λ digits n is line more. (fault line (misfit places.Choice (Number n)), refl)) like
 
