@@ -4,6 +4,7 @@ use Rattle.std.specs.Prelude.{codes}
 use Rattle.std.specs.Str.{bytes_eq}
 use Rattle.ops.specs.declared.opcode.Opcode.{Opcode}
 use Rattle.ops.specs.declared.conversion.Cast.{Cast}
+use Rattle.ops.specs.Flags.{no_flags, flags_of_icmp}
 use Rattle.scan.specs.RuleTokens.{is_constant}
 use Rattle.rule_tokens.specs.Limits.{Limits, AreWithin}
 use Rattle.rule_tokens.specs.PartReaders.{maybe_type}
@@ -14,7 +15,7 @@ use Rattle.rule_parse.specs.declared.half.Half.TheVariants.{Source, Target}
 use Rattle.rule_parse.specs.declared.word.Operation.{Operation}
 use Rattle.rule_parse.specs.declared.word.Operation.TheVariants as operations
 use Rattle.rule_parse.specs.Keywords.{operation_in}
-use Rattle.rule_parse.specs.RuleReaders.{register_at, source_word, term_argument_at, argument_at, typed_at, operand_at, pair_at, binary_at, compare_at, select_at, convert_at, copy_at, operation_at, other_at, op_word, op_at, statement_at, statements_at, name_text, name_at, precondition_at, expression_at, expressions_at, witness_at, source_at, target_at, rule_at, rules_at, all_rules}
+use Rattle.rule_parse.specs.RuleReaders.{register_at, source_word, term_argument_at, argument_at, typed_at, operand_at, flags_at, pair_at, binary_at, pred_at, compare_at, select_at, convert_at, copy_at, operation_at, other_at, op_word, op_at, statement_at, statements_at, name_text, name_at, precondition_at, expression_at, expressions_at, witness_at, source_at, target_at, rule_at, rules_at, all_rules}
 use Rattle.rule_viable_prefixes.proofs.Wider.{Below, same_answer, too_many, below_bind, below_if, BelowReader, chain_of_below, name_below, term_below}
 use Rattle.rule_viable_prefixes.proofs.WiderFormulas.{formula_below}
 
@@ -61,7 +62,8 @@ module _ (limits wider : Limits) (within : AreWithin wider limits) where
   compare_below : (half : Half) (line : ℕ) (tokens : List Token) → Below (compare_at limits half line tokens) (compare_at wider half line tokens)
   unfolding compare_at
   compare_below half line tokens =
-      below_bind (same_answer refl) (λ flags. below_bind (same_answer refl) (λ pred. below_bind (pair_below half line pred.1) (λ pair. same_answer refl)))
+      below_bind {a = flags_at flags_of_icmp line no_flags tokens} (same_answer refl)
+      (λ flags. below_bind {a = pred_at line flags.1} (same_answer refl) (λ pred. below_bind (pair_below half line pred.1) (λ pair. same_answer refl)))
 
   select_below : (half : Half) (line : ℕ) (tokens : List Token) → Below (select_at limits half line tokens) (select_at wider half line tokens)
   unfolding select_at
