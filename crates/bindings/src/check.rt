@@ -21,6 +21,7 @@ use crate::operation::{
 };
 use crate::standing::{has_width, operand_matches};
 use ir_core::{Function, Inst, Op as InstOp, Operand, Register, read_at};
+use ops::Flags;
 use precond::holds;
 use rule_core::{Argument, Formula, Op, Register as Name, Rule, Statement};
 use rule_typing::is_typing;
@@ -182,7 +183,14 @@ fn flags_match(statement: Op, inst: &InstOp, exact: bool, is_root: bool) -> bool
         × (IsTrue exact → ¬ IsTrue is_root → flags_of_inst inst.now ≡ flags_of_statement statement)) }
 {
     let (asked, found) = (flags_of_statement(statement), flags_of_inst(inst));
-    asked.are_within(found) && (is_root || !exact || found == asked)
+    asked.are_within(found) && (is_root || !exact || are_same(found, asked))
+}
+
+/// Whether both have the same flags.
+fn are_same(found: Flags, asked: Flags) -> bool
+    ensures { IsTrue result ↔ found ≡ asked }
+{
+    found == asked
 }
 
 /// Whether a statement of the source is the root's.
