@@ -5,7 +5,7 @@ use Rattle.rule_reader.proofs.names.add_names.Goals as goal
 
 pub returns-in_ok-add_name-in-Binary-2 : goal.returns-in_ok-add_name-in-Binary-2
 returns-in_ok-add_name-in-Binary-2 c =
-    uses_of_op c.args.source.now c.args.op.now _ _ _ (elim c.in-Binary.is [ inl (op, flags, e) ↦ ap arguments_of e | inr (pred, e) ↦ ap arguments_of e ])
+    uses_of_op c.args.source.now c.args.op.now _ _ _ (elim c.in-Binary.is [ inl (op, flags, e) ↦ ap arguments_of e | inr (pred, samesign, e) ↦ ap arguments_of e ])
     (two_uses c.args.source.now _ _ _ _ _ c.in_ok-add_name-in-Binary.ensures c.in_ok-add_name-in-Binary-2.ensures)
 
 pub returns-in_ok-add_name-in-Select-3 : goal.returns-in_ok-add_name-in-Select-3
@@ -15,5 +15,5 @@ returns-in_ok-add_name-in-Select-3 c =
 
 pub returns-in_ok-add_name-in-Convert : goal.returns-in_ok-add_name-in-Convert
 returns-in_ok-add_name-in-Convert c =
-    uses_of_op c.args.source.now c.args.op.now _ _ _ (elim c.in-Convert.is [ inl (cast, to, e) ↦ ap arguments_of e | inr e ↦ ap arguments_of e ])
+    uses_of_op c.args.source.now c.args.op.now _ _ _ (elim c.in-Convert.is [ inl (cast, flags, to, e) ↦ ap arguments_of e | inr e ↦ ap arguments_of e ])
     (one_use c.args.source.now _ _ _ c.in_ok-add_name-in-Convert.ensures)
