@@ -2,7 +2,7 @@
 
 use refusal::{Fault, Refusal};
 
-/// What is wrong.
+/// What is wrong. The reader of texts tells the first three; the others are told beside a list of rules.
 #[derive(Debug, Drop)]
 pub enum LogFaultKind {
     /// The text has more than 67,108,864 bytes.
@@ -11,6 +11,12 @@ pub enum LogFaultKind {
     BadByte,
     /// Any other departure from the form.
     Syntax,
+    /// No rule has the name of a proof.
+    UnknownRule,
+    /// The widths of a proof are no typing of its rule.
+    BadTyping,
+    /// An earlier proof has the same rule and the same widths.
+    Repeated,
 }
 
 /// The first fault of a text.

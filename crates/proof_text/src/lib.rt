@@ -15,9 +15,10 @@ mod stop;
 mod write;
 
 pub use fault::{LogError, LogFault, LogFaultKind};
+pub use laws::{texts_have_one_reading, what_is_written_is_read};
 pub use proof::Proof;
-pub use read::read_proofs;
-pub use write::write_proofs;
+pub use read::{MOST_BYTES, read_proofs};
+pub use write::{push_proof, write_proofs};
 
 #[cfg(test)]
 mod tests;

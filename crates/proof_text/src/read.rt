@@ -18,7 +18,7 @@ use refusal::{Refusal, refused};
 use std::alloc::Global;
 
 /// The most bytes of a text.
-const MOST_BYTES: usize = 67_108_864;
+pub const MOST_BYTES: usize = 67_108_864;
 
 /// A proof: its line and its log.
 #[tactic(auto, using(crate::proofs::LogReadings::proof_read, crate::proofs::Readings::behind_short))]

@@ -66,6 +66,7 @@ fn texts_are_read_or_refused(rt: HostRuntime) -> Result<(), Fail> {
                     LogFaultKind::TooLong => 1,
                     LogFaultKind::BadByte => 2,
                     LogFaultKind::Syntax => 3,
+                    _ => 9,
                 },
             ),
             Err(Refusal::NoMemory) => (9, 9),

@@ -97,8 +97,8 @@ fn push_head(out: &mut Vec<u8>, name: &[u8], widths: &[u32]) -> Result<(), Alloc
     out.extend_from_slice(b"]\n")
 }
 
-/// Adds a proof.
-fn push_proof(out: &mut Vec<u8>, proof: &Proof) -> Result<(), AllocError>
+/// Adds the text of a proof.
+pub fn push_proof(out: &mut Vec<u8>, proof: &Proof) -> Result<(), AllocError>
     ensures { OnOk result (out.new.items ≡ out.old.items ++ proof_text proof.now) }
 {
     push_head(out, proof.name.as_slice(), proof.widths.as_slice())?;

@@ -1,0 +1,5 @@
+pub mod Growing
+pub mod Keys
+pub mod Lines
+pub mod RuleNames
+pub mod Typed

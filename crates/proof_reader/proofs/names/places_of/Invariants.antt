@@ -1,0 +1,7 @@
+-- the table has the places of the rules so far
+use Rattle.std.proofs.Common.{take}
+use Rattle.proof_reader.specs.Names.{ArePlaces}
+use Rattle.proof_reader.proofs.names.places_of.Given as goal
+
+abbrev pub invariant-loop-place : goal.invariant-loop-place
+invariant-loop-place l = ArePlaces (take l.place l.rules) l.places

@@ -1,0 +1,10 @@
+pub use Rattle.refusal.specs.Refusals
+pub use Rattle.refusal.specs.declared.fault.Fault
+pub use Rattle.proof_text.specs.declared.fault.LogFaultKind
+pub use Rattle.proof_text.specs.declared.proof.Proof
+pub use Rattle.proof_text.specs.Limits
+pub use Rattle.rule_core.specs.Checks
+pub mod Names
+pub mod Faults
+pub mod Reading
+pub mod Laws

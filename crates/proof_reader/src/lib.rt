@@ -1,0 +1,14 @@
+//! The proofs in a text, each of one of some rules at one of its typings.
+//!
+//! `specs/Faults` says which texts are of proofs of the rules, and which is the first fault of one that is not.
+#![tactic(auto)]
+
+mod laws;
+mod names;
+mod proof;
+mod reader;
+
+pub use laws::texts_have_proofs_or_a_fault;
+pub use proof::RuleProof;
+pub use proof_text::{LogError, LogFault, LogFaultKind, MOST_BYTES};
+pub use reader::read_logs;
