@@ -1,0 +1,65 @@
+//! The steps that are kept, as a log of their own.
+
+ghost use Rattle.std.specs.Prelude.{◌≤◌, length, All, Contains, IfOk};
+ghost use Rattle.clauses.specs.ClauseSet.{clauses_of_steps};
+
+use clauses::{Clause, Log, Step};
+use lists::List;
+use std::alloc::{AllocError, Global};
+
+/// A step that is kept.
+#[derive(Debug, Drop)]
+pub(crate) struct Kept {
+    /// Its place in the log.
+    pub(crate) place: usize,
+    /// The hints that it needs, in order, by the numbers that clauses have in the log.
+    pub(crate) hints: Vec<u32>,
+}
+
+/// The log of these steps, whose hints are numbered anew. `first` is the number of a log's first step. A number past
+/// 2^32 wraps.
+pub(crate) fn renumbered(
+    alloc: Global,
+    log: &[Step],
+    kept: &[Kept],
+    first: u32,
+) -> Result<Log, AllocError>
+    ensures few { IfOk result (λ steps. length steps ≤ length kept.now) }
+    ensures of_log { IfOk result (λ steps. All (λ step. Contains (clauses_of_steps log.now) step.clause) steps) }
+{
+    let mut numbers = vec![in alloc; first; log.len()]?;
+    let mut next = first;
+    let mut steps = List::new(alloc);
+    for step in kept {
+        let Some(old) = log.get(step.place) else {
+            return Ok(steps);
+        };
+        steps.push(Step {
+            clause: Clause::from_slice(alloc, old.clause.as_slice())?,
+            hints: numbered_anew(alloc, &step.hints, &numbers, first)?,
+        })?;
+        if let Some(number) = numbers.get_mut(step.place) {
+            *number = next;
+        }
+        next = next.wrapping_add(1);
+    }
+    Ok(steps)
+}
+
+/// The hints by the numbers that clauses have now: those below `first` are the set's, and stay.
+fn numbered_anew(
+    alloc: Global,
+    hints: &[u32],
+    numbers: &[u32],
+    first: u32,
+) -> Result<List<u32>, AllocError> {
+    let mut anew = List::new(alloc);
+    for &hint in hints {
+        let number = match hint.checked_sub(first) {
+            None => hint,
+            Some(place) => numbers.get(place as usize).copied().unwrap_or(hint),
+        };
+        anew.push(number)?;
+    }
+    Ok(anew)
+}
