@@ -20,6 +20,7 @@ use circuits::EvalCircuit;
 use clauses::{Cnf, Log};
 use cnf_build::clauses_of;
 use lists::List;
+use packed_log::{PackedLog, pack};
 use rule_core::{Example, Rule, Typing, every_rule_has_one_outcome};
 use rup_checker::check_refutation;
 use std::alloc::{AllocError, Global};
@@ -32,7 +33,7 @@ enum Attempt {
     /// A counterexample.
     Refuted(Example),
     /// The clauses that were learned, as many as may be.
-    Limit(Log),
+    Limit(PackedLog),
 }
 
 /// Decides whether the rule is valid at the typing, by a search for a counterexample that may learn `limit` clauses, beside the empty
@@ -146,7 +147,7 @@ fn searched(
             check_again(alloc, rule, typing, set, &log)?;
             Ok(Attempt::Valid(log))
         }
-        Found::Limit(log) => Ok(Attempt::Limit(log)),
+        Found::Limit(log) => Ok(Attempt::Limit(pack(alloc, &log)?)),
     }
 }
 

@@ -1,7 +1,8 @@
 //! Verdicts on rules at typings, and tables of them.
 
-use clauses::{Cnf, Log};
+use clauses::Cnf;
 use lists::List;
+use packed_log::PackedLog;
 use rule_core::{Example, Typing};
 
 /// What is said of a rule at a typing.
@@ -23,7 +24,7 @@ pub struct Tried {
     /// The clauses that stand for the counterexamples of the rule.
     pub set: Cnf,
     /// The clauses that the search learned.
-    pub log: Log,
+    pub log: PackedLog,
 }
 
 /// The verdict on one rule at one typing.

@@ -1,8 +1,11 @@
-use Rattle.std.proofs.Common.{subst}
+use Rattle.std.proofs.Common.{List, subst, sym}
+use Rattle.clauses.specs.declared.step.Step.{Step}
 use Rattle.cdcl_log.specs.Found.{IsFound}
+use Rattle.verdict.specs.Honest.{IsHonestBudget}
 use Rattle.verdict.proofs.Chain.{honest_budget}
 use Rattle.verdict.proofs.decision.searched.Goals as goal
 
-pub returns-in-Limit : goal.returns-in-Limit
-returns-in-Limit c =
-    honest_budget c.args.rule.now c.args.typing.now c.args.set.now c.requires.stands c.args.limit c.in-Limit.log (subst (IsFound c.args.set.now c.args.limit) c.in-Limit.is c.in_ok-model.ensures)
+pub returns-in_ok-pack-in-Limit : goal.returns-in_ok-pack-in-Limit
+returns-in_ok-pack-in-Limit c =
+    subst (λ (log : List Step). IsHonestBudget c.args.rule.now c.args.typing.now c.args.limit (record { set = c.args.set.now; log = log })) (sym c.in_ok-pack-in-Limit.ensures)
+    (honest_budget c.args.rule.now c.args.typing.now c.args.set.now c.requires.stands c.args.limit c.in-Limit.log (subst (IsFound c.args.set.now c.args.limit) c.in-Limit.is c.in_ok-model.ensures))

@@ -1,0 +1,5 @@
+pub mod Numbers
+pub mod Lists
+pub mod Differences
+pub mod Taken
+pub mod Steps
