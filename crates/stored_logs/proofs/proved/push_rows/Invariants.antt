@@ -1,0 +1,12 @@
+use Rattle.std.proofs.Common.{◌≡◌, ◌++◌}
+use Rattle.std.specs.Vec.Iter.{into_iter_items}
+use Rattle.stored_logs.specs.Additions.{AddsProved}
+use Rattle.stored_logs.proofs.proved.push_rows.Given as goal
+
+-- the rows are those of the typings so far, and the others are left
+abbrev pub invariant-loop-typing : goal.invariant-loop-typing
+invariant-loop-typing l =
+    record {
+      added : AddsProved l.conflicts l.place l.rule l.yielded l.fn.proved l.proved;
+      left : l.yielded ++ into_iter_items l.typing-iterator ≡ l.fn.typings;
+    }

@@ -1,0 +1,13 @@
+use Rattle.std.proofs.Common.{◌++◌}
+use Rattle.std.specs.Vec.Iter.{into_iter_items}
+use Rattle.proof_reader.specs.Reading.{IsReadOf}
+use Rattle.stored_logs.proofs.Rechecking.{AreRows}
+use Rattle.stored_logs.proofs.rechecked.recheck.Given as goal
+
+-- the rows are those of the proofs so far, and the others are left
+abbrev pub invariant-loop-proof : goal.invariant-loop-proof
+invariant-loop-proof l =
+    record {
+      rows : AreRows l.rules l.conflicts l.yielded l.rechecked;
+      left : IsReadOf l.rules l.bytes (l.yielded ++ into_iter_items l.proof-iterator);
+    }

@@ -1,0 +1,10 @@
+pub use Rattle.refusal.specs.Refusals
+pub use Rattle.rule_core.specs.Checks
+pub use Rattle.proof_reader.specs.Laws
+pub use Rattle.proof_reader.specs.Faults
+pub use Rattle.proof_text.specs.declared.fault.LogFaultKind
+pub use Rattle.proof_text.specs.Limits
+pub mod Refutations
+pub mod Proved
+pub mod Rechecked
+pub mod Additions

@@ -1,0 +1,31 @@
+-- What is found and written where proofs are checked again.
+use Rattle.std.specs.Prelude.{◌≡◌, ◌↔◌, ℕ, List, Some, slice_get, IsTrue, All}
+use Rattle.std.specs.List.{AllZip}
+use Rattle.rule_core.specs.declared.rule.Rule.{Rule}
+use Rattle.proof_text.specs.declared.proof.Proof.{Proof}
+use Rattle.proof_reader.specs.Faults.{IsTextOfGood}
+use Rattle.verdict.specs.declared.verdict.Row.{Row}
+use Rattle.verdict.specs.declared.verdict.Verdict.TheVariants.{Admitted}
+use Rattle.verdict.specs.Honest.{IsHonest}
+use Rattle.verdict.specs.Proved.{IsUnrefutedBy}
+use Rattle.verdict.specs.Table.{IsHonestTable, table_text}
+use Rattle.stored_logs.specs.declared.rechecked.Rechecked.{Rechecked}
+
+-- The row is of the rule that the proof names, at the proof's widths, and its verdict is honest; a set that a `Budget` keeps is not
+-- refuted by the proof's log.
+pub record IsVerdictOn (rules : List Rule) (conflicts : ℕ) (proof : Proof) (row : Row) : Type 0 where
+  pub rule : Rule
+  pub is : slice_get rules row.rule ≡ Some rule
+  pub named : rule.name ≡ proof.name
+  pub typing : row.typing ≡ proof.widths
+  pub honest : IsHonest rule row.typing conflicts row.verdict
+  pub unrefuted : IsUnrefutedBy proof.log row.verdict
+
+-- What is handed back is a verdict on each proof of the text, in order, and their texts.
+pub record IsRechecked (rules : List Rule) (text : List ℕ) (conflicts : ℕ) (rechecked : Rechecked) : Type 0 where
+  pub proofs : List Proof
+  pub read : IsTextOfGood rules text proofs
+  pub rows : AllZip (IsVerdictOn rules conflicts) proofs rechecked.table
+  pub honest : IsHonestTable rules conflicts rechecked.table
+  pub text_is : rechecked.text.items ≡ table_text rules rechecked.table
+  pub all_admitted : IsTrue rechecked.all_admitted ↔ All (λ row. row.verdict ≡ Admitted) rechecked.table
