@@ -1,16 +1,12 @@
 -- The verdicts that are kept, as one more pair is asked.
-use Rattle.std.proofs.Common.{◌≡◌, ℕ, zero, suc, Bool, true, false, not, List, [], ◌∷◌, ◌++◌, if◌then◌else◌, length, append-nil, map, Global, Some, refl, sym, ap, subst, ◌∙◌, nat_eq}
-use Rattle.std.specs.Prelude.{◌&&◌, ◌||◌, ◌≢◌, slice_get, Contains, MatchBool, Vec}
-use Rattle.std.specs.Bool.{Decides}
+use Rattle.std.proofs.Common.{◌≡◌, ℕ, zero, suc, Bool, true, false, not, List, [], ◌∷◌, ◌++◌, if◌then◌else◌, length, append-nil, map, Some, refl, sym, ap, subst, ◌∙◌}
+use Rattle.std.specs.Prelude.{◌||◌, ◌≢◌, slice_get, Contains, MatchBool}
 use Rattle.std.specs.List.{list_any}
 use Rattle.std.specs.Option.{option_map}
-use Rattle.std.specs.Str.{bytes_eq}
-use Rattle.std.proofs.lemmas.Bool.Decides.{Decides-and, Decides-eqb, Decides-like}
 use Rattle.std.proofs.lemmas.List.{map-append}
 use Rattle.std.proofs.lemmas.List.Elements.{All-append, All-cons, All-nil}
 use Rattle.std.proofs.lemmas.List.Folds.{Any-from_list_any}
 use Rattle.std.proofs.lemmas.Option.{same_Some, slice_get-map, slice_get_read}
-use Rattle.std.proofs.lemmas.Slice.Eq.{bytes_eq-Decides}
 use Rattle.indexmap.specs.IndexSet.{insert_key}
 use Rattle.ir_meaning.proofs.Pieces.{place_in, contains_at}
 use Rattle.rule_core.specs.declared.rule.Rule.{Rule}
@@ -20,23 +16,9 @@ use Rattle.verdict.specs.Table.{IsHonestRow, IsHonestTable}
 use Rattle.asked_verdicts.specs.declared.verdicts.Verdicts.{Verdicts}
 use Rattle.asked_verdicts.specs.Asked.{Pair, pair_in, HasVerdict, AreFirstAsked}
 use Rattle.asked_verdicts.specs.Asks.{Asks}
+use Rattle.asked_verdicts.specs.Stored.{Key, pair_of_key}
 use Rattle.asked_verdicts.proofs.Asking.{asked_again, asked_first}
-
-abbrev pub Key : Type 0
-Key = ℕ × Vec ℕ Global
-
--- the pair that a key is
-abbrev pub pair_of_key : Key → Pair
-pair_of_key key = (key.0, key.1.items)
-
--- how a set compares keys
-abbrev pub key_eq : Key → Key → Bool
-key_eq x y = nat_eq x.0 y.0 && bytes_eq x.1.items y.1.items
-
-decided : (x y : Key) → Decides (key_eq x y) (pair_of_key x ≡ pair_of_key y)
-decided x y =
-    Decides-like (key_eq x y) (λ h. ap (λ (n : ℕ). (n, x.1.items)) h.0 ∙ ap (λ (l : List ℕ). (y.0, l)) h.1) (λ e. (ap (λ (p : Pair). p.0) e, ap (λ (p : Pair). p.1) e))
-    (Decides-and (nat_eq x.0 y.0) (bytes_eq x.1.items y.1.items) (Decides-eqb x.0 y.0) (bytes_eq-Decides x.1.items y.1.items))
+use Rattle.asked_verdicts.proofs.Storing.{key_eq, decided}
 
 not_first : (a b : Bool) → a ≡ true → (a || b) ≡ false → ⊥
 not_first true b is none = absurd cc
@@ -49,7 +31,7 @@ not_later false b none = none
 -- a key that the set lacks is of a pair that no key is of
 absent_at : (x : Key) (keys : List Key) (i : ℕ) → list_any (key_eq x) keys ≡ false → slice_get (map pair_of_key keys) i ≡ Some (pair_of_key x) → ⊥
 absent_at x [] i none at = absurd cc
-absent_at x (key ∷ keys) zero none at = not_first (key_eq x key) (list_any (key_eq x) keys) ((decided x key).1 (sym (same_Some (pair_of_key key) (pair_of_key x) at))) none
+absent_at x (key ∷ keys) zero none at = not_first (key_eq x key) (list_any (key_eq x) keys) ((decided (pair_of_key x) key).1 (sym (same_Some (pair_of_key key) (pair_of_key x) at))) none
 absent_at x (key ∷ keys) (suc i) none at = absent_at x keys i (not_later (key_eq x key) (list_any (key_eq x) keys) none) at
 
 absent : (x : Key) (keys : List Key) → list_any (key_eq x) keys ≡ false → ¬ Contains (map pair_of_key keys) (pair_of_key x)
@@ -60,13 +42,13 @@ present : (x : Key) (keys : List Key) → list_any (key_eq x) keys ≡ true → 
 present x keys found =
     let (k, key, within, at, is) = Any-from_list_any (key_eq x) keys found in
     contains_at (map pair_of_key keys) k (pair_of_key x)
-    (slice_get-map pair_of_key keys k ∙ ap (option_map pair_of_key) (slice_get_read keys (length keys) k key refl within (sym at)) ∙ ap Some (sym ((decided x key).0 is)))
+    (slice_get-map pair_of_key keys k ∙ ap (option_map pair_of_key) (slice_get_read keys (length keys) k key refl within (sym at)) ∙ ap Some (sym ((decided (pair_of_key x) key).0 is)))
 
 -- what is stored at a place is of the pair
 pub stored : (x : Key) (keys : List Key) (table : List Row) (place : ℕ) → map pair_of_key keys ≡ map pair_in table
     → ((key : Key) × (slice_get keys place ≡ Some key) × (key_eq x key ≡ true)) → slice_get (map pair_in table) place ≡ Some (pair_of_key x)
 stored x keys table place same (key, at, is) =
-    subst (λ l. slice_get l place ≡ Some (pair_of_key x)) same (slice_get-map pair_of_key keys place ∙ ap (option_map pair_of_key) at ∙ ap Some (sym ((decided x key).0 is)))
+    subst (λ l. slice_get l place ≡ Some (pair_of_key x)) same (slice_get-map pair_of_key keys place ∙ ap (option_map pair_of_key) at ∙ ap Some (sym ((decided (pair_of_key x) key).0 is)))
 
 -- whether a key is new says whether the set lacked it
 pub lacked : (found new : Bool) → new ≡ not found → new ≡ true → found ≡ false

@@ -1,5 +1,6 @@
 pub mod Growing
 pub mod Asking
 pub mod Sequence
+pub mod Storing
 pub mod Keeping
 pub mod Passing

@@ -2,3 +2,4 @@ pub use Rattle.rule_matches.specs.Matches
 pub use Rattle.rule_matches.specs.Ready
 pub mod Asked
 pub mod Asks
+pub mod Stored

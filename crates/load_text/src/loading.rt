@@ -19,7 +19,7 @@ use itoa::Buffer;
 use load_gen::generate;
 use rule_reader::{Rule, read_rules};
 use std::alloc::{AllocError, Global};
-use strategy::Done;
+use strategy::{Done, StoredLogs};
 use verdict::{Row, Table, Verdict};
 
 /// How many functions are generated.
@@ -121,7 +121,8 @@ fn optimised_by(alloc: Global, module: &Module, rules: &[Rule]) -> Result<Done, 
     ensures honest { IfOk result (λ done. IsHonestTable rules.now default_conflicts done.table) }
     ensures admitted { IfOk result (λ done. All (λ row. row.verdict ≡ Verdict.Admitted) done.table) }
 {
-    let done = strategy::optimise(alloc, module, rules, CONFLICTS, STEPS)?;
+    let logs = StoredLogs::new(alloc);
+    let done = strategy::optimise(alloc, module, rules, logs, CONFLICTS, STEPS)?;
     if are_admitted(done.table.as_slice()) {
         Ok(done)
     } else {

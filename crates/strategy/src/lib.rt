@@ -10,5 +10,6 @@ mod laws;
 mod module;
 mod steps;
 
+pub use asked_verdicts::StoredLogs;
 pub use laws::{every_match_left_is_decided, every_optimised_module_refines_the_old};
 pub use module::{Done, optimise};

@@ -19,7 +19,7 @@ ghost use Rattle.asked_verdicts.specs.Asks.{AreVerdicts};
 
 use crate::laws::{every_match_left_is_decided, every_optimised_module_refines_the_old};
 use crate::steps::{Bounds, Turns, optimise_function};
-use asked_verdicts::Verdicts;
+use asked_verdicts::{StoredLogs, Verdicts};
 use ir_core::{Entry, Function, Module, copy_function};
 use lists::List;
 use rule_core::Rule;
@@ -40,8 +40,9 @@ pub struct Done {
 }
 
 /// What the plain strategy gives for a module: each function is cleaned, and then rewritten at its first admitted match and cleaned, again
-/// and again, until none is left or its steps are spent. A verdict is decided once, when it is first asked for, by a search that may learn
-/// `conflicts` clauses. The module that it gives may stand in the place of the old one.
+/// and again, until none is left or its steps are spent. A verdict is decided once, when it is first asked for: by the log that is stored
+/// for its pair, or else by a search that may learn `conflicts` clauses. The module that it gives may stand in the place of the old one,
+/// whatever the logs are.
 ///
 /// After each rewrite the search begins at the first instruction of the function again. At each instruction the rules are tried whose root
 /// is of its kind, in the order of the file. The only error is want of memory.
@@ -49,6 +50,7 @@ pub fn optimise(
     alloc: Global,
     module: &Module,
     rules: &[Rule],
+    logs: StoredLogs,
     conflicts: u32,
     steps: u32,
 ) -> Result<Done, AllocError>
@@ -77,7 +79,8 @@ pub fn optimise(
         all: rules,
         by_root: &by_root,
     };
-    let done = plain_strategy(alloc, module, &rules, Bounds { conflicts, steps })?;
+    let bounds = Bounds { conflicts, steps };
+    let done = plain_strategy(alloc, module, &rules, logs, bounds)?;
     Ok(done)
 }
 
@@ -86,6 +89,7 @@ fn plain_strategy(
     alloc: Global,
     module: &Module,
     rules: &Rules<'_>,
+    logs: StoredLogs,
     bounds: Bounds,
 ) -> Result<Done, AllocError>
     requires entries { EntriesAreReady bounds.steps module.now.entries }
@@ -95,7 +99,7 @@ fn plain_strategy(
     ensures strategy { IfOk result (λ done. IsPlainStrategy rules.now.all.now bounds.steps done.table module.now done.module done.counts done.limited) }
     ensures honest { IfOk result (λ done. IsHonestTable rules.now.all.now bounds.conflicts done.table) }
 {
-    let mut verdicts = Verdicts::new(alloc);
+    let mut verdicts = Verdicts::new(alloc, logs);
     let mut turns = Counts::new(alloc);
     let read = module.entries.as_slice();
     let entries = optimise_entries(alloc, read, rules, &mut verdicts, bounds, &mut turns)?;

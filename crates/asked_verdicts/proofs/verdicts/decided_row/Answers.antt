@@ -8,11 +8,11 @@ use Rattle.asked_verdicts.proofs.verdicts.decided_row.Goals as goal
 rule_at : (rules : List Rule) (r : ℕ) (rule : Rule) → r < length rules → rule ≡ get_or rules r rule → slice_get rules r ≡ Some rule
 rule_at rules r rule within is = slice_get_read rules (length rules) r rule refl within is
 
-pub decide-requires-clause-rule : goal.decide-requires-clause-rule
-decide-requires-clause-rule c = (c.requires.rule c.index-rules-asking.result (rule_at c.args.rules.now c.args.asking.now.rule c.index-rules-asking.result c.requires.place c.index-rules-asking.is)).0
+pub verdict_on-requires-clause-rule : goal.verdict_on-requires-clause-rule
+verdict_on-requires-clause-rule c = (c.requires.rule c.index-rules-asking.result (rule_at c.args.rules.now c.args.asking.now.rule c.index-rules-asking.result c.requires.place c.index-rules-asking.is)).0
 
-pub decide-requires-clause-typing : goal.decide-requires-clause-typing
-decide-requires-clause-typing c = (c.requires.rule c.index-rules-asking.result (rule_at c.args.rules.now c.args.asking.now.rule c.index-rules-asking.result c.requires.place c.index-rules-asking.is)).1
+pub verdict_on-requires-clause-typing : goal.verdict_on-requires-clause-typing
+verdict_on-requires-clause-typing c = (c.requires.rule c.index-rules-asking.result (rule_at c.args.rules.now c.args.asking.now.rule c.index-rules-asking.result c.requires.place c.index-rules-asking.is)).1
 
 pub returns-clause-pair : goal.returns-clause-pair
 returns-clause-pair c = ap (λ (l : List ℕ). (c.args.asking.now.rule, l)) (c.from_vec.ensures ∙ c.in_ok-from_slice.ensures.items ∙ c.as_slice.ensures)

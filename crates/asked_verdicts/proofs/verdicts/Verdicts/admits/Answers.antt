@@ -7,7 +7,9 @@ use Rattle.verdict.specs.declared.verdict.Row.{Row}
 use Rattle.asked_verdicts.specs.declared.verdicts.Verdicts.{Verdicts}
 use Rattle.asked_verdicts.specs.Asked.{Pair, pair_in, pair_of}
 use Rattle.asked_verdicts.specs.Asks.{Asks}
-use Rattle.asked_verdicts.proofs.Keeping.{Key, pair_of_key, key_eq, stored, lacked, had, asked_found, asked_new, answered}
+use Rattle.asked_verdicts.specs.Stored.{Key, pair_of_key}
+use Rattle.asked_verdicts.proofs.Storing.{key_eq}
+use Rattle.asked_verdicts.proofs.Keeping.{stored, lacked, had, asked_found, asked_new, answered}
 use Rattle.asked_verdicts.proofs.verdicts.Verdicts.admits.Goals as goal
 use Rattle.asked_verdicts.proofs.verdicts.Verdicts.admits.Goals.{After-as_slice, then-is_new+in_ok-row+in_ok-push, else-is_new}
 
