@@ -1,58 +1,90 @@
 -- How the ways to end come from the work and its writing.
-use Rattle.std.proofs.Common.{◌≡◌, ℕ, ◌⊎◌, Bool, true, false, List, [], ◌∷◌, refl, sym, subst, inl, inr}
-use Rattle.std.specs.Prelude.{cond}
+use Rattle.std.proofs.Common.{◌≡◌, ℕ, ◌⊎◌, Bool, true, false, List, [], ◌∷◌, None, Some, length, refl, sym, subst, inl, inr, arith}
+use Rattle.std.specs.Prelude.{cond, MatchBool}
+use Rattle.std.proofs.lemmas.List.{take_all}
+use Rattle.verdict.specs.Rule.{Rule}
+use Rattle.command_line.specs.declared.command.VerifyOptions.{VerifyOptions}
 use Rattle.outside.specs.Files.{FilesState}
 use Rattle.outside.specs.Sink.{SinkState}
 use Rattle.command_line.specs.Usage.{HasBadList, refusal_of_list}
 use Rattle.command_line.specs.Words.{are_taken}
 use Rattle.alive_top.specs.declared.hindrance.Hindrance.{Hindrance}
-use Rattle.alive_top.specs.declared.hindrance.Hindrance.TheVariants.{Rules, Module, Argument, Read, Memory}
+use Rattle.alive_top.specs.declared.hindrance.Hindrance.TheVariants.{Rules, Module, Argument, Logs, Read, Memory}
 use Rattle.alive_top.specs.declared.status.Ended.{Ended}
 use Rattle.alive_top.specs.declared.status.Status.{Status}
-use Rattle.alive_top.specs.declared.status.Status.TheVariants.{Done, NotAll, Usage, WriteFault, NoMemory}
+use Rattle.alive_top.specs.declared.status.Status.TheVariants.{Done, NotAll, Usage, NoMemory}
 use Rattle.alive_top.specs.Answers.{RefusedFor, IsDoneFor}
-use Rattle.alive_top.specs.Cause.{TextIsRefused, MemoryIsRefused}
+use Rattle.alive_top.specs.Cause.{TextIsRefused, LogsAreRefused, MemoryIsRefused}
 use Rattle.alive_top.specs.Ends.{Worked, Refused, EndsWith, EndsAtWords, Ends, IsUsage}
 use Rattle.alive_top.specs.File.{File, files_of}
 use Rattle.error_lines.specs.Lines.{memory_line}
 use Rattle.alive_top.specs.Puts.{RefusedAs, WrittenAs}
-use Rattle.alive_top.specs.Request.{AsksNone}
 use Rattle.alive_top.specs.Statuses.{IsWorked}
-use Rattle.alive_top.specs.Task.{Task, Verify, Optimise, Run, Load}
-use Rattle.alive_top.specs.Work.{Work, IsWorkOf}
+use Rattle.alive_top.specs.Task.{Task, Verify, Optimise, Run, Load, Recheck}
+use Rattle.alive_top.specs.Texts.{AreTaken}
+use Rattle.alive_top.specs.Work.{Work, IsProofWork, IsVerdictWork, IsVerifyWork, IsWorkOf}
+use Rattle.refusal.specs.declared.fault.Fault.{Fault}
+use Rattle.stored_logs.specs.LogFaultKind.{LogFaultKind}
 use Rattle.alive_top.specs.Written.{Took}
 
 -- ---- how a command ends
 
+one_of_two : (work : Work) (all : Bool) → work.status ≡ (cond all Done NotAll) → (work.status ≡ Done) ⊎ (work.status ≡ NotAll)
+one_of_two work true e = inl e
+one_of_two work false e = inr e
+
+verify_status : (list : List Rule) (options : VerifyOptions) (work : Work) → IsVerifyWork list options work → (work.status ≡ Done) ⊎ (work.status ≡ NotAll)
+verify_status list options work is = by options.logs is
+  where
+    by : (logs : Bool) → MatchBool logs (IsProofWork list options work) (IsVerdictWork list options work) → (work.status ≡ Done) ⊎ (work.status ≡ NotAll)
+    by true w = one_of_two work w.proved.all_admitted w.status
+    by false w = one_of_two work w.verified.all_admitted w.status
+
 -- the status of a work is 0 or 1
 done_or_not_all : (task : Task) (texts : List (List ℕ)) (work : Work) → IsWorkOf task texts work → (work.status ≡ Done) ⊎ (work.status ≡ NotAll)
-done_or_not_all (Verify file options) (rules ∷ []) work is = by is.2.verified.all_admitted is.2.status
-  where
-    by : (all : Bool) → work.status ≡ (cond all Done NotAll) → (work.status ≡ Done) ⊎ (work.status ≡ NotAll)
-    by true e = inl e
-    by false e = inr e
+done_or_not_all (Verify file options) (rules ∷ []) work is = verify_status is.0 options work is.2
 done_or_not_all (Verify file options) [] work is = absurd is
 done_or_not_all (Verify file options) (x ∷ y ∷ more) work is = absurd is
-done_or_not_all (Optimise file other options) (rules ∷ source ∷ []) work is = inl is.2.status
-done_or_not_all (Optimise file other options) [] work is = absurd is
-done_or_not_all (Optimise file other options) (x ∷ []) work is = absurd is
-done_or_not_all (Optimise file other options) (x ∷ y ∷ z ∷ more) work is = absurd is
+done_or_not_all (Optimise file other None options) (rules ∷ source ∷ []) work is = inl is.2.status
+done_or_not_all (Optimise file other None options) [] work is = absurd is
+done_or_not_all (Optimise file other None options) (x ∷ []) work is = absurd is
+done_or_not_all (Optimise file other None options) (x ∷ y ∷ z ∷ more) work is = absurd is
+done_or_not_all (Optimise file other (Some logs) options) (rules ∷ source ∷ proofs ∷ []) work is = inl is.3.status
+done_or_not_all (Optimise file other (Some logs) options) [] work is = absurd is
+done_or_not_all (Optimise file other (Some logs) options) (x ∷ []) work is = absurd is
+done_or_not_all (Optimise file other (Some logs) options) (x ∷ y ∷ []) work is = absurd is
+done_or_not_all (Optimise file other (Some logs) options) (x ∷ y ∷ z ∷ w ∷ more) work is = absurd is
 done_or_not_all (Run file name arguments options) (source ∷ []) work is = inl is.status
 done_or_not_all (Run file name arguments options) [] work is = absurd is
 done_or_not_all (Run file name arguments options) (x ∷ y ∷ more) work is = absurd is
 done_or_not_all (Load number) [] work is = inl is.status
 done_or_not_all (Load number) (x ∷ more) work is = absurd is
+done_or_not_all (Recheck file other options) (rules ∷ proofs ∷ []) work is = one_of_two work is.2.rechecked.all_admitted is.2.status
+done_or_not_all (Recheck file other options) [] work is = absurd is
+done_or_not_all (Recheck file other options) (x ∷ []) work is = absurd is
+done_or_not_all (Recheck file other options) (x ∷ y ∷ z ∷ more) work is = absurd is
 
 -- there was no memory for a line behind a file that was come to
 memory_for_line : (old new : FilesState) (files : List File) {status : Status} {line : List ℕ} → TextIsRefused old new files status line → MemoryIsRefused old new files
 memory_for_line old new files r = record { count = r.comes.place; texts = r.comes.texts; before = r.comes.before; asks = inr r.comes.asks }
 
+-- or for one behind all files
+memory_for_logs : (old new : FilesState) (task : Task) (fault : Fault LogFaultKind) → LogsAreRefused old new task fault → MemoryIsRefused old new (files_of task)
+memory_for_logs old new task fault r =
+    let all = files_of task in
+    record {
+      count = length all;
+      texts = r.texts;
+      before = subst (λ (fs : List File). AreTaken old fs r.texts) (sym (take_all (length all) all (omega arith))) r.taken;
+      asks = inl r.asks;
+    }
+
 module _ (task : Task) (files files' : FilesState) (out out' err err' : SinkState) (ended : Ended) where
-  refused_with : (line : List ℕ) → out' ≡ out → ended.table ≡ [] → Took err err' line → Refused out out' err err' ended line
-  refused_with line stays none took = record { out_stays = stays; takes_line = took; no_verdicts = none }
+  refused_with : (line : List ℕ) → out' ≡ out → (ended.table ≡ []) × (ended.proofs ≡ []) → Took err err' line → Refused out out' err err' ended line
+  refused_with line stays none took = record { out_stays = stays; takes_line = took; no_verdicts = none.0; no_proofs = none.1 }
 
   pub refused_ends : (refusal : Hindrance) (status : Status)
-      → RefusedFor files files' task refusal → out' ≡ out → ended.table ≡ [] → RefusedAs refusal err err' status → EndsWith task files files' out out' err err' ended status
+      → RefusedFor files files' task refusal → out' ≡ out → (ended.table ≡ []) × (ended.proofs ≡ []) → RefusedAs refusal err err' status → EndsWith task files files' out out' err err' ended status
   refused_ends (Rules fault) status r stays none (inl s) = subst (EndsWith task files files' out out' err err' ended) (sym s.0) (_, r, refused_with _ stays none s.1)
   refused_ends (Rules fault) status r stays none (inr s) =
       subst (EndsWith task files files' out out' err err' ended) (sym s.0) (memory_for_line files files' (files_of task) r, refused_with _ stays none s.1)
@@ -60,17 +92,20 @@ module _ (task : Task) (files files' : FilesState) (out out' err err' : SinkStat
   refused_ends (Module fault) status r stays none (inr s) =
       subst (EndsWith task files files' out out' err err' ended) (sym s.0) (memory_for_line files files' (files_of task) r, refused_with _ stays none s.1)
   refused_ends Argument status r stays none s = subst (EndsWith task files files' out out' err err' ended) (sym s.0) (r, refused_with _ stays none s.1)
+  refused_ends (Logs fault) status r stays none (inl s) = subst (EndsWith task files files' out out' err err' ended) (sym s.0) (fault, r, refused_with _ stays none s.1)
+  refused_ends (Logs fault) status r stays none (inr s) =
+      subst (EndsWith task files files' out out' err err' ended) (sym s.0) (memory_for_logs files files' task fault r, refused_with _ stays none s.1)
   refused_ends (Read name) status r stays none (inl s) = subst (EndsWith task files files' out out' err err' ended) (sym s.0) (name.now, r, refused_with _ stays none s.1)
   refused_ends (Read name) status r stays none (inr s) =
       subst (EndsWith task files files' out out' err err' ended) (sym s.0)
       (record { count = r.comes.place; texts = r.comes.texts; before = r.comes.before; asks = inr r.comes.asks }, refused_with _ stays none s.1)
   refused_ends Memory status r stays none s = subst (EndsWith task files files' out out' err err' ended) (sym s.0) (r, refused_with _ stays none s.1)
 
-  worked_with : (work : Work) (Wrote : Work → Type 0) → IsDoneFor files files' task work → ended.table ≡ work.table → Wrote work → Worked task files files' ended Wrote
-  worked_with work Wrote is table wrote = record { asks = is.asks; texts = is.texts; taken = is.taken; work = work; is_work = is.is_work; table = table; wrote = wrote }
+  worked_with : (work : Work) (Wrote : Work → Type 0) → IsDoneFor files files' task work → (ended.table ≡ work.table) × (ended.proofs ≡ work.proofs) → Wrote work → Worked task files files' ended Wrote
+  worked_with work Wrote is table wrote = record { asks = is.asks; texts = is.texts; taken = is.taken; work = work; is_work = is.is_work; table = table.0; proofs = table.1; wrote = wrote }
 
   pub written_ends : (work : Work) (status : Status)
-      → IsDoneFor files files' task work → ended.table ≡ work.table → WrittenAs work out out' err err' status → EndsWith task files files' out out' err err' ended status
+      → IsDoneFor files files' task work → (ended.table ≡ work.table) × (ended.proofs ≡ work.proofs) → WrittenAs work out out' err err' status → EndsWith task files files' out out' err err' ended status
   written_ends work status is table (inr w) = subst (EndsWith task files files' out out' err err' ended) (sym w.0) (worked_with work _ is table w.1)
   written_ends work status is table (inl w) = by (done_or_not_all task is.texts work is.is_work)
     where
@@ -101,11 +136,11 @@ usage_text words text (inr bad) h = by (are_taken words) refl
 pub usage_ends : (words : List (List ℕ)) (files : FilesState) (out err err' : SinkState) (ended : Ended) (text : List ℕ)
     → (are_taken words ≡ false) ⊎ ((list : List ℕ) × HasBadList words list)
     → ((list : List ℕ) → are_taken words ≡ true → HasBadList words list → text ≡ refusal_of_list list)
-    → Took err err' text → ended.status ≡ Usage → ended.table ≡ [] → Ends words files files out out err err' ended
+    → Took err err' text → ended.status ≡ Usage → (ended.table ≡ []) × (ended.proofs ≡ []) → Ends words files files out out err err' ended
 usage_ends words files out err err' ended text refuses names took status none =
-    inl (refl, subst (EndsAtWords words out out err err' ended) (sym status) (text, usage_text words text refuses names, record { out_stays = refl; takes_line = took; no_verdicts = none }))
+    inl (refl, subst (EndsAtWords words out out err err' ended) (sym status) (text, usage_text words text refuses names, record { out_stays = refl; takes_line = took; no_verdicts = none.0; no_proofs = none.1 }))
 
 pub memory_ends : (words : List (List ℕ)) (files : FilesState) (out err err' : SinkState) (ended : Ended)
-    → Took err err' memory_line → ended.status ≡ NoMemory → ended.table ≡ [] → Ends words files files out out err err' ended
+    → Took err err' memory_line → ended.status ≡ NoMemory → (ended.table ≡ []) × (ended.proofs ≡ []) → Ends words files files out out err err' ended
 memory_ends words files out err err' ended took status none =
-    inl (refl, subst (EndsAtWords words out out err err' ended) (sym status) (record { out_stays = refl; takes_line = took; no_verdicts = none }))
+    inl (refl, subst (EndsAtWords words out out err err' ended) (sym status) (record { out_stays = refl; takes_line = took; no_verdicts = none.0; no_proofs = none.1 }))

@@ -1,9 +1,10 @@
 -- What is read of a file with a limit: all that is told, or more than the limit.
-use Rattle.std.proofs.Common.{◌≡◌, ℕ, ◌+◌, ◌≤◌, List, length, take, Option, Some, subst, ◌∙◌, arith}
+use Rattle.std.proofs.Common.{◌≡◌, ℕ, ◌+◌, ◌<◌, ◌≤◌, ◌⊎◌, List, length, take, Option, Some, refl, sym, ap, subst, ◌∙◌, inl, inr, arith}
 use Rattle.std.specs.Prelude.{IfSome}
-use Rattle.std.proofs.lemmas.List.{take_all, length-take}
+use Rattle.std.proofs.lemmas.Bool.{cases_lt}
+use Rattle.std.proofs.lemmas.List.{take_all, length-take, length-take-le}
 use Rattle.outside.specs.Files.{FilesState}
-use Rattle.alive_top.specs.File.{File, Kind, Rules, Source, limit_of}
+use Rattle.alive_top.specs.File.{File, Kind, Rules, Source, Logs, limit_of}
 use Rattle.alive_top.specs.Taken.{Takes}
 use Rattle.alive_top.specs.Texts.{IsTextOf}
 
@@ -17,10 +18,15 @@ within n told items e h =
 whole : (n : ℕ) (told items : List ℕ) → items ≡ take (n + 1) told → length told ≤ n → items ≡ told
 whole n told items e h = e ∙ take_all (n + 1) told (omega arith)
 
--- what is taken is within its limit
-short : (kind : Kind) (text : List ℕ) → Takes kind text → length text ≤ limit_of kind
-short Rules text takes = takes.1.short
-short Source text takes = takes.1.limit
+-- what is taken is within its limit, but proofs
+short : (kind : Kind) (text : List ℕ) → Takes kind text → (length text ≤ limit_of kind) ⊎ (kind ≡ Logs)
+short Rules text takes = inl takes.1.short
+short Source text takes = inl takes.1.limit
+short Logs text takes = inr refl
+
+-- proofs are taken whatever they are
+all_taken : (kind : Kind) (text : List ℕ) → kind ≡ Logs → Takes kind text
+all_taken kind text e = subst (λ (k : Kind). Takes k text) (sym e) tt
 
 cut : (known : FilesState) (file : File) (text bytes : List ℕ) → IsTextOf known file text → known.told file.name ≡ Some bytes → text ≡ take (limit_of file.kind + 1) bytes
 cut known file text bytes is told =
@@ -29,10 +35,37 @@ cut known file text bytes is told =
     in
     read
 
--- a text that is taken is all that is told
-pub taken_is_told : (known : FilesState) (file : File) (text bytes : List ℕ) → IsTextOf known file text → Takes file.kind text → known.told file.name ≡ Some bytes → text ≡ bytes
-taken_is_told known file text bytes is takes told = within (limit_of file.kind) bytes text (cut known file text bytes is told) (short file.kind text takes)
+-- a text that is taken is all that is told, unless it is of proofs
+pub taken_is_told : (known : FilesState) (file : File) (text bytes : List ℕ) → IsTextOf known file text → Takes file.kind text → known.told file.name ≡ Some bytes → (text ≡ bytes) ⊎ (file.kind ≡ Logs)
+taken_is_told known file text bytes is takes told = by (short file.kind text takes)
+  where
+    by : (length text ≤ limit_of file.kind) ⊎ (file.kind ≡ Logs) → (text ≡ bytes) ⊎ (file.kind ≡ Logs)
+    by (inl few) = inl (within (limit_of file.kind) bytes text (cut known file text bytes is told) few)
+    by (inr logs) = inr logs
 
--- told bytes that are taken are the text
-pub told_is_text : (known : FilesState) (file : File) (text bytes : List ℕ) → IsTextOf known file text → Takes file.kind bytes → known.told file.name ≡ Some bytes → text ≡ bytes
-told_is_text known file text bytes is takes told = whole (limit_of file.kind) bytes text (cut known file text bytes is told) (short file.kind bytes takes)
+-- where a text is taken, what is told is
+pub taken_told : (known : FilesState) (file : File) (text bytes : List ℕ) → IsTextOf known file text → Takes file.kind text → known.told file.name ≡ Some bytes → Takes file.kind bytes
+taken_told known file text bytes is takes told = by (taken_is_told known file text bytes is takes told)
+  where
+    by : (text ≡ bytes) ⊎ (file.kind ≡ Logs) → Takes file.kind bytes
+    by (inl same) = subst (Takes file.kind) same takes
+    by (inr logs) = all_taken file.kind bytes logs
+
+-- told bytes that are taken are the text, unless it is of proofs
+pub told_is_text : (known : FilesState) (file : File) (text bytes : List ℕ) → IsTextOf known file text → Takes file.kind bytes → known.told file.name ≡ Some bytes → (text ≡ bytes) ⊎ (file.kind ≡ Logs)
+told_is_text known file text bytes is takes told = by (short file.kind bytes takes)
+  where
+    by : (length bytes ≤ limit_of file.kind) ⊎ (file.kind ≡ Logs) → (text ≡ bytes) ⊎ (file.kind ≡ Logs)
+    by (inl few) = inl (whole (limit_of file.kind) bytes text (cut known file text bytes is told) few)
+    by (inr logs) = inr logs
+
+-- told bytes are the text, or both are more than the limit
+pub told_or_long : (known : FilesState) (file : File) (text bytes : List ℕ) → IsTextOf known file text → known.told file.name ≡ Some bytes
+    → (text ≡ bytes) ⊎ ((limit_of file.kind < length text) × (limit_of file.kind < length bytes))
+told_or_long known file text bytes is told = by (cases_lt (limit_of file.kind) (length bytes))
+  where
+    by : (limit_of file.kind < length bytes) ⊎ (length bytes ≤ limit_of file.kind) → (text ≡ bytes) ⊎ ((limit_of file.kind < length text) × (limit_of file.kind < length bytes))
+    by (inr few) = inl (whole (limit_of file.kind) bytes text (cut known file text bytes is told) few)
+    by (inl many) =
+        let all : length text ≡ limit_of file.kind + 1 = ap (λ (l : List ℕ). length l) (cut known file text bytes is told) ∙ length-take-le (limit_of file.kind + 1) bytes (omega arith) in
+        inr (omega arith, many)

@@ -3,10 +3,13 @@ use Rattle.std.specs.Prelude.{◌≡◌, ℕ, ◌⊎◌, List, Result, Ok, Err}
 use Rattle.outside.specs.Faults.{Rose}
 use Rattle.outside.specs.Files.{FilesState}
 use Rattle.alive_top.specs.declared.hindrance.Hindrance.{Hindrance}
-use Rattle.alive_top.specs.declared.hindrance.Hindrance.TheVariants.{Rules, Module, Argument, Read, Memory}
+use Rattle.alive_top.specs.declared.hindrance.Hindrance.TheVariants.{Rules, Module, Argument, Logs, Read, Memory}
 use Rattle.alive_top.specs.declared.status.Status.TheVariants as statuses
 use Rattle.alive_top.specs.declared.work.Work.{Work as Stored}
-use Rattle.alive_top.specs.Cause.{TextIsRefused, ReadFails, MemoryIsRefused, ArgumentIsRefused}
+use Rattle.alive_top.specs.Cause.{TextIsRefused, ReadFails, MemoryIsRefused, ArgumentIsRefused, LogsAreRefused}
+use Rattle.run_text.specs.Runs.{IsMisnamed}
+use Rattle.stored_logs.specs.Faults.{IsFault}
+use Rattle.verdict.specs.Rule.{Rule}
 use Rattle.alive_top.specs.File.{File, Kind, files_of}
 use Rattle.error_lines.specs.Lines.{rules_line, module_line}
 use Rattle.alive_top.specs.Request.{AsksNone, AsksOne, AsksAll}
@@ -23,15 +26,29 @@ ReadOf old new name P (Err Memory) = AsksNone old new
 ReadOf old new name P (Err (Rules fault)) = ⊥
 ReadOf old new name P (Err (Module fault)) = ⊥
 ReadOf old new name P (Err Argument) = ⊥
+ReadOf old new name P (Err (Logs fault)) = ⊥
 
--- what a text gives, read as what it is read for: this, or why it is refused; arguments may be refused only where `NoRun` holds
-abbrev pub TextOf : {T : Type 0} → Kind → List ℕ → (T → Type 0) → Type 0 → Result T Hindrance → Type 0
-TextOf kind text P NoRun (Ok x) = P x
-TextOf kind text P NoRun (Err (Rules fault)) = Refuses kind text statuses.RuleRefused (rules_line fault)
-TextOf kind text P NoRun (Err (Module fault)) = Refuses kind text statuses.ModuleRefused (module_line fault)
-TextOf kind text P NoRun (Err Argument) = NoRun
-TextOf kind text P NoRun (Err Memory) = Unit {0}
-TextOf kind text P NoRun (Err (Read n)) = ⊥
+-- why a text that is taken may not fit what it is read with: it fits, or arguments do not fit it, or it has a fault beside rules
+abbrev pub Fits : Hindrance → Type 0
+Fits refusal = ⊥
+
+abbrev pub MisfitsRun : List ℕ → List ℕ → List (List ℕ) → Hindrance → Type 0
+MisfitsRun text name arguments Argument = IsMisnamed text name arguments
+MisfitsRun text name arguments refusal = ⊥
+
+abbrev pub MisfitsRules : List Rule → List ℕ → Hindrance → Type 0
+MisfitsRules rules text (Logs fault) = IsFault rules text fault
+MisfitsRules rules text refusal = ⊥
+
+-- what a text gives, read as what it is read for: this, or why it is refused, or does not fit
+abbrev pub TextOf : {T : Type 0} → Kind → List ℕ → (T → Type 0) → (Hindrance → Type 0) → Result T Hindrance → Type 0
+TextOf kind text P Misfits (Ok x) = P x
+TextOf kind text P Misfits (Err (Rules fault)) = Refuses kind text statuses.RuleRefused (rules_line fault)
+TextOf kind text P Misfits (Err (Module fault)) = Refuses kind text statuses.ModuleRefused (module_line fault)
+TextOf kind text P Misfits (Err Argument) = Misfits Argument
+TextOf kind text P Misfits (Err (Logs fault)) = Misfits (Logs fault)
+TextOf kind text P Misfits (Err Memory) = Unit {0}
+TextOf kind text P Misfits (Err (Read n)) = ⊥
 
 -- the file was asked for, and this holds of its text
 pub record IsReadAs (old new : FilesState) (file : File) (P : List ℕ → Type 0) : Type 0 where
@@ -40,28 +57,30 @@ pub record IsReadAs (old new : FilesState) (file : File) (P : List ℕ → Type 
   pub is_text : IsTextOf old file text
   pub holds : P text
 
--- why a file gave nothing: it could not be read, its text or the arguments were refused, or there was no memory
-abbrev pub FileRefused : FilesState → FilesState → File → (List ℕ → Type 0) → Hindrance → Type 0
-FileRefused old new file NoRun (Rules fault) = IsReadAs old new file (λ text. Refuses file.kind text statuses.RuleRefused (rules_line fault))
-FileRefused old new file NoRun (Module fault) = IsReadAs old new file (λ text. Refuses file.kind text statuses.ModuleRefused (module_line fault))
-FileRefused old new file NoRun Argument = IsReadAs old new file NoRun
-FileRefused old new file NoRun (Read n) = Rose old.faults new.faults × (n.now ≡ file.name) × AsksOne old new file.name
-FileRefused old new file NoRun Memory = AsksNone old new ⊎ AsksOne old new file.name
+-- why a file gave nothing: it could not be read, its text was refused or does not fit, or there was no memory
+abbrev pub FileRefused : FilesState → FilesState → File → (List ℕ → Hindrance → Type 0) → Hindrance → Type 0
+FileRefused old new file Misfits (Rules fault) = IsReadAs old new file (λ text. Refuses file.kind text statuses.RuleRefused (rules_line fault))
+FileRefused old new file Misfits (Module fault) = IsReadAs old new file (λ text. Refuses file.kind text statuses.ModuleRefused (module_line fault))
+FileRefused old new file Misfits Argument = IsReadAs old new file (λ text. Misfits text Argument)
+FileRefused old new file Misfits (Logs fault) = IsReadAs old new file (λ text. Misfits text (Logs fault))
+FileRefused old new file Misfits (Read n) = Rose old.faults new.faults × (n.now ≡ file.name) × AsksOne old new file.name
+FileRefused old new file Misfits Memory = AsksNone old new ⊎ AsksOne old new file.name
 
 -- a read of a file, and what its text gives
-abbrev pub FileOf : {T : Type 0} → FilesState → FilesState → File → (List ℕ → T → Type 0) → (List ℕ → Type 0) → Result T Hindrance → Type 0
-FileOf old new file P NoRun (Ok x) = IsReadAs old new file (λ text. P text x)
-FileOf old new file P NoRun (Err refusal) = FileRefused old new file NoRun refusal
+abbrev pub FileOf : {T : Type 0} → FilesState → FilesState → File → (List ℕ → T → Type 0) → (List ℕ → Hindrance → Type 0) → Result T Hindrance → Type 0
+FileOf old new file P Misfits (Ok x) = IsReadAs old new file (λ text. P text x)
+FileOf old new file P Misfits (Err refusal) = FileRefused old new file Misfits refusal
 
 -- what is written, without where it lies in memory
 abbrev pub seen_work : Stored → Work
-seen_work work = record { text = work.text.items; report = work.report.items; table = work.table; status = work.status }
+seen_work work = record { text = work.text.items; report = work.report.items; table = work.table; proofs = work.proofs; status = work.status }
 
 -- why the work of a task was not done
 abbrev pub RefusedFor : FilesState → FilesState → Task → Hindrance → Type 0
 RefusedFor old new task (Rules fault) = TextIsRefused old new (files_of task) statuses.RuleRefused (rules_line fault)
 RefusedFor old new task (Module fault) = TextIsRefused old new (files_of task) statuses.ModuleRefused (module_line fault)
 RefusedFor old new task Argument = ArgumentIsRefused old new task
+RefusedFor old new task (Logs fault) = LogsAreRefused old new task fault
 RefusedFor old new task (Read n) = ReadFails old new (files_of task) n.now
 RefusedFor old new task Memory = MemoryIsRefused old new (files_of task)
 

@@ -4,6 +4,9 @@ use Rattle.outside.specs.Faults.{Rose}
 use Rattle.outside.specs.Files.{FilesState}
 use Rattle.alive_top.specs.declared.status.Status.{Status}
 use Rattle.alive_top.specs.File.{File, files_of}
+use Rattle.refusal.specs.declared.fault.Fault.{Fault}
+use Rattle.stored_logs.specs.LogFaultKind.{LogFaultKind}
+use Rattle.alive_top.specs.LogFaults.{HasLogFault}
 use Rattle.alive_top.specs.NoRun.{NamesNoRun}
 use Rattle.alive_top.specs.Request.{AsksFirst, AsksAll}
 use Rattle.alive_top.specs.Taken.{Refuses}
@@ -39,6 +42,13 @@ pub record ArgumentIsRefused (old new : FilesState) (task : Task) : Type 0 where
   pub texts : List (List ℕ)
   pub taken : AreTaken old (files_of task) texts
   pub names_none : NamesNoRun task texts
+
+-- all files hold what they are read for, and the proofs among them have this fault
+pub record LogsAreRefused (old new : FilesState) (task : Task) (fault : Fault LogFaultKind) : Type 0 where
+  pub asks : AsksAll old new (files_of task)
+  pub texts : List (List ℕ)
+  pub taken : AreTaken old (files_of task) texts
+  pub has_fault : HasLogFault task texts fault
 
 -- memory was refused: behind files that hold what they are read for, maybe with one more that was asked for
 pub record MemoryIsRefused (old new : FilesState) (files : List File) : Type 0 where

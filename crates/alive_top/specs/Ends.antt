@@ -6,18 +6,20 @@ use Rattle.command_line.specs.Usage.{HasBadList, refusal_of_list}
 use Rattle.command_line.specs.Words.{are_taken}
 use Rattle.alive_top.specs.declared.status.Ended.{Ended}
 use Rattle.alive_top.specs.declared.status.Status.{Status}
-use Rattle.alive_top.specs.declared.status.Status.TheVariants.{Done, NotAll, Usage, RuleRefused, ModuleRefused, ReadFault, WriteFault, NoMemory, Argument}
-use Rattle.alive_top.specs.Cause.{TextIsRefused, ReadFails, MemoryIsRefused, ArgumentIsRefused}
+use Rattle.alive_top.specs.declared.status.Status.TheVariants.{Done, NotAll, Usage, RuleRefused, ModuleRefused, ReadFault, WriteFault, NoMemory, Argument, LogRefused}
+use Rattle.alive_top.specs.Cause.{TextIsRefused, ReadFails, MemoryIsRefused, ArgumentIsRefused, LogsAreRefused}
 use Rattle.alive_top.specs.File.{files_of}
-use Rattle.error_lines.specs.Lines.{read_fault_line, argument_line, memory_line}
+use Rattle.error_lines.specs.Lines.{read_fault_line, argument_line, logs_line, memory_line}
+use Rattle.refusal.specs.declared.fault.Fault.{Fault}
+use Rattle.stored_logs.specs.LogFaultKind.{LogFaultKind}
 use Rattle.alive_top.specs.Request.{AsksNone, AsksAll}
 use Rattle.alive_top.specs.Task.{Task, Asks}
 use Rattle.alive_top.specs.Texts.{AreTaken}
 use Rattle.alive_top.specs.Work.{Work, IsWorkOf}
 use Rattle.alive_top.specs.Written.{Took, WroteSome}
 
--- The work of the task was done: all its files were read and hold what they are read for, the table is the work's, and its text and
--- report were written so.
+-- The work of the task was done: all its files were read and hold what they are read for, the table and the proofs are the work's, and
+-- its text and report were written so.
 pub record Worked (task : Task) (files files' : FilesState) (ended : Ended) (Wrote : Work → Type 0) : Type 0 where
   pub asks : AsksAll files files' (files_of task)
   pub texts : List (List ℕ)
@@ -25,13 +27,15 @@ pub record Worked (task : Task) (files files' : FilesState) (ended : Ended) (Wro
   pub work : Work
   pub is_work : IsWorkOf task texts work
   pub table : ended.table ≡ work.table
+  pub proofs : ended.proofs ≡ work.proofs
   pub wrote : Wrote work
 
--- nothing was written but a line on the error stream, and no verdict is handed back
+-- nothing was written but a line on the error stream, and no verdict and no proof is handed back
 pub record Refused (out out' err err' : SinkState) (ended : Ended) (line : List ℕ) : Type 0 where
   pub out_stays : out' ≡ out
   pub takes_line : Took err err' line
   pub no_verdicts : ended.table ≡ []
+  pub no_proofs : ended.proofs ≡ []
 
 -- how each status comes under a task, in the order of the causes
 abbrev pub EndsWith : Task → FilesState → FilesState → SinkState → SinkState → SinkState → SinkState → Ended → Status → Type 0
@@ -44,6 +48,8 @@ EndsWith task files files' out out' err err' ended ModuleRefused =
     (line : List ℕ) × TextIsRefused files files' (files_of task) ModuleRefused line × Refused out out' err err' ended line
 EndsWith task files files' out out' err err' ended Argument =
     ArgumentIsRefused files files' task × Refused out out' err err' ended argument_line
+EndsWith task files files' out out' err err' ended LogRefused =
+    (fault : Fault LogFaultKind) × LogsAreRefused files files' task fault × Refused out out' err err' ended (logs_line fault)
 EndsWith task files files' out out' err err' ended Done =
     Worked task files files' ended (λ work. (work.status ≡ Done) × Appends out out' work.text × Appends err err' work.report)
 EndsWith task files files' out out' err err' ended NotAll =

@@ -8,6 +8,7 @@ pub mod Cause
 pub mod Done
 pub mod Ends
 pub mod File
+pub mod LogFaults
 pub mod NoRun
 pub mod Puts
 pub mod Request

@@ -1,17 +1,26 @@
 -- What `optimise` writes of the text of a module by the rules of a file.
-use Rattle.std.specs.Prelude.{◌≡◌, ℕ, Bool, List, ◌++◌}
+use Rattle.std.specs.Prelude.{◌≡◌, ◌≤◌, ℕ, Bool, List, ◌++◌}
+use Rattle.command_line.specs.Limits.{most_steps}
 use Rattle.command_line.specs.declared.command.OptimiseOptions.{OptimiseOptions}
 use Rattle.ir_core.specs.declared.module.Module.{Module}
 use Rattle.ir_core.specs.Checks.{ModuleMeetsChecks}
 use Rattle.ir_core.specs.Refines.{ModuleRefines}
 use Rattle.ir_reader.specs.Faults.{IsModuleText}
+use Rattle.ir_printer.specs.Forms.{ModuleHasForms}
 use Rattle.ir_printer.specs.PrintedText.{text_of}
 use Rattle.ir_printer.specs.Report.{report_of}
+use Rattle.strategy.specs.Countable.{ModuleIsCountable}
 use Rattle.strategy.specs.Decided.{MatchesAreDecided}
 use Rattle.strategy.specs.PlainStrategy.{IsPlainStrategy}
 use Rattle.verdict.specs.Rule.{Rule}
 use Rattle.verdict.specs.Table.{IsHonestTable, table_text}
 use Rattle.verdict.specs.declared.verdict.Row.{Row}
+
+-- a module that the strategy takes, whatever steps it is given, and that has the forms which its text needs
+pub record IsReady (m : Module) : Type 0 where
+  pub checks : ModuleMeetsChecks m
+  pub forms : ModuleHasForms m
+  pub countable : (steps : ℕ) → steps ≤ most_steps → ModuleIsCountable steps m
 
 -- The module that `optimise` writes for the text of another by these rules, the table of verdicts by which it came to be, and for each
 -- function how often it was rewritten and whether it is limited.

@@ -2,10 +2,10 @@
 use Rattle.std.specs.Prelude.{◌≡◌, ◌⊎◌, ℕ, List}
 use Rattle.outside.specs.Sink.{SinkState, Appends}
 use Rattle.alive_top.specs.declared.hindrance.Hindrance.{Hindrance}
-use Rattle.alive_top.specs.declared.hindrance.Hindrance.TheVariants.{Rules, Module, Argument, Read, Memory}
+use Rattle.alive_top.specs.declared.hindrance.Hindrance.TheVariants.{Rules, Module, Argument, Logs, Read, Memory}
 use Rattle.alive_top.specs.declared.status.Status.{Status}
 use Rattle.alive_top.specs.declared.status.Status.TheVariants as statuses
-use Rattle.error_lines.specs.Lines.{rules_line, module_line, read_fault_line, argument_line, memory_line}
+use Rattle.error_lines.specs.Lines.{rules_line, module_line, read_fault_line, argument_line, logs_line, memory_line}
 use Rattle.alive_top.specs.Work.{Work}
 use Rattle.alive_top.specs.Written.{Took, WroteSome}
 
@@ -22,6 +22,7 @@ abbrev pub RefusedAs : Hindrance → SinkState → SinkState → Status → Type
 RefusedAs (Rules fault) err err' given = Says err err' statuses.RuleRefused (rules_line fault) given ⊎ SaysMemory err err' given
 RefusedAs (Module fault) err err' given = Says err err' statuses.ModuleRefused (module_line fault) given ⊎ SaysMemory err err' given
 RefusedAs Argument err err' given = Says err err' statuses.Argument argument_line given
+RefusedAs (Logs fault) err err' given = Says err err' statuses.LogRefused (logs_line fault) given ⊎ SaysMemory err err' given
 RefusedAs (Read name) err err' given = Says err err' statuses.ReadFault (read_fault_line name.now) given ⊎ SaysMemory err err' given
 RefusedAs Memory err err' given = SaysMemory err err' given
 

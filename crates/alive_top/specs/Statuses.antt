@@ -1,7 +1,7 @@
 -- The exit status of each way to end, and which of them come where.
 use Rattle.std.specs.Prelude.{ℕ}
 use Rattle.alive_top.specs.declared.status.Status.{Status}
-use Rattle.alive_top.specs.declared.status.Status.TheVariants.{Done, NotAll, Usage, RuleRefused, ModuleRefused, ReadFault, WriteFault, NoMemory, Argument}
+use Rattle.alive_top.specs.declared.status.Status.TheVariants.{Done, NotAll, Usage, RuleRefused, ModuleRefused, ReadFault, WriteFault, NoMemory, Argument, LogRefused}
 
 -- the exit status of the program
 abbrev pub code_of : Status → ℕ
@@ -14,6 +14,7 @@ code_of ReadFault = 5
 code_of WriteFault = 6
 code_of NoMemory = 7
 code_of Argument = 8
+code_of LogRefused = 9
 
 -- the work was done and written
 abbrev pub IsDone : Status → Type 0
@@ -40,6 +41,13 @@ IsNoRun Argument = Unit {0}
 IsNoRun ReadFault = Unit {0}
 IsNoRun NoMemory = Unit {0}
 IsNoRun status = ⊥
+
+-- those that may come where proofs have a fault
+abbrev pub IsLogRefusal : Status → Type 0
+IsLogRefusal LogRefused = Unit {0}
+IsLogRefusal ReadFault = Unit {0}
+IsLogRefusal NoMemory = Unit {0}
+IsLogRefusal status = ⊥
 
 -- those that may come where nothing is wrong
 abbrev pub IsDoneOrNoMemory : Status → Type 0

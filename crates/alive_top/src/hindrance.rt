@@ -6,6 +6,7 @@ ghost use Rattle.alive_top.specs.declared.hindrance.Hindrance.TheVariants.{Memor
 use ir_reader::IrFault;
 use rule_reader::RuleFault;
 use std::alloc::AllocError;
+use stored_logs::LogFault;
 
 /// What hindered the work.
 #[derive(Drop)]
@@ -16,6 +17,8 @@ pub(crate) enum Hindrance<'a> {
     Module(IrFault),
     /// The module has no function of the name, or the arguments do not fit it.
     Argument,
+    /// The proofs have a fault.
+    Logs(LogFault),
     /// The file of this name could not be read.
     Read(&'a str),
     /// There was no memory.

@@ -4,9 +4,11 @@
 //! written for them, and `Ends` how each status comes.
 #![tactic(auto)]
 
+mod by_logs;
 mod hindrance;
 mod laws;
 mod optimised;
+mod recheck;
 mod report;
 mod status;
 mod top;
@@ -21,4 +23,5 @@ pub use run_text::{
     run,
 };
 pub use status::{Ended, Status};
+pub use stored_logs::{Refutation, Refutations};
 pub use top::alive;

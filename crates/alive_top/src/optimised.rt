@@ -1,19 +1,22 @@
 //! What `optimise` writes of the text of a module by the rules of a file.
 
-ghost use Rattle.std.specs.Prelude.{◌≤◌, ◌<◌, ◌^◌, length, IfOk, OnOk, IfErr};
+ghost use Rattle.std.specs.Prelude.{◌≤◌, ◌<◌, ◌^◌, ℕ, List, length, IfOk, OnOk, IfErr};
 ghost use Rattle.command_line.specs.Limits.{most_conflicts, most_steps};
 ghost use Rattle.ir_reader.specs.Text.{most_bytes};
-ghost use Rattle.ir_reader.specs.Faults.{IsFault};
+ghost use Rattle.ir_reader.specs.Faults.{IsFault, IsModuleText};
 ghost use Rattle.refusal.specs.Refusals.{IfRefused};
 ghost use Rattle.strategy.specs.Ready.{AreReady};
-ghost use Rattle.alive_top.specs.Optimised.{Prints};
+ghost use Rattle.run_text.specs.Runs.{IsReadAs};
+ghost use Rattle.alive_top.specs.Optimised.{IsReady, Prints};
 
 use crate::report::print_optimised;
 use command_line::OptimiseOptions;
+use ir_core::Module;
 use ir_printer::print_module;
 use ir_reader::{IrError, read_module};
 use rule_reader::Rule;
-use std::alloc::Global;
+use std::alloc::{AllocError, Global};
+use strategy::StoredLogs;
 use verdict::Table;
 
 /// What `optimise` writes, and the verdicts by which it came to be.
@@ -46,13 +49,44 @@ pub fn optimise(
     ensures limit { OnOk result (length bytes.now ≤ most_bytes) }
     ensures refused { IfErr result (λ e. IfRefused e (IsFault bytes.now)) }
 {
-    // the module read is one that the strategy takes, and what that gives has the forms that its text needs
+    let source = read_source(alloc, bytes)?;
+    let logs = StoredLogs::new(alloc);
+    let optimised = optimise_module(alloc, &source, rules, logs, options)?;
+    Ok(optimised)
+}
+
+/// Reads a module that is to be rewritten. `Refused` tells the text's first fault.
+pub(crate) fn read_source(alloc: Global, bytes: &[u8]) -> Result<Module, IrError>
+    ensures read { IfOk result (IsReadAs bytes.now) }
+    ensures ready { IfOk result IsReady }
+    ensures refused { IfErr result (λ e. IfRefused e (IsFault bytes.now)) }
+{
     ir_round_trip::module_texts_have_forms();
-    optimised_forms::formed_modules_numbers_fit();
     optimised_forms::module_texts_are_countable();
+    let source = read_module(alloc, bytes)?;
+    Ok(source)
+}
+
+/// What is written for a module that was read, whatever the logs are. The only error is want of memory.
+pub(crate) fn optimise_module(
+    alloc: Global,
+    source: &Module,
+    rules: &[Rule],
+    logs: StoredLogs,
+    options: OptimiseOptions,
+) -> Result<Optimised, AllocError>
+    requires source { IsReady source.now }
+    requires ready { AreReady rules.now }
+    requires few { length rules.now < 2 ^ 32 }
+    requires conflicts { options.conflicts ≤ most_conflicts }
+    requires steps { options.steps ≤ most_steps }
+    ensures { IfOk result (λ o. (bytes : List ℕ) → IsModuleText bytes source.now
+        → Prints rules.now options bytes o.out.items o.report.items o.table) }
+{
+    // what the strategy gives has the forms that its text needs
+    optimised_forms::formed_modules_numbers_fit();
     optimised_forms::optimised_modules_have_forms();
-    let read = read_module(alloc, bytes)?;
-    let done = strategy::optimise(alloc, &read, rules, options.conflicts, options.steps)?;
+    let done = strategy::optimise(alloc, source, rules, logs, options.conflicts, options.steps)?;
     let out = print_module(alloc, &done.module)?;
     let report = print_optimised(alloc, rules, &done)?;
     Ok(Optimised {

@@ -3,6 +3,7 @@
 ghost use Rattle.std.specs.Prelude.{◌≡◌};
 ghost use Rattle.alive_top.specs.Statuses.{code_of};
 
+use stored_logs::Refutations;
 use verdict::Table;
 
 /// The status of a command.
@@ -10,7 +11,7 @@ use verdict::Table;
 pub enum Status {
     /// The work was done and written.
     Done,
-    /// The work was done and written, and a verdict that was printed isn't admitted, or a rule has too many typings.
+    /// The work was done and written, and a verdict isn't admitted, or a rule has too many typings.
     NotAll,
     /// The words are not those of a command.
     Usage,
@@ -26,6 +27,8 @@ pub enum Status {
     NoMemory,
     /// The module has no function of the name, or the arguments do not fit its parameters.
     Argument,
+    /// The proofs were read, and are none of the rules, or more than 64 MiB.
+    LogRefused,
 }
 
 impl Status {
@@ -43,6 +46,7 @@ impl Status {
             Status::WriteFault => 6,
             Status::NoMemory => 7,
             Status::Argument => 8,
+            Status::LogRefused => 9,
         }
     }
 }
@@ -51,7 +55,9 @@ impl Status {
 #[derive(Debug, Drop)]
 pub struct Ended {
     pub status: Status,
-    /// The verdicts that were decided, where the work was done: under `verify` those of its lines, in order, and under `optimise` and `load`
-    /// in the order in which they were first asked for.
+    /// The verdicts that were decided, where the work was done: under `verify` and `recheck` in the order of rules and typings or of proofs,
+    /// and under `optimise` and `load` in the order in which they were first asked for.
     pub table: Table,
+    /// Under `verify --logs`, where the work was done, a refutation for each verdict that is `Admitted`, in order.
+    pub proofs: Refutations,
 }

@@ -8,9 +8,10 @@ ghost use Rattle.outside.specs.Sink.{SinkFollows};
 ghost use Rattle.alive_top.specs.Answers.{seen_work};
 ghost use Rattle.alive_top.specs.Done.{HasDone};
 ghost use Rattle.alive_top.specs.Ends.{EndsWith, Ends, IsNoCommand};
+ghost use Rattle.alive_top.specs.LogFaults.{HasBadLogs};
 ghost use Rattle.alive_top.specs.NoRun.{NamesNoRun};
 ghost use Rattle.alive_top.specs.Puts.{Says, SaysMemory, RefusedAs, WrittenAs};
-ghost use Rattle.alive_top.specs.Statuses.{IsDone, IsWorked, IsNoTask, IsNoRun, IsDoneOrNoMemory};
+ghost use Rattle.alive_top.specs.Statuses.{IsDone, IsWorked, IsNoTask, IsNoRun, IsLogRefusal, IsDoneOrNoMemory};
 ghost use Rattle.alive_top.specs.Task.{Task, Asks, task_of};
 ghost use Rattle.alive_top.specs.Texts.{OfSomeTexts, OfToldTexts, TakesEach, HasBadFile};
 ghost use Rattle.alive_top.specs.Written.{Took};
@@ -19,7 +20,7 @@ use crate::hindrance::Hindrance;
 use crate::status::{Ended, Status};
 use crate::work::{Work, perform};
 use command_line::{Command, CommandError, read_command};
-use error_lines::{module_line, read_fault_line, rules_line};
+use error_lines::{logs_line, module_line, read_fault_line, rules_line};
 use lists::List;
 use outside::{Files, Sink};
 use std::alloc::{AllocError, Global};
@@ -65,6 +66,7 @@ fn refuse<E: Sink>(alloc: Global, refusal: Hindrance<'_>, err: &mut E) -> Status
             put_line(b"argument refused\n", err);
             Status::Argument
         }
+        Hindrance::Logs(fault) => put_made(logs_line(alloc, &fault), Status::LogRefused, err),
         Hindrance::Read(name) => put_made(read_fault_line(alloc, name), Status::ReadFault, err),
         Hindrance::Memory => {
             put_line(b"want of memory\n", err);
@@ -88,14 +90,16 @@ fn write<O: Sink, E: Sink>(work: &Work, out: &mut O, err: &mut E) -> Status
     work.status
 }
 
-/// An end without verdicts.
+/// An end without verdicts and proofs.
 fn ended(alloc: Global, status: Status) -> Ended
     ensures status { result.status ≡ status }
     ensures none { result.table ≡ [] }
+    ensures no_proofs { result.proofs ≡ [] }
 {
     Ended {
         status,
         table: List::new(alloc),
+        proofs: List::new(alloc),
     }
 }
 
@@ -121,6 +125,7 @@ fn run<F: Files, O: Sink, E: Sink>(
             Ended {
                 status,
                 table: work.table,
+                proofs: work.proofs,
             }
         }
         Err(refusal) => ended(alloc, refuse(alloc, refusal, err)),
@@ -157,17 +162,22 @@ fn run_words<F: Files, O: Sink, E: Sink>(
 
 /// Runs the command that the words name, of which the first is the program's own name.
 ///
-/// `verify RULES [--widths LIST] [--conflicts N]` decides each rule of a file at each of its typings over the list of widths, and
-/// writes the verdicts to `out`. A verdict is `admitted` only where the rule is valid there, and a counterexample is one.
+/// `verify RULES [--widths LIST] [--conflicts N] [--logs]` decides each rule of a file at each of its typings over the list of widths, and
+/// writes the verdicts to `out`. A verdict is `admitted` only where the rule is valid there, and a counterexample is one. With `--logs` it
+/// writes the proofs of the rules that are admitted in place of the verdicts.
 ///
-/// `optimise RULES MODULE [--conflicts N] [--steps N]` reads both files and writes the module to `out`, each function rewritten by the
+/// `recheck RULES LOGS [--conflicts N]` reads such proofs, and decides what they are of: by its log where that refutes the counterexamples,
+/// and else by a search.
+///
+/// `optimise RULES MODULE [--conflicts N] [--steps N] [--logs LOGS]` reads both files and writes the module to `out`, each function rewritten by the
 /// rules where they match and are admitted, with its needed instructions alone; and to `err` the verdicts that it asked for, and how often
-/// each function was rewritten. What it writes may stand in the place of what it read.
+/// each function was rewritten. What it writes may stand in the place of what it read. With `--logs LOGS` it reads proofs too, and a
+/// verdict is asked of the log that is stored for it before there is a search.
 ///
 /// `run [--blocks N] MODULE NAME [ARG..]` runs a function of a module and writes what it returned, that its behaviour is undefined, or
 /// where it was after so many blocks.
 ///
-/// A rule file of more than 1 MiB and a module of more than 16 MiB are refused. The status says how it ended.
+/// A rule file of more than 1 MiB, a module of more than 16 MiB and proofs of more than 64 MiB are refused. The status says how it ended.
 pub fn alive<F: Files, O: Sink, E: Sink>(
     alloc: Global,
     words: &Vec<String>,
@@ -180,15 +190,10 @@ pub fn alive<F: Files, O: Sink, E: Sink>(
     ensures ends { Ends (map string_bytes words.now.items) (F.state files.old) (F.state files.new)
         (O.state out.old) (O.state out.new) (E.state err.old) (E.state err.new) result }
 
-    // With status 0 or 1 the task was done on texts of its files, which are what is told under their names, where that
-    // is told. `verify` has written exactly the texts of the verdicts that it hands back, all of them honest: one for
-    // each rule and each typing; the status is 0 exactly where all are admitted. `optimise` has written the text of the
-    // module that the plain strategy gives by the rules and the verdicts that it hands back, all of them honest: it may
-    // stand in the place of the one read, and reads as itself; and the report, the texts of the verdicts and the line of
-    // each function. `run` has written the outcome of its function at the arguments, after at most so many blocks
-    // entered, where each number that is left open is 0. `load` has written the five lines on what the plain strategy
-    // gives for the module that is made of its number, by the built-in rules and the verdicts that it hands back, which
-    // are honest and all `Admitted`.
+    // With status 0 or 1 the task was done on texts of its files, and all verdicts handed back are honest. `verify` wrote
+    // one for each rule and typing, or the proofs of those that are admitted, and `recheck` one for each proof: 0 says
+    // that all are. `optimise` wrote the module that the plain strategy gives by them, which may stand in the place of
+    // the one read, and a report; `run` an outcome of its function, and `load` five lines on a module of its number.
     ensures done { (task : Task) → Asks (map string_bytes words.now.items) task → IsDone result.status
         → OfSomeTexts (F.state files.old) task (λ texts. HasDone task texts
         (O.state out.old) (O.state out.new) (E.state err.old) (E.state err.new) result) }
@@ -202,11 +207,15 @@ pub fn alive<F: Files, O: Sink, E: Sink>(
     ensures refused { (task : Task) → Asks (map string_bytes words.now.items) task
         → HasBadFile (F.state files.old) task → ¬ IsWorked result.status }
 
-    // Status 8 comes only where the text of a run's module has no function of the name or the arguments do not fit it;
-    // and where that is so of the told bytes, nothing else comes but a read fault or want of memory.
+    // Status 8 comes only where a run's module has no function of the name or the arguments do not fit it, and status 9
+    // only where proofs have a fault beside the rules; and where that is so of the told bytes, nothing else comes but a
+    // read fault or want of memory.
     ensures argument { (task : Task) → Asks (map string_bytes words.now.items) task
         → (result.status ≡ Status.Argument → OfSomeTexts (F.state files.old) task (NamesNoRun task))
         × (OfToldTexts (F.state files.old) task (NamesNoRun task) → IsNoRun result.status) }
+    ensures logs { (task : Task) → Asks (map string_bytes words.now.items) task
+        → (result.status ≡ Status.LogRefused → OfSomeTexts (F.state files.old) task (HasBadLogs task))
+        × (OfToldTexts (F.state files.old) task (HasBadLogs task) → IsLogRefusal result.status) }
 
     // A read fault comes only where the count of the files rose, and a write fault only where that of a sink did.
     ensures read_fault { result.status ≡ Status.ReadFault
@@ -216,10 +225,11 @@ pub fn alive<F: Files, O: Sink, E: Sink>(
         ⊎ Rose (E.state err.old).faults (E.state err.new).faults }
 
     // The words of a command, told bytes that are what their files are read for, of a run its function and arguments
-    // that fit, and no faults leave nothing but the whole work, or want of memory.
+    // that fit, proofs without a fault, and no faults leave nothing but the whole work, or want of memory.
     ensures complete { ¬ IsNoCommand (map string_bytes words.now.items)
         → ((task : Task) → Asks (map string_bytes words.now.items) task
-        → OfToldTexts (F.state files.old) task (λ texts. TakesEach task texts × ¬ NamesNoRun task texts))
+        → OfToldTexts (F.state files.old) task
+        (λ texts. TakesEach task texts × ¬ NamesNoRun task texts × ¬ HasBadLogs task texts))
         → ¬ Rose (F.state files.old).faults (F.state files.new).faults
         → ¬ Rose (O.state out.old).faults (O.state out.new).faults
         → ¬ Rose (E.state err.old).faults (E.state err.new).faults
@@ -233,8 +243,9 @@ pub fn alive<F: Files, O: Sink, E: Sink>(
 {
     // words ask for one task, and what a text is read as is not refused
     command_line::words_say_one_command();
-    rule_reader::every_text_has_one_reading_or_one_fault();
+    rule_reader::every_text_has_one_list_or_one_fault();
     ir_reader::every_text_has_one_module_or_one_fault();
     run_text::every_run_has_its_function_and_arguments();
+    stored_logs::texts_have_proofs_or_a_fault();
     run_words(alloc, words.as_slice(), files, out, err)
 }

@@ -1,18 +1,21 @@
 //! The work of each command, before anything is written.
 
-ghost use Rattle.std.specs.Prelude.{◌≡◌, ◌≤◌, ◌<◌, ◌+◌, ◌^◌, length, map, take, IfSome, IfOk, if◌then◌else◌};
+ghost use Rattle.std.specs.Prelude.{◌≡◌, ◌≤◌, ◌<◌, ◌+◌, ◌^◌, length, map, take, None, IfSome, IfOk, if◌then◌else◌};
+ghost use Rattle.rule_reader.specs.Checks.{AreDistinct};
 ghost use Rattle.command_line.specs.Limits.{most_conflicts, most_steps, IsWithinLimits};
-ghost use Rattle.run_text.specs.Runs.{IsRun, IsMisnamed};
+ghost use Rattle.run_text.specs.Runs.{IsRun};
 ghost use Rattle.outside.specs.Files.{FilesFollow};
 ghost use Rattle.strategy.specs.Ready.{AreReady};
-ghost use Rattle.alive_top.specs.Answers.{ReadOf, TextOf, FileOf, TaskOf, seen_work};
+ghost use Rattle.alive_top.specs.Answers.{ReadOf, Fits, MisfitsRun, TextOf, FileOf, TaskOf, seen_work};
 ghost use Rattle.alive_top.specs.File.{Rules, Source};
 ghost use Rattle.load_text.specs.RuleText.{IsRuleText};
 ghost use Rattle.alive_top.specs.Task.{Verify, Optimise, Run, task_of};
-ghost use Rattle.alive_top.specs.Work.{IsVerifyWork, IsPrinted, IsLoadWork};
+ghost use Rattle.alive_top.specs.Work.{IsVerifyWork, IsVerdictWork, IsProofWork, IsPrinted, IsLoadWork};
 
+use crate::by_logs::optimise_by_logs;
 use crate::hindrance::Hindrance;
 use crate::optimised::Optimised;
+use crate::recheck::recheck;
 use crate::status::Status;
 use command_line::{Command, OptimiseOptions, RunOptions, VerifyOptions};
 use ir_reader::IrError;
@@ -21,19 +24,21 @@ use outside::{Files, ReadError};
 use rule_reader::{Rule, RuleError, read_rules};
 use run_text::{RunError, RunFault};
 use std::alloc::{AllocError, Global};
+use stored_logs::Refutations;
 use verdict::Table;
 
-/// What a command writes: a text for the output, and a report. Beside them the verdicts, and the status once both are written.
+/// What a command writes: a text for the output, and a report. Beside them the verdicts, the proofs, and the status once both are written.
 #[derive(Drop)]
 pub(crate) struct Work {
     pub(crate) text: Vec<u8>,
     pub(crate) report: Vec<u8>,
     pub(crate) table: Table,
+    pub(crate) proofs: Refutations,
     pub(crate) status: Status,
 }
 
 /// The bytes of a file, or its first `most`.
-fn read<'a, F: Files>(
+pub(crate) fn read<'a, F: Files>(
     alloc: Global,
     files: &mut F,
     name: &'a str,
@@ -52,9 +57,10 @@ fn read<'a, F: Files>(
 
 /// The rules of a text. As many as no `u32` counts are refused as for want of memory; no text within 1 MiB has so many.
 pub(crate) fn rules_of<'a>(alloc: Global, bytes: &[u8]) -> Result<Vec<Rule>, Hindrance<'a>>
-    ensures text { TextOf Rules bytes.now (λ rules. IsRuleText bytes.now rules.items) ⊥ result }
+    ensures text { TextOf Rules bytes.now (λ rules. IsRuleText bytes.now rules.items) Fits result }
     ensures ready { IfOk result (λ rules. AreReady rules.items) }
     ensures few { IfOk result (λ rules. length rules.items < 2 ^ 32) }
+    ensures names { IfOk result (λ rules. AreDistinct (map (λ rule. rule.name) rules.items)) }
 {
     match read_rules(alloc, bytes) {
         Ok(rules) if rules.len() > u32::MAX as usize => Err(Hindrance::Memory),
@@ -75,7 +81,7 @@ fn optimised<'a>(
     requires few { length rules.now < 2 ^ 32 }
     requires conflicts { options.conflicts ≤ most_conflicts }
     requires steps { options.steps ≤ most_steps }
-    ensures { TextOf Source source.now (λ o. IsPrinted rules.now options source.now o.out.items o.report.items o.table) ⊥ result }
+    ensures { TextOf Source source.now (λ o. IsPrinted rules.now options source.now o.out.items o.report.items o.table) Fits result }
 {
     match crate::optimised::optimise(alloc, source, rules, options) {
         Ok(optimised) => Ok(optimised),
@@ -85,15 +91,16 @@ fn optimised<'a>(
 }
 
 /// Reads a rule file.
-fn read_rule_file<'a, F: Files>(
+pub(crate) fn read_rule_file<'a, F: Files>(
     alloc: Global,
     files: &mut F,
     name: &'a str,
 ) -> Result<Vec<Rule>, Hindrance<'a>>
     ensures answer { FileOf (F.state files.old) (F.state files.new) (record { name = name.now; kind = Rules })
-        (λ text rules. IsRuleText text rules.items) (λ _. ⊥) result }
+        (λ text rules. IsRuleText text rules.items) (λ _. Fits) result }
     ensures ready { IfOk result (λ rules. AreReady rules.items) }
     ensures few { IfOk result (λ rules. length rules.items < 2 ^ 32) }
+    ensures names { IfOk result (λ rules. AreDistinct (map (λ rule. rule.name) rules.items)) }
     ensures follow { FilesFollow (F.state files.old) (F.state files.new) }
 {
     let bytes = read(alloc, files, name, rule_reader::MOST_BYTES + 1)?;
@@ -113,31 +120,67 @@ fn read_and_optimise<'a, F: Files>(
     requires conflicts { options.conflicts ≤ most_conflicts }
     requires steps { options.steps ≤ most_steps }
     ensures answer { FileOf (F.state files.old) (F.state files.new) (record { name = name.now; kind = Source })
-        (λ text o. IsPrinted rules.now options text o.out.items o.report.items o.table) (λ _. ⊥) result }
+        (λ text o. IsPrinted rules.now options text o.out.items o.report.items o.table) (λ _. Fits) result }
     ensures follow { FilesFollow (F.state files.old) (F.state files.new) }
 {
     let bytes = read(alloc, files, name, ir_reader::MOST_BYTES + 1)?;
     optimised(alloc, bytes.as_slice(), rules, options)
 }
 
-/// What is written for a list of rules.
+/// What is written of the verdicts on a list of rules.
 fn verified(alloc: Global, rules: &[Rule], options: &VerifyOptions) -> Result<Work, AllocError>
     requires ready { AreReady rules.now }
     requires few { length rules.now < 2 ^ 32 }
     requires conflicts { options.now.conflicts ≤ most_conflicts }
-    ensures { IfOk result (λ work. IsVerifyWork rules.now options.now (seen_work work)) }
+    ensures { IfOk result (λ work. IsVerdictWork rules.now options.now (seen_work work)) }
 {
     let verified = verdict::verify(alloc, rules, &options.widths, options.conflicts)?;
     Ok(Work {
         text: verified.text,
         report: Vec::new(alloc),
         table: verified.table,
+        proofs: List::new(alloc),
         status: status_of(verified.all_admitted),
     })
 }
 
-/// The status of `verify` once its text is written.
-fn status_of(all_admitted: bool) -> Status
+/// What is written of the proofs of a list of rules.
+fn proved(alloc: Global, rules: &[Rule], options: &VerifyOptions) -> Result<Work, AllocError>
+    requires ready { AreReady rules.now }
+    requires few { length rules.now < 2 ^ 32 }
+    requires conflicts { options.now.conflicts ≤ most_conflicts }
+    ensures { IfOk result (λ work. IsProofWork rules.now options.now (seen_work work)) }
+{
+    let proved = stored_logs::prove_rules(alloc, rules, &options.widths, options.conflicts)?;
+    Ok(Work {
+        text: proved.text,
+        report: Vec::new(alloc),
+        table: proved.table,
+        proofs: proved.refutations,
+        status: status_of(proved.all_admitted),
+    })
+}
+
+/// What is written for a list of rules.
+fn verified_or_proved(
+    alloc: Global,
+    rules: &[Rule],
+    options: &VerifyOptions,
+) -> Result<Work, AllocError>
+    requires ready { AreReady rules.now }
+    requires few { length rules.now < 2 ^ 32 }
+    requires conflicts { options.now.conflicts ≤ most_conflicts }
+    ensures { IfOk result (λ work. IsVerifyWork rules.now options.now (seen_work work)) }
+{
+    if options.logs {
+        proved(alloc, rules, options)
+    } else {
+        verified(alloc, rules, options)
+    }
+}
+
+/// The status of a command that decides rules, once its text is written.
+pub(crate) fn status_of(all_admitted: bool) -> Status
     ensures { result ≡ (if all_admitted then Status.Done else Status.NotAll) }
 {
     if all_admitted {
@@ -159,7 +202,7 @@ fn verify<'a, F: Files>(
     ensures follow { FilesFollow (F.state files.old) (F.state files.new) }
 {
     let list = read_rule_file(alloc, files, rules)?;
-    let work = verified(alloc, list.as_slice(), options)?;
+    let work = verified_or_proved(alloc, list.as_slice(), options)?;
     Ok(work)
 }
 
@@ -173,7 +216,7 @@ fn optimise<'a, F: Files>(
 ) -> Result<Work, Hindrance<'a>>
     requires conflicts { options.conflicts ≤ most_conflicts }
     requires steps { options.steps ≤ most_steps }
-    ensures answer { TaskOf (F.state files.old) (F.state files.new) (Optimise rules.now source.now options) result }
+    ensures answer { TaskOf (F.state files.old) (F.state files.new) (Optimise rules.now source.now None options) result }
     ensures follow { FilesFollow (F.state files.old) (F.state files.new) }
 {
     let list = read_rule_file(alloc, files, rules)?;
@@ -182,6 +225,7 @@ fn optimise<'a, F: Files>(
         text: optimised.out,
         report: optimised.report,
         table: optimised.table,
+        proofs: List::new(alloc),
         status: Status::Done,
     })
 }
@@ -195,7 +239,7 @@ fn run_of<'a>(
     blocks: u32,
 ) -> Result<Vec<u8>, Hindrance<'a>>
     ensures { TextOf Source source.now (λ text. IsRun source.now name.now (map (λ a. a.now) arguments.now) blocks text.items)
-        (IsMisnamed source.now name.now (map (λ a. a.now) arguments.now)) result }
+        (MisfitsRun source.now name.now (map (λ a. a.now) arguments.now)) result }
 {
     match run_text::run(alloc, source, name.as_bytes(), arguments, blocks) {
         Ok(text) => Ok(text),
@@ -216,7 +260,7 @@ fn read_and_run<'a, F: Files>(
 ) -> Result<Vec<u8>, Hindrance<'a>>
     ensures answer { FileOf (F.state files.old) (F.state files.new) (record { name = source.now; kind = Source })
         (λ text line. IsRun text name.now (map (λ a. a.now) arguments.now) blocks line.items)
-        (λ text. IsMisnamed text name.now (map (λ a. a.now) arguments.now)) result }
+        (λ text. MisfitsRun text name.now (map (λ a. a.now) arguments.now)) result }
     ensures follow { FilesFollow (F.state files.old) (F.state files.new) }
 {
     let bytes = read(alloc, files, source, ir_reader::MOST_BYTES + 1)?;
@@ -241,6 +285,7 @@ fn run<'a, F: Files>(
         text,
         report: Vec::new(alloc),
         table: List::new(alloc),
+        proofs: List::new(alloc),
         status: Status::Done,
     })
 }
@@ -254,6 +299,7 @@ fn load(alloc: Global, number: u32) -> Result<Work, AllocError>
         text: loaded.text,
         report: Vec::new(alloc),
         table: loaded.table,
+        proofs: List::new(alloc),
         status: Status::Done,
     })
 }
@@ -273,8 +319,15 @@ pub(crate) fn perform<'a, F: Files>(
         Command::Optimise {
             rules,
             module,
+            logs: None,
             options,
         } => optimise(alloc, files, rules, module, options),
+        Command::Optimise {
+            rules,
+            module,
+            logs: Some(logs),
+            options,
+        } => optimise_by_logs(alloc, files, rules, module, logs, options),
         Command::Run {
             module,
             name,
@@ -282,5 +335,10 @@ pub(crate) fn perform<'a, F: Files>(
             options,
         } => run(alloc, files, module, name, arguments.as_slice(), options),
         Command::Load { number } => Ok(load(alloc, number)?),
+        Command::Recheck {
+            rules,
+            logs,
+            options,
+        } => recheck(alloc, files, rules, logs, options),
     }
 }

@@ -1,23 +1,25 @@
--- Where `clap` takes the words, they name one of the four commands, and each of its arguments has its value.
-use Rattle.std.proofs.Common.{◌≡◌, Bool, true, false, ◌||◌, List, [], Option, Some, None, ap, refl, inl, inr, subst}
+-- Where `clap` takes the words, they name one of the five commands, and each of its arguments has its value.
+use Rattle.std.proofs.Common.{◌≡◌, Bool, true, false, ◌||◌, List, [], Option, Some, None, ap, refl, sym, ◌∙◌, codes, inl, inr, subst}
 use Rattle.std.specs.Prelude.{not, is_some, if◌then◌else◌, IsSomeAnd}
 use Rattle.std.specs.List.{list_all, list_any}
 use Rattle.std.specs.Option.{option_map, option_map_or}
+use Rattle.std.specs.Str.{bytes_eq}
+use Rattle.std.proofs.lemmas.Slice.Eq.{bytes_eq-Decides}
 use Rattle.clap.specs.declared.builder.value_parser.ValueParser.TheVariants.{Unsigned}
 use Rattle.clap.specs.Facts.{explicit_source}
-use Rattle.clap.specs.Walk.{Row, Text, answers_to, finished, nothing_held, rows_after, stop_after, walk, walk_from}
+use Rattle.clap.specs.Walk.{Row, Text, first_of, one_of, answers_to, finished, nothing_held, rows_after, stop_after, walk, walk_from}
 use Rattle.clap.specs.Simple.{Shape, argument_words, built, built_leaf, entered, inherited, is_simple, label_of, names_of, rows_at}
 use Rattle.clap.specs.Takes as pass
 use Rattle.clap.proofs.OnLiterals.{clap_on_literals}
 use Rattle.clap.proofs.ValueTestLemmas.{accepts-Accepts}
 use Rattle.clap.proofs.WalkLemmas.{both}
-use Rattle.command_line.specs.Definition.{program, verify_shape, optimise_shape, run_shape, load_shape}
-use Rattle.command_line.specs.Arguments.{HasVerify, HasOptimise, HasRun, HasLoad, IsKnown}
+use Rattle.command_line.specs.Definition.{program, verify_shape, optimise_shape, run_shape, load_shape, recheck_shape}
+use Rattle.command_line.specs.Arguments.{HasTruth, HasVerify, HasOptimise, HasRun, HasLoad, HasRecheck, IsKnown}
 use Rattle.command_line.specs.Limits.{most_conflicts, most_steps, most_blocks, most_number}
 use Rattle.command_line.specs.Words.{are_taken, command_and_rows}
 use Rattle.command_line.proofs.RowsFit.{ArePlain, leaf_values}
 
--- the four commands as `clap` has built them
+-- the five commands as `clap` has built them
 abbrev verify_leaf : Shape
 verify_leaf = built_leaf (inherited program.top verify_shape)
 
@@ -30,13 +32,16 @@ run_leaf = built_leaf (inherited program.top run_shape)
 abbrev load_leaf : Shape
 load_leaf = built_leaf (inherited program.top load_shape)
 
+abbrev recheck_leaf : Shape
+recheck_leaf = built_leaf (inherited program.top recheck_shape)
+
 verify_plain : ArePlain verify_leaf.rules
 unfolding clap_on_literals
-verify_plain = (record { first = refl; plain = refl }, (record { first = refl; plain = refl }, (record { first = refl; plain = refl }, (record { first = refl; plain = refl }, tt))))
+verify_plain = (record { first = refl; plain = refl }, (record { first = refl; plain = refl }, (record { first = refl; plain = refl }, (record { first = refl; plain = refl }, (record { first = refl; plain = refl }, tt)))))
 
 optimise_plain : ArePlain optimise_leaf.rules
 unfolding clap_on_literals
-optimise_plain = (record { first = refl; plain = refl }, (record { first = refl; plain = refl }, (record { first = refl; plain = refl }, (record { first = refl; plain = refl }, (record { first = refl; plain = refl }, tt)))))
+optimise_plain = (record { first = refl; plain = refl }, (record { first = refl; plain = refl }, (record { first = refl; plain = refl }, (record { first = refl; plain = refl }, (record { first = refl; plain = refl }, (record { first = refl; plain = refl }, tt))))))
 
 run_plain : ArePlain run_leaf.rules
 unfolding clap_on_literals
@@ -46,16 +51,30 @@ load_plain : ArePlain load_leaf.rules
 unfolding clap_on_literals
 load_plain = (record { first = refl; plain = refl }, (record { first = refl; plain = refl }, tt))
 
+recheck_plain : ArePlain recheck_leaf.rules
+unfolding clap_on_literals
+recheck_plain = (record { first = refl; plain = refl }, (record { first = refl; plain = refl }, (record { first = refl; plain = refl }, (record { first = refl; plain = refl }, tt))))
+
+-- a text that the parser of a flag takes is `true` or `false`
+truth_of : (rows : List Row) (argument text : Text) → first_of argument rows ≡ Some text → one_of argument rows ≡ Some text → (bytes_eq text (codes "true") || bytes_eq text (codes "false")) ≡ true → HasTruth rows argument
+truth_of rows argument text first one ok = go (bytes_eq text (codes "true")) refl ok
+  where
+    go : (b : Bool) → bytes_eq text (codes "true") ≡ b → (b || bytes_eq text (codes "false")) ≡ true → HasTruth rows argument
+    go true is ok = (true, first ∙ ap (λ (t : Text). Some t) ((bytes_eq-Decides text (codes "true")).0 is), one ∙ sym first)
+    go false is ok = (false, first ∙ ap (λ (t : Text). Some t) ((bytes_eq-Decides text (codes "false")).0 ok), one ∙ sym first)
+
 verify_values : (words : List Text) → pass.level_passes verify_leaf [] nothing_held words false ≡ true → HasVerify (rows_after verify_leaf.rules [] words)
 verify_values words ok =
     let values = leaf_values verify_leaf words verify_plain ok in
     let rules = values.0 refl in
     let widths = values.1.0 refl in
     let conflicts = values.1.1.0 refl in
+    let logs = values.1.1.1.0 refl in
     record {
       rules_file = ap is_some rules.first;
       width_list = ap is_some widths.first;
       most_conflicts = (conflicts.text, conflicts.first, conflicts.one, accepts-Accepts false (Unsigned 0 most_conflicts) conflicts.text conflicts.pass);
+      asks_logs = truth_of (rows_after verify_leaf.rules [] words) (codes "logs") logs.text logs.first logs.one logs.pass;
     }
 
 optimise_values : (words : List Text) → pass.level_passes optimise_leaf [] nothing_held words false ≡ true → HasOptimise (rows_after optimise_leaf.rules [] words)
@@ -90,23 +109,36 @@ load_values words ok =
     let number = values.0 refl in
     record { number = (number.text, number.first, number.one, accepts-Accepts false (Unsigned 0 most_number) number.text number.pass) }
 
+recheck_values : (words : List Text) → pass.level_passes recheck_leaf [] nothing_held words false ≡ true → HasRecheck (rows_after recheck_leaf.rules [] words)
+recheck_values words ok =
+    let values = leaf_values recheck_leaf words recheck_plain ok in
+    let rules = values.0 refl in
+    let logs = values.1.0 refl in
+    let conflicts = values.1.1.0 refl in
+    record {
+      rules_file = ap is_some rules.first;
+      logs_file = ap is_some logs.first;
+      most_conflicts = (conflicts.text, conflicts.first, conflicts.one, accepts-Accepts false (Unsigned 0 most_conflicts) conflicts.text conflicts.pass);
+    }
+
 -- a command is named, and it is known
 abbrev pub IsKnownIn : Option (Text × List Row) → Type 0
 IsKnownIn said = IsSomeAnd said IsKnown
 
 entered_known : (stop : Option (Text × List Text)) → pass.entered_passes (built program) stop ≡ true → is_some (entered (built program) stop) ≡ true → IsKnownIn (entered (built program) stop)
 entered_known None ok some = cc
-entered_known (Some p) ok some = go (answers_to p.0 (label_of verify_leaf)) (answers_to p.0 (label_of optimise_leaf)) (answers_to p.0 (label_of run_leaf)) (answers_to p.0 (label_of load_leaf)) ok some
+entered_known (Some p) ok some = go (answers_to p.0 (label_of verify_leaf)) (answers_to p.0 (label_of optimise_leaf)) (answers_to p.0 (label_of run_leaf)) (answers_to p.0 (label_of load_leaf)) (answers_to p.0 (label_of recheck_leaf)) ok some
   where
-    go : (v o r l : Bool)
-        → option_map_or (λ s. pass.level_passes s [] nothing_held p.1 false) (if v then Some verify_leaf else (if o then Some optimise_leaf else (if r then Some run_leaf else (if l then Some load_leaf else None)))) true ≡ true
-        → is_some (option_map (λ s. rows_at s p.1) (if v then Some verify_leaf else (if o then Some optimise_leaf else (if r then Some run_leaf else (if l then Some load_leaf else None))))) ≡ true
-        → IsKnownIn (option_map (λ s. rows_at s p.1) (if v then Some verify_leaf else (if o then Some optimise_leaf else (if r then Some run_leaf else (if l then Some load_leaf else None)))))
-    go true o r l ok some = inl (refl, verify_values p.1 ok)
-    go false true r l ok some = inr (inl (refl, optimise_values p.1 ok))
-    go false false true l ok some = inr (inr (inl (refl, run_values p.1 ok)))
-    go false false false true ok some = inr (inr (inr (refl, load_values p.1 ok)))
-    go false false false false ok some = cc
+    go : (v o r l k : Bool)
+        → option_map_or (λ s. pass.level_passes s [] nothing_held p.1 false) (if v then Some verify_leaf else (if o then Some optimise_leaf else (if r then Some run_leaf else (if l then Some load_leaf else (if k then Some recheck_leaf else None))))) true ≡ true
+        → is_some (option_map (λ s. rows_at s p.1) (if v then Some verify_leaf else (if o then Some optimise_leaf else (if r then Some run_leaf else (if l then Some load_leaf else (if k then Some recheck_leaf else None)))))) ≡ true
+        → IsKnownIn (option_map (λ s. rows_at s p.1) (if v then Some verify_leaf else (if o then Some optimise_leaf else (if r then Some run_leaf else (if l then Some load_leaf else (if k then Some recheck_leaf else None))))))
+    go true o r l k ok some = inl (refl, verify_values p.1 ok)
+    go false true r l k ok some = inr (inl (refl, optimise_values p.1 ok))
+    go false false true l k ok some = inr (inr (inl (refl, run_values p.1 ok)))
+    go false false false true k ok some = inr (inr (inr (inl (refl, load_values p.1 ok))))
+    go false false false false true ok some = inr (inr (inr (inr (refl, recheck_values p.1 ok))))
+    go false false false false false ok some = cc
 
 pub taken_known : (words : List Text) → are_taken words ≡ true → IsKnownIn (command_and_rows words)
 unfolding are_taken command_and_rows

@@ -54,10 +54,11 @@ at_row_all P id change missing absent each (r ∷ rs) h = go (bytes_eq r.id id) 
 
 -- ---- one use of an argument
 
--- what is asked of an argument: it is the first of its name, and takes one value or more where it is used
+-- what is asked of an argument: it is the first of its name, and takes one value or more where it is used, or stands for one
 abbrev takes_some : ArgAction → Rule → Bool
 takes_some Set a = nat_le 1 (unwrap_or_range a.range).start_inclusive
 takes_some Append a = nat_le 1 (unwrap_or_range a.range).start_inclusive
+takes_some SetTrue a = not (is_empty a.missing)
 takes_some x a = is_request x
 
 abbrev pub is_plain_rule : Rule → Bool
@@ -125,7 +126,12 @@ module _ (c : List Rule) where
           let none = leb-true _ _ least in
           absurd (omega arith)
       go Append t (v ∷ vs) least ok = values_fit a CommandLine v vs rows is.first ok fit
-      go SetTrue t vs least ok = cc
+      go SetTrue t [] least ok = by a.missing t ok
+        where
+          by : (vs : List Text) → not (is_empty vs) ≡ true → pass.set_passes again a vs rows ≡ true → AllFit c (with_values a.id (reading_by a) CommandLine vs (without a.id rows))
+          by [] t ok = cc
+          by (v ∷ vs) t ok = values_fit a CommandLine v vs (without a.id rows) is.first (both (not (has_row a.id rows) || again) _ ok).1 (without_fit a.id rows fit)
+      go SetTrue t (v ∷ vs) least ok = values_fit a CommandLine v vs (without a.id rows) is.first (both (not (has_row a.id rows) || again) _ ok).1 (without_fit a.id rows fit)
       go SetFalse t vs least ok = cc
       go Count t vs least ok = cc
       go Help t vs least ok = cc

@@ -1,9 +1,9 @@
 -- Arguments that have their values, as a command is read from them.
-use Rattle.std.specs.Prelude.{◌≡◌, ◌⊎◌, ℕ, true, false, List, Some, codes, is_some}
+use Rattle.std.specs.Prelude.{◌≡◌, ◌⊎◌, ℕ, Bool, true, false, List, Some, codes, is_some}
 use Rattle.clap.specs.Words.{IsUnsignedIn, Row, Text, first_of, one_of}
 use Rattle.command_line.specs.Limits.{most_conflicts, most_steps, most_blocks, most_number}
 use Rattle.command_line.specs.Usage.{list_of, refusal_of_list}
-use Rattle.command_line.specs.Words.{HasText, are_taken}
+use Rattle.command_line.specs.Words.{HasText, HasFlag, are_taken}
 use Rattle.command_line.specs.Widths.{is_width_list}
 use Rattle.command_line.specs.declared.command.CommandError.{CommandError}
 use Rattle.command_line.specs.declared.command.CommandError.TheVariants.{Usage, NoMemory}
@@ -16,11 +16,16 @@ HasValue rows argument = is_some (first_of argument rows) ≡ true
 abbrev pub HasNumberUpTo : ℕ → List Row → Text → Type 0
 HasNumberUpTo most rows argument = (text : Text) × (first_of argument rows ≡ Some text) × (one_of argument rows ≡ Some text) × IsUnsignedIn 0 most text
 
--- each argument of `verify` has its value, and so of `optimise`, of `run`, whose ARGs may be none, and of `load`
+-- the flag has one of its two texts, which is read as it is written
+abbrev pub HasTruth : List Row → Text → Type 0
+HasTruth rows argument = (flag : Bool) × HasFlag rows argument flag × (one_of argument rows ≡ first_of argument rows)
+
+-- each argument of `verify` has its value, and so of `optimise`, of `run`, whose ARGs may be none, of `load` and of `recheck`
 pub record HasVerify (rows : List Row) : Type 0 where
   pub rules_file : HasValue rows (codes "rules")
   pub width_list : HasValue rows (codes "widths")
   pub most_conflicts : HasNumberUpTo most_conflicts rows (codes "conflicts")
+  pub asks_logs : HasTruth rows (codes "logs")
 
 pub record HasOptimise (rows : List Row) : Type 0 where
   pub rules_file : HasValue rows (codes "rules")
@@ -36,6 +41,11 @@ pub record HasRun (rows : List Row) : Type 0 where
 pub record HasLoad (rows : List Row) : Type 0 where
   pub number : HasNumberUpTo most_number rows (codes "number")
 
+pub record HasRecheck (rows : List Row) : Type 0 where
+  pub rules_file : HasValue rows (codes "rules")
+  pub logs_file : HasValue rows (codes "logs")
+  pub most_conflicts : HasNumberUpTo most_conflicts rows (codes "conflicts")
+
 -- usage comes only with a list of widths outside its form, and names it
 abbrev pub RefusesList : List Row → CommandError → Type 0
 RefusesList rows NoMemory = Unit {0}
@@ -46,10 +56,11 @@ abbrev pub IsUntaken : List Text → CommandError → Type 0
 IsUntaken words NoMemory = Unit {0}
 IsUntaken words (Usage text) = are_taken words ≡ false
 
--- the command is one of the four, and each of its arguments has its value
+-- the command is one of the five, and each of its arguments has its value
 abbrev pub IsKnown : Text × List Row → Type 0
 IsKnown said = ((said.0 ≡ codes "verify") × HasVerify said.1) ⊎ (((said.0 ≡ codes "optimise") × HasOptimise said.1)
-    ⊎ (((said.0 ≡ codes "run") × HasRun said.1) ⊎ ((said.0 ≡ codes "load") × HasLoad said.1)))
+    ⊎ (((said.0 ≡ codes "run") × HasRun said.1)
+    ⊎ (((said.0 ≡ codes "load") × HasLoad said.1) ⊎ ((said.0 ≡ codes "recheck") × HasRecheck said.1))))
 
 -- usage comes only with LIST outside its form, and names it
 abbrev pub RefusesGiven : Text × List Row → CommandError → Type 0

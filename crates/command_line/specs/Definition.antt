@@ -2,7 +2,7 @@
 use Rattle.std.specs.Prelude.{ℕ, true, false, [], ◌∷◌, Some, codes}
 use Rattle.clap.specs.Words.{App, Rule, Shape, Text, new_rule}
 use Rattle.clap.specs.Simple.{new_shape}
-use Rattle.clap.specs.declared.builder.action.ArgAction.TheVariants.{Append}
+use Rattle.clap.specs.declared.builder.action.ArgAction.TheVariants.{Append, SetTrue}
 use Rattle.clap.specs.declared.builder.value_parser.ValueParser.TheVariants.{Unsigned}
 use Rattle.command_line.specs.Limits.{most_conflicts, most_steps, most_blocks, most_number}
 
@@ -18,17 +18,21 @@ required_number name most = record (required_argument name) { parser = Some (Uns
 abbrev pub repeated_argument : Text → Rule
 repeated_argument name = record (new_rule name) { value_names = 1; action = Some Append }
 
--- an option `--NAME` with a value, and the value that stands for it where it is left out
+-- an option `--NAME` with a value, which may be left out
+abbrev pub optional_argument : Text → Rule
+optional_argument name = record (new_rule name) { long = Some name; value_names = 1 }
+
+-- the same with a value that stands for it where it is left out
 abbrev pub option_argument : Text → Text → Rule
-option_argument name default = record (new_rule name) {
-  long = Some name;
-  value_names = 1;
-  defaults = default ∷ [];
-}
+option_argument name default = record (optional_argument name) { defaults = default ∷ [] }
 
 -- the same where the value is a number from 0 to `most`
 abbrev pub number_argument : Text → ℕ → Text → Rule
 number_argument name most default = record (option_argument name default) { parser = Some (Unsigned 0 most) }
+
+-- a flag `--NAME`, which may stand among the words
+abbrev pub flag_argument : Text → Rule
+flag_argument name = record (new_rule name) { long = Some name; action = Some SetTrue }
 
 abbrev pub rules_argument : Rule
 rules_argument = required_argument (codes "rules")
@@ -54,16 +58,25 @@ arguments_argument = repeated_argument (codes "arguments")
 abbrev pub blocks_argument : Rule
 blocks_argument = number_argument (codes "blocks") most_blocks (codes "1000000")
 
--- `verify RULES [--widths LIST] [--conflicts N]`
+abbrev pub logs_flag : Rule
+logs_flag = flag_argument (codes "logs")
+
+abbrev pub logs_argument : Rule
+logs_argument = required_argument (codes "logs")
+
+abbrev pub logs_option : Rule
+logs_option = optional_argument (codes "logs")
+
+-- `verify RULES [--widths LIST] [--conflicts N] [--logs]`
 abbrev pub verify_shape : Shape
 verify_shape = record (new_shape (codes "verify")) {
-  rules = rules_argument ∷ widths_argument ∷ conflicts_argument ∷ [];
+  rules = rules_argument ∷ widths_argument ∷ conflicts_argument ∷ logs_flag ∷ [];
 }
 
--- `optimise RULES MODULE [--conflicts N] [--steps N]`
+-- `optimise RULES MODULE [--conflicts N] [--steps N] [--logs LOGS]`
 abbrev pub optimise_shape : Shape
 optimise_shape = record (new_shape (codes "optimise")) {
-  rules = rules_argument ∷ module_argument ∷ conflicts_argument ∷ steps_argument ∷ [];
+  rules = rules_argument ∷ module_argument ∷ conflicts_argument ∷ steps_argument ∷ logs_option ∷ [];
 }
 
 -- `run [--blocks N] MODULE NAME [ARG..]`
@@ -78,6 +91,12 @@ load_shape = record (new_shape (codes "load")) {
   rules = required_number (codes "number") most_number ∷ [];
 }
 
+-- `recheck RULES LOGS [--conflicts N]`
+abbrev pub recheck_shape : Shape
+recheck_shape = record (new_shape (codes "recheck")) {
+  rules = rules_argument ∷ logs_argument ∷ conflicts_argument ∷ [];
+}
+
 -- the program, which has to be given one of these commands
 abbrev pub program : App
 program = record {
@@ -87,5 +106,5 @@ program = record {
     disable_help_subcommand = true;
     subcommand_required = true;
   };
-  subs = verify_shape ∷ optimise_shape ∷ run_shape ∷ load_shape ∷ [];
+  subs = verify_shape ∷ optimise_shape ∷ run_shape ∷ load_shape ∷ recheck_shape ∷ [];
 }

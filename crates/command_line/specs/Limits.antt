@@ -1,7 +1,7 @@
 -- The limits of the options.
 use Rattle.std.specs.Prelude.{ℕ, ◌≤◌}
 use Rattle.command_line.specs.declared.command.Command.{Command}
-use Rattle.command_line.specs.declared.command.Command.TheVariants.{Verify, Optimise, Run, Load}
+use Rattle.command_line.specs.declared.command.Command.TheVariants.{Verify, Optimise, Run, Load, Recheck}
 
 -- the most clauses that a search may learn
 abbrev pub most_conflicts : ℕ
@@ -22,6 +22,7 @@ most_number = 4294967295
 -- the numbers are within their limits
 abbrev pub IsWithinLimits : Command → Type 0
 IsWithinLimits (Verify rules options) = options.conflicts ≤ most_conflicts
-IsWithinLimits (Optimise rules source options) = (options.conflicts ≤ most_conflicts) × (options.steps ≤ most_steps)
+IsWithinLimits (Optimise rules source logs options) = (options.conflicts ≤ most_conflicts) × (options.steps ≤ most_steps)
 IsWithinLimits (Run source name arguments options) = options.blocks ≤ most_blocks
 IsWithinLimits (Load number) = number ≤ most_number
+IsWithinLimits (Recheck rules logs options) = options.conflicts ≤ most_conflicts

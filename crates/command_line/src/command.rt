@@ -16,6 +16,8 @@ pub enum Command<'a> {
     Optimise {
         rules: &'a str,
         module: &'a str,
+        /// A file of proofs, which are asked before there is a search.
+        logs: Option<&'a str>,
         options: OptimiseOptions,
     },
     /// Runs the function of this name, which stands without its `@`, on these arguments.
@@ -30,6 +32,12 @@ pub enum Command<'a> {
     Load {
         number: u32,
     },
+    /// Decides what the proofs in a file are of, by their logs.
+    Recheck {
+        rules: &'a str,
+        logs: &'a str,
+        options: RecheckOptions,
+    },
 }
 
 /// The options of `verify`.
@@ -39,6 +47,8 @@ pub struct VerifyOptions {
     pub widths: List<Width>,
     /// The most clauses that a search may learn.
     pub conflicts: u32,
+    /// Whether proofs are to be written in place of verdicts.
+    pub logs: bool,
 }
 
 /// The options of `optimise`.
@@ -55,6 +65,13 @@ pub struct OptimiseOptions {
 pub struct RunOptions {
     /// The most blocks that a run may enter.
     pub blocks: u32,
+}
+
+/// The options of `recheck`.
+#[derive(Clone, Copy, Debug)]
+pub struct RecheckOptions {
+    /// The most clauses that a search may learn.
+    pub conflicts: u32,
 }
 
 /// Why words are no command.

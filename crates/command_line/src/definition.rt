@@ -2,7 +2,7 @@
 
 ghost use Rattle.std.specs.Prelude.{◌≡◌, false, IfOk, codes};
 ghost use Rattle.clap.specs.Words.{app_of, rule_of};
-ghost use Rattle.command_line.specs.Definition.{required_argument, required_number, repeated_argument, option_argument, number_argument, verify_shape, optimise_shape, run_shape, load_shape, program};
+ghost use Rattle.command_line.specs.Definition.{required_argument, required_number, repeated_argument, optional_argument, option_argument, number_argument, flag_argument, verify_shape, optimise_shape, run_shape, load_shape, recheck_shape, program};
 ghost use Rattle.command_line.specs.Leaf.{IsLeaf};
 ghost use Rattle.command_line.specs.Limits.{most_conflicts};
 
@@ -58,6 +58,17 @@ fn repeated_argument<'a>(alloc: Global, name: &'a str, shown: &'a str, help: &'a
         .action(ArgAction::Append)
 }
 
+/// An option with a value, which may be left out.
+fn optional_argument<'a>(alloc: Global, name: &'a str, shown: &'a str, help: &'a str) -> Arg<'a>
+    ensures rule { rule_of result ≡ optional_argument name.entry.now }
+    ensures local { result.global ≡ false }
+{
+    Arg::new(alloc, name)
+        .long(name)
+        .value_name(shown)
+        .help(help)
+}
+
 /// An option with a value, and its default.
 fn option_argument<'a>(
     alloc: Global,
@@ -69,11 +80,7 @@ fn option_argument<'a>(
     ensures rule { rule_of result ≡ option_argument name.entry.now default.entry.now }
     ensures local { result.global ≡ false }
 {
-    Arg::new(alloc, name)
-        .long(name)
-        .value_name(shown)
-        .default_value(default)
-        .help(help)
+    optional_argument(alloc, name, shown, help).default_value(default)
 }
 
 /// An option with a number from 0 to `most`, and its default.
@@ -88,6 +95,17 @@ fn number_argument<'a>(
     ensures local { result.global ≡ false }
 {
     option_argument(alloc, name, "N", default, help).value_parser(ValueParser::unsigned(0, most))
+}
+
+/// A flag.
+fn flag_argument<'a>(alloc: Global, name: &'a str, help: &'a str) -> Arg<'a>
+    ensures rule { rule_of result ≡ flag_argument name.entry.now }
+    ensures local { result.global ≡ false }
+{
+    Arg::new(alloc, name)
+        .long(name)
+        .help(help)
+        .action(ArgAction::SetTrue)
 }
 
 fn rules_argument<'a>(alloc: Global) -> Arg<'a>
@@ -117,7 +135,7 @@ fn conflicts_argument<'a>(alloc: Global) -> Arg<'a>
     )
 }
 
-/// `verify RULES [--widths LIST] [--conflicts N]`.
+/// `verify RULES [--widths LIST] [--conflicts N] [--logs]`.
 fn verify<'a>(alloc: Global) -> Result<Command<'a>, AllocError>
     ensures { IfOk result (IsLeaf verify_shape) }
 {
@@ -128,14 +146,16 @@ fn verify<'a>(alloc: Global) -> Result<Command<'a>, AllocError>
         "1-8,16,32,64",
         "The widths that types may have, as 1-8,16",
     );
+    let logs = flag_argument(alloc, "logs", "Writes proofs in place of verdicts");
     Command::new(alloc, "verify")
         .about("Decides each rule of a file")
         .arg(rules_argument(alloc))?
         .arg(widths)?
-        .arg(conflicts_argument(alloc))
+        .arg(conflicts_argument(alloc))?
+        .arg(logs)
 }
 
-/// `optimise RULES MODULE [--conflicts N] [--steps N]`.
+/// `optimise RULES MODULE [--conflicts N] [--steps N] [--logs LOGS]`.
 fn optimise<'a>(alloc: Global) -> Result<Command<'a>, AllocError>
     ensures { IfOk result (IsLeaf optimise_shape) }
 {
@@ -146,12 +166,19 @@ fn optimise<'a>(alloc: Global) -> Result<Command<'a>, AllocError>
         "10000",
         "The most rewrites of a function",
     );
+    let logs = optional_argument(
+        alloc,
+        "logs",
+        "LOGS",
+        "The file of proofs that are asked before a search",
+    );
     Command::new(alloc, "optimise")
         .about("Rewrites a module by the rules of a file")
         .arg(rules_argument(alloc))?
         .arg(module_argument(alloc))?
         .arg(conflicts_argument(alloc))?
-        .arg(steps)
+        .arg(steps)?
+        .arg(logs)
 }
 
 /// `run [--blocks N] MODULE NAME [ARG..]`.
@@ -196,6 +223,18 @@ fn load<'a>(alloc: Global) -> Result<Command<'a>, AllocError>
         .arg(number)
 }
 
+/// `recheck RULES LOGS [--conflicts N]`.
+fn recheck<'a>(alloc: Global) -> Result<Command<'a>, AllocError>
+    ensures { IfOk result (IsLeaf recheck_shape) }
+{
+    let logs = required_argument(alloc, "logs", "LOGS", "The file of proofs");
+    Command::new(alloc, "recheck")
+        .about("Decides what the proofs in a file are of, by their logs")
+        .arg(rules_argument(alloc))?
+        .arg(logs)?
+        .arg(conflicts_argument(alloc))
+}
+
 /// The program with its commands.
 pub(crate) fn definition<'a>(alloc: Global) -> Result<Command<'a>, AllocError>
     ensures { IfOk result (λ command. app_of command ≡ program) }
@@ -204,6 +243,7 @@ pub(crate) fn definition<'a>(alloc: Global) -> Result<Command<'a>, AllocError>
     let optimise = optimise(alloc)?;
     let run = run(alloc)?;
     let load = load(alloc)?;
+    let recheck = recheck(alloc)?;
     let command = Command::new(alloc, "alive")
         .about("Verifies rewrite rules, optimises LLVM IR by them, and runs it")
         .version("0.1.0")
@@ -213,5 +253,6 @@ pub(crate) fn definition<'a>(alloc: Global) -> Result<Command<'a>, AllocError>
         .subcommand(verify)?
         .subcommand(optimise)?
         .subcommand(run)?
-        .subcommand(load)
+        .subcommand(load)?
+        .subcommand(recheck)
 }

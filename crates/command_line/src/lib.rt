@@ -7,6 +7,8 @@ mod laws;
 mod read;
 mod widths;
 
-pub use command::{Command, CommandError, OptimiseOptions, RunOptions, VerifyOptions};
+pub use command::{
+    Command, CommandError, OptimiseOptions, RecheckOptions, RunOptions, VerifyOptions,
+};
 pub use laws::words_say_one_command;
 pub use read::read_command;

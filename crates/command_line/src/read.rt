@@ -1,14 +1,16 @@
 //! Reads the words of a command line.
 
-ghost use Rattle.std.specs.Prelude.{◌≡◌, ◌⊎◌, ◌≤◌, ℕ, List, Some, true, false, map, codes, string_bytes, IfOk, OnOk, IfErr, IsErrAnd, is_some};
+ghost use Rattle.std.specs.Prelude.{◌≡◌, ◌⊎◌, ◌≤◌, ℕ, List, Some, true, false, map, codes, string_bytes, IfOk, OnOk, IfErr, IsErrAnd, is_some, option_map};
 ghost use Rattle.clap.specs.Words.{first_of, rows_of, found_of, kind_of, subcommand_rows_of};
 ghost use Rattle.clap.specs.declared.error.kind.ErrorKind.TheVariants.{OutOfMemory};
 ghost use Rattle.command_line.specs.Limits.{IsWithinLimits};
 ghost use Rattle.command_line.specs.Usage.{HasBadList, IsUsageOf, IsRefusalOf, refusal_of_list};
-ghost use Rattle.command_line.specs.Words.{are_taken, command_and_rows, Says, SaysOf, HasNumber, HasTexts};
-ghost use Rattle.command_line.specs.Arguments.{HasValue, HasNumberUpTo, HasVerify, HasOptimise, HasRun, HasLoad, IsKnown, IsUntaken, RefusesGiven, RefusesList};
+ghost use Rattle.command_line.specs.Words.{are_taken, command_and_rows, Says, SaysOf, HasFlag, HasNumber, MayHaveText, HasTexts};
+ghost use Rattle.command_line.specs.Arguments.{HasValue, HasNumberUpTo, HasTruth, HasVerify, HasOptimise, HasRun, HasLoad, HasRecheck, IsKnown, IsUntaken, RefusesGiven, RefusesList};
 
-use crate::command::{Command, CommandError, OptimiseOptions, RunOptions, VerifyOptions};
+use crate::command::{
+    Command, CommandError, OptimiseOptions, RecheckOptions, RunOptions, VerifyOptions,
+};
 use crate::definition::definition;
 use crate::widths::read_widths;
 use clap::error::ErrorKind;
@@ -22,6 +24,13 @@ fn text_of<'a>(found: &ArgMatches<'a>, argument: &str) -> &'a str
     ensures { first_of argument.now (rows_of (found_of found.now)) ≡ Some result.now }
 {
     found.get_str(argument).unwrap()
+}
+
+/// The text of an argument, where it has one.
+fn optional_text_of<'a>(found: &ArgMatches<'a>, argument: &str) -> Option<&'a str>
+    ensures { MayHaveText (rows_of (found_of found.now)) argument.now (option_map (λ text. text.now) result) }
+{
+    found.get_str(argument)
 }
 
 /// The texts of an argument, in order, of which there may be none.
@@ -44,6 +53,14 @@ fn number_of(found: &ArgMatches<'_>, argument: &str) -> u32
     ensures { HasNumber (rows_of (found_of found.now)) argument.now result }
 {
     found.get_one::<u32>(argument).unwrap()
+}
+
+/// Whether a flag stands among the words.
+fn flag_of(found: &ArgMatches<'_>, argument: &str) -> bool
+    requires { HasTruth (rows_of (found_of found.now)) argument.now }
+    ensures { HasFlag (rows_of (found_of found.now)) argument.now result }
+{
+    found.get_flag(argument)
 }
 
 /// `clap`'s text on words that it doesn't take.
@@ -99,6 +116,7 @@ fn read_verify<'a>(alloc: Global, found: &ArgMatches<'a>) -> Result<Command<'a>,
         options: VerifyOptions {
             widths,
             conflicts: number_of(found, "conflicts"),
+            logs: flag_of(found, "logs"),
         },
     })
 }
@@ -112,6 +130,7 @@ fn read_optimise<'a>(found: &ArgMatches<'a>) -> Command<'a>
     Command::Optimise {
         rules: text_of(found, "rules"),
         module: text_of(found, "module"),
+        logs: optional_text_of(found, "logs"),
         options: OptimiseOptions {
             conflicts: number_of(found, "conflicts"),
             steps: number_of(found, "steps"),
@@ -146,6 +165,21 @@ fn read_load<'a>(found: &ArgMatches<'a>) -> Command<'a>
     }
 }
 
+/// The command `recheck`.
+fn read_recheck<'a>(found: &ArgMatches<'a>) -> Command<'a>
+    requires { HasRecheck (rows_of (found_of found.now)) }
+    ensures says { SaysOf (Some (codes "recheck", rows_of (found_of found.now))) result }
+    ensures limits { IsWithinLimits result }
+{
+    Command::Recheck {
+        rules: text_of(found, "rules"),
+        logs: text_of(found, "logs"),
+        options: RecheckOptions {
+            conflicts: number_of(found, "conflicts"),
+        },
+    }
+}
+
 /// The command that the words name, and what `clap` found for its arguments.
 fn named<'a, 'm>(matches: &'m ArgMatches<'a>) -> (&'a str, &'m ArgMatches<'a>)
     requires { is_some (subcommand_rows_of matches.now) ≡ true }
@@ -171,8 +205,10 @@ fn read_named<'a>(
         Ok(read_optimise(found))
     } else if name == "run" {
         Ok(read_run(alloc, found)?)
-    } else {
+    } else if name == "load" {
         Ok(read_load(found))
+    } else {
+        Ok(read_recheck(found))
     }
 }
 

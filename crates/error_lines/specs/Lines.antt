@@ -3,6 +3,8 @@ use Rattle.std.specs.Prelude.{ℕ, List, ◌++◌, codes, decimal}
 use Rattle.ir_reader.specs.Identifier.{Identifier}
 use Rattle.ir_reader.specs.Identifier.TheVariants.{Named, Numbered}
 use Rattle.ir_printer.specs.NameText.{name_text}
+use Rattle.proof_text.specs.declared.fault.LogFaultKind.{LogFaultKind}
+use Rattle.proof_text.specs.declared.fault.LogFaultKind.TheVariants as logs
 use Rattle.refusal.specs.declared.fault.Fault.{Fault}
 use Rattle.ir_reader.specs.IrFaultKind.{IrFaultKind}
 use Rattle.ir_reader.specs.IrFaultKind.TheVariants as ir
@@ -54,6 +56,19 @@ ir_kind_text (ir.Unassigned register block) = codes "Unassigned " ++ register_te
 -- the line on a module: where its first fault is, and of which kind
 abbrev pub module_line : Fault IrFaultKind → List ℕ
 module_line fault = codes "module: line " ++ decimal fault.line ++ codes ": " ++ ir_kind_text fault.kind ++ codes "\n"
+
+-- the name of a kind of fault of a text of proofs
+unfoldable pub log_kind_text : LogFaultKind → List ℕ
+log_kind_text logs.TooLong = codes "TooLong"
+log_kind_text logs.BadByte = codes "BadByte"
+log_kind_text logs.Syntax = codes "Syntax"
+log_kind_text logs.UnknownRule = codes "UnknownRule"
+log_kind_text logs.BadTyping = codes "BadTyping"
+log_kind_text logs.Repeated = codes "Repeated"
+
+-- the line on a text of proofs: where its first fault is, and of which kind
+abbrev pub logs_line : Fault LogFaultKind → List ℕ
+logs_line fault = codes "logs: line " ++ decimal fault.line ++ codes ": " ++ log_kind_text fault.kind ++ codes "\n"
 
 -- the line that names a file that could not be read
 abbrev pub read_fault_line : List ℕ → List ℕ

@@ -2,8 +2,8 @@ use Rattle.std.proofs.Common.{◌≡◌, ◌⊎◌, ℕ, List, Result, Ok, Err, 
 use Rattle.std.specs.Prelude.{MatchResult, IfOk}
 use Rattle.outside.specs.Sink.{SinkState}
 use Rattle.alive_top.specs.declared.status.Status.{Status}
-use Rattle.alive_top.specs.declared.status.Status.TheVariants.{RuleRefused, ModuleRefused, ReadFault}
-use Rattle.error_lines.specs.Lines.{rules_line, module_line, read_fault_line}
+use Rattle.alive_top.specs.declared.status.Status.TheVariants.{RuleRefused, ModuleRefused, ReadFault, LogRefused}
+use Rattle.error_lines.specs.Lines.{rules_line, module_line, logs_line, read_fault_line}
 use Rattle.alive_top.specs.Puts.{Says, SaysMemory}
 use Rattle.alive_top.specs.Written.{Took}
 use Rattle.alive_top.proofs.top.refuse.Goals as goal
@@ -23,6 +23,11 @@ pub returns-in-Module-clause-answer : goal.returns-in-Module-clause-answer
 returns-in-Module-clause-answer g c =
     let state = g.E.Sink.state in
     rw c.in-Module.is (made c.module_line.result (λ m. m.items) (module_line c.in-Module.fault) (state c.args.err.now) (state c.put_made-in-Module.new.err) ModuleRefused c.put_made-in-Module.result c.put_made-in-Module.ensures.answer c.module_line.ensures)
+
+pub returns-in-Logs-clause-answer : goal.returns-in-Logs-clause-answer
+returns-in-Logs-clause-answer g c =
+    let state = g.E.Sink.state in
+    rw c.in-Logs.is (made c.logs_line.result (λ m. m.items) (logs_line c.in-Logs.fault) (state c.args.err.now) (state c.put_made-in-Logs.new.err) LogRefused c.put_made-in-Logs.result c.put_made-in-Logs.ensures.answer c.logs_line.ensures)
 
 pub returns-in-Read-clause-answer : goal.returns-in-Read-clause-answer
 returns-in-Read-clause-answer g c =

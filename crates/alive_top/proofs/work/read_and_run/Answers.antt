@@ -1,6 +1,7 @@
 use Rattle.std.proofs.Common.{List, ℕ, map}
-use Rattle.run_text.specs.Runs.{IsRun, IsMisnamed}
+use Rattle.run_text.specs.Runs.{IsRun}
 use Rattle.alive_top.specs.File.{Source}
+use Rattle.alive_top.specs.Answers.{MisfitsRun}
 use Rattle.alive_top.proofs.Files.{file_from_text}
 use Rattle.alive_top.proofs.work.read_and_run.Goals as goal
 
@@ -9,5 +10,5 @@ returns-clause-answer g c =
     let files = g.F.Files.state in
     let arguments : List (List ℕ) = map (λ argument. argument.now) c.args.arguments.now in
     file_from_text (files c.args.files.now) (files c.read.new.files) (record { name = c.args.source.now; kind = Source }) c.in_ok-bytes.bytes.items
-    (λ text line. IsRun text c.args.name.now arguments c.args.blocks line.items) (λ text. IsMisnamed text c.args.name.now arguments) c.run_of.result
+    (λ text line. IsRun text c.args.name.now arguments c.args.blocks line.items) (λ text. MisfitsRun text c.args.name.now arguments) c.run_of.result
     c.in_ok-bytes.ensures.answer.0 c.in_ok-bytes.ensures.answer.1 (rw (← c.as_slice.ensures.value) c.run_of.ensures)

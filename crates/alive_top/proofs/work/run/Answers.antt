@@ -18,4 +18,4 @@ pub returns-clause-answer : goal.returns-clause-answer
 returns-clause-answer g c =
     let arguments : List (List ℕ) = map (λ argument. argument.now) c.args.arguments.now in
     run_done (g.F.Files.state c.args.files.now) (g.F.Files.state c.read_and_run.new.files) c.args.source.now c.args.name.now arguments c.args.options _
-    c.in_ok-text.ensures.answer (record { runs = c.in_ok-text.ensures.answer.holds; report = search rules; table = search rules; status = refl })
+    c.in_ok-text.ensures.answer (record { runs = c.in_ok-text.ensures.answer.holds; report = search rules; table = search rules; no_proofs = search rules; status = refl })

@@ -28,5 +28,5 @@ returns-clause-answer g c =
     verify_done (g.F.Files.state c.args.files.now) (g.F.Files.state c.read_rule_file.new.files) c.args.rules.now c.args.options.now c.in_ok-list.list.items (seen_work c.in_ok-work.work)
     c.in_ok-list.ensures.answer (rw c.as_slice.ensures.value at c.in_ok-work.ensures)
 
-pub verified-requires-clause-ready : goal.verified-requires-clause-ready
-verified-requires-clause-ready g c = rw (c.as_slice.ensures.value) c.in_ok-list.ensures.ready
+pub verified_or_proved-requires-clause-ready : goal.verified_or_proved-requires-clause-ready
+verified_or_proved-requires-clause-ready g c = rw (c.as_slice.ensures.value) c.in_ok-list.ensures.ready

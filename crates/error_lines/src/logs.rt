@@ -1,0 +1,36 @@
+//! The line on a text of proofs.
+
+ghost use Rattle.std.specs.Prelude.{◌≡◌, IfOk};
+ghost use Rattle.error_lines.specs.Lines.{log_kind_text, logs_line};
+
+use itoa::Buffer;
+use proof_text::{LogFault, LogFaultKind};
+use std::alloc::{AllocError, Global};
+
+/// The name of a kind of fault.
+#[tactic(auto, unfolding(crate::specs::Lines::log_kind_text))]
+fn word_of(kind: &LogFaultKind) -> &[u8]
+    ensures { result.now ≡ log_kind_text kind.now }
+{
+    match kind {
+        LogFaultKind::TooLong => b"TooLong",
+        LogFaultKind::BadByte => b"BadByte",
+        LogFaultKind::Syntax => b"Syntax",
+        LogFaultKind::UnknownRule => b"UnknownRule",
+        LogFaultKind::BadTyping => b"BadTyping",
+        LogFaultKind::Repeated => b"Repeated",
+    }
+}
+
+/// The line on a text of proofs: where its first fault is, and of which kind.
+pub fn logs_line(alloc: Global, fault: &LogFault) -> Result<Vec<u8>, AllocError>
+    ensures { IfOk result (λ line. line.items ≡ logs_line fault.now) }
+{
+    let mut line = Vec::from_slice(alloc, b"logs: line ")?;
+    let mut digits = Buffer::new();
+    line.extend_from_slice(digits.format(fault.line).as_bytes())?;
+    line.extend_from_slice(b": ")?;
+    line.extend_from_slice(word_of(&fault.kind))?;
+    line.extend_from_slice(b"\n")?;
+    Ok(line)
+}
