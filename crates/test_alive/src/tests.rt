@@ -2,6 +2,7 @@
 
 mod faults;
 mod loads;
+mod logs;
 mod long_words;
 mod modules;
 mod refused;
@@ -20,6 +21,8 @@ use std::test::Fail;
 const OPTIMISE: &str = "alive optimise r m";
 
 const VERIFY: &str = "alive verify r";
+
+const RECHECK: &str = "alive recheck r m";
 
 const XOR_SELF: &str = "Name: xor-self\n%r = xor i4 %x, %x\n=>\n%r = and i4 %x, 0\n";
 

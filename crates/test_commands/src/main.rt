@@ -3,7 +3,7 @@
 //! Without words it decides each file of the library, so that a rule that goes wrong changes a line, and then runs the loop in memory.
 //! Its words are those of a command, which runs over files and sinks in memory, so that each of its allocations can be refused in turn.
 //! What it leaves is written to the standard streams, and its status is the exit status. Where there is no memory for the words, the
-//! files and the sinks the status is 9, and where the streams can't be written it is 10: no command ends so.
+//! files and the sinks the status is 11, and where the streams can't be written it is 10: no command ends so.
 #![tactic(auto)]
 
 mod library;
@@ -22,7 +22,7 @@ use std::process::ExitCode;
 const LOOP: &str = "alive run --blocks 10 s swap 2";
 
 /// The status where there is no memory for what a command needs before it runs.
-const NOT_BEGUN: u8 = 9;
+const NOT_BEGUN: u8 = 11;
 
 /// The status where what a command leaves could not be written.
 const NOT_TOLD: u8 = 10;

@@ -13,7 +13,7 @@ struct FaultyRow {
     row: Row,
 }
 
-const ROWS: [FaultyRow; 16] = [
+const ROWS: [FaultyRow; 17] = [
     FaultyRow {
         read: None,
         out: Some(FailingPut { number: 0, most: 3 }),
@@ -196,6 +196,20 @@ const ROWS: [FaultyRow; 16] = [
             status: 0,
             out: "",
             err: "",
+        },
+    },
+    // the third read is that of proofs
+    FaultyRow {
+        read: Some(2),
+        out: None,
+        err: None,
+        row: Row {
+            words: "alive optimise r m --logs m",
+            rules: NOT_ADD,
+            source: NOT_ADD_SOURCE,
+            status: 5,
+            out: "",
+            err: "read fault: m\n",
         },
     },
     // no file is read, and nothing is put to the error stream

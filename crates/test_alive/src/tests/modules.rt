@@ -91,7 +91,7 @@ const LOAD: &str = "define i8 @f(i8 %a) {
 }
 ";
 
-const CUT_SHORT: &str = "define i8 @f(i8 %a) {
+pub(super) const CUT_SHORT: &str = "define i8 @f(i8 %a) {
 entry:
   br label %loop
 

@@ -13,7 +13,7 @@ struct Row {
     status: u8,
 }
 
-const ROWS: [Row; 7] = [
+const ROWS: [Row; 8] = [
     Row {
         line: "alive optimise r m",
         status: 0,
@@ -41,6 +41,10 @@ const ROWS: [Row; 7] = [
     Row {
         line: "alive run m f 16",
         status: 8,
+    },
+    Row {
+        line: "alive recheck r m",
+        status: 9,
     },
 ];
 

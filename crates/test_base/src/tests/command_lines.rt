@@ -26,16 +26,24 @@ fn shown(alloc: Global, command: &Command<'_>) -> Result<String, Fail> {
     match command {
         Command::Verify { rules, options } => with_widths(
             alloc,
-            format!(in alloc; "verify {rules} {}:", options.conflicts)?,
+            format!(in alloc;
+                "verify {rules} {}{}:",
+                options.conflicts,
+                if options.logs { " logs" } else { "" }
+            )?,
             options.widths.as_slice(),
         ),
         Command::Optimise {
             rules,
             module,
+            logs,
             options,
         } => Ok(format!(in alloc;
-            "optimise {rules} {module} {} {}",
-            options.conflicts, options.steps
+            "optimise {rules} {module} {} {}{}{}",
+            options.conflicts,
+            options.steps,
+            if logs.is_some() { " logs " } else { "" },
+            logs.unwrap_or("")
         )?),
         Command::Run {
             module,
@@ -48,6 +56,11 @@ fn shown(alloc: Global, command: &Command<'_>) -> Result<String, Fail> {
             arguments.as_slice(),
         ),
         Command::Load { number } => Ok(format!(in alloc; "load {number}")?),
+        Command::Recheck {
+            rules,
+            logs,
+            options,
+        } => Ok(format!(in alloc; "recheck {rules} {logs} {}", options.conflicts)?),
     }
 }
 
@@ -100,6 +113,17 @@ const TABLE: &[(&[&str], &str)] = &[
         &["verify", "r", "--widths", "1-2-3"],
         "error: widths 1-2-3\n",
     ),
+    (
+        &["verify", "--logs", "r", "--widths", "7"],
+        "verify r 20000 logs: 7",
+    ),
+    (&["verify", "r", "--logs", "l"], "usage"),
+    (&["verify", "--logs", "--logs", "r"], "usage"),
+    (&["recheck", "r", "l"], "recheck r l 20000"),
+    (&["recheck", "--conflicts", "0", "r", "l"], "recheck r l 0"),
+    (&["recheck", "r"], "usage"),
+    (&["recheck", "r", "l", "m"], "usage"),
+    (&["recheck", "r", "l", "--widths", "1"], "usage"),
     (&["optimise", "r", "m"], "optimise r m 20000 10000"),
     (
         &["optimise", "r", "--steps", "100000", "m"],
@@ -108,6 +132,19 @@ const TABLE: &[(&[&str], &str)] = &[
     (
         &["optimise", "--steps", "0", "--conflicts", "7", "r", "m"],
         "optimise r m 7 0",
+    ),
+    (
+        &["optimise", "r", "--logs", "l", "m"],
+        "optimise r m 20000 10000 logs l",
+    ),
+    (
+        &["optimise", "r", "m", "--logs="],
+        "optimise r m 20000 10000 logs ",
+    ),
+    (&["optimise", "r", "m", "--logs"], "usage"),
+    (
+        &["optimise", "r", "m", "--logs", "l", "--logs", "l"],
+        "usage",
     ),
     (&["optimise", "r", "m", "--steps", "100001"], "usage"),
     (&["optimise", "r"], "usage"),
