@@ -76,8 +76,10 @@ class Maker:
         """An opcode with some of its flags."""
         return ' '.join([op, *[f for f in FLAGS.get(op, []) if self.chance(0.25)], ''])
 
-    def statement(self, register, registers, target, undef):
+    def statement(self, register, registers, target, undef, frozen):
         kind, written = self.random.random(), self.type(0.1)
+        if frozen and self.chance(0.2):
+            return f'{register} = freeze {written}{self.operand(registers, target, False)}'
 
         def o():
             return self.operand(registers, target, undef)
@@ -100,7 +102,7 @@ class Maker:
         source = []
         for k in range(count):
             last = k == count - 1
-            source.append(self.statement('%r' if last else f'%{k}', registers + [f'%{j}' for j in range(k)] * 2, False, last))
+            source.append(self.statement('%r' if last else f'%{k}', registers + [f'%{j}' for j in range(k)] * 2, False, last, last))
         used = [set(re.findall(r'%\w+', s.split('=', 1)[1])) for s in source]
         if any(not any(f'%{k}' in u for u in used[k + 1:]) for k in range(count - 1)):
             return None
@@ -110,19 +112,20 @@ class Maker:
         self.measured = there
         target, new = [], []
         for k in range(self.random.randint(1, 2)):
-            target.append(self.statement(f'%t{k}', there + new, True, True))
+            target.append(self.statement(f'%t{k}', there + new, True, True, True))
             new.append(f'%t{k}')
         target[-1] = '%r' + target[-1][3:]
         if self.chance(0.2):
             copied = self.pick(there + new[:-1] + [self.term(2, self.constants)])
             target[-1] = f'%r = {self.type(.1)}{copied}'
-        heads = [f'Name: {name}']
+        left_open = [sum(' '.join(half).count(word) for word in ('undef', 'freeze')) for half in (source, target)]
+        heads = ['Version: 2'] if 'freeze' in ' '.join(source + target) else []
+        heads.append(f'Name: {name}')
         if self.constants and self.chance(0.5):
             heads.append('Pre: ' + self.formula(2, self.constants))
-        undefs = text.count('undef')
-        if undefs:
-            leaves = there + self.constants + [f't{k + 1}' for k in range(' '.join(target).count('undef'))]
-            heads.append('Wit: ' + ', '.join(self.term(2, leaves) for _ in range(undefs)))
+        if left_open[0]:
+            leaves = there + self.constants + [f't{k + 1}' for k in range(left_open[1])]
+            heads.append('Wit: ' + ', '.join(self.term(2, leaves) for _ in range(left_open[0])))
         return '\n'.join(heads + source + ['=>'] + target) + '\n'
 
 
@@ -157,12 +160,12 @@ def fault(rule):
     return None
 
 
-def agrees(rule, run, counts):
-    """Whether the program's run on the rule is right."""
+def agrees(rule, run, counts, line):
+    """Whether the program's run on the rule, whose name stands on this line, is right."""
     expected = fault(rule)
     if expected:
         counts[expected] = counts.get(expected, 0) + 1
-        return run.returncode == 3 and run.stderr == f'rules: line 1: {expected}\n'
+        return run.returncode == 3 and run.stderr == f'rules: line {line}: {expected}\n'
     rest, all_admitted = run.stdout, True
     for typing in rule.typings([1, 2, 3]):
         head = f'{rule.name} [{" ".join(map(str, typing))}]: '
@@ -197,7 +200,7 @@ def main(program, count, seed):
             with open(path, 'w') as file:
                 file.write(text)
             run = subprocess.run([program, 'verify', path, '--widths', '1-3'], capture_output=True, text=True)
-            if not agrees(rule, run, counts):
+            if not agrees(rule, run, counts, 1 + text.startswith('Version')):
                 differ += 1
                 print(text, run.returncode, run.stdout, run.stderr, sep='\n')
     print(counts, 'differ:', differ)

@@ -254,6 +254,8 @@ def statement(line, target):
             rest, to = rest.split(' to ')
             to = int(to.strip()[1:])
         return register, word, flags, [operand(rest, target)], to
+    if word == 'freeze':
+        return register, 'freeze', ['choice', None], [operand(right.split(None, 1)[1], target)], None
     return register, 'copy', None, [operand(right, target)], None
 
 
@@ -277,6 +279,9 @@ class Rule:
                     if o[1][0] == 'undef':
                         o[1] = ['undef', count]
                         count += 1
+                if st[1] == 'freeze':
+                    st[2][1] = count
+                    count += 1
         assigned = {st[0] for st in self.source}
         self.inputs, self.constants = [], []
         for st in self.source:
@@ -358,6 +363,9 @@ class Rule:
                     fixed.append((ps[0], 1))
                 elif op == 'copy':
                     join(result, ps[0])
+                elif op == 'freeze':
+                    join(result, ps[0])
+                    name((label, extra[1]), result)
                 else:
                     less.append((result, ps[0]) if op == 'trunc' else (ps[0], result))
                     if to:
@@ -501,6 +509,8 @@ class Rule:
                 effect = POISON if values[0] == POISON else values[1] if values[0] else values[2]
             elif op == 'copy':
                 effect = values[0]
+            elif op == 'freeze':
+                effect = env[(half, extra[1])] if values[0] == POISON else values[0]
             else:
                 effect = cast(op, extra, widths[0], width, values[0])
             if effect == UNDEFINED:
@@ -510,29 +520,31 @@ class Rule:
         return effect, env
 
     def widths_of(self, typing):
-        """The widths of inputs, constants and the target's undefs."""
-        width, undefs = {}, {}
+        """The widths of inputs, constants and the target's choices, which are its undefs and its freezes."""
+        width, choices = {}, {}
         for half, statements in (('source', self.source), ('target', self.target)):
             for st in statements:
                 for _, v in st[3]:
                     if v[0] in ('reg', 'const'):
                         width.setdefault(v[1], typing[self.of[v[-1]]])
                     if v[0] == 'undef' and half == 'target':
-                        undefs[v[1]] = typing[self.of[v[-1]]]
-        return [width[x] for x in self.inputs], [width[c] for c in self.constants], [undefs[k] for k in sorted(undefs)]
+                        choices[v[1]] = typing[self.of[v[-1]]]
+                if st[1] == 'freeze' and half == 'target':
+                    choices[st[2][1]] = typing[self.of[st[3][0][1][-1]]]
+        return [width[x] for x in self.inputs], [width[c] for c in self.constants], [choices[k] for k in sorted(choices)]
 
     def bits(self, typing):
-        inputs, constants, undefs = self.widths_of(typing)
-        return sum(w + 1 for w in inputs) + sum(constants) + sum(undefs)
+        inputs, constants, choices = self.widths_of(typing)
+        return sum(w + 1 for w in inputs) + sum(constants) + sum(choices)
 
     def examples(self, typing):
-        """All counterexamples: inputs, constants, target undefs, chosen numbers and both effects."""
-        inputs, constants, undefs = self.widths_of(typing)
+        """All counterexamples: inputs, constants, the target's choices, chosen numbers and both effects."""
+        inputs, constants, choices = self.widths_of(typing)
         for cs in itertools.product(*[range(1 << w) for w in constants]):
             known = dict(zip(self.constants, cs))
             if not self.holds(typing, known):
                 continue
-            for ts in itertools.product(*[range(1 << w) for w in undefs]):
+            for ts in itertools.product(*[range(1 << w) for w in choices]):
                 for values in itertools.product(*[[*range(1 << w), POISON] for w in inputs]):
                     env = dict(known)
                     env.update(zip(self.inputs, values))

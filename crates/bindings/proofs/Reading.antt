@@ -61,6 +61,7 @@ at_most_three (rule_ops.Binary opcode flags a b) (suc (suc (suc i))) o at = absu
 at_most_three (rule_ops.Compare pred samesign a b) (suc (suc (suc i))) o at = absurd cc
 at_most_three (rule_ops.Select c a b) (suc (suc (suc i))) o at = absurd cc
 at_most_three (rule_ops.Convert cast flags a to) (suc (suc (suc i))) o at = absurd cc
+at_most_three (rule_ops.Freeze a j) (suc (suc (suc i))) o at = absurd cc
 at_most_three (rule_ops.Copy a) (suc (suc (suc i))) o at = absurd cc
 
 -- an instruction of the same operation reads as many operands
@@ -77,6 +78,8 @@ reads_too f b k N (rule_ops.Select z a c) (ops.Select w x y) same (suc (suc zero
 reads_too f b k N (rule_ops.Select z a c) (ops.Select w x y) same (suc (suc (suc i))) o at = absurd cc
 reads_too f b k N (rule_ops.Convert cast flags a to) (ops.Convert cast' flags' M x) same zero o at = (read b k M x, refl)
 reads_too f b k N (rule_ops.Convert cast flags a to) (ops.Convert cast' flags' M x) same (suc i) o at = absurd cc
+reads_too f b k N (rule_ops.Freeze a j) (ops.Freeze x) same zero o at = (read b k N x, refl)
+reads_too f b k N (rule_ops.Freeze a j) (ops.Freeze x) same (suc i) o at = absurd cc
 reads_too f b k N s op same i o at = absurd same
 
 -- at the place of the instruction there is a read for each operand

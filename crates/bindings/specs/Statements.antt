@@ -21,12 +21,13 @@ use Rattle.rule_core.specs.declared.rule.Statement.{Statement}
 use Rattle.bindings.specs.Operands.{OperandMatches}
 use Rattle.bindings.specs.declared.binding.Binding.{Binding}
 
--- both are one operation: of one opcode, one predicate or one cast
+-- both are one operation: of one opcode, one predicate or one cast, or both a select or a freeze
 abbrev pub IsSameOperation : RuleOp → Op → Type 0
 IsSameOperation (rule_ops.Binary opcode flags a b) (ops.Binary opcode' flags' x y) = opcode ≡ opcode'
 IsSameOperation (rule_ops.Compare pred samesign a b) (ops.Compare pred' samesign' width x y) = pred ≡ pred'
 IsSameOperation (rule_ops.Select c a b) (ops.Select z x y) = Unit {0}
 IsSameOperation (rule_ops.Convert cast flags a to) (ops.Convert cast' flags' from x) = cast ≡ cast'
+IsSameOperation (rule_ops.Freeze a j) (ops.Freeze x) = Unit {0}
 IsSameOperation s i = ⊥
 
 -- the flags of a statement, and those of an instruction

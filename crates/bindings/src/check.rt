@@ -97,7 +97,7 @@ fn reads_temporary(op: Op) -> bool
         Op::Select(c, a, b) => {
             is_temporary(c.value) || is_temporary(a.value) || is_temporary(b.value)
         }
-        Op::Convert(_, _, a, _) | Op::Copy(a) => is_temporary(a.value),
+        Op::Convert(_, _, a, _) | Op::Freeze(a, _) | Op::Copy(a) => is_temporary(a.value),
     }
 }
 

@@ -18,7 +18,7 @@ pub fn operand_of(op: RuleOp, index: usize) -> Option<RuleOperand>
     match op {
         RuleOp::Binary(_, _, a, b) | RuleOp::Compare(_, _, a, b) => one_of(&[a, b], index),
         RuleOp::Select(c, a, b) => one_of(&[c, a, b], index),
-        RuleOp::Convert(_, _, a, _) | RuleOp::Copy(a) => one_of(&[a], index),
+        RuleOp::Convert(_, _, a, _) | RuleOp::Freeze(a, _) | RuleOp::Copy(a) => one_of(&[a], index),
     }
 }
 
@@ -29,7 +29,7 @@ fn one_of(operands: &[RuleOperand], index: usize) -> Option<RuleOperand>
     operands.get(index).copied()
 }
 
-/// Whether both are one operation: of one opcode, one predicate or one cast.
+/// Whether both are one operation: of one opcode, one predicate or one cast, or both a select or a freeze.
 pub(crate) fn is_same_operation(statement: RuleOp, inst: &Op) -> bool
     ensures { IsTrue result ↔ IsSameOperation statement inst.now }
 {
@@ -38,6 +38,7 @@ pub(crate) fn is_same_operation(statement: RuleOp, inst: &Op) -> bool
         (RuleOp::Compare(pred, _, _, _), Op::Compare(other, _, _, _, _)) => pred == *other,
         (RuleOp::Select(_, _, _), Op::Select(_, _, _)) => true,
         (RuleOp::Convert(cast, _, _, _), Op::Convert(other, _, _, _)) => cast == *other,
+        (RuleOp::Freeze(_, _), Op::Freeze(_)) => true,
         _ => false,
     }
 }
@@ -50,7 +51,7 @@ pub(crate) fn flags_of_statement(op: RuleOp) -> Flags
         RuleOp::Binary(_, flags, _, _) => flags,
         RuleOp::Compare(_, samesign, _, _) => Flags::of_icmp(samesign),
         RuleOp::Convert(_, flags, _, _) => flags,
-        RuleOp::Select(_, _, _) | RuleOp::Copy(_) => Flags::NONE,
+        RuleOp::Select(_, _, _) | RuleOp::Freeze(_, _) | RuleOp::Copy(_) => Flags::NONE,
     }
 }
 

@@ -14,7 +14,7 @@ use Rattle.rule_core.specs.declared.rule.Name.TheVariants as names
 use Rattle.rule_core.specs.declared.rule.Term.{Term}
 use Rattle.rule_core.specs.declared.rule.Node.{Node}
 use Rattle.rule_core.specs.declared.rule.Node.TheVariants as nodes
-use Rattle.rule_core.specs.Positions.{IsTermOf, source_assigns, term_register, term_constant, term_undef, name, unary, left, right, witness_term as witness_line}
+use Rattle.rule_core.specs.Positions.{IsTermOf, source_assigns, term_register, term_constant, term_choice, name, unary, left, right, witness_term as witness_line}
 use Rattle.rule_core.specs.Typing.{IsTyping}
 use Rattle.rule_core.specs.Checks.{IsRule, MayBeWitness}
 use Rattle.rule_core.specs.Valid.{InputsFit, ConstantsFit, TargetChoicesFit}
@@ -36,7 +36,7 @@ found (x ∷ xs) (suc i) within = found xs i (omega arith)
 
 module _ {L : Type 0} (rule : Rule) (typing : List ℕ) (checked : IsRule rule) (typed : IsTyping rule typing) (scope : Scope L)
     (inputs : InputsFit rule typing (map shape scope.inputs.now)) (source : ValuesFit typing rule.source (map shape scope.source.now)) (count : length scope.source.now + 1 ≡ length rule.source)
-    (constants : ConstantsFit rule typing (map word_shape scope.constants.now)) (undefs : TargetChoicesFit rule typing (map word_shape scope.choices.now)) where
+    (constants : ConstantsFit rule typing (map word_shape scope.constants.now)) (left_open : TargetChoicesFit rule typing (map word_shape scope.choices.now)) where
   held_input : (t : Term) (N i : ℕ) → IsTermOf rule t → t.node ≡ nodes.Register (registers.Input i) → slice_get typing t.class ≡ Some N → i < length rule.inputs
       → (h : Held L) × (held_at scope (registers.Input i) ≡ Some h) × (length h.bits ≡ N)
   held_input t N i stands is width may =
@@ -78,9 +78,9 @@ module _ {L : Type 0} (rule : Rule) (typing : List ℕ) (checked : IsRule rule) 
   node_held n N t (nodes.Register (registers.Input i)) at is may width = held_input t N i (witness_term rule n t at) is width may
   node_held n N t (nodes.Register (registers.Source j)) at is may width = held_source t N j (witness_term rule n t at) is width may
   node_held n N t (nodes.Register (registers.Target j)) at is may width = absurd may
-  node_held n N t (nodes.Undef k) at is may width =
-      word_held scope.choices.now k N (omega (arith, undefs.count, length-map scope.choices.now word_shape))
-      (λ m here. (undefs.widths k t.class N m (term_undef (witness_term rule n t at) is) width here).0)
+  node_held n N t (nodes.Choice k) at is may width =
+      word_held scope.choices.now k N (omega (arith, left_open.count, length-map scope.choices.now word_shape))
+      (λ m here. (left_open.widths k t.class N m (term_choice (witness_term rule n t at) is) width here).0)
   node_held n N t (nodes.Width r c) at is may width = typed.classes c (measured_class_stands rule t r c (witness_term rule n t at) is)
   node_held n N t (nodes.Unary function a) at is may width =
       operand_held n a N t at may width (λ x there. typed.same t.class x.class (witness_line (unary (Contains-from_get rule.witness_terms n t at) is there)))

@@ -1,8 +1,8 @@
 -- How many gates there are at most.
-use Rattle.std.proofs.Common.{◌≡◌, ℕ, zero, suc, ◌+◌, ◌-◌, ◌*◌, ◌^◌, ◌<◌, ◌≤◌, max, List, [], ◌∷◌, ◌++◌, length, length-append, map, Option, None, Some, refl, sym, ap, subst, ◌∙◌, arith, get_or}
-use Rattle.std.specs.Prelude.{slice_get, slice_index, sum_by, flat_map, filter_map, Contains}
+use Rattle.std.proofs.Common.{◌≡◌, ℕ, zero, suc, ◌+◌, ◌-◌, ◌*◌, ◌^◌, ◌<◌, ◌≤◌, max, List, [], ◌∷◌, ◌++◌, length, map, Some, refl, sym, ap, subst, ◌∙◌, arith, get_or}
+use Rattle.std.specs.Prelude.{slice_get, slice_index, sum_by, flat_map, Contains}
 use Rattle.std.specs.Option.{option_map}
-use Rattle.std.specs.List.{All, fold, cons_option}
+use Rattle.std.specs.List.{All, fold}
 use Rattle.circuits.specs.Gates.{select_gates}
 use Rattle.std.proofs.Math.Nat.{mul-le-mul_left, mul-le-mul}
 use Rattle.std.proofs.lemmas.List.Elements.{All-nil, All-cons, All-head, All-tail, All-map, All-weaker, All-contains_itself, Contains-append_left}
@@ -14,7 +14,7 @@ use Rattle.rule_core.specs.declared.rule.Rule.{Rule}
 use Rattle.rule_core.specs.declared.rule.Statement.{Statement}
 use Rattle.rule_core.specs.declared.rule.Operand.{Operand}
 use Rattle.rule_core.specs.declared.rule.Op.{Op}
-use Rattle.rule_core.specs.declared.rule.Op.TheVariants.{Binary, Compare, Select, Convert, Copy}
+use Rattle.rule_core.specs.declared.rule.Op.TheVariants.{Binary, Compare, Select, Convert, Freeze, Copy}
 use Rattle.rule_core.specs.Typing.{IsTyping}
 use Rattle.rule_core.specs.Checks.{IsRule, MayBeFormula}
 use Rattle.rule_core.specs.declared.rule.Term.{Term}
@@ -30,7 +30,7 @@ use Rattle.blast_rule.specs.Gates.{op_gates, statement_gates, widths_of_terms, w
 use Rattle.blast_term.specs.Gates.{formula_gates, term_bound, formula_bound, choice_bound}
 use Rattle.blast_term.specs.Terms.{ReadsTerms}
 use Rattle.blast_rule.specs.Laws.{GatesAreFew, GatesAreBelow}
-use Rattle.blast_setting.proofs.Few.{few_undefs}
+use Rattle.blast_setting.proofs.Few.{few_choices}
 use Rattle.blast_term.proofs.Counts.{node-low, terms-few}
 
 square_mono : (n k : ℕ) → n ≤ k → n * n ≤ k * k
@@ -56,6 +56,7 @@ op-few typing N K (Select c a b) some low below all = omega arith
 op-few typing N K (Convert Trunc flags a to) some low below all = omega (arith, all 0 0 (omega arith))
 op-few typing N K (Convert ZExt flags a to) some low below all = omega arith
 op-few typing N K (Convert SExt flags a to) some low below all = omega arith
+op-few typing N K (Freeze a k) some low below all = omega arith
 op-few typing N K (Copy a) some low below all = omega arith
 
 bound-few : (N : ℕ) (op : Op) → N ≤ 64 → op_bound op N ≤ 266240
@@ -250,7 +251,7 @@ module _ (rule : Rule) (typing : List ℕ) (checked : IsRule rule) (typed : IsTy
       let precondition = sum_by-le (formula_bound (widths_of_terms rule typing)) 4096 rule.precondition (formulas (λ f. formula_bound (widths_of_terms rule typing) f ≤ 4096) formula_low) in
       let all_low = witness_terms (λ t. slice_index typing t.class ≤ 64) (λ t stands. (term_width t stands).1) in
       let choices = sum_by-le (choice_bound (widths_of_witness rule typing)) 4096 rule.witnesses (λ k d below. let w = index-low 64 (widths_of_witness rule typing) (get_or rule.witnesses k d) (All-map (λ N. N ≤ 64) (λ (t : Term). slice_index typing t.class) rule.witness_terms all_low) in omega arith) in
-      omega (arith, few_in_rule, checked.few_in_source, checked.few_in_target, few_terms rule checked, few_formulas rule checked, few_undefs rule.source, checked.witnesses)
+      omega (arith, few_in_rule, checked.few_in_source, checked.few_in_target, few_terms rule checked, few_formulas rule checked, few_choices rule.source, checked.witnesses)
 
 pub gates_are_few : GatesAreFew
 gates_are_few rule typing checked typed = few_in_rule rule typing checked typed

@@ -48,10 +48,10 @@ choices_same rule typing setting held (n ∷ places) =
     rw (width, rest) refl
 
 module _ {C L : Type 0} {state : Ghosts C L} {a b : C} (keeps : Keeps state a b) (read : List Bool) (admitted : state.admits a read)
-    (rule : Rule) (typing : List ℕ) (checked : IsRule rule) (inputs source : List (Held L)) (constants undefs terms : List (List L)) (u : L)
-    (own_inputs : All (IsOwn (state.has_literal a)) inputs) (own_constants : All (All (state.has_literal a)) constants) (own_undefs : All (All (state.has_literal a)) undefs) where
+    (rule : Rule) (typing : List ℕ) (checked : IsRule rule) (inputs source : List (Held L)) (constants left_open terms : List (List L)) (u : L)
+    (own_inputs : All (IsOwn (state.has_literal a)) inputs) (own_constants : All (All (state.has_literal a)) constants) (own_left_open : All (All (state.has_literal a)) left_open) where
   abbrev at : Setting
-  at = record { inputs = map (held_value (state.value a read)) inputs; constants = map (number_held (state.value a read)) constants; target_undefs = map (number_held (state.value a read)) undefs }
+  at = record { inputs = map (held_value (state.value a read)) inputs; constants = map (number_held (state.value a read)) constants; target_choices = map (number_held (state.value a read)) left_open }
 
   -- how the temporaries end
   abbrev Ran : Type 0
@@ -62,14 +62,14 @@ module _ {C L : Type 0} {state : Ghosts C L} {a b : C} (keeps : Keeps state a b)
       (values-kept keeps read admitted inputs own_inputs) ran
 
   -- and what `Wit:` chooses then
-  pub chooses : Ran → (before : Scope L) → Reads before inputs source [] constants undefs terms → (words : List Number) → ((names : Meanings) → MeansNames (state.value b read) before names → words ≡ numbers_chosen typing names rule) → Chooses rule typing at words
+  pub chooses : Ran → (before : Scope L) → Reads before inputs source [] constants left_open terms → (words : List Number) → ((names : Meanings) → MeansNames (state.value b read) before names → words ≡ numbers_chosen typing names rule) → Chooses rule typing at words
   chooses ran before reads words numbers held ends =
       let once = follows_once typing (given_by typing at.constants [] rule) holding_source (temporaries_of rule) (at_start at.inputs) (ending (state.value b read u) (holds (state.value b read) inputs source [])) (Holds held) (temporaries_end ran) ends in
       let is : holds (state.value b read) inputs source [] ≡ held = ended (state.value b read u) (holds (state.value b read) inputs source []) held once in
-      let same : seen (state.value b read) before ≡ held = seen_of before inputs source [] constants undefs terms reads (state.value b read) ∙ is in
+      let same : seen (state.value b read) before ≡ held = seen_of before inputs source [] constants left_open terms reads (state.value b read) ∙ is in
       numbers (meanings_at at held) (record {
         constants = sym (ap (map (number_held (state.value b read))) reads.constants_are ∙ numbers_held-kept keeps read admitted constants own_constants);
-        undefs = sym (ap (map (number_held (state.value b read))) reads.choices_are ∙ numbers_held-kept keeps read admitted undefs own_undefs);
+        choices = sym (ap (map (number_held (state.value b read))) reads.choices_are ∙ numbers_held-kept keeps read admitted left_open own_left_open);
         registers = λ r. ap (λ (h : Registry). unwrap_or (value_of h r) Poison) (sym same);
       }) ∙ choices_same rule typing at held rule.witnesses
 
@@ -106,12 +106,12 @@ module _ {C L : Type 0} {state : Ghosts C L} {a b : C} (keeps : Keeps state a b)
         (subst (λ vs. SourceGives typing at.constants choices rule vs (effect_of (state.value d read) made)) whole effect_now)
 
     -- and the target's is that of its statements
-    pub target_effect : (after : Effect) (made : Blasted L) → TargetGoesOn typing at.constants at.target_undefs rule (holds (state.value m read) inputs source []) after → effect_of (state.value e read) made ≡ (if state.value d read u then effects.Undefined else after)
-        → TargetGives typing at.constants at.target_undefs rule at.inputs (effect_of (state.value e read) made)
+    pub target_effect : (after : Effect) (made : Blasted L) → TargetGoesOn typing at.constants at.target_choices rule (holds (state.value m read) inputs source []) after → effect_of (state.value e read) made ≡ (if state.value d read u then effects.Undefined else after)
+        → TargetGives typing at.constants at.target_choices rule at.inputs (effect_of (state.value e read) made)
     target_effect after made goes is =
         let u_same : state.value d read u ≡ state.value b read u = (Keeps-trans second third).values read u b_admitted own_u in
         let inputs_same = values-kept second read b_admitted inputs (AllOwn-kept keeps inputs own_inputs) in
         let source_same = values-kept second read b_admitted source own_source in
-        let goes_on : TargetGoesOn typing at.constants at.target_undefs rule (holds (state.value b read) inputs source []) after = rw (inputs_same, source_same) at goes in
-        target-gives typing at.constants at.target_undefs rule at.inputs (holds (state.value b read) inputs source []) (state.value b read u) after (effect_of (state.value e read) made) (temporaries_end ran) goes_on
+        let goes_on : TargetGoesOn typing at.constants at.target_choices rule (holds (state.value b read) inputs source []) after = rw (inputs_same, source_same) at goes in
+        target-gives typing at.constants at.target_choices rule at.inputs (holds (state.value b read) inputs source []) (state.value b read u) after (effect_of (state.value e read) made) (temporaries_end ran) goes_on
         (is ∙ ap (λ x. if x then effects.Undefined else after) u_same)

@@ -2,6 +2,7 @@ pub mod Kept
 pub mod Steps
 pub mod Reading
 pub mod Statements
+pub mod Freezes
 pub mod Runs
 pub mod Counts
 pub mod Effects

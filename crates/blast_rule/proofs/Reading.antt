@@ -1,9 +1,8 @@
 -- What registers hold, and whether they can be read.
 use Rattle.std.proofs.Common.{◌≡◌, ℕ, zero, suc, ◌<◌, ◌≤◌, Bool, true, false, List, [], ◌∷◌, length, map, Option, Some, None, Result, IfOk, refl, sym, ap, subst, ◌∙◌, arith}
 use Rattle.std.specs.Prelude.{slice_get, slice_index, IsSome, ℤ, if◌then◌else◌}
-use Rattle.std.specs.List.{All}
 use Rattle.std.specs.Option.{option_map}
-use Rattle.std.proofs.lemmas.Option.{slice_get-map, slice_get_within, get_or_from_slice_get, same_Some}
+use Rattle.std.proofs.lemmas.Option.{slice_get-map, get_or_from_slice_get, same_Some}
 use Rattle.std.proofs.lemmas.Result.{IfOk-weaker}
 use Rattle.ops.specs.Number.{Number}
 use Rattle.ops.specs.Integer.{bits, residue}
@@ -67,13 +66,13 @@ option_word : {X Y : Type 0} (f : X → Y) (o : Option X) (y : Y) → option_map
 option_word f None y is = cc
 option_word f (Some x) y is = (x, refl, same_Some (f x) y is)
 
-word_at : {L : Type 0} (words : List (List L)) (k N : ℕ) → ((n : Number) × (slice_get (map word_shape words) k ≡ Some n) × IsValueOf N (Bits n)) → (w : List L) × (slice_get words k ≡ Some w) × (length w ≡ N)
+pub word_at : {L : Type 0} (words : List (List L)) (k N : ℕ) → ((n : Number) × (slice_get (map word_shape words) k ≡ Some n) × IsValueOf N (Bits n)) → (w : List L) × (slice_get words k ≡ Some w) × (length w ≡ N)
 word_at words k N (n, there, fits) =
     let w = option_word word_shape (slice_get words k) n (sym (slice_get-map word_shape words k) ∙ there) in
     (w.0, w.1, ap (λ (m : Number). m.width) w.2 ∙ fits.0)
 
 -- and stands for the number there
-number_given : {L : Type 0} (value : L → Bool) (words : List (List L)) (numbers : List Number) (k : ℕ) (w : List L) → numbers ≡ map (number_held value) words → slice_get words k ≡ Some w → slice_get numbers k ≡ Some (number_held value w)
+pub number_given : {L : Type 0} (value : L → Bool) (words : List (List L)) (numbers : List Number) (k : ℕ) (w : List L) → numbers ≡ map (number_held value) words → slice_get words k ≡ Some w → slice_get numbers k ≡ Some (number_held value w)
 number_given value words numbers k w is at = ap (λ ns. slice_get ns k) is ∙ slice_get-map (number_held value) words k ∙ ap (option_map (number_held value)) at
 
 zero_given : {L : Type 0} (value : L → Bool) (words : List (List L)) (values : List Value) (n : ℕ) (w : List L) → map number_or_zero values ≡ map (number_of value) words → slice_get words n ≡ Some w → number_of value w ≡ number_or_zero (value_at values n)

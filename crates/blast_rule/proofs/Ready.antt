@@ -57,7 +57,7 @@ module _ {L : Type 0} (rule : Rule) (typing : List ℕ) (checked : IsRule rule) 
   constant_node n N t (nodes.Literal z) at is may width = tt
   constant_node n N t (nodes.Constant k) at is may width = word_there rule typing scope.constants.now k t.class N checked typed widths may t (constant_term rule n t at) is width
   constant_node n N t (nodes.Register r) at is may width = absurd may
-  constant_node n N t (nodes.Undef k) at is may width = absurd may
+  constant_node n N t (nodes.Choice k) at is may width = absurd may
   constant_node n N t (nodes.Width r c) at is may width = typed.classes c (measured_class_stands rule t r c (constant_term rule n t at) is)
   constant_node n N t (nodes.Unary function a) at is may width =
       let x = there rule.terms n a t at may in

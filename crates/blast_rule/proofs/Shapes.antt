@@ -19,12 +19,12 @@ use Rattle.rule_core.proofs.Givens.{source_given, given_before_root, target_give
 use Rattle.rule_core.proofs.Witnesses.{choices_fit}
 use Rattle.blast_value.specs.declared.held.Held.{Held}
 use Rattle.blast_value.specs.Effect.{widths_of}
-use Rattle.blast_setting.specs.Inputs.{input_widths, constant_widths, undef_widths}
+use Rattle.blast_setting.specs.Inputs.{input_widths, constant_widths, choice_widths}
 use Rattle.blast_rule.specs.Gates.{widths_of_terms}
 use Rattle.blast_rule.specs.Runs.{shape, word_shape}
 use Rattle.blast_term.specs.Terms.{term_widths}
 use Rattle.blast_setting.proofs.Written.{FitAll}
-use Rattle.blast_setting.proofs.Settings.{IsNumberOf, inputs_fit, constants_fit, undefs_fit}
+use Rattle.blast_setting.proofs.Settings.{IsNumberOf, inputs_fit, constants_fit, target_choices_fit}
 
 -- what stands for things by their sizes has these widths
 module _ {M X : Type 0} (Fits : ℕ → X → Type 0) (size : M → ℕ) (stand : M → X) (fits : (m : M) → Fits (size m) (stand m)) where
@@ -46,15 +46,15 @@ word_fits : {L : Type 0} (word : List L) → IsNumberOf (length word) (word_shap
 word_fits word = (refl, pow_pos (length word))
 
 module _ {L : Type 0} (rule : Rule) (typing : List ℕ) (checked : IsRule rule) (typed : IsTyping rule typing) where
-  -- as inputs, constants and `undef`s of the target
+  -- as inputs, constants and choices of the target
   pub inputs_stand : (items : List (Held L)) → widths_of items ≡ input_widths rule typing → InputsFit rule typing (map shape items)
   inputs_stand items is = inputs_fit rule typing checked typed (map shape items) (all_stand IsValueOf (λ (h : Held L). length h.bits) shape shape_fits items (input_widths rule typing) is)
 
   pub constants_stand : (words : List (List L)) → map length words ≡ constant_widths rule typing → ConstantsFit rule typing (map word_shape words)
   constants_stand words is = constants_fit rule typing checked typed (map word_shape words) (all_stand IsNumberOf length word_shape word_fits words (constant_widths rule typing) is)
 
-  pub undefs_stand : (words : List (List L)) → map length words ≡ undef_widths rule typing → TargetChoicesFit rule typing (map word_shape words)
-  undefs_stand words is = undefs_fit rule typing checked typed (map word_shape words) (all_stand IsNumberOf length word_shape word_fits words (undef_widths rule typing) is)
+  pub target_choices_stand : (words : List (List L)) → map length words ≡ choice_widths rule typing → TargetChoicesFit rule typing (map word_shape words)
+  target_choices_stand words is = target_choices_fit rule typing checked typed (map word_shape words) (all_stand IsNumberOf length word_shape word_fits words (choice_widths rule typing) is)
 
   -- as what terms give
   pub terms_stand : (words : List (List L)) → map length words ≡ widths_of_terms rule typing → (length (map (λ (word : List L). bits (length word) 0) words) ≡ length rule.terms) × TermsFit typing rule.terms (map (λ (word : List L). bits (length word) 0) words)
@@ -73,16 +73,16 @@ width_at_place typing [] (suc n) = refl
 width_at_place typing (t ∷ terms) zero = refl
 width_at_place typing (t ∷ terms) (suc n) = width_at_place typing terms n
 
-module _ {L : Type 0} (rule : Rule) (typing : List ℕ) (checked : IsRule rule) (typed : IsTyping rule typing) (items : List (Held L)) (constants undefs terms : List (List L))
-    (inputs_are : widths_of items ≡ input_widths rule typing) (constants_are : map length constants ≡ constant_widths rule typing) (undefs_are : map length undefs ≡ undef_widths rule typing) (terms_are : map length terms ≡ widths_of_terms rule typing) where
+module _ {L : Type 0} (rule : Rule) (typing : List ℕ) (checked : IsRule rule) (typed : IsTyping rule typing) (items : List (Held L)) (constants left_open terms : List (List L))
+    (inputs_are : widths_of items ≡ input_widths rule typing) (constants_are : map length constants ≡ constant_widths rule typing) (left_open_are : map length left_open ≡ choice_widths rule typing) (terms_are : map length terms ≡ widths_of_terms rule typing) where
   abbrev standing : Setting
-  standing = record { inputs = map shape items; constants = map word_shape constants; target_undefs = map word_shape undefs }
+  standing = record { inputs = map shape items; constants = map word_shape constants; target_choices = map word_shape left_open }
 
   pub standing_fits : SettingFits rule typing standing
   standing_fits = record {
     inputs = inputs_stand rule typing checked typed items inputs_are;
     constants = constants_stand rule typing checked typed constants constants_are;
-    target_undefs = undefs_stand rule typing checked typed undefs undefs_are;
+    target_choices = target_choices_stand rule typing checked typed left_open left_open_are;
   }
 
   -- as what `Wit:` chooses
@@ -95,11 +95,11 @@ module _ {L : Type 0} (rule : Rule) (typing : List ℕ) (checked : IsRule rule) 
       let count : length words ≡ length rule.witnesses = sym (length-map words length) ∙ ap length is ∙ length-map rule.witnesses told in
       record {
         count = length-map words word_shape ∙ count ∙ checked.witnesses;
-        widths = λ k N n o among value width at.
+        widths = λ k c N n opens width at.
             let within : k < length words = omega (arith, slice_get_within (map word_shape words) k n at, length-map words word_shape) in
             let m : ℕ = get_or rule.witnesses k 0 in
             let there : slice_get rule.witnesses k ≡ Some m = slice_get-get_or rule.witnesses k 0 (omega arith) in
-            let first = fit.widths k N (chosen m) o among value width (slice_get-map chosen rule.witnesses k ∙ ap (option_map chosen) there) in
+            let first = fit.widths k c N (chosen m) opens width (slice_get-map chosen rule.witnesses k ∙ ap (option_map chosen) there) in
             let size : slice_get (map length words) k ≡ Some N =
             ap (λ ws. slice_get ws k) is ∙ slice_get-map told rule.witnesses k ∙ ap (option_map told) there ∙ ap (λ M. Some M) (width_at_place typing rule.witness_terms m ∙ first.0) in
             stands_fit IsNumberOf length word_shape word_fits words k N n size at;
@@ -110,7 +110,7 @@ module _ {L : Type 0} (rule : Rule) (typing : List ℕ) (checked : IsRule rule) 
       → GivenFits rule typing (temporaries_of rule) (record { constants = map word_shape constants; choices = map word_shape words; terms = map (λ (word : List L). bits (length word) 0) terms })
   before_root_stands words = record {
     constants = standing_fits.constants;
-    choices = λ k N o among value width. let none = (given_before_root rule typing (map word_shape constants) checked typed standing_fits.constants).choices k N o among value width in cc;
+    choices = λ k c N opens width. let none = (given_before_root rule typing (map word_shape constants) checked typed standing_fits.constants).choices k c N opens width in cc;
     terms = terms_stand rule typing checked typed terms terms_are;
   }
 
@@ -122,9 +122,9 @@ module _ {L : Type 0} (rule : Rule) (typing : List ℕ) (checked : IsRule rule) 
     terms = terms_stand rule typing checked typed terms terms_are;
   }
 
-  pub target_stands : GivenFits rule typing rule.target (record { constants = map word_shape constants; choices = map word_shape undefs; terms = map (λ (word : List L). bits (length word) 0) terms })
+  pub target_stands : GivenFits rule typing rule.target (record { constants = map word_shape constants; choices = map word_shape left_open; terms = map (λ (word : List L). bits (length word) 0) terms })
   target_stands = record {
     constants = standing_fits.constants;
-    choices = (target_given rule typing (map word_shape constants) checked typed standing_fits.constants (map word_shape undefs) standing_fits.target_undefs).choices;
+    choices = (target_given rule typing (map word_shape constants) checked typed standing_fits.constants (map word_shape left_open) standing_fits.target_choices).choices;
     terms = terms_stand rule typing checked typed terms terms_are;
   }

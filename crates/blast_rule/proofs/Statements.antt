@@ -17,7 +17,7 @@ use Rattle.circuits.specs.Word.{number_of}
 use Rattle.rule_core.specs.declared.rule.Statement.{Statement}
 use Rattle.rule_core.specs.declared.rule.Operand.{Operand}
 use Rattle.rule_core.specs.declared.rule.Op.{Op}
-use Rattle.rule_core.specs.declared.rule.Op.TheVariants.{Binary, Compare, Select, Convert, Copy}
+use Rattle.rule_core.specs.declared.rule.Op.TheVariants.{Binary, Compare, Select, Convert, Freeze, Copy}
 use Rattle.rule_core.specs.Positions.{operands_of}
 use Rattle.rule_core.specs.Readiness.{OperandIsReady, OpIsReady}
 use Rattle.rule_core.specs.Run.{Held as Registry, Given, OperandGives, OpGives, StatementGives}
@@ -141,6 +141,7 @@ module _ {L : Type 0} (has_literal : L → Type 0) (admits : List Bool → Type 
         gates = rw (from, told) (cast_greatest cast ready.0);
         gives = λ inputs given e admitted is_given effect. (ready.0, held_value (value inputs) h.0, ready.1.0, h.2.gives inputs given admitted is_given, effect ready.0 (of_width inputs ready.0 h.0 from));
       }
+  blasts (Freeze a k) what N held is ready all = cc
   blasts (Copy a) what N held is ready all = cc
 
 -- the operands of an operation that is ready can be read
@@ -152,6 +153,7 @@ all_ready typing given held N (Binary op flags a b) ready = All-from_recursion (
 all_ready typing given held N (Compare pred samesign a b) ready = All-from_recursion (CanBeRead typing given held) (a ∷ b ∷ []) ((ready.0, ready.1), ((ready.0, ready.2), tt))
 all_ready typing given held N (Select c a b) ready = All-from_recursion (CanBeRead typing given held) (c ∷ a ∷ b ∷ []) ((1, ready.0), ((N, ready.1), ((N, ready.2), tt)))
 all_ready typing given held N (Convert cast flags a to) ready = All-from_recursion (CanBeRead typing given held) (a ∷ []) ((ready.0, ready.1), tt)
+all_ready typing given held N (Freeze a k) ready = All-from_recursion (CanBeRead typing given held) (a ∷ []) ((N, ready.0), tt)
 all_ready typing given held N (Copy a) ready = All-from_recursion (CanBeRead typing given held) (a ∷ []) ((N, ready), tt)
 
 -- a copy gives what its operand does

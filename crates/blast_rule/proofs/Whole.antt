@@ -36,12 +36,12 @@ pub refutes : RulesHaveOneOutcome → (rule : Rule) (typing : List ℕ) (setting
 refutes one rule typing setting choices source target met refused b checked typed fits have holds is same = (
   λ h.
       let parts = both met refused (subst IsTrue same h) in
-      (choices, source, target, record { fits = fits; precondition = holds.0 parts.0; effects = have; refused = is.0 parts.1 }),
+      (choices, source, target, record { counts = record { fits = fits; precondition = holds.0 parts.0 }; effects = have; refused = is.0 parts.1 }),
   λ (ch, s, t, counter).
       let o = one rule typing setting checked typed fits in
       let here = o.4 choices source target have in
       let there = o.4 ch s t counter.effects in
-      subst IsTrue (sym same) (and_true met refused (holds.1 counter.precondition)
+      subst IsTrue (sym same) (and_true met refused (holds.1 counter.counts.precondition)
       (is.1 (λ allowed. counter.refused (subst (λ e. AllowsEffect e t) (here.0 ∙ sym there.0) (subst (AllowsEffect source) (here.1 ∙ sym there.1) allowed))))),
 )
 

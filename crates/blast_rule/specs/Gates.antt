@@ -1,23 +1,25 @@
 -- How many gates a rule's circuit has at most at a typing.
 use Rattle.std.specs.Prelude.{ℕ, ◌+◌, ◌*◌, ◌-◌, List, length, map, sum_by, slice_index, slice_get}
 use Rattle.std.specs.Option.{option_map_or}
-use Rattle.circuits.specs.Gates.{equality_gates}
+use Rattle.circuits.specs.Gates.{equality_gates, select_gates}
 use Rattle.rule_core.specs.declared.rule.Rule.{Rule}
 use Rattle.rule_core.specs.declared.rule.Statement.{Statement}
 use Rattle.rule_core.specs.declared.rule.Op.{Op}
-use Rattle.rule_core.specs.declared.rule.Op.TheVariants.{Binary, Compare, Select, Convert, Copy}
+use Rattle.rule_core.specs.declared.rule.Op.TheVariants.{Binary, Compare, Select, Convert, Freeze, Copy}
 use Rattle.rule_core.specs.Positions.{classes_of_statement}
 use Rattle.blast_value.specs.declared.instruction.Instruction.TheVariants as instructions
 use Rattle.blast_value.specs.Gates.{gates_of, greatest}
 use Rattle.blast_value.specs.Laws.{bound}
 use Rattle.blast_term.specs.Gates.{terms_gates, numbers_gates, choices_gates, precondition_gates, term_bound, formula_bound, choice_bound}
 
--- an operation with a result of iN: its instruction's circuit, of a comparison one over the width of its operands; a copy takes none
+-- an operation with a result of iN: its instruction's circuit, of a comparison one over the width of its operands; a freeze takes one for
+-- each bit, and a copy none
 abbrev pub op_gates : List ℕ → ℕ → Op → ℕ
 op_gates typing N (Binary op flags a b) = gates_of (instructions.Binary op flags) N N
 op_gates typing N (Compare pred samesign a b) = gates_of (instructions.Compare pred samesign) N (slice_index typing a.class)
 op_gates typing N (Select c a b) = gates_of instructions.Select N N
 op_gates typing N (Convert cast flags a to) = gates_of (instructions.Convert cast flags) N (slice_index typing a.class)
+op_gates typing N (Freeze a k) = select_gates N
 op_gates typing N (Copy a) = 0
 
 -- a statement: its operation's, and one for whether it or one before it has undefined behaviour
@@ -76,7 +78,7 @@ op_bound op N = 64 * N
 abbrev pub statement_bound : List ℕ → Statement → ℕ
 statement_bound typing s = op_bound s.op (greatest_width typing s)
 
--- of a rule: of its statements, of the nodes of its terms, of `Wit:` and of its precondition, and of the `undef`s of its source
+-- of a rule: of its statements, of the nodes of its terms, of `Wit:` and of its precondition, and of the choices of its source
 abbrev pub rule_bound : Rule → List ℕ → ℕ
 rule_bound rule typing =
     sum_by (statement_bound typing) rule.source + sum_by (statement_bound typing) rule.target

@@ -7,7 +7,7 @@ use Rattle.ops.specs.declared.value.Value.{Value}
 use Rattle.circuits.specs.Word.{number_of}
 use Rattle.rule_core.specs.declared.rule.Rule.{Rule}
 use Rattle.rule_core.specs.declared.rule.Op.{Op}
-use Rattle.rule_core.specs.declared.rule.Op.TheVariants.{Binary, Compare, Select, Convert, Copy}
+use Rattle.rule_core.specs.declared.rule.Op.TheVariants.{Binary, Compare, Select, Convert, Freeze, Copy}
 use Rattle.rule_core.specs.declared.rule.Operand.{Operand}
 use Rattle.rule_core.specs.Terms.{constant_values, number_or_zero}
 use Rattle.rule_core.specs.Run.{Ending, Undefines, Holds, Given, OperandGives, Follows, temporaries_of, holding_source, holding_target}
@@ -40,12 +40,13 @@ abbrev pub given_shape : {L : Type 0} → Scope L → Given
 given_shape s =
     record { constants = map word_shape s.constants.now; choices = map word_shape s.choices.now; terms = map (λ word. bits (length word) 0) s.terms.now }
 
--- the instruction of an operation; a copy has none
+-- the instruction of an operation; a freeze and a copy have none
 abbrev pub instruction_of : Op → Option Instruction
 instruction_of (Binary op flags a b) = Some (instructions.Binary op flags)
 instruction_of (Compare pred samesign a b) = Some (instructions.Compare pred samesign)
 instruction_of (Select c a b) = Some instructions.Select
 instruction_of (Convert cast flags a to) = Some (instructions.Convert cast flags)
+instruction_of (Freeze a k) = None
 instruction_of (Copy a) = None
 
 -- these literals of a circuit stand for what the operand gives

@@ -116,6 +116,7 @@ fn op_gates(typing: &[Width], width: Width, op: Op) -> u32
                 width_of(typing, operand.class),
             )
         }
+        Op::Freeze(_, _) => width.bits(),
         Op::Copy(_) => 0,
     }
 }

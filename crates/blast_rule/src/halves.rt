@@ -27,7 +27,7 @@ use std::alloc::{AllocError, Global};
 /// What both halves do.
 #[derive(Drop)]
 pub(crate) struct Halves<L> {
-    /// The number that each `undef` of the source is chosen to be.
+    /// The number of each choice of the source.
     pub(crate) choices: List<Bits<L>>,
     pub(crate) source: Blasted<L>,
     pub(crate) target: Blasted<L>,
@@ -66,7 +66,7 @@ pub(crate) fn blast_halves<C: Circuit>(
     let temporaries = blast_temporaries(alloc, c, rule, typing, start)?;
     let before = Scope {
         source: &temporaries.held,
-        choices: setting.target_undefs.as_slice(),
+        choices: setting.target_choices.as_slice(),
         ..start
     };
     let choices = blast_witness(alloc, c, rule, typing, before)?;

@@ -5,6 +5,7 @@
 //! older literals keep their values.
 #![tactic(auto)]
 
+mod freeze;
 mod gates;
 mod given;
 mod halves;

@@ -26,7 +26,7 @@ use std::alloc::{AllocError, Global};
 pub struct RuleBits<L> {
     /// Whether the setting is a counterexample.
     pub bad: L,
-    /// The number that each `undef` of the source is chosen to be.
+    /// The number that `Wit:` gives for each choice of the source, which are its `undef`s and a freeze.
     pub choices: List<Bits<L>>,
     /// What the source does.
     pub source: Blasted<L>,
@@ -35,7 +35,7 @@ pub struct RuleBits<L> {
 }
 
 /// The circuit of a rule at a typing, over inputs that stand for a setting: for each input of the rule its bits, the lowest first,
-/// and then its poison bit; then the bits of each constant, and then those of each `undef` of the target. It makes
+/// and then its poison bit; then the bits of each constant, and then those of each choice of the target. It makes
 /// [`input_bits`](crate::input_bits) inputs and at most [`most_gates`](crate::most_gates) gates. The circuit has no inputs before.
 pub fn blast_rule<C: Circuit>(
     alloc: Global,

@@ -10,6 +10,7 @@ ghost use Rattle.blast_rule.specs.Gates.{op_gates, statement_gates};
 ghost use Rattle.blast_rule.specs.Runs.{instruction_of, shapes, given_shape, IsGiven};
 ghost use Rattle.blast_term.specs.Scope.{seen, ScopeIsOwn};
 
+use crate::freeze::blast_freeze;
 use crate::operand::{operand_held, operands_held};
 use blast_term::{Scope, width_of};
 use blast_value::{Blasted, Held, Instruction, blast_value};
@@ -97,6 +98,9 @@ fn blast_statement<C: Circuit>(
         Op::Convert(cast, flags, operand, _) => {
             let what = Instruction::Convert(cast, flags);
             blast_instruction(alloc, c, typing, scope, statement, what, &[operand])
+        }
+        Op::Freeze(operand, choice) => {
+            blast_freeze(alloc, c, typing, scope, statement, operand, choice)
         }
         Op::Copy(operand) => blast_copy(alloc, c, typing, scope, statement, operand),
     }

@@ -1,39 +1,54 @@
 -- A half names few things.
-use Rattle.std.proofs.Common.{ℕ, zero, suc, ◌+◌, ◌*◌, ◌<◌, ◌≤◌, List, [], ◌∷◌, Option, None, Some, length, length-append, arith}
-use Rattle.std.specs.Prelude.{filter_map}
-use Rattle.std.specs.List.{cons_option}
+use Rattle.std.proofs.Common.{◌≡◌, ℕ, zero, suc, ◌+◌, ◌*◌, ◌<◌, ◌≤◌, List, [], ◌∷◌, ◌++◌, length, length-append, ap, arith}
+use Rattle.std.specs.Prelude.{flat_map, slice_index}
+use Rattle.std.proofs.lemmas.List.{length-map}
 use Rattle.std.proofs.lemmas.Option.{slice_get_within}
 use Rattle.rule_core.specs.declared.rule.Rule.{Rule}
 use Rattle.rule_core.specs.declared.rule.Statement.{Statement}
 use Rattle.rule_core.specs.declared.rule.Operand.{Operand}
 use Rattle.rule_core.specs.declared.rule.Op.{Op}
-use Rattle.rule_core.specs.declared.rule.Op.TheVariants.{Binary, Compare, Select, Convert, Copy}
+use Rattle.rule_core.specs.declared.rule.Op.TheVariants.{Binary, Compare, Select, Convert, Freeze, Copy}
 use Rattle.rule_core.specs.declared.rule.Argument.{Argument}
-use Rattle.rule_core.specs.Positions.{operands_of, operands_among, undef_in, undefs_among}
+use Rattle.rule_core.specs.declared.rule.Argument.TheVariants as arguments
+use Rattle.rule_core.specs.declared.rule.Choice.{Choice}
+use Rattle.rule_core.specs.Positions.{operands_of, operands_among, undef_in, frozen_in, choices_of, choices_among}
 use Rattle.rule_core.specs.Checks.{IsRule, StandsAt}
 use Rattle.blast_setting.specs.declared.named.Kind.{Kind}
-use Rattle.blast_setting.specs.declared.named.Kind.TheVariants.{Input, Constant, Undef}
-use Rattle.blast_setting.specs.Inputs.{argument_of}
-use Rattle.blast_setting.proofs.Widths.{count_of}
+use Rattle.blast_setting.specs.declared.named.Kind.TheVariants.{Input, Constant}
+use Rattle.blast_setting.specs.Inputs.{argument_of, named_widths, choice_widths}
+use Rattle.blast_setting.proofs.Widths.{count_of, length-named_widths}
 
 -- statements have at most three operands
-few_kept : {X Y : Type 0} (f : X → Option Y) (xs : List X) → length (filter_map f xs) ≤ length xs
-few_kept f [] = omega arith
-few_kept {X} {Y} f (x ∷ xs) = elim (f x) as (λ o. length (cons_option o (filter_map f xs)) ≤ suc (length xs)) [ None ↦ omega (arith, few_kept f xs) | Some y ↦ omega (arith, few_kept f xs) ]
-
 op_operands : (op : Op) → length (operands_of op) ≤ 3
 op_operands (Binary op flags a b) = omega arith
 op_operands (Compare pred samesign a b) = omega arith
 op_operands (Select c a b) = omega arith
 op_operands (Convert cast flags a to) = omega arith
+op_operands (Freeze a k) = omega arith
 op_operands (Copy a) = omega arith
 
 pub few_operands : (statements : List Statement) → length (operands_among statements) ≤ 3 * length statements
 few_operands [] = omega arith
 few_operands (s ∷ statements) = omega (arith, op_operands s.op, few_operands statements, length-append (operands_of s.op) (operands_among statements))
 
-pub few_undefs : (statements : List Statement) → length (undefs_among statements) ≤ 3 * length statements
-few_undefs statements = omega (arith, few_kept (λ (o : Operand). undef_in o.value) (operands_among statements), few_operands statements)
+-- and choices
+undef_one : (c : ℕ) (x : Argument) → length (undef_in c x) ≤ 1
+undef_one c (arguments.Undef k) = omega arith
+undef_one c x = omega arith
+
+few_undefs : (operands : List Operand) → length (flat_map (λ (o : Operand). undef_in o.class o.value) operands) ≤ length operands
+few_undefs [] = omega arith
+few_undefs (o ∷ operands) = omega (arith, undef_one o.class o.value, few_undefs operands, length-append (undef_in o.class o.value) (flat_map (λ (p : Operand). undef_in p.class p.value) operands))
+
+op_choices : (c : ℕ) (op : Op) → length (flat_map (λ (o : Operand). undef_in o.class o.value) (operands_of op) ++ frozen_in c op) ≤ 3
+op_choices c (Freeze a k) =
+    let frozen : List Choice = record { place = k; class = c } ∷ [] in
+    omega (arith, few_undefs (a ∷ []), length-append (flat_map (λ (o : Operand). undef_in o.class o.value) (a ∷ [])) frozen)
+op_choices c op = omega (arith, op_operands op, few_undefs (operands_of op), length-append (flat_map (λ (o : Operand). undef_in o.class o.value) (operands_of op)) [])
+
+pub few_choices : (statements : List Statement) → length (choices_among statements) ≤ 3 * length statements
+few_choices [] = omega arith
+few_choices (s ∷ statements) = omega (arith, op_choices s.class s.op, few_choices statements, length-append (choices_of s) (choices_among statements))
 
 -- things that are first read in order are no more than operands
 module _ (rule : Rule) (name : ℕ → Argument) (in_order : (h i q : ℕ) → h < i → StandsAt rule q (name i) → (p : ℕ) × (p < q) × StandsAt rule p (name h)) where
@@ -51,4 +66,14 @@ module _ (rule : Rule) (name : ℕ → Argument) (in_order : (h i q : ℕ) → h
 pub few_named : (rule : Rule) (kind : Kind) → IsRule rule → count_of rule kind ≤ 96
 few_named rule Input checked = omega (arith, few rule (argument_of Input) checked.inputs_in_order (length rule.inputs) checked.inputs_read, few_operands rule.source, checked.few_in_source)
 few_named rule Constant checked = omega (arith, few rule (argument_of Constant) checked.constants_in_order (length rule.constants) checked.constants_read, few_operands rule.source, checked.few_in_source)
-few_named rule Undef checked = omega (arith, few_undefs rule.target, checked.few_in_target)
+
+pub few_in_target : (rule : Rule) → IsRule rule → length (choices_among rule.target) ≤ 96
+few_in_target rule checked = omega (arith, few_choices rule.target, checked.few_in_target)
+
+-- there are few widths of what a setting has
+pub few_widths : (rule : Rule) (typing : List ℕ) (kind : Kind) (widths : List ℕ) → IsRule rule → widths ≡ named_widths typing rule.source kind (count_of rule kind) → length widths ≤ 96
+few_widths rule typing kind widths checked is = omega (arith, ap length is, length-named_widths typing rule.source kind (count_of rule kind), few_named rule kind checked)
+
+pub few_choice_widths : (rule : Rule) (typing widths : List ℕ) → IsRule rule → widths ≡ choice_widths rule typing → length widths ≤ 96
+few_choice_widths rule typing widths checked is =
+    omega (arith, ap length is, length-map (choices_among rule.target) (λ (choice : Choice). slice_index typing choice.class), few_in_target rule checked)

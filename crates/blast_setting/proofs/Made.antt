@@ -10,7 +10,7 @@ use Rattle.blast_value.specs.declared.held.Held.{Held}
 use Rattle.blast_value.specs.Effect.{held_value, IsOwn}
 use Rattle.blast_setting.specs.declared.setting_bits.SettingBits.{SettingBits}
 use Rattle.blast_setting.specs.SettingBits.{setting_held, SettingIsOwn}
-use Rattle.blast_setting.specs.Inputs.{input_widths, constant_widths, undef_widths, value_bits, number_bits, input_bits}
+use Rattle.blast_setting.specs.Inputs.{input_widths, constant_widths, choice_widths, value_bits, number_bits, input_bits}
 use Rattle.blast_setting.specs.Settings.{values_read, numbers_read, behind_inputs, behind_constants, setting_of}
 use Rattle.blast_value.specs.Words.{number_held}
 use Rattle.blast_setting.proofs.Settings.{same_setting}
@@ -28,48 +28,48 @@ module _ {C L : Type 0} {state : Ghosts C L} (rule : Rule) (typing : List ℕ) (
     pub at_constants : (read : List Bool) → state.admits start read → drop (state.inputs_made first) read ≡ behind_inputs rule typing read
     at_constants read a = behind1 read a ∙ ap (λ xs. drop (sum_by value_bits iw) xs) (at_start read) ∙ ap (λ (ws : List ℕ). drop (sum_by value_bits ws) read) is_iw
 
-    pub at_undefs : (read : List Bool) → state.admits start read → drop (state.inputs_made second) read ≡ behind_constants rule typing read
-    at_undefs read a =
+    pub at_choices : (read : List Bool) → state.admits start read → drop (state.inputs_made second) read ≡ behind_constants rule typing read
+    at_choices read a =
         behind2 read (k1.admitted read a) ∙ ap (λ xs. drop (sum_by number_bits cw) xs) (at_constants read a)
         ∙ ap (λ (ws : List ℕ). drop (sum_by number_bits ws) (behind_inputs rule typing read)) is_cw
 
     -- and where those behind the setting do
-    pub at_end : (uw : List ℕ) → uw ≡ undef_widths rule typing
+    pub at_end : (uw : List ℕ) → uw ≡ choice_widths rule typing
         → ((read : List Bool) → state.admits second read → drop (state.inputs_made third) read ≡ drop (sum_by number_bits uw) (drop (state.inputs_made second) read))
         → (read : List Bool) → state.admits start read → drop (state.inputs_made third) read ≡ drop (input_bits rule typing) read
     at_end uw is_uw behind3 read a =
         let i = sum_by value_bits (input_widths rule typing) in
         let k = sum_by number_bits (constant_widths rule typing) in
-        let u = sum_by number_bits (undef_widths rule typing) in
-        behind3 read (k2.admitted read (k1.admitted read a)) ∙ ap (λ xs. drop (sum_by number_bits uw) xs) (at_undefs read a)
+        let u = sum_by number_bits (choice_widths rule typing) in
+        behind3 read (k2.admitted read (k1.admitted read a)) ∙ ap (λ xs. drop (sum_by number_bits uw) xs) (at_choices read a)
         ∙ ap (λ (ws : List ℕ). drop (sum_by number_bits ws) (behind_constants rule typing read)) is_uw
         ∙ ap (λ (xs : List Bool). drop u xs) (drop-drop k i read) ∙ drop-drop u (i + k) read
 
     -- the literals stand for the setting that is read
-    pub setting_made : (uw : List ℕ) → uw ≡ undef_widths rule typing → (inputs : List (Held L)) (constants undefs : List (List L))
+    pub setting_made : (uw : List ℕ) → uw ≡ choice_widths rule typing → (inputs : List (Held L)) (constants choices : List (List L))
         → All (IsOwn (state.has_literal first)) inputs → All (All (state.has_literal second)) constants
         → ((read : List Bool) → state.admits start read → map (held_value (state.value first read)) inputs ≡ values_read iw (drop (state.inputs_made start) read))
         → ((read : List Bool) → state.admits first read → map (number_held (state.value second read)) constants ≡ numbers_read cw (drop (state.inputs_made first) read))
-        → ((read : List Bool) → state.admits second read → map (number_held (state.value third read)) undefs ≡ numbers_read uw (drop (state.inputs_made second) read))
-        → (made : SettingBits L) → made.inputs ≡ inputs → made.constants ≡ constants → made.target_undefs ≡ undefs
+        → ((read : List Bool) → state.admits second read → map (number_held (state.value third read)) choices ≡ numbers_read uw (drop (state.inputs_made second) read))
+        → (made : SettingBits L) → made.inputs ≡ inputs → made.constants ≡ constants → made.target_choices ≡ choices
         → (read : List Bool) → state.admits start read → setting_held (state.value third read) made ≡ setting_of rule typing read
-    setting_made uw is_uw inputs constants undefs own1 own2 are1 are2 are3 made is1 is2 is3 read a =
+    setting_made uw is_uw inputs constants choices own1 own2 are1 are2 are3 made is1 is2 is3 read a =
         let a1 = k1.admitted read a in
         let a2 = k2.admitted read a1 in
         same_setting (setting_of rule typing read) _ _ _
         (ap (λ xs. map (held_value (state.value third read)) xs) is1 ∙ values-kept (Keeps-trans k2 k3) read a1 inputs own1 ∙ are1 read a ∙ ap (λ xs. values_read iw xs) (at_start read) ∙ ap (λ (ws : List ℕ). values_read ws read) is_iw)
         (ap (λ xs. map (number_held (state.value third read)) xs) is2 ∙ numbers_held-kept k3 read a2 constants own2 ∙ are2 read a1 ∙ ap (λ xs. numbers_read cw xs) (at_constants read a) ∙ ap (λ (ws : List ℕ). numbers_read ws (behind_inputs rule typing read)) is_cw)
-        (ap (λ xs. map (number_held (state.value third read)) xs) is3 ∙ are3 read a2 ∙ ap (λ xs. numbers_read uw xs) (at_undefs read a) ∙ ap (λ (ws : List ℕ). numbers_read ws (behind_constants rule typing read)) is_uw)
+        (ap (λ xs. map (number_held (state.value third read)) xs) is3 ∙ are3 read a2 ∙ ap (λ xs. numbers_read uw xs) (at_choices read a) ∙ ap (λ (ws : List ℕ). numbers_read ws (behind_constants rule typing read)) is_uw)
 
 module _ {C L : Type 0} {state : Ghosts C L} {old new : C} (keeps : Keeps state old new) where
   -- what stands for a setting is kept
   pub setting-kept : (read : List Bool) → state.admits old read → (made : SettingBits L) → SettingIsOwn (state.has_literal old) made → setting_held (state.value new read) made ≡ setting_held (state.value old read) made
   setting-kept read admitted made own =
-      rw (values-kept keeps read admitted made.inputs own.inputs, numbers_held-kept keeps read admitted made.constants own.constants, numbers_held-kept keeps read admitted made.target_undefs own.target_undefs) refl
+      rw (values-kept keeps read admitted made.inputs own.inputs, numbers_held-kept keeps read admitted made.constants own.constants, numbers_held-kept keeps read admitted made.target_choices own.target_choices) refl
 
   pub setting_own-kept : (made : SettingBits L) → SettingIsOwn (state.has_literal old) made → SettingIsOwn (state.has_literal new) made
   setting_own-kept made own = record {
     inputs = AllOwn-kept keeps made.inputs own.inputs;
     constants = AllAll-kept keeps made.constants own.constants;
-    target_undefs = AllAll-kept keeps made.target_undefs own.target_undefs;
+    target_choices = AllAll-kept keeps made.target_choices own.target_choices;
   }

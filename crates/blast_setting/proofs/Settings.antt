@@ -1,9 +1,9 @@
 -- What is read as a setting fits, and each setting that fits is read.
 use Rattle.std.proofs.Common.{◌≡◌, ℕ, ◌+◌, ◌<◌, List, [], ◌∷◌, ◌++◌, length, length-append, take, sum_by, Bool, Some, refl, sym, ap, subst, ◌∙◌, arith, get_or}
-use Rattle.std.specs.Prelude.{slice_get}
-use Rattle.std.proofs.lemmas.List.{take_more}
-use Rattle.std.proofs.lemmas.List.Sums.{sum_by_push, sum_by-cons}
-use Rattle.std.proofs.lemmas.Option.{slice_get_within, get_or_from_slice_get, same_Some}
+use Rattle.std.specs.Prelude.{slice_get, slice_index}
+use Rattle.std.proofs.lemmas.List.{length-map, take_more}
+use Rattle.std.proofs.lemmas.List.Sums.{sum_by-cons}
+use Rattle.std.proofs.lemmas.Option.{slice_get-get_or, slice_get_within, get_or_from_slice_get, same_Some}
 use Rattle.ops.specs.Number.{Number}
 use Rattle.ops.specs.Value.{IsValueOf}
 use Rattle.ops.specs.declared.value.Value.{Value}
@@ -12,15 +12,19 @@ use Rattle.rule_core.specs.declared.rule.Rule.{Rule}
 use Rattle.rule_core.specs.declared.rule.Statement.{Statement}
 use Rattle.rule_core.specs.Typing.{IsTyping}
 use Rattle.rule_core.specs.Checks.{IsRule}
-use Rattle.rule_core.specs.Positions.{Names, undefs_among}
+use Rattle.rule_core.specs.declared.rule.Name.TheVariants as names_of
+use Rattle.rule_core.specs.declared.rule.Choice.{Choice}
+use Rattle.rule_core.specs.Positions.{Names, choices_among, chooses, name}
+use Rattle.rule_core.proofs.Members.{source_operand}
 use Rattle.rule_core.specs.Valid.{Setting, InputsFit, ConstantsFit, TargetChoicesFit}
 use Rattle.blast_setting.specs.declared.named.Kind.{Kind}
-use Rattle.blast_setting.specs.declared.named.Kind.TheVariants.{Input, Constant, Undef}
-use Rattle.blast_setting.specs.Inputs.{named_width, named_widths, input_widths, constant_widths, undef_widths, value_bits, number_bits}
+use Rattle.blast_setting.specs.declared.named.Kind.TheVariants.{Input, Constant}
+use Rattle.blast_setting.specs.Inputs.{named_width, named_widths, input_widths, constant_widths, choice_widths, value_bits, number_bits}
 use Rattle.blast_setting.specs.Names.{AreNamed}
 use Rattle.blast_setting.specs.Settings.{value_read, number_read, values_read, numbers_read, behind_inputs, behind_constants}
 use Rattle.blast_setting.specs.Laws.{ReadSettingsFit, FittingSettingsAreRead}
-use Rattle.blast_setting.proofs.Widths.{half_of, name_of, count_of, half_operand, naming, operand_width, named_width-is, are_named, length-named_widths, named_widths-at}
+use Rattle.blast_setting.proofs.Widths.{name_of, count_of, naming, operand_width, named_width-is, are_named, length-named_widths, named_widths-at}
+use Rattle.blast_setting.proofs.Choices.{choice_at, choice_open, choice_width, open_class}
 use Rattle.blast_setting.proofs.Written.{FitAll, written, length-written, read-written, value_read-fits, number_written, length-number_written, read-number_written, number_read-fits, all_written, length-all_written, read-all_written, behind-all_written, all_read-fit, length-all_read}
 
 abbrev pub IsNumberOf : ℕ → Number → Type 0
@@ -28,26 +32,26 @@ IsNumberOf N n = IsValueOf N (Bits n)
 
 module _ {X : Type 0} (Fits : ℕ → X → Type 0) (rule : Rule) (typing : List ℕ) (kind : Kind) (checked : IsRule rule) (typed : IsTyping rule typing) (xs : List X) where
   -- what has the widths of a kind fits at each position that names one
-  pub fit_widths : FitAll Fits (named_widths typing (half_of rule kind) kind (count_of rule kind)) xs
+  pub fit_widths : FitAll Fits (named_widths typing rule.source kind (count_of rule kind)) xs
       → (k c N : ℕ) (x : X) → Names rule (name_of kind k) c → slice_get typing c ≡ Some N → slice_get xs k ≡ Some x → Fits N x
   fit_widths fit k c N x names at there =
-      let within : k < count_of rule kind = omega (arith, slice_get_within xs k x there, fit.0, length-named_widths typing (half_of rule kind) kind (count_of rule kind)) in
+      let within : k < count_of rule kind = omega (arith, slice_get_within xs k x there, fit.0, length-named_widths typing rule.source kind (count_of rule kind)) in
       let is = named_width-is rule typing kind k c N typed (are_named rule typing kind checked typed k within) names at in
-      subst (λ M. Fits M x) is (fit.1 k (named_width typing (half_of rule kind) kind k) x (named_widths-at typing (half_of rule kind) kind (count_of rule kind) k within) there)
+      subst (λ M. Fits M x) is (fit.1 k (named_width typing rule.source kind k) x (named_widths-at typing rule.source kind (count_of rule kind) k within) there)
 
   -- and the other way round
   pub widths_fit : length xs ≡ count_of rule kind → ((k c N : ℕ) (x : X) → Names rule (name_of kind k) c → slice_get typing c ≡ Some N → slice_get xs k ≡ Some x → Fits N x)
-      → FitAll Fits (named_widths typing (half_of rule kind) kind (count_of rule kind)) xs
+      → FitAll Fits (named_widths typing rule.source kind (count_of rule kind)) xs
   widths_fit count fit = (
-    count ∙ sym (length-named_widths typing (half_of rule kind) kind (count_of rule kind)),
+    count ∙ sym (length-named_widths typing rule.source kind (count_of rule kind)),
     λ k N x at there.
         let within : k < count_of rule kind = omega (arith, slice_get_within xs k x there, count) in
         let named = are_named rule typing kind checked typed k within in
         let o = named.operand in
-        let w = operand_width rule typing o.0 typed (half_operand rule kind o.0 o.1) in
+        let w = operand_width rule typing o.0 typed (source_operand rule o.0 o.1) in
         let names = naming rule kind k o.0 o.1 o.2 in
         let is = named_width-is rule typing kind k o.0.class w.0 typed named names w.1 in
-        let same : N ≡ w.0 = same_Some N (named_width typing (half_of rule kind) kind k) (sym at ∙ named_widths-at typing (half_of rule kind) kind (count_of rule kind) k within) ∙ is in
+        let same : N ≡ w.0 = same_Some N (named_width typing rule.source kind k) (sym at ∙ named_widths-at typing rule.source kind (count_of rule kind) k within) ∙ is in
         subst (λ M. Fits M x) (sym same) (fit k o.0.class w.0 x names w.1 there),
   )
 
@@ -64,11 +68,30 @@ module _ (rule : Rule) (typing : List ℕ) (checked : IsRule rule) (typed : IsTy
     widths = fit_widths IsNumberOf rule typing Constant checked typed numbers fit;
   }
 
-  pub undefs_fit : (numbers : List Number) → FitAll IsNumberOf (undef_widths rule typing) numbers → TargetChoicesFit rule typing numbers
-  undefs_fit numbers fit = record {
-    count = fit.0 ∙ length-named_widths typing rule.target Undef (count_of rule Undef);
-    widths = fit_widths IsNumberOf rule typing Undef checked typed numbers fit;
-  }
+-- what has the widths of the target's choices fits them
+pub target_choices_fit : (rule : Rule) (typing : List ℕ) → IsRule rule → IsTyping rule typing → (numbers : List Number) → FitAll IsNumberOf (choice_widths rule typing) numbers → TargetChoicesFit rule typing numbers
+target_choices_fit rule typing checked typed numbers fit = record {
+  count = fit.0 ∙ length-map (choices_among rule.target) (λ (choice : Choice). slice_index typing choice.class);
+  widths = λ k c N n names at here.
+      let within : k < length (choices_among rule.target) = omega (arith, slice_get_within numbers k n here, fit.0, length-map (choices_among rule.target) (λ (choice : Choice). slice_index typing choice.class)) in
+      let choice = choice_at rule.target k checked.target_choices within in
+      let width : slice_get typing choice.0 ≡ Some N = typed.same choice.0 c (name {n = names_of.Choice k} (chooses (choice_open rule.target k choice.0 choice.1)) names) ∙ at in
+      fit.1 k N n (choice_width typing rule.target k choice.0 N choice.1 width) here;
+}
+
+-- and the other way round
+pub fitting_target_choices : (rule : Rule) (typing : List ℕ) → IsRule rule → IsTyping rule typing → (numbers : List Number) → TargetChoicesFit rule typing numbers → FitAll IsNumberOf (choice_widths rule typing) numbers
+fitting_target_choices rule typing checked typed numbers fit = (
+  fit.count ∙ sym (length-map (choices_among rule.target) (λ (choice : Choice). slice_index typing choice.class)),
+  λ k N n at here.
+      let within : k < length (choices_among rule.target) = omega (arith, slice_get_within numbers k n here, fit.count) in
+      let choice = choice_at rule.target k checked.target_choices within in
+      let left_open = choice_open rule.target k choice.0 choice.1 in
+      let M = get_or typing choice.0 0 in
+      let width : slice_get typing choice.0 ≡ Some M = slice_get-get_or typing choice.0 0 (open_class rule typing k choice.0 typed left_open) in
+      let same : M ≡ N = same_Some M N (sym (choice_width typing rule.target k choice.0 M choice.1 width) ∙ at) in
+      subst (λ W. IsNumberOf W n) same (fit.widths k choice.0 M n (chooses left_open) width here),
+)
 
 all_numbers-fit : (widths : List ℕ) (read : List Bool) → FitAll IsNumberOf widths (numbers_read widths read)
 all_numbers-fit widths read = (
@@ -84,25 +107,25 @@ read_fits rule typing read checked typed =
         all_read-fit value_read value_bits IsValueOf written length-written read-written value_read-fits (input_widths rule typing) read,
       );
       constants = constants_fit rule typing checked typed (numbers_read (constant_widths rule typing) (behind_inputs rule typing read)) (all_numbers-fit (constant_widths rule typing) (behind_inputs rule typing read));
-      target_undefs = undefs_fit rule typing checked typed (numbers_read (undef_widths rule typing) (behind_constants rule typing read)) (all_numbers-fit (undef_widths rule typing) (behind_constants rule typing read));
+      target_choices = target_choices_fit rule typing checked typed (numbers_read (choice_widths rule typing) (behind_constants rule typing read)) (all_numbers-fit (choice_widths rule typing) (behind_constants rule typing read));
     }
 
 -- three lists are a setting
-pub same_setting : (setting : Setting) (inputs : List Value) (constants undefs : List Number) → inputs ≡ setting.inputs → constants ≡ setting.constants → undefs ≡ setting.target_undefs
-    → record { inputs = inputs; constants = constants; target_undefs = undefs } ≡ setting
-same_setting setting inputs constants undefs first second third = rw (first, second, third) refl
+pub same_setting : (setting : Setting) (inputs : List Value) (constants choices : List Number) → inputs ≡ setting.inputs → constants ≡ setting.constants → choices ≡ setting.target_choices
+    → record { inputs = inputs; constants = constants; target_choices = choices } ≡ setting
+same_setting setting inputs constants choices first second third = rw (first, second, third) refl
 
 pub fitting_are_read : FittingSettingsAreRead
 fitting_are_read rule typing setting checked typed fits =
     let iw = input_widths rule typing in
     let cw = constant_widths rule typing in
-    let uw = undef_widths rule typing in
+    let uw = choice_widths rule typing in
     let i_fit = widths_fit IsValueOf rule typing Input checked typed setting.inputs fits.inputs.count fits.inputs.widths in
     let c_fit = widths_fit IsNumberOf rule typing Constant checked typed setting.constants fits.constants.count fits.constants.widths in
-    let u_fit = widths_fit IsNumberOf rule typing Undef checked typed setting.target_undefs fits.target_undefs.count fits.target_undefs.widths in
+    let u_fit = fitting_target_choices rule typing checked typed setting.target_choices fits.target_choices in
     let first = all_written value_read value_bits IsValueOf written length-written read-written value_read-fits iw setting.inputs in
     let second = all_written number_read number_bits IsNumberOf number_written length-number_written read-number_written number_read-fits cw setting.constants in
-    let third = all_written number_read number_bits IsNumberOf number_written length-number_written read-number_written number_read-fits uw setting.target_undefs in
+    let third = all_written number_read number_bits IsNumberOf number_written length-number_written read-number_written number_read-fits uw setting.target_choices in
     let read : List Bool = first ++ (second ++ (third ++ [])) in
     let behind : behind_inputs rule typing read ≡ second ++ (third ++ []) =
     behind-all_written value_read value_bits IsValueOf written length-written read-written value_read-fits iw setting.inputs (second ++ (third ++ [])) i_fit.0 in
@@ -117,38 +140,33 @@ fitting_are_read rule typing setting checked typed fits =
           length-append third [],
           length-all_written value_read value_bits IsValueOf written length-written read-written value_read-fits iw setting.inputs i_fit.0,
           length-all_written number_read number_bits IsNumberOf number_written length-number_written read-number_written number_read-fits cw setting.constants c_fit.0,
-          length-all_written number_read number_bits IsNumberOf number_written length-number_written read-number_written number_read-fits uw setting.target_undefs u_fit.0,
+          length-all_written number_read number_bits IsNumberOf number_written length-number_written read-number_written number_read-fits uw setting.target_choices u_fit.0,
         );
         is = same_setting setting _ _ _
             (read-all_written value_read value_bits IsValueOf written length-written read-written value_read-fits iw setting.inputs (second ++ (third ++ [])) i_fit)
             (ap (numbers_read cw) behind ∙ read-all_written number_read number_bits IsNumberOf number_written length-number_written read-number_written number_read-fits cw setting.constants (third ++ []) c_fit)
-            (ap (numbers_read uw) behind_both ∙ read-all_written number_read number_bits IsNumberOf number_written length-number_written read-number_written number_read-fits uw setting.target_undefs [] u_fit);
+            (ap (numbers_read uw) behind_both ∙ read-all_written number_read number_bits IsNumberOf number_written length-number_written read-number_written number_read-fits uw setting.target_choices [] u_fit);
       },
     )
 
--- the truth values of one more
-pub sum-named_widths : (size : ℕ → ℕ) (typing : List ℕ) (kind : Kind) (statements : List _) (count k : ℕ) → k < count
-    → sum_by size (take (k + 1) (named_widths typing statements kind count)) ≡ sum_by size (take k (named_widths typing statements kind count)) + size (named_width typing statements kind k)
-sum-named_widths size typing kind statements count k within =
+-- the widths of one more
+pub named_widths-more : (typing : List ℕ) (kind : Kind) (statements : List Statement) (count k : ℕ) → k < count
+    → take (k + 1) (named_widths typing statements kind count) ≡ take k (named_widths typing statements kind count) ++ named_width typing statements kind k ∷ []
+named_widths-more typing kind statements count k within =
     let widths = named_widths typing statements kind count in
     let width : get_or widths k 0 ≡ named_width typing statements kind k = get_or_from_slice_get widths k (named_width typing statements kind k) 0 (named_widths-at typing statements kind count k within) in
-    ap (λ (ws : List ℕ). sum_by size ws) (take_more widths k 0 (omega (arith, length-named_widths typing statements kind count)))
-    ∙ sum_by_push size (take k widths) (get_or widths k 0) ∙ ap (λ n. sum_by size (take k widths) + size n) width
+    take_more widths k 0 (omega (arith, length-named_widths typing statements kind count)) ∙ ap (λ N. take k widths ++ N ∷ []) width
 
--- what is told of the half, the count and the widths where they are these
+-- what is told of the source, the count and the widths where they are these
 pub are_named_as : (rule : Rule) (typing : List ℕ) (kind : Kind) → IsRule rule → IsTyping rule typing → (ts : List ℕ) (statements : List Statement) (count : ℕ)
-    → ts ≡ typing → statements ≡ half_of rule kind → count ≡ count_of rule kind → AreNamed ts statements kind count
+    → ts ≡ typing → statements ≡ rule.source → count ≡ count_of rule kind → AreNamed ts statements kind count
 are_named_as rule typing kind checked typed ts statements count same half all = rw (same, half, all) (are_named rule typing kind checked typed)
 
 pub widths_as : (rule : Rule) (typing : List ℕ) (kind : Kind) (ts : List ℕ) (statements : List Statement) (count : ℕ)
-    → ts ≡ typing → statements ≡ half_of rule kind → count ≡ count_of rule kind → named_widths ts statements kind count ≡ named_widths typing (half_of rule kind) kind (count_of rule kind)
+    → ts ≡ typing → statements ≡ rule.source → count ≡ count_of rule kind → named_widths ts statements kind count ≡ named_widths typing rule.source kind (count_of rule kind)
 widths_as rule typing kind ts statements count same half all = rw (same, half, all) refl
 
 -- values have one truth value more than numbers
 pub sum-values : (widths : List ℕ) → sum_by value_bits widths ≡ sum_by number_bits widths + length widths
 sum-values [] = refl
 sum-values (N ∷ widths) = omega (arith, sum_by-cons value_bits N widths, sum_by-cons number_bits N widths, sum-values widths)
-
--- how many `undef`s the target has, where these are its statements
-pub undefs_as : (rule : Rule) (statements : List Statement) (count : ℕ) → count ≡ length (undefs_among statements) → statements ≡ rule.target → count ≡ count_of rule Undef
-undefs_as rule statements count told half = told ∙ ap (λ (ss : List Statement). length (undefs_among ss)) half

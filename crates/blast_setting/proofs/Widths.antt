@@ -1,13 +1,11 @@
 -- What a kind's k-th one is named by, and the width of each position that names it.
-use Rattle.std.proofs.Common.{◌≡◌, ℕ, zero, suc, ◌<◌, inl, inr, Bool, true, false, cond, List, [], ◌∷◌, ◌++◌, ◌+◌, ◌≤◌, length, drop, drop-cons, add-one, Option, Some, None, refl, sym, ap, subst, ◌∙◌, eqb-true, eq-eqb, arith, get_or}
-use Rattle.std.specs.Prelude.{slice_get, slice_index, Contains, flat_map, filter_map}
-use Rattle.std.specs.List.{find, cons_option}
+use Rattle.std.proofs.Common.{◌≡◌, ℕ, zero, suc, ◌<◌, Bool, true, false, cond, List, [], ◌∷◌, ◌++◌, ◌+◌, ◌≤◌, length, drop, drop-cons, add-one, Option, Some, None, refl, sym, ap, subst, ◌∙◌, eqb-true, eq-eqb, arith, get_or}
+use Rattle.std.specs.Prelude.{slice_get, slice_index, Contains}
+use Rattle.std.specs.List.{find}
 use Rattle.std.specs.Option.{option_map_or, option_map, option_or}
 use Rattle.std.proofs.lemmas.List.{drop_all}
 use Rattle.std.proofs.lemmas.List.Folds.{find-append}
-use Rattle.std.proofs.lemmas.List.FromFn.{get_or-range_with_len, length-map-range_with_len, get_or-map-range_with_len}
-use Rattle.std.proofs.lemmas.Grind.{flat_map-append}
-use Rattle.std.proofs.lemmas.List.Elements.{Contains-append_cases, Contains-append_left, Contains-append_right}
+use Rattle.std.proofs.lemmas.List.FromFn.{length-map-range_with_len, get_or-map-range_with_len}
 use Rattle.std.proofs.lemmas.Option.{same_Some, slice_get_within, slice_get-get_or, get_or_from_slice_get}
 use Rattle.rule_core.specs.declared.rule.Rule.{Rule}
 use Rattle.rule_core.specs.declared.rule.Statement.{Statement}
@@ -17,13 +15,13 @@ use Rattle.rule_core.specs.declared.rule.Argument.TheVariants as arguments
 use Rattle.rule_core.specs.declared.rule.Register.TheVariants as registers
 use Rattle.rule_core.specs.declared.rule.Name.{Name}
 use Rattle.rule_core.specs.declared.rule.Name.TheVariants as names_of
-use Rattle.rule_core.specs.Positions.{operands_of, operands_among, operands_in, undefs_among, undef_in, IsOperandAmong, Names, reads, reads_constant, chooses, name}
+use Rattle.rule_core.specs.Positions.{operands_of, operands_among, operands_in, IsOperandAmong, Names, reads, reads_constant, name}
 use Rattle.rule_core.specs.Typing.{IsTyping}
 use Rattle.rule_core.specs.Checks.{IsRule, StandsAt}
-use Rattle.rule_core.proofs.Members.{Contains-from_get, operand_class_stands}
+use Rattle.rule_core.proofs.Members.{Contains-from_get, flat_map-from, operand_class_stands, source_operand}
 use Rattle.rule_core.proofs.Ready.{class_width}
 use Rattle.blast_setting.specs.declared.named.Kind.{Kind}
-use Rattle.blast_setting.specs.declared.named.Kind.TheVariants.{Input, Constant, Undef}
+use Rattle.blast_setting.specs.declared.named.Kind.TheVariants.{Input, Constant}
 use Rattle.blast_setting.specs.Inputs.{argument_of, names, named_width, named_widths}
 use Rattle.blast_setting.specs.Names.{IsNamed, AreNamed}
 
@@ -41,15 +39,6 @@ pub finds : {X : Type 0} (p : X → Bool) (xs : List X) (q : ℕ) (o : X) → sl
 finds p [] q o at pass = absurd (omega (arith, slice_get_within [] q o at))
 finds p (y ∷ xs) zero o at pass = let e : p y ≡ true = ap p (same_Some y o at) ∙ pass in (y, rw e refl)
 finds {X} p (y ∷ xs) (suc q) o at pass = elim (p y) as (λ b. (x : X) × (cond b (Some y) (find p xs) ≡ Some x)) [ true ↦ (y, refl) | false ↦ finds p xs q o at pass ]
-
--- an element of what elements are mapped to is of what one of them is
-pub of_one : {X Y : Type 0} (f : X → List Y) (xs : List X) (y : Y) → Contains (flat_map f xs) y → (x : X) × Contains xs x × Contains (f x) y
-of_one f [] y (k, lt, e) = absurd (omega arith)
-of_one f (a ∷ xs) y among =
-    elim (Contains-append_cases (f a) (flat_map f xs) y among) [
-      | inl here ↦ (a, (0, omega arith, refl), here)
-      | inr later ↦ let r = of_one f xs y later in (r.0, (suc r.1.0, omega (arith, r.1.1), r.1.2), r.2)
-    ]
 
 -- what is read is named
 names_at : (kind : Kind) (k : ℕ) (x : Argument) → names kind k x ≡ true → x ≡ argument_of kind k
@@ -69,19 +58,10 @@ names_at Constant k (arguments.Truth b) pass = cc
 names_at Constant k (arguments.Constant i) pass = ap (arguments.Constant) (eqb-true i k pass)
 names_at Constant k (arguments.Undef i) pass = cc
 names_at Constant k (arguments.Term i) pass = cc
-names_at Undef k (arguments.Register (registers.Input i)) pass = cc
-names_at Undef k (arguments.Register (registers.Source i)) pass = cc
-names_at Undef k (arguments.Register (registers.Target i)) pass = cc
-names_at Undef k (arguments.Literal z) pass = cc
-names_at Undef k (arguments.Truth b) pass = cc
-names_at Undef k (arguments.Constant i) pass = cc
-names_at Undef k (arguments.Undef i) pass = ap (arguments.Undef) (eqb-true i k pass)
-names_at Undef k (arguments.Term i) pass = cc
 
 named_passes : (kind : Kind) (k : ℕ) (x : Argument) → x ≡ argument_of kind k → names kind k x ≡ true
 named_passes Input k x is = ap (names Input k) is ∙ eq-eqb k k refl
 named_passes Constant k x is = ap (names Constant k) is ∙ eq-eqb k k refl
-named_passes Undef k x is = ap (names Undef k) is ∙ eq-eqb k k refl
 
 abbrev pub test : Kind → ℕ → Operand → Bool
 test kind k o = names kind k o.value
@@ -95,51 +75,30 @@ first_named statements kind k o (q, lt, e) is =
     let r = found (test kind k) (operands_among statements) f.0 f.1 in
     (f.0, f.1, r.0, names_at kind k f.0.value r.1)
 
--- the half that names a kind, the names, and how many there are
-abbrev pub half_of : Rule → Kind → List Statement
-half_of rule Input = rule.source
-half_of rule Constant = rule.source
-half_of rule Undef = rule.target
-
+-- the names of a kind, and how many there are
 abbrev pub name_of : Kind → ℕ → Name
 name_of Input k = names_of.Register (registers.Input k)
 name_of Constant k = names_of.Constant k
-name_of Undef k = names_of.Undef k
 
 abbrev pub count_of : Rule → Kind → ℕ
 count_of rule Input = length rule.inputs
 count_of rule Constant = length rule.constants
-count_of rule Undef = length (undefs_among rule.target)
 
-source_operand : (rule : Rule) (o : Operand) → IsOperandAmong rule.source o → Contains (operands_in rule) o
-source_operand rule o among =
-    rw (flat_map-append (λ (s : Statement). operands_of s.op) rule.source rule.target) (Contains-append_left (operands_among rule.source) (operands_among rule.target) o among)
-
-target_operand : (rule : Rule) (o : Operand) → IsOperandAmong rule.target o → Contains (operands_in rule) o
-target_operand rule o among =
-    rw (flat_map-append (λ (s : Statement). operands_of s.op) rule.source rule.target) (Contains-append_right (operands_among rule.source) (operands_among rule.target) o among)
-
-pub half_operand : (rule : Rule) (kind : Kind) (o : Operand) → IsOperandAmong (half_of rule kind) o → Contains (operands_in rule) o
-half_operand rule Input o among = source_operand rule o among
-half_operand rule Constant o among = source_operand rule o among
-half_operand rule Undef o among = target_operand rule o among
-
-pub naming : (rule : Rule) (kind : Kind) (k : ℕ) (o : Operand) → IsOperandAmong (half_of rule kind) o → o.value ≡ argument_of kind k → Names rule (name_of kind k) o.class
+pub naming : (rule : Rule) (kind : Kind) (k : ℕ) (o : Operand) → IsOperandAmong rule.source o → o.value ≡ argument_of kind k → Names rule (name_of kind k) o.class
 naming rule Input k o among is = reads (source_operand rule o among) is
 naming rule Constant k o among is = reads_constant (source_operand rule o among) is
-naming rule Undef k o among is = chooses among is
 
 -- each operand of the rule has a width
 pub operand_width : (rule : Rule) (typing : List ℕ) (o : Operand) → IsTyping rule typing → Contains (operands_in rule) o → (N : ℕ) × (slice_get typing o.class ≡ Some N)
 operand_width rule typing o typed among =
-    let of = of_one (λ (s : Statement). operands_of s.op) (rule.source ++ rule.target) o among in
-    class_width rule typing o.class typed (operand_class_stands rule of.0 o of.1 of.2)
+    let of = flat_map-from (λ (s : Statement). operands_of s.op) (rule.source ++ rule.target) o among in
+    class_width rule typing o.class typed (operand_class_stands rule of.1 o (Contains-from_get (rule.source ++ rule.target) of.0 of.1 of.2) of.3)
 
 -- the width that is told is that of each position that names it
-pub named_width-is : (rule : Rule) (typing : List ℕ) (kind : Kind) (k c N : ℕ) → IsTyping rule typing → IsNamed typing (half_of rule kind) kind k
-    → Names rule (name_of kind k) c → slice_get typing c ≡ Some N → named_width typing (half_of rule kind) kind k ≡ N
+pub named_width-is : (rule : Rule) (typing : List ℕ) (kind : Kind) (k c N : ℕ) → IsTyping rule typing → IsNamed typing rule.source kind k
+    → Names rule (name_of kind k) c → slice_get typing c ≡ Some N → named_width typing rule.source kind k ≡ N
 named_width-is rule typing kind k c N typed named names_it at =
-    let f = first_named (half_of rule kind) kind k named.operand.0 named.operand.1 named.operand.2 in
+    let f = first_named rule.source kind k named.operand.0 named.operand.1 named.operand.2 in
     let width : slice_get typing f.0.class ≡ Some N = typed.same f.0.class c (name (naming rule kind k f.0 f.2 f.3) names_it) ∙ at in
     ap (λ x. option_map_or (λ (y : Operand). slice_index typing y.class) x 0) f.1 ∙ get_or_from_slice_get typing f.0.class N 0 width
 
@@ -147,48 +106,14 @@ named_width-is rule typing kind k c N typed named names_it at =
 at_place : (rule : Rule) (q : ℕ) (x : Argument) → StandsAt rule q x → (o : Operand) × IsOperandAmong rule.source o × (o.value ≡ x)
 at_place rule q x (o, at, is) = (o, Contains-from_get (operands_among rule.source) q o at, is)
 
-undef_at : (x : Argument) (k : ℕ) → undef_in x ≡ Some k → x ≡ arguments.Undef k
-undef_at (arguments.Register r) k is = cc
-undef_at (arguments.Literal z) k is = cc
-undef_at (arguments.Truth b) k is = cc
-undef_at (arguments.Constant j) k is = cc
-undef_at (arguments.Undef j) k is = ap arguments.Undef (same_Some j k is)
-undef_at (arguments.Term n) k is = cc
-
--- an element of those that are kept comes of one of the elements
-later : {X Y : Type 0} (f : X → Option Y) (a : X) (xs : List X) (y : Y) → (x : X) × Contains xs x × (f x ≡ Some y) → (x : X) × Contains (a ∷ xs) x × (f x ≡ Some y)
-later f a xs y r = (r.0, (suc r.1.0, omega (arith, r.1.1), r.1.2), r.2)
-
-kept_from : {X Y : Type 0} (f : X → Option Y) (xs : List X) (k : ℕ) (y : Y) → slice_get (filter_map f xs) k ≡ Some y → (x : X) × Contains xs x × (f x ≡ Some y)
-kept_from f [] zero y at = cc
-kept_from f [] (suc k) y at = cc
-kept_from {X} {Y} f (a ∷ xs) k y at =
-    elim (f a) as (λ o. f a ≡ o → slice_get (cons_option o (filter_map f xs)) k ≡ Some y → (x : X) × Contains (a ∷ xs) x × (f x ≡ Some y)) [
-      | None ↦ λ is h. later f a xs y (kept_from f xs k y h)
-      | Some z ↦ λ is h.
-          elim k as (λ j. slice_get (z ∷ filter_map f xs) j ≡ Some y → (x : X) × Contains (a ∷ xs) x × (f x ≡ Some y)) [
-            | zero ↦ λ e. (a, (0, omega arith, refl), is ∙ e)
-            | suc j ↦ λ e. later f a xs y (kept_from f xs j y e)
-          ] h
-    ] refl at
-
-undef_operand : (rule : Rule) (k : ℕ) → IsRule rule → k < length (undefs_among rule.target) → (o : Operand) × IsOperandAmong rule.target o × (o.value ≡ arguments.Undef k)
-undef_operand rule k checked within =
-    let undefs = undefs_among rule.target in
-    let at : slice_get undefs k ≡ Some k =
-    slice_get-get_or undefs k 0 within ∙ ap (λ n. Some n) (ap (λ (us : List ℕ). get_or us k 0) checked.target_undefs ∙ get_or-range_with_len 0 (length undefs) k 0 within ∙ omega arith) in
-    let o = kept_from (λ (o : Operand). undef_in o.value) (operands_among rule.target) k k at in
-    (o.0, o.1, undef_at o.0.value k o.2)
-
-named_operand : (rule : Rule) (kind : Kind) (k : ℕ) → IsRule rule → k < count_of rule kind → (o : Operand) × IsOperandAmong (half_of rule kind) o × (o.value ≡ argument_of kind k)
+named_operand : (rule : Rule) (kind : Kind) (k : ℕ) → IsRule rule → k < count_of rule kind → (o : Operand) × IsOperandAmong rule.source o × (o.value ≡ argument_of kind k)
 named_operand rule Input k checked within = let q = checked.inputs_read k within in at_place rule q.0 (argument_of Input k) q.1
 named_operand rule Constant k checked within = let q = checked.constants_read k within in at_place rule q.0 (argument_of Constant k) q.1
-named_operand rule Undef k checked within = undef_operand rule k checked within
 
-pub are_named : (rule : Rule) (typing : List ℕ) (kind : Kind) → IsRule rule → IsTyping rule typing → AreNamed typing (half_of rule kind) kind (count_of rule kind)
+pub are_named : (rule : Rule) (typing : List ℕ) (kind : Kind) → IsRule rule → IsTyping rule typing → AreNamed typing rule.source kind (count_of rule kind)
 are_named rule typing kind checked typed k within = record {
   operand = named_operand rule kind k checked within;
-  classes = λ o among. let w = operand_width rule typing o typed (half_operand rule kind o among) in slice_get_within typing o.class w.0 w.1;
+  classes = λ o among. let w = operand_width rule typing o typed (source_operand rule o among) in slice_get_within typing o.class w.0 w.1;
 }
 
 pub length-named_widths : (typing : List ℕ) (statements : List Statement) (kind : Kind) (count : ℕ) → length (named_widths typing statements kind count) ≡ count

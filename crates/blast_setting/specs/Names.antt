@@ -1,7 +1,9 @@
 -- What lets widths be told: an operand names each thing, and the classes of operands have widths.
 use Rattle.std.specs.Prelude.{◌≡◌, ℕ, ◌<◌, List, length}
+use Rattle.std.specs.List.{All}
 use Rattle.rule_core.specs.declared.rule.Statement.{Statement}
 use Rattle.rule_core.specs.declared.rule.Operand.{Operand}
+use Rattle.rule_core.specs.declared.rule.Choice.{Choice}
 use Rattle.rule_core.specs.Positions.{IsOperandAmong}
 use Rattle.blast_setting.specs.declared.named.Kind.{Kind}
 use Rattle.blast_setting.specs.Inputs.{argument_of}
@@ -14,3 +16,7 @@ pub record IsNamed (typing : List ℕ) (statements : List Statement) (kind : Kin
 -- and so are the first ones of the kind, so many
 abbrev pub AreNamed : List ℕ → List Statement → Kind → ℕ → Type 0
 AreNamed typing statements kind count = (k : ℕ) → k < count → IsNamed typing statements kind k
+
+-- the classes of these choices have widths
+abbrev pub HaveWidths : List ℕ → List Choice → Type 0
+HaveWidths typing choices = All (λ c. c.class < length typing) choices

@@ -8,7 +8,7 @@ use Rattle.rule_core.specs.Terms.{constant_values, number_or_zero}
 use Rattle.rule_core.specs.Valid.{Setting}
 use Rattle.blast_value.specs.Effect.{held_value, widths_of, IsOwn}
 use Rattle.blast_setting.specs.declared.setting_bits.SettingBits.{SettingBits}
-use Rattle.blast_setting.specs.Inputs.{input_widths, constant_widths, undef_widths}
+use Rattle.blast_setting.specs.Inputs.{input_widths, constant_widths, choice_widths}
 use Rattle.blast_value.specs.Words.{number_held}
 
 -- the setting that the literals stand for
@@ -17,17 +17,17 @@ setting_held value made =
     record {
       inputs = map (held_value value) made.inputs;
       constants = map (number_held value) made.constants;
-      target_undefs = map (number_held value) made.target_undefs;
+      target_choices = map (number_held value) made.target_choices;
     }
 
 -- all its literals are a circuit's
 pub record SettingIsOwn {L : Type 0} (has_literal : L → Type 0) (made : SettingBits L) : Type 0 where
   pub inputs : All (IsOwn has_literal) made.inputs
   pub constants : All (All has_literal) made.constants
-  pub target_undefs : All (All has_literal) made.target_undefs
+  pub target_choices : All (All has_literal) made.target_choices
 
 -- its words have the widths of what they stand for
 pub record HasWidths {L : Type 0} (rule : Rule) (typing : List ℕ) (made : SettingBits L) : Type 0 where
   pub inputs : widths_of made.inputs ≡ input_widths rule typing
   pub constants : map length made.constants ≡ constant_widths rule typing
-  pub target_undefs : map length made.target_undefs ≡ undef_widths rule typing
+  pub target_choices : map length made.target_choices ≡ choice_widths rule typing

@@ -7,7 +7,7 @@ use Rattle.ops.specs.declared.value.Value.TheVariants.{Poison}
 use Rattle.circuits.specs.Word.{number}
 use Rattle.rule_core.specs.declared.rule.Rule.{Rule}
 use Rattle.rule_core.specs.Valid.{Setting}
-use Rattle.blast_setting.specs.Inputs.{input_widths, constant_widths, undef_widths, value_bits, number_bits}
+use Rattle.blast_setting.specs.Inputs.{input_widths, constant_widths, choice_widths, value_bits, number_bits}
 
 -- a number of iN: its N bits, the lowest first
 abbrev pub number_read : ℕ → List Bool → Number
@@ -35,11 +35,11 @@ behind_inputs rule typing read = drop (sum_by value_bits (input_widths rule typi
 abbrev pub behind_constants : Rule → List ℕ → List Bool → List Bool
 behind_constants rule typing read = drop (sum_by number_bits (constant_widths rule typing)) (behind_inputs rule typing read)
 
--- the setting: a value for each input, then a number for each constant, then one for each `undef` of the target
+-- the setting: a value for each input, then a number for each constant, then one for each choice of the target
 abbrev pub setting_of : Rule → List ℕ → List Bool → Setting
 setting_of rule typing read =
     record {
       inputs = values_read (input_widths rule typing) read;
       constants = numbers_read (constant_widths rule typing) (behind_inputs rule typing read);
-      target_undefs = numbers_read (undef_widths rule typing) (behind_constants rule typing read);
+      target_choices = numbers_read (choice_widths rule typing) (behind_constants rule typing read);
     }

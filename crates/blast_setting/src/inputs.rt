@@ -1,97 +1,92 @@
 //! The inputs of a rule's circuit.
-ghost use Rattle.std.specs.Prelude.{◌≡◌, ◌+◌, Bool, List as Seq, length, map, drop, sum_by, IfOk, OnOk};
+ghost use Rattle.std.specs.Prelude.{◌≡◌, ◌*◌, ◌≤◌, Bool, List as Seq, length, map, drop, sum_by, IfOk, OnOk};
 ghost use Rattle.std.specs.List.{All};
 ghost use Rattle.circuits.specs.Circuit.{Keeps};
 ghost use Rattle.rule_core.specs.Checks.{IsRule};
 ghost use Rattle.rule_core.specs.Typing.{IsTyping};
 ghost use Rattle.blast_value.specs.Effect.{held_value, widths_of, IsOwn};
-ghost use Rattle.blast_setting.specs.Inputs.{input_bits, named_widths, value_bits, number_bits};
+ghost use Rattle.blast_setting.specs.Inputs.{input_bits, value_bits, number_bits};
 ghost use Rattle.blast_setting.specs.Settings.{value_read, values_read, number_read, numbers_read};
-ghost use Rattle.blast_setting.specs.Names.{AreNamed};
 ghost use Rattle.blast_value.specs.Words.{number_held};
 
-use crate::named::{Kind, bits_named, named_width, undefs_among};
+use crate::setting_widths::SettingWidths;
 use blast_value::Held;
 use circuits::{Bits, Circuit};
 use lists::List;
 use ops::Width;
-use rule_core::{Rule, Statement, Typing};
+use rule_core::{Rule, Typing};
 use std::alloc::{AllocError, Global};
 
 /// How many inputs the rule's circuit has: N + 1 for each input of width N, its number and its poison bit, and then N for the number of
-/// each constant and of each `undef` of the target. It takes no memory, and for each of them as many steps as its half has statements.
-pub fn input_bits(rule: &Rule, typing: &Typing) -> u32
+/// each constant and of each choice of the target.
+pub fn input_bits(alloc: Global, rule: &Rule, typing: &Typing) -> Result<u32, AllocError>
     requires rule { IsRule rule.now }
     requires typing { IsTyping rule.now typing.now }
-    ensures { result ≡ input_bits rule.now typing.now }
+    ensures { IfOk result (λ bits. bits ≡ input_bits rule.now typing.now) }
 {
-    let typing = typing.as_slice();
-    let source = rule.source.as_slice();
-    let target = rule.target.as_slice();
-    let inputs = rule.inputs.len();
-    let undefs = undefs_among(target);
-    bits_named(typing, source, Kind::Input, inputs)
-        + inputs as u32
-        + bits_named(typing, source, Kind::Constant, rule.constants.len())
-        + bits_named(typing, target, Kind::Undef, undefs)
+    let widths = SettingWidths::of(alloc, rule, typing.as_slice())?;
+    let inputs = widths.inputs.len();
+    Ok(
+        bits_of(&widths.inputs)
+            + inputs as u32
+            + bits_of(&widths.constants)
+            + bits_of(&widths.choices),
+    )
 }
 
-/// A value for each of the first ones of a kind: of each its bits, the lowest first, and then its poison bit.
+/// How many bits numbers of these widths have together.
+fn bits_of(widths: &[Width]) -> u32
+    requires { length widths.now ≤ 256 }
+    ensures bits { result ≡ sum_by number_bits widths.now }
+    ensures few { result ≤ 64 * length widths.now }
+{
+    let mut bits = 0;
+    for width in widths {
+        bits += width.bits();
+    }
+    bits
+}
+
+/// A value for each width: of each its bits, the lowest first, and then its poison bit.
 pub(crate) fn make_values<C: Circuit>(
     alloc: Global,
     c: &mut C,
-    typing: &[Width],
-    statements: &[Statement],
-    kind: Kind,
-    count: usize,
+    widths: &[Width],
 ) -> Result<Vec<Held<C::Literal>>, AllocError>
-    requires { AreNamed typing.now statements.now kind count }
     ensures values { IfOk result (λ held. (inputs : Seq Bool) → C.admits c.old inputs →
-        map (held_value (C.value c.new inputs)) held.items
-        ≡ values_read (named_widths typing.now statements.now kind count) (drop (C.inputs_made c.old) inputs)) }
-    ensures widths { IfOk result (λ held. widths_of held.items ≡ named_widths typing.now statements.now kind count) }
+        map (held_value (C.value c.new inputs)) held.items ≡ values_read widths.now (drop (C.inputs_made c.old) inputs)) }
+    ensures widths { IfOk result (λ held. widths_of held.items ≡ widths.now) }
     ensures own { IfOk result (λ held. All (IsOwn (C.has_literal c.new)) held.items) }
     ensures inputs { OnOk result ((inputs : Seq Bool) → C.admits c.old inputs →
-        drop (C.inputs_made c.new) inputs
-        ≡ drop (sum_by value_bits (named_widths typing.now statements.now kind count))
-        (drop (C.inputs_made c.old) inputs)) }
+        drop (C.inputs_made c.new) inputs ≡ drop (sum_by value_bits widths.now) (drop (C.inputs_made c.old) inputs)) }
     ensures gates { C.gates_made c.new ≡ C.gates_made c.old }
     ensures keeps { Keeps C.State c.old c.new }
 {
     let mut held = Vec::new(alloc);
-    for k in 0..count {
-        let width = named_width(typing, statements, kind, k);
-        held.push(make_value(alloc, c, width)?)?;
+    for width in widths {
+        held.push(make_value(alloc, c, *width)?)?;
     }
     Ok(held)
 }
 
-/// A number for each of the first ones of a kind: its bits, the lowest first.
+/// A number for each width: its bits, the lowest first.
 pub(crate) fn make_numbers<C: Circuit>(
     alloc: Global,
     c: &mut C,
-    typing: &[Width],
-    statements: &[Statement],
-    kind: Kind,
-    count: usize,
+    widths: &[Width],
 ) -> Result<Vec<Bits<C::Literal>>, AllocError>
-    requires { AreNamed typing.now statements.now kind count }
     ensures numbers { IfOk result (λ words. (inputs : Seq Bool) → C.admits c.old inputs →
-        map (number_held (C.value c.new inputs)) words.items
-        ≡ numbers_read (named_widths typing.now statements.now kind count) (drop (C.inputs_made c.old) inputs)) }
-    ensures widths { IfOk result (λ words. map length words.items ≡ named_widths typing.now statements.now kind count) }
+        map (number_held (C.value c.new inputs)) words.items ≡ numbers_read widths.now (drop (C.inputs_made c.old) inputs)) }
+    ensures widths { IfOk result (λ words. map length words.items ≡ widths.now) }
     ensures own { IfOk result (λ words. All (All (C.has_literal c.new)) words.items) }
     ensures inputs { OnOk result ((inputs : Seq Bool) → C.admits c.old inputs →
-        drop (C.inputs_made c.new) inputs
-        ≡ drop (sum_by number_bits (named_widths typing.now statements.now kind count))
-        (drop (C.inputs_made c.old) inputs)) }
+        drop (C.inputs_made c.new) inputs ≡ drop (sum_by number_bits widths.now) (drop (C.inputs_made c.old) inputs)) }
     ensures gates { C.gates_made c.new ≡ C.gates_made c.old }
     ensures keeps { Keeps C.State c.old c.new }
 {
     let mut words = Vec::new(alloc);
-    for k in 0..count {
-        let width = named_width(typing, statements, kind, k);
-        words.push(make_number(alloc, c, width)?)?;
+    for width in widths {
+        words.push(make_number(alloc, c, *width)?)?;
     }
     Ok(words)
 }

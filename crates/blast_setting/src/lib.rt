@@ -4,11 +4,13 @@
 //! makes no gate.
 #![tactic(auto)]
 
+mod choices;
 mod inputs;
 mod laws;
 mod named;
 mod setting;
 mod setting_bits;
+mod setting_widths;
 
 pub use inputs::input_bits;
 pub use laws::{fitting_settings_are_read, read_settings_fit};

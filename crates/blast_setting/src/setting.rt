@@ -3,15 +3,13 @@ ghost use Rattle.std.specs.Prelude.{◌≡◌, ◌<◌, ◌^◌, false, IfOk, ta
 ghost use Rattle.rule_core.specs.Checks.{IsRule};
 ghost use Rattle.rule_core.specs.Typing.{IsTyping};
 ghost use Rattle.circuits.specs.Word.{number};
-ghost use Rattle.blast_setting.specs.declared.named.Kind.TheVariants as kinds;
-ghost use Rattle.blast_setting.specs.Inputs.{named_widths, value_bits, number_bits};
-ghost use Rattle.blast_setting.specs.Names.{AreNamed};
+ghost use Rattle.blast_setting.specs.Inputs.{value_bits, number_bits};
 ghost use Rattle.blast_setting.specs.Settings.{setting_of, value_read, values_read, numbers_read};
 
-use crate::named::{Kind, named_width, undefs_among};
+use crate::setting_widths::SettingWidths;
 use lists::List;
 use ops::{Value, Width, Word};
-use rule_core::{Rule, Statement, Typing};
+use rule_core::{Rule, Typing};
 use std::alloc::{AllocError, Global};
 
 /// What the halves of a rule are compared on.
@@ -21,13 +19,13 @@ pub struct Setting {
     pub inputs: List<Value>,
     /// A number for each abstract constant.
     pub constants: List<Word>,
-    /// A number for each `undef` of the target.
-    pub target_undefs: List<Word>,
+    /// A number for each choice of the target, which are its `undef`s and its freezes.
+    pub target_choices: List<Word>,
 }
 
 /// The setting that truth values of the circuit's inputs stand for, in the order in which [`blast_rule`](crate::blast_rule) makes
 /// them: for each input of the rule its bits, the lowest first, and then its poison bit; then the bits of each constant, and then
-/// those of each `undef` of the target. Past its end the list counts as false.
+/// those of each choice of the target. Past its end the list counts as false.
 pub fn setting_of(
     alloc: Global,
     rule: &Rule,
@@ -38,66 +36,51 @@ pub fn setting_of(
     requires typing { IsTyping rule.now typing.now }
     ensures inputs { IfOk result (λ setting. setting.inputs ≡ (setting_of rule.now typing.now bits.now).inputs) }
     ensures constants { IfOk result (λ setting. setting.constants ≡ (setting_of rule.now typing.now bits.now).constants) }
-    ensures target_undefs { IfOk result (λ setting.
-        setting.target_undefs ≡ (setting_of rule.now typing.now bits.now).target_undefs) }
+    ensures target_choices { IfOk result (λ setting.
+        setting.target_choices ≡ (setting_of rule.now typing.now bits.now).target_choices) }
 {
-    let typing = typing.as_slice();
-    let source = rule.source.as_slice();
-    let target = rule.target.as_slice();
-    let (inputs, rest) = values_read(alloc, typing, source, rule.inputs.len(), bits)?;
-    let count = rule.constants.len();
-    let (constants, rest) = numbers_read(alloc, typing, source, Kind::Constant, count, rest)?;
-    let count = undefs_among(target);
-    let (target_undefs, _) = numbers_read(alloc, typing, target, Kind::Undef, count, rest)?;
+    let widths = SettingWidths::of(alloc, rule, typing.as_slice())?;
+    let (inputs, rest) = values_read(alloc, &widths.inputs, bits)?;
+    let (constants, rest) = numbers_read(alloc, &widths.constants, rest)?;
+    let (target_choices, _) = numbers_read(alloc, &widths.choices, rest)?;
     Ok(Setting {
         inputs,
         constants,
-        target_undefs,
+        target_choices,
     })
 }
 
-/// The values of the first inputs that truth values are read as, and the truth values behind them.
+/// The values of these widths that truth values are read as, and the truth values behind them.
 fn values_read<'a>(
     alloc: Global,
-    typing: &[Width],
-    statements: &[Statement],
-    count: usize,
+    widths: &[Width],
     bits: &'a [bool],
 ) -> Result<(List<Value>, &'a [bool]), AllocError>
-    requires { AreNamed typing.now statements.now kinds.Input count }
-    ensures values { IfOk result (λ read. read.0 ≡ values_read (named_widths typing.now statements.now kinds.Input count) bits.now) }
-    ensures rest { IfOk result (λ read.
-        read.1.now ≡ drop (sum_by value_bits (named_widths typing.now statements.now kinds.Input count)) bits.now) }
+    ensures values { IfOk result (λ read. read.0 ≡ values_read widths.now bits.now) }
+    ensures rest { IfOk result (λ read. read.1.now ≡ drop (sum_by value_bits widths.now) bits.now) }
 {
     let mut values = List::new(alloc);
     let mut rest = bits;
-    for k in 0..count {
-        let width = named_width(typing, statements, Kind::Input, k);
-        values.push(value_read(width, rest))?;
+    for width in widths {
+        values.push(value_read(*width, rest))?;
         rest = after(rest, width.bits() as usize + 1);
     }
     Ok((values, rest))
 }
 
-/// The numbers of the first ones of a kind that truth values are read as, and the truth values behind them.
+/// The numbers of these widths that truth values are read as, and the truth values behind them.
 fn numbers_read<'a>(
     alloc: Global,
-    typing: &[Width],
-    statements: &[Statement],
-    kind: Kind,
-    count: usize,
+    widths: &[Width],
     bits: &'a [bool],
 ) -> Result<(List<Word>, &'a [bool]), AllocError>
-    requires { AreNamed typing.now statements.now kind count }
-    ensures numbers { IfOk result (λ read. read.0 ≡ numbers_read (named_widths typing.now statements.now kind count) bits.now) }
-    ensures rest { IfOk result (λ read.
-        read.1.now ≡ drop (sum_by number_bits (named_widths typing.now statements.now kind count)) bits.now) }
+    ensures numbers { IfOk result (λ read. read.0 ≡ numbers_read widths.now bits.now) }
+    ensures rest { IfOk result (λ read. read.1.now ≡ drop (sum_by number_bits widths.now) bits.now) }
 {
     let mut numbers = List::new(alloc);
     let mut rest = bits;
-    for k in 0..count {
-        let width = named_width(typing, statements, kind, k);
-        numbers.push(Word::wrapped(width, number_read(width, rest)))?;
+    for width in widths {
+        numbers.push(Word::wrapped(*width, number_read(*width, rest)))?;
         rest = after(rest, width.bits() as usize);
     }
     Ok((numbers, rest))

@@ -8,7 +8,7 @@ ghost use Rattle.blast_setting.specs.Settings.{setting_of};
 ghost use Rattle.blast_setting.specs.SettingBits.{setting_held, SettingIsOwn, HasWidths};
 
 use crate::inputs::{make_numbers, make_values};
-use crate::named::{Kind, undefs_among};
+use crate::setting_widths::SettingWidths;
 use blast_value::Held;
 use circuits::{Bits, Circuit};
 use lists::List;
@@ -23,8 +23,8 @@ pub struct SettingBits<L> {
     pub inputs: List<Held<L>>,
     /// A number for each abstract constant.
     pub constants: List<Bits<L>>,
-    /// A number for each `undef` of the target.
-    pub target_undefs: List<Bits<L>>,
+    /// A number for each choice of the target.
+    pub target_choices: List<Bits<L>>,
 }
 
 /// The circuit's inputs for a setting of the rule. The circuit has none before.
@@ -46,17 +46,13 @@ pub fn make_setting<C: Circuit>(
     ensures gates { C.gates_made c.new ≡ C.gates_made c.old }
     ensures keeps { Keeps C.State c.old c.new }
 {
-    let source = rule.source.as_slice();
-    let target = rule.target.as_slice();
-    let count = rule.inputs.len();
-    let inputs = make_values(alloc, c, typing, source, Kind::Input, count)?;
-    let count = rule.constants.len();
-    let constants = make_numbers(alloc, c, typing, source, Kind::Constant, count)?;
-    let count = undefs_among(target);
-    let target_undefs = make_numbers(alloc, c, typing, target, Kind::Undef, count)?;
+    let widths = SettingWidths::of(alloc, rule, typing)?;
+    let inputs = make_values(alloc, c, &widths.inputs)?;
+    let constants = make_numbers(alloc, c, &widths.constants)?;
+    let target_choices = make_numbers(alloc, c, &widths.choices)?;
     Ok(SettingBits {
         inputs: List::from_vec(inputs),
         constants: List::from_vec(constants),
-        target_undefs: List::from_vec(target_undefs),
+        target_choices: List::from_vec(target_choices),
     })
 }

@@ -19,7 +19,7 @@ node-few : (N : ℕ) (node : Node) → 1 ≤ N → N ≤ 64 → node_gates N nod
 node-few N (nodes.Literal z) some low = omega arith
 node-few N (nodes.Constant k) some low = omega arith
 node-few N (nodes.Register r) some low = omega arith
-node-few N (nodes.Undef k) some low = omega arith
+node-few N (nodes.Choice k) some low = omega arith
 node-few N (nodes.Width r c) some low = omega arith
 node-few N (nodes.Unary Negate a) some low = omega arith
 node-few N (nodes.Unary Not a) some low = omega arith

@@ -26,6 +26,6 @@ module _ {C L : Type 0} {state : Ghosts C L} {old new : C} (keeps : Keeps state 
   pub names-kept : (inputs : List Bool) → state.admits old inputs → (s : Scope L) (names : Meanings) → ScopeIsOwn (state.has_literal old) s → MeansNames (state.value old inputs) s names → MeansNames (state.value new inputs) s names
   names-kept inputs admitted s names own is = record {
     constants = is.constants ∙ sym (numbers_held-kept keeps inputs admitted s.constants.now own.constants);
-    undefs = is.undefs ∙ sym (numbers_held-kept keeps inputs admitted s.choices.now own.choices);
+    choices = is.choices ∙ sym (numbers_held-kept keeps inputs admitted s.choices.now own.choices);
     registers = λ r. rw (seen-kept inputs admitted s own) (is.registers r);
   }

@@ -43,9 +43,9 @@ module _ {L : Type 0} (value : L → Bool) (typing : List ℕ) (scope : Scope L)
   constant-value k word is means at =
       word_read value scope.constants.now names.constants k word means.constants at ∙ ap (node_gives typing names before (slice_index typing t.class)) (sym is)
 
-  pub undef-value : (k : ℕ) (word : List L) → t.node ≡ nodes.Undef k → MeansNames value scope names → slice_get scope.choices.now k ≡ Some word → word_value value word ≡ term_value typing names before t
-  undef-value k word is means at =
-      word_read value scope.choices.now names.undefs k word means.undefs at ∙ ap (node_gives typing names before (slice_index typing t.class)) (sym is)
+  pub choice-value : (k : ℕ) (word : List L) → t.node ≡ nodes.Choice k → MeansNames value scope names → slice_get scope.choices.now k ≡ Some word → word_value value word ≡ term_value typing names before t
+  choice-value k word is means at =
+      word_read value scope.choices.now names.choices k word means.choices at ∙ ap (node_gives typing names before (slice_index typing t.class)) (sym is)
 
   pub register-value : (r : Register) (h : Held L) → t.node ≡ nodes.Register r → MeansNames value scope names → held_at scope r ≡ Some h → length h.bits ≡ slice_index typing t.class → bits (length h.bits) (number_or_zero (held_value value h)) ≡ term_value typing names before t
   register-value r h is means at width =

@@ -30,7 +30,7 @@ abbrev pub node_gates : ℕ → Node → ℕ
 node_gates N (nodes.Literal z) = 0
 node_gates N (nodes.Constant k) = 0
 node_gates N (nodes.Register r) = select_gates N
-node_gates N (nodes.Undef k) = 0
+node_gates N (nodes.Choice k) = 0
 node_gates N (nodes.Width r c) = 0
 node_gates N (nodes.Unary function a) = function_gates function N
 node_gates N (nodes.Binary op a b) = opcode_gates op N + 1
@@ -92,6 +92,6 @@ formula_bound widths (formulas.IsPowerOfTwo a) = 64 * slice_index widths a
 formula_bound widths (formulas.IsSignBit a) = 64 * slice_index widths a
 formula_bound widths formula = 64
 
--- of what an `undef` of the source is chosen to be
+-- of what a choice of the source is
 abbrev pub choice_bound : List ℕ → ℕ → ℕ
 choice_bound widths n = 64 * slice_index widths n

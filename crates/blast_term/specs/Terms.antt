@@ -21,7 +21,7 @@ use Rattle.blast_term.specs.Scope.{held_at, seen}
 -- names stand for what the literals say
 pub record MeansNames {L : Type 0} (value : L → Bool) (scope : Scope L) (names : Meanings) : Type 0 where
   pub constants : names.constants ≡ map (number_held value) scope.constants.now
-  pub undefs : names.undefs ≡ map (number_held value) scope.choices.now
+  pub choices : names.choices ≡ map (number_held value) scope.choices.now
   pub registers : (r : Register) → names.registers r ≡ unwrap_or (value_of (seen value scope) r) Poison
 
 -- the widths of nodes
@@ -37,7 +37,7 @@ abbrev pub NodeIsHeld : {L : Type 0} → List ℕ → Scope L → List ℕ → �
 NodeIsHeld typing scope before N (nodes.Literal z) = Unit {0}
 NodeIsHeld typing scope before N (nodes.Constant k) = HasWord scope.constants.now k N
 NodeIsHeld typing scope before N (nodes.Register r) = (held : Held _) × (held_at scope r ≡ Some held) × (length held.bits ≡ N)
-NodeIsHeld typing scope before N (nodes.Undef k) = HasWord scope.choices.now k N
+NodeIsHeld typing scope before N (nodes.Choice k) = HasWord scope.choices.now k N
 NodeIsHeld typing scope before N (nodes.Width r c) = c < length typing
 NodeIsHeld typing scope before N (nodes.Unary function a) = slice_get before a ≡ Some N
 NodeIsHeld typing scope before N (nodes.Binary op a b) = (slice_get before a ≡ Some N) × (slice_get before b ≡ Some N)

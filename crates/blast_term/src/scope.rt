@@ -18,7 +18,7 @@ pub struct Scope<'a, L> {
     pub target: &'a [Held<L>],
     /// The number of each abstract constant.
     pub constants: &'a [Bits<L>],
-    /// The number of each `undef` of a half.
+    /// The number of each choice of a half.
     pub choices: &'a [Bits<L>],
     /// The number of each node of the rule's terms, 0 where it has no value.
     pub terms: &'a [Bits<L>],

@@ -72,7 +72,7 @@ fn blast_term<C: Circuit>(
         Node::Literal(literal) => number(alloc, c, width, residue(width, literal)),
         Node::Constant(k) => of_word(alloc, c, at(scope.constants, k)),
         Node::Register(register) => of_register(alloc, c, register_held(scope, register)),
-        Node::Undef(k) => of_word(alloc, c, at(scope.choices, k)),
+        Node::Choice(k) => of_word(alloc, c, at(scope.choices, k)),
         Node::Width(_, class) => within(alloc, c, width, width_of(typing, class).bits()),
         Node::Unary(function, operand) => {
             blast_function(alloc, c, function, width, at(before, operand))

@@ -30,7 +30,7 @@ fn node_gates(width: Width, node: Node) -> u32
     ensures few { result ≤ 266241 }
 {
     match node {
-        Node::Literal(_) | Node::Constant(_) | Node::Undef(_) | Node::Width(_, _) => 0,
+        Node::Literal(_) | Node::Constant(_) | Node::Choice(_) | Node::Width(_, _) => 0,
         Node::Register(_) => width.bits(),
         Node::Unary(Function::Negate, _) => opcode_gates(Opcode::Sub, width) + 1,
         Node::Unary(Function::Not, _) => opcode_gates(Opcode::Xor, width) + 1,

@@ -19,7 +19,7 @@ use ops::Width;
 use rule_core::Rule;
 use std::alloc::{AllocError, Global};
 
-/// The numbers that `Wit:` chooses for the `undef`s of the source, from what the source's temporaries hold.
+/// The numbers that `Wit:` gives for the choices of the source, from what the source's temporaries hold.
 pub fn blast_witness<C: Circuit>(
     alloc: Global,
     c: &mut C,

@@ -1,9 +1,10 @@
 -- Each way through what is put is allowed by an effect of the root, where the rule is valid.
 use Rattle.std.proofs.Common.{◌≡◌, ℕ, suc, ◌+◌, ◌-◌, ◌<◌, ◌≤◌, inl, inr, List, [], ◌∷◌, length, map, take, Option, Some, refl, sym, ap, subst, ◌∙◌, arith}
-use Rattle.std.specs.Prelude.{slice_get}
+use Rattle.std.specs.Prelude.{slice_get, Contains}
+use Rattle.std.specs.List.{range_with_len}
 use Rattle.std.specs.Option.{option_map}
 use Rattle.std.proofs.lemmas.Bool.{cases_eq, cases_lt}
-use Rattle.std.proofs.lemmas.List.{take_all}
+use Rattle.std.proofs.lemmas.List.{length-map, take_all}
 use Rattle.std.proofs.lemmas.Option.{same_Some, slice_get-map, slice_get-get_or}
 use Rattle.ops.specs.Number.{Number}
 use Rattle.ops.specs.Value.{AllowsValue, AllowsEffect, IsValueOf}
@@ -11,7 +12,7 @@ use Rattle.ops.specs.declared.value.Value.{Value}
 use Rattle.ops.specs.declared.value.Value.TheVariants as values
 use Rattle.ops.specs.declared.value.Effect.{Effect}
 use Rattle.ops.specs.declared.value.Effect.TheVariants as effects
-use Rattle.ops.proofs.Values.{AllowsValue-refl, AllowsValue-trans, AllowsEffect-trans}
+use Rattle.ops.proofs.Values.{AllowsEffect-trans}
 use Rattle.ir_core.specs.Assigned.{IsAssigned}
 use Rattle.ir_core.specs.Blocks.{HasInst}
 use Rattle.ir_core.specs.Checks.{IsInst, MeetsChecks}
@@ -26,15 +27,18 @@ use Rattle.ir_core.specs.declared.operand.Register.{Register}
 use Rattle.ir_core.specs.declared.operand.Register.TheVariants as registers
 use Rattle.ir_meaning.proofs.Pieces.{some_at, contains_at}
 use Rattle.rule_core.specs.Checks.{IsRule}
-use Rattle.rule_core.specs.Positions.{IsOperandAmong, undefs_among}
-use Rattle.rule_core.specs.Run.{Held, Given, Ending, Undefines, Holds, given_by, at_start, temporaries_of, holding_source, holding_target, StatementGives, Follows, TemporariesEnd, SourceGives, TargetGives, GivesLast}
+use Rattle.rule_core.specs.declared.rule.Choice.{Choice}
+use Rattle.rule_core.specs.Positions.{choices_among, LeavesOpen}
+use Rattle.rule_core.specs.Run.{Held, Given, Ending, Undefines, Holds, given_by, at_start, temporaries_of, holding_source, holding_target, StatementGives, ArgumentGives, Follows, TemporariesEnd, SourceGives, TargetGives, GivesLast}
 use Rattle.rule_core.specs.Valid.{Setting, SettingFits, SourceChoicesFit, witness_number, HaveEffects, IsValid}
-use Rattle.rule_core.specs.declared.rule.Argument.TheVariants as arguments
+use Rattle.rule_core.specs.declared.rule.Op.TheVariants as rule_ops
 use Rattle.rule_core.specs.declared.rule.Operand.{Operand as RuleOperand}
 use Rattle.rule_core.specs.declared.rule.Rule.{Rule}
 use Rattle.rule_core.specs.declared.rule.Statement.{Statement}
-use Rattle.rule_core.specs.Readiness.{HeldFits}
+use Rattle.rule_core.specs.Readiness.{HeldFits, GivenFits, ChoiceIsReady, ArgumentIsReady, OpIsReady, StatementIsReady}
 use Rattle.rule_core.proofs.Givens.{source_given}
+use Rattle.rule_core.proofs.Members.{Contains-from_get}
+use Rattle.rule_core.proofs.Ready.{source_ready}
 use Rattle.rule_core.proofs.Once.{follows_once}
 use Rattle.rule_core.proofs.Outcomes.{temporaries_fit}
 use Rattle.rule_core.proofs.Unchosen.{temporaries_same}
@@ -59,12 +63,13 @@ use Rattle.rewriter.specs.Put.{rewrite_of}
 use Rattle.rewriter.proofs.Computing.{IsComputed}
 use Rattle.rewriter.proofs.Effects.{source_gives}
 use Rattle.rewriter.proofs.Matched.{computed_no_phi, reads_here, same_is_computed}
-use Rattle.rewriter.proofs.Picks.{in_order}
+use Rattle.rewriter.proofs.Frozen.{argument_fits}
+use Rattle.rewriter.proofs.Picks.{places, in_order}
 use Rattle.rewriter.proofs.Putting.{IsSettled, results, results_length}
 use Rattle.rewriter.proofs.Root.{root_allows}
 use Rattle.rewriter.proofs.Setting.{SourceRead, input_read, setting_fits, terms_fit}
 use Rattle.rewriter.proofs.Source.{input_value, input_values, input_is, Standing, temporaries_stand}
-use Rattle.rewriter.proofs.Target.{GivesAllowed, Ready, Done, Ends, target_runs}
+use Rattle.rewriter.proofs.Target.{GivesOnly, Ready, Done, Ends, target_runs}
 
 -- what is assigned at a place is assigned behind it in its block
 pub assigned_later : (f : Function) (r : Register) (b j k : ℕ) → j ≤ k → IsAssigned f r b j → IsAssigned f r b k
@@ -184,24 +189,20 @@ module _ (f : Function) (b k : ℕ) (rule : Rule) (binding : Binding) (checked :
     held_there : (reg : Register) (v : Value) → IsAssigned f reg binding.block binding.place → held' reg ≡ Some v → held reg ≡ Some v
     held_there reg v assigned is = ap (value_of held') (stands_itself reg assigned) ∙ is
 
-    input_allowed : (i : ℕ) (a : Operand) → slice_get binding.inputs i ≡ Some a → GivesAllowed held' (input_value held a) a
-    input_allowed i (operands.Register reg) at width v' gives =
-        let is : input_value held (operands.Register reg) ≡ v' = input_is held 0 (operands.Register reg) v' (λ e. cc) (held_there reg v' (input_assigned i reg at) gives) in
-        subst (λ x. AllowsValue x v') (sym is) (AllowsValue-refl v')
-    input_allowed i (operands.Number n) at width v' gives = gives
-    input_allowed i operands.Undef at width v' gives = absurd (match.no_undef (contains_at binding.inputs i operands.Undef at))
-    input_allowed i operands.Poison at width v' gives = tt
+    input_only : (i : ℕ) (a : Operand) → slice_get binding.inputs i ≡ Some a → GivesOnly held' (input_value held a) a
+    input_only i (operands.Register reg) at width v' gives = sym (input_is held 0 (operands.Register reg) v' (λ e. cc) (held_there reg v' (input_assigned i reg at) gives))
+    input_only i (operands.Number n) at width v' gives = gives
+    input_only i operands.Undef at width v' gives = absurd (match.no_undef (contains_at binding.inputs i operands.Undef at))
+    input_only i operands.Poison at width v' gives = gives
 
     ready_start : Ready rule binding 0 H held'
     ready_start =
         record {
-          inputs = λ i a at. (input_value held a, ap (λ (vs : List Value). slice_get vs i) standing.inputs ∙ (slice_get-map (input_value held) binding.inputs i ∙ ap (option_map (input_value held)) at), input_allowed i a at);
+          inputs = λ i a at. (input_value held a, ap (λ (vs : List Value). slice_get vs i) standing.inputs ∙ (slice_get-map (input_value held) binding.inputs i ∙ ap (option_map (input_value held)) at), input_only i a at);
           source = λ reads j reg lt at.
               let old = standing.each j reg (omega arith) at in
               let t = statements_settled j reg lt at in
-              let stays : GivesAllowed held' old.1 (operands.Register reg) = λ width v' gives.
-              let is : v' ≡ old.1 = same_Some v' old.0 (sym (held_there reg v' t.3 gives) ∙ old.2) ∙ old.4.1 reads in
-              subst (λ x. AllowsValue x v') is (AllowsValue-refl v') in
+              let stays : GivesOnly held' old.1 (operands.Register reg) = λ width v' gives. same_Some v' old.0 (sym (held_there reg v' t.3 gives) ∙ old.2) ∙ old.4.1 reads in
               (old.1, old.3, stays);
           target = λ j a lt. absurd (omega arith);
           count = ap length standing.none;
@@ -210,18 +211,18 @@ module _ (f : Function) (b k : ℕ) (rule : Rule) (binding : Binding) (checked :
     done : Done rule binding checked match.typing match.input_count match.statement_count match.constant_count inputs_settled settled_temporary (terms_fit f b k rule binding checked meets numbers match) rule.target 0 [] H after
     done =
         target_runs rule binding checked match.typing match.input_count match.statement_count match.constant_count inputs_settled settled_temporary (terms_fit f b k rule binding checked meets numbers match) f root.name rule.target 0 [] H held' after
-        (λ i s at. subst (λ n. slice_get rule.target n ≡ Some s) (omega arith) at) (in_order (undefs_among rule.target) checked.target_undefs) ready_start
+        (λ i s at. subst (λ n. slice_get rule.target n ≡ Some s) (omega arith) at) (in_order (places (choices_among rule.target)) (checked.target_choices ∙ ap (range_with_len 0) (sym (length-map (choices_among rule.target) (λ (c : Choice). c.place))))) ready_start
         (subst (λ n. RunsThrough binding.block n w.put held' after) (omega arith) runs)
 
     -- ---- the setting
 
     abbrev setting : Setting
-    setting = record { inputs = inputs; constants = binding.constants; target_undefs = done.numbers }
+    setting = record { inputs = inputs; constants = binding.constants; target_choices = done.numbers }
 
     setting_fit : SettingFits rule typing setting
     setting_fit =
         setting_fits f b k rule binding checked meets numbers match held done.numbers may.widths done.count
-        (λ q n at. let r = done.fit q n at in (r.0, r.1, r.2 ∙ ap arguments.Undef (omega arith), r.3))
+        (λ q n at. let r = done.fit q n at in (r.0, subst (λ k. LeavesOpen rule.target k r.0) (omega arith) r.1, r.2))
 
     held_fit : HeldFits rule typing H
     held_fit = temporaries_fit rule typing checked match.typing binding.constants setting_fit.constants inputs setting_fit.inputs H ends
@@ -253,16 +254,32 @@ module _ (f : Function) (b k : ℕ) (rule : Rule) (binding : Binding) (checked :
         let here = reads_here f binding.block m.place m.inst.width m.inst.op (same_is_computed last.0.op m.inst.op m.matches.operation) n r at in
         may.assigned reg (subst (λ p. IsAssigned f reg binding.block p) (here.1 ∙ m_place) (subst (λ c. IsAssigned f reg c r.place) here.0 a))
 
-    root_chosen : (c N : ℕ) (o : RuleOperand) → IsOperandAmong rule.source o → o.value ≡ arguments.Undef c → slice_get typing o.class ≡ Some N → (n : Number) × (slice_get choices c ≡ Some n) × IsValueOf N (values.Bits n)
-    root_chosen c N o among is width =
-        let whole : take (length rule.source) rule.source ≡ rule.source = take_all (length rule.source) rule.source (omega arith) in
-        (source_given rule typing binding.constants checked match.typing setting_fit.constants choices (length rule.source) choices_are_fit).choices c N o (subst (λ (l : List Statement). IsOperandAmong l o) (sym whole) among) is width
-
     abbrev given : Given
     given = given_by typing binding.constants choices rule
 
+    whole : take (length rule.source) rule.source ≡ rule.source
+    whole = take_all (length rule.source) rule.source (omega arith)
+
+    source_fits : GivenFits rule typing (take (length rule.source) rule.source) given
+    source_fits = source_given rule typing binding.constants checked match.typing setting_fit.constants choices (length rule.source) choices_are_fit
+
+    root_chosen : (k c N : ℕ) → LeavesOpen rule.source k c → slice_get typing c ≡ Some N → ChoiceIsReady given N k
+    root_chosen k c N left_open width = source_fits.choices k c N (subst (λ (l : List Statement). LeavesOpen l k c) (sym whole) left_open) width
+
+    -- what the root freezes is of its width
+    root_ready : StatementIsReady typing given H last.0
+    root_ready =
+        let among : Contains (take (length rule.source) rule.source) last.0 = subst (λ (l : List Statement). Contains l last.0) (sym whole) (Contains-from_get rule.source (length rule.source - 1) last.0 last.1) in
+        source_ready rule typing (take (length rule.source) rule.source) given H (length rule.source - 1) last.0 checked match.typing source_fits held_fit last.1 among standing.count
+
+    root_frozen : (a : RuleOperand) (k N : ℕ) (u : Value) → last.0.op ≡ rule_ops.Freeze a k → slice_get typing a.class ≡ Some N → ArgumentGives typing given H N a.value u → IsValueOf N u
+    root_frozen a k N u is class gives =
+        let ready : OpIsReady typing given H root_ready.0 (rule_ops.Freeze a k) = subst (OpIsReady typing given H root_ready.0) is root_ready.2 in
+        let width : root_ready.0 ≡ N = same_Some root_ready.0 N (sym ready.0.0 ∙ class) in
+        argument_fits typing given H N a.value u (subst (λ n. ArgumentIsReady given H n a.value) width ready.0.1) gives
+
     at_root : (source : Effect) × StatementGives typing given H last.0 source × ((e : Effect) × OpGives AnyNumber held m.inst.width m.inst.op e × AllowsEffect e source)
-    at_root = root_allows f rule binding held match.no_undef given refl (length rule.source - 1) H standing checked match.typing last.0 last.1 m root_holds root_chosen
+    at_root = root_allows f rule binding held match.no_undef given refl (length rule.source - 1) H standing checked match.typing last.0 last.1 m root_holds root_chosen root_frozen
 
     of_source : SourceGives typing binding.constants choices rule inputs at_root.0
     of_source = source_gives typing binding.constants choices rule inputs H last.0 at_root.0 (temporaries_same rule typing binding.constants choices checked (at_start inputs) (Holds H) ends) last.1 at_root.1
@@ -283,10 +300,10 @@ module _ (f : Function) (b k : ℕ) (rule : Rule) (binding : Binding) (checked :
     none_allowed effects.Undefined allows = tt
     none_allowed (effects.Gives v) allows = absurd allows
 
-    some_allowed : (new : Registers) (u : Value) → GivesAllowed new u w.result → (e : Effect) → AllowsEffect e (effects.Gives u) → AllowsPut w e (Some new)
+    some_allowed : (new : Registers) (u : Value) → GivesOnly new u w.result → (e : Effect) → AllowsEffect e (effects.Gives u) → AllowsPut w e (Some new)
     some_allowed new u gives effects.Undefined allows = tt
     some_allowed new u gives (effects.Gives x) allows = λ v' is.
-        AllowsValue-trans x u v' allows (gives 0 v' (value_gives new w.result v' (ap (value_of new) (sym (stands_root w binding.block binding.place (refl, refl))) ∙ is)))
+        subst (λ y. AllowsValue x y) (sym (gives 0 v' (value_gives new w.result v' (ap (value_of new) (sym (stands_root w binding.block binding.place (refl, refl))) ∙ is)))) allows
 
     of_target_end : (end : Ending) → Follows typing (given_by typing binding.constants done.numbers rule) holding_target rule.target H end
         → Ends rule binding checked match.typing match.input_count match.statement_count match.constant_count inputs_settled settled_temporary (terms_fit f b k rule binding checked meets numbers match) (0 + length rule.target) end after → OfTarget
@@ -315,7 +332,7 @@ module _ (f : Function) (b k : ℕ) (rule : Rule) (binding : Binding) (checked :
           of_source = of_source;
           of_target = of_target.1;
         } in
-        let allows : AllowsEffect at_root.0 of_target.0 = valid setting choices at_root.0 of_target.0 setting_fit match.precondition have in
+        let allows : AllowsEffect at_root.0 of_target.0 = valid setting choices at_root.0 of_target.0 (record { fits = setting_fit; precondition = match.precondition }) have in
         let e : Effect = at_root.2.0 in
         let op : OpGives AnyNumber held root.width root.op e = subst (λ (i : Inst). OpGives AnyNumber held i.width i.op e) m_inst at_root.2.1 in
         (e, op, of_target.2 e (AllowsEffect-trans e at_root.0 of_target.0 at_root.2.2 allows))

@@ -1,7 +1,11 @@
--- What operations of rules and of functions compute on the values that they read.
-use Rattle.std.proofs.Common.{◌≡◌, ℕ, Bool, zero, suc, List, [], ◌∷◌, Some, refl, sym, ap, subst, ◌∙◌}
+-- What operations of rules and of functions compute on the values that they take: those of their operands, and what a freeze may give in
+-- the place of poison.
+use Rattle.std.proofs.Common.{◌≡◌, ◌⊎◌, inl, inr, ℕ, Bool, zero, suc, List, [], ◌∷◌, None, Some, refl, sym, ap, subst, ◌∙◌}
 use Rattle.std.specs.Prelude.{slice_get, slice_index}
 use Rattle.std.proofs.lemmas.Option.{same_Some, get_or_from_slice_get}
+use Rattle.std.proofs.lemmas.Nat.{pow_pos}
+use Rattle.ops.specs.Integer.{bits}
+use Rattle.ops.specs.Number.{Number}
 use Rattle.ops.specs.Value.{AllowsValue, AllowsEffect}
 use Rattle.ops.specs.Instruction.{instruction}
 use Rattle.ops.specs.Comparison.{comparison, selection}
@@ -16,22 +20,77 @@ use Rattle.ops.specs.declared.value.Effect.{Effect}
 use Rattle.ops.specs.declared.value.Effect.TheVariants as effects
 use Rattle.ops.proofs.Monotone.{instruction-monotone, comparison-monotone, conversion-monotone, selection-monotone}
 use Rattle.ir_core.specs.Reads.{Read, read, reads_of}
-use Rattle.ir_core.specs.Run.{Registers, AnyNumber, OperandGives, OpGives}
+use Rattle.ir_core.specs.Run.{Registers, AnyNumber, IsChosen, OperandGives, Freezes, OpGives}
 use Rattle.ir_core.specs.declared.function.Function.{Function}
 use Rattle.ir_core.specs.declared.instruction.Op.{Op}
+use Rattle.ir_core.specs.declared.operand.Operand.TheVariants as operands
 use Rattle.ir_core.specs.declared.instruction.Op.TheVariants.{Binary, Compare, Select, Convert, Freeze, Phi}
 use Rattle.rule_core.specs.Positions.{operands_of}
-use Rattle.rule_core.specs.Run.{Held, Given, OperandGives as RuleOperandGives, OpGives as RuleOpGives}
+use Rattle.rule_core.specs.Run.{Held, Given, OperandGives as RuleOperandGives, OpGives as RuleOpGives, frozen}
+use Rattle.rule_core.specs.declared.rule.Argument.TheVariants as arguments
 use Rattle.rule_core.specs.declared.rule.Op.{Op as RuleOp}
 use Rattle.rule_core.specs.declared.rule.Op.TheVariants as rule_ops
 use Rattle.rule_core.specs.declared.rule.Operand.{Operand as RuleOperand}
+use Rattle.bindings.specs.Statements.{IsSameOperation}
 
--- an operation without its operands
+-- ---- freezes
+
+abbrev pub IsFreeze : RuleOp → Type 0
+IsFreeze (rule_ops.Freeze a k) = Unit {0}
+IsFreeze op = ⊥
+
+pub freeze_or : (op : RuleOp) → ((a : RuleOperand) × (k : ℕ) × (op ≡ rule_ops.Freeze a k)) ⊎ ¬ IsFreeze op
+freeze_or (rule_ops.Freeze a k) = inl (a, k, refl)
+freeze_or (rule_ops.Binary op flags a b) = inr (λ is. is)
+freeze_or (rule_ops.Compare pred samesign a b) = inr (λ is. is)
+freeze_or (rule_ops.Select c a b) = inr (λ is. is)
+freeze_or (rule_ops.Convert cast flags a to) = inr (λ is. is)
+freeze_or (rule_ops.Copy a) = inr (λ is. is)
+
+-- What an operation of a rule takes whose result has the class c: its operands, and for a freeze the choice that stands for what it may
+-- give in the place of poison.
+abbrev pub choice_operand : ℕ → ℕ → RuleOperand
+choice_operand c k = record { value = arguments.Undef k; written = None; class = c }
+
+abbrev pub inputs_of : ℕ → RuleOp → List RuleOperand
+inputs_of c (rule_ops.Freeze a k) = a ∷ choice_operand c k ∷ []
+inputs_of c op = operands_of op
+
+-- And one of a function: what it reads, and for a freeze any number of its width, as `undef` gives one.
+abbrev pub taken_by : Function → ℕ → ℕ → ℕ → Op → List Read
+taken_by f b k w (Freeze x) = read b k w x ∷ read b k w operands.Undef ∷ []
+taken_by f b k w op = reads_of f b k w op
+
+pub plain_inputs : (c : ℕ) (op : RuleOp) → ¬ IsFreeze op → inputs_of c op ≡ operands_of op
+plain_inputs c (rule_ops.Freeze a k) none = absurd (none tt)
+plain_inputs c op none = refl
+
+pub plain_reads : (f : Function) (b k w : ℕ) (s : RuleOp) (i : Op) → IsSameOperation s i → ¬ IsFreeze s → taken_by f b k w i ≡ reads_of f b k w i
+plain_reads f b k w (rule_ops.Freeze a j) (Freeze x) same none = absurd (none tt)
+plain_reads f b k w s (Freeze x) same none = absurd same
+plain_reads f b k w s i same none = refl
+
+-- the number that a value is, and some number for poison
+abbrev pub number_of : Value → Number
+number_of values.Poison = record { width = 0; number = 0 }
+number_of (values.Bits n) = n
+
+-- what a freeze of a function gives is what some number of its width freezes the value to
+freezes_by : (w : ℕ) (y v : Value) → Freezes AnyNumber w y v → (c : Value) × IsChosen AnyNumber w c × (v ≡ frozen y (number_of c))
+freezes_by w values.Poison v chosen = (v, chosen, chosen.2 ∙ ap (λ x. values.Bits (number_of x)) (sym chosen.2))
+freezes_by w (values.Bits m) v is = (bits w 0, (0, pow_pos w, refl), is)
+
+by_choice : (w : ℕ) (y c : Value) → IsChosen AnyNumber w c → Freezes AnyNumber w y (frozen y (number_of c))
+by_choice w values.Poison c chosen = (chosen.0, chosen.1, ap (λ x. values.Bits (number_of x)) chosen.2)
+by_choice w (values.Bits m) c chosen = refl
+
+-- an operation without what it takes
 pub data Computation : Type 0 where
   Calculates : (op : Opcode) (flags : Flags) (N : ℕ) → Computation
   Compares : (pred : Pred) (samesign : Bool) (N : ℕ) → Computation
   Selects : Computation
   Converts : (cast : Cast) (flags : Flags) (from to : ℕ) → Computation
+  Freezing : Computation
   Copies : Computation
 
 -- its effect on values by place
@@ -40,6 +99,7 @@ effect_of (Calculates op flags N) v = instruction op flags N (v 0) (v 1)
 effect_of (Compares pred samesign N) v = effects.Gives (comparison pred samesign N (v 0) (v 1))
 effect_of Selects v = effects.Gives (selection (v 0) (v 1) (v 2))
 effect_of (Converts cast flags from to) v = effects.Gives (conversion cast flags from to (v 0))
+effect_of Freezing v = effects.Gives (frozen (v 0) (number_of (v 1)))
 effect_of Copies v = effects.Gives (v 0)
 
 -- what an operation of a rule computes at the width N, and one of a function
@@ -48,6 +108,7 @@ computed typing N (rule_ops.Binary op flags a b) = Calculates op flags N
 computed typing N (rule_ops.Compare pred samesign a b) = Compares pred samesign (slice_index typing a.class)
 computed typing N (rule_ops.Select c a b) = Selects
 computed typing N (rule_ops.Convert cast flags a to) = Converts cast flags (slice_index typing a.class) N
+computed typing N (rule_ops.Freeze a k) = Freezing
 computed typing N (rule_ops.Copy a) = Copies
 
 abbrev pub computed_by : ℕ → Op → Computation
@@ -55,16 +116,16 @@ computed_by w (Binary op flags x y) = Calculates op flags w
 computed_by w (Compare pred samesign compared x y) = Compares pred samesign compared
 computed_by w (Select c x y) = Selects
 computed_by w (Convert cast flags from x) = Converts cast flags from w
-computed_by w (Freeze x) = Copies
+computed_by w (Freeze x) = Freezing
 computed_by w (Phi entries) = Copies
 
--- it computes from its operands alone
+-- it computes from what it takes alone
 abbrev pub IsComputed : Op → Type 0
 IsComputed (Binary op flags x y) = Unit {0}
 IsComputed (Compare pred samesign compared x y) = Unit {0}
 IsComputed (Select c x y) = Unit {0}
 IsComputed (Convert cast flags from x) = Unit {0}
-IsComputed (Freeze x) = ⊥
+IsComputed (Freeze x) = Unit {0}
 IsComputed (Phi entries) = ⊥
 
 -- ---- values by place
@@ -107,33 +168,18 @@ module _ (typing : List ℕ) (given : Given) (held : Held) where
   width_of : (a : RuleOperand) (M : ℕ) → slice_get typing a.class ≡ Some M → slice_index typing a.class ≡ M
   width_of a M at = get_or_from_slice_get typing a.class M 0 at
 
-  one : (a : RuleOperand) (x : Value) → RuleOperandGives typing given held a x → (rest : List RuleOperand) (v : ℕ → Value) → RuleValues rest v → RuleValues (a ∷ rest) (before_all x v)
-  one a x p rest v q = more_values (λ o y. RuleOperandGives typing given held o y) a rest x v p q
-
-  none : (v : ℕ → Value) → RuleValues [] v
-  none v = none_values (λ o y. RuleOperandGives typing given held o y) v
-
-  -- what it gives is computed from what its operands give
-  pub rule_computes : (N : ℕ) (op : RuleOp) (e : Effect) → RuleOpGives typing given held N op e → (v : ℕ → Value) × RuleValues (operands_of op) v × (e ≡ effect_of (computed typing N op) v)
-  rule_computes N (rule_ops.Binary op flags a b) e (x, y, p, q, is) =
-      (before_all x (before_all y no_values), one a x p (b ∷ []) (before_all y no_values) (one b y q [] no_values (none no_values)), is)
-  rule_computes N (rule_ops.Compare pred samesign a b) e (M, x, y, at, p, q, is) =
-      (before_all x (before_all y no_values), one a x p (b ∷ []) (before_all y no_values) (one b y q [] no_values (none no_values)), is ∙ ap (λ M. effects.Gives (comparison pred samesign M x y)) (sym (width_of a M at)))
-  rule_computes N (rule_ops.Select c a b) e (z, x, y, o, p, q, is) =
-      (before_all z (before_all x (before_all y no_values)), one c z o (a ∷ b ∷ []) (before_all x (before_all y no_values)) (one a x p (b ∷ []) (before_all y no_values) (one b y q [] no_values (none no_values))), is)
-  rule_computes N (rule_ops.Convert cast flags a to) e (M, x, at, p, is) =
-      (before_all x no_values, one a x p [] no_values (none no_values), is ∙ ap (λ M. effects.Gives (conversion cast flags M N x)) (sym (width_of a M at)))
-  rule_computes N (rule_ops.Copy a) e (x, p, is) = (before_all x no_values, one a x p [] no_values (none no_values), is)
-
-  -- and what is computed so it gives
-  pub rule_gives : (N : ℕ) (op : RuleOp) (v : ℕ → Value) → RuleValues (operands_of op) v → RuleOpGives typing given held N op (effect_of (computed typing N op) v)
-  rule_gives N (rule_ops.Binary op flags a b) v each = (v 0, v 1, each 0 a refl, each 1 b refl, refl)
-  rule_gives N (rule_ops.Compare pred samesign a b) v each =
+  -- it gives what is computed from what its inputs give
+  pub rule_gives : (c N : ℕ) → slice_get typing c ≡ Some N → (op : RuleOp) (v : ℕ → Value) → RuleValues (inputs_of c op) v → RuleOpGives typing given held N op (effect_of (computed typing N op) v)
+  rule_gives c N at (rule_ops.Binary op flags a b) v each = (v 0, v 1, each 0 a refl, each 1 b refl, refl)
+  rule_gives c N at (rule_ops.Compare pred samesign a b) v each =
       ((each 0 a refl).0, v 0, v 1, (each 0 a refl).1, each 0 a refl, each 1 b refl, ap (λ M. effects.Gives (comparison pred samesign M (v 0) (v 1))) (width_of a (each 0 a refl).0 (each 0 a refl).1))
-  rule_gives N (rule_ops.Select c a b) v each = (v 0, v 1, v 2, each 0 c refl, each 1 a refl, each 2 b refl, refl)
-  rule_gives N (rule_ops.Convert cast flags a to) v each =
+  rule_gives c N at (rule_ops.Select z a b) v each = (v 0, v 1, v 2, each 0 z refl, each 1 a refl, each 2 b refl, refl)
+  rule_gives c N at (rule_ops.Convert cast flags a to) v each =
       ((each 0 a refl).0, v 0, (each 0 a refl).1, each 0 a refl, ap (λ M. effects.Gives (conversion cast flags M N (v 0))) (width_of a (each 0 a refl).0 (each 0 a refl).1))
-  rule_gives N (rule_ops.Copy a) v each = (v 0, each 0 a refl, refl)
+  rule_gives c N at (rule_ops.Freeze a k) v each =
+      let choice = (each 1 (choice_operand c k) refl).2 in
+      (v 0, choice.0, each 0 a refl, choice.1, ap (λ x. effects.Gives (frozen (v 0) (number_of x))) choice.2)
+  rule_gives c N at (rule_ops.Copy a) v each = (v 0, each 0 a refl, refl)
 
 -- ---- operations of functions
 
@@ -147,7 +193,7 @@ module _ (f : Function) (b k : ℕ) (held : Registers) where
   nothing : (v : ℕ → Value) → ReadValues [] v
   nothing v = none_values (λ r y. OperandGives AnyNumber held r.width r.operand y) v
 
-  pub op_computes : (w : ℕ) (op : Op) (e : Effect) → IsComputed op → OpGives AnyNumber held w op e → (v : ℕ → Value) × ReadValues (reads_of f b k w op) v × (e ≡ effect_of (computed_by w op) v)
+  pub op_computes : (w : ℕ) (op : Op) (e : Effect) → IsComputed op → OpGives AnyNumber held w op e → (v : ℕ → Value) × ReadValues (taken_by f b k w op) v × (e ≡ effect_of (computed_by w op) v)
   op_computes w (Binary op flags x y) e is h =
       (before_all h.0 (before_all h.1 no_values), first (read b k w x) h.0 h.2 (read b k w y ∷ []) (before_all h.1 no_values) (first (read b k w y) h.1 h.3 [] no_values (nothing no_values)), h.4)
   op_computes w (Compare pred samesign compared x y) e is h =
@@ -155,33 +201,40 @@ module _ (f : Function) (b k : ℕ) (held : Registers) where
   op_computes w (Select c x y) e is h =
       (before_all h.0 (before_all h.1 (before_all h.2 no_values)), first (read b k 1 c) h.0 h.3 (read b k w x ∷ read b k w y ∷ []) (before_all h.1 (before_all h.2 no_values)) (first (read b k w x) h.1 h.4 (read b k w y ∷ []) (before_all h.2 no_values) (first (read b k w y) h.2 h.5 [] no_values (nothing no_values))), h.6)
   op_computes w (Convert cast flags from x) e is h = (before_all h.0 no_values, first (read b k from x) h.0 h.1 [] no_values (nothing no_values), h.2)
-  op_computes w (Freeze x) e is h = absurd is
+  op_computes w (Freeze x) e is h =
+      let by = freezes_by w h.0 h.1 h.3 in
+      (before_all h.0 (before_all by.0 no_values), first (read b k w x) h.0 h.2 (read b k w operands.Undef ∷ []) (before_all by.0 no_values) (first (read b k w operands.Undef) by.0 by.1 [] no_values (nothing no_values)), h.4 ∙ ap effects.Gives by.2)
   op_computes w (Phi entries) e is h = absurd is
 
-  pub op_gives : (w : ℕ) (op : Op) (v : ℕ → Value) → IsComputed op → ReadValues (reads_of f b k w op) v → OpGives AnyNumber held w op (effect_of (computed_by w op) v)
+  pub op_gives : (w : ℕ) (op : Op) (v : ℕ → Value) → IsComputed op → ReadValues (taken_by f b k w op) v → OpGives AnyNumber held w op (effect_of (computed_by w op) v)
   op_gives w (Binary op flags x y) v is each = (v 0, v 1, each 0 (read b k w x) refl, each 1 (read b k w y) refl, refl)
   op_gives w (Compare pred samesign compared x y) v is each = (v 0, v 1, each 0 (read b k compared x) refl, each 1 (read b k compared y) refl, refl)
   op_gives w (Select c x y) v is each = (v 0, v 1, v 2, each 0 (read b k 1 c) refl, each 1 (read b k w x) refl, each 2 (read b k w y) refl, refl)
   op_gives w (Convert cast flags from x) v is each = (v 0, each 0 (read b k from x) refl, refl)
-  op_gives w (Freeze x) v is each = absurd is
+  op_gives w (Freeze x) v is each = (v 0, frozen (v 0) (number_of (v 1)), each 0 (read b k w x) refl, by_choice w (v 0) (v 1) (each 1 (read b k w operands.Undef) refl), refl)
   op_gives w (Phi entries) v is each = absurd is
 
 -- ---- what effects allow
 
--- values that allow others give an effect that allows theirs
-pub effects_allow : (typing : List ℕ) (N : ℕ) (op : RuleOp) (v v' : ℕ → Value) → ((i : ℕ) (o : RuleOperand) → slice_get (operands_of op) i ≡ Some o → AllowsValue (v i) (v' i))
+-- values that allow others give an effect that allows theirs, but for a freeze, which may have to give another number
+pub effects_allow : (typing : List ℕ) (N : ℕ) (op : RuleOp) (v v' : ℕ → Value) → ¬ IsFreeze op → ((i : ℕ) (o : RuleOperand) → slice_get (operands_of op) i ≡ Some o → AllowsValue (v i) (v' i))
     → AllowsEffect (effect_of (computed typing N op) v) (effect_of (computed typing N op) v')
-effects_allow typing N (rule_ops.Binary op flags a b) v v' h = instruction-monotone op flags N (v 0) (v 1) (v' 0) (v' 1) (h 0 a refl) (h 1 b refl)
-effects_allow typing N (rule_ops.Compare pred samesign a b) v v' h = comparison-monotone pred samesign (slice_index typing a.class) (v 0) (v 1) (v' 0) (v' 1) (h 0 a refl) (h 1 b refl)
-effects_allow typing N (rule_ops.Select c a b) v v' h = selection-monotone (v 0) (v 1) (v 2) (v' 0) (v' 1) (v' 2) (h 0 c refl) (h 1 a refl) (h 2 b refl)
-effects_allow typing N (rule_ops.Convert cast flags a to) v v' h = conversion-monotone cast flags (slice_index typing a.class) N (v 0) (v' 0) (h 0 a refl)
-effects_allow typing N (rule_ops.Copy a) v v' h = h 0 a refl
+effects_allow typing N (rule_ops.Binary op flags a b) v v' none h = instruction-monotone op flags N (v 0) (v 1) (v' 0) (v' 1) (h 0 a refl) (h 1 b refl)
+effects_allow typing N (rule_ops.Compare pred samesign a b) v v' none h = comparison-monotone pred samesign (slice_index typing a.class) (v 0) (v 1) (v' 0) (v' 1) (h 0 a refl) (h 1 b refl)
+effects_allow typing N (rule_ops.Select c a b) v v' none h = selection-monotone (v 0) (v 1) (v 2) (v' 0) (v' 1) (v' 2) (h 0 c refl) (h 1 a refl) (h 2 b refl)
+effects_allow typing N (rule_ops.Convert cast flags a to) v v' none h = conversion-monotone cast flags (slice_index typing a.class) N (v 0) (v' 0) (h 0 a refl)
+effects_allow typing N (rule_ops.Freeze a k) v v' none h = absurd (none tt)
+effects_allow typing N (rule_ops.Copy a) v v' none h = h 0 a refl
 
 -- and equal ones the same
-pub effects_same : (typing : List ℕ) (N : ℕ) (op : RuleOp) (v v' : ℕ → Value) → ((i : ℕ) (o : RuleOperand) → slice_get (operands_of op) i ≡ Some o → v i ≡ v' i)
+pub effects_same : (typing : List ℕ) (c N : ℕ) (op : RuleOp) (v v' : ℕ → Value) → ((i : ℕ) (o : RuleOperand) → slice_get (inputs_of c op) i ≡ Some o → v i ≡ v' i)
     → effect_of (computed typing N op) v ≡ effect_of (computed typing N op) v'
-effects_same typing N (rule_ops.Binary op flags a b) v v' h = let p : v 0 ≡ v' 0 = h 0 a refl in let q : v 1 ≡ v' 1 = h 1 b refl in cc
-effects_same typing N (rule_ops.Compare pred samesign a b) v v' h = let p : v 0 ≡ v' 0 = h 0 a refl in let q : v 1 ≡ v' 1 = h 1 b refl in cc
-effects_same typing N (rule_ops.Select c a b) v v' h = let o : v 0 ≡ v' 0 = h 0 c refl in let p : v 1 ≡ v' 1 = h 1 a refl in let q : v 2 ≡ v' 2 = h 2 b refl in cc
-effects_same typing N (rule_ops.Convert cast flags a to) v v' h = let p : v 0 ≡ v' 0 = h 0 a refl in cc
-effects_same typing N (rule_ops.Copy a) v v' h = let p : v 0 ≡ v' 0 = h 0 a refl in cc
+effects_same typing c N (rule_ops.Binary op flags a b) v v' h = let p : v 0 ≡ v' 0 = h 0 a refl in let q : v 1 ≡ v' 1 = h 1 b refl in cc
+effects_same typing c N (rule_ops.Compare pred samesign a b) v v' h = let p : v 0 ≡ v' 0 = h 0 a refl in let q : v 1 ≡ v' 1 = h 1 b refl in cc
+effects_same typing c N (rule_ops.Select z a b) v v' h = let o : v 0 ≡ v' 0 = h 0 z refl in let p : v 1 ≡ v' 1 = h 1 a refl in let q : v 2 ≡ v' 2 = h 2 b refl in cc
+effects_same typing c N (rule_ops.Convert cast flags a to) v v' h = let p : v 0 ≡ v' 0 = h 0 a refl in cc
+effects_same typing c N (rule_ops.Freeze a k) v v' h =
+    let p : v 0 ≡ v' 0 = h 0 a refl in
+    let q : v 1 ≡ v' 1 = h 1 (choice_operand c k) refl in
+    ap (λ x. effects.Gives (frozen x (number_of (v 1)))) p ∙ ap (λ x. effects.Gives (frozen (v' 0) (number_of x))) q
+effects_same typing c N (rule_ops.Copy a) v v' h = let p : v 0 ≡ v' 0 = h 0 a refl in cc

@@ -24,7 +24,7 @@ use Rattle.ir_core.specs.declared.operand.Operand.TheVariants as operands
 use Rattle.ir_core.specs.declared.operand.Register.{Register}
 use Rattle.ir_core.specs.declared.operand.Register.TheVariants as registers
 use Rattle.ir_meaning.proofs.Pieces.{some_at}
-use Rattle.rule_core.specs.Checks.{IsRule, TargetMayRead, FlagsFitOp, IsNoUndefCopy}
+use Rattle.rule_core.specs.Checks.{IsRule, TargetMayRead, FlagsFitOp, ReadsNoUndefAlone}
 use Rattle.rule_core.specs.Positions.{operands_of, IsStatementOf, IsOperandAmong, name, reads, reads_constant, source_assigns, target_assigns, assigns_root, operand, copy, comparison, truth, truncated, zero_extended, sign_extended}
 use Rattle.rule_core.specs.Terms.{constant_values, value_at, HasNumber}
 use Rattle.rule_core.specs.declared.rule.Argument.{Argument}
@@ -203,6 +203,7 @@ module _ (f : Function) (b k : ℕ) (rule : Rule) (binding : Binding) (checked :
   result_may t s width at first class (rule_ops.Compare pred samesign x y) is = own_may t s width at class (rule_ops.Compare pred samesign x y) is refl
   result_may t s width at first class (rule_ops.Select c x y) is = own_may t s width at class (rule_ops.Select c x y) is refl
   result_may t s width at first class (rule_ops.Convert cast flags x to) is = own_may t s width at class (rule_ops.Convert cast flags x to) is refl
+  result_may t s width at first class (rule_ops.Freeze x j) is = own_may t s width at class (rule_ops.Freeze x j) is refl
 
   first_may : (t : ℕ) → t ≤ length rule.target → FirstMay t
   first_may zero le j s width lt at class = absurd (omega arith)
@@ -238,6 +239,7 @@ module _ (f : Function) (b k : ℕ) (rule : Rule) (binding : Binding) (checked :
       let x = width_of_class rule binding.typing a.class match.typing (operand_class_stands rule s a stands (subst (λ (op : RuleOp). Contains (operands_of op) a) (sym is) (Contains-from_get (a ∷ []) 0 a refl))) in
       let own : slice_get binding.typing a.class ≡ Some (class_width rule binding a.class) = x.1 ∙ ap (λ (n : ℕ). Some n) (sym (get_or_from_slice_get binding.typing a.class x.0 0 x.1)) in
       (subst FlagsFitOp is (checked.target_flags t s at), cast_fits s cast flags a to stands is (class_width rule binding s.class) (class_width rule binding a.class) (own_class s stands) own)
+  put_typed t s at (rule_ops.Freeze a j) is kept = tt
   put_typed t s at (rule_ops.Copy a) is kept = absurd cc
 
   put_arity : (N : ℕ) (op : RuleOp) → IsNoCopy op → length (operands_of op) ≡ length (reads_of f binding.block binding.place N (put_op rule binding N op))
@@ -245,6 +247,7 @@ module _ (f : Function) (b k : ℕ) (rule : Rule) (binding : Binding) (checked :
   put_arity N (rule_ops.Compare pred samesign a c) kept = refl
   put_arity N (rule_ops.Select c a d) kept = refl
   put_arity N (rule_ops.Convert cast flags a to) kept = refl
+  put_arity N (rule_ops.Freeze a j) kept = refl
   put_arity N (rule_ops.Copy a) kept = absurd cc
 
   put_is : (i : ℕ) (inst : Inst) → slice_get (insts_put rule binding root.name rule.target) i ≡ Some inst → PutFor rule binding root.name 0 i inst
@@ -336,11 +339,12 @@ module _ (f : Function) (b k : ℕ) (rule : Rule) (binding : Binding) (checked :
   result_definite t s at first (rule_ops.Copy a) is e =
       let within : t < length rule.target = slice_get_within rule.target t s at in
       let among : Contains (operands_of s.op) a = subst (λ (op : RuleOp). Contains (operands_of op) a) (sym is) (Contains-from_get (a ∷ []) 0 a refl) in
-      argument_definite t (class_width rule binding a.class) a.value (omega arith) first (checked.target_reads t s a at among) (subst IsNoUndefCopy is (checked.target_copies t s at)) e
+      argument_definite t (class_width rule binding a.class) a.value (omega arith) first (checked.target_reads t s a at among) (subst ReadsNoUndefAlone is (checked.target_undefs t s at)) e
   result_definite t s at first (rule_ops.Binary opcode flags x y) is e = cc
   result_definite t s at first (rule_ops.Compare pred samesign x y) is e = cc
   result_definite t s at first (rule_ops.Select c x y) is e = cc
   result_definite t s at first (rule_ops.Convert cast flags x to) is e = cc
+  result_definite t s at first (rule_ops.Freeze x j) is e = cc
 
   first_definite : (t : ℕ) → t ≤ length rule.target → FirstDefinite t
   first_definite zero le j a lt at e = omega arith

@@ -8,6 +8,7 @@ pub mod Putting
 pub mod Target
 pub mod Setting
 pub mod Effects
+pub mod Frozen
 pub mod Allowed
 pub mod Placed
 pub mod Fitting

@@ -22,13 +22,14 @@ use Rattle.rule_core.specs.declared.rule.Op.TheVariants as rule_ops
 use Rattle.rule_core.specs.declared.rule.Operand.{Operand as RuleOperand}
 use Rattle.bindings.specs.Statements.{IsSameOperation, flags_of_statement, flags_of_inst}
 use Rattle.rewriter.proofs.Flags.{more_flags_allow, more_cast_flags_allow, more_samesign_allows}
-use Rattle.rewriter.proofs.Computing.{Computation, Compares, Selects, Converts, effect_of, computed, computed_by, IsComputed}
+use Rattle.rewriter.proofs.Computing.{Computation, Compares, Selects, Converts, Freezing, effect_of, computed, computed_by, IsComputed}
 
 pub same_is_computed : (s : RuleOp) (i : Op) → IsSameOperation s i → IsComputed i
 same_is_computed (rule_ops.Binary opcode flags a b) (Binary opcode' flags' x y) same = tt
 same_is_computed (rule_ops.Compare pred samesign a b) (Compare pred' samesign' compared x y) same = tt
 same_is_computed (rule_ops.Select c a b) (Select z x y) same = tt
 same_is_computed (rule_ops.Convert cast flags a to) (Convert cast' flags' from x) same = tt
+same_is_computed (rule_ops.Freeze a j) (Freeze x) same = tt
 same_is_computed s i same = absurd same
 
 pub computed_no_phi : (i : Op) → IsComputed i → ¬ IsPhi i
@@ -40,6 +41,7 @@ arity_same f b k w (rule_ops.Binary opcode flags a c) (Binary opcode' flags' x y
 arity_same f b k w (rule_ops.Compare pred samesign a c) (Compare pred' samesign' compared x y) same = refl
 arity_same f b k w (rule_ops.Select c a d) (Select z x y) same = refl
 arity_same f b k w (rule_ops.Convert cast flags a to) (Convert cast' flags' from x) same = refl
+arity_same f b k w (rule_ops.Freeze a j) (Freeze x) same = refl
 arity_same f b k w s i same = absurd same
 
 -- each operand of the one stands for one of the other
@@ -74,7 +76,7 @@ all_here f b k w (Binary opcode flags x y) is = one_here b k w x (read b k w y �
 all_here f b k w (Compare pred samesign compared x y) is = one_here b k compared x (read b k compared y ∷ []) (one_here b k compared y [] (none_here b k))
 all_here f b k w (Select c x y) is = one_here b k 1 c (read b k w x ∷ read b k w y ∷ []) (one_here b k w x (read b k w y ∷ []) (one_here b k w y [] (none_here b k)))
 all_here f b k w (Convert cast flags from x) is = one_here b k from x [] (none_here b k)
-all_here f b k w (Freeze x) is = absurd is
+all_here f b k w (Freeze x) is = one_here b k w x [] (none_here b k)
 all_here f b k w (Phi entries) is = absurd is
 
 pub reads_here : (f : Function) (b k w : ℕ) (i : Op) → IsComputed i → (n : ℕ) (r : Read) → slice_get (reads_of f b k w i) n ≡ Some r → (r.block ≡ b) × (r.place ≡ k)
@@ -102,6 +104,7 @@ module _ (typing : List ℕ) (f : Function) (b k w : ℕ) where
       let width : slice_index typing a.class ≡ from = class_is a from (widths 0 a (read b k from x) refl refl) in
       let is : Converts cast' flags from w ≡ Converts cast flags (slice_index typing a.class) w = cc in
       subst (λ (c : Computation). AllowsEffect (effect_of (Converts cast' flags' from w) v) (effect_of c v)) is (more_cast_flags_allow flags flags' within cast' from w (v 0))
+  inst_allows (rule_ops.Freeze a j) (Freeze x) same within widths v = AllowsEffect-refl (effect_of Freezing v)
   inst_allows s i same within widths v = absurd same
 
   -- and computes the same where it has no others
@@ -113,4 +116,5 @@ module _ (typing : List ℕ) (f : Function) (b k w : ℕ) where
   inst_same (rule_ops.Select c a d) (Select z x y) same flags_same widths = refl
   inst_same (rule_ops.Convert cast flags a to) (Convert cast' flags' from x) same flags_same widths =
       let width : slice_index typing a.class ≡ from = class_is a from (widths 0 a (read b k from x) refl refl) in cc
+  inst_same (rule_ops.Freeze a j) (Freeze x) same flags_same widths = refl
   inst_same s i same flags_same widths = absurd same

@@ -1,31 +1,36 @@
--- The numbers that operands which are `undef` are given, in the order of the text.
-use Rattle.std.proofs.Common.{◌≡◌, ℕ, zero, suc, ◌+◌, ◌<◌, inl, inr, List, [], ◌∷◌, ◌++◌, length, length-append, Some, refl, sym, ap, subst, ◌∙◌, arith}
-use Rattle.std.specs.Prelude.{slice_get, slice_index, filter_map}
+-- The numbers that choices are given, in the order of the text: a statement's among what it takes.
+use Rattle.std.proofs.Common.{◌≡◌, ℕ, zero, suc, ◌+◌, ◌<◌, inl, inr, List, [], ◌∷◌, ◌++◌, length, length-append, map, append-nil, Some, refl, sym, ap, ◌∙◌, arith}
+use Rattle.std.specs.Prelude.{slice_get, slice_index, Contains, flat_map}
 use Rattle.std.specs.List.{range_with_len}
-use Rattle.std.proofs.lemmas.List.Elements.{filter_map-append}
+use Rattle.std.proofs.lemmas.List.{map-append}
 use Rattle.std.proofs.lemmas.List.FromFn.{get_or-range_with_len}
 use Rattle.std.proofs.lemmas.Nat.{pow_pos}
 use Rattle.std.proofs.lemmas.Option.{same_Some, slice_get_within, get_or_from_slice_get}
-use Rattle.ops.specs.Integer.{bits}
 use Rattle.ops.specs.Number.{Number}
 use Rattle.ops.specs.Value.{IsValueOf}
 use Rattle.ops.specs.declared.value.Value.{Value}
 use Rattle.ops.specs.declared.value.Value.TheVariants as values
-use Rattle.rule_core.specs.Positions.{operands_of, operands_among, undef_in, undefs_among}
+use Rattle.rule_core.specs.declared.rule.Choice.{Choice}
+use Rattle.rule_core.specs.Positions.{operands_of, undef_in, frozen_in, choices_of, choices_among}
 use Rattle.rule_core.specs.declared.rule.Argument.{Argument}
 use Rattle.rule_core.specs.declared.rule.Argument.TheVariants as arguments
+use Rattle.rule_core.specs.declared.rule.Op.{Op}
+use Rattle.rule_core.specs.declared.rule.Op.TheVariants.{Binary, Compare, Select, Convert, Freeze, Copy}
 use Rattle.rule_core.specs.declared.rule.Operand.{Operand}
 use Rattle.rule_core.specs.declared.rule.Statement.{Statement}
 use Rattle.substitution.proofs.Pieces.{get_left, get_right, get_cases}
-use Rattle.rewriter.proofs.Computing.{collected}
+use Rattle.rule_core.proofs.Members.{Contains-from_get, Contains-flat_map}
+use Rattle.rewriter.proofs.Computing.{number_of, inputs_of}
 
-abbrev pub number_of : Value → Number
-number_of values.Poison = record { width = 0; number = 0 }
-number_of (values.Bits n) = n
+-- the choices among operands, and their places
+abbrev pub open_in : List Operand → List Choice
+open_in operands = flat_map (λ o. undef_in o.class o.value) operands
 
--- the places of the `undef`s among operands
+abbrev pub places : List Choice → List ℕ
+places choices = map (λ c. c.place) choices
+
 abbrev pub undefs_of : List Operand → List ℕ
-undefs_of operands = filter_map (λ o. undef_in o.value) operands
+undefs_of operands = places (open_in operands)
 
 -- the number that an argument is given, if it is an `undef`
 abbrev pub pick : Argument → Value → List Number
@@ -119,13 +124,13 @@ picked_from (o ∷ operands) v q n at =
 
 -- the places are those from m on
 abbrev pub InOrder : ℕ → List ℕ → Type 0
-InOrder m places = (q : ℕ) (k : ℕ) → slice_get places q ≡ Some k → k ≡ m + q
+InOrder m xs = (q : ℕ) (k : ℕ) → slice_get xs q ≡ Some k → k ≡ m + q
 
-pub in_order : (places : List ℕ) → places ≡ range_with_len 0 (length places) → InOrder 0 places
-in_order places order q k at =
-    let small : q < length places = slice_get_within places q k at in
-    let there : slice_get (range_with_len 0 (length places)) q ≡ Some k = ap (λ (l : List ℕ). slice_get l q) (sym order) ∙ at in
-    sym (get_or_from_slice_get (range_with_len 0 (length places)) q k 0 there) ∙ get_or-range_with_len 0 (length places) q 0 small
+pub in_order : (xs : List ℕ) → xs ≡ range_with_len 0 (length xs) → InOrder 0 xs
+in_order xs order q k at =
+    let small : q < length xs = slice_get_within xs q k at in
+    let there : slice_get (range_with_len 0 (length xs)) q ≡ Some k = ap (λ (l : List ℕ). slice_get l q) (sym order) ∙ at in
+    sym (get_or_from_slice_get (range_with_len 0 (length xs)) q k 0 there) ∙ get_or-range_with_len 0 (length xs) q 0 small
 
 pub in_order_left : (m : ℕ) (xs ys : List ℕ) → InOrder m (xs ++ ys) → InOrder m xs
 in_order_left m xs ys order q k at = order q k (get_left xs ys q k at)
@@ -134,17 +139,45 @@ pub in_order_right : (m : ℕ) (xs ys : List ℕ) → InOrder m (xs ++ ys) → I
 in_order_right m xs ys order q k at =
     let e : k ≡ m + (length xs + q) = order (length xs + q) k (get_right xs ys q (length xs + q) k at refl) in omega arith
 
--- the places among a statement's operands come before those of the statements behind it
-pub undefs_apart : (s : Statement) (statements : List Statement) → undefs_among (s ∷ statements) ≡ undefs_of (operands_of s.op) ++ undefs_among statements
-undefs_apart s statements = filter_map-append (λ (o : Operand). undef_in o.value) (operands_of s.op) (operands_among statements)
+-- a statement's choices are those among what it takes
+taken_open : (c : ℕ) (op : Op) → open_in (operands_of op) ++ frozen_in c op ≡ open_in (inputs_of c op)
+taken_open c (Freeze a k) = rw (append-nil (undef_in a.class a.value)) refl
+taken_open c (Binary op flags a b) = append-nil (open_in (a ∷ b ∷ []))
+taken_open c (Compare pred samesign a b) = append-nil (open_in (a ∷ b ∷ []))
+taken_open c (Select z a b) = append-nil (open_in (z ∷ a ∷ b ∷ []))
+taken_open c (Convert cast flags a to) = append-nil (open_in (a ∷ []))
+taken_open c (Copy a) = append-nil (open_in (a ∷ []))
+
+pub statement_open_in : (s : Statement) → choices_of s ≡ open_in (inputs_of s.class s.op)
+statement_open_in s = taken_open s.class s.op
+
+-- and their places come before those of the statements behind it
+pub undefs_apart : (s : Statement) (statements : List Statement) → places (choices_among (s ∷ statements)) ≡ undefs_of (inputs_of s.class s.op) ++ places (choices_among statements)
+undefs_apart s statements =
+    map-append (λ (c : Choice). c.place) (choices_of s) (choices_among statements)
+    ∙ ap (λ (cs : List Choice). places cs ++ places (choices_among statements)) (statement_open_in s)
+
+-- what an `undef` among what it takes leaves open is among its choices
+pub input_open : (s : Statement) (i : ℕ) (o : Operand) (k : ℕ) → slice_get (inputs_of s.class s.op) i ≡ Some o → o.value ≡ arguments.Undef k → Contains (choices_of s) (record { place = k; class = o.class })
+input_open s i o k at is =
+    let choice : Choice = record { place = k; class = o.class } in
+    let own : Contains (undef_in o.class o.value) choice = rw is (Contains-from_get (choice ∷ []) 0 choice refl) in
+    rw (statement_open_in s)
+    (Contains-flat_map (λ (p : Operand). undef_in p.class p.value) (inputs_of s.class s.op) o choice (Contains-from_get (inputs_of s.class s.op) i o at) own)
 
 -- ---- zeros
 
-abbrev IsZeroOf : List ℕ → Operand → Value → Type 0
-IsZeroOf typing o v = (N : ℕ) → slice_get typing o.class ≡ Some N → v ≡ bits N 0
+-- zeros of the widths of choices
+abbrev pub zero_for : List ℕ → Choice → Number
+zero_for typing c = record { width = slice_index typing c.class; number = 0 }
 
--- zeros of the operands' widths
-pub zeros : (typing : List ℕ) (operands : List Operand) → (v : ℕ → Value) × ((i : ℕ) (o : Operand) → slice_get operands i ≡ Some o → (N : ℕ) → slice_get typing o.class ≡ Some N → (v i ≡ values.Bits (number_of (v i))) × IsValueOf N (values.Bits (number_of (v i))))
-zeros typing operands =
-    let v = collected (λ i o v. IsZeroOf typing o v) operands (λ i o at. (bits (slice_index typing o.class) 0, λ N width. ap (λ M. bits M 0) (get_or_from_slice_get typing o.class N 0 width))) in
-    (v.0, λ i o at N width. let is : v.0 i ≡ bits N 0 = v.1 i o at N width in subst (λ x. (x ≡ values.Bits (number_of x)) × IsValueOf N (values.Bits (number_of x))) (sym is) (refl, (refl, pow_pos N)))
+abbrev pub zeros : List ℕ → List Choice → List Number
+zeros typing choices = map (zero_for typing) choices
+
+pub zero_from : (typing : List ℕ) (choices : List Choice) (q : ℕ) (n : Number) → slice_get (zeros typing choices) q ≡ Some n → (c : Choice) × (slice_get choices q ≡ Some c) × (n ≡ zero_for typing c)
+zero_from typing [] q n at = absurd cc
+zero_from typing (c ∷ choices) zero n at = (c, refl, sym (same_Some (zero_for typing c) n at))
+zero_from typing (c ∷ choices) (suc q) n at = zero_from typing choices q n at
+
+pub zero_fits : (typing : List ℕ) (c : Choice) (N : ℕ) → slice_get typing c.class ≡ Some N → IsValueOf N (values.Bits (zero_for typing c))
+zero_fits typing c N at = let is : slice_index typing c.class ≡ N = get_or_from_slice_get typing c.class N 0 at in (is, pow_pos N)

@@ -18,7 +18,7 @@ use Rattle.ir_core.specs.declared.operand.Operand.TheVariants as operands
 use Rattle.ir_core.specs.declared.operand.Register.{Register}
 use Rattle.ir_core.specs.declared.operand.Register.TheVariants as registers
 use Rattle.rule_core.specs.Checks.{TargetMayRead}
-use Rattle.rule_core.specs.Positions.{operands_of, IsStatementOf, binary_left, binary_right, compared, select_true, select_false, condition}
+use Rattle.rule_core.specs.Positions.{operands_of, IsStatementOf, binary_left, binary_right, compared, select_true, select_false, freeze, condition}
 use Rattle.rule_core.specs.Terms.{in_turn, constant_values, value_at}
 use Rattle.rule_core.specs.Typing.{IsTyping}
 use Rattle.rule_core.specs.declared.rule.Argument.{Argument}
@@ -34,7 +34,7 @@ use Rattle.rule_core.proofs.Ready.{class_width as width_of_class}
 use Rattle.rule_core.proofs.Turns.{in_turn-length, at_place, before_place}
 use Rattle.bindings.specs.declared.binding.Binding.{Binding}
 use Rattle.rewriter.specs.Put.{literal_of, is_copy, count_put, argument_put, class_width, operand_put, result_of_op, result_put, results_put, insts_of_op, insts_with, insts_put}
-use Rattle.rewriter.proofs.Computing.{computed, computed_by, IsComputed}
+use Rattle.rewriter.proofs.Computing.{computed, computed_by, IsComputed, choice_operand, inputs_of, taken_by}
 
 -- the operation copies nothing
 abbrev pub IsNoCopy : RuleOp → Type 0
@@ -61,6 +61,7 @@ module _ (rule : Rule) (binding : Binding) where
   result_put_at t (rule_ops.Compare pred samesign a b) kept = refl
   result_put_at t (rule_ops.Select c a b) kept = refl
   result_put_at t (rule_ops.Convert cast flags a to) kept = refl
+  result_put_at t (rule_ops.Freeze a j) kept = refl
   result_put_at t (rule_ops.Copy a) kept = absurd cc
 
   -- an argument is put the same by results that agree at the places that it may read
@@ -82,6 +83,7 @@ module _ (rule : Rule) (binding : Binding) where
   op_agrees some all t (rule_ops.Compare pred samesign a b) count may same is = ap (λ n. operands.Register (registers.Result binding.block (binding.place + put_before n))) count
   op_agrees some all t (rule_ops.Select c a b) count may same is = ap (λ n. operands.Register (registers.Result binding.block (binding.place + put_before n))) count
   op_agrees some all t (rule_ops.Convert cast flags a to) count may same is = ap (λ n. operands.Register (registers.Result binding.block (binding.place + put_before n))) count
+  op_agrees some all t (rule_ops.Freeze a j) count may same is = ap (λ n. operands.Register (registers.Result binding.block (binding.place + put_before n))) count
 
   module _ (target_reads : (t : ℕ) (s : Statement) (o : RuleOperand) → slice_get rule.target t ≡ Some s → Contains (operands_of s.op) o → TargetMayRead rule t o.value) where
     pub result_is : (t : ℕ) (s : Statement) → slice_get rule.target t ≡ Some s → slice_get results t ≡ Some (result_at t s.op)
@@ -123,6 +125,7 @@ module _ (rule : Rule) (binding : Binding) where
   put_op N (rule_ops.Compare pred samesign a b) = ops.Compare pred samesign (class_width rule binding a.class) (operand_put rule binding results a) (operand_put rule binding results b)
   put_op N (rule_ops.Select c a b) = ops.Select (operand_put rule binding results c) (operand_put rule binding results a) (operand_put rule binding results b)
   put_op N (rule_ops.Convert cast flags a to) = ops.Convert cast flags (class_width rule binding a.class) (operand_put rule binding results a)
+  put_op N (rule_ops.Freeze a j) = ops.Freeze (operand_put rule binding results a)
   put_op N (rule_ops.Copy a) = ops.Freeze (operand_put rule binding results a)
 
   abbrev pub put_inst : Name → ℕ → RuleOp → Inst
@@ -133,6 +136,7 @@ module _ (rule : Rule) (binding : Binding) where
   insts_are name N (rule_ops.Compare pred samesign a b) kept = refl
   insts_are name N (rule_ops.Select c a b) kept = refl
   insts_are name N (rule_ops.Convert cast flags a to) kept = refl
+  insts_are name N (rule_ops.Freeze a j) kept = refl
   insts_are name N (rule_ops.Copy a) kept = absurd cc
 
   pub insts_none : (name : Name) (N : ℕ) (op : RuleOp) → is_copy op ≡ true → insts_of_op rule binding name N op ≡ []
@@ -140,6 +144,7 @@ module _ (rule : Rule) (binding : Binding) where
   insts_none name N (rule_ops.Compare pred samesign a b) kept = absurd cc
   insts_none name N (rule_ops.Select c a b) kept = absurd cc
   insts_none name N (rule_ops.Convert cast flags a to) kept = absurd cc
+  insts_none name N (rule_ops.Freeze a j) kept = absurd cc
   insts_none name N (rule_ops.Copy a) kept = refl
 
   -- the instructions of a statement come before those of the statements behind it
@@ -152,6 +157,7 @@ module _ (rule : Rule) (binding : Binding) where
   computed_same N (rule_ops.Compare pred samesign a b) kept = refl
   computed_same N (rule_ops.Select c a b) kept = refl
   computed_same N (rule_ops.Convert cast flags a to) kept = refl
+  computed_same N (rule_ops.Freeze a j) kept = refl
   computed_same N (rule_ops.Copy a) kept = absurd cc
 
   pub put_is_computed : (N : ℕ) (op : RuleOp) → IsNoCopy op → IsComputed (put_op N op)
@@ -159,6 +165,7 @@ module _ (rule : Rule) (binding : Binding) where
   put_is_computed N (rule_ops.Compare pred samesign a b) kept = tt
   put_is_computed N (rule_ops.Select c a b) kept = tt
   put_is_computed N (rule_ops.Convert cast flags a to) kept = tt
+  put_is_computed N (rule_ops.Freeze a j) kept = tt
   put_is_computed N (rule_ops.Copy a) kept = absurd cc
 
   -- ---- what it reads
@@ -205,11 +212,28 @@ module _ (rule : Rule) (binding : Binding) where
         let w : ℕ = class_width rule binding a.class in
         paired_more a [] (read b k w (operand_put rule binding results a)) []
         (read_for a w (own_width s a stands (subst (λ (op : RuleOp). Contains (operands_of op) a) (sym is) (Contains-from_get (a ∷ []) 0 a refl)))) paired_none
+    reads_paired s N (rule_ops.Freeze a j) is stands width kept = paired_more a [] (read b k N (operand_put rule binding results a)) [] (read_for a N (sym (typed.same s.class a.class (freeze stands is)) ∙ width)) paired_none
     reads_paired s N (rule_ops.Copy a) is stands width kept = absurd cc
+
+    -- and so is all that it takes
+    inputs_paired : (s : Statement) (N : ℕ) (op : RuleOp) → s.op ≡ op → IsStatementOf rule s → slice_get binding.typing s.class ≡ Some N → IsNoCopy op → Paired (inputs_of s.class op) (taken_by f b k N (put_op N op))
+    inputs_paired s N (rule_ops.Binary opcode flags a c) is stands width kept = reads_paired s N (rule_ops.Binary opcode flags a c) is stands width kept
+    inputs_paired s N (rule_ops.Compare pred samesign a c) is stands width kept = reads_paired s N (rule_ops.Compare pred samesign a c) is stands width kept
+    inputs_paired s N (rule_ops.Select c x y) is stands width kept = reads_paired s N (rule_ops.Select c x y) is stands width kept
+    inputs_paired s N (rule_ops.Convert cast flags a to) is stands width kept = reads_paired s N (rule_ops.Convert cast flags a to) is stands width kept
+    inputs_paired s N (rule_ops.Freeze a j) is stands width kept =
+        let choice : RuleOperand = choice_operand s.class j in
+        paired_more a (choice ∷ []) (read b k N (operand_put rule binding results a)) (read b k N operands.Undef ∷ []) (read_for a N (sym (typed.same s.class a.class (freeze stands is)) ∙ width))
+        (paired_more choice [] (read b k N operands.Undef) [] (record { operand = refl; width = width }) paired_none)
+    inputs_paired s N (rule_ops.Copy a) is stands width kept = absurd cc
 
     pub put_reads : (s : Statement) (N : ℕ) → IsStatementOf rule s → slice_get binding.typing s.class ≡ Some N → IsNoCopy s.op → (n : ℕ) (o : RuleOperand) → slice_get (operands_of s.op) n ≡ Some o
         → (r : Read) × (slice_get (reads_of f b k N (put_op N s.op)) n ≡ Some r) × ReadFor o r
     put_reads s N stands width kept = reads_paired s N s.op refl stands width kept
+
+    pub put_inputs : (s : Statement) (N : ℕ) → IsStatementOf rule s → slice_get binding.typing s.class ≡ Some N → IsNoCopy s.op → (n : ℕ) (o : RuleOperand) → slice_get (inputs_of s.class s.op) n ≡ Some o
+        → (r : Read) × (slice_get (taken_by f b k N (put_op N s.op)) n ≡ Some r) × ReadFor o r
+    put_inputs s N stands width kept = inputs_paired s N s.op refl stands width kept
 
   -- ---- no result of a later instruction is read
 
@@ -267,6 +291,7 @@ module _ (rule : Rule) (binding : Binding) where
     result_settled t s (rule_ops.Compare pred samesign a b) is at first = own_settled t s at (ap is_copy is)
     result_settled t s (rule_ops.Select c a b) is at first = own_settled t s at (ap is_copy is)
     result_settled t s (rule_ops.Convert cast flags a to) is at first = own_settled t s at (ap is_copy is)
+    result_settled t s (rule_ops.Freeze a j) is at first = own_settled t s at (ap is_copy is)
 
     pub first_settled : (t : ℕ) → t ≤ length rule.target → FirstSettled t
     first_settled zero le j a lt at = absurd (omega arith)

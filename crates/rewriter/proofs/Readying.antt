@@ -1,12 +1,12 @@
 -- What the target reads is there, where a rule is one that is read and its names are bound.
-use Rattle.std.proofs.Common.{◌≡◌, ℕ, suc, ◌+◌, ◌<◌, ◌≤◌, List, [], ◌∷◌, length, Some, refl, sym, ap, subst, ◌∙◌, arith, get_or, add-one}
+use Rattle.std.proofs.Common.{◌≡◌, ℕ, ◌≤◌, [], ◌∷◌, Some, refl, arith}
 use Rattle.std.specs.Prelude.{slice_get, Contains}
 use Rattle.rule_core.specs.Checks.{IsRule, TargetMayRead}
 use Rattle.rule_core.specs.Positions.{operands_of, IsStatementOf}
 use Rattle.rule_core.specs.declared.rule.Argument.{Argument}
 use Rattle.rule_core.specs.declared.rule.Argument.TheVariants as arguments
 use Rattle.rule_core.specs.declared.rule.Op.{Op}
-use Rattle.rule_core.specs.declared.rule.Op.TheVariants.{Binary, Compare, Select, Convert, Copy}
+use Rattle.rule_core.specs.declared.rule.Op.TheVariants.{Binary, Compare, Select, Convert, Freeze, Copy}
 use Rattle.rule_core.specs.declared.rule.Operand.{Operand}
 use Rattle.rule_core.specs.declared.rule.Register.TheVariants as names
 use Rattle.rule_core.specs.declared.rule.Rule.{Rule}
@@ -21,6 +21,7 @@ module _ (rule : Rule) (binding : Binding) where
   by_operand k (Compare pred samesign a b) h = (h a (Contains-from_get (a ∷ b ∷ []) 0 a refl), h b (Contains-from_get (a ∷ b ∷ []) 1 b refl))
   by_operand k (Select c a b) h = (h c (Contains-from_get (c ∷ a ∷ b ∷ []) 0 c refl), h a (Contains-from_get (c ∷ a ∷ b ∷ []) 1 a refl), h b (Contains-from_get (c ∷ a ∷ b ∷ []) 2 b refl))
   by_operand k (Convert cast flags a to) h = h a (Contains-from_get (a ∷ []) 0 a refl)
+  by_operand k (Freeze a j) h = h a (Contains-from_get (a ∷ []) 0 a refl)
   by_operand k (Copy a) h = h a (Contains-from_get (a ∷ []) 0 a refl)
 
   -- what a statement may read, a later one may

@@ -1,5 +1,5 @@
 -- What a match gives to what is put: the root is there, all names are bound, and few instructions are put.
-use Rattle.std.proofs.Common.{◌≡◌, ℕ, suc, ◌+◌, ◌-◌, ◌<◌, ◌≤◌, List, [], ◌∷◌, ◌++◌, length, length-append, Some, None, Result, Ok, Err, subst, arith}
+use Rattle.std.proofs.Common.{◌≡◌, ℕ, ◌-◌, ◌≤◌, List, [], ◌∷◌, length, length-append, Some, None, Result, Ok, Err, subst, arith}
 use Rattle.std.specs.Prelude.{slice_get, OnOk}
 use Rattle.std.proofs.lemmas.Option.{slice_get_within}
 use Rattle.ir_core.specs.Blocks.{HasInst}
@@ -10,7 +10,7 @@ use Rattle.ir_core.specs.declared.instruction.Inst.{Inst}
 use Rattle.ir_meaning.proofs.Pieces.{some_at}
 use Rattle.rule_core.specs.Checks.{IsRule}
 use Rattle.rule_core.specs.declared.rule.Op.{Op as RuleOp}
-use Rattle.rule_core.specs.declared.rule.Op.TheVariants.{Binary, Compare, Select, Convert, Copy}
+use Rattle.rule_core.specs.declared.rule.Op.TheVariants.{Binary, Compare, Select, Convert, Freeze, Copy}
 use Rattle.rule_core.specs.declared.rule.Rule.{Rule}
 use Rattle.rule_core.specs.declared.rule.Statement.{Statement}
 use Rattle.bindings.specs.Match.{IsMatch}
@@ -53,6 +53,7 @@ module _ (rule : Rule) (binding : Binding) where
   one_put name N (Compare pred samesign a b) = omega arith
   one_put name N (Select c a b) = omega arith
   one_put name N (Convert cast flags a to) = omega arith
+  one_put name N (Freeze a k) = omega arith
   one_put name N (Copy a) = omega arith
 
   few_put : (name : Name) (statements : List Statement) → length (insts_put rule binding name statements) ≤ length statements

@@ -1,4 +1,4 @@
--- What registers hold where the function comes to the root, and the numbers that were taken for the target's `undef`s, are a setting of
+-- What registers hold where the function comes to the root, and the numbers that were taken for the target's choices, are a setting of
 -- the rule that fits.
 use Rattle.std.proofs.Common.{◌≡◌, ℕ, suc, ◌<◌, ◌≤◌, ◌^◌, inl, inr, List, length, Some, None, refl, sym, ap, subst, ◌∙◌, arith, get_or}
 use Rattle.std.specs.Prelude.{slice_get}
@@ -20,7 +20,7 @@ use Rattle.ir_core.specs.declared.operand.Operand.TheVariants as operands
 use Rattle.ir_meaning.specs.Laws.{HoldWidths}
 use Rattle.ir_meaning.proofs.Pieces.{place_in}
 use Rattle.rule_core.specs.Checks.{IsRule, TargetMayRead}
-use Rattle.rule_core.specs.Positions.{operands_of, operands_among, undefs_among, IsOperandAmong, name, reads, reads_constant, chooses, operand}
+use Rattle.rule_core.specs.Positions.{operands_of, operands_among, choices_among, LeavesOpen, IsOperandAmong, name, reads, reads_constant, chooses, operand}
 use Rattle.rule_core.specs.Terms.{constant_values, value_at, HasNumber}
 use Rattle.rule_core.specs.Valid.{InputsFit, ConstantsFit, SettingFits}
 use Rattle.rule_core.specs.declared.rule.Argument.TheVariants as arguments
@@ -31,7 +31,7 @@ use Rattle.rule_core.specs.declared.rule.Register.TheVariants as names
 use Rattle.rule_core.specs.declared.rule.Rule.{Rule}
 use Rattle.rule_core.specs.declared.rule.Statement.{Statement}
 use Rattle.rule_core.specs.declared.rule.Term.{Term}
-use Rattle.rule_core.proofs.Members.{Contains-from_get, source_operand, target_operand}
+use Rattle.rule_core.proofs.Members.{Contains-from_get, flat_map-from, source_operand, target_operand}
 use Rattle.rule_core.proofs.Ready.{constant_values_fit}
 use Rattle.run_history.specs.Laws.{NumbersFit}
 use Rattle.substitution.specs.Fits.{IsOfItsWidth}
@@ -42,7 +42,7 @@ use Rattle.bindings.specs.Statements.{StatementMatches}
 use Rattle.bindings.specs.declared.binding.Binding.{Binding}
 use Rattle.rewriter.proofs.Matched.{read_there, same_is_computed, reads_here}
 use Rattle.rewriter.proofs.Source.{input_value, input_values}
-use Rattle.rewriter.proofs.Target.{TermFits, flat_map_from}
+use Rattle.rewriter.proofs.Target.{TermFits}
 
 -- a read of the function's, which stands at a place of the root's block at the root or before it, stands for the operand of the source
 pub record SourceRead (f : Function) (binding : Binding) (o : RuleOperand) : Type 0 where
@@ -73,7 +73,7 @@ module _ (f : Function) (b k : ℕ) (rule : Rule) (binding : Binding) (checked :
   -- each operand of the source stands for a read
   pub source_read : (o : RuleOperand) → IsOperandAmong rule.source o → SourceRead f binding o
   source_read o among =
-      let from = flat_map_from (λ (s : Statement). operands_of s.op) rule.source o among in
+      let from = flat_map-from (λ (s : Statement). operands_of s.op) rule.source o among in
       let m : StatementMatches f rule binding from.0 from.1 = match.statements from.0 from.1 from.2 in
       let n = place_in (operands_of from.1.op) o from.3 in
       let r = read_there f binding.block m.place m.inst.width from.1.op m.inst.op m.matches.operation n.0 o n.1 in
@@ -145,22 +145,22 @@ module _ (f : Function) (b k : ℕ) (rule : Rule) (binding : Binding) (checked :
             (n_is, subst (λ x. n.number < 2 ^ x) n_is own);
       }
 
-  -- the numbers are those of the target's `undef`s, and of their widths
+  -- the numbers are those of the target's choices, and of their widths
   abbrev pub ChosenFit : List Number → Type 0
-  ChosenFit chosen = (q : ℕ) (n : Number) → slice_get chosen q ≡ Some n → (o : RuleOperand) × IsOperandAmong rule.target o × (o.value ≡ arguments.Undef q) × ((N : ℕ) → slice_get binding.typing o.class ≡ Some N → IsValueOf N (values.Bits n))
+  ChosenFit chosen = (q : ℕ) (n : Number) → slice_get chosen q ≡ Some n → (c : ℕ) × LeavesOpen rule.target q c × ((N : ℕ) → slice_get binding.typing c ≡ Some N → IsValueOf N (values.Bits n))
 
-  pub setting_fits : (held : Registers) (chosen : List Number) → HoldWidths f held → length chosen ≡ length (undefs_among rule.target) → ChosenFit chosen
-      → SettingFits rule binding.typing (record { inputs = input_values held binding; constants = binding.constants; target_undefs = chosen })
+  pub setting_fits : (held : Registers) (chosen : List Number) → HoldWidths f held → length chosen ≡ length (choices_among rule.target) → ChosenFit chosen
+      → SettingFits rule binding.typing (record { inputs = input_values held binding; constants = binding.constants; target_choices = chosen })
   setting_fits held chosen widths count fit =
       record {
         inputs = inputs_fit held widths;
         constants = constants_fit;
-        target_undefs = record {
+        target_choices = record {
           count = count;
           widths = λ i c N n named width at.
               let r = fit i n at in
-              let same = match.typing.same r.0.class c (name {n = rule_names.Undef i} (chooses r.1 r.2) named) in
-              r.3 N (same ∙ width);
+              let same = match.typing.same r.0 c (name {n = rule_names.Choice i} (chooses r.1) named) in
+              r.2 N (same ∙ width);
         };
       }
 
@@ -171,7 +171,7 @@ module _ (f : Function) (b k : ℕ) (rule : Rule) (binding : Binding) (checked :
 
   pub terms_fit : (o : RuleOperand) (n N : ℕ) → IsOperandAmong rule.target o → o.value ≡ arguments.Term n → slice_get binding.typing o.class ≡ Some N → TermFits rule binding n N
   terms_fit o n N among is width =
-      let from = flat_map_from (λ (s : Statement). operands_of s.op) rule.target o among in
+      let from = flat_map-from (λ (s : Statement). operands_of s.op) rule.target o among in
       let within : n < length rule.terms = subst (TargetMayRead rule from.0) is (checked.target_reads from.0 from.1 o from.2 from.3) in
       let none : Term = record { class = 0; node = nodes.Constant 0 } in
       let t : Term = get_or rule.terms n none in

@@ -21,12 +21,14 @@ use Rattle.ir_core.specs.declared.operand.Operand.{Operand}
 use Rattle.ir_core.specs.declared.operand.Operand.TheVariants as operands
 use Rattle.ir_core.specs.declared.operand.Register.{Register}
 use Rattle.ir_core.specs.declared.operand.Register.TheVariants as registers
-use Rattle.rule_core.specs.Checks.{IsRule, SourceMayRead}
+use Rattle.rule_core.specs.Checks.{IsRule, SourceMayRead, MayStandInSource}
 use Rattle.rule_core.specs.Positions.{operands_of, IsOperandAmong, truth}
 use Rattle.rule_core.specs.Run.{Held, Given, Holds, given_by, at_start, holding_source, TemporariesEnd, Follows, StatementGives, OperandGives as RuleOperandGives, ArgumentGives}
 use Rattle.rule_core.specs.Typing.{IsTyping}
 use Rattle.rule_core.specs.declared.rule.Argument.{Argument}
 use Rattle.rule_core.specs.declared.rule.Argument.TheVariants as arguments
+use Rattle.rule_core.specs.declared.rule.Op.{Op as RuleOp}
+use Rattle.rule_core.specs.declared.rule.Op.TheVariants as rule_ops
 use Rattle.rule_core.specs.declared.rule.Operand.{Operand as RuleOperand}
 use Rattle.rule_core.specs.declared.rule.Register.TheVariants as names
 use Rattle.rule_core.specs.declared.rule.Rule.{Rule}
@@ -40,7 +42,7 @@ use Rattle.substitution.proofs.Arriving.{inst_reads}
 use Rattle.bindings.specs.Operands.{StandsFor, OperandMatches}
 use Rattle.bindings.specs.Statements.{StatementMatches, TargetReadsTemporary}
 use Rattle.bindings.specs.declared.binding.Binding.{Binding}
-use Rattle.rewriter.proofs.Computing.{Computation, effect_of, computed, computed_by, IsComputed, collected, rule_gives, op_computes, effects_allow, effects_same}
+use Rattle.rewriter.proofs.Computing.{Computation, effect_of, computed, computed_by, IsComputed, IsFreeze, inputs_of, plain_inputs, plain_reads, collected, rule_gives, op_computes, effects_allow, effects_same}
 use Rattle.rewriter.proofs.Matched.{same_is_computed, read_there, inst_allows, inst_same}
 
 -- what an input is given that is bound to this operand
@@ -60,6 +62,15 @@ input_is held w operands.Poison v other h = sym h
 pub given_of : (t : Value) (e : Effect) → AllowsEffect (effects.Gives t) e → (r : Value) × (e ≡ effects.Gives r) × AllowsValue t r
 given_of t effects.Undefined h = absurd h
 given_of t (effects.Gives r) h = (r, refl, h)
+
+-- what stands before the root freezes nothing
+no_freeze_before : (rule : Rule) (j : ℕ) (op : RuleOp) → suc j < length rule.source → MayStandInSource rule j op → ¬ IsFreeze op
+no_freeze_before rule j (rule_ops.Freeze a k) before may is = let root : suc j ≡ length rule.source = may in omega arith
+no_freeze_before rule j (rule_ops.Binary opcode flags a b) before may is = is
+no_freeze_before rule j (rule_ops.Compare pred samesign a b) before may is = is
+no_freeze_before rule j (rule_ops.Select c a b) before may is = is
+no_freeze_before rule j (rule_ops.Convert cast flags a to) before may is = is
+no_freeze_before rule j (rule_ops.Copy a) before may is = is
 
 -- it is no `undef`
 abbrev pub IsDefined : Argument → Type 0
@@ -155,22 +166,25 @@ module _ (f : Function) (rule : Rule) (binding : Binding) (held : Registers) whe
         let is : IsComputed m.inst.op = is_computed checked typed j s at m in
         let eq : EquationHolds held binding.block m.place m.inst = equations m.place m.inst (m.matches.temporary before) m.is_inst is in
         let x = op_computes f binding.block m.place held m.inst.width m.inst.op (effects.Gives eq.0) is eq.2 in
+        let none : ¬ IsFreeze s.op = no_freeze_before rule j s.op before (checked.source_ops j s at) in
+        let plain : inputs_of s.class s.op ≡ operands_of s.op = plain_inputs s.class s.op none in
+        let taken = plain_reads f binding.block m.place m.inst.width s.op m.inst.op m.matches.operation none in
         let one : (n : ℕ) (o : RuleOperand) → slice_get (operands_of s.op) n ≡ Some o → (u : Value) × (RuleOperandGives binding.typing given H o u × Stands (x.0 n) u) = λ n o here.
         let r = read_there f binding.block m.place m.inst.width s.op m.inst.op m.matches.operation n o here in
         let defined : IsDefined o.value = λ k is. let root : suc j ≡ length rule.source = subst (SourceMayRead rule j) is (may_read checked typed j s at m n o here) in absurd (omega arith) in
-        let g = operand_gives no_undef given refl j H standing o r.0 (x.0 n) (operand_matches checked typed j s at m n o r.0 here r.1) (may_read checked typed j s at m n o here) defined (truth_width checked typed j s at m n o r.0 here r.1) (x.1 n r.0 r.1) in
+        let g = operand_gives no_undef given refl j H standing o r.0 (x.0 n) (operand_matches checked typed j s at m n o r.0 here r.1) (may_read checked typed j s at m n o here) defined (truth_width checked typed j s at m n o r.0 here r.1) (x.1 n r.0 (ap (λ (l : List Read). slice_get l n) taken ∙ r.1)) in
         (g.0, (g.1, g.2)) in
         let u = collected (λ n o v. RuleOperandGives binding.typing given H o v × Stands (x.0 n) v) (operands_of s.op) one in
         let e : Effect = effect_of (computed binding.typing m.inst.width s.op) u.0 in
-        let gives : StatementGives binding.typing given H s e = (m.inst.width, m.matches.width, rule_gives binding.typing given H m.inst.width s.op u.0 (λ n o here. (u.1 n o here).0)) in
+        let gives : StatementGives binding.typing given H s e = (m.inst.width, m.matches.width, rule_gives binding.typing given H s.class m.inst.width m.matches.width s.op u.0 (λ n o here. (u.1 n o (ap (λ (l : List RuleOperand). slice_get l n) (sym plain) ∙ here)).0)) in
         let own : Effect = effect_of (computed binding.typing m.inst.width s.op) x.0 in
         let by_flags : AllowsEffect (effect_of (computed_by m.inst.width m.inst.op) x.0) own = inst_allows binding.typing f binding.block m.place m.inst.width s.op m.inst.op m.matches.operation m.matches.flags (widths_agree checked typed j s at m) x.0 in
-        let by_values : AllowsEffect own e = effects_allow binding.typing m.inst.width s.op x.0 u.0 (λ n o here. (u.1 n o here).1.0) in
+        let by_values : AllowsEffect own e = effects_allow binding.typing m.inst.width s.op x.0 u.0 none (λ n o here. (u.1 n o here).1.0) in
         let allows : AllowsEffect (effects.Gives eq.0) e = subst (λ (d : Effect). AllowsEffect d e) (sym x.2) (AllowsEffect-trans (effect_of (computed_by m.inst.width m.inst.op) x.0) own e by_flags by_values) in
         let r = given_of eq.0 e allows in
         let exact : TargetReadsTemporary rule → eq.0 ≡ r.0 = λ reads.
         let same : computed_by m.inst.width m.inst.op ≡ computed binding.typing m.inst.width s.op = inst_same binding.typing f binding.block m.place m.inst.width s.op m.inst.op m.matches.operation (m.matches.no_more_flags before reads) (widths_agree checked typed j s at m) in
-        let equal : own ≡ e = effects_same binding.typing m.inst.width s.op x.0 u.0 (λ n o here. (u.1 n o here).1.1 reads) in
+        let equal : own ≡ e = effects_same binding.typing s.class m.inst.width s.op x.0 u.0 (λ n o here. (u.1 n o (ap (λ (l : List RuleOperand). slice_get l n) (sym plain) ∙ here)).1.1 reads) in
         let read : effects.Gives eq.0 ≡ effect_of (computed_by m.inst.width m.inst.op) x.0 = x.2 in
         let computes : effect_of (computed_by m.inst.width m.inst.op) x.0 ≡ own = ap (λ (c : Computation). effect_of c x.0) same in
         let gives_value : e ≡ effects.Gives r.0 = r.1 in

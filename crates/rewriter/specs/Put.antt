@@ -75,6 +75,7 @@ module _ (rule : Rule) (binding : Binding) where
   insts_of_op name N (rule_ops.Compare pred samesign a b) = record { name = name; width = N; op = ops.Compare pred samesign (class_width a.class) (operand_put results_put a) (operand_put results_put b) } ∷ []
   insts_of_op name N (rule_ops.Select c a b) = record { name = name; width = N; op = ops.Select (operand_put results_put c) (operand_put results_put a) (operand_put results_put b) } ∷ []
   insts_of_op name N (rule_ops.Convert cast flags a to) = record { name = name; width = N; op = ops.Convert cast flags (class_width a.class) (operand_put results_put a) } ∷ []
+  insts_of_op name N (rule_ops.Freeze a k) = record { name = name; width = N; op = ops.Freeze (operand_put results_put a) } ∷ []
   insts_of_op name N (rule_ops.Copy a) = []
 
   abbrev pub insts_with : Name → Statement → List Inst

@@ -7,7 +7,7 @@ use Rattle.rule_core.specs.Checks.{TargetMayRead}
 use Rattle.rule_core.specs.Typing.{IsTyping}
 use Rattle.rule_core.specs.Valid.{ConstantsFit}
 use Rattle.rule_core.specs.declared.rule.Op.{Op}
-use Rattle.rule_core.specs.declared.rule.Op.TheVariants.{Binary, Compare, Select, Convert, Copy}
+use Rattle.rule_core.specs.declared.rule.Op.TheVariants.{Binary, Compare, Select, Convert, Freeze, Copy}
 use Rattle.rule_core.specs.declared.rule.Operand.{Operand}
 use Rattle.rule_core.specs.declared.rule.Rule.{Rule}
 use Rattle.rule_core.specs.declared.rule.Statement.{Statement}
@@ -32,6 +32,7 @@ module _ (rule : Rule) (binding : Binding) where
   OpIsReady k (Compare pred samesign a b) = OperandIsReady k a × OperandIsReady k b
   OpIsReady k (Select c a b) = OperandIsReady k c × OperandIsReady k a × OperandIsReady k b
   OpIsReady k (Convert cast flags a to) = OperandIsReady k a
+  OpIsReady k (Freeze a j) = OperandIsReady k a
   OpIsReady k (Copy a) = OperandIsReady k a
 
   pub record StatementIsReady (k : ℕ) (s : Statement) : Type 0 where
@@ -44,4 +45,5 @@ module _ (rule : Rule) (binding : Binding) where
   op_put results (Compare pred samesign a b) = Some (ops.Compare pred samesign (class_width rule binding a.class) (operand_put rule binding results a) (operand_put rule binding results b))
   op_put results (Select c a b) = Some (ops.Select (operand_put rule binding results c) (operand_put rule binding results a) (operand_put rule binding results b))
   op_put results (Convert cast flags a to) = Some (ops.Convert cast flags (class_width rule binding a.class) (operand_put rule binding results a))
+  op_put results (Freeze a k) = Some (ops.Freeze (operand_put rule binding results a))
   op_put results (Copy a) = None

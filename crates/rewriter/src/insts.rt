@@ -97,6 +97,7 @@ fn op_put(rule: &Rule, binding: &Binding, results: &[Operand], op: RuleOp) -> Op
             let from = class_width(binding, x.class);
             Some(Op::Convert(cast, flags, from, operand_put(rule, binding, results, x)))
         }
+        RuleOp::Freeze(x, _) => Some(Op::Freeze(operand_put(rule, binding, results, x))),
         RuleOp::Copy(_) => None,
     }
 }

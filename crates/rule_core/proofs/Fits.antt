@@ -76,7 +76,7 @@ abbrev pub NodeFits : Meanings → List Value → ℕ → Node → Type 0
 NodeFits names before N (nodes.Literal z) = Unit {0}
 NodeFits names before N (nodes.Constant k) = IsValueOf N (number_at names.constants k)
 NodeFits names before N (nodes.Register r) = number_or_zero (names.registers r) < 2 ^ N
-NodeFits names before N (nodes.Undef k) = IsValueOf N (number_at names.undefs k)
+NodeFits names before N (nodes.Choice k) = IsValueOf N (number_at names.choices k)
 NodeFits names before N (nodes.Width r c) = Unit {0}
 NodeFits names before N (nodes.Unary function a) = IsValueOf N (value_at before a)
 NodeFits names before N (nodes.Binary op a b) = IsValueOf N (value_at before a) × IsValueOf N (value_at before b)
@@ -86,7 +86,7 @@ node_fits : (typing : List ℕ) (names : Meanings) (before : List Value) (N : �
 node_fits typing names before N (nodes.Literal z) fit = (refl, residue_lt N z)
 node_fits typing names before N (nodes.Constant k) fit = fit
 node_fits typing names before N (nodes.Register r) fit = (refl, fit)
-node_fits typing names before N (nodes.Undef k) fit = fit
+node_fits typing names before N (nodes.Choice k) fit = fit
 node_fits typing names before N (nodes.Width r c) fit = within_fits N (slice_index typing c)
 node_fits typing names before N (nodes.Unary function a) fit = function_value_fits function N (value_at before a) fit
 node_fits typing names before N (nodes.Binary op a b) fit =

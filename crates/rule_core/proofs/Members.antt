@@ -1,17 +1,22 @@
 -- What stands in a rule: its statements, their operands, and the classes of both.
-use Rattle.std.proofs.Common.{◌≡◌, ℕ, zero, suc, ◌+◌, ◌<◌, List, [], ◌∷◌, ◌++◌, length, take, length-append, append_assoc, add_assoc, zero-add, suc-add, Some, refl, sym, ap, ◌∙◌, arith, get_or}
+use Rattle.std.proofs.Common.{◌≡◌, ℕ, zero, suc, ◌+◌, ◌<◌, List, [], ◌∷◌, ◌++◌, inl, inr, length, take, length-append, append_assoc, add_assoc, zero-add, suc-add, Some, refl, sym, ap, ◌∙◌, arith, get_or}
 use Rattle.std.specs.Prelude.{slice_get, Contains, map, flat_map}
 use Rattle.std.proofs.lemmas.Option.{slice_get_within, get_or_from_slice_get}
 use Rattle.std.proofs.lemmas.Grind.{flat_map-append}
-use Rattle.std.proofs.lemmas.List.Elements.{Contains-append_left, Contains-append_right}
+use Rattle.std.proofs.lemmas.List.Elements.{Contains-append_left, Contains-append_right, Contains-append_cases}
 use Rattle.rule_core.specs.declared.rule.Rule.{Rule}
 use Rattle.rule_core.specs.declared.rule.Statement.{Statement}
+use Rattle.rule_core.specs.declared.rule.Op.{Op}
+use Rattle.rule_core.specs.declared.rule.Op.TheVariants.{Freeze}
 use Rattle.rule_core.specs.declared.rule.Operand.{Operand}
+use Rattle.rule_core.specs.declared.rule.Argument.{Argument}
+use Rattle.rule_core.specs.declared.rule.Argument.TheVariants as arguments
 use Rattle.rule_core.specs.declared.rule.Term.{Term}
 use Rattle.rule_core.specs.declared.rule.Node.{Node}
 use Rattle.rule_core.specs.declared.rule.Node.TheVariants as nodes
 use Rattle.rule_core.specs.declared.rule.Register.{Register}
-use Rattle.rule_core.specs.Positions.{operands_of, operands_among, operands_in, IsOperandAmong, classes_of_statement, classes_of_term, classes_of, terms_in, IsStatementOf, IsTermOf}
+use Rattle.rule_core.specs.declared.rule.Choice.{Choice}
+use Rattle.rule_core.specs.Positions.{operands_of, operands_among, operands_in, IsOperandAmong, undef_in, frozen_in, choices_of, choices_among, LeavesOpen, classes_of_statement, classes_of_term, classes_of, terms_in, IsStatementOf, IsTermOf}
 
 -- what stands at a place is an element
 pub Contains-from_get : {X : Type 0} (xs : List X) (k : ℕ) (x : X) → slice_get xs k ≡ Some x → Contains xs x
@@ -24,8 +29,22 @@ Contains-flat_map f (a ∷ xs) x y (zero, lt, e) h = Contains-append_left (f a) 
 Contains-flat_map f (a ∷ xs) x y (suc k, lt, e) h =
     Contains-append_right (f a) (flat_map f xs) y (Contains-flat_map f xs x y (k, omega arith, e) h)
 
+-- and one of all is one of what some element is mapped to
+pub flat_map-from : {X Y : Type 0} (f : X → List Y) (xs : List X) (y : Y) → Contains (flat_map f xs) y → (j : ℕ) × (x : X) × (slice_get xs j ≡ Some x) × Contains (f x) y
+flat_map-from f [] y (k, lt, e) = absurd (omega arith)
+flat_map-from f (a ∷ xs) y among =
+    elim (Contains-append_cases (f a) (flat_map f xs) y among) [
+      | inl here ↦ (0, a, refl, here)
+      | inr there ↦ let rest = flat_map-from f xs y there in (suc rest.0, rest.1, rest.2, rest.3)
+    ]
+
+-- the one element of a list is that
+single : {X : Type 0} (a x : X) → Contains (a ∷ []) x → a ≡ x
+single a x (zero, lt, e) = e
+single a x (suc k, lt, e) = absurd (omega arith)
+
 -- what an element is mapped to is an element
-Contains-map : {X Y : Type 0} (f : X → Y) (xs : List X) (x : X) → Contains xs x → Contains (map f xs) (f x)
+pub Contains-map : {X Y : Type 0} (f : X → Y) (xs : List X) (x : X) → Contains xs x → Contains (map f xs) (f x)
 Contains-map f [] x (k, lt, e) = absurd (omega arith)
 Contains-map f (a ∷ xs) x (zero, lt, e) = (0, omega arith, ap f e)
 Contains-map f (a ∷ xs) x (suc k, lt, e) = let rest = Contains-map f xs x (k, omega arith, e) in (suc rest.0, omega arith, rest.2)
@@ -114,3 +133,60 @@ pub target_operand : (rule : Rule) (o : Operand) → IsOperandAmong rule.target 
 target_operand rule o among =
     rw (flat_map-append (λ (s : Statement). operands_of s.op) rule.source rule.target)
     (Contains-append_right (operands_among rule.source) (operands_among rule.target) o among)
+
+-- The choices of a statement: those that its operands are,
+undefs_of : Operand → List Choice
+undefs_of o = undef_in o.class o.value
+
+pub undef_chosen : (s : Statement) (o : Operand) (k : ℕ) → Contains (operands_of s.op) o → o.value ≡ arguments.Undef k → Contains (choices_of s) (record { place = k; class = o.class })
+unfolding undefs_of
+undef_chosen s o k among is =
+    let choice : Choice = record { place = k; class = o.class } in
+    let own : Contains (undefs_of o) choice = rw is (Contains-from_get (choice ∷ []) 0 choice refl) in
+    Contains-append_left (flat_map undefs_of (operands_of s.op)) (frozen_in s.class s.op) choice (Contains-flat_map undefs_of (operands_of s.op) o choice among own)
+
+-- and that of a freeze;
+pub freeze_chosen : (s : Statement) (a : Operand) (k : ℕ) → s.op ≡ Freeze a k → Contains (choices_of s) (record { place = k; class = s.class })
+unfolding undefs_of
+freeze_chosen s a k is =
+    let choice : Choice = record { place = k; class = s.class } in
+    let own : Contains (frozen_in s.class s.op) choice = rw is (Contains-from_get (choice ∷ []) 0 choice refl) in
+    Contains-append_right (flat_map undefs_of (operands_of s.op)) (frozen_in s.class s.op) choice own
+
+-- and there are no others.
+undef_is : (c : ℕ) (x : Argument) (choice : Choice) → Contains (undef_in c x) choice → (x ≡ arguments.Undef choice.place) × (c ≡ choice.class)
+undef_is c (arguments.Undef k) choice here =
+    let same = single (record { place = k; class = c }) choice here in
+    (ap (λ (other : Choice). arguments.Undef other.place) same, ap (λ (other : Choice). other.class) same)
+undef_is c x choice (k, lt, e) = absurd (omega arith)
+
+freeze_is : (c : ℕ) (op : Op) (choice : Choice) → Contains (frozen_in c op) choice → (c ≡ choice.class) × ((a : Operand) × (op ≡ Freeze a choice.place))
+freeze_is c (Freeze a k) choice here =
+    let same = single (record { place = k; class = c }) choice here in
+    (ap (λ (other : Choice). other.class) same, (a, ap (λ (other : Choice). Freeze a other.place) same))
+freeze_is c op choice (k, lt, e) = absurd (omega arith)
+
+-- the choice is an `undef` that the statement reads, or what it freezes to
+pub data Opens (s : Statement) (choice : Choice) : Type 0 where
+  reads_undef : (o : Operand) → Contains (operands_of s.op) o → o.value ≡ arguments.Undef choice.place → o.class ≡ choice.class → Opens s choice
+  freezes : (a : Operand) → s.op ≡ Freeze a choice.place → s.class ≡ choice.class → Opens s choice
+
+pub choice_opens : (s : Statement) (choice : Choice) → Contains (choices_of s) choice → Opens s choice
+unfolding undefs_of
+choice_opens s choice among =
+    elim (Contains-append_cases (flat_map undefs_of (operands_of s.op)) (frozen_in s.class s.op) choice among) [
+      | inl read ↦
+          let at = flat_map-from undefs_of (operands_of s.op) choice read in
+          let is = undef_is at.1.class at.1.value choice at.3 in
+          reads_undef at.1 (Contains-from_get (operands_of s.op) at.0 at.1 at.2) is.0 is.1
+      | inr frozen ↦ let is = freeze_is s.class s.op choice frozen in freezes is.1.0 is.1.1 is.0
+    ]
+
+-- a half leaves open what its statements do
+pub statement_open : (statements : List Statement) (s : Statement) (choice : Choice) → Contains statements s → Contains (choices_of s) choice → Contains (choices_among statements) choice
+statement_open statements s choice here among = Contains-flat_map choices_of statements s choice here among
+
+pub operand_open : (statements : List Statement) (o : Operand) (k : ℕ) → IsOperandAmong statements o → o.value ≡ arguments.Undef k → LeavesOpen statements k o.class
+operand_open statements o k among is =
+    let at = flat_map-from (λ (s : Statement). operands_of s.op) statements o among in
+    statement_open statements at.1 (record { place = k; class = o.class }) (Contains-from_get statements at.0 at.1 at.2) (undef_chosen at.1 o k at.3 is)

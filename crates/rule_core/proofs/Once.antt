@@ -8,7 +8,7 @@ use Rattle.ops.specs.declared.value.Effect.TheVariants as effects
 use Rattle.rule_core.specs.declared.rule.Rule.{Rule}
 use Rattle.rule_core.specs.declared.rule.Statement.{Statement}
 use Rattle.rule_core.specs.declared.rule.Op.{Op}
-use Rattle.rule_core.specs.declared.rule.Op.TheVariants.{Binary, Compare, Select, Convert, Copy}
+use Rattle.rule_core.specs.declared.rule.Op.TheVariants.{Binary, Compare, Select, Convert, Freeze, Copy}
 use Rattle.rule_core.specs.declared.rule.Operand.{Operand}
 use Rattle.rule_core.specs.declared.rule.Argument.{Argument}
 use Rattle.rule_core.specs.declared.rule.Argument.TheVariants as arguments
@@ -46,6 +46,10 @@ module _ (typing : List ℕ) (given : Given) where
   op_once held N (Convert cast flags a to) d e (M, x, at, px, is) (M', x', at', qx, is') =
       let from : M ≡ M' = same_Some M M' (sym at ∙ at') in
       let operand : x ≡ x' = operand_once held a x x' px qx in
+      cc
+  op_once held N (Freeze a k) d e (x, n, px, at, is) (x', n', qx, at', is') =
+      let operand : x ≡ x' = operand_once held a x x' px qx in
+      let number : n ≡ n' = same_Some n n' (sym at ∙ at') in
       cc
   op_once held N (Copy a) d e (x, px, is) (x', qx, is') = let same : x ≡ x' = operand_once held a x x' px qx in cc
 

@@ -17,12 +17,12 @@ use Rattle.ops.specs.declared.value.Effect.TheVariants as effects
 use Rattle.rule_core.specs.declared.rule.Rule.{Rule}
 use Rattle.rule_core.specs.declared.rule.Statement.{Statement}
 use Rattle.rule_core.specs.declared.rule.Op.{Op}
-use Rattle.rule_core.specs.declared.rule.Op.TheVariants.{Binary, Compare, Select, Convert, Copy}
+use Rattle.rule_core.specs.declared.rule.Op.TheVariants.{Binary, Compare, Select, Convert, Freeze, Copy}
 use Rattle.rule_core.specs.declared.rule.Argument.{Argument}
 use Rattle.rule_core.specs.declared.rule.Argument.TheVariants as arguments
 use Rattle.rule_core.specs.Typing.{IsTyping}
 use Rattle.rule_core.specs.Checks.{IsRule}
-use Rattle.rule_core.specs.Run.{Held, Given, given_by, TemporariesEnd, Ending, Undefines, Holds, GivesLast, at_start, temporaries_of, holding_source, holding_target, ArgumentGives, OpGives, StatementGives, Follows, SourceGives, TargetGoesOn, TargetGives}
+use Rattle.rule_core.specs.Run.{Held, Given, given_by, frozen, TemporariesEnd, Ending, Undefines, Holds, GivesLast, at_start, temporaries_of, holding_source, holding_target, ArgumentGives, OpGives, StatementGives, Follows, SourceGives, TargetGoesOn, TargetGives}
 use Rattle.rule_core.specs.Terms.{number_or_zero, value_at}
 use Rattle.rule_core.specs.Valid.{InputsFit, ConstantsFit, SourceChoicesFit, TargetChoicesFit, Setting, SettingFits, witness_number, HaveEffects}
 use Rattle.rule_core.specs.Laws.{RulesHaveOneOutcome}
@@ -34,6 +34,10 @@ use Rattle.rule_core.proofs.Once.{follows_once, source_once, target_once}
 use Rattle.rule_core.proofs.Unchosen.{undefined_source}
 use Rattle.rule_core.proofs.Witnesses.{choices_fit}
 use Rattle.rule_core.proofs.Ready.{source_ready, target_ready, ValuesFit-push, ValuesFit-none}
+
+frozen_fits : (N : ℕ) (v : Value) (n : Number) → IsValueOf N v → IsValueOf N (Bits n) → IsValueOf N (frozen v n)
+frozen_fits N Poison n is fit = fit
+frozen_fits N (Bits a) n is fit = is
 
 -- what is ready gives a value of its width
 module _ (typing : List ℕ) (given : Given) (held : Held) where
@@ -67,6 +71,9 @@ module _ (typing : List ℕ) (given : Given) (held : Held) where
       let x = argument_gives M a.value a_ready in
       let value = conversion cast flags M N x.0 in
       (effects.Gives value, (M, x.0, a_width, (M, a_width, x.1), refl), IsValueOf-conversion cast flags M N x.0 fit x.2)
+  op_gives N (Freeze a k) ((a_width, a_ready), (n, at, fit)) =
+      let x = argument_gives N a.value a_ready in
+      (effects.Gives (frozen x.0 n), (x.0, n, (N, a_width, x.1), at, refl), frozen_fits N x.0 n x.2 fit)
   op_gives N (Copy a) (a_width, a_ready) =
       let x = argument_gives N a.value a_ready in
       (effects.Gives x.0, (x.0, (N, a_width, x.1), refl), x.2)
@@ -225,7 +232,7 @@ module _ (rule : Rule) (typing : List ℕ) (setting : Setting) (checked : IsRule
   outcome end held ends held_fits holds cases =
       let choices : List Number = chosen_at held in
       let source = source_gives rule typing checked typed setting.constants fits.constants choices setting.inputs (choices_fit rule typing setting held checked typed fits held_fits) fits.inputs in
-      let target = target_gives rule typing checked typed setting.constants fits.constants setting.target_undefs setting.inputs fits.target_undefs fits.inputs in
+      let target = target_gives rule typing checked typed setting.constants fits.constants setting.target_choices setting.inputs fits.target_choices fits.inputs in
       let same_end : (other : Ending) → TemporariesEnd typing setting.constants rule setting.inputs other → end ≡ other = λ other.
       follows_once typing (given_by typing setting.constants [] rule) holding_source (temporaries_of rule) (at_start setting.inputs) end other ends in (
         choices,
@@ -237,7 +244,7 @@ module _ (rule : Rule) (typing : List ℕ) (setting : Setting) (checked : IsRule
           of_target = target.1;
         },
         λ choices' source' target' have.
-            let same_target : target' ≡ target.0 = target_once typing setting.constants setting.target_undefs rule setting.inputs target' target.0 have.of_target target.1 in
+            let same_target : target' ≡ target.0 = target_once typing setting.constants setting.target_choices rule setting.inputs target' target.0 have.of_target target.1 in
             elim cases [
               | inl undefined ↦
                   let undefines = rw undefined at ends in

@@ -14,7 +14,7 @@ use Rattle.ops.specs.declared.value.Value.TheVariants.{Poison, Bits}
 use Rattle.rule_core.specs.declared.rule.Rule.{Rule}
 use Rattle.rule_core.specs.declared.rule.Statement.{Statement}
 use Rattle.rule_core.specs.declared.rule.Op.{Op}
-use Rattle.rule_core.specs.declared.rule.Op.TheVariants.{Binary, Compare, Select, Convert, Copy}
+use Rattle.rule_core.specs.declared.rule.Op.TheVariants.{Binary, Compare, Select, Convert, Freeze, Copy}
 use Rattle.rule_core.specs.declared.rule.Operand.{Operand}
 use Rattle.rule_core.specs.declared.rule.Argument.{Argument}
 use Rattle.rule_core.specs.declared.rule.Argument.TheVariants as arguments
@@ -23,14 +23,14 @@ use Rattle.rule_core.specs.declared.rule.Name.TheVariants as names
 use Rattle.rule_core.specs.declared.rule.Term.{Term}
 use Rattle.rule_core.specs.declared.rule.Node.{Node}
 use Rattle.rule_core.specs.declared.rule.Node.TheVariants as nodes
-use Rattle.rule_core.specs.Positions.{operands_of, operands_in, classes_of, IsStatementOf, IsOperandAmong, Names, reads, reads_constant, source_assigns, target_assigns, term_constant, binary_left, binary_right, compared, select_true, select_false, copy, name, term, operand, unary, left, right, comparison, condition, truth, truncated, zero_extended, sign_extended}
+use Rattle.rule_core.specs.Positions.{operands_of, operands_in, classes_of, choices_of, IsStatementOf, IsOperandAmong, Names, reads, reads_constant, source_assigns, target_assigns, term_constant, binary_left, binary_right, compared, select_true, select_false, freeze, copy, name, term, operand, unary, left, right, comparison, condition, truth, truncated, zero_extended, sign_extended}
 use Rattle.rule_core.specs.Typing.{IsTyping}
 use Rattle.rule_core.specs.Checks.{IsRule, SourceMayRead, TargetMayRead, MayBeTerm, FlagsFitOp}
 use Rattle.rule_core.specs.Run.{Held, Given}
 use Rattle.rule_core.specs.Valid.{InputsFit, ConstantsFit}
 use Rattle.rule_core.specs.Terms.{of_constants, values_of, constant_values}
-use Rattle.rule_core.specs.Readiness.{ArgumentIsReady, OpIsReady, StatementIsReady, ValuesFit, HeldFits, TermsFit, GivenFits, NodeIsReady, TermIsReady}
-use Rattle.rule_core.proofs.Members.{Contains-from_get, Contains-flat_map, source_statement, target_statement, operand_stands, class_stands, operand_class_stands, term_class_stands, measured_class_stands, constant_term}
+use Rattle.rule_core.specs.Readiness.{ChoiceIsReady, ArgumentIsReady, OpIsReady, StatementIsReady, ValuesFit, HeldFits, TermsFit, GivenFits, NodeIsReady, TermIsReady}
+use Rattle.rule_core.proofs.Members.{Contains-from_get, Contains-flat_map, source_statement, target_statement, operand_stands, class_stands, operand_class_stands, term_class_stands, measured_class_stands, constant_term, freeze_chosen, statement_open, operand_open}
 use Rattle.rule_core.proofs.Fits.{NodeFits, Fit-none, Fit-push, first_fit, first_length, all_fit}
 
 -- each class has a width
@@ -91,7 +91,7 @@ module _ (rule : Rule) (typing : List ℕ) (half : List Statement) (given : Give
   source_argument k s (arguments.Literal z) within so_far among is may = tt
   source_argument k s (arguments.Truth b) within so_far among is may = truth_width b is
   source_argument k s (arguments.Constant j) within so_far among is may = constant_ready rule typing given.constants j o.class N given_fits.constants (reads_constant stands is) width may
-  source_argument k s (arguments.Undef j) within so_far among is may = given_fits.choices j N o among is width
+  source_argument k s (arguments.Undef j) within so_far among is may = given_fits.choices j o.class N (operand_open half o j among is) width
   source_argument k s (arguments.Term n) within so_far among is may = absurd may
 
   -- and of the target, once the source's temporaries and those before it have
@@ -104,30 +104,34 @@ module _ (rule : Rule) (typing : List ℕ) (half : List Statement) (given : Give
   target_argument k s (arguments.Literal z) within before so_far among is may = tt
   target_argument k s (arguments.Truth b) within before so_far among is may = truth_width b is
   target_argument k s (arguments.Constant j) within before so_far among is may = constant_ready rule typing given.constants j o.class N given_fits.constants (reads_constant stands is) width may
-  target_argument k s (arguments.Undef j) within before so_far among is may = given_fits.choices j N o among is width
+  target_argument k s (arguments.Undef j) within before so_far among is may = given_fits.choices j o.class N (operand_open half o j among is) width
   target_argument k s (arguments.Term n) within before so_far among is may = read_term n is may
 
 -- a statement is ready once all that it reads is
 AllReady : List ℕ → Given → Held → Op → Type 0
 AllReady typing given held op = (o : Operand) (N : ℕ) → Contains (operands_of op) o → slice_get typing o.class ≡ Some N → ArgumentIsReady given held N o.value
 
+-- and all that it leaves open
+AllChosen : List ℕ → Given → Statement → Type 0
+AllChosen typing given s = (k c N : ℕ) → Contains (choices_of s) (record { place = k; class = c }) → slice_get typing c ≡ Some N → ChoiceIsReady given N k
+
 cast_fits : (rule : Rule) (typing : List ℕ) (s : Statement) (a : Operand) (to : Option ℕ) (cast : Cast) (flags : Flags) (M N : ℕ) → IsTyping rule typing → IsStatementOf rule s → s.op ≡ Convert cast flags a to → slice_get typing a.class ≡ Some M → slice_get typing s.class ≡ Some N → CastFits cast M N
 cast_fits rule typing s a to Trunc flags M N typed stands is from width = typed.smaller s.class a.class N M (truncated stands is) width from
 cast_fits rule typing s a to ZExt flags M N typed stands is from width = typed.smaller a.class s.class M N (zero_extended stands is) from width
 cast_fits rule typing s a to SExt flags M N typed stands is from width = typed.smaller a.class s.class M N (sign_extended stands is) from width
 
-op_ready : (rule : Rule) (typing : List ℕ) (given : Given) (held : Held) (s : Statement) (N : ℕ) (op : Op) → IsTyping rule typing → IsStatementOf rule s → slice_get typing s.class ≡ Some N → s.op ≡ op → FlagsFitOp op → AllReady typing given held op → OpIsReady typing given held N op
-unfolding AllReady
-op_ready rule typing given held s N (Binary op flags a b) typed stands width is fit ready =
+op_ready : (rule : Rule) (typing : List ℕ) (given : Given) (held : Held) (s : Statement) (N : ℕ) (op : Op) → IsTyping rule typing → IsStatementOf rule s → slice_get typing s.class ≡ Some N → s.op ≡ op → FlagsFitOp op → AllReady typing given held op → AllChosen typing given s → OpIsReady typing given held N op
+unfolding AllReady AllChosen
+op_ready rule typing given held s N (Binary op flags a b) typed stands width is fit ready chosen =
     let left : slice_get typing a.class ≡ Some N = sym (typed.same s.class a.class (binary_left stands is)) ∙ width in
     let right : slice_get typing b.class ≡ Some N = sym (typed.same s.class b.class (binary_right stands is)) ∙ width in
     (fit, (left, ready a N (Contains-from_get (a ∷ b ∷ []) 0 a refl) left), (right, ready b N (Contains-from_get (a ∷ b ∷ []) 1 b refl) right))
-op_ready rule typing given held s N (Compare pred samesign a b) typed stands width is fit ready =
+op_ready rule typing given held s N (Compare pred samesign a b) typed stands width is fit ready chosen =
     let M = class_width rule typing a.class typed (operand_class_stands rule s a stands (subst (λ op. Contains (operands_of op) a) (sym is) (Contains-from_get (a ∷ b ∷ []) 0 a refl))) in
     let right : slice_get typing b.class ≡ Some M.0 = sym (typed.same a.class b.class (compared stands is)) ∙ M.1 in
     let one : N ≡ 1 = same_Some N 1 (sym width ∙ typed.fixed s.class 1 (comparison stands is)) in
     (M.0, (M.1, ready a M.0 (Contains-from_get (a ∷ b ∷ []) 0 a refl) M.1), (right, ready b M.0 (Contains-from_get (a ∷ b ∷ []) 1 b refl) right), one)
-op_ready rule typing given held s N (Select c a b) typed stands width is fit ready =
+op_ready rule typing given held s N (Select c a b) typed stands width is fit ready chosen =
     let one : slice_get typing c.class ≡ Some 1 = typed.fixed c.class 1 (condition stands is) in
     let yes : slice_get typing a.class ≡ Some N = sym (typed.same s.class a.class (select_true stands is)) ∙ width in
     let no : slice_get typing b.class ≡ Some N = sym (typed.same s.class b.class (select_false stands is)) ∙ width in
@@ -136,39 +140,44 @@ op_ready rule typing given held s N (Select c a b) typed stands width is fit rea
       (yes, ready a N (Contains-from_get among 1 a refl) yes),
       (no, ready b N (Contains-from_get among 2 b refl) no),
     )
-op_ready rule typing given held s N (Convert cast flags a to) typed stands width is fit ready =
+op_ready rule typing given held s N (Convert cast flags a to) typed stands width is fit ready chosen =
     let M = class_width rule typing a.class typed (operand_class_stands rule s a stands (subst (λ op. Contains (operands_of op) a) (sym is) (Contains-from_get (a ∷ []) 0 a refl))) in
     (M.0, (M.1, ready a M.0 (Contains-from_get (a ∷ []) 0 a refl) M.1), cast_fits rule typing s a to cast flags M.0 N typed stands is M.1 width)
-op_ready rule typing given held s N (Copy a) typed stands width is fit ready =
+op_ready rule typing given held s N (Freeze a k) typed stands width is fit ready chosen =
+    let same : slice_get typing a.class ≡ Some N = sym (typed.same s.class a.class (freeze stands is)) ∙ width in
+    ((same, ready a N (Contains-from_get (a ∷ []) 0 a refl) same), chosen k s.class N (freeze_chosen s a k is) width)
+op_ready rule typing given held s N (Copy a) typed stands width is fit ready chosen =
     let same : slice_get typing a.class ≡ Some N = sym (typed.same s.class a.class (copy stands is)) ∙ width in
     (same, ready a N (Contains-from_get (a ∷ []) 0 a refl) same)
 
-statement_ready : (rule : Rule) (typing : List ℕ) (given : Given) (held : Held) (s : Statement) → IsTyping rule typing → IsStatementOf rule s → FlagsFitOp s.op → AllReady typing given held s.op → StatementIsReady typing given held s
-statement_ready rule typing given held s typed stands fit ready =
+statement_ready : (rule : Rule) (typing : List ℕ) (given : Given) (held : Held) (s : Statement) → IsTyping rule typing → IsStatementOf rule s → FlagsFitOp s.op → AllReady typing given held s.op → AllChosen typing given s → StatementIsReady typing given held s
+statement_ready rule typing given held s typed stands fit ready chosen =
     let w = class_width rule typing s.class typed (class_stands rule s stands) in
-    (w.0, w.1, op_ready rule typing given held s w.0 s.op typed stands w.1 refl fit ready)
+    (w.0, w.1, op_ready rule typing given held s w.0 s.op typed stands w.1 refl fit ready chosen)
 
 -- source statement k is ready once those before it have run, where what is given fits the statements of a part of the source
 pub source_ready : (rule : Rule) (typing : List ℕ) (half : List Statement) (given : Given) (held : Held) (k : ℕ) (s : Statement) → IsRule rule → IsTyping rule typing → GivenFits rule typing half given → HeldFits rule typing held
     → slice_get rule.source k ≡ Some s → Contains half s → length held.source ≡ k → StatementIsReady typing given held s
-unfolding AllReady
+unfolding AllReady AllChosen
 source_ready rule typing half given held k s checked typed given_fits fits at here so_far =
     let stands = source_statement rule k s at in
     let within : k < length rule.source = slice_get_within rule.source k s at in
     statement_ready rule typing given held s typed stands (checked.source_flags k s at)
     (λ o N among width. source_argument rule typing half given held typed given_fits fits o N (operand_stands rule s o stands among) width k s o.value within so_far
     (Contains-flat_map (λ (s : Statement). operands_of s.op) half s o here among) refl (checked.source_reads k s o at among))
+    (λ j c N among width. given_fits.choices j c N (statement_open half s (record { place = j; class = c }) here among) width)
 
 -- target statement k is ready once the source's temporaries and those before it have run
 pub target_ready : (rule : Rule) (typing : List ℕ) (given : Given) (held : Held) (k : ℕ) (s : Statement) → IsRule rule → IsTyping rule typing → GivenFits rule typing rule.target given → HeldFits rule typing held
     → slice_get rule.target k ≡ Some s → length held.source + 1 ≡ length rule.source → length held.target ≡ k → StatementIsReady typing given held s
-unfolding AllReady
+unfolding AllReady AllChosen
 target_ready rule typing given held k s checked typed given_fits fits at before so_far =
     let stands = target_statement rule k s at in
     let within : k < length rule.target = slice_get_within rule.target k s at in
     statement_ready rule typing given held s typed stands (checked.target_flags k s at)
     (λ o N among width. target_argument rule typing rule.target given held typed given_fits fits o N (operand_stands rule s o stands among) width k s o.value within before so_far
     (Contains-flat_map (λ (s : Statement). operands_of s.op) rule.target s o (Contains-from_get rule.target k s at) among) refl (checked.target_reads k s o at among))
+    (λ j c N among width. given_fits.choices j c N (statement_open rule.target s (record { place = j; class = c }) (Contains-from_get rule.target k s at) among) width)
 
 -- a value of the next result's width fits behind those that do
 pub ValuesFit-push : (typing : List ℕ) (statements : List Statement) (values : List Value) (s : Statement) (v : Value)
@@ -210,7 +219,7 @@ module _ (rule : Rule) (typing : List ℕ) (constants : List Number) (checked : 
   node_ready n t before N (nodes.Literal z) at count fit width is may = tt
   node_ready n t before N (nodes.Constant k) at count fit width is may = constant_ready rule typing constants k t.class N fits (term_constant (constant_term rule n t at) is) width may
   node_ready n t before N (nodes.Register r) at count fit width is may = may
-  node_ready n t before N (nodes.Undef k) at count fit width is may = may
+  node_ready n t before N (nodes.Choice k) at count fit width is may = may
   node_ready n t before N (nodes.Width r c) at count fit width is may = class_width rule typing c typed (measured_class_stands rule t r c (constant_term rule n t at) is)
   node_ready n t before N (nodes.Unary function a) at count fit width is may =
       operand_ready before n a t N fit count (slice_get_within rule.terms n t at) may width
@@ -226,7 +235,7 @@ module _ (rule : Rule) (typing : List ℕ) (constants : List Number) (checked : 
   ready_fits before N (nodes.Literal z) ready = tt
   ready_fits before N (nodes.Constant k) (n, at, is) = rw at is
   ready_fits before N (nodes.Register r) ready = absurd ready
-  ready_fits before N (nodes.Undef k) ready = absurd ready
+  ready_fits before N (nodes.Choice k) ready = absurd ready
   ready_fits before N (nodes.Width r c) ready = tt
   ready_fits before N (nodes.Unary function a) (v, at, is) = rw (get_or_from_slice_get before a v Poison at) is
   ready_fits before N (nodes.Binary op a b) (v, w, at, at', is, is') = (rw (get_or_from_slice_get before a v Poison at) is, rw (get_or_from_slice_get before b w Poison at') is')

@@ -1,5 +1,5 @@
--- Statements without an `undef` run the same whatever the `undef`s are chosen to be.
-use Rattle.std.proofs.Common.{◌≡◌, ℕ, suc, ◌-◌, ◌<◌, List, [], ◌∷◌, ◌++◌, length, drop, Some, refl, subst, arith}
+-- Statements that leave nothing open run the same whatever is chosen.
+use Rattle.std.proofs.Common.{◌≡◌, ℕ, suc, ◌-◌, ◌<◌, List, [], ◌∷◌, ◌++◌, length, drop, Some, refl, arith}
 use Rattle.std.specs.Prelude.{slice_get, Contains}
 use Rattle.std.proofs.lemmas.List.{take-append-drop}
 use Rattle.ops.specs.Number.{Number}
@@ -9,15 +9,16 @@ use Rattle.ops.specs.declared.value.Effect.TheVariants as effects
 use Rattle.rule_core.specs.declared.rule.Rule.{Rule}
 use Rattle.rule_core.specs.declared.rule.Statement.{Statement}
 use Rattle.rule_core.specs.declared.rule.Op.{Op}
-use Rattle.rule_core.specs.declared.rule.Op.TheVariants.{Binary, Compare, Select, Convert, Copy}
+use Rattle.rule_core.specs.declared.rule.Op.TheVariants.{Binary, Compare, Select, Convert, Freeze, Copy}
 use Rattle.rule_core.specs.declared.rule.Operand.{Operand}
 use Rattle.rule_core.specs.declared.rule.Argument.{Argument}
 use Rattle.rule_core.specs.declared.rule.Argument.TheVariants as arguments
-use Rattle.rule_core.specs.Positions.{operands_of}
-use Rattle.rule_core.specs.Checks.{IsRule, SourceMayRead}
+use Rattle.rule_core.specs.declared.rule.Choice.{Choice}
+use Rattle.rule_core.specs.Positions.{operands_of, choices_of}
+use Rattle.rule_core.specs.Checks.{IsRule}
 use Rattle.rule_core.specs.Run.{Held, Ending, Undefines, GoesOn, Given, given_by, at_start, temporaries_of, holding_source, ArgumentGives, OperandGives, OpGives, Follows, TemporariesEnd, SourceGives}
-use Rattle.rule_core.proofs.Members.{Contains-from_get}
-use Rattle.rule_core.proofs.Givens.{get_taken}
+use Rattle.rule_core.proofs.Members.{Contains-from_get, undef_chosen, freeze_chosen}
+use Rattle.rule_core.proofs.Givens.{get_taken, opens_root}
 use Rattle.rule_core.proofs.Once.{follows_once}
 
 -- statements that end in undefined behaviour do so with others behind them
@@ -46,14 +47,14 @@ module _ (rule : Rule) (typing : List ℕ) (constants choices : List Number) whe
   operand_same : (held : Held) (o : Operand) (v : Value) → NoUndef o.value → OperandGives typing (given_by typing constants [] rule) held o v → OperandGives typing (given_by typing constants choices rule) held o v
   operand_same held o v none (N, width, gives) = (N, width, argument_same held N o.value v none gives)
 
-  op_same : (held : Held) (N : ℕ) (op : Op) (e : Effect) → ((o : Operand) → Contains (operands_of op) o → NoUndef o.value) → OpGives typing (given_by typing constants [] rule) held N op e → OpGives typing (given_by typing constants choices rule) held N op e
-  op_same held N (Binary op flags a b) e none (x, y, p, q, is) =
+  op_same : (held : Held) (N : ℕ) (op : Op) (e : Effect) → ((o : Operand) → Contains (operands_of op) o → NoUndef o.value) → ((a : Operand) (k : ℕ) → op ≡ Freeze a k → ⊥) → OpGives typing (given_by typing constants [] rule) held N op e → OpGives typing (given_by typing constants choices rule) held N op e
+  op_same held N (Binary op flags a b) e none thawed (x, y, p, q, is) =
       let among = a ∷ b ∷ [] in
       (x, y, operand_same held a x (none a (Contains-from_get among 0 a refl)) p, operand_same held b y (none b (Contains-from_get among 1 b refl)) q, is)
-  op_same held N (Compare pred samesign a b) e none (M, x, y, at, p, q, is) =
+  op_same held N (Compare pred samesign a b) e none thawed (M, x, y, at, p, q, is) =
       let among = a ∷ b ∷ [] in
       (M, x, y, at, operand_same held a x (none a (Contains-from_get among 0 a refl)) p, operand_same held b y (none b (Contains-from_get among 1 b refl)) q, is)
-  op_same held N (Select c a b) e none (z, x, y, o, p, q, is) =
+  op_same held N (Select c a b) e none thawed (z, x, y, o, p, q, is) =
       let among = c ∷ a ∷ b ∷ [] in (
         z,
         x,
@@ -63,14 +64,18 @@ module _ (rule : Rule) (typing : List ℕ) (constants choices : List Number) whe
         operand_same held b y (none b (Contains-from_get among 2 b refl)) q,
         is,
       )
-  op_same held N (Convert cast flags a to) e none (M, x, at, p, is) = (M, x, at, operand_same held a x (none a (Contains-from_get (a ∷ []) 0 a refl)) p, is)
-  op_same held N (Copy a) e none (x, p, is) = (x, operand_same held a x (none a (Contains-from_get (a ∷ []) 0 a refl)) p, is)
+  op_same held N (Convert cast flags a to) e none thawed (M, x, at, p, is) = (M, x, at, operand_same held a x (none a (Contains-from_get (a ∷ []) 0 a refl)) p, is)
+  op_same held N (Freeze a k) e none thawed gives = absurd (thawed a k refl)
+  op_same held N (Copy a) e none thawed (x, p, is) = (x, operand_same held a x (none a (Contains-from_get (a ∷ []) 0 a refl)) p, is)
 
-  follows_same : (statements : List Statement) (held : Held) (end : Ending) → ((k : ℕ) (s : Statement) → slice_get statements k ≡ Some s → (o : Operand) → Contains (operands_of s.op) o → NoUndef o.value)
+  follows_same : (statements : List Statement) (held : Held) (end : Ending) → ((k : ℕ) (s : Statement) (choice : Choice) → slice_get statements k ≡ Some s → Contains (choices_of s) choice → ⊥)
       → Follows typing (given_by typing constants [] rule) holding_source statements held end → Follows typing (given_by typing constants choices rule) holding_source statements held end
+  unfolding NoUndef
   follows_same [] held end none is = is
   follows_same (s ∷ statements) held end none (e, (N, width, gives), goes) =
-      let same = op_same held N s.op e (none 0 s refl) gives in
+      let same = op_same held N s.op e
+      (λ o among k is. none 0 s (record { place = k; class = o.class }) refl (undef_chosen s o k among is))
+      (λ a k is. none 0 s (record { place = k; class = s.class }) refl (freeze_chosen s a k is)) gives in
       elim e as (λ e. OpGives typing (given_by typing constants choices rule) held N s.op e → GoesOn (λ v. Follows typing (given_by typing constants [] rule) holding_source statements (holding_source held v) end) e end
       → Follows typing (given_by typing constants choices rule) holding_source (s ∷ statements) held end) [
         | effects.Undefined ↦ λ gives goes. (effects.Undefined, (N, width, gives), goes)
@@ -80,11 +85,10 @@ module _ (rule : Rule) (typing : List ℕ) (constants choices : List Number) whe
   -- so do the source's temporaries
   pub temporaries_same : IsRule rule → (held : Held) (end : Ending) → Follows typing (given_by typing constants [] rule) holding_source (temporaries_of rule) held end
       → Follows typing (given_by typing constants choices rule) holding_source (temporaries_of rule) held end
-  unfolding NoUndef
   temporaries_same checked held end ran =
-      follows_same (temporaries_of rule) held end (λ k s at o among j is.
+      follows_same (temporaries_of rule) held end (λ k s choice at among.
       let whole = get_taken rule.source (length rule.source - 1) k s at in
-      let root : suc k ≡ length rule.source = subst (SourceMayRead rule k) is (checked.source_reads k s o whole.0 among) in
+      let root : suc k ≡ length rule.source = opens_root rule checked k s choice whole.0 among in
       let before : k < length rule.source - 1 = whole.1 in
       absurd (omega arith)) ran
 

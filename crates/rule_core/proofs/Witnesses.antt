@@ -1,4 +1,4 @@
--- The numbers that `Wit:` chooses fit the source's `undef`s.
+-- The numbers that `Wit:` gives fit the source's choices.
 use Rattle.std.proofs.Common.{◌≡◌, ℕ, pos, zero, suc, ◌<◌, ◌^◌, List, [], ◌∷◌, length, None, Some, refl, sym, ap, ◌∙◌, arith, get_or}
 use Rattle.std.specs.Prelude.{slice_get, slice_index, Contains, map}
 use Rattle.std.specs.Option.{unwrap_or, option_map_or}
@@ -19,7 +19,7 @@ use Rattle.rule_core.specs.declared.rule.Name.TheVariants as names
 use Rattle.rule_core.specs.declared.rule.Term.{Term}
 use Rattle.rule_core.specs.declared.rule.Node.{Node}
 use Rattle.rule_core.specs.declared.rule.Node.TheVariants as nodes
-use Rattle.rule_core.specs.Positions.{IsTermOf, source_assigns, term_register, term_constant, term_undef, name, unary, left, right, witness_term as witness_line, witness}
+use Rattle.rule_core.specs.Positions.{IsTermOf, source_assigns, term_register, term_constant, term_choice, name, unary, left, right, witness_term as witness_line, witness}
 use Rattle.rule_core.specs.Typing.{IsTyping}
 use Rattle.rule_core.specs.Checks.{IsRule, MayBeWitness, IsBeforeRoot}
 use Rattle.rule_core.specs.Terms.{number_or_zero, number_at, value_at, term_value}
@@ -72,8 +72,8 @@ module _ (rule : Rule) (typing : List ℕ) (setting : Setting) (held : Held) (ch
         | None ↦ λ none. pow_pos N
         | Some v ↦ λ here. number_or_zero_fits N v (register_fits t N r v (witness_term rule n t at) is width may here)
       ] refl
-  node_fits n t before N (nodes.Undef k) at count fit width is may =
-      number_fits N setting.target_undefs k (λ m here. fits.target_undefs.widths k t.class N m (term_undef (witness_term rule n t at) is) width here)
+  node_fits n t before N (nodes.Choice k) at count fit width is may =
+      number_fits N setting.target_choices k (λ m here. fits.target_choices.widths k t.class N m (term_choice (witness_term rule n t at) is) width here)
   node_fits n t before N (nodes.Width r c) at count fit width is may = tt
   node_fits n t before N (nodes.Unary function a) at count fit width is may =
       operand_fits before n a t N fit count (slice_get_within rule.witness_terms n t at) may width
@@ -102,12 +102,12 @@ module _ (rule : Rule) (typing : List ℕ) (setting : Setting) (held : Held) (ch
   choices_fit =
       record {
         count = length-map rule.witnesses (witness_number rule typing setting held) ∙ checked.witnesses;
-        widths = λ k N n o among is width at.
+        widths = λ k c N n left_open width at.
             let chosen = get-map (witness_number rule typing setting held) rule.witnesses k n at in
             let literal : Term = record { class = 0; node = nodes.Literal (pos 0) } in
             let within : chosen.0 < length rule.witness_terms = checked.witnesses_there k chosen.0 chosen.1 in
             let t : Term = get_or rule.witness_terms chosen.0 literal in
             let there : slice_get rule.witness_terms chosen.0 ≡ Some t = slice_get-get_or rule.witness_terms chosen.0 literal within in
-            let same : slice_get typing o.class ≡ slice_get typing t.class = typed.same o.class t.class (witness among is chosen.1 there) in
+            let same : slice_get typing c ≡ slice_get typing t.class = typed.same c t.class (witness left_open chosen.1 there) in
             rw chosen.2 (chosen_fits chosen.0 t N there (sym same ∙ width));
       }

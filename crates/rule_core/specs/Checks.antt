@@ -5,7 +5,7 @@ use Rattle.ops.specs.Flags.{FlagsFit, CastFlagsFit}
 use Rattle.rule_core.specs.declared.rule.Rule.{Rule}
 use Rattle.rule_core.specs.declared.rule.Statement.{Statement}
 use Rattle.rule_core.specs.declared.rule.Op.{Op}
-use Rattle.rule_core.specs.declared.rule.Op.TheVariants.{Binary, Convert, Copy}
+use Rattle.rule_core.specs.declared.rule.Op.TheVariants.{Binary, Convert, Freeze, Copy}
 use Rattle.rule_core.specs.declared.rule.Operand.{Operand}
 use Rattle.rule_core.specs.declared.rule.Argument.{Argument}
 use Rattle.rule_core.specs.declared.rule.Argument.TheVariants as arguments
@@ -16,7 +16,7 @@ use Rattle.rule_core.specs.declared.rule.Node.{Node}
 use Rattle.rule_core.specs.declared.rule.Node.TheVariants as nodes
 use Rattle.rule_core.specs.declared.rule.Formula.{Formula}
 use Rattle.rule_core.specs.declared.rule.Formula.TheVariants as formulas
-use Rattle.rule_core.specs.Positions.{operands_of, operands_among, operands_in, terms_in, undefs_among}
+use Rattle.rule_core.specs.Positions.{operands_of, operands_among, operands_in, terms_in, choices_among}
 use Rattle.rule_core.specs.FormulaNodes.{joint_of, OneUseIsOutermost}
 use Rattle.rule_core.specs.TermNodes.{NamesWidth, AreLastNodes}
 
@@ -60,7 +60,7 @@ abbrev pub MayBeTerm : Rule → ℕ → Node → Type 0
 MayBeTerm rule n (nodes.Literal z) = Unit {0}
 MayBeTerm rule n (nodes.Constant k) = k < length rule.constants
 MayBeTerm rule n (nodes.Register r) = ⊥
-MayBeTerm rule n (nodes.Undef k) = ⊥
+MayBeTerm rule n (nodes.Choice k) = ⊥
 MayBeTerm rule n (nodes.Width r c) = HasKnownWidth rule r
 MayBeTerm rule n (nodes.Unary function a) = a < n
 MayBeTerm rule n (nodes.Binary op a b) = (a < n) × (b < n)
@@ -85,7 +85,7 @@ abbrev pub MayBeWitness : Rule → ℕ → Node → Type 0
 MayBeWitness rule n (nodes.Literal z) = Unit {0}
 MayBeWitness rule n (nodes.Constant k) = k < length rule.constants
 MayBeWitness rule n (nodes.Register r) = IsBeforeRoot rule r
-MayBeWitness rule n (nodes.Undef k) = k < length (undefs_among rule.target)
+MayBeWitness rule n (nodes.Choice k) = k < length (choices_among rule.target)
 MayBeWitness rule n (nodes.Width r c) = IsBeforeRoot rule r
 MayBeWitness rule n (nodes.Unary function a) = a < n
 MayBeWitness rule n (nodes.Binary op a b) = (a < n) × (b < n)
@@ -106,19 +106,24 @@ FlagsFitOp (Binary op flags a b) = FlagsFit op flags
 FlagsFitOp (Convert cast flags a to) = CastFlagsFit cast flags
 FlagsFitOp op = Unit {0}
 
--- an operation that may stand in the source: all but copies
-abbrev pub MayStandInSource : Op → Type 0
-MayStandInSource (Copy a) = ⊥
-MayStandInSource op = Unit {0}
+-- an operation that source statement k may be: a freeze where that is the root's, and no copy
+abbrev pub MayStandInSource : Rule → ℕ → Op → Type 0
+MayStandInSource rule k (Freeze a j) = suc k ≡ length rule.source
+MayStandInSource rule k (Copy a) = ⊥
+MayStandInSource rule k op = Unit {0}
 
--- a copy is of no `undef`, since each use of the root would then differ
-abbrev pub IsNoUndefCopy : Op → Type 0
-IsNoUndefCopy (Copy a) = (k : ℕ) → a.value ≡ arguments.Undef k → ⊥
-IsNoUndefCopy op = Unit {0}
+abbrev pub IsNoUndef : Argument → Type 0
+IsNoUndef argument = (k : ℕ) → argument ≡ arguments.Undef k → ⊥
 
--- the `undef`s of a half are known by the places of their order
-abbrev pub UndefsInOrder : List Statement → Type 0
-UndefsInOrder statements = undefs_among statements ≡ range_with_len 0 (length (undefs_among statements))
+-- a freeze is of no `undef`, which it would leave as it is; nor is a copy, since each use of the root would then differ
+abbrev pub ReadsNoUndefAlone : Op → Type 0
+ReadsNoUndefAlone (Freeze a k) = IsNoUndef a.value
+ReadsNoUndefAlone (Copy a) = IsNoUndef a.value
+ReadsNoUndefAlone op = Unit {0}
+
+-- the choices of a half are known by the places of their order
+abbrev pub ChoicesInOrder : List Statement → Type 0
+ChoicesInOrder statements = map (λ c. c.place) (choices_among statements) ≡ range_with_len 0 (length (choices_among statements))
 
 -- how many operands, names, literals, operators and functions stand where an operand does: those of its term are counted there
 abbrev pub argument_weight : Argument → ℕ
@@ -207,16 +212,17 @@ pub record IsRule (rule : Rule) : Type 0 where
   pub temporaries_read : (j : ℕ) → suc j < length rule.source → (q : ℕ) × ReadsAt rule q (registers.Source j)
   -- the grammar: `hasOneUse` stands as a member of the outermost `&&` alone
   pub one_use : OneUseIsOutermost (map joint_of rule.precondition)
-  -- the source has no copies, and flags are those that the opcode takes
-  pub source_ops : (k : ℕ) (s : Statement) → slice_get rule.source k ≡ Some s → MayStandInSource s.op
+  -- the source has no copies, and a freeze at its root alone; flags are those that the opcode takes
+  pub source_ops : (k : ℕ) (s : Statement) → slice_get rule.source k ≡ Some s → MayStandInSource rule k s.op
   pub source_flags : (k : ℕ) (s : Statement) → slice_get rule.source k ≡ Some s → FlagsFitOp s.op
   pub target_flags : (k : ℕ) (s : Statement) → slice_get rule.target k ≡ Some s → FlagsFitOp s.op
-  -- UndefInside: each `undef` is one free value of its half, and no copy is one
-  pub source_undefs : UndefsInOrder rule.source
-  pub target_undefs : UndefsInOrder rule.target
-  pub target_copies : (k : ℕ) (s : Statement) → slice_get rule.target k ≡ Some s → IsNoUndefCopy s.op
-  -- WitnessCount: `Wit:` has an expression for each `undef` of the source
-  pub witnesses : length rule.witnesses ≡ length (undefs_among rule.source)
+  -- UndefInside: each `undef` and each freeze is one choice of its half, and `undef` is neither frozen nor copied
+  pub source_choices : ChoicesInOrder rule.source
+  pub target_choices : ChoicesInOrder rule.target
+  pub source_undefs : (k : ℕ) (s : Statement) → slice_get rule.source k ≡ Some s → ReadsNoUndefAlone s.op
+  pub target_undefs : (k : ℕ) (s : Statement) → slice_get rule.target k ≡ Some s → ReadsNoUndefAlone s.op
+  -- WitnessCount: `Wit:` has an expression for each choice of the source
+  pub witnesses : length rule.witnesses ≡ length (choices_among rule.source)
   pub witnesses_there : (k n : ℕ) → slice_get rule.witnesses k ≡ Some n → n < length rule.witness_terms
   -- the expressions stand one behind the other, and are chosen by their last nodes
   pub witnesses_last : AreLastNodes rule.witness_terms 0 rule.witnesses

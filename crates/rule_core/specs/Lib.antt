@@ -1,6 +1,7 @@
 pub use Rattle.ops.specs.Integer
 pub use Rattle.ops.specs.Value
 pub mod Checks
+pub mod Choices
 pub mod Positions
 pub mod FormulaNodes
 pub mod TermNodes

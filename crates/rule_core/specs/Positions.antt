@@ -1,6 +1,6 @@
 -- The positions of a rule, which are its results, its operands and the nodes of its terms, and the table of types: what keeps two
 -- positions at one width, what fixes a width, and what keeps one width below another.
-use Rattle.std.specs.Prelude.{◌≡◌, ℕ, suc, Bool, List, [], ◌∷◌, ◌++◌, length, map, flat_map, filter_map, Option, None, Some, Contains, slice_get}
+use Rattle.std.specs.Prelude.{◌≡◌, ℕ, suc, Bool, List, [], ◌∷◌, ◌++◌, length, map, flat_map, Option, Some, Contains, slice_get}
 use Rattle.ops.specs.declared.opcode.Opcode.{Opcode}
 use Rattle.ops.specs.declared.opcode.Flags.{Flags}
 use Rattle.ops.specs.declared.comparison.Pred.{Pred}
@@ -9,10 +9,11 @@ use Rattle.ops.specs.declared.conversion.Cast.TheVariants.{Trunc, ZExt, SExt}
 use Rattle.rule_core.specs.declared.rule.Rule.{Rule}
 use Rattle.rule_core.specs.declared.rule.Statement.{Statement}
 use Rattle.rule_core.specs.declared.rule.Op.{Op}
-use Rattle.rule_core.specs.declared.rule.Op.TheVariants.{Binary, Compare, Select, Convert, Copy}
+use Rattle.rule_core.specs.declared.rule.Op.TheVariants.{Binary, Compare, Select, Convert, Freeze, Copy}
 use Rattle.rule_core.specs.declared.rule.Operand.{Operand}
 use Rattle.rule_core.specs.declared.rule.Argument.{Argument}
 use Rattle.rule_core.specs.declared.rule.Argument.TheVariants as arguments
+use Rattle.rule_core.specs.declared.rule.Choice.{Choice}
 use Rattle.rule_core.specs.declared.rule.Register.{Register}
 use Rattle.rule_core.specs.declared.rule.Name.{Name}
 use Rattle.rule_core.specs.declared.rule.Name.TheVariants as names
@@ -29,24 +30,34 @@ operands_of (Binary op flags a b) = a ∷ b ∷ []
 operands_of (Compare pred samesign a b) = a ∷ b ∷ []
 operands_of (Select c a b) = c ∷ a ∷ b ∷ []
 operands_of (Convert cast flags a to) = a ∷ []
+operands_of (Freeze a k) = a ∷ []
 operands_of (Copy a) = a ∷ []
 
 -- the operands of statements, in the order of the text
 abbrev pub operands_among : List Statement → List Operand
 operands_among statements = flat_map (λ s. operands_of s.op) statements
 
--- the place of an `undef`
-abbrev pub undef_in : Argument → Option ℕ
-undef_in (arguments.Undef k) = Some k
-undef_in (arguments.Register r) = None
-undef_in (arguments.Literal z) = None
-undef_in (arguments.Truth b) = None
-undef_in (arguments.Constant k) = None
-undef_in (arguments.Term n) = None
+-- an `undef` is a choice of its half
+abbrev pub undef_in : ℕ → Argument → List Choice
+undef_in c (arguments.Undef k) = record { place = k; class = c } ∷ []
+undef_in c argument = []
 
--- the places of the `undef`s of statements, in the order of the text
-abbrev pub undefs_among : List Statement → List ℕ
-undefs_among statements = filter_map (λ o. undef_in o.value) (operands_among statements)
+-- and so is what a freeze gives where its operand is poison
+abbrev pub frozen_in : ℕ → Op → List Choice
+frozen_in c (Freeze a k) = record { place = k; class = c } ∷ []
+frozen_in c op = []
+
+-- the choices of a statement: its `undef`s from left to right, and then that of a freeze
+abbrev pub choices_of : Statement → List Choice
+choices_of s = flat_map (λ o. undef_in o.class o.value) (operands_of s.op) ++ frozen_in s.class s.op
+
+-- the choices of statements, in the order of the text
+abbrev pub choices_among : List Statement → List Choice
+choices_among statements = flat_map choices_of statements
+
+-- the statements have this choice
+abbrev pub LeavesOpen : List Statement → ℕ → ℕ → Type 0
+LeavesOpen statements k c = Contains (choices_among statements) (record { place = k; class = c })
 
 -- all operands of a rule, in the order of its text
 abbrev pub operands_in : Rule → List Operand
@@ -84,18 +95,18 @@ IsOperandAmong statements o = Contains (operands_among statements) o
 abbrev pub IsTermOf : Rule → Term → Type 0
 IsTermOf rule t = Contains (terms_in rule) t
 
--- A position of class c names the register, the constant or the `undef`: as the operand or the node that reads it, or as the result
+-- A position of class c names the register, the constant or the choice: as the operand or the node that reads it, or as the result
 -- that assigns it. The last target statement assigns the root, which is what the last source statement assigns.
 pub data Names (rule : Rule) : Name → ℕ → Type 0 where
   reads : {o : Operand} {r : Register} → Contains (operands_in rule) o → o.value ≡ arguments.Register r → Names rule (names.Register r) o.class
   reads_constant : {o : Operand} {k : ℕ} → Contains (operands_in rule) o → o.value ≡ arguments.Constant k → Names rule (names.Constant k) o.class
-  chooses : {o : Operand} {k : ℕ} → IsOperandAmong rule.target o → o.value ≡ arguments.Undef k → Names rule (names.Undef k) o.class
+  chooses : {k c : ℕ} → LeavesOpen rule.target k c → Names rule (names.Choice k) c
   source_assigns : {k : ℕ} {s : Statement} → slice_get rule.source k ≡ Some s → Names rule (names.Register (registers.Source k)) s.class
   target_assigns : {k : ℕ} {s : Statement} → slice_get rule.target k ≡ Some s → Names rule (names.Register (registers.Target k)) s.class
   assigns_root : {j k : ℕ} {s : Statement} → suc j ≡ length rule.source → suc k ≡ length rule.target → slice_get rule.target k ≡ Some s → Names rule (names.Register (registers.Source j)) s.class
   term_register : {t : Term} {r : Register} → IsTermOf rule t → t.node ≡ nodes.Register r → Names rule (names.Register r) t.class
   term_constant : {t : Term} {k : ℕ} → IsTermOf rule t → t.node ≡ nodes.Constant k → Names rule (names.Constant k) t.class
-  term_undef : {t : Term} {k : ℕ} → IsTermOf rule t → t.node ≡ nodes.Undef k → Names rule (names.Undef k) t.class
+  term_choice : {t : Term} {k : ℕ} → IsTermOf rule t → t.node ≡ nodes.Choice k → Names rule (names.Choice k) t.class
   measures : {t : Term} {r : Register} {c : ℕ} → IsTermOf rule t → t.node ≡ nodes.Width r c → Names rule (names.Register r) c
 
 -- one line of the table of types keeps two nodes at one width: an operator or a function and its operands
@@ -114,9 +125,11 @@ pub data Line (rule : Rule) : ℕ → ℕ → Type 0 where
   -- the result and both arms of a select
   select_true : {s : Statement} {c a b : Operand} → IsStatementOf rule s → s.op ≡ Select c a b → Line rule s.class a.class
   select_false : {s : Statement} {c a b : Operand} → IsStatementOf rule s → s.op ≡ Select c a b → Line rule s.class b.class
+  -- the result and the operand of a freeze
+  freeze : {s : Statement} {a : Operand} {k : ℕ} → IsStatementOf rule s → s.op ≡ Freeze a k → Line rule s.class a.class
   -- the result and the operand of a copy
   copy : {s : Statement} {a : Operand} → IsStatementOf rule s → s.op ≡ Copy a → Line rule s.class a.class
-  -- all positions that name one register, one constant or one `undef` of the target
+  -- all positions that name one register, one constant or one choice of the target
   name : {n : Name} {c d : ℕ} → Names rule n c → Names rule n d → Line rule c d
   -- the nodes of constant terms, and of the expressions of `Wit:`
   term : {c d : ℕ} → TermLine rule.terms c d → Line rule c d
@@ -125,8 +138,8 @@ pub data Line (rule : Rule) : ℕ → ℕ → Type 0 where
   operand : {o : Operand} {n : ℕ} {t : Term} → Contains (operands_in rule) o → o.value ≡ arguments.Term n → slice_get rule.terms n ≡ Some t → Line rule o.class t.class
   -- both sides of a comparison in the precondition
   compared_terms : {pred : Pred} {a b : ℕ} {x y : Term} → Contains rule.precondition (CompareTerms pred a b) → slice_get rule.terms a ≡ Some x → slice_get rule.terms b ≡ Some y → Line rule x.class y.class
-  -- an expression of `Wit:` and the `undef` of the source that it chooses
-  witness : {o : Operand} {k n : ℕ} {t : Term} → IsOperandAmong rule.source o → o.value ≡ arguments.Undef k → slice_get rule.witnesses k ≡ Some n → slice_get rule.witness_terms n ≡ Some t → Line rule o.class t.class
+  -- an expression of `Wit:` and the choice of the source that it makes
+  witness : {k c n : ℕ} {t : Term} → LeavesOpen rule.source k c → slice_get rule.witnesses k ≡ Some n → slice_get rule.witness_terms n ≡ Some t → Line rule c t.class
 
 -- one line of the table of types gives positions of the class c the width N
 pub data Fixed (rule : Rule) : ℕ → ℕ → Type 0 where

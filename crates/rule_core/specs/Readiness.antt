@@ -9,7 +9,7 @@ use Rattle.ops.specs.declared.value.Value.TheVariants.{Bits}
 use Rattle.rule_core.specs.declared.rule.Rule.{Rule}
 use Rattle.rule_core.specs.declared.rule.Statement.{Statement}
 use Rattle.rule_core.specs.declared.rule.Op.{Op}
-use Rattle.rule_core.specs.declared.rule.Op.TheVariants.{Binary, Compare, Select, Convert, Copy}
+use Rattle.rule_core.specs.declared.rule.Op.TheVariants.{Binary, Compare, Select, Convert, Freeze, Copy}
 use Rattle.rule_core.specs.declared.rule.Operand.{Operand}
 use Rattle.rule_core.specs.declared.rule.Argument.{Argument}
 use Rattle.rule_core.specs.declared.rule.Argument.TheVariants as arguments
@@ -19,7 +19,7 @@ use Rattle.rule_core.specs.Run.{Held, Undefines, Holds, Given, value_of, at_star
 use Rattle.rule_core.specs.declared.rule.Term.{Term}
 use Rattle.rule_core.specs.declared.rule.Node.{Node}
 use Rattle.rule_core.specs.declared.rule.Node.TheVariants as nodes
-use Rattle.rule_core.specs.Positions.{IsOperandAmong}
+use Rattle.rule_core.specs.Positions.{LeavesOpen}
 use Rattle.rule_core.specs.Valid.{InputsFit, ConstantsFit}
 
 -- what the code's view of the registers shows
@@ -30,13 +30,17 @@ seen held = record { inputs = held.inputs.now; source = held.source.now; target 
 abbrev pub shown : GivenView → Given
 shown given = record { constants = given.constants.now; choices = given.choices.now; terms = given.terms.now }
 
+-- there is a number of the width N for the choice
+abbrev pub ChoiceIsReady : Given → ℕ → ℕ → Type 0
+ChoiceIsReady given N k = (n : Number) × (slice_get given.choices k ≡ Some n) × IsValueOf N (Bits n)
+
 -- what is read can be read at the width N
 abbrev pub ArgumentIsReady : Given → Held → ℕ → Argument → Type 0
 ArgumentIsReady given held N (arguments.Register r) = (v : Value) × (value_of held r ≡ Some v) × IsValueOf N v
 ArgumentIsReady given held N (arguments.Literal z) = Unit {0}
 ArgumentIsReady given held N (arguments.Truth b) = N ≡ 1
 ArgumentIsReady given held N (arguments.Constant k) = (n : Number) × (slice_get given.constants k ≡ Some n) × IsValueOf N (Bits n)
-ArgumentIsReady given held N (arguments.Undef k) = (n : Number) × (slice_get given.choices k ≡ Some n) × IsValueOf N (Bits n)
+ArgumentIsReady given held N (arguments.Undef k) = ChoiceIsReady given N k
 ArgumentIsReady given held N (arguments.Term n) = (v : Value) × (slice_get given.terms n ≡ Some v) × IsValueOf N v
 
 abbrev pub OperandIsReady : List ℕ → Given → Held → ℕ → Operand → Type 0
@@ -47,6 +51,7 @@ OpIsReady typing given held N (Binary op flags a b) = FlagsFit op flags × Opera
 OpIsReady typing given held N (Compare pred samesign a b) = (M : ℕ) × OperandIsReady typing given held M a × OperandIsReady typing given held M b × (N ≡ 1)
 OpIsReady typing given held N (Select c a b) = OperandIsReady typing given held 1 c × OperandIsReady typing given held N a × OperandIsReady typing given held N b
 OpIsReady typing given held N (Convert cast flags a to) = (M : ℕ) × OperandIsReady typing given held M a × CastFits cast M N
+OpIsReady typing given held N (Freeze a k) = OperandIsReady typing given held N a × ChoiceIsReady given N k
 OpIsReady typing given held N (Copy a) = OperandIsReady typing given held N a
 
 abbrev pub StatementIsReady : List ℕ → Given → Held → Statement → Type 0
@@ -86,11 +91,10 @@ TermsFit typing terms values =
     (k : ℕ) (t : Term) (v : Value) (N : ℕ) →
     slice_get terms k ≡ Some t → slice_get values k ≡ Some v → slice_get typing t.class ≡ Some N → IsValueOf N v
 
--- What statements of a half may read beside registers fits: constants, the half's choices, which are of `undef`s among its statements,
--- and terms.
+-- What statements of a half may read beside registers fits: constants, the choices of these statements, and terms.
 pub record GivenFits (rule : Rule) (typing : List ℕ) (statements : List Statement) (given : Given) : Type 0 where
   pub constants : ConstantsFit rule typing given.constants
-  pub choices : (k N : ℕ) (o : Operand) → IsOperandAmong statements o → o.value ≡ arguments.Undef k → slice_get typing o.class ≡ Some N → ArgumentIsReady given (at_start []) N (arguments.Undef k)
+  pub choices : (k c N : ℕ) → LeavesOpen statements k c → slice_get typing c ≡ Some N → ChoiceIsReady given N k
   pub terms : (length given.terms ≡ length rule.terms) × TermsFit typing rule.terms given.terms
 
 -- what a node of iN of a constant term needs, where the nodes before it give these values
@@ -98,7 +102,7 @@ abbrev pub NodeIsReady : List ℕ → List Number → List Value → ℕ → Nod
 NodeIsReady typing constants before N (nodes.Literal z) = Unit {0}
 NodeIsReady typing constants before N (nodes.Constant k) = (n : Number) × (slice_get constants k ≡ Some n) × IsValueOf N (Bits n)
 NodeIsReady typing constants before N (nodes.Register r) = ⊥
-NodeIsReady typing constants before N (nodes.Undef k) = ⊥
+NodeIsReady typing constants before N (nodes.Choice k) = ⊥
 NodeIsReady typing constants before N (nodes.Width r c) = (M : ℕ) × (slice_get typing c ≡ Some M)
 NodeIsReady typing constants before N (nodes.Unary function a) = (v : Value) × (slice_get before a ≡ Some v) × IsValueOf N v
 NodeIsReady typing constants before N (nodes.Binary op a b) =

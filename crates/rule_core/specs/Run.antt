@@ -1,5 +1,5 @@
--- What the halves of a rule do on inputs, constants and one number for each `undef` of the half. As relations; registers are
--- known by place.
+-- What the halves of a rule do on inputs, constants and one number for each choice of the half, which is an `undef` or a freeze. As
+-- relations; registers are known by place.
 use Rattle.std.specs.Prelude.{◌≡◌, ℕ, ◌-◌, if◌then◌else◌, List, [], ◌∷◌, ◌++◌, length, take, Option, Some, slice_get}
 use Rattle.ops.specs.Number.{Number}
 use Rattle.ops.specs.Instruction.{instruction}
@@ -7,13 +7,13 @@ use Rattle.ops.specs.Comparison.{comparison, selection}
 use Rattle.ops.specs.Conversion.{conversion}
 use Rattle.ops.specs.Integer.{residue, bits}
 use Rattle.ops.specs.declared.value.Value.{Value}
-use Rattle.ops.specs.declared.value.Value.TheVariants.{Bits}
+use Rattle.ops.specs.declared.value.Value.TheVariants.{Poison, Bits}
 use Rattle.ops.specs.declared.value.Effect.{Effect}
 use Rattle.ops.specs.declared.value.Effect.TheVariants as effects
 use Rattle.rule_core.specs.declared.rule.Rule.{Rule}
 use Rattle.rule_core.specs.declared.rule.Statement.{Statement}
 use Rattle.rule_core.specs.declared.rule.Op.{Op}
-use Rattle.rule_core.specs.declared.rule.Op.TheVariants.{Binary, Compare, Select, Convert, Copy}
+use Rattle.rule_core.specs.declared.rule.Op.TheVariants.{Binary, Compare, Select, Convert, Freeze, Copy}
 use Rattle.rule_core.specs.declared.rule.Operand.{Operand}
 use Rattle.rule_core.specs.declared.rule.Argument.{Argument}
 use Rattle.rule_core.specs.declared.rule.Argument.TheVariants as arguments
@@ -66,7 +66,7 @@ GivesLast values e = (v : Value) × (slice_get values (length values - 1) ≡ So
 abbrev pub temporaries_of : Rule → List Statement
 temporaries_of rule = take (length rule.source - 1) rule.source
 
--- what statements read beside registers: a number for each constant, one for each `undef` of their half, and what terms give
+-- what statements read beside registers: a number for each constant, one for each choice of their half, and what terms give
 pub record Given : Type 0 where
   pub constants : List Number
   pub choices : List Number
@@ -75,6 +75,11 @@ pub record Given : Type 0 where
 -- the same, from what the constants are
 abbrev pub given_by : List ℕ → List Number → List Number → Rule → Given
 given_by typing constants choices rule = record { constants = constants; choices = choices; terms = constant_values typing constants rule }
+
+-- what a freeze gives: its operand, or this number where that is poison
+abbrev pub frozen : Value → Number → Value
+frozen Poison n = Bits n
+frozen (Bits a) n = Bits a
 
 -- With a width for each class:
 module _ (typing : List ℕ) (given : Given) where
@@ -92,7 +97,8 @@ module _ (typing : List ℕ) (given : Given) where
   OperandGives held o v = (N : ℕ) × (slice_get typing o.class ≡ Some N) × ArgumentGives held N o.value v
 
   -- An instruction has its effect on what its operands give. It is one over the result's width N, a comparison one over the width of
-  -- its operands, and a cast one from its operand's width to N. A copy gives its operand.
+  -- its operands, and a cast one from its operand's width to N. A freeze gives its operand's number, or its own where that is poison. A
+  -- copy gives its operand.
   abbrev pub OpGives : Held → ℕ → Op → Effect → Type 0
   OpGives held N (Binary op flags a b) e = (x : Value) × (y : Value) × OperandGives held a x × OperandGives held b y × (e ≡ instruction op flags N x y)
   OpGives held N (Compare pred samesign a b) e =
@@ -103,6 +109,7 @@ module _ (typing : List ℕ) (given : Given) where
       × OperandGives held c z × OperandGives held a x × OperandGives held b y × (e ≡ effects.Gives (selection z x y))
   OpGives held N (Convert cast flags a to) e =
       (M : ℕ) × (x : Value) × (slice_get typing a.class ≡ Some M) × OperandGives held a x × (e ≡ effects.Gives (conversion cast flags M N x))
+  OpGives held N (Freeze a k) e = (x : Value) × (n : Number) × OperandGives held a x × (slice_get given.choices k ≡ Some n) × (e ≡ effects.Gives (frozen x n))
   OpGives held N (Copy a) e = (x : Value) × OperandGives held a x × (e ≡ effects.Gives x)
 
   abbrev pub StatementGives : Held → Statement → Effect → Type 0
@@ -120,7 +127,7 @@ SourceGives typing constants choices rule inputs e =
     × Follows typing (given_by typing constants choices rule) holding_source rule.source (at_start inputs) end
     × Leads (λ held. GivesLast held.source) end e
 
--- how the source's temporaries end, in which no `undef` stands
+-- how the source's temporaries end, in which no choice stands
 abbrev pub TemporariesEnd : List ℕ → List Number → Rule → List Value → Ending → Type 0
 TemporariesEnd typing constants rule inputs end =
     Follows typing (given_by typing constants [] rule) holding_source (temporaries_of rule) (at_start inputs) end

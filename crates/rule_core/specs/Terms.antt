@@ -28,15 +28,15 @@ abbrev pub number_or_zero : Value → ℕ
 number_or_zero Poison = 0
 number_or_zero (Bits a) = a.number
 
--- what names in a term stand for: a number for each constant and for each `undef` of the target, and a value for each register
+-- what names in a term stand for: a number for each constant and for each choice of the target, and a value for each register
 pub record Meanings : Type 0 where
   pub constants : List Number
-  pub undefs : List Number
+  pub choices : List Number
   pub registers : Register → Value
 
 -- in a constant term constants alone stand
 abbrev pub of_constants : List Number → Meanings
-of_constants constants = record { constants = constants; undefs = []; registers = λ r. Poison }
+of_constants constants = record { constants = constants; choices = []; registers = λ r. Poison }
 
 -- the number at a place, if there is one
 abbrev pub number_at : List Number → ℕ → Value
@@ -96,7 +96,7 @@ module _ (typing : List ℕ) where
   node_gives names before N (nodes.Literal z) = bits N (residue N z)
   node_gives names before N (nodes.Constant k) = number_at names.constants k
   node_gives names before N (nodes.Register r) = bits N (number_or_zero (names.registers r))
-  node_gives names before N (nodes.Undef k) = number_at names.undefs k
+  node_gives names before N (nodes.Choice k) = number_at names.choices k
   node_gives names before N (nodes.Width r c) = within N (slice_index typing c)
   node_gives names before N (nodes.Unary function a) = function_value function N (value_at before a)
   node_gives names before N (nodes.Binary op a b) = value_given (instruction op no_flags N (value_at before a) (value_at before b))

@@ -10,9 +10,9 @@ pub struct Example {
     pub inputs: List<Value>,
     /// A number for each abstract constant.
     pub constants: List<Word>,
-    /// A number for each `undef` of the target.
+    /// A number for each choice of the target, which are its `undef`s and its freezes.
     pub target_undefs: List<Word>,
-    /// A number for each `undef` of the source: what it is chosen to be.
+    /// A number for each choice of the source: the one that `Wit:` gives.
     pub source_undefs: List<Word>,
     /// What the source does.
     pub source: Effect,

@@ -30,7 +30,7 @@ pub struct Rule {
     pub precondition: List<Formula>,
     /// The nodes of the expressions of `Wit:`, from left to right, and each behind its operands.
     pub witness_terms: List<Term>,
-    /// What each `undef` of the source is chosen to be, in the order of the text: the place of an expression's node.
+    /// What each choice of the source is, in the order of the text: the place of an expression's node.
     pub witnesses: List<u32>,
 }
 
@@ -55,6 +55,9 @@ pub enum Op {
     Select(Operand, Operand, Operand),
     /// A cast of the operand to the result's width, which the last type says, if it is written.
     Convert(Cast, Flags, Operand, Option<Width>),
+    /// `freeze`: the operand, which has the result's class, and where that is poison a number, which is the choice of its half at this
+    /// place. In a source it is the root's alone.
+    Freeze(Operand, u32),
     /// The operand itself, which has the result's class. It stands in a target alone.
     Copy(Operand),
 }
@@ -81,10 +84,19 @@ pub enum Argument {
     Truth(bool),
     /// An abstract constant, by its place.
     Constant(u32),
-    /// An `undef`, by its place among those of its half.
+    /// An `undef`, by its place among the choices of its half, which are its `undef`s and its freezes in the order of the text.
     Undef(u32),
     /// A constant term that is more than a literal or a constant: the place of its node. It stands in a target alone.
     Term(u32),
+}
+
+/// What a half leaves open: an `undef`, or what a freeze gives where its operand is poison.
+#[derive(Clone, Copy, Debug)]
+pub struct Choice {
+    /// Its place among the choices of its half, from 0.
+    pub place: u32,
+    /// The class of the `undef` or of the freeze: a place in a `Typing`.
+    pub class: u32,
 }
 
 /// A register, by its place. Places count from 0.
@@ -104,8 +116,8 @@ pub enum Name {
     Register(Register),
     /// An abstract constant, by its place.
     Constant(u32),
-    /// An `undef` of the target, by its place: in `Wit:` the first one is `t1`.
-    Undef(u32),
+    /// A choice of the target, by its place: in `Wit:` the first one is `t1`.
+    Choice(u32),
 }
 
 /// A node of a term.
@@ -125,8 +137,8 @@ pub enum Node {
     Constant(u32),
     /// What the register holds. It stands in `Wit:` alone.
     Register(Register),
-    /// An `undef` of the target, by its place. It stands in `Wit:` alone.
-    Undef(u32),
+    /// A choice of the target, by its place. It stands in `Wit:` alone.
+    Choice(u32),
     /// `width(%x)`: how many bits the register has, which is of this class.
     Width(Register, u32),
     Unary(Function, u32),

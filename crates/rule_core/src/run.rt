@@ -4,7 +4,7 @@ ghost use Rattle.std.specs.Prelude.{◌≡◌, ◌+◌, ◌≤◌, ℕ, length, 
 ghost use Rattle.ops.specs.Value.{IsValueOf, IsEffectOf};
 ghost use Rattle.rule_core.specs.Checks.{IsRule};
 ghost use Rattle.rule_core.specs.Typing.{IsTyping};
-ghost use Rattle.rule_core.specs.Run.{value_of, OperandGives, StatementGives, SourceGives, TargetGives};
+ghost use Rattle.rule_core.specs.Run.{frozen, value_of, OperandGives, StatementGives, SourceGives, TargetGives};
 ghost use Rattle.rule_core.specs.Terms.{constant_values, number_or_zero, value_at};
 ghost use Rattle.rule_core.specs.Valid.{InputsFit, ConstantsFit, SourceChoicesFit, TargetChoicesFit};
 ghost use Rattle.rule_core.specs.Readiness.{seen, shown, OperandIsReady, StatementIsReady, ValuesFit, GivenFits, SourceRan, TargetRan};
@@ -28,13 +28,13 @@ pub(crate) struct Held<'a> {
 pub(crate) struct Given<'a> {
     typing: &'a [Width],
     constants: &'a [Word],
-    /// A number for each `undef` of the half.
+    /// A number for each choice of the half.
     choices: &'a [Word],
     /// What the rule's terms give.
     terms: &'a [Value],
 }
 
-/// What the source does on these inputs, constants and one number for each of its `undef`s: its statements in order, and then the
+/// What the source does on these inputs, constants and one number for each of its choices: its statements in order, and then the
 /// root. Undefined behaviour of one is its effect. It takes as many steps as there are statements.
 pub fn run_source(
     alloc: Global,
@@ -65,7 +65,7 @@ pub fn run_source(
     Ok(Effect::Gives(values[count - 1]))
 }
 
-/// What the target does on these inputs, constants and one number for each of its `undef`s: the statements of the source but the
+/// What the target does on these inputs, constants and one number for each of its choices: the statements of the source but the
 /// root's, then its own in order, and then the root. Undefined behaviour of one is its effect. It takes as many steps as there are
 /// statements.
 pub fn run_target(
@@ -219,7 +219,21 @@ fn effect_of(given: Given, held: Held, statement: &Statement) -> Effect
             width_of(given, statement.class),
             operand_value(given, held, operand),
         )),
+        Op::Freeze(operand, k) => Effect::Gives(frozen(
+            operand_value(given, held, operand),
+            number_at(given.choices, k),
+        )),
         Op::Copy(operand) => Effect::Gives(operand_value(given, held, operand)),
+    }
+}
+
+/// What a freeze gives: the value, or this number where that is poison.
+fn frozen(value: Value, number: Word) -> Value
+    ensures { result ≡ frozen value number }
+{
+    match value {
+        Value::Poison => Value::Bits(number),
+        Value::Bits(word) => Value::Bits(word),
     }
 }
 

@@ -33,7 +33,7 @@ pub fn term_value(typing: &[Width], constants: &[Word], before: &[Value], term: 
             before[left as usize],
             before[right as usize],
         )),
-        Node::Register(_) | Node::Undef(_) => unreachable!(),
+        Node::Register(_) | Node::Choice(_) => unreachable!(),
     }
 }
 

@@ -6,7 +6,7 @@ use Rattle.rule_core.specs.declared.rule.Op.{Op as RuleOp}
 use Rattle.rule_core.specs.declared.rule.Op.TheVariants as rule_ops
 use Rattle.rule_core.specs.declared.rule.Rule.{Rule}
 use Rattle.rule_matches.specs.declared.roots.RootKind.{RootKind}
-use Rattle.rule_matches.specs.declared.roots.RootKind.TheVariants.{Binary, Compare, Select, Convert}
+use Rattle.rule_matches.specs.declared.roots.RootKind.TheVariants.{Binary, Compare, Select, Convert, Freeze}
 use Rattle.rule_matches.specs.declared.roots.RulesByRoot.{RulesByRoot}
 use Rattle.rule_matches.specs.declared.roots.Group.{Group}
 
@@ -15,6 +15,7 @@ kind_of_statement (rule_ops.Binary opcode flags a b) = Some (Binary opcode)
 kind_of_statement (rule_ops.Compare pred samesign a b) = Some (Compare pred)
 kind_of_statement (rule_ops.Select c a b) = Some Select
 kind_of_statement (rule_ops.Convert cast flags a to) = Some (Convert cast)
+kind_of_statement (rule_ops.Freeze a k) = Some Freeze
 kind_of_statement (rule_ops.Copy a) = None
 
 abbrev pub kind_of_inst : InstOp → Option RootKind
@@ -22,7 +23,7 @@ kind_of_inst (ops.Binary opcode flags x y) = Some (Binary opcode)
 kind_of_inst (ops.Compare pred samesign width x y) = Some (Compare pred)
 kind_of_inst (ops.Select c x y) = Some Select
 kind_of_inst (ops.Convert cast flags from x) = Some (Convert cast)
-kind_of_inst (ops.Freeze x) = None
+kind_of_inst (ops.Freeze x) = Some Freeze
 kind_of_inst (ops.Phi entries) = None
 
 -- the root is the last statement of the source

@@ -8,13 +8,14 @@ use ops::{Cast, Opcode, Pred};
 use rule_core::{Op as RuleOp, Rule};
 use std::alloc::{AllocError, Global};
 
-/// What an instruction does that a rule's root may match. There are 27 of them.
+/// What an instruction does that a rule's root may match. There are 28 of them.
 #[derive(Clone, Copy, PartialEq, Eq, Debug)]
 pub enum RootKind {
     Binary(Opcode),
     Compare(Pred),
     Select,
     Convert(Cast),
+    Freeze,
 }
 
 /// The rules whose root is of one kind, in order.
@@ -41,6 +42,7 @@ fn kind_of_statement(op: RuleOp) -> Option<RootKind>
         RuleOp::Compare(pred, _, _, _) => Some(RootKind::Compare(pred)),
         RuleOp::Select(_, _, _) => Some(RootKind::Select),
         RuleOp::Convert(cast, _, _, _) => Some(RootKind::Convert(cast)),
+        RuleOp::Freeze(_, _) => Some(RootKind::Freeze),
         RuleOp::Copy(_) => None,
     }
 }
@@ -62,7 +64,8 @@ fn kind_of_inst(op: &Op) -> Option<RootKind>
         Op::Compare(pred, _, _, _, _) => Some(RootKind::Compare(*pred)),
         Op::Select(_, _, _) => Some(RootKind::Select),
         Op::Convert(cast, _, _, _) => Some(RootKind::Convert(*cast)),
-        Op::Freeze(_) | Op::Phi(_) => None,
+        Op::Freeze(_) => Some(RootKind::Freeze),
+        Op::Phi(_) => None,
     }
 }
 

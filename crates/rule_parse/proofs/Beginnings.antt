@@ -24,13 +24,14 @@ use Rattle.rule_parse.specs.declared.raw.RawArgument.{RawArgument}
 use Rattle.rule_parse.specs.declared.raw.RawArgument.TheVariants as arguments
 use Rattle.rule_parse.specs.Grammar.{SpellsTermOperand, SpellsArgument}
 use Rattle.rule_parse.specs.Keywords.{operation_in}
+use Rattle.rule_tokens.specs.declared.version.Version.{Version}
 use Rattle.rule_tokens.specs.Limits.{Limits}
 
 module _ (limits : Limits) where
   -- a word that is no type, no opcode and no flag
   pub record IsOperandWord (word : List ℕ) : Type 0 where
     pub no_type : type_in word ≡ None
-    pub no_operation : operation_in word ≡ None
+    pub no_operation : (version : Version) → operation_in version word ≡ None
     pub no_flag : (taken : Flags) → flag_in taken word ≡ None
 
   abbrev pub BeginsOperand : List Token → Type 0
@@ -63,7 +64,7 @@ module _ (limits : Limits) where
 
   constant_word : (digits : List ℕ) → IsOperandWord (67 ∷ digits) × (bytes_eq (67 ∷ digits) (codes "undef") ≡ false)
   unfolding type_in operation_in flag_in
-  constant_word digits = (record { no_type = refl; no_operation = refl; no_flag = λ taken. refl }, refl)
+  constant_word digits = (record { no_type = refl; no_operation = λ version. refl; no_flag = λ taken. refl }, refl)
 
   constant_begins : (word : List ℕ) → is_constant word ≡ true → IsOperandWord word × (bytes_eq word (codes "undef") ≡ false)
   unfolding is_constant
@@ -72,21 +73,21 @@ module _ (limits : Limits) where
 
   width_word : IsOperandWord (codes "width") × (bytes_eq (codes "width") (codes "undef") ≡ false)
   unfolding type_in operation_in flag_in
-  width_word = (record { no_type = refl; no_operation = refl; no_flag = λ taken. refl }, refl)
+  width_word = (record { no_type = refl; no_operation = λ version. refl; no_flag = λ taken. refl }, refl)
 
   called_word : (function : Function) (word : List ℕ) → IsCalled function word → IsOperandWord word × (bytes_eq word (codes "undef") ≡ false)
   unfolding type_in operation_in flag_in
-  called_word Log2 word is = rw is (record { no_type = refl; no_operation = refl; no_flag = λ taken. refl }, refl)
-  called_word Abs word is = rw is (record { no_type = refl; no_operation = refl; no_flag = λ taken. refl }, refl)
+  called_word Log2 word is = rw is (record { no_type = refl; no_operation = λ version. refl; no_flag = λ taken. refl }, refl)
+  called_word Abs word is = rw is (record { no_type = refl; no_operation = λ version. refl; no_flag = λ taken. refl }, refl)
   called_word Negate word is = absurd is
   called_word Not word is = absurd is
 
   source_word_begins : (word : List ℕ) → ((word ≡ codes "true") → IsOperandWord word) × ((word ≡ codes "false") → IsOperandWord word) × ((word ≡ codes "undef") → IsOperandWord word)
   unfolding type_in operation_in flag_in
   source_word_begins word = (
-    (λ is. rw is (record { no_type = refl; no_operation = refl; no_flag = λ taken. refl })),
-    (λ is. rw is (record { no_type = refl; no_operation = refl; no_flag = λ taken. refl })),
-    (λ is. rw is (record { no_type = refl; no_operation = refl; no_flag = λ taken. refl })),
+    (λ is. rw is (record { no_type = refl; no_operation = λ version. refl; no_flag = λ taken. refl })),
+    (λ is. rw is (record { no_type = refl; no_operation = λ version. refl; no_flag = λ taken. refl })),
+    (λ is. rw is (record { no_type = refl; no_operation = λ version. refl; no_flag = λ taken. refl })),
   )
 
   -- ---- terms
@@ -95,7 +96,7 @@ module _ (limits : Limits) where
   leaf_begins (raw_nodes.Literal z) tokens (text, value, is) = rw is tt
   leaf_begins (raw_nodes.Constant name) tokens (c, le, is) = rw is (constant_begins name c)
   leaf_begins (raw_nodes.Register name) tokens (place, le, is) = absurd cc
-  leaf_begins (raw_nodes.Undef k) tokens (word, place, choice, le, is) = absurd cc
+  leaf_begins (raw_nodes.Choice k) tokens (word, place, choice, le, is) = absurd cc
   leaf_begins node tokens never = absurd never
 
   pub term_begins : {nesting start level : ℕ} {nodes : List RawNode} {tokens : List Token} → SpellsTerm limits Constant nesting start level nodes tokens → BeginsTerm tokens

@@ -2,6 +2,7 @@ pub mod Beginnings
 pub mod Counts
 pub mod Cuts
 pub mod Expressions
+pub mod Files
 pub mod Kept
 pub mod Loops
 pub mod OpReadings

@@ -13,12 +13,13 @@ use Rattle.rule_parse.specs.declared.raw.RawStatement.{RawStatement}
 use Rattle.refusal.specs.Refusals.{Fails}
 use Rattle.rule_tokens.specs.Steps.{◌>>=◌}
 use Rattle.rule_tokens.specs.PartReaders.{Read, fault}
-use Rattle.rule_parse.specs.RuleReaders.{next_flag, flags_at, IsNoStatement, statement_at, statements_at, rule_at, rules_at, all_rules}
+use Rattle.rule_parse.specs.RuleReaders.{next_flag, flags_at, IsNoStatement, statement_at, statements_at, rule_at, rules_at, rules_of}
 use Rattle.rule_tokens.specs.Tokens.{Token, Line, Register}
 use Rattle.rule_parse.proofs.Readings.{rule_at-shorter}
+use Rattle.rule_tokens.specs.declared.version.Version.{Version}
 use Rattle.rule_tokens.specs.Limits.{Limits}
 
-module _ (limits : Limits) where
+module _ (limits : Limits) (version : Version) where
   -- what was read before, and what is still read
   abbrev pub with_front : {A : Type 0} → List A → Read (List A) → Read (List A)
   with_front front (Ok x) = Ok (front ++ x.0, x.1)
@@ -37,40 +38,41 @@ module _ (limits : Limits) where
   room_more : (most n : ℕ) → n < most → most - n ≡ suc (most - (n + 1))
   room_more most n lt = omega arith
 
-  pub statements-more : (most : ℕ) (front : List RawStatement) (half : Half) (line : ℕ) (name : List ℕ) (tokens rest : List Token) (x : RawStatement × List Token) (total : Read (List RawStatement)) → tokens ≡ Line line ∷ Register name ∷ rest → length front < most → statement_at limits half line name rest ≡ Ok x
-      → with_front front (statements_at limits (most - length front) half tokens) ≡ total → with_front (front ++ x.0 ∷ []) (statements_at limits (most - length (front ++ x.0 ∷ [])) half x.1) ≡ total
+  pub statements-more : (most : ℕ) (front : List RawStatement) (half : Half) (line : ℕ) (name : List ℕ) (tokens rest : List Token) (x : RawStatement × List Token) (total : Read (List RawStatement)) → tokens ≡ Line line ∷ Register name ∷ rest → length front < most → statement_at limits version half line name rest ≡ Ok x
+      → with_front front (statements_at limits version (most - length front) half tokens) ≡ total → with_front (front ++ x.0 ∷ []) (statements_at limits version (most - length (front ++ x.0 ∷ [])) half x.1) ≡ total
   unfolding statements_at
   statements-more most front half line name tokens rest x total begun lt s so_far =
-      let one : statements_at limits (most - length front) half tokens ≡ (statements_at limits (most - (length front + 1)) half x.1 >>= λ others. Ok (x.0 ∷ others.0, others.1)) = rw (begun, room_more most (length front) lt, s) refl in
-      rw (length-append front (x.0 ∷ [])) (sym (regroup front x.0 (statements_at limits (most - (length front + 1)) half x.1)) ∙ ap (with_front front) (sym one) ∙ so_far)
+      let one : statements_at limits version (most - length front) half tokens ≡ (statements_at limits version (most - (length front + 1)) half x.1 >>= λ others. Ok (x.0 ∷ others.0, others.1)) = rw (begun, room_more most (length front) lt, s) refl in
+      rw (length-append front (x.0 ∷ [])) (sym (regroup front x.0 (statements_at limits version (most - (length front + 1)) half x.1)) ∙ ap (with_front front) (sym one) ∙ so_far)
 
-  pub statements-fault : (most : ℕ) (front : List RawStatement) (half : Half) (line : ℕ) (name : List ℕ) (tokens rest : List Token) (total : Read (List RawStatement)) (e : RuleError) → tokens ≡ Line line ∷ Register name ∷ rest → length front < most → Fails e (statement_at limits half line name rest)
-      → with_front front (statements_at limits (most - length front) half tokens) ≡ total → Fails e total
+  pub statements-fault : (most : ℕ) (front : List RawStatement) (half : Half) (line : ℕ) (name : List ℕ) (tokens rest : List Token) (total : Read (List RawStatement)) (e : RuleError) → tokens ≡ Line line ∷ Register name ∷ rest → length front < most → Fails e (statement_at limits version half line name rest)
+      → with_front front (statements_at limits version (most - length front) half tokens) ≡ total → Fails e total
   unfolding statements_at
   statements-fault most front half line name tokens rest total NoMemory begun lt s so_far = tt
   statements-fault most front half line name tokens rest total (Refused f) begun lt s so_far =
-      let one : statements_at limits (most - length front) half tokens ≡ Err f = rw (begun, room_more most (length front) lt, s) refl in
+      let one : statements_at limits version (most - length front) half tokens ≡ Err f = rw (begun, room_more most (length front) lt, s) refl in
       sym so_far ∙ ap (with_front front) one
 
   pub statements-full : (most : ℕ) (front : List RawStatement) (half : Half) (line : ℕ) (name : List ℕ) (tokens rest : List Token) (total : Read (List RawStatement)) → tokens ≡ Line line ∷ Register name ∷ rest → length front ≡ most
-      → with_front front (statements_at limits (most - length front) half tokens) ≡ total → total ≡ Err (fault line TooMany)
+      → with_front front (statements_at limits version (most - length front) half tokens) ≡ total → total ≡ Err (fault line TooMany)
   unfolding statements_at
   statements-full most front half line name tokens rest total begun full so_far =
       let none : most - length front ≡ 0 = omega arith in
-      let one : statements_at limits (most - length front) half tokens ≡ Err (fault line TooMany) = rw (begun, none) refl in
+      let one : statements_at limits version (most - length front) half tokens ≡ Err (fault line TooMany) = rw (begun, none) refl in
       sym so_far ∙ ap (with_front front) one
 
-  none_begun : (room : ℕ) (half : Half) (tokens : List Token) → IsNoStatement tokens → statements_at limits room half tokens ≡ Ok ([], tokens)
+  none_begun : (room : ℕ) (half : Half) (tokens : List Token) → IsNoStatement tokens → statements_at limits version room half tokens ≡ Ok ([], tokens)
   unfolding statements_at
   none_begun zero half (Line line ∷ Register name ∷ rest) none = absurd none
   none_begun (suc room) half (Line line ∷ Register name ∷ rest) none = absurd none
   none_begun zero half tokens none = refl
   none_begun (suc room) half tokens none = refl
 
-  pub statements-done : (front : List RawStatement) (room : ℕ) (half : Half) (tokens behind : List Token) (total : Read (List RawStatement)) → IsNoStatement tokens → behind ≡ tokens → with_front front (statements_at limits room half tokens) ≡ total → total ≡ Ok (front, behind)
+  pub statements-done : (front : List RawStatement) (room : ℕ) (half : Half) (tokens behind : List Token) (total : Read (List RawStatement)) → IsNoStatement tokens → behind ≡ tokens → with_front front (statements_at limits version room half tokens) ≡ total → total ≡ Ok (front, behind)
   statements-done front room half tokens behind total none same so_far =
       sym so_far ∙ ap (with_front front) (none_begun room half tokens none) ∙ ap (λ (xs : List RawStatement). Ok (xs, tokens)) (append-nil front) ∙ ap (λ (ts : List Token). Ok (front, ts)) (sym same)
 
+module _ (limits : Limits) where
   -- ---- flags
 
   pub flags-more : (taken : Flags) (line : ℕ) (before : Flags) (flag : Flag) (tokens : List Token) → next_flag taken tokens ≡ Some flag → has_flag before flag ≡ false → flags_at taken line before tokens ≡ flags_at taken line (with_flag before flag) (drop 1 tokens)
@@ -83,6 +85,7 @@ module _ (limits : Limits) where
   flags-again taken line before flag [] next again = absurd cc
   flags-again taken line before flag (token ∷ rest) next again = rw (next, again) refl
 
+module _ (limits : Limits) (version : Version) where
   -- ---- rules
 
   abbrev pub with_rules : List RawRule → Result (List RawRule) RuleFault → Result (List RawRule) RuleFault
@@ -94,7 +97,7 @@ module _ (limits : Limits) where
   rules_same (Err e) f g h = refl
 
   -- more than as many as there are tokens are not needed
-  rules_enough : (n m last : ℕ) (tokens : List Token) → length tokens ≤ n → length tokens ≤ m → rules_at limits n last tokens ≡ rules_at limits m last tokens
+  rules_enough : (n m last : ℕ) (tokens : List Token) → length tokens ≤ n → length tokens ≤ m → rules_at limits version n last tokens ≡ rules_at limits version m last tokens
   unfolding rules_at
   rules_enough zero zero last [] p q = refl
   rules_enough zero (suc m) last [] p q = refl
@@ -103,18 +106,18 @@ module _ (limits : Limits) where
   rules_enough zero m last (token ∷ tokens) p q = absurd (omega arith)
   rules_enough (suc n) zero last (token ∷ tokens) p q = absurd (omega arith)
   rules_enough (suc n) (suc m) last (token ∷ tokens) p q =
-      rules_same (rule_at limits last (token ∷ tokens)) _ _
+      rules_same (rule_at limits version last (token ∷ tokens)) _ _
       (λ x e.
-      let short : length x.1 < length (token ∷ tokens) = rule_at-shorter limits last (token ∷ tokens) x e in
+      let short : length x.1 < length (token ∷ tokens) = rule_at-shorter limits version last (token ∷ tokens) x e in
       ap (λ (r : Result (List RawRule) RuleFault). r >>= λ others. Ok (x.0 ∷ others)) (rules_enough n m last x.1 (omega arith) (omega arith)))
 
-  rules_step : (last : ℕ) (tokens : List Token) → 0 < length tokens → all_rules limits last tokens ≡ (rule_at limits last tokens >>= λ first. (all_rules limits last first.1 >>= λ others. Ok (first.0 ∷ others)))
+  rules_step : (last : ℕ) (tokens : List Token) → 0 < length tokens → rules_of limits version last tokens ≡ (rule_at limits version last tokens >>= λ first. (rules_of limits version last first.1 >>= λ others. Ok (first.0 ∷ others)))
   unfolding rules_at
   rules_step last [] some = absurd (omega arith)
   rules_step last (token ∷ tokens) some =
-      rules_same (rule_at limits last (token ∷ tokens)) _ _
+      rules_same (rule_at limits version last (token ∷ tokens)) _ _
       (λ x e.
-      let short : length x.1 < length (token ∷ tokens) = rule_at-shorter limits last (token ∷ tokens) x e in
+      let short : length x.1 < length (token ∷ tokens) = rule_at-shorter limits version last (token ∷ tokens) x e in
       ap (λ (r : Result (List RawRule) RuleFault). r >>= λ others. Ok (x.0 ∷ others)) (rules_enough (length tokens) (length x.1) last x.1 (omega arith) (omega arith)))
 
   rules_grouped : (front : List RawRule) (rule : RawRule) (read : Result (List RawRule) RuleFault) → with_rules front (read >>= λ others. Ok (rule ∷ others)) ≡ with_rules (front ++ rule ∷ []) read
@@ -125,18 +128,18 @@ module _ (limits : Limits) where
   rules-start (Ok rules) = refl
   rules-start (Err e) = refl
 
-  pub rules-more : (front : List RawRule) (last : ℕ) (tokens : List Token) (x : RawRule × List Token) (total : Result (List RawRule) RuleFault) → 0 < length tokens → rule_at limits last tokens ≡ Ok x → with_rules front (all_rules limits last tokens) ≡ total → with_rules (front ++ x.0 ∷ []) (all_rules limits last x.1) ≡ total
+  pub rules-more : (front : List RawRule) (last : ℕ) (tokens : List Token) (x : RawRule × List Token) (total : Result (List RawRule) RuleFault) → 0 < length tokens → rule_at limits version last tokens ≡ Ok x → with_rules front (rules_of limits version last tokens) ≡ total → with_rules (front ++ x.0 ∷ []) (rules_of limits version last x.1) ≡ total
   rules-more front last tokens x total some one so_far =
-      let step : all_rules limits last tokens ≡ (all_rules limits last x.1 >>= λ others. Ok (x.0 ∷ others)) = rules_step last tokens some ∙ rw one refl in
-      sym (rules_grouped front x.0 (all_rules limits last x.1)) ∙ ap (with_rules front) (sym step) ∙ so_far
+      let step : rules_of limits version last tokens ≡ (rules_of limits version last x.1 >>= λ others. Ok (x.0 ∷ others)) = rules_step last tokens some ∙ rw one refl in
+      sym (rules_grouped front x.0 (rules_of limits version last x.1)) ∙ ap (with_rules front) (sym step) ∙ so_far
 
-  pub rules-fault : (front : List RawRule) (last : ℕ) (tokens : List Token) (total : Result (List RawRule) RuleFault) (e : RuleError) → 0 < length tokens → Fails e (rule_at limits last tokens) → with_rules front (all_rules limits last tokens) ≡ total → Fails e total
+  pub rules-fault : (front : List RawRule) (last : ℕ) (tokens : List Token) (total : Result (List RawRule) RuleFault) (e : RuleError) → 0 < length tokens → Fails e (rule_at limits version last tokens) → with_rules front (rules_of limits version last tokens) ≡ total → Fails e total
   rules-fault front last tokens total NoMemory some one so_far = tt
   rules-fault front last tokens total (Refused f) some one so_far =
-      let step : all_rules limits last tokens ≡ Err f = rules_step last tokens some ∙ rw one refl in
+      let step : rules_of limits version last tokens ≡ Err f = rules_step last tokens some ∙ rw one refl in
       sym so_far ∙ ap (with_rules front) step
 
-  pub rules-done : (front : List RawRule) (last : ℕ) (tokens : List Token) (total : Result (List RawRule) RuleFault) → length tokens ≡ 0 → with_rules front (all_rules limits last tokens) ≡ total → total ≡ Ok front
+  pub rules-done : (front : List RawRule) (last : ℕ) (tokens : List Token) (total : Result (List RawRule) RuleFault) → length tokens ≡ 0 → with_rules front (rules_of limits version last tokens) ≡ total → total ≡ Ok front
   unfolding rules_at
   rules-done front last [] total none so_far = sym so_far ∙ ap (λ (rs : List RawRule). Ok rs) (append-nil front)
   rules-done front last (token ∷ tokens) total none so_far = absurd (omega arith)

@@ -16,7 +16,7 @@ use Rattle.rule_tokens.specs.declared.fault.RuleFaultKind.TheVariants.{Syntax}
 use Rattle.rule_parse.specs.declared.half.Half.{Half}
 use Rattle.rule_parse.specs.declared.half.Half.TheVariants.{Source, Target}
 use Rattle.rule_parse.specs.declared.raw.RawOp.{RawOp}
-use Rattle.rule_parse.specs.declared.raw.RawOp.TheVariants.{Binary, Compare, Select, Convert, Copy}
+use Rattle.rule_parse.specs.declared.raw.RawOp.TheVariants.{Binary, Compare, Select, Convert, Freeze, Copy}
 use Rattle.rule_parse.specs.declared.raw.RawOperand.{RawOperand}
 use Rattle.rule_parse.specs.declared.raw.RawArgument.{RawArgument}
 use Rattle.rule_parse.specs.declared.raw.RawArgument.TheVariants as arguments
@@ -33,15 +33,17 @@ use Rattle.rule_tokens.specs.TypeTokens.{SpellsType}
 use Rattle.rule_parse.specs.Grammar.{SpellsArgument, SpellsUntyped, SpellsOperand, SpellsPair, SpellsFlags, SpellsTo, SpellsOp}
 use Rattle.rule_tokens.specs.Numbers.{literal_value}
 use Rattle.rule_tokens.specs.PartReaders.{fault, name_within, type_at, maybe_type, line_end}
-use Rattle.rule_parse.specs.RuleReaders.{register_at, known_or_misplaced, source_word, term_argument_at, argument_at, typed_at, operand_at, to_at, next_flag, flag_or_end, flags_at, pair_at, binary_at, pred_at, compare_at, select_at, convert_at, copy_at, operation_at, other_at, op_word, op_at}
+use Rattle.rule_parse.specs.RuleReaders.{register_at, known_or_misplaced, source_word, term_argument_at, argument_at, typed_at, operand_at, to_at, next_flag, flag_or_end, flags_at, pair_at, binary_at, pred_at, compare_at, select_at, convert_at, freeze_at, copy_at, operation_at, other_at, op_word, op_at}
 use Rattle.rule_tokens.specs.Parts.{Is, Comma, ◌⨾◌, Maybe}
 use Rattle.rule_tokens.specs.Tokens.{Token, Register, Word, Number, Mark}
-use Rattle.rule_parse.specs.Keywords.{operation_word, operation_in, source_word_in, argument_of}
+use Rattle.rule_parse.specs.Keywords.{operation_word, is_known, operation_in, source_word_in, argument_of}
 use Rattle.rule_tokens.proofs.Steps.{done, bind_ok, bound, read_as, passed, refused_not, not_left_out, chosen}
 use Rattle.rule_tokens.proofs.Takes.{Takes, taken_to, both, nothing, one, word_as, name_within-is, type_at-is, maybe_type-is, line_end-is}
 use Rattle.rule_parse.proofs.Pieces.{operation_in-is, source_word_in-is}
 use Rattle.rule_terms.proofs.Spellings.{term_at-is}
 use Rattle.rule_terms.proofs.Starts.{mark_at-is}
+use Rattle.rule_tokens.specs.declared.version.Version.{Version}
+use Rattle.rule_tokens.specs.declared.version.Version.TheVariants.{One, Two}
 use Rattle.rule_tokens.specs.Limits.{Limits}
 
 module _ (limits : Limits) where
@@ -205,85 +207,102 @@ module _ (limits : Limits) where
       (both (operand_at-is half line tokens left l) (both (comma_at-is line left.1 behind c)
       (taken_to (untyped_at-is half line behind right r) (line_end-is line right.1 rest ends))))))))
 
-  -- an operation that is read behind its opcode
-  abbrev IsOpBehind : Half → List ℕ → List Token → RawOp × List Token → Type 0
-  IsOpBehind half word tokens x = Takes (SpellsOp limits half x.0) (Word word ∷ tokens) x.1
+  module _ (version : Version) where
+    -- an operation that is read behind its opcode
+    abbrev IsOpBehind : Half → List ℕ → List Token → RawOp × List Token → Type 0
+    IsOpBehind half word tokens x = Takes (SpellsOp limits version half x.0) (Word word ∷ tokens) x.1
 
-  binary_at-is : (half : Half) (line : ℕ) (op : Opcode) (word : List ℕ) (tokens : List Token) (x : RawOp × List Token) → word ≡ opcode_keyword op → binary_at limits half line op tokens ≡ Ok x → IsOpBehind half word tokens x
-  unfolding binary_at
-  binary_at-is half line op word tokens x is e =
-      bound (flags_at (flags_of op) line no_flags tokens) _ _ e (λ flags f e1.
-      bound (pair_at limits half line flags.1) _ _ e1 (λ pair p e2.
-      read_as (IsOpBehind half word tokens) (Binary op flags.0 pair.0.0 pair.0.1, pair.1) x e2
-      (both (word_as word (opcode_keyword op) tokens is) (both (flags_at-is (flags_of op) line tokens flags f) (pair_at-is half line flags.1 pair p)))))
+    binary_at-is : (half : Half) (line : ℕ) (op : Opcode) (word : List ℕ) (tokens : List Token) (x : RawOp × List Token) → word ≡ opcode_keyword op → binary_at limits half line op tokens ≡ Ok x → IsOpBehind half word tokens x
+    unfolding binary_at
+    binary_at-is half line op word tokens x is e =
+        bound (flags_at (flags_of op) line no_flags tokens) _ _ e (λ flags f e1.
+        bound (pair_at limits half line flags.1) _ _ e1 (λ pair p e2.
+        read_as (IsOpBehind half word tokens) (Binary op flags.0 pair.0.0 pair.0.1, pair.1) x e2
+        (both (word_as word (opcode_keyword op) tokens is) (both (flags_at-is (flags_of op) line tokens flags f) (pair_at-is half line flags.1 pair p)))))
 
-  pred_at-is : (line : ℕ) (tokens : List Token) (x : Pred × List Token) → pred_at line tokens ≡ Ok x → Takes (Is (Word (predicate_keyword x.0))) tokens x.1
-  unfolding pred_at
-  pred_at-is line (Word word ∷ rest) x e =
-      let n = not_left_out line word (pred_in word) rest x e in
-      taken_to (word_as word (predicate_keyword x.0) rest (pred_in-is word x.0 n.0)) n.1
-  pred_at-is line tokens x e = absurd cc
+    pred_at-is : (line : ℕ) (tokens : List Token) (x : Pred × List Token) → pred_at line tokens ≡ Ok x → Takes (Is (Word (predicate_keyword x.0))) tokens x.1
+    unfolding pred_at
+    pred_at-is line (Word word ∷ rest) x e =
+        let n = not_left_out line word (pred_in word) rest x e in
+        taken_to (word_as word (predicate_keyword x.0) rest (pred_in-is word x.0 n.0)) n.1
+    pred_at-is line tokens x e = absurd cc
 
-  -- the flags that are read are those of an `icmp` with `samesign` or without
-  icmp_flags-are : (line : ℕ) (tokens : List Token) (x : Flags × List Token) → flags_at flags_of_icmp line no_flags tokens ≡ Ok x → Takes (SpellsFlags flags_of_icmp (icmp_flags x.0.samesign)) tokens x.1
-  icmp_flags-are line tokens x e =
-      let t = flags_at-is flags_of_icmp line tokens x e in
-      subst (λ (flags : Flags). Takes (SpellsFlags flags_of_icmp flags) tokens x.1) (flags_are_icmp x.0 (taken_flags flags_of_icmp t.is_own.0 x.0 t.is_own.1)) t
+    -- the flags that are read are those of an `icmp` with `samesign` or without
+    icmp_flags-are : (line : ℕ) (tokens : List Token) (x : Flags × List Token) → flags_at flags_of_icmp line no_flags tokens ≡ Ok x → Takes (SpellsFlags flags_of_icmp (icmp_flags x.0.samesign)) tokens x.1
+    icmp_flags-are line tokens x e =
+        let t = flags_at-is flags_of_icmp line tokens x e in
+        subst (λ (flags : Flags). Takes (SpellsFlags flags_of_icmp flags) tokens x.1) (flags_are_icmp x.0 (taken_flags flags_of_icmp t.is_own.0 x.0 t.is_own.1)) t
 
-  compare_at-is : (half : Half) (line : ℕ) (word : List ℕ) (tokens : List Token) (x : RawOp × List Token) → word ≡ codes "icmp" → compare_at limits half line tokens ≡ Ok x → IsOpBehind half word tokens x
-  unfolding compare_at
-  compare_at-is half line word tokens x is e =
-      bound (flags_at flags_of_icmp line no_flags tokens) _ _ e (λ flags g e1.
-      bound (pred_at line flags.1) _ _ e1 (λ pred f e2.
-      bound (pair_at limits half line pred.1) _ _ e2 (λ pair p e3.
-      read_as (IsOpBehind half word tokens) (Compare pred.0 flags.0.samesign pair.0.0 pair.0.1, pair.1) x e3
-      (both (word_as word (codes "icmp") tokens is) (both (icmp_flags-are line tokens flags g) (both (pred_at-is line flags.1 pred f) (pair_at-is half line pred.1 pair p)))))))
+    compare_at-is : (half : Half) (line : ℕ) (word : List ℕ) (tokens : List Token) (x : RawOp × List Token) → word ≡ codes "icmp" → compare_at limits half line tokens ≡ Ok x → IsOpBehind half word tokens x
+    unfolding compare_at
+    compare_at-is half line word tokens x is e =
+        bound (flags_at flags_of_icmp line no_flags tokens) _ _ e (λ flags g e1.
+        bound (pred_at line flags.1) _ _ e1 (λ pred f e2.
+        bound (pair_at limits half line pred.1) _ _ e2 (λ pair p e3.
+        read_as (IsOpBehind half word tokens) (Compare pred.0 flags.0.samesign pair.0.0 pair.0.1, pair.1) x e3
+        (both (word_as word (codes "icmp") tokens is) (both (icmp_flags-are line tokens flags g) (both (pred_at-is line flags.1 pred f) (pair_at-is half line pred.1 pair p)))))))
 
-  select_at-is : (half : Half) (line : ℕ) (word : List ℕ) (tokens : List Token) (x : RawOp × List Token) → word ≡ codes "select" → select_at limits half line tokens ≡ Ok x → IsOpBehind half word tokens x
-  unfolding select_at
-  select_at-is half line word tokens x is e =
-      bound (operand_at limits half line tokens) _ _ e (λ a p e1.
-      bound (mark_at (codes ",") line a.1) _ _ e1 (λ b q e2.
-      bound (operand_at limits half line b) _ _ e2 (λ c r e3.
-      bound (mark_at (codes ",") line c.1) _ _ e3 (λ d s e4.
-      bound (operand_at limits half line d) _ _ e4 (λ f t e5.
-      bound (line_end line f.1) _ _ e5 (λ rest ends e6.
-      read_as (IsOpBehind half word tokens) (Select a.0 c.0 f.0, rest) x e6
-      (both (word_as word (codes "select") tokens is) (both (operand_at-is half line tokens a p) (both (comma_at-is line a.1 b q) (both (operand_at-is half line b c r)
-      (both (comma_at-is line c.1 d s) (taken_to (operand_at-is half line d f t) (line_end-is line f.1 rest ends)))))))))))))
+    select_at-is : (half : Half) (line : ℕ) (word : List ℕ) (tokens : List Token) (x : RawOp × List Token) → word ≡ codes "select" → select_at limits half line tokens ≡ Ok x → IsOpBehind half word tokens x
+    unfolding select_at
+    select_at-is half line word tokens x is e =
+        bound (operand_at limits half line tokens) _ _ e (λ a p e1.
+        bound (mark_at (codes ",") line a.1) _ _ e1 (λ b q e2.
+        bound (operand_at limits half line b) _ _ e2 (λ c r e3.
+        bound (mark_at (codes ",") line c.1) _ _ e3 (λ d s e4.
+        bound (operand_at limits half line d) _ _ e4 (λ f t e5.
+        bound (line_end line f.1) _ _ e5 (λ rest ends e6.
+        read_as (IsOpBehind half word tokens) (Select a.0 c.0 f.0, rest) x e6
+        (both (word_as word (codes "select") tokens is) (both (operand_at-is half line tokens a p) (both (comma_at-is line a.1 b q) (both (operand_at-is half line b c r)
+        (both (comma_at-is line c.1 d s) (taken_to (operand_at-is half line d f t) (line_end-is line f.1 rest ends)))))))))))))
 
-  convert_at-is : (half : Half) (line : ℕ) (cast : Cast) (word : List ℕ) (tokens : List Token) (x : RawOp × List Token) → word ≡ cast_keyword cast → convert_at limits half line cast tokens ≡ Ok x → IsOpBehind half word tokens x
-  unfolding convert_at
-  convert_at-is half line cast word tokens x is e =
-      bound (flags_at (flags_of_cast cast) line no_flags tokens) _ _ e (λ flags f e1.
-      bound (operand_at limits half line flags.1) _ _ e1 (λ from p e2.
-      bound (to_at line from.1) _ _ e2 (λ to q e3.
-      read_as (IsOpBehind half word tokens) (Convert cast flags.0 from.0 to.0, to.1) x e3
-      (both (word_as word (cast_keyword cast) tokens is) (both (flags_at-is (flags_of_cast cast) line tokens flags f) (both (operand_at-is half line flags.1 from p) (to_at-is line from.1 to q)))))))
+    convert_at-is : (half : Half) (line : ℕ) (cast : Cast) (word : List ℕ) (tokens : List Token) (x : RawOp × List Token) → word ≡ cast_keyword cast → convert_at limits half line cast tokens ≡ Ok x → IsOpBehind half word tokens x
+    unfolding convert_at
+    convert_at-is half line cast word tokens x is e =
+        bound (flags_at (flags_of_cast cast) line no_flags tokens) _ _ e (λ flags f e1.
+        bound (operand_at limits half line flags.1) _ _ e1 (λ from p e2.
+        bound (to_at line from.1) _ _ e2 (λ to q e3.
+        read_as (IsOpBehind half word tokens) (Convert cast flags.0 from.0 to.0, to.1) x e3
+        (both (word_as word (cast_keyword cast) tokens is) (both (flags_at-is (flags_of_cast cast) line tokens flags f) (both (operand_at-is half line flags.1 from p) (to_at-is line from.1 to q)))))))
 
-  copy_at-is : (line : ℕ) (tokens : List Token) (x : RawOp × List Token) → copy_at limits line tokens ≡ Ok x → Takes (SpellsOp limits Target x.0) tokens x.1
-  unfolding copy_at
-  copy_at-is line tokens x e =
-      bound (operand_at limits Target line tokens) _ _ e (λ a p e1.
-      bound (line_end line a.1) _ _ e1 (λ rest ends e2.
-      read_as (λ (y : RawOp × List Token). Takes (SpellsOp limits Target y.0) tokens y.1) (Copy a.0, rest) x e2
-      (taken_to (operand_at-is Target line tokens a p) (line_end-is line a.1 rest ends))))
+    freeze_at-is : (half : Half) (line : ℕ) (word : List ℕ) (tokens : List Token) (x : RawOp × List Token) → version ≡ Two → word ≡ codes "freeze" → freeze_at limits half line tokens ≡ Ok x → IsOpBehind half word tokens x
+    unfolding freeze_at
+    freeze_at-is half line word tokens x two is e =
+        bound (operand_at limits half line tokens) _ _ e (λ a p e1.
+        bound (line_end line a.1) _ _ e1 (λ rest ends e2.
+        read_as (IsOpBehind half word tokens) (Freeze a.0, rest) x e2
+        (rw two (both (word_as word (codes "freeze") tokens is) (taken_to (operand_at-is half line tokens a p) (line_end-is line a.1 rest ends))))))
 
-  operation_at-is : (half : Half) (line : ℕ) (operation : Operation) (word : List ℕ) (tokens : List Token) (x : RawOp × List Token) → word ≡ operation_word operation → operation_at limits half line operation tokens ≡ Ok x → IsOpBehind half word tokens x
-  operation_at-is half line (operations.Binary op) word tokens x is e = binary_at-is half line op word tokens x is e
-  operation_at-is half line operations.Compare word tokens x is e = compare_at-is half line word tokens x is e
-  operation_at-is half line operations.Select word tokens x is e = select_at-is half line word tokens x is e
-  operation_at-is half line (operations.Convert cast) word tokens x is e = convert_at-is half line cast word tokens x is e
+    copy_at-is : (line : ℕ) (tokens : List Token) (x : RawOp × List Token) → copy_at limits line tokens ≡ Ok x → Takes (SpellsOp limits version Target x.0) tokens x.1
+    unfolding copy_at
+    copy_at-is line tokens x e =
+        bound (operand_at limits Target line tokens) _ _ e (λ a p e1.
+        bound (line_end line a.1) _ _ e1 (λ rest ends e2.
+        read_as (λ (y : RawOp × List Token). Takes (SpellsOp limits version Target y.0) tokens y.1) (Copy a.0, rest) x e2
+        (taken_to (operand_at-is Target line tokens a p) (line_end-is line a.1 rest ends))))
 
-  other_at-is : (half : Half) (line : ℕ) (tokens : List Token) (x : RawOp × List Token) → other_at limits half line tokens ≡ Ok x → Takes (SpellsOp limits half x.0) tokens x.1
-  other_at-is Source line tokens x e = absurd cc
-  other_at-is Target line tokens x e = copy_at-is line tokens x e
+    of_version_two : is_known operations.Freeze version ≡ true → version ≡ Two
+    of_version_two known = second version known
+      where
+        second : (v : Version) → is_known operations.Freeze v ≡ true → v ≡ Two
+        second One known = absurd cc
+        second Two known = refl
 
-  op_word-is : (half : Half) (line : ℕ) (word : List ℕ) (found : Option Operation) (rest : List Token) (x : RawOp × List Token) → operation_in word ≡ found → op_word limits half line word found rest ≡ Ok x → IsOpBehind half word rest x
-  op_word-is half line word (Some operation) rest x f e = operation_at-is half line operation word rest x (operation_in-is limits word operation f) e
-  op_word-is half line word None rest x f e = other_at-is half line (Word word ∷ rest) x e
+    operation_at-is : (half : Half) (line : ℕ) (operation : Operation) (word : List ℕ) (tokens : List Token) (x : RawOp × List Token) → (word ≡ operation_word operation) × (is_known operation version ≡ true) → operation_at limits half line operation tokens ≡ Ok x → IsOpBehind half word tokens x
+    operation_at-is half line (operations.Binary op) word tokens x is e = binary_at-is half line op word tokens x is.0 e
+    operation_at-is half line operations.Compare word tokens x is e = compare_at-is half line word tokens x is.0 e
+    operation_at-is half line operations.Select word tokens x is e = select_at-is half line word tokens x is.0 e
+    operation_at-is half line (operations.Convert cast) word tokens x is e = convert_at-is half line cast word tokens x is.0 e
+    operation_at-is half line operations.Freeze word tokens x is e = freeze_at-is half line word tokens x (of_version_two is.1) is.0 e
 
-  pub op_at-is : (half : Half) (line : ℕ) (tokens : List Token) (x : RawOp × List Token) → op_at limits half line tokens ≡ Ok x → Takes (SpellsOp limits half x.0) tokens x.1
-  unfolding op_at
-  op_at-is half line (Word word ∷ rest) x e = op_word-is half line word (operation_in word) rest x refl e
-  op_at-is half line tokens x e = other_at-is half line tokens x e
+    other_at-is : (half : Half) (line : ℕ) (tokens : List Token) (x : RawOp × List Token) → other_at limits half line tokens ≡ Ok x → Takes (SpellsOp limits version half x.0) tokens x.1
+    other_at-is Source line tokens x e = absurd cc
+    other_at-is Target line tokens x e = copy_at-is line tokens x e
+
+    op_word-is : (half : Half) (line : ℕ) (word : List ℕ) (found : Option Operation) (rest : List Token) (x : RawOp × List Token) → operation_in version word ≡ found → op_word limits half line word found rest ≡ Ok x → IsOpBehind half word rest x
+    op_word-is half line word (Some operation) rest x f e = operation_at-is half line operation word rest x (operation_in-is limits version word operation f) e
+    op_word-is half line word None rest x f e = other_at-is half line (Word word ∷ rest) x e
+
+    pub op_at-is : (half : Half) (line : ℕ) (tokens : List Token) (x : RawOp × List Token) → op_at limits version half line tokens ≡ Ok x → Takes (SpellsOp limits version half x.0) tokens x.1
+    unfolding op_at
+    op_at-is half line (Word word ∷ rest) x e = op_word-is half line word (operation_in version word) rest x refl e
+    op_at-is half line tokens x e = other_at-is half line tokens x e

@@ -13,7 +13,7 @@ use Rattle.scan.specs.RuleTokens.{is_constant}
 use Rattle.rule_parse.specs.declared.half.Half.{Half}
 use Rattle.rule_parse.specs.declared.half.Half.TheVariants.{Source, Target}
 use Rattle.rule_parse.specs.declared.raw.RawOp.{RawOp}
-use Rattle.rule_parse.specs.declared.raw.RawOp.TheVariants.{Binary, Compare, Select, Convert, Copy}
+use Rattle.rule_parse.specs.declared.raw.RawOp.TheVariants.{Binary, Compare, Select, Convert, Freeze, Copy}
 use Rattle.rule_parse.specs.declared.raw.RawOperand.{RawOperand}
 use Rattle.rule_parse.specs.declared.raw.RawArgument.{RawArgument}
 use Rattle.rule_parse.specs.declared.raw.RawArgument.TheVariants as arguments
@@ -21,7 +21,7 @@ use Rattle.rule_parse.specs.declared.word.Operation.TheVariants as operations
 use Rattle.rule_tokens.specs.TypeTokens.{SpellsType}
 use Rattle.rule_parse.specs.Grammar.{SpellsTermOperand, SpellsArgument, SpellsUntyped, SpellsOperand, SpellsPair, SpellsFlags, SpellsTo, SpellsOp}
 use Rattle.rule_tokens.specs.PartReaders.{maybe_type}
-use Rattle.rule_parse.specs.RuleReaders.{source_word, term_argument_at, argument_at, typed_at, operand_at, to_at, next_flag, flags_at, pair_at, binary_at, pred_at, compare_at, select_at, convert_at, copy_at, op_at}
+use Rattle.rule_parse.specs.RuleReaders.{source_word, term_argument_at, argument_at, typed_at, operand_at, to_at, next_flag, flags_at, pair_at, binary_at, pred_at, compare_at, select_at, convert_at, freeze_at, copy_at, op_at}
 use Rattle.rule_tokens.specs.Parts.{Maybe, Comma}
 use Rattle.rule_tokens.specs.Tokens.{Token, Line, Register, Word, Number, Mark}
 use Rattle.rule_parse.specs.Keywords.{truth_word, source_word_in}
@@ -35,6 +35,8 @@ use Rattle.rule_parse.proofs.Beginnings.{BeginsTerm, BeginsOperand, term_begins,
 use Rattle.rule_tokens.proofs.Ends.{EndsLine, name_within-of, type_at-of, line_end-of}
 use Rattle.rule_parse.proofs.Pieces.{operation_in-of, type_is_no_flag, type_is_no_operation}
 use Rattle.rule_tokens.proofs.Types.{type_in-of}
+use Rattle.rule_tokens.specs.declared.version.Version.{Version}
+use Rattle.rule_tokens.specs.declared.version.Version.TheVariants.{One, Two}
 use Rattle.rule_tokens.specs.Limits.{Limits}
 
 module _ (limits : Limits) where
@@ -191,51 +193,62 @@ module _ (limits : Limits) where
   unfolding copy_at
   copy_at-of line a own rest is ends = rw (operand_at-of Target line a own rest is (line_ends_term rest ends), line_end-of line rest ends) refl
 
-  -- an operand begins with no opcode
-  no_opcode : (line : ℕ) (own rest : List Token) → BeginsOperand limits own → op_at limits Target line (own ++ rest) ≡ copy_at limits line (own ++ rest)
-  unfolding op_at
-  no_opcode line (Register name ∷ ts) rest begins = refl
-  no_opcode line (Number text ∷ ts) rest begins = refl
-  no_opcode line (Word word ∷ ts) rest begins = rw begins.no_operation refl
-  no_opcode line (Mark mark ∷ ts) rest begins = refl
-  no_opcode line tokens rest begins = absurd begins
+  module _ (version : Version) where
+    -- an operand begins with no opcode
+    no_opcode : (line : ℕ) (own rest : List Token) → BeginsOperand limits own → op_at limits version Target line (own ++ rest) ≡ copy_at limits line (own ++ rest)
+    unfolding op_at
+    no_opcode line (Register name ∷ ts) rest begins = refl
+    no_opcode line (Number text ∷ ts) rest begins = refl
+    no_opcode line (Word word ∷ ts) rest begins = rw (begins.no_operation version) refl
+    no_opcode line (Mark mark ∷ ts) rest begins = refl
+    no_opcode line tokens rest begins = absurd begins
 
-  copy_begins : (line : ℕ) (written : Option ℕ) (front back rest : List Token) → Maybe SpellsType written front → BeginsOperand limits back → op_at limits Target line (front ++ (back ++ rest)) ≡ copy_at limits line (front ++ (back ++ rest))
-  unfolding op_at
-  copy_begins line None front back rest is begins = rw is (no_opcode line back rest begins)
-  copy_begins line (Some width) front back rest (written, type, is) begins = rw (is, type_is_no_operation limits written width type) refl
+    copy_begins : (line : ℕ) (written : Option ℕ) (front back rest : List Token) → Maybe SpellsType written front → BeginsOperand limits back → op_at limits version Target line (front ++ (back ++ rest)) ≡ copy_at limits line (front ++ (back ++ rest))
+    unfolding op_at
+    copy_begins line None front back rest is begins = rw is (no_opcode line back rest begins)
+    copy_begins line (Some width) front back rest (written, type, is) begins = rw (is, type_is_no_operation limits version written width type) refl
 
-  pub op_at-of : (half : Half) (line : ℕ) (op : RawOp) (own rest : List Token) → SpellsOp limits half op own → EndsLine rest → op_at limits half line (own ++ rest) ≡ Ok (op, rest)
-  unfolding op_at binary_at compare_at select_at convert_at
-  op_at-of half line (Binary op flags a b) own rest (t1, o1, word, (t2, o2, fs, pair, is2), is1) ends =
-      rw (is1, word, operation_in-of limits (operations.Binary op), is2, append_assoc t2 o2 rest, flags_at-of (flags_of op) line flags t2 (o2 ++ rest) fs (pair_begins (flags_of op) half a b o2 rest pair), pair_at-of half line a b o2 rest pair ends) refl
-  op_at-of half line (Compare pred samesign a b) own rest (t1, o1, word, (t2, o2, fs, (t3, o3, pred_is, pair, is3), is2), is1) ends =
-      rw (is1, word, operation_in-of limits operations.Compare, is2, append_assoc t2 o2 rest, flags_at-of flags_of_icmp line (icmp_flags samesign) t2 (o2 ++ rest) fs (predicate_begins flags_of_icmp pred t3 o3 o2 rest pred_is is3), is3, pred_is, pred_at-of line pred (o3 ++ rest), pair_at-of half line a b o3 rest pair ends) refl
-  op_at-of half line (Select condition a b) own rest (t1, o1, word, (t2, o2, choice, (t3, o3, comma, (t4, o4, left, (t5, o5, comma2, right, is5), is4), is3), is2), is1) ends =
-      let behind : EndsTerm (o2 ++ rest) = rw (is3, append_assoc t3 o3 rest) (comma_ends_term t3 (o3 ++ rest) comma) in
-      let behind2 : EndsTerm (o4 ++ rest) = rw (is5, append_assoc t5 o5 rest) (comma_ends_term t5 (o5 ++ rest) comma2) in
-      rw (
-        is1,
-        word,
-        operation_in-of limits operations.Select,
-        is2,
-        append_assoc t2 o2 rest,
-        operand_at-of half line condition t2 (o2 ++ rest) choice behind,
-        is3,
-        append_assoc t3 o3 rest,
-        comma_at-of line t3 (o3 ++ rest) comma,
-        is4,
-        append_assoc t4 o4 rest,
-        operand_at-of half line a t4 (o4 ++ rest) left behind2,
-        is5,
-        append_assoc t5 o5 rest,
-        comma_at-of line t5 (o5 ++ rest) comma2,
-        operand_at-of half line b o5 rest right (line_ends_term rest ends),
-        line_end-of line rest ends,
-      ) refl
-  op_at-of half line (Convert cast flags a to) own rest (t1, o1, word, (t2, o2, fs, (t3, o3, operand, behind, is3), is2), is1) ends =
-      rw (is1, word, operation_in-of limits (operations.Convert cast), is2, append_assoc t2 o2 rest, flags_at-of (flags_of_cast cast) line flags t2 (o2 ++ rest) fs (operand_begins (flags_of_cast cast) half a t3 o3 o2 rest operand is3), is3, append_assoc t3 o3 rest, operand_at-of half line a t3 (o3 ++ rest) operand (to_ends_term to o3 rest behind ends), to_at-of line to o3 rest behind ends) refl
-  op_at-of Source line (Copy a) own rest is ends = absurd is
-  op_at-of Target line (Copy a) own rest (front, back, type, argument, is) ends =
-      rw (is, append_assoc front back rest) (copy_begins line a.written front back rest type (argument_begins limits Target a.value back argument))
-      ∙ copy_at-of line a own rest (front, back, type, argument, is) ends
+    freeze_begins : (half : Half) (line : ℕ) (a : RawOperand) (own rest : List Token) → SpellsOp limits version half (Freeze a) own → EndsLine rest → op_at limits version half line (own ++ rest) ≡ Ok (Freeze a, rest)
+    unfolding op_at freeze_at
+    freeze_begins half line a own rest is ends = second version is
+      where
+        second : (v : Version) → SpellsOp limits v half (Freeze a) own → op_at limits v half line (own ++ rest) ≡ Ok (Freeze a, rest)
+        second One is = absurd is
+        second Two (t1, o1, word, operand, is1) =
+            rw (is1, word, operation_in-of limits Two operations.Freeze refl, operand_at-of half line a o1 rest operand (line_ends_term rest ends), line_end-of line rest ends) refl
+
+    pub op_at-of : (half : Half) (line : ℕ) (op : RawOp) (own rest : List Token) → SpellsOp limits version half op own → EndsLine rest → op_at limits version half line (own ++ rest) ≡ Ok (op, rest)
+    unfolding op_at binary_at compare_at select_at convert_at freeze_at
+    op_at-of half line (Binary op flags a b) own rest (t1, o1, word, (t2, o2, fs, pair, is2), is1) ends =
+        rw (is1, word, operation_in-of limits version (operations.Binary op) refl, is2, append_assoc t2 o2 rest, flags_at-of (flags_of op) line flags t2 (o2 ++ rest) fs (pair_begins (flags_of op) half a b o2 rest pair), pair_at-of half line a b o2 rest pair ends) refl
+    op_at-of half line (Compare pred samesign a b) own rest (t1, o1, word, (t2, o2, fs, (t3, o3, pred_is, pair, is3), is2), is1) ends =
+        rw (is1, word, operation_in-of limits version operations.Compare refl, is2, append_assoc t2 o2 rest, flags_at-of flags_of_icmp line (icmp_flags samesign) t2 (o2 ++ rest) fs (predicate_begins flags_of_icmp pred t3 o3 o2 rest pred_is is3), is3, pred_is, pred_at-of line pred (o3 ++ rest), pair_at-of half line a b o3 rest pair ends) refl
+    op_at-of half line (Select condition a b) own rest (t1, o1, word, (t2, o2, choice, (t3, o3, comma, (t4, o4, left, (t5, o5, comma2, right, is5), is4), is3), is2), is1) ends =
+        let behind : EndsTerm (o2 ++ rest) = rw (is3, append_assoc t3 o3 rest) (comma_ends_term t3 (o3 ++ rest) comma) in
+        let behind2 : EndsTerm (o4 ++ rest) = rw (is5, append_assoc t5 o5 rest) (comma_ends_term t5 (o5 ++ rest) comma2) in
+        rw (
+          is1,
+          word,
+          operation_in-of limits version operations.Select refl,
+          is2,
+          append_assoc t2 o2 rest,
+          operand_at-of half line condition t2 (o2 ++ rest) choice behind,
+          is3,
+          append_assoc t3 o3 rest,
+          comma_at-of line t3 (o3 ++ rest) comma,
+          is4,
+          append_assoc t4 o4 rest,
+          operand_at-of half line a t4 (o4 ++ rest) left behind2,
+          is5,
+          append_assoc t5 o5 rest,
+          comma_at-of line t5 (o5 ++ rest) comma2,
+          operand_at-of half line b o5 rest right (line_ends_term rest ends),
+          line_end-of line rest ends,
+        ) refl
+    op_at-of half line (Convert cast flags a to) own rest (t1, o1, word, (t2, o2, fs, (t3, o3, operand, behind, is3), is2), is1) ends =
+        rw (is1, word, operation_in-of limits version (operations.Convert cast) refl, is2, append_assoc t2 o2 rest, flags_at-of (flags_of_cast cast) line flags t2 (o2 ++ rest) fs (operand_begins (flags_of_cast cast) half a t3 o3 o2 rest operand is3), is3, append_assoc t3 o3 rest, operand_at-of half line a t3 (o3 ++ rest) operand (to_ends_term to o3 rest behind ends), to_at-of line to o3 rest behind ends) refl
+    op_at-of half line (Freeze a) own rest is ends = freeze_begins half line a own rest is ends
+    op_at-of Source line (Copy a) own rest is ends = absurd is
+    op_at-of Target line (Copy a) own rest (front, back, type, argument, is) ends =
+        rw (is, append_assoc front back rest) (copy_begins line a.written front back rest type (argument_begins limits Target a.value back argument))
+        ∙ copy_at-of line a own rest (front, back, type, argument, is) ends

@@ -24,20 +24,21 @@ use Rattle.rule_parse.proofs.Expressions.{expressions_at-is}
 use Rattle.rule_parse.proofs.OpReadings.{op_at-is}
 use Rattle.rule_terms.proofs.FormulaReadings.{formula_at-is}
 use Rattle.rule_tokens.proofs.Steps.{done, bind_ok, bound, read_as, chosen}
+use Rattle.rule_tokens.specs.declared.version.Version.{Version}
 use Rattle.rule_tokens.specs.Limits.{Limits}
 
-module _ (limits : Limits) where
+module _ (limits : Limits) (version : Version) where
   -- ---- statements
 
-  pub statement_at-is : (half : Half) (line : ℕ) (register : List ℕ) (tokens : List Token) (x : RawStatement × List Token) → statement_at limits half line register tokens ≡ Ok x → Takes (SpellsStatement limits half x.0) (Line line ∷ Register register ∷ tokens) x.1
+  pub statement_at-is : (half : Half) (line : ℕ) (register : List ℕ) (tokens : List Token) (x : RawStatement × List Token) → statement_at limits version half line register tokens ≡ Ok x → Takes (SpellsStatement limits version half x.0) (Line line ∷ Register register ∷ tokens) x.1
   unfolding statement_at
   statement_at-is half line register tokens x e =
       bound (name_within limits line register) _ _ e (λ held n e1.
       bound (mark_at (codes "=") line tokens) _ _ e1 (λ behind q e2.
-      bound (op_at limits half line behind) _ _ e2 (λ computed o e3.
+      bound (op_at limits version half line behind) _ _ e2 (λ computed o e3.
       let name = name_within-is limits line register held n in
-      let op = op_at-is limits half line behind computed o in
-      read_as (λ (y : RawStatement × List Token). Takes (SpellsStatement limits half y.0) (Line line ∷ Register register ∷ tokens) y.1) (record { line = line; name = held; op = computed.0 }, computed.1) x e3
+      let op = op_at-is limits version half line behind computed o in
+      read_as (λ (y : RawStatement × List Token). Takes (SpellsStatement limits version half y.0) (Line line ∷ Register register ∷ tokens) y.1) (record { line = line; name = held; op = computed.0 }, computed.1) x e3
       (record {
         own = Line line ∷ Register held ∷ Mark (codes "=") ∷ op.own;
         is_own = record { name = name.0; op = op.own; is_op = op.is_own; spelled = refl };
@@ -46,7 +47,7 @@ module _ (limits : Limits) where
 
   -- so many statements at most, and one at least where one begins
   pub record TakesStatements (room : ℕ) (half : Half) (statements : List RawStatement) (tokens rest : List Token) : Type 0 where
-    pub taken : Takes (SpellsStatements limits half statements) tokens rest
+    pub taken : Takes (SpellsStatements limits version half statements) tokens rest
     pub most : length statements ≤ room
 
   no_statements : (room : ℕ) (half : Half) (tokens : List Token) → TakesStatements room half [] tokens tokens
@@ -55,7 +56,7 @@ module _ (limits : Limits) where
   none_taken : (room : ℕ) (half : Half) (tokens : List Token) (x : List RawStatement × List Token) → done ([], tokens) ≡ Ok x → TakesStatements room half x.0 tokens x.1
   none_taken room half tokens x e = read_as (λ (y : List RawStatement × List Token). TakesStatements room half y.0 tokens y.1) ([], tokens) x e (no_statements room half tokens)
 
-  one_taken : (room : ℕ) (half : Half) (line : ℕ) (name : List ℕ) (rest : List Token) (x : List RawStatement × List Token) (first : RawStatement × List Token) (others : List RawStatement × List Token) → statement_at limits half line name rest ≡ Ok first → TakesStatements room half others.0 first.1 others.1 → done (first.0 ∷ others.0, others.1) ≡ Ok x
+  one_taken : (room : ℕ) (half : Half) (line : ℕ) (name : List ℕ) (rest : List Token) (x : List RawStatement × List Token) (first : RawStatement × List Token) (others : List RawStatement × List Token) → statement_at limits version half line name rest ≡ Ok first → TakesStatements room half others.0 first.1 others.1 → done (first.0 ∷ others.0, others.1) ≡ Ok x
       → TakesStatements (suc room) half x.0 (Line line ∷ Register name ∷ rest) x.1
   one_taken room half line name rest x first others one more e =
       let s = statement_at-is half line name rest first one in
@@ -69,26 +70,26 @@ module _ (limits : Limits) where
         most = omega (arith, more.most);
       })
 
-  pub statements_at-is : (room : ℕ) (half : Half) (tokens : List Token) (x : List RawStatement × List Token) → statements_at limits room half tokens ≡ Ok x → TakesStatements room half x.0 tokens x.1
+  pub statements_at-is : (room : ℕ) (half : Half) (tokens : List Token) (x : List RawStatement × List Token) → statements_at limits version room half tokens ≡ Ok x → TakesStatements room half x.0 tokens x.1
   unfolding statements_at
   statements_at-is zero half (Line line ∷ Register name ∷ rest) x e = absurd cc
   statements_at-is (suc room) half (Line line ∷ Register name ∷ rest) x e =
-      let a = bind_ok (statement_at limits half line name rest) _ _ e in
-      let b = bind_ok (statements_at limits room half a.0.1) _ _ a.2 in
+      let a = bind_ok (statement_at limits version half line name rest) _ _ e in
+      let b = bind_ok (statements_at limits version room half a.0.1) _ _ a.2 in
       one_taken room half line name rest x a.0 b.0 a.1 (statements_at-is room half a.0.1 b.0 b.1) b.2
   statements_at-is zero half tokens x e = none_taken zero half tokens x e
   statements_at-is (suc room) half tokens x e = none_taken (suc room) half tokens x e
 
   -- where a statement begins, one is read
-  some_read : (room : ℕ) (half : Half) (line : ℕ) (name : List ℕ) (rest : List Token) (x : List RawStatement × List Token) → statements_at limits room half (Line line ∷ Register name ∷ rest) ≡ Ok x → 1 ≤ length x.0
+  some_read : (room : ℕ) (half : Half) (line : ℕ) (name : List ℕ) (rest : List Token) (x : List RawStatement × List Token) → statements_at limits version room half (Line line ∷ Register name ∷ rest) ≡ Ok x → 1 ≤ length x.0
   unfolding statements_at
   some_read zero half line name rest x e = absurd cc
   some_read (suc room) half line name rest x e =
-      let a = bind_ok (statement_at limits half line name rest) _ _ e in
-      let b = bind_ok (statements_at limits room half a.0.1) _ _ a.2 in
+      let a = bind_ok (statement_at limits version half line name rest) _ _ e in
+      let b = bind_ok (statements_at limits version room half a.0.1) _ _ a.2 in
       read_as (λ (y : List RawStatement × List Token). 1 ≤ length y.0) (a.0.0 ∷ b.0.0, b.0.1) x b.2 (omega arith)
 
-  half_read : (half : Half) (line : ℕ) (name : List ℕ) (rest : List Token) (x : List RawStatement × List Token) → statements_at limits limits.statements half (Line line ∷ Register name ∷ rest) ≡ Ok x → Takes (SpellsHalf limits half x.0) (Line line ∷ Register name ∷ rest) x.1
+  half_read : (half : Half) (line : ℕ) (name : List ℕ) (rest : List Token) (x : List RawStatement × List Token) → statements_at limits version limits.statements half (Line line ∷ Register name ∷ rest) ≡ Ok x → Takes (SpellsHalf limits version half x.0) (Line line ∷ Register name ∷ rest) x.1
   half_read half line name rest x e =
       let s = statements_at-is limits.statements half (Line line ∷ Register name ∷ rest) x e in
       record {
@@ -99,12 +100,12 @@ module _ (limits : Limits) where
 
   -- ---- the parts of a rule
 
-  pub source_at-is : (last : ℕ) (tokens : List Token) (x : List RawStatement × List Token) → source_at limits last tokens ≡ Ok x → Takes (SpellsHalf limits Source x.0) tokens x.1
+  pub source_at-is : (last : ℕ) (tokens : List Token) (x : List RawStatement × List Token) → source_at limits version last tokens ≡ Ok x → Takes (SpellsHalf limits version Source x.0) tokens x.1
   unfolding source_at
   source_at-is last (Line line ∷ Register name ∷ rest) x e = half_read Source line name rest x e
   source_at-is last tokens x e = absurd cc
 
-  pub target_at-is : (last : ℕ) (tokens : List Token) (x : List RawStatement × List Token) → target_at limits last tokens ≡ Ok x → Takes (SpellsHalf limits Target x.0) tokens x.1
+  pub target_at-is : (last : ℕ) (tokens : List Token) (x : List RawStatement × List Token) → target_at limits version last tokens ≡ Ok x → Takes (SpellsHalf limits version Target x.0) tokens x.1
   unfolding target_at
   target_at-is last (Line line ∷ Register name ∷ rest) x e = half_read Target line name rest x e
   target_at-is last tokens x e = absurd cc
@@ -183,15 +184,15 @@ module _ (limits : Limits) where
       (chosen (bytes_eq head (codes "Wit:")) (behind_witness limits line rest) (done (None, Line line ∷ Head head ∷ rest)) (Ok x) e)
   witness_at-is tokens x e = no_witness tokens x e
 
-  pub rule_at-is : (last : ℕ) (tokens : List Token) (x : RawRule × List Token) → rule_at limits last tokens ≡ Ok x → Takes (SpellsRule limits x.0) tokens x.1
+  pub rule_at-is : (last : ℕ) (tokens : List Token) (x : RawRule × List Token) → rule_at limits version last tokens ≡ Ok x → Takes (SpellsRule limits version x.0) tokens x.1
   unfolding rule_at
   rule_at-is last tokens x e =
       bound (name_at limits last tokens) _ _ e (λ named n e1.
       bound (precondition_at limits named.1) _ _ e1 (λ pre p e2.
       bound (witness_at limits pre.1) _ _ e2 (λ wit q e3.
-      bound (source_at limits last wit.1) _ _ e3 (λ from s e4.
+      bound (source_at limits version last wit.1) _ _ e3 (λ from s e4.
       bound (arrow_at last from.1) _ _ e4 (λ behind w e5.
-      bound (target_at limits last behind) _ _ e5 (λ to t e6.
+      bound (target_at limits version last behind) _ _ e5 (λ to t e6.
       let name = name_at-is last tokens named n in
       let precondition = precondition_at-is named.1 pre p in
       let witness = witness_at-is pre.1 wit q in
@@ -204,7 +205,7 @@ module _ (limits : Limits) where
       source.whole ∙ ap (λ (ts : List Token). source.own ++ ts) (arrow.1 ∙ ap back target.whole) ∙ sym (append_assoc source.own (back target.own) to.1) in
       let behind_pre : pre.1 ≡ (witness.own ++ (source.own ++ back target.own)) ++ to.1 =
       witness.whole ∙ ap (λ (ts : List Token). witness.own ++ ts) halves ∙ sym (append_assoc witness.own (source.own ++ back target.own) to.1) in
-      read_as (λ (y : RawRule × List Token). Takes (SpellsRule limits y.0) tokens y.1) (record { line = named.0.0; name = named.0.1; precondition = pre.0; witness = wit.0; source = from.0; target = to.0 }, to.1) x e6
+      read_as (λ (y : RawRule × List Token). Takes (SpellsRule limits version y.0) tokens y.1) (record { line = named.0.0; name = named.0.1; precondition = pre.0; witness = wit.0; source = from.0; target = to.0 }, to.1) x e6
       (record {
         own = front (precondition.own ++ (witness.own ++ (source.own ++ back target.own)));
         is_own = record {
@@ -225,18 +226,18 @@ module _ (limits : Limits) where
 
   -- ---- rules
 
-  pub rule_at-shorter : (last : ℕ) (tokens : List Token) (x : RawRule × List Token) → rule_at limits last tokens ≡ Ok x → length x.1 < length tokens
+  pub rule_at-shorter : (last : ℕ) (tokens : List Token) (x : RawRule × List Token) → rule_at limits version last tokens ≡ Ok x → length x.1 < length tokens
   rule_at-shorter last tokens x e =
       let t = rule_at-is last tokens x e in
       omega (arith, ap length t.whole, length-append t.own x.1, ap length t.is_own.spelled)
 
-  pub rules_at-is : (n last : ℕ) (tokens : List Token) (raws : List RawRule) → rules_at limits n last tokens ≡ Ok raws → SpellsRules limits raws tokens
+  pub rules_at-is : (n last : ℕ) (tokens : List Token) (raws : List RawRule) → rules_at limits version n last tokens ≡ Ok raws → SpellsRules limits version raws tokens
   unfolding rules_at
-  rules_at-is n last [] raws e = read_as (λ (rs : List RawRule). SpellsRules limits rs []) [] raws e refl
+  rules_at-is n last [] raws e = read_as (λ (rs : List RawRule). SpellsRules limits version rs []) [] raws e refl
   rules_at-is zero last (token ∷ tokens) raws e = absurd cc
   rules_at-is (suc n) last (token ∷ tokens) raws e =
-      let a = bind_ok (rule_at limits last (token ∷ tokens)) _ _ e in
-      let b = bind_ok (rules_at limits n last a.0.1) _ _ a.2 in
+      let a = bind_ok (rule_at limits version last (token ∷ tokens)) _ _ e in
+      let b = bind_ok (rules_at limits version n last a.0.1) _ _ a.2 in
       let one = rule_at-is last (token ∷ tokens) a.0 a.1 in
-      read_as (λ (rs : List RawRule). SpellsRules limits rs (token ∷ tokens)) (a.0.0 ∷ b.0) raws b.2
+      read_as (λ (rs : List RawRule). SpellsRules limits version rs (token ∷ tokens)) (a.0.0 ∷ b.0) raws b.2
       (one.own, a.0.1, one.is_own, rules_at-is n last a.0.1 b.0 b.1, one.whole)

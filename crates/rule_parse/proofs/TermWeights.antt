@@ -103,7 +103,7 @@ module _ (limits : Limits) where
   leaf_weighs place (nodes.Literal z) tokens (text, value, is) = rw is (number text)
   leaf_weighs place (nodes.Constant name) tokens (c, le, is) = rw is (node_word name (constant_counts name c))
   leaf_weighs place (nodes.Register name) tokens (w, le, is) = rw is (register name)
-  leaf_weighs place (nodes.Undef k) tokens (text, w, choice, le, is) = rw is (node_word text (choice_counts text k choice))
+  leaf_weighs place (nodes.Choice k) tokens (text, w, choice, le, is) = rw is (node_word text (choice_counts text k choice))
   leaf_weighs place node tokens never = absurd never
 
   register_enclosed : (name : List ℕ) → Weighs 1 (Mark (codes "(") ∷ Register name ∷ Mark (codes ")") ∷ [])

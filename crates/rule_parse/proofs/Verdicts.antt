@@ -1,13 +1,12 @@
 -- A text has one list of rules or one fault.
 use Rattle.std.proofs.Common.{◌≡◌, ℕ, List, Result, Ok, Err, length, refl, sym, ap, subst, ◌∙◌, ◌⊎◌, inl, inr, arith}
 use Rattle.std.specs.Prelude.{IfOk, IfErr}
-use Rattle.std.proofs.Math.Nat.{le_refl}
 use Rattle.scan.specs.Laws.{OneTokenAtAPlace}
 use Rattle.rule_tokens.specs.RuleFaults.{RuleFault, RuleError}
 use Rattle.refusal.specs.declared.refusal.Refusal.TheVariants.{Refused, NoMemory}
 use Rattle.rule_parse.specs.declared.raw.RawRule.{RawRule}
 use Rattle.refusal.specs.Refusals.{Gives}
-use Rattle.rule_parse.specs.Grammar.{SpellsRules}
+use Rattle.rule_parse.specs.Grammar.{SpellsFile}
 use Rattle.rule_parse.specs.OneReading.{TextsHaveOneReadingOrFault}
 use Rattle.rule_parse.specs.CutTokens.{limited}
 use Rattle.rule_parse.specs.RuleReaders.{all_rules}
@@ -15,8 +14,7 @@ use Rattle.refusal.specs.Refusals.{IfRefused}
 use Rattle.rule_parse.specs.Text.{IsWritten, IsTextFault}
 use Rattle.rule_tokens.specs.Tokens.{Token, AreTokens}
 use Rattle.rule_tokens.proofs.Readers.{one_reading, has_tokens}
-use Rattle.rule_parse.proofs.Readings.{rules_at-is}
-use Rattle.rule_parse.proofs.Spellings.{rules_at-of}
+use Rattle.rule_parse.proofs.Files.{all_rules-is, all_rules-of}
 use Rattle.rule_parse.proofs.Weight.{spelled_whole}
 use Rattle.rule_tokens.proofs.Steps.{ok_is}
 use Rattle.rule_tokens.specs.Limits.{rule_limits}
@@ -31,14 +29,14 @@ one_read one text r s (tokens, last, are, is) (tokens', last', are', is') =
     sym is ∙ ap (λ (ts : List Token). all_rules rule_limits last (limited ts)) same.0 ∙ ap (λ (l : ℕ). all_rules rule_limits l (limited tokens')) same.1 ∙ is'
 
 written_read : (text : List ℕ) (raws : List RawRule) → IsWritten text raws → IsRead text (Ok raws)
-written_read text raws w = (w.tokens, w.last, w.are_tokens, ap (λ (ts : List Token). all_rules rule_limits w.last ts) w.few ∙ rules_at-of rule_limits (length w.tokens) w.last raws w.tokens w.spelled (le_refl _))
+written_read text raws w = (w.tokens, w.last, w.are_tokens, ap (λ (ts : List Token). all_rules rule_limits w.last ts) w.few ∙ all_rules-of rule_limits w.last raws w.tokens w.spelled)
 
 -- what is read of limited tokens is written by the whole ones
 read_written : (text : List ℕ) (tokens : List Token) (last : ℕ) (raws : List RawRule) → AreTokens text tokens last → all_rules rule_limits last (limited tokens) ≡ Ok raws → IsWritten text raws
 read_written text tokens last raws are e =
-    let spelled : SpellsRules rule_limits raws (limited tokens) = rules_at-is rule_limits (length (limited tokens)) last (limited tokens) raws e in
+    let spelled : SpellsFile rule_limits raws (limited tokens) = all_rules-is rule_limits last (limited tokens) raws e in
     let few = spelled_whole raws tokens spelled in
-    record { tokens = tokens; last = last; are_tokens = are; few = few; spelled = subst (λ (ts : List Token). SpellsRules rule_limits raws ts) few spelled }
+    record { tokens = tokens; last = last; are_tokens = are; few = few; spelled = subst (λ (ts : List Token). SpellsFile rule_limits raws ts) few spelled }
 
 fault_read : (text : List ℕ) (fault : RuleFault) → IsTextFault text fault → IsRead text (Err fault)
 fault_read text fault f = (f.tokens, f.last, f.are_tokens, f.found)

@@ -1,5 +1,5 @@
 -- The tokens of a rule are at least as many as its operands, literals, names, operators and functions.
-use Rattle.std.proofs.Common.{◌≡◌, ℕ, zero, suc, ◌+◌, ◌≤◌, Bool, true, false, List, [], ◌∷◌, ◌++◌, map, Option, Some, None, refl, sym, ap, subst, ◌∙◌, arith}
+use Rattle.std.proofs.Common.{◌≡◌, ℕ, zero, suc, inl, inr, ◌+◌, ◌≤◌, Bool, true, false, List, [], ◌∷◌, ◌++◌, map, Option, Some, None, refl, sym, ap, subst, ◌∙◌, arith}
 use Rattle.std.specs.Prelude.{codes, sum_by, flat_map, slice_get}
 use Rattle.std.specs.Option.{option_map_or}
 use Rattle.std.proofs.lemmas.List.Sums.{sum_by-cons, sum_by-append}
@@ -11,7 +11,7 @@ use Rattle.scan.specs.Bytes.{is_digit}
 use Rattle.scan.specs.RuleTokens.{is_constant, is_choice, ends_primary}
 use Rattle.rule_tokens.specs.Parts.{Maybe}
 use Rattle.rule_tokens.specs.TypeTokens.{SpellsType}
-use Rattle.rule_tokens.specs.Tokens.{Token, Line, Head, Name, Word, Arrow, Mark}
+use Rattle.rule_tokens.specs.Tokens.{Token, Line, Head, Name, Word, Number, Arrow, Mark}
 use Rattle.rule_terms.specs.declared.raw.RawNode.{RawNode}
 use Rattle.rule_terms.specs.declared.raw.RawNode.TheVariants as nodes
 use Rattle.rule_parse.specs.declared.half.Half.{Half}
@@ -21,11 +21,11 @@ use Rattle.rule_parse.specs.declared.raw.RawStatement.{RawStatement}
 use Rattle.rule_parse.specs.declared.raw.RawPrecondition.{RawPrecondition}
 use Rattle.rule_parse.specs.declared.raw.RawWitness.{RawWitness}
 use Rattle.rule_parse.specs.declared.raw.RawOp.{RawOp}
-use Rattle.rule_parse.specs.declared.raw.RawOp.TheVariants.{Binary, Compare, Select, Convert, Copy}
+use Rattle.rule_parse.specs.declared.raw.RawOp.TheVariants.{Binary, Compare, Select, Convert, Freeze, Copy}
 use Rattle.rule_parse.specs.declared.raw.RawOperand.{RawOperand}
 use Rattle.rule_parse.specs.declared.raw.RawArgument.{RawArgument}
 use Rattle.rule_parse.specs.declared.raw.RawArgument.TheVariants as arguments
-use Rattle.rule_parse.specs.Grammar.{SpellsTermOperand, SpellsArgument, SpellsOperand, SpellsPair, SpellsTo, SpellsOp, SpellsStatements, SpellsPrecondition, SpellsMoreExpressions, SpellsExpressions, SpellsWitness, SpellsRule, SpellsRules}
+use Rattle.rule_parse.specs.Grammar.{SpellsTermOperand, SpellsArgument, SpellsOperand, SpellsPair, SpellsTo, SpellsOp, SpellsStatements, SpellsPrecondition, SpellsMoreExpressions, SpellsExpressions, SpellsWitness, SpellsRule, SpellsRules, SpellsFile}
 use Rattle.rule_parse.specs.Contents.{arguments_of, arguments_among, terms_of_argument, terms_of_formula, target_terms, terms_of, expressions_of, formula_of}
 use Rattle.rule_parse.specs.OneReading.{WrittenRulesAreSmall}
 use Rattle.rule_parse.specs.CutTokens.{is_node_word, ends_before_line, room_behind, or_excess, limited_to, limited}
@@ -34,6 +34,8 @@ use Rattle.rule_parse.specs.Weight.{argument_weight, node_weight, raw_weight}
 use Rattle.rule_parse.specs.Keywords.{truth_word, argument_of}
 use Rattle.rule_parse.proofs.Cuts.{step, AreOfText, of_both, first_of, begins_of, Weighs, nothing, join, light, at_least, word, mark, number, register, node_word, assigned, behind_one, precondition_led, witness_led, arrow_led}
 use Rattle.rule_parse.proofs.TermWeights.{constant_counts, nodes_weight, nodes_weight-is, term_weighs, formulas_weight, formulas_weight-is, formula_weighs}
+use Rattle.rule_tokens.specs.declared.version.Version.{Version}
+use Rattle.rule_tokens.specs.declared.version.Version.TheVariants.{One, Two}
 use Rattle.rule_tokens.specs.Limits.{Limits, rule_limits}
 
 module _ (limits : Limits) where
@@ -111,14 +113,14 @@ module _ (limits : Limits) where
   arguments_weight [] = 0
   arguments_weight (a ∷ more) = one_weight a + arguments_weight more
 
-  op_weighs : (half : Half) (op : RawOp) (own : List Token) → SpellsOp limits half op own → Weighs (arguments_weight (arguments_of op)) own
-  op_weighs half (Binary op flags a b) own (f, k, is, (g, h, (written, adds, spelled), pair, at), whole) =
+  op_weighs : (version : Version) (half : Half) (op : RawOp) (own : List Token) → SpellsOp limits version half op own → Weighs (arguments_weight (arguments_of op)) own
+  op_weighs version half (Binary op flags a b) own (f, k, is, (g, h, (written, adds, spelled), pair, at), whole) =
       at_least _ (one_weight a.value + one_weight b.value) own (omega arith)
       (behind_word _ (opcode_keyword op) own f k is (behind_flags _ written k g h spelled (pair_weighs half a b h pair) at) whole)
-  op_weighs half (Compare pred samesign a b) own (f, k, is, (g, h, (written, adds, spelled), (m, n, is_pred, pair, at'), at), whole) =
+  op_weighs version half (Compare pred samesign a b) own (f, k, is, (g, h, (written, adds, spelled), (m, n, is_pred, pair, at'), at), whole) =
       at_least _ (one_weight a.value + one_weight b.value) own (omega arith)
       (behind_word _ (codes "icmp") own f k is (behind_flags _ written k g h spelled (behind_word _ (predicate_keyword pred) h m n is_pred (pair_weighs half a b n pair) at') at) whole)
-  op_weighs half (Select c a b) own (f, k, is, (x, k1, is_c, (m1, k2, comma1, (y, k3, is_a, (m2, z, comma2, is_b, w4), w3), w2), w1), whole) =
+  op_weighs version half (Select c a b) own (f, k, is, (x, k1, is_c, (m1, k2, comma1, (y, k3, is_a, (m2, z, comma2, is_b, w4), w3), w2), w1), whole) =
       at_least _ (one_weight c.value + (one_weight a.value + one_weight b.value)) own (omega arith)
       (behind_word _ (codes "select") own f k is
       (behind_comma (one_weight c.value) (one_weight a.value + one_weight b.value) k x k2 (operand_weighs half c x is_c)
@@ -126,11 +128,13 @@ module _ (limits : Limits) where
       (w3 ∙ ap (λ (ts : List Token). y ++ ts) (w4 ∙ ap (λ (ts : List Token). ts ++ z) comma2)))
       (w1 ∙ ap (λ (ts : List Token). x ++ ts) (w2 ∙ ap (λ (ts : List Token). ts ++ k2) comma1)))
       whole)
-  op_weighs half (Convert cast flags a to) own (f, k, is, (g, h, (written, adds, spelled), (x, y, is_a, is_to, at'), at), whole) =
+  op_weighs version half (Convert cast flags a to) own (f, k, is, (g, h, (written, adds, spelled), (x, y, is_a, is_to, at'), at), whole) =
       at_least _ (one_weight a.value + 0) own (omega arith)
       (behind_word _ (cast_keyword cast) own f k is (behind_flags _ written k g h spelled (rw at' (join (one_weight a.value) 0 x y (operand_weighs half a x is_a) (to_weighs to y is_to))) at) whole)
-  op_weighs Source (Copy a) own is = absurd is
-  op_weighs Target (Copy a) own is = at_least _ (one_weight a.value) own (omega arith) (operand_weighs Target a own is)
+  op_weighs One half (Freeze a) own is = absurd is
+  op_weighs Two half (Freeze a) own (f, k, is, operand, whole) = at_least _ (one_weight a.value) own (omega arith) (behind_word _ (codes "freeze") own f k is (operand_weighs half a k operand) whole)
+  op_weighs version Source (Copy a) own is = absurd is
+  op_weighs version Target (Copy a) own is = at_least _ (one_weight a.value) own (omega arith) (operand_weighs Target a own is)
 
   -- ---- statements
 
@@ -138,13 +142,13 @@ module _ (limits : Limits) where
   arguments_append [] ys = omega arith
   arguments_append (x ∷ xs) ys = omega (arith, arguments_append xs ys)
 
-  statements_weigh : (half : Half) (statements : List RawStatement) (own : List Token) → SpellsStatements limits half statements own → Weighs (arguments_weight (arguments_among statements)) own
-  statements_weigh half [] own is = rw is nothing
-  statements_weigh half (s ∷ statements) own (front, back, one, more, whole) =
+  statements_weigh : (version : Version) (half : Half) (statements : List RawStatement) (own : List Token) → SpellsStatements limits version half statements own → Weighs (arguments_weight (arguments_among statements)) own
+  statements_weigh version half [] own is = rw is nothing
+  statements_weigh version half (s ∷ statements) own (front, back, one, more, whole) =
       let w = arguments_weight (arguments_of s.op) in
-      let first : Weighs w front = rw one.spelled (assigned w s.line s.name one.op (op_weighs half s.op one.op one.is_op)) in
+      let first : Weighs w front = rw one.spelled (assigned w s.line s.name one.op (op_weighs version half s.op one.op one.is_op)) in
       rw whole (at_least _ (w + arguments_weight (arguments_among statements)) (front ++ back) (omega (arith, arguments_append (arguments_of s.op) (arguments_among statements)))
-      (join w (arguments_weight (arguments_among statements)) front back first (statements_weigh half statements back more)))
+      (join w (arguments_weight (arguments_among statements)) front back first (statements_weigh version half statements back more)))
 
   -- ---- preconditions and witnesses
 
@@ -174,12 +178,12 @@ module _ (limits : Limits) where
   abbrev body_weight : RawRule → ℕ
   body_weight raw = formulas_weight limits (formula_of raw) + (terms_weight (expressions_of raw) + (arguments_weight (arguments_among raw.source) + arguments_weight (arguments_among raw.target)))
 
-  body_weighs : (raw : RawRule) (own : List Token) (s : SpellsRule limits raw own) → Weighs (body_weight raw) (s.precondition ++ (s.witness ++ (s.source ++ Line s.arrow_line ∷ Arrow ∷ s.target)))
-  body_weighs raw own s =
+  body_weighs : (version : Version) (raw : RawRule) (own : List Token) (s : SpellsRule limits version raw own) → Weighs (body_weight raw) (s.precondition ++ (s.witness ++ (s.source ++ Line s.arrow_line ∷ Arrow ∷ s.target)))
+  body_weighs version raw own s =
       join _ _ s.precondition _ (precondition_weighs raw.precondition s.precondition s.is_precondition)
       (join _ _ s.witness _ (witness_weighs raw.witness s.witness s.is_witness)
-      (join _ _ s.source _ (statements_weigh Source raw.source s.source s.is_source.spelled)
-      (arrow_led _ s.arrow_line s.target (statements_weigh Target raw.target s.target s.is_target.spelled))))
+      (join _ _ s.source _ (statements_weigh version Source raw.source s.source s.is_source.spelled)
+      (arrow_led _ s.arrow_line s.target (statements_weigh version Target raw.target s.target s.is_target.spelled))))
 
   -- ---- the same weights, by kinds
 
@@ -233,24 +237,24 @@ one_more first raws small others zero raw at = let same : first ≡ raw = cc in 
 one_more first raws small others (suc k) raw at = others k raw at
 
 -- the tokens of rules are tokens of texts
-pub spelled_of_text : (limits : Limits) (raws : List RawRule) (tokens : List Token) → SpellsRules limits raws tokens → AreOfText tokens
-spelled_of_text limits [] tokens is = subst AreOfText (sym is) tt
-spelled_of_text limits (raw ∷ raws) tokens (front, back, s, more, whole) =
-    let own : AreOfText front = subst AreOfText (sym s.spelled) (tt, (tt, (tt, (body_weighs limits raw front s).of_text))) in
-    subst AreOfText (sym whole) (of_both front back own (spelled_of_text limits raws back more))
+pub spelled_of_text : (limits : Limits) (version : Version) (raws : List RawRule) (tokens : List Token) → SpellsRules limits version raws tokens → AreOfText tokens
+spelled_of_text limits version [] tokens is = subst AreOfText (sym is) tt
+spelled_of_text limits version (raw ∷ raws) tokens (front, back, s, more, whole) =
+    let own : AreOfText front = subst AreOfText (sym s.spelled) (tt, (tt, (tt, (body_weighs limits version raw front s).of_text))) in
+    subst AreOfText (sym whole) (of_both front back own (spelled_of_text limits version raws back more))
 
-rules_small : (raws : List RawRule) (own tokens : List Token) (room : ℕ) → SpellsRules rule_limits raws own → own ≡ limited_to room false tokens → AreSmall raws own tokens
-rules_small [] own tokens room is e = record { same = none_limited room tokens (sym is ∙ e) ∙ sym is; small = λ k raw at. absurd cc }
-rules_small (raw ∷ raws) own tokens room (front, back, s, more, whole) e =
+rules_small : (version : Version) (raws : List RawRule) (own tokens : List Token) (room : ℕ) → SpellsRules rule_limits version raws own → own ≡ limited_to room false tokens → AreSmall raws own tokens
+rules_small version [] own tokens room is e = record { same = none_limited room tokens (sym is ∙ e) ∙ sym is; small = λ k raw at. absurd cc }
+rules_small version (raw ∷ raws) own tokens room (front, back, s, more, whole) e =
     let body = s.precondition ++ (s.witness ++ (s.source ++ Line s.arrow_line ∷ Arrow ∷ s.target)) in
     let spelled : own ≡ Line raw.line ∷ Head (codes "Name:") ∷ Name raw.name ∷ body ++ back = whole ∙ ap (λ (ts : List Token). ts ++ back) s.spelled in
-    let weighs = body_weighs rule_limits raw front s in
-    let begins = begins_of back (spelled_of_text rule_limits raws back more) in
+    let weighs = body_weighs rule_limits version raw front s in
+    let begins = begins_of back (spelled_of_text rule_limits version raws back more) in
     let a = step room false (Line raw.line) (Head (codes "Name:") ∷ Name raw.name ∷ body ++ back) tokens tt (sym spelled ∙ e) in
     let b = step a.left true (Head (codes "Name:")) (Name raw.name ∷ body ++ back) a.others tt a.limited in
     let c = step b.left false (Name raw.name) (body ++ back) b.others (first_of body back weighs.of_text begins) b.limited in
     let d = weighs.cut c.left back c.others begins c.limited in
-    let rest = rules_small raws back d.others d.left more d.limited in
+    let rest = rules_small version raws back d.others d.left more d.limited in
     let most = d.most in
     let two : most_nodes ≡ b.left = number_same _ _ b.kept in
     let three : b.left ≡ c.left = number_same _ _ c.kept in
@@ -259,8 +263,34 @@ rules_small (raw ∷ raws) own tokens room (front, back, s, more, whole) e =
       small = one_more raw raws (omega (arith, raw_within rule_limits raw, most, two, three)) rest.small;
     }
 
-pub spelled_whole : (raws : List RawRule) (tokens : List Token) → SpellsRules rule_limits raws (limited tokens) → limited tokens ≡ tokens
-spelled_whole raws tokens is = let a = rules_small raws (limited tokens) tokens most_nodes is refl in sym a.same
+-- the tokens of a file are, with the line of its version
+pub file_of_text : (limits : Limits) (raws : List RawRule) (tokens : List Token) → SpellsFile limits raws tokens → AreOfText tokens
+file_of_text limits raws tokens (version, (front, back, is_version, is, whole)) = elim is_version [
+  | inl line ↦ subst AreOfText (sym (whole ∙ ap (λ (ts : List Token). ts ++ back) line.spelled)) (tt, (tt, (tt, spelled_of_text limits version raws back is)))
+  | inr (one, none) ↦ subst AreOfText (sym (whole ∙ ap (λ (ts : List Token). ts ++ back) none)) (spelled_of_text limits version raws back is)
+]
+
+file_small : (raws : List RawRule) (own tokens : List Token) → SpellsFile rule_limits raws own → own ≡ limited_to most_nodes false tokens → AreSmall raws own tokens
+file_small raws own tokens (version, (front, back, is_version, is, whole)) e = elim is_version [
+  | inl line ↦
+      let spelled : own ≡ Line line.line ∷ Head (codes "Version:") ∷ Number line.digits ∷ back = whole ∙ ap (λ (ts : List Token). ts ++ back) line.spelled in
+      let begins = begins_of back (spelled_of_text rule_limits version raws back is) in
+      let a = step most_nodes false (Line line.line) (Head (codes "Version:") ∷ Number line.digits ∷ back) tokens tt (sym spelled ∙ e) in
+      let b = step a.left true (Head (codes "Version:")) (Number line.digits ∷ back) a.others tt a.limited in
+      let c = step b.left false (Number line.digits) back b.others begins b.limited in
+      let rest = rules_small version raws back c.others c.left is c.limited in
+      record {
+        same = behind_one (Line line.line) tokens a.others _ a.is (behind_one (Head (codes "Version:")) a.others b.others _ b.is (behind_one (Number line.digits) b.others c.others _ c.is rest.same)) ∙ sym spelled;
+        small = rest.small;
+      }
+  | inr (one, none) ↦
+      let all : own ≡ back = whole ∙ ap (λ (ts : List Token). ts ++ back) none in
+      let rest = rules_small version raws back tokens most_nodes is (sym all ∙ e) in
+      record { same = rest.same ∙ sym all; small = rest.small }
+]
+
+pub spelled_whole : (raws : List RawRule) (tokens : List Token) → SpellsFile rule_limits raws (limited tokens) → limited tokens ≡ tokens
+spelled_whole raws tokens is = let a = file_small raws (limited tokens) tokens is refl in sym a.same
 
 pub small_rules : WrittenRulesAreSmall
-small_rules text raws written k raw at = let a = rules_small raws written.tokens written.tokens most_nodes written.spelled (sym written.few) in a.small k raw at
+small_rules text raws written k raw at = let a = file_small raws written.tokens written.tokens written.spelled (sym written.few) in a.small k raw at

@@ -17,6 +17,7 @@ arguments_of (raw_ops.Binary op flags a b) = a.value ∷ b.value ∷ []
 arguments_of (raw_ops.Compare pred samesign a b) = a.value ∷ b.value ∷ []
 arguments_of (raw_ops.Select c a b) = c.value ∷ a.value ∷ b.value ∷ []
 arguments_of (raw_ops.Convert cast flags a to) = a.value ∷ []
+arguments_of (raw_ops.Freeze a) = a.value ∷ []
 arguments_of (raw_ops.Copy a) = a.value ∷ []
 
 -- what statements read, in the order of the text

@@ -1,10 +1,11 @@
--- The parts of a rule as written, and which tokens spell them. Each part stands on a line of its own.
-use Rattle.std.specs.Prelude.{◌≡◌, IsTrue, ℕ, ◌≤◌, List, [], ◌∷◌, ◌++◌, length, map, None, codes}
+-- The parts of a rule file as written, and which tokens spell them. Each part stands on a line of its own.
+use Rattle.std.specs.Prelude.{◌≡◌, ◌⊎◌, IsTrue, ℕ, ◌≤◌, List, [], ◌∷◌, ◌++◌, length, map, None, codes}
 use Rattle.ops.specs.declared.opcode.Flags.{Flags}
 use Rattle.ops.specs.Flags.{no_flags, flags_of, flags_of_cast, flags_of_icmp, icmp_flags}
 use Rattle.ops.specs.declared.keywords.flag.Flag.{Flag}
 use Rattle.ops.specs.Keywords.{opcode_keyword, cast_keyword, predicate_keyword}
 use Rattle.ops.specs.FlagKeywords.{AddsFlags, flag_keyword}
+use Rattle.scan.specs.Bytes.{are_digits}
 use Rattle.scan.specs.RuleTokens.{is_constant}
 use Rattle.rule_terms.specs.declared.raw.RawNode.{RawNode}
 use Rattle.rule_terms.specs.declared.place.TermPlace.TheVariants.{Constant, Witness}
@@ -17,15 +18,18 @@ use Rattle.rule_parse.specs.declared.raw.RawStatement.{RawStatement}
 use Rattle.rule_parse.specs.declared.raw.RawPrecondition.{RawPrecondition}
 use Rattle.rule_parse.specs.declared.raw.RawWitness.{RawWitness}
 use Rattle.rule_parse.specs.declared.raw.RawOp.{RawOp}
-use Rattle.rule_parse.specs.declared.raw.RawOp.TheVariants.{Binary, Compare, Select, Convert, Copy}
+use Rattle.rule_parse.specs.declared.raw.RawOp.TheVariants.{Binary, Compare, Select, Convert, Freeze, Copy}
 use Rattle.rule_parse.specs.declared.raw.RawOperand.{RawOperand}
 use Rattle.rule_parse.specs.declared.raw.RawArgument.{RawArgument}
 use Rattle.rule_parse.specs.declared.raw.RawArgument.TheVariants as arguments
+use Rattle.rule_tokens.specs.declared.version.Version.{Version}
+use Rattle.rule_tokens.specs.declared.version.Version.TheVariants.{One, Two}
 use Rattle.rule_tokens.specs.Limits.{Limits}
 use Rattle.rule_tokens.specs.TypeTokens.{SpellsType}
-use Rattle.rule_tokens.specs.Numbers.{literal_value}
+use Rattle.rule_tokens.specs.Numbers.{decimal_value, literal_value}
 use Rattle.rule_tokens.specs.Parts.{Part, Is, Comma, Nothing, Never, ◌⨾◌, Maybe}
 use Rattle.rule_tokens.specs.Tokens.{Token, Line, Head, Name, Register, Word, Number, Arrow, Mark}
+use Rattle.rule_tokens.specs.Versions.{version_number}
 use Rattle.rule_parse.specs.Keywords.{truth_word, argument_of}
 
 -- a term of constants that is this operand
@@ -70,36 +74,39 @@ SpellsTo width = Is (Word (codes "to")) ⨾ SpellsType width
 --     | 'icmp' flag* pred [type] o ',' o
 --     | 'select' [type] o ',' [type] o ',' [type] o
 --     | ('trunc' | 'zext' | 'sext') flag* [type] o ['to' type]
+-- and from version 2 on 'freeze' [type] o
 -- and in the target a copy: [type] o
-abbrev pub SpellsOp : Limits → Half → RawOp → Part
-SpellsOp limits half (Binary op flags a b) = Is (Word (opcode_keyword op)) ⨾ SpellsFlags (flags_of op) flags ⨾ SpellsPair limits half a b
-SpellsOp limits half (Compare pred samesign a b) =
+abbrev pub SpellsOp : Limits → Version → Half → RawOp → Part
+SpellsOp limits version half (Binary op flags a b) = Is (Word (opcode_keyword op)) ⨾ SpellsFlags (flags_of op) flags ⨾ SpellsPair limits half a b
+SpellsOp limits version half (Compare pred samesign a b) =
     Is (Word (codes "icmp")) ⨾ SpellsFlags flags_of_icmp (icmp_flags samesign) ⨾ Is (Word (predicate_keyword pred)) ⨾ SpellsPair limits half a b
-SpellsOp limits half (Select condition if_true if_false) =
+SpellsOp limits version half (Select condition if_true if_false) =
     Is (Word (codes "select")) ⨾ SpellsOperand limits half condition ⨾ Comma ⨾ SpellsOperand limits half if_true ⨾ Comma ⨾ SpellsOperand limits half if_false
-SpellsOp limits half (Convert cast flags a to) =
+SpellsOp limits version half (Convert cast flags a to) =
     Is (Word (cast_keyword cast)) ⨾ SpellsFlags (flags_of_cast cast) flags ⨾ SpellsOperand limits half a ⨾ Maybe SpellsTo to
-SpellsOp limits Source (Copy a) = Never
-SpellsOp limits Target (Copy a) = SpellsOperand limits Target a
+SpellsOp limits One half (Freeze a) = Never
+SpellsOp limits Two half (Freeze a) = Is (Word (codes "freeze")) ⨾ SpellsOperand limits half a
+SpellsOp limits version Source (Copy a) = Never
+SpellsOp limits version Target (Copy a) = SpellsOperand limits Target a
 
 -- REG '=' op
-pub record SpellsStatement (limits : Limits) (half : Half) (s : RawStatement) (tokens : List Token) : Type 0 where
+pub record SpellsStatement (limits : Limits) (version : Version) (half : Half) (s : RawStatement) (tokens : List Token) : Type 0 where
   pub name : length s.name ≤ limits.name_bytes
   pub op : List Token
-  pub is_op : SpellsOp limits half s.op op
+  pub is_op : SpellsOp limits version half s.op op
   pub spelled : tokens ≡ Line s.line ∷ Register s.name ∷ Mark (codes "=") ∷ op
 
 -- statements one behind the other
-abbrev pub SpellsStatements : Limits → Half → List RawStatement → List Token → Type 0
-SpellsStatements limits half [] tokens = tokens ≡ []
-SpellsStatements limits half (s ∷ statements) tokens = (own rest : List Token)
-    × SpellsStatement limits half s own × SpellsStatements limits half statements rest × (tokens ≡ own ++ rest)
+abbrev pub SpellsStatements : Limits → Version → Half → List RawStatement → List Token → Type 0
+SpellsStatements limits version half [] tokens = tokens ≡ []
+SpellsStatements limits version half (s ∷ statements) tokens = (own rest : List Token)
+    × SpellsStatement limits version half s own × SpellsStatements limits version half statements rest × (tokens ≡ own ++ rest)
 
 -- one statement or more, and no more than the limit
-pub record SpellsHalf (limits : Limits) (half : Half) (statements : List RawStatement) (tokens : List Token) : Type 0 where
+pub record SpellsHalf (limits : Limits) (version : Version) (half : Half) (statements : List RawStatement) (tokens : List Token) : Type 0 where
   pub some : 1 ≤ length statements
   pub most : length statements ≤ limits.statements
-  pub spelled : SpellsStatements limits half statements tokens
+  pub spelled : SpellsStatements limits version half statements tokens
 
 -- 'Pre:' formula
 abbrev pub SpellsPrecondition : Limits → RawPrecondition → Part
@@ -124,20 +131,37 @@ abbrev pub SpellsWitness : Limits → RawWitness → Part
 SpellsWitness limits w tokens = (own : List Token) × SpellsExpressions limits w.expressions own × (tokens ≡ Line w.line ∷ Head (codes "Wit:") ∷ own)
 
 -- rule := 'Name:' text ['Pre:' formula] ['Wit:' term (',' term)*] source+ '=>' target+
-pub record SpellsRule (limits : Limits) (rule : RawRule) (tokens : List Token) : Type 0 where
+pub record SpellsRule (limits : Limits) (version : Version) (rule : RawRule) (tokens : List Token) : Type 0 where
   pub name : (1 ≤ length rule.name) × (length rule.name ≤ limits.name_bytes)
   pub precondition : List Token
   pub is_precondition : Maybe (SpellsPrecondition limits) rule.precondition precondition
   pub witness : List Token
   pub is_witness : Maybe (SpellsWitness limits) rule.witness witness
   pub source : List Token
-  pub is_source : SpellsHalf limits Source rule.source source
+  pub is_source : SpellsHalf limits version Source rule.source source
   pub arrow_line : ℕ
   pub target : List Token
-  pub is_target : SpellsHalf limits Target rule.target target
+  pub is_target : SpellsHalf limits version Target rule.target target
   pub spelled : tokens ≡ Line rule.line ∷ Head (codes "Name:") ∷ Name rule.name ∷ precondition ++ (witness ++ (source ++ Line arrow_line ∷ Arrow ∷ target))
 
 -- rules one behind the other
-abbrev pub SpellsRules : Limits → List RawRule → List Token → Type 0
-SpellsRules limits [] tokens = tokens ≡ []
-SpellsRules limits (rule ∷ rules) tokens = (own rest : List Token) × SpellsRule limits rule own × SpellsRules limits rules rest × (tokens ≡ own ++ rest)
+abbrev pub SpellsRules : Limits → Version → List RawRule → Part
+SpellsRules limits version [] tokens = tokens ≡ []
+SpellsRules limits version (rule ∷ rules) tokens = (own rest : List Token)
+    × SpellsRule limits version rule own × SpellsRules limits version rules rest × (tokens ≡ own ++ rest)
+
+-- 'Version:' digits
+pub record SpellsVersionLine (version : Version) (tokens : List Token) : Type 0 where
+  pub line : ℕ
+  pub digits : List ℕ
+  pub are_digits : IsTrue (are_digits digits)
+  pub number : decimal_value digits ≡ version_number version
+  pub spelled : tokens ≡ Line line ∷ Head (codes "Version:") ∷ Number digits ∷ []
+
+-- a line that says the version, without which it is 1
+abbrev pub SpellsVersion : Version → Part
+SpellsVersion version tokens = SpellsVersionLine version tokens ⊎ ((version ≡ One) × (tokens ≡ []))
+
+-- a rule file: its version, and rules
+abbrev pub SpellsFile : Limits → List RawRule → Part
+SpellsFile limits raws tokens = (version : Version) × (SpellsVersion version ⨾ SpellsRules limits version raws) tokens

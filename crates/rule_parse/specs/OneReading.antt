@@ -3,7 +3,7 @@ use Rattle.std.specs.Prelude.{◌≡◌, ◌↔◌, ◌⊎◌, ℕ, ◌≤◌, L
 use Rattle.rule_tokens.specs.RuleFaults.{RuleFault}
 use Rattle.rule_parse.specs.declared.raw.RawRule.{RawRule}
 use Rattle.rule_parse.specs.NodeCounts.{IsWithinLimit, IsCut}
-use Rattle.rule_parse.specs.Grammar.{SpellsRules}
+use Rattle.rule_parse.specs.Grammar.{SpellsFile}
 use Rattle.rule_parse.specs.CutTokens.{limited}
 use Rattle.rule_parse.specs.Limits.{most_nodes}
 use Rattle.rule_parse.specs.RuleReaders.{all_rules}
@@ -14,7 +14,7 @@ use Rattle.rule_tokens.specs.Tokens.{Token}
 
 -- reading from left to right answers rules exactly where the grammar spells them, within any limits
 abbrev pub RulesAreReadAsSpelled : Type 0
-RulesAreReadAsSpelled = (limits : Limits) (last : ℕ) (tokens : List Token) (raws : List RawRule) → (all_rules limits last tokens ≡ Ok raws) ↔ SpellsRules limits raws tokens
+RulesAreReadAsSpelled = (limits : Limits) (last : ℕ) (tokens : List Token) (raws : List RawRule) → (all_rules limits last tokens ≡ Ok raws) ↔ SpellsFile limits raws tokens
 
 -- a text has one list of rules or one fault, and never both
 pub record TextsHaveOneReadingOrFault : Type 0 where

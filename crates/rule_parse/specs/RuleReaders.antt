@@ -19,7 +19,7 @@ use Rattle.rule_parse.specs.declared.raw.RawStatement.{RawStatement}
 use Rattle.rule_parse.specs.declared.raw.RawPrecondition.{RawPrecondition}
 use Rattle.rule_parse.specs.declared.raw.RawWitness.{RawWitness}
 use Rattle.rule_parse.specs.declared.raw.RawOp.{RawOp}
-use Rattle.rule_parse.specs.declared.raw.RawOp.TheVariants.{Binary, Compare, Select, Convert, Copy}
+use Rattle.rule_parse.specs.declared.raw.RawOp.TheVariants.{Binary, Compare, Select, Convert, Freeze, Copy}
 use Rattle.rule_parse.specs.declared.raw.RawOperand.{RawOperand}
 use Rattle.rule_parse.specs.declared.raw.RawArgument.{RawArgument}
 use Rattle.rule_parse.specs.declared.raw.RawArgument.TheVariants as arguments
@@ -36,7 +36,10 @@ use Rattle.rule_tokens.specs.PartReaders.{Read, fault, unexpected, misplaced_wor
 use Rattle.rule_tokens.specs.Numbers.{literal_value}
 use Rattle.rule_tokens.specs.Tokens.{Token, Line, Head, Name, Register, Word, Number, Arrow}
 use Rattle.rule_parse.specs.Keywords.{operation_in, source_word_in, argument_of}
+use Rattle.rule_tokens.specs.declared.version.Version.{Version}
+use Rattle.rule_tokens.specs.declared.version.Version.TheVariants.{One}
 use Rattle.rule_tokens.specs.Limits.{Limits}
+use Rattle.rule_tokens.specs.Versions.{version_in}
 
 -- ---- operands
 
@@ -152,6 +155,13 @@ convert_at limits half line cast tokens = do
   to ← to_at line from.1
   Ok (Convert cast flags.0 from.0 to.0, to.1)
 
+-- a freeze, behind its opcode
+unfoldable pub freeze_at : Limits → Half → ℕ → List Token → Read RawOp
+freeze_at limits half line tokens = do
+  operand ← operand_at limits half line tokens
+  rest ← line_end line operand.1
+  Ok (Freeze operand.0, rest)
+
 -- a copy
 unfoldable pub copy_at : Limits → ℕ → List Token → Read RawOp
 copy_at limits line tokens = do
@@ -165,6 +175,7 @@ operation_at limits half line (operations.Binary op) tokens = binary_at limits h
 operation_at limits half line operations.Compare tokens = compare_at limits half line tokens
 operation_at limits half line operations.Select tokens = select_at limits half line tokens
 operation_at limits half line (operations.Convert cast) tokens = convert_at limits half line cast tokens
+operation_at limits half line operations.Freeze tokens = freeze_at limits half line tokens
 
 -- where it begins with no opcode: a copy, in the target
 abbrev pub other_at : Limits → Half → ℕ → List Token → Read RawOp
@@ -175,26 +186,26 @@ abbrev pub op_word : Limits → Half → ℕ → List ℕ → Option Operation �
 op_word limits half line word (Some operation) rest = operation_at limits half line operation rest
 op_word limits half line word None rest = other_at limits half line (Word word ∷ rest)
 
-unfoldable pub op_at : Limits → Half → ℕ → List Token → Read RawOp
-op_at limits half line (Word word ∷ rest) = op_word limits half line word (operation_in word) rest
-op_at limits half line tokens = other_at limits half line tokens
+unfoldable pub op_at : Limits → Version → Half → ℕ → List Token → Read RawOp
+op_at limits version half line (Word word ∷ rest) = op_word limits half line word (operation_in version word) rest
+op_at limits version half line tokens = other_at limits half line tokens
 
 -- the statement of a register, behind it
-unfoldable pub statement_at : Limits → Half → ℕ → List ℕ → List Token → Read RawStatement
-statement_at limits half line register tokens = do
+unfoldable pub statement_at : Limits → Version → Half → ℕ → List ℕ → List Token → Read RawStatement
+statement_at limits version half line register tokens = do
   name ← name_within limits line register
   behind ← mark_at (codes "=") line tokens
-  op ← op_at limits half line behind
+  op ← op_at limits version half line behind
   Ok (record { line = line; name = name; op = op.0 }, op.1)
 
 -- Statements as long as a line begins with a register, and room for so many more.
-unfoldable pub statements_at : Limits → ℕ → Half → List Token → Read (List RawStatement)
-statements_at limits zero half (Line line ∷ Register name ∷ rest) = Err (fault line TooMany)
-statements_at limits (suc room) half (Line line ∷ Register name ∷ rest) = do
-  first ← statement_at limits half line name rest
-  others ← statements_at limits room half first.1
+unfoldable pub statements_at : Limits → Version → ℕ → Half → List Token → Read (List RawStatement)
+statements_at limits version zero half (Line line ∷ Register name ∷ rest) = Err (fault line TooMany)
+statements_at limits version (suc room) half (Line line ∷ Register name ∷ rest) = do
+  first ← statement_at limits version half line name rest
+  others ← statements_at limits version room half first.1
   Ok (first.0 ∷ others.0, others.1)
-statements_at limits room half tokens = Ok ([], tokens)
+statements_at limits version room half tokens = Ok ([], tokens)
 
 -- no statement begins here
 abbrev pub IsNoStatement : List Token → Type 0
@@ -252,9 +263,9 @@ witness_at limits (Line line ∷ Head head ∷ rest) = if bytes_eq head (codes "
 witness_at limits tokens = Ok (None, tokens)
 
 -- one statement or more
-unfoldable pub source_at : Limits → ℕ → List Token → Read (List RawStatement)
-source_at limits last (Line line ∷ Register name ∷ rest) = statements_at limits limits.statements Source (Line line ∷ Register name ∷ rest)
-source_at limits last tokens = Err (unexpected_line last tokens)
+unfoldable pub source_at : Limits → Version → ℕ → List Token → Read (List RawStatement)
+source_at limits version last (Line line ∷ Register name ∷ rest) = statements_at limits version limits.statements Source (Line line ∷ Register name ∷ rest)
+source_at limits version last tokens = Err (unexpected_line last tokens)
 
 -- the `=>` on a line of its own
 unfoldable pub arrow_at : ℕ → List Token → Result (List Token) RuleFault
@@ -262,29 +273,45 @@ arrow_at last (Line line ∷ Arrow ∷ rest) = line_end line rest
 arrow_at last tokens = Err (unexpected_line last tokens)
 
 -- one statement or more
-unfoldable pub target_at : Limits → ℕ → List Token → Read (List RawStatement)
-target_at limits last (Line line ∷ Register name ∷ rest) = statements_at limits limits.statements Target (Line line ∷ Register name ∷ rest)
-target_at limits last tokens = Err (unexpected_line last tokens)
+unfoldable pub target_at : Limits → Version → ℕ → List Token → Read (List RawStatement)
+target_at limits version last (Line line ∷ Register name ∷ rest) = statements_at limits version limits.statements Target (Line line ∷ Register name ∷ rest)
+target_at limits version last tokens = Err (unexpected_line last tokens)
 
-unfoldable pub rule_at : Limits → ℕ → List Token → Read RawRule
-rule_at limits last tokens = do
+unfoldable pub rule_at : Limits → Version → ℕ → List Token → Read RawRule
+rule_at limits version last tokens = do
   name ← name_at limits last tokens
   precondition ← precondition_at limits name.1
   witness ← witness_at limits precondition.1
-  source ← source_at limits last witness.1
+  source ← source_at limits version last witness.1
   behind ← arrow_at last source.1
-  target ← target_at limits last behind
+  target ← target_at limits version last behind
   Ok (record { line = name.0.0; name = name.0.1; precondition = precondition.0; witness = witness.0; source = source.0; target = target.0 }, target.1)
 
 -- Rules up to the end of the text. The number bounds how many; that of the tokens is enough.
-unfoldable pub rules_at : Limits → ℕ → ℕ → List Token → Result (List RawRule) RuleFault
-rules_at limits n last [] = Ok []
-rules_at limits zero last (token ∷ tokens) = Err (fault last Syntax)
-rules_at limits (suc n) last (token ∷ tokens) = do
-  first ← rule_at limits last (token ∷ tokens)
-  others ← rules_at limits n last first.1
+unfoldable pub rules_at : Limits → Version → ℕ → ℕ → List Token → Result (List RawRule) RuleFault
+rules_at limits version n last [] = Ok []
+rules_at limits version zero last (token ∷ tokens) = Err (fault last Syntax)
+rules_at limits version (suc n) last (token ∷ tokens) = do
+  first ← rule_at limits version last (token ∷ tokens)
+  others ← rules_at limits version n last first.1
   Ok (first.0 ∷ others)
 
--- all rules of these tokens
+-- ---- the whole text
+
+-- the number of a version, behind its head
+unfoldable pub version_number_at : ℕ → List Token → Read Version
+version_number_at line (Number text ∷ rest) = or_left_out line text (version_in text) rest >>= λ version. line_end line version.1 >>= λ behind. Ok (version.0, behind)
+version_number_at line tokens = Err (unexpected line tokens)
+
+-- the version, if the first line says it
+unfoldable pub version_at : List Token → Read Version
+version_at (Line line ∷ Head head ∷ rest) = if bytes_eq head (codes "Version:") then version_number_at line rest else Ok (One, Line line ∷ Head head ∷ rest)
+version_at tokens = Ok (One, tokens)
+
+-- all rules of these tokens, in their version
+abbrev pub rules_of : Limits → Version → ℕ → List Token → Result (List RawRule) RuleFault
+rules_of limits version last tokens = rules_at limits version (length tokens) last tokens
+
+-- all rules of a text
 abbrev pub all_rules : Limits → ℕ → List Token → Result (List RawRule) RuleFault
-all_rules limits last tokens = rules_at limits (length tokens) last tokens
+all_rules limits last tokens = version_at tokens >>= λ version. rules_of limits version.0 last version.1

@@ -14,6 +14,7 @@ mod raw;
 mod reader;
 mod rule;
 mod statement;
+mod version;
 mod witness;
 mod word;
 

@@ -16,7 +16,8 @@ use ops::keywords::{Flag, flag_of, has_flag, predicate_of, with_flag};
 use ops::{Cast, Flags, Opcode, Pred};
 use rule_terms::mark;
 use rule_tokens::{
-    RuleError, RuleFault, RuleFaultKind, Token, line_end, misplaced, misplaced_word, unexpected,
+    RuleError, RuleFault, RuleFaultKind, Token, Version, line_end, misplaced, misplaced_word,
+    unexpected,
 };
 use std::alloc::Global;
 
@@ -151,6 +152,21 @@ fn conversion(
     Ok(RawOp::Convert(cast, flags, from, to))
 }
 
+/// A freeze, behind its opcode.
+#[tactic(auto, unfolding(crate::specs::RuleReaders::freeze_at))]
+fn freeze(
+    alloc: Global,
+    half: Half,
+    line: usize,
+    tokens: &mut &[Token<'_>],
+) -> Result<RawOp, RuleError>
+    ensures { Gives (λ x. (x, seen tokens.new.now)) result (parsing.freeze_at rule_limits half line (seen tokens.old.now)) }
+{
+    let operand = operand(alloc, half, line, tokens)?;
+    line_end(line, *tokens)?;
+    Ok(RawOp::Freeze(operand))
+}
+
 /// A copy.
 #[tactic(auto, unfolding(crate::specs::RuleReaders::copy_at))]
 fn copy(alloc: Global, line: usize, tokens: &mut &[Token<'_>]) -> Result<RawOp, RuleError>
@@ -176,6 +192,7 @@ fn behind_opcode(
         Operation::Compare => comparison(alloc, half, line, tokens),
         Operation::Select => selection(alloc, half, line, tokens),
         Operation::Convert(cast) => conversion(alloc, half, line, cast, tokens),
+        Operation::Freeze => freeze(alloc, half, line, tokens),
     }
 }
 
@@ -198,16 +215,17 @@ fn other(
 #[tactic(auto, unfolding(crate::specs::RuleReaders::op_at))]
 pub(crate) fn op(
     alloc: Global,
+    version: Version,
     half: Half,
     line: usize,
     tokens: &mut &[Token<'_>],
 ) -> Result<RawOp, RuleError>
-    ensures { Gives (λ x. (x, seen tokens.new.now)) result (parsing.op_at rule_limits half line (seen tokens.old.now)) }
+    ensures { Gives (λ x. (x, seen tokens.new.now)) result (parsing.op_at rule_limits version half line (seen tokens.old.now)) }
 {
     let [Token::Word(word), rest @ ..] = *tokens else {
         return other(alloc, half, line, tokens);
     };
-    match operation_of(word) {
+    match operation_of(version, word) {
         Some(operation) => {
             *tokens = rest;
             behind_opcode(alloc, half, line, operation, tokens)

@@ -27,7 +27,7 @@ pub struct RawPrecondition {
     pub formula: List<RawFormula>,
 }
 
-/// The choices of the source's `undef`s as written.
+/// What the choices of the source are, as written.
 #[derive(Debug, Drop)]
 pub struct RawWitness {
     /// Their line, counted from 1.
@@ -57,6 +57,8 @@ pub enum RawOp {
     Select(RawOperand, RawOperand, RawOperand),
     /// A cast, with the type that is written behind `to`, if one is.
     Convert(Cast, Flags, RawOperand, Option<Width>),
+    /// `freeze`.
+    Freeze(RawOperand),
     /// A copy.
     Copy(RawOperand),
 }

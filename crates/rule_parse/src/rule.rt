@@ -17,7 +17,9 @@ use crate::witness::witness;
 use lists::{List, Text};
 use ops::keywords::is;
 use refusal::refused;
-use rule_tokens::{RuleError, RuleFault, RuleFaultKind, Token, line_end, name_within, unexpected};
+use rule_tokens::{
+    RuleError, RuleFault, RuleFaultKind, Token, Version, line_end, name_within, unexpected,
+};
 use std::alloc::Global;
 
 /// The most statements of a half.
@@ -83,17 +85,18 @@ fn register<'a>(tokens: &mut &[Token<'a>]) -> Option<(usize, &'a [u8])>
 /// Statements as long as a line begins with a register.
 fn statements(
     alloc: Global,
+    version: Version,
     half: Half,
     tokens: &mut &[Token<'_>],
 ) -> Result<List<RawStatement>, RuleError>
-    ensures { Gives (λ x. (x, seen tokens.new.now)) result (parsing.statements_at rule_limits 32 half (seen tokens.old.now)) }
+    ensures { Gives (λ x. (x, seen tokens.new.now)) result (parsing.statements_at rule_limits version 32 half (seen tokens.old.now)) }
 {
     let mut statements = List::new(alloc);
     while let Some((line, name)) = register(tokens) {
         if statements.len() == MOST_STATEMENTS {
             return Err(refused(line, RuleFaultKind::TooMany));
         }
-        statements.push(statement(alloc, half, line, name, tokens)?)?;
+        statements.push(statement(alloc, version, half, line, name, tokens)?)?;
     }
     Ok(statements)
 }
@@ -102,13 +105,19 @@ fn statements(
 #[tactic(auto, unfolding(crate::specs::RuleReaders::source_at))]
 fn source(
     alloc: Global,
+    version: Version,
     last: usize,
     tokens: &mut &[Token<'_>],
 ) -> Result<List<RawStatement>, RuleError>
-    ensures { Gives (λ x. (x, seen tokens.new.now)) result (parsing.source_at rule_limits last (seen tokens.old.now)) }
+    ensures { Gives (λ x. (x, seen tokens.new.now)) result (parsing.source_at rule_limits version last (seen tokens.old.now)) }
 {
     match *tokens {
-        [Token::Line(_), Token::Register(_), ..] => statements(alloc, Half::Source, tokens),
+        [Token::Line(_), Token::Register(_), ..] => statements(
+            alloc,
+            version,
+            Half::Source,
+            tokens,
+        ),
         _ => Err(unexpected_line(last, *tokens).into()),
     }
 }
@@ -131,28 +140,39 @@ fn arrow(last: usize, tokens: &mut &[Token<'_>]) -> Result<(), RuleFault>
 #[tactic(auto, unfolding(crate::specs::RuleReaders::target_at))]
 fn target(
     alloc: Global,
+    version: Version,
     last: usize,
     tokens: &mut &[Token<'_>],
 ) -> Result<List<RawStatement>, RuleError>
-    ensures { Gives (λ x. (x, seen tokens.new.now)) result (parsing.target_at rule_limits last (seen tokens.old.now)) }
+    ensures { Gives (λ x. (x, seen tokens.new.now)) result (parsing.target_at rule_limits version last (seen tokens.old.now)) }
 {
     match *tokens {
-        [Token::Line(_), Token::Register(_), ..] => statements(alloc, Half::Target, tokens),
+        [Token::Line(_), Token::Register(_), ..] => statements(
+            alloc,
+            version,
+            Half::Target,
+            tokens,
+        ),
         _ => Err(unexpected_line(last, *tokens).into()),
     }
 }
 
 /// The first rule of a text.
 #[tactic(auto, unfolding(crate::specs::RuleReaders::rule_at))]
-fn rule(alloc: Global, last: usize, tokens: &mut &[Token<'_>]) -> Result<RawRule, RuleError>
-    ensures { Gives (λ x. (x, seen tokens.new.now)) result (parsing.rule_at rule_limits last (seen tokens.old.now)) }
+fn rule(
+    alloc: Global,
+    version: Version,
+    last: usize,
+    tokens: &mut &[Token<'_>],
+) -> Result<RawRule, RuleError>
+    ensures { Gives (λ x. (x, seen tokens.new.now)) result (parsing.rule_at rule_limits version last (seen tokens.old.now)) }
 {
     let (line, name) = name(alloc, last, tokens)?;
     let precondition = precondition(alloc, tokens)?;
     let witness = witness(alloc, tokens)?;
-    let source = source(alloc, last, tokens)?;
+    let source = source(alloc, version, last, tokens)?;
     arrow(last, tokens)?;
-    let target = target(alloc, last, tokens)?;
+    let target = target(alloc, version, last, tokens)?;
     Ok(RawRule {
         line,
         name,
@@ -163,18 +183,19 @@ fn rule(alloc: Global, last: usize, tokens: &mut &[Token<'_>]) -> Result<RawRule
     })
 }
 
-/// The rules of a text, of which this is the last line, or the first fault.
+/// The rules of a version that tokens spell, where this is the last line of the text, or the first fault.
 pub(crate) fn rules(
     alloc: Global,
+    version: Version,
     last: usize,
     tokens: &[Token<'_>],
 ) -> Result<Vec<RawRule>, RuleError>
-    ensures { Gives (λ x. x.items) result (parsing.all_rules rule_limits last (seen tokens.now)) }
+    ensures { Gives (λ x. x.items) result (parsing.rules_of rule_limits version last (seen tokens.now)) }
 {
     let mut rules = Vec::new(alloc);
     let mut rest = tokens;
     while !rest.is_empty() {
-        rules.push(rule(alloc, last, &mut rest)?)?;
+        rules.push(rule(alloc, version, last, &mut rest)?)?;
     }
     Ok(rules)
 }

@@ -10,22 +10,23 @@ use crate::half::Half;
 use crate::op::op;
 use crate::raw::RawStatement;
 use rule_terms::mark;
-use rule_tokens::{RuleError, Token, name_within};
+use rule_tokens::{RuleError, Token, Version, name_within};
 use std::alloc::Global;
 
 /// The statement of a register, behind it.
 #[tactic(auto, unfolding(crate::specs::RuleReaders::statement_at))]
 pub(crate) fn statement(
     alloc: Global,
+    version: Version,
     half: Half,
     line: usize,
     register: &[u8],
     tokens: &mut &[Token<'_>],
 ) -> Result<RawStatement, RuleError>
-    ensures { Gives (λ x. (x, seen tokens.new.now)) result (parsing.statement_at rule_limits half line register.now (seen tokens.old.now)) }
+    ensures { Gives (λ x. (x, seen tokens.new.now)) result (parsing.statement_at rule_limits version half line register.now (seen tokens.old.now)) }
 {
     let name = name_within(alloc, line, register)?;
     mark("=", line, tokens)?;
-    let op = op(alloc, half, line, tokens)?;
+    let op = op(alloc, version, half, line, tokens)?;
     Ok(RawStatement { line, name, op })
 }

@@ -6,6 +6,7 @@ ghost use Rattle.rule_parse.specs.Keywords as spelled;
 use crate::raw::RawArgument;
 use ops::keywords::{cast_name, is, opcode_name};
 use ops::{Cast, Opcode};
+use rule_tokens::Version;
 
 /// An operation that a statement begins with.
 #[derive(Clone, Copy, Debug)]
@@ -14,6 +15,7 @@ pub enum Operation {
     Compare,
     Select,
     Convert(Cast),
+    Freeze,
 }
 
 fn operation_name(operation: Operation) -> &'static str
@@ -24,10 +26,11 @@ fn operation_name(operation: Operation) -> &'static str
         Operation::Compare => "icmp",
         Operation::Select => "select",
         Operation::Convert(cast) => cast_name(cast),
+        Operation::Freeze => "freeze",
     }
 }
 
-const OPERATIONS: [Operation; 18] = [
+const OPERATIONS: [Operation; 19] = [
     Operation::Binary(Opcode::Add),
     Operation::Binary(Opcode::Sub),
     Operation::Binary(Opcode::Mul),
@@ -46,17 +49,27 @@ const OPERATIONS: [Operation; 18] = [
     Operation::Convert(Cast::Trunc),
     Operation::Convert(Cast::ZExt),
     Operation::Convert(Cast::SExt),
+    Operation::Freeze,
 ];
 
-/// The operation whose opcode a word is.
-#[tactic(auto, unfolding(crate::specs::Keywords::operation_in))]
-pub(crate) fn operation_of(word: &[u8]) -> Option<Operation>
-    ensures { result ≡ spelled.operation_in word.now }
+/// Whether the operation is one of the version.
+fn is_known(operation: Operation, version: Version) -> bool
+    ensures { result ≡ spelled.is_known operation version }
 {
-    OPERATIONS
-        .iter()
-        .copied()
-        .find(|operation| is(word, operation_name(*operation)))
+    match (operation, version) {
+        (Operation::Freeze, Version::One) => false,
+        _ => true,
+    }
+}
+
+/// The operation of the version whose opcode a word is.
+#[tactic(auto, unfolding(crate::specs::Keywords::operation_in))]
+pub(crate) fn operation_of(version: Version, word: &[u8]) -> Option<Operation>
+    ensures { result ≡ spelled.operation_in version word.now }
+{
+    OPERATIONS.iter().copied().find(|operation| {
+        is(word, operation_name(*operation)) && is_known(*operation, version)
+    })
 }
 
 /// What a word of the source is as an operand, where it is no constant: a truth or `undef`.

@@ -20,14 +20,14 @@ use Rattle.rule_reader.specs.declared.place.Place.TheVariants as places
 use Rattle.rule_reader.specs.declared.place.Half.{Half}
 use Rattle.rule_reader.specs.declared.place.Half.TheVariants as halves
 use Rattle.rule_parse.specs.Contents.{arguments_of, arguments_among, terms_of_argument, terms_of_formula, formula_of, target_terms, terms_of}
-use Rattle.rule_reader.specs.Meaning.{nodes_in, past_all, no_counts, in_half, TermsMean}
+use Rattle.rule_reader.specs.Meaning.{nodes_in, past_all, counted_of, counted_among, no_counts, in_half, TermsMean}
 use Rattle.rule_terms.specs.Nodes.{IsBehindOperands}
 use Rattle.rule_reader.specs.WellFormed.{AreInLineOrder, IsTerm, IsWellFormed}
 use Rattle.rule_reader.specs.FaultKinds.{Each, ArgumentIsBound, TermIsBound, NodeIsBound}
 use Rattle.rule_reader.specs.KnownRules.{half_of, place_in, IsPlaceOf, HalfIsBound, AreFew, IsWhole, AreReady, NodeFits, HasReadyTerm, AddsTerms}
 use Rattle.rule_reader.proofs.Places.{read_at}
 use Rattle.rule_reader.proofs.Members.{each_at, each_of}
-use Rattle.rule_reader.proofs.Counting.{few_at, ready, arguments_more}
+use Rattle.rule_reader.proofs.Counting.{few_at, few_read, ready, arguments_more}
 use Rattle.rule_reader.proofs.Nodes.{nodes_append, terms_length}
 use Rattle.rule_reader.proofs.Weighing.{sum_cons, few_terms, few_in_target, few_in_source}
 
@@ -67,12 +67,12 @@ module _ (raw : RawRule) (well : IsWellFormed raw) where
       each_of IsWhole (arguments_of s.op) (λ a among. is_whole a (λ t is. well.terms t (target_term raw t (term_among raw k s t at (subst (Contains (arguments_of s.op)) is among)))))
 
   -- what a statement reads can mean something
-  pub ready_at : (half : Half) (ws : List RawStatement) (k : ℕ) (s : RawStatement) (c : Counts) → HalfIsBound raw half → ws ≡ half_of half raw → k < length ws → s ≡ get_or ws k s → c ≡ past_all no_counts (arguments_among (take k ws)) → AreReady raw (place_in half k) c (arguments_of s.op)
+  pub ready_at : (half : Half) (ws : List RawStatement) (k : ℕ) (s : RawStatement) (c : Counts) → HalfIsBound raw half → ws ≡ half_of half raw → k < length ws → s ≡ get_or ws k s → c ≡ past_all no_counts (counted_among (take k ws)) → AreReady raw (place_in half k) c (arguments_of s.op)
   ready_at half ws k s c bound is within item before =
       let at : slice_get (half_of half raw) k ≡ Some s = subst (λ l. slice_get l k ≡ Some s) is (read_at ws k s within item) in
-      ready raw (place_in half k) c (arguments_of s.op) (bound k s at) (whole_half half k s at) (few_at ws k s c (subst (λ l. AreFew (in_half l)) (sym is) (few_half half)) within item before)
+      ready raw (place_in half k) c (arguments_of s.op) (bound k s at) (whole_half half k s at) (few_read c s.op (few_at ws k s c (subst (λ l. AreFew (in_half l)) (sym is) (few_half half)) within item before))
 
-  pub few_past : (half : Half) (ws : List RawStatement) (k : ℕ) (s : RawStatement) (c : Counts) → ws ≡ half_of half raw → k < length ws → s ≡ get_or ws k s → c ≡ past_all no_counts (arguments_among (take k ws)) → AreFew (past_all c (arguments_of s.op))
+  pub few_past : (half : Half) (ws : List RawStatement) (k : ℕ) (s : RawStatement) (c : Counts) → ws ≡ half_of half raw → k < length ws → s ≡ get_or ws k s → c ≡ past_all no_counts (counted_among (take k ws)) → AreFew (past_all c (counted_of s.op))
   few_past half ws k s c is within item before = few_at ws k s c (subst (λ l. AreFew (in_half l)) (sym is) (few_half half)) within item before
 
   ready_term : (place : Place) (a : RawArgument) → ArgumentIsBound raw place a → IsWhole a → HasReadyTerm raw place a
@@ -134,7 +134,7 @@ node_fits before k t node is few within item = fits node (is.each k node (read_a
     fits (raw_nodes.Literal z) behind = tt
     fits (raw_nodes.Constant name) behind = tt
     fits (raw_nodes.Register name) behind = tt
-    fits (raw_nodes.Undef j) behind = tt
+    fits (raw_nodes.Choice j) behind = tt
     fits (raw_nodes.Width name) behind = tt
     fits (raw_nodes.Unary f a) behind = omega arith
     fits (raw_nodes.Binary op a b) behind = (omega (arith, behind.0), omega (arith, behind.1))

@@ -2,6 +2,8 @@
 use Rattle.std.proofs.Common.{◌≡◌, inl, inr, ℕ, zero, suc, ◌+◌, ◌-◌, ◌<◌, ◌≤◌, List, [], ◌∷◌, ◌++◌, append_assoc, length, Some, refl, sym, ap, subst, ◌∙◌, arith, get_or}
 use Rattle.std.specs.Prelude.{slice_get, Contains, map, flat_map}
 use Rattle.std.specs.List.{range_with_len}
+use Rattle.std.proofs.lemmas.List.{length-map}
+use Rattle.std.proofs.lemmas.List.Elements.{Contains-append_left}
 use Rattle.std.proofs.lemmas.Option.{slice_get_within, slice_get-get_or, same_Some}
 use Rattle.std.proofs.lemmas.List.FromFn.{length-range_with_len}
 use Rattle.std.proofs.lemmas.Grind.{flat_map-append}
@@ -35,17 +37,17 @@ use Rattle.rule_core.specs.declared.rule.Formula.{Formula}
 use Rattle.rule_core.specs.declared.rule.Formula.TheVariants as formulas
 use Rattle.rule_core.specs.FormulaNodes.{Turns, Both, Either, joint_of, OneUseIsOutermost}
 use Rattle.rule_core.specs.TermNodes.{NamesWidth, AreLastNodes}
-use Rattle.rule_core.specs.Checks.{IsRule, SourceMayRead, TargetMayRead, TargetMayMeasure, MeasuresBeforeRoot, FormulaMayMeasure, HasKnownWidth, IsBeforeRoot, MayBeTerm, MayBeWitness, MayBeFormula, MayStandInSource as MayBeInSource, FlagsFitOp, IsNoUndefCopy, UndefsInOrder, StandsAt as StandsInRule, names_of}
-use Rattle.rule_core.specs.Positions.{operands_of as operands_meant, operands_among, undefs_among}
-use Rattle.rule_core.proofs.Members.{Contains-from_get}
+use Rattle.rule_core.specs.Checks.{IsRule, SourceMayRead, TargetMayRead, TargetMayMeasure, MeasuresBeforeRoot, FormulaMayMeasure, HasKnownWidth, IsBeforeRoot, MayBeTerm, MayBeWitness, MayBeFormula, MayStandInSource as MayBeInSource, FlagsFitOp, ReadsNoUndefAlone, ChoicesInOrder, StandsAt as StandsInRule, names_of}
+use Rattle.rule_core.specs.Positions.{operands_of as operands_meant, operands_among, choices_among}
+use Rattle.rule_core.proofs.Members.{Contains-from_get, Contains-flat_map}
 use Rattle.rule_reader.specs.declared.counts.Counts.{Counts}
 use Rattle.rule_reader.specs.declared.names.Names.{Names}
 use Rattle.rule_reader.specs.declared.place.Place.TheVariants as places
 use Rattle.rule_parse.specs.Contents.{arguments_of, arguments_among, formula_of, expressions_of, target_terms, terms_of, terms_of_argument, terms_of_formula}
-use Rattle.rule_reader.specs.Meaning.{nodes_in, past, past_all, no_counts, in_half, with_counts, with_nodes, with_terms, last_nodes, UsesAt, IsRoot, AssignsAt, IsInput, ArgumentMeans, OpMeans, StatementMeans, NodeMeans, FormulaMeans, HasName, HalfMeans, TermsMean, Means, names_of_rule}
+use Rattle.rule_reader.specs.Meaning.{nodes_in, past, past_all, counted_of, counted_among, no_counts, in_half, with_counts, with_nodes, with_terms, last_nodes, UsesAt, IsRoot, AssignsAt, IsInput, ArgumentMeans, OpMeans, StatementMeans, NodeMeans, FormulaMeans, HasName, HalfMeans, TermsMean, Means, names_of_rule}
 use Rattle.rule_terms.specs.Nodes.{IsBehindOperands}
 use Rattle.rule_reader.specs.WellFormed.{IsHalf, IsTerm, IsWellFormed, IsBehindFormulas, MayStandInTerm, MayStandInSource, raw_joint, FlagsFitOp as FlagsFitRaw}
-use Rattle.rule_reader.specs.FaultKinds.{MayUse, NodeIsBound, TermIsBound, ArgumentIsBound, FormulaIsBound, RootMissingAt, UnusedTempAt, UndefInsideAt, WitnessCountAt, IsUndefCopy}
+use Rattle.rule_reader.specs.FaultKinds.{MayUse, NodeIsBound, TermIsBound, ArgumentIsBound, FormulaIsBound, RootMissingAt, UnusedTempAt, UndefInsideAt, WitnessCountAt, IsFreeze, LeavesOpen, ReadsUndefAlone}
 use Rattle.rule_reader.specs.KnownRules.{NamesAreThere}
 use Rattle.rule_reader.proofs.Places.{order, same_at, there, map_at, somewhere, zip_right}
 use Rattle.rule_reader.proofs.SameWeight.{same_weight}
@@ -55,9 +57,9 @@ use Rattle.rule_reader.proofs.Members.{Contains-behind, each_in, each_at, flat_a
 use Rattle.rule_reader.proofs.Counting.{past_append, with_counts_at}
 use Rattle.rule_reader.proofs.Nodes.{nodes_append, node_at, terms_length, with_terms_at, FormulasMean, last_nodes_count}
 use Rattle.rule_reader.proofs.OwnNodes.{statement_split, argument_split, nodes_past, formula_split, measures, are_last_nodes}
-use Rattle.rule_reader.proofs.Weighing.{nodes_weigh}
+use Rattle.rule_reader.proofs.Weighing.{nodes_weigh, counted_terms}
 use Rattle.rule_reader.proofs.Found.{input_of as input_of_names}
-use Rattle.rule_reader.proofs.Meaning.{assigning_statement, statement_assigns, names_go, count_go, read_go, operands_go, with_before, with_before_at, Goes, nodes_upto, reads_written, written_reads, undefs_from, all_go}
+use Rattle.rule_reader.proofs.Meaning.{assigning_statement, statement_assigns, names_go, count_go, read_go, operands_go, with_before, with_before_at, Goes, nodes_upto, reads_written, written_reads, frozen_operand, counted_meant, half_choices, all_go}
 use Rattle.rule_reader.proofs.OneRegister.{IsPlain, one_place, one_register, not_redefined, input_or_earlier, target_register, before_root_register}
 use Rattle.rule_reader.proofs.NameDecisions.{dec_uses_at}
 
@@ -84,19 +86,23 @@ module _ (raw : RawRule) (names : Names) where
   fits b w (ops.Convert cast flags x to) means fit = absurd means
   fits b w op means fit = tt
 
-  no_copy : (b : Counts) (w : RawOp) (op : Op) → OpMeans raw names b w op → MayStandInSource w → MayBeInSource op
-  no_copy b (raw_ops.Copy a) (ops.Copy x) means stands = absurd stands
-  no_copy b w (ops.Copy x) means stands = absurd means
-  no_copy b w op means stands = tt
+  in_source : (rule : Rule) (k : ℕ) (b : Counts) (w : RawOp) (op : Op) → OpMeans raw names b w op → MayStandInSource w → (IsFreeze w → suc k ≡ length rule.source) → MayBeInSource rule k op
+  in_source rule k b (raw_ops.Copy a) (ops.Copy x) means stands last = absurd stands
+  in_source rule k b (raw_ops.Freeze a) (ops.Freeze x j) means stands last = last tt
+  in_source rule k b w (ops.Copy x) means stands last = absurd means
+  in_source rule k b w (ops.Freeze x j) means stands last = absurd means
+  in_source rule k b w op means stands last = tt
 
   undef_means : (b : Counts) (v : RawArgument) (k : ℕ) → ArgumentMeans raw names b v (arguments.Undef k) → v ≡ raw_arguments.Undef
   undef_means b raw_arguments.Undef k means = refl
   undef_means b v k means = absurd means
 
-  no_undef_copy : (b : Counts) (w : RawOp) (op : Op) → OpMeans raw names b w op → ¬ IsUndefCopy w → IsNoUndefCopy op
-  no_undef_copy b (raw_ops.Copy a) (ops.Copy x) means not = λ k is. not (undef_means b a.value k (subst (ArgumentMeans raw names b a.value) is means.1))
-  no_undef_copy b w (ops.Copy x) means not = absurd means
-  no_undef_copy b w op means not = tt
+  no_undef_alone : (b : Counts) (w : RawOp) (op : Op) → OpMeans raw names b w op → ¬ ReadsUndefAlone w → ReadsNoUndefAlone op
+  no_undef_alone b (raw_ops.Freeze a) (ops.Freeze x j) means not = λ k is. not (undef_means b a.value k (subst (ArgumentMeans raw names b a.value) is means.0.1))
+  no_undef_alone b (raw_ops.Copy a) (ops.Copy x) means not = λ k is. not (undef_means b a.value k (subst (ArgumentMeans raw names b a.value) is means.1))
+  no_undef_alone b w (ops.Freeze x j) means not = absurd means
+  no_undef_alone b w (ops.Copy x) means not = absurd means
+  no_undef_alone b w op means not = tt
 
   term_means : (b : Counts) (v : RawArgument) (n : ℕ) → ArgumentMeans raw names b v (arguments.Term n) → (t : List RawNode) × (v ≡ raw_arguments.Term t) × (suc n ≡ b.nodes + length t)
   term_means b (raw_arguments.Term t) n means = (t, refl, means)
@@ -117,6 +123,15 @@ module _ (raw : RawRule) (names : Names) where
   named_constant : (b : Counts) (name : List ℕ) (a : Argument) → ArgumentMeans raw names b (raw_arguments.Constant name) a → (k : ℕ) × (a ≡ arguments.Constant k) × (slice_get names.constants k ≡ Some name)
   named_constant b name (arguments.Constant k) means = (k, refl, means)
   named_constant b name a means = absurd means
+
+-- what is counted of a statement is what it reads, and maybe a freeze behind that
+counted_behind : (op : RawOp) → (frozen : List RawArgument) × (counted_of op ≡ arguments_of op ++ frozen)
+counted_behind (raw_ops.Binary op flags a b) = ([], refl)
+counted_behind (raw_ops.Compare pred samesign a b) = ([], refl)
+counted_behind (raw_ops.Select c a b) = ([], refl)
+counted_behind (raw_ops.Convert cast flags a to) = ([], refl)
+counted_behind (raw_ops.Freeze a) = (raw_arguments.Undef ∷ [], refl)
+counted_behind (raw_ops.Copy a) = ([], refl)
 
 -- what stands between others is among them
 Contains-amid : {X : Type 0} (front : List X) (x : X) (back : List X) → Contains (front ++ x ∷ back) x
@@ -180,6 +195,14 @@ module _ (raw : RawRule) (rule : Rule) (well : IsWellFormed raw) (bound : IsBoun
       let (b, v, spot, goes') = read_go raw own c w.op s.op q o goes.1 place in
       (w, b, v, at', Contains-from_get (arguments_of w.op) q v spot, goes')
 
+  -- what leaves something open in the source is the root's statement
+  at_root : (k : ℕ) (w : RawStatement) → slice_get raw.source k ≡ Some w → LeavesOpen w.op → suc k ≡ length rule.source
+  at_root k w at leaves = elim (order (suc k) (length raw.source)) [
+    | inl lt ↦ absurd (bound.undefs_right w.line (inl (k, w, at, inl (lt, leaves), refl)))
+    | inr (inl e) ↦ e ∙ sym source_length
+    | inr (inr gt) ↦ let inside : k < length raw.source = slice_get_within raw.source k w at in absurd (omega arith)
+  ]
+
   source_may : (k : ℕ) (w : RawStatement) (b : Counts) (v : RawArgument) (a : Argument) → slice_get raw.source k ≡ Some w → Contains (arguments_of w.op) v → ArgumentMeans raw own b v a → SourceMayRead rule k a
   source_may k w b (raw_arguments.Register name) (arguments.Register r) at among has =
       let may : MayUse raw (places.Source k) name = each_in (ArgumentIsBound raw (places.Source k)) (arguments_of w.op) (raw_arguments.Register name) (bound.there.source k w at) among in
@@ -190,11 +213,7 @@ module _ (raw : RawRule) (rule : Rule) (well : IsWellFormed raw) (bound : IsBoun
   source_may k w b (raw_arguments.Literal z) (arguments.Literal y) at among has = tt
   source_may k w b (raw_arguments.Truth t) (arguments.Truth u) at among has = tt
   source_may k w b (raw_arguments.Constant name) (arguments.Constant j) at among has = slice_get_within rule.constants j name has
-  source_may k w b raw_arguments.Undef (arguments.Undef j) at among has = elim (order (suc k) (length raw.source)) [
-    | inl lt ↦ absurd (bound.undefs_right w.line (inl (k, w, at, (lt, among), refl)))
-    | inr (inl e) ↦ e ∙ sym source_length
-    | inr (inr gt) ↦ let inside : k < length raw.source = slice_get_within raw.source k w at in absurd (omega arith)
-  ]
+  source_may k w b raw_arguments.Undef (arguments.Undef j) at among has = at_root k w at (inl among)
   source_may k w b (raw_arguments.Term t) (arguments.Term n) at among has = absurd (well.source_arguments k w t at among)
   source_may k w b v a at among has = absurd has
 
@@ -207,11 +226,15 @@ module _ (raw : RawRule) (rule : Rule) (well : IsWellFormed raw) (bound : IsBoun
   -- the term of a target operand
   term_within : (q : ℕ) (o : Operand) (n : ℕ) → slice_get (operands_among rule.target) q ≡ Some o → o.value ≡ arguments.Term n → n < length rule.terms
   term_within q o n at is =
-      let (b, v, at', spot, goes) = reads_written raw own raw.target rule.target q o means.target at in
+      let (k, s, there, among) = flat_at (λ (s : Statement). operands_meant s.op) rule.target q o at in
+      let counted : Contains (flat_map counted_meant rule.target) o =
+      Contains-flat_map counted_meant rule.target s o (Contains-from_get rule.target k s there) (Contains-append_left (operands_meant s.op) (frozen_operand s.class s.op) o among) in
+      let (p, place) = somewhere (flat_map counted_meant rule.target) o counted in
+      let ((b, v), spot, goes) = zip_right (Goes raw own) (with_before no_counts (counted_among raw.target)) (flat_map counted_meant rule.target) p o (all_go raw own no_counts raw.target rule.target means.target) place in
       let (t, e, sum) = term_means raw own b v n (subst (ArgumentMeans raw own b v) is goes) in
-      let upto : (past b v).nodes ≤ (in_half raw.target).nodes = nodes_upto no_counts (arguments_among raw.target) q (b, v) at' in
+      let upto : (past b v).nodes ≤ (in_half raw.target).nodes = nodes_upto no_counts (counted_among raw.target) p (b, v) spot in
       let upto' : b.nodes + length t ≤ (in_half raw.target).nodes = subst (λ u. (past b u).nodes ≤ (in_half raw.target).nodes) e upto in
-      omega (arith, sum, upto', nodes_weigh no_counts (arguments_among raw.target), target_nodes)
+      omega (arith, sum, upto', nodes_weigh no_counts (counted_among raw.target), ap nodes_in (counted_terms raw.target), target_nodes)
 
   target_may : (k : ℕ) (w : RawStatement) (b : Counts) (v : RawArgument) (a : Argument) → ((n : ℕ) → a ≡ arguments.Term n → n < length rule.terms) → slice_get raw.target k ≡ Some w → Contains (arguments_of w.op) v → ArgumentMeans raw own b v a → TargetMayRead rule k a
   target_may k w b (raw_arguments.Register name) (arguments.Register r) inside at among has =
@@ -343,27 +366,25 @@ module _ (raw : RawRule) (rule : Rule) (well : IsWellFormed raw) (bound : IsBoun
   may_be_term n b k (raw_nodes.Literal z) (nodes.Literal y) sum is behind stands named = tt
   may_be_term n b k (raw_nodes.Constant name) (nodes.Constant j) sum is behind stands named = slice_get_within rule.constants j name is
   may_be_term n b k (raw_nodes.Register name) (nodes.Register r) sum is behind stands named = stands
-  may_be_term n b k (raw_nodes.Undef i) (nodes.Undef j) sum is behind stands named = stands
+  may_be_term n b k (raw_nodes.Choice i) (nodes.Choice j) sum is behind stands named = stands
   may_be_term n b k (raw_nodes.Width name) (nodes.Width r c) sum is behind stands named = has_width name r named is
   may_be_term n b k (raw_nodes.Unary f a) (nodes.Unary f' x) sum is behind stands named = omega (arith, is.1)
   may_be_term n b k (raw_nodes.Binary op a c) (nodes.Binary op' x y) sum is behind stands named = (omega (arith, is.1, behind.0), omega (arith, is.2, behind.1))
   may_be_term n b k w m sum is behind stands named = absurd is
 
-  undefs_long : length (undefs_among rule.target) ≡ (in_half raw.target).undefs
-  undefs_long =
-      let e = undefs_from raw own no_counts (arguments_among raw.target) (operands_among rule.target) (in_half raw.target).undefs (all_go raw own no_counts raw.target rule.target means.target) (omega arith) in
-      ap length e ∙ length-range_with_len 0 (in_half raw.target).undefs
+  -- a half has as many choices as are counted, each at the place of its order
+  choices_long : (ws : List RawStatement) (ss : List Statement) → HalfMeans raw own ws ss → length (choices_among ss) ≡ (in_half ws).choices
+  choices_long ws ss all =
+      sym (length-map (choices_among ss) (λ c. c.place)) ∙ ap length (half_choices raw own ws ss all) ∙ length-range_with_len 0 (in_half ws).choices
 
-  source_undefs_long : length (undefs_among rule.source) ≡ (in_half raw.source).undefs
-  source_undefs_long =
-      let e = undefs_from raw own no_counts (arguments_among raw.source) (operands_among rule.source) (in_half raw.source).undefs (all_go raw own no_counts raw.source rule.source means.source) (omega arith) in
-      ap length e ∙ length-range_with_len 0 (in_half raw.source).undefs
+  choices_in_order : (ws : List RawStatement) (ss : List Statement) → HalfMeans raw own ws ss → ChoicesInOrder ss
+  choices_in_order ws ss all = half_choices raw own ws ss all ∙ ap (range_with_len 0) (sym (choices_long ws ss all))
 
   may_be_witness : (n b k : ℕ) (w : RawNode) (m : Node) → b + k ≡ n → NodeMeans raw own b w m → IsBehindOperands k w → NodeIsBound raw places.Heading w → MayBeWitness rule n m
   may_be_witness n b k (raw_nodes.Literal z) (nodes.Literal y) sum is behind named = tt
   may_be_witness n b k (raw_nodes.Constant name) (nodes.Constant j) sum is behind named = slice_get_within rule.constants j name is
   may_be_witness n b k (raw_nodes.Register name) (nodes.Register r) sum is behind named = before_root name r named is
-  may_be_witness n b k (raw_nodes.Undef i) (nodes.Undef j) sum is behind named = omega (arith, is, named, undefs_long)
+  may_be_witness n b k (raw_nodes.Choice i) (nodes.Choice j) sum is behind named = omega (arith, is, named, choices_long raw.target rule.target means.target)
   may_be_witness n b k (raw_nodes.Width name) (nodes.Width r c) sum is behind named = before_root name r named is
   may_be_witness n b k (raw_nodes.Unary f a) (nodes.Unary f' x) sum is behind named = omega (arith, is.1)
   may_be_witness n b k (raw_nodes.Binary op a c) (nodes.Binary op' x y) sum is behind named = (omega (arith, is.1, behind.0), omega (arith, is.2, behind.1))
@@ -441,11 +462,11 @@ module _ (raw : RawRule) (rule : Rule) (well : IsWellFormed raw) (bound : IsBoun
 
   -- a term of a statement of the target
   target_term : (k n : ℕ) (w : RawStatement) (t : List RawNode) (front back : List RawArgument) → slice_get raw.target k ≡ Some w → Contains (arguments_of w.op) (raw_arguments.Term t)
-      → arguments_among raw.target ≡ front ++ raw_arguments.Term t ∷ back → suc n ≡ nodes_in (flat_map terms_of_argument front) + length t → TargetMayMeasure rule k (arguments.Term n)
+      → counted_among raw.target ≡ front ++ raw_arguments.Term t ∷ back → suc n ≡ nodes_in (flat_map terms_of_argument front) + length t → TargetMayMeasure rule k (arguments.Term n)
   target_term k n w t front back at among whole end r names =
       let before : List (List RawNode) = flat_map terms_of_argument front in
       let behind : List (List RawNode) = flat_map terms_of_argument back ++ flat_map terms_of_formula (formula_of raw) in
-      let split : target_terms raw ≡ before ++ t ∷ flat_map terms_of_argument back = ap (flat_map terms_of_argument) whole ∙ flat_map-append terms_of_argument front (raw_arguments.Term t ∷ back) in
+      let split : target_terms raw ≡ before ++ t ∷ flat_map terms_of_argument back = sym (counted_terms raw.target) ∙ ap (flat_map terms_of_argument) whole ∙ flat_map-append terms_of_argument front (raw_arguments.Term t ∷ back) in
       let all : terms_of raw ≡ before ++ t ∷ behind = ap (λ l. l ++ flat_map terms_of_formula (formula_of raw)) split ∙ append_assoc before (t ∷ flat_map terms_of_argument back) (flat_map terms_of_formula (formula_of raw)) in
       let term : IsTerm t = well.terms t (subst (λ l. Contains l t) (sym all) (Contains-amid before t behind)) in
       let (name, inside, has) = measures raw own before t behind rule.terms (subst (λ l. TermsMean raw own l rule.terms) all means.terms) term n r (omega (arith, end)) names in
@@ -454,7 +475,7 @@ module _ (raw : RawRule) (rule : Rule) (well : IsWellFormed raw) (bound : IsBoun
 
   -- an operand of it, where so much stands before it
   target_operand : (k : ℕ) (w : RawStatement) (b : Counts) (v : RawArgument) (front back : List RawArgument) (a : Argument) → slice_get raw.target k ≡ Some w → Contains (arguments_of w.op) v
-      → arguments_among raw.target ≡ front ++ v ∷ back → b ≡ past_all no_counts front → ArgumentMeans raw own b v a → TargetMayMeasure rule k a
+      → counted_among raw.target ≡ front ++ v ∷ back → b ≡ past_all no_counts front → ArgumentMeans raw own b v a → TargetMayMeasure rule k a
   target_operand k w b (raw_arguments.Term t) front back (arguments.Term n) at among whole is goes =
       let count : b.nodes ≡ 0 + nodes_in (flat_map terms_of_argument front) = ap (λ (c : Counts). c.nodes) is ∙ nodes_past no_counts front in
       target_term k n w t front back at among whole (omega (arith, goes, count))
@@ -467,9 +488,12 @@ module _ (raw : RawRule) (rule : Rule) (well : IsWellFormed raw) (bound : IsBoun
       let (front, back, whole, is) = statement_split no_counts raw.target k x there in
       let (q, place) = somewhere (operands_meant s.op) o among in
       let (y, spot, reads) = zip_right (Goes raw own) (with_before x.0 (arguments_of x.1.op)) (operands_meant s.op) q o (operands_go raw own x.0 x.1.op s.op goes.1) place in
-      let (front', back', whole', is') = argument_split x.0 (arguments_of x.1.op) q y spot in
-      let all : arguments_among raw.target ≡ (front ++ front') ++ y.1 ∷ (back' ++ back) =
-      whole ∙ ap (λ l. front ++ (l ++ back)) whole' ∙ ap (λ l. front ++ l) (append_assoc front' (y.1 ∷ back') back) ∙ sym (append_assoc front front' (y.1 ∷ (back' ++ back))) in
+      let (front', behind, whole', is') = argument_split x.0 (arguments_of x.1.op) q y spot in
+      let (frozen, counted) = counted_behind x.1.op in
+      let back' : List RawArgument = behind ++ frozen in
+      let own_part : counted_of x.1.op ≡ front' ++ y.1 ∷ back' = counted ∙ ap (λ l. l ++ frozen) whole' ∙ append_assoc front' (y.1 ∷ behind) frozen in
+      let all : counted_among raw.target ≡ (front ++ front') ++ y.1 ∷ (back' ++ back) =
+      whole ∙ ap (λ l. front ++ (l ++ back)) own_part ∙ ap (λ l. front ++ l) (append_assoc front' (y.1 ∷ back') back) ∙ sym (append_assoc front front' (y.1 ∷ (back' ++ back))) in
       let before : y.0 ≡ past_all no_counts (front ++ front') = is' ∙ ap (λ c. past_all c front') is ∙ sym (past_append no_counts front front') in
       target_operand k x.1 y.0 y.1 (front ++ front') (back' ++ back) o.value (with_counts_at no_counts raw.target k x there)
       (Contains-from_get (arguments_of x.1.op) q y.1 (with_before_at x.0 (arguments_of x.1.op) q y spot)) all before reads
@@ -550,24 +574,19 @@ module _ (raw : RawRule) (rule : Rule) (well : IsWellFormed raw) (bound : IsBoun
       let (w, at', is) = assigning_statement ws k name (subst (λ ns. slice_get ns k ≡ Some name) same at) in
       subst (λ n. length n ≤ 200) is (half.short_names k w at')
 
-  copies : (k : ℕ) (s : Statement) → slice_get rule.target k ≡ Some s → IsNoUndefCopy s.op
-  copies k s at = let (b, w, at', goes) = written raw.target rule.target k s means.target at in no_undef_copy raw own b w.op s.op goes.1 (λ copy. bound.undefs_right w.line (inr (k, w, at', copy, refl)))
+  source_undefs : (k : ℕ) (s : Statement) → slice_get rule.source k ≡ Some s → ReadsNoUndefAlone s.op
+  source_undefs k s at =
+      let (b, w, at', goes) = written raw.source rule.source k s means.source at in no_undef_alone raw own b w.op s.op goes.1 (λ alone. bound.undefs_right w.line (inl (k, w, at', inr alone, refl)))
 
-  undefs_in_order : UndefsInOrder rule.target
-  undefs_in_order =
-      let e = undefs_from raw own no_counts (arguments_among raw.target) (operands_among rule.target) (in_half raw.target).undefs (all_go raw own no_counts raw.target rule.target means.target) (omega arith) in
-      e ∙ ap (range_with_len 0) (sym undefs_long)
+  target_undefs : (k : ℕ) (s : Statement) → slice_get rule.target k ≡ Some s → ReadsNoUndefAlone s.op
+  target_undefs k s at =
+      let (b, w, at', goes) = written raw.target rule.target k s means.target at in no_undef_alone raw own b w.op s.op goes.1 (λ alone. bound.undefs_right w.line (inr (k, w, at', alone, refl)))
 
-  source_undefs_in_order : UndefsInOrder rule.source
-  source_undefs_in_order =
-      let e = undefs_from raw own no_counts (arguments_among raw.source) (operands_among rule.source) (in_half raw.source).undefs (all_go raw own no_counts raw.source rule.source means.source) (omega arith) in
-      e ∙ ap (range_with_len 0) (sym source_undefs_long)
+  as_many : length (expressions_of raw) ≡ (in_half raw.source).choices
+  as_many = elim (same_number (length (expressions_of raw)) (in_half raw.source).choices) [ inl e ↦ e | inr differ ↦ absurd (bound.enough _ (differ, refl)) ]
 
-  as_many : length (expressions_of raw) ≡ (in_half raw.source).undefs
-  as_many = elim (same_number (length (expressions_of raw)) (in_half raw.source).undefs) [ inl e ↦ e | inr differ ↦ absurd (bound.enough _ (differ, refl)) ]
-
-  witness_count : length rule.witnesses ≡ length (undefs_among rule.source)
-  witness_count = ap length means.witnesses ∙ last_nodes_count 0 (expressions_of raw) ∙ as_many ∙ sym source_undefs_long
+  witness_count : length rule.witnesses ≡ length (choices_among rule.source)
+  witness_count = ap length means.witnesses ∙ last_nodes_count 0 (expressions_of raw) ∙ as_many ∙ sym (choices_long raw.source rule.source means.source)
 
   pub checked_rule : IsRule rule
   checked_rule =
@@ -606,12 +625,13 @@ module _ (raw : RawRule) (rule : Rule) (well : IsWellFormed raw) (bound : IsBoun
             not_redefined raw own bound.plain means.names k s.name (target_at k s.name at') (inr (j, (subst (λ n. suc j < n) source_length before), mine));
         temporaries_read = temporaries_read;
         one_use = one_use;
-        source_ops = λ k s at. let (b, w, at', goes) = written raw.source rule.source k s means.source at in no_copy raw own b w.op s.op goes.1 (well.source_ops k w at');
+        source_ops = λ k s at. let (b, w, at', goes) = written raw.source rule.source k s means.source at in in_source raw own rule k b w.op s.op goes.1 (well.source_ops k w at') (λ freeze. at_root k w at' (inr freeze));
         source_flags = λ k s at. let (b, w, at', goes) = written raw.source rule.source k s means.source at in fits raw own b w.op s.op goes.1 (well.source.flags_fit k w at');
         target_flags = λ k s at. let (b, w, at', goes) = written raw.target rule.target k s means.target at in fits raw own b w.op s.op goes.1 (well.target.flags_fit k w at');
-        source_undefs = source_undefs_in_order;
-        target_undefs = undefs_in_order;
-        target_copies = copies;
+        source_choices = choices_in_order raw.source rule.source means.source;
+        target_choices = choices_in_order raw.target rule.target means.target;
+        source_undefs = source_undefs;
+        target_undefs = target_undefs;
         witnesses = witness_count;
         witnesses_there = λ k n at. omega (arith, last_within 0 (expressions_of raw) k n (λ t among. (well.expressions t among).some) (subst (λ l. slice_get l k ≡ Some n) means.witnesses at), terms_length raw own (expressions_of raw) rule.witness_terms means.witness_terms);
         witnesses_last = witnesses_last;

@@ -22,7 +22,7 @@ use Rattle.rule_typing.specs.Relabelled.{numbered_op, numbered_statement, number
 use Rattle.rule_reader.specs.declared.names.Names.{Names}
 use Rattle.rule_reader.specs.declared.counts.Counts.{Counts}
 use Rattle.rule_parse.specs.Contents.{arguments_of, terms_of, expressions_of, formula_of}
-use Rattle.rule_reader.specs.Meaning.{past, past_all, no_counts, with_counts, with_nodes, AreNames, ArgumentMeans, OperandMeans, OpMeans, StatementMeans, NodeMeans, PreconditionMeans, HalfMeans, TermsMean, Means, names_of_rule}
+use Rattle.rule_reader.specs.Meaning.{past, past_all, counted_of, no_counts, with_counts, with_nodes, AreNames, ArgumentMeans, OperandMeans, OpMeans, StatementMeans, NodeMeans, PreconditionMeans, HalfMeans, TermsMean, Means, names_of_rule}
 
 -- what a class number stands in place of
 abbrev with_class : Operand → ℕ → Operand
@@ -50,11 +50,15 @@ module _ (raw : RawRule) (names : Names) where
       let same_flags : f ≡ f' = cc in
       let types : t ≡ t' = cc in
       (sym casts ∙ means.0, sym same_flags ∙ means.1, same_operand u a x x' m n (cc) means.2, sym types ∙ means.3)
+  same_op u m n (raw_ops.Freeze a) (ops.Freeze x j) (ops.Freeze x' j') e means =
+      let places : j ≡ j' = cc in
+      (same_operand u a x x' m n (cc) means.0, sym places ∙ means.1)
   same_op u m n (raw_ops.Copy a) (ops.Copy x) (ops.Copy x') e means = same_operand u a x x' m n (cc) means
   same_op u m n (raw_ops.Binary op flags a b) (ops.Binary o f x y) q e means = absurd (cc)
   same_op u m n (raw_ops.Compare pred samesign a b) (ops.Compare o s x y) q e means = absurd (cc)
   same_op u m n (raw_ops.Select c a b) (ops.Select z x y) q e means = absurd (cc)
   same_op u m n (raw_ops.Convert cast flags a to) (ops.Convert o f x t) q e means = absurd (cc)
+  same_op u m n (raw_ops.Freeze a) (ops.Freeze x j) q e means = absurd (cc)
   same_op u m n (raw_ops.Copy a) (ops.Copy x) q e means = absurd (cc)
   same_op u m n w p q e means = absurd means
 
@@ -72,7 +76,7 @@ module _ (raw : RawRule) (names : Names) where
       let rest : numbered_statements (m + length (classes_of_statement s)) ss ≡ numbered_statements (n + length (classes_of_statement t)) ts = cc in
       let name : s.name ≡ t.name = ap (λ (z : Statement). z.name) first in
       let op : numbered_op (m + 1) s.op ≡ numbered_op (n + 1) t.op = ap (λ (z : Statement). z.op) first in
-      ((sym name ∙ all.0.0, same_op u (m + 1) (n + 1) w.op s.op t.op op all.0.1), same_statements (past_all u (arguments_of w.op)) (m + length (classes_of_statement s)) (n + length (classes_of_statement t)) ws ss ts rest all.1)
+      ((sym name ∙ all.0.0, same_op u (m + 1) (n + 1) w.op s.op t.op op all.0.1), same_statements (past_all u (counted_of w.op)) (m + length (classes_of_statement s)) (n + length (classes_of_statement t)) ws ss ts rest all.1)
 
   -- the class of a register means nothing
   any_class : (b : ℕ) (w : RawNode) (r : Register) (c c' : ℕ) → NodeMeans raw names b w (nodes.Width r c) → NodeMeans raw names b w (nodes.Width r c')
@@ -84,7 +88,7 @@ module _ (raw : RawRule) (names : Names) where
   same_node b m n w (nodes.Literal z) (nodes.Literal z') e means = subst (NodeMeans raw names b w) e means
   same_node b m n w (nodes.Constant k) (nodes.Constant k') e means = subst (NodeMeans raw names b w) e means
   same_node b m n w (nodes.Register r) (nodes.Register r') e means = subst (NodeMeans raw names b w) e means
-  same_node b m n w (nodes.Undef k) (nodes.Undef k') e means = subst (NodeMeans raw names b w) e means
+  same_node b m n w (nodes.Choice k) (nodes.Choice k') e means = subst (NodeMeans raw names b w) e means
   same_node b m n w (nodes.Width r c) (nodes.Width r' c') e means = let same : r ≡ r' = cc in subst (λ q. NodeMeans raw names b w (nodes.Width q c')) same (any_class b w r c c' means)
   same_node b m n w (nodes.Unary f x) (nodes.Unary f' x') e means = subst (NodeMeans raw names b w) e means
   same_node b m n w (nodes.Binary op x y) (nodes.Binary op' x' y') e means = subst (NodeMeans raw names b w) e means

@@ -1,4 +1,4 @@
--- How many `undef`s and nodes of terms stand before and behind what.
+-- How many choices and nodes of terms stand before and behind what.
 use Rattle.std.proofs.Common.{◌≡◌, ℕ, zero, suc, ◌+◌, ◌<◌, ◌≤◌, List, [], ◌∷◌, ◌++◌, length, Some, refl, sym, ap, subst, ◌∙◌, arith, take, drop, get_or}
 use Rattle.std.specs.Prelude.{slice_get}
 use Rattle.std.specs.List.{AllZip}
@@ -7,6 +7,8 @@ use Rattle.std.proofs.lemmas.Grind.{flat_map-append, fold-append}
 use Rattle.std.proofs.lemmas.Option.{same_Some}
 use Rattle.rule_parse.specs.declared.raw.RawRule.{RawRule}
 use Rattle.rule_parse.specs.declared.raw.RawStatement.{RawStatement}
+use Rattle.rule_parse.specs.declared.raw.RawOp.{RawOp}
+use Rattle.rule_parse.specs.declared.raw.RawOp.TheVariants as raw_ops
 use Rattle.rule_parse.specs.declared.raw.RawArgument.{RawArgument}
 use Rattle.rule_parse.specs.declared.raw.RawArgument.TheVariants.{Register, Literal, Truth, Constant, Undef, Term}
 use Rattle.rule_core.specs.declared.rule.Statement.{Statement}
@@ -14,7 +16,7 @@ use Rattle.rule_reader.specs.declared.names.Names.{Names}
 use Rattle.rule_reader.specs.declared.counts.Counts.{Counts}
 use Rattle.rule_reader.specs.declared.place.Place.{Place}
 use Rattle.rule_parse.specs.Contents.{arguments_of, arguments_among}
-use Rattle.rule_reader.specs.Meaning.{past, past_all, no_counts, in_half, with_counts, StatementMeans, HalfMeans}
+use Rattle.rule_reader.specs.Meaning.{past, past_all, counted_of, counted_among, no_counts, in_half, with_counts, StatementMeans, HalfMeans}
 use Rattle.rule_reader.specs.FaultKinds.{Each, ArgumentIsBound}
 use Rattle.rule_reader.specs.KnownRules.{AreFew, IsWhole, AreReady}
 use Rattle.rule_reader.proofs.Places.{zip_push}
@@ -39,20 +41,34 @@ pub arguments_more : (ss : List RawStatement) (k : ℕ) (s : RawStatement) → k
 arguments_more ss k s within is =
     ap arguments_among (take_more ss k s within ∙ ap (λ x. take k ss ++ x ∷ []) (sym is)) ∙ flat_map-append (λ (x : RawStatement). arguments_of x.op) (take k ss) (s ∷ []) ∙ ap (λ l. arguments_among (take k ss) ++ l) (append-nil (arguments_of s.op))
 
-pub counts_more : (ss : List RawStatement) (k : ℕ) (s : RawStatement) (c : Counts) → k < length ss → s ≡ get_or ss k s → c ≡ past_all no_counts (arguments_among (take k ss)) → past_all c (arguments_of s.op) ≡ past_all no_counts (arguments_among (take (k + 1) ss))
-counts_more ss k s c within is before =
-    ap (λ b. past_all b (arguments_of s.op)) before ∙ sym (past_append no_counts (arguments_among (take k ss)) (arguments_of s.op)) ∙ ap (past_all no_counts) (sym (arguments_more ss k s within is))
+-- and what is counted of them
+counted_more : (ss : List RawStatement) (k : ℕ) (s : RawStatement) → k < length ss → s ≡ get_or ss k s → counted_among (take (k + 1) ss) ≡ counted_among (take k ss) ++ counted_of s.op
+counted_more ss k s within is =
+    ap counted_among (take_more ss k s within ∙ ap (λ x. take k ss ++ x ∷ []) (sym is)) ∙ flat_map-append (λ (x : RawStatement). counted_of x.op) (take k ss) (s ∷ []) ∙ ap (λ l. counted_among (take k ss) ++ l) (append-nil (counted_of s.op))
 
-pub few_at : (ss : List RawStatement) (k : ℕ) (s : RawStatement) (c : Counts) → AreFew (in_half ss) → k < length ss → s ≡ get_or ss k s → c ≡ past_all no_counts (arguments_among (take k ss)) → AreFew (past_all c (arguments_of s.op))
+pub counts_more : (ss : List RawStatement) (k : ℕ) (s : RawStatement) (c : Counts) → k < length ss → s ≡ get_or ss k s → c ≡ past_all no_counts (counted_among (take k ss)) → past_all c (counted_of s.op) ≡ past_all no_counts (counted_among (take (k + 1) ss))
+counts_more ss k s c within is before =
+    ap (λ b. past_all b (counted_of s.op)) before ∙ sym (past_append no_counts (counted_among (take k ss)) (counted_of s.op)) ∙ ap (past_all no_counts) (sym (counted_more ss k s within is))
+
+pub few_at : (ss : List RawStatement) (k : ℕ) (s : RawStatement) (c : Counts) → AreFew (in_half ss) → k < length ss → s ≡ get_or ss k s → c ≡ past_all no_counts (counted_among (take k ss)) → AreFew (past_all c (counted_of s.op))
 few_at ss k s c few within is before =
-    let parts : arguments_among ss ≡ arguments_among (take (k + 1) ss) ++ arguments_among (drop (k + 1) ss) =
-    ap arguments_among (sym (take-append-drop (k + 1) ss)) ∙ flat_map-append (λ (x : RawStatement). arguments_of x.op) (take (k + 1) ss) (drop (k + 1) ss) in
-    let whole : in_half ss ≡ past_all (past_all no_counts (arguments_among (take (k + 1) ss))) (arguments_among (drop (k + 1) ss)) = ap (past_all no_counts) parts ∙ past_append no_counts (arguments_among (take (k + 1) ss)) (arguments_among (drop (k + 1) ss)) in
-    subst AreFew (sym (counts_more ss k s c within is before)) (few_before (past_all no_counts (arguments_among (take (k + 1) ss))) (arguments_among (drop (k + 1) ss)) (subst AreFew whole few))
+    let parts : counted_among ss ≡ counted_among (take (k + 1) ss) ++ counted_among (drop (k + 1) ss) =
+    ap counted_among (sym (take-append-drop (k + 1) ss)) ∙ flat_map-append (λ (x : RawStatement). counted_of x.op) (take (k + 1) ss) (drop (k + 1) ss) in
+    let whole : in_half ss ≡ past_all (past_all no_counts (counted_among (take (k + 1) ss))) (counted_among (drop (k + 1) ss)) = ap (past_all no_counts) parts ∙ past_append no_counts (counted_among (take (k + 1) ss)) (counted_among (drop (k + 1) ss)) in
+    subst AreFew (sym (counts_more ss k s c within is before)) (few_before (past_all no_counts (counted_among (take (k + 1) ss))) (counted_among (drop (k + 1) ss)) (subst AreFew whole few))
 
 -- at the end
-pub counts_all : (ss : List RawStatement) (k : ℕ) (c : Counts) → length ss ≤ k → c ≡ past_all no_counts (arguments_among (take k ss)) → c ≡ in_half ss
+pub counts_all : (ss : List RawStatement) (k : ℕ) (c : Counts) → length ss ≤ k → c ≡ past_all no_counts (counted_among (take k ss)) → c ≡ in_half ss
 counts_all ss k c past_end is = is ∙ ap in_half (take_all k ss past_end)
+
+-- what a statement reads is few where all that is counted of it is
+pub few_read : (c : Counts) (op : RawOp) → AreFew (past_all c (counted_of op)) → AreFew (past_all c (arguments_of op))
+few_read c (raw_ops.Binary op flags a b) few = few
+few_read c (raw_ops.Compare pred samesign a b) few = few
+few_read c (raw_ops.Select z a b) few = few
+few_read c (raw_ops.Convert cast flags a to) few = few
+few_read c (raw_ops.Freeze a) few = few_one (past c a.value) Undef few
+few_read c (raw_ops.Copy a) few = few
 
 -- arguments that are bound, whole and few can mean something
 pub ready : (raw : RawRule) (place : Place) (c : Counts) (os : List RawArgument) → Each (ArgumentIsBound raw place) os → Each IsWhole os → AreFew (past_all c os) → AreReady raw place c os
@@ -64,26 +80,26 @@ ready raw place c (a ∷ os) bound whole few = ((bound.0, whole.0, few_before (p
 pub with_counts_at : (c : Counts) (ss : List RawStatement) (k : ℕ) (x : Counts × RawStatement) → slice_get (with_counts c ss) k ≡ Some x → slice_get ss k ≡ Some x.1
 with_counts_at c [] k x at = elim k as (λ j. slice_get [] j ≡ Some x → slice_get [] j ≡ Some x.1) [ zero ↦ λ h. cc | suc j ↦ λ h. cc ] at
 with_counts_at c (s ∷ ss) zero x at = ap (λ (y : Counts × RawStatement). Some y.1) (same_Some (c, s) x at)
-with_counts_at c (s ∷ ss) (suc k) x at = with_counts_at (past_all c (arguments_of s.op)) ss k x at
+with_counts_at c (s ∷ ss) (suc k) x at = with_counts_at (past_all c (counted_of s.op)) ss k x at
 
 pub at_with_counts : (c : Counts) (ss : List RawStatement) (k : ℕ) (s : RawStatement) → slice_get ss k ≡ Some s → (b : Counts) × (slice_get (with_counts c ss) k ≡ Some (b, s))
 at_with_counts c [] k s at = elim k as (λ j. slice_get [] j ≡ Some s → (b : Counts) × (slice_get [] j ≡ Some (b, s))) [ zero ↦ λ h. cc | suc j ↦ λ h. cc ] at
 at_with_counts c (t ∷ ss) zero s at = (c, ap (λ (y : RawStatement). Some (c, y)) (same_Some t s at))
-at_with_counts c (t ∷ ss) (suc k) s at = at_with_counts (past_all c (arguments_of t.op)) ss k s at
+at_with_counts c (t ∷ ss) (suc k) s at = at_with_counts (past_all c (counted_of t.op)) ss k s at
 
-with_counts_push : (c : Counts) (ss : List RawStatement) (s : RawStatement) → with_counts c (ss ++ s ∷ []) ≡ with_counts c ss ++ (past_all c (arguments_among ss), s) ∷ []
+with_counts_push : (c : Counts) (ss : List RawStatement) (s : RawStatement) → with_counts c (ss ++ s ∷ []) ≡ with_counts c ss ++ (past_all c (counted_among ss), s) ∷ []
 with_counts_push c [] s = refl
 with_counts_push c (t ∷ ss) s =
-    let rest = with_counts_push (past_all c (arguments_of t.op)) ss s in
-    let same : past_all (past_all c (arguments_of t.op)) (arguments_among ss) ≡ past_all c (arguments_of t.op ++ arguments_among ss) = sym (past_append c (arguments_of t.op) (arguments_among ss)) in
-    ap (λ l. (c, t) ∷ l) (rest ∙ ap (λ b. with_counts (past_all c (arguments_of t.op)) ss ++ (b, s) ∷ []) same)
+    let rest = with_counts_push (past_all c (counted_of t.op)) ss s in
+    let same : past_all (past_all c (counted_of t.op)) (counted_among ss) ≡ past_all c (counted_of t.op ++ counted_among ss) = sym (past_append c (counted_of t.op) (counted_among ss)) in
+    ap (λ l. (c, t) ∷ l) (rest ∙ ap (λ b. with_counts (past_all c (counted_of t.op)) ss ++ (b, s) ∷ []) same)
 
 -- one more statement of a half
-pub half_more : (raw : RawRule) (names : Names) (ws : List RawStatement) (k : ℕ) (w : RawStatement) (c : Counts) (ss zs : List Statement) (s : Statement) → k < length ws → w ≡ get_or ws k w → c ≡ past_all no_counts (arguments_among (take k ws))
+pub half_more : (raw : RawRule) (names : Names) (ws : List RawStatement) (k : ℕ) (w : RawStatement) (c : Counts) (ss zs : List Statement) (s : Statement) → k < length ws → w ≡ get_or ws k w → c ≡ past_all no_counts (counted_among (take k ws))
     → HalfMeans raw names (take k ws) ss → zs ≡ ss ++ s ∷ [] → StatementMeans raw names c w s → HalfMeans raw names (take (k + 1) ws) zs
 half_more raw names ws k w c ss zs s within is before all more means =
     let R : Counts × RawStatement → Statement → Type 0 = λ x y. StatementMeans raw names x.0 x.1 y in
-    let c' = past_all no_counts (arguments_among (take k ws)) in
+    let c' = past_all no_counts (counted_among (take k ws)) in
     subst (λ l. HalfMeans raw names l zs) (sym (take_more ws k w within ∙ ap (λ z. take k ws ++ z ∷ []) (sym is)))
     (subst (λ l. AllZip R l zs) (sym (with_counts_push no_counts (take k ws) w))
     (subst (AllZip R (with_counts no_counts (take k ws) ++ (c', w) ∷ [])) (sym more) (zip_push R (with_counts no_counts (take k ws)) ss (c', w) s all (subst (λ b. StatementMeans raw names b w s) before means))))

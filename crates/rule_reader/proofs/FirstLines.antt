@@ -6,7 +6,7 @@ use Rattle.rule_parse.specs.declared.raw.RawStatement.{RawStatement}
 use Rattle.rule_typing.proofs.Deciding.{dec_both, dec_either, dec_not, dec_number, dec_place}
 use Rattle.rule_reader.specs.declared.place.Place.TheVariants as places
 use Rattle.rule_reader.specs.WellFormed.{AreInLineOrder, IsWellFormed}
-use Rattle.rule_reader.specs.FaultKinds.{FormulaIsBound, TermIsBound, StandsAt, HasNameOf, AssignsAgain, DuplicateAt, StatementUnbound, PreconditionUnbound, WitnessUnbound, UnboundAt, MissesRoot, RootMissingAt, Redefines, RedefinesAt, IsUnused, UnusedTempAt, ReadsUndefInside, IsUndefCopy, UndefInsideAt, WitnessCountAt, witness_line}
+use Rattle.rule_reader.specs.FaultKinds.{FormulaIsBound, TermIsBound, StandsAt, HasNameOf, AssignsAgain, DuplicateAt, StatementUnbound, PreconditionUnbound, WitnessUnbound, UnboundAt, MissesRoot, RootMissingAt, Redefines, RedefinesAt, IsUnused, UnusedTempAt, HasUndefInside, ReadsUndefAlone, UndefInsideAt, WitnessCountAt, witness_line}
 use Rattle.rule_reader.specs.Faults.{IsFirst}
 use Rattle.rule_parse.specs.declared.raw.RawPrecondition.{RawPrecondition}
 use Rattle.rule_parse.specs.declared.raw.RawWitness.{RawWitness}
@@ -16,7 +16,7 @@ use Rattle.rule_reader.proofs.Stable.{same_number}
 use Rattle.rule_reader.proofs.Places.{there}
 use Rattle.rule_reader.proofs.Firsts.{NoneBefore, first_here, first_none, none_more, first_left, first_right, first_none_of, lines_before}
 use Rattle.rule_reader.proofs.Assignments.{Again, name_line_first}
-use Rattle.rule_reader.proofs.NameDecisions.{dec_name, dec_assigned_before, dec_temporary, dec_root, dec_input, dec_each, dec_op, dec_formula, dec_term, dec_unused, dec_undef_inside, dec_undef_copy}
+use Rattle.rule_reader.proofs.NameDecisions.{dec_name, dec_assigned_before, dec_temporary, dec_root, dec_input, dec_each, dec_op, dec_formula, dec_term, dec_unused, dec_undef_inside, dec_undef_alone}
 use Rattle.rule_reader.proofs.Unbound.{InSource, InTarget, in_precondition, in_witness, in_source, in_target, one_precondition, bound_precondition, one_witness, bound_witness}
 
 -- the first line, or none
@@ -91,13 +91,13 @@ module _ (raw : RawRule) (well : IsWellFormed raw) where
 
   pub first_undef_inside : FirstOf (UndefInsideAt raw)
   first_undef_inside =
-      first_of_two (StandsAt raw.source (ReadsUndefInside raw.source)) (StandsAt raw.target (λ k s. IsUndefCopy s.op))
-      (first_of raw.source (ReadsUndefInside raw.source) well.source.in_order (dec_undef_inside raw.source))
-      (first_of raw.target (λ k s. IsUndefCopy s.op) well.target.in_order (λ k s. dec_undef_copy s.op))
-      (lines_before raw.source raw.target (ReadsUndefInside raw.source) (λ k s. IsUndefCopy s.op) well.source_first)
+      first_of_two (StandsAt raw.source (HasUndefInside raw.source)) (StandsAt raw.target (λ k s. ReadsUndefAlone s.op))
+      (first_of raw.source (HasUndefInside raw.source) well.source.in_order (dec_undef_inside raw.source))
+      (first_of raw.target (λ k s. ReadsUndefAlone s.op) well.target.in_order (λ k s. dec_undef_alone s.op))
+      (lines_before raw.source raw.target (HasUndefInside raw.source) (λ k s. ReadsUndefAlone s.op) well.source_first)
 
   pub first_witness_count : FirstOf (WitnessCountAt raw)
-  first_witness_count = elim (same_number (length (expressions_of raw)) (in_half raw.source).undefs) [
+  first_witness_count = elim (same_number (length (expressions_of raw)) (in_half raw.source).choices) [
     | inl same ↦ (None, λ line h. h.0 same)
     | inr differ ↦ (Some (witness_line raw), ((differ, refl), λ other h. omega (arith, h.1)))
   ]

@@ -15,6 +15,7 @@ use Rattle.rule_parse.specs.Grammar.{SpellsStatements}
 use Rattle.rule_tokens.specs.Parts.{Part, Maybe}
 use Rattle.rule_tokens.specs.Tokens.{Token, Line, Head, Name, Register, Word, Number, Arrow, Mark, Other, Bad, Excess, token_of, Place, TokensFrom, ends, token, name as at_name, bad_token, bad_name}
 use Rattle.rule_reader.specs.WellFormed.{AreInLineOrder}
+use Rattle.rule_tokens.specs.declared.version.Version.{Version}
 use Rattle.rule_tokens.specs.Limits.{rule_limits}
 
 -- the lines begin in their order, none before a line
@@ -128,9 +129,9 @@ pub none_at : {X : Type 0} (k : ℕ) (x : X) → slice_get [] k ≡ Some x → �
 none_at zero x at = cc
 none_at (suc k) x at = cc
 
-pub ordered : (half : _) (low : ℕ) (ss : List RawStatement) (tokens behind : List Token) → SpellsStatements rule_limits half ss tokens → Ascend low (tokens ++ behind) → Ordered low ss behind
+pub ordered : (version : Version) (half : _) (low : ℕ) (ss : List RawStatement) (tokens behind : List Token) → SpellsStatements rule_limits version half ss tokens → Ascend low (tokens ++ behind) → Ordered low ss behind
 unfolding Ascend
-ordered half low [] tokens behind is up =
+ordered version half low [] tokens behind is up =
     record {
       not_before = λ k s at. absurd (none_at k s at);
       in_order = λ j k s t lt at at'. absurd (none_at j s at);
@@ -139,12 +140,12 @@ ordered half low [] tokens behind is up =
       reaches = omega arith;
       goes_on = subst (λ l. Ascend low (l ++ behind)) is up;
     }
-ordered half low (s ∷ ss) tokens behind (own, rest, spelled, others, is) up =
+ordered version half low (s ∷ ss) tokens behind (own, rest, spelled, others, is) up =
     let whole : tokens ++ behind ≡ Line s.line ∷ (Register s.name ∷ Mark (codes "=") ∷ spelled.op) ++ (rest ++ behind) =
     ap (λ l. l ++ behind) is ∙ append_assoc own rest behind ∙ ap (λ l. l ++ (rest ++ behind)) spelled.spelled in
     let start = subst (λ l. Ascend low l) whole up in
     let (m, le, later) = skip s.line (Register s.name ∷ Mark (codes "=") ∷ spelled.op) (rest ++ behind) start.1 in
-    let next = ordered half m ss rest behind others later in
+    let next = ordered version half m ss rest behind others later in
     record {
       not_before = λ k t at. elim k as (λ i. slice_get (s ∷ ss) i ≡ Some t → low ≤ t.line) [
         | zero ↦ λ e. let same : s ≡ t = same_Some s t e in let line : s.line ≡ t.line = ap (λ (z : RawStatement). z.line) same in omega (arith, start.0)

@@ -1,7 +1,7 @@
 -- What a rule that is meant has of the rule as written: names, operands and registers.
-use Rattle.std.proofs.Common.{◌≡◌, ℕ, zero, suc, ◌+◌, ◌<◌, ◌≤◌, List, [], ◌∷◌, ◌++◌, length, Some, refl, sym, ap, subst, arith}
-use Rattle.std.specs.Prelude.{slice_get, map, filter_map}
-use Rattle.std.specs.List.{cons_option}
+use Rattle.std.proofs.Common.{◌≡◌, ℕ, zero, suc, ◌+◌, ◌<◌, ◌≤◌, List, [], ◌∷◌, ◌++◌, length, None, Some, refl, sym, ap, subst, ◌∙◌, arith}
+use Rattle.std.specs.Prelude.{slice_get, map, flat_map}
+use Rattle.std.proofs.lemmas.Grind.{flat_map-append}
 use Rattle.std.specs.List.{AllZip, range_with_len}
 use Rattle.std.proofs.lemmas.Option.{slice_get_within, same_Some}
 use Rattle.rule_parse.specs.declared.raw.RawRule.{RawRule}
@@ -17,11 +17,12 @@ use Rattle.rule_core.specs.declared.rule.Operand.{Operand}
 use Rattle.rule_core.specs.declared.rule.Argument.{Argument}
 use Rattle.rule_core.specs.declared.rule.Argument.TheVariants as arguments
 use Rattle.rule_core.specs.Checks.{names_of}
-use Rattle.rule_core.specs.Positions.{operands_of as operands_meant, operands_among, undef_in}
+use Rattle.rule_core.specs.declared.rule.Choice.{Choice}
+use Rattle.rule_core.specs.Positions.{operands_of as operands_meant, operands_among, undef_in, frozen_in, choices_of, choices_among}
 use Rattle.rule_reader.specs.declared.names.Names.{Names}
 use Rattle.rule_reader.specs.declared.counts.Counts.{Counts}
 use Rattle.rule_parse.specs.Contents.{arguments_of, arguments_among}
-use Rattle.rule_reader.specs.Meaning.{past, past_all, no_counts, with_counts, AssignsAt, ArgumentMeans, OpMeans, StatementMeans, HalfMeans}
+use Rattle.rule_reader.specs.Meaning.{past, past_all, counted_of, counted_among, no_counts, with_counts, AssignsAt, ArgumentMeans, OpMeans, StatementMeans, HalfMeans}
 use Rattle.rule_reader.proofs.Places.{at_map, map_at, zip_left, zip_right, zip_append}
 
 -- a statement that assigns the register
@@ -62,20 +63,55 @@ nodes_grow b (raw_arguments.Constant name ∷ xs) = nodes_grow b xs
 nodes_grow b (raw_arguments.Undef ∷ xs) = nodes_grow (past b raw_arguments.Undef) xs
 nodes_grow b (raw_arguments.Term t ∷ xs) = omega (arith, nodes_grow (past b (raw_arguments.Term t)) xs)
 
-undefs_grow : (b : Counts) (xs : List RawArgument) → b.undefs ≤ (past_all b xs).undefs
-undefs_grow b [] = omega arith
-undefs_grow b (raw_arguments.Register name ∷ xs) = undefs_grow b xs
-undefs_grow b (raw_arguments.Literal z ∷ xs) = undefs_grow b xs
-undefs_grow b (raw_arguments.Truth t ∷ xs) = undefs_grow b xs
-undefs_grow b (raw_arguments.Constant name ∷ xs) = undefs_grow b xs
-undefs_grow b (raw_arguments.Undef ∷ xs) = omega (arith, undefs_grow (past b raw_arguments.Undef) xs)
-undefs_grow b (raw_arguments.Term t ∷ xs) = undefs_grow (past b (raw_arguments.Term t)) xs
+choices_grow : (b : Counts) (xs : List RawArgument) → b.choices ≤ (past_all b xs).choices
+choices_grow b [] = omega arith
+choices_grow b (raw_arguments.Register name ∷ xs) = choices_grow b xs
+choices_grow b (raw_arguments.Literal z ∷ xs) = choices_grow b xs
+choices_grow b (raw_arguments.Truth t ∷ xs) = choices_grow b xs
+choices_grow b (raw_arguments.Constant name ∷ xs) = choices_grow b xs
+choices_grow b (raw_arguments.Undef ∷ xs) = omega (arith, choices_grow (past b raw_arguments.Undef) xs)
+choices_grow b (raw_arguments.Term t ∷ xs) = choices_grow (past b (raw_arguments.Term t)) xs
 
 -- the nodes up to an argument are not more than those of all
 pub nodes_upto : (b : Counts) (xs : List RawArgument) (q : ℕ) (x : Counts × RawArgument) → slice_get (with_before b xs) q ≡ Some x → (past x.0 x.1).nodes ≤ (past_all b xs).nodes
 nodes_upto b [] q x at = elim q as (λ j. slice_get [] j ≡ Some x → (past x.0 x.1).nodes ≤ b.nodes) [ zero ↦ λ h. absurd (cc) | suc j ↦ λ h. absurd (cc) ] at
 nodes_upto b (a ∷ xs) zero x at = subst (λ (y : Counts × RawArgument). (past y.0 y.1).nodes ≤ (past_all (past b a) xs).nodes) (same_Some (b, a) x at) (nodes_grow (past b a) xs)
 nodes_upto b (a ∷ xs) (suc q) x at = nodes_upto (past b a) xs q x at
+
+-- what is counted of a statement that is meant: its operands, and a freeze as an `undef` of its class behind its operand
+abbrev pub frozen_operand : ℕ → Op → List Operand
+frozen_operand c (ops.Freeze a k) = record { value = arguments.Undef k; written = None; class = c } ∷ []
+frozen_operand c op = []
+
+abbrev pub counted_meant : Statement → List Operand
+counted_meant s = operands_meant s.op ++ frozen_operand s.class s.op
+
+undefs_of : Operand → List Choice
+undefs_of o = undef_in o.class o.value
+
+-- these are the statement's choices
+frozen_choices : (c : ℕ) (op : Op) → frozen_in c op ≡ flat_map undefs_of (frozen_operand c op)
+unfolding undefs_of
+frozen_choices c (ops.Freeze a k) = refl
+frozen_choices c (ops.Binary op flags a b) = refl
+frozen_choices c (ops.Compare pred samesign a b) = refl
+frozen_choices c (ops.Select z a b) = refl
+frozen_choices c (ops.Convert cast flags a to) = refl
+frozen_choices c (ops.Copy a) = refl
+
+one_counted : (s : Statement) → choices_of s ≡ flat_map undefs_of (counted_meant s)
+unfolding undefs_of
+one_counted s =
+    ap (λ l. flat_map undefs_of (operands_meant s.op) ++ l) (frozen_choices s.class s.op) ∙ sym (flat_map-append undefs_of (operands_meant s.op) (frozen_operand s.class s.op))
+
+choices_counted : (ss : List Statement) → choices_among ss ≡ flat_map undefs_of (flat_map counted_meant ss)
+choices_counted [] = refl
+choices_counted (s ∷ ss) =
+    ap (λ l. l ++ choices_among ss) (one_counted s) ∙ ap (λ l. flat_map undefs_of (counted_meant s) ++ l) (choices_counted ss)
+    ∙ sym (flat_map-append undefs_of (counted_meant s) (flat_map counted_meant ss))
+
+abbrev pub places : List Choice → List ℕ
+places choices = map (λ c. c.place) choices
 
 module _ (raw : RawRule) (names : Names) where
   -- what an operand reads, as written
@@ -85,11 +121,26 @@ module _ (raw : RawRule) (names : Names) where
   abbrev pub Go : Counts → List RawArgument → List Operand → Type 0
   Go b ws os = AllZip Goes (with_before b ws) os
 
+  -- what an argument of whatever counts means
+  abbrev pub Reads : RawArgument → Operand → Type 0
+  Reads w o = (c : Counts) × ArgumentMeans raw names c w o.value
+
+  -- what is counted of a statement
+  counted_go : (b : Counts) (c : ℕ) (w : RawOp) (op : Op) → OpMeans raw names b w op → Go b (counted_of w) (operands_meant op ++ frozen_operand c op)
+  counted_go b c (raw_ops.Binary op flags a d) (ops.Binary op' flags' x y) means = (means.2.1, (means.3.1, tt))
+  counted_go b c (raw_ops.Compare pred samesign a d) (ops.Compare pred' samesign' x y) means = (means.2.1, (means.3.1, tt))
+  counted_go b c (raw_ops.Select z a d) (ops.Select z' x y) means = (means.0.1, (means.1.1, (means.2.1, tt)))
+  counted_go b c (raw_ops.Convert cast flags a to) (ops.Convert cast' flags' x to') means = (means.2.1, tt)
+  counted_go b c (raw_ops.Freeze a) (ops.Freeze x k) means = (means.0.1, (means.1, tt))
+  counted_go b c (raw_ops.Copy a) (ops.Copy x) means = (means.1, tt)
+  counted_go b c w op means = absurd means
+
   pub operands_go : (b : Counts) (w : RawOp) (op : Op) → OpMeans raw names b w op → Go b (arguments_of w) (operands_meant op)
   operands_go b (raw_ops.Binary op flags a c) (ops.Binary op' flags' x y) means = (means.2.1, (means.3.1, tt))
   operands_go b (raw_ops.Compare pred samesign a c) (ops.Compare pred' samesign' x y) means = (means.2.1, (means.3.1, tt))
   operands_go b (raw_ops.Select c a d) (ops.Select z x y) means = (means.0.1, (means.1.1, (means.2.1, tt)))
   operands_go b (raw_ops.Convert cast flags a to) (ops.Convert cast' flags' x to') means = (means.2.1, tt)
+  operands_go b (raw_ops.Freeze a) (ops.Freeze x k) means = (means.0.1, tt)
   operands_go b (raw_ops.Copy a) (ops.Copy x) means = (means.1, tt)
   operands_go b w op means = absurd means
 
@@ -101,23 +152,38 @@ module _ (raw : RawRule) (names : Names) where
   names_go b [] [] all = refl
   names_go b [] (s ∷ ss) all = absurd all
   names_go b (w ∷ ws) [] all = absurd all
-  names_go b (w ∷ ws) (s ∷ ss) all = let e = all.0.0 in let rest = names_go (past_all b (arguments_of w.op)) ws ss all.1 in cc
+  names_go b (w ∷ ws) (s ∷ ss) all = let e = all.0.0 in let rest = names_go (past_all b (counted_of w.op)) ws ss all.1 in cc
 
   pub count_go : (b : Counts) (ws : List RawStatement) (ss : List Statement) → MeanFrom b ws ss → length ss ≡ length ws
   count_go b [] [] all = refl
   count_go b [] (s ∷ ss) all = absurd all
   count_go b (w ∷ ws) [] all = absurd all
-  count_go b (w ∷ ws) (s ∷ ss) all = ap suc (count_go (past_all b (arguments_of w.op)) ws ss all.1)
+  count_go b (w ∷ ws) (s ∷ ss) all = ap suc (count_go (past_all b (counted_of w.op)) ws ss all.1)
 
   go_append : (b : Counts) (xs ys : List RawArgument) (os ps : List Operand) → Go b xs os → Go (past_all b xs) ys ps → Go b (xs ++ ys) (os ++ ps)
   go_append b xs ys os ps p q = subst (λ l. AllZip Goes l (os ++ ps)) (sym (with_before_append b xs ys)) (zip_append Goes (with_before b xs) os (with_before (past_all b xs) ys) ps p q)
 
-  pub all_go : (b : Counts) (ws : List RawStatement) (ss : List Statement) → MeanFrom b ws ss → Go b (arguments_among ws) (operands_among ss)
+  pub all_go : (b : Counts) (ws : List RawStatement) (ss : List Statement) → MeanFrom b ws ss → Go b (counted_among ws) (flat_map counted_meant ss)
   all_go b [] [] all = tt
   all_go b [] (s ∷ ss) all = absurd all
   all_go b (w ∷ ws) [] all = absurd all
   all_go b (w ∷ ws) (s ∷ ss) all =
-      go_append b (arguments_of w.op) (arguments_among ws) (operands_meant s.op) (operands_among ss) (operands_go b w.op s.op all.0.1) (all_go (past_all b (arguments_of w.op)) ws ss all.1)
+      go_append b (counted_of w.op) (counted_among ws) (counted_meant s) (flat_map counted_meant ss) (counted_go b s.class w.op s.op all.0.1) (all_go (past_all b (counted_of w.op)) ws ss all.1)
+
+  -- what statements read, whatever stands before it
+  reads_of : (b : Counts) (ws : List RawArgument) (os : List Operand) → Go b ws os → AllZip Reads ws os
+  reads_of b [] [] go = tt
+  reads_of b [] (o ∷ os) go = absurd go
+  reads_of b (w ∷ ws) [] go = absurd go
+  reads_of b (w ∷ ws) (o ∷ os) go = ((b, go.0), reads_of (past b w) ws os go.1)
+
+  pub all_read : (b : Counts) (ws : List RawStatement) (ss : List Statement) → MeanFrom b ws ss → AllZip Reads (arguments_among ws) (operands_among ss)
+  all_read b [] [] all = tt
+  all_read b [] (s ∷ ss) all = absurd all
+  all_read b (w ∷ ws) [] all = absurd all
+  all_read b (w ∷ ws) (s ∷ ss) all =
+      zip_append Reads (arguments_of w.op) (operands_meant s.op) (arguments_among ws) (operands_among ss)
+      (reads_of b (arguments_of w.op) (operands_meant s.op) (operands_go b w.op s.op all.0.1)) (all_read (past_all b (counted_of w.op)) ws ss all.1)
 
   -- what a statement's operand reads stands in the statement as written
   pub read_go : (b : Counts) (w : RawOp) (op : Op) (q : ℕ) (o : Operand) → OpMeans raw names b w op → slice_get (operands_meant op) q ≡ Some o → (c : Counts) × (a : RawArgument) × (slice_get (arguments_of w) q ≡ Some a) × ArgumentMeans raw names c a o.value
@@ -125,34 +191,39 @@ module _ (raw : RawRule) (names : Names) where
       let found = zip_right Goes (with_before b (arguments_of w)) (operands_meant op) q o (operands_go b w op means) at in
       (found.0.0, found.0.1, with_before_at b (arguments_of w) q found.0 found.1, found.2)
 
-  undef_first : (b : Counts) (w : RawArgument) (ws : List RawArgument) (a : Argument) (behind : List ℕ) (n : ℕ) → ArgumentMeans raw names b w a
-      → ((m : ℕ) → (past_all (past b w) ws).undefs ≡ (past b w).undefs + m → behind ≡ range_with_len (past b w).undefs m) → (past_all (past b w) ws).undefs ≡ b.undefs + n → cons_option (undef_in a) behind ≡ range_with_len b.undefs n
-  undef_first b (raw_arguments.Register name) ws (arguments.Register r) behind n means rest sum = rest n sum
-  undef_first b (raw_arguments.Literal z) ws (arguments.Literal y) behind n means rest sum = rest n sum
-  undef_first b (raw_arguments.Truth t) ws (arguments.Truth u) behind n means rest sum = rest n sum
-  undef_first b (raw_arguments.Constant name) ws (arguments.Constant k) behind n means rest sum = rest n sum
-  undef_first b (raw_arguments.Term t) ws (arguments.Term k) behind n means rest sum = rest n sum
-  undef_first b raw_arguments.Undef ws (arguments.Undef k) behind zero means rest sum = absurd (omega (arith, undefs_grow (past b raw_arguments.Undef) ws))
-  undef_first b raw_arguments.Undef ws (arguments.Undef k) behind (suc m) means rest sum = let later = rest m (omega arith) in let first : k ≡ b.undefs = means in cc
-  undef_first b w ws a behind n means rest sum = absurd means
+  choice_first : (b : Counts) (w : RawArgument) (ws : List RawArgument) (c : ℕ) (a : Argument) (behind : List Choice) (n : ℕ) → ArgumentMeans raw names b w a
+      → ((m : ℕ) → (past_all (past b w) ws).choices ≡ (past b w).choices + m → places behind ≡ range_with_len (past b w).choices m) → (past_all (past b w) ws).choices ≡ b.choices + n → places (undef_in c a ++ behind) ≡ range_with_len b.choices n
+  choice_first b (raw_arguments.Register name) ws c (arguments.Register r) behind n means rest sum = rest n sum
+  choice_first b (raw_arguments.Literal z) ws c (arguments.Literal y) behind n means rest sum = rest n sum
+  choice_first b (raw_arguments.Truth t) ws c (arguments.Truth u) behind n means rest sum = rest n sum
+  choice_first b (raw_arguments.Constant name) ws c (arguments.Constant k) behind n means rest sum = rest n sum
+  choice_first b (raw_arguments.Term t) ws c (arguments.Term k) behind n means rest sum = rest n sum
+  choice_first b raw_arguments.Undef ws c (arguments.Undef k) behind zero means rest sum = absurd (omega (arith, choices_grow (past b raw_arguments.Undef) ws))
+  choice_first b raw_arguments.Undef ws c (arguments.Undef k) behind (suc m) means rest sum = let later = rest m (omega arith) in let first : k ≡ b.choices = means in cc
+  choice_first b w ws c a behind n means rest sum = absurd means
 
-  -- the `undef`s are numbered in their order
-  pub undefs_from : (b : Counts) (ws : List RawArgument) (os : List Operand) (n : ℕ) → Go b ws os → (past_all b ws).undefs ≡ b.undefs + n → filter_map (λ o. undef_in o.value) os ≡ range_with_len b.undefs n
-  undefs_from b [] [] n go sum = ap (range_with_len b.undefs) (let e : 0 ≡ n = omega arith in e)
-  undefs_from b [] (o ∷ os) n go sum = absurd go
-  undefs_from b (w ∷ ws) [] n go sum = absurd go
-  undefs_from b (w ∷ ws) (o ∷ os) n go sum = undef_first b w ws o.value (filter_map (λ o. undef_in o.value) os) n go.0 (λ m e. undefs_from (past b w) ws os m go.1 e) sum
+  -- the choices are numbered in their order
+  choices_from : (b : Counts) (ws : List RawArgument) (os : List Operand) (n : ℕ) → Go b ws os → (past_all b ws).choices ≡ b.choices + n → places (flat_map undefs_of os) ≡ range_with_len b.choices n
+  unfolding undefs_of
+  choices_from b [] [] n go sum = ap (range_with_len b.choices) (let e : 0 ≡ n = omega arith in e)
+  choices_from b [] (o ∷ os) n go sum = absurd go
+  choices_from b (w ∷ ws) [] n go sum = absurd go
+  choices_from b (w ∷ ws) (o ∷ os) n go sum = choice_first b w ws o.class o.value (flat_map undefs_of os) n go.0 (λ m e. choices_from (past b w) ws os m go.1 e) sum
+
+  -- so many as are counted, each at the place of its order
+  pub half_choices : (ws : List RawStatement) (ss : List Statement) → MeanFrom no_counts ws ss → places (choices_among ss) ≡ range_with_len 0 (past_all no_counts (counted_among ws)).choices
+  half_choices ws ss all =
+      ap places (choices_counted ss) ∙ choices_from no_counts (counted_among ws) (flat_map counted_meant ss) (past_all no_counts (counted_among ws)).choices (all_go no_counts ws ss all) (omega arith)
 
 -- operand q of a half that is meant reads what is written there, and none other is
 pub reads_written : (raw : RawRule) (names : Names) (ws : List RawStatement) (ss : List Statement) (q : ℕ) (o : Operand) → HalfMeans raw names ws ss → slice_get (operands_among ss) q ≡ Some o
-    → (c : Counts) × (a : RawArgument) × (slice_get (with_before no_counts (arguments_among ws)) q ≡ Some (c, a)) × (slice_get (arguments_among ws) q ≡ Some a) × ArgumentMeans raw names c a o.value
+    → (c : Counts) × (a : RawArgument) × (slice_get (arguments_among ws) q ≡ Some a) × ArgumentMeans raw names c a o.value
 reads_written raw names ws ss q o means at =
-    let found = zip_right (Goes raw names) (with_before no_counts (arguments_among ws)) (operands_among ss) q o (all_go raw names no_counts ws ss means) at in
-    (found.0.0, found.0.1, found.1, with_before_at no_counts (arguments_among ws) q found.0 found.1, found.2)
+    let (a, there, (c, reads)) = zip_right (Reads raw names) (arguments_among ws) (operands_among ss) q o (all_read raw names no_counts ws ss means) at in
+    (c, a, there, reads)
 
 pub written_reads : (raw : RawRule) (names : Names) (ws : List RawStatement) (ss : List Statement) (q : ℕ) (a : RawArgument) → HalfMeans raw names ws ss → slice_get (arguments_among ws) q ≡ Some a
     → (c : Counts) × (o : Operand) × (slice_get (operands_among ss) q ≡ Some o) × ArgumentMeans raw names c a o.value
 written_reads raw names ws ss q a means at =
-    let (c, at') = at_with_before no_counts (arguments_among ws) q a at in
-    let found = zip_left (Goes raw names) (with_before no_counts (arguments_among ws)) (operands_among ss) q (c, a) (all_go raw names no_counts ws ss means) at' in
-    (c, found.0, found.1, found.2)
+    let (o, there, (c, reads)) = zip_left (Reads raw names) (arguments_among ws) (operands_among ss) q a (all_read raw names no_counts ws ss means) at in
+    (c, o, there, reads)

@@ -36,7 +36,7 @@ use Rattle.rule_reader.specs.declared.place.Place.{Place}
 use Rattle.rule_reader.specs.declared.place.Place.TheVariants as places
 use Rattle.rule_reader.specs.declared.place.Half.TheVariants as halves
 use Rattle.rule_parse.specs.Contents.{arguments_of, arguments_among, terms_of, terms_of_formula, expressions_of, formula_of, target_terms}
-use Rattle.rule_reader.specs.Meaning.{nodes_in, past, past_all, no_counts, with_counts, with_nodes, with_terms, last_nodes, AssignsAt, IsConstant, AreNames, HasName, ArgumentMeans, OperandMeans, OpMeans, StatementMeans, NodeMeans, FormulaMeans, Means}
+use Rattle.rule_reader.specs.Meaning.{nodes_in, past, past_all, counted_of, no_counts, with_counts, with_nodes, with_terms, last_nodes, AssignsAt, IsConstant, AreNames, HasName, ArgumentMeans, OperandMeans, OpMeans, StatementMeans, NodeMeans, FormulaMeans, Means}
 use Rattle.rule_reader.specs.WellFormed.{IsTerm, IsWellFormed}
 use Rattle.rule_reader.specs.Inputs.{AddsNames, AreNamesAmong}
 use Rattle.rule_reader.specs.FaultKinds.{Each, MayUse, ArgumentIsBound, NodeIsBound, TermIsBound, FormulaIsBound, UnboundAt}
@@ -99,7 +99,7 @@ module _ (raw : RawRule) (names : Names) (are : AreNames raw.source names) where
   some_argument place u (raw_arguments.Literal z) bound whole = (arguments.Literal z, refl)
   some_argument place u (raw_arguments.Truth b) bound whole = (arguments.Truth b, refl)
   some_argument place u (raw_arguments.Constant name) bound whole = let (k, is) = some_constant name bound in (arguments.Constant k, is)
-  some_argument place u raw_arguments.Undef bound whole = (arguments.Undef u.undefs, refl)
+  some_argument place u raw_arguments.Undef bound whole = (arguments.Undef u.choices, refl)
   some_argument place u (raw_arguments.Term t) bound whole = (arguments.Term (u.nodes + length t - 1), omega (arith, whole.some))
 
   some_operand : (place : Place) (u : Counts) (w : RawOperand) → ArgumentIsBound raw place w.value → IsWhole w.value → (o : Operand) × OperandMeans raw names u w o
@@ -120,13 +120,14 @@ module _ (raw : RawRule) (names : Names) (are : AreNames raw.source names) where
       let (y, if_false) = some_operand place (past (past u c.value) a.value) b bound.1.1.0 whole.1.1.0 in
       (ops.Select z x y, (condition, if_true, if_false))
   some_op place u (raw_ops.Convert cast flags a to) bound whole = let (x, means) = some_operand place u a bound.0 whole.0 in (ops.Convert cast flags x to, (refl, refl, means, refl))
+  some_op place u (raw_ops.Freeze a) bound whole = let (x, means) = some_operand place u a bound.0 whole.0 in (ops.Freeze x (past u a.value).choices, (means, refl))
   some_op place u (raw_ops.Copy a) bound whole = let (x, means) = some_operand place u a bound.0 whole.0 in (ops.Copy x, means)
 
   some_statements : (u : Counts) (ws : List RawStatement) → ((k : ℕ) (w : RawStatement) (v : Counts) → slice_get ws k ≡ Some w → (op : Op) × OpMeans raw names v w.op op) → (ss : List Statement) × AllZip (λ w s. StatementMeans raw names w.0 w.1 s) (with_counts u ws) ss
   some_statements u [] each = ([], tt)
   some_statements u (w ∷ ws) each =
       let (op, means) = each 0 w u refl in
-      let (ss, all) = some_statements (past_all u (arguments_of w.op)) ws (λ k x v at. each (suc k) x v at) in
+      let (ss, all) = some_statements (past_all u (counted_of w.op)) ws (λ k x v at. each (suc k) x v at) in
       (record { name = w.name; class = 0; op = op } ∷ ss, ((refl, means), all))
 
   -- ---- terms and the formula
@@ -135,7 +136,7 @@ module _ (raw : RawRule) (names : Names) (are : AreNames raw.source names) where
   some_node place b (raw_nodes.Literal z) bound = (nodes.Literal z, refl)
   some_node place b (raw_nodes.Constant name) bound = let (k, is) = some_constant name bound in (nodes.Constant k, is)
   some_node place b (raw_nodes.Register name) bound = let (r, is) = some_register place name bound in (nodes.Register r, is)
-  some_node place b (raw_nodes.Undef k) bound = (nodes.Undef k, refl)
+  some_node place b (raw_nodes.Choice k) bound = (nodes.Choice k, refl)
   some_node place b (raw_nodes.Width name) bound = let (r, is) = some_register place name bound in (nodes.Width r 0, is)
   some_node place b (raw_nodes.Unary f a) bound = (nodes.Unary f (b + a), (refl, refl))
   some_node place b (raw_nodes.Binary op a c) bound = (nodes.Binary op (b + a) (b + c), (refl, refl, refl))

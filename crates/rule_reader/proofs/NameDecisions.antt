@@ -17,7 +17,7 @@ use Rattle.rule_reader.specs.declared.place.Place.{Place}
 use Rattle.rule_reader.specs.declared.place.Place.TheVariants as places
 use Rattle.rule_parse.specs.Contents.{arguments_of, arguments_among}
 use Rattle.rule_reader.specs.Meaning.{in_half, Uses, UsesAt, AssignsAt, IsInput, IsTemporary, IsRoot, IsConstant}
-use Rattle.rule_reader.specs.FaultKinds.{Each, MayUse, NodeIsBound, TermIsBound, ArgumentIsBound, OpIsBound, FormulaIsBound, ReadsUndefInside, IsUndefCopy, IsUnused}
+use Rattle.rule_reader.specs.FaultKinds.{Each, MayUse, NodeIsBound, TermIsBound, ArgumentIsBound, OpIsBound, FormulaIsBound, IsFreeze, LeavesOpen, ReadsUndefAlone, HasUndefInside, IsUnused}
 use Rattle.rule_reader.proofs.Stable.{same_name}
 
 pub dec_name : (a b : List ℕ) → Dec (a ≡ b)
@@ -93,7 +93,7 @@ dec_node : (raw : RawRule) (place : Place) (node : RawNode) → Dec (NodeIsBound
 dec_node raw place (nodes.Literal z) = yes tt
 dec_node raw place (nodes.Constant name) = dec_constant raw.source name
 dec_node raw place (nodes.Register name) = dec_may_use raw place name
-dec_node raw place (nodes.Undef k) = dec_lt k (in_half raw.target).undefs
+dec_node raw place (nodes.Choice k) = dec_lt k (in_half raw.target).choices
 dec_node raw place (nodes.Width name) = dec_may_use raw place name
 dec_node raw place (nodes.Unary f a) = yes tt
 dec_node raw place (nodes.Binary op a b) = yes tt
@@ -121,17 +121,28 @@ dec_formula raw (formulas.Not a) = yes tt
 dec_formula raw (formulas.And a b) = yes tt
 dec_formula raw (formulas.Or a b) = yes tt
 
-pub dec_undef_inside : (source : List RawStatement) (k : ℕ) (s : RawStatement) → Dec (ReadsUndefInside source k s)
-dec_undef_inside source k s =
-    dec_both (dec_lt (suc k) (length source))
-    (map_dec (λ (o, among, is). subst (Contains (arguments_of s.op)) is among) (λ among. (Undef, among, refl)) (dec_one (λ o. o ≡ Undef) (arguments_of s.op) dec_undef_argument))
+dec_freeze : (op : RawOp) → Dec (IsFreeze op)
+dec_freeze (ops.Freeze a) = yes tt
+dec_freeze (ops.Copy a) = no (λ e. e)
+dec_freeze (ops.Binary op flags a b) = no (λ e. e)
+dec_freeze (ops.Compare pred samesign a b) = no (λ e. e)
+dec_freeze (ops.Select c a b) = no (λ e. e)
+dec_freeze (ops.Convert cast flags a to) = no (λ e. e)
 
-pub dec_undef_copy : (op : RawOp) → Dec (IsUndefCopy op)
-dec_undef_copy (ops.Copy a) = dec_undef_argument a.value
-dec_undef_copy (ops.Binary op flags a b) = no (λ e. e)
-dec_undef_copy (ops.Compare pred samesign a b) = no (λ e. e)
-dec_undef_copy (ops.Select c a b) = no (λ e. e)
-dec_undef_copy (ops.Convert cast flags a to) = no (λ e. e)
+dec_leaves_open : (op : RawOp) → Dec (LeavesOpen op)
+dec_leaves_open op =
+    dec_either (map_dec (λ (o, among, is). subst (Contains (arguments_of op)) is among) (λ among. (Undef, among, refl)) (dec_one (λ o. o ≡ Undef) (arguments_of op) dec_undef_argument)) (dec_freeze op)
+
+pub dec_undef_alone : (op : RawOp) → Dec (ReadsUndefAlone op)
+dec_undef_alone (ops.Freeze a) = dec_undef_argument a.value
+dec_undef_alone (ops.Copy a) = dec_undef_argument a.value
+dec_undef_alone (ops.Binary op flags a b) = no (λ e. e)
+dec_undef_alone (ops.Compare pred samesign a b) = no (λ e. e)
+dec_undef_alone (ops.Select c a b) = no (λ e. e)
+dec_undef_alone (ops.Convert cast flags a to) = no (λ e. e)
+
+pub dec_undef_inside : (source : List RawStatement) (k : ℕ) (s : RawStatement) → Dec (HasUndefInside source k s)
+dec_undef_inside source k s = dec_either (dec_both (dec_lt (suc k) (length source)) (dec_leaves_open s.op)) (dec_undef_alone s.op)
 
 pub dec_unused : (source : List RawStatement) (k : ℕ) (s : RawStatement) → Dec (IsUnused source k s)
 dec_unused source k s =

@@ -37,7 +37,7 @@ use Rattle.rule_reader.specs.declared.counts.Counts.{Counts}
 use Rattle.rule_reader.specs.declared.place.Place.{Place}
 use Rattle.rule_reader.specs.declared.place.Place.TheVariants as places
 use Rattle.rule_parse.specs.Contents.{arguments_of, terms_of, expressions_of, formula_of, target_terms, terms_of_formula}
-use Rattle.rule_reader.specs.Meaning.{nodes_in, past, past_all, no_counts, with_counts, with_nodes, with_terms, GivenAt, AreFirstGiven, GivesInput, GivesConstant, IsRoot, AreNames, ArgumentMeans, OperandMeans, OpMeans, StatementMeans, NodeMeans, FormulaMeans, HalfMeans, TermsMean, PreconditionMeans, Means, names_of_rule}
+use Rattle.rule_reader.specs.Meaning.{nodes_in, past, past_all, counted_of, no_counts, with_counts, with_nodes, with_terms, GivenAt, AreFirstGiven, GivesInput, GivesConstant, IsRoot, AreNames, ArgumentMeans, OperandMeans, OpMeans, StatementMeans, NodeMeans, FormulaMeans, HalfMeans, TermsMean, PreconditionMeans, Means, names_of_rule}
 use Rattle.rule_reader.specs.FaultKinds.{Each, MayUse, ArgumentIsBound, NodeIsBound, TermIsBound}
 use Rattle.rule_reader.proofs.Places.{order, somewhere, there}
 use Rattle.rule_reader.proofs.Members.{each_in}
@@ -164,11 +164,16 @@ module _ (raw : RawRule) (names : Names) (plain : IsPlain raw) (are : AreNames r
       let same_flags : f ≡ f' = p.1 ∙ sym q.1 in
       let types : t ≡ t' = p.3 ∙ sym q.3 in
       (cc, refl)
+  one_op n u (raw_ops.Freeze a) (ops.Freeze x j) (ops.Freeze x' j') free p q =
+      let frozen = one_operand n u a x x' free.0 p.0 q.0 in
+      let places : j ≡ j' = p.1 ∙ sym q.1 in
+      (cc, refl)
   one_op n u (raw_ops.Copy a) (ops.Copy x) (ops.Copy x') free p q = (ap (λ z. ops.Copy z) (one_operand n u a x x' free.0 p q), refl)
   one_op n u (raw_ops.Binary op flags a b) (ops.Binary o f x y) q' free p q = absurd q
   one_op n u (raw_ops.Compare pred samesign a b) (ops.Compare o s x y) q' free p q = absurd q
   one_op n u (raw_ops.Select c a b) (ops.Select z x y) q' free p q = absurd q
   one_op n u (raw_ops.Convert cast flags a to) (ops.Convert o f x t) q' free p q = absurd q
+  one_op n u (raw_ops.Freeze a) (ops.Freeze x j) q' free p q = absurd q
   one_op n u (raw_ops.Copy a) (ops.Copy x) q' free p q = absurd q
   one_op n u w p' q' free p q = absurd p
 
@@ -186,7 +191,7 @@ module _ (raw : RawRule) (names : Names) (plain : IsPlain raw) (are : AreNames r
       let (op, many) = one_op (n + 1) u w.op s.op t.op (free 0 w refl) p.0.1 q.0.1 in
       let name : s.name ≡ t.name = p.0.0 ∙ sym q.0.0 in
       let long : length (classes_of_statement s) ≡ length (classes_of_statement t) = simp length-map (ap suc many) in
-      let (rest, rest_long) = one_list (n + length (classes_of_statement s)) (past_all u (arguments_of w.op)) ws ss ts (λ k v at. free (suc k) v at) p.1 q.1 in
+      let (rest, rest_long) = one_list (n + length (classes_of_statement s)) (past_all u (counted_of w.op)) ws ss ts (λ k v at. free (suc k) v at) p.1 q.1 in
       let rest' : numbered_statements (n + length (classes_of_statement s)) ss ≡ numbered_statements (n + length (classes_of_statement t)) ts = rest ∙ ap (λ m. numbered_statements (n + m) ts) long in
       let first : numbered_statement n s ≡ numbered_statement n t = cc in
       (cc, length-append (classes_of_statement s) (flat_map classes_of_statement ss) ∙ ap (λ m. m + length (flat_map classes_of_statement ss)) long ∙ ap (λ m. length (classes_of_statement t) + m) rest_long ∙ sym (length-append (classes_of_statement t) (flat_map classes_of_statement ts)))
@@ -197,7 +202,7 @@ module _ (raw : RawRule) (names : Names) (plain : IsPlain raw) (are : AreNames r
   one_node n b (raw_nodes.Literal z) (nodes.Literal x) (nodes.Literal y) free p q = (ap (λ m. nodes.Literal m) (p ∙ sym q), refl)
   one_node n b (raw_nodes.Constant name) (nodes.Constant j) (nodes.Constant k) free p q = (ap (λ m. nodes.Constant m) (are.constants.once j k name p q), refl)
   one_node n b (raw_nodes.Register name) (nodes.Register r) (nodes.Register s) free p q = (ap (λ m. nodes.Register m) (one_register raw names plain are r s name (free name (inl refl)) p q), refl)
-  one_node n b (raw_nodes.Undef i) (nodes.Undef j) (nodes.Undef k) free p q = (ap (λ m. nodes.Undef m) (p ∙ sym q), refl)
+  one_node n b (raw_nodes.Choice i) (nodes.Choice j) (nodes.Choice k) free p q = (ap (λ m. nodes.Choice m) (p ∙ sym q), refl)
   one_node n b (raw_nodes.Width name) (nodes.Width r c) (nodes.Width s d) free p q = (ap (λ m. nodes.Width m n) (one_register raw names plain are r s name (free name (inr refl)) p q), refl)
   one_node n b (raw_nodes.Unary f a) (nodes.Unary g x) (nodes.Unary h y) free p q = let e : g ≡ h = p.0 ∙ sym q.0 in let e' : x ≡ y = p.1 ∙ sym q.1 in (cc, refl)
   one_node n b (raw_nodes.Binary op a c) (nodes.Binary g x y) (nodes.Binary h x' y') free p q =
@@ -208,7 +213,7 @@ module _ (raw : RawRule) (names : Names) (plain : IsPlain raw) (are : AreNames r
   one_node n b (raw_nodes.Literal z) (nodes.Literal x) y free p q = absurd q
   one_node n b (raw_nodes.Constant name) (nodes.Constant j) y free p q = absurd q
   one_node n b (raw_nodes.Register name) (nodes.Register r) y free p q = absurd q
-  one_node n b (raw_nodes.Undef i) (nodes.Undef j) y free p q = absurd q
+  one_node n b (raw_nodes.Choice i) (nodes.Choice j) y free p q = absurd q
   one_node n b (raw_nodes.Width name) (nodes.Width r c) y free p q = absurd q
   one_node n b (raw_nodes.Unary f a) (nodes.Unary g x) y free p q = absurd q
   one_node n b (raw_nodes.Binary op a c) (nodes.Binary g x y) z free p q = absurd q
@@ -218,7 +223,7 @@ module _ (raw : RawRule) (names : Names) (plain : IsPlain raw) (are : AreNames r
   any_class c d (nodes.Literal z) = refl
   any_class c d (nodes.Constant k) = refl
   any_class c d (nodes.Register r) = refl
-  any_class c d (nodes.Undef k) = refl
+  any_class c d (nodes.Choice k) = refl
   any_class c d (nodes.Width r e) = refl
   any_class c d (nodes.Unary f a) = refl
   any_class c d (nodes.Binary op a b) = refl
@@ -295,7 +300,7 @@ node_rootless raw place (raw_nodes.Width other) free bound name e root = elim e 
 ]
 node_rootless raw place (raw_nodes.Literal z) free bound name e root = elim e [ inl same ↦ cc | inr same ↦ cc ]
 node_rootless raw place (raw_nodes.Constant other) free bound name e root = elim e [ inl same ↦ cc | inr same ↦ cc ]
-node_rootless raw place (raw_nodes.Undef k) free bound name e root = elim e [ inl same ↦ cc | inr same ↦ cc ]
+node_rootless raw place (raw_nodes.Choice k) free bound name e root = elim e [ inl same ↦ cc | inr same ↦ cc ]
 node_rootless raw place (raw_nodes.Unary f a) free bound name e root = elim e [ inl same ↦ cc | inr same ↦ cc ]
 node_rootless raw place (raw_nodes.Binary op a b) free bound name e root = elim e [ inl same ↦ cc | inr same ↦ cc ]
 
@@ -419,6 +424,10 @@ same_op m n (ops.Convert o f x t) (ops.Convert o' f' x' t') xs ys e classes =
     let same_flags : f ≡ f' = cc in
     let types : t ≡ t' = cc in
     (cc, cc)
+same_op m n (ops.Freeze x j) (ops.Freeze x' j') xs ys e classes =
+    let frozen : x ≡ x' = same_operand x x' m n (cc) (cc) in
+    let places : j ≡ j' = cc in
+    (cc, cc)
 same_op m n (ops.Copy x) (ops.Copy x') xs ys e classes = let copied : x ≡ x' = same_operand x x' m n (cc) (cc) in (cc, cc)
 same_op m n p q xs ys e classes = absurd (cc)
 
@@ -444,6 +453,7 @@ as_many_of m n (ops.Binary o f x y) (ops.Binary o' f' x' y') e = refl
 as_many_of m n (ops.Compare o s x y) (ops.Compare o' s' x' y') e = refl
 as_many_of m n (ops.Select z x y) (ops.Select z' x' y') e = refl
 as_many_of m n (ops.Convert o f x t) (ops.Convert o' f' x' t') e = refl
+as_many_of m n (ops.Freeze x j) (ops.Freeze x' j') e = refl
 as_many_of m n (ops.Copy x) (ops.Copy x') e = refl
 as_many_of m n p q e = absurd (cc)
 
@@ -463,7 +473,7 @@ node_same : (m n c d : ℕ) (x y : Node) (xs ys : List ℕ) → numbered_node m 
 node_same m n c d (nodes.Literal z) (nodes.Literal z') xs ys e classes = (cc, e, cc)
 node_same m n c d (nodes.Constant k) (nodes.Constant k') xs ys e classes = (cc, e, cc)
 node_same m n c d (nodes.Register r) (nodes.Register r') xs ys e classes = (cc, e, cc)
-node_same m n c d (nodes.Undef k) (nodes.Undef k') xs ys e classes = (cc, e, cc)
+node_same m n c d (nodes.Choice k) (nodes.Choice k') xs ys e classes = (cc, e, cc)
 node_same m n c d (nodes.Width r i) (nodes.Width r' j) xs ys e classes = let same : r ≡ r' = cc in let class : i ≡ j = cc in (cc, cc, cc)
 node_same m n c d (nodes.Unary f x) (nodes.Unary f' x') xs ys e classes = (cc, e, cc)
 node_same m n c d (nodes.Binary op x y) (nodes.Binary op' x' y') xs ys e classes = (cc, e, cc)
@@ -492,7 +502,7 @@ node_long : (m n c d : ℕ) (x y : Node) → numbered_node m x ≡ numbered_node
 node_long m n c d (nodes.Literal z) (nodes.Literal z') e = refl
 node_long m n c d (nodes.Constant k) (nodes.Constant k') e = refl
 node_long m n c d (nodes.Register r) (nodes.Register r') e = refl
-node_long m n c d (nodes.Undef k) (nodes.Undef k') e = refl
+node_long m n c d (nodes.Choice k) (nodes.Choice k') e = refl
 node_long m n c d (nodes.Width r i) (nodes.Width r' j) e = refl
 node_long m n c d (nodes.Unary f x) (nodes.Unary f' x') e = refl
 node_long m n c d (nodes.Binary op x y) (nodes.Binary op' x' y') e = refl

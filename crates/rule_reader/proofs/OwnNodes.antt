@@ -21,7 +21,7 @@ use Rattle.rule_core.proofs.Members.{Contains-from_get}
 use Rattle.rule_parse.specs.Contents.{arguments_of, arguments_among, terms_of_argument, terms_of_formula}
 use Rattle.rule_reader.specs.declared.counts.Counts.{Counts}
 use Rattle.rule_reader.specs.declared.names.Names.{Names}
-use Rattle.rule_reader.specs.Meaning.{nodes_in, past, past_all, with_counts, with_nodes, with_terms, last_nodes, HasName, NodeMeans, TermsMean}
+use Rattle.rule_reader.specs.Meaning.{nodes_in, past, past_all, counted_of, counted_among, with_counts, with_nodes, with_terms, last_nodes, HasName, NodeMeans, TermsMean}
 use Rattle.rule_reader.specs.WellFormed.{IsTerm}
 use Rattle.rule_terms.specs.Nodes.{IsBehindOperands}
 use Rattle.rule_reader.proofs.Counting.{past_append}
@@ -32,19 +32,19 @@ use Rattle.rule_reader.proofs.Places.{at_append, at_map, zip_right}
 
 -- ---- where a term stands among others
 
--- an argument of a statement, and what stands before it
+-- what is counted of a statement, and what stands before it
 pub statement_split : (c : Counts) (ws : List RawStatement) (k : ℕ) (x : Counts × RawStatement) → slice_get (with_counts c ws) k ≡ Some x
-    → (front back : List RawArgument) × (arguments_among ws ≡ front ++ (arguments_of x.1.op ++ back)) × (x.0 ≡ past_all c front)
-statement_split c [] k x at = elim k as (λ j. slice_get [] j ≡ Some x → (front back : List RawArgument) × (arguments_among [] ≡ front ++ (arguments_of x.1.op ++ back)) × (x.0 ≡ past_all c front)) [ zero ↦ λ h. absurd (cc) | suc j ↦ λ h. absurd (cc) ] at
+    → (front back : List RawArgument) × (counted_among ws ≡ front ++ (counted_of x.1.op ++ back)) × (x.0 ≡ past_all c front)
+statement_split c [] k x at = elim k as (λ j. slice_get [] j ≡ Some x → (front back : List RawArgument) × (counted_among [] ≡ front ++ (counted_of x.1.op ++ back)) × (x.0 ≡ past_all c front)) [ zero ↦ λ h. absurd (cc) | suc j ↦ λ h. absurd (cc) ] at
 statement_split c (w ∷ ws) zero x at =
     let same : (c, w) ≡ x = same_Some (c, w) x at in
-    ([], arguments_among ws, ap (λ (y : Counts × RawStatement). arguments_of y.1.op ++ arguments_among ws) same, ap (λ (y : Counts × RawStatement). y.0) (sym same))
+    ([], counted_among ws, ap (λ (y : Counts × RawStatement). counted_of y.1.op ++ counted_among ws) same, ap (λ (y : Counts × RawStatement). y.0) (sym same))
 statement_split c (w ∷ ws) (suc k) x at =
-    let (front, back, whole, is) = statement_split (past_all c (arguments_of w.op)) ws k x at in (
-      arguments_of w.op ++ front,
+    let (front, back, whole, is) = statement_split (past_all c (counted_of w.op)) ws k x at in (
+      counted_of w.op ++ front,
       back,
-      ap (λ (l : List RawArgument). arguments_of w.op ++ l) whole ∙ sym (append_assoc (arguments_of w.op) front (arguments_of x.1.op ++ back)),
-      is ∙ sym (past_append c (arguments_of w.op) front),
+      ap (λ (l : List RawArgument). counted_of w.op ++ l) whole ∙ sym (append_assoc (counted_of w.op) front (counted_of x.1.op ++ back)),
+      is ∙ sym (past_append c (counted_of w.op) front),
     )
 
 pub argument_split : (b : Counts) (xs : List RawArgument) (q : ℕ) (x : Counts × RawArgument) → slice_get (with_before b xs) q ≡ Some x → (front back : List RawArgument) × (xs ≡ front ++ x.1 ∷ back) × (x.0 ≡ past_all b front)

@@ -30,7 +30,7 @@ use Rattle.rule_parse.specs.Contents.{arguments_of, arguments_among, formula_of,
 use Rattle.rule_reader.specs.Meaning.{nodes_in, past, no_counts, with_nodes, with_terms, ArgumentMeans, NodeMeans, FormulaMeans, Means, names_of_rule}
 use Rattle.rule_parse.specs.Weight.{argument_weight, node_weight, formula_weight, raw_weight}
 use Rattle.rule_reader.proofs.Weighing.{sum_cons}
-use Rattle.rule_reader.proofs.Meaning.{Go, all_go}
+use Rattle.rule_reader.proofs.Meaning.{Reads, all_read}
 
 module _ (raw : RawRule) (names : Names) where
   one_argument : (b : Counts) (v : RawArgument) (a : Argument) → ArgumentMeans raw names b v a → meant_weight a ≡ argument_weight v
@@ -42,18 +42,18 @@ module _ (raw : RawRule) (names : Names) where
   one_argument b (raw_arguments.Term t) (arguments.Term n) means = refl
   one_argument b v a means = absurd means
 
-  operands_weigh : (b : Counts) (ws : List RawArgument) (os : List Operand) → Go raw names b ws os → sum_by (λ o. meant_weight o.value) os ≡ sum_by argument_weight ws
-  operands_weigh b [] [] go = refl
-  operands_weigh b [] (o ∷ os) go = absurd go
-  operands_weigh b (w ∷ ws) [] go = absurd go
-  operands_weigh b (w ∷ ws) (o ∷ os) go =
-      omega (arith, one_argument b w o.value go.0, operands_weigh (past b w) ws os go.1, sum_cons (λ (o : Operand). meant_weight o.value) o os, sum_cons argument_weight w ws)
+  operands_weigh : (ws : List RawArgument) (os : List Operand) → AllZip (Reads raw names) ws os → sum_by (λ o. meant_weight o.value) os ≡ sum_by argument_weight ws
+  operands_weigh [] [] go = refl
+  operands_weigh [] (o ∷ os) go = absurd go
+  operands_weigh (w ∷ ws) [] go = absurd go
+  operands_weigh (w ∷ ws) (o ∷ os) go =
+      omega (arith, one_argument go.0.0 w o.value go.0.1, operands_weigh ws os go.1, sum_cons (λ (o : Operand). meant_weight o.value) o os, sum_cons argument_weight w ws)
 
   one_node : (b : ℕ) (w : RawNode) (m : Node) → NodeMeans raw names b w m → meant_node_weight m ≡ node_weight w
   one_node b (raw_nodes.Literal z) (nodes.Literal y) means = refl
   one_node b (raw_nodes.Constant name) (nodes.Constant k) means = refl
   one_node b (raw_nodes.Register name) (nodes.Register r) means = refl
-  one_node b (raw_nodes.Undef i) (nodes.Undef k) means = refl
+  one_node b (raw_nodes.Choice i) (nodes.Choice k) means = refl
   one_node b (raw_nodes.Width name) (nodes.Width r c) means = refl
   one_node b (raw_nodes.Unary f a) (nodes.Unary f' x) means = refl
   one_node b (raw_nodes.Binary op a c) (nodes.Binary op' x y) means = refl
@@ -95,8 +95,8 @@ same_weight raw rule means =
     let own : Names = names_of_rule rule in
     let f : Operand → ℕ = λ o. meant_weight o.value in
     let g : List RawNode → ℕ = λ t. sum_by node_weight t in
-    let source = operands_weigh raw own no_counts (arguments_among raw.source) (operands_among rule.source) (all_go raw own no_counts raw.source rule.source means.source) in
-    let target = operands_weigh raw own no_counts (arguments_among raw.target) (operands_among rule.target) (all_go raw own no_counts raw.target rule.target means.target) in
+    let source = operands_weigh raw own (arguments_among raw.source) (operands_among rule.source) (all_read raw own no_counts raw.source rule.source means.source) in
+    let target = operands_weigh raw own (arguments_among raw.target) (operands_among rule.target) (all_read raw own no_counts raw.target rule.target means.target) in
     let halves : sum_by f (operands_in rule) ≡ sum_by f (operands_among rule.source) + sum_by f (operands_among rule.target) =
     ap (sum_by f) (flat_map-append (λ (s : Statement). operands_meant s.op) rule.source rule.target) ∙ sum_by-append f (operands_among rule.source) (operands_among rule.target) in
     let raw_halves : sum_by argument_weight (arguments_among (raw.source ++ raw.target)) ≡ sum_by argument_weight (arguments_among raw.source) + sum_by argument_weight (arguments_among raw.target) =

@@ -10,7 +10,7 @@ use Rattle.rule_terms.specs.declared.raw.RawNode.{RawNode}
 use Rattle.rule_terms.specs.declared.raw.RawNode.TheVariants as raw_nodes
 use Rattle.rule_parse.specs.declared.raw.RawStatement.{RawStatement}
 use Rattle.rule_parse.specs.declared.raw.RawOp.{RawOp}
-use Rattle.rule_parse.specs.declared.raw.RawOp.TheVariants.{Binary, Compare, Select, Convert, Copy}
+use Rattle.rule_parse.specs.declared.raw.RawOp.TheVariants.{Binary, Compare, Select, Convert, Freeze, Copy}
 use Rattle.rule_parse.specs.declared.raw.RawOperand.{RawOperand}
 use Rattle.rule_parse.specs.declared.raw.RawArgument.{RawArgument}
 use Rattle.rule_parse.specs.declared.raw.RawArgument.TheVariants.{Literal, Constant, Term}
@@ -21,6 +21,8 @@ use Rattle.rule_parse.specs.Contents.{arguments_of, arguments_among, terms_of_ar
 use Rattle.rule_reader.specs.WellFormed.{MayStandInSource, FlagsFitOp}
 use Rattle.rule_reader.proofs.Members.{each_in, each_append}
 use Rattle.rule_reader.proofs.SpelledTerms.{IsConstantNode, IsConstantTerm, constant_term}
+use Rattle.rule_tokens.specs.declared.version.Version.{Version}
+use Rattle.rule_tokens.specs.declared.version.Version.TheVariants.{One, Two}
 use Rattle.rule_tokens.specs.Limits.{rule_limits}
 
 -- some tokens spell it
@@ -39,22 +41,24 @@ pair : (half : _) (a b : RawOperand) (tokens : List Token) → SpellsPair rule_l
 pair half a b tokens spelled = (operand half a spelled.0 spelled.2, (untyped half b spelled.3.1 spelled.3.3, tt))
 
 -- What an operation reads is spelled. A copy, where the half has one, is an operand.
-arguments_spelled : (half : _) → ((a : RawOperand) (tokens : List Token) → SpellsOp rule_limits half (Copy a) tokens → SpellsOperand rule_limits half a tokens) → (op : RawOp) (tokens : List Token) → SpellsOp rule_limits half op tokens → Each (IsSpelled (SpellsArgument rule_limits half)) (arguments_of op)
-arguments_spelled half copies (Binary op flags a b) tokens spelled = pair half a b spelled.3.1 spelled.3.3
-arguments_spelled half copies (Compare pred samesign a b) tokens spelled = pair half a b spelled.3.3.1 spelled.3.3.3
-arguments_spelled half copies (Select c a b) tokens spelled =
+arguments_spelled : (version : Version) (half : _) → ((a : RawOperand) (tokens : List Token) → SpellsOp rule_limits version half (Copy a) tokens → SpellsOperand rule_limits half a tokens) → (op : RawOp) (tokens : List Token) → SpellsOp rule_limits version half op tokens → Each (IsSpelled (SpellsArgument rule_limits half)) (arguments_of op)
+arguments_spelled version half copies (Binary op flags a b) tokens spelled = pair half a b spelled.3.1 spelled.3.3
+arguments_spelled version half copies (Compare pred samesign a b) tokens spelled = pair half a b spelled.3.3.1 spelled.3.3.3
+arguments_spelled version half copies (Select c a b) tokens spelled =
     (operand half c spelled.3.0 spelled.3.2, (operand half a spelled.3.3.3.0 spelled.3.3.3.2, (operand half b spelled.3.3.3.3.1 spelled.3.3.3.3.3, tt)))
-arguments_spelled half copies (Convert cast flags a to) tokens spelled = (operand half a spelled.3.3.0 spelled.3.3.2, tt)
-arguments_spelled half copies (Copy a) tokens spelled = (operand half a tokens (copies a tokens spelled), tt)
+arguments_spelled version half copies (Convert cast flags a to) tokens spelled = (operand half a spelled.3.3.0 spelled.3.3.2, tt)
+arguments_spelled One half copies (Freeze a) tokens spelled = absurd spelled
+arguments_spelled Two half copies (Freeze a) tokens spelled = (operand half a spelled.1 spelled.3, tt)
+arguments_spelled version half copies (Copy a) tokens spelled = (operand half a tokens (copies a tokens spelled), tt)
 
-pub argument_spelled : (half : _) → ((a : RawOperand) (tokens : List Token) → SpellsOp rule_limits half (Copy a) tokens → SpellsOperand rule_limits half a tokens) → (op : RawOp) (tokens : List Token) (a : RawArgument) → SpellsOp rule_limits half op tokens → Contains (arguments_of op) a → IsSpelled (SpellsArgument rule_limits half) a
-argument_spelled half copies op tokens a spelled among = each_in (IsSpelled (SpellsArgument rule_limits half)) (arguments_of op) a (arguments_spelled half copies op tokens spelled) among
+pub argument_spelled : (version : Version) (half : _) → ((a : RawOperand) (tokens : List Token) → SpellsOp rule_limits version half (Copy a) tokens → SpellsOperand rule_limits half a tokens) → (op : RawOp) (tokens : List Token) (a : RawArgument) → SpellsOp rule_limits version half op tokens → Contains (arguments_of op) a → IsSpelled (SpellsArgument rule_limits half) a
+argument_spelled version half copies op tokens a spelled among = each_in (IsSpelled (SpellsArgument rule_limits half)) (arguments_of op) a (arguments_spelled version half copies op tokens spelled) among
 
 -- and what statements read
-among_spelled : (half : _) → ((a : RawOperand) (tokens : List Token) → SpellsOp rule_limits half (Copy a) tokens → SpellsOperand rule_limits half a tokens) → (ss : List RawStatement) (tokens : List Token) → SpellsStatements rule_limits half ss tokens → Each (IsSpelled (SpellsArgument rule_limits half)) (arguments_among ss)
-among_spelled half copies [] tokens spelled = tt
-among_spelled half copies (s ∷ ss) tokens (own, rest, spelled, others, is) =
-    each_append (IsSpelled (SpellsArgument rule_limits half)) (arguments_of s.op) (arguments_among ss) (arguments_spelled half copies s.op spelled.op spelled.is_op) (among_spelled half copies ss rest others)
+among_spelled : (version : Version) (half : _) → ((a : RawOperand) (tokens : List Token) → SpellsOp rule_limits version half (Copy a) tokens → SpellsOperand rule_limits half a tokens) → (ss : List RawStatement) (tokens : List Token) → SpellsStatements rule_limits version half ss tokens → Each (IsSpelled (SpellsArgument rule_limits half)) (arguments_among ss)
+among_spelled version half copies [] tokens spelled = tt
+among_spelled version half copies (s ∷ ss) tokens (own, rest, spelled, others, is) =
+    each_append (IsSpelled (SpellsArgument rule_limits half)) (arguments_of s.op) (arguments_among ss) (arguments_spelled version half copies s.op spelled.op spelled.is_op) (among_spelled version half copies ss rest others)
 
 -- ---- the terms of a target
 
@@ -83,18 +87,18 @@ terms_among half constant [] spelled = tt
 terms_among half constant (Term t ∷ arguments) spelled = (constant t spelled.0.0 spelled.0.1, terms_among half constant arguments spelled.1)
 terms_among half constant (a ∷ arguments) spelled = terms_among half constant arguments spelled.1
 
-pub spelled_terms : (half : _) → ((a : RawOperand) (tokens : List Token) → SpellsOp rule_limits half (Copy a) tokens → SpellsOperand rule_limits half a tokens) → ((t : List RawNode) (tokens : List Token) → SpellsArgument rule_limits half (Term t) tokens → IsConstantTerm t) → (ss : List RawStatement) (tokens : List Token) → SpellsHalf rule_limits half ss tokens → Each IsConstantTerm (flat_map terms_of_argument (arguments_among ss))
-spelled_terms half copies constant ss tokens spelled = terms_among half constant (arguments_among ss) (among_spelled half copies ss tokens spelled.spelled)
+pub spelled_terms : (version : Version) (half : _) → ((a : RawOperand) (tokens : List Token) → SpellsOp rule_limits version half (Copy a) tokens → SpellsOperand rule_limits half a tokens) → ((t : List RawNode) (tokens : List Token) → SpellsArgument rule_limits half (Term t) tokens → IsConstantTerm t) → (ss : List RawStatement) (tokens : List Token) → SpellsHalf rule_limits version half ss tokens → Each IsConstantTerm (flat_map terms_of_argument (arguments_among ss))
+spelled_terms version half copies constant ss tokens spelled = terms_among half constant (arguments_among ss) (among_spelled version half copies ss tokens spelled.spelled)
 
 -- ---- flags and copies
 
 -- flags are ones that the instruction takes
-pub written_flags : (half : _) (op : RawOp) (tokens : List Token) → SpellsOp rule_limits half op tokens → FlagsFitOp op
-written_flags half (Binary op flags a b) tokens spelled = let written = spelled.3.2 in taken_flags (flags_of op) written.0 flags written.1
-written_flags half (Convert cast flags a to) tokens spelled = let written = spelled.3.2 in taken_flags (flags_of_cast cast) written.0 flags written.1
-written_flags half op tokens spelled = tt
+pub written_flags : (version : Version) (half : _) (op : RawOp) (tokens : List Token) → SpellsOp rule_limits version half op tokens → FlagsFitOp op
+written_flags version half (Binary op flags a b) tokens spelled = let written = spelled.3.2 in taken_flags (flags_of op) written.0 flags written.1
+written_flags version half (Convert cast flags a to) tokens spelled = let written = spelled.3.2 in taken_flags (flags_of_cast cast) written.0 flags written.1
+written_flags version half op tokens spelled = tt
 
 -- a half that spells no copies has none
-pub no_copies : (half : _) → ((a : RawOperand) (tokens : List Token) → ¬ (SpellsOp rule_limits) half (Copy a) tokens) → (op : RawOp) (tokens : List Token) → SpellsOp rule_limits half op tokens → MayStandInSource op
-no_copies half none (Copy a) tokens spelled = absurd (none a tokens spelled)
-no_copies half none op tokens spelled = tt
+pub no_copies : (version : Version) (half : _) → ((a : RawOperand) (tokens : List Token) → ¬ (SpellsOp rule_limits version) half (Copy a) tokens) → (op : RawOp) (tokens : List Token) → SpellsOp rule_limits version half op tokens → MayStandInSource op
+no_copies version half none (Copy a) tokens spelled = absurd (none a tokens spelled)
+no_copies version half none op tokens spelled = tt

@@ -45,7 +45,7 @@ constant_nodes : {nesting start level : ℕ} {nodes : List RawNode} {tokens : Li
 constant_nodes (leaf (raw_nodes.Literal z) tokens s) = (tt, tt)
 constant_nodes (leaf (raw_nodes.Constant name) tokens s) = (s.1, tt)
 constant_nodes (leaf (raw_nodes.Register name) tokens s) = let e : term_places.Constant ≡ term_places.Witness = s.0 in absurd (cc)
-constant_nodes (leaf (raw_nodes.Undef k) tokens s) = let e : term_places.Constant ≡ term_places.Witness = s.1 in absurd (cc)
+constant_nodes (leaf (raw_nodes.Choice k) tokens s) = let e : term_places.Constant ≡ term_places.Witness = s.1 in absurd (cc)
 constant_nodes (leaf node tokens s) = absurd s
 constant_nodes (width name le) = (tt, tt)
 constant_nodes (parenthesised s) = constant_nodes s

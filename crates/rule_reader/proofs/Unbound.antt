@@ -8,7 +8,7 @@ use Rattle.rule_parse.specs.declared.raw.RawPrecondition.{RawPrecondition}
 use Rattle.rule_parse.specs.declared.raw.RawWitness.{RawWitness}
 use Rattle.rule_reader.specs.declared.place.Place.TheVariants as places
 use Rattle.rule_reader.specs.WellFormed.{IsWellFormed}
-use Rattle.rule_reader.specs.FaultKinds.{Each, FormulaIsBound, TermIsBound, StandsAt, StatementUnbound, PreconditionUnbound, WitnessUnbound, UnboundAt, ReadsUndefInside, IsUndefCopy, UndefInsideAt}
+use Rattle.rule_reader.specs.FaultKinds.{Each, FormulaIsBound, TermIsBound, StandsAt, StatementUnbound, PreconditionUnbound, WitnessUnbound, UnboundAt, HasUndefInside, ReadsUndefAlone, UndefInsideAt}
 use Rattle.rule_reader.specs.Faults.{IsFirst, IsFirstLine}
 use Rattle.rule_reader.proofs.Places.{there}
 use Rattle.rule_reader.proofs.Firsts.{first_left, first_right, first_none_of, lines_before}
@@ -58,24 +58,24 @@ module _ (raw : RawRule) (well : IsWellFormed raw) where
   in_target (Some line) none none' none'' first = first_right (PreconditionUnbound raw) BehindPrecondition line none (first_right (WitnessUnbound raw) InStatements line none' (first_right InSource InTarget line none'' first))
   in_target None none none' none'' none''' = first_none_of (PreconditionUnbound raw) BehindPrecondition none (first_none_of (WitnessUnbound raw) InStatements none' (first_none_of InSource InTarget none'' none'''))
 
-  -- ---- `undef`s
+  -- ---- `undef`s and freezes
 
-  abbrev pub ReadInside : ℕ → Type 0
-  ReadInside = StandsAt raw.source (ReadsUndefInside raw.source)
+  abbrev pub Inside : ℕ → Type 0
+  Inside = StandsAt raw.source (HasUndefInside raw.source)
 
-  abbrev pub Copied : ℕ → Type 0
-  Copied = StandsAt raw.target (λ k s. IsUndefCopy s.op)
+  abbrev pub Alone : ℕ → Type 0
+  Alone = StandsAt raw.target (λ k s. ReadsUndefAlone s.op)
 
-  pub inside_source : (half : List RawStatement) (line : ℕ) → half ≡ raw.source → IsFirstLine (StandsAt half (ReadsUndefInside half)) line → IsFirstLine (UndefInsideAt raw) line
+  pub inside_source : (half : List RawStatement) (line : ℕ) → half ≡ raw.source → IsFirstLine (StandsAt half (HasUndefInside half)) line → IsFirstLine (UndefInsideAt raw) line
   inside_source half line is first =
-      first_left ReadInside Copied line (subst (λ ss. IsFirstLine (StandsAt ss (ReadsUndefInside ss)) line) is first) (lines_before raw.source raw.target (ReadsUndefInside raw.source) (λ k s. IsUndefCopy s.op) well.source_first)
+      first_left Inside Alone line (subst (λ ss. IsFirstLine (StandsAt ss (HasUndefInside ss)) line) is first) (lines_before raw.source raw.target (HasUndefInside raw.source) (λ k s. ReadsUndefAlone s.op) well.source_first)
 
-  rest : (found : Option ℕ) → ((l : ℕ) → ¬ ReadInside l) → IsFirst Copied found → IsFirst (UndefInsideAt raw) found
-  rest (Some line) none first = first_right ReadInside Copied line none first
-  rest None none none' = first_none_of ReadInside Copied none none'
+  rest : (found : Option ℕ) → ((l : ℕ) → ¬ Inside l) → IsFirst Alone found → IsFirst (UndefInsideAt raw) found
+  rest (Some line) none first = first_right Inside Alone line none first
+  rest None none none' = first_none_of Inside Alone none none'
 
-  pub copied_target : (half other : List RawStatement) (found : Option ℕ) → half ≡ raw.source → other ≡ raw.target → ((line : ℕ) → ¬ StandsAt half (ReadsUndefInside half) line) → IsFirst (StandsAt other (λ k s. IsUndefCopy s.op)) found → IsFirst (UndefInsideAt raw) found
-  copied_target half other found is is' none first = rest found (subst (λ ss. (line : ℕ) → ¬ StandsAt ss (ReadsUndefInside ss) line) is none) (subst (λ ss. IsFirst (StandsAt ss (λ k s. IsUndefCopy s.op)) found) is' first)
+  pub alone_target : (half other : List RawStatement) (found : Option ℕ) → half ≡ raw.source → other ≡ raw.target → ((line : ℕ) → ¬ StandsAt half (HasUndefInside half) line) → IsFirst (StandsAt other (λ k s. ReadsUndefAlone s.op)) found → IsFirst (UndefInsideAt raw) found
+  alone_target half other found is is' none first = rest found (subst (λ ss. (line : ℕ) → ¬ StandsAt ss (HasUndefInside ss) line) is none) (subst (λ ss. IsFirst (StandsAt ss (λ k s. ReadsUndefAlone s.op)) found) is' first)
 
 -- what stands behind a head is one thing
 pub one_precondition : (raw : RawRule) (p : RawPrecondition) → raw.precondition ≡ Some p → ¬ Each (FormulaIsBound raw) p.formula → IsFirstLine (PreconditionUnbound raw) p.line

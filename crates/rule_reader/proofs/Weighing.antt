@@ -1,17 +1,20 @@
 -- What is known of numbers from the weight of a rule as written.
-use Rattle.std.proofs.Common.{◌≡◌, ℕ, ◌+◌, ◌≤◌, List, [], ◌∷◌, ◌++◌, length, refl, ap, ◌∙◌, arith}
+use Rattle.std.proofs.Common.{◌≡◌, ℕ, ◌+◌, ◌≤◌, List, [], ◌∷◌, ◌++◌, length, refl, sym, ap, ◌∙◌, arith}
 use Rattle.std.specs.Prelude.{Contains, flat_map, sum_by}
 use Rattle.std.proofs.lemmas.List.Sums.{sum_by-append}
+use Rattle.std.proofs.lemmas.List.{append-nil}
 use Rattle.std.proofs.lemmas.Grind.{flat_map-append}
 use Rattle.rule_parse.specs.declared.raw.RawRule.{RawRule}
 use Rattle.rule_parse.specs.declared.raw.RawStatement.{RawStatement}
+use Rattle.rule_parse.specs.declared.raw.RawOp.{RawOp}
+use Rattle.rule_parse.specs.declared.raw.RawOp.TheVariants as raw_ops
 use Rattle.rule_parse.specs.declared.raw.RawArgument.{RawArgument}
 use Rattle.rule_parse.specs.declared.raw.RawArgument.TheVariants.{Register, Literal, Truth, Constant, Undef, Term}
 use Rattle.rule_terms.specs.declared.raw.RawNode.{RawNode}
 use Rattle.rule_terms.specs.declared.raw.RawNode.TheVariants as raw_nodes
 use Rattle.rule_reader.specs.declared.counts.Counts.{Counts}
 use Rattle.rule_parse.specs.Contents.{arguments_of, arguments_among, formula_of, terms_of_argument, terms_of_formula, target_terms, terms_of, expressions_of}
-use Rattle.rule_reader.specs.Meaning.{nodes_in, past, past_all, no_counts, in_half}
+use Rattle.rule_reader.specs.Meaning.{nodes_in, past, past_all, counted_of, counted_among, no_counts, in_half}
 use Rattle.rule_parse.specs.Weight.{argument_weight, node_weight}
 use Rattle.rule_reader.specs.WellFormed.{IsWellFormed}
 use Rattle.rule_reader.specs.KnownRules.{AreFew}
@@ -23,17 +26,17 @@ use Rattle.rule_reader.proofs.Nodes.{nodes_append}
 pub sum_cons : {X : Type 0} (f : X → ℕ) (x : X) (xs : List X) → sum_by f (x ∷ xs) ≡ f x + sum_by f xs
 sum_cons f x xs = sum_by-append f (x ∷ []) xs ∙ ap (λ n. n + sum_by f xs) (omega arith)
 
-undefs_past : (c : Counts) (a : RawArgument) → (past c a).undefs ≤ c.undefs + argument_weight a
-undefs_past c (Register name) = omega arith
-undefs_past c (Literal z) = omega arith
-undefs_past c (Truth b) = omega arith
-undefs_past c (Constant name) = omega arith
-undefs_past c Undef = omega arith
-undefs_past c (Term t) = omega arith
+choices_past : (c : Counts) (a : RawArgument) → (past c a).choices ≤ c.choices + argument_weight a
+choices_past c (Register name) = omega arith
+choices_past c (Literal z) = omega arith
+choices_past c (Truth b) = omega arith
+choices_past c (Constant name) = omega arith
+choices_past c Undef = omega arith
+choices_past c (Term t) = omega arith
 
-undefs_weigh : (c : Counts) (xs : List RawArgument) → (past_all c xs).undefs ≤ c.undefs + sum_by argument_weight xs
-undefs_weigh c [] = omega arith
-undefs_weigh c (a ∷ xs) = omega (arith, undefs_past c a, undefs_weigh (past c a) xs, sum_cons argument_weight a xs)
+choices_weigh : (c : Counts) (xs : List RawArgument) → (past_all c xs).choices ≤ c.choices + sum_by argument_weight xs
+choices_weigh c [] = omega arith
+choices_weigh c (a ∷ xs) = omega (arith, choices_past c a, choices_weigh (past c a) xs, sum_cons argument_weight a xs)
 
 nodes_past : (c : Counts) (a : RawArgument) → (past c a).nodes ≡ c.nodes + nodes_in (terms_of_argument a)
 nodes_past c (Register name) = omega arith
@@ -52,7 +55,7 @@ one_node : (node : RawNode) → 1 ≤ node_weight node
 one_node (raw_nodes.Literal z) = omega arith
 one_node (raw_nodes.Constant name) = omega arith
 one_node (raw_nodes.Register name) = omega arith
-one_node (raw_nodes.Undef k) = omega arith
+one_node (raw_nodes.Choice k) = omega arith
 one_node (raw_nodes.Width name) = omega arith
 one_node (raw_nodes.Unary f a) = omega arith
 one_node (raw_nodes.Binary op a b) = omega arith
@@ -64,6 +67,31 @@ term_weighs (node ∷ t) = omega (arith, one_node node, term_weighs t, sum_cons 
 terms_weigh : (ts : List (List RawNode)) → nodes_in ts ≤ sum_by (λ t. sum_by node_weight t) ts
 terms_weigh [] = omega arith
 terms_weigh (t ∷ ts) = omega (arith, term_weighs t, terms_weigh ts, sum_cons length t ts, sum_cons (λ (t : List RawNode). sum_by node_weight t) t ts)
+
+-- a freeze is counted beside what it reads, and is no term
+one_counted : (op : RawOp) → (sum_by argument_weight (counted_of op) ≤ sum_by argument_weight (arguments_of op) + 1) × (flat_map terms_of_argument (counted_of op) ≡ flat_map terms_of_argument (arguments_of op))
+one_counted (raw_ops.Binary op flags a b) = (omega arith, refl)
+one_counted (raw_ops.Compare pred samesign a b) = (omega arith, refl)
+one_counted (raw_ops.Select c a b) = (omega arith, refl)
+one_counted (raw_ops.Convert cast flags a to) = (omega arith, refl)
+one_counted (raw_ops.Freeze a) = (
+  omega (arith, sum_cons argument_weight a.value (Undef ∷ []), sum_cons argument_weight a.value [], sum_cons argument_weight Undef []),
+  flat_map-append terms_of_argument (a.value ∷ []) (Undef ∷ []) ∙ append-nil (flat_map terms_of_argument (a.value ∷ [])),
+)
+one_counted (raw_ops.Copy a) = (omega arith, refl)
+
+counted_weighs : (ss : List RawStatement) → sum_by argument_weight (counted_among ss) ≤ sum_by argument_weight (arguments_among ss) + length ss
+counted_weighs [] = omega arith
+counted_weighs (s ∷ ss) =
+    omega (arith, (one_counted s.op).0, counted_weighs ss, sum_by-append argument_weight (counted_of s.op) (counted_among ss), sum_by-append argument_weight (arguments_of s.op) (arguments_among ss))
+
+pub counted_terms : (ss : List RawStatement) → flat_map terms_of_argument (counted_among ss) ≡ flat_map terms_of_argument (arguments_among ss)
+counted_terms [] = refl
+counted_terms (s ∷ ss) =
+    flat_map-append terms_of_argument (counted_of s.op) (counted_among ss)
+    ∙ ap (λ l. l ++ flat_map terms_of_argument (counted_among ss)) (one_counted s.op).1
+    ∙ ap (λ l. flat_map terms_of_argument (arguments_of s.op) ++ l) (counted_terms ss)
+    ∙ sym (flat_map-append terms_of_argument (arguments_of s.op) (arguments_among ss))
 
 module _ (raw : RawRule) (well : IsWellFormed raw) where
   arguments_weigh : sum_by argument_weight (arguments_among (raw.source ++ raw.target)) ≡ sum_by argument_weight (arguments_among raw.source) + sum_by argument_weight (arguments_among raw.target)
@@ -80,8 +108,8 @@ module _ (raw : RawRule) (well : IsWellFormed raw) where
 
   pub few_in_target : AreFew (in_half raw.target)
   few_in_target = (
-    omega (arith, well.weight, arguments_weigh, undefs_weigh no_counts (arguments_among raw.target)),
-    omega (arith, few_terms, nodes_weigh no_counts (arguments_among raw.target), nodes_append (target_terms raw) (flat_map terms_of_formula (formula_of raw))),
+    omega (arith, well.weight, well.target.few, arguments_weigh, counted_weighs raw.target, choices_weigh no_counts (counted_among raw.target)),
+    omega (arith, few_terms, nodes_weigh no_counts (counted_among raw.target), ap nodes_in (counted_terms raw.target), nodes_append (target_terms raw) (flat_map terms_of_formula (formula_of raw))),
   )
 
   -- no terms stand in the source
@@ -102,6 +130,6 @@ module _ (raw : RawRule) (well : IsWellFormed raw) where
 
   pub few_in_source : AreFew (in_half raw.source)
   few_in_source = (
-    omega (arith, well.weight, arguments_weigh, undefs_weigh no_counts (arguments_among raw.source)),
-    omega (arith, nodes_weigh no_counts (arguments_among raw.source), ap nodes_in (none_in (arguments_among raw.source) no_source_terms)),
+    omega (arith, well.weight, well.source.few, arguments_weigh, counted_weighs raw.source, choices_weigh no_counts (counted_among raw.source)),
+    omega (arith, nodes_weigh no_counts (counted_among raw.source), ap nodes_in (counted_terms raw.source), ap nodes_in (none_in (arguments_among raw.source) no_source_terms)),
   )

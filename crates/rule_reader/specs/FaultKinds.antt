@@ -53,12 +53,12 @@ MayUse raw (places.Target k) name =
     × (IsInput raw.source name ⊎ (IsTemporary raw.source name ⊎ ((j : ℕ) × (j < k) × AssignsAt raw.target j name)))
 MayUse raw places.Heading name = IsInput raw.source name ⊎ IsTemporary raw.source name
 
--- What a node of a term at a place names is there to use: a register, also one whose width is asked for, a constant, or an `undef` of
+-- What a node of a term at a place names is there to use: a register, also one whose width is asked for, a constant, or a choice of
 -- the target.
 abbrev pub NodeIsBound : RawRule → Place → RawNode → Type 0
 NodeIsBound raw place (raw_nodes.Constant name) = IsConstant raw.source name
 NodeIsBound raw place (raw_nodes.Register name) = MayUse raw place name
-NodeIsBound raw place (raw_nodes.Undef k) = k < (in_half raw.target).undefs
+NodeIsBound raw place (raw_nodes.Choice k) = k < (in_half raw.target).choices
 NodeIsBound raw place (raw_nodes.Width name) = MayUse raw place name
 NodeIsBound raw place node = Unit {0}
 
@@ -131,26 +131,36 @@ IsUnused source k s = (suc k < length source) × ¬ UsesFrom source (suc k) s.na
 abbrev pub UnusedTempAt : List RawStatement → ℕ → Type 0
 UnusedTempAt source line = StandsAt source (IsUnused source) line
 
--- the statement is not the last one of the source, and reads an `undef`
-abbrev pub ReadsUndefInside : List RawStatement → ℕ → RawStatement → Type 0
-ReadsUndefInside source k s = (suc k < length source) × Contains (arguments_of s.op) raw_arguments.Undef
+-- the operation is a freeze
+abbrev pub IsFreeze : RawOp → Type 0
+IsFreeze (raw_ops.Freeze a) = Unit {0}
+IsFreeze op = ⊥
 
--- the operation is a copy of `undef`
-abbrev pub IsUndefCopy : RawOp → Type 0
-IsUndefCopy (raw_ops.Copy a) = a.value ≡ raw_arguments.Undef
-IsUndefCopy op = ⊥
+-- the operation reads an `undef`, or is a freeze
+abbrev pub LeavesOpen : RawOp → Type 0
+LeavesOpen op = Contains (arguments_of op) raw_arguments.Undef ⊎ IsFreeze op
 
--- UndefInside: one in the source, or a copy in the target
+-- the operation is a copy or a freeze of `undef`
+abbrev pub ReadsUndefAlone : RawOp → Type 0
+ReadsUndefAlone (raw_ops.Freeze a) = a.value ≡ raw_arguments.Undef
+ReadsUndefAlone (raw_ops.Copy a) = a.value ≡ raw_arguments.Undef
+ReadsUndefAlone op = ⊥
+
+-- the statement of the source leaves something open and is not the last one, or freezes an `undef`
+abbrev pub HasUndefInside : List RawStatement → ℕ → RawStatement → Type 0
+HasUndefInside source k s = ((suc k < length source) × LeavesOpen s.op) ⊎ ReadsUndefAlone s.op
+
+-- UndefInside: such a statement of the source, or a copy or a freeze of `undef` in the target
 abbrev pub UndefInsideAt : RawRule → ℕ → Type 0
-UndefInsideAt raw line = StandsAt raw.source (ReadsUndefInside raw.source) line ⊎ StandsAt raw.target (λ k s. IsUndefCopy s.op) line
+UndefInsideAt raw line = StandsAt raw.source (HasUndefInside raw.source) line ⊎ StandsAt raw.target (λ k s. ReadsUndefAlone s.op) line
 
 -- the line of `Wit:`, and where there is none that of the name
 abbrev pub witness_line : RawRule → ℕ
 witness_line raw = option_map_or (λ w. w.line) raw.witness raw.line
 
--- WitnessCount: `Wit:` does not have as many expressions as the source has `undef`s
+-- WitnessCount: `Wit:` does not have as many expressions as the source has choices
 abbrev pub WitnessCountAt : RawRule → ℕ → Type 0
-WitnessCountAt raw line = (length (expressions_of raw) ≢ (in_half raw.source).undefs) × (witness_line raw ≡ line)
+WitnessCountAt raw line = (length (expressions_of raw) ≢ (in_half raw.source).choices) × (witness_line raw ≡ line)
 
 -- the faults of classes, which are those of the rule that is meant, at the line of its name
 abbrev pub ClassesAt : RawRule → (Rule → Type 0) → ℕ → Type 0

@@ -46,9 +46,9 @@ pub record NamesAreThere (raw : RawRule) : Type 0 where
   pub source : HalfIsBound raw halves.Source
   pub target : HalfIsBound raw halves.Target
 
--- so few `undef`s and nodes are counted
+-- so few choices and nodes are counted: of the choices at most 256 are `undef`s, and at most 32 are freezes
 abbrev pub AreFew : Counts → Type 0
-AreFew counts = (counts.undefs ≤ 256) × (counts.nodes ≤ 256)
+AreFew counts = (counts.choices ≤ 288) × (counts.nodes ≤ 256)
 
 -- an argument that is a term is one
 abbrev pub IsWhole : RawArgument → Type 0

@@ -1,5 +1,5 @@
--- What a rule as written means: the rule whose registers, constants, `undef`s and terms are known by place. It says nothing of classes.
-use Rattle.std.specs.Prelude.{◌≡◌, ◌↔◌, ℕ, suc, ◌+◌, ◌-◌, ◌<◌, List, [], ◌∷◌, ◌++◌, length, map, fold, sum_by, Some, Contains, slice_get}
+-- What a rule as written means: the rule whose registers, constants, choices and terms are known by place. It says nothing of classes.
+use Rattle.std.specs.Prelude.{◌≡◌, ◌↔◌, ℕ, suc, ◌+◌, ◌-◌, ◌<◌, List, [], ◌∷◌, ◌++◌, length, map, flat_map, fold, sum_by, Some, Contains, slice_get}
 use Rattle.std.specs.List.{AllZip}
 use Rattle.rule_parse.specs.declared.raw.RawRule.{RawRule}
 use Rattle.rule_parse.specs.declared.raw.RawStatement.{RawStatement}
@@ -95,29 +95,37 @@ pub record AreNames (source : List RawStatement) (names : Names) : Type 0 where
   pub inputs : AreInputs source names.inputs
   pub constants : AreConstants source names.constants
 
--- ---- places of `undef`s and of terms
+-- ---- places of choices and of terms
 
--- how many `undef`s, and how many nodes of terms, stand before what is behind an argument
+-- how many choices, and how many nodes of terms, stand before what is behind an argument
 abbrev pub past : Counts → RawArgument → Counts
-past before raw_arguments.Undef = record before { undefs = before.undefs + 1 }
+past before raw_arguments.Undef = record before { choices = before.choices + 1 }
 past before (raw_arguments.Term t) = record before { nodes = before.nodes + length t }
 past before argument = before
 
 abbrev pub past_all : Counts → List RawArgument → Counts
 past_all before arguments = fold past before arguments
 
+-- what is counted of a statement: what it reads, and a freeze as an `undef` behind its operand
+abbrev pub counted_of : RawOp → List RawArgument
+counted_of (raw_ops.Freeze a) = a.value ∷ raw_arguments.Undef ∷ []
+counted_of op = arguments_of op
+
+abbrev pub counted_among : List RawStatement → List RawArgument
+counted_among statements = flat_map (λ s. counted_of s.op) statements
+
 -- before a half there are none
 abbrev pub no_counts : Counts
-no_counts = record { undefs = 0; nodes = 0 }
+no_counts = record { choices = 0; nodes = 0 }
 
 -- how many stand in a half
 abbrev pub in_half : List RawStatement → Counts
-in_half statements = past_all no_counts (arguments_among statements)
+in_half statements = past_all no_counts (counted_among statements)
 
 -- statements, each with what stands before it in its half
 abbrev pub with_counts : Counts → List RawStatement → List (Counts × RawStatement)
 with_counts before [] = []
-with_counts before (s ∷ statements) = (before, s) ∷ with_counts (past_all before (arguments_of s.op)) statements
+with_counts before (s ∷ statements) = (before, s) ∷ with_counts (past_all before (counted_of s.op)) statements
 
 -- the nodes of terms, each with the number of nodes before its term
 abbrev pub with_nodes : ℕ → List (List RawNode) → List (ℕ × RawNode)
@@ -147,14 +155,14 @@ module _ (raw : RawRule) (names : Names) where
   abbrev pub IsConstantOf : ℕ → List ℕ → Type 0
   IsConstantOf k name = slice_get names.constants k ≡ Some name
 
-  -- A name means a register or a constant of that name, a literal or a truth value itself, an `undef` the number of those before it,
+  -- A name means a register or a constant of that name, a literal or a truth value itself, an `undef` the number of choices before it,
   -- and a term its last node.
   abbrev pub ArgumentMeans : Counts → RawArgument → Argument → Type 0
   ArgumentMeans before (raw_arguments.Register name) (arguments.Register r) = HasName r name
   ArgumentMeans before (raw_arguments.Literal z) (arguments.Literal number) = number ≡ z
   ArgumentMeans before (raw_arguments.Truth b) (arguments.Truth truth) = truth ≡ b
   ArgumentMeans before (raw_arguments.Constant name) (arguments.Constant k) = IsConstantOf k name
-  ArgumentMeans before raw_arguments.Undef (arguments.Undef k) = k ≡ before.undefs
+  ArgumentMeans before raw_arguments.Undef (arguments.Undef k) = k ≡ before.choices
   ArgumentMeans before (raw_arguments.Term t) (arguments.Term n) = suc n ≡ before.nodes + length t
   ArgumentMeans before written argument = ⊥
 
@@ -171,6 +179,8 @@ module _ (raw : RawRule) (names : Names) where
       OperandMeans before c z × OperandMeans (past before c.value) a x × OperandMeans (past (past before c.value) a.value) b y
   OpMeans before (raw_ops.Convert cast flags a to) (ops.Convert cast' flags' x to') =
       (cast' ≡ cast) × (flags' ≡ flags) × OperandMeans before a x × (to' ≡ to)
+  -- a freeze is the choice behind those of its operand
+  OpMeans before (raw_ops.Freeze a) (ops.Freeze x k) = OperandMeans before a x × (k ≡ (past before a.value).choices)
   OpMeans before (raw_ops.Copy a) (ops.Copy x) = OperandMeans before a x
   OpMeans before raw_op op = ⊥
 
@@ -186,7 +196,7 @@ module _ (raw : RawRule) (names : Names) where
   NodeMeans before (raw_nodes.Literal z) (nodes.Literal number) = number ≡ z
   NodeMeans before (raw_nodes.Constant name) (nodes.Constant k) = IsConstantOf k name
   NodeMeans before (raw_nodes.Register name) (nodes.Register r) = HasName r name
-  NodeMeans before (raw_nodes.Undef j) (nodes.Undef k) = k ≡ j
+  NodeMeans before (raw_nodes.Choice j) (nodes.Choice k) = k ≡ j
   NodeMeans before (raw_nodes.Width name) (nodes.Width r class) = HasName r name
   NodeMeans before (raw_nodes.Unary f a) (nodes.Unary f' x) = (f' ≡ f) × (x ≡ before + a)
   NodeMeans before (raw_nodes.Binary op a b) (nodes.Binary op' x y) = (op' ≡ op) × (x ≡ before + a) × (y ≡ before + b)

@@ -48,10 +48,10 @@ pub record IsTerm (term : List RawNode) : Type 0 where
   pub some : 0 < length term
   pub each : (k : ℕ) (node : RawNode) → slice_get term k ≡ Some node → IsBehindOperands k node
 
--- a node of a constant term is no register and no `undef`
+-- a node of a constant term is no register and no choice
 abbrev pub MayStandInTerm : RawNode → Type 0
 MayStandInTerm (raw_nodes.Register name) = ⊥
-MayStandInTerm (raw_nodes.Undef k) = ⊥
+MayStandInTerm (raw_nodes.Choice k) = ⊥
 MayStandInTerm node = Unit {0}
 
 -- node k of a formula has those of its operands that are nodes of it before it

@@ -7,7 +7,7 @@ ghost use Rattle.rule_reader.specs.FaultKinds.{Each, NodeIsBound, TermIsBound, A
 ghost use Rattle.rule_reader.specs.KnownRules.{half_of, place_in, IsPlaceOf};
 ghost use Rattle.rule_reader.specs.Faults.{IsFirst};
 
-use crate::counts::undefs_in;
+use crate::counts::choices_in;
 use crate::names::Names;
 use crate::place::{Half, Place};
 use crate::registers::{is_among, is_assigned};
@@ -34,7 +34,7 @@ fn node_is_bound(rule: &RawRule, names: &Names, place: Place, node: &RawNode) ->
         RawNode::Register(name) | RawNode::Width(name) => {
             found(rule, names, place, name.as_slice()).is_some()
         }
-        RawNode::Undef(k) => *k < undefs_in(rule, Half::Target),
+        RawNode::Choice(k) => *k < choices_in(rule, Half::Target),
         RawNode::Literal(_) | RawNode::Unary(_, _) | RawNode::Binary(_, _, _) => true,
     }
 }
@@ -86,7 +86,7 @@ fn op_is_bound(rule: &RawRule, names: &Names, place: Place, op: &RawOp) -> bool
                 && argument_is_bound(rule, names, place, &if_true.value)
                 && argument_is_bound(rule, names, place, &if_false.value)
         }
-        RawOp::Convert(_, _, operand, _) | RawOp::Copy(operand) => {
+        RawOp::Convert(_, _, operand, _) | RawOp::Freeze(operand) | RawOp::Copy(operand) => {
             argument_is_bound(rule, names, place, &operand.value)
         }
     }

@@ -1,25 +1,24 @@
-//! How many `undef`s and nodes of terms stand in a part of a half.
+//! How many choices and nodes of terms stand in a part of a half.
 
 ghost use Rattle.std.specs.Prelude.{◌≡◌};
-ghost use Rattle.rule_parse.specs.Contents.{arguments_of};
-ghost use Rattle.rule_reader.specs.Meaning.{past, past_all, in_half};
+ghost use Rattle.rule_reader.specs.Meaning.{past, past_all, counted_of, in_half};
 ghost use Rattle.rule_reader.specs.KnownRules.{half_of, AreFew};
 ghost use Rattle.rule_reader.specs.WellFormed.{IsWellFormed};
 
 use crate::place::Half;
 use rule_parse::{RawArgument, RawOp, RawRule, RawStatement};
 
-/// How many `undef`s and nodes of terms stand in a part of a half.
+/// How many choices, which are `undef`s and freezes, and nodes of terms stand in a part of a half.
 #[derive(Clone, Copy, Debug, PartialEq, Eq)]
 pub(crate) struct Counts {
-    pub(crate) undefs: u32,
+    pub(crate) choices: u32,
     pub(crate) nodes: u32,
 }
 
 impl Counts {
     /// Before a half there are none.
     pub(crate) const NONE: Counts = Counts {
-        undefs: 0,
+        choices: 0,
         nodes: 0,
     };
 
@@ -30,11 +29,11 @@ impl Counts {
     {
         match argument {
             RawArgument::Undef => Counts {
-                undefs: self.undefs + 1,
+                choices: self.choices + 1,
                 nodes: self.nodes,
             },
             RawArgument::Term(term) => Counts {
-                undefs: self.undefs,
+                choices: self.choices,
                 nodes: self.nodes + term.len() as u32,
             },
             RawArgument::Register(_)
@@ -44,10 +43,10 @@ impl Counts {
         }
     }
 
-    /// How many there are behind what a statement reads.
+    /// How many there are behind a statement.
     pub(crate) fn past_op(self, op: &RawOp) -> Counts
-        requires { AreFew (past_all self (arguments_of op.now)) }
-        ensures { result ≡ past_all self (arguments_of op.now) }
+        requires { AreFew (past_all self (counted_of op.now)) }
+        ensures { result ≡ past_all self (counted_of op.now) }
     {
         match op {
             RawOp::Binary(_, _, left, right) | RawOp::Compare(_, _, left, right) => {
@@ -58,6 +57,7 @@ impl Counts {
                 .past(&if_true.value)
                 .past(&if_false.value),
             RawOp::Convert(_, _, operand, _) | RawOp::Copy(operand) => self.past(&operand.value),
+            RawOp::Freeze(operand) => self.past(&operand.value).past(&RawArgument::Undef),
         }
     }
 }
@@ -74,10 +74,10 @@ fn in_half(statements: &[RawStatement]) -> Counts
     counts
 }
 
-/// How many `undef`s there are in a half of a rule.
-pub(crate) fn undefs_in(rule: &RawRule, half: Half) -> u32
+/// How many choices there are in a half of a rule.
+pub(crate) fn choices_in(rule: &RawRule, half: Half) -> u32
     requires { IsWellFormed rule.now }
-    ensures { result ≡ (in_half (half_of half rule.now)).undefs }
+    ensures { result ≡ (in_half (half_of half rule.now)).choices }
 {
-    in_half(half.of(rule)).undefs
+    in_half(half.of(rule)).choices
 }

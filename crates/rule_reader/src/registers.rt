@@ -85,6 +85,7 @@ pub(crate) fn uses(op: &RawOp, name: &[u8]) -> bool
                 || is_register(if_true, name)
                 || is_register(if_false, name)
         }
-        RawOp::Convert(_, _, operand, _) | RawOp::Copy(operand) => is_register(operand, name),
+        RawOp::Convert(_, _, operand, _) | RawOp::Freeze(operand) | RawOp::Copy(operand) =>
+            is_register(operand, name),
     }
 }

@@ -136,7 +136,7 @@ fn argument(
         RawArgument::Constant(name) => {
             Argument::Constant(constant(rule, names, name.as_slice()))
         }
-        RawArgument::Undef => Argument::Undef(before.undefs),
+        RawArgument::Undef => Argument::Undef(before.choices),
         RawArgument::Term(term) => Argument::Term(before.nodes + term.len() as u32 - 1),
     }
 }
@@ -196,6 +196,10 @@ fn op(rule: &RawRule, names: &Names, place: Place, before: Counts, written: &Raw
             *flags,
             operand(rule, names, place, before, converted),
             *to,
+        ),
+        RawOp::Freeze(frozen) => Op::Freeze(
+            operand(rule, names, place, before, frozen),
+            before.past(&frozen.value).choices,
         ),
         RawOp::Copy(copied) => Op::Copy(operand(rule, names, place, before, copied)),
     }

@@ -28,7 +28,7 @@ fn node(rule: &RawRule, names: &Names, place: Place, before: u32, written: &RawN
         RawNode::Literal(number) => Node::Literal(*number),
         RawNode::Constant(name) => Node::Constant(constant(rule, names, name.as_slice())),
         RawNode::Register(name) => { Node::Register(register(rule, names, place, name.as_slice())) }
-        RawNode::Undef(k) => Node::Undef(*k),
+        RawNode::Choice(k) => Node::Choice(*k),
         RawNode::Width(name) => Node::Width(register(rule, names, place, name.as_slice()), 0),
         RawNode::Unary(function, operand) => Node::Unary(*function, before + operand),
         RawNode::Binary(opcode, left, right) => {
@@ -114,7 +114,7 @@ fn add_op(
             add_argument(alloc, terms, rule, names, place, &if_true.value)?;
             add_argument(alloc, terms, rule, names, place, &if_false.value)
         }
-        RawOp::Convert(_, _, operand, _) | RawOp::Copy(operand) => {
+        RawOp::Convert(_, _, operand, _) | RawOp::Freeze(operand) | RawOp::Copy(operand) => {
             add_argument(alloc, terms, rule, names, place, &operand.value)
         }
     }

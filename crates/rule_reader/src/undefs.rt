@@ -1,14 +1,14 @@
-//! The checks of `undef`s. Each answers the first line at which it fails.
+//! The checks of `undef`s and freezes. Each answers the first line at which it fails.
 
 ghost use Rattle.std.specs.Prelude.{◌≡◌, ◌↔◌, ◌<◌, List, Some, Contains, length, slice_get, IsTrue};
 ghost use Rattle.rule_parse.specs.declared.raw.RawStatement.{RawStatement as written_statement};
 ghost use Rattle.rule_parse.specs.declared.raw.RawArgument.TheVariants.{Undef as undef};
 ghost use Rattle.rule_parse.specs.Contents.{arguments_of, expressions_of};
 ghost use Rattle.rule_reader.specs.WellFormed.{AreInLineOrder, IsWellFormed};
-ghost use Rattle.rule_reader.specs.FaultKinds.{StandsAt, ReadsUndefInside, IsUndefCopy, UndefInsideAt, WitnessCountAt, witness_line};
+ghost use Rattle.rule_reader.specs.FaultKinds.{StandsAt, LeavesOpen, ReadsUndefAlone, HasUndefInside, UndefInsideAt, WitnessCountAt, witness_line};
 ghost use Rattle.rule_reader.specs.Faults.{IsFirst};
 
-use crate::counts::undefs_in;
+use crate::counts::choices_in;
 use crate::place::Half;
 use rule_parse::{RawArgument, RawOp, RawOperand, RawRule, RawStatement};
 
@@ -30,32 +30,45 @@ fn reads_undef(op: &RawOp) -> bool
         RawOp::Select(condition, if_true, if_false) => {
             is_undef(condition) || is_undef(if_true) || is_undef(if_false)
         }
-        RawOp::Convert(_, _, operand, _) | RawOp::Copy(operand) => is_undef(operand),
+        RawOp::Convert(_, _, operand, _) | RawOp::Freeze(operand) | RawOp::Copy(operand) => {
+            is_undef(operand)
+        }
     }
 }
 
-/// Whether the operation is a copy of `undef`.
-fn copies_undef(op: &RawOp) -> bool
-    ensures { IsTrue result ↔ IsUndefCopy op.now }
+/// Whether the operation reads an `undef`, or is a freeze.
+fn leaves_open(op: &RawOp) -> bool
+    ensures { IsTrue result ↔ LeavesOpen op.now }
 {
     match op {
-        RawOp::Copy(copied) => is_undef(copied),
+        RawOp::Freeze(_) => true,
+        _ => reads_undef(op),
+    }
+}
+
+/// Whether the operation is a copy or a freeze of `undef`.
+fn reads_undef_alone(op: &RawOp) -> bool
+    ensures { IsTrue result ↔ ReadsUndefAlone op.now }
+{
+    match op {
+        RawOp::Freeze(operand) | RawOp::Copy(operand) => is_undef(operand),
         _ => false,
     }
 }
 
-/// Whether a statement, not the last, reads an `undef`.
+/// Whether a statement leaves something open and is not the last one, or freezes an `undef`.
 fn is_inside(source: &[RawStatement], place: usize) -> bool
     requires { place < length source.now }
-    ensures { (s : written_statement) → slice_get source.now place ≡ Some s → (IsTrue result ↔ ReadsUndefInside source.now place s) }
+    ensures { (s : written_statement) → slice_get source.now place ≡ Some s → (IsTrue result ↔ HasUndefInside source.now place s) }
 {
-    place + 1 < source.len() && reads_undef(&source[place].op)
+    let op = &source[place].op;
+    (place + 1 < source.len() && leaves_open(op)) || reads_undef_alone(op)
 }
 
-/// The first line of the source at which a statement other than the last reads an `undef`.
+/// The first line of the source at which a statement other than the last leaves something open, or one freezes an `undef`.
 fn undef_in_source(source: &[RawStatement]) -> Option<usize>
     requires { AreInLineOrder source.now }
-    ensures { IsFirst (StandsAt source.now (ReadsUndefInside source.now)) result }
+    ensures { IsFirst (StandsAt source.now (HasUndefInside source.now)) result }
 {
     for (place, statement) in source.iter().enumerate() {
         if is_inside(source, place) {
@@ -65,27 +78,27 @@ fn undef_in_source(source: &[RawStatement]) -> Option<usize>
     None
 }
 
-/// The first line of the target at which an `undef` is copied.
-fn undef_copied(target: &[RawStatement]) -> Option<usize>
+/// The first line of the target at which an `undef` is copied or frozen.
+fn undef_alone(target: &[RawStatement]) -> Option<usize>
     requires { AreInLineOrder target.now }
-    ensures { IsFirst (StandsAt target.now (λ k s. IsUndefCopy s.op)) result }
+    ensures { IsFirst (StandsAt target.now (λ k s. ReadsUndefAlone s.op)) result }
 {
     for statement in target {
-        if copies_undef(&statement.op) {
+        if reads_undef_alone(&statement.op) {
             return Some(statement.line);
         }
     }
     None
 }
 
-/// The first line at which an `undef` stands in the source outside the root, or is copied in the target.
+/// The first line at which the source leaves something open outside the root, or an `undef` is frozen, or in the target copied.
 pub(crate) fn undef_inside(rule: &RawRule) -> Option<usize>
     requires { IsWellFormed rule.now }
     ensures { IsFirst (UndefInsideAt rule.now) result }
 {
     match undef_in_source(rule.source.as_slice()) {
         Some(line) => Some(line),
-        None => undef_copied(rule.target.as_slice()),
+        None => undef_alone(rule.target.as_slice()),
     }
 }
 
@@ -100,13 +113,13 @@ fn witness_size(rule: &RawRule) -> (usize, usize)
     }
 }
 
-/// The line of `Wit:`, or of the name, where the expressions are not as many as the source's `undef`s.
+/// The line of `Wit:`, or of the name, where the expressions are not as many as the source's choices.
 pub(crate) fn witness_count(rule: &RawRule) -> Option<usize>
     requires { IsWellFormed rule.now }
     ensures { IsFirst (WitnessCountAt rule.now) result }
 {
     let (expressions, line) = witness_size(rule);
-    if expressions == undefs_in(rule, Half::Source) as usize {
+    if expressions == choices_in(rule, Half::Source) as usize {
         None
     } else {
         Some(line)

@@ -1,4 +1,4 @@
-//! The choices of the source's `undef`s by place, from the expressions of `Wit:` as written.
+//! What the choices of the source are by place, from the expressions of `Wit:` as written.
 
 ghost use Rattle.std.specs.Prelude.{◌≡◌, IfOk};
 ghost use Rattle.rule_parse.specs.Contents.{expressions_of};

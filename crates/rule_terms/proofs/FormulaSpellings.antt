@@ -85,7 +85,7 @@ module _ (limits : Limits) where
   leaf_plain (raw_nodes.Literal z) own (text, value, is) = rw is (plain_one (Number text) refl)
   leaf_plain (raw_nodes.Constant name) own (c, le, is) = rw is (plain_one (Word name) (constant_plain name c))
   leaf_plain (raw_nodes.Register name) own (place, le, is) = absurd cc
-  leaf_plain (raw_nodes.Undef k) own (word, place, choice, le, is) = absurd cc
+  leaf_plain (raw_nodes.Choice k) own (word, place, choice, le, is) = absurd cc
   leaf_plain node own never = absurd never
 
   operator_plain : (op : Opcode) → sign_of (Mark (operator_mark op)) ≡ signs.Plain
@@ -138,7 +138,7 @@ module _ (limits : Limits) where
   leaf_compares (raw_nodes.Literal z) own rest (text, value, is) = rw is refl
   leaf_compares (raw_nodes.Constant name) own rest (c, le, is) = rw is (constant_compares name rest c)
   leaf_compares (raw_nodes.Register name) own rest (place, le, is) = absurd cc
-  leaf_compares (raw_nodes.Undef k) own rest (word, place, choice, le, is) = absurd cc
+  leaf_compares (raw_nodes.Choice k) own rest (word, place, choice, le, is) = absurd cc
   leaf_compares node own rest never = absurd never
 
   called_compares : (function : Function) (word : List ℕ) (rest : List Token) → IsCalled function word → opening_at (Word word ∷ rest) ≡ Compares

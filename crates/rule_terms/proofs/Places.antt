@@ -62,7 +62,7 @@ module _ (limits : Limits) where
   spelled_nodes (leaf (raw_nodes.Literal z) tokens s) = record { some = omega arith; behind = (tt, tt) }
   spelled_nodes (leaf (raw_nodes.Constant name) tokens s) = record { some = omega arith; behind = (tt, tt) }
   spelled_nodes (leaf (raw_nodes.Register name) tokens s) = record { some = omega arith; behind = (tt, tt) }
-  spelled_nodes (leaf (raw_nodes.Undef k) tokens s) = record { some = omega arith; behind = (tt, tt) }
+  spelled_nodes (leaf (raw_nodes.Choice k) tokens s) = record { some = omega arith; behind = (tt, tt) }
   spelled_nodes (leaf node tokens s) = absurd s
   spelled_nodes (width name le) = record { some = omega arith; behind = (tt, tt) }
   spelled_nodes (parenthesised s) = spelled_nodes s

@@ -168,7 +168,7 @@ module _ (limits : Limits) where
   spells_some (leaf (raw_nodes.Literal z) tokens (text, value, is)) = rw is (omega arith)
   spells_some (leaf (raw_nodes.Constant name) tokens (constant, le, is)) = rw is (omega arith)
   spells_some (leaf (raw_nodes.Register name) tokens (witness, le, is)) = rw is (omega arith)
-  spells_some (leaf (raw_nodes.Undef k) tokens (word, witness, choice, le, is)) = rw is (omega arith)
+  spells_some (leaf (raw_nodes.Choice k) tokens (word, witness, choice, le, is)) = rw is (omega arith)
   spells_some (leaf node tokens is) = absurd is
   spells_some (width name le) = omega arith
   spells_some (parenthesised s) = omega arith

@@ -82,7 +82,7 @@ module _ (limits : Limits) where
       bound (name_within limits line word) _ _ e (λ held n e1.
       let w = name_within-is limits line word held n in
       let m = subst (λ (h : List ℕ). Means place (meanings.Choice k) h) w.1 (meaning_in-is place word (meanings.Choice k) f) in
-      read_as (StartsAs place (Word word ∷ rest)) (Leaf (raw_nodes.Undef k), rest) x e1
+      read_as (StartsAs place (Word word ∷ rest)) (Leaf (raw_nodes.Choice k), rest) x e1
       (Word held ∷ [], (held, m.0, m.1, w.0, refl), ap (λ (r : List ℕ). Word r ∷ rest) w.1))
   word_at-is place line word None rest x f e = absurd cc
 
@@ -132,7 +132,7 @@ module _ (limits : Limits) where
   leaf_at-of place line (raw_nodes.Literal z) own rest (text, value, is) = rw (is, value) refl
   leaf_at-of place line (raw_nodes.Constant name) own rest (constant, le, is) = rw (is, meaning_in-of place meanings.Constant name constant, name_within-of limits line name le) refl
   leaf_at-of place line (raw_nodes.Register name) own rest (witness, le, is) = rw (is, witness, name_within-of limits line name le) refl
-  leaf_at-of place line (raw_nodes.Undef k) own rest (word, witness, choice, le, is) = rw (is, meaning_in-of place (meanings.Choice k) word (witness, choice), name_within-of limits line word le) refl
+  leaf_at-of place line (raw_nodes.Choice k) own rest (word, witness, choice, le, is) = rw (is, meaning_in-of place (meanings.Choice k) word (witness, choice), name_within-of limits line word le) refl
   leaf_at-of place line (raw_nodes.Width name) own rest is = absurd is
   leaf_at-of place line (raw_nodes.Unary function a) own rest is = absurd is
   leaf_at-of place line (raw_nodes.Binary op a b) own rest is = absurd is

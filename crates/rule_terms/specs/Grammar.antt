@@ -10,7 +10,7 @@ use Rattle.rule_tokens.specs.Tokens.{Token, Register as RegisterToken, Word, Num
 use Rattle.rule_terms.specs.declared.place.TermPlace.{TermPlace}
 use Rattle.rule_terms.specs.declared.place.TermPlace.TheVariants.{Witness}
 use Rattle.rule_terms.specs.declared.raw.RawNode.{RawNode}
-use Rattle.rule_terms.specs.declared.raw.RawNode.TheVariants.{Literal, Constant, Register, Undef, Width, Unary, Binary}
+use Rattle.rule_terms.specs.declared.raw.RawNode.TheVariants.{Literal, Constant, Register, Choice, Width, Unary, Binary}
 use Rattle.rule_terms.specs.Keywords.{operator_mark, operator_in, level_of, loosest, IsPrefix, IsCalled, held_place, IsChoice}
 
 -- the place of the last of so many nodes
@@ -22,7 +22,7 @@ abbrev pub SpellsLeaf : Limits → TermPlace → RawNode → Part
 SpellsLeaf limits place (Literal z) tokens = (text : List ℕ) × (z ≡ literal_value text) × Is (Number text) tokens
 SpellsLeaf limits place (Constant name) tokens = IsTrue (is_constant name) × (length name ≤ limits.name_bytes) × Is (Word name) tokens
 SpellsLeaf limits place (Register name) tokens = (place ≡ Witness) × (length name ≤ limits.name_bytes) × Is (RegisterToken name) tokens
-SpellsLeaf limits place (Undef k) tokens = (word : List ℕ) × (place ≡ Witness) × IsChoice word k × (length word ≤ limits.name_bytes) × Is (Word word) tokens
+SpellsLeaf limits place (Choice k) tokens = (word : List ℕ) × (place ≡ Witness) × IsChoice word k × (length word ≤ limits.name_bytes) × Is (Word word) tokens
 SpellsLeaf limits place node tokens = ⊥
 
 -- The tokens spell a term of these nodes, each behind its operands, where the first node has the place `start`: at most `nesting`

@@ -42,7 +42,7 @@ abbrev pub word_at : Limits → ℕ → List ℕ → Option Meaning → List Tok
 word_at limits line word (Some meanings.Width) rest = mark_at (codes "(") line rest >>= λ behind. Ok (Width, behind)
 word_at limits line word (Some (meanings.Call function)) rest = mark_at (codes "(") line rest >>= λ behind. Ok (Call function, behind)
 word_at limits line word (Some meanings.Constant) rest = name_within limits line word >>= λ name. Ok (Leaf (nodes.Constant name), rest)
-word_at limits line word (Some (meanings.Choice place)) rest = name_within limits line word >>= λ name. Ok (Leaf (nodes.Undef place), rest)
+word_at limits line word (Some (meanings.Choice place)) rest = name_within limits line word >>= λ name. Ok (Leaf (nodes.Choice place), rest)
 word_at limits line word None rest = Err (misplaced_word line word)
 
 -- a parenthesis, or an operator of one operand

@@ -16,8 +16,8 @@ pub enum RawNode {
     Constant(Text),
     /// A register by its name, without the `%`. It stands in `Wit:` alone.
     Register(Text),
-    /// An `undef` of the target by its place, which is 0 for `t1`; past the end of `u32` that end. It stands in `Wit:` alone.
-    Undef(u32),
+    /// A choice of the target by its place, which is 0 for `t1`; past the end of `u32` that end. It stands in `Wit:` alone.
+    Choice(u32),
     /// `width(%x)`: the register by its name.
     Width(Text),
     Unary(Function, u32),

@@ -88,7 +88,7 @@ fn word(
         }
         Some(Meaning::Choice(choice)) => {
             name_within(alloc, line, word)?;
-            Ok(Start::Leaf(RawNode::Undef(choice)))
+            Ok(Start::Leaf(RawNode::Choice(choice)))
         }
         None => Err(misplaced_word(alloc, line, word)),
     }

@@ -6,3 +6,4 @@ pub mod Steps
 pub mod Takes
 pub mod Tokenising
 pub mod Types
+pub mod Versions

@@ -12,3 +12,4 @@ pub mod SeenTokens
 pub mod Steps
 pub mod TypeTokens
 pub mod Tokens
+pub mod Versions

@@ -13,7 +13,7 @@ use Rattle.scan.specs.RuleTokens.{IsNextRuleToken, IsBadNext, ends_primary}
 pub data Token : Type 0 where
   -- the tokens of another line follow: its number
   Line : (number : ℕ) → Token
-  -- `Name:`, `Pre:` or `Wit:`
+  -- `Version:`, `Name:`, `Pre:` or `Wit:`
   Head : (text : List ℕ) → Token
   -- the name of a rule: the rest of the line of its `Name:`
   Name : (text : List ℕ) → Token

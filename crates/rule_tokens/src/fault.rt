@@ -12,7 +12,7 @@ pub enum RuleFaultKind {
     BadByte,
     /// A token that does not fit, or a part that is not whole at the end of its line.
     Syntax,
-    /// A word, or the first byte of a token that is no word, of what is left out of the language.
+    /// A word of what is left out of the language, or the number of a version that is not there.
     LeftOut(Text),
     /// A limit is passed: 32 statements in a half, 256 operands, literals, names, operators and functions in a rule, 32 open
     /// parentheses and pending operators of one operand, 200 bytes of a name, or 8 classes of types in a rule.
@@ -27,9 +27,9 @@ pub enum RuleFaultKind {
     Redefines,
     /// No later statement of the source uses a register of the source that is not the root.
     UnusedTemp,
-    /// `undef` stands in the source outside the root, or is copied.
+    /// `undef` or a freeze stands in the source outside the root, or `undef` is copied or frozen.
     UndefInside,
-    /// The expressions of `Wit:` are not as many as the source's `undef`s.
+    /// The expressions of `Wit:` are not as many as the source's `undef`s and freezes.
     WitnessCount,
     /// No widths are a typing.
     NoType,

@@ -8,6 +8,7 @@ mod number;
 mod token;
 mod token_fault;
 mod tokens;
+mod version;
 mod width;
 
 pub use end_of_line::line_end;
@@ -17,4 +18,5 @@ pub use number::{all_digits, are_digits, literal, magnitude};
 pub use token::Token;
 pub use token_fault::{left_out, misplaced, misplaced_word, unexpected};
 pub use tokens::{Tokens, tokens_of};
+pub use version::{Version, written_version};
 pub use width::{integer_type, maybe_type};

@@ -5,7 +5,7 @@
 pub enum Token<'a> {
     /// The tokens of another line follow: its number, counted from 1.
     Line(usize),
-    /// `Name:`, `Pre:` or `Wit:`.
+    /// `Version:`, `Name:`, `Pre:` or `Wit:`.
     Head(&'a [u8]),
     /// The name of a rule: the rest of its line.
     Name(&'a [u8]),

@@ -1,16 +1,17 @@
 -- What a rule meets does not speak of its classes: of two rules that differ in no more than those, the second meets it with the first.
 use Rattle.std.proofs.Common.{◌≡◌, ℕ, suc, ◌≤◌, List, [], ◌∷◌, ◌++◌, length, map, Option, Some, refl, sym, ap, subst, ◌∙◌, arith}
-use Rattle.std.specs.Prelude.{slice_get, Contains, flat_map, filter_map, sum_by}
+use Rattle.std.specs.Prelude.{slice_get, Contains, flat_map, sum_by}
 use Rattle.std.specs.List.{range_with_len}
 use Rattle.std.proofs.lemmas.List.Sums.{sum_by-cons}
 use Rattle.std.proofs.lemmas.List.{length-map, map-append}
 use Rattle.rule_core.specs.declared.rule.Rule.{Rule}
 use Rattle.rule_core.specs.declared.rule.Statement.{Statement}
 use Rattle.rule_core.specs.declared.rule.Op.{Op}
-use Rattle.rule_core.specs.declared.rule.Op.TheVariants.{Binary, Compare, Select, Convert, Copy}
+use Rattle.rule_core.specs.declared.rule.Op.TheVariants.{Binary, Compare, Select, Convert, Freeze, Copy}
 use Rattle.rule_core.specs.declared.rule.Operand.{Operand}
 use Rattle.rule_core.specs.declared.rule.Argument.{Argument}
 use Rattle.rule_core.specs.declared.rule.Argument.TheVariants as arguments
+use Rattle.rule_core.specs.declared.rule.Choice.{Choice}
 use Rattle.rule_core.specs.declared.rule.Register.{Register}
 use Rattle.rule_core.specs.declared.rule.Register.TheVariants as registers
 use Rattle.rule_core.specs.declared.rule.Term.{Term}
@@ -18,13 +19,13 @@ use Rattle.rule_core.specs.declared.rule.Node.{Node}
 use Rattle.rule_core.specs.declared.rule.Node.TheVariants as nodes
 use Rattle.rule_core.specs.declared.rule.Formula.{Formula}
 use Rattle.rule_core.specs.declared.rule.Formula.TheVariants as formulas
-use Rattle.rule_core.specs.Positions.{operands_of, operands_among, operands_in, terms_in, undef_in, undefs_among}
-use Rattle.rule_core.specs.Checks.{IsRule, SourceMayRead, TargetMayRead, IsBeforeRoot, HasKnownWidth, MayBeTerm, MayBeWitness, MayBeFormula, FlagsFitOp, MayStandInSource, IsNoUndefCopy, UndefsInOrder, TargetMayMeasure, FormulaMayMeasure, argument_weight, node_weight, term_weight, formula_weight, weight_of, names_of, ReadsOnly, StandsAt, AreDistinct}
+use Rattle.rule_core.specs.Positions.{operands_of, operands_among, operands_in, terms_in, choices_among}
+use Rattle.rule_core.specs.Checks.{IsRule, SourceMayRead, TargetMayRead, IsBeforeRoot, HasKnownWidth, MayBeTerm, MayBeWitness, MayBeFormula, FlagsFitOp, MayStandInSource, ReadsNoUndefAlone, ChoicesInOrder, TargetMayMeasure, FormulaMayMeasure, argument_weight, node_weight, term_weight, formula_weight, weight_of, names_of, ReadsOnly, StandsAt, AreDistinct}
 use Rattle.rule_core.specs.FormulaNodes.{joint_of, OneUseIsOutermost}
 use Rattle.rule_core.specs.TermNodes.{IsOperandOf, StandsIn, itself, operand, NamesWidth, OwnsOperands, AreLastNodes}
 use Rattle.rule_typing.specs.Relabelled.{mapped_op, mapped_statement, mapped_node, mapped_term}
-use Rattle.rule_typing.proofs.Images.{same_get, same_among}
-use Rattle.rule_typing.proofs.Relabelled.{AreAlike, mapped_operand, operands-mapped_op, operands-mapped}
+use Rattle.rule_typing.proofs.Images.{map-map, same_get, same_among}
+use Rattle.rule_typing.proofs.Relabelled.{AreAlike, mapped_operand, mapped_choice, operands-mapped_op, operands-mapped, choices-mapped}
 
 -- statements that differ in no more than their classes
 abbrev pub bare_statement : Statement → Statement
@@ -52,27 +53,34 @@ same_operands xs ys same = sym (operands-mapped (λ c. 0) xs) ∙ ap (flat_map (
 same_operands_of : (s t : Statement) → bare_statement s ≡ bare_statement t → map bare_operand (operands_of s.op) ≡ map bare_operand (operands_of t.op)
 same_operands_of s t same = sym (operands-mapped_op (λ c. 0) s.op) ∙ ap (λ (x : Statement). operands_of x.op) same ∙ operands-mapped_op (λ c. 0) t.op
 
-source_op : (f : ℕ → ℕ) (op : Op) → MayStandInSource (mapped_op f op) ≡ MayStandInSource op
-source_op f (Binary op flags a b) = refl
-source_op f (Compare pred samesign a b) = refl
-source_op f (Select z a b) = refl
-source_op f (Convert cast flags a to) = refl
-source_op f (Copy a) = refl
+source_op : (rule : Rule) (k : ℕ) (f : ℕ → ℕ) (op : Op) → MayStandInSource rule k (mapped_op f op) ≡ MayStandInSource rule k op
+source_op rule k f (Binary op flags a b) = refl
+source_op rule k f (Compare pred samesign a b) = refl
+source_op rule k f (Select z a b) = refl
+source_op rule k f (Convert cast flags a to) = refl
+source_op rule k f (Freeze a j) = refl
+source_op rule k f (Copy a) = refl
 
 flags_op : (f : ℕ → ℕ) (op : Op) → FlagsFitOp (mapped_op f op) ≡ FlagsFitOp op
 flags_op f (Binary op flags a b) = refl
 flags_op f (Compare pred samesign a b) = refl
 flags_op f (Select z a b) = refl
 flags_op f (Convert cast flags a to) = refl
+flags_op f (Freeze a j) = refl
 flags_op f (Copy a) = refl
 
--- what is said of the operation alone, without its classes, carries over
+-- what is said of the operation at its place, without its classes, carries over
+ops_carry : (May May' : ℕ → Op → Type 0) → ((k : ℕ) (f : ℕ → ℕ) (op : Op) → May k (mapped_op f op) ≡ May k op) → ((k : ℕ) (op : Op) → May k op → May' k op) → (xs ys : List Statement) → HalvesAlike xs ys
+    → ((k : ℕ) (s : Statement) → slice_get xs k ≡ Some s → May k s.op) → (k : ℕ) (s : Statement) → slice_get ys k ≡ Some s → May' k s.op
+ops_carry May May' blind weaker xs ys same holds k t at =
+    let (s, there, e) = same_get bare_statement xs ys k t same at in
+    let across : May k s.op ≡ May k t.op = sym (blind k (λ c. 0) s.op) ∙ ap (λ (x : Statement). May k x.op) e ∙ blind k (λ c. 0) t.op in
+    weaker k t.op (subst (λ X. X) across (holds k s there))
+
+-- and of the operation alone
 carries : (P : Op → Type 0) → ((f : ℕ → ℕ) (op : Op) → P (mapped_op f op) ≡ P op) → (xs ys : List Statement) → HalvesAlike xs ys
     → ((k : ℕ) (s : Statement) → slice_get xs k ≡ Some s → P s.op) → (k : ℕ) (s : Statement) → slice_get ys k ≡ Some s → P s.op
-carries P blind xs ys same holds k t at =
-    let (s, there, e) = same_get bare_statement xs ys k t same at in
-    let across : P s.op ≡ P t.op = sym (blind (λ c. 0) s.op) ∙ ap (λ (x : Statement). P x.op) e ∙ blind (λ c. 0) t.op in
-    subst (λ X. X) across (holds k s there)
+carries P blind xs ys same holds = ops_carry (λ k. P) (λ k. P) (λ k. blind) (λ k op may. may) xs ys same holds
 
 -- and so does what is said of the values that are read
 reads_carry : (May May' : ℕ → Argument → Type 0) → ((k : ℕ) (v : Argument) → May k v → May' k v) → (xs ys : List Statement) → HalvesAlike xs ys → ReadsOnly May xs → ReadsOnly May' ys
@@ -88,11 +96,12 @@ stands_at r s same q argument (o, at, is) =
     let (o', at', e) = same_get bare_operand (operands_among s.source) (operands_among r.source) q o (same_operands s.source r.source halves) at in
     (o', at', ap (λ (x : Operand). x.value) e ∙ is)
 
-copies_op : (f : ℕ → ℕ) (op : Op) → IsNoUndefCopy (mapped_op f op) ≡ IsNoUndefCopy op
+copies_op : (f : ℕ → ℕ) (op : Op) → ReadsNoUndefAlone (mapped_op f op) ≡ ReadsNoUndefAlone op
 copies_op f (Binary op flags a b) = refl
 copies_op f (Compare pred samesign a b) = refl
 copies_op f (Select z a b) = refl
 copies_op f (Convert cast flags a to) = refl
+copies_op f (Freeze a j) = refl
 copies_op f (Copy a) = refl
 
 -- what is summed or gathered over elements is the same over their images, where it is the same of each
@@ -100,17 +109,28 @@ sum_image : {X : Type 0} (weight : X → ℕ) (g : X → X) → ((x : X) → wei
 sum_image weight g same [] = refl
 sum_image weight g same (x ∷ xs) = sum_by-cons weight (g x) (map g xs) ∙ omega (arith, same x, sum_image weight g same xs, sum_by-cons weight x xs)
 
-filter_image : {X Y : Type 0} (h : X → Option Y) (g : X → X) → ((x : X) → h (g x) ≡ h x) → (xs : List X) → filter_map h (map g xs) ≡ filter_map h xs
-filter_image h g same [] = refl
-filter_image h g same (x ∷ xs) = rw (same x, filter_image h g same xs) refl
-
 same_sum : {X : Type 0} (weight : X → ℕ) (g : X → X) → ((x : X) → weight (g x) ≡ weight x) → (xs ys : List X) → map g xs ≡ map g ys → sum_by weight xs ≡ sum_by weight ys
 same_sum weight g same xs ys alike = sym (sum_image weight g same xs) ∙ ap (sum_by weight) alike ∙ sum_image weight g same ys
 
-same_undefs : (xs ys : List Statement) → HalvesAlike xs ys → undefs_among xs ≡ undefs_among ys
-same_undefs xs ys same =
-    let undef_of = λ (o : Operand). undef_in o.value in
-    sym (filter_image undef_of bare_operand (λ o. refl) (operands_among xs)) ∙ ap (filter_map undef_of) (same_operands xs ys same) ∙ filter_image undef_of bare_operand (λ o. refl) (operands_among ys)
+-- choices that differ in no more than their classes
+abbrev pub bare_choice : Choice → Choice
+bare_choice choice = mapped_choice (λ c. 0) choice
+
+abbrev places : List Choice → List ℕ
+places choices = map (λ c. c.place) choices
+
+same_choices : (xs ys : List Statement) → HalvesAlike xs ys → map bare_choice (choices_among xs) ≡ map bare_choice (choices_among ys)
+same_choices xs ys same = sym (choices-mapped (λ c. 0) xs) ∙ ap choices_among same ∙ choices-mapped (λ c. 0) ys
+
+count_choices : (xs ys : List Statement) → HalvesAlike xs ys → length (choices_among xs) ≡ length (choices_among ys)
+count_choices xs ys same = same_length bare_choice (choices_among xs) (choices_among ys) (same_choices xs ys same)
+
+same_places : (xs ys : List Statement) → HalvesAlike xs ys → places (choices_among xs) ≡ places (choices_among ys)
+same_places xs ys same =
+    sym (map-map (λ (c : Choice). c.place) bare_choice (choices_among xs)) ∙ ap places (same_choices xs ys same) ∙ map-map (λ (c : Choice). c.place) bare_choice (choices_among ys)
+
+in_order_too : (xs ys : List Statement) → HalvesAlike xs ys → ChoicesInOrder xs → ChoicesInOrder ys
+in_order_too xs ys same order = sym (same_places xs ys same) ∙ order ∙ ap (range_with_len 0) (count_choices xs ys same)
 
 -- nodes that differ in no more than their classes
 abbrev pub bare_term : Term → Term
@@ -120,7 +140,7 @@ node_weighs : (f : ℕ → ℕ) (node : Node) → node_weight (mapped_node f nod
 node_weighs f (nodes.Literal z) = refl
 node_weighs f (nodes.Constant k) = refl
 node_weighs f (nodes.Register r) = refl
-node_weighs f (nodes.Undef k) = refl
+node_weighs f (nodes.Choice k) = refl
 node_weighs f (nodes.Width r c) = refl
 node_weighs f (nodes.Unary function a) = refl
 node_weighs f (nodes.Binary op a b) = refl
@@ -129,7 +149,7 @@ may_be_term : (rule : Rule) (n : ℕ) (f : ℕ → ℕ) (node : Node) → MayBeT
 may_be_term rule n f (nodes.Literal z) = refl
 may_be_term rule n f (nodes.Constant k) = refl
 may_be_term rule n f (nodes.Register r) = refl
-may_be_term rule n f (nodes.Undef k) = refl
+may_be_term rule n f (nodes.Choice k) = refl
 may_be_term rule n f (nodes.Width r c) = refl
 may_be_term rule n f (nodes.Unary function a) = refl
 may_be_term rule n f (nodes.Binary op a b) = refl
@@ -138,7 +158,7 @@ may_be_witness : (rule : Rule) (n : ℕ) (f : ℕ → ℕ) (node : Node) → May
 may_be_witness rule n f (nodes.Literal z) = refl
 may_be_witness rule n f (nodes.Constant k) = refl
 may_be_witness rule n f (nodes.Register r) = refl
-may_be_witness rule n f (nodes.Undef k) = refl
+may_be_witness rule n f (nodes.Choice k) = refl
 may_be_witness rule n f (nodes.Width r c) = refl
 may_be_witness rule n f (nodes.Unary function a) = refl
 may_be_witness rule n f (nodes.Binary op a b) = refl
@@ -155,7 +175,7 @@ operand_blind : (a : ℕ) (f : ℕ → ℕ) (node : Node) → IsOperandOf a (map
 operand_blind a f (nodes.Literal z) = refl
 operand_blind a f (nodes.Constant k) = refl
 operand_blind a f (nodes.Register r) = refl
-operand_blind a f (nodes.Undef k) = refl
+operand_blind a f (nodes.Choice k) = refl
 operand_blind a f (nodes.Width r c) = refl
 operand_blind a f (nodes.Unary function b) = refl
 operand_blind a f (nodes.Binary op b c) = refl
@@ -168,7 +188,7 @@ measured (nodes.Width x d) r c e = (d, let same : r ≡ x = cc in ap (λ y. node
 measured (nodes.Literal z) r c e = absurd cc
 measured (nodes.Constant k) r c e = absurd cc
 measured (nodes.Register x) r c e = absurd cc
-measured (nodes.Undef k) r c e = absurd cc
+measured (nodes.Choice k) r c e = absurd cc
 measured (nodes.Unary function a) r c e = absurd cc
 measured (nodes.Binary op a b) r c e = absurd cc
 
@@ -195,9 +215,9 @@ module _ (xs ys : List Term) (same : map bare_term xs ≡ map bare_term ys) wher
   last_nodes_across first [] are = are ∙ same_length bare_term xs ys same
   last_nodes_across first (last ∷ ends) (le, owns, more) = (le, owns_across first last owns, last_nodes_across (suc last) ends more)
 
--- What one of two rules may read the other may, where both have as many inputs, constants, statements, nodes and `undef`s.
+-- What one of two rules may read the other may, where both have as many inputs, constants, statements, nodes and choices.
 module _ (r s : Rule) (inputs : length r.inputs ≡ length s.inputs) (constants : length r.constants ≡ length s.constants) (source : length r.source ≡ length s.source) (target : length r.target ≡ length s.target)
-    (terms : length r.terms ≡ length s.terms) (undefs : length (undefs_among r.target) ≡ length (undefs_among s.target)) where
+    (terms : length r.terms ≡ length s.terms) (choices : length (choices_among r.target) ≡ length (choices_among s.target)) where
   source_reads : (k : ℕ) (v : Argument) → SourceMayRead r k v → SourceMayRead s k v
   source_reads k (arguments.Register (registers.Input i)) may = omega arith
   source_reads k (arguments.Register (registers.Source j)) may = may
@@ -233,6 +253,11 @@ module _ (r s : Rule) (inputs : length r.inputs ≡ length s.inputs) (constants 
   formula_measures across (formulas.IsSignBit a) may = λ x names. before_root x (may x (across a x names))
   formula_measures across f may = tt
 
+  source_ops : (k : ℕ) (op : Op) → MayStandInSource r k op → MayStandInSource s k op
+  source_ops k (Freeze a j) may = omega arith
+  source_ops k (Copy a) may = may
+  source_ops k op may = tt
+
   has_width : (x : Register) → HasKnownWidth r x → HasKnownWidth s x
   has_width (registers.Input i) may = omega arith
   has_width (registers.Source j) may = omega arith
@@ -242,7 +267,7 @@ module _ (r s : Rule) (inputs : length r.inputs ≡ length s.inputs) (constants 
   as_term n (nodes.Literal z) may = may
   as_term n (nodes.Constant k) may = omega arith
   as_term n (nodes.Register x) may = may
-  as_term n (nodes.Undef k) may = may
+  as_term n (nodes.Choice k) may = may
   as_term n (nodes.Width x c) may = has_width x may
   as_term n (nodes.Unary function a) may = may
   as_term n (nodes.Binary op a b) may = may
@@ -251,7 +276,7 @@ module _ (r s : Rule) (inputs : length r.inputs ≡ length s.inputs) (constants 
   as_witness n (nodes.Literal z) may = may
   as_witness n (nodes.Constant k) may = omega arith
   as_witness n (nodes.Register x) may = before_root x may
-  as_witness n (nodes.Undef k) may = omega arith
+  as_witness n (nodes.Choice k) may = omega arith
   as_witness n (nodes.Width x c) may = before_root x may
   as_witness n (nodes.Unary function a) may = may
   as_witness n (nodes.Binary op a b) may = may
@@ -288,9 +313,8 @@ IsRule-alike r s same checked =
     let witnesses : r.witnesses ≡ s.witnesses = ap (λ (x : Rule). x.witnesses) same in
     let constant_counts : length r.constants ≡ length s.constants = ap length constants in
     let term_counts : length r.terms ≡ length s.terms = same_length bare_term r.terms s.terms terms in
-    let source_undefs : undefs_among r.source ≡ undefs_among s.source = same_undefs r.source s.source source in
-    let target_undefs : undefs_among r.target ≡ undefs_among s.target = same_undefs r.target s.target target in
-    let undef_counts : length (undefs_among r.target) ≡ length (undefs_among s.target) = ap length target_undefs in
+    let source_counts : length (choices_among r.source) ≡ length (choices_among s.source) = count_choices r.source s.source source in
+    let choice_counts : length (choices_among r.target) ≡ length (choices_among s.target) = count_choices r.target s.target target in
     let weights : weight_of r ≡ weight_of s
     = let first = same_sum (λ (o : Operand). argument_weight o.value) bare_operand (λ o. refl) (operands_in r) (operands_in s) operands in
     let second = same_sum term_weight bare_term (λ t. node_weighs (λ c. 0) t.node) (terms_in r) (terms_in s) all_terms in
@@ -307,8 +331,8 @@ IsRule-alike r s same checked =
       short_in_target = subst (λ l. (n : List ℕ) → Contains l n → length n ≤ 200) target_names checked.short_in_target;
       source_names = subst AreDistinct source_names checked.source_names;
       target_names = subst AreDistinct target_names checked.target_names;
-      source_reads = reads_carry (SourceMayRead r) (SourceMayRead s) (source_reads r s counts constant_counts sources targets term_counts undef_counts) r.source s.source source checked.source_reads;
-      target_reads = reads_carry (TargetMayRead r) (TargetMayRead s) (target_reads r s counts constant_counts sources targets term_counts undef_counts) r.target s.target target checked.target_reads;
+      source_reads = reads_carry (SourceMayRead r) (SourceMayRead s) (source_reads r s counts constant_counts sources targets term_counts choice_counts) r.source s.source source checked.source_reads;
+      target_reads = reads_carry (TargetMayRead r) (TargetMayRead s) (target_reads r s counts constant_counts sources targets term_counts choice_counts) r.target s.target target checked.target_reads;
       inputs_distinct = subst AreDistinct inputs checked.inputs_distinct;
       inputs_not_assigned = λ n among assigned. checked.inputs_not_assigned n (subst (λ l. Contains l n) (sym inputs) among) (subst (λ l. Contains l n) (sym source_names) assigned);
       inputs_read = λ i within. let h = checked.inputs_read i (omega arith) in (h.0, stands_at r s same h.0 (arguments.Register (registers.Input i)) h.1);
@@ -316,11 +340,11 @@ IsRule-alike r s same checked =
       constants_distinct = subst AreDistinct constants checked.constants_distinct;
       constants_read = λ k within. let h = checked.constants_read k (omega arith) in (h.0, stands_at r s same h.0 (arguments.Constant k) h.1);
       constants_in_order = λ h k q less at. let e = checked.constants_in_order h k q less (stands_at s r (sym same) q (arguments.Constant k) at) in (e.0, e.1, stands_at r s same e.0 (arguments.Constant h) e.2);
-      terms = nodes_carry (MayBeTerm r) (MayBeTerm s) (may_be_term r) (as_term r s counts constant_counts sources targets term_counts undef_counts) r.terms s.terms terms checked.terms;
-      witness_terms = nodes_carry (MayBeWitness r) (MayBeWitness s) (may_be_witness r) (as_witness r s counts constant_counts sources targets term_counts undef_counts) r.witness_terms s.witness_terms witness_terms checked.witness_terms;
-      precondition = λ n f at. as_formula r s counts constant_counts sources targets term_counts undef_counts n f (checked.precondition n f (subst (λ l. slice_get l n ≡ Some f) (sym precondition) at));
-      target_widths = reads_carry (TargetMayMeasure r) (TargetMayMeasure s) (target_measures r s counts constant_counts sources targets term_counts undef_counts (names_across r.terms s.terms terms)) r.target s.target target checked.target_widths;
-      precondition_widths = λ n f at. formula_measures r s counts constant_counts sources targets term_counts undef_counts (names_across r.terms s.terms terms) f (checked.precondition_widths n f (subst (λ l. slice_get l n ≡ Some f) (sym precondition) at));
+      terms = nodes_carry (MayBeTerm r) (MayBeTerm s) (may_be_term r) (as_term r s counts constant_counts sources targets term_counts choice_counts) r.terms s.terms terms checked.terms;
+      witness_terms = nodes_carry (MayBeWitness r) (MayBeWitness s) (may_be_witness r) (as_witness r s counts constant_counts sources targets term_counts choice_counts) r.witness_terms s.witness_terms witness_terms checked.witness_terms;
+      precondition = λ n f at. as_formula r s counts constant_counts sources targets term_counts choice_counts n f (checked.precondition n f (subst (λ l. slice_get l n ≡ Some f) (sym precondition) at));
+      target_widths = reads_carry (TargetMayMeasure r) (TargetMayMeasure s) (target_measures r s counts constant_counts sources targets term_counts choice_counts (names_across r.terms s.terms terms)) r.target s.target target checked.target_widths;
+      precondition_widths = λ n f at. formula_measures r s counts constant_counts sources targets term_counts choice_counts (names_across r.terms s.terms terms) f (checked.precondition_widths n f (subst (λ l. slice_get l n ≡ Some f) (sym precondition) at));
       source_root = omega (arith, checked.source_root);
       target_root = omega (arith, checked.target_root);
       root = λ j k u v last at last' at'.
@@ -333,13 +357,14 @@ IsRule-alike r s same checked =
           checked.temporaries_stay j u' (omega arith) there (subst (λ l. Contains l u'.name) (sym target_names) (subst (λ n. Contains (names_of s.target) n) (ap (λ (x : Statement). x.name) (sym e)) assigned));
       temporaries_read = λ j less. let h = checked.temporaries_read j (omega arith) in (h.0, stands_at r s same h.0 (arguments.Register (registers.Source j)) h.1);
       one_use = subst (λ l. OneUseIsOutermost (map joint_of l)) precondition checked.one_use;
-      source_ops = carries MayStandInSource source_op r.source s.source source checked.source_ops;
+      source_ops = ops_carry (MayStandInSource r) (MayStandInSource s) (source_op r) (source_ops r s counts constant_counts sources targets term_counts choice_counts) r.source s.source source checked.source_ops;
       source_flags = carries FlagsFitOp flags_op r.source s.source source checked.source_flags;
       target_flags = carries FlagsFitOp flags_op r.target s.target target checked.target_flags;
-      source_undefs = subst (λ l. l ≡ range_with_len 0 (length l)) source_undefs checked.source_undefs;
-      target_undefs = subst (λ l. l ≡ range_with_len 0 (length l)) target_undefs checked.target_undefs;
-      target_copies = carries IsNoUndefCopy copies_op r.target s.target target checked.target_copies;
-      witnesses = sym (ap length witnesses) ∙ checked.witnesses ∙ ap length source_undefs;
+      source_choices = in_order_too r.source s.source source checked.source_choices;
+      target_choices = in_order_too r.target s.target target checked.target_choices;
+      source_undefs = carries ReadsNoUndefAlone copies_op r.source s.source source checked.source_undefs;
+      target_undefs = carries ReadsNoUndefAlone copies_op r.target s.target target checked.target_undefs;
+      witnesses = sym (ap length witnesses) ∙ checked.witnesses ∙ source_counts;
       witnesses_there = λ k n at. let less = checked.witnesses_there k n (subst (λ l. slice_get l k ≡ Some n) (sym witnesses) at) in omega (arith, same_length bare_term r.witness_terms s.witness_terms witness_terms);
       witnesses_last = subst (AreLastNodes s.witness_terms 0) witnesses (last_nodes_across r.witness_terms s.witness_terms witness_terms 0 r.witnesses checked.witnesses_last);
     }

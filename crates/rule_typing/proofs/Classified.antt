@@ -5,7 +5,7 @@ use Rattle.std.proofs.lemmas.List.Sums.{sum_by-cons}
 use Rattle.rule_core.specs.declared.rule.Rule.{Rule}
 use Rattle.rule_core.specs.declared.rule.Statement.{Statement}
 use Rattle.rule_core.specs.declared.rule.Op.{Op}
-use Rattle.rule_core.specs.declared.rule.Op.TheVariants.{Binary, Compare, Select, Convert, Copy}
+use Rattle.rule_core.specs.declared.rule.Op.TheVariants.{Binary, Compare, Select, Convert, Freeze, Copy}
 use Rattle.rule_core.specs.declared.rule.Term.{Term}
 use Rattle.rule_core.specs.declared.rule.Node.{Node}
 use Rattle.rule_core.specs.declared.rule.Node.TheVariants as nodes
@@ -28,13 +28,14 @@ count_classes (s ∷ xs) = omega (arith, count_classes xs, length-append (classe
     four_classes c (Compare pred samesign a b) = omega arith
     four_classes c (Select z a b) = omega arith
     four_classes c (Convert cast flags a to) = omega arith
+    four_classes c (Freeze a j) = omega arith
     four_classes c (Copy a) = omega arith
 
 node_weighs : (c : ℕ) (node : Node) → length (classes_of_node c node) ≡ node_weight node
 node_weighs c (nodes.Literal z) = refl
 node_weighs c (nodes.Constant k) = refl
 node_weighs c (nodes.Register r) = refl
-node_weighs c (nodes.Undef k) = refl
+node_weighs c (nodes.Choice k) = refl
 node_weighs e (nodes.Width r c) = refl
 node_weighs c (nodes.Unary function a) = refl
 node_weighs c (nodes.Binary op a b) = refl

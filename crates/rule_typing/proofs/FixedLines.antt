@@ -6,7 +6,7 @@ use Rattle.ops.specs.declared.conversion.Cast.TheVariants.{Trunc, ZExt, SExt}
 use Rattle.rule_core.specs.declared.rule.Rule.{Rule}
 use Rattle.rule_core.specs.declared.rule.Statement.{Statement}
 use Rattle.rule_core.specs.declared.rule.Op.{Op}
-use Rattle.rule_core.specs.declared.rule.Op.TheVariants.{Binary, Compare, Select, Convert, Copy}
+use Rattle.rule_core.specs.declared.rule.Op.TheVariants.{Binary, Compare, Select, Convert, Freeze, Copy}
 use Rattle.rule_core.specs.declared.rule.Operand.{Operand}
 use Rattle.rule_core.specs.Positions.{operands_of, operands_in, classes_of, IsStatementOf, Fixed, comparison, condition, cast_to, written, truth, Smaller, truncated, zero_extended, sign_extended}
 use Rattle.rule_core.proofs.Members.{operand_stands, class_stands}
@@ -33,6 +33,7 @@ at_line rule s (Compare pred samesign a b) c N stands is e = subst (λ (p : ℕ 
 at_line rule s (Select z a b) c N stands is e = subst (λ (p : ℕ × ℕ). Fixed rule p.0 p.1) (same_Some (z.class, 1) (c, N) e) (condition stands is)
 at_line rule s (Convert cast flags a None) c N stands is e = cc
 at_line rule s (Convert cast flags a (Some M)) c N stands is e = subst (λ (p : ℕ × ℕ). Fixed rule p.0 p.1) (same_Some (s.class, M) (c, N) e) (cast_to stands is)
+at_line rule s (Freeze a j) c N stands is e = cc
 at_line rule s (Copy a) c N stands is e = cc
 
 by_operand : (rule : Rule) (o : Operand) (c N : ℕ) → Contains (operands_in rule) o → FixesWidth c N o → Fixed rule c N
@@ -65,6 +66,7 @@ at_cast rule s (Select z a b) c d stands is e = cc
 at_cast rule s (Convert Trunc flags a to) c d stands is e = subst (λ (p : ℕ × ℕ). Smaller rule p.0 p.1) (same_Some (s.class, a.class) (c, d) e) (truncated stands is)
 at_cast rule s (Convert ZExt flags a to) c d stands is e = subst (λ (p : ℕ × ℕ). Smaller rule p.0 p.1) (same_Some (a.class, s.class) (c, d) e) (zero_extended stands is)
 at_cast rule s (Convert SExt flags a to) c d stands is e = subst (λ (p : ℕ × ℕ). Smaller rule p.0 p.1) (same_Some (a.class, s.class) (c, d) e) (sign_extended stands is)
+at_cast rule s (Freeze a j) c d stands is e = cc
 at_cast rule s (Copy a) c d stands is e = cc
 
 -- widths meet what casts demand exactly where they meet the line of each statement

@@ -1,4 +1,4 @@
--- The lines of a rule are the pairs of its statements, operands, nodes and comparisons, and those of its names.
+-- The lines of a rule are the pairs of its statements, operands, choices, nodes and comparisons, and those of its names.
 use Rattle.std.proofs.Common.{◌≡◌, ◌⊎◌, inl, inr, ℕ, List, [], ◌∷◌, ◌++◌, get_or, Option, None, Some, refl, sym, ap, subst, ◌∙◌, arith}
 use Rattle.std.specs.Prelude.{slice_get, Contains, option_map, option_and_then}
 use Rattle.std.proofs.lemmas.Option.{same_Some}
@@ -6,26 +6,28 @@ use Rattle.std.proofs.lemmas.List.Elements.{Contains-append_left, Contains-appen
 use Rattle.rule_core.specs.declared.rule.Rule.{Rule}
 use Rattle.rule_core.specs.declared.rule.Statement.{Statement}
 use Rattle.rule_core.specs.declared.rule.Op.{Op}
-use Rattle.rule_core.specs.declared.rule.Op.TheVariants.{Binary, Compare, Select, Convert, Copy}
+use Rattle.rule_core.specs.declared.rule.Op.TheVariants.{Binary, Compare, Select, Convert, Freeze, Copy}
 use Rattle.rule_core.specs.declared.rule.Operand.{Operand}
 use Rattle.rule_core.specs.declared.rule.Argument.{Argument}
 use Rattle.rule_core.specs.declared.rule.Argument.TheVariants as arguments
+use Rattle.rule_core.specs.declared.rule.Choice.{Choice}
 use Rattle.rule_core.specs.declared.rule.Name.{Name}
 use Rattle.rule_core.specs.declared.rule.Term.{Term}
 use Rattle.rule_core.specs.declared.rule.Node.{Node}
 use Rattle.rule_core.specs.declared.rule.Node.TheVariants as nodes
 use Rattle.rule_core.specs.declared.rule.Formula.{Formula}
 use Rattle.rule_core.specs.declared.rule.Formula.TheVariants as formulas
-use Rattle.rule_core.specs.Positions.{operands_among, operands_in, IsStatementOf, Names, TermLine, unary, left, right, Line, binary_left, binary_right, compared, select_true, select_false, copy, name, term, witness_term, operand, compared_terms, witness}
+use Rattle.rule_core.specs.Positions.{operands_among, operands_in, choices_among, IsStatementOf, Names, TermLine, unary, left, right, Line, binary_left, binary_right, compared, select_true, select_false, freeze, copy, name, term, witness_term, operand, compared_terms, witness}
 use Rattle.rule_typing.specs.declared.half.Half.{Half}
 use Rattle.rule_typing.specs.declared.half.Half.TheVariants as halves
-use Rattle.rule_typing.specs.Splits.{paired, op_pairs, statement_pairs, node_class, chosen_class, term_class, operand_pairs, node_pairs, term_pairs, formula_pairs, PairOf}
+use Rattle.rule_typing.specs.Splits.{paired, op_pairs, statement_pairs, node_class, chosen_class, term_class, operand_pairs, choice_pairs, node_pairs, term_pairs, formula_pairs, PairOf}
 use Rattle.rule_typing.proofs.NameLines.{statements_of, half_operand, operand_cases}
 
 -- the parts
 pub data OnLine (rule : Rule) (c d : ℕ) : Type 0 where
   by_statement : PairOf statement_pairs (rule.source ++ rule.target) c d → OnLine rule c d
-  by_operand : (half : Half) → PairOf (operand_pairs rule half) (operands_among (statements_of rule half)) c d → OnLine rule c d
+  by_operand : (half : Half) → PairOf (operand_pairs rule) (operands_among (statements_of rule half)) c d → OnLine rule c d
+  by_choice : (half : Half) → PairOf (choice_pairs rule half) (choices_among (statements_of rule half)) c d → OnLine rule c d
   by_term : PairOf (term_pairs rule.terms) rule.terms c d → OnLine rule c d
   by_witness : PairOf (term_pairs rule.witness_terms) rule.witness_terms c d → OnLine rule c d
   by_comparison : PairOf (formula_pairs rule.terms) rule.precondition c d → OnLine rule c d
@@ -83,25 +85,30 @@ at_op rule s (Binary op flags a b) p stands is among = elim (two_pairs (s.class,
 at_op rule s (Compare pred samesign a b) p stands is among = subst (On rule) (one_pair (a.class, b.class) p among) (compared stands is)
 at_op rule s (Select z a b) p stands is among = elim (two_pairs (s.class, a.class) (s.class, b.class) p among) [ inl e ↦ subst (On rule) e (select_true stands is) | inr e ↦ subst (On rule) e (select_false stands is) ]
 at_op rule s (Convert cast flags a to) p stands is among = absurd (no_pair p among)
+at_op rule s (Freeze a k) p stands is among = subst (On rule) (one_pair (s.class, a.class) p among) (freeze stands is)
 at_op rule s (Copy a) p stands is among = subst (On rule) (one_pair (s.class, a.class) p among) (copy stands is)
 
-at_value : (rule : Rule) (half : Half) (o : Operand) (value : Argument) (d : ℕ) → Contains (operands_among (statements_of rule half)) o → o.value ≡ value → term_class rule half value ≡ Some d → Line rule o.class d
-at_value rule half o (arguments.Term n) d among is e =
-    let (t, at, same) = from_node_class rule.terms n d e in subst (Line rule o.class) same (operand (half_operand rule half o among) is at)
-at_value rule halves.Source o (arguments.Undef k) d among is e =
-    let (n, chosen, class) = from_chosen rule k d e in
-    let (t, at, same) = from_node_class rule.witness_terms n d class in
-    subst (Line rule o.class) same (witness among is chosen at)
-at_value rule halves.Target o (arguments.Undef k) d among is e = cc
-at_value rule half o (arguments.Register r) d among is e = cc
-at_value rule half o (arguments.Literal z) d among is e = cc
-at_value rule half o (arguments.Truth b) d among is e = cc
-at_value rule half o (arguments.Constant k) d among is e = cc
+at_value : (rule : Rule) (o : Operand) (value : Argument) (d : ℕ) → Contains (operands_in rule) o → o.value ≡ value → term_class rule value ≡ Some d → Line rule o.class d
+at_value rule o (arguments.Term n) d among is e =
+    let (t, at, same) = from_node_class rule.terms n d e in subst (Line rule o.class) same (operand among is at)
+at_value rule o (arguments.Undef k) d among is e = cc
+at_value rule o (arguments.Register r) d among is e = cc
+at_value rule o (arguments.Literal z) d among is e = cc
+at_value rule o (arguments.Truth b) d among is e = cc
+at_value rule o (arguments.Constant k) d among is e = cc
 
-at_operand : (rule : Rule) (half : Half) (o : Operand) (c d : ℕ) → Contains (operands_among (statements_of rule half)) o → Contains (operand_pairs rule half o) (c, d) → Line rule c d
+at_operand : (rule : Rule) (half : Half) (o : Operand) (c d : ℕ) → Contains (operands_among (statements_of rule half)) o → Contains (operand_pairs rule o) (c, d) → Line rule c d
 at_operand rule half o c d among pairs =
-    let (own, other) = from_paired (Some o.class) (term_class rule half o.value) c d pairs in
-    subst (λ x. Line rule x d) (same_Some o.class c own) (at_value rule half o o.value d among refl other)
+    let (own, other) = from_paired (Some o.class) (term_class rule o.value) c d pairs in
+    subst (λ x. Line rule x d) (same_Some o.class c own) (at_value rule o o.value d (half_operand rule half o among) refl other)
+
+at_choice : (rule : Rule) (half : Half) (choice : Choice) (c d : ℕ) → Contains (choices_among (statements_of rule half)) choice → Contains (choice_pairs rule half choice) (c, d) → Line rule c d
+at_choice rule halves.Source choice c d among pairs =
+    let (own, other) = from_paired (Some choice.class) (chosen_class rule choice.place) c d pairs in
+    let (n, chosen, class) = from_chosen rule choice.place d other in
+    let (t, at, same) = from_node_class rule.witness_terms n d class in
+    subst (λ x. Line rule x d) (same_Some choice.class c own) (subst (Line rule choice.class) same (witness among chosen at))
+at_choice rule halves.Target choice c d among pairs = absurd (no_pair (c, d) pairs)
 
 at_node : (terms : List Term) (t : Term) (node : Node) (c d : ℕ) → Contains terms t → t.node ≡ node → Contains (node_pairs terms t.class node) (c, d) → TermLine terms c d
 at_node terms t (nodes.Unary function a) c d among is pairs =
@@ -121,7 +128,7 @@ at_node terms t (nodes.Binary op a b) c d among is pairs = elim (Contains-append
 at_node terms t (nodes.Literal z) c d among is pairs = absurd (no_pair (c, d) pairs)
 at_node terms t (nodes.Constant k) c d among is pairs = absurd (no_pair (c, d) pairs)
 at_node terms t (nodes.Register r) c d among is pairs = absurd (no_pair (c, d) pairs)
-at_node terms t (nodes.Undef k) c d among is pairs = absurd (no_pair (c, d) pairs)
+at_node terms t (nodes.Choice k) c d among is pairs = absurd (no_pair (c, d) pairs)
 at_node terms t (nodes.Width r e) c d among is pairs = absurd (no_pair (c, d) pairs)
 
 at_formula : (rule : Rule) (f : Formula) (c d : ℕ) → Contains rule.precondition f → Contains (formula_pairs rule.terms f) (c, d) → Line rule c d
@@ -140,6 +147,7 @@ at_formula rule (formulas.Or a b) c d among pairs = absurd (no_pair (c, d) pairs
 pub line_of : (rule : Rule) (c d : ℕ) → OnLine rule c d → Line rule c d
 line_of rule c d (by_statement (s, stands, pairs)) = at_op rule s s.op (c, d) stands refl pairs
 line_of rule c d (by_operand half (o, among, pairs)) = at_operand rule half o c d among pairs
+line_of rule c d (by_choice half (choice, among, pairs)) = at_choice rule half choice c d among pairs
 line_of rule c d (by_term (t, among, pairs)) = term (at_node rule.terms t t.node c d among refl pairs)
 line_of rule c d (by_witness (t, among, pairs)) = witness_term (at_node rule.witness_terms t t.node c d among refl pairs)
 line_of rule c d (by_comparison (f, among, pairs)) = at_formula rule f c d among pairs
@@ -163,8 +171,8 @@ term_pair terms c d (right {t} {x} {op} {a} {b} among is at) =
     node_pair terms t (nodes.Binary op a b) t.class x.class among is
     (Contains-append_right (paired (Some t.class) (node_class terms a)) (paired (Some t.class) (node_class terms b)) (t.class, x.class) (to_paired (Some t.class) (node_class terms b) t.class x.class refl (to_node_class terms b x at)))
 
-value_pair : (rule : Rule) (half : Half) (o : Operand) (value : Argument) (d : ℕ) → o.value ≡ value → term_class rule half value ≡ Some d → Contains (operand_pairs rule half o) (o.class, d)
-value_pair rule half o value d is class = to_paired (Some o.class) (term_class rule half o.value) o.class d refl (ap (term_class rule half) is ∙ class)
+value_pair : (rule : Rule) (o : Operand) (value : Argument) (d : ℕ) → o.value ≡ value → term_class rule value ≡ Some d → Contains (operand_pairs rule o) (o.class, d)
+value_pair rule o value d is class = to_paired (Some o.class) (term_class rule o.value) o.class d refl (ap (term_class rule) is ∙ class)
 
 pub line_cases : (rule : Rule) (c d : ℕ) → Line rule c d → OnLine rule c d
 line_cases rule c d (binary_left {s} {op} {flags} {a} {b} stands is) = op_pair rule s (Binary op flags a b) s.class a.class stands is (here ((s.class, b.class) ∷ []) (s.class, a.class))
@@ -172,15 +180,17 @@ line_cases rule c d (binary_right {s} {op} {flags} {a} {b} stands is) = op_pair 
 line_cases rule c d (compared {s} {pred} {samesign} {a} {b} stands is) = op_pair rule s (Compare pred samesign a b) a.class b.class stands is (here [] (a.class, b.class))
 line_cases rule c d (select_true {s} {c = z} {a} {b} stands is) = op_pair rule s (Select z a b) s.class a.class stands is (here ((s.class, b.class) ∷ []) (s.class, a.class))
 line_cases rule c d (select_false {s} {c = z} {a} {b} stands is) = op_pair rule s (Select z a b) s.class b.class stands is (later (s.class, a.class) (s.class, b.class))
+line_cases rule c d (freeze {s} {a} {k} stands is) = op_pair rule s (Freeze a k) s.class a.class stands is (here [] (s.class, a.class))
 line_cases rule c d (copy {s} {a} stands is) = op_pair rule s (Copy a) s.class a.class stands is (here [] (s.class, a.class))
 line_cases rule c d (name {n} p q) = by_name n p q
 line_cases rule c d (term on) = by_term (term_pair rule.terms c d on)
 line_cases rule c d (witness_term on) = by_witness (term_pair rule.witness_terms c d on)
 line_cases rule c d (operand {o} {n} {t} among is at) = elim (operand_cases rule o among) [
-  | inl first ↦ by_operand halves.Source (o, first, value_pair rule halves.Source o (arguments.Term n) t.class is (to_node_class rule.terms n t at))
-  | inr second ↦ by_operand halves.Target (o, second, value_pair rule halves.Target o (arguments.Term n) t.class is (to_node_class rule.terms n t at))
+  | inl first ↦ by_operand halves.Source (o, first, value_pair rule o (arguments.Term n) t.class is (to_node_class rule.terms n t at))
+  | inr second ↦ by_operand halves.Target (o, second, value_pair rule o (arguments.Term n) t.class is (to_node_class rule.terms n t at))
 ]
 line_cases rule c d (compared_terms {pred} {a} {b} {x} {y} among at at') =
     by_comparison (formulas.Compare pred a b, among, to_paired (node_class rule.terms a) (node_class rule.terms b) x.class y.class (to_node_class rule.terms a x at) (to_node_class rule.terms b y at'))
-line_cases rule c d (witness {o} {k} {n} {t} among is chosen at) =
-    by_operand halves.Source (o, among, value_pair rule halves.Source o (arguments.Undef k) t.class is (ap (λ x. option_and_then (node_class rule.witness_terms) x) chosen ∙ to_node_class rule.witness_terms n t at))
+line_cases rule c d (witness {k} {c = e} {n} {t} among chosen at) =
+    let choice : Choice = record { place = k; class = e } in
+    by_choice halves.Source (choice, among, to_paired (Some e) (chosen_class rule k) e t.class refl (ap (λ x. option_and_then (node_class rule.witness_terms) x) chosen ∙ to_node_class rule.witness_terms n t at))

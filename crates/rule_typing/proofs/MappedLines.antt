@@ -7,10 +7,11 @@ use Rattle.std.proofs.lemmas.List.Elements.{Contains-append_left, Contains-appen
 use Rattle.rule_core.specs.declared.rule.Rule.{Rule}
 use Rattle.rule_core.specs.declared.rule.Statement.{Statement}
 use Rattle.rule_core.specs.declared.rule.Op.{Op}
-use Rattle.rule_core.specs.declared.rule.Op.TheVariants.{Binary, Compare, Select, Convert, Copy}
+use Rattle.rule_core.specs.declared.rule.Op.TheVariants.{Binary, Compare, Select, Convert, Freeze, Copy}
 use Rattle.rule_core.specs.declared.rule.Operand.{Operand}
 use Rattle.rule_core.specs.declared.rule.Argument.{Argument}
 use Rattle.rule_core.specs.declared.rule.Argument.TheVariants as arguments
+use Rattle.rule_core.specs.declared.rule.Choice.{Choice}
 use Rattle.rule_core.specs.declared.rule.Register.TheVariants as registers
 use Rattle.rule_core.specs.declared.rule.Name.{Name}
 use Rattle.rule_core.specs.declared.rule.Name.TheVariants as names
@@ -19,16 +20,16 @@ use Rattle.rule_core.specs.declared.rule.Node.{Node}
 use Rattle.rule_core.specs.declared.rule.Node.TheVariants as nodes
 use Rattle.rule_core.specs.declared.rule.Formula.{Formula}
 use Rattle.rule_core.specs.declared.rule.Formula.TheVariants as formulas
-use Rattle.rule_core.specs.Positions.{operands_of, operands_among, operands_in, terms_in, classes_of, IsTermOf, Names, reads, reads_constant, chooses, source_assigns, target_assigns, assigns_root, term_register, term_constant, term_undef, measures, TermLine, unary, left, right, Line, binary_left, binary_right, compared, select_true, select_false, copy, name, term, witness_term, operand, compared_terms, witness}
-use Rattle.rule_core.proofs.Members.{source_statement, target_statement, operand_stands, class_stands, operand_class_stands, term_class_stands, measured_class_stands, constant_term, witness_term as witness_node}
+use Rattle.rule_core.specs.Positions.{operands_of, operands_among, operands_in, choices_of, choices_among, terms_in, classes_of, IsTermOf, Names, reads, reads_constant, chooses, source_assigns, target_assigns, assigns_root, term_register, term_constant, term_choice, measures, TermLine, unary, left, right, Line, binary_left, binary_right, compared, select_true, select_false, freeze, copy, name, term, witness_term, operand, compared_terms, witness}
+use Rattle.rule_core.proofs.Members.{source_statement, target_statement, operand_stands, class_stands, operand_class_stands, term_class_stands, measured_class_stands, constant_term, witness_term as witness_node, choice_opens, reads_undef, freezes}
 use Rattle.rule_typing.specs.declared.half.Half.{Half}
 use Rattle.rule_typing.specs.declared.half.Half.TheVariants as halves
 use Rattle.rule_typing.specs.Relabelled.{mapped_op, mapped_statement, mapped_node, mapped_term, mapped}
-use Rattle.rule_typing.specs.Splits.{paired, op_pairs, statement_pairs, node_class, chosen_class, term_class, operand_pairs, node_pairs, term_pairs, formula_pairs, PairOf, name_of, operand_naming, node_naming, term_naming, NamingOf, assigned_class, last_class, root_class, IsRead}
+use Rattle.rule_typing.specs.Splits.{paired, op_pairs, statement_pairs, node_class, chosen_class, term_class, operand_pairs, choice_pairs, node_pairs, term_pairs, formula_pairs, PairOf, name_of, operand_naming, choice_naming, node_naming, term_naming, NamingOf, assigned_class, last_class, root_class, IsRead}
 use Rattle.rule_typing.proofs.Images.{Contains-map, from_map, from_option_map, from_flat_map}
-use Rattle.rule_typing.proofs.Relabelled.{mapped_operand, statements_mapped, terms_mapped, operands-mapped}
-use Rattle.rule_typing.proofs.NameLines.{statements_of, half_operand, IsNamed, read, assigned, root, named_cases, names_of_named}
-use Rattle.rule_typing.proofs.LineParts.{OnLine, by_statement, by_operand, by_term, by_witness, by_comparison, by_name, line_of, line_cases}
+use Rattle.rule_typing.proofs.Relabelled.{mapped_operand, mapped_choice, statements_mapped, terms_mapped, operands-mapped, choices-mapped}
+use Rattle.rule_typing.proofs.NameLines.{statements_of, half_statement, IsNamed, read, assigned, root, named_cases, names_of_named}
+use Rattle.rule_typing.proofs.LineParts.{OnLine, by_statement, by_operand, by_choice, by_term, by_witness, by_comparison, by_name, line_of, line_cases}
 
 -- ---- the ends of a line are classes of the rule
 
@@ -36,16 +37,25 @@ pub operand_class : (rule : Rule) (o : Operand) → Contains (operands_in rule) 
 operand_class rule o among =
     let (s, stands, here) = from_flat_map (λ (t : Statement). operands_of t.op) (rule.source ++ rule.target) o among in operand_class_stands rule s o stands here
 
+choice_class : (rule : Rule) (half : Half) (choice : Choice) → Contains (choices_among (statements_of rule half)) choice → Contains (classes_of rule) choice.class
+choice_class rule half choice among =
+    let (s, here, inside) = from_flat_map choices_of (statements_of rule half) choice among in
+    let stands = half_statement rule half s here in
+    elim (choice_opens s choice inside) [
+      | reads_undef o there is same ↦ subst (λ c. Contains (classes_of rule) c) same (operand_class_stands rule s o stands there)
+      | freezes a is same ↦ subst (λ c. Contains (classes_of rule) c) same (class_stands rule s stands)
+    ]
+
 named_class : (rule : Rule) (n : Name) (c : ℕ) → Names rule n c → Contains (classes_of rule) c
 named_class rule n c (reads {o} among is) = operand_class rule o among
 named_class rule n c (reads_constant {o} among is) = operand_class rule o among
-named_class rule n c (chooses {o} among is) = operand_class rule o (half_operand rule halves.Target o among)
+named_class rule n c (chooses {k} {c = d} among) = choice_class rule halves.Target (record { place = k; class = d }) among
 named_class rule n c (source_assigns {k} {s} at) = class_stands rule s (source_statement rule k s at)
 named_class rule n c (target_assigns {k} {s} at) = class_stands rule s (target_statement rule k s at)
 named_class rule n c (assigns_root {j} {k} {s} last last' at) = class_stands rule s (target_statement rule k s at)
 named_class rule n c (term_register {t} stands is) = term_class_stands rule t stands
 named_class rule n c (term_constant {t} stands is) = term_class_stands rule t stands
-named_class rule n c (term_undef {t} stands is) = term_class_stands rule t stands
+named_class rule n c (term_choice {t} stands is) = term_class_stands rule t stands
 named_class rule n c (measures {t} {r} {c = d} stands is) = measured_class_stands rule t r d stands is
 
 -- an operand of an operation
@@ -69,13 +79,14 @@ line_classes rule c d (binary_right {s} {op} {flags} {a} {b} stands is) = (class
 line_classes rule c d (compared {s} {pred} {samesign} {a} {b} stands is) = (first_of rule s (Compare pred samesign a b) a stands is (at (b ∷ []) a), first_of rule s (Compare pred samesign a b) b stands is (behind a b []))
 line_classes rule c d (select_true {s} {c = z} {a} {b} stands is) = (class_stands rule s stands, first_of rule s (Select z a b) a stands is (behind z a (b ∷ [])))
 line_classes rule c d (select_false {s} {c = z} {a} {b} stands is) = (class_stands rule s stands, first_of rule s (Select z a b) b stands is (2, omega arith, refl))
+line_classes rule c d (freeze {s} {a} {k} stands is) = (class_stands rule s stands, first_of rule s (Freeze a k) a stands is (at [] a))
 line_classes rule c d (copy {s} {a} stands is) = (class_stands rule s stands, first_of rule s (Copy a) a stands is (at [] a))
 line_classes rule c d (name {n} p q) = (named_class rule n c p, named_class rule n d q)
 line_classes rule c d (term on) = term_ends rule rule.terms c d (λ t among. Contains-append_left rule.terms rule.witness_terms t among) (constant_term rule) on
 line_classes rule c d (witness_term on) = term_ends rule rule.witness_terms c d (λ t among. Contains-append_right rule.terms rule.witness_terms t among) (witness_node rule) on
 line_classes rule c d (operand {o} {n} {t} among is there) = (operand_class rule o among, term_class_stands rule t (constant_term rule n t there))
 line_classes rule c d (compared_terms {pred} {a} {b} {x} {y} among there there') = (term_class_stands rule x (constant_term rule a x there), term_class_stands rule y (constant_term rule b y there'))
-line_classes rule c d (witness {o} {k} {n} {t} among is chosen there) = (operand_class rule o (half_operand rule halves.Source o among), term_class_stands rule t (witness_node rule n t there))
+line_classes rule c d (witness {k} {c = e} {n} {t} among chosen there) = (choice_class rule halves.Source (record { place = k; class = e }) among, term_class_stands rule t (witness_node rule n t there))
 
 -- ---- pairs under a map
 
@@ -93,6 +104,7 @@ module _ (f : ℕ → ℕ) where
   op_pairs-mapped r (Compare pred samesign a b) = refl
   op_pairs-mapped r (Select z a b) = refl
   op_pairs-mapped r (Convert cast flags a to) = refl
+  op_pairs-mapped r (Freeze a k) = refl
   op_pairs-mapped r (Copy a) = refl
 
   term_option : (o : Option Term) → option_map (λ t. t.class) (option_map (mapped_term f) o) ≡ option_map f (option_map (λ t. t.class) o)
@@ -106,17 +118,21 @@ module _ (f : ℕ → ℕ) where
   chosen_option terms None = refl
   chosen_option terms (Some n) = node_class-mapped terms n
 
-  term_class-mapped : (rule : Rule) (half : Half) (value : Argument) → term_class (mapped f rule) half value ≡ option_map f (term_class rule half value)
-  term_class-mapped rule half (arguments.Term n) = node_class-mapped rule.terms n
-  term_class-mapped rule halves.Source (arguments.Undef k) = chosen_option rule.witness_terms (slice_get rule.witnesses k)
-  term_class-mapped rule halves.Target (arguments.Undef k) = refl
-  term_class-mapped rule half (arguments.Register r) = refl
-  term_class-mapped rule half (arguments.Literal z) = refl
-  term_class-mapped rule half (arguments.Truth b) = refl
-  term_class-mapped rule half (arguments.Constant k) = refl
+  term_class-mapped : (rule : Rule) (value : Argument) → term_class (mapped f rule) value ≡ option_map f (term_class rule value)
+  term_class-mapped rule (arguments.Term n) = node_class-mapped rule.terms n
+  term_class-mapped rule (arguments.Undef k) = refl
+  term_class-mapped rule (arguments.Register r) = refl
+  term_class-mapped rule (arguments.Literal z) = refl
+  term_class-mapped rule (arguments.Truth b) = refl
+  term_class-mapped rule (arguments.Constant k) = refl
 
-  operand_pairs-mapped : (rule : Rule) (half : Half) (o : Operand) → operand_pairs (mapped f rule) half (mapped_operand f o) ≡ map (both f) (operand_pairs rule half o)
-  operand_pairs-mapped rule half o = ap (paired (Some (f o.class))) (term_class-mapped rule half o.value) ∙ paired-map (Some o.class) (term_class rule half o.value)
+  operand_pairs-mapped : (rule : Rule) (o : Operand) → operand_pairs (mapped f rule) (mapped_operand f o) ≡ map (both f) (operand_pairs rule o)
+  operand_pairs-mapped rule o = ap (paired (Some (f o.class))) (term_class-mapped rule o.value) ∙ paired-map (Some o.class) (term_class rule o.value)
+
+  choice_pairs-mapped : (rule : Rule) (half : Half) (choice : Choice) → choice_pairs (mapped f rule) half (mapped_choice f choice) ≡ map (both f) (choice_pairs rule half choice)
+  choice_pairs-mapped rule halves.Source choice =
+      ap (paired (Some (f choice.class))) (chosen_option rule.witness_terms (slice_get rule.witnesses choice.place)) ∙ paired-map (Some choice.class) (chosen_class rule choice.place)
+  choice_pairs-mapped rule halves.Target choice = refl
 
   pairs-node : (terms : List Term) (c n : ℕ) → paired (Some (f c)) (node_class (map (mapped_term f) terms) n) ≡ map (both f) (paired (Some c) (node_class terms n))
   pairs-node terms c n = ap (paired (Some (f c))) (node_class-mapped terms n) ∙ paired-map (Some c) (node_class terms n)
@@ -129,7 +145,7 @@ module _ (f : ℕ → ℕ) where
   node_pairs-mapped terms c (nodes.Literal z) = refl
   node_pairs-mapped terms c (nodes.Constant k) = refl
   node_pairs-mapped terms c (nodes.Register r) = refl
-  node_pairs-mapped terms c (nodes.Undef k) = refl
+  node_pairs-mapped terms c (nodes.Choice k) = refl
   node_pairs-mapped terms c (nodes.Width r d) = refl
 
   formula_pairs-mapped : (terms : List Term) (x : Formula) → formula_pairs (map (mapped_term f) terms) x ≡ map (both f) (formula_pairs terms x)
@@ -167,14 +183,18 @@ module _ (f : ℕ → ℕ) where
   naming_option c None = refl
   naming_option c (Some n) = refl
 
-  operand_naming-mapped : (half : Half) (o : Operand) → operand_naming half (mapped_operand f o) ≡ option_map moved (operand_naming half o)
-  operand_naming-mapped half o = naming_option o.class (name_of half o.value)
+  operand_naming-mapped : (o : Operand) → operand_naming (mapped_operand f o) ≡ option_map moved (operand_naming o)
+  operand_naming-mapped o = naming_option o.class (name_of o.value)
+
+  choice_naming-mapped : (half : Half) (choice : Choice) → choice_naming half (mapped_choice f choice) ≡ option_map moved (choice_naming half choice)
+  choice_naming-mapped halves.Source choice = refl
+  choice_naming-mapped halves.Target choice = refl
 
   node_naming-mapped : (c : ℕ) (node : Node) → node_naming (f c) (mapped_node f node) ≡ option_map moved (node_naming c node)
   node_naming-mapped c (nodes.Literal z) = refl
   node_naming-mapped c (nodes.Constant k) = refl
   node_naming-mapped c (nodes.Register r) = refl
-  node_naming-mapped c (nodes.Undef k) = refl
+  node_naming-mapped c (nodes.Choice k) = refl
   node_naming-mapped c (nodes.Width r d) = refl
   node_naming-mapped c (nodes.Unary function a) = refl
   node_naming-mapped c (nodes.Binary op a b) = refl
@@ -208,7 +228,7 @@ module _ (f : ℕ → ℕ) where
     assigned-mapped (names.Register (registers.Source k)) = result-mapped rule.source k
     assigned-mapped (names.Register (registers.Target k)) = result-mapped rule.target k
     assigned-mapped (names.Constant k) = refl
-    assigned-mapped (names.Undef k) = refl
+    assigned-mapped (names.Choice k) = refl
 
     root-mapped : (n : Name) → root_class (mapped f rule) n ≡ option_map f (root_class rule n)
     root-mapped (names.Register (registers.Input k)) = refl
@@ -217,21 +237,30 @@ module _ (f : ℕ → ℕ) where
         ∙ ap (λ o. if k + 1 == length rule.source then o else None) (last-mapped rule.target) ∙ chosen-map (k + 1 == length rule.source) (last_class rule.target)
     root-mapped (names.Register (registers.Target k)) = refl
     root-mapped (names.Constant k) = refl
-    root-mapped (names.Undef k) = refl
+    root-mapped (names.Choice k) = refl
 
     operands_map : (half : Half) → operands_among (statements_of (mapped f rule) half) ≡ map (mapped_operand f) (operands_among (statements_of rule half))
     operands_map halves.Source = operands-mapped f rule.source
     operands_map halves.Target = operands-mapped f rule.target
 
-    reads_map : (half : Half) (n : Name) (c : ℕ) → NamingOf (operand_naming half) (operands_among (statements_of rule half)) n c → NamingOf (operand_naming half) (operands_among (statements_of (mapped f rule) half)) n (f c)
+    choices_map : (half : Half) → choices_among (statements_of (mapped f rule) half) ≡ map (mapped_choice f) (choices_among (statements_of rule half))
+    choices_map halves.Source = choices-mapped f rule.source
+    choices_map halves.Target = choices-mapped f rule.target
+
+    reads_map : (half : Half) (n : Name) (c : ℕ) → NamingOf operand_naming (operands_among (statements_of rule half)) n c → NamingOf operand_naming (operands_among (statements_of (mapped f rule) half)) n (f c)
     reads_map half n c h =
-        subst (λ l. NamingOf (operand_naming half) l n (f c)) (sym (operands_map half)) (naming_map (mapped_operand f) (operand_naming half) (operand_naming-mapped half) (operands_among (statements_of rule half)) n c h)
+        subst (λ l. NamingOf operand_naming l n (f c)) (sym (operands_map half)) (naming_map (mapped_operand f) operand_naming operand_naming-mapped (operands_among (statements_of rule half)) n c h)
+
+    chooses_map : (half : Half) (n : Name) (c : ℕ) → NamingOf (choice_naming half) (choices_among (statements_of rule half)) n c → NamingOf (choice_naming half) (choices_among (statements_of (mapped f rule) half)) n (f c)
+    chooses_map half n c h =
+        subst (λ l. NamingOf (choice_naming half) l n (f c)) (sym (choices_map half)) (naming_map (mapped_choice f) (choice_naming half) (choice_naming-mapped half) (choices_among (statements_of rule half)) n c h)
 
     named_map : (n : Name) (c : ℕ) → IsNamed rule n c → IsNamed (mapped f rule) n (f c)
     named_map n c (read (inl h)) = read (inl (reads_map halves.Source n c h))
     named_map n c (read (inr (inl h))) = read (inr (inl (reads_map halves.Target n c h)))
-    named_map n c (read (inr (inr h))) =
-        read (inr (inr (subst (λ l. NamingOf term_naming l n (f c)) (sym (terms_mapped f rule)) (naming_map (mapped_term f) term_naming (λ t. node_naming-mapped t.class t.node) (terms_in rule) n c h))))
+    named_map n c (read (inr (inr (inl h)))) = read (inr (inr (inl (chooses_map halves.Target n c h))))
+    named_map n c (read (inr (inr (inr h)))) =
+        read (inr (inr (inr (subst (λ l. NamingOf term_naming l n (f c)) (sym (terms_mapped f rule)) (naming_map (mapped_term f) term_naming (λ t. node_naming-mapped t.class t.node) (terms_in rule) n c h)))))
     named_map n c (assigned h) = assigned (assigned-mapped n ∙ ap (λ o. option_map f o) h)
     named_map n c (root h) = root (root-mapped n ∙ ap (λ o. option_map f o) h)
 
@@ -242,7 +271,9 @@ module _ (f : ℕ → ℕ) where
     parts_map c d (by_statement h) =
         by_statement (subst (λ l. PairOf statement_pairs l (f c) (f d)) (sym (statements_mapped f rule)) (pair_map (mapped_statement f) statement_pairs statement_pairs (λ s. op_pairs-mapped s.class s.op) (rule.source ++ rule.target) c d h))
     parts_map c d (by_operand half h) =
-        by_operand half (subst (λ l. PairOf (operand_pairs (mapped f rule) half) l (f c) (f d)) (sym (operands_map half)) (pair_map (mapped_operand f) (operand_pairs rule half) (operand_pairs (mapped f rule) half) (operand_pairs-mapped rule half) (operands_among (statements_of rule half)) c d h))
+        by_operand half (subst (λ l. PairOf (operand_pairs (mapped f rule)) l (f c) (f d)) (sym (operands_map half)) (pair_map (mapped_operand f) (operand_pairs rule) (operand_pairs (mapped f rule)) (operand_pairs-mapped rule) (operands_among (statements_of rule half)) c d h))
+    parts_map c d (by_choice half h) =
+        by_choice half (subst (λ l. PairOf (choice_pairs (mapped f rule) half) l (f c) (f d)) (sym (choices_map half)) (pair_map (mapped_choice f) (choice_pairs rule half) (choice_pairs (mapped f rule) half) (choice_pairs-mapped rule half) (choices_among (statements_of rule half)) c d h))
     parts_map c d (by_term h) = by_term (pair_map (mapped_term f) (term_pairs rule.terms) (term_pairs (map (mapped_term f) rule.terms)) (λ t. node_pairs-mapped rule.terms t.class t.node) rule.terms c d h)
     parts_map c d (by_witness h) =
         by_witness (pair_map (mapped_term f) (term_pairs rule.witness_terms) (term_pairs (map (mapped_term f) rule.witness_terms)) (λ t. node_pairs-mapped rule.witness_terms t.class t.node) rule.witness_terms c d h)
@@ -255,15 +286,20 @@ module _ (f : ℕ → ℕ) where
 
     -- ---- backwards
 
-    from_reads : (half : Half) (n : Name) (c : ℕ) → NamingOf (operand_naming half) (operands_among (statements_of (mapped f rule) half)) n c → (p : ℕ) × NamingOf (operand_naming half) (operands_among (statements_of rule half)) n p × (c ≡ f p)
+    from_reads : (half : Half) (n : Name) (c : ℕ) → NamingOf operand_naming (operands_among (statements_of (mapped f rule) half)) n c → (p : ℕ) × NamingOf operand_naming (operands_among (statements_of rule half)) n p × (c ≡ f p)
     from_reads half n c h =
-        from_naming_map (mapped_operand f) (operand_naming half) (operand_naming-mapped half) (operands_among (statements_of rule half)) n c (subst (λ l. NamingOf (operand_naming half) l n c) (operands_map half) h)
+        from_naming_map (mapped_operand f) operand_naming operand_naming-mapped (operands_among (statements_of rule half)) n c (subst (λ l. NamingOf operand_naming l n c) (operands_map half) h)
+
+    from_chooses : (half : Half) (n : Name) (c : ℕ) → NamingOf (choice_naming half) (choices_among (statements_of (mapped f rule) half)) n c → (p : ℕ) × NamingOf (choice_naming half) (choices_among (statements_of rule half)) n p × (c ≡ f p)
+    from_chooses half n c h =
+        from_naming_map (mapped_choice f) (choice_naming half) (choice_naming-mapped half) (choices_among (statements_of rule half)) n c (subst (λ l. NamingOf (choice_naming half) l n c) (choices_map half) h)
 
     from_named : (n : Name) (c : ℕ) → IsNamed (mapped f rule) n c → (p : ℕ) × IsNamed rule n p × (c ≡ f p)
     from_named n c (read (inl h)) = let (p, there, is) = from_reads halves.Source n c h in (p, read (inl there), is)
     from_named n c (read (inr (inl h))) = let (p, there, is) = from_reads halves.Target n c h in (p, read (inr (inl there)), is)
-    from_named n c (read (inr (inr h))) =
-        let (p, there, is) = from_naming_map (mapped_term f) term_naming (λ t. node_naming-mapped t.class t.node) (terms_in rule) n c (subst (λ l. NamingOf term_naming l n c) (terms_mapped f rule) h) in (p, read (inr (inr there)), is)
+    from_named n c (read (inr (inr (inl h)))) = let (p, there, is) = from_chooses halves.Target n c h in (p, read (inr (inr (inl there))), is)
+    from_named n c (read (inr (inr (inr h)))) =
+        let (p, there, is) = from_naming_map (mapped_term f) term_naming (λ t. node_naming-mapped t.class t.node) (terms_in rule) n c (subst (λ l. NamingOf term_naming l n c) (terms_mapped f rule) h) in (p, read (inr (inr (inr there))), is)
     from_named n c (assigned h) = let (p, there, is) = from_option_map f (assigned_class rule n) c (sym (assigned-mapped n) ∙ h) in (p, assigned there, sym is)
     from_named n c (root h) = let (p, there, is) = from_option_map f (root_class rule n) c (sym (root-mapped n) ∙ h) in (p, root there, sym is)
 
@@ -275,9 +311,13 @@ module _ (f : ℕ → ℕ) where
         let (p, q, there, is, is') = from_pair_map (mapped_statement f) statement_pairs statement_pairs (λ s. op_pairs-mapped s.class s.op) (rule.source ++ rule.target) c d (subst (λ l. PairOf statement_pairs l c d) (statements_mapped f rule) h) in
         (p, q, by_statement there, is, is')
     from_parts c d (by_operand half h) =
-        let (p, q, there, is, is') = from_pair_map (mapped_operand f) (operand_pairs rule half) (operand_pairs (mapped f rule) half) (operand_pairs-mapped rule half) (operands_among (statements_of rule half)) c d
-        (subst (λ l. PairOf (operand_pairs (mapped f rule) half) l c d) (operands_map half) h) in
+        let (p, q, there, is, is') = from_pair_map (mapped_operand f) (operand_pairs rule) (operand_pairs (mapped f rule)) (operand_pairs-mapped rule) (operands_among (statements_of rule half)) c d
+        (subst (λ l. PairOf (operand_pairs (mapped f rule)) l c d) (operands_map half) h) in
         (p, q, by_operand half there, is, is')
+    from_parts c d (by_choice half h) =
+        let (p, q, there, is, is') = from_pair_map (mapped_choice f) (choice_pairs rule half) (choice_pairs (mapped f rule) half) (choice_pairs-mapped rule half) (choices_among (statements_of rule half)) c d
+        (subst (λ l. PairOf (choice_pairs (mapped f rule) half) l c d) (choices_map half) h) in
+        (p, q, by_choice half there, is, is')
     from_parts c d (by_term h) =
         let (p, q, there, is, is') = from_pair_map (mapped_term f) (term_pairs rule.terms) (term_pairs (map (mapped_term f) rule.terms)) (λ t. node_pairs-mapped rule.terms t.class t.node) rule.terms c d h in
         (p, q, by_term there, is, is')

@@ -1,4 +1,4 @@
--- The positions that name a register, a constant or an `undef`, as the code goes over them.
+-- The positions that name a register, a constant or a choice, as the code goes over them.
 use Rattle.std.proofs.Common.{◌≡◌, ◌≢◌, ◌⊎◌, inl, inr, ℕ, zero, suc, ◌+◌, ◌-◌, ◌==◌, ◌<◌, ◌≤◌, if◌then◌else◌, List, [], ◌∷◌, ◌++◌, length, Bool, true, false, Option, None, Some, refl, sym, ap, subst, ◌∙◌, arith}
 use Rattle.std.specs.Prelude.{slice_get, Contains, option_map}
 use Rattle.std.proofs.lemmas.Bool.{cases_eq}
@@ -11,6 +11,7 @@ use Rattle.rule_core.specs.declared.rule.Statement.{Statement}
 use Rattle.rule_core.specs.declared.rule.Operand.{Operand}
 use Rattle.rule_core.specs.declared.rule.Argument.{Argument}
 use Rattle.rule_core.specs.declared.rule.Argument.TheVariants as arguments
+use Rattle.rule_core.specs.declared.rule.Choice.{Choice}
 use Rattle.rule_core.specs.declared.rule.Register.{Register}
 use Rattle.rule_core.specs.declared.rule.Register.TheVariants as registers
 use Rattle.rule_core.specs.declared.rule.Name.{Name}
@@ -18,15 +19,20 @@ use Rattle.rule_core.specs.declared.rule.Name.TheVariants as names
 use Rattle.rule_core.specs.declared.rule.Term.{Term}
 use Rattle.rule_core.specs.declared.rule.Node.{Node}
 use Rattle.rule_core.specs.declared.rule.Node.TheVariants as nodes
-use Rattle.rule_core.specs.Positions.{operands_of, operands_among, operands_in, terms_in, IsTermOf, Names, reads, reads_constant, chooses, source_assigns, target_assigns, assigns_root, term_register, term_constant, term_undef, measures}
+use Rattle.rule_core.specs.Positions.{operands_of, operands_among, operands_in, choices_among, terms_in, IsTermOf, Names, reads, reads_constant, chooses, source_assigns, target_assigns, assigns_root, term_register, term_constant, term_choice, measures}
 use Rattle.rule_typing.specs.declared.half.Half.{Half}
 use Rattle.rule_typing.specs.declared.half.Half.TheVariants as halves
-use Rattle.rule_typing.specs.Splits.{name_of, operand_naming, node_naming, term_naming, NamingOf, assigned_class, last_class, root_class, IsRead}
+use Rattle.rule_typing.specs.Splits.{name_of, operand_naming, choice_naming, node_naming, term_naming, NamingOf, assigned_class, last_class, root_class, IsRead}
 
 -- the statements of a half
 abbrev pub statements_of : Rule → Half → List Statement
 statements_of rule halves.Source = rule.source
 statements_of rule halves.Target = rule.target
+
+-- they are the rule's
+pub half_statement : (rule : Rule) (half : Half) (s : Statement) → Contains (statements_of rule half) s → Contains (rule.source ++ rule.target) s
+half_statement rule halves.Source s stands = Contains-append_left rule.source rule.target s stands
+half_statement rule halves.Target s stands = Contains-append_right rule.source rule.target s stands
 
 -- operands of a half are the rule's
 pub operand_cases : (rule : Rule) (o : Operand) → Contains (operands_in rule) o → Contains (operands_among rule.source) o ⊎ Contains (operands_among rule.target) o
@@ -43,23 +49,26 @@ half_operand rule halves.Target o among =
 abbrev At : Rule → Name × ℕ → Type 0
 At rule p = Names rule p.0 p.1
 
--- an operand and a node name what they read
-value_names : (rule : Rule) (half : Half) (o : Operand) (value : Argument) (n : Name) (c : ℕ) → Contains (operands_among (statements_of rule half)) o → o.value ≡ value → option_map {U = Name × ℕ} (λ m. (m, o.class)) (name_of half value) ≡ Some (n, c) → Names rule n c
-value_names rule half o (arguments.Register r) n c among is e = subst (At rule) (same_Some (names.Register r, o.class) (n, c) e) (reads (half_operand rule half o among) is)
-value_names rule half o (arguments.Constant k) n c among is e = subst (At rule) (same_Some (names.Constant k, o.class) (n, c) e) (reads_constant (half_operand rule half o among) is)
-value_names rule halves.Source o (arguments.Undef k) n c among is e = cc
-value_names rule halves.Target o (arguments.Undef k) n c among is e = subst (At rule) (same_Some (names.Undef k, o.class) (n, c) e) (chooses among is)
-value_names rule half o (arguments.Literal z) n c among is e = cc
-value_names rule half o (arguments.Truth b) n c among is e = cc
-value_names rule half o (arguments.Term k) n c among is e = cc
+-- an operand, a choice of the target and a node name what they read
+value_names : (rule : Rule) (o : Operand) (value : Argument) (n : Name) (c : ℕ) → Contains (operands_in rule) o → o.value ≡ value → option_map {U = Name × ℕ} (λ m. (m, o.class)) (name_of value) ≡ Some (n, c) → Names rule n c
+value_names rule o (arguments.Register r) n c among is e = subst (At rule) (same_Some (names.Register r, o.class) (n, c) e) (reads among is)
+value_names rule o (arguments.Constant k) n c among is e = subst (At rule) (same_Some (names.Constant k, o.class) (n, c) e) (reads_constant among is)
+value_names rule o (arguments.Undef k) n c among is e = cc
+value_names rule o (arguments.Literal z) n c among is e = cc
+value_names rule o (arguments.Truth b) n c among is e = cc
+value_names rule o (arguments.Term k) n c among is e = cc
 
-pub operand_names : (rule : Rule) (half : Half) (o : Operand) (n : Name) (c : ℕ) → Contains (operands_among (statements_of rule half)) o → operand_naming half o ≡ Some (n, c) → Names rule n c
-operand_names rule half o n c among e = value_names rule half o o.value n c among refl e
+pub operand_names : (rule : Rule) (half : Half) (o : Operand) (n : Name) (c : ℕ) → Contains (operands_among (statements_of rule half)) o → operand_naming o ≡ Some (n, c) → Names rule n c
+operand_names rule half o n c among e = value_names rule o o.value n c (half_operand rule half o among) refl e
+
+pub choice_names : (rule : Rule) (half : Half) (choice : Choice) (n : Name) (c : ℕ) → Contains (choices_among (statements_of rule half)) choice → choice_naming half choice ≡ Some (n, c) → Names rule n c
+choice_names rule halves.Source choice n c among e = cc
+choice_names rule halves.Target choice n c among e = subst (At rule) (same_Some (names.Choice choice.place, choice.class) (n, c) e) (chooses among)
 
 node_names : (rule : Rule) (t : Term) (node : Node) (n : Name) (c : ℕ) → IsTermOf rule t → t.node ≡ node → node_naming t.class node ≡ Some (n, c) → Names rule n c
 node_names rule t (nodes.Register r) n c among is e = subst (At rule) (same_Some (names.Register r, t.class) (n, c) e) (term_register among is)
 node_names rule t (nodes.Constant k) n c among is e = subst (At rule) (same_Some (names.Constant k, t.class) (n, c) e) (term_constant among is)
-node_names rule t (nodes.Undef k) n c among is e = subst (At rule) (same_Some (names.Undef k, t.class) (n, c) e) (term_undef among is)
+node_names rule t (nodes.Choice k) n c among is e = subst (At rule) (same_Some (names.Choice k, t.class) (n, c) e) (term_choice among is)
 node_names rule t (nodes.Width r d) n c among is e = subst (At rule) (same_Some (names.Register r, d) (n, c) e) (measures among is)
 node_names rule t (nodes.Literal z) n c among is e = cc
 node_names rule t (nodes.Unary function a) n c among is e = cc
@@ -71,7 +80,8 @@ term_names rule t n c among e = node_names rule t t.node n c among refl e
 pub read_names : (rule : Rule) (n : Name) (c : ℕ) → IsRead rule n c → Names rule n c
 read_names rule n c (inl (o, among, e)) = operand_names rule halves.Source o n c among e
 read_names rule n c (inr (inl (o, among, e))) = operand_names rule halves.Target o n c among e
-read_names rule n c (inr (inr (t, among, e))) = term_names rule t n c among e
+read_names rule n c (inr (inr (inl (choice, among, e)))) = choice_names rule halves.Target choice n c among e
+read_names rule n c (inr (inr (inr (t, among, e)))) = term_names rule t n c among e
 
 -- what assigns a register, or the root, names it
 result_class : (o : Option Statement) (c : ℕ) → option_map (λ s. s.class) o ≡ Some c → (s : Statement) × (o ≡ Some s) × (s.class ≡ c)
@@ -83,7 +93,7 @@ assigned_names rule (names.Register (registers.Input k)) c e = cc
 assigned_names rule (names.Register (registers.Source k)) c e = let h = result_class (slice_get rule.source k) c e in subst (Names rule (names.Register (registers.Source k))) h.2 (source_assigns h.1)
 assigned_names rule (names.Register (registers.Target k)) c e = let h = result_class (slice_get rule.target k) c e in subst (Names rule (names.Register (registers.Target k))) h.2 (target_assigns h.1)
 assigned_names rule (names.Constant k) c e = cc
-assigned_names rule (names.Undef k) c e = cc
+assigned_names rule (names.Choice k) c e = cc
 
 chosen_then : {X : Type 0} (a b : ℕ) (x y : X) → a ≡ b → (if a == b then x else y) ≡ x
 chosen_then a b x y same = grind (arith, nat_tests)
@@ -96,7 +106,7 @@ pub root_is_last : (rule : Rule) (n : Name) (c : ℕ) → root_class rule n ≡ 
 root_is_last rule (names.Register (registers.Input k)) c e = cc
 root_is_last rule (names.Register (registers.Target k)) c e = cc
 root_is_last rule (names.Constant k) c e = cc
-root_is_last rule (names.Undef k) c e = cc
+root_is_last rule (names.Choice k) c e = cc
 root_is_last rule (names.Register (registers.Source k)) c e = elim (cases_eq (k + 1) (length rule.source)) [
   | inl same ↦ (k, refl, same, sym (chosen_then (k + 1) (length rule.source) (last_class rule.target) None same) ∙ e)
   | inr other ↦ let none : None ≡ Some c = sym (chosen_else (k + 1) (length rule.source) (last_class rule.target) None other) ∙ e in cc
@@ -121,28 +131,28 @@ pub data IsNamed (rule : Rule) (n : Name) (c : ℕ) : Type 0 where
   assigned : assigned_class rule n ≡ Some c → IsNamed rule n c
   root : root_class rule n ≡ Some c → IsNamed rule n c
 
-read_operand : (rule : Rule) (o : Operand) (n : Name) (c : ℕ) → Contains (operands_in rule) o → ((half : Half) → operand_naming half o ≡ Some (n, c)) → IsNamed rule n c
+read_operand : (rule : Rule) (o : Operand) (n : Name) (c : ℕ) → Contains (operands_in rule) o → operand_naming o ≡ Some (n, c) → IsNamed rule n c
 read_operand rule o n c among naming = elim (operand_cases rule o among) [
-  | inl left ↦ read (inl (o, left, naming halves.Source))
-  | inr right ↦ read (inr (inl (o, right, naming halves.Target)))
+  | inl left ↦ read (inl (o, left, naming))
+  | inr right ↦ read (inr (inl (o, right, naming)))
 ]
 
-naming_at : (half : Half) (o : Operand) (value : Argument) → o.value ≡ value → operand_naming half o ≡ option_map {U = Name × ℕ} (λ n. (n, o.class)) (name_of half value)
-naming_at half o value is = ap (λ v. option_map {U = Name × ℕ} (λ n. (n, o.class)) (name_of half v)) is
+naming_at : (o : Operand) (value : Argument) → o.value ≡ value → operand_naming o ≡ option_map {U = Name × ℕ} (λ n. (n, o.class)) (name_of value)
+naming_at o value is = ap (λ v. option_map {U = Name × ℕ} (λ n. (n, o.class)) (name_of v)) is
 
 pub named_cases : (rule : Rule) (n : Name) (c : ℕ) → Names rule n c → IsNamed rule n c
-named_cases rule n c (reads {o} {r} among is) = read_operand rule o (names.Register r) o.class among (λ half. naming_at half o (arguments.Register r) is)
-named_cases rule n c (reads_constant {o} {k} among is) = read_operand rule o (names.Constant k) o.class among (λ half. naming_at half o (arguments.Constant k) is)
-named_cases rule n c (chooses {o} {k} among is) = read (inr (inl (o, among, naming_at halves.Target o (arguments.Undef k) is)))
+named_cases rule n c (reads {o} {r} among is) = read_operand rule o (names.Register r) o.class among (naming_at o (arguments.Register r) is)
+named_cases rule n c (reads_constant {o} {k} among is) = read_operand rule o (names.Constant k) o.class among (naming_at o (arguments.Constant k) is)
+named_cases rule n c (chooses {k} {c = d} among) = read (inr (inr (inl (record { place = k; class = d }, among, refl))))
 named_cases rule n c (source_assigns {k} {s} at) = assigned (ap (λ x. option_map (λ (t : Statement). t.class) x) at)
 named_cases rule n c (target_assigns {k} {s} at) = assigned (ap (λ x. option_map (λ (t : Statement). t.class) x) at)
 named_cases rule n c (assigns_root {j} {k} {s} last last' at) =
     let place : length rule.target - 1 ≡ k = omega arith in
     root (chosen_then (j + 1) (length rule.source) (last_class rule.target) None (omega arith) ∙ ap (λ i. option_map (λ (t : Statement). t.class) (slice_get rule.target i)) place ∙ ap (λ x. option_map (λ (t : Statement). t.class) x) at)
-named_cases rule n c (term_register {t} {r} among is) = read (inr (inr (t, among, ap (node_naming t.class) is)))
-named_cases rule n c (term_constant {t} {k} among is) = read (inr (inr (t, among, ap (node_naming t.class) is)))
-named_cases rule n c (term_undef {t} {k} among is) = read (inr (inr (t, among, ap (node_naming t.class) is)))
-named_cases rule n c (measures {t} {r} {c = d} among is) = read (inr (inr (t, among, ap (node_naming t.class) is)))
+named_cases rule n c (term_register {t} {r} among is) = read (inr (inr (inr (t, among, ap (node_naming t.class) is))))
+named_cases rule n c (term_constant {t} {k} among is) = read (inr (inr (inr (t, among, ap (node_naming t.class) is))))
+named_cases rule n c (term_choice {t} {k} among is) = read (inr (inr (inr (t, among, ap (node_naming t.class) is))))
+named_cases rule n c (measures {t} {r} {c = d} among is) = read (inr (inr (inr (t, among, ap (node_naming t.class) is))))
 
 pub names_of_named : (rule : Rule) (n : Name) (c : ℕ) → IsNamed rule n c → Names rule n c
 names_of_named rule n c (read h) = read_names rule n c h

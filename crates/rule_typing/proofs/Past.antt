@@ -70,7 +70,7 @@ pub past_node : (c : ℕ) (node : Node) → ((r : Register) (d : ℕ) → node �
 past_node c (nodes.Literal z) other = past_one c (c + 1) refl
 past_node c (nodes.Constant k) other = past_one c (c + 1) refl
 past_node c (nodes.Register r) other = past_one c (c + 1) refl
-past_node c (nodes.Undef k) other = past_one c (c + 1) refl
+past_node c (nodes.Choice k) other = past_one c (c + 1) refl
 past_node c (nodes.Width r d) other = absurd (other r d refl)
 past_node c (nodes.Unary function a) other = past_one c (c + 1) refl
 past_node c (nodes.Binary op a b) other = past_one c (c + 1) refl

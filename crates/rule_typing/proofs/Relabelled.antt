@@ -7,12 +7,15 @@ use Rattle.std.proofs.lemmas.Grind.{flat_map-append}
 use Rattle.rule_core.specs.declared.rule.Rule.{Rule}
 use Rattle.rule_core.specs.declared.rule.Statement.{Statement}
 use Rattle.rule_core.specs.declared.rule.Op.{Op}
-use Rattle.rule_core.specs.declared.rule.Op.TheVariants.{Binary, Compare, Select, Convert, Copy}
+use Rattle.rule_core.specs.declared.rule.Op.TheVariants.{Binary, Compare, Select, Convert, Freeze, Copy}
 use Rattle.rule_core.specs.declared.rule.Operand.{Operand}
+use Rattle.rule_core.specs.declared.rule.Argument.{Argument}
+use Rattle.rule_core.specs.declared.rule.Argument.TheVariants as arguments
+use Rattle.rule_core.specs.declared.rule.Choice.{Choice}
 use Rattle.rule_core.specs.declared.rule.Term.{Term}
 use Rattle.rule_core.specs.declared.rule.Node.{Node}
 use Rattle.rule_core.specs.declared.rule.Node.TheVariants as nodes
-use Rattle.rule_core.specs.Positions.{operands_of, operands_among, operands_in, terms_in, classes_of_statement, classes_of_node, classes_of_term, classes_of}
+use Rattle.rule_core.specs.Positions.{operands_of, operands_among, operands_in, undef_in, frozen_in, choices_of, choices_among, terms_in, classes_of_statement, classes_of_node, classes_of_term, classes_of}
 use Rattle.rule_typing.specs.Relabelled.{mapped_op, mapped_statement, mapped_node, mapped_term, mapped, numbered_op, numbered_statement, numbered_statements, numbered_node, numbered_term, numbered_terms, positions_of, positions_among, numbered}
 use Rattle.rule_typing.proofs.NumberedLists.{none_there, AreFrom, from_both, count-numbered, classes-numbered, numbered_image, numbered_anew}
 
@@ -25,6 +28,7 @@ operands-mapped_op f (Binary op flags a b) = refl
 operands-mapped_op f (Compare pred samesign a b) = refl
 operands-mapped_op f (Select z a b) = refl
 operands-mapped_op f (Convert cast flags a to) = refl
+operands-mapped_op f (Freeze a j) = refl
 operands-mapped_op f (Copy a) = refl
 
 op_classes : (f : ℕ → ℕ) (op : Op) → map (λ o. o.class) (operands_of (mapped_op f op)) ≡ map f (map (λ o. o.class) (operands_of op))
@@ -32,19 +36,20 @@ op_classes f (Binary op flags a b) = refl
 op_classes f (Compare pred samesign a b) = refl
 op_classes f (Select z a b) = refl
 op_classes f (Convert cast flags a to) = refl
+op_classes f (Freeze a j) = refl
 op_classes f (Copy a) = refl
 
 node_classes : (f : ℕ → ℕ) (c : ℕ) (node : Node) → classes_of_node (f c) (mapped_node f node) ≡ map f (classes_of_node c node)
 node_classes f c (nodes.Literal z) = refl
 node_classes f c (nodes.Constant k) = refl
 node_classes f c (nodes.Register r) = refl
-node_classes f c (nodes.Undef k) = refl
+node_classes f c (nodes.Choice k) = refl
 node_classes f d (nodes.Width r c) = refl
 node_classes f c (nodes.Unary function a) = refl
 node_classes f c (nodes.Binary op a b) = refl
 
 -- the classes of elements are mapped
-flat-mapped : {X : Type 0} (classes : X → List ℕ) (g : X → X) (f : ℕ → ℕ) → ((x : X) → classes (g x) ≡ map f (classes x)) → (xs : List X) → flat_map classes (map g xs) ≡ map f (flat_map classes xs)
+flat-mapped : {X Y : Type 0} (classes : X → List Y) (g : X → X) (f : Y → Y) → ((x : X) → classes (g x) ≡ map f (classes x)) → (xs : List X) → flat_map classes (map g xs) ≡ map f (flat_map classes xs)
 flat-mapped classes g f each [] = refl
 flat-mapped classes g f each (x ∷ xs) = rw (flat-mapped classes g f each xs, each x) (sym (map-append f (classes x) (flat_map classes xs)))
 
@@ -72,6 +77,42 @@ operands-mapped f [] = refl
 operands-mapped f (s ∷ xs) =
     rw (operands-mapped f xs, operands-mapped_op f s.op) (sym (map-append (mapped_operand f) (operands_of s.op) (operands_among xs)))
 
+-- and the choices
+abbrev pub mapped_choice : (ℕ → ℕ) → Choice → Choice
+mapped_choice f choice = record choice { class = f choice.class }
+
+undefs_of : Operand → List Choice
+undefs_of o = undef_in o.class o.value
+
+undef-mapped : (f : ℕ → ℕ) (c : ℕ) (value : Argument) → undef_in (f c) value ≡ map (mapped_choice f) (undef_in c value)
+undef-mapped f c (arguments.Undef k) = refl
+undef-mapped f c (arguments.Register r) = refl
+undef-mapped f c (arguments.Literal z) = refl
+undef-mapped f c (arguments.Truth b) = refl
+undef-mapped f c (arguments.Constant k) = refl
+undef-mapped f c (arguments.Term n) = refl
+
+frozen-mapped : (f : ℕ → ℕ) (c : ℕ) (op : Op) → frozen_in (f c) (mapped_op f op) ≡ map (mapped_choice f) (frozen_in c op)
+frozen-mapped f c (Binary op flags a b) = refl
+frozen-mapped f c (Compare pred samesign a b) = refl
+frozen-mapped f c (Select z a b) = refl
+frozen-mapped f c (Convert cast flags a to) = refl
+frozen-mapped f c (Freeze a j) = refl
+frozen-mapped f c (Copy a) = refl
+
+choices_of-mapped : (f : ℕ → ℕ) (s : Statement) → choices_of (mapped_statement f s) ≡ map (mapped_choice f) (choices_of s)
+unfolding undefs_of
+choices_of-mapped f s =
+    let undefs : flat_map undefs_of (operands_of (mapped_op f s.op)) ≡ map (mapped_choice f) (flat_map undefs_of (operands_of s.op))
+    = ap (flat_map undefs_of) (operands-mapped_op f s.op) ∙ flat-mapped undefs_of (mapped_operand f) (mapped_choice f) (λ o. undef-mapped f o.class o.value) (operands_of s.op) in
+    ap (λ l. l ++ frozen_in (f s.class) (mapped_op f s.op)) undefs
+    ∙ ap (λ l. map (mapped_choice f) (flat_map undefs_of (operands_of s.op)) ++ l) (frozen-mapped f s.class s.op)
+    ∙ sym (map-append (mapped_choice f) (flat_map undefs_of (operands_of s.op)) (frozen_in s.class s.op))
+
+pub choices-mapped : (f : ℕ → ℕ) (xs : List Statement) → choices_among (map (mapped_statement f) xs) ≡ map (mapped_choice f) (choices_among xs)
+choices-mapped f xs = flat-mapped choices_of (mapped_statement f) (mapped_choice f) (choices_of-mapped f) xs
+
+-- the operands of the rule
 pub operands_in-mapped : (f : ℕ → ℕ) (rule : Rule) → operands_in (mapped f rule) ≡ map (mapped_operand f) (operands_in rule)
 operands_in-mapped f rule = ap operands_among (statements_mapped f rule) ∙ operands-mapped f (rule.source ++ rule.target)
 
@@ -81,6 +122,7 @@ mapped_op-mapped_op g f (Binary op flags a b) = refl
 mapped_op-mapped_op g f (Compare pred samesign a b) = refl
 mapped_op-mapped_op g f (Select z a b) = refl
 mapped_op-mapped_op g f (Convert cast flags a to) = refl
+mapped_op-mapped_op g f (Freeze a j) = refl
 mapped_op-mapped_op g f (Copy a) = refl
 
 statements-mapped : (g f : ℕ → ℕ) (xs : List Statement) → map (mapped_statement g) (map (mapped_statement f) xs) ≡ map (mapped_statement (λ c. g (f c))) xs
@@ -91,7 +133,7 @@ node-mapped : (g f : ℕ → ℕ) (node : Node) → mapped_node g (mapped_node f
 node-mapped g f (nodes.Literal z) = refl
 node-mapped g f (nodes.Constant k) = refl
 node-mapped g f (nodes.Register r) = refl
-node-mapped g f (nodes.Undef k) = refl
+node-mapped g f (nodes.Choice k) = refl
 node-mapped g f (nodes.Width r c) = refl
 node-mapped g f (nodes.Unary function a) = refl
 node-mapped g f (nodes.Binary op a b) = refl
@@ -109,6 +151,7 @@ mapped_op-id (Binary op flags a b) = refl
 mapped_op-id (Compare pred samesign a b) = refl
 mapped_op-id (Select z a b) = refl
 mapped_op-id (Convert cast flags a to) = refl
+mapped_op-id (Freeze a j) = refl
 mapped_op-id (Copy a) = refl
 
 statements-id : (xs : List Statement) → map (mapped_statement (λ c. c)) xs ≡ xs
@@ -119,7 +162,7 @@ node-id : (node : Node) → mapped_node (λ c. c) node ≡ node
 node-id (nodes.Literal z) = refl
 node-id (nodes.Constant k) = refl
 node-id (nodes.Register r) = refl
-node-id (nodes.Undef k) = refl
+node-id (nodes.Choice k) = refl
 node-id (nodes.Width r c) = refl
 node-id (nodes.Unary function a) = refl
 node-id (nodes.Binary op a b) = refl
@@ -143,6 +186,7 @@ numbered_op_bare n (Binary op flags a b) = refl
 numbered_op_bare n (Compare pred samesign a b) = refl
 numbered_op_bare n (Select z a b) = refl
 numbered_op_bare n (Convert cast flags a to) = refl
+numbered_op_bare n (Freeze a j) = refl
 numbered_op_bare n (Copy a) = refl
 
 numbered_statement_bare : (n : ℕ) (s : Statement) → mapped_statement (λ c. 0) (numbered_statement n s) ≡ mapped_statement (λ c. 0) s
@@ -152,7 +196,7 @@ numbered_node_bare : (n : ℕ) (node : Node) → mapped_node (λ c. 0) (numbered
 numbered_node_bare n (nodes.Literal z) = refl
 numbered_node_bare n (nodes.Constant k) = refl
 numbered_node_bare n (nodes.Register r) = refl
-numbered_node_bare n (nodes.Undef k) = refl
+numbered_node_bare n (nodes.Choice k) = refl
 numbered_node_bare n (nodes.Width r c) = refl
 numbered_node_bare n (nodes.Unary function a) = refl
 numbered_node_bare n (nodes.Binary op a b) = refl
@@ -181,6 +225,7 @@ numbered_mapped_op f n (Binary op flags a b) = refl
 numbered_mapped_op f n (Compare pred samesign a b) = refl
 numbered_mapped_op f n (Select z a b) = refl
 numbered_mapped_op f n (Convert cast flags a to) = refl
+numbered_mapped_op f n (Freeze a j) = refl
 numbered_mapped_op f n (Copy a) = refl
 
 count-mapped_op : (f : ℕ → ℕ) (op : Op) → length (map (λ o. o.class) (operands_of (mapped_op f op))) ≡ length (map (λ o. o.class) (operands_of op))
@@ -188,13 +233,14 @@ count-mapped_op f (Binary op flags a b) = refl
 count-mapped_op f (Compare pred samesign a b) = refl
 count-mapped_op f (Select z a b) = refl
 count-mapped_op f (Convert cast flags a to) = refl
+count-mapped_op f (Freeze a j) = refl
 count-mapped_op f (Copy a) = refl
 
 numbered_mapped_node : (f : ℕ → ℕ) (n : ℕ) (node : Node) → numbered_node n (mapped_node f node) ≡ numbered_node n node
 numbered_mapped_node f n (nodes.Literal z) = refl
 numbered_mapped_node f n (nodes.Constant k) = refl
 numbered_mapped_node f n (nodes.Register r) = refl
-numbered_mapped_node f n (nodes.Undef k) = refl
+numbered_mapped_node f n (nodes.Choice k) = refl
 numbered_mapped_node f n (nodes.Width r c) = refl
 numbered_mapped_node f n (nodes.Unary function a) = refl
 numbered_mapped_node f n (nodes.Binary op a b) = refl
@@ -203,7 +249,7 @@ count-mapped_node : (f : ℕ → ℕ) (c d : ℕ) (node : Node) → length (clas
 count-mapped_node f c d (nodes.Literal z) = refl
 count-mapped_node f c d (nodes.Constant k) = refl
 count-mapped_node f c d (nodes.Register r) = refl
-count-mapped_node f c d (nodes.Undef k) = refl
+count-mapped_node f c d (nodes.Choice k) = refl
 count-mapped_node f b d (nodes.Width r c) = refl
 count-mapped_node f c d (nodes.Unary function a) = refl
 count-mapped_node f c d (nodes.Binary op a b) = refl
@@ -243,6 +289,7 @@ count-numbered_op n (Binary op flags a b) = refl
 count-numbered_op n (Compare pred samesign a b) = refl
 count-numbered_op n (Select z a b) = refl
 count-numbered_op n (Convert cast flags a to) = refl
+count-numbered_op n (Freeze a j) = refl
 count-numbered_op n (Copy a) = refl
 
 classes-numbered_op : (n : ℕ) (op : Op) (k c : ℕ) → slice_get (n ∷ map (λ o. o.class) (operands_of (numbered_op (n + 1) op))) k ≡ Some c → c ≡ n + k
@@ -262,8 +309,11 @@ classes-numbered_op n (Select z a b) (suc (suc (suc (suc k)))) c at = cc
 classes-numbered_op n (Convert cast flags a to) zero c at = let h = same_Some n c at in omega arith
 classes-numbered_op n (Convert cast flags a to) (suc zero) c at = let h = same_Some (n + 1) c at in omega arith
 classes-numbered_op n (Convert cast flags a to) (suc (suc k)) c at = cc
+classes-numbered_op n (Freeze a j) zero c at = let h = same_Some n c at in omega arith
 classes-numbered_op n (Copy a) zero c at = let h = same_Some n c at in omega arith
+classes-numbered_op n (Freeze a j) (suc zero) c at = let h = same_Some (n + 1) c at in omega arith
 classes-numbered_op n (Copy a) (suc zero) c at = let h = same_Some (n + 1) c at in omega arith
+classes-numbered_op n (Freeze a j) (suc (suc k)) c at = cc
 classes-numbered_op n (Copy a) (suc (suc k)) c at = cc
 
 count_statement : (n : ℕ) (s : Statement) → length (classes_of_statement (numbered_statement n s)) ≡ length (classes_of_statement s)
@@ -273,7 +323,7 @@ count_node : (n c : ℕ) (node : Node) → length (classes_of_node n (numbered_n
 count_node n c (nodes.Literal z) = refl
 count_node n c (nodes.Constant k) = refl
 count_node n c (nodes.Register r) = refl
-count_node n c (nodes.Undef k) = refl
+count_node n c (nodes.Choice k) = refl
 count_node n d (nodes.Width r c) = refl
 count_node n c (nodes.Unary function a) = refl
 count_node n c (nodes.Binary op a b) = refl
@@ -291,7 +341,7 @@ node_from : (n : ℕ) (node : Node) → AreFrom n (classes_of_node n (numbered_n
 node_from n (nodes.Literal z) = from_one n
 node_from n (nodes.Constant k) = from_one n
 node_from n (nodes.Register r) = from_one n
-node_from n (nodes.Undef k) = from_one n
+node_from n (nodes.Choice k) = from_one n
 node_from n (nodes.Width r c) = from_two n
 node_from n (nodes.Unary function a) = from_one n
 node_from n (nodes.Binary op a b) = from_one n

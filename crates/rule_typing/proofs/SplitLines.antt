@@ -7,27 +7,27 @@ use Rattle.rule_core.specs.declared.rule.Rule.{Rule}
 use Rattle.rule_core.specs.declared.rule.Statement.{Statement}
 use Rattle.rule_core.specs.declared.rule.Name.{Name}
 use Rattle.rule_core.specs.declared.rule.Term.{Term}
-use Rattle.rule_core.specs.Positions.{operands_of, operands_among, terms_in, Names, Line, name}
+use Rattle.rule_core.specs.Positions.{operands_of, operands_among, choices_of, terms_in, Names, Line, name}
 use Rattle.rule_core.proofs.Members.{Contains-flat_map}
 use Rattle.rule_typing.specs.declared.half.Half.{Half}
 use Rattle.rule_typing.specs.declared.half.Half.TheVariants as halves
 use Rattle.rule_typing.specs.Splits.{Splits, formula_pairs, PairOf, StatementsLine, TermsLine, RootLine, IsRead}
 use Rattle.rule_typing.proofs.Images.{from_flat_map}
-use Rattle.rule_typing.proofs.NameLines.{statements_of, operand_names, term_names, assigned_names, root_names, IsNamed, read, assigned, root, named_cases}
-use Rattle.rule_typing.proofs.LineParts.{OnLine, by_statement, by_operand, by_term, by_witness, by_comparison, by_name, line_of, line_cases}
+use Rattle.rule_typing.proofs.NameLines.{statements_of, half_statement, operand_names, choice_names, term_names, assigned_names, root_names, IsNamed, read, assigned, root, named_cases}
+use Rattle.rule_typing.proofs.LineParts.{OnLine, by_statement, by_operand, by_choice, by_term, by_witness, by_comparison, by_name, line_of, line_cases}
 use Rattle.rule_typing.proofs.Walks.{AreOne}
 
 module _ (rule : Rule) where
-  of_half : (half : Half) (s : Statement) → Contains (statements_of rule half) s → Contains (rule.source ++ rule.target) s
-  of_half halves.Source s stands = Contains-append_left rule.source rule.target s stands
-  of_half halves.Target s stands = Contains-append_right rule.source rule.target s stands
-
   pub half_line : (half : Half) (c d : ℕ) → StatementsLine rule half (statements_of rule half) c d → Line rule c d
-  half_line half c d (s, stands, inl pairs) = line_of rule c d (by_statement (s, of_half half s stands, pairs))
-  half_line half c d (s, stands, inr (o, here, inl pairs)) =
+  half_line half c d (s, stands, inl pairs) = line_of rule c d (by_statement (s, half_statement rule half s stands, pairs))
+  half_line half c d (s, stands, inr (inl (o, here, inl pairs))) =
       line_of rule c d (by_operand half (o, Contains-flat_map (λ (t : Statement). operands_of t.op) (statements_of rule half) s o stands here, pairs))
-  half_line half c d (s, stands, inr (o, here, inr (n, e, q))) =
+  half_line half c d (s, stands, inr (inl (o, here, inr (n, e, q)))) =
       name (operand_names rule half o n c (Contains-flat_map (λ (t : Statement). operands_of t.op) (statements_of rule half) s o stands here) e) q
+  half_line half c d (s, stands, inr (inr (choice, here, inl pairs))) =
+      line_of rule c d (by_choice half (choice, Contains-flat_map choices_of (statements_of rule half) s choice stands here, pairs))
+  half_line half c d (s, stands, inr (inr (choice, here, inr (n, e, q)))) =
+      name (choice_names rule half choice n c (Contains-flat_map choices_of (statements_of rule half) s choice stands here) e) q
 
   pub terms_line : (c d : ℕ) → TermsLine rule rule.terms c d → Line rule c d
   terms_line c d (t, among, inl pairs) = line_of rule c d (by_term (t, among, pairs))
@@ -56,10 +56,12 @@ module _ (rule : Rule) where
     -- what reads a name is of one class with all that has it
     read_one : (n : Name) (c d : ℕ) → IsRead rule n c → Names rule n d → c ≡ d
     read_one n c d (inl (o, among, e)) q =
-        let (s, stands, here) = from_flat_map (λ (t : Statement). operands_of t.op) rule.source o among in halves_one halves.Source c d (s, stands, inr (o, here, inr (n, e, q)))
+        let (s, stands, here) = from_flat_map (λ (t : Statement). operands_of t.op) rule.source o among in halves_one halves.Source c d (s, stands, inr (inl (o, here, inr (n, e, q))))
     read_one n c d (inr (inl (o, among, e))) q =
-        let (s, stands, here) = from_flat_map (λ (t : Statement). operands_of t.op) rule.target o among in halves_one halves.Target c d (s, stands, inr (o, here, inr (n, e, q)))
-    read_one n c d (inr (inr (t, among, e))) q = elim (Contains-append_cases rule.terms rule.witness_terms t among) [
+        let (s, stands, here) = from_flat_map (λ (t : Statement). operands_of t.op) rule.target o among in halves_one halves.Target c d (s, stands, inr (inl (o, here, inr (n, e, q))))
+    read_one n c d (inr (inr (inl (choice, among, e)))) q =
+        let (s, stands, here) = from_flat_map choices_of rule.target choice among in halves_one halves.Target c d (s, stands, inr (inr (choice, here, inr (n, e, q))))
+    read_one n c d (inr (inr (inr (t, among, e)))) q = elim (Contains-append_cases rule.terms rule.witness_terms t among) [
       | inl first ↦ terms_one c d (t, first, inr (n, e, q))
       | inr second ↦ witness_one c d (t, second, inr (n, e, q))
     ]
@@ -79,7 +81,9 @@ module _ (rule : Rule) where
       | inr second ↦ halves_one halves.Target c d (s, second, inl pairs)
     ]
     parts_one c d (by_operand half (o, among, pairs)) =
-        let (s, stands, here) = from_flat_map (λ (t : Statement). operands_of t.op) (statements_of rule half) o among in halves_one half c d (s, stands, inr (o, here, inl pairs))
+        let (s, stands, here) = from_flat_map (λ (t : Statement). operands_of t.op) (statements_of rule half) o among in halves_one half c d (s, stands, inr (inl (o, here, inl pairs)))
+    parts_one c d (by_choice half (choice, among, pairs)) =
+        let (s, stands, here) = from_flat_map choices_of (statements_of rule half) choice among in halves_one half c d (s, stands, inr (inr (choice, here, inl pairs)))
     parts_one c d (by_term (t, among, pairs)) = terms_one c d (t, among, inl pairs)
     parts_one c d (by_witness (t, among, pairs)) = witness_one c d (t, among, inl pairs)
     parts_one c d (by_comparison pairs) = comparisons_one c d pairs

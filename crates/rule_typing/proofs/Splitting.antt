@@ -8,12 +8,12 @@ use Rattle.rule_core.specs.declared.rule.Register.{Register}
 use Rattle.rule_core.specs.declared.rule.Register.TheVariants as registers
 use Rattle.rule_core.specs.declared.rule.Name.{Name}
 use Rattle.rule_core.specs.declared.rule.Name.TheVariants as names
-use Rattle.rule_core.specs.Positions.{operands_among, terms_in, Names, Line, name}
+use Rattle.rule_core.specs.Positions.{operands_among, choices_among, terms_in, Names, Line, name}
 use Rattle.rule_typing.specs.declared.half.Half.{Half}
 use Rattle.rule_typing.specs.declared.half.Half.TheVariants as halves
-use Rattle.rule_typing.specs.Splits.{statement_pairs, operand_pairs, term_pairs, formula_pairs, PairOf, operand_naming, term_naming, NamingOf, assigned_class, root_class, RootLine, IsRead}
+use Rattle.rule_typing.specs.Splits.{statement_pairs, operand_pairs, choice_pairs, term_pairs, formula_pairs, PairOf, operand_naming, choice_naming, term_naming, NamingOf, assigned_class, root_class, RootLine, IsRead}
 use Rattle.rule_typing.proofs.NameLines.{statements_of, read_names, root_is_last, IsNamed, read, assigned, root, named_cases, names_of_named}
-use Rattle.rule_typing.proofs.LineParts.{OnLine, by_statement, by_operand, by_term, by_witness, by_comparison, by_name, line_of, line_cases}
+use Rattle.rule_typing.proofs.LineParts.{OnLine, by_statement, by_operand, by_choice, by_term, by_witness, by_comparison, by_name, line_of, line_cases}
 use Rattle.rule_typing.proofs.SplitLines.{root_line}
 use Rattle.rule_typing.proofs.Deciding.{dec_both, dec_either, dec_not, stable, dec_number, dec_one}
 
@@ -44,13 +44,13 @@ dec_register (registers.Target j) (registers.Source k) = no (λ e. cc)
 dec_name : (m n : Name) → Dec (m ≡ n)
 dec_name (names.Register r) (names.Register s) = map_dec (λ e. ap (λ x. names.Register x) e) (λ e. cc) (dec_register r s)
 dec_name (names.Constant j) (names.Constant k) = map_dec (λ e. ap (λ x. names.Constant x) e) (λ e. cc) (dec_number j k)
-dec_name (names.Undef j) (names.Undef k) = map_dec (λ e. ap (λ x. names.Undef x) e) (λ e. cc) (dec_number j k)
+dec_name (names.Choice j) (names.Choice k) = map_dec (λ e. ap (λ x. names.Choice x) e) (λ e. cc) (dec_number j k)
 dec_name (names.Register r) (names.Constant k) = no (λ e. cc)
-dec_name (names.Register r) (names.Undef k) = no (λ e. cc)
+dec_name (names.Register r) (names.Choice k) = no (λ e. cc)
 dec_name (names.Constant j) (names.Register r) = no (λ e. cc)
-dec_name (names.Constant j) (names.Undef k) = no (λ e. cc)
-dec_name (names.Undef j) (names.Register r) = no (λ e. cc)
-dec_name (names.Undef j) (names.Constant k) = no (λ e. cc)
+dec_name (names.Constant j) (names.Choice k) = no (λ e. cc)
+dec_name (names.Choice j) (names.Register r) = no (λ e. cc)
+dec_name (names.Choice j) (names.Constant k) = no (λ e. cc)
 
 -- what an option holds has it
 dec_held : {X : Type 0} (Q : X → Type 0) → ((x : X) → Dec (Q x)) → (o : Option X) → Dec ((x : X) × (o ≡ Some x) × Q x)
@@ -68,13 +68,20 @@ module _ (rule : Rule) where
   dec_read Q each =
       map_dec (λ one. elim one [
         | inl (n, c, h, q) ↦ (n, c, inl h, q)
-        | inr rest ↦ elim rest [ inl (n, c, h, q) ↦ (n, c, inr (inl h), q) | inr (n, c, h, q) ↦ (n, c, inr (inr h), q) ]
+        | inr rest ↦ elim rest [
+          | inl (n, c, h, q) ↦ (n, c, inr (inl h), q)
+          | inr others ↦ elim others [ inl (n, c, h, q) ↦ (n, c, inr (inr (inl h)), q) | inr (n, c, h, q) ↦ (n, c, inr (inr (inr h)), q) ]
+        ]
       ]) (λ (n, c, h, q). elim h [
         | inl left ↦ inl (n, c, left, q)
-        | inr rest ↦ elim rest [ inl middle ↦ inr (inl (n, c, middle, q)) | inr right ↦ inr (inr (n, c, right, q)) ]
+        | inr rest ↦ elim rest [
+          | inl middle ↦ inr (inl (n, c, middle, q))
+          | inr others ↦ elim others [ inl choice ↦ inr (inr (inl (n, c, choice, q))) | inr right ↦ inr (inr (inr (n, c, right, q))) ]
+        ]
       ])
-      (dec_either (dec_naming (operand_naming halves.Source) Q each (operands_among rule.source))
-      (dec_either (dec_naming (operand_naming halves.Target) Q each (operands_among rule.target)) (dec_naming term_naming Q each (terms_in rule))))
+      (dec_either (dec_naming operand_naming Q each (operands_among rule.source))
+      (dec_either (dec_naming operand_naming Q each (operands_among rule.target))
+      (dec_either (dec_naming (choice_naming halves.Target) Q each (choices_among rule.target)) (dec_naming term_naming Q each (terms_in rule)))))
 
   -- another position of another class has the name
   Other : Name → ℕ → Type 0
@@ -113,52 +120,60 @@ module _ (rule : Rule) where
   abbrev Found : Type 0
   Found =
       Split (PairOf statement_pairs (rule.source ++ rule.target))
-      ⊎ (Split (PairOf (operand_pairs rule halves.Source) (operands_among rule.source))
-      ⊎ (Split (PairOf (operand_pairs rule halves.Target) (operands_among rule.target))
+      ⊎ (Split (PairOf (operand_pairs rule) (operands_among rule.source))
+      ⊎ (Split (PairOf (operand_pairs rule) (operands_among rule.target))
+      ⊎ (Split (PairOf (choice_pairs rule halves.Source) (choices_among rule.source))
+      ⊎ (Split (PairOf (choice_pairs rule halves.Target) (choices_among rule.target))
       ⊎ (Split (PairOf (term_pairs rule.terms) rule.terms)
       ⊎ (Split (PairOf (term_pairs rule.witness_terms) rule.witness_terms)
       ⊎ (Split (PairOf (formula_pairs rule.terms) rule.precondition)
       ⊎ (((n : Name) × (c : ℕ) × IsRead rule n c × Other n c)
-      ⊎ Split (RootLine rule)))))))
+      ⊎ Split (RootLine rule)))))))))
 
   dec_found : Dec Found
   dec_found =
       dec_either (dec_pairs statement_pairs (rule.source ++ rule.target))
-      (dec_either (dec_pairs (operand_pairs rule halves.Source) (operands_among rule.source))
-      (dec_either (dec_pairs (operand_pairs rule halves.Target) (operands_among rule.target))
+      (dec_either (dec_pairs (operand_pairs rule) (operands_among rule.source))
+      (dec_either (dec_pairs (operand_pairs rule) (operands_among rule.target))
+      (dec_either (dec_pairs (choice_pairs rule halves.Source) (choices_among rule.source))
+      (dec_either (dec_pairs (choice_pairs rule halves.Target) (choices_among rule.target))
       (dec_either (dec_pairs (term_pairs rule.terms) rule.terms)
       (dec_either (dec_pairs (term_pairs rule.witness_terms) rule.witness_terms)
       (dec_either (dec_pairs (formula_pairs rule.terms) rule.precondition)
-      (dec_either (dec_read Other dec_other) dec_root))))))
+      (dec_either (dec_read Other dec_other) dec_root))))))))
 
   found_line : Found → Split (Line rule)
   unfolding Other
   found_line (inl (c, d, h, apart)) = (c, d, line_of rule c d (by_statement h), apart)
   found_line (inr (inl (c, d, h, apart))) = (c, d, line_of rule c d (by_operand halves.Source h), apart)
   found_line (inr (inr (inl (c, d, h, apart)))) = (c, d, line_of rule c d (by_operand halves.Target h), apart)
-  found_line (inr (inr (inr (inl (c, d, h, apart))))) = (c, d, line_of rule c d (by_term h), apart)
-  found_line (inr (inr (inr (inr (inl (c, d, h, apart)))))) = (c, d, line_of rule c d (by_witness h), apart)
-  found_line (inr (inr (inr (inr (inr (inl (c, d, h, apart))))))) = (c, d, line_of rule c d (by_comparison h), apart)
-  found_line (inr (inr (inr (inr (inr (inr (inl (n, c, h, (d, q, apart))))))))) = (c, d, name (read_names rule n c h) q, apart)
-  found_line (inr (inr (inr (inr (inr (inr (inr (c, d, h, apart)))))))) = (c, d, root_line rule c d h, apart)
+  found_line (inr (inr (inr (inl (c, d, h, apart))))) = (c, d, line_of rule c d (by_choice halves.Source h), apart)
+  found_line (inr (inr (inr (inr (inl (c, d, h, apart)))))) = (c, d, line_of rule c d (by_choice halves.Target h), apart)
+  found_line (inr (inr (inr (inr (inr (inl (c, d, h, apart))))))) = (c, d, line_of rule c d (by_term h), apart)
+  found_line (inr (inr (inr (inr (inr (inr (inl (c, d, h, apart)))))))) = (c, d, line_of rule c d (by_witness h), apart)
+  found_line (inr (inr (inr (inr (inr (inr (inr (inl (c, d, h, apart))))))))) = (c, d, line_of rule c d (by_comparison h), apart)
+  found_line (inr (inr (inr (inr (inr (inr (inr (inr (inl (n, c, h, (d, q, apart))))))))))) = (c, d, name (read_names rule n c h) q, apart)
+  found_line (inr (inr (inr (inr (inr (inr (inr (inr (inr (c, d, h, apart)))))))))) = (c, d, root_line rule c d h, apart)
 
   apart_names : (n : Name) (c d : ℕ) → c ≢ d → Names rule n c → Names rule n d → IsNamed rule n c → IsNamed rule n d → Found
   unfolding Other
-  apart_names n c d apart p q (read h) k = inr (inr (inr (inr (inr (inr (inl (n, c, h, (d, q, apart))))))))
-  apart_names n c d apart p q (assigned h) (read k) = inr (inr (inr (inr (inr (inr (inl (n, d, k, (c, p, λ e. apart (sym e)))))))))
+  apart_names n c d apart p q (read h) k = inr (inr (inr (inr (inr (inr (inr (inr (inl (n, c, h, (d, q, apart))))))))))
+  apart_names n c d apart p q (assigned h) (read k) = inr (inr (inr (inr (inr (inr (inr (inr (inl (n, d, k, (c, p, λ e. apart (sym e)))))))))))
   apart_names n c d apart p q (assigned h) (assigned k) = absurd (apart (same_Some c d (sym h ∙ k)))
-  apart_names n c d apart p q (assigned h) (root k) = inr (inr (inr (inr (inr (inr (inr (c, d, (n, h, k), apart)))))))
-  apart_names n c d apart p q (root h) (read k) = inr (inr (inr (inr (inr (inr (inl (n, d, k, (c, p, λ e. apart (sym e)))))))))
-  apart_names n c d apart p q (root h) (assigned k) = inr (inr (inr (inr (inr (inr (inr (d, c, (n, k, h), λ e. apart (sym e))))))))
+  apart_names n c d apart p q (assigned h) (root k) = inr (inr (inr (inr (inr (inr (inr (inr (inr (c, d, (n, h, k), apart)))))))))
+  apart_names n c d apart p q (root h) (read k) = inr (inr (inr (inr (inr (inr (inr (inr (inl (n, d, k, (c, p, λ e. apart (sym e)))))))))))
+  apart_names n c d apart p q (root h) (assigned k) = inr (inr (inr (inr (inr (inr (inr (inr (inr (d, c, (n, k, h), λ e. apart (sym e))))))))))
   apart_names n c d apart p q (root h) (root k) = absurd (apart (same_Some c d (sym h ∙ k)))
 
   line_found : (c d : ℕ) → c ≢ d → OnLine rule c d → Found
   line_found c d apart (by_statement h) = inl (c, d, h, apart)
   line_found c d apart (by_operand halves.Source h) = inr (inl (c, d, h, apart))
   line_found c d apart (by_operand halves.Target h) = inr (inr (inl (c, d, h, apart)))
-  line_found c d apart (by_term h) = inr (inr (inr (inl (c, d, h, apart))))
-  line_found c d apart (by_witness h) = inr (inr (inr (inr (inl (c, d, h, apart)))))
-  line_found c d apart (by_comparison h) = inr (inr (inr (inr (inr (inl (c, d, h, apart))))))
+  line_found c d apart (by_choice halves.Source h) = inr (inr (inr (inl (c, d, h, apart))))
+  line_found c d apart (by_choice halves.Target h) = inr (inr (inr (inr (inl (c, d, h, apart)))))
+  line_found c d apart (by_term h) = inr (inr (inr (inr (inr (inl (c, d, h, apart))))))
+  line_found c d apart (by_witness h) = inr (inr (inr (inr (inr (inr (inl (c, d, h, apart)))))))
+  line_found c d apart (by_comparison h) = inr (inr (inr (inr (inr (inr (inr (inl (c, d, h, apart))))))))
   line_found c d apart (by_name n p q) = apart_names n c d apart p q (named_cases rule n c p) (named_cases rule n d q)
 
 -- on some line two classes differ, or each line's are one

@@ -6,7 +6,7 @@ use Rattle.std.proofs.lemmas.Option.{slice_get-get_or, get_or_from_slice_get, sa
 use Rattle.rule_core.specs.declared.rule.Rule.{Rule}
 use Rattle.rule_core.specs.declared.rule.Statement.{Statement}
 use Rattle.rule_core.specs.declared.rule.Op.{Op}
-use Rattle.rule_core.specs.declared.rule.Op.TheVariants.{Binary, Compare, Select, Convert, Copy}
+use Rattle.rule_core.specs.declared.rule.Op.TheVariants.{Binary, Compare, Select, Convert, Freeze, Copy}
 use Rattle.rule_core.specs.declared.rule.Term.{Term}
 use Rattle.rule_core.specs.declared.rule.Node.{Node}
 use Rattle.rule_core.specs.declared.rule.Node.TheVariants as nodes
@@ -38,6 +38,7 @@ restored_op f n (Select z a b) gives =
     let third : f (n + 2) ≡ b.class = gives 2 b.class refl in
     rw (first, second, third) refl
 restored_op f n (Convert cast flags a to) gives = let left : f n ≡ a.class = ap f (sym (add-zero n)) ∙ gives 0 a.class refl in rw left refl
+restored_op f n (Freeze a j) gives = let left : f n ≡ a.class = ap f (sym (add-zero n)) ∙ gives 0 a.class refl in rw left refl
 restored_op f n (Copy a) gives = let left : f n ≡ a.class = ap f (sym (add-zero n)) ∙ gives 0 a.class refl in rw left refl
 
 restored_statement : (f : ℕ → ℕ) (n : ℕ) (s : Statement) → ((k c : ℕ) → slice_get (classes_of_statement s) k ≡ Some c → f (n + k) ≡ c) → mapped_statement f (numbered_statement n s) ≡ s
@@ -51,7 +52,7 @@ restored_node : (f : ℕ → ℕ) (n c : ℕ) (node : Node) → Gives f n (class
 restored_node f n c (nodes.Literal z) gives = let own : f n ≡ c = ap f (sym (add-zero n)) ∙ gives 0 c refl in rw own refl
 restored_node f n c (nodes.Constant k) gives = let own : f n ≡ c = ap f (sym (add-zero n)) ∙ gives 0 c refl in rw own refl
 restored_node f n c (nodes.Register r) gives = let own : f n ≡ c = ap f (sym (add-zero n)) ∙ gives 0 c refl in rw own refl
-restored_node f n c (nodes.Undef k) gives = let own : f n ≡ c = ap f (sym (add-zero n)) ∙ gives 0 c refl in rw own refl
+restored_node f n c (nodes.Choice k) gives = let own : f n ≡ c = ap f (sym (add-zero n)) ∙ gives 0 c refl in rw own refl
 restored_node f n c (nodes.Width r d) gives =
     let own : f n ≡ c = ap f (sym (add-zero n)) ∙ gives 0 c refl in
     let other : f (n + 1) ≡ d = gives 1 d refl in

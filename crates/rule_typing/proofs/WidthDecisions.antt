@@ -87,7 +87,7 @@ dec_node : (N : ℕ) (node : Node) → Dec ((z : ℤ) → node ≡ nodes.Literal
 dec_node N (nodes.Literal y) = map_dec (λ fits z e. let same : y ≡ z = cc in subst (FitsLiteral N) same fits) (λ each. each y refl) (dec_literal N y)
 dec_node N (nodes.Constant k) = yes (λ z e. cc)
 dec_node N (nodes.Register r) = yes (λ z e. cc)
-dec_node N (nodes.Undef k) = yes (λ z e. cc)
+dec_node N (nodes.Choice k) = yes (λ z e. cc)
 dec_node N (nodes.Width r c) = yes (λ z e. cc)
 dec_node N (nodes.Unary function a) = yes (λ z e. cc)
 dec_node N (nodes.Binary op a b) = yes (λ z e. cc)

@@ -3,7 +3,7 @@ use Rattle.std.specs.Prelude.{◌≡◌, ◌⊎◌, ◌<◌, ◌≤◌, ℕ, Boo
 use Rattle.ops.specs.declared.conversion.Cast.TheVariants.{Trunc, ZExt, SExt}
 use Rattle.rule_core.specs.declared.rule.Statement.{Statement}
 use Rattle.rule_core.specs.declared.rule.Op.{Op}
-use Rattle.rule_core.specs.declared.rule.Op.TheVariants.{Binary, Compare, Select, Convert, Copy}
+use Rattle.rule_core.specs.declared.rule.Op.TheVariants.{Binary, Compare, Select, Convert, Freeze, Copy}
 use Rattle.rule_core.specs.declared.rule.Operand.{Operand}
 use Rattle.rule_core.specs.declared.rule.Argument.TheVariants as arguments
 use Rattle.rule_core.specs.Positions.{operands_of}
@@ -15,6 +15,7 @@ fixed_line r (Compare pred samesign a b) = Some (r, 1)
 fixed_line r (Select z a b) = Some (z.class, 1)
 fixed_line r (Convert cast flags a None) = None
 fixed_line r (Convert cast flags a (Some N)) = Some (r, N)
+fixed_line r (Freeze a k) = None
 fixed_line r (Copy a) = None
 
 -- the operand fixes the width N for its class, which is c: by its type, or as `true` or `false`
@@ -37,6 +38,7 @@ smaller_line r (Select z a b) = None
 smaller_line r (Convert Trunc flags a to) = Some (r, a.class)
 smaller_line r (Convert ZExt flags a to) = Some (a.class, r)
 smaller_line r (Convert SExt flags a to) = Some (a.class, r)
+smaller_line r (Freeze a k) = None
 smaller_line r (Copy a) = None
 
 -- these widths keep that of class c below that of class d, if there are both

@@ -3,7 +3,7 @@ use Rattle.std.specs.Prelude.{◌≡◌, ℕ, ◌+◌, ◌==◌, if◌then◌els
 use Rattle.rule_core.specs.declared.rule.Rule.{Rule}
 use Rattle.rule_core.specs.declared.rule.Statement.{Statement}
 use Rattle.rule_core.specs.declared.rule.Op.{Op}
-use Rattle.rule_core.specs.declared.rule.Op.TheVariants.{Binary, Compare, Select, Convert, Copy}
+use Rattle.rule_core.specs.declared.rule.Op.TheVariants.{Binary, Compare, Select, Convert, Freeze, Copy}
 use Rattle.rule_core.specs.declared.rule.Term.{Term}
 use Rattle.rule_core.specs.declared.rule.Node.{Node}
 use Rattle.rule_core.specs.declared.rule.Node.TheVariants as nodes
@@ -17,6 +17,7 @@ mapped_op f (Binary op flags a b) = Binary op flags (record a { class = f a.clas
 mapped_op f (Compare pred samesign a b) = Compare pred samesign (record a { class = f a.class }) (record b { class = f b.class })
 mapped_op f (Select c a b) = Select (record c { class = f c.class }) (record a { class = f a.class }) (record b { class = f b.class })
 mapped_op f (Convert cast flags a to) = Convert cast flags (record a { class = f a.class }) to
+mapped_op f (Freeze a k) = Freeze (record a { class = f a.class }) k
 mapped_op f (Copy a) = Copy (record a { class = f a.class })
 
 abbrev pub mapped_statement : (ℕ → ℕ) → Statement → Statement
@@ -26,7 +27,7 @@ abbrev pub mapped_node : (ℕ → ℕ) → Node → Node
 mapped_node f (nodes.Literal z) = nodes.Literal z
 mapped_node f (nodes.Constant k) = nodes.Constant k
 mapped_node f (nodes.Register r) = nodes.Register r
-mapped_node f (nodes.Undef k) = nodes.Undef k
+mapped_node f (nodes.Choice k) = nodes.Choice k
 mapped_node f (nodes.Width r c) = nodes.Width r (f c)
 mapped_node f (nodes.Unary function a) = nodes.Unary function a
 mapped_node f (nodes.Binary op a b) = nodes.Binary op a b
@@ -49,6 +50,7 @@ numbered_op n (Binary op flags a b) = Binary op flags (record a { class = n }) (
 numbered_op n (Compare pred samesign a b) = Compare pred samesign (record a { class = n }) (record b { class = n + 1 })
 numbered_op n (Select c a b) = Select (record c { class = n }) (record a { class = n + 1 }) (record b { class = n + 2 })
 numbered_op n (Convert cast flags a to) = Convert cast flags (record a { class = n }) to
+numbered_op n (Freeze a k) = Freeze (record a { class = n }) k
 numbered_op n (Copy a) = Copy (record a { class = n })
 
 abbrev pub numbered_statement : ℕ → Statement → Statement
@@ -58,7 +60,7 @@ abbrev pub numbered_node : ℕ → Node → Node
 numbered_node n (nodes.Literal z) = nodes.Literal z
 numbered_node n (nodes.Constant k) = nodes.Constant k
 numbered_node n (nodes.Register r) = nodes.Register r
-numbered_node n (nodes.Undef k) = nodes.Undef k
+numbered_node n (nodes.Choice k) = nodes.Choice k
 numbered_node n (nodes.Width r c) = nodes.Width r n
 numbered_node n (nodes.Unary function a) = nodes.Unary function a
 numbered_node n (nodes.Binary op a b) = nodes.Binary op a b

@@ -3,10 +3,11 @@ use Rattle.std.specs.Prelude.{◌≡◌, ◌≢◌, ◌⊎◌, ℕ, ◌+◌, ◌
 use Rattle.rule_core.specs.declared.rule.Rule.{Rule}
 use Rattle.rule_core.specs.declared.rule.Statement.{Statement}
 use Rattle.rule_core.specs.declared.rule.Op.{Op}
-use Rattle.rule_core.specs.declared.rule.Op.TheVariants.{Binary, Compare, Select, Convert, Copy}
+use Rattle.rule_core.specs.declared.rule.Op.TheVariants.{Binary, Compare, Select, Convert, Freeze, Copy}
 use Rattle.rule_core.specs.declared.rule.Operand.{Operand}
 use Rattle.rule_core.specs.declared.rule.Argument.{Argument}
 use Rattle.rule_core.specs.declared.rule.Argument.TheVariants as arguments
+use Rattle.rule_core.specs.declared.rule.Choice.{Choice}
 use Rattle.rule_core.specs.declared.rule.Register.TheVariants as registers
 use Rattle.rule_core.specs.declared.rule.Name.{Name}
 use Rattle.rule_core.specs.declared.rule.Name.TheVariants as names
@@ -15,7 +16,7 @@ use Rattle.rule_core.specs.declared.rule.Node.{Node}
 use Rattle.rule_core.specs.declared.rule.Node.TheVariants as nodes
 use Rattle.rule_core.specs.declared.rule.Formula.{Formula}
 use Rattle.rule_core.specs.declared.rule.Formula.TheVariants as formulas
-use Rattle.rule_core.specs.Positions.{operands_of, operands_among, terms_in, Names}
+use Rattle.rule_core.specs.Positions.{operands_of, operands_among, choices_of, choices_among, terms_in, Names}
 use Rattle.rule_typing.specs.declared.half.Half.{Half}
 use Rattle.rule_typing.specs.declared.half.Half.TheVariants as halves
 use Rattle.rule_typing.specs.Classes.{Joined}
@@ -35,6 +36,7 @@ op_pairs r (Binary op flags a b) = (r, a.class) ∷ (r, b.class) ∷ []
 op_pairs r (Compare pred samesign a b) = (a.class, b.class) ∷ []
 op_pairs r (Select z a b) = (r, a.class) ∷ (r, b.class) ∷ []
 op_pairs r (Convert cast flags a to) = []
+op_pairs r (Freeze a k) = (r, a.class) ∷ []
 op_pairs r (Copy a) = (r, a.class) ∷ []
 
 abbrev pub statement_pairs : Statement → List (ℕ × ℕ)
@@ -44,22 +46,26 @@ statement_pairs s = op_pairs s.class s.op
 abbrev pub node_class : List Term → ℕ → Option ℕ
 node_class terms n = option_map (λ t. t.class) (slice_get terms n)
 
--- the class of the expression that `Wit:` has for an `undef` of the source
+-- the class of the expression that `Wit:` has for a choice of the source
 abbrev pub chosen_class : Rule → ℕ → Option ℕ
 chosen_class rule k = option_and_then (node_class rule.witness_terms) (slice_get rule.witnesses k)
 
--- the class of the term that an operand of the half is, or of the expression that is chosen for it
-abbrev pub term_class : Rule → Half → Argument → Option ℕ
-term_class rule half (arguments.Term n) = node_class rule.terms n
-term_class rule halves.Source (arguments.Undef k) = chosen_class rule k
-term_class rule halves.Target (arguments.Undef k) = None
-term_class rule half (arguments.Register r) = None
-term_class rule half (arguments.Literal z) = None
-term_class rule half (arguments.Truth b) = None
-term_class rule half (arguments.Constant k) = None
+-- the class of the term that an operand is
+abbrev pub term_class : Rule → Argument → Option ℕ
+term_class rule (arguments.Term n) = node_class rule.terms n
+term_class rule (arguments.Undef k) = None
+term_class rule (arguments.Register r) = None
+term_class rule (arguments.Literal z) = None
+term_class rule (arguments.Truth b) = None
+term_class rule (arguments.Constant k) = None
 
-abbrev pub operand_pairs : Rule → Half → Operand → List (ℕ × ℕ)
-operand_pairs rule half o = paired (Some o.class) (term_class rule half o.value)
+abbrev pub operand_pairs : Rule → Operand → List (ℕ × ℕ)
+operand_pairs rule o = paired (Some o.class) (term_class rule o.value)
+
+-- a choice of the source and the expression for it
+abbrev pub choice_pairs : Rule → Half → Choice → List (ℕ × ℕ)
+choice_pairs rule halves.Source choice = paired (Some choice.class) (chosen_class rule choice.place)
+choice_pairs rule halves.Target choice = []
 
 -- an operator or a function of class c and its operands
 abbrev pub node_pairs : List Term → ℕ → Node → List (ℕ × ℕ)
@@ -68,7 +74,7 @@ node_pairs terms c (nodes.Binary op a b) = paired (Some c) (node_class terms a) 
 node_pairs terms c (nodes.Literal z) = []
 node_pairs terms c (nodes.Constant k) = []
 node_pairs terms c (nodes.Register r) = []
-node_pairs terms c (nodes.Undef k) = []
+node_pairs terms c (nodes.Choice k) = []
 node_pairs terms c (nodes.Width r d) = []
 
 abbrev pub term_pairs : List Term → Term → List (ℕ × ℕ)
@@ -94,25 +100,29 @@ PairOf {X} pairs xs c d = (x : X) × Contains xs x × IsPairIn (pairs x) c d
 
 -- ---- names
 
--- the name that an operand of the half is, if it is one: an `undef` is one in the target alone
-abbrev pub name_of : Half → Argument → Option Name
-name_of half (arguments.Register r) = Some (names.Register r)
-name_of half (arguments.Constant k) = Some (names.Constant k)
-name_of halves.Target (arguments.Undef k) = Some (names.Undef k)
-name_of halves.Source (arguments.Undef k) = None
-name_of half (arguments.Literal z) = None
-name_of half (arguments.Truth b) = None
-name_of half (arguments.Term n) = None
+-- the name that an operand is, if it is one
+abbrev pub name_of : Argument → Option Name
+name_of (arguments.Register r) = Some (names.Register r)
+name_of (arguments.Constant k) = Some (names.Constant k)
+name_of (arguments.Undef k) = None
+name_of (arguments.Literal z) = None
+name_of (arguments.Truth b) = None
+name_of (arguments.Term n) = None
 
 -- it and the class of the operand
-abbrev pub operand_naming : Half → Operand → Option (Name × ℕ)
-operand_naming half o = option_map (λ n. (n, o.class)) (name_of half o.value)
+abbrev pub operand_naming : Operand → Option (Name × ℕ)
+operand_naming o = option_map (λ n. (n, o.class)) (name_of o.value)
+
+-- the name of a choice, which it has in the target alone, and its class
+abbrev pub choice_naming : Half → Choice → Option (Name × ℕ)
+choice_naming halves.Source choice = None
+choice_naming halves.Target choice = Some (names.Choice choice.place, choice.class)
 
 -- the name that a node of class c is, or of whose width it is, and the class of that position
 abbrev pub node_naming : ℕ → Node → Option (Name × ℕ)
 node_naming c (nodes.Register r) = Some (names.Register r, c)
 node_naming c (nodes.Constant k) = Some (names.Constant k, c)
-node_naming c (nodes.Undef k) = Some (names.Undef k, c)
+node_naming c (nodes.Choice k) = Some (names.Choice k, c)
 node_naming c (nodes.Width r d) = Some (names.Register r, d)
 node_naming c (nodes.Literal z) = None
 node_naming c (nodes.Unary function a) = None
@@ -131,7 +141,7 @@ assigned_class rule (names.Register (registers.Input k)) = None
 assigned_class rule (names.Register (registers.Source k)) = option_map (λ s. s.class) (slice_get rule.source k)
 assigned_class rule (names.Register (registers.Target k)) = option_map (λ s. s.class) (slice_get rule.target k)
 assigned_class rule (names.Constant k) = None
-assigned_class rule (names.Undef k) = None
+assigned_class rule (names.Choice k) = None
 
 -- the class of the result of the last statement
 abbrev pub last_class : List Statement → Option ℕ
@@ -143,13 +153,14 @@ root_class rule (names.Register (registers.Input k)) = None
 root_class rule (names.Register (registers.Source k)) = if k + 1 == length rule.source then last_class rule.target else None
 root_class rule (names.Register (registers.Target k)) = None
 root_class rule (names.Constant k) = None
-root_class rule (names.Undef k) = None
+root_class rule (names.Choice k) = None
 
--- a position of class c reads n: an operand or a node
+-- a position of class c reads n: an operand, a choice or a node
 abbrev pub IsRead : Rule → Name → ℕ → Type 0
 IsRead rule n c =
-    NamingOf (operand_naming halves.Source) (operands_among rule.source) n c
-    ⊎ (NamingOf (operand_naming halves.Target) (operands_among rule.target) n c ⊎ NamingOf term_naming (terms_in rule) n c)
+    NamingOf operand_naming (operands_among rule.source) n c
+    ⊎ (NamingOf operand_naming (operands_among rule.target) n c
+    ⊎ (NamingOf (choice_naming halves.Target) (choices_among rule.target) n c ⊎ NamingOf term_naming (terms_in rule) n c))
 
 -- ---- both
 
@@ -161,13 +172,18 @@ LineOf rule pairs naming x c d = IsPairIn (pairs x) c d ⊎ ((n : Name) × (nami
 abbrev pub LinesOf : {X : Type 0} → Rule → (X → List (ℕ × ℕ)) → (X → Option (Name × ℕ)) → List X → ℕ → ℕ → Type 0
 LinesOf {X} rule pairs naming xs c d = (x : X) × Contains xs x × LineOf rule pairs naming x c d
 
--- the lines of operands of a half
-abbrev pub OperandsLine : Rule → Half → List Operand → ℕ → ℕ → Type 0
-OperandsLine rule half operands = LinesOf rule (operand_pairs rule half) (operand_naming half) operands
+-- the lines of operands
+abbrev pub OperandsLine : Rule → List Operand → ℕ → ℕ → Type 0
+OperandsLine rule operands = LinesOf rule (operand_pairs rule) operand_naming operands
 
--- the lines of a statement of a half: of its operation, and of its operands
+-- the lines of choices of a half
+abbrev pub ChoicesLine : Rule → Half → List Choice → ℕ → ℕ → Type 0
+ChoicesLine rule half choices = LinesOf rule (choice_pairs rule half) (choice_naming half) choices
+
+-- the lines of a statement of a half: of its operation, of its operands and of its choices
 abbrev pub StatementLine : Rule → Half → Statement → ℕ → ℕ → Type 0
-StatementLine rule half s c d = IsPairIn (statement_pairs s) c d ⊎ OperandsLine rule half (operands_of s.op) c d
+StatementLine rule half s c d =
+    IsPairIn (statement_pairs s) c d ⊎ (OperandsLine rule (operands_of s.op) c d ⊎ ChoicesLine rule half (choices_of s) c d)
 
 -- those of statements
 abbrev pub StatementsLine : Rule → Half → List Statement → ℕ → ℕ → Type 0

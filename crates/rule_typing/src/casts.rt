@@ -69,7 +69,7 @@ fn smaller_line(result_class: u32, op: Op) -> Option<(u32, u32)>
         Op::Binary(_, _, _, _) => None,
         Op::Compare(_, _, _, _) => None,
         Op::Select(_, _, _) => None,
-        Op::Copy(_) => None,
+        Op::Freeze(_, _) | Op::Copy(_) => None,
     }
 }
 

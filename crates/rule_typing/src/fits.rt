@@ -200,6 +200,7 @@ fn past_statement(statement: &Statement) -> usize
         Op::Compare(_, _, left, right) => first.max(left.class).max(right.class),
         Op::Select(condition, yes, no) => first.max(condition.class).max(yes.class).max(no.class),
         Op::Convert(_, _, operand, _) => first.max(operand.class),
+        Op::Freeze(operand, _) => first.max(operand.class),
         Op::Copy(operand) => first.max(operand.class),
     };
     class as usize + 1

@@ -77,7 +77,7 @@ fn fixed_line(result_class: u32, op: Op) -> Option<(u32, Width)>
         Op::Select(condition, _, _) => Some((condition.class, Width::ONE)),
         Op::Convert(_, _, _, None) => None,
         Op::Convert(_, _, _, Some(width)) => Some((result_class, width)),
-        Op::Copy(_) => None,
+        Op::Freeze(_, _) | Op::Copy(_) => None,
     }
 }
 

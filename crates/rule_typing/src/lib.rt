@@ -6,6 +6,7 @@
 
 mod answer;
 mod casts;
+mod choice_lines;
 mod classes;
 mod enumeration;
 mod fits;

@@ -1,16 +1,17 @@
 //! Lines of the table of types that a rule's classes do not meet yet.
 
-ghost use Rattle.std.specs.Prelude.{◌≡◌, ◌≢◌, ℕ, [], ◌∷◌, IfSome, IfNone};
+ghost use Rattle.std.specs.Prelude.{◌≡◌, ◌≢◌, ◌⊎◌, ℕ, [], ◌∷◌, IfSome, IfNone};
 ghost use Rattle.rule_core.specs.Checks.{IsRule};
-ghost use Rattle.rule_core.specs.Positions.{Line};
-ghost use Rattle.rule_typing.specs.Splits.{paired, op_pairs, IsPairIn, StatementLine, StatementsLine, RootLine, Splits};
+ghost use Rattle.rule_core.specs.Positions.{Line, operands_of, choices_of};
+ghost use Rattle.rule_typing.specs.Splits.{paired, op_pairs, IsPairIn, OperandsLine, ChoicesLine, StatementLine, StatementsLine, RootLine, Splits};
 
+use crate::choice_lines::split_by_choices;
 use crate::half::Half;
 use crate::names::{assigned_class, root_class};
 use crate::operand_lines::split_by_operands;
 use crate::operands::Operands;
 use crate::term_lines::{split_by_formulas, split_by_terms};
-use rule_core::{Name, Op, Register, Rule, Statement};
+use rule_core::{Choices, Name, Op, Register, Rule, Statement};
 
 /// Two classes that one line keeps at one width, or `None` where each line's are one.
 pub(crate) fn split_line(rule: &Rule) -> Option<(u32, u32)>
@@ -48,15 +49,26 @@ fn split_by_half(rule: &Rule, half: Half, statements: &[Statement]) -> Option<(u
     None
 }
 
-/// The same for those of one statement: of its operation, and of its operands.
+/// The same for those of one statement: of its operation, of its operands and of its choices.
 fn split_by_statement(rule: &Rule, half: Half, statement: &Statement) -> Option<(u32, u32)>
     ensures { Splits (StatementLine rule.now half statement.now) result }
 {
     match split_by_op(statement.class, statement.op) {
         Some(pair) => Some(pair),
+        None => split_behind_op(rule, half, statement),
+    }
+}
+
+/// The same for those of its operands and of its choices.
+fn split_behind_op(rule: &Rule, half: Half, statement: &Statement) -> Option<(u32, u32)>
+    ensures { Splits (λ c d. OperandsLine rule.now (operands_of statement.now.op) c d ⊎ ChoicesLine rule.now half (choices_of statement.now) c d) result }
+{
+    let operands = Operands::of(statement.op);
+    match split_by_operands(rule, operands.as_slice()) {
+        Some(pair) => Some(pair),
         None => {
-            let operands = Operands::of(statement.op);
-            split_by_operands(rule, half, operands.as_slice())
+            let choices = Choices::of(statement);
+            split_by_choices(rule, half, choices.as_slice())
         }
     }
 }
@@ -70,6 +82,7 @@ fn split_by_op(class: u32, op: Op) -> Option<(u32, u32)>
         Op::Compare(_, _, left, right) => split_pair(left.class, right.class),
         Op::Select(_, yes, no) => split_by_two(class, yes.class, no.class),
         Op::Convert(_, _, _, _) => None,
+        Op::Freeze(operand, _) => split_pair(class, operand.class),
         Op::Copy(operand) => split_pair(class, operand.class),
     }
 }

@@ -1,14 +1,15 @@
-//! The positions that name a register, a constant or an `undef` of the target.
+//! The positions that name a register, a constant or a choice of the target.
 
-ghost use Rattle.std.specs.Prelude.{◌≡◌, Some, option_map, slice_get};
+ghost use Rattle.std.specs.Prelude.{◌≡◌, ◌⊎◌, Some, option_map, slice_get};
 ghost use Rattle.rule_core.specs.declared.rule.Name.{Name};
-ghost use Rattle.rule_core.specs.Positions.{Names, operands_among, terms_in};
-ghost use Rattle.rule_typing.specs.Splits.{name_of, operand_naming, term_naming, NamingOf, IsRead, assigned_class, last_class, root_class, Splits, FindsOther};
+ghost use Rattle.rule_core.specs.Positions.{Names, operands_among, choices_among, terms_in};
+ghost use Rattle.rule_typing.specs.declared.half.Half.TheVariants as halves;
+ghost use Rattle.rule_typing.specs.Splits.{name_of, operand_naming, choice_naming, term_naming, NamingOf, IsRead, assigned_class, last_class, root_class, Splits, FindsOther};
 
 use crate::half::Half;
 use crate::operands::Operands;
 use lists::List;
-use rule_core::{Argument, Name, Node, Operand, Register, Rule, Statement, Term};
+use rule_core::{Argument, Choice, Choices, Name, Node, Operand, Register, Rule, Statement, Term};
 
 /// The class that comes with the name and that of another position that has the name, if the two differ.
 pub(crate) fn split_by_name(rule: &Rule, naming: Option<(Name, u32)>) -> Option<(u32, u32)>
@@ -41,12 +42,22 @@ fn other_class(rule: &Rule, name: Name, class: u32) -> Option<u32>
 fn other_read(rule: &Rule, name: Name, class: u32) -> Option<u32>
     ensures { FindsOther (IsRead rule.now name) class result }
 {
-    match other_by_statements(Half::Source, rule.source.as_slice(), name, class) {
+    match other_by_statements(rule.source.as_slice(), name, class) {
         Some(other) => Some(other),
-        None => match other_by_statements(Half::Target, rule.target.as_slice(), name, class) {
+        None => match other_by_statements(rule.target.as_slice(), name, class) {
             Some(other) => Some(other),
-            None => other_in_terms(rule, name, class),
+            None => other_behind_operands(rule, name, class),
         },
+    }
+}
+
+/// The same among the choices of the target and the nodes of the rule's terms.
+fn other_behind_operands(rule: &Rule, name: Name, class: u32) -> Option<u32>
+    ensures { FindsOther (λ d. NamingOf (choice_naming halves.Target) (choices_among rule.now.target) name d ⊎ NamingOf term_naming (terms_in rule.now) name d) class result }
+{
+    match other_left_open(rule.target.as_slice(), name, class) {
+        Some(other) => Some(other),
+        None => other_in_terms(rule, name, class),
     }
 }
 
@@ -60,13 +71,13 @@ fn other_in_terms(rule: &Rule, name: Name, class: u32) -> Option<u32>
     }
 }
 
-/// The same among the operands of statements of a half.
-fn other_by_statements(half: Half, statements: &[Statement], name: Name, class: u32) -> Option<u32>
-    ensures { FindsOther (NamingOf (operand_naming half) (operands_among statements.now) name) class result }
+/// The same among the operands of statements.
+fn other_by_statements(statements: &[Statement], name: Name, class: u32) -> Option<u32>
+    ensures { FindsOther (NamingOf operand_naming (operands_among statements.now) name) class result }
 {
     for statement in statements {
         let operands = Operands::of(statement.op);
-        if let Some(other) = other_by_operands(half, operands.as_slice(), name, class) {
+        if let Some(other) = other_by_operands(operands.as_slice(), name, class) {
             return Some(other);
         }
     }
@@ -74,11 +85,36 @@ fn other_by_statements(half: Half, statements: &[Statement], name: Name, class: 
 }
 
 /// The same among operands.
-fn other_by_operands(half: Half, operands: &[Operand], name: Name, class: u32) -> Option<u32>
-    ensures { FindsOther (NamingOf (operand_naming half) operands.now name) class result }
+fn other_by_operands(operands: &[Operand], name: Name, class: u32) -> Option<u32>
+    ensures { FindsOther (NamingOf operand_naming operands.now name) class result }
 {
     for operand in operands {
-        if let Some(other) = other_by(operand_naming(half, *operand), name, class) {
+        if let Some(other) = other_by(operand_naming(*operand), name, class) {
+            return Some(other);
+        }
+    }
+    None
+}
+
+/// The same among the choices of statements of the target.
+fn other_left_open(statements: &[Statement], name: Name, class: u32) -> Option<u32>
+    ensures { FindsOther (NamingOf (choice_naming halves.Target) (choices_among statements.now) name) class result }
+{
+    for statement in statements {
+        let choices = Choices::of(statement);
+        if let Some(other) = other_by_choices(choices.as_slice(), name, class) {
+            return Some(other);
+        }
+    }
+    None
+}
+
+/// The same among choices of the target.
+fn other_by_choices(choices: &[Choice], name: Name, class: u32) -> Option<u32>
+    ensures { FindsOther (NamingOf (choice_naming halves.Target) choices.now name) class result }
+{
+    for choice in choices {
+        if let Some(other) = other_by(choice_naming(Half::Target, *choice), name, class) {
             return Some(other);
         }
     }
@@ -118,26 +154,35 @@ fn unless(other: Option<u32>, class: u32) -> Option<u32>
     if other == Some(class) { None } else { other }
 }
 
-/// The name that an operand of the half is, if it is one, and its class.
-pub(crate) fn operand_naming(half: Half, operand: Operand) -> Option<(Name, u32)>
-    ensures { result ≡ operand_naming half operand }
+/// The name that an operand is, if it is one, and its class.
+pub(crate) fn operand_naming(operand: Operand) -> Option<(Name, u32)>
+    ensures { result ≡ operand_naming operand }
 {
-    match name_of(half, operand.value) {
+    match name_of(operand.value) {
         Some(name) => Some((name, operand.class)),
         None => None,
     }
 }
 
-/// The name that an operand of the half is, if it is one.
-fn name_of(half: Half, value: Argument) -> Option<Name>
-    ensures { result ≡ name_of half value }
+/// The name that an operand is, if it is one.
+fn name_of(value: Argument) -> Option<Name>
+    ensures { result ≡ name_of value }
 {
-    match (value, half) {
-        (Argument::Register(register), _) => Some(Name::Register(register)),
-        (Argument::Constant(place), _) => Some(Name::Constant(place)),
-        (Argument::Undef(place), Half::Target) => Some(Name::Undef(place)),
-        (Argument::Undef(_), Half::Source) => None,
-        (Argument::Literal(_) | Argument::Truth(_) | Argument::Term(_), _) => None,
+    match value {
+        Argument::Register(register) => Some(Name::Register(register)),
+        Argument::Constant(place) => Some(Name::Constant(place)),
+        Argument::Literal(_) | Argument::Truth(_) => None,
+        Argument::Undef(_) | Argument::Term(_) => None,
+    }
+}
+
+/// The name of a choice, which it has in the target alone, and its class.
+pub(crate) fn choice_naming(half: Half, choice: Choice) -> Option<(Name, u32)>
+    ensures { result ≡ choice_naming half choice }
+{
+    match half {
+        Half::Source => None,
+        Half::Target => Some((Name::Choice(choice.place), choice.class)),
     }
 }
 
@@ -148,7 +193,7 @@ pub(crate) fn term_naming(term: Term) -> Option<(Name, u32)>
     match term.node {
         Node::Register(register) => Some((Name::Register(register), term.class)),
         Node::Constant(place) => Some((Name::Constant(place), term.class)),
-        Node::Undef(place) => Some((Name::Undef(place), term.class)),
+        Node::Choice(place) => Some((Name::Choice(place), term.class)),
         Node::Width(register, class) => Some((Name::Register(register), class)),
         Node::Literal(_) | Node::Unary(_, _) | Node::Binary(_, _, _) => None,
     }
@@ -161,7 +206,7 @@ pub(crate) fn assigned_class(rule: &Rule, name: Name) -> Option<u32>
     match name {
         Name::Register(Register::Source(place)) => class_of_result(&rule.source, place as usize),
         Name::Register(Register::Target(place)) => class_of_result(&rule.target, place as usize),
-        Name::Register(Register::Input(_)) | Name::Constant(_) | Name::Undef(_) => None,
+        Name::Register(Register::Input(_)) | Name::Constant(_) | Name::Choice(_) => None,
     }
 }
 

@@ -44,7 +44,7 @@ impl Operands {
                 held: [operand, NO_OPERAND, NO_OPERAND],
                 count: 1,
             },
-            Op::Copy(operand) => Operands {
+            Op::Freeze(operand, _) | Op::Copy(operand) => Operands {
                 held: [operand, NO_OPERAND, NO_OPERAND],
                 count: 1,
             },

@@ -68,6 +68,7 @@ impl Renaming {
                 self.operand(operand),
                 to,
             ),
+            Op::Freeze(operand, choice) => Op::Freeze(self.operand(operand), choice),
             Op::Copy(operand) => Op::Copy(self.operand(operand)),
         }
     }
@@ -87,7 +88,7 @@ impl Renaming {
     {
         match node {
             Node::Width(register, class) => Node::Width(register, self.of(class)),
-            Node::Literal(_) | Node::Constant(_) | Node::Register(_) | Node::Undef(_) => node,
+            Node::Literal(_) | Node::Constant(_) | Node::Register(_) | Node::Choice(_) => node,
             Node::Unary(_, _) | Node::Binary(_, _, _) => node,
         }
     }
@@ -169,7 +170,7 @@ fn number_term(term: &mut Term, first: u32) -> u32
             term.node = Node::Width(register, first + 1);
             first + 2
         }
-        Node::Literal(_) | Node::Constant(_) | Node::Register(_) | Node::Undef(_) => first + 1,
+        Node::Literal(_) | Node::Constant(_) | Node::Register(_) | Node::Choice(_) => first + 1,
         Node::Unary(_, _) | Node::Binary(_, _, _) => first + 1,
     }
 }
@@ -218,6 +219,7 @@ fn numbered_op(op: Op, first: u32) -> (Op, u32)
             Op::Convert(cast, flags, with_class(operand, first), to),
             first + 1,
         ),
+        Op::Freeze(operand, choice) => (Op::Freeze(with_class(operand, first), choice), first + 1),
         Op::Copy(operand) => (Op::Copy(with_class(operand, first)), first + 1),
     }
 }

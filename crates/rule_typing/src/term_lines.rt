@@ -43,7 +43,7 @@ fn split_by_node(terms: &[Term], class: u32, node: Node) -> Option<(u32, u32)>
             }
         }
         Node::Literal(_) | Node::Constant(_) => None,
-        Node::Register(_) | Node::Undef(_) | Node::Width(_, _) => None,
+        Node::Register(_) | Node::Choice(_) | Node::Width(_, _) => None,
     }
 }
 

@@ -13,6 +13,7 @@ pub mod Rules
 pub mod Statements
 pub mod Terms
 pub mod Texts
+pub mod Versions
 pub mod Wider
 pub mod WiderFormulas
 pub mod WiderRules

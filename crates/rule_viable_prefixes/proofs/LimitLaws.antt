@@ -1,6 +1,5 @@
 -- The laws of limits.
-use Rattle.std.proofs.Common.{◌≡◌, ℕ, ◌+◌, List, [], ◌∷◌, length, Result, Ok, Err, sym, ap, subst, ◌∙◌, append_assoc, ◌⊎◌, inl, inr, arith}
-use Rattle.std.proofs.Math.Nat.{le_refl}
+use Rattle.std.proofs.Common.{◌≡◌, ℕ, ◌+◌, List, [], ◌∷◌, Result, Ok, Err, sym, ap, subst, ◌∙◌, append_assoc, ◌⊎◌, inl, inr, arith}
 use Rattle.scan.specs.Laws.{OneTokenAtAPlace}
 use Rattle.rule_tokens.specs.declared.fault.RuleFaultKind.TheVariants.{TooMany}
 use Rattle.rule_tokens.specs.Limits.{Limits, AreWithin}
@@ -9,10 +8,9 @@ use Rattle.rule_tokens.specs.RuleFaults.{RuleFault}
 use Rattle.rule_tokens.specs.Tokens.{Token}
 use Rattle.rule_parse.specs.declared.raw.RawRule.{RawRule}
 use Rattle.rule_parse.specs.CutTokens.{limited}
-use Rattle.rule_parse.specs.Grammar.{SpellsRules}
+use Rattle.rule_parse.specs.Grammar.{SpellsFile}
 use Rattle.rule_parse.specs.RuleReaders.{all_rules}
-use Rattle.rule_parse.proofs.Readings.{rules_at-is}
-use Rattle.rule_parse.proofs.Spellings.{rules_at-of}
+use Rattle.rule_parse.proofs.Files.{all_rules-is, all_rules-of}
 use Rattle.rule_viable_prefixes.specs.WiderLimits.{WiderLimitsChangeTooManyAlone, TextsAreRefusedByLimitsAsTooMany}
 use Rattle.rule_viable_prefixes.specs.Fits.{FitsBehind}
 use Rattle.rule_viable_prefixes.specs.Laws.{DoesNotFit, IsOneTooMany, IsAtToken, IsAtEnd}
@@ -44,23 +42,23 @@ fault_is : (d e : RuleFault) → ◌≡◌ {A = Result (List RawRule) RuleFault}
 fault_is d e is = let equal = is in cc
 
 -- what is spelled within some limits is within wider ones
-spelled_wider : (limits wider : Limits) → AreWithin wider limits → (rules : List RawRule) (tokens : List Token) → SpellsRules limits rules tokens → SpellsRules wider rules tokens
+spelled_wider : (limits wider : Limits) → AreWithin wider limits → (rules : List RawRule) (tokens : List Token) → SpellsFile limits rules tokens → SpellsFile wider rules tokens
 spelled_wider limits wider within rules tokens is = by (all_rules_below limits wider within 0 tokens)
   where
     read : all_rules limits 0 tokens ≡ Ok rules
-    read = rules_at-of limits (length tokens) 0 rules tokens is (le_refl _)
+    read = all_rules-of limits 0 rules tokens is
 
-    by : Below (all_rules limits 0 tokens) (all_rules wider 0 tokens) → SpellsRules wider rules tokens
-    by (same_answer same) = rules_at-is wider (length tokens) 0 tokens rules (sym same ∙ read)
+    by : Below (all_rules limits 0 tokens) (all_rules wider 0 tokens) → SpellsFile wider rules tokens
+    by (same_answer same) = all_rules-is wider 0 tokens rules (sym same ∙ read)
     by (too_many line told) = let both = sym read ∙ told in absurd cc
 
 -- where rules are spelled nothing is refused but what is one too many
-told_by_nodes : (limits : Limits) (tokens : List Token) (last : ℕ) (rules : List RawRule) (found : RuleFault) → SpellsRules limits rules tokens → IsAtToken limits tokens found ⊎ IsAtEnd limits tokens last found → found.kind ≡ TooMany
+told_by_nodes : (limits : Limits) (tokens : List Token) (last : ℕ) (rules : List RawRule) (found : RuleFault) → SpellsFile limits rules tokens → IsAtToken limits tokens found ⊎ IsAtEnd limits tokens last found → found.kind ≡ TooMany
 told_by_nodes limits tokens last rules found is (inr end) = absurd (end.no_rules rules is)
 told_by_nodes limits tokens last rules found is (inl at) = by at.kind
   where
     fits : FitsBehind limits at.front at.token
-    fits = (rules, at.behind, subst (SpellsRules limits rules) (at.stands ∙ sym (append_assoc at.front (at.token ∷ []) at.behind)) is)
+    fits = (rules, at.behind, subst (SpellsFile limits rules) (at.stands ∙ sym (append_assoc at.front (at.token ∷ []) at.behind)) is)
 
     by : DoesNotFit limits at.front at.token at.behind found.kind ⊎ IsOneTooMany limits at.front at.token found.kind → found.kind ≡ TooMany
     by (inl misfit) = absurd (misfit.misfit fits)

@@ -26,7 +26,7 @@ use Rattle.rule_parse.specs.declared.raw.RawWitness.{RawWitness}
 use Rattle.rule_parse.specs.declared.word.Operation.{Operation}
 use Rattle.rule_parse.specs.declared.word.Operation.TheVariants as operations
 use Rattle.rule_parse.specs.Grammar.{SpellsStatement, SpellsStatements, SpellsHalf, SpellsPrecondition, SpellsExpression, SpellsMoreExpressions, SpellsExpressions, SpellsWitness}
-use Rattle.rule_parse.specs.RuleReaders.{typed_at, operand_at, to_at, flags_at, pair_at, binary_at, pred_at, compare_at, select_at, convert_at, copy_at, operation_at, op_word, op_at, statement_at, statements_at, name_text, name_at, behind_precondition, precondition_at, expression_at, more_expressions, expressions_at, behind_witness, witness_at, source_at, arrow_at, target_at, unexpected_line}
+use Rattle.rule_parse.specs.RuleReaders.{typed_at, operand_at, to_at, flags_at, pair_at, binary_at, pred_at, compare_at, select_at, convert_at, freeze_at, copy_at, operation_at, op_word, op_at, statement_at, statements_at, name_text, name_at, behind_precondition, precondition_at, expression_at, more_expressions, expressions_at, behind_witness, witness_at, source_at, arrow_at, target_at, unexpected_line}
 use Rattle.rule_parse.specs.Keywords.{operation_in}
 use Rattle.rule_parse.proofs.Expressions.{expression_shortens}
 use Rattle.rule_parse.proofs.Readings.{name_at-is}
@@ -39,6 +39,7 @@ use Rattle.rule_viable_prefixes.proofs.Parts.{Spelled, then_end, Joined, chain_g
 use Rattle.rule_viable_prefixes.proofs.Rules.{Completes, GoesOn, Opens, Verdict, verdict_both, on_a_line, verdict_wider}
 use Rattle.rule_viable_prefixes.proofs.Statements.{IsAssigned, statement_good}
 use Rattle.rule_viable_prefixes.proofs.Terms.{Named, is_short, is_long, named, Term, term_good}
+use Rattle.rule_tokens.specs.declared.version.Version.{Version}
 use Rattle.rule_tokens.specs.Limits.{Limits}
 use Rattle.rule_viable_prefixes.proofs.Roomy.{roomy}
 
@@ -53,7 +54,7 @@ names_behind [] rest n = n
 names_behind (Name name ∷ own) rest n = names_behind own rest n.1
 names_behind (token ∷ own) rest n = names_behind own rest n
 
-module _ (spare_bytes deepest spare_statements : ℕ) where
+module _ (spare_bytes deepest spare_statements : ℕ) (version : Version) where
   abbrev limits : Limits
   limits = roomy spare_bytes deepest spare_statements
 
@@ -92,7 +93,7 @@ module _ (spare_bytes deepest spare_statements : ℕ) where
   to_ends_line line tokens = ends_line line tokens None
 
   operation_ends : (half : Half) (line : ℕ) (operation : Operation) (tokens : List Token) → Ends (operation_at limits half line operation tokens)
-  unfolding binary_at compare_at select_at convert_at
+  unfolding binary_at compare_at select_at convert_at freeze_at
   operation_ends half line (operations.Binary op) tokens = ends_behind (flags_at (flags_of op) line no_flags tokens) _ (λ flags. λ x rest e. bound (pair_at limits half line flags.1) _ (x, rest) e (λ y p e1. read_as (λ z. EndsLine z.1) _ (x, rest) e1 (pair_ends half line flags.1 y.0 y.1 p)))
   operation_ends half line operations.Compare tokens =
       ends_behind (flags_at flags_of_icmp line no_flags tokens) _ (λ flags. ends_behind (pred_at line flags.1) _ (λ pred. λ x rest e. bound (pair_at limits half line pred.1) _ (x, rest) e (λ y p e1. read_as (λ z. EndsLine z.1) _ (x, rest) e1 (pair_ends half line pred.1 y.0 y.1 p))))
@@ -101,6 +102,7 @@ module _ (spare_bytes deepest spare_statements : ℕ) where
       ends_behind (operand_at limits half line second) _ (λ if_false. ends_line line if_false.1 _)))))
   operation_ends half line (operations.Convert cast) tokens =
       ends_behind (flags_at (flags_of_cast cast) line no_flags tokens) _ (λ flags. ends_behind (operand_at limits half line flags.1) _ (λ from. λ x rest e. bound (to_at line from.1) _ (x, rest) e (λ y p e1. read_as (λ z. EndsLine z.1) _ (x, rest) e1 (to_ends_line line from.1 y.0 y.1 p))))
+  operation_ends half line operations.Freeze tokens = ends_behind (operand_at limits half line tokens) _ (λ operand. ends_line line operand.1 _)
 
   copy_ends : (line : ℕ) (tokens : List Token) → Ends (copy_at limits line tokens)
   unfolding copy_at
@@ -110,19 +112,19 @@ module _ (spare_bytes deepest spare_statements : ℕ) where
   other_ends Source line tokens = λ x rest e. absurd cc
   other_ends Target line tokens = copy_ends line tokens
 
-  op_ends : (half : Half) (line : ℕ) (tokens : List Token) → Ends (op_at limits half line tokens)
+  op_ends : (half : Half) (line : ℕ) (tokens : List Token) → Ends (op_at limits version half line tokens)
   unfolding op_at
-  op_ends half line (Word word ∷ rest) = by (operation_in word)
+  op_ends half line (Word word ∷ rest) = by (operation_in version word)
     where
       by : (found : Option Operation) → Ends (op_word limits half line word found rest)
       by (Some operation) = operation_ends half line operation rest
       by None = other_ends half line (Word word ∷ rest)
   op_ends half line tokens = other_ends half line tokens
 
-  statement_ends : (half : Half) (line : ℕ) (name : List ℕ) (tokens : List Token) → Ends (statement_at limits half line name tokens)
+  statement_ends : (half : Half) (line : ℕ) (name : List ℕ) (tokens : List Token) → Ends (statement_at limits version half line name tokens)
   unfolding statement_at
   statement_ends half line name tokens =
-      ends_behind (name_within limits line name) _ (λ held. ends_behind (mark_at (codes "=") line tokens) _ (λ behind. λ x rest e. bound (op_at limits half line behind) _ (x, rest) e (λ y p e1. read_as (λ z. EndsLine z.1) _ (x, rest) e1 (op_ends half line behind y.0 y.1 p))))
+      ends_behind (name_within limits line name) _ (λ held. ends_behind (mark_at (codes "=") line tokens) _ (λ behind. λ x rest e. bound (op_at limits version half line behind) _ (x, rest) e (λ y p e1. read_as (λ z. EndsLine z.1) _ (x, rest) e1 (op_ends half line behind y.0 y.1 p))))
 
   -- ---- verdicts of the same reader by other words, and with a value made of the one that is read
 
@@ -263,7 +265,7 @@ module _ (spare_bytes deepest spare_statements : ℕ) where
   name_verdict F last [] sample ends names = inr (record { begins = λ number. name_opens F sample number; here = refl; says = refl })
   name_verdict F last (Line line ∷ tokens) sample ends names =
       on_a_line limits (pair limits) (name_at limits last) IsNameLine F last line tokens sample
-      (λ x rest e. let n = name_at-is limits last (Line line ∷ tokens) (x, rest) e in let all = subst NamesEndLines n.2 names in all.0)
+      (λ x rest e. let n = name_at-is limits version last (Line line ∷ tokens) (x, rest) e in let all = subst NamesEndLines n.2 names in all.0)
       ((name_good last line).outcome tokens)
   name_verdict F last tokens sample ends names = absurd ends
 
@@ -359,36 +361,36 @@ module _ (spare_bytes deepest spare_statements : ℕ) where
   -- ---- statements
 
   abbrev IsStatement : Half → Part
-  IsStatement half own = (s : RawStatement) × SpellsStatement limits half s own
+  IsStatement half own = (s : RawStatement) × SpellsStatement limits version half s own
 
   -- at most so many statements, and at least one
   abbrev UpTo : ℕ → Half → Part
-  UpTo room half own = (all : List RawStatement) × SpellsStatements limits half all own × (length all ≤ room)
+  UpTo room half own = (all : List RawStatement) × SpellsStatements limits version half all own × (length all ≤ room)
 
   abbrev SomeUpTo : ℕ → Half → Part
-  SomeUpTo room half own = (all : List RawStatement) × SpellsStatements limits half all own × (length all ≤ room) × (1 ≤ length all)
+  SomeUpTo room half own = (all : List RawStatement) × SpellsStatements limits version half all own × (length all ≤ room) × (1 ≤ length all)
 
   none_up_to : (room : ℕ) (half : Half) → UpTo room half []
   none_up_to room half = ([], refl, omega arith)
 
   -- the reader of the statement that begins here, if one does
   abbrev first_at : Half → Reader limits (RawStatement × List Token)
-  first_at half (Line line ∷ Register name ∷ rest) = statement_at limits half line name rest
+  first_at half (Line line ∷ Register name ∷ rest) = statement_at limits version half line name rest
   first_at half tokens = Err (fault 0 Syntax)
 
-  assigned_statement : (half : Half) (line : ℕ) (name : List ℕ) (own : List Token) → length name ≤ limits.name_bytes → IsAssigned spare_bytes deepest spare_statements half own → IsStatement half (Line line ∷ Register name ∷ own)
+  assigned_statement : (half : Half) (line : ℕ) (name : List ℕ) (own : List Token) → length name ≤ limits.name_bytes → IsAssigned spare_bytes deepest spare_statements version half own → IsStatement half (Line line ∷ Register name ∷ own)
   assigned_statement half line name own le (op, (raw, is), whole) = (record { line = line; name = name; op = raw }, record { name = le; op = op; is_op = is; spelled = ap (λ (ts : List Token). Line line ∷ Register name ∷ ts) whole })
 
   first_verdict : (half : Half) (F : Part) (last line : ℕ) (name : List ℕ) (rest : List Token) → (more : List Token) × F more → length name ≤ limits.name_bytes → name_within limits line name ≡ Ok name
       → Verdict limits (pair limits) (first_at half) (IsStatement half) F last (Line line ∷ Register name ∷ rest) (first_at half (Line line ∷ Register name ∷ rest))
   first_verdict half F last line name rest sample le short =
       on_a_line limits (pair limits) (first_at half) (IsStatement half) F last line (Register name ∷ rest) sample (λ x r e. statement_ends half line name rest x r e)
-      (led limits (pair limits) (λ ts. first_at half (Line line ∷ ts)) (statement_at limits half line name) (Spelled limits (λ own. IsStatement half (Line line ∷ own))) line (Register name) rest tt (λ more. refl)
-      (widen limits (pair limits) (statement_at limits half line name) (Spelled limits (IsAssigned spare_bytes deepest spare_statements half)) (λ x own. IsStatement half (Line line ∷ Register name ∷ own)) line rest (λ x own is. assigned_statement half line name own le is) (statement_at limits half line name rest) ((statement_good spare_bytes deepest spare_statements half line name short).outcome rest)))
+      (led limits (pair limits) (λ ts. first_at half (Line line ∷ ts)) (statement_at limits version half line name) (Spelled limits (λ own. IsStatement half (Line line ∷ own))) line (Register name) rest tt (λ more. refl)
+      (widen limits (pair limits) (statement_at limits version half line name) (Spelled limits (IsAssigned spare_bytes deepest spare_statements version half)) (λ x own. IsStatement half (Line line ∷ Register name ∷ own)) line rest (λ x own is. assigned_statement half line name own le is) (statement_at limits version half line name rest) ((statement_good spare_bytes deepest spare_statements version half line name short).outcome rest)))
 
   statement_sample : (half : Half) (line : ℕ) → (more : List Token) × IsStatement half (Line line ∷ Register (codes "a") ∷ more)
   statement_sample half line =
-      let s = (statement_good spare_bytes deepest spare_statements half line (codes "a") (name_within-of limits line (codes "a") (omega arith))).sample in
+      let s = (statement_good spare_bytes deepest spare_statements version half line (codes "a") (name_within-of limits line (codes "a") (omega arith))).sample in
       (s.1, assigned_statement half line (codes "a") s.1 (omega arith) s.2)
 
   -- a register begins a statement
@@ -438,52 +440,52 @@ module _ (spare_bytes deepest spare_statements : ℕ) where
   joined_statements room half own (front, back, (s, one), (all, others, le), whole) = (s ∷ all, (front, back, one, others, whole), omega arith, omega arith)
 
   some_verdict : (room : ℕ) (half : Half) (F : Part) (last line : ℕ) (name : List ℕ) (rest : List Token) → Opens limits F
-      → ((tokens : List Token) → EndsLine tokens → Verdict limits (pair limits) (statements_at limits room half) (UpTo room half) F last tokens (statements_at limits room half tokens))
-      → Named spare_bytes deepest spare_statements line name → Verdict limits (pair limits) (statements_at limits (suc room) half) (SomeUpTo (suc room) half) F last (Line line ∷ Register name ∷ rest) (statements_at limits (suc room) half (Line line ∷ Register name ∷ rest))
+      → ((tokens : List Token) → EndsLine tokens → Verdict limits (pair limits) (statements_at limits version room half) (UpTo room half) F last tokens (statements_at limits version room half tokens))
+      → Named spare_bytes deepest spare_statements line name → Verdict limits (pair limits) (statements_at limits version (suc room) half) (SomeUpTo (suc room) half) F last (Line line ∷ Register name ∷ rest) (statements_at limits version (suc room) half (Line line ∷ Register name ∷ rest))
   unfolding statements_at statement_at
   some_verdict room half F last line name rest opens further (is_long long n) =
-      refused_behind_line (pair limits) (statements_at limits (suc room) half) (SomeUpTo (suc room) half) F last line (Register name ∷ rest) (some_opens room half F (some_of_opens F opens) line)
-      (register_alike (λ b. IsErrOn limits (GoesOn limits (SomeUpTo (suc room) half) F line []) (Lack limits (λ us. statements_at limits (suc room) half (Line line ∷ us)) []) line b (statements_at limits (suc room) half (Line line ∷ b))) name rest
+      refused_behind_line (pair limits) (statements_at limits version (suc room) half) (SomeUpTo (suc room) half) F last line (Register name ∷ rest) (some_opens room half F (some_of_opens F opens) line)
+      (register_alike (λ b. IsErrOn limits (GoesOn limits (SomeUpTo (suc room) half) F line []) (Lack limits (λ us. statements_at limits version (suc room) half (Line line ∷ us)) []) line b (statements_at limits version (suc room) half (Line line ∷ b))) name rest
       (λ more. (fault line TooMany, rw n refl, refl, says_too_many limits (Register name) more (kinds.register name (codes "a", long, omega arith, tt, tt, some_goes room half F (some_of_opens F opens) line)))))
   some_verdict room half F last line name rest opens further (is_short le n) =
-      verdict_as (pair limits) (statements_at limits (suc room) half) (λ ts. first_at half ts >>= λ first. (statements_at limits room half first.1 >>= λ others. Ok (first.0 ∷ others.0, others.1))) (SomeUpTo (suc room) half) F last line (Register name ∷ rest)
-      (register_akin (λ b. statements_at limits (suc room) half (Line line ∷ b) ≡ (first_at half (Line line ∷ b) >>= λ first. (statements_at limits room half first.1 >>= λ others. Ok (first.0 ∷ others.0, others.1)))) name rest (λ more. refl))
-      (verdict_wider limits (pair limits) (λ ts. first_at half ts >>= λ first. (statements_at limits room half first.1 >>= λ others. Ok (first.0 ∷ others.0, others.1))) (IsStatement half ⨾ UpTo room half) (SomeUpTo (suc room) half) F last (Line line ∷ Register name ∷ rest) (λ own is. joined_statements room half own is) _
-      (verdict_both limits (pair limits) (pair limits) (first_at half) (λ first. statements_at limits room half first.1 >>= λ others. Ok (first.0 ∷ others.0, others.1)) (IsStatement half) (UpTo room half) F last (Line line ∷ Register name ∷ rest) tt
+      verdict_as (pair limits) (statements_at limits version (suc room) half) (λ ts. first_at half ts >>= λ first. (statements_at limits version room half first.1 >>= λ others. Ok (first.0 ∷ others.0, others.1))) (SomeUpTo (suc room) half) F last line (Register name ∷ rest)
+      (register_akin (λ b. statements_at limits version (suc room) half (Line line ∷ b) ≡ (first_at half (Line line ∷ b) >>= λ first. (statements_at limits version room half first.1 >>= λ others. Ok (first.0 ∷ others.0, others.1)))) name rest (λ more. refl))
+      (verdict_wider limits (pair limits) (λ ts. first_at half ts >>= λ first. (statements_at limits version room half first.1 >>= λ others. Ok (first.0 ∷ others.0, others.1))) (IsStatement half ⨾ UpTo room half) (SomeUpTo (suc room) half) F last (Line line ∷ Register name ∷ rest) (λ own is. joined_statements room half own is) _
+      (verdict_both limits (pair limits) (pair limits) (first_at half) (λ first. statements_at limits version room half first.1 >>= λ others. Ok (first.0 ∷ others.0, others.1)) (IsStatement half) (UpTo room half) F last (Line line ∷ Register name ∷ rest) tt
       (first_verdict half (UpTo room half ⨾ F) last line name rest (let o = opens 0 in (Line 0 ∷ o.0, ([], Line 0 ∷ o.0, none_up_to room half, o.1, refl))) le n)
-      (λ x r e ends. verdict_made (statements_at limits room half) (λ others. x ∷ others) (UpTo room half) F last r (further r ends))))
+      (λ x r e ends. verdict_made (statements_at limits version room half) (λ others. x ∷ others) (UpTo room half) F last r (further r ends))))
 
-  no_statements : (room : ℕ) (half : Half) (F : Part) (last : ℕ) (tokens : List Token) → EndsLine tokens → ((number : ℕ) (a b : List Token) → tokens ≡ Line number ∷ a → Akin limits a b → statements_at limits room half (Line number ∷ b) ≡ Ok ([], Line number ∷ b)) → statements_at limits room half tokens ≡ Ok ([], tokens)
-      → Verdict limits (pair limits) (statements_at limits room half) (UpTo room half) F last tokens (statements_at limits room half tokens)
-  no_statements room half F last tokens ends h e = absent (statements_at limits room half) [] (UpTo room half) F last tokens (none_up_to room half) ends h e
+  no_statements : (room : ℕ) (half : Half) (F : Part) (last : ℕ) (tokens : List Token) → EndsLine tokens → ((number : ℕ) (a b : List Token) → tokens ≡ Line number ∷ a → Akin limits a b → statements_at limits version room half (Line number ∷ b) ≡ Ok ([], Line number ∷ b)) → statements_at limits version room half tokens ≡ Ok ([], tokens)
+      → Verdict limits (pair limits) (statements_at limits version room half) (UpTo room half) F last tokens (statements_at limits version room half tokens)
+  no_statements room half F last tokens ends h e = absent (statements_at limits version room half) [] (UpTo room half) F last tokens (none_up_to room half) ends h e
 
-  statements_verdict : (room : ℕ) (half : Half) (F : Part) (last : ℕ) → Follows F → (tokens : List Token) → EndsLine tokens → Verdict limits (pair limits) (statements_at limits room half) (UpTo room half) F last tokens (statements_at limits room half tokens)
+  statements_verdict : (room : ℕ) (half : Half) (F : Part) (last : ℕ) → Follows F → (tokens : List Token) → EndsLine tokens → Verdict limits (pair limits) (statements_at limits version room half) (UpTo room half) F last tokens (statements_at limits version room half tokens)
   unfolding statements_at
   statements_verdict zero half F last opens [] ends = no_statements zero half F last [] ends (λ number a b e alike. absurd cc) refl
   statements_verdict (suc room) half F last opens [] ends = no_statements (suc room) half F last [] ends (λ number a b e alike. absurd cc) refl
   statements_verdict zero half F last follows (Line line ∷ Register name ∷ rest) ends =
       let o = follows_open F follows line in
-      refused_behind_line (pair limits) (statements_at limits zero half) (UpTo zero half) F last line (Register name ∷ rest) (o.0, ([], Line line ∷ o.0, none_up_to zero half, o.1, refl))
-      (register_alike (λ b. IsErrOn limits (GoesOn limits (UpTo zero half) F line []) (Lack limits (λ us. statements_at limits zero half (Line line ∷ us)) []) line b (statements_at limits zero half (Line line ∷ b))) name rest
+      refused_behind_line (pair limits) (statements_at limits version zero half) (UpTo zero half) F last line (Register name ∷ rest) (o.0, ([], Line line ∷ o.0, none_up_to zero half, o.1, refl))
+      (register_alike (λ b. IsErrOn limits (GoesOn limits (UpTo zero half) F line []) (Lack limits (λ us. statements_at limits version zero half (Line line ∷ us)) []) line b (statements_at limits version zero half (Line line ∷ b))) name rest
       (λ more. (fault line TooMany, refl, refl, says_too_many limits (Register name) more (kinds.statement name (half_ends zero half F line follows)))))
   statements_verdict (suc room) half F last follows (Line line ∷ Register name ∷ rest) ends =
-      verdict_wider limits (pair limits) (statements_at limits (suc room) half) (SomeUpTo (suc room) half) (UpTo (suc room) half) F last (Line line ∷ Register name ∷ rest) (λ own is. (is.0, is.1, is.2)) _
+      verdict_wider limits (pair limits) (statements_at limits version (suc room) half) (SomeUpTo (suc room) half) (UpTo (suc room) half) F last (Line line ∷ Register name ∷ rest) (λ own is. (is.0, is.1, is.2)) _
       (some_verdict room half F last line name rest (follows_open F follows) (λ tokens e. statements_verdict room half F last follows tokens e) (named spare_bytes deepest spare_statements line name))
-  statements_verdict zero half F last opens (Line line ∷ []) ends = absent_line (statements_at limits zero half) [] (UpTo zero half) F last line [] (none_up_to zero half)
-      (λ b alike. decided_end (λ ts. statements_at limits zero half (Line line ∷ ts) ≡ Ok ([], Line line ∷ ts)) refl (λ number more. refl) b (Rattle.rule_viable_prefixes.proofs.Parts.ends_akin limits [] b alike tt))
-  statements_verdict (suc room) half F last opens (Line line ∷ []) ends = absent_line (statements_at limits (suc room) half) [] (UpTo (suc room) half) F last line [] (none_up_to (suc room) half)
-      (λ b alike. decided_end (λ ts. statements_at limits (suc room) half (Line line ∷ ts) ≡ Ok ([], Line line ∷ ts)) refl (λ number more. refl) b (Rattle.rule_viable_prefixes.proofs.Parts.ends_akin limits [] b alike tt))
-  statements_verdict zero half F last opens (Line line ∷ token ∷ rest) ends = absent_line (statements_at limits zero half) [] (UpTo zero half) F last line (token ∷ rest) (none_up_to zero half)
-      (decided_next (λ ts. statements_at limits zero half (Line line ∷ ts) ≡ Ok ([], Line line ∷ ts)) token rest (λ more. refl) refl (λ number more. refl) (λ word more. refl))
-  statements_verdict (suc room) half F last opens (Line line ∷ token ∷ rest) ends = absent_line (statements_at limits (suc room) half) [] (UpTo (suc room) half) F last line (token ∷ rest) (none_up_to (suc room) half)
-      (decided_next (λ ts. statements_at limits (suc room) half (Line line ∷ ts) ≡ Ok ([], Line line ∷ ts)) token rest (λ more. refl) refl (λ number more. refl) (λ word more. refl))
+  statements_verdict zero half F last opens (Line line ∷ []) ends = absent_line (statements_at limits version zero half) [] (UpTo zero half) F last line [] (none_up_to zero half)
+      (λ b alike. decided_end (λ ts. statements_at limits version zero half (Line line ∷ ts) ≡ Ok ([], Line line ∷ ts)) refl (λ number more. refl) b (Rattle.rule_viable_prefixes.proofs.Parts.ends_akin limits [] b alike tt))
+  statements_verdict (suc room) half F last opens (Line line ∷ []) ends = absent_line (statements_at limits version (suc room) half) [] (UpTo (suc room) half) F last line [] (none_up_to (suc room) half)
+      (λ b alike. decided_end (λ ts. statements_at limits version (suc room) half (Line line ∷ ts) ≡ Ok ([], Line line ∷ ts)) refl (λ number more. refl) b (Rattle.rule_viable_prefixes.proofs.Parts.ends_akin limits [] b alike tt))
+  statements_verdict zero half F last opens (Line line ∷ token ∷ rest) ends = absent_line (statements_at limits version zero half) [] (UpTo zero half) F last line (token ∷ rest) (none_up_to zero half)
+      (decided_next (λ ts. statements_at limits version zero half (Line line ∷ ts) ≡ Ok ([], Line line ∷ ts)) token rest (λ more. refl) refl (λ number more. refl) (λ word more. refl))
+  statements_verdict (suc room) half F last opens (Line line ∷ token ∷ rest) ends = absent_line (statements_at limits version (suc room) half) [] (UpTo (suc room) half) F last line (token ∷ rest) (none_up_to (suc room) half)
+      (decided_next (λ ts. statements_at limits version (suc room) half (Line line ∷ ts) ≡ Ok ([], Line line ∷ ts)) token rest (λ more. refl) refl (λ number more. refl) (λ word more. refl))
   statements_verdict zero half F last opens tokens ends = absurd ends
   statements_verdict (suc room) half F last opens tokens ends = absurd ends
 
   -- ---- halves
 
   abbrev pub IsHalf : Half → Part
-  IsHalf half own = (all : List RawStatement) × SpellsHalf limits half all own
+  IsHalf half own = (all : List RawStatement) × SpellsHalf limits version half all own
 
   as_half : (half : Half) (own : List Token) → SomeUpTo limits.statements half own → IsHalf half own
   as_half half own (all, is, most, some) = (all, record { some = some; most = most; spelled = is })
@@ -496,36 +498,36 @@ module _ (spare_bytes deepest spare_statements : ℕ) where
   half_begins : (half : Half) (F : Part) → (more : List Token) × F more → (line : ℕ) → Completes limits (IsHalf half) F (Line line ∷ [])
   half_begins half F sample line = half_opens half F sample line
 
-  half_verdict : (half : Half) (F : Part) (last line : ℕ) (name : List ℕ) (rest : List Token) → Follows F → Verdict limits (pair limits) (statements_at limits limits.statements half) (IsHalf half) F last (Line line ∷ Register name ∷ rest) (statements_at limits limits.statements half (Line line ∷ Register name ∷ rest))
+  half_verdict : (half : Half) (F : Part) (last line : ℕ) (name : List ℕ) (rest : List Token) → Follows F → Verdict limits (pair limits) (statements_at limits version limits.statements half) (IsHalf half) F last (Line line ∷ Register name ∷ rest) (statements_at limits version limits.statements half (Line line ∷ Register name ∷ rest))
   half_verdict half F last line name rest follows =
-      verdict_wider limits (pair limits) (statements_at limits limits.statements half) (SomeUpTo limits.statements half) (IsHalf half) F last (Line line ∷ Register name ∷ rest) (λ own is. as_half half own is) _
+      verdict_wider limits (pair limits) (statements_at limits version limits.statements half) (SomeUpTo limits.statements half) (IsHalf half) F last (Line line ∷ Register name ∷ rest) (λ own is. as_half half own is) _
       (some_verdict spare_statements half F last line name rest (follows_open F follows) (λ tokens e. statements_verdict spare_statements half F last follows tokens e) (named spare_bytes deepest spare_statements line name))
 
-  pub source_verdict : (F : Part) (last : ℕ) (tokens : List Token) → Follows F → EndsLine tokens → Verdict limits (pair limits) (source_at limits last) (IsHalf Source) F last tokens (source_at limits last tokens)
+  pub source_verdict : (F : Part) (last : ℕ) (tokens : List Token) → Follows F → EndsLine tokens → Verdict limits (pair limits) (source_at limits version last) (IsHalf Source) F last tokens (source_at limits version last tokens)
   unfolding source_at
   source_verdict F last [] follows ends = inr (record { begins = λ number. half_opens Source F (some_of_opens F (follows_open F follows)) number; here = refl; says = refl })
   source_verdict F last (Line line ∷ Register name ∷ rest) follows ends =
-      verdict_as (pair limits) (source_at limits last) (statements_at limits limits.statements Source) (IsHalf Source) F last line (Register name ∷ rest)
-      (register_akin (λ b. source_at limits last (Line line ∷ b) ≡ statements_at limits limits.statements Source (Line line ∷ b)) name rest (λ more. refl)) (half_verdict Source F last line name rest follows)
-  source_verdict F last (Line line ∷ []) follows ends = refused_behind_line (pair limits) (source_at limits last) (IsHalf Source) F last line [] (half_begins Source F (some_of_opens F (follows_open F follows)) line)
-      (λ b alike. decided_end (λ ts. IsErrOn limits (GoesOn limits (IsHalf Source) F line []) (Lack limits (λ us. source_at limits last (Line line ∷ us)) []) line ts (source_at limits last (Line line ∷ ts))) (fault line Syntax, refl, refl, refl) (λ number more. (fault line Syntax, refl, refl, says_syntax limits (Line number) more tt)) b
+      verdict_as (pair limits) (source_at limits version last) (statements_at limits version limits.statements Source) (IsHalf Source) F last line (Register name ∷ rest)
+      (register_akin (λ b. source_at limits version last (Line line ∷ b) ≡ statements_at limits version limits.statements Source (Line line ∷ b)) name rest (λ more. refl)) (half_verdict Source F last line name rest follows)
+  source_verdict F last (Line line ∷ []) follows ends = refused_behind_line (pair limits) (source_at limits version last) (IsHalf Source) F last line [] (half_begins Source F (some_of_opens F (follows_open F follows)) line)
+      (λ b alike. decided_end (λ ts. IsErrOn limits (GoesOn limits (IsHalf Source) F line []) (Lack limits (λ us. source_at limits version last (Line line ∷ us)) []) line ts (source_at limits version last (Line line ∷ ts))) (fault line Syntax, refl, refl, refl) (λ number more. (fault line Syntax, refl, refl, says_syntax limits (Line number) more tt)) b
       (Rattle.rule_viable_prefixes.proofs.Parts.ends_alike limits [] b alike tt))
-  source_verdict F last (Line line ∷ token ∷ rest) follows ends = refused_behind_line (pair limits) (source_at limits last) (IsHalf Source) F last line (token ∷ rest) (half_begins Source F (some_of_opens F (follows_open F follows)) line)
-      (decided (λ ts. IsErrOn limits (GoesOn limits (IsHalf Source) F line []) (Lack limits (λ us. source_at limits last (Line line ∷ us)) []) line ts (source_at limits last (Line line ∷ ts))) token rest (λ more. (unexpected line (token ∷ more), refl, refl, says_unexpected limits line token more (λ word is. inr (inr (λ noun is_noun others. (unexpected line (Word noun ∷ others), refl)))))) (fault line Syntax, refl, refl, refl)
+  source_verdict F last (Line line ∷ token ∷ rest) follows ends = refused_behind_line (pair limits) (source_at limits version last) (IsHalf Source) F last line (token ∷ rest) (half_begins Source F (some_of_opens F (follows_open F follows)) line)
+      (decided (λ ts. IsErrOn limits (GoesOn limits (IsHalf Source) F line []) (Lack limits (λ us. source_at limits version last (Line line ∷ us)) []) line ts (source_at limits version last (Line line ∷ ts))) token rest (λ more. (unexpected line (token ∷ more), refl, refl, says_unexpected limits line token more (λ word is. inr (inr (λ noun is_noun others. (unexpected line (Word noun ∷ others), refl)))))) (fault line Syntax, refl, refl, refl)
       (λ number more. (fault line Syntax, refl, refl, says_syntax limits (Line number) more tt)))
   source_verdict F last tokens follows ends = absurd ends
 
-  pub target_verdict : (F : Part) (last : ℕ) (tokens : List Token) → Follows F → EndsLine tokens → Verdict limits (pair limits) (target_at limits last) (IsHalf Target) F last tokens (target_at limits last tokens)
+  pub target_verdict : (F : Part) (last : ℕ) (tokens : List Token) → Follows F → EndsLine tokens → Verdict limits (pair limits) (target_at limits version last) (IsHalf Target) F last tokens (target_at limits version last tokens)
   unfolding target_at
   target_verdict F last [] follows ends = inr (record { begins = λ number. half_opens Target F (some_of_opens F (follows_open F follows)) number; here = refl; says = refl })
   target_verdict F last (Line line ∷ Register name ∷ rest) follows ends =
-      verdict_as (pair limits) (target_at limits last) (statements_at limits limits.statements Target) (IsHalf Target) F last line (Register name ∷ rest)
-      (register_akin (λ b. target_at limits last (Line line ∷ b) ≡ statements_at limits limits.statements Target (Line line ∷ b)) name rest (λ more. refl)) (half_verdict Target F last line name rest follows)
-  target_verdict F last (Line line ∷ []) follows ends = refused_behind_line (pair limits) (target_at limits last) (IsHalf Target) F last line [] (half_begins Target F (some_of_opens F (follows_open F follows)) line)
-      (λ b alike. decided_end (λ ts. IsErrOn limits (GoesOn limits (IsHalf Target) F line []) (Lack limits (λ us. target_at limits last (Line line ∷ us)) []) line ts (target_at limits last (Line line ∷ ts))) (fault line Syntax, refl, refl, refl) (λ number more. (fault line Syntax, refl, refl, says_syntax limits (Line number) more tt)) b
+      verdict_as (pair limits) (target_at limits version last) (statements_at limits version limits.statements Target) (IsHalf Target) F last line (Register name ∷ rest)
+      (register_akin (λ b. target_at limits version last (Line line ∷ b) ≡ statements_at limits version limits.statements Target (Line line ∷ b)) name rest (λ more. refl)) (half_verdict Target F last line name rest follows)
+  target_verdict F last (Line line ∷ []) follows ends = refused_behind_line (pair limits) (target_at limits version last) (IsHalf Target) F last line [] (half_begins Target F (some_of_opens F (follows_open F follows)) line)
+      (λ b alike. decided_end (λ ts. IsErrOn limits (GoesOn limits (IsHalf Target) F line []) (Lack limits (λ us. target_at limits version last (Line line ∷ us)) []) line ts (target_at limits version last (Line line ∷ ts))) (fault line Syntax, refl, refl, refl) (λ number more. (fault line Syntax, refl, refl, says_syntax limits (Line number) more tt)) b
       (Rattle.rule_viable_prefixes.proofs.Parts.ends_alike limits [] b alike tt))
-  target_verdict F last (Line line ∷ token ∷ rest) follows ends = refused_behind_line (pair limits) (target_at limits last) (IsHalf Target) F last line (token ∷ rest) (half_begins Target F (some_of_opens F (follows_open F follows)) line)
-      (decided (λ ts. IsErrOn limits (GoesOn limits (IsHalf Target) F line []) (Lack limits (λ us. target_at limits last (Line line ∷ us)) []) line ts (target_at limits last (Line line ∷ ts))) token rest (λ more. (unexpected line (token ∷ more), refl, refl, says_unexpected limits line token more (λ word is. inr (inr (λ noun is_noun others. (unexpected line (Word noun ∷ others), refl)))))) (fault line Syntax, refl, refl, refl)
+  target_verdict F last (Line line ∷ token ∷ rest) follows ends = refused_behind_line (pair limits) (target_at limits version last) (IsHalf Target) F last line (token ∷ rest) (half_begins Target F (some_of_opens F (follows_open F follows)) line)
+      (decided (λ ts. IsErrOn limits (GoesOn limits (IsHalf Target) F line []) (Lack limits (λ us. target_at limits version last (Line line ∷ us)) []) line ts (target_at limits version last (Line line ∷ ts))) token rest (λ more. (unexpected line (token ∷ more), refl, refl, says_unexpected limits line token more (λ word is. inr (inr (λ noun is_noun others. (unexpected line (Word noun ∷ others), refl)))))) (fault line Syntax, refl, refl, refl)
       (λ number more. (fault line Syntax, refl, refl, says_syntax limits (Line number) more tt)))
   target_verdict F last tokens follows ends = absurd ends
 

@@ -11,6 +11,7 @@ use Rattle.ops.proofs.KeywordLemmas.{same_word, pred_in-of}
 use Rattle.ops.proofs.FlagKeywordLemmas.{flag_in-is}
 use Rattle.scan.specs.Bytes.{is_digit}
 use Rattle.scan.specs.RuleTokens.{is_among, is_constant}
+use Rattle.rule_tokens.specs.declared.version.Version.TheVariants.{Two}
 use Rattle.rule_tokens.specs.Numbers.{type_in}
 use Rattle.rule_tokens.proofs.Types.{type_in-of}
 use Rattle.rule_terms.specs.declared.place.TermPlace.TheVariants.{Witness}
@@ -21,7 +22,9 @@ use Rattle.rule_terms.specs.declared.formula_word.Predicate.TheVariants.{IsPower
 use Rattle.rule_terms.specs.Keywords.{choice_in, name_in, meaning_in}
 use Rattle.rule_terms.proofs.Meanings.{meaning_in-of}
 use Rattle.rule_parse.specs.declared.raw.RawArgument.{RawArgument}
-use Rattle.rule_parse.specs.Keywords.{operation_in, source_word_in}
+use Rattle.rule_parse.specs.declared.word.Operation.{Operation}
+use Rattle.rule_parse.specs.declared.word.Operation.TheVariants.{Binary, Compare, Select, Convert, Freeze}
+use Rattle.rule_parse.specs.Keywords.{is_known, operation_in, source_word_in}
 use Rattle.rule_parse.proofs.Pieces.{operation_in-of}
 use Rattle.rule_viable_prefixes.specs.Misfits as kinds
 use Rattle.rule_viable_prefixes.specs.Misfits.{IsNoun}
@@ -32,15 +35,23 @@ IsNone {A} o = (x : A) → o ≡ Some x → ⊥
 
 -- a word that no reader knows
 record IsUnknown (word : List ℕ) : Type 0 where
-  no_opcode : IsNone (operation_in word)
+  no_opcode : IsNone (operation_in Two word)
   no_predicate : IsNone (pred_in word)
   no_type : IsNone (type_in word)
   no_operand : IsNone (source_word_in word)
   no_term : IsNone (meaning_in Witness word)
 
+-- the last version knows all operations
+all_known : (operation : Operation) → is_known operation Two ≡ true
+all_known (Binary op) = refl
+all_known Compare = refl
+all_known Select = refl
+all_known (Convert cast) = refl
+all_known Freeze = refl
+
 not_noun : (word : List ℕ) → IsUnknown word → IsNoun word → ⊥
 unfolding source_word_in
-not_noun word u (kinds.opcode operation is) = u.no_opcode operation (ap operation_in is ∙ operation_in-of rule_limits operation)
+not_noun word u (kinds.opcode operation is) = u.no_opcode operation (ap (operation_in Two) is ∙ operation_in-of rule_limits Two operation (all_known operation))
 not_noun word u (kinds.predicate pred is) = u.no_predicate pred (ap pred_in is ∙ pred_in-of pred)
 not_noun word u (kinds.type width is) = u.no_type width (type_in-of word width is)
 not_noun word u (kinds.constant is) = u.no_term Constant (meaning_in-of Witness Constant word is)

@@ -255,14 +255,14 @@ module _ (limits : Limits) where
   many_wider P Q f token (statement text (inr is)) = statement text (inr (f (Head (codes "Name:")) is))
   many_wider P Q f token (nesting t (nests, is)) = nesting t (nests, f (Number (codes "0")) is)
 
-  kind_wider : (P Q : Fitting) → ((token : Token) → P token → Q token) → (token : Token) (kind : RuleFaultKind) → Says limits P token kind → Says limits Q token kind
+  pub kind_wider : (P Q : Fitting) → ((token : Token) → P token → Q token) → (token : Token) (kind : RuleFaultKind) → Says limits P token kind → Says limits Q token kind
   kind_wider P Q f token BadByte is = is
   kind_wider P Q f token TooMany is = many_wider P Q f token is
   kind_wider P Q f token (LeftOut left) (is, other, (noun, is_noun, fits)) = (is, other, (noun, is_noun, f (Word noun) fits))
   kind_wider P Q f token Syntax is = is
   kind_wider P Q f token kind is = absurd is
 
-  misfit_wider : (P Q : Fitting) → ((token : Token) → P token → Q token) → (token : Token) (tokens : List Token) (kind : RuleFaultKind) → IsMisfit limits P token tokens kind → IsMisfit limits Q token tokens kind
+  pub misfit_wider : (P Q : Fitting) → ((token : Token) → P token → Q token) → (token : Token) (tokens : List Token) (kind : RuleFaultKind) → IsMisfit limits P token tokens kind → IsMisfit limits Q token tokens kind
   misfit_wider P Q f token tokens kind (itself is) = itself (kind_wider P Q f token kind is)
   misfit_wider P Q f token tokens kind (read_on (word, is, (nests, fits), none, told)) = read_on (word, is, (nests, f (Number (codes "0")) fits), none, told)
 

@@ -216,7 +216,7 @@ module _ (spare_bytes deepest spare_statements : ℕ) where
   no_leaf (raw_nodes.Literal z) own tokens (text, value, is) same = let e = sym is ∙ same in absurd cc
   no_leaf (raw_nodes.Constant name) own tokens (c, le, is) same = let e = sym is ∙ same in absurd cc
   no_leaf (raw_nodes.Register name) own tokens (place, le, is) same = let e = sym is ∙ same in absurd cc
-  no_leaf (raw_nodes.Undef k) own tokens (word, place, choice, le, is) same = let e = sym is ∙ same in absurd cc
+  no_leaf (raw_nodes.Choice k) own tokens (word, place, choice, le, is) same = let e = sym is ∙ same in absurd cc
   no_leaf (raw_nodes.Width name) own tokens is same = is
   no_leaf (raw_nodes.Unary function a) own tokens is same = is
   no_leaf (raw_nodes.Binary op a b) own tokens is same = is

@@ -1,7 +1,6 @@
 -- The law of faults: what is refused of the tokens up to and with one too many, said of those of the whole text.
-use Rattle.std.proofs.Common.{◌≡◌, ◌≢◌, ℕ, zero, suc, ◌≤◌, false, List, [], ◌∷◌, ◌++◌, length, Ok, Err, refl, sym, ap, subst, ◌∙◌, append_assoc, ◌⊎◌, inl, inr, arith}
+use Rattle.std.proofs.Common.{◌≡◌, ◌≢◌, ℕ, zero, suc, ◌≤◌, false, List, [], ◌∷◌, ◌++◌, Ok, Err, refl, sym, ap, subst, ◌∙◌, append_assoc, ◌⊎◌, inl, inr, arith}
 use Rattle.std.proofs.lemmas.List.{append-nil}
-use Rattle.std.proofs.Math.Nat.{le_refl}
 use Rattle.std.specs.Prelude.{codes}
 use Rattle.scan.specs.Laws.{OneTokenAtAPlace}
 use Rattle.rule_tokens.specs.declared.fault.RuleFaultKind.{RuleFaultKind}
@@ -10,19 +9,19 @@ use Rattle.rule_tokens.specs.Tokens.{Token, Line, Mark, Bad, Excess, AreTokens}
 use Rattle.rule_tokens.proofs.Readers.{one_reading}
 use Rattle.rule_parse.specs.declared.raw.RawRule.{RawRule}
 use Rattle.rule_parse.specs.CutTokens.{limited}
-use Rattle.rule_parse.specs.Grammar.{SpellsRules}
+use Rattle.rule_parse.specs.Grammar.{SpellsFile}
 use Rattle.rule_parse.specs.Limits.{most_nodes}
 use Rattle.rule_parse.specs.NodeCounts.{IsWithinLimit, IsCut}
 use Rattle.rule_parse.specs.RuleReaders.{all_rules}
 use Rattle.rule_parse.specs.Text.{IsFaultWithin}
 use Rattle.rule_parse.proofs.Counts.{kept_up_to_the_limit, passed_by_no_line}
 use Rattle.rule_parse.proofs.Cuts.{IsOfText, AreOfText, of_back}
-use Rattle.rule_parse.proofs.Spellings.{rules_at-of}
-use Rattle.rule_parse.proofs.Weight.{spelled_of_text}
+use Rattle.rule_parse.proofs.Files.{all_rules-of}
+use Rattle.rule_parse.proofs.Weight.{file_of_text}
 use Rattle.rule_viable_prefixes.specs.Fits.{Fits, FitsBehind, line_behind, line_of}
 use Rattle.rule_viable_prefixes.specs.Laws.{IsAtToken, IsAtEnd, FaultsAreWhereTextsDoNotFit}
-use Rattle.rule_viable_prefixes.specs.Misfits.{Fitting, IsReadOn, kind_at, IsMisfit, itself, read_on}
-use Rattle.rule_viable_prefixes.proofs.Files.{AtToken, AtEnd, where_refused}
+use Rattle.rule_viable_prefixes.specs.Misfits.{Fitting, Says, IsReadOn, kind_at, IsMisfit, itself, read_on, IsOtherVersion}
+use Rattle.rule_viable_prefixes.proofs.Versions.{AtToken, AtEnd, where_refused}
 use Rattle.rule_viable_prefixes.proofs.Texts.{names_in, of_text, text_begins, limited_begins, limited_names}
 use Rattle.rule_tokens.specs.Limits.{Limits}
 use Rattle.rule_viable_prefixes.proofs.Roomy.{roomy}
@@ -52,8 +51,8 @@ module _ (spare_bytes deepest spare_statements : ℕ) where
       subst IsOfText is here.0
 
   -- rules have no mark of the end of what is read
-  no_mark : (front more : List Token) (rules : List RawRule) → SpellsRules limits rules (front ++ Excess ∷ more) → ⊥
-  no_mark front more rules is = (of_back front (Excess ∷ more) (spelled_of_text limits rules (front ++ Excess ∷ more) is)).0
+  no_mark : (front more : List Token) (rules : List RawRule) → SpellsFile limits rules (front ++ Excess ∷ more) → ⊥
+  no_mark front more rules is = (of_back front (Excess ∷ more) (file_of_text limits rules (front ++ Excess ∷ more) is)).0
 
   -- where two lists of tokens are split, the one front is the other and more
   split : (xs ys vs ws : List Token) → xs ++ ys ≡ vs ++ ws
@@ -73,7 +72,7 @@ module _ (spare_bytes deepest spare_statements : ℕ) where
       within first (rest ++ back) (whole ∙ ap (λ (ts : List Token). ts ++ back) e ∙ append_assoc first rest back)
 
   fits_front : (front back : List Token) → Fits limits (front ++ back) → Fits limits front
-  fits_front front back (rules, more, is) = (rules, back ++ more, subst (SpellsRules limits rules) (append_assoc front back more) is)
+  fits_front front back (rules, more, is) = (rules, back ++ more, subst (SpellsFile limits rules) (append_assoc front back more) is)
 
   -- a token that begins no line is on the line of the tokens before it
   line_stays : (line : ℕ) (front : List Token) (token : Token) → ((number : ℕ) → token ≢ Line number) → line_behind line (front ++ token ∷ []) ≡ line_behind line front
@@ -106,6 +105,14 @@ module _ (spare_bytes deepest spare_statements : ℕ) where
   misfit_before : (fits : Fitting) (token last : Token) (g a b : List Token) (kind : RuleFaultKind) → IsMisfit limits fits token (g ++ last ∷ a) kind → IsMisfit limits fits token (g ++ last ∷ b) kind
   misfit_before fits token last [] a b kind is = misfit_alike fits token last a b kind is
   misfit_before fits token last (first ∷ g) a b kind is = misfit_alike fits token first (g ++ last ∷ a) (g ++ last ∷ b) kind is
+
+  told_before : (fits : Fitting) (token last : Token) (g a b : List Token) (kind : RuleFaultKind) → IsMisfit limits fits token (g ++ last ∷ a) kind ⊎ IsOtherVersion fits token kind → IsMisfit limits fits token (g ++ last ∷ b) kind ⊎ IsOtherVersion fits token kind
+  told_before fits token last g a b kind (inl is) = inl (misfit_before fits token last g a b kind is)
+  told_before fits token last g a b kind (inr is) = inr is
+
+  told_itself : (fits : Fitting) (token : Token) (behind : List Token) (kind : RuleFaultKind) → Says limits fits token kind ⊎ IsOtherVersion fits token kind → IsMisfit limits fits token behind kind ⊎ IsOtherVersion fits token kind
+  told_itself fits token behind kind (inl is) = inl (itself is)
+  told_itself fits token behind kind (inr is) = inr is
 
   -- ---- where no rule is too large
 
@@ -159,7 +166,7 @@ module _ (spare_bytes deepest spare_statements : ℕ) where
             fits = at.fits;
             within = subst IsWithinLimit (sym before) c.within;
             line = at.line;
-            kind = inl (record { misfit = at.misfit; told = itself (at.in_front (of_text_at tokens at.front at.token c.rest are stands) [] behind); no_noun = at.no_noun; repeats_none = at.new });
+            kind = inl (record { misfit = at.misfit; told = told_itself (FitsBehind limits at.front) at.token c.rest found.kind (at.in_front (of_text_at tokens at.front at.token c.rest are stands) [] behind); no_noun = at.no_noun; repeats_none = at.new });
           }
 
       -- one before it does not fit
@@ -177,8 +184,8 @@ module _ (spare_bytes deepest spare_statements : ℕ) where
             kind = inl (record {
               misfit = at.misfit;
               told =
-                  misfit_before (FitsBehind limits at.front) at.token c.token g (Excess ∷ []) c.rest found.kind
-                  (subst (λ (ts : List Token). IsMisfit limits (FitsBehind limits at.front) at.token ts found.kind) behind (at.told (of_text_at tokens at.front at.token (g ++ c.token ∷ c.rest) are stands)));
+                  told_before (FitsBehind limits at.front) at.token c.token g (Excess ∷ []) c.rest found.kind
+                  (subst (λ (ts : List Token). IsMisfit limits (FitsBehind limits at.front) at.token ts found.kind ⊎ IsOtherVersion (FitsBehind limits at.front) at.token found.kind) behind (at.told (of_text_at tokens at.front at.token (g ++ c.token ∷ c.rest) are stands)));
               no_noun = at.no_noun;
               repeats_none = at.new;
             });
@@ -213,7 +220,7 @@ module _ (spare_bytes deepest spare_statements : ℕ) where
           let kept : limited tokens ≡ (c.front ++ c.token ∷ []) ++ Excess ∷ [] = c.cut ∙ sym (append_assoc c.front (c.token ∷ []) (Excess ∷ [])) in
           let (rules, more, is) = at.fits in
           no_mark (c.front ++ c.token ∷ []) more rules
-          (subst (SpellsRules limits rules) (ap (λ (ts : List Token). ts ++ more) kept ∙ append_assoc (c.front ++ c.token ∷ []) (Excess ∷ []) more) is)
+          (subst (SpellsFile limits rules) (ap (λ (ts : List Token). ts ++ more) kept ∙ append_assoc (c.front ++ c.token ∷ []) (Excess ∷ []) more) is)
 
       cut : AtToken spare_bytes deepest spare_statements (limited tokens) found ⊎ AtEnd spare_bytes deepest spare_statements (limited tokens) last found → IsAtToken limits tokens found ⊎ IsAtEnd limits tokens last found
       cut (inl at) = inl (cut_at_token at)
@@ -248,7 +255,7 @@ pub faults : OneTokenAtAPlace → FaultsAreWhereTextsDoNotFit
 faults one = record {
   refused = λ limits room. refuses_within one limits.name_bytes limits.nested limits.statements room.0 room.1;
   read = λ limits text tokens last rules found are spelled within fault.
-      let ok : all_rules limits last tokens ≡ Ok rules = rules_at-of limits (length tokens) last rules tokens spelled (le_refl _) in
+      let ok : all_rules limits last tokens ≡ Ok rules = all_rules-of limits last rules tokens spelled in
       let err = fault_of limits one text tokens last found are fault in
       let both = sym ok ∙ ap (all_rules limits last) (sym (kept_whole tokens within)) ∙ err in
       absurd cc;

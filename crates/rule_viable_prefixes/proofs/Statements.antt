@@ -40,15 +40,15 @@ use Rattle.rule_parse.specs.declared.half.Half.{Half}
 use Rattle.rule_parse.specs.declared.half.Half.TheVariants.{Source, Target}
 use Rattle.rule_parse.specs.declared.raw.RawStatement.{RawStatement}
 use Rattle.rule_parse.specs.declared.raw.RawOp.{RawOp}
-use Rattle.rule_parse.specs.declared.raw.RawOp.TheVariants.{Binary, Compare, Select, Convert, Copy}
+use Rattle.rule_parse.specs.declared.raw.RawOp.TheVariants.{Binary, Compare, Select, Convert, Freeze, Copy}
 use Rattle.rule_parse.specs.declared.raw.RawOperand.{RawOperand}
 use Rattle.rule_parse.specs.declared.raw.RawArgument.{RawArgument}
 use Rattle.rule_parse.specs.declared.raw.RawArgument.TheVariants as arguments
 use Rattle.rule_parse.specs.declared.word.Operation.{Operation}
 use Rattle.rule_parse.specs.declared.word.Operation.TheVariants as operations
 use Rattle.rule_parse.specs.Grammar.{SpellsArgument, SpellsOperand, SpellsPair, SpellsTo, SpellsOp}
-use Rattle.rule_parse.specs.RuleReaders.{source_word, term_argument_at, argument_at, typed_at, operand_at, to_at, next_flag, flags_at, pair_at, binary_at, pred_at, compare_at, select_at, convert_at, copy_at, operation_at, op_at, statement_at}
-use Rattle.rule_parse.specs.Keywords.{argument_of, operation_word, operation_in, source_word_in}
+use Rattle.rule_parse.specs.RuleReaders.{source_word, term_argument_at, argument_at, typed_at, operand_at, to_at, next_flag, flags_at, pair_at, binary_at, pred_at, compare_at, select_at, convert_at, freeze_at, copy_at, operation_at, op_at, statement_at}
+use Rattle.rule_parse.specs.Keywords.{argument_of, operation_word, is_known, operation_in, source_word_in}
 use Rattle.rule_parse.proofs.Loops.{flags-more, flags-again}
 use Rattle.rule_parse.proofs.OpSpellings.{flags_done}
 use Rattle.rule_parse.proofs.Pieces.{operation_in-is, source_word_in-is, type_is_no_flag}
@@ -61,10 +61,12 @@ use Rattle.rule_viable_prefixes.proofs.Outcomes.{Parts}
 use Rattle.rule_viable_prefixes.proofs.FlagRuns.{NoFlag, NoFlagLast, IsNew, new_behind, last_both}
 use Rattle.rule_viable_prefixes.proofs.Parts.{Spelled, then_seq, ends_alike, ends_akin, refused_token, then_end, IsType, type_good}
 use Rattle.rule_viable_prefixes.proofs.Terms.{Named, is_short, is_long, named, mark_good, Term, term_good}
+use Rattle.rule_tokens.specs.declared.version.Version.{Version}
+use Rattle.rule_tokens.specs.declared.version.Version.TheVariants.{One, Two}
 use Rattle.rule_tokens.specs.Limits.{Limits}
 use Rattle.rule_viable_prefixes.proofs.Roomy.{roomy}
 
-module _ (spare_bytes deepest spare_statements : ℕ) where
+module _ (spare_bytes deepest spare_statements : ℕ) (version : Version) where
   abbrev limits : Limits
   limits = roomy spare_bytes deepest spare_statements
 
@@ -80,7 +82,7 @@ module _ (spare_bytes deepest spare_statements : ℕ) where
   IsPair half own = (a b : RawOperand) × SpellsPair limits half a b own
 
   abbrev pub IsOp : Half → Part
-  IsOp half own = (op : RawOp) × SpellsOp limits half op own
+  IsOp half own = (op : RawOp) × SpellsOp limits version half op own
 
   -- ---- operands
 
@@ -634,54 +636,65 @@ module _ (spare_bytes deepest spare_statements : ℕ) where
   unfolding copy_at
   copy_good line = widened limits {L = Spelled limits (IsOperand Target)} (λ x own is. (Copy is.0, is.1)) (then_end limits _ (λ operand. Copy operand) (λ operand rest. refl) (operand_good Target line))
 
-  operation_good : (half : Half) (line : ℕ) (operation : Operation) → Good limits (pair limits) (operation_at limits half line operation) (λ x own. IsOp half (Word (operation_word operation) ∷ own)) line
-  operation_good half line (operations.Binary op) = binary_good half line op
-  operation_good half line operations.Compare = compare_good half line
-  operation_good half line operations.Select = select_good half line
-  operation_good half line (operations.Convert cast) = convert_good half line cast
+  -- a freeze, where the version knows it
+  freeze_made : (v : Version) (half : Half) (own : List Token) → is_known operations.Freeze v ≡ true → (a : RawOperand) → SpellsOperand limits half a own → SpellsOp limits v half (Freeze a) (Word (codes "freeze") ∷ own)
+  freeze_made One half own known a is = absurd cc
+  freeze_made Two half own known a is = (Word (codes "freeze") ∷ [], own, refl, is, refl)
+
+  freeze_good : (half : Half) (line : ℕ) → is_known operations.Freeze version ≡ true → Good limits (pair limits) (freeze_at limits half line) (λ x own. IsOp half (Word (codes "freeze") ∷ own)) line
+  unfolding freeze_at
+  freeze_good half line known = widened limits {L = Spelled limits (IsOperand half)} (λ x own is. (Freeze is.0, freeze_made version half own known is.0 is.1)) (then_end limits _ (λ operand. Freeze operand) (λ operand rest. refl) (operand_good half line))
+
+  operation_good : (half : Half) (line : ℕ) (operation : Operation) → is_known operation version ≡ true → Good limits (pair limits) (operation_at limits half line operation) (λ x own. IsOp half (Word (operation_word operation) ∷ own)) line
+  operation_good half line (operations.Binary op) known = binary_good half line op
+  operation_good half line operations.Compare known = compare_good half line
+  operation_good half line operations.Select known = select_good half line
+  operation_good half line (operations.Convert cast) known = convert_good half line cast
+  operation_good half line operations.Freeze known = freeze_good half line known
 
   op_sample : (half : Half) → Sample limits (Spelled limits (IsOp half) {A = RawOp})
   op_sample half =
-      let s = (operation_good half 0 operations.Select).sample in
+      let s = (select_good half 0).sample in
       (s.0, Word (codes "select") ∷ s.1, s.2)
 
   op_fits : (half : Half) → NounFits (Takes limits (Spelled limits (IsOp half) {A = RawOp}) [])
   op_fits half =
-      let s = (operation_good half 0 operations.Select).sample in
+      let s = (select_good half 0).sample in
       (codes "select", kinds.opcode operations.Select refl, (s.0, s.1, s.2))
 
-  op_word_outcome : (half : Half) (line : ℕ) (word : List ℕ) (rest : List Token) (operation : Operation) → operation_in word ≡ Some operation → Outcome limits (pair limits) (op_at limits half line) (Spelled limits (IsOp half)) line (Word word ∷ rest) (op_at limits half line (Word word ∷ rest))
+  op_word_outcome : (half : Half) (line : ℕ) (word : List ℕ) (rest : List Token) (operation : Operation) → operation_in version word ≡ Some operation → Outcome limits (pair limits) (op_at limits version half line) (Spelled limits (IsOp half)) line (Word word ∷ rest) (op_at limits version half line (Word word ∷ rest))
   unfolding op_at
   op_word_outcome half line word rest operation f =
-      led limits (pair limits) (op_at limits half line) (operation_at limits half line operation) (Spelled limits (IsOp half)) line (Word word) rest (noun_other word (kinds.opcode operation (operation_in-is limits word operation f))) (λ more. rw f refl)
+      let known = operation_in-is limits version word operation f in
+      led limits (pair limits) (op_at limits version half line) (operation_at limits half line operation) (Spelled limits (IsOp half)) line (Word word) rest (noun_other word (kinds.opcode operation known.0)) (λ more. rw f refl)
       (widen limits (pair limits) (operation_at limits half line operation) (λ x own. IsOp half (Word (operation_word operation) ∷ own)) (λ x own. IsOp half (Word word ∷ own)) line rest
-      (λ x own is. subst (λ (w : List ℕ). IsOp half (Word w ∷ own)) (sym (operation_in-is limits word operation f)) is) (operation_at limits half line operation rest) ((operation_good half line operation).outcome rest))
+      (λ x own is. subst (λ (w : List ℕ). IsOp half (Word w ∷ own)) (sym known.0) is) (operation_at limits half line operation rest) ((operation_good half line operation known.1).outcome rest))
 
   left_out_on : (line : ℕ) (token : Token) (more : List Token) → (left_out line (token ∷ more)).line ≡ line
   left_out_on line (Word word) more = refl
   left_out_on line token more = refl
 
-  source_op_outcome : (line : ℕ) (tokens : List Token) → Outcome limits (pair limits) (op_at limits Source line) (Spelled limits (IsOp Source)) line tokens (op_at limits Source line tokens)
+  source_op_outcome : (line : ℕ) (tokens : List Token) → Outcome limits (pair limits) (op_at limits version Source line) (Spelled limits (IsOp Source)) line tokens (op_at limits version Source line tokens)
   unfolding op_at
-  source_op_outcome line [] = refused_here limits (pair limits) (op_at limits Source line) (Spelled limits (IsOp Source)) line [] (op_sample Source) (λ more alike. by more (ends_alike limits [] more alike tt))
+  source_op_outcome line [] = refused_here limits (pair limits) (op_at limits version Source line) (Spelled limits (IsOp Source)) line [] (op_sample Source) (λ more alike. by more (ends_alike limits [] more alike tt))
     where
-      by : (more : List Token) → EndsLine more → IsErrOn limits (Takes limits (Spelled limits (IsOp Source) {A = RawOp}) []) (Lack limits (op_at limits Source line) []) line more (op_at limits Source line more)
+      by : (more : List Token) → EndsLine more → IsErrOn limits (Takes limits (Spelled limits (IsOp Source) {A = RawOp}) []) (Lack limits (op_at limits version Source line) []) line more (op_at limits version Source line more)
       by [] ends = (fault line Syntax, refl, refl, refl)
       by (Line number ∷ more) ends = (fault line Syntax, refl, refl, says_syntax limits (Line number) more tt)
       by more ends = absurd ends
-  source_op_outcome line (Line n ∷ rest) = refused_here limits (pair limits) (op_at limits Source line) (Spelled limits (IsOp Source)) line (Line n ∷ rest) (op_sample Source) (λ more alike. by more (ends_alike limits (Line n ∷ rest) more alike tt))
+  source_op_outcome line (Line n ∷ rest) = refused_here limits (pair limits) (op_at limits version Source line) (Spelled limits (IsOp Source)) line (Line n ∷ rest) (op_sample Source) (λ more alike. by more (ends_alike limits (Line n ∷ rest) more alike tt))
     where
-      by : (more : List Token) → EndsLine more → IsErrOn limits (Takes limits (Spelled limits (IsOp Source) {A = RawOp}) []) (Lack limits (op_at limits Source line) []) line more (op_at limits Source line more)
+      by : (more : List Token) → EndsLine more → IsErrOn limits (Takes limits (Spelled limits (IsOp Source) {A = RawOp}) []) (Lack limits (op_at limits version Source line) []) line more (op_at limits version Source line more)
       by [] ends = (fault line Syntax, refl, refl, refl)
       by (Line number ∷ more) ends = (fault line Syntax, refl, refl, says_syntax limits (Line number) more tt)
       by more ends = absurd ends
-  source_op_outcome line (Word word ∷ rest) = by (operation_in word) refl
+  source_op_outcome line (Word word ∷ rest) = by (operation_in version word) refl
     where
-      by : (found : Option Operation) → operation_in word ≡ found → Outcome limits (pair limits) (op_at limits Source line) (Spelled limits (IsOp Source)) line (Word word ∷ rest) (op_at limits Source line (Word word ∷ rest))
+      by : (found : Option Operation) → operation_in version word ≡ found → Outcome limits (pair limits) (op_at limits version Source line) (Spelled limits (IsOp Source)) line (Word word ∷ rest) (op_at limits version Source line (Word word ∷ rest))
       by (Some operation) f = op_word_outcome Source line word rest operation f
-      by None f = refused_token limits (pair limits) (op_at limits Source line) (Spelled limits (IsOp Source)) line (Word word) rest (op_sample Source) (λ p. p) (λ more. (misplaced_word line word, rw f refl, refl, says_misplaced limits (op_fits Source) line word more))
+      by None f = refused_token limits (pair limits) (op_at limits version Source line) (Spelled limits (IsOp Source)) line (Word word) rest (op_sample Source) (λ p. p) (λ more. (misplaced_word line word, rw f refl, refl, says_misplaced limits (op_fits Source) line word more))
   source_op_outcome line (token ∷ rest) =
-      refused_token limits (pair limits) (op_at limits Source line) (Spelled limits (IsOp Source)) line token rest (op_sample Source) (λ p. p) (λ more. (left_out line (token ∷ more), refl, left_out_on line token more, says_left_out limits (op_fits Source) line token more))
+      refused_token limits (pair limits) (op_at limits version Source line) (Spelled limits (IsOp Source)) line token rest (op_sample Source) (λ p. p) (λ more. (left_out line (token ∷ more), refl, left_out_on line token more, says_left_out limits (op_fits Source) line token more))
 
   copy_reads : (line : ℕ) → NoNoun limits (copy_at limits line) [] → ⊥
   unfolding copy_at maybe_type type_in typed_at argument_at
@@ -696,23 +709,28 @@ module _ (spare_bytes deepest spare_statements : ℕ) where
   some_op (Compare pred samesign a b, (front, back, is, behind, whole)) = first_no (Word (codes "icmp")) front back is (sym whole)
   some_op (Select a b c, (front, back, is, behind, whole)) = first_no (Word (codes "select")) front back is (sym whole)
   some_op (Convert cast flags a to, (front, back, is, behind, whole)) = first_no (Word (cast_keyword cast)) front back is (sym whole)
+  some_op (Freeze a, is) = by version is
+    where
+      by : (v : Version) → SpellsOp limits v Target (Freeze a) [] → ⊥
+      by One is = absurd is
+      by Two (front, back, word, behind, whole) = first_no (Word (codes "freeze")) front back word (sym whole)
   some_op (Copy a, is) = some_operand Target (a, is)
 
-  as_copy : (line : ℕ) (tokens : List Token) → ((more : List Token) → Alike limits tokens more → op_at limits Target line more ≡ copy_at limits line more) → Outcome limits (pair limits) (copy_at limits line) (Spelled limits (IsOp Target)) line tokens (copy_at limits line tokens) → Outcome limits (pair limits) (op_at limits Target line) (Spelled limits (IsOp Target)) line tokens (op_at limits Target line tokens)
-  as_copy line tokens h o = alike_as limits (pair limits) (op_at limits Target line) (copy_at limits line) (Spelled limits (IsOp Target)) line tokens (λ x is. some_op is) (copy_reads line) h o
+  as_copy : (line : ℕ) (tokens : List Token) → ((more : List Token) → Alike limits tokens more → op_at limits version Target line more ≡ copy_at limits line more) → Outcome limits (pair limits) (copy_at limits line) (Spelled limits (IsOp Target)) line tokens (copy_at limits line tokens) → Outcome limits (pair limits) (op_at limits version Target line) (Spelled limits (IsOp Target)) line tokens (op_at limits version Target line tokens)
+  as_copy line tokens h o = alike_as limits (pair limits) (op_at limits version Target line) (copy_at limits line) (Spelled limits (IsOp Target)) line tokens (λ x is. some_op is) (copy_reads line) h o
 
-  target_op_outcome : (line : ℕ) (tokens : List Token) → Outcome limits (pair limits) (op_at limits Target line) (Spelled limits (IsOp Target)) line tokens (op_at limits Target line tokens)
+  target_op_outcome : (line : ℕ) (tokens : List Token) → Outcome limits (pair limits) (op_at limits version Target line) (Spelled limits (IsOp Target)) line tokens (op_at limits version Target line tokens)
   unfolding op_at
-  target_op_outcome line (Word word ∷ rest) = by (operation_in word) refl
+  target_op_outcome line (Word word ∷ rest) = by (operation_in version word) refl
     where
-      by : (found : Option Operation) → operation_in word ≡ found → Outcome limits (pair limits) (op_at limits Target line) (Spelled limits (IsOp Target)) line (Word word ∷ rest) (op_at limits Target line (Word word ∷ rest))
+      by : (found : Option Operation) → operation_in version word ≡ found → Outcome limits (pair limits) (op_at limits version Target line) (Spelled limits (IsOp Target)) line (Word word ∷ rest) (op_at limits version Target line (Word word ∷ rest))
       by (Some operation) f = op_word_outcome Target line word rest operation f
-      by None f = as_copy line (Word word ∷ rest) (same_reading (op_at limits Target line) (copy_at limits line) (Word word) rest (λ p. p) (λ more. rw f refl)) ((copy_good line).outcome (Word word ∷ rest))
-  target_op_outcome line [] = as_copy line [] (λ more alike. same_at_end (op_at limits Target line) (copy_at limits line) refl (λ number m. refl) [] more tt alike) ((copy_good line).outcome [])
-  target_op_outcome line (Line n ∷ rest) = as_copy line (Line n ∷ rest) (λ more alike. same_at_end (op_at limits Target line) (copy_at limits line) refl (λ number m. refl) (Line n ∷ rest) more tt alike) ((copy_good line).outcome (Line n ∷ rest))
-  target_op_outcome line (token ∷ rest) = as_copy line (token ∷ rest) (same_reading (op_at limits Target line) (copy_at limits line) token rest (λ p. p) (λ more. refl)) ((copy_good line).outcome (token ∷ rest))
+      by None f = as_copy line (Word word ∷ rest) (same_reading (op_at limits version Target line) (copy_at limits line) (Word word) rest (λ p. p) (λ more. rw f refl)) ((copy_good line).outcome (Word word ∷ rest))
+  target_op_outcome line [] = as_copy line [] (λ more alike. same_at_end (op_at limits version Target line) (copy_at limits line) refl (λ number m. refl) [] more tt alike) ((copy_good line).outcome [])
+  target_op_outcome line (Line n ∷ rest) = as_copy line (Line n ∷ rest) (λ more alike. same_at_end (op_at limits version Target line) (copy_at limits line) refl (λ number m. refl) (Line n ∷ rest) more tt alike) ((copy_good line).outcome (Line n ∷ rest))
+  target_op_outcome line (token ∷ rest) = as_copy line (token ∷ rest) (same_reading (op_at limits version Target line) (copy_at limits line) token rest (λ p. p) (λ more. refl)) ((copy_good line).outcome (token ∷ rest))
 
-  op_good : (half : Half) (line : ℕ) → Good limits (pair limits) (op_at limits half line) (Spelled limits (IsOp half)) line
+  op_good : (half : Half) (line : ℕ) → Good limits (pair limits) (op_at limits version half line) (Spelled limits (IsOp half)) line
   op_good Source line = record { sample = op_sample Source; outcome = source_op_outcome line }
   op_good Target line = record { sample = op_sample Target; outcome = target_op_outcome line }
 
@@ -726,16 +744,16 @@ module _ (spare_bytes deepest spare_statements : ℕ) where
   assigned_join half front back mark op = (back, op, ap (λ (ts : List Token). ts ++ back) mark)
 
   -- the reader of a statement whose name is short
-  pub statement_good : (half : Half) (line : ℕ) (name : List ℕ) → name_within limits line name ≡ Ok name → Good limits (pair limits) (statement_at limits half line name) (Spelled limits (IsAssigned half)) line
+  pub statement_good : (half : Half) (line : ℕ) (name : List ℕ) → name_within limits line name ≡ Ok name → Good limits (pair limits) (statement_at limits version half line name) (Spelled limits (IsAssigned half)) line
   unfolding statement_at
-  statement_good half line name short = record { sample = behind.sample; outcome = λ tokens. same_as limits (pair limits) (statement_at limits half line name) R (Spelled limits (IsAssigned half)) line tokens (λ more. rw short refl) (behind.outcome tokens) }
+  statement_good half line name short = record { sample = behind.sample; outcome = λ tokens. same_as limits (pair limits) (statement_at limits version half line name) R (Spelled limits (IsAssigned half)) line tokens (λ more. rw short refl) (behind.outcome tokens) }
     where
       R : Reader limits (RawStatement × List Token)
-      R ts = mark_at (codes "=") line ts >>= λ rest. (op_at limits half line rest >>= λ op. Ok (record { line = line; name = name; op = op.0 }, op.1))
+      R ts = mark_at (codes "=") line ts >>= λ rest. (op_at limits version half line rest >>= λ op. Ok (record { line = line; name = name; op = op.0 }, op.1))
 
       made : RawOp → RawStatement
       made op = record { line = line; name = name; op = op }
 
-      behind : Good limits {A = RawStatement} (pair limits) (λ ts. mark_at (codes "=") line ts >>= λ rest. (op_at limits half line rest >>= λ op. Ok (made op.0, op.1))) (Spelled limits (IsAssigned half)) line
+      behind : Good limits {A = RawStatement} (pair limits) (λ ts. mark_at (codes "=") line ts >>= λ rest. (op_at limits version half line rest >>= λ op. Ok (made op.0, op.1))) (Spelled limits (IsAssigned half)) line
       behind = then limits {s = (bare limits)} {t = (pair limits)} _ {L = Spelled limits (Is (Mark (codes "=")))} {M = λ x. Spelled limits (IsOp half)} (λ x y front back mark op. assigned_join half front back mark op) (mark_good spare_bytes deepest spare_statements (codes "=") line)
           (λ u. then_done limits {s = (pair limits)} {L = Spelled limits (IsOp half)} made _ (λ x rest. refl) (λ x own is. is) (op_good half line))

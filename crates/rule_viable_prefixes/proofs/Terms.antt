@@ -245,7 +245,7 @@ module _ (spare_bytes deepest spare_statements : ℕ) where
 
   long_choice : (fits : Fitting) → Leaves places.Witness fits → (name : List ℕ) (k : ℕ) → limits.name_bytes < length name → IsChoice name k → IsTooMany limits fits (Word name)
   long_choice fits leaves name k long is =
-      kinds.choice name (codes "t1", long, omega arith, (k, is), (0, short_choice), leaves (Word (codes "t1")) (raw_nodes.Undef 0) (codes "t1", refl, short_choice, omega arith, refl))
+      kinds.choice name (codes "t1", long, omega arith, (k, is), (0, short_choice), leaves (Word (codes "t1")) (raw_nodes.Choice 0) (codes "t1", refl, short_choice, omega arith, refl))
 
   long_register : (fits : Fitting) → Leaves places.Witness fits → (name : List ℕ) → limits.name_bytes < length name → IsTooMany limits fits (Register name)
   long_register fits leaves name long = kinds.register name (codes "a", long, omega arith, tt, tt, leaves (Register (codes "a")) (raw_nodes.Register (codes "a")) (refl, omega arith, refl))
@@ -267,7 +267,7 @@ module _ (spare_bytes deepest spare_statements : ℕ) where
       m = meaning_in-is place word (meanings.Choice k) f
 
       by : Named line word → Opens fits none place line (Word word)
-      by (is_short le n) = of_leaf (Word word) (raw_nodes.Undef k) (word, m.0, m.1, le, refl) (noun_other word (kinds.choice k m.1)) (λ more. rw (f, n) refl)
+      by (is_short le n) = of_leaf (Word word) (raw_nodes.Choice k) (word, m.0, m.1, le, refl) (noun_other word (kinds.choice k m.1)) (λ more. rw (f, n) refl)
       by (is_long long n) =
           let witness : Leaves places.Witness fits = subst (λ (p : TermPlace). Leaves p fits) m.0 leaves in
           misfit (Word word) (λ more. (fault line TooMany, rw (f, n) refl, refl, says_too_many limits (Word word) more (long_choice fits witness word k long m.1)))

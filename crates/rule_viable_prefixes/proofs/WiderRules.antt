@@ -6,6 +6,7 @@ use Rattle.ops.specs.declared.opcode.Opcode.{Opcode}
 use Rattle.ops.specs.declared.conversion.Cast.{Cast}
 use Rattle.ops.specs.Flags.{no_flags, flags_of_icmp}
 use Rattle.scan.specs.RuleTokens.{is_constant}
+use Rattle.rule_tokens.specs.declared.version.Version.{Version}
 use Rattle.rule_tokens.specs.Limits.{Limits, AreWithin}
 use Rattle.rule_tokens.specs.PartReaders.{maybe_type}
 use Rattle.rule_tokens.specs.Tokens.{Token, Line, Head, Name, Register, Word, Number}
@@ -15,7 +16,7 @@ use Rattle.rule_parse.specs.declared.half.Half.TheVariants.{Source, Target}
 use Rattle.rule_parse.specs.declared.word.Operation.{Operation}
 use Rattle.rule_parse.specs.declared.word.Operation.TheVariants as operations
 use Rattle.rule_parse.specs.Keywords.{operation_in}
-use Rattle.rule_parse.specs.RuleReaders.{register_at, source_word, term_argument_at, argument_at, typed_at, operand_at, flags_at, pair_at, binary_at, pred_at, compare_at, select_at, convert_at, copy_at, operation_at, other_at, op_word, op_at, statement_at, statements_at, name_text, name_at, precondition_at, expression_at, expressions_at, witness_at, source_at, target_at, rule_at, rules_at, all_rules}
+use Rattle.rule_parse.specs.RuleReaders.{register_at, source_word, term_argument_at, argument_at, typed_at, operand_at, flags_at, pair_at, binary_at, pred_at, compare_at, select_at, convert_at, freeze_at, copy_at, operation_at, other_at, op_word, op_at, statement_at, statements_at, name_text, name_at, precondition_at, expression_at, expressions_at, witness_at, source_at, target_at, rule_at, rules_at, version_at, all_rules}
 use Rattle.rule_viable_prefixes.proofs.Wider.{Below, same_answer, too_many, below_bind, below_if, BelowReader, chain_of_below, name_below, term_below}
 use Rattle.rule_viable_prefixes.proofs.WiderFormulas.{formula_below}
 
@@ -75,6 +76,10 @@ module _ (limits wider : Limits) (within : AreWithin wider limits) where
   unfolding convert_at
   convert_below half line cast tokens = below_bind (same_answer refl) (λ flags. below_bind (operand_below half line flags.1) (λ from. same_answer refl))
 
+  freeze_below : (half : Half) (line : ℕ) (tokens : List Token) → Below (freeze_at limits half line tokens) (freeze_at wider half line tokens)
+  unfolding freeze_at
+  freeze_below half line tokens = below_bind (operand_below half line tokens) (λ operand. same_answer refl)
+
   copy_below : (line : ℕ) (tokens : List Token) → Below (copy_at limits line tokens) (copy_at wider line tokens)
   unfolding copy_at
   copy_below line tokens = below_bind (operand_below Target line tokens) (λ operand. same_answer refl)
@@ -84,6 +89,7 @@ module _ (limits wider : Limits) (within : AreWithin wider limits) where
   operation_below half line operations.Compare tokens = compare_below half line tokens
   operation_below half line operations.Select tokens = select_below half line tokens
   operation_below half line (operations.Convert cast) tokens = convert_below half line cast tokens
+  operation_below half line operations.Freeze tokens = freeze_below half line tokens
 
   other_below : (half : Half) (line : ℕ) (tokens : List Token) → Below (other_at limits half line tokens) (other_at wider half line tokens)
   other_below Source line tokens = same_answer refl
@@ -93,28 +99,28 @@ module _ (limits wider : Limits) (within : AreWithin wider limits) where
   op_word_below half line word (Some operation) rest = operation_below half line operation rest
   op_word_below half line word None rest = other_below half line (Word word ∷ rest)
 
-  op_below : (half : Half) (line : ℕ) (tokens : List Token) → Below (op_at limits half line tokens) (op_at wider half line tokens)
+  op_below : (version : Version) (half : Half) (line : ℕ) (tokens : List Token) → Below (op_at limits version half line tokens) (op_at wider version half line tokens)
   unfolding op_at
-  op_below half line (Word word ∷ rest) = op_word_below half line word (operation_in word) rest
-  op_below half line tokens = other_below half line tokens
+  op_below version half line (Word word ∷ rest) = op_word_below half line word (operation_in version word) rest
+  op_below version half line tokens = other_below half line tokens
 
   -- ---- statements
 
-  statement_below : (half : Half) (line : ℕ) (register : List ℕ) (tokens : List Token) → Below (statement_at limits half line register tokens) (statement_at wider half line register tokens)
+  statement_below : (version : Version) (half : Half) (line : ℕ) (register : List ℕ) (tokens : List Token) → Below (statement_at limits version half line register tokens) (statement_at wider version half line register tokens)
   unfolding statement_at
-  statement_below half line register tokens =
-      below_bind (name_below limits wider within line register) (λ name. below_bind (same_answer refl) (λ behind. below_bind (op_below half line behind) (λ op. same_answer refl)))
+  statement_below version half line register tokens =
+      below_bind (name_below limits wider within line register) (λ name. below_bind (same_answer refl) (λ behind. below_bind (op_below version half line behind) (λ op. same_answer refl)))
 
-  statements_below : (n m : ℕ) → n ≤ m → (half : Half) (tokens : List Token) → Below (statements_at limits n half tokens) (statements_at wider m half tokens)
+  statements_below : (version : Version) (n m : ℕ) → n ≤ m → (half : Half) (tokens : List Token) → Below (statements_at limits version n half tokens) (statements_at wider version m half tokens)
   unfolding statements_at
-  statements_below zero m le half (Line line ∷ Register name ∷ rest) = too_many line refl
-  statements_below (suc n) zero le half (Line line ∷ Register name ∷ rest) = absurd (omega arith)
-  statements_below (suc n) (suc m) le half (Line line ∷ Register name ∷ rest) =
-      below_bind (statement_below half line name rest) (λ first. below_bind (statements_below n m (omega arith) half first.1) (λ others. same_answer refl))
-  statements_below zero zero le half tokens = same_answer refl
-  statements_below zero (suc m) le half tokens = same_answer refl
-  statements_below (suc n) zero le half tokens = absurd (omega arith)
-  statements_below (suc n) (suc m) le half tokens = same_answer refl
+  statements_below version zero m le half (Line line ∷ Register name ∷ rest) = too_many line refl
+  statements_below version (suc n) zero le half (Line line ∷ Register name ∷ rest) = absurd (omega arith)
+  statements_below version (suc n) (suc m) le half (Line line ∷ Register name ∷ rest) =
+      below_bind (statement_below version half line name rest) (λ first. below_bind (statements_below version n m (omega arith) half first.1) (λ others. same_answer refl))
+  statements_below version zero zero le half tokens = same_answer refl
+  statements_below version zero (suc m) le half tokens = same_answer refl
+  statements_below version (suc n) zero le half tokens = absurd (omega arith)
+  statements_below version (suc n) (suc m) le half tokens = same_answer refl
 
   -- ---- the parts of a rule
 
@@ -147,33 +153,33 @@ module _ (limits wider : Limits) (within : AreWithin wider limits) where
   witness_below (Line line ∷ Head head ∷ rest) = below_if (bytes_eq head (codes "Wit:")) (below_bind (expressions_below line rest) (λ all. same_answer refl)) (same_answer refl)
   witness_below tokens = same_answer refl
 
-  source_below : (last : ℕ) (tokens : List Token) → Below (source_at limits last tokens) (source_at wider last tokens)
+  source_below : (version : Version) (last : ℕ) (tokens : List Token) → Below (source_at limits version last tokens) (source_at wider version last tokens)
   unfolding source_at
-  source_below last (Line line ∷ Register name ∷ rest) = statements_below limits.statements wider.statements within.statements Source (Line line ∷ Register name ∷ rest)
-  source_below last tokens = same_answer refl
+  source_below version last (Line line ∷ Register name ∷ rest) = statements_below version limits.statements wider.statements within.statements Source (Line line ∷ Register name ∷ rest)
+  source_below version last tokens = same_answer refl
 
-  target_below : (last : ℕ) (tokens : List Token) → Below (target_at limits last tokens) (target_at wider last tokens)
+  target_below : (version : Version) (last : ℕ) (tokens : List Token) → Below (target_at limits version last tokens) (target_at wider version last tokens)
   unfolding target_at
-  target_below last (Line line ∷ Register name ∷ rest) = statements_below limits.statements wider.statements within.statements Target (Line line ∷ Register name ∷ rest)
-  target_below last tokens = same_answer refl
+  target_below version last (Line line ∷ Register name ∷ rest) = statements_below version limits.statements wider.statements within.statements Target (Line line ∷ Register name ∷ rest)
+  target_below version last tokens = same_answer refl
 
   -- ---- rules
 
-  rule_below : (last : ℕ) (tokens : List Token) → Below (rule_at limits last tokens) (rule_at wider last tokens)
+  rule_below : (version : Version) (last : ℕ) (tokens : List Token) → Below (rule_at limits version last tokens) (rule_at wider version last tokens)
   unfolding rule_at
-  rule_below last tokens =
+  rule_below version last tokens =
       below_bind (name_at_below last tokens)
       (λ name. below_bind (precondition_below name.1)
       (λ precondition. below_bind (witness_below precondition.1)
-      (λ witness. below_bind (source_below last witness.1)
+      (λ witness. below_bind (source_below version last witness.1)
       (λ source. below_bind (same_answer refl)
-      (λ behind. below_bind (target_below last behind) (λ target. same_answer refl))))))
+      (λ behind. below_bind (target_below version last behind) (λ target. same_answer refl))))))
 
-  rules_below : (n last : ℕ) (tokens : List Token) → Below (rules_at limits n last tokens) (rules_at wider n last tokens)
+  rules_below : (version : Version) (n last : ℕ) (tokens : List Token) → Below (rules_at limits version n last tokens) (rules_at wider version n last tokens)
   unfolding rules_at
-  rules_below n last [] = same_answer refl
-  rules_below zero last (token ∷ tokens) = same_answer refl
-  rules_below (suc n) last (token ∷ tokens) = below_bind (rule_below last (token ∷ tokens)) (λ first. below_bind (rules_below n last first.1) (λ others. same_answer refl))
+  rules_below version n last [] = same_answer refl
+  rules_below version zero last (token ∷ tokens) = same_answer refl
+  rules_below version (suc n) last (token ∷ tokens) = below_bind (rule_below version last (token ∷ tokens)) (λ first. below_bind (rules_below version n last first.1) (λ others. same_answer refl))
 
   pub all_rules_below : (last : ℕ) (tokens : List Token) → Below (all_rules limits last tokens) (all_rules wider last tokens)
-  all_rules_below last tokens = rules_below (length tokens) last tokens
+  all_rules_below last tokens = below_bind {a = version_at tokens} (same_answer refl) (λ version. rules_below version.0 (length version.1) last version.1)

@@ -1,14 +1,14 @@
--- Which tokens begin rules of the grammar within limits of names, nesting and statements. Nothing but its productions decides that; the
+-- Which tokens begin rule files of the grammar within limits of names, nesting and statements. Nothing but its productions decides that; the
 -- limit of 256 nodes, which is none of them, does not.
 use Rattle.std.specs.Prelude.{ℕ, List, [], ◌∷◌, ◌++◌}
 use Rattle.rule_tokens.specs.Tokens.{Token, Line}
 use Rattle.rule_parse.specs.declared.raw.RawRule.{RawRule}
-use Rattle.rule_parse.specs.Grammar.{SpellsRules}
+use Rattle.rule_parse.specs.Grammar.{SpellsFile}
 use Rattle.rule_tokens.specs.Limits.{Limits}
 
--- some tokens behind them make them the tokens of rules
+-- some tokens behind them make them the tokens of a rule file
 abbrev pub Fits : Limits → List Token → Type 0
-Fits limits front = (rules : List RawRule) × (more : List Token) × SpellsRules limits rules (front ++ more)
+Fits limits front = (rules : List RawRule) × (more : List Token) × SpellsFile limits rules (front ++ more)
 
 -- the token fits behind them
 abbrev pub FitsBehind : Limits → List Token → Token → Type 0

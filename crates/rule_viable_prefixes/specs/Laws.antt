@@ -5,19 +5,19 @@ use Rattle.rule_tokens.specs.declared.fault.RuleFaultKind.TheVariants.{Syntax, L
 use Rattle.rule_tokens.specs.RuleFaults.{RuleFault}
 use Rattle.rule_tokens.specs.Tokens.{Token, Word, AreTokens}
 use Rattle.rule_parse.specs.declared.raw.RawRule.{RawRule}
-use Rattle.rule_parse.specs.Grammar.{SpellsRules}
+use Rattle.rule_parse.specs.Grammar.{SpellsFile}
 use Rattle.rule_parse.specs.Limits.{most_nodes}
 use Rattle.rule_parse.specs.NodeCounts.{counted_at_end, IsWithinLimit}
 use Rattle.rule_parse.specs.Text.{IsFaultWithin}
 use Rattle.rule_viable_prefixes.specs.Fits.{Fits, FitsBehind, LineFits, line_of}
-use Rattle.rule_viable_prefixes.specs.Misfits.{IsMisfit, IsExcused, NounFits, RepeatsFlag}
+use Rattle.rule_viable_prefixes.specs.Misfits.{IsMisfit, IsOtherVersion, IsExcused, NounFits, RepeatsFlag}
 use Rattle.rule_tokens.specs.Limits.{Limits}
 
 -- The token does not fit, and the kind says why: a word is told as `Syntax` only where no noun fits, but for three cases; and a word
 -- that is left out repeats no flag.
 pub record DoesNotFit (limits : Limits) (front : List Token) (token : Token) (behind : List Token) (kind : RuleFaultKind) : Type 0 where
   pub misfit : ¬ FitsBehind limits front token
-  pub told : IsMisfit limits (FitsBehind limits front) token behind kind
+  pub told : IsMisfit limits (FitsBehind limits front) token behind kind ⊎ IsOtherVersion (FitsBehind limits front) token kind
   pub no_noun : kind ≡ Syntax → (word : List ℕ) → token ≡ Word word → NounFits (FitsBehind limits front) → IsExcused (FitsBehind limits front) front word
   pub repeats_none : (left : List ℕ) → kind ≡ LeftOut left → ¬ RepeatsFlag front left
 
@@ -44,7 +44,7 @@ pub record IsAtToken (limits : Limits) (tokens : List Token) (found : RuleFault)
 pub record IsAtEnd (limits : Limits) (tokens : List Token) (last : ℕ) (found : RuleFault) : Type 0 where
   pub fits : Fits limits tokens
   pub within : IsWithinLimit tokens
-  pub no_rules : (rules : List RawRule) → ¬ SpellsRules limits rules tokens
+  pub no_rules : (rules : List RawRule) → ¬ SpellsFile limits rules tokens
   pub kind : found.kind ≡ Syntax
   pub line : (LineFits limits tokens × (found.line ≡ last)) ⊎ ((¬ LineFits limits tokens) × (found.line ≡ line_of tokens))
 
@@ -59,4 +59,4 @@ pub record FaultsAreWhereTextsDoNotFit : Type 0 where
   pub refused : (limits : Limits) → AreRoomy limits → (text : List ℕ) (tokens : List Token) (last : ℕ) (found : RuleFault)
       → AreTokens text tokens last → IsFaultWithin limits text found → IsAtToken limits tokens found ⊎ IsAtEnd limits tokens last found
   pub read : (limits : Limits) (text : List ℕ) (tokens : List Token) (last : ℕ) (rules : List RawRule) (found : RuleFault)
-      → AreTokens text tokens last → SpellsRules limits rules tokens → IsWithinLimit tokens → ¬ IsFaultWithin limits text found
+      → AreTokens text tokens last → SpellsFile limits rules tokens → IsWithinLimit tokens → ¬ IsFaultWithin limits text found

@@ -116,3 +116,7 @@ IsReadOn fits token behind kind =
 pub data IsMisfit (limits : Limits) (fits : Fitting) (token : Token) (behind : List Token) (kind : RuleFaultKind) : Type 0 where
   itself : Says limits fits token kind → IsMisfit limits fits token behind kind
   read_on : IsReadOn fits token behind kind → IsMisfit limits fits token behind kind
+
+-- It is the number of a version, left out where that of the first one fits.
+abbrev pub IsOtherVersion : Fitting → Token → RuleFaultKind → Type 0
+IsOtherVersion fits token kind = (left : List ℕ) × (token ≡ Number left) × (kind ≡ LeftOut left) × fits (Number (codes "1"))

@@ -16,7 +16,7 @@ is_among words bytes = list_any (bytes_eq bytes) words
 
 -- the heads
 abbrev pub heads : List (List ℕ)
-heads = codes "Name:" ∷ codes "Pre:" ∷ codes "Wit:" ∷ []
+heads = codes "Version:" ∷ codes "Name:" ∷ codes "Pre:" ∷ codes "Wit:" ∷ []
 
 -- the marks that are tokens in every place: punctuation, operators and comparisons
 abbrev pub marks : List (List ℕ)

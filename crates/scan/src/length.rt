@@ -7,8 +7,8 @@ ghost use Rattle.scan.specs.RuleTokens as tokens;
 use crate::begins::{begins_argument, begins_name_byte, begins_word, behind};
 use crate::run::{digit_run, register_run, word_run};
 
-/// The heads of a rule's parts.
-const HEADS: [&str; 3] = ["Name:", "Pre:", "Wit:"];
+/// The heads of the parts of a rule file.
+const HEADS: [&str; 4] = ["Version:", "Name:", "Pre:", "Wit:"];
 
 /// The marks that are tokens in every place.
 const MARKS: [&str; 28] = [

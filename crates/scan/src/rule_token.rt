@@ -9,7 +9,7 @@ pub enum RuleKind {
     End,
     /// A printable byte that begins no token.
     Other,
-    /// `Name:`, `Pre:` or `Wit:`.
+    /// `Version:`, `Name:`, `Pre:` or `Wit:`.
     Head,
     /// `%`, and letters, digits, `_` and `.`.
     Register,

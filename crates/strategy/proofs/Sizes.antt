@@ -75,6 +75,7 @@ module _ (rule : Rule) (binding : Binding) where
   one_put name N (rule_ops.Compare pred samesign a b) = omega arith
   one_put name N (rule_ops.Select c a b) = omega arith
   one_put name N (rule_ops.Convert cast flags a to) = omega arith
+  one_put name N (rule_ops.Freeze a k) = omega arith
   one_put name N (rule_ops.Copy a) = omega arith
 
   few_put : (name : Name) (statements : List Statement) → length (insts_put rule binding name statements) ≤ length statements

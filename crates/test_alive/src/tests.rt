@@ -1,6 +1,7 @@
 //! The whole program, over files and sinks in memory.
 
 mod faults;
+mod freezes;
 mod loads;
 mod logs;
 mod long_words;

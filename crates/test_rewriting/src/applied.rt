@@ -3,8 +3,8 @@
 ghost use Rattle.test_rewriting.specs.Ready.{FunctionIsReady, RuleIsReady};
 
 use crate::reading::{
-    ADD_ZERO, MUL_TWO, NOT_ADD, NOT_ADD_ONCE, SEL_INC, ZEXT_TWICE, function_of, match_there,
-    rule_of,
+    ADD_ZERO, MUL_TWO, NOT_ADD, NOT_ADD_ONCE, REFREEZE, SEL_FREEZE, SEL_INC, ZEXT_TWICE,
+    function_of, match_there, rule_of,
 };
 use ir_core::Function;
 use rewriter::apply;
@@ -20,7 +20,7 @@ struct Row {
     applied: Option<&'static str>,
 }
 
-const ROWS: [Row; 17] = [
+const ROWS: [Row; 23] = [
     Row {
         rule: NOT_ADD,
         function: "define i4 @f(i4 %a) { %1 = xor i4 %a, -1 %2 = add i4 %1, 5 ret i4 %2 }",
@@ -160,6 +160,48 @@ l: %x = phi i8 [ %z, %e ], [ %q, %l ] %c = icmp eq i8 %q, %x br i1 %c, label %l,
         applied: Some(
             "define i4 @f(i4 %a, i4 %b) { %c = icmp eq i4 %a, 9 %1 = icmp ne i4 %a, 9 %r = select i1 %1, i4 %a, i4 %b ret i4 %r }",
         ),
+    },
+    // A freeze that is put, one that is matched, of `poison` too, and one that goes with its root.
+    Row {
+        rule: SEL_FREEZE,
+        function: "define i1 @f(i1 %c, i1 %y) { %r = select i1 %c, i1 %y, i1 false ret i1 %r }",
+        root: (0, 0),
+        applied: Some(
+            "define i1 @f(i1 %c, i1 %y) { %1 = freeze i1 %y %r = and i1 %c, %1 ret i1 %r }",
+        ),
+    },
+    Row {
+        rule: REFREEZE,
+        function: "define i8 @f() { %r = freeze i8 poison ret i8 %r }",
+        root: (0, 0),
+        applied: Some("define i8 @f() { %r = freeze i8 poison ret i8 %r }"),
+    },
+    Row {
+        rule: "Version: 2\nName: push\nWit: t1 + 1\n%t = add %x, 1\n%r = freeze %t\n=>\n%f = freeze %x\n%r = add %f, 1\n",
+        function: "define i8 @f(i8 %a) { %t = add i8 %a, 1 %r = freeze i8 %t ret i8 %r }",
+        root: (0, 1),
+        applied: Some(
+            "define i8 @f(i8 %a) { %t = add i8 %a, 1 %1 = freeze i8 %a %r = add i8 %1, 1 ret i8 %r }",
+        ),
+    },
+    Row {
+        rule: "Version: 2\nName: constant\nWit: 0\n%r = freeze C\n=>\n%r = C\n",
+        function: "define i8 @f() { %r = freeze i8 5 ret i8 %r }",
+        root: (0, 0),
+        applied: Some("define i8 @f() { ret i8 5 }"),
+    },
+    // Nothing is bound to `undef`, and a freeze matches no other instruction.
+    Row {
+        rule: REFREEZE,
+        function: "define i8 @f() { %r = freeze i8 undef ret i8 %r }",
+        root: (0, 0),
+        applied: None,
+    },
+    Row {
+        rule: REFREEZE,
+        function: "define i8 @f(i8 %a) { %r = add i8 %a, 0 ret i8 %r }",
+        root: (0, 0),
+        applied: None,
     },
 ];
 

@@ -31,6 +31,12 @@ pub(crate) const SEL_INC: &str =
 pub(crate) const ZEXT_TWICE: &str =
     "Name: zext-twice\n%t = zext %x\n%r = zext %t\n=>\n%r = zext %x\n";
 
+pub(crate) const SEL_FREEZE: &str =
+    "Version: 2\nName: sel-freeze\n%r = select %c, %y, false\n=>\n%f = freeze %y\n%r = and %c, %f\n";
+
+pub(crate) const REFREEZE: &str =
+    "Version: 2\nName: refreeze\nWit: t1\n%r = freeze %x\n=>\n%r = freeze %x\n";
+
 /// The module of a text.
 pub(crate) fn module_of(alloc: Global, text: &str) -> Result<Module, Fail>
     ensures { IfOk result ModuleMeetsChecks }

@@ -11,7 +11,7 @@ use std::process::Abort;
 use std::test::Fail;
 
 /// A source, a target, and the classes of the results, operands and nodes in order.
-const ROWS: [(&str, &str, &[u32]); 5] = [
+const ROWS: [(&str, &str, &[u32]); 7] = [
     ("%r = add i4 %x, 1", "%r = %x", &[0, 0, 0, 0, 0]),
     ("%r = zext %x", "%r = sext %x", &[0, 1, 0, 1]),
     (
@@ -25,6 +25,17 @@ const ROWS: [(&str, &str, &[u32]); 5] = [
         "%c = icmp eq %x, 0\n%r = and %c, C",
         "%r = and %c, C+width(%x)",
         &[0, 1, 1, 0, 0, 0, 0, 0, 0, 0, 0, 1, 0],
+    ),
+    // a freeze has the class of its operand, and `Wit:` that of the choices that it names and makes
+    (
+        "%r = icmp eq %x, %y",
+        "%f = freeze %x\n%r = icmp eq %f, %y",
+        &[0, 1, 1, 1, 1, 0, 1, 1],
+    ),
+    (
+        "Wit: t1\n%r = freeze %x",
+        "%f = freeze %x\n%g = icmp eq %f, 0\n%r = %f",
+        &[0, 0, 0, 0, 1, 0, 0, 0, 0, 0],
     ),
 ];
 
@@ -57,7 +68,7 @@ fn are_classes(rt: &impl Abort, rule: &Rule, classes: &[u32])
 #[test]
 fn positions_have_their_classes(rt: HostRuntime) -> Result<(), Fail> {
     for (source, target, classes) in ROWS {
-        let text = format!(in rt.alloc(); "Name: r\n{source}\n=>\n{target}\n")?;
+        let text = format!(in rt.alloc(); "Version: 2\nName: r\n{source}\n=>\n{target}\n")?;
         let mut rule = only_rule(rt.alloc(), text.as_bytes())?;
         assert!(rt; classify(&mut rule).is_ok(), "{classes:?}");
         are_classes(&rt, &rule, classes);

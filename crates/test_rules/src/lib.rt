@@ -6,6 +6,8 @@ mod classes;
 #[cfg(test)]
 mod constants;
 #[cfg(test)]
+mod freezes;
+#[cfg(test)]
 mod one_statement;
 #[cfg(test)]
 mod preconditions;
@@ -15,3 +17,5 @@ mod refusals;
 mod runs;
 #[cfg(test)]
 mod tests;
+#[cfg(test)]
+mod versions;

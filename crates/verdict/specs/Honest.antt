@@ -5,7 +5,7 @@ use Rattle.clauses.specs.Settings.{StandsFor}
 use Rattle.cdcl_log.specs.Found.{IsHonestLimit}
 use Rattle.rule_core.specs.declared.rule.Rule.{Rule}
 use Rattle.rule_core.specs.declared.example.Example.{Example}
-use Rattle.rule_core.specs.Positions.{undefs_among}
+use Rattle.rule_core.specs.Positions.{choices_among}
 use Rattle.rule_core.specs.Valid.{Setting, IsValid, IsCounterexample}
 use Rattle.blast_rule.specs.Inputs.{input_bits}
 use Rattle.blast_rule.specs.Settings.{setting_of}
@@ -17,15 +17,15 @@ use Rattle.verdict.specs.declared.verdict.Tried.{Tried}
 
 -- what an example runs the halves on
 abbrev pub setting_in : Example → Setting
-setting_in example = record { inputs = example.inputs; constants = example.constants; target_undefs = example.target_undefs }
+setting_in example = record { inputs = example.inputs; constants = example.constants; target_choices = example.target_undefs }
 
--- The example is a counterexample: with what `Wit:` chooses for the source's `undef`s there, and the effects of both halves.
+-- The example is a counterexample: with what `Wit:` gives for the source's choices there, and the effects of both halves.
 abbrev pub IsRefutedBy : Rule → List ℕ → Example → Type 0
 IsRefutedBy rule typing example = IsCounterexample rule typing (setting_in example) example.source_undefs example.source example.target
 
--- the source of the rule has an `undef`
-abbrev pub HasSourceUndef : Rule → Type 0
-HasSourceUndef rule = 0 < length (undefs_among rule.source)
+-- the source of the rule leaves something open: it has an `undef`, or a freeze
+abbrev pub HasSourceChoice : Rule → Type 0
+HasSourceChoice rule = 0 < length (choices_among rule.source)
 
 -- The set stands for the counterexamples of the rule at the typing: its inputs are the bits of a setting, it stands for the
 -- test that these are read as a counterexample, and beside them it has at most a variable for each gate and one more.
@@ -43,6 +43,6 @@ pub record IsHonestBudget (rule : Rule) (typing : List ℕ) (limit : ℕ) (tried
 
 abbrev pub IsHonest : Rule → List ℕ → ℕ → Verdict → Type 0
 IsHonest rule typing limit Admitted = IsValid rule typing
-IsHonest rule typing limit (Refuted example) = IsRefutedBy rule typing example × ¬ (HasSourceUndef rule)
-IsHonest rule typing limit (WitnessFails example) = IsRefutedBy rule typing example × HasSourceUndef rule
+IsHonest rule typing limit (Refuted example) = IsRefutedBy rule typing example × ¬ (HasSourceChoice rule)
+IsHonest rule typing limit (WitnessFails example) = IsRefutedBy rule typing example × HasSourceChoice rule
 IsHonest rule typing limit (Budget tried) = IsHonestBudget rule typing limit tried

@@ -33,9 +33,9 @@ inputs_text names values = flat_map (λ line. line_text (codes "%" ++ line.0) li
 unfoldable pub constants_text : List (List ℕ) → List Number → List ℕ
 constants_text names numbers = flat_map (λ line. line_text line.0 (Bits line.1)) (zip names numbers)
 
--- a line for each `undef` of a half, counted from 1 behind the half's letter: `t1 = V`
-unfoldable pub undefs_text : List ℕ → List Number → List ℕ
-undefs_text letter numbers = flat_map (λ line. line_text (letter ++ decimal line.0) (Bits line.1)) (enumerate_from 1 numbers)
+-- a line for each choice of a half, counted from 1 behind the half's letter: `t1 = V`
+unfoldable pub choices_text : List ℕ → List Number → List ℕ
+choices_text letter numbers = flat_map (λ line. line_text (letter ++ decimal line.0) (Bits line.1)) (enumerate_from 1 numbers)
 
 -- the line of what a half does
 unfoldable pub half_text : List ℕ → Effect → List ℕ
@@ -46,8 +46,8 @@ unfoldable pub example_text : Rule → Example → List ℕ
 example_text rule e =
     inputs_text rule.inputs e.inputs
     ++ constants_text rule.constants e.constants
-    ++ undefs_text (codes "t") e.target_undefs
-    ++ undefs_text (codes "u") e.source_undefs
+    ++ choices_text (codes "t") e.target_undefs
+    ++ choices_text (codes "u") e.source_undefs
     ++ half_text (codes "source") e.source
     ++ half_text (codes "target") e.target
 

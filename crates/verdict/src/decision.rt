@@ -39,8 +39,8 @@ enum Attempt {
 /// Decides whether the rule is valid at the typing, by a search for a counterexample that may learn `limit` clauses, beside the empty
 /// one that ends a refutation. The only error is want of memory.
 ///
-/// A rule of at most 12 input bits is decided at every limit. (An input of width N has N + 1 input bits; a constant, and an `undef` of
-/// the target, has N.)
+/// A rule of at most 12 input bits is decided at every limit. (An input of width N has N + 1 input bits; a constant, and an `undef` or
+/// a freeze of the target, has N.)
 pub fn decide(
     alloc: Global,
     rule: &Rule,
@@ -164,7 +164,7 @@ fn counterexample_clauses(alloc: Global, rule: &Rule, typing: &Typing) -> Result
     clauses_of(alloc, &graph, made.bad)
 }
 
-/// What is said of a rule that the example refutes. Where the source has an `undef`, another choice for it might do.
+/// What is said of a rule that the example refutes. Where the source has an `undef` or a freeze, another number for it might do.
 fn refusal(rule: &Rule, example: Example) -> Verdict
     requires { IsRule rule.now }
     ensures honest { (typing : Seq ℕ) (limit : ℕ) → IsRefutedBy rule.now typing example → IsHonest rule.now typing limit result }
@@ -201,7 +201,7 @@ fn example_of(
     Ok(Example {
         inputs: setting.inputs,
         constants: setting.constants,
-        target_undefs: setting.target_undefs,
+        target_undefs: setting.target_choices,
         source_undefs: words_read(alloc, made.choices.as_slice())?,
         source: effect_read(&made.source),
         target: effect_read(&made.target),

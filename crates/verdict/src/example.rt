@@ -1,7 +1,7 @@
 //! Prints counterexamples.
 
 ghost use Rattle.std.specs.Prelude.{◌≡◌, ◌++◌, OnOk};
-ghost use Rattle.verdict.specs.Texts.{line_text, inputs_text, constants_text, undefs_text, half_text, example_text};
+ghost use Rattle.verdict.specs.Texts.{line_text, inputs_text, constants_text, choices_text, half_text, example_text};
 
 use crate::words::{push_effect, push_value};
 use itoa::Buffer;
@@ -21,8 +21,8 @@ pub(crate) fn push_example(
 {
     push_inputs(out, rule.inputs.as_slice(), example.inputs.as_slice())?;
     push_constants(out, rule.constants.as_slice(), example.constants.as_slice())?;
-    push_undefs(out, b"t", example.target_undefs.as_slice())?;
-    push_undefs(out, b"u", example.source_undefs.as_slice())?;
+    push_choices(out, b"t", example.target_undefs.as_slice())?;
+    push_choices(out, b"u", example.source_undefs.as_slice())?;
     push_half(out, b"source", example.source)?;
     push_half(out, b"target", example.target)
 }
@@ -47,10 +47,10 @@ fn push_constants(out: &mut Vec<u8>, names: &[Text], numbers: &[Word]) -> Result
     Ok(())
 }
 
-/// Adds a line for each `undef` of a half, by the half's letter and a count from 1.
-#[tactic(auto, unfolding(crate::specs::Texts::undefs_text))]
-fn push_undefs(out: &mut Vec<u8>, letter: &[u8], numbers: &[Word]) -> Result<(), AllocError>
-    ensures { OnOk result (out.new.items ≡ out.old.items ++ undefs_text letter.now numbers.now) }
+/// Adds a line for each choice of a half, by the half's letter and a count from 1.
+#[tactic(auto, unfolding(crate::specs::Texts::choices_text))]
+fn push_choices(out: &mut Vec<u8>, letter: &[u8], numbers: &[Word]) -> Result<(), AllocError>
+    ensures { OnOk result (out.new.items ≡ out.old.items ++ choices_text letter.now numbers.now) }
 {
     for (place, number) in numbers.iter().enumerate() {
         let mut count = Buffer::new();

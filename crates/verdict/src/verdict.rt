@@ -10,9 +10,10 @@ use rule_core::{Example, Typing};
 pub enum Verdict {
     /// The rule is valid.
     Admitted,
-    /// The example is a counterexample, and the source has no `undef`.
+    /// The example is a counterexample, and the source has no `undef` and no freeze.
     Refuted(Example),
-    /// The example is a counterexample by what the rule chooses for the `undef`s of its source. Another choice might do.
+    /// The example is a counterexample by what the rule's `Wit:` gives for the `undef`s and the freeze of its source. Another number
+    /// might do.
     WitnessFails(Example),
     /// The search gave up at its limit, over a setting of more than 12 bits.
     Budget(Tried),

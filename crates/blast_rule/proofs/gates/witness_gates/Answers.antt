@@ -2,7 +2,7 @@ use Rattle.std.proofs.Common.{◌≡◌, length, ap, arith}
 use Rattle.rule_core.proofs.Weights.{few_terms}
 use Rattle.blast_term.specs.Gates.{terms_gates, choices_gates}
 use Rattle.blast_rule.specs.Gates.{widths_of_witness}
-use Rattle.blast_setting.proofs.Few.{few_undefs}
+use Rattle.blast_setting.proofs.Few.{few_choices}
 use Rattle.blast_rule.proofs.Counts.{expressions_within, places_within}
 use Rattle.blast_rule.proofs.gates.witness_gates.Goals as goal
 
@@ -14,7 +14,7 @@ terms_gates-requires-clause-classes c = rw c.as_slice-terms.ensures (expressions
 
 pub choices_gates-requires-clause-few : goal.choices_gates-requires-clause-few
 choices_gates-requires-clause-few c =
-    omega (arith, ap length c.as_slice-places.ensures, c.requires.rule.witnesses, few_undefs c.args.rule.now.source, c.requires.rule.few_in_source)
+    omega (arith, ap length c.as_slice-places.ensures, c.requires.rule.witnesses, few_choices c.args.rule.now.source, c.requires.rule.few_in_source)
 
 pub choices_gates-requires-clause-classes : goal.choices_gates-requires-clause-classes
 choices_gates-requires-clause-classes c = rw c.as_slice-terms.ensures (expressions_within c.args.rule.now c.args.typing.now c.requires.rule c.requires.typing)

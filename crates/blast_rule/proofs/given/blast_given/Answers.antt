@@ -47,7 +47,7 @@ returns-clause-terms g c = λ inputs admitted.
     let second = c.numbers_or_zeros.ensures.adds.keeps.admitted inputs first in
     let words = c.in_ok-terms.terms.items in
     let values : map (held_value (m.value c.blast_terms.new.c inputs)) c.in_ok-values.values.items ≡ constant_values c.args.typing.now constants c.args.rule.now =
-    rw c.as_slice.ensures at (c.in_ok-values.ensures.values inputs (of_constants constants) admitted (record { constants = refl; undefs = refl; registers = nothing_held })) in
+    rw c.as_slice.ensures at (c.in_ok-values.ensures.values inputs (of_constants constants) admitted (record { constants = refl; choices = refl; registers = nothing_held })) in
     rw c.from_vec.ensures
     (numbers_of-kept c.blast_precondition.ensures.adds.keeps inputs second words c.in_ok-terms.ensures.own
     ∙ rw c.deref.ensures.value at (c.in_ok-terms.ensures.numbers inputs first)
@@ -62,7 +62,7 @@ returns-clause-met g c = λ inputs admitted.
     let second = c.numbers_or_zeros.ensures.adds.keeps.admitted inputs first in
     let items = c.in_ok-values.values.items in
     let values : map (held_value (m.value c.blast_terms.new.c inputs)) items ≡ constant_values c.args.typing.now constants c.args.rule.now =
-    rw c.as_slice.ensures at (c.in_ok-values.ensures.values inputs (of_constants constants) admitted (record { constants = refl; undefs = refl; registers = nothing_held })) in
+    rw c.as_slice.ensures at (c.in_ok-values.ensures.values inputs (of_constants constants) admitted (record { constants = refl; choices = refl; registers = nothing_held })) in
     let now = values-kept c.numbers_or_zeros.ensures.adds.keeps inputs first items c.in_ok-values.ensures.own ∙ values in
     precondition_holds c.args.rule.now c.args.typing.now constants (map (held_value (m.value c.numbers_or_zeros.new.c inputs)) items) (m.value c.blast_precondition.new.c inputs c.in_ok-met.met) now
     (rw (c.deref-2.ensures.value, c.as_slice-2.ensures) at (c.in_ok-met.ensures.value inputs second))

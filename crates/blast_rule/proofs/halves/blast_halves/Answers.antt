@@ -16,7 +16,7 @@ use Rattle.blast_value.specs.Words.{number_held}
 use Rattle.blast_rule.specs.Runs.{shape}
 use Rattle.blast_value.proofs.Kept.{AllOwn-kept, AllAll-kept, IsOwnEffect-kept, numbers_held-kept}
 use Rattle.blast_rule.proofs.Scopes.{Reads, given_shape_of, seen_of}
-use Rattle.blast_rule.proofs.Shapes.{inputs_stand, constants_stand, undefs_stand, before_root_stands, source_stands, target_stands}
+use Rattle.blast_rule.proofs.Shapes.{inputs_stand, constants_stand, target_choices_stand, before_root_stands, source_stands, target_stands}
 use Rattle.blast_rule.proofs.Chosen.{witness_terms_held}
 use Rattle.blast_rule.proofs.Runs.{stands, own_none, run_gates-within}
 use Rattle.blast_rule.proofs.Effects.{parts, source_width}
@@ -34,8 +34,8 @@ blast_temporaries-requires-clause-given g c =
     let start = c.scope_of-start.ensures in
     rw (given_shape_of c.scope_of-start.result setting.inputs [] [] setting.constants [] c.args.terms.now
     (record { inputs_are = start.inputs; source_are = start.source; target_are = start.target; constants_are = start.constants; choices_are = start.choices; terms_are = start.terms }))
-    (before_root_stands c.args.rule.now c.args.typing.now c.requires.rule c.requires.typing setting.inputs setting.constants setting.target_undefs c.args.terms.now
-    c.requires.widths.inputs c.requires.widths.constants c.requires.widths.target_undefs c.requires.widths_of_terms [])
+    (before_root_stands c.args.rule.now c.args.typing.now c.requires.rule c.requires.typing setting.inputs setting.constants setting.target_choices c.args.terms.now
+    c.requires.widths.inputs c.requires.widths.constants c.requires.widths.target_choices c.requires.widths_of_terms [])
 
 pub blast_witness-requires-clause-ready : goal.blast_witness-requires-clause-ready
 blast_witness-requires-clause-ready g c =
@@ -48,7 +48,7 @@ blast_witness-requires-clause-ready g c =
     (rw start.inputs (inputs_stand rule typing c.requires.rule c.requires.typing setting.inputs c.requires.widths.inputs))
     (rw c.deref.ensures.value c.in_ok-temporaries.ensures.fit) (rw c.deref.ensures.value c.in_ok-temporaries.ensures.count)
     (rw start.constants (constants_stand rule typing c.requires.rule c.requires.typing setting.constants c.requires.widths.constants))
-    (rw c.as_slice.ensures (undefs_stand rule typing c.requires.rule c.requires.typing setting.target_undefs c.requires.widths.target_undefs))
+    (rw c.as_slice.ensures (target_choices_stand rule typing c.requires.rule c.requires.typing setting.target_choices c.requires.widths.target_choices))
 
 pub blast_witness-requires-clause-there : goal.blast_witness-requires-clause-there
 blast_witness-requires-clause-there g c = λ k d below.
@@ -67,7 +67,7 @@ blast_witness-requires-clause-own g c =
       source = rw c.deref.ensures.value c.in_ok-temporaries.ensures.own;
       target = rw start.target (own_none (IsOwn (m.has_literal c.blast_temporaries.new.c)));
       constants = rw start.constants (AllAll-kept keeps setting.constants own.constants);
-      choices = rw c.as_slice.ensures (AllAll-kept keeps setting.target_undefs own.target_undefs);
+      choices = rw c.as_slice.ensures (AllAll-kept keeps setting.target_choices own.target_choices);
       terms = rw start.terms (AllAll-kept keeps c.args.terms.now c.requires.own_terms);
     }
 
@@ -92,8 +92,8 @@ blast_next-requires-clause-ready g c =
     let is = Contains-take rule.source (length rule.source) k root (omega (arith, c.requires.rule.source_root)) at in
     rw (start.inputs, start.target, start.constants, start.terms, c.deref.ensures.value, c.as_slice-2.ensures)
     (source_next rule typing (take (length rule.source) rule.source) _ (map shape setting.inputs) (map shape made.held.items) k root c.requires.rule c.requires.typing
-    (source_stands rule typing c.requires.rule c.requires.typing setting.inputs setting.constants setting.target_undefs c.args.terms.now
-    c.requires.widths.inputs c.requires.widths.constants c.requires.widths.target_undefs c.requires.widths_of_terms c.in_ok-choices.choices c.in_ok-choices.ensures.widths)
+    (source_stands rule typing c.requires.rule c.requires.typing setting.inputs setting.constants setting.target_choices c.args.terms.now
+    c.requires.widths.inputs c.requires.widths.constants c.requires.widths.target_choices c.requires.widths_of_terms c.in_ok-choices.choices c.in_ok-choices.ensures.widths)
     (inputs_stand rule typing c.requires.rule c.requires.typing setting.inputs c.requires.widths.inputs) c.in_ok-temporaries.ensures.fit
     (omega (arith, length-map made.held.items shape, c.in_ok-temporaries.ensures.count)) at is)
 
@@ -134,8 +134,8 @@ blast_target-requires-clause-given g c =
     let setting = c.args.setting.now in
     let start = c.scope_of-start.ensures in
     rw (start.constants, start.terms, c.as_slice.ensures)
-    (target_stands c.args.rule.now c.args.typing.now c.requires.rule c.requires.typing setting.inputs setting.constants setting.target_undefs c.args.terms.now
-    c.requires.widths.inputs c.requires.widths.constants c.requires.widths.target_undefs c.requires.widths_of_terms)
+    (target_stands c.args.rule.now c.args.typing.now c.requires.rule c.requires.typing setting.inputs setting.constants setting.target_choices c.args.terms.now
+    c.requires.widths.inputs c.requires.widths.constants c.requires.widths.target_choices c.requires.widths_of_terms)
 
 pub blast_target-requires-clause-own : goal.blast_target-requires-clause-own
 blast_target-requires-clause-own g c =
@@ -150,7 +150,7 @@ blast_target-requires-clause-own g c =
       source = rw c.deref.ensures.value (AllOwn-kept next c.in_ok-temporaries.temporaries.held.items c.in_ok-temporaries.ensures.own);
       target = rw start.target (own_none (IsOwn (m.has_literal c.blast_next.new.c)));
       constants = rw start.constants (AllAll-kept keeps setting.constants own.constants);
-      choices = rw c.as_slice.ensures (AllAll-kept keeps setting.target_undefs own.target_undefs);
+      choices = rw c.as_slice.ensures (AllAll-kept keeps setting.target_choices own.target_choices);
       terms = rw start.terms (AllAll-kept keeps c.args.terms.now c.requires.own_terms);
     }
 
@@ -216,33 +216,33 @@ returns-clause-effects g c = λ inputs at admitted is terms_are.
     let root = c.index-as_slice-len.result in
     let place = rw (c.len.ensures, c.as_slice-3.ensures) at c.index-as_slice-len.is in
     let still : Keeps m c.args.c.now c.args.c.now = Keeps-refl in
-    let given_first = is_given still inputs admitted rule typing c.requires.rule setting.inputs made.held.items setting.constants setting.target_undefs terms u own.inputs own.constants own.target_undefs
+    let given_first = is_given still inputs admitted rule typing c.requires.rule setting.inputs made.held.items setting.constants setting.target_choices terms u own.inputs own.constants own.target_choices
     c.scope_of-start.result setting.inputs [] [] [] (record { inputs_are = start.inputs; source_are = start.source; target_are = start.target; constants_are = start.constants; choices_are = start.choices; terms_are = start.terms })
     [] refl terms_now c.requires.own_terms in
     let ran = rw start.inputs at (c.in_ok-temporaries.ensures.ran inputs (given_by typing now.constants [] rule) admitted given_first) in
     let before : Scope _ = record { inputs = c.scope_of-start.result.inputs; source = c.deref.result; target = c.scope_of-start.result.target; constants = c.scope_of-start.result.constants; choices = c.as_slice.result; terms = c.scope_of-start.result.terms } in
     let after : Scope _ = record { inputs = c.scope_of-start.result.inputs; source = c.deref.result; target = c.scope_of-start.result.target; constants = c.scope_of-start.result.constants; choices = c.as_slice-2.result; terms = c.scope_of-start.result.terms } in
-    let reads_before : Reads before setting.inputs made.held.items [] setting.constants setting.target_undefs terms =
+    let reads_before : Reads before setting.inputs made.held.items [] setting.constants setting.target_choices terms =
     record { inputs_are = start.inputs; source_are = c.deref.ensures.value; target_are = start.target; constants_are = start.constants; choices_are = c.as_slice.ensures; terms_are = start.terms } in
     let reads_after : Reads after setting.inputs made.held.items [] setting.constants words terms =
     record { inputs_are = start.inputs; source_are = c.deref.ensures.value; target_are = start.target; constants_are = start.constants; choices_are = c.as_slice-2.ensures; terms_are = start.terms } in
-    let given_root = is_given (Keeps-trans first second) inputs admitted rule typing c.requires.rule setting.inputs made.held.items setting.constants setting.target_undefs terms u own.inputs own.constants own.target_undefs
+    let given_root = is_given (Keeps-trans first second) inputs admitted rule typing c.requires.rule setting.inputs made.held.items setting.constants setting.target_choices terms u own.inputs own.constants own.target_choices
     after setting.inputs made.held.items [] words reads_after choices chosen terms_now c.requires.own_terms in
     let to_target = Keeps-trans first (Keeps-trans second third) in
-    let given_target = is_given to_target inputs admitted rule typing c.requires.rule setting.inputs made.held.items setting.constants setting.target_undefs terms u own.inputs own.constants own.target_undefs
-    before setting.inputs made.held.items [] setting.target_undefs reads_before now.target_undefs (sym (numbers_held-kept to_target inputs admitted setting.target_undefs own.target_undefs)) terms_now c.requires.own_terms in
+    let given_target = is_given to_target inputs admitted rule typing c.requires.rule setting.inputs made.held.items setting.constants setting.target_choices terms u own.inputs own.constants own.target_choices
+    before setting.inputs made.held.items [] setting.target_choices reads_before now.target_choices (sym (numbers_held-kept to_target inputs admitted setting.target_choices own.target_choices)) terms_now c.requires.own_terms in
     let halves : HaveEffects rule typing now choices (effect_of (v c.after.new.c inputs) c.in_ok-source.source) (effect_of (v c.after.new.c inputs) c.in_ok-target-2.target) =
     record {
-      chosen = chooses first inputs admitted rule typing c.requires.rule setting.inputs made.held.items setting.constants setting.target_undefs terms u own.inputs own.constants own.target_undefs
+      chosen = chooses first inputs admitted rule typing c.requires.rule setting.inputs made.held.items setting.constants setting.target_choices terms u own.inputs own.constants own.target_choices
           ran before reads_before choices (λ names means. chosen ∙ c.in_ok-choices.ensures.numbers inputs names one_admitted means);
-      of_source = source_effect first inputs admitted rule typing c.requires.rule setting.inputs made.held.items setting.constants setting.target_undefs terms u own.inputs own.constants own.target_undefs
+      of_source = source_effect first inputs admitted rule typing c.requires.rule setting.inputs made.held.items setting.constants setting.target_choices terms u own.inputs own.constants own.target_choices
           second third end c.in_ok-temporaries.ensures.own c.in_ok-temporaries.ensures.own_undefined ran choices root c.in_ok-source.source (parts rule root c.requires.rule.source_root place) c.in_ok-source.ensures.own
           (c.in_ok-source.ensures.stays inputs two_admitted)
           (λ none. subst (λ held. StatementGives typing (given_by typing now.constants choices rule) held root (effect_of (v c.blast_next.new.c inputs) c.in_ok-source.source))
           (seen_of after setting.inputs made.held.items [] setting.constants words terms reads_after (v c.blast_next.new.c inputs)) (c.in_ok-source.ensures.gives inputs (given_by typing now.constants choices rule) two_admitted given_root none));
-      of_target = target_effect first inputs admitted rule typing c.requires.rule setting.inputs made.held.items setting.constants setting.target_undefs terms u own.inputs own.constants own.target_undefs
+      of_target = target_effect first inputs admitted rule typing c.requires.rule setting.inputs made.held.items setting.constants setting.target_choices terms u own.inputs own.constants own.target_choices
           (Keeps-trans second third) fourth last c.in_ok-temporaries.ensures.own c.in_ok-temporaries.ensures.own_undefined ran (effect_of (v c.blast_target.new.c inputs) c.in_ok-target.target) c.in_ok-target-2.target
-          (rw (start.inputs, c.deref.ensures.value) at (c.in_ok-target.ensures.gives inputs now.constants now.target_undefs three_admitted given_target)) (c.in_ok-target-2.ensures.effect inputs four_admitted);
+          (rw (start.inputs, c.deref.ensures.value) at (c.in_ok-target.ensures.gives inputs now.constants now.target_choices three_admitted given_target)) (c.in_ok-target-2.ensures.effect inputs four_admitted);
     } in
     subst (λ (s : Setting). HaveEffects rule typing s choices (effect_of (v c.after.new.c inputs) c.in_ok-source.source) (effect_of (v c.after.new.c inputs) c.in_ok-target-2.target)) is halves
 

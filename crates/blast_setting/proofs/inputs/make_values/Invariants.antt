@@ -3,17 +3,17 @@ use Rattle.circuits.specs.Circuit.{Keeps}
 use Rattle.blast_value.specs.declared.held.Held.{Held}
 use Rattle.blast_value.specs.Effect.{held_value, IsOwn}
 use Rattle.blast_value.proofs.Kept.{IsOwn-kept, held_value-kept}
-use Rattle.blast_setting.specs.Inputs.{named_widths, value_bits}
+use Rattle.blast_setting.specs.Inputs.{value_bits}
 use Rattle.blast_setting.specs.Settings.{value_read}
 use Rattle.blast_setting.proofs.Making.{AllMade}
 use Rattle.blast_setting.proofs.inputs.make_values.Given as goal
 
-abbrev pub invariant-loop-k : goal.invariant-loop-k
-invariant-loop-k g l =
+abbrev pub invariant-loop-width : goal.invariant-loop-width
+invariant-loop-width g l =
     let m = g.C.State in record {
       keeps : Keeps m l.initial.c l.c;
       gates : m.gates_made l.c ≡ m.gates_made l.initial.c;
       all : AllMade m.admits m.inputs_made (Keeps m) (λ old new k inputs admitted. k.admitted inputs admitted)
           (λ now x. IsOwn (m.has_literal now) x) (λ old new k x own. IsOwn-kept k x own) (λ now inputs x. held_value (m.value now inputs) x) (λ old new k inputs admitted x own. held_value-kept k inputs admitted x own)
-          value_read value_bits (λ (h : Held _). length h.bits) l.initial.c l.c (named_widths l.typing l.statements l.kind l.count) l.held.items l.k;
+          value_read value_bits (λ (h : Held _). length h.bits) l.initial.c l.c l.widths l.held.items l.width-index;
     }

@@ -1,30 +1,27 @@
-use Rattle.std.proofs.Common.{◌≡◌, Some, refl, sym, ap, ◌∙◌, arith}
+use Rattle.std.proofs.Common.{◌≡◌, length, Some, refl, ◌∙◌, arith}
 use Rattle.std.proofs.Math.Nat.{mod-eq_of_lt}
 use Rattle.std.specs.Prelude.{slice_get}
-use Rattle.blast_setting.specs.Inputs.{named_widths, number_bits}
+use Rattle.blast_setting.specs.Inputs.{number_bits}
 use Rattle.blast_setting.specs.Settings.{number_read}
-use Rattle.blast_setting.proofs.Widths.{length-named_widths, named_widths-at}
+use Rattle.std.proofs.lemmas.Option.{slice_get_read}
 use Rattle.blast_setting.proofs.ReadOn.{read_next, read_all, behind_all}
 use Rattle.blast_setting.proofs.setting.numbers_read.Goals as goal
 
-pub named_width-width-requires : goal.named_width-width-requires
-named_width-width-requires c = c.requires c.loop-k.k (omega arith)
-
-pub loop-k-preserved : goal.loop-k-preserved
-loop-k-preserved c =
-    let widths = named_widths c.args.typing.now c.args.statements.now c.args.kind c.args.count in
-    let at : slice_get widths c.loop-k.k ≡ Some c.named_width-width.result = named_widths-at c.args.typing.now c.args.statements.now c.args.kind c.args.count c.loop-k.k (omega arith) ∙ ap (λ N. Some N) (sym c.named_width-width.ensures) in
+pub loop-width-preserved : goal.loop-width-preserved
+loop-width-preserved c =
+    let widths = c.args.widths.now in
+    let at : slice_get widths c.loop-width.width-index ≡ Some c.width-item.result = slice_get_read widths (length widths) c.loop-width.width-index c.width-item.result refl c.loop-width-test.true c.width-item.is in
     let small = mod-eq_of_lt c.number_read.ensures.fits in
-    let is : c.wrapped.result ≡ number_read c.named_width-width.result c.loop-k.rest.now = c.wrapped.ensures ∙ rw (small, c.number_read.ensures.number) refl in
-    read_next number_read number_bits widths c.args.bits.now c.loop-k.numbers _ c.wrapped.result c.loop-k.k c.named_width-width.result _ c.loop-k.rest.now _ at c.loop-k.invariant is c.in_ok-push.ensures.ok
+    let is : c.wrapped.result ≡ number_read c.width-item.result c.loop-width.rest.now = c.wrapped.ensures ∙ rw (small, c.number_read.ensures.number) refl in
+    read_next number_read number_bits widths c.args.bits.now c.loop-width.numbers _ c.wrapped.result c.loop-width.width-index c.width-item.result _ c.loop-width.rest.now _ at c.loop-width.invariant is c.in_ok-push.ensures.ok
     (omega arith) c.after-rest.ensures
 
 pub returns-clause-numbers : goal.returns-clause-numbers
 returns-clause-numbers c =
-    let widths = named_widths c.args.typing.now c.args.statements.now c.args.kind c.args.count in
-    read_all number_read number_bits widths c.args.bits.now c.loop-k.numbers c.loop-k.k c.loop-k.rest.now c.loop-k.invariant (omega (arith, length-named_widths c.args.typing.now c.args.statements.now c.args.kind c.args.count))
+    let widths = c.args.widths.now in
+    read_all number_read number_bits widths c.args.bits.now c.loop-width.numbers c.loop-width.width-index c.loop-width.rest.now c.loop-width.invariant c.loop-width-test.false
 
 pub returns-clause-rest : goal.returns-clause-rest
 returns-clause-rest c =
-    let widths = named_widths c.args.typing.now c.args.statements.now c.args.kind c.args.count in
-    behind_all number_read number_bits widths c.args.bits.now c.loop-k.numbers c.loop-k.k c.loop-k.rest.now c.loop-k.invariant (omega (arith, length-named_widths c.args.typing.now c.args.statements.now c.args.kind c.args.count))
+    let widths = c.args.widths.now in
+    behind_all number_read number_bits widths c.args.bits.now c.loop-width.numbers c.loop-width.width-index c.loop-width.rest.now c.loop-width.invariant c.loop-width-test.false

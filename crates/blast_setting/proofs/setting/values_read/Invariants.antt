@@ -1,8 +1,7 @@
-use Rattle.blast_setting.specs.declared.named.Kind.TheVariants as kinds
-use Rattle.blast_setting.specs.Inputs.{named_widths, value_bits}
+use Rattle.blast_setting.specs.Inputs.{value_bits}
 use Rattle.blast_setting.specs.Settings.{value_read}
 use Rattle.blast_setting.proofs.ReadOn.{ReadSoFar}
 use Rattle.blast_setting.proofs.setting.values_read.Given as goal
 
-abbrev pub invariant-loop-k : goal.invariant-loop-k
-invariant-loop-k l = ReadSoFar value_read value_bits (named_widths l.typing l.statements kinds.Input l.count) l.bits l.values l.k l.rest
+abbrev pub invariant-loop-width : goal.invariant-loop-width
+invariant-loop-width l = ReadSoFar value_read value_bits l.widths l.bits l.values l.width-index l.rest

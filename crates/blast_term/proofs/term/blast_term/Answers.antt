@@ -7,7 +7,7 @@ use Rattle.blast_value.specs.Effect.{held_value, widths_of}
 use Rattle.blast_value.specs.Gates.{opcode_gates}
 use Rattle.blast_term.specs.Gates.{function_gates, term_gates}
 use Rattle.blast_term.specs.Terms.{NodeIsHeld}
-use Rattle.blast_term.proofs.Nodes.{width_of_word, width_of_register, constant-value, undef-value, register-value, unary-value}
+use Rattle.blast_term.proofs.Nodes.{width_of_word, width_of_register, constant-value, choice-value, register-value, unary-value}
 use Rattle.blast_term.proofs.Turns.{binary-value}
 use Rattle.blast_term.proofs.term.blast_term.Goals as goal
 
@@ -15,9 +15,9 @@ pub returns-in-Constant-clause-value : goal.returns-in-Constant-clause-value
 returns-in-Constant-clause-value g c = IfOk-weaker c.of_word.result _ _ (λ made known inputs names admitted means.
     known inputs admitted ∙ constant-value (g.C.State.value c.args.c.now inputs) c.args.typing.now c.args.scope names (map (held_value (g.C.State.value c.args.c.now inputs)) c.args.before.now) c.args.term c.in-Constant.k c.at.result.now c.in-Constant.is means c.at.ensures) c.of_word.ensures.value
 
-pub returns-in-Undef-clause-value : goal.returns-in-Undef-clause-value
-returns-in-Undef-clause-value g c = IfOk-weaker c.of_word-in-Undef.result _ _ (λ made known inputs names admitted means.
-    known inputs admitted ∙ undef-value (g.C.State.value c.args.c.now inputs) c.args.typing.now c.args.scope names (map (held_value (g.C.State.value c.args.c.now inputs)) c.args.before.now) c.args.term c.in-Undef.k c.at-in-Undef.result.now c.in-Undef.is means c.at-in-Undef.ensures) c.of_word-in-Undef.ensures.value
+pub returns-in-Choice-clause-value : goal.returns-in-Choice-clause-value
+returns-in-Choice-clause-value g c = IfOk-weaker c.of_word-in-Choice.result _ _ (λ made known inputs names admitted means.
+    known inputs admitted ∙ choice-value (g.C.State.value c.args.c.now inputs) c.args.typing.now c.args.scope names (map (held_value (g.C.State.value c.args.c.now inputs)) c.args.before.now) c.args.term c.in-Choice.k c.at-in-Choice.result.now c.in-Choice.is means c.at-in-Choice.ensures) c.of_word-in-Choice.ensures.value
 
 pub returns-in-Register-clause-value : goal.returns-in-Register-clause-value
 returns-in-Register-clause-value g c = IfOk-weaker c.of_register.result _ _ (λ made known inputs names admitted means.
@@ -47,8 +47,8 @@ returns-in-Binary-clause-width g c = IfOk-weaker c.blast_operator.result _ _ (λ
 pub returns-in-Constant-clause-width : goal.returns-in-Constant-clause-width
 returns-in-Constant-clause-width g c = IfOk-weaker c.of_word.result _ _ (λ made same. ap length same ∙ width_of_word c.args.scope.constants.now c.in-Constant.k (slice_index c.args.typing.now c.args.term.class) c.at.result.now (subst (NodeIsHeld c.args.typing.now c.args.scope (widths_of c.args.before.now) (slice_index c.args.typing.now c.args.term.class)) c.in-Constant.is c.requires.ready.1) c.at.ensures) c.of_word.ensures.bits
 
-pub returns-in-Undef-clause-width : goal.returns-in-Undef-clause-width
-returns-in-Undef-clause-width g c = IfOk-weaker c.of_word-in-Undef.result _ _ (λ made same. ap length same ∙ width_of_word c.args.scope.choices.now c.in-Undef.k (slice_index c.args.typing.now c.args.term.class) c.at-in-Undef.result.now (subst (NodeIsHeld c.args.typing.now c.args.scope (widths_of c.args.before.now) (slice_index c.args.typing.now c.args.term.class)) c.in-Undef.is c.requires.ready.1) c.at-in-Undef.ensures) c.of_word-in-Undef.ensures.bits
+pub returns-in-Choice-clause-width : goal.returns-in-Choice-clause-width
+returns-in-Choice-clause-width g c = IfOk-weaker c.of_word-in-Choice.result _ _ (λ made same. ap length same ∙ width_of_word c.args.scope.choices.now c.in-Choice.k (slice_index c.args.typing.now c.args.term.class) c.at-in-Choice.result.now (subst (NodeIsHeld c.args.typing.now c.args.scope (widths_of c.args.before.now) (slice_index c.args.typing.now c.args.term.class)) c.in-Choice.is c.requires.ready.1) c.at-in-Choice.ensures) c.of_word-in-Choice.ensures.bits
 
 pub returns-in-Register-clause-width : goal.returns-in-Register-clause-width
 returns-in-Register-clause-width g c = IfOk-weaker c.of_register.result _ _ (λ made same. same ∙ width_of_register c.args.scope c.in-Register.register (slice_index c.args.typing.now c.args.term.class) c.register_held.result.now (subst (NodeIsHeld c.args.typing.now c.args.scope (widths_of c.args.before.now) (slice_index c.args.typing.now c.args.term.class)) c.in-Register.is c.requires.ready.1) c.register_held.ensures) c.of_register.ensures.width
@@ -59,8 +59,8 @@ returns-in-Literal-clause-adds g c = Adds-weaken Adds-refl (omega arith)
 pub returns-in-Constant-clause-adds : goal.returns-in-Constant-clause-adds
 returns-in-Constant-clause-adds g c = Adds-weaken Adds-refl (omega arith)
 
-pub returns-in-Undef-clause-adds : goal.returns-in-Undef-clause-adds
-returns-in-Undef-clause-adds g c = Adds-weaken Adds-refl (omega arith)
+pub returns-in-Choice-clause-adds : goal.returns-in-Choice-clause-adds
+returns-in-Choice-clause-adds g c = Adds-weaken Adds-refl (omega arith)
 
 pub returns-in-Width-clause-adds : goal.returns-in-Width-clause-adds
 returns-in-Width-clause-adds g c = Adds-weaken Adds-refl (omega arith)

@@ -1,5 +1,4 @@
-use Rattle.std.proofs.Common.{◌≡◌, length, subst}
-use Rattle.rule_core.specs.declared.rule.Op.{Op}
+use Rattle.std.proofs.Common.{length, subst}
 use Rattle.rewriter.specs.Ready.{OpIsReady}
 use Rattle.rewriter.proofs.insts.op_put.Goals as goal
 
@@ -32,3 +31,6 @@ class_width-from-requires c = (subst (OpIsReady c.args.rule.now c.args.binding.n
 
 pub operand_put-requires-in-Convert-clause-operand : goal.operand_put-requires-in-Convert-clause-operand
 operand_put-requires-in-Convert-clause-operand c = subst (OpIsReady c.args.rule.now c.args.binding.now (length c.args.results.now)) c.in-Convert.is c.requires.op
+
+pub operand_put-requires-in-Freeze-clause-operand : goal.operand_put-requires-in-Freeze-clause-operand
+operand_put-requires-in-Freeze-clause-operand c = subst (OpIsReady c.args.rule.now c.args.binding.now (length c.args.results.now)) c.in-Freeze.is c.requires.op

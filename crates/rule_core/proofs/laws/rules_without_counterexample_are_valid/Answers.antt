@@ -30,8 +30,8 @@ allows_effect (Gives v) Undefined = inr (λ h. h)
 allows_effect (Gives v) (Gives w) = allows_value v w
 
 pub returns : goal.returns
-returns c = λ rule typing none setting choices source target fits holds have.
+returns c = λ rule typing none setting choices source target counts have.
     elim (allows_effect source target) [
       | inl allowed ↦ allowed
-      | inr refused ↦ absurd (none setting choices source target (record { fits = fits; precondition = holds; effects = have; refused = refused }))
+      | inr refused ↦ absurd (none setting choices source target (record { counts = counts; effects = have; refused = refused }))
     ]

@@ -1,4 +1,4 @@
 use Rattle.rule_core.proofs.laws.valid_rules_have_no_counterexample.Goals as goal
 
 pub returns : goal.returns
-returns c = λ rule typing valid setting choices source target shows. shows.refused (valid setting choices source target shows.fits shows.precondition shows.effects)
+returns c = λ rule typing valid setting choices source target shows. shows.refused (valid setting choices source target shows.counts shows.effects)

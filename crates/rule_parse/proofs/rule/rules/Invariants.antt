@@ -1,12 +1,12 @@
 use Rattle.std.proofs.Common.{◌≡◌, length}
-use Rattle.rule_parse.specs.RuleReaders.{all_rules}
+use Rattle.rule_parse.specs.RuleReaders.{rules_of}
 use Rattle.rule_tokens.specs.SeenTokens.{seen}
 use Rattle.rule_parse.proofs.Loops.{with_rules}
 use Rattle.rule_parse.proofs.rule.rules.Given as goal
 use Rattle.rule_tokens.specs.Limits.{rule_limits}
 
 abbrev pub invariant-loop-rest : goal.invariant-loop-rest
-invariant-loop-rest l = with_rules rule_limits l.rules.items (all_rules rule_limits l.last (seen l.rest)) ≡ all_rules rule_limits l.last (seen l.tokens)
+invariant-loop-rest l = with_rules rule_limits l.version l.rules.items (rules_of rule_limits l.version l.last (seen l.rest)) ≡ rules_of rule_limits l.version l.last (seen l.tokens)
 
 abbrev pub decreases-loop-rest : goal.decreases-loop-rest
 decreases-loop-rest l = length (seen l.rest)

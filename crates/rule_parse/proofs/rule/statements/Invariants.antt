@@ -7,7 +7,7 @@ use Rattle.rule_tokens.specs.Limits.{rule_limits}
 
 abbrev pub invariant-loop-line : goal.invariant-loop-line
 invariant-loop-line l =
-    (length l.statements ≤ 32) × (with_front rule_limits l.statements (statements_at rule_limits (32 - length l.statements) l.half (seen l.tokens.now)) ≡ statements_at rule_limits 32 l.half (seen l.fn.tokens.now))
+    (length l.statements ≤ 32) × (with_front rule_limits l.version l.statements (statements_at rule_limits l.version (32 - length l.statements) l.half (seen l.tokens.now)) ≡ statements_at rule_limits l.version 32 l.half (seen l.fn.tokens.now))
 
 abbrev pub decreases-loop-line : goal.decreases-loop-line
 decreases-loop-line l = 32 - length l.statements

@@ -1,8 +1,7 @@
 -- so many stand in the statements so far
 use Rattle.std.proofs.Common.{◌≡◌, take}
-use Rattle.rule_parse.specs.Contents.{arguments_among}
-use Rattle.rule_reader.specs.Meaning.{past_all, no_counts}
+use Rattle.rule_reader.specs.Meaning.{past_all, counted_among, no_counts}
 use Rattle.rule_reader.proofs.counts.in_half.Given as goal
 
 abbrev pub invariant-loop-statement : goal.invariant-loop-statement
-invariant-loop-statement l = l.counts ≡ past_all no_counts (arguments_among (take l.statement-index l.statements))
+invariant-loop-statement l = l.counts ≡ past_all no_counts (counted_among (take l.statement-index l.statements))

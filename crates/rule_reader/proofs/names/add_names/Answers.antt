@@ -15,5 +15,5 @@ returns-in_ok-add_name-in-Select-3 c =
 
 pub returns-in_ok-add_name-in-Convert : goal.returns-in_ok-add_name-in-Convert
 returns-in_ok-add_name-in-Convert c =
-    uses_of_op c.args.source.now c.args.op.now _ _ _ (elim c.in-Convert.is [ inl (cast, flags, to, e) ↦ ap arguments_of e | inr e ↦ ap arguments_of e ])
+    uses_of_op c.args.source.now c.args.op.now _ _ _ (elim c.in-Convert.is [ inl (cast, flags, to, e) ↦ ap arguments_of e | inr (inl e) ↦ ap arguments_of e | inr (inr e) ↦ ap arguments_of e ])
     (one_use c.args.source.now _ _ _ c.in_ok-add_name-in-Convert.ensures)

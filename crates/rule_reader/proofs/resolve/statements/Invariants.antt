@@ -1,13 +1,13 @@
 -- the statements so far mean these, and so much stands behind them
 use Rattle.std.proofs.Common.{◌≡◌, take}
 use Rattle.rule_parse.specs.Contents.{arguments_among}
-use Rattle.rule_reader.specs.Meaning.{past_all, no_counts, HalfMeans}
+use Rattle.rule_reader.specs.Meaning.{past_all, counted_among, no_counts, HalfMeans}
 use Rattle.rule_reader.specs.KnownRules.{half_of}
 use Rattle.rule_reader.proofs.resolve.statements.Given as goal
 
 abbrev pub invariant-loop-place : goal.invariant-loop-place
 invariant-loop-place l =
     record {
-      before : l.before ≡ past_all no_counts (arguments_among (take l.place (half_of l.half l.rule)));
+      before : l.before ≡ past_all no_counts (counted_among (take l.place (half_of l.half l.rule)));
       means : HalfMeans l.rule l.names (take l.place (half_of l.half l.rule)) l.statements;
     }

@@ -1,7 +1,7 @@
--- none of the statements so far reads an `undef` inside
-use Rattle.rule_reader.specs.FaultKinds.{ReadsUndefInside}
+-- none of the statements so far has an `undef` inside
+use Rattle.rule_reader.specs.FaultKinds.{HasUndefInside}
 use Rattle.rule_reader.proofs.Firsts.{NoneBefore}
 use Rattle.rule_reader.proofs.undefs.undef_in_source.Given as goal
 
 abbrev pub invariant-loop-place : goal.invariant-loop-place
-invariant-loop-place l = NoneBefore l.source (ReadsUndefInside l.source) l.place
+invariant-loop-place l = NoneBefore l.source (HasUndefInside l.source) l.place

@@ -1,7 +1,7 @@
 use Rattle.std.proofs.Common.{◌+◌, arith}
 use Rattle.rule_typing.proofs.Past.{past_two, past_three, past_four}
 use Rattle.rule_typing.proofs.fits.past_statement.Goals as goal
-use Rattle.rule_typing.proofs.fits.past_statement.Goals.{in-Binary, in-Compare, in-Select, in-Convert, in-Copy}
+use Rattle.rule_typing.proofs.fits.past_statement.Goals.{in-Binary, in-Compare, in-Select, in-Convert, in-Freeze, in-Copy}
 
 pub returns : goal.returns
 returns c =
@@ -11,5 +11,6 @@ returns c =
       | in-Select w ↦ rw w.in-Select.is
           (past_four c.args.statement.now.class w.in-Select.condition.class w.in-Select.yes.class w.in-Select.no.class (c.match-statement.class + 1) (omega arith))
       | in-Convert w ↦ rw w.in-Convert.is (past_two c.args.statement.now.class w.in-Convert.operand.class (c.match-statement.class + 1) (omega arith))
+      | in-Freeze w ↦ rw w.in-Freeze.is (past_two c.args.statement.now.class w.in-Freeze.operand.class (c.match-statement.class + 1) (omega arith))
       | in-Copy w ↦ rw w.in-Copy.is (past_two c.args.statement.now.class w.in-Copy.operand.class (c.match-statement.class + 1) (omega arith))
     ]

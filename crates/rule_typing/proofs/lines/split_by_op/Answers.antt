@@ -9,5 +9,8 @@ returns-in-Compare c = rw c.in-Compare.is c.split_pair.ensures
 pub returns-in-Select : goal.returns-in-Select
 returns-in-Select c = rw c.in-Select.is c.split_by_two-in-Select.ensures
 
+pub returns-in-Freeze : goal.returns-in-Freeze
+returns-in-Freeze c = rw c.in-Freeze.is c.split_pair-in-Freeze.ensures
+
 pub returns-in-Copy : goal.returns-in-Copy
 returns-in-Copy c = rw c.in-Copy.is c.split_pair-in-Copy.ensures

@@ -1,33 +1,32 @@
-use Rattle.std.proofs.Common.{Some}
-use Rattle.rule_core.specs.Positions.{operands_among, terms_in}
-use Rattle.rule_typing.specs.declared.half.Half.TheVariants as halves
+use Rattle.std.proofs.Common.{◌⊎◌, ℕ, Some}
 use Rattle.rule_core.specs.declared.rule.Rule.{Rule}
 use Rattle.rule_core.specs.declared.rule.Name.{Name}
-use Rattle.std.proofs.Common.{◌⊎◌, ℕ}
-use Rattle.rule_typing.specs.Splits.{operand_naming, term_naming, NamingOf}
+use Rattle.rule_core.specs.Positions.{operands_among, choices_among, terms_in}
+use Rattle.rule_typing.specs.declared.half.Half.TheVariants as halves
+use Rattle.rule_typing.specs.Splits.{operand_naming, choice_naming, term_naming, NamingOf}
 use Rattle.rule_typing.proofs.Walks.{first_other, then_other}
 use Rattle.rule_typing.proofs.names.other_read.Goals as goal
 
--- what reads the name in the source, in the target and in terms
+-- what reads the name in the source, in the target, and behind the operands
 abbrev Source : Rule → Name → ℕ → Type 0
-Source rule n = NamingOf (operand_naming halves.Source) (operands_among rule.source) n
+Source rule n = NamingOf operand_naming (operands_among rule.source) n
 
 abbrev Target : Rule → Name → ℕ → Type 0
-Target rule n = NamingOf (operand_naming halves.Target) (operands_among rule.target) n
+Target rule n = NamingOf operand_naming (operands_among rule.target) n
 
-abbrev Terms : Rule → Name → ℕ → Type 0
-Terms rule n = NamingOf term_naming (terms_in rule) n
+abbrev Behind : Rule → Name → ℕ → Type 0
+Behind rule n = λ d. NamingOf (choice_naming halves.Target) (choices_among rule.target) n d ⊎ NamingOf term_naming (terms_in rule) n d
 
 pub returns-in-Some : goal.returns-in-Some
 returns-in-Some c =
-    first_other (Source c.args.rule.now c.args.name) (λ d. Target c.args.rule.now c.args.name d ⊎ Terms c.args.rule.now c.args.name d) c.args.class c.in-Some.other (rw c.as_slice.ensures at c.in-Some.ensures)
+    first_other (Source c.args.rule.now c.args.name) (λ d. Target c.args.rule.now c.args.name d ⊎ Behind c.args.rule.now c.args.name d) c.args.class c.in-Some.other (rw c.as_slice.ensures at c.in-Some.ensures)
 
 pub returns-in-Some-other_by_statements : goal.returns-in-Some-other_by_statements
 returns-in-Some-other_by_statements c =
-    then_other (Source c.args.rule.now c.args.name) (λ d. Target c.args.rule.now c.args.name d ⊎ Terms c.args.rule.now c.args.name d) c.args.class (Some c.in-Some-other_by_statements.other) (rw c.as_slice.ensures at c.in-None.ensures)
-    (first_other (Target c.args.rule.now c.args.name) (Terms c.args.rule.now c.args.name) c.args.class c.in-Some-other_by_statements.other (rw c.as_slice-in-None.ensures at c.in-Some-other_by_statements.ensures))
+    then_other (Source c.args.rule.now c.args.name) (λ d. Target c.args.rule.now c.args.name d ⊎ Behind c.args.rule.now c.args.name d) c.args.class (Some c.in-Some-other_by_statements.other) (rw c.as_slice.ensures at c.in-None.ensures)
+    (first_other (Target c.args.rule.now c.args.name) (Behind c.args.rule.now c.args.name) c.args.class c.in-Some-other_by_statements.other (rw c.as_slice-in-None.ensures at c.in-Some-other_by_statements.ensures))
 
 pub returns-in-None-other_by_statements : goal.returns-in-None-other_by_statements
 returns-in-None-other_by_statements c =
-    then_other (Source c.args.rule.now c.args.name) (λ d. Target c.args.rule.now c.args.name d ⊎ Terms c.args.rule.now c.args.name d) c.args.class c.other_in_terms.result (rw c.as_slice.ensures at c.in-None.ensures)
-    (then_other (Target c.args.rule.now c.args.name) (Terms c.args.rule.now c.args.name) c.args.class c.other_in_terms.result (rw c.as_slice-in-None.ensures at c.in-None-other_by_statements.ensures) c.other_in_terms.ensures)
+    then_other (Source c.args.rule.now c.args.name) (λ d. Target c.args.rule.now c.args.name d ⊎ Behind c.args.rule.now c.args.name d) c.args.class c.other_behind_operands.result (rw c.as_slice.ensures at c.in-None.ensures)
+    (then_other (Target c.args.rule.now c.args.name) (Behind c.args.rule.now c.args.name) c.args.class c.other_behind_operands.result (rw c.as_slice-in-None.ensures at c.in-None-other_by_statements.ensures) c.other_behind_operands.ensures)

@@ -29,4 +29,4 @@ returns c =
     let given = rw (c.new-circuit.ensures, c.from_vec.ensures, c.in_ok-from_slice.ensures.items) at c.in_ok-made.ensures.effects in
     let refutes = rw (← c.len.ensures, ← c.as_slice.ensures) at (model_refutes rule typing c.args.set.now c.requires.stands c.args.model.now c.requires.model) in
     refuted_by c.every_rule_has_one_outcome.ensures rule typing c.requires.rule c.requires.typing setting refutes _ _ _ (given _ refl)
-    _ c.in_ok-setting.ensures.inputs c.in_ok-setting.ensures.constants c.in_ok-setting.ensures.target_undefs (rw c.as_slice-2.ensures at c.in_ok-words_read.ensures) c.effect_read.ensures c.effect_read-2.ensures
+    _ c.in_ok-setting.ensures.inputs c.in_ok-setting.ensures.constants c.in_ok-setting.ensures.target_choices (rw c.as_slice-2.ensures at c.in_ok-words_read.ensures) c.effect_read.ensures c.effect_read-2.ensures

@@ -12,7 +12,7 @@ use Rattle.verdict.proofs.laws.few_bits_are_decided.Goals as goal
 -- a valid rule is refuted by no example
 not_refuted : (rule : Rule) (typing : List ℕ) → IsValid rule typing → (example : Example) → ¬ (IsRefutedBy rule typing example)
 not_refuted rule typing valid example by =
-    by.refused (valid (setting_in example) example.source_undefs example.source example.target by.fits by.precondition by.effects)
+    by.refused (valid (setting_in example) example.source_undefs example.source example.target by.counts by.effects)
 
 decided : (rule : Rule) (typing : List ℕ) (limit : ℕ) (verdict : Verdict) → input_bits rule typing ≤ 12 → IsHonest rule typing limit verdict → ((verdict ≡ Admitted) ↔ IsValid rule typing)
 decided rule typing limit Admitted few honest = ((λ same. honest), (λ valid. refl))

@@ -1,0 +1,27 @@
+-- What an argument gives that is ready is of its width.
+use Rattle.std.proofs.Common.{◌≡◌, ℕ, true, false, List, refl, sym, subst, ◌∙◌, arith}
+use Rattle.std.proofs.lemmas.Option.{same_Some, get_or_from_slice_get}
+use Rattle.ops.specs.Number.{Number}
+use Rattle.ops.specs.Value.{IsValueOf}
+use Rattle.ops.specs.declared.value.Value.{Value}
+use Rattle.ops.specs.declared.value.Value.TheVariants as values
+use Rattle.rule_core.specs.Readiness.{ArgumentIsReady}
+use Rattle.rule_core.specs.Run.{Held, Given, ArgumentGives}
+use Rattle.rule_core.specs.declared.rule.Argument.{Argument}
+use Rattle.rule_core.specs.declared.rule.Argument.TheVariants as arguments
+use Rattle.rule_core.proofs.Fits.{residue_lt, number_or_zero_fits}
+
+-- two numbers at one place
+number_fits : (N : ℕ) (n m : Number) (v : Value) → n ≡ m → v ≡ values.Bits m → IsValueOf N (values.Bits n) → IsValueOf N v
+number_fits N n m v same is fits = subst (IsValueOf N) (sym is) (subst (λ (x : Number). IsValueOf N (values.Bits x)) same fits)
+
+module _ (typing : List ℕ) (given : Given) (held : Held) where
+  pub argument_fits : (N : ℕ) (x : Argument) (v : Value) → ArgumentIsReady given held N x → ArgumentGives typing given held N x v → IsValueOf N v
+  argument_fits N (arguments.Register r) v (u, at, fits) gives = subst (IsValueOf N) (same_Some u v (sym at ∙ gives)) fits
+  argument_fits N (arguments.Literal z) v ready gives = subst (IsValueOf N) (sym gives) (refl, residue_lt N z)
+  argument_fits N (arguments.Truth true) v ready gives = subst (IsValueOf N) (sym gives) (refl, rw ready (omega arith))
+  argument_fits N (arguments.Truth false) v ready gives = subst (IsValueOf N) (sym gives) (refl, rw ready (omega arith))
+  argument_fits N (arguments.Constant k) v (n, at, fits) (m, here, is) = number_fits N n m v (same_Some n m (sym at ∙ here)) is fits
+  argument_fits N (arguments.Undef k) v (n, at, fits) (m, here, is) = number_fits N n m v (same_Some n m (sym at ∙ here)) is fits
+  argument_fits N (arguments.Term n) v (u, at, fits) gives =
+      subst (IsValueOf N) (sym gives) (refl, rw (get_or_from_slice_get given.terms n u values.Poison at) (number_or_zero_fits N u fits))

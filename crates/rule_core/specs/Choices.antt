@@ -1,0 +1,7 @@
+-- What may be there, as a list.
+use Rattle.std.specs.Prelude.{List, [], ◌∷◌, Option, Some, None}
+use Rattle.rule_core.specs.declared.rule.Choice.{Choice}
+
+abbrev pub if_any : Option Choice → List Choice
+if_any None = []
+if_any (Some choice) = choice ∷ []
