@@ -4,6 +4,7 @@ use Rattle.std.proofs.lemmas.List.{append-nil}
 use Rattle.std.specs.Prelude.{codes}
 use Rattle.std.specs.Str.{bytes_eq}
 use Rattle.ops.proofs.KeywordLemmas.{same_word}
+use Rattle.scan.specs.Bytes.{is_digit}
 use Rattle.rule_tokens.specs.declared.fault.RuleFaultKind.{RuleFaultKind}
 use Rattle.rule_tokens.specs.declared.fault.RuleFaultKind.TheVariants.{Syntax, LeftOut, TooMany}
 use Rattle.rule_tokens.specs.declared.version.Version.{Version}
@@ -11,7 +12,6 @@ use Rattle.rule_tokens.specs.declared.version.Version.TheVariants.{One}
 use Rattle.rule_tokens.specs.Limits.{Limits}
 use Rattle.rule_tokens.specs.PartReaders.{misplaced_word, unexpected}
 use Rattle.rule_tokens.specs.RuleFaults.{RuleFault}
-use Rattle.rule_tokens.specs.Steps.{◌>>=◌}
 use Rattle.rule_tokens.specs.Tokens.{Token, Line, Head, Word, Number, Bad, Excess}
 use Rattle.rule_tokens.specs.Versions.{version_in}
 use Rattle.rule_tokens.proofs.Ends.{EndsLine}
@@ -225,6 +225,7 @@ module _ (spare_bytes deepest spare_statements : ℕ) where
   -- ---- where it is not
 
   one_line : (line : ℕ) → SpellsFile limits [] (begun line (Number (codes "1") ∷ []))
+  unfolding is_digit
   one_line line = (One, (begun line (Number (codes "1") ∷ []), [], inl (record { line = line; digits = codes "1"; are_digits = refl; number = refl; spelled = refl }), refl, refl))
 
   head_fits : (line : ℕ) → Fits limits (begun line [])
