@@ -279,7 +279,7 @@ module _ (raw : RawRule) (rule : Rule) (well : IsWellFormed raw) (bound : IsBoun
       (o, spot, e ∙ ap (λ x. arguments.Constant x) (means.names.constants.once j k name has at))
 
   read_as : (q : ℕ) (a : Argument) → StandsInRule rule q a → (b : Counts) × (v : RawArgument) × (slice_get (arguments_among raw.source) q ≡ Some v) × ArgumentMeans raw own b v a
-  read_as q a (o, at, is) = let (b, v, at', spot, goes) = reads_written raw own raw.source rule.source q o means.source at in (b, v, spot, subst (ArgumentMeans raw own b v) is goes)
+  read_as q a (o, at, is) = let (b, v, spot, goes) = reads_written raw own raw.source rule.source q o means.source at in (b, v, spot, subst (ArgumentMeans raw own b v) is goes)
 
   free_input : (i : ℕ) (name : List ℕ) → slice_get rule.inputs i ≡ Some name → (k : ℕ) → AssignsAt raw.source k name → ⊥
   free_input i name at = (input_name name (Contains-from_get rule.inputs i name at)).1

@@ -21,7 +21,7 @@ use Rattle.rule_core.specs.Positions.{classes_of_statement, classes_of_term}
 use Rattle.rule_typing.specs.Relabelled.{numbered_op, numbered_statement, numbered_statements, numbered_node, numbered_term, numbered_terms, numbered}
 use Rattle.rule_reader.specs.declared.names.Names.{Names}
 use Rattle.rule_reader.specs.declared.counts.Counts.{Counts}
-use Rattle.rule_parse.specs.Contents.{arguments_of, terms_of, expressions_of, formula_of}
+use Rattle.rule_parse.specs.Contents.{terms_of, expressions_of, formula_of}
 use Rattle.rule_reader.specs.Meaning.{past, past_all, counted_of, no_counts, with_counts, with_nodes, AreNames, ArgumentMeans, OperandMeans, OpMeans, StatementMeans, NodeMeans, PreconditionMeans, HalfMeans, TermsMean, Means, names_of_rule}
 
 -- what a class number stands in place of

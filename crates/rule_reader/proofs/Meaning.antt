@@ -49,11 +49,6 @@ with_before_at b [] q x at = elim q as (λ j. slice_get [] j ≡ Some x → slic
 with_before_at b (a ∷ xs) zero x at = ap (λ (y : Counts × RawArgument). Some y.1) (same_Some (b, a) x at)
 with_before_at b (a ∷ xs) (suc q) x at = with_before_at (past b a) xs q x at
 
-pub at_with_before : (b : Counts) (xs : List RawArgument) (q : ℕ) (a : RawArgument) → slice_get xs q ≡ Some a → (c : Counts) × (slice_get (with_before b xs) q ≡ Some (c, a))
-at_with_before b [] q a at = elim q as (λ j. slice_get [] j ≡ Some a → (c : Counts) × (slice_get [] j ≡ Some (c, a))) [ zero ↦ λ h. cc | suc j ↦ λ h. cc ] at
-at_with_before b (x ∷ xs) zero a at = (b, ap (λ (y : RawArgument). Some (b, y)) (same_Some x a at))
-at_with_before b (x ∷ xs) (suc q) a at = at_with_before (past b x) xs q a at
-
 nodes_grow : (b : Counts) (xs : List RawArgument) → b.nodes ≤ (past_all b xs).nodes
 nodes_grow b [] = omega arith
 nodes_grow b (raw_arguments.Register name ∷ xs) = nodes_grow b xs

@@ -18,7 +18,7 @@ use Rattle.rule_core.specs.declared.rule.Node.{Node}
 use Rattle.rule_core.specs.declared.rule.Node.TheVariants as nodes
 use Rattle.rule_core.specs.TermNodes.{IsOperandOf, StandsIn, itself, operand, NamesWidth, OwnsOperands, AreLastNodes}
 use Rattle.rule_core.proofs.Members.{Contains-from_get}
-use Rattle.rule_parse.specs.Contents.{arguments_of, arguments_among, terms_of_argument, terms_of_formula}
+use Rattle.rule_parse.specs.Contents.{terms_of_argument, terms_of_formula}
 use Rattle.rule_reader.specs.declared.counts.Counts.{Counts}
 use Rattle.rule_reader.specs.declared.names.Names.{Names}
 use Rattle.rule_reader.specs.Meaning.{nodes_in, past, past_all, counted_of, counted_among, with_counts, with_nodes, with_terms, last_nodes, HasName, NodeMeans, TermsMean}

@@ -27,7 +27,7 @@ use Rattle.rule_core.specs.Positions.{operands_of as operands_meant, operands_am
 use Rattle.rule_reader.specs.declared.counts.Counts.{Counts}
 use Rattle.rule_reader.specs.declared.names.Names.{Names}
 use Rattle.rule_parse.specs.Contents.{arguments_of, arguments_among, formula_of, expressions_of, target_terms, terms_of, terms_of_formula}
-use Rattle.rule_reader.specs.Meaning.{nodes_in, past, no_counts, with_nodes, with_terms, ArgumentMeans, NodeMeans, FormulaMeans, Means, names_of_rule}
+use Rattle.rule_reader.specs.Meaning.{nodes_in, no_counts, with_nodes, with_terms, ArgumentMeans, NodeMeans, FormulaMeans, Means, names_of_rule}
 use Rattle.rule_parse.specs.Weight.{argument_weight, node_weight, formula_weight, raw_weight}
 use Rattle.rule_reader.proofs.Weighing.{sum_cons}
 use Rattle.rule_reader.proofs.Meaning.{Reads, all_read}

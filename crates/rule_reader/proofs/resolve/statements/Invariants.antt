@@ -1,6 +1,5 @@
 -- the statements so far mean these, and so much stands behind them
 use Rattle.std.proofs.Common.{◌≡◌, take}
-use Rattle.rule_parse.specs.Contents.{arguments_among}
 use Rattle.rule_reader.specs.Meaning.{past_all, counted_among, no_counts, HalfMeans}
 use Rattle.rule_reader.specs.KnownRules.{half_of}
 use Rattle.rule_reader.proofs.resolve.statements.Given as goal
