@@ -6,4 +6,4 @@ pub mod Making
 pub mod Made
 pub mod ReadOn
 pub mod Few
-pub mod Choices
+pub mod ChosenWidths

@@ -24,7 +24,7 @@ use Rattle.blast_setting.specs.Names.{AreNamed}
 use Rattle.blast_setting.specs.Settings.{value_read, number_read, values_read, numbers_read, behind_inputs, behind_constants}
 use Rattle.blast_setting.specs.Laws.{ReadSettingsFit, FittingSettingsAreRead}
 use Rattle.blast_setting.proofs.Widths.{name_of, count_of, naming, operand_width, named_width-is, are_named, length-named_widths, named_widths-at}
-use Rattle.blast_setting.proofs.Choices.{choice_at, choice_open, choice_width, open_class}
+use Rattle.blast_setting.proofs.ChosenWidths.{choice_at, choice_open, choice_width, open_class}
 use Rattle.blast_setting.proofs.Written.{FitAll, written, length-written, read-written, value_read-fits, number_written, length-number_written, read-number_written, number_read-fits, all_written, length-all_written, read-all_written, behind-all_written, all_read-fit, length-all_read}
 
 abbrev pub IsNumberOf : ℕ → Number → Type 0

@@ -1,10 +1,7 @@
 -- What the literals of a setting and of what a rule's halves read stand for.
 use Rattle.std.specs.Prelude.{◌≡◌, ℕ, Bool, List, length, map}
 use Rattle.std.specs.List.{All}
-use Rattle.ops.specs.Number.{Number}
-use Rattle.circuits.specs.Word.{number_of}
 use Rattle.rule_core.specs.declared.rule.Rule.{Rule}
-use Rattle.rule_core.specs.Terms.{constant_values, number_or_zero}
 use Rattle.rule_core.specs.Valid.{Setting}
 use Rattle.blast_value.specs.Effect.{held_value, widths_of, IsOwn}
 use Rattle.blast_setting.specs.declared.setting_bits.SettingBits.{SettingBits}

@@ -4,7 +4,7 @@ use Rattle.rule_core.specs.declared.rule.Statement.{Statement}
 use Rattle.rule_core.specs.Positions.{choices_among}
 use Rattle.blast_setting.specs.Inputs.{widths_chosen}
 use Rattle.blast_setting.specs.Names.{HaveWidths}
-use Rattle.blast_setting.proofs.Choices.{statement_widths, widths-more}
+use Rattle.blast_setting.proofs.ChosenWidths.{statement_widths, widths-more}
 use Rattle.blast_setting.proofs.choices.choice_widths.Goals as goal
 
 pub push_widths-requires : goal.push_widths-requires

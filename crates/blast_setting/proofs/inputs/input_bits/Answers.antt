@@ -80,5 +80,6 @@ returns c =
     c.bits_of-2.ensures.bits ∙ ap (λ (ws : List ℕ). sum_by number_bits ws) (c.deref-2.ensures.value ∙ c.in_ok-widths.ensures.constants ∙ ap (constant_widths rule) c.as_slice.ensures) in
     let third : c.bits_of-3.result ≡ sum_by number_bits (choice_widths rule typing) =
     c.bits_of-3.ensures.bits ∙ ap (λ (ws : List ℕ). sum_by number_bits ws) (c.deref-3.ensures.value ∙ c.in_ok-widths.ensures.choices ∙ ap (choice_widths rule) c.as_slice.ensures) in
-    let count : c.len-inputs.result ≡ length (input_widths rule typing) = c.len-inputs.ensures ∙ ap length is in
-    omega (arith, first, second, third, count, sum-values (input_widths rule typing))
+    let widths = c.in_ok-widths.widths.inputs in
+    let count : length widths.items ≡ length (input_widths rule typing) = ap length is in
+    omega (arith, first, second, third, count, widths.ok.0, c.len-inputs.ensures, sum-values (input_widths rule typing))

@@ -75,11 +75,10 @@ pub width_indexed : (typing : List ℕ) (c N : ℕ) → c < length typing → N 
 width_indexed typing c N within is = get_or_from_slice_get typing c N 0 (slice_get-get_or typing c N within ∙ ap (λ M. Some M) (sym is))
 
 -- the widths of one more choice, and of those of one more statement
-pub widths-one_more : (typing : List ℕ) (choices : List Choice) (i : ℕ) (choice : Choice) → i < length choices → choice ≡ get_or choices i choice
-    → widths_chosen typing (take (i + 1) choices) ≡ widths_chosen typing (take i choices) ++ slice_index typing choice.class ∷ []
-widths-one_more typing choices i choice within is =
-    let parts : take (i + 1) choices ≡ take i choices ++ choice ∷ [] = take_more choices i choice within ∙ ap (λ other. take i choices ++ other ∷ []) (sym is) in
-    ap (widths_chosen typing) parts ∙ map-append (λ (other : Choice). slice_index typing other.class) (take i choices) (choice ∷ [])
+pub widths-one_more : (typing : List ℕ) (choices : List Choice) (i : ℕ) (d : Choice) → i < length choices
+    → widths_chosen typing (take (i + 1) choices) ≡ widths_chosen typing (take i choices) ++ slice_index typing (get_or choices i d).class ∷ []
+widths-one_more typing choices i d within =
+    ap (widths_chosen typing) (take_more choices i d within) ∙ map-append (λ (other : Choice). slice_index typing other.class) (take i choices) (get_or choices i d ∷ [])
 
 pub widths-more : (typing : List ℕ) (statements : List Statement) (i : ℕ) (s : Statement) → i < length statements → s ≡ get_or statements i s
     → widths_chosen typing (choices_among (take (i + 1) statements)) ≡ widths_chosen typing (choices_among (take i statements)) ++ widths_chosen typing (choices_of s)
