@@ -34,7 +34,7 @@ use Rattle.alive_top.specs.Done.{HasVerified, HasProved, HasOptimised, HasRechec
 use Rattle.command_line.specs.declared.command.RecheckOptions.{RecheckOptions}
 use Rattle.alive_top.specs.LogFaults.{HasLogFault, HasBadLogs}
 use Rattle.alive_top.specs.Ends.{Worked, EndsWith, EndsAtWords, Ends, IsNoCommand, IsUsage}
-use Rattle.alive_top.specs.File.{File, Kind, Rules as RuleFile, Source as ModuleFile, Logs as LogFile, files_of}
+use Rattle.alive_top.specs.File.{File, FileKind, Rules as RuleFile, Source as ModuleFile, Logs as LogFile, files_of}
 use Rattle.load_text.specs.Load.{IsLoaded}
 use Rattle.alive_top.specs.NoRun.{NamesNoRun}
 use Rattle.alive_top.specs.Optimised.{IsOptimised, optimised_report}
@@ -85,7 +85,7 @@ taken_are_texts known (file ∷ files) [] h = absurd h
 taken_are_texts known (file ∷ files) (text ∷ texts) h = (h.0.0, taken_are_texts known files texts h.1)
 
 -- but for proofs, a text that is taken is all that is told
-all_told : (known : FilesState) (name text bytes : List ℕ) (kind : Kind) → (kind ≡ LogFile → ⊥) → IsTextOf known (record { name = name; kind = kind }) text → Takes kind text → known.told name ≡ Some bytes → text ≡ bytes
+all_told : (known : FilesState) (name text bytes : List ℕ) (kind : FileKind) → (kind ≡ LogFile → ⊥) → IsTextOf known (record { name = name; kind = kind }) text → Takes kind text → known.told name ≡ Some bytes → text ≡ bytes
 all_told known name text bytes kind other is takes told = by (taken_is_told known (record { name = name; kind = kind }) text bytes is takes told)
   where
     by : (text ≡ bytes) ⊎ (kind ≡ LogFile) → text ≡ bytes
@@ -103,7 +103,7 @@ good_not_refused torn known new files bytes told takes status line r =
   where
     by : (bytes : List ℕ) → Takes r.file.kind bytes → (r.text ≡ bytes) ⊎ (r.file.kind ≡ LogFile) → ⊥
     by bytes takes (inl same) = torn r.file.kind bytes status line takes (subst (λ (text : List ℕ). Refuses r.file.kind text status line) same r.refuses)
-    by bytes takes (inr logs) = let none : Refuses LogFile r.text status line = subst (λ (k : Kind). Refuses k r.text status line) logs r.refuses in none
+    by bytes takes (inr logs) = let none : Refuses LogFile r.text status line = subst (λ (k : FileKind). Refuses k r.text status line) logs r.refuses in none
 
 -- where the told bytes of a file are bad, the texts of all files aren't taken
 bad_not_taken : (known : FilesState) (task : Task) (texts : List (List ℕ)) → HasBadFile known task → AreTaken known (files_of task) texts → ⊥

@@ -4,7 +4,7 @@ use Rattle.std.specs.Prelude.{IfSome}
 use Rattle.std.proofs.lemmas.Bool.{cases_lt}
 use Rattle.std.proofs.lemmas.List.{take_all, length-take, length-take-le}
 use Rattle.outside.specs.Files.{FilesState}
-use Rattle.alive_top.specs.File.{File, Kind, Rules, Source, Logs, limit_of}
+use Rattle.alive_top.specs.File.{File, FileKind, Rules, Source, Logs, limit_of}
 use Rattle.alive_top.specs.Taken.{Takes}
 use Rattle.alive_top.specs.Texts.{IsTextOf}
 
@@ -19,14 +19,14 @@ whole : (n : ℕ) (told items : List ℕ) → items ≡ take (n + 1) told → le
 whole n told items e h = e ∙ take_all (n + 1) told (omega arith)
 
 -- what is taken is within its limit, but proofs
-short : (kind : Kind) (text : List ℕ) → Takes kind text → (length text ≤ limit_of kind) ⊎ (kind ≡ Logs)
+short : (kind : FileKind) (text : List ℕ) → Takes kind text → (length text ≤ limit_of kind) ⊎ (kind ≡ Logs)
 short Rules text takes = inl takes.1.short
 short Source text takes = inl takes.1.limit
 short Logs text takes = inr refl
 
 -- proofs are taken whatever they are
-all_taken : (kind : Kind) (text : List ℕ) → kind ≡ Logs → Takes kind text
-all_taken kind text e = subst (λ (k : Kind). Takes k text) (sym e) tt
+all_taken : (kind : FileKind) (text : List ℕ) → kind ≡ Logs → Takes kind text
+all_taken kind text e = subst (λ (k : FileKind). Takes k text) (sym e) tt
 
 cut : (known : FilesState) (file : File) (text bytes : List ℕ) → IsTextOf known file text → known.told file.name ≡ Some bytes → text ≡ take (limit_of file.kind + 1) bytes
 cut known file text bytes is told =

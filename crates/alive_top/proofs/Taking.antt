@@ -3,12 +3,12 @@ use Rattle.std.proofs.Common.{ℕ, List}
 use Rattle.ir_reader.specs.Laws.{TextsHaveOneModuleOrFault}
 use Rattle.rule_reader.specs.Laws.{TextsHaveOneListOrFault}
 use Rattle.alive_top.specs.declared.status.Status.{Status}
-use Rattle.alive_top.specs.File.{Kind, Rules as RuleFile, Source as ModuleFile, Logs as LogFile}
+use Rattle.alive_top.specs.File.{FileKind, Rules as RuleFile, Source as ModuleFile, Logs as LogFile}
 use Rattle.alive_top.specs.Taken.{Takes, Refuses}
 
 -- it is so for each kind of file
 abbrev pub TakenAreNotRefused : Type 0
-TakenAreNotRefused = (kind : Kind) (bytes : List ℕ) (s : Status) (line : List ℕ) → Takes kind bytes → Refuses kind bytes s line → ⊥
+TakenAreNotRefused = (kind : FileKind) (bytes : List ℕ) (s : Status) (line : List ℕ) → Takes kind bytes → Refuses kind bytes s line → ⊥
 
 pub taken_not_refused : TextsHaveOneListOrFault → TextsHaveOneModuleOrFault → TakenAreNotRefused
 taken_not_refused rules modules RuleFile bytes s line takes r = rules.not_both bytes takes.0 r.0 takes.1.short takes.1.file r.1

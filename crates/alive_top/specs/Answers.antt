@@ -10,7 +10,7 @@ use Rattle.alive_top.specs.Cause.{TextIsRefused, ReadFails, MemoryIsRefused, Arg
 use Rattle.run_text.specs.Runs.{IsMisnamed}
 use Rattle.stored_logs.specs.Faults.{IsFault}
 use Rattle.verdict.specs.Rule.{Rule}
-use Rattle.alive_top.specs.File.{File, Kind, files_of}
+use Rattle.alive_top.specs.File.{File, FileKind, files_of}
 use Rattle.error_lines.specs.Lines.{rules_line, module_line}
 use Rattle.alive_top.specs.Request.{AsksNone, AsksOne, AsksAll}
 use Rattle.alive_top.specs.Taken.{Refuses}
@@ -41,7 +41,7 @@ MisfitsRules rules text (Logs fault) = IsFault rules text fault
 MisfitsRules rules text refusal = ⊥
 
 -- what a text gives, read as what it is read for: this, or why it is refused, or does not fit
-abbrev pub TextOf : {T : Type 0} → Kind → List ℕ → (T → Type 0) → (Hindrance → Type 0) → Result T Hindrance → Type 0
+abbrev pub TextOf : {T : Type 0} → FileKind → List ℕ → (T → Type 0) → (Hindrance → Type 0) → Result T Hindrance → Type 0
 TextOf kind text P Misfits (Ok x) = P x
 TextOf kind text P Misfits (Err (Rules fault)) = Refuses kind text statuses.RuleRefused (rules_line fault)
 TextOf kind text P Misfits (Err (Module fault)) = Refuses kind text statuses.ModuleRefused (module_line fault)

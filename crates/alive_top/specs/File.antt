@@ -6,15 +6,15 @@ use Rattle.stored_logs.specs.Limits as proofs
 use Rattle.alive_top.specs.Task.{Task, Verify, Optimise, Run, Load, Recheck}
 
 -- what a file is read for: rules, a module or proofs
-pub data Kind : Type 0 where
-  Rules : Kind
-  Source : Kind
-  Logs : Kind
+pub data FileKind : Type 0 where
+  Rules : FileKind
+  Source : FileKind
+  Logs : FileKind
 
 -- a file that is read, by its name
 pub record File : Type 0 where
   pub name : List ℕ
-  pub kind : Kind
+  pub kind : FileKind
 
 -- a file of proofs, where one is named
 abbrev pub logs_named : Option (List ℕ) → List File
@@ -30,7 +30,7 @@ files_of (Load number) = []
 files_of (Recheck rules logs options) = record { name = rules; kind = Rules } ∷ record { name = logs; kind = Logs } ∷ []
 
 -- the most bytes of a file
-abbrev pub limit_of : Kind → ℕ
+abbrev pub limit_of : FileKind → ℕ
 limit_of Rules = rule_files.most_bytes
 limit_of Source = modules.most_bytes
 limit_of Logs = proofs.most_bytes

@@ -11,17 +11,17 @@ use Rattle.rule_reader.specs.Faults.{IsFault}
 use Rattle.alive_top.specs.declared.status.Status.{Status}
 use Rattle.alive_top.specs.declared.status.Status.TheVariants.{RuleRefused, ModuleRefused}
 pub use Rattle.load_text.specs.RuleText.{IsRuleText}
-use Rattle.alive_top.specs.File.{Kind, Rules, Source, Logs}
+use Rattle.alive_top.specs.File.{FileKind, Rules, Source, Logs}
 use Rattle.error_lines.specs.Lines.{rules_line, module_line}
 
 -- the text is taken: it is what its file is read for. What is wrong with proofs is told beside the rules, when all files are read
-abbrev pub Takes : Kind → List ℕ → Type 0
+abbrev pub Takes : FileKind → List ℕ → Type 0
 Takes Rules text = (rules : List Rule) × IsRuleText text rules
 Takes Source text = (m : Module) × IsReadAs text m
 Takes Logs text = Unit {0}
 
 -- the text is refused, with this status and this line
-abbrev pub Refuses : Kind → List ℕ → Status → List ℕ → Type 0
+abbrev pub Refuses : FileKind → List ℕ → Status → List ℕ → Type 0
 Refuses Rules text status line = (fault : Fault RuleFaultKind) × IsFault text fault × (status ≡ RuleRefused) × (line ≡ rules_line fault)
 Refuses Source text status line =
     (fault : Fault IrFaultKind) × IsModuleFault text fault × (status ≡ ModuleRefused) × (line ≡ module_line fault)
