@@ -1,5 +1,5 @@
 -- Which fault the classes of a rule have, if they have one, can be decided.
-use Rattle.std.proofs.Common.{◌≡◌, ◌⊎◌, inl, inr, ℕ, ◌≤◌}
+use Rattle.std.proofs.Common.{◌⊎◌, inl, inr, ℕ, ◌≤◌}
 use Rattle.std.proofs.Math.Decide.{map_dec, dec_le}
 use Rattle.rule_core.specs.declared.rule.Rule.{Rule}
 use Rattle.rule_core.specs.declared.rule.Operand.{Operand}

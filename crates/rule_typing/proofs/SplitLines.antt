@@ -1,13 +1,12 @@
 -- What the walks over the parts of a rule find are its lines, and those that they pass are all.
-use Rattle.std.proofs.Common.{◌≡◌, ◌≢◌, ◌⊎◌, inl, inr, ℕ, List, ◌++◌, Option, None, Some, sym, ◌∙◌}
-use Rattle.std.specs.Prelude.{Contains, IfSome, IfNone}
+use Rattle.std.proofs.Common.{◌≡◌, ◌≢◌, inl, inr, ℕ, Option, None, Some, sym, ◌∙◌}
+use Rattle.std.specs.Prelude.{IfSome, IfNone}
 use Rattle.std.proofs.lemmas.Option.{same_Some}
 use Rattle.std.proofs.lemmas.List.Elements.{Contains-append_left, Contains-append_right, Contains-append_cases}
 use Rattle.rule_core.specs.declared.rule.Rule.{Rule}
 use Rattle.rule_core.specs.declared.rule.Statement.{Statement}
 use Rattle.rule_core.specs.declared.rule.Name.{Name}
-use Rattle.rule_core.specs.declared.rule.Term.{Term}
-use Rattle.rule_core.specs.Positions.{operands_of, operands_among, choices_of, terms_in, Names, Line, name}
+use Rattle.rule_core.specs.Positions.{operands_of, choices_of, Names, Line, name}
 use Rattle.rule_core.proofs.Members.{Contains-flat_map}
 use Rattle.rule_typing.specs.declared.half.Half.{Half}
 use Rattle.rule_typing.specs.declared.half.Half.TheVariants as halves

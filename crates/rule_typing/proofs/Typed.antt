@@ -1,5 +1,5 @@
 -- Where a rule keeps its classes, widths are a typing exactly where there is one for each class, and each class may have its own.
-use Rattle.std.proofs.Common.{◌≡◌, ◌↔◌, inl, inr, ℕ, suc, ◌+◌, ◌<◌, List, [], ◌∷◌, ◌++◌, length, map, get_or, Some, refl, sym, ap, subst, ◌∙◌, arith, add-zero, length-append}
+use Rattle.std.proofs.Common.{◌≡◌, ◌↔◌, inl, inr, ℕ, suc, ◌+◌, ◌<◌, List, ◌++◌, length, map, get_or, Some, refl, sym, ap, subst, ◌∙◌, arith, add-zero, length-append}
 use Rattle.std.specs.Prelude.{slice_get, Contains, flat_map}
 use Rattle.std.proofs.lemmas.Bool.{cases_lt}
 use Rattle.std.proofs.lemmas.Option.{slice_get-get_or, get_or_from_slice_get, same_Some}
@@ -12,8 +12,8 @@ use Rattle.rule_core.specs.declared.rule.Node.{Node}
 use Rattle.rule_core.specs.declared.rule.Node.TheVariants as nodes
 use Rattle.rule_core.specs.Positions.{operands_of, classes_of_statement, classes_of_node, classes_of_term, classes_of, Line, Fixed, Smaller}
 use Rattle.rule_core.specs.Typing.{IsTyping}
-use Rattle.rule_core.proofs.Members.{Contains-from_get, get-append_left, get-append_right}
-use Rattle.rule_typing.specs.Relabelled.{mapped_op, mapped_statement, mapped_node, mapped_term, mapped, numbered_op, numbered_statement, numbered_statements, numbered_node, numbered_term, numbered_terms, positions_of, positions_among, numbered}
+use Rattle.rule_core.proofs.Members.{Contains-from_get}
+use Rattle.rule_typing.specs.Relabelled.{mapped_op, mapped_statement, mapped_term, mapped, numbered_op, numbered_statement, numbered_statements, numbered_term, numbered_terms, numbered}
 use Rattle.rule_typing.specs.Classes.{IsClassified, HasClasses, line}
 use Rattle.rule_typing.specs.FittingWidths.{MayHaveWidth}
 use Rattle.rule_typing.specs.Solutions.{MeetsSmaller}

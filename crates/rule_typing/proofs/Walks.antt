@@ -1,13 +1,13 @@
 -- What a walk over elements finds: two classes that a line of one of them splits, or a class of another position that has a name.
-use Rattle.std.proofs.Common.{◌≡◌, ◌≢◌, ◌⊎◌, inl, inr, ℕ, ◌+◌, ◌<◌, ◌≤◌, List, ◌++◌, length, get_or, Option, None, Some, sym}
+use Rattle.std.proofs.Common.{◌≡◌, ◌⊎◌, inl, inr, ℕ, ◌<◌, ◌≤◌, List, ◌++◌, length, get_or, Option, None, Some, sym}
 use Rattle.std.proofs.lemmas.Option.{slice_get-get_or, get_or_from_slice_get}
-use Rattle.std.specs.Prelude.{slice_get, Contains, flat_map}
+use Rattle.std.specs.Prelude.{Contains, flat_map}
 use Rattle.std.proofs.lemmas.List.Elements.{Contains-append_left, Contains-append_right, Contains-append_cases}
 use Rattle.rule_core.proofs.Members.{Contains-flat_map}
 use Rattle.rule_core.specs.declared.rule.Name.{Name}
 use Rattle.rule_typing.specs.Splits.{IsPairIn, Splits, FindsOther, NamingOf}
 use Rattle.rule_typing.proofs.Images.{from_flat_map}
-use Rattle.rule_typing.proofs.Among.{SoFar, one_further, all_of_them, stands_here}
+use Rattle.rule_typing.proofs.Among.{SoFar, all_of_them, stands_here}
 
 -- what stands at a place, whatever would stand there if nothing did
 pub stands_still : {X : Type 0} (xs : List X) (i : ℕ) (d : X) → i < length xs → get_or xs i d ≡ get_or xs i (get_or xs i d)

@@ -1,4 +1,3 @@
-use Rattle.std.proofs.Common.{ℕ, Some}
 use Rattle.rule_core.specs.Positions.{choices_among, terms_in}
 use Rattle.rule_typing.specs.declared.half.Half.TheVariants as halves
 use Rattle.rule_typing.specs.Splits.{choice_naming, term_naming, NamingOf}
