@@ -9,13 +9,12 @@ use Rattle.ir_core.specs.declared.function.Function.{Function}
 use Rattle.ir_core.specs.declared.function.Block.{Block}
 use Rattle.ir_core.specs.declared.instruction.Inst.{Inst}
 use Rattle.ir_meaning.proofs.Pieces.{cases_in, contains_at, place_in}
-use Rattle.rule_core.proofs.Members.{Contains-flat_map}
+use Rattle.rule_core.proofs.Members.{Contains-flat_map, flat_map-from}
 use Rattle.substitution.specs.Fits.{Fits}
 use Rattle.substitution.specs.Rewritten.{rewritten_function}
 use Rattle.substitution.specs.declared.rewrite.Rewrite.{Rewrite}
 use Rattle.substitution.proofs.Pieces.{in_map, map_in}
 use Rattle.substitution.proofs.Placing.{block_back, inst_back}
-use Rattle.rewriter.proofs.Target.{flat_map_from}
 
 abbrev own_names : Function → List Name
 own_names f = map (λ p. p.name) f.parameters
@@ -61,6 +60,6 @@ module _ (f : Function) (w : Rewrite) (root : Inst) (fits : Fits f w root) where
       elim (Contains-append_cases (own_names f) (flat_map block_names new.blocks) (Some name) among) [
         | inl parameter ↦ Contains-append_left (own_names f) (flat_map block_names f.blocks) (Some name) parameter
         | inr other ↦
-            let (b, block, at, there) = flat_map_from block_names new.blocks (Some name) other in
+            let (b, block, at, there) = flat_map-from block_names new.blocks (Some name) other in
             block_name b block name at there
       ]
