@@ -258,36 +258,53 @@ fn optimised(alloc: Global, options: &str, proofs: &str) -> Result<(u8, World), 
     Ok((status, world))
 }
 
-/// Whether the module was rewritten, with this verdict.
-fn is_rewritten(left: &(u8, World)) -> bool {
-    let (status, world) = left;
-    *status == 0
-        && world.sinks.out.contents() == NOT_ADD_BYTES_WRITTEN.as_bytes()
-        && world.sinks.err.contents() == b"not-add [8]: admitted\n@f: 1 rewrites\n".as_slice()
+/// Whether the module is rewritten, and the report says so.
+fn is_rewritten(alloc: Global, options: &str, proofs: &str) -> Result<bool, Fail> {
+    let (status, world) = optimised(alloc, options, proofs)?;
+    Ok(
+        status == 0
+            && world.sinks.out.contents() == NOT_ADD_BYTES_WRITTEN.as_bytes()
+            && world.sinks.err.contents() == b"not-add [8]: admitted\n@f: 1 rewrites\n".as_slice(),
+    )
 }
+
+/// Whether the proofs are refused with this line, and nothing is written.
+fn is_refused(alloc: Global, options: &str, proofs: &str, line: &[u8]) -> Result<bool, Fail> {
+    let (status, world) = optimised(alloc, options, proofs)?;
+    Ok(status == 9 && world.sinks.err.contents() == line && world.sinks.out.contents().is_empty())
+}
+
+/// Options with which a rule is decided by a proof, or not at all.
+const BY_PROOF: &str = "--steps 10 --conflicts 0 --logs l";
 
 #[test]
 fn modules_are_rewritten_by_stored_proofs(rt: HostRuntime) -> Result<(), Fail> {
     let alloc = rt.alloc();
     let proof = written(alloc, "alive verify r --widths 8 --logs", NOT_ADD, "")?;
+    assert!(rt; is_rewritten(alloc, BY_PROOF, proof.as_str())?);
+    Ok(())
+}
+
+/// No proof of what is asked for, and a log that proves nothing, cost a search.
+#[test]
+fn other_proofs_cost_a_search(rt: HostRuntime) -> Result<(), Fail> {
+    let alloc = rt.alloc();
     let other = written(alloc, "alive verify r --widths 4 --logs", NOT_ADD, "")?;
-    let by_proof = "--steps 10 --conflicts 0 --logs l";
-    assert!(rt; is_rewritten(&optimised(alloc, "--steps 10", "")?));
-    assert!(rt; is_rewritten(&optimised(alloc, by_proof, proof.as_str())?));
-    // no proof of what is asked for, and a log that proves nothing, cost a search
     for proofs in [other.as_str(), "proof not-add [8]\nlog 0\n"] {
-        assert!(rt; is_rewritten(&optimised(alloc, "--steps 10 --logs l", proofs)?));
-        assert!(rt; !is_rewritten(&optimised(alloc, by_proof, proofs)?));
+        assert!(rt; is_rewritten(alloc, "--steps 10 --logs l", proofs)?);
+        assert!(rt; !is_rewritten(alloc, BY_PROOF, proofs)?);
     }
-    // a file that is not named is not read
-    assert!(rt; is_rewritten(&optimised(alloc, "--steps 10", "proof")?));
-    let (status, world) = optimised(alloc, by_proof, "proof")?;
-    assert_eq!(rt; status, 9);
-    assert_eq!(rt;
-        world.sinks.err.contents(),
-        b"logs: line 1: Syntax\n".as_slice()
-    );
-    assert!(rt; world.sinks.out.contents().is_empty());
+    Ok(())
+}
+
+/// A file of proofs is read where it is named.
+#[test]
+fn proofs_are_read_where_they_are_named(rt: HostRuntime) -> Result<(), Fail> {
+    let alloc = rt.alloc();
+    for proofs in ["", "proof"] {
+        assert!(rt; is_rewritten(alloc, "--steps 10", proofs)?);
+    }
+    assert!(rt; is_refused(alloc, BY_PROOF, "proof", b"logs: line 1: Syntax\n")?);
     Ok(())
 }
 
