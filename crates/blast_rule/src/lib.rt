@@ -17,9 +17,7 @@ mod statement;
 mod target;
 mod temporaries;
 
-pub use blast_setting::{
-    Setting, fitting_settings_are_read, input_bits, read_settings_fit, setting_of,
-};
+pub use blast_setting::{Setting, fitting_settings_are_read, read_settings_fit, setting_of};
 pub use gates::most_gates;
 pub use laws::{gates_are_few, rules_without_counterexample_read_are_valid};
 pub use rule_bits::{RuleBits, blast_rule};

@@ -1,7 +1,6 @@
 -- A half names few things.
-use Rattle.std.proofs.Common.{◌≡◌, ℕ, zero, suc, ◌*◌, ◌<◌, ◌≤◌, List, [], ◌∷◌, ◌++◌, length, length-append, ap, arith}
-use Rattle.std.specs.Prelude.{flat_map, slice_index}
-use Rattle.std.proofs.lemmas.List.{length-map}
+use Rattle.std.proofs.Common.{◌≡◌, ℕ, zero, suc, ◌*◌, ◌<◌, ◌≤◌, List, [], ◌∷◌, ◌++◌, length, length-append, arith}
+use Rattle.std.specs.Prelude.{flat_map}
 use Rattle.std.proofs.lemmas.Option.{slice_get_within}
 use Rattle.rule_core.specs.declared.rule.Rule.{Rule}
 use Rattle.rule_core.specs.declared.rule.Statement.{Statement}
@@ -15,8 +14,8 @@ use Rattle.rule_core.specs.Positions.{operands_of, operands_among, undef_in, fro
 use Rattle.rule_core.specs.Checks.{IsRule, StandsAt}
 use Rattle.blast_setting.specs.declared.named.Kind.{Kind}
 use Rattle.blast_setting.specs.declared.named.Kind.TheVariants.{Input, Constant}
-use Rattle.blast_setting.specs.Inputs.{argument_of, named_widths, choice_widths}
-use Rattle.blast_setting.proofs.Widths.{count_of, length-named_widths}
+use Rattle.blast_setting.specs.Inputs.{argument_of}
+use Rattle.blast_setting.proofs.Widths.{count_of}
 
 -- statements have at most three operands
 op_operands : (op : Op) → length (operands_of op) ≤ 3
@@ -69,11 +68,3 @@ few_named rule Constant checked = omega (arith, few rule (argument_of Constant) 
 
 pub few_in_target : (rule : Rule) → IsRule rule → length (choices_among rule.target) ≤ 96
 few_in_target rule checked = omega (arith, few_choices rule.target, checked.few_in_target)
-
--- there are few widths of what a setting has
-pub few_widths : (rule : Rule) (typing : List ℕ) (kind : Kind) (widths : List ℕ) → IsRule rule → widths ≡ named_widths typing rule.source kind (count_of rule kind) → length widths ≤ 96
-few_widths rule typing kind widths checked is = omega (arith, ap length is, length-named_widths typing rule.source kind (count_of rule kind), few_named rule kind checked)
-
-pub few_choice_widths : (rule : Rule) (typing widths : List ℕ) → IsRule rule → widths ≡ choice_widths rule typing → length widths ≤ 96
-few_choice_widths rule typing widths checked is =
-    omega (arith, ap length is, length-map (choices_among rule.target) (λ (choice : Choice). slice_index typing choice.class), few_in_target rule checked)

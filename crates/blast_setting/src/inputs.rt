@@ -1,51 +1,17 @@
 //! The inputs of a rule's circuit.
-ghost use Rattle.std.specs.Prelude.{◌≡◌, ◌*◌, ◌≤◌, Bool, List as Seq, length, map, drop, sum_by, IfOk, OnOk};
+ghost use Rattle.std.specs.Prelude.{◌≡◌, Bool, List as Seq, length, map, drop, sum_by, IfOk, OnOk};
 ghost use Rattle.std.specs.List.{All};
 ghost use Rattle.circuits.specs.Circuit.{Keeps};
-ghost use Rattle.rule_core.specs.Checks.{IsRule};
-ghost use Rattle.rule_core.specs.Typing.{IsTyping};
 ghost use Rattle.blast_value.specs.Effect.{held_value, widths_of, IsOwn};
-ghost use Rattle.blast_setting.specs.Inputs.{input_bits, value_bits, number_bits};
+ghost use Rattle.blast_setting.specs.Inputs.{value_bits, number_bits};
 ghost use Rattle.blast_setting.specs.Settings.{value_read, values_read, number_read, numbers_read};
 ghost use Rattle.blast_value.specs.Words.{number_held};
 
-use crate::setting_widths::SettingWidths;
 use blast_value::Held;
 use circuits::{Bits, Circuit};
 use lists::List;
 use ops::Width;
-use rule_core::{Rule, Typing};
 use std::alloc::{AllocError, Global};
-
-/// How many inputs the rule's circuit has: N + 1 for each input of width N, its number and its poison bit, and then N for the number of
-/// each constant and of each choice of the target.
-pub fn input_bits(alloc: Global, rule: &Rule, typing: &Typing) -> Result<u32, AllocError>
-    requires rule { IsRule rule.now }
-    requires typing { IsTyping rule.now typing.now }
-    ensures { IfOk result (λ bits. bits ≡ input_bits rule.now typing.now) }
-{
-    let widths = SettingWidths::of(alloc, rule, typing.as_slice())?;
-    let inputs = widths.inputs.len();
-    Ok(
-        bits_of(&widths.inputs)
-            + inputs as u32
-            + bits_of(&widths.constants)
-            + bits_of(&widths.choices),
-    )
-}
-
-/// How many bits numbers of these widths have together.
-fn bits_of(widths: &[Width]) -> u32
-    requires { length widths.now ≤ 256 }
-    ensures bits { result ≡ sum_by number_bits widths.now }
-    ensures few { result ≤ 64 * length widths.now }
-{
-    let mut bits = 0;
-    for width in widths {
-        bits += width.bits();
-    }
-    bits
-}
 
 /// A value for each width: of each its bits, the lowest first, and then its poison bit.
 pub(crate) fn make_values<C: Circuit>(

@@ -12,7 +12,6 @@ mod setting;
 mod setting_bits;
 mod setting_widths;
 
-pub use inputs::input_bits;
 pub use laws::{fitting_settings_are_read, read_settings_fit};
 pub use setting::{Setting, setting_of};
 pub use setting_bits::{SettingBits, make_setting};
