@@ -41,7 +41,8 @@ use Rattle.rule_terms.proofs.Starts.{mark_at-is}
 use Rattle.rule_viable_prefixes.specs.Misfits as kinds
 use Rattle.rule_viable_prefixes.specs.Misfits.{Fitting, IsNoun, Nests, IsTooDeep}
 use Rattle.rule_viable_prefixes.proofs.Nouns.{constant_noun, not_in_formulas, predicate_other, one_use_other}
-use Rattle.rule_viable_prefixes.proofs.Outcomes.{lack_wider, Lack, NoNoun, Told, Takes, IsTold, says_syntax, says_too_many, says_deep, says_wider, Alike, same, ended, NoLine, Spelling, Sample, pair, bare, Reader, IsErr, IsErrOn, IsRead, IsRefused, Outcome, Good, then_at, then, refused_here, passed, took, led, alike_as, widen, Branch, takes, refuses, by_token, with_none, widened, on_line, then_done, says_unexpected, own_last}
+use Rattle.rule_viable_prefixes.proofs.Outcomes.{lack_wider, Lack, NoNoun, Takes, Alike, same, ended, NoLine, Spelling, Sample, pair, bare, Reader, IsErr, IsErrOn, IsRead, IsRefused, Outcome, Good, then_at, then, refused_here, passed, took, led, led_in, alike_as, widen, Branch, takes, refuses, by_token, with_none, widened, on_line, then_done, own_last}
+use Rattle.rule_viable_prefixes.proofs.Tolds.{Told, IsTold, says_syntax, says_too_many, says_deep, says_wider, says_carried, says_unexpected}
 use Rattle.rule_viable_prefixes.proofs.FlagRuns.{IsNew, new_behind}
 use Rattle.rule_viable_prefixes.proofs.Parentheses.{word_and_equals, seen_again, unseen_again, shorter, longer, cut, opens_at_end, closes, formula_seen, BeginsTerm, loosened, not_both, term_instead, Enclosed, parenthesis_begins}
 use Rattle.rule_viable_prefixes.proofs.Parts.{Spelled, then_seq, ends_alike, refused_token, then_end, chain_good}
@@ -52,6 +53,10 @@ use Rattle.rule_viable_prefixes.proofs.Roomy.{roomy}
 module _ (spare_bytes deepest spare_statements : ℕ) where
   abbrev limits : Limits
   limits = roomy spare_bytes deepest spare_statements
+
+  -- the limits where so many levels of nesting are left
+  abbrev levels : ℕ → Limits
+  levels nesting = roomy spare_bytes nesting spare_statements
 
   -- ---- spellings without values
 
@@ -73,25 +78,25 @@ module _ (spare_bytes deepest spare_statements : ℕ) where
 
   -- ---- comparisons
 
-  comparison_branch : (line : ℕ) (token : Token) → Branch limits (pair limits) (comparison_at line) (Spelled limits IsComparison) line token
+  comparison_branch : (nesting line : ℕ) (token : Token) → Branch (levels nesting) (pair limits) (comparison_at line) (Spelled limits IsComparison) line token
   unfolding comparison_at
-  comparison_branch line (Mark mark) = by (comparison_in mark) refl
+  comparison_branch nesting line (Mark mark) = by (comparison_in mark) refl
     where
-      by : (found : Option Pred) → comparison_in mark ≡ found → Branch limits (pair limits) (comparison_at line) (Spelled limits IsComparison) line (Mark mark)
+      by : (found : Option Pred) → comparison_in mark ≡ found → Branch (levels nesting) (pair limits) (comparison_at line) (Spelled limits IsComparison) line (Mark mark)
       by (Some pred) f = takes pred tt (pred, comparison_at-is limits line (Mark mark ∷ []) (pred, []) (rw f refl)) (λ more. rw f refl)
-      by None f = refuses (λ more. (fault line Syntax, rw f refl, refl, says_syntax limits (Mark mark) more tt))
-  comparison_branch line token = refuses (λ more. (unexpected line (token ∷ more), refl, refl, says_unexpected limits line token more (λ word is. inr (inr (λ noun is_noun others. (unexpected line (Word noun ∷ others), refl))))))
+      by None f = refuses (λ more. (fault line Syntax, rw f refl, refl, says_syntax (levels nesting) (Mark mark) more tt))
+  comparison_branch nesting line token = refuses (λ more. (unexpected line (token ∷ more), refl, refl, says_unexpected (levels nesting) line token more (λ word is. inr (inr (λ noun is_noun others. (unexpected line (Word noun ∷ others), refl))))))
 
-  comparison_good : (line : ℕ) → Good limits (pair limits) (comparison_at line) (Spelled limits IsComparison) line
+  comparison_good : (nesting line : ℕ) → Good (levels nesting) (pair limits) (comparison_at line) (Spelled limits IsComparison) line
   unfolding comparison_at
-  comparison_good line = by_token limits (Eq, Mark (comparison_mark Eq) ∷ [], (Eq, refl)) (comparison_branch line) (fault line Syntax, refl, refl, refl)
+  comparison_good nesting line = by_token (levels nesting) (Eq, Mark (comparison_mark Eq) ∷ [], (Eq, refl)) (comparison_branch nesting line) (fault line Syntax, refl, refl, refl)
 
-  compares_good : (nesting line : ℕ) (before : List RawFormula) → Good limits (pair limits) (compares_at limits nesting line before) (Spelled limits (IsCompared nesting)) line
+  compares_good : (nesting line : ℕ) (before : List RawFormula) → Good (levels nesting) (pair limits) (compares_at limits nesting line before) (Spelled limits (IsCompared nesting)) line
   unfolding compares_at
   compares_good nesting line before =
-      then_seq limits {s = (pair limits)} {t = (pair limits)} _ (term_good spare_bytes deepest spare_statements Constant nesting line) (λ left.
-      then_seq limits {s = (pair limits)} {t = (pair limits)} _ (comparison_good line) (λ pred.
-      then_done limits {s = (pair limits)} {L = Term spare_bytes deepest spare_statements Constant nesting loosest} (λ right. before ++ Compare pred left right ∷ []) _ (λ x rest. refl) (λ x own is. is) (term_good spare_bytes deepest spare_statements Constant nesting line)))
+      then_seq (levels nesting) {s = (pair limits)} {t = (pair limits)} _ (term_good spare_bytes deepest spare_statements Constant nesting line) (λ left.
+      then_seq (levels nesting) {s = (pair limits)} {t = (pair limits)} _ (comparison_good nesting line) (λ pred.
+      then_done (levels nesting) {s = (pair limits)} {L = Term spare_bytes deepest spare_statements Constant nesting loosest} (λ right. before ++ Compare pred left right ∷ []) _ (λ x rest. refl) (λ x own is. is) (term_good spare_bytes deepest spare_statements Constant nesting line)))
 
   -- ---- predicates
 
@@ -101,14 +106,14 @@ module _ (spare_bytes deepest spare_statements : ℕ) where
       let same : own ≡ Mark (codes "(") ∷ inside ++ Mark (codes ")") ∷ [] = all ∙ ap (λ (ts : List Token). ts ++ back) o ∙ ap (λ (ts : List Token). Mark (codes "(") ∷ ts) (whole ∙ ap (λ (ts : List Token). inside ++ ts) c) in
       (predicate_node predicate term.0 ∷ [], subst (λ (ts : List Token). SpellsFormula limits standing Member (suc nesting) start (predicate_node predicate term.0 ∷ []) (Word (predicate_word predicate) ∷ ts)) (sym same) (tests predicate term.1))
 
-  close_done : {B : Type 0} (value : B) (line : ℕ) → Good limits (pair limits) (λ ts. mark_at (codes ")") line ts >>= λ behind. Ok (value, behind)) (Spelled limits (Is (Mark (codes ")")))) line
-  close_done value line = then_done limits {s = (bare limits)} {L = Spelled limits (Is (Mark (codes ")")))} (λ u. value) (λ behind. Ok (value, behind)) (λ u rest. refl) (λ u own is. is) (mark_good spare_bytes deepest spare_statements (codes ")") line)
+  close_done : {B : Type 0} (value : B) (nesting line : ℕ) → Good (levels nesting) (pair limits) (λ ts. mark_at (codes ")") line ts >>= λ behind. Ok (value, behind)) (Spelled limits (Is (Mark (codes ")")))) line
+  close_done value nesting line = then_done (levels nesting) {s = (bare limits)} {L = Spelled limits (Is (Mark (codes ")")))} (λ u. value) (λ behind. Ok (value, behind)) (λ u rest. refl) (λ u own is. is) (mark_good (levels nesting) (codes ")") line)
 
-  tests_good : (predicate : Predicate) (nesting line : ℕ) (before : List RawFormula) → Good limits (pair limits) (tests_at limits predicate (suc nesting) line before) (Spelled limits (Is (Mark (codes "(")) ⨾ (IsTerm spare_bytes deepest spare_statements) Constant nesting loosest ⨾ Is (Mark (codes ")")))) line
+  tests_good : (predicate : Predicate) (nesting line : ℕ) (before : List RawFormula) → Good (levels nesting) (pair limits) (tests_at limits predicate (suc nesting) line before) (Spelled limits (Is (Mark (codes "(")) ⨾ (IsTerm spare_bytes deepest spare_statements) Constant nesting loosest ⨾ Is (Mark (codes ")")))) line
   unfolding tests_at
   tests_good predicate nesting line before =
-      then_seq limits {s = (bare limits)} {t = (pair limits)} _ (mark_good spare_bytes deepest spare_statements (codes "(") line) (λ u.
-      then_seq limits {s = (pair limits)} {t = (pair limits)} _ (term_good spare_bytes deepest spare_statements Constant nesting line) (λ term. close_done (before ++ predicate_node predicate term ∷ []) line))
+      then_seq (levels nesting) {s = (bare limits)} {t = (pair limits)} _ (mark_good (levels nesting) (codes "(") line) (λ u.
+      then_seq (levels nesting) {s = (pair limits)} {t = (pair limits)} _ (term_good spare_bytes deepest spare_statements Constant nesting line) (λ term. close_done (before ++ predicate_node predicate term ∷ []) nesting line))
 
   -- what is told of a predicate where nothing more may be nested
   abbrev IsShallow : {X : Type 0} → ℕ → List Token → Result X RuleFault → Type 0
@@ -120,15 +125,15 @@ module _ (spare_bytes deepest spare_statements : ℕ) where
     where
       by : (r : Result (List Token) RuleFault) → mark_at (codes "(") line tokens ≡ r → IsShallow line tokens (tests_at limits predicate zero line before tokens)
       by (Ok rest) e = (fault line TooMany, rw e refl, refl, inl refl)
-      by (Err f) e = (f, rw e refl, on_line limits (mark_good spare_bytes deepest spare_statements (codes "(") line) tokens f e, parenthesis_missed spare_bytes deepest spare_statements line tokens f e)
+      by (Err f) e = (f, rw e refl, on_line (levels zero) (mark_good (levels zero) (codes "(") line) tokens f e, parenthesis_missed limits line tokens f e)
 
   abbrev IsName : Part
   IsName own = (name : List ℕ) × (length name ≤ limits.name_bytes) × Is (Register name) own
 
   register_branch : (line : ℕ) (token : Token) → Branch limits (pair limits) (register_at limits line) (Spelled limits IsName) line token
-  register_branch line (Register name) = by (named spare_bytes deepest spare_statements line name)
+  register_branch line (Register name) = by (named limits line name)
     where
-      by : Named spare_bytes deepest spare_statements line name → Branch limits (pair limits) (register_at limits line) (Spelled limits IsName) line (Register name)
+      by : Named limits line name → Branch limits (pair limits) (register_at limits line) (Spelled limits IsName) line (Register name)
       by (is_short le n) = takes name tt (name, le, refl) (λ more. rw n refl)
       by (is_long long n) = refuses (λ more. (fault line TooMany, rw n refl, refl, says_too_many limits (Register name) more (kinds.register name (codes "a", long, omega arith, tt, tt, (codes "a", [], (codes "a", omega arith, refl))))))
   register_branch line token = refuses (λ more. (unexpected line (token ∷ more), refl, refl, says_unexpected limits line token more (λ word is. inr (inr (λ noun is_noun others. (unexpected line (Word noun ∷ others), refl))))))
@@ -144,13 +149,13 @@ module _ (spare_bytes deepest spare_statements : ℕ) where
   one_use_good : (line : ℕ) (before : List RawFormula) → Good limits (pair limits) (one_use_at limits line before) (Spelled limits (Is (Mark (codes "(")) ⨾ IsName ⨾ Is (Mark (codes ")")))) line
   unfolding one_use_at
   one_use_good line before =
-      then_seq limits {s = (bare limits)} {t = (pair limits)} _ (mark_good spare_bytes deepest spare_statements (codes "(") line) (λ u.
-      then_seq limits {s = (pair limits)} {t = (pair limits)} _ (register_good line) (λ name. close_done (before ++ HasOneUse name ∷ []) line))
+      then_seq limits {s = (bare limits)} {t = (pair limits)} _ (mark_good limits (codes "(") line) (λ u.
+      then_seq limits {s = (pair limits)} {t = (pair limits)} _ (register_good line) (λ name. close_done (before ++ HasOneUse name ∷ []) deepest line))
 
   -- ---- members behind each other
 
-  joins_good : (operator : ℕ → ℕ → RawFormula) (part : Behind (List RawFormula)) (P : Part) (line : ℕ) → ((before : List RawFormula) → Good limits (pair limits) (part before) (Spelled limits P) line) → (before : List RawFormula) → Good limits (pair limits) (joins operator part before) (Spelled limits P) line
-  joins_good operator part P line good before = then_done limits {s = (pair limits)} {L = Spelled limits P} (λ x. x ++ operator (last_place (length before)) (last_place (length x)) ∷ []) _ (λ x rest. refl) (λ x own is. is) (good before)
+  joins_good : (operator : ℕ → ℕ → RawFormula) (part : Behind (List RawFormula)) (P : Part) (nesting line : ℕ) → ((before : List RawFormula) → Good (levels nesting) (pair limits) (part before) (Spelled limits P) line) → (before : List RawFormula) → Good (levels nesting) (pair limits) (joins operator part before) (Spelled limits P) line
+  joins_good operator part P nesting line good before = then_done (levels nesting) {s = (pair limits)} {L = Spelled limits P} (λ x. x ++ operator (last_place (length before)) (last_place (length x)) ∷ []) _ (λ x rest. refl) (λ x own is. is) (good before)
 
   -- tokens that go on with a formula of the level, whatever its start
   abbrev GoesOn : Standing → Level → ℕ → Part
@@ -172,34 +177,34 @@ module _ (spare_bytes deepest spare_statements : ℕ) where
       (more.0, subst (λ (ts : List Token). SpellsFormula limits Within Alternatives nesting start more.0 ts) (append_assoc front (Mark (codes "||") ∷ own) back) more.1)
 
   abbrev MembersGood : Standing → ℕ → ℕ → Behind (List RawFormula) → Type 0
-  MembersGood standing nesting line read = (before : List RawFormula) → Good limits (pair limits) (read before) (Spelled limits (IsFormula standing Member nesting)) line
+  MembersGood standing nesting line read = (before : List RawFormula) → Good (levels nesting) (pair limits) (read before) (Spelled limits (IsFormula standing Member nesting)) line
 
   abbrev ReadsMembers : Standing → ℕ → Behind (List RawFormula) → Type 0
   ReadsMembers standing nesting read = Rattle.rule_terms.proofs.FormulaReadings.Reads limits standing Member nesting read
 
-  members_good : (standing : Standing) (nesting line : ℕ) (read : Behind (List RawFormula)) → ReadsMembers standing nesting read → MembersGood standing nesting line read → (before : List RawFormula) → Good limits (pair limits) (members_of read before) (Spelled limits (IsFormula standing Members nesting)) line
+  members_good : (standing : Standing) (nesting line : ℕ) (read : Behind (List RawFormula)) → ReadsMembers standing nesting read → MembersGood standing nesting line read → (before : List RawFormula) → Good (levels nesting) (pair limits) (members_of read before) (Spelled limits (IsFormula standing Members nesting)) line
   members_good standing nesting line read reads good before =
-      then limits {s = (pair limits)} {t = (pair limits)} _ {L = Spelled limits (IsFormula standing Member nesting)} {M = λ x. Spelled limits (GoesOn standing Members nesting)}
+      then (levels nesting) {s = (pair limits)} {t = (pair limits)} _ {L = Spelled limits (IsFormula standing Member nesting)} {M = λ x. Spelled limits (GoesOn standing Members nesting)}
       (λ x y front back one onward start. let f = one start in onward start front f.0 (member f.1)) (good before)
-      (λ first. chain_good limits (codes "&&") (joins And read) (IsFormula standing Member nesting) (GoesOn standing Members nesting) line refl (joins_shortens limits And standing Member nesting read reads)
-      (record { none = goes_nowhere standing Members nesting; more = λ front back one onward. goes_and standing nesting front back one onward }) (joins_good And read (IsFormula standing Member nesting) line good) first)
+      (λ first. chain_good (levels nesting) (codes "&&") (joins And read) (IsFormula standing Member nesting) (GoesOn standing Members nesting) line refl (joins_shortens limits And standing Member nesting read reads)
+      (record { none = goes_nowhere standing Members nesting; more = λ front back one onward. goes_and standing nesting front back one onward }) (joins_good And read (IsFormula standing Member nesting) nesting line good) first)
 
-  more_alternatives_good : (nesting line : ℕ) (read : Behind (List RawFormula)) → ReadsMembers Within nesting read → MembersGood Within nesting line read → (before : List RawFormula) → Good limits (pair limits) (more_alternatives read before) (Spelled limits (GoesOn Within Alternatives nesting)) line
+  more_alternatives_good : (nesting line : ℕ) (read : Behind (List RawFormula)) → ReadsMembers Within nesting read → MembersGood Within nesting line read → (before : List RawFormula) → Good (levels nesting) (pair limits) (more_alternatives read before) (Spelled limits (GoesOn Within Alternatives nesting)) line
   more_alternatives_good nesting line read reads good before =
-      chain_good limits (codes "||") (joins Or (members_of read)) (IsFormula Within Members nesting) (GoesOn Within Alternatives nesting) line refl (joins_shortens limits Or Within Members nesting (members_of read) (members_of-is limits Within nesting read reads))
-      (record { none = goes_nowhere Within Alternatives nesting; more = λ front back one onward. goes_or nesting front back one onward }) (joins_good Or (members_of read) (IsFormula Within Members nesting) line (members_good Within nesting line read reads good)) before
+      chain_good (levels nesting) (codes "||") (joins Or (members_of read)) (IsFormula Within Members nesting) (GoesOn Within Alternatives nesting) line refl (joins_shortens limits Or Within Members nesting (members_of read) (members_of-is limits Within nesting read reads))
+      (record { none = goes_nowhere Within Alternatives nesting; more = λ front back one onward. goes_or nesting front back one onward }) (joins_good Or (members_of read) (IsFormula Within Members nesting) nesting line (members_good Within nesting line read reads good)) before
 
-  alternatives_good : (nesting line : ℕ) (read : Behind (List RawFormula)) → ReadsMembers Within nesting read → MembersGood Within nesting line read → (before : List RawFormula) → Good limits (pair limits) (alternatives_of read before) (Spelled limits (IsFormula Within Alternatives nesting)) line
+  alternatives_good : (nesting line : ℕ) (read : Behind (List RawFormula)) → ReadsMembers Within nesting read → MembersGood Within nesting line read → (before : List RawFormula) → Good (levels nesting) (pair limits) (alternatives_of read before) (Spelled limits (IsFormula Within Alternatives nesting)) line
   alternatives_good nesting line read reads good before =
-      then limits {s = (pair limits)} {t = (pair limits)} _ {L = Spelled limits (IsFormula Within Members nesting)} {M = λ x. Spelled limits (GoesOn Within Alternatives nesting)}
+      then (levels nesting) {s = (pair limits)} {t = (pair limits)} _ {L = Spelled limits (IsFormula Within Members nesting)} {M = λ x. Spelled limits (GoesOn Within Alternatives nesting)}
       (λ x y front back one onward start. let f = one start in onward start front f.0 (members f.1)) (members_good Within nesting line read reads good before)
       (λ first. more_alternatives_good nesting line read reads good first)
 
-  enclosed_good : (nesting line : ℕ) (read : Behind (List RawFormula)) → ReadsMembers Within nesting read → MembersGood Within nesting line read → (before : List RawFormula) → Good limits (pair limits) (encloses_at line read before) (Spelled limits (Closed spare_bytes deepest spare_statements (IsFormula Within Alternatives nesting))) line
+  enclosed_good : (nesting line : ℕ) (read : Behind (List RawFormula)) → ReadsMembers Within nesting read → MembersGood Within nesting line read → (before : List RawFormula) → Good (levels nesting) (pair limits) (encloses_at line read before) (Spelled limits (Closed spare_bytes deepest spare_statements (IsFormula Within Alternatives nesting))) line
   enclosed_good nesting line read reads good before =
-      then limits {s = (pair limits)} {t = (pair limits)} _ {L = Spelled limits (IsFormula Within Alternatives nesting)} {M = λ x. Spelled limits (Is (Mark (codes ")")))}
+      then (levels nesting) {s = (pair limits)} {t = (pair limits)} _ {L = Spelled limits (IsFormula Within Alternatives nesting)} {M = λ x. Spelled limits (Is (Mark (codes ")")))}
       (λ x y front back one close. (front, one, ap (λ (ts : List Token). front ++ ts) close)) (alternatives_good nesting line read reads good before)
-      (λ formula. close_done formula line)
+      (λ formula. close_done formula nesting line)
 
   closed_formula : (standing : Standing) (nesting : ℕ) (own : List Token) → Closed spare_bytes deepest spare_statements (IsFormula Within Alternatives nesting) own → IsFormula standing Member (suc nesting) (Mark (codes "(") ∷ own)
   closed_formula standing nesting own (inside, is, whole) = λ start.
@@ -209,8 +214,8 @@ module _ (spare_bytes deepest spare_statements : ℕ) where
   turned : (standing : Standing) (nesting : ℕ) (own : List Token) → IsFormula Within Member nesting own → IsFormula standing Member (suc nesting) (Mark (codes "!") ∷ own)
   turned standing nesting own is = λ start. let f = is start in (_, turns f.1)
 
-  turns_good : (nesting line : ℕ) (read : Behind (List RawFormula)) → MembersGood Within nesting line read → (before : List RawFormula) → Good limits (pair limits) (turns_at read before) (Spelled limits (IsFormula Within Member nesting)) line
-  turns_good nesting line read good before = then_done limits {s = (pair limits)} {L = Spelled limits (IsFormula Within Member nesting)} (λ x. x ++ Not (last_place (length x)) ∷ []) _ (λ x rest. refl) (λ x own is. is) (good before)
+  turns_good : (nesting line : ℕ) (read : Behind (List RawFormula)) → MembersGood Within nesting line read → (before : List RawFormula) → Good (levels nesting) (pair limits) (turns_at read before) (Spelled limits (IsFormula Within Member nesting)) line
+  turns_good nesting line read good before = then_done (levels nesting) {s = (pair limits)} {L = Spelled limits (IsFormula Within Member nesting)} (λ x. x ++ Not (last_place (length x)) ∷ []) _ (λ x rest. refl) (λ x own is. is) (good before)
 
   -- ---- parentheses, of a formula or of a term
 
@@ -271,8 +276,8 @@ module _ (spare_bytes deepest spare_statements : ℕ) where
   ok_no_err r x p (e, q) = let both_ = sym p ∙ q in absurd cc
 
   -- Where a formula was seen, and is refused behind a front, no term is read of tokens that begin alike.
-  no_term_instead : (nesting line : ℕ) (before : List RawFormula) (front behind more : List Token) → opens_formula 0 (front ++ behind) ≡ true → Alike limits behind more
-      → ((others : List Token) → Alike limits behind others → IsErr limits (encloses_at line (member_at limits nesting line) before (front ++ others)))
+  no_term_instead : (nesting line : ℕ) (before : List RawFormula) (front behind more : List Token) → opens_formula 0 (front ++ behind) ≡ true → Alike behind more
+      → ((others : List Token) → Alike behind others → IsErr limits (encloses_at line (member_at limits nesting line) before (front ++ others)))
       → opens_formula 0 (front ++ more) ≡ false → (x : List RawFormula × List Token) → compares_at limits (suc nesting) line before (Mark (codes "(") ∷ front ++ more) ≡ Ok x → ⊥
   unfolding compares_at
   no_term_instead nesting line before front behind more seen alike refused unseen x e =
@@ -281,7 +286,7 @@ module _ (spare_bytes deepest spare_statements : ℕ) where
       first t.own left.1 (spells_some limits t.is_own) t.whole (λ tokens same. parenthesis_begins spare_bytes deepest spare_statements t.is_own refl tokens same))
     where
       inside : (depth : ℕ) (nodes : List RawNode) (own after : List Token) → nesting ≡ depth → SpellsWholeTerm limits Constant depth nodes own → (g : List Token) → own ≡ front ++ g → more ≡ g ++ Mark (codes ")") ∷ after
-          → (stood others : List Token) → Alike limits stood others → stood ≡ behind → others ≡ more → ⊥
+          → (stood others : List Token) → Alike stood others → stood ≡ behind → others ≡ more → ⊥
       inside depth nodes own after deep is [] p q stood others (same t a b) s r =
           let first_ : t ≡ Mark (codes ")") = let e = r ∙ q in cc in
           let plain : opens_formula 0 (own ++ t ∷ a) ≡ false = term_plain limits is 0 (t ∷ a) ∙ ap (λ (u : Token). opens_formula 0 (u ∷ a)) first_ ∙ closes spare_bytes deepest spare_statements a in
@@ -295,7 +300,7 @@ module _ (spare_bytes deepest spare_statements : ℕ) where
           ap (λ (ts : List Token). ts ++ (equals_zero ++ Mark (codes ")") ∷ [])) p ∙ append_assoc front (v ∷ g) (equals_zero ++ Mark (codes ")") ∷ []) ∙ ap (λ (u : Token). front ++ u ∷ tail) (sym first_) in
           ok_no_err (encloses_at line (member_at limits nesting line) before (front ++ t ∷ tail)) read.0
           (subst (λ (ts : List Token). encloses_at line (member_at limits nesting line) before ts ≡ Ok read.0) as_front (subst (λ (k : ℕ). encloses_at line (member_at limits k line) before (own ++ (equals_zero ++ Mark (codes ")") ∷ [])) ≡ Ok read.0) (sym deep) read.1))
-          (refused (t ∷ tail) (subst (λ (ts : List Token). Alike limits ts (t ∷ tail)) s (same t a tail)))
+          (refused (t ∷ tail) (subst (λ (ts : List Token). Alike ts (t ∷ tail)) s (same t a tail)))
       inside depth nodes own after deep is g p q stood others (ended a b u v) s r =
           let seen_here : opens_formula 0 (front ++ a) ≡ true = subst (λ (ts : List Token). opens_formula 0 (front ++ ts) ≡ true) (sym s) seen in
           not_both spare_bytes deepest spare_statements (opens_formula 0 (front ++ a)) seen_here (opens_at_end spare_bytes deepest spare_statements front a b u v ∙ ap (λ (ts : List Token). opens_formula 0 (front ++ ts)) r ∙ unseen)
@@ -326,8 +331,8 @@ module _ (spare_bytes deepest spare_statements : ℕ) where
           })
 
   -- Where no formula was seen, and a comparison is refused behind a front, no formula is read of tokens that begin alike.
-  no_formula_instead : (nesting line : ℕ) (before : List RawFormula) (front behind more : List Token) → opens_formula 0 (front ++ behind) ≡ false → Alike limits behind more
-      → ((others : List Token) → Alike limits behind others → IsErr limits (compares_at limits (suc nesting) line before (Mark (codes "(") ∷ front ++ others)))
+  no_formula_instead : (nesting line : ℕ) (before : List RawFormula) (front behind more : List Token) → opens_formula 0 (front ++ behind) ≡ false → Alike behind more
+      → ((others : List Token) → Alike behind others → IsErr limits (compares_at limits (suc nesting) line before (Mark (codes "(") ∷ front ++ others)))
       → opens_formula 0 (front ++ more) ≡ true → (x : List RawFormula × List Token) → encloses_at line (member_at limits nesting line) before (front ++ more) ≡ Ok x → ⊥
   no_formula_instead nesting line before front behind more unseen alike refused seen x e =
       bound (alternatives_of (member_at limits nesting line) before (front ++ more)) _ _ e (λ formula p e1.
@@ -336,7 +341,7 @@ module _ (spare_bytes deepest spare_statements : ℕ) where
       where_cut a.nodes a.own rest a.is_own (a.whole ∙ ap (λ (ts : List Token). a.own ++ ts) (mark_at-is limits (codes ")") line formula.1 rest q))))
     where
       inside : (nodes : List RawFormula) (own rest : List Token) → SpellsFormula limits Within Alternatives nesting (length before) nodes own → (g : List Token) → own ≡ front ++ g → more ≡ g ++ Mark (codes ")") ∷ rest
-          → (stood others : List Token) → Alike limits stood others → stood ≡ behind → others ≡ more → ⊥
+          → (stood others : List Token) → Alike stood others → stood ≡ behind → others ≡ more → ⊥
       inside nodes own rest is [] p q stood others alike_ s r = not_both spare_bytes deepest spare_statements (opens_formula 0 (front ++ behind)) (formula_seen spare_bytes deepest spare_statements is front [] behind 0 (sym (append-nil front) ∙ sym p ∙ sym (append-nil own))) unseen
       inside nodes own rest is (v ∷ g) p q stood others (same t a b) s r =
           let first : t ≡ v = let e = r ∙ q in cc in
@@ -346,7 +351,7 @@ module _ (spare_bytes deepest spare_statements : ℕ) where
           let tail : List Token = begun.0 ++ Mark (codes ")") ∷ equals_zero in
           ok_no_err (compares_at limits (suc nesting) line before (Mark (codes "(") ∷ front ++ t ∷ tail)) read.0
           (subst (λ (ts : List Token). compares_at limits (suc nesting) line before (Mark (codes "(") ∷ ts) ≡ Ok read.0) (append_assoc front (t ∷ []) tail) read.1)
-          (refused (t ∷ tail) (subst (λ (ts : List Token). Alike limits ts (t ∷ tail)) s (same t a tail)))
+          (refused (t ∷ tail) (subst (λ (ts : List Token). Alike ts (t ∷ tail)) s (same t a tail)))
       inside nodes own rest is (v ∷ g) p q stood others (ended a b u w) s r =
           let unseen_here : opens_formula 0 (front ++ a) ≡ false = subst (λ (ts : List Token). opens_formula 0 (front ++ ts) ≡ false) (sym s) unseen in
           not_both spare_bytes deepest spare_statements (opens_formula 0 (front ++ a)) (opens_at_end spare_bytes deepest spare_statements front a b u w ∙ ap (λ (ts : List Token). opens_formula 0 (front ++ ts)) r ∙ seen) unseen_here
@@ -363,28 +368,28 @@ module _ (spare_bytes deepest spare_statements : ℕ) where
   inline_one token own stays inline = Rattle.rule_viable_prefixes.proofs.Outcomes.inline_token limits token own stays inline
 
   abbrev MemberIs : Standing → ℕ → ℕ → List RawFormula → List Token → Type 0
-  MemberIs standing nesting line before tokens = Outcome limits (pair limits) (member_at limits nesting line before) (Spelled limits (IsFormula standing Member nesting)) line tokens (member_at limits nesting line before tokens)
+  MemberIs standing nesting line before tokens = Outcome (levels nesting) (pair limits) (member_at limits nesting line before) (Spelled limits (IsFormula standing Member nesting)) line tokens (member_at limits nesting line before tokens)
 
-  word_alike : (noun : List ℕ) (more : List Token) → Alike limits (word_and_equals spare_bytes deepest spare_statements noun) (Word noun ∷ more)
+  word_alike : (noun : List ℕ) (more : List Token) → Alike (word_and_equals spare_bytes deepest spare_statements noun) (Word noun ∷ more)
   word_alike noun more = same (Word noun) (Mark (codes "==") ∷ []) more
 
-  refused_alike : (Q : List Token → Type 0) (noun : List ℕ) → ((more : List Token) → Q (Word noun ∷ more)) → (others : List Token) → Alike limits (word_and_equals spare_bytes deepest spare_statements noun) others → Q others
+  refused_alike : (Q : List Token → Type 0) (noun : List ℕ) → ((more : List Token) → Q (Word noun ∷ more)) → (others : List Token) → Alike (word_and_equals spare_bytes deepest spare_statements noun) others → Q others
   refused_alike Q noun h others (same t a b) = h b
   refused_alike Q noun h others (ended a b p q) = absurd p
 
-  refused_word : (Q : List Token → Type 0) (noun : List ℕ) → ((more : List Token) → Q (Word noun ∷ more)) → (others : List Token) → Alike limits (Word noun ∷ []) others → Q others
+  refused_word : (Q : List Token → Type 0) (noun : List ℕ) → ((more : List Token) → Q (Word noun ∷ more)) → (others : List Token) → Alike (Word noun ∷ []) others → Q others
   refused_word Q noun h others (same t a b) = h b
   refused_word Q noun h others (ended a b p q) = absurd p
 
   -- behind a parenthesis where a formula is seen
-  formula_outcome : (standing : Standing) (nesting line : ℕ) (before : List RawFormula) → ((b : List RawFormula) → Good limits (pair limits) (member_at limits nesting line b) (Spelled limits (IsFormula Within Member nesting)) line)
+  formula_outcome : (standing : Standing) (nesting line : ℕ) (before : List RawFormula) → ((b : List RawFormula) → Good (levels nesting) (pair limits) (member_at limits nesting line b) (Spelled limits (IsFormula Within Member nesting)) line)
       → (rest : List Token) → opens_formula 0 rest ≡ true → MemberIs standing (suc nesting) line before (Mark (codes "(") ∷ rest)
   formula_outcome standing nesting line before good rest seen =
-      subst (Outcome limits (pair limits) (member_at limits (suc nesting) line before) (Spelled limits (IsFormula standing Member (suc nesting))) line (Mark (codes "(") ∷ rest)) (sym (as_formula nesting line before rest seen))
+      subst (Outcome (levels (suc nesting)) (pair limits) (member_at limits (suc nesting) line before) (Spelled limits (IsFormula standing Member (suc nesting))) line (Mark (codes "(") ∷ rest)) (sym (as_formula nesting line before rest seen))
       (by (encloses_at line (member_at limits nesting line) before rest) ((enclosed_good nesting line (member_at limits nesting line) (member_at-is limits Within nesting line) good before).outcome rest))
     where
-      by : (r : Read (List RawFormula)) → Outcome limits (pair limits) (encloses_at line (member_at limits nesting line) before) (Spelled limits (Closed spare_bytes deepest spare_statements (IsFormula Within Alternatives nesting))) line rest r
-          → Outcome limits (pair limits) (member_at limits (suc nesting) line before) (Spelled limits (IsFormula standing Member (suc nesting))) line (Mark (codes "(") ∷ rest) r
+      by : (r : Read (List RawFormula)) → Outcome (levels nesting) (pair limits) (encloses_at line (member_at limits nesting line) before) (Spelled limits (Closed spare_bytes deepest spare_statements (IsFormula Within Alternatives nesting))) line rest r
+          → Outcome (levels (suc nesting)) (pair limits) (member_at limits (suc nesting) line before) (Spelled limits (IsFormula standing Member (suc nesting))) line (Mark (codes "(") ∷ rest) r
       by (Ok x) o = record {
         value = o.value;
         own = Mark (codes "(") ∷ o.own;
@@ -404,7 +409,7 @@ module _ (spare_bytes deepest spare_statements : ℕ) where
         inline = inline_one (Mark (codes "(")) o.front tt o.inline;
         refused = λ more alike. failed more alike (opens_formula 0 (o.front ++ more)) refl;
         here = o.here;
-        says = says_wider limits (Takes limits (Spelled limits (Closed spare_bytes deepest spare_statements (IsFormula Within Alternatives nesting))) o.front) (Takes limits (Spelled limits (IsFormula standing Member (suc nesting))) (Mark (codes "(") ∷ o.front))
+        says = says_carried (levels nesting) (levels (suc nesting)) (length o.front) (suc (length o.front)) refl (λ far. omega (arith, far)) (Takes limits (Spelled limits (Closed spare_bytes deepest spare_statements (IsFormula Within Alternatives nesting))) o.front) (Takes limits (Spelled limits (IsFormula standing Member (suc nesting))) (Mark (codes "(") ∷ o.front))
             (λ token b. (b.0, b.1, closed_formula standing nesting ((o.front ++ token ∷ []) ++ b.1) b.2)) o.behind (λ word r is_word. lack_wider limits (Mark (codes "(") ∷ []) o.front (Mark (codes "(") ∷ o.front) word refl (λ n noun is_noun more. no_noun n noun is_noun more (opens_formula 0 (o.front ++ Word noun ∷ more)) refl)) e.kind o.says;
         new = new_behind (Mark (codes "(") ∷ []) o.front e.kind (inl (λ flag is. cc)) o.new;
       }
@@ -419,7 +424,7 @@ module _ (spare_bytes deepest spare_statements : ℕ) where
               (λ x ok. no_term_instead nesting line before o.front (word_and_equals spare_bytes deepest spare_statements noun) (Word noun ∷ more) (seen_again spare_bytes deepest spare_statements noun o.front o.behind 0 seen_here) (word_alike noun more)
               (λ others alike. refused_alike (λ ts. IsErr limits (encloses_at line (member_at limits nesting line) before (o.front ++ ts))) noun (n noun is_noun) others alike) h x (sym (as_term (suc nesting) line before (o.front ++ Word noun ∷ more) h) ∙ ok))
 
-          failed : (more : List Token) → Alike limits o.behind more → (b : Bool) → opens_formula 0 (o.front ++ more) ≡ b → IsErr limits (member_at limits (suc nesting) line before (Mark (codes "(") ∷ o.front ++ more))
+          failed : (more : List Token) → Alike o.behind more → (b : Bool) → opens_formula 0 (o.front ++ more) ≡ b → IsErr limits (member_at limits (suc nesting) line before (Mark (codes "(") ∷ o.front ++ more))
           failed more alike true h = let f = o.refused more alike in (f.0, as_formula nesting line before (o.front ++ more) h ∙ f.1)
           failed more alike false h =
               not_read (member_at limits (suc nesting) line before (Mark (codes "(") ∷ o.front ++ more))
@@ -428,11 +433,11 @@ module _ (spare_bytes deepest spare_statements : ℕ) where
   -- behind one where none is
   term_outcome : (standing : Standing) (nesting line : ℕ) (before : List RawFormula) (rest : List Token) → opens_formula 0 rest ≡ false → MemberIs standing (suc nesting) line before (Mark (codes "(") ∷ rest)
   term_outcome standing nesting line before rest unseen =
-      subst (Outcome limits (pair limits) (member_at limits (suc nesting) line before) (Spelled limits (IsFormula standing Member (suc nesting))) line (Mark (codes "(") ∷ rest)) (sym (as_term (suc nesting) line before rest unseen))
+      subst (Outcome (levels (suc nesting)) (pair limits) (member_at limits (suc nesting) line before) (Spelled limits (IsFormula standing Member (suc nesting))) line (Mark (codes "(") ∷ rest)) (sym (as_term (suc nesting) line before rest unseen))
       (by (compares_at limits (suc nesting) line before (Mark (codes "(") ∷ rest)) ((compares_good (suc nesting) line before).outcome (Mark (codes "(") ∷ rest)))
     where
-      by : (r : Read (List RawFormula)) → Outcome limits (pair limits) (compares_at limits (suc nesting) line before) (Spelled limits (IsCompared (suc nesting))) line (Mark (codes "(") ∷ rest) r
-          → Outcome limits (pair limits) (member_at limits (suc nesting) line before) (Spelled limits (IsFormula standing Member (suc nesting))) line (Mark (codes "(") ∷ rest) r
+      by : (r : Read (List RawFormula)) → Outcome (levels (suc nesting)) (pair limits) (compares_at limits (suc nesting) line before) (Spelled limits (IsCompared (suc nesting))) line (Mark (codes "(") ∷ rest) r
+          → Outcome (levels (suc nesting)) (pair limits) (member_at limits (suc nesting) line before) (Spelled limits (IsFormula standing Member (suc nesting))) line (Mark (codes "(") ∷ rest) r
       by (Ok x) o = record {
         value = o.value;
         own = o.own;
@@ -454,11 +459,11 @@ module _ (spare_bytes deepest spare_statements : ℕ) where
               let read = term_is_read nesting line before [] (Number [] ∷ []) (raw_nodes.Literal (literal_value []) ∷ []) (zero_term nesting) in
               let there : o.behind ≡ Mark (codes "(") ∷ rest = sym (o.there ∙ ap (λ (ts : List Token). ts ++ o.behind) none) in
               let more : List Token = Number [] ∷ Mark (codes ")") ∷ equals_zero in
-              let err = o.refused (Mark (codes "(") ∷ more) (subst (λ (ts : List Token). Alike limits ts (Mark (codes "(") ∷ more)) (sym there) (same (Mark (codes "(")) rest more)) in
+              let err = o.refused (Mark (codes "(") ∷ more) (subst (λ (ts : List Token). Alike ts (Mark (codes "(") ∷ more)) (sym there) (same (Mark (codes "(")) rest more)) in
               ok_no_err (compares_at limits (suc nesting) line before (Mark (codes "(") ∷ more)) read.0 read.1
               (subst (λ (ts : List Token). IsErr limits (compares_at limits (suc nesting) line before (ts ++ Mark (codes "(") ∷ more))) none err)
 
-          failed : (front more : List Token) → o.front ≡ Mark (codes "(") ∷ front → rest ≡ front ++ o.behind → Alike limits o.behind more → (b : Bool) → opens_formula 0 (front ++ more) ≡ b → IsErr limits (member_at limits (suc nesting) line before (Mark (codes "(") ∷ front ++ more))
+          failed : (front more : List Token) → o.front ≡ Mark (codes "(") ∷ front → rest ≡ front ++ o.behind → Alike o.behind more → (b : Bool) → opens_formula 0 (front ++ more) ≡ b → IsErr limits (member_at limits (suc nesting) line before (Mark (codes "(") ∷ front ++ more))
           failed front more is there alike false h =
               let f = o.refused more alike in
               (f.0, as_term (suc nesting) line before (front ++ more) h ∙ subst (λ (ts : List Token). compares_at limits (suc nesting) line before (ts ++ more) ≡ Err f.0) is f.1)
@@ -475,7 +480,7 @@ module _ (spare_bytes deepest spare_statements : ℕ) where
               (unseen_again spare_bytes deepest spare_statements noun (not_in_formulas noun is_noun) front o.behind 0 (ap (opens_formula 0) (sym there) ∙ unseen)) (same (Word noun) [] more)
               (λ others alike. refused_word (λ ts. IsErr limits (compares_at limits (suc nesting) line before (Mark (codes "(") ∷ front ++ ts))) noun (n noun is_noun) others alike) h x (sym (as_formula nesting line before (front ++ Word noun ∷ more) h) ∙ ok))
 
-          of_front : (f : List Token) → o.front ≡ f → Outcome limits (pair limits) (member_at limits (suc nesting) line before) (Spelled limits (IsFormula standing Member (suc nesting))) line (Mark (codes "(") ∷ rest) (Err e)
+          of_front : (f : List Token) → o.front ≡ f → Outcome (levels (suc nesting)) (pair limits) (member_at limits (suc nesting) line before) (Spelled limits (IsFormula standing Member (suc nesting))) line (Mark (codes "(") ∷ rest) (Err e)
           of_front [] none = absurd (no_front none)
           of_front (t ∷ front) is =
               let all : Mark (codes "(") ∷ rest ≡ t ∷ front ++ o.behind = o.there ∙ ap (λ (ts : List Token). ts ++ o.behind) is in
@@ -490,7 +495,7 @@ module _ (spare_bytes deepest spare_statements : ℕ) where
                 inline = subst (Rattle.rule_viable_prefixes.proofs.Outcomes.Inline limits) whole o.inline;
                 refused = λ more alike. failed front more whole there alike (opens_formula 0 (front ++ more)) refl;
                 here = o.here;
-                says = says_wider limits (Takes limits (Spelled limits (IsCompared (suc nesting))) o.front) (Takes limits (Spelled limits (IsFormula standing Member (suc nesting))) (Mark (codes "(") ∷ front))
+                says = says_wider (levels (suc nesting)) (length o.front) (length (Mark (codes "(") ∷ front)) (omega (arith, ap length whole)) (Takes limits (Spelled limits (IsCompared (suc nesting))) o.front) (Takes limits (Spelled limits (IsFormula standing Member (suc nesting))) (Mark (codes "(") ∷ front))
                     (λ token b. (b.0, b.1, subst (λ (ts : List Token). IsFormula standing Member (suc nesting) ((ts ++ token ∷ []) ++ b.1)) whole (compared standing (suc nesting) ((o.front ++ token ∷ []) ++ b.1) b.2))) o.behind
                     (λ word r is_word. lack_wider limits [] o.front (Mark (codes "(") ∷ front) word (sym whole) (λ n noun is_noun more. no_noun front whole there (subst (NoNoun limits (compares_at limits (suc nesting) line before)) whole n) noun is_noun more (opens_formula 0 (front ++ Word noun ∷ more)) refl)) e.kind o.says;
                 new = subst (λ (ts : List Token). IsNew ts e.kind) whole o.new;
@@ -506,19 +511,19 @@ module _ (spare_bytes deepest spare_statements : ℕ) where
       let right : IsTerm spare_bytes deepest spare_statements Constant nesting loosest (Number [] ∷ []) = λ start. (_, loosened spare_bytes deepest spare_statements nesting start _ (Number [] ∷ []) (leaf (raw_nodes.Literal (literal_value [])) (Number [] ∷ []) ([], refl, refl))) in
       ([], equals_zero, compared standing nesting (token ∷ equals_zero) (token ∷ [], equals_zero, left, (Mark (comparison_mark Eq) ∷ [], Number [] ∷ [], (Eq, refl), right, refl), refl))
 
-  too_deep : (standing : Standing) (nesting : ℕ) (token : Token) → Nests token → IsTooDeep (FitsAt standing nesting) token
-  too_deep standing nesting token nests =
-      let left : IsTerm spare_bytes deepest spare_statements Constant nesting loosest (Number (codes "0") ∷ []) = λ start. (_, loosened spare_bytes deepest spare_statements nesting start _ (Number (codes "0") ∷ []) (leaf (raw_nodes.Literal (literal_value (codes "0"))) (Number (codes "0") ∷ []) (codes "0", refl, refl))) in
-      (nests, member_takes standing nesting (Number (codes "0")) left)
+  too_deep : (standing : Standing) (token : Token) → Nests token → IsTooDeep (levels zero) 0 (FitsAt standing zero) token
+  too_deep standing token nests =
+      let left : IsTerm spare_bytes deepest spare_statements Constant zero loosest (Number (codes "0") ∷ []) = λ start. (_, loosened spare_bytes deepest spare_statements zero start _ (Number (codes "0") ∷ []) (leaf (raw_nodes.Literal (literal_value (codes "0"))) (Number (codes "0") ∷ []) (codes "0", refl, refl))) in
+      (omega arith, nests, member_takes standing zero (Number (codes "0")) left)
 
-  too_deep_parenthesis : (standing : Standing) (line : ℕ) (before : List RawFormula) (more : List Token) → IsErrOn limits (FitsAt standing zero) (Lack limits (member_at limits zero line before) []) line (Mark (codes "(") ∷ more) (member_at limits zero line before (Mark (codes "(") ∷ more))
+  too_deep_parenthesis : (standing : Standing) (line : ℕ) (before : List RawFormula) (more : List Token) → IsErrOn (levels zero) (FitsAt standing zero) (Lack limits (member_at limits zero line before) []) line (Mark (codes "(") ∷ more) (member_at limits zero line before (Mark (codes "(") ∷ more))
   unfolding compares_at term_at primary_at start_at opening_in
   too_deep_parenthesis standing line before more = by (opens_formula 0 more) refl
     where
-      says : Told limits (FitsAt standing zero) (Lack limits (member_at limits zero line before) []) (Mark (codes "(")) more TooMany
-      says = says_too_many limits (Mark (codes "(")) more (kinds.nesting (Mark (codes "(")) (too_deep standing zero (Mark (codes "(")) kinds.parenthesis))
+      says : Told (levels zero) 0 (FitsAt standing zero) (Lack limits (member_at limits zero line before) []) (Mark (codes "(")) more TooMany
+      says = says_too_many (levels zero) (Mark (codes "(")) more (kinds.nesting (Mark (codes "(")) (too_deep standing (Mark (codes "(")) kinds.parenthesis))
 
-      by : (b : Bool) → opens_formula 0 more ≡ b → IsErrOn limits (FitsAt standing zero) (Lack limits (member_at limits zero line before) []) line (Mark (codes "(") ∷ more) (member_at limits zero line before (Mark (codes "(") ∷ more))
+      by : (b : Bool) → opens_formula 0 more ≡ b → IsErrOn (levels zero) (FitsAt standing zero) (Lack limits (member_at limits zero line before) []) line (Mark (codes "(") ∷ more) (member_at limits zero line before (Mark (codes "(") ∷ more))
       by true h = (fault line TooMany, encloses-too_deep limits zero line before (Mark (codes "(") ∷ more) (fault line TooMany) (opening_open more h) refl, refl, says)
       by false h = (fault line TooMany, as_term zero line before more h, refl, says)
 
@@ -562,13 +567,13 @@ module _ (spare_bytes deepest spare_statements : ℕ) where
   formula_some (either {front = front} {back = back} l r) e = no_append front (Mark (codes "||")) back e
 
   -- a member that begins with no parenthesis, no `!` and no predicate
-  comparison_outcome : (standing : Standing) (nesting line : ℕ) (before : List RawFormula) (tokens : List Token) → ((more : List Token) → Alike limits tokens more → Compares ≡ opening_at more) → MemberIs standing nesting line before tokens
+  comparison_outcome : (standing : Standing) (nesting line : ℕ) (before : List RawFormula) (tokens : List Token) → ((more : List Token) → Alike tokens more → Compares ≡ opening_at more) → MemberIs standing nesting line before tokens
   comparison_outcome standing nesting line before tokens h =
-      widen limits (pair limits) (member_at limits nesting line before) (Spelled limits (IsCompared nesting)) (Spelled limits (IsFormula standing Member nesting)) line tokens (λ x own is. compared standing nesting own is) (member_at limits nesting line before tokens)
-      (alike_as limits (pair limits) (member_at limits nesting line before) (compares_at limits nesting line before) (Spelled limits (IsCompared nesting)) line tokens (λ x is. some_compared nesting is) (compares_reads nesting line before) (λ more alike. member-compares limits nesting line before more (h more alike))
+      widen (levels nesting) (pair limits) (member_at limits nesting line before) (Spelled limits (IsCompared nesting)) (Spelled limits (IsFormula standing Member nesting)) line tokens (λ x own is. compared standing nesting own is) (member_at limits nesting line before tokens)
+      (alike_as (levels nesting) (pair limits) (member_at limits nesting line before) (compares_at limits nesting line before) (Spelled limits (IsCompared nesting)) line tokens (λ x is. some_compared nesting is) (compares_reads nesting line before) (λ more alike. member-compares limits nesting line before more (h more alike))
       ((compares_good nesting line before).outcome tokens))
 
-  compares_alike : (token : Token) (rest : List Token) → ((more : List Token) → Compares ≡ opening_at (token ∷ more)) → (more : List Token) → Alike limits (token ∷ rest) more → Compares ≡ opening_at more
+  compares_alike : (token : Token) (rest : List Token) → ((more : List Token) → Compares ≡ opening_at (token ∷ more)) → (more : List Token) → Alike (token ∷ rest) more → Compares ≡ opening_at more
   unfolding opening_at
   compares_alike token rest h more (same t a b) = h b
   compares_alike token rest h more (ended a [] p q) = refl
@@ -584,14 +589,14 @@ module _ (spare_bytes deepest spare_statements : ℕ) where
   -- what the readers one level further in do, if there are any
   abbrev Inner : ℕ → ℕ → Type 0
   Inner zero line = Unit {0}
-  Inner (suc nesting) line = (before : List RawFormula) → Good limits (pair limits) (member_at limits nesting line before) (Spelled limits (IsFormula Within Member nesting)) line
+  Inner (suc nesting) line = (before : List RawFormula) → Good (levels nesting) (pair limits) (member_at limits nesting line before) (Spelled limits (IsFormula Within Member nesting)) line
 
   member_sample : (standing : Standing) (nesting line : ℕ) (before : List RawFormula) → Sample limits (Spelled limits (IsFormula standing Member nesting) {A = List RawFormula})
   member_sample standing nesting line before = let s = (compares_good nesting line before).sample in (s.0, s.1, compared standing nesting s.1 s.2)
 
   parenthesis_outcome : (standing : Standing) (nesting line : ℕ) (before : List RawFormula) (rest : List Token) → Inner nesting line → MemberIs standing nesting line before (Mark (codes "(") ∷ rest)
   parenthesis_outcome standing zero line before rest inner =
-      refused_token limits (pair limits) (member_at limits zero line before) (Spelled limits (IsFormula standing Member zero)) line (Mark (codes "(")) rest (member_sample standing zero line before) (λ p. p) (too_deep_parenthesis standing line before)
+      refused_token (levels zero) (pair limits) (member_at limits zero line before) (Spelled limits (IsFormula standing Member zero)) line (Mark (codes "(")) rest (member_sample standing zero line before) (λ p. p) (too_deep_parenthesis standing line before)
   parenthesis_outcome standing (suc nesting) line before rest inner = by (opens_formula 0 rest) refl
     where
       by : (b : Bool) → opens_formula 0 rest ≡ b → MemberIs standing (suc nesting) line before (Mark (codes "(") ∷ rest)
@@ -601,17 +606,17 @@ module _ (spare_bytes deepest spare_statements : ℕ) where
   turned_outcome : (standing : Standing) (nesting line : ℕ) (before : List RawFormula) (rest : List Token) → Inner nesting line → MemberIs standing nesting line before (Mark (codes "!") ∷ rest)
   unfolding opening_at
   turned_outcome standing zero line before rest inner =
-      refused_token limits (pair limits) (member_at limits zero line before) (Spelled limits (IsFormula standing Member zero)) line (Mark (codes "!")) rest (member_sample standing zero line before) (λ p. p)
-      (λ more. (fault line TooMany, turns-too_deep limits zero line before (Mark (codes "!") ∷ more) (fault line TooMany) refl refl, refl, says_too_many limits (Mark (codes "!")) more (kinds.nesting (Mark (codes "!")) (too_deep standing zero (Mark (codes "!")) kinds.negation))))
+      refused_token (levels zero) (pair limits) (member_at limits zero line before) (Spelled limits (IsFormula standing Member zero)) line (Mark (codes "!")) rest (member_sample standing zero line before) (λ p. p)
+      (λ more. (fault line TooMany, turns-too_deep limits zero line before (Mark (codes "!") ∷ more) (fault line TooMany) refl refl, refl, says_too_many (levels zero) (Mark (codes "!")) more (kinds.nesting (Mark (codes "!")) (too_deep standing (Mark (codes "!")) kinds.negation))))
   turned_outcome standing (suc nesting) line before rest inner =
-      led limits (pair limits) (member_at limits (suc nesting) line before) (turns_at (member_at limits nesting line) before) (Spelled limits (IsFormula standing Member (suc nesting))) line (Mark (codes "!")) rest tt (λ more. member-turns limits (suc nesting) line nesting before (Mark (codes "!") ∷ more) refl refl)
-      (widen limits (pair limits) (turns_at (member_at limits nesting line) before) (Spelled limits (IsFormula Within Member nesting)) (λ x own. IsFormula standing Member (suc nesting) (Mark (codes "!") ∷ own)) line rest (λ x own is. turned standing nesting own is) (turns_at (member_at limits nesting line) before rest) ((turns_good nesting line (member_at limits nesting line) inner before).outcome rest))
+      led_in (levels nesting) (levels (suc nesting)) refl (omega arith) (pair limits) (member_at limits (suc nesting) line before) (turns_at (member_at limits nesting line) before) (Spelled limits (IsFormula standing Member (suc nesting))) line (Mark (codes "!")) rest tt (λ more. member-turns limits (suc nesting) line nesting before (Mark (codes "!") ∷ more) refl refl)
+      (widen (levels nesting) (pair limits) (turns_at (member_at limits nesting line) before) (Spelled limits (IsFormula Within Member nesting)) (λ x own. IsFormula standing Member (suc nesting) (Mark (codes "!") ∷ own)) line rest (λ x own is. turned standing nesting own is) (turns_at (member_at limits nesting line) before rest) ((turns_good nesting line (member_at limits nesting line) inner before).outcome rest))
 
   predicate_outcome : (standing : Standing) (nesting line : ℕ) (before : List RawFormula) (word : List ℕ) (rest : List Token) (predicate : Predicate) → predicate_in word ≡ Some predicate → MemberIs standing nesting line before (Word word ∷ rest)
   unfolding opening_at
   predicate_outcome standing zero line before word rest predicate f =
-      refused_token limits (pair limits) (member_at limits zero line before) (Spelled limits (IsFormula standing Member zero)) line (Word word) rest (member_sample standing zero line before) (λ p. p)
-      (λ more. let e = tests_shallow predicate line before more in (e.0, member-tests limits zero line predicate before (Word word ∷ more) (rw f refl) ∙ e.1, e.2, says_deep limits word (too_deep standing zero (Word word) nests) more e.0.kind e.3))
+      refused_token (levels zero) (pair limits) (member_at limits zero line before) (Spelled limits (IsFormula standing Member zero)) line (Word word) rest (member_sample standing zero line before) (λ p. p)
+      (λ more. let e = tests_shallow predicate line before more in (e.0, member-tests limits zero line predicate before (Word word ∷ more) (rw f refl) ∙ e.1, e.2, says_deep (levels zero) word (too_deep standing (Word word) nests) more e.0.kind e.3))
     where
       opened : opening_at (Word word ∷ []) ≡ Tests predicate
       opened = rw f refl
@@ -624,8 +629,8 @@ module _ (spare_bytes deepest spare_statements : ℕ) where
   predicate_outcome standing (suc nesting) line before word rest predicate f =
       let opened : opening_at (Word word ∷ []) ≡ Tests predicate = rw f refl in
       let is : Word word ∷ [] ≡ Word (predicate_word predicate) ∷ [] = subst (λ (o : Opening). Rattle.rule_terms.proofs.FormulaReadings.StartsSo limits o (Word word ∷ [])) opened (opening_at-is limits (Word word ∷ [])) in
-      led limits (pair limits) (member_at limits (suc nesting) line before) (tests_at limits predicate (suc nesting) line before) (Spelled limits (IsFormula standing Member (suc nesting))) line (Word word) rest (λ flag equal. predicate_other predicate flag (let word_is : predicate_word predicate ≡ word = cc in word_is ∙ equal)) (λ more. member-tests limits (suc nesting) line predicate before (Word word ∷ more) (rw f refl))
-      (widen limits (pair limits) (tests_at limits predicate (suc nesting) line before) (Spelled limits (Is (Mark (codes "(")) ⨾ (IsTerm spare_bytes deepest spare_statements) Constant nesting loosest ⨾ Is (Mark (codes ")")))) (λ x own. IsFormula standing Member (suc nesting) (Word word ∷ own)) line rest
+      led_in (levels nesting) (levels (suc nesting)) refl (omega arith) (pair limits) (member_at limits (suc nesting) line before) (tests_at limits predicate (suc nesting) line before) (Spelled limits (IsFormula standing Member (suc nesting))) line (Word word) rest (λ flag equal. predicate_other predicate flag (let word_is : predicate_word predicate ≡ word = cc in word_is ∙ equal)) (λ more. member-tests limits (suc nesting) line predicate before (Word word ∷ more) (rw f refl))
+      (widen (levels nesting) (pair limits) (tests_at limits predicate (suc nesting) line before) (Spelled limits (Is (Mark (codes "(")) ⨾ (IsTerm spare_bytes deepest spare_statements) Constant nesting loosest ⨾ Is (Mark (codes ")")))) (λ x own. IsFormula standing Member (suc nesting) (Word word ∷ own)) line rest
       (λ x own h. subst (λ (ts : List Token). IsFormula standing Member (suc nesting) (ts ++ own)) (sym is) (tested standing predicate nesting own h)) (tests_at limits predicate (suc nesting) line before rest) ((tests_good predicate nesting line before).outcome rest))
 
   member_outcome : (standing : Standing) (nesting line : ℕ) (before : List RawFormula) (tokens : List Token) → Inner nesting line → MemberIs standing nesting line before tokens
@@ -648,7 +653,7 @@ module _ (spare_bytes deepest spare_statements : ℕ) where
       by false g = other (bytes_eq mark (codes "(")) g refl
   member_outcome standing nesting line before (token ∷ rest) inner = comparison_outcome standing nesting line before (token ∷ rest) (compares_alike token rest (λ more. refl))
 
-  member_good : (standing : Standing) (nesting line : ℕ) (before : List RawFormula) → Good limits (pair limits) (member_at limits nesting line before) (Spelled limits (IsFormula standing Member nesting)) line
+  member_good : (standing : Standing) (nesting line : ℕ) (before : List RawFormula) → Good (levels nesting) (pair limits) (member_at limits nesting line before) (Spelled limits (IsFormula standing Member nesting)) line
   member_good standing zero line before = record { sample = member_sample standing zero line before; outcome = λ tokens. member_outcome standing zero line before tokens tt }
   member_good standing (suc nesting) line before = record { sample = member_sample standing (suc nesting) line before; outcome = λ tokens. member_outcome standing (suc nesting) line before tokens (member_good Within nesting line) }
 
@@ -657,10 +662,10 @@ module _ (spare_bytes deepest spare_statements : ℕ) where
   abbrev OuterIs : ℕ → List RawFormula → List Token → Type 0
   OuterIs line before tokens = Outcome limits (pair limits) (outer_member_at limits line before) (Spelled limits (IsFormula Outermost Member limits.nested)) line tokens (outer_member_at limits line before tokens)
 
-  outer_as_member : (line : ℕ) (before : List RawFormula) (tokens : List Token) → ((more : List Token) → Alike limits tokens more → outer_member_at limits line before more ≡ member_at limits limits.nested line before more) → OuterIs line before tokens
+  outer_as_member : (line : ℕ) (before : List RawFormula) (tokens : List Token) → ((more : List Token) → Alike tokens more → outer_member_at limits line before more ≡ member_at limits limits.nested line before more) → OuterIs line before tokens
   outer_as_member line before tokens h = alike_as limits (pair limits) (outer_member_at limits line before) (member_at limits limits.nested line before) (Spelled limits (IsFormula Outermost Member limits.nested)) line tokens (λ x is. formula_some (is 0).1 refl) (member_reads limits.nested line before) h ((member_good Outermost limits.nested line before).outcome tokens)
 
-  outer_alike : (line : ℕ) (before : List RawFormula) (token : Token) (rest : List Token) → ((more : List Token) → outer_member_at limits line before (token ∷ more) ≡ member_at limits limits.nested line before (token ∷ more)) → (more : List Token) → Alike limits (token ∷ rest) more → outer_member_at limits line before more ≡ member_at limits limits.nested line before more
+  outer_alike : (line : ℕ) (before : List RawFormula) (token : Token) (rest : List Token) → ((more : List Token) → outer_member_at limits line before (token ∷ more) ≡ member_at limits limits.nested line before (token ∷ more)) → (more : List Token) → Alike (token ∷ rest) more → outer_member_at limits line before more ≡ member_at limits limits.nested line before more
   unfolding outer_member_at
   outer_alike line before token rest h more (same t a b) = h b
   outer_alike line before token rest h more (ended a [] p q) = refl
@@ -721,7 +726,7 @@ module _ (spare_bytes deepest spare_statements : ℕ) where
         kept = o.kept;
         apart = o.apart;
       }
-      by tokens (Err f) e o = record { front = o.front; behind = o.behind; there = o.there; begins = (HasOneUse [] ∷ [], o.begins.1, any_first (o.front ++ o.begins.1) o.begins.2); inline = o.inline; refused = o.refused; here = o.here; says = says_wider limits (Takes limits (Spelled limits (IsFormula Outermost Members limits.nested) {A = List RawFormula}) o.front) (Takes limits First o.front) (λ token b. (HasOneUse [] ∷ [], b.1, any_first ((o.front ++ token ∷ []) ++ b.1) b.2)) o.behind (λ word r is_word n. n) f.kind o.says; new = o.new }
+      by tokens (Err f) e o = record { front = o.front; behind = o.behind; there = o.there; begins = (HasOneUse [] ∷ [], o.begins.1, any_first (o.front ++ o.begins.1) o.begins.2); inline = o.inline; refused = o.refused; here = o.here; says = says_wider limits (length o.front) (length o.front) (omega arith) (Takes limits (Spelled limits (IsFormula Outermost Members limits.nested) {A = List RawFormula}) o.front) (Takes limits First o.front) (λ token b. (HasOneUse [] ∷ [], b.1, any_first ((o.front ++ token ∷ []) ++ b.1) b.2)) o.behind (λ word r is_word n. n) f.kind o.says; new = o.new }
 
   -- what onward on with members, of which one may ask for one use
   abbrev After : Bool → Part

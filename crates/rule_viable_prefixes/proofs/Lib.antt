@@ -4,6 +4,7 @@ pub mod Formulas
 pub mod LimitLaws
 pub mod Lines
 pub mod Nouns
+pub mod OneKind
 pub mod Outcomes
 pub mod Parentheses
 pub mod Parts
@@ -13,6 +14,7 @@ pub mod Rules
 pub mod Statements
 pub mod Terms
 pub mod Texts
+pub mod Tolds
 pub mod Versions
 pub mod Wider
 pub mod WiderFormulas

@@ -38,7 +38,7 @@ wide_second : (a b : Limits) → AreWithin (wide a b) b
 unfolding wide
 wide_second a b = record { name_bytes = omega arith; nested = omega arith; statements = omega arith }
 
-fault_is : (d e : RuleFault) → ◌≡◌ {A = Result (List RawRule) RuleFault} (Err d) (Err e) → d ≡ e
+pub fault_is : (d e : RuleFault) → ◌≡◌ {A = Result (List RawRule) RuleFault} (Err d) (Err e) → d ≡ e
 fault_is d e is = let equal = is in cc
 
 -- what is spelled within some limits is within wider ones

@@ -34,7 +34,8 @@ use Rattle.rule_viable_prefixes.proofs.Formulas.{IsWholeFormula, formula_good}
 use Rattle.rule_viable_prefixes.specs.Misfits as kinds
 use Rattle.rule_viable_prefixes.specs.Misfits.{HalfEnds}
 use Rattle.rule_viable_prefixes.proofs.FlagRuns.{none_new}
-use Rattle.rule_viable_prefixes.proofs.Outcomes.{lack_wider, Lack, Akin, same_next, noun_next, ended_next, akin, akin_behind, akin_noun, NoNoun, says_wider, says_syntax, says_too_many, Alike, same, ended, alike_itself, alike_behind, Spelling, Shape, pair, bare, Reader, IsErr, IsErrOn, Outcome, Good, then, led, widen, Branch, takes, refuses, by_token, then_done, none_behind, with_none, widened, says_unexpected}
+use Rattle.rule_viable_prefixes.proofs.Outcomes.{lack_wider, Lack, Akin, same_next, noun_next, ended_next, akin, akin_behind, akin_noun, NoNoun, Alike, same, ended, alike_itself, alike_behind, Spelling, Shape, pair, bare, Reader, IsErr, IsErrOn, Outcome, Good, then, led, widen, Branch, takes, refuses, by_token, then_done, none_behind, with_none, widened}
+use Rattle.rule_viable_prefixes.proofs.Tolds.{says_wider, says_syntax, says_too_many, says_unexpected}
 use Rattle.rule_viable_prefixes.proofs.Parts.{Spelled, then_end, Joined, chain_good, line_end_good}
 use Rattle.rule_viable_prefixes.proofs.Rules.{Completes, GoesOn, Opens, Verdict, verdict_both, on_a_line, verdict_wider}
 use Rattle.rule_viable_prefixes.proofs.Statements.{IsAssigned, statement_good}
@@ -128,23 +129,23 @@ module _ (spare_bytes deepest spare_statements : ℕ) (version : Version) where
 
   -- ---- verdicts of the same reader by other words, and with a value made of the one that is read
 
-  pub verdict_as : {A X : Type 0} (shape : Shape limits A X) (R S : Reader limits X) (L F : Part) (last number : ℕ) (a : List Token) → ((b : List Token) → Akin limits a b → R (Line number ∷ b) ≡ S (Line number ∷ b))
+  pub verdict_as : {A X : Type 0} (shape : Shape limits A X) (R S : Reader limits X) (L F : Part) (last number : ℕ) (a : List Token) → ((b : List Token) → Akin a b → R (Line number ∷ b) ≡ S (Line number ∷ b))
       → Verdict limits shape S L F last (Line number ∷ a) (S (Line number ∷ a)) → Verdict limits shape R L F last (Line number ∷ a) (R (Line number ∷ a))
-  verdict_as {A} {X} shape R S L F last number a h v = subst (Verdict limits shape R L F last (Line number ∷ a)) (sym (h a (akin limits (alike_itself limits a)))) (by (S (Line number ∷ a)) v)
+  verdict_as {A} {X} shape R S L F last number a h v = subst (Verdict limits shape R L F last (Line number ∷ a)) (sym (h a (akin (alike_itself a)))) (by (S (Line number ∷ a)) v)
     where
       by : (r : Result X RuleFault) → Verdict limits shape S L F last (Line number ∷ a) r → Verdict limits shape R L F last (Line number ∷ a) r
       by (Ok x) o = record { value = o.value; own = o.own; rest = o.rest; is_own = o.is_own; there = o.there; ends = o.ends; is = o.is; kept = λ n c d e alike. equal o.own n c d (o.there ∙ ap (λ (ts : List Token). o.own ++ ts) e) alike ∙ o.kept n c d e alike }
         where
-          equal : (own : List Token) (n : ℕ) (c d : List Token) → Line number ∷ a ≡ own ++ Line n ∷ c → Akin limits c d → R (own ++ Line n ∷ d) ≡ S (own ++ Line n ∷ d)
+          equal : (own : List Token) (n : ℕ) (c d : List Token) → Line number ∷ a ≡ own ++ Line n ∷ c → Akin c d → R (own ++ Line n ∷ d) ≡ S (own ++ Line n ∷ d)
           equal [] n c d e alike =
               let first : number ≡ n = let f = e in cc in
               let rest : a ≡ c = let f = e in cc in
-              subst (λ (k : ℕ). R (Line k ∷ d) ≡ S (Line k ∷ d)) first (h d (subst (λ (ts : List Token). Akin limits ts d) (sym rest) alike))
+              subst (λ (k : ℕ). R (Line k ∷ d) ≡ S (Line k ∷ d)) first (h d (subst (λ (ts : List Token). Akin ts d) (sym rest) alike))
           equal (t ∷ own) n c d e alike =
               let first : Line number ≡ t = let f = e in cc in
               let rest : a ≡ own ++ Line n ∷ c = let f = e in cc in
               subst (λ (u : Token). R (u ∷ own ++ Line n ∷ d) ≡ S (u ∷ own ++ Line n ∷ d)) first
-              (h (own ++ Line n ∷ d) (subst (λ (ts : List Token). Akin limits ts (own ++ Line n ∷ d)) (sym rest) (akin_behind limits own (Line n ∷ c) (Line n ∷ d) (same_next (Line n) c d))))
+              (h (own ++ Line n ∷ d) (subst (λ (ts : List Token). Akin ts (own ++ Line n ∷ d)) (sym rest) (akin_behind own (Line n ∷ c) (Line n ∷ d) (same_next (Line n) c d))))
       by (Err e) (inl w) =
           let first : number ≡ w.number = let f = w.there in cc in
           let rest : a ≡ w.front ++ w.behind = let f = w.there in cc in
@@ -156,14 +157,14 @@ module _ (spare_bytes deepest spare_statements : ℕ) (version : Version) where
             begins = w.begins;
             refused = λ more alike.
                 let f = w.refused more alike in
-                (f.0, subst (λ (k : ℕ). R (Line k ∷ w.front ++ more) ≡ S (Line k ∷ w.front ++ more)) first (h (w.front ++ more) (subst (λ (ts : List Token). Akin limits ts (w.front ++ more)) (sym rest) (akin_behind limits w.front w.behind more (akin limits alike)))) ∙ f.1);
+                (f.0, subst (λ (k : ℕ). R (Line k ∷ w.front ++ more) ≡ S (Line k ∷ w.front ++ more)) first (h (w.front ++ more) (subst (λ (ts : List Token). Akin ts (w.front ++ more)) (sym rest) (akin_behind w.front w.behind more (akin alike)))) ∙ f.1);
             here = w.here;
-            says = says_wider limits (GoesOn limits L F w.number w.front) (GoesOn limits L F w.number w.front) (λ t fits. fits) w.behind
+            says = says_wider limits (length w.front) (length w.front) (omega arith) (GoesOn limits L F w.number w.front) (GoesOn limits L F w.number w.front) (λ t fits. fits) w.behind
                 (λ word r is_word. lack_wider limits [] w.front w.front word refl (λ n noun is_noun more.
                 let f = n noun is_noun more in (
                   f.0,
                   subst (λ (k : ℕ). R (Line k ∷ w.front ++ Word noun ∷ more) ≡ S (Line k ∷ w.front ++ Word noun ∷ more)) first
-                      (h (w.front ++ Word noun ∷ more) (subst (λ (ts : List Token). Akin limits ts (w.front ++ Word noun ∷ more)) (sym rest) (akin_noun limits w.front w.behind word r is_word noun is_noun more))) ∙ f.1,
+                      (h (w.front ++ Word noun ∷ more) (subst (λ (ts : List Token). Akin ts (w.front ++ Word noun ∷ more)) (sym rest) (akin_noun w.front w.behind word r is_word noun is_noun more))) ∙ f.1,
                 ))) e.kind w.says;
             new = w.new;
           })
@@ -174,34 +175,34 @@ module _ (spare_bytes deepest spare_statements : ℕ) (version : Version) where
     where
       by : (r : Result (A × List Token) RuleFault) → Verdict limits (pair limits) R L F last tokens r → Verdict limits (pair limits) (λ ts. R ts >>= λ x. Ok (f x.0, x.1)) L F last tokens (r >>= λ x. Ok (f x.0, x.1))
       by (Ok x) o = record { value = f o.value; own = o.own; rest = o.rest; is_own = o.is_own; there = o.there; ends = o.ends; is = ap (λ (y : A × List Token). (f y.0, y.1)) o.is; kept = λ n a b e alike. rw (o.kept n a b e alike) refl }
-      by (Err e) (inl w) = inl (record { number = w.number; front = w.front; behind = w.behind; there = w.there; begins = w.begins; refused = λ more alike. let g = w.refused more alike in (g.0, rw g.1 refl); here = w.here; says = says_wider limits (GoesOn limits L F w.number w.front) (GoesOn limits L F w.number w.front) (λ t fits. fits) w.behind (λ word r is_word. lack_wider limits [] w.front w.front word refl (λ n noun is_noun more. let g = n noun is_noun more in (g.0, rw g.1 refl))) e.kind w.says; new = w.new })
+      by (Err e) (inl w) = inl (record { number = w.number; front = w.front; behind = w.behind; there = w.there; begins = w.begins; refused = λ more alike. let g = w.refused more alike in (g.0, rw g.1 refl); here = w.here; says = says_wider limits (length w.front) (length w.front) (omega arith) (GoesOn limits L F w.number w.front) (GoesOn limits L F w.number w.front) (λ t fits. fits) w.behind (λ word r is_word. lack_wider limits [] w.front w.front word refl (λ n noun is_noun more. let g = n noun is_noun more in (g.0, rw g.1 refl))) e.kind w.says; new = w.new })
       by (Err e) (inr m) = inr (record { begins = m.begins; here = m.here; says = m.says })
 
   -- ---- a part that may be absent
 
   -- nothing is read, whatever stands behind the next token
-  absent : {A : Type 0} (R : Reader limits (A × List Token)) (x : A) (L F : Part) (last : ℕ) (tokens : List Token) → L [] → EndsLine tokens → ((number : ℕ) (a b : List Token) → tokens ≡ Line number ∷ a → Akin limits a b → R (Line number ∷ b) ≡ Ok (x, Line number ∷ b)) → R tokens ≡ Ok (x, tokens)
+  absent : {A : Type 0} (R : Reader limits (A × List Token)) (x : A) (L F : Part) (last : ℕ) (tokens : List Token) → L [] → EndsLine tokens → ((number : ℕ) (a b : List Token) → tokens ≡ Line number ∷ a → Akin a b → R (Line number ∷ b) ≡ Ok (x, Line number ∷ b)) → R tokens ≡ Ok (x, tokens)
       → Verdict limits (pair limits) R L F last tokens (R tokens)
   absent {A} R x L F last tokens none ends h e = subst (Verdict limits (pair limits) R L F last tokens) (sym e) (record { value = x; own = []; rest = tokens; is_own = none; there = refl; ends = ends; is = refl; kept = h })
 
-  absent_line : {A : Type 0} (R : Reader limits (A × List Token)) (x : A) (L F : Part) (last line : ℕ) (tokens : List Token) → L [] → ((b : List Token) → Akin limits tokens b → R (Line line ∷ b) ≡ Ok (x, Line line ∷ b)) → Verdict limits (pair limits) R L F last (Line line ∷ tokens) (R (Line line ∷ tokens))
+  absent_line : {A : Type 0} (R : Reader limits (A × List Token)) (x : A) (L F : Part) (last line : ℕ) (tokens : List Token) → L [] → ((b : List Token) → Akin tokens b → R (Line line ∷ b) ≡ Ok (x, Line line ∷ b)) → Verdict limits (pair limits) R L F last (Line line ∷ tokens) (R (Line line ∷ tokens))
   absent_line {A} R x L F last line tokens none h =
       absent R x L F last (Line line ∷ tokens) none tt
       (λ number a b e alike.
       let first : line ≡ number = let f = e in cc in
       let rest : tokens ≡ a = let f = e in cc in
-      subst (λ (k : ℕ). R (Line k ∷ b) ≡ Ok (x, Line k ∷ b)) first (h b (subst (λ (ts : List Token). Akin limits ts b) (sym rest) alike)))
-      (h tokens (akin limits (alike_itself limits tokens)))
+      subst (λ (k : ℕ). R (Line k ∷ b) ≡ Ok (x, Line k ∷ b)) first (h b (subst (λ (ts : List Token). Akin ts b) (sym rest) alike)))
+      (h tokens (akin (alike_itself tokens)))
 
   -- where the first token decides
-  pub decided : (Q : List Token → Type 0) (token : Token) (rest : List Token) → ((more : List Token) → Q (token ∷ more)) → Q [] → ((number : ℕ) (more : List Token) → Q (Line number ∷ more)) → (b : List Token) → Alike limits (token ∷ rest) b → Q b
+  pub decided : (Q : List Token → Type 0) (token : Token) (rest : List Token) → ((more : List Token) → Q (token ∷ more)) → Q [] → ((number : ℕ) (more : List Token) → Q (Line number ∷ more)) → (b : List Token) → Alike (token ∷ rest) b → Q b
   decided Q token rest h none new b (same t c d) = h d
   decided Q token rest h none new b (ended c [] p q) = none
   decided Q token rest h none new b (ended c (Line number ∷ d) p q) = new number d
   decided Q token rest h none new b (ended c d p q) = absurd q
 
   -- and a noun in place of a word
-  decided_next : (Q : List Token → Type 0) (token : Token) (rest : List Token) → ((more : List Token) → Q (token ∷ more)) → Q [] → ((number : ℕ) (more : List Token) → Q (Line number ∷ more)) → ((word : List ℕ) (more : List Token) → Q (Word word ∷ more)) → (b : List Token) → Akin limits (token ∷ rest) b → Q b
+  decided_next : (Q : List Token → Type 0) (token : Token) (rest : List Token) → ((more : List Token) → Q (token ∷ more)) → Q [] → ((number : ℕ) (more : List Token) → Q (Line number ∷ more)) → ((word : List ℕ) (more : List Token) → Q (Word word ∷ more)) → (b : List Token) → Akin (token ∷ rest) b → Q b
   decided_next Q token rest h none new word b (same_next t c d) = h d
   decided_next Q token rest h none new word b (noun_next w noun c d is) = word noun d
   decided_next Q token rest h none new word b (ended_next c [] p q) = none
@@ -223,9 +224,9 @@ module _ (spare_bytes deepest spare_statements : ℕ) (version : Version) where
 
   text_branch : (line : ℕ) (token : Token) → Branch limits (pair limits) (name_text limits line) (Spelled limits IsNameText) line token
   text_branch line (Name []) = refuses (λ more. (fault line Syntax, refl, refl, says_syntax limits (Name []) more tt))
-  text_branch line (Name (b ∷ text)) = by (named spare_bytes deepest spare_statements line (b ∷ text))
+  text_branch line (Name (b ∷ text)) = by (named limits line (b ∷ text))
     where
-      by : Named spare_bytes deepest spare_statements line (b ∷ text) → Branch limits (pair limits) (name_text limits line) (Spelled limits IsNameText) line (Name (b ∷ text))
+      by : Named limits line (b ∷ text) → Branch limits (pair limits) (name_text limits line) (Spelled limits IsNameText) line (Name (b ∷ text))
       by (is_short le n) = takes (b ∷ text) tt (b ∷ text, omega arith, le, refl) (λ more. rw n refl)
       by (is_long long n) =
           refuses (λ more. (fault line TooMany, rw n refl, refl, says_too_many limits (Name (b ∷ text)) more (kinds.name (b ∷ text) (65 ∷ [], long, omega arith, omega arith, omega arith, (65 ∷ [], [], (65 ∷ [], omega arith, omega arith, refl))))))
@@ -405,17 +406,17 @@ module _ (spare_bytes deepest spare_statements : ℕ) (version : Version) where
 
   -- one that is refused behind the number of its line
   refused_behind_line : {A X : Type 0} (shape : Shape limits A X) (R : Reader limits X) (L F : Part) (last line : ℕ) (behind : List Token) → Completes limits L F (Line line ∷ [])
-      → ((more : List Token) → Alike limits behind more → IsErrOn limits (GoesOn limits L F line []) (Lack limits (λ ts. R (Line line ∷ ts)) []) line more (R (Line line ∷ more))) → Verdict limits shape R L F last (Line line ∷ behind) (R (Line line ∷ behind))
+      → ((more : List Token) → Alike behind more → IsErrOn limits (GoesOn limits L F line []) (Lack limits (λ ts. R (Line line ∷ ts)) []) line more (R (Line line ∷ more))) → Verdict limits shape R L F last (Line line ∷ behind) (R (Line line ∷ behind))
   refused_behind_line {A} {X} shape R L F last line behind begins h =
-      let e = h behind (alike_itself limits behind) in
+      let e = h behind (alike_itself behind) in
       subst (Verdict limits shape R L F last (Line line ∷ behind)) (sym e.1)
       (inl (record { number = line; front = []; behind = behind; there = refl; begins = begins; refused = λ more alike. let f = h more alike in (f.0, f.1); here = e.2 ∙ sym (none_behind limits line); says = e.3; new = none_new e.0.kind }))
 
-  register_akin : (Q : List Token → Type 0) (name : List ℕ) (rest : List Token) → ((more : List Token) → Q (Register name ∷ more)) → (b : List Token) → Akin limits (Register name ∷ rest) b → Q b
+  register_akin : (Q : List Token → Type 0) (name : List ℕ) (rest : List Token) → ((more : List Token) → Q (Register name ∷ more)) → (b : List Token) → Akin (Register name ∷ rest) b → Q b
   register_akin Q name rest h b (same_next t c d) = h d
   register_akin Q name rest h b (ended_next c d p q) = absurd p
 
-  register_alike : (Q : List Token → Type 0) (name : List ℕ) (rest : List Token) → ((more : List Token) → Q (Register name ∷ more)) → (b : List Token) → Alike limits (Register name ∷ rest) b → Q b
+  register_alike : (Q : List Token → Type 0) (name : List ℕ) (rest : List Token) → ((more : List Token) → Q (Register name ∷ more)) → (b : List Token) → Alike (Register name ∷ rest) b → Q b
   register_alike Q name rest h b (same t c d) = h d
   register_alike Q name rest h b (ended c d p q) = absurd p
 
@@ -441,7 +442,7 @@ module _ (spare_bytes deepest spare_statements : ℕ) (version : Version) where
 
   some_verdict : (room : ℕ) (half : Half) (F : Part) (last line : ℕ) (name : List ℕ) (rest : List Token) → Opens limits F
       → ((tokens : List Token) → EndsLine tokens → Verdict limits (pair limits) (statements_at limits version room half) (UpTo room half) F last tokens (statements_at limits version room half tokens))
-      → Named spare_bytes deepest spare_statements line name → Verdict limits (pair limits) (statements_at limits version (suc room) half) (SomeUpTo (suc room) half) F last (Line line ∷ Register name ∷ rest) (statements_at limits version (suc room) half (Line line ∷ Register name ∷ rest))
+      → Named limits line name → Verdict limits (pair limits) (statements_at limits version (suc room) half) (SomeUpTo (suc room) half) F last (Line line ∷ Register name ∷ rest) (statements_at limits version (suc room) half (Line line ∷ Register name ∷ rest))
   unfolding statements_at statement_at
   some_verdict room half F last line name rest opens further (is_long long n) =
       refused_behind_line (pair limits) (statements_at limits version (suc room) half) (SomeUpTo (suc room) half) F last line (Register name ∷ rest) (some_opens room half F (some_of_opens F opens) line)
@@ -455,7 +456,7 @@ module _ (spare_bytes deepest spare_statements : ℕ) (version : Version) where
       (first_verdict half (UpTo room half ⨾ F) last line name rest (let o = opens 0 in (Line 0 ∷ o.0, ([], Line 0 ∷ o.0, none_up_to room half, o.1, refl))) le n)
       (λ x r e ends. verdict_made (statements_at limits version room half) (λ others. x ∷ others) (UpTo room half) F last r (further r ends))))
 
-  no_statements : (room : ℕ) (half : Half) (F : Part) (last : ℕ) (tokens : List Token) → EndsLine tokens → ((number : ℕ) (a b : List Token) → tokens ≡ Line number ∷ a → Akin limits a b → statements_at limits version room half (Line number ∷ b) ≡ Ok ([], Line number ∷ b)) → statements_at limits version room half tokens ≡ Ok ([], tokens)
+  no_statements : (room : ℕ) (half : Half) (F : Part) (last : ℕ) (tokens : List Token) → EndsLine tokens → ((number : ℕ) (a b : List Token) → tokens ≡ Line number ∷ a → Akin a b → statements_at limits version room half (Line number ∷ b) ≡ Ok ([], Line number ∷ b)) → statements_at limits version room half tokens ≡ Ok ([], tokens)
       → Verdict limits (pair limits) (statements_at limits version room half) (UpTo room half) F last tokens (statements_at limits version room half tokens)
   no_statements room half F last tokens ends h e = absent (statements_at limits version room half) [] (UpTo room half) F last tokens (none_up_to room half) ends h e
 
@@ -470,7 +471,7 @@ module _ (spare_bytes deepest spare_statements : ℕ) (version : Version) where
       (λ more. (fault line TooMany, refl, refl, says_too_many limits (Register name) more (kinds.statement name (half_ends zero half F line follows)))))
   statements_verdict (suc room) half F last follows (Line line ∷ Register name ∷ rest) ends =
       verdict_wider limits (pair limits) (statements_at limits version (suc room) half) (SomeUpTo (suc room) half) (UpTo (suc room) half) F last (Line line ∷ Register name ∷ rest) (λ own is. (is.0, is.1, is.2)) _
-      (some_verdict room half F last line name rest (follows_open F follows) (λ tokens e. statements_verdict room half F last follows tokens e) (named spare_bytes deepest spare_statements line name))
+      (some_verdict room half F last line name rest (follows_open F follows) (λ tokens e. statements_verdict room half F last follows tokens e) (named limits line name))
   statements_verdict zero half F last opens (Line line ∷ []) ends = absent_line (statements_at limits version zero half) [] (UpTo zero half) F last line [] (none_up_to zero half)
       (λ b alike. decided_end (λ ts. statements_at limits version zero half (Line line ∷ ts) ≡ Ok ([], Line line ∷ ts)) refl (λ number more. refl) b (Rattle.rule_viable_prefixes.proofs.Parts.ends_akin limits [] b alike tt))
   statements_verdict (suc room) half F last opens (Line line ∷ []) ends = absent_line (statements_at limits version (suc room) half) [] (UpTo (suc room) half) F last line [] (none_up_to (suc room) half)
@@ -501,7 +502,7 @@ module _ (spare_bytes deepest spare_statements : ℕ) (version : Version) where
   half_verdict : (half : Half) (F : Part) (last line : ℕ) (name : List ℕ) (rest : List Token) → Follows F → Verdict limits (pair limits) (statements_at limits version limits.statements half) (IsHalf half) F last (Line line ∷ Register name ∷ rest) (statements_at limits version limits.statements half (Line line ∷ Register name ∷ rest))
   half_verdict half F last line name rest follows =
       verdict_wider limits (pair limits) (statements_at limits version limits.statements half) (SomeUpTo limits.statements half) (IsHalf half) F last (Line line ∷ Register name ∷ rest) (λ own is. as_half half own is) _
-      (some_verdict spare_statements half F last line name rest (follows_open F follows) (λ tokens e. statements_verdict spare_statements half F last follows tokens e) (named spare_bytes deepest spare_statements line name))
+      (some_verdict spare_statements half F last line name rest (follows_open F follows) (λ tokens e. statements_verdict spare_statements half F last follows tokens e) (named limits line name))
 
   pub source_verdict : (F : Part) (last : ℕ) (tokens : List Token) → Follows F → EndsLine tokens → Verdict limits (pair limits) (source_at limits version last) (IsHalf Source) F last tokens (source_at limits version last tokens)
   unfolding source_at

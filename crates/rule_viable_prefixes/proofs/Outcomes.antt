@@ -1,57 +1,59 @@
 -- What a reader does on a line, said so that it composes: it reads tokens in front, whatever stands behind the next one, or it refuses
 -- what stands behind a front that some other tokens complete.
-use Rattle.std.proofs.Common.{◌≡◌, ◌≢◌, ℕ, Bool, true, false, cond, List, [], ◌∷◌, ◌++◌, map, Result, Ok, Err, refl, sym, ap, subst, ◌∙◌, append_assoc, ◌⊎◌, inl, inr}
+use Rattle.std.proofs.Common.{◌≡◌, ℕ, suc, ◌≤◌, List, [], ◌∷◌, ◌++◌, length, map, Result, Ok, Err, refl, sym, ap, subst, ◌∙◌, append_assoc, ◌⊎◌, inl, inr, arith}
 use Rattle.std.proofs.lemmas.List.{append-nil}
-use Rattle.std.specs.Prelude.{codes}
-use Rattle.std.specs.Str.{bytes_eq}
 use Rattle.rule_tokens.specs.declared.fault.RuleFaultKind.{RuleFaultKind}
-use Rattle.rule_tokens.specs.declared.fault.RuleFaultKind.TheVariants.{BadByte, Syntax, LeftOut, TooMany}
+use Rattle.rule_tokens.specs.declared.fault.RuleFaultKind.TheVariants.{Syntax}
 use Rattle.rule_tokens.specs.RuleFaults.{RuleFault}
 use Rattle.rule_tokens.specs.Steps.{◌>>=◌}
-use Rattle.rule_tokens.specs.PartReaders.{unexpected, misplaced_word, left_out}
-use Rattle.rule_tokens.specs.Tokens.{Token, Line, Head, Name, Register, Word, Number, Arrow, Mark, Other, Bad, Excess}
+use Rattle.rule_tokens.specs.Tokens.{Token, Line, Word}
 use Rattle.rule_tokens.proofs.Ends.{EndsLine}
 use Rattle.rule_viable_prefixes.specs.Fits.{line_behind}
-use Rattle.rule_viable_prefixes.specs.Misfits.{Fitting, IsNoun, NounFits, IsTooDeep, IsTooMany, name, register, constant, choice, statement, nesting, Says, kind_at, IsMisfit, itself, read_on, RepeatsFlag}
+use Rattle.rule_viable_prefixes.specs.Misfits.{Fitting, IsNoun, RepeatsFlag}
 use Rattle.ops.specs.FlagKeywords.{flag_keyword}
-use Rattle.ops.proofs.KeywordLemmas.{same_word}
 use Rattle.ops.specs.declared.keywords.flag.Flag.{Flag}
 use Rattle.rule_viable_prefixes.proofs.FlagRuns.{NoFlag, NoFlagLast, IsNew, new_behind, none_new, last_of_both}
 use Rattle.rule_tokens.specs.Limits.{Limits}
+use Rattle.rule_viable_prefixes.proofs.Tolds.{SaysFirst, says_wider, says_carried}
+
+-- ---- what stands next
+
+-- the same token is next, or the line ends in both
+pub data Alike : List Token → List Token → Type 0 where
+  same : (token : Token) (a b : List Token) → Alike (token ∷ a) (token ∷ b)
+  ended : (a b : List Token) → EndsLine a → EndsLine b → Alike a b
+
+pub alike_itself : (a : List Token) → Alike a a
+alike_itself [] = ended [] [] tt tt
+alike_itself (token ∷ a) = same token a a
+
+pub alike_behind : (own a b : List Token) → Alike a b → Alike (own ++ a) (own ++ b)
+alike_behind [] a b alike = alike
+alike_behind (token ∷ own) a b alike = same token (own ++ a) (own ++ b)
+
+-- the same token is next, or a noun in place of a word, or the line ends in both
+pub data Akin : List Token → List Token → Type 0 where
+  same_next : (token : Token) (a b : List Token) → Akin (token ∷ a) (token ∷ b)
+  noun_next : (word noun : List ℕ) (a b : List Token) → IsNoun noun → Akin (Word word ∷ a) (Word noun ∷ b)
+  ended_next : (a b : List Token) → EndsLine a → EndsLine b → Akin a b
+
+pub akin : {a b : List Token} → Alike a b → Akin a b
+akin (same token a b) = same_next token a b
+akin (ended a b p q) = ended_next a b p q
+
+pub akin_behind : (own a b : List Token) → Akin a b → Akin (own ++ a) (own ++ b)
+akin_behind [] a b h = h
+akin_behind (token ∷ own) a b h = same_next token (own ++ a) (own ++ b)
+
+pub akin_noun : (front behind : List Token) (word : List ℕ) (rest : List Token) → behind ≡ Word word ∷ rest → (noun : List ℕ) → IsNoun noun → (more : List Token) → Akin (front ++ behind) (front ++ Word noun ∷ more)
+akin_noun front behind word rest is noun is_noun more = akin_behind front behind (Word noun ∷ more) (subst (λ (ts : List Token). Akin ts (Word noun ∷ more)) (sym is) (noun_next word noun rest more is_noun))
+
+-- more tokens stand in front of some with others before them
+pub longer_behind : (before front : List Token) → length front ≤ length (before ++ front)
+longer_behind [] front = omega arith
+longer_behind (token ∷ before) front = let le = longer_behind before front in omega (arith, le)
 
 module _ (limits : Limits) where
-  -- ---- what stands next
-
-  -- the same token is next, or the line ends in both
-  pub data Alike : List Token → List Token → Type 0 where
-    same : (token : Token) (a b : List Token) → Alike (token ∷ a) (token ∷ b)
-    ended : (a b : List Token) → EndsLine a → EndsLine b → Alike a b
-
-  pub alike_itself : (a : List Token) → Alike a a
-  alike_itself [] = ended [] [] tt tt
-  alike_itself (token ∷ a) = same token a a
-
-  pub alike_behind : (own a b : List Token) → Alike a b → Alike (own ++ a) (own ++ b)
-  alike_behind [] a b alike = alike
-  alike_behind (token ∷ own) a b alike = same token (own ++ a) (own ++ b)
-
-  -- the same token is next, or a noun in place of a word, or the line ends in both
-  pub data Akin : List Token → List Token → Type 0 where
-    same_next : (token : Token) (a b : List Token) → Akin (token ∷ a) (token ∷ b)
-    noun_next : (word noun : List ℕ) (a b : List Token) → IsNoun noun → Akin (Word word ∷ a) (Word noun ∷ b)
-    ended_next : (a b : List Token) → EndsLine a → EndsLine b → Akin a b
-
-  pub akin : {a b : List Token} → Alike a b → Akin a b
-  akin (same token a b) = same_next token a b
-  akin (ended a b p q) = ended_next a b p q
-
-  pub akin_behind : (own a b : List Token) → Akin a b → Akin (own ++ a) (own ++ b)
-  akin_behind [] a b h = h
-  akin_behind (token ∷ own) a b h = same_next token (own ++ a) (own ++ b)
-
-  pub akin_noun : (front behind : List Token) (word : List ℕ) (rest : List Token) → behind ≡ Word word ∷ rest → (noun : List ℕ) → IsNoun noun → (more : List Token) → Akin (front ++ behind) (front ++ Word noun ∷ more)
-  akin_noun front behind word rest is noun is_noun more = akin_behind front behind (Word noun ∷ more) (subst (λ (ts : List Token). Akin ts (Word noun ∷ more)) (sym is) (noun_next word noun rest more is_noun))
-
   -- ---- tokens on one line
 
   abbrev pub Inline : List Token → Type 0
@@ -131,10 +133,6 @@ module _ (limits : Limits) where
   abbrev pub NoNoun : {X : Type 0} → Reader X → List Token → Type 0
   NoNoun R front = (noun : List ℕ) → IsNoun noun → (more : List Token) → IsErr (R (front ++ Word noun ∷ more))
 
-  -- why a word is told as `Syntax`, whatever stands before it
-  abbrev pub Excuse : Fitting → List ℕ → Type 0
-  Excuse fits word = (word ≡ codes "hasOneUse") ⊎ IsTooDeep fits (Word word)
-
   -- and because of what stands before it
   abbrev pub Lack : {X : Type 0} → Reader X → List Token → List ℕ → Type 0
   Lack R front word = RepeatsFlag front word ⊎ NoNoun R front
@@ -146,135 +144,10 @@ module _ (limits : Limits) where
   lack_wider before front all word whole f (inl repeats) = inl (repeats_behind before front all word whole repeats)
   lack_wider before front all word whole f (inr none) = inr (f none)
 
-  -- what the kind says of the token, where these fit, and of a word that is told as `Syntax`
-  pub record Told (fits : Fitting) (none : List ℕ → Type 0) (token : Token) (behind : List Token) (kind : RuleFaultKind) : Type 0 where
-    pub misfit : token ≢ Excess → IsMisfit limits fits token behind kind
-    -- the mark of the end of what is read is told as a limit that is passed, and in front of it a token by itself
-    pub excess : token ≡ Excess → kind ≡ TooMany
-    pub in_front : token ≢ Excess → (more : List Token) → behind ≡ Excess ∷ more → Says limits fits token kind
-    pub lacks : kind ≡ Syntax → (word : List ℕ) → token ≡ Word word → Excuse fits word ⊎ none word
-
-  -- and of the first of the tokens
-  abbrev pub SaysFirst : Fitting → (List ℕ → Type 0) → List Token → RuleFaultKind → Type 0
-  SaysFirst fits none [] kind = kind ≡ Syntax
-  SaysFirst fits none (token ∷ tokens) kind = Told fits none token tokens kind
-
   abbrev pub IsErrOn : {X : Type 0} → Fitting → (List ℕ → Type 0) → ℕ → List Token → Result X RuleFault → Type 0
-  IsErrOn fits none line tokens r = (e : RuleFault) × (r ≡ Err e) × (e.line ≡ line) × SaysFirst fits none tokens e.kind
+  IsErrOn fits none line tokens r = (e : RuleFault) × (r ≡ Err e) × (e.line ≡ line) × SaysFirst limits 0 fits none tokens e.kind
 
-  -- ---- what kinds say
-
-  -- it is no word, and ends nothing that is read
-  abbrev pub IsPlain : Token → Type 0
-  IsPlain Bad = ⊥
-  IsPlain Excess = ⊥
-  IsPlain (Word word) = ⊥
-  IsPlain token = Unit {0}
-
-  no_bad : (token : Token) → IsPlain token → token ≡ Bad → ⊥
-  no_bad token plain is = subst IsPlain is plain
-
-  no_excess : (token : Token) → IsPlain token → token ≡ Excess → ⊥
-  no_excess token plain is = subst IsPlain is plain
-
-  no_word : (token : Token) (word : List ℕ) → IsPlain token → token ≡ Word word → ⊥
-  no_word token word plain is = subst IsPlain is plain
-
-  pub says_syntax : {fits : Fitting} {none : List ℕ → Type 0} (token : Token) (more : List Token) → IsPlain token → Told fits none token more Syntax
-  says_syntax token more plain = record { misfit = λ read. itself (no_bad token plain); excess = λ is. absurd (no_excess token plain is); in_front = λ read others is. no_bad token plain; lacks = λ kind word is. absurd (no_word token word plain is) }
-
-  pub says_word : {fits : Fitting} {none : List ℕ → Type 0} (word : List ℕ) (more : List Token) → Excuse fits word ⊎ none word → Told fits none (Word word) more Syntax
-  says_word {fits} {none} word more why = record { misfit = λ read. itself (λ e. absurd cc); excess = λ is. absurd cc; in_front = λ read others is e. absurd cc; lacks = λ kind other is. subst (λ (w : List ℕ). Excuse fits w ⊎ none w) (let equal = is in cc) why }
-
-  pub says_too_many : {fits : Fitting} {none : List ℕ → Type 0} (token : Token) (more : List Token) → IsTooMany limits fits token → Told fits none token more TooMany
-  says_too_many token more is = record { misfit = λ read. itself is; excess = λ e. refl; in_front = λ read others e. is; lacks = λ kind word same_token. absurd cc }
-
-  -- a word has the reason that is given
-  pub says_unexpected : {fits : Fitting} {none : List ℕ → Type 0} (line : ℕ) (token : Token) (more : List Token) → ((word : List ℕ) → token ≡ Word word → Excuse fits word ⊎ none word) → Told fits none token more (unexpected line (token ∷ more)).kind
-  says_unexpected line Bad more why = record { misfit = λ read. itself refl; excess = λ is. absurd cc; in_front = λ read others is. refl; lacks = λ kind word is. absurd cc }
-  says_unexpected line Excess more why = record { misfit = λ read. absurd (read refl); excess = λ is. refl; in_front = λ read others is. absurd (read refl); lacks = λ kind word is. absurd cc }
-  says_unexpected line (Line number) more why = says_syntax (Line number) more tt
-  says_unexpected line (Head text) more why = says_syntax (Head text) more tt
-  says_unexpected line (Name text) more why = says_syntax (Name text) more tt
-  says_unexpected line (Register text) more why = says_syntax (Register text) more tt
-  says_unexpected line (Word text) more why = says_word text more (why text refl)
-  says_unexpected line (Number text) more why = says_syntax (Number text) more tt
-  says_unexpected line Arrow more why = says_syntax Arrow more tt
-  says_unexpected line (Mark text) more why = says_syntax (Mark text) more tt
-  says_unexpected line Other more why = says_syntax Other more tt
-
-  pub says_misplaced : {fits : Fitting} {none : List ℕ → Type 0} → NounFits fits → (line : ℕ) (word : List ℕ) (more : List Token) → Told fits none (Word word) more (misplaced_word line word).kind
-  says_misplaced {fits} {none} noun line word more = by (bytes_eq word (codes "hasOneUse")) refl
-    where
-      by : (b : Bool) → bytes_eq word (codes "hasOneUse") ≡ b → Told fits none (Word word) more (cond b Syntax (LeftOut word))
-      by true h = says_word word more (inl (inl (same_word word (codes "hasOneUse") h)))
-      by false h =
-          let other : word ≢ codes "hasOneUse" = λ same_word_. let is = ap (λ (w : List ℕ). bytes_eq w (codes "hasOneUse")) same_word_ in let both = sym h ∙ is in absurd cc in
-          record { misfit = λ read. itself (refl, other, noun); excess = λ is. absurd cc; in_front = λ read others is. (refl, other, noun); lacks = λ kind other is. absurd cc }
-
-  pub says_left_out : {fits : Fitting} {none : List ℕ → Type 0} → NounFits fits → (line : ℕ) (token : Token) (more : List Token) → Told fits none token more (left_out line (token ∷ more)).kind
-  says_left_out noun line (Word word) more = says_misplaced noun line word more
-  says_left_out noun line Bad more = says_unexpected line Bad more (λ word is. absurd cc)
-  says_left_out noun line Excess more = says_unexpected line Excess more (λ word is. absurd cc)
-  says_left_out noun line (Line number) more = says_syntax (Line number) more tt
-  says_left_out noun line (Head text) more = says_syntax (Head text) more tt
-  says_left_out noun line (Name text) more = says_syntax (Name text) more tt
-  says_left_out noun line (Register text) more = says_syntax (Register text) more tt
-  says_left_out noun line (Number text) more = says_syntax (Number text) more tt
-  says_left_out noun line Arrow more = says_syntax Arrow more tt
-  says_left_out noun line (Mark text) more = says_syntax (Mark text) more tt
-  says_left_out noun line Other more = says_syntax Other more tt
-
-  -- the kind of the first token, where the mark of the end of what is read stands too
-  abbrev pub kind_first : List Token → RuleFaultKind
-  kind_first (Excess ∷ tokens) = TooMany
-  kind_first tokens = kind_at tokens
-
-  -- a word that is nested too deep is told as such, or as what stands in place of the `(` behind it
-  abbrev pub IsTold : List Token → RuleFaultKind → Type 0
-  IsTold tokens kind = (kind ≡ TooMany) ⊎ (((more : List Token) → tokens ≡ Mark (codes "(") ∷ more → ⊥) × (kind ≡ kind_first tokens))
-
-  pub says_deep : {fits : Fitting} {none : List ℕ → Type 0} (word : List ℕ) → IsTooDeep fits (Word word) → (tokens : List Token) (kind : RuleFaultKind) → IsTold tokens kind → Told fits none (Word word) tokens kind
-  says_deep {fits} {none} word deep tokens kind (inl is) = subst (Told fits none (Word word) tokens) (sym is) (says_too_many (Word word) tokens (nesting (Word word) deep))
-  says_deep {fits} {none} word deep (Excess ∷ tokens) kind (inr (none_, is)) = subst (Told fits none (Word word) (Excess ∷ tokens)) (sym is) (says_too_many (Word word) (Excess ∷ tokens) (nesting (Word word) deep))
-  says_deep {fits} {none} word deep tokens kind (inr (none_, is)) = record {
-    misfit = λ read. read_on (word, refl, deep, none_, is);
-    excess = λ is_excess. absurd cc;
-    in_front = λ read more is_excess. absurd cc;
-    lacks = λ kind_ other is_other. inl (subst (Excuse fits) (let equal = is_other in cc) (inr deep));
-  }
-
-  -- ---- the same where more fits
-
-  many_wider : (P Q : Fitting) → ((token : Token) → P token → Q token) → (token : Token) → IsTooMany limits P token → IsTooMany limits Q token
-  many_wider P Q f token (name text (short, long, le, sort, of_sort, is)) = name text (short, long, le, sort, of_sort, f (Name short) is)
-  many_wider P Q f token (register text (short, long, le, sort, of_sort, is)) = register text (short, long, le, sort, of_sort, f (Register short) is)
-  many_wider P Q f token (constant text (short, long, le, sort, of_sort, is)) = constant text (short, long, le, sort, of_sort, f (Word short) is)
-  many_wider P Q f token (choice text (short, long, le, sort, of_sort, is)) = choice text (short, long, le, sort, of_sort, f (Word short) is)
-  many_wider P Q f token (statement text (inl is)) = statement text (inl (f Arrow is))
-  many_wider P Q f token (statement text (inr is)) = statement text (inr (f (Head (codes "Name:")) is))
-  many_wider P Q f token (nesting t (nests, is)) = nesting t (nests, f (Number (codes "0")) is)
-
-  pub kind_wider : (P Q : Fitting) → ((token : Token) → P token → Q token) → (token : Token) (kind : RuleFaultKind) → Says limits P token kind → Says limits Q token kind
-  kind_wider P Q f token BadByte is = is
-  kind_wider P Q f token TooMany is = many_wider P Q f token is
-  kind_wider P Q f token (LeftOut left) (is, other, (noun, is_noun, fits)) = (is, other, (noun, is_noun, f (Word noun) fits))
-  kind_wider P Q f token Syntax is = is
-  kind_wider P Q f token kind is = absurd is
-
-  pub misfit_wider : (P Q : Fitting) → ((token : Token) → P token → Q token) → (token : Token) (tokens : List Token) (kind : RuleFaultKind) → IsMisfit limits P token tokens kind → IsMisfit limits Q token tokens kind
-  misfit_wider P Q f token tokens kind (itself is) = itself (kind_wider P Q f token kind is)
-  misfit_wider P Q f token tokens kind (read_on (word, is, (nests, fits), none, told)) = read_on (word, is, (nests, f (Number (codes "0")) fits), none, told)
-
-  pub says_wider : {C D : List ℕ → Type 0} (P Q : Fitting) → ((token : Token) → P token → Q token) → (tokens : List Token) → ((word : List ℕ) (rest : List Token) → tokens ≡ Word word ∷ rest → C word → D word)
-      → (kind : RuleFaultKind) → SaysFirst P C tokens kind → SaysFirst Q D tokens kind
-  says_wider P Q f [] g kind is = is
-  says_wider {C} {D} P Q f (token ∷ tokens) g kind is = record { misfit = λ read. misfit_wider P Q f token tokens kind (is.misfit read); excess = is.excess; in_front = λ read more e. kind_wider P Q f token kind (is.in_front read more e); lacks = λ syntax_ word is_word. by word is_word (is.lacks syntax_ word is_word) }
-    where
-      by : (word : List ℕ) → token ≡ Word word → Excuse P word ⊎ C word → Excuse Q word ⊎ D word
-      by word is_word (inl (inl one)) = inl (inl one)
-      by word is_word (inl (inr (nests, fits))) = inl (inr (nests, f (Number (codes "0")) fits))
-      by word is_word (inr none) = inr (g word tokens (ap (λ (t : Token). t ∷ tokens) is_word) none)
+  -- ---- how it ends
 
   pub record IsRead {A X : Type 0} (C : List Token → List Token → Type 0) (shape : Shape A X) (R : Reader X) (L : Spelling A) (tokens : List Token) (found : X) : Type 0 where
     pub value : A
@@ -295,7 +168,7 @@ module _ (limits : Limits) where
     pub inline : Inline front
     pub refused : (more : List Token) → Alike behind more → IsErr (R (front ++ more))
     pub here : found.line ≡ line
-    pub says : SaysFirst (Takes L front) (Lack R front) behind found.kind
+    pub says : SaysFirst limits (length front) (Takes L front) (Lack R front) behind found.kind
     pub new : IsNew front found.kind
 
   -- this holds of the tokens that are read and those that are left
@@ -350,7 +223,7 @@ module _ (limits : Limits) where
         inline = o.inline;
         refused = λ more alike. let f = o.refused more alike in (f.0, rw f.1 refl);
         here = o.here;
-        says = says_wider (Takes L o.front) (Takes N o.front) (λ token. begun (o.front ++ token ∷ [])) o.behind
+        says = says_wider limits (length o.front) (length o.front) (omega arith) (Takes L o.front) (Takes N o.front) (λ token. begun (o.front ++ token ∷ [])) o.behind
             (λ word rest is_word. lack_wider [] o.front o.front word refl (λ n noun is_noun more. let f = n noun is_noun more in (f.0, rw f.1 refl))) e.kind o.says;
         new = o.new;
       }
@@ -385,7 +258,7 @@ module _ (limits : Limits) where
             inline = inline_both o.own p.front o.inline p.inline;
             refused = λ more alike. failed p.front more p.behind (akin_behind p.front p.behind more (akin alike)) p.there (p.refused more alike);
             here = p.here;
-            says = says_wider (Takes (M o.value) p.front) (Takes N (o.own ++ p.front))
+            says = says_wider limits (length p.front) (length (o.own ++ p.front)) (longer_behind o.own p.front) (Takes (M o.value) p.front) (Takes N (o.own ++ p.front))
                 (λ token is. subst (Begins N) (sym (append_assoc o.own p.front (token ∷ []))) (own_begun (p.front ++ token ∷ []) is)) p.behind
                 (λ word rest is_word. lack_wider o.own p.front (o.own ++ p.front) word refl (λ n noun is_noun more. failed p.front (Word noun ∷ more) p.behind (akin_noun p.front p.behind word rest is_word noun is_noun more) p.there (n noun is_noun more))) e.kind p.says;
             new = parted.new o.own o.rest o.apart o.value e p;
@@ -438,41 +311,47 @@ module _ (limits : Limits) where
       subst (Outcome shape R L line (token ∷ rest)) (sym (h rest))
       (record { value = x; own = token ∷ []; rest = rest; is_own = is; inline = inline_token token [] (own_line token stays) inline_none; there = refl; is = refl; kept = λ more alike. h more; apart = own_flag token stays })
 
-  -- behind the first token another reader goes on
-  pub led : {A X : Type 0} (shape : Shape A X) (R S : Reader X) (L : Spelling A) (line : ℕ) (token : Token) (rest : List Token) → IsOwn token → ((more : List Token) → R (token ∷ more) ≡ S more)
-      → Outcome shape S (λ x own. L x (token ∷ own)) line rest (S rest) → Outcome shape R L line (token ∷ rest) (R (token ∷ rest))
-  led {A} {X} shape R S L line token rest stays h o = subst (Outcome shape R L line (token ∷ rest)) (sym (h rest)) (by (S rest) o)
+-- behind the first token another reader goes on, maybe one level further in
+module _ (inner limits : Limits) (bytes : inner.name_bytes ≡ limits.name_bytes) (deep : limits.nested ≤ suc inner.nested) where
+  pub led_in : {A X : Type 0} (shape : Shape limits A X) (R S : Reader limits X) (L : Spelling limits A) (line : ℕ) (token : Token) (rest : List Token) → IsOwn limits token → ((more : List Token) → R (token ∷ more) ≡ S more)
+      → Outcome inner shape S (λ x own. L x (token ∷ own)) line rest (S rest) → Outcome limits shape R L line (token ∷ rest) (R (token ∷ rest))
+  led_in {A} {X} shape R S L line token rest stays h o = subst (Outcome limits shape R L line (token ∷ rest)) (sym (h rest)) (by (S rest) o)
     where
-      by : (r : Result X RuleFault) → Outcome shape S (λ x own. L x (token ∷ own)) line rest r → Outcome shape R L line (token ∷ rest) r
+      by : (r : Result X RuleFault) → Outcome inner shape S (λ x own. L x (token ∷ own)) line rest r → Outcome limits shape R L line (token ∷ rest) r
       by (Ok x) o = record {
         value = o.value;
         own = token ∷ o.own;
         rest = o.rest;
         is_own = o.is_own;
-        inline = inline_token token o.own (own_line token stays) o.inline;
+        inline = inline_token limits token o.own (own_line limits token stays) o.inline;
         there = ap (λ (ts : List Token). token ∷ ts) o.there;
         is = o.is;
         kept = λ more alike. h (o.own ++ more) ∙ o.kept more alike;
-        apart = own_last token o.own stays o.apart;
+        apart = own_last limits token o.own stays o.apart;
       }
       by (Err e) o = record {
         front = token ∷ o.front;
         behind = o.behind;
         there = ap (λ (ts : List Token). token ∷ ts) o.there;
         begins = o.begins;
-        inline = inline_token token o.front (own_line token stays) o.inline;
+        inline = inline_token limits token o.front (own_line limits token stays) o.inline;
         refused = λ more alike. let f = o.refused more alike in (f.0, h (o.front ++ more) ∙ f.1);
         here = o.here;
-        says = says_wider (Takes L (token ∷ o.front)) (Takes L (token ∷ o.front)) (λ t fits. fits) o.behind (λ word r is_word. lack_wider (token ∷ []) o.front (token ∷ o.front) word refl (λ n noun is_noun more. let f = n noun is_noun more in (f.0, h (o.front ++ Word noun ∷ more) ∙ f.1))) e.kind o.says;
-        new = new_behind (token ∷ []) o.front e.kind (inl (own_flag token stays)) o.new;
+        says = says_carried inner limits (length o.front) (suc (length o.front)) bytes (λ far. omega (arith, deep, far)) (Takes limits L (token ∷ o.front)) (Takes limits L (token ∷ o.front)) (λ t fits. fits) o.behind (λ word r is_word. lack_wider limits (token ∷ []) o.front (token ∷ o.front) word refl (λ n noun is_noun more. let f = n noun is_noun more in (f.0, h (o.front ++ Word noun ∷ more) ∙ f.1))) e.kind o.says;
+        new = new_behind (token ∷ []) o.front e.kind (inl (own_flag limits token stays)) o.new;
       }
+
+module _ (limits : Limits) where
+  pub led : {A X : Type 0} (shape : Shape limits A X) (R S : Reader limits X) (L : Spelling limits A) (line : ℕ) (token : Token) (rest : List Token) → IsOwn limits token → ((more : List Token) → R (token ∷ more) ≡ S more)
+      → Outcome limits shape S (λ x own. L x (token ∷ own)) line rest (S rest) → Outcome limits shape R L line (token ∷ rest) (R (token ∷ rest))
+  led shape R S L line token rest stays h o = led_in limits limits refl (omega arith) shape R S L line token rest stays h o
 
   -- ---- the same reader, by other words
 
-  pub same_as : {A X : Type 0} (shape : Shape A X) (R S : Reader X) (L : Spelling A) (line : ℕ) (tokens : List Token) → ((more : List Token) → R more ≡ S more) → Outcome shape S L line tokens (S tokens) → Outcome shape R L line tokens (R tokens)
-  same_as {A} {X} shape R S L line tokens h o = subst (Outcome shape R L line tokens) (sym (h tokens)) (by (S tokens) o)
+  pub same_as : {A X : Type 0} (shape : Shape limits A X) (R S : Reader limits X) (L : Spelling limits A) (line : ℕ) (tokens : List Token) → ((more : List Token) → R more ≡ S more) → Outcome limits shape S L line tokens (S tokens) → Outcome limits shape R L line tokens (R tokens)
+  same_as {A} {X} shape R S L line tokens h o = subst (Outcome limits shape R L line tokens) (sym (h tokens)) (by (S tokens) o)
     where
-      by : (r : Result X RuleFault) → Outcome shape S L line tokens r → Outcome shape R L line tokens r
+      by : (r : Result X RuleFault) → Outcome limits shape S L line tokens r → Outcome limits shape R L line tokens r
       by (Ok x) o = record { value = o.value; own = o.own; rest = o.rest; is_own = o.is_own; inline = o.inline; there = o.there; is = o.is; kept = λ more alike. h (o.own ++ more) ∙ o.kept more alike; apart = o.apart }
       by (Err e) o = record {
         front = o.front;
@@ -482,14 +361,14 @@ module _ (limits : Limits) where
         inline = o.inline;
         refused = λ more alike. let f = o.refused more alike in (f.0, h (o.front ++ more) ∙ f.1);
         here = o.here;
-        says = says_wider (Takes L o.front) (Takes L o.front) (λ t fits. fits) o.behind (λ word r is_word. lack_wider [] o.front o.front word refl (λ n noun is_noun more. let f = n noun is_noun more in (f.0, h (o.front ++ Word noun ∷ more) ∙ f.1))) e.kind o.says;
+        says = says_wider limits (length o.front) (length o.front) (omega arith) (Takes limits L o.front) (Takes limits L o.front) (λ t fits. fits) o.behind (λ word r is_word. lack_wider limits [] o.front o.front word refl (λ n noun is_noun more. let f = n noun is_noun more in (f.0, h (o.front ++ Word noun ∷ more) ∙ f.1))) e.kind o.says;
         new = o.new;
       }
 
   -- the same where the first token is the same: the other reader reads something, and some noun
-  pub alike_as : {A X : Type 0} (shape : Shape A X) (R S : Reader X) (L : Spelling A) (line : ℕ) (tokens : List Token) → ((x : A) → L x [] → ⊥) → (NoNoun S [] → ⊥) → ((more : List Token) → Alike tokens more → R more ≡ S more)
-      → Outcome shape S L line tokens (S tokens) → Outcome shape R L line tokens (R tokens)
-  alike_as {A} {X} shape R S L line tokens some reads h o = subst (Outcome shape R L line tokens) (sym (h tokens (alike_itself tokens))) (by (S tokens) o)
+  pub alike_as : {A X : Type 0} (shape : Shape limits A X) (R S : Reader limits X) (L : Spelling limits A) (line : ℕ) (tokens : List Token) → ((x : A) → L x [] → ⊥) → (NoNoun limits S [] → ⊥) → ((more : List Token) → Alike tokens more → R more ≡ S more)
+      → Outcome limits shape S L line tokens (S tokens) → Outcome limits shape R L line tokens (R tokens)
+  alike_as {A} {X} shape R S L line tokens some reads h o = subst (Outcome limits shape R L line tokens) (sym (h tokens (alike_itself tokens))) (by (S tokens) o)
     where
       alike_front : (own rest more : List Token) → tokens ≡ own ++ rest → Alike rest more → Alike tokens (own ++ more)
       alike_front own rest more there alike = subst (λ (ts : List Token). Alike ts (own ++ more)) (sym there) (alike_behind own rest more alike)
@@ -498,11 +377,11 @@ module _ (limits : Limits) where
       alike_own [] rest more there none = absurd (none refl)
       alike_own (t ∷ own) rest more there none = subst (λ (ts : List Token). Alike ts (t ∷ own ++ more)) (sym there) (same t (own ++ rest) (own ++ more))
 
-      no_noun : (front rest : List Token) → tokens ≡ front ++ rest → NoNoun S front → NoNoun R front
+      no_noun : (front rest : List Token) → tokens ≡ front ++ rest → NoNoun limits S front → NoNoun limits R front
       no_noun [] rest there n = absurd (reads n)
       no_noun (t ∷ front) rest there n = λ noun is more. let f = n noun is more in (f.0, h (t ∷ front ++ Word noun ∷ more) (alike_own (t ∷ front) rest (Word noun ∷ more) there (λ none. absurd cc)) ∙ f.1)
 
-      by : (r : Result X RuleFault) → Outcome shape S L line tokens r → Outcome shape R L line tokens r
+      by : (r : Result X RuleFault) → Outcome limits shape S L line tokens r → Outcome limits shape R L line tokens r
       by (Ok x) o = record {
         value = o.value;
         own = o.own;
@@ -522,62 +401,70 @@ module _ (limits : Limits) where
         inline = o.inline;
         refused = λ more alike. let f = o.refused more alike in (f.0, h (o.front ++ more) (alike_front o.front o.behind more o.there alike) ∙ f.1);
         here = o.here;
-        says = says_wider (Takes L o.front) (Takes L o.front) (λ t fits. fits) o.behind (λ word r is_word. lack_wider [] o.front o.front word refl (no_noun o.front o.behind o.there)) e.kind o.says;
+        says = says_wider limits (length o.front) (length o.front) (omega arith) (Takes limits L o.front) (Takes limits L o.front) (λ t fits. fits) o.behind (λ word r is_word. lack_wider limits [] o.front o.front word refl (no_noun o.front o.behind o.there)) e.kind o.says;
         new = o.new;
       }
 
   -- a wider spelling
-  pub widen : {A X : Type 0} (shape : Shape A X) (R : Reader X) (L N : Spelling A) (line : ℕ) (tokens : List Token) → ((x : A) (own : List Token) → L x own → N x own) → (r : Result X RuleFault) → Outcome shape R L line tokens r → Outcome shape R N line tokens r
+  pub widen : {A X : Type 0} (shape : Shape limits A X) (R : Reader limits X) (L N : Spelling limits A) (line : ℕ) (tokens : List Token) → ((x : A) (own : List Token) → L x own → N x own) → (r : Result X RuleFault) → Outcome limits shape R L line tokens r → Outcome limits shape R N line tokens r
   widen shape R L N line tokens f (Ok x) o = record { value = o.value; own = o.own; rest = o.rest; is_own = f o.value o.own o.is_own; inline = o.inline; there = o.there; is = o.is; kept = o.kept; apart = o.apart }
-  widen shape R L N line tokens f (Err e) o = record { front = o.front; behind = o.behind; there = o.there; begins = (o.begins.0, o.begins.1, f o.begins.0 (o.front ++ o.begins.1) o.begins.2); inline = o.inline; refused = o.refused; here = o.here; says = says_wider (Takes L o.front) (Takes N o.front) (λ token b. (b.0, b.1, f b.0 ((o.front ++ token ∷ []) ++ b.1) b.2)) o.behind (λ word r is_word n. n) e.kind o.says; new = o.new }
+  widen shape R L N line tokens f (Err e) o = record { front = o.front; behind = o.behind; there = o.there; begins = (o.begins.0, o.begins.1, f o.begins.0 (o.front ++ o.begins.1) o.begins.2); inline = o.inline; refused = o.refused; here = o.here; says = says_wider limits (length o.front) (length o.front) (omega arith) (Takes limits L o.front) (Takes limits N o.front) (λ token b. (b.0, b.1, f b.0 ((o.front ++ token ∷ []) ++ b.1) b.2)) o.behind (λ word r is_word n. n) e.kind o.says; new = o.new }
 
   -- ---- readers that the first token decides
 
   -- what the reader does with a first token: it takes it, refuses it, or goes on behind it
-  pub data Branch {A X : Type 0} (shape : Shape A X) (R : Reader X) (L : Spelling A) (line : ℕ) (token : Token) : Type 0 where
-    takes : (x : A) → IsOwn token → L x (token ∷ []) → ((more : List Token) → R (token ∷ more) ≡ Ok (shape x more)) → Branch shape R L line token
-    refuses : ((more : List Token) → IsErrOn (Takes L []) (Lack R []) line (token ∷ more) (R (token ∷ more))) → Branch shape R L line token
-    goes : (S : Reader X) → IsOwn token → ((more : List Token) → R (token ∷ more) ≡ S more) → Good shape S (λ x own. L x (token ∷ own)) line → Branch shape R L line token
+  pub data Branch {A X : Type 0} (shape : Shape limits A X) (R : Reader limits X) (L : Spelling limits A) (line : ℕ) (token : Token) : Type 0 where
+    takes : (x : A) → IsOwn limits token → L x (token ∷ []) → ((more : List Token) → R (token ∷ more) ≡ Ok (shape x more)) → Branch shape R L line token
+    refuses : ((more : List Token) → IsErrOn limits (Takes limits L []) (Lack limits R []) line (token ∷ more) (R (token ∷ more))) → Branch shape R L line token
+    knows : IsOwn limits token → ((rest : List Token) → Outcome limits shape R L line (token ∷ rest) (R (token ∷ rest))) → Branch shape R L line token
+    goes : (S : Reader limits X) → IsOwn limits token → ((more : List Token) → R (token ∷ more) ≡ S more) → Good limits shape S (λ x own. L x (token ∷ own)) line → Branch shape R L line token
+
+  -- it goes on one level further in
+  pub goes_in : {A X : Type 0} {shape : Shape limits A X} {R : Reader limits X} {L : Spelling limits A} {line : ℕ} {token : Token} (inner : Limits) → inner.name_bytes ≡ limits.name_bytes → limits.nested ≤ suc inner.nested → (S : Reader limits X) → IsOwn limits token
+      → ((more : List Token) → R (token ∷ more) ≡ S more) → Good inner shape S (λ x own. L x (token ∷ own)) line → Branch shape R L line token
+  goes_in {A} {X} {shape} {R} {L} {line} {token} inner bytes deep S stays h good = knows stays (λ rest. led_in inner limits bytes deep shape R S L line token rest stays h (good.outcome rest))
 
   -- where it refuses the end of the line
-  pub refused_at_end : {A X : Type 0} (shape : Shape A X) (R : Reader X) (L : Spelling A) (line : ℕ) → ((token : Token) → Branch shape R L line token) → IsErrOn (Takes L []) (Lack R []) line [] (R []) → (more : List Token) → EndsLine more → IsErrOn (Takes L []) (Lack R []) line more (R more)
+  pub refused_at_end : {A X : Type 0} (shape : Shape limits A X) (R : Reader limits X) (L : Spelling limits A) (line : ℕ) → ((token : Token) → Branch shape R L line token) → IsErrOn limits (Takes limits L []) (Lack limits R []) line [] (R []) → (more : List Token) → EndsLine more → IsErrOn limits (Takes limits L []) (Lack limits R []) line more (R more)
   refused_at_end {A} {X} shape R L line branch none [] ends = none
   refused_at_end {A} {X} shape R L line branch none (Line number ∷ more) ends = by (branch (Line number))
     where
-      by : Branch shape R L line (Line number) → IsErrOn (Takes L []) (Lack R []) line (Line number ∷ more) (R (Line number ∷ more))
+      by : Branch shape R L line (Line number) → IsErrOn limits (Takes limits L []) (Lack limits R []) line (Line number ∷ more) (R (Line number ∷ more))
       by (takes x stays is h) = absurd stays
       by (refuses h) = h more
+      by (knows stays h) = absurd stays
       by (goes S stays h good) = absurd stays
   refused_at_end {A} {X} shape R L line branch none more ends = absurd ends
 
-  pub by_token : {A X : Type 0} {shape : Shape A X} {R : Reader X} {L : Spelling A} {line : ℕ} → Sample L → ((token : Token) → Branch shape R L line token) → IsErrOn (Takes L []) (Lack R []) line [] (R []) → Good shape R L line
+  pub by_token : {A X : Type 0} {shape : Shape limits A X} {R : Reader limits X} {L : Spelling limits A} {line : ℕ} → Sample limits L → ((token : Token) → Branch shape R L line token) → IsErrOn limits (Takes limits L []) (Lack limits R []) line [] (R []) → Good limits shape R L line
   by_token {A} {X} {shape} {R} {L} {line} sample branch none = record { sample = sample; outcome = outcome }
     where
-      at_end : (more : List Token) → Alike [] more → IsErrOn (Takes L []) (Lack R []) line more (R more)
+      at_end : (more : List Token) → Alike [] more → IsErrOn limits (Takes limits L []) (Lack limits R []) line more (R more)
       at_end more alike = ends [] more tt alike
         where
-          ends : (tokens more : List Token) → EndsLine tokens → Alike tokens more → IsErrOn (Takes L []) (Lack R []) line more (R more)
+          ends : (tokens more : List Token) → EndsLine tokens → Alike tokens more → IsErrOn limits (Takes limits L []) (Lack limits R []) line more (R more)
           ends tokens more e (same (Line number) a b) = refused_at_end shape R L line branch none (Line number ∷ b) tt
           ends tokens more e (same token a b) = absurd e
           ends tokens more e (ended a b p q) = refused_at_end shape R L line branch none more q
 
-      first_refused : (token : Token) (rest : List Token) → ((more : List Token) → IsErrOn (Takes L []) (Lack R []) line (token ∷ more) (R (token ∷ more))) → (more : List Token) → Alike (token ∷ rest) more → IsErrOn (Takes L []) (Lack R []) line more (R more)
+      first_refused : (token : Token) (rest : List Token) → ((more : List Token) → IsErrOn limits (Takes limits L []) (Lack limits R []) line (token ∷ more) (R (token ∷ more))) → (more : List Token) → Alike (token ∷ rest) more → IsErrOn limits (Takes limits L []) (Lack limits R []) line more (R more)
       first_refused token rest h more (same t a b) = h b
       first_refused token rest h more (ended a b p q) = refused_at_end shape R L line branch none more q
 
-      by : (token : Token) (rest : List Token) → Branch shape R L line token → Outcome shape R L line (token ∷ rest) (R (token ∷ rest))
-      by token rest (takes x stays is h) = took shape R L line token rest x stays is h
-      by token rest (refuses h) = refused_here shape R L line (token ∷ rest) sample (first_refused token rest h)
+      by : (token : Token) (rest : List Token) → Branch shape R L line token → Outcome limits shape R L line (token ∷ rest) (R (token ∷ rest))
+      by token rest (takes x stays is h) = took limits shape R L line token rest x stays is h
+      by token rest (refuses h) = refused_here limits shape R L line (token ∷ rest) sample (first_refused token rest h)
+      by token rest (knows stays h) = h rest
       by token rest (goes S stays h good) = led shape R S L line token rest stays h (good.outcome rest)
 
-      outcome : (tokens : List Token) → Outcome shape R L line tokens (R tokens)
-      outcome [] = refused_here shape R L line [] sample at_end
+      outcome : (tokens : List Token) → Outcome limits shape R L line tokens (R tokens)
+      outcome [] = refused_here limits shape R L line [] sample at_end
       outcome (token ∷ rest) = by token rest (branch token)
 
   -- ---- nothing more
 
-  pub done_good : {A : Type 0} {line : ℕ} (x : A) → Good pair (λ ts. Ok (x, ts)) (λ y own. (y ≡ x) × (own ≡ [])) line
-  done_good {A} {line} x = record { sample = (x, [], (refl, refl)); outcome = λ tokens. passed pair (λ ts. Ok (x, ts)) (λ y own. (y ≡ x) × (own ≡ [])) line tokens x (refl, refl) (λ more alike. refl) }
+  pub done_good : {A : Type 0} {line : ℕ} (x : A) → Good limits (pair limits) (λ ts. Ok (x, ts)) (λ y own. (y ≡ x) × (own ≡ [])) line
+  done_good {A} {line} x = record { sample = (x, [], (refl, refl)); outcome = λ tokens. passed limits (pair limits) (λ ts. Ok (x, ts)) (λ y own. (y ≡ x) × (own ≡ [])) line tokens x (refl, refl) (λ more alike. refl) }
 
   -- ---- small steps
 
@@ -587,27 +474,27 @@ module _ (limits : Limits) where
   pub with_none : (P : List Token → Type 0) (front back : List Token) → back ≡ [] → P front → P (front ++ back)
   with_none P front back none is = subst P (sym (ap (λ (ts : List Token). front ++ ts) none ∙ append-nil front)) is
 
-  pub widened : {A X : Type 0} {shape : Shape A X} {R : Reader X} {L N : Spelling A} {line : ℕ} → ((x : A) (own : List Token) → L x own → N x own) → Good shape R L line → Good shape R N line
+  pub widened : {A X : Type 0} {shape : Shape limits A X} {R : Reader limits X} {L N : Spelling limits A} {line : ℕ} → ((x : A) (own : List Token) → L x own → N x own) → Good limits shape R L line → Good limits shape R N line
   widened {A} {X} {shape} {R} {L} {N} {line} f good = record {
     sample = let s = good.sample in (s.0, s.1, f s.0 s.1 s.2);
     outcome = λ tokens. widen shape R L N line tokens f (R tokens) (good.outcome tokens);
   }
 
   -- the faults of a reader are on its line
-  pub on_line : {A X : Type 0} {shape : Shape A X} {R : Reader X} {L : Spelling A} {line : ℕ} → Good shape R L line → (tokens : List Token) (e : RuleFault) → R tokens ≡ Err e → e.line ≡ line
-  on_line {A} {X} {shape} {R} {L} {line} good tokens e is = by (subst (Outcome shape R L line tokens) is (good.outcome tokens))
+  pub on_line : {A X : Type 0} {shape : Shape limits A X} {R : Reader limits X} {L : Spelling limits A} {line : ℕ} → Good limits shape R L line → (tokens : List Token) (e : RuleFault) → R tokens ≡ Err e → e.line ≡ line
+  on_line {A} {X} {shape} {R} {L} {line} good tokens e is = by (subst (Outcome limits shape R L line tokens) is (good.outcome tokens))
     where
-      by : Outcome shape R L line tokens (Err e) → e.line ≡ line
+      by : Outcome limits shape R L line tokens (Err e) → e.line ≡ line
       by o = o.here
 
   -- a value made of the one that is read
-  pub then_done : {A B X : Type 0} {s : Shape A X} {R : Reader X} {L : Spelling A} {N : Spelling B} {line : ℕ} (f : A → B) (S : X → Result (B × List Token) RuleFault)
-      → ((x : A) (rest : List Token) → S (s x rest) ≡ Ok (f x, rest)) → ((x : A) (own : List Token) → L x own → N (f x) own) → Good s R L line → Good pair (λ ts. R ts >>= S) N line
+  pub then_done : {A B X : Type 0} {s : Shape limits A X} {R : Reader limits X} {L : Spelling limits A} {N : Spelling limits B} {line : ℕ} (f : A → B) (S : X → Result (B × List Token) RuleFault)
+      → ((x : A) (rest : List Token) → S (s x rest) ≡ Ok (f x, rest)) → ((x : A) (own : List Token) → L x own → N (f x) own) → Good limits s R L line → Good limits (pair limits) (λ ts. R ts >>= S) N line
   then_done {A} {B} {X} {s} {R} {L} {N} {line} f S is join good =
-      then {s = s} {t = pair} {R = R} S {L = L} {M = λ x y own. (y ≡ f x) × (own ≡ [])} {N = N}
+      then limits {s = s} {t = (pair limits)} {R = R} S {L = L} {M = λ x y own. (y ≡ f x) × (own ≡ [])} {N = N}
       (λ x y front back one two. with_none (N y) front back two.1 (subst (λ (z : B). N z front) (sym two.0) (join x front one)))
       good
-      (λ x. record { sample = (f x, [], (refl, refl)); outcome = λ tokens. passed pair (λ ts. S (s x ts)) (λ y own. (y ≡ f x) × (own ≡ [])) line tokens (f x) (refl, refl) (λ more alike. is x more) })
+      (λ x. record { sample = (f x, [], (refl, refl)); outcome = λ tokens. passed limits (pair limits) (λ ts. S (s x ts)) (λ y own. (y ≡ f x) × (own ≡ [])) line tokens (f x) (refl, refl) (λ more alike. is x more) })
 
   pub bind_named : {A B : Type 0} (r : Result (List Token) RuleFault) (x : A) (g : A × List Token → Result B RuleFault) → ((r >>= λ rest. Ok (x, rest)) >>= g) ≡ (r >>= λ rest. g (x, rest))
   bind_named (Ok rest) x g = refl

@@ -19,7 +19,8 @@ use Rattle.rule_terms.proofs.ChainLemmas.{Shortens, next_is-is, chain-more, chai
 use Rattle.rule_viable_prefixes.specs.Misfits as kinds
 use Rattle.rule_viable_prefixes.specs.Misfits.{Fitting, NounFits}
 use Rattle.rule_viable_prefixes.proofs.Nouns.{noun_other}
-use Rattle.rule_viable_prefixes.proofs.Outcomes.{Lack, Akin, same_next, noun_next, ended_next, NoNoun, Takes, says_misplaced, Alike, same, ended, alike_itself, NoLine, Spelling, Sample, Shape, pair, bare, Reader, IsErrOn, Outcome, Good, then_at, then, refused_here, passed, led, Branch, takes, refuses, goes, by_token, with_none, widened, on_line, then_done, says_unexpected}
+use Rattle.rule_viable_prefixes.proofs.Outcomes.{Lack, Akin, same_next, noun_next, ended_next, NoNoun, Takes, Alike, same, ended, alike_itself, NoLine, Spelling, Sample, Shape, pair, bare, Reader, IsErrOn, Outcome, Good, then_at, then, refused_here, passed, led, Branch, takes, refuses, goes, by_token, with_none, widened, on_line, then_done}
+use Rattle.rule_viable_prefixes.proofs.Tolds.{says_misplaced, says_unexpected}
 use Rattle.rule_tokens.specs.Limits.{Limits}
 
 module _ (limits : Limits) where
@@ -33,12 +34,12 @@ module _ (limits : Limits) where
 
   -- ---- the end of the line
 
-  pub ends_alike : (tokens more : List Token) → Alike limits tokens more → EndsLine tokens → EndsLine more
+  pub ends_alike : (tokens more : List Token) → Alike tokens more → EndsLine tokens → EndsLine more
   ends_alike tokens more (same (Line number) a b) ends = tt
   ends_alike tokens more (same token a b) ends = absurd ends
   ends_alike tokens more (ended a b p q) ends = q
 
-  pub ends_akin : (tokens more : List Token) → Akin limits tokens more → EndsLine tokens → EndsLine more
+  pub ends_akin : (tokens more : List Token) → Akin tokens more → EndsLine tokens → EndsLine more
   ends_akin tokens more (same_next (Line number) a b) ends = tt
   ends_akin tokens more (same_next token a b) ends = absurd ends
   ends_akin tokens more (noun_next word noun a b is) ends = absurd ends
@@ -46,7 +47,7 @@ module _ (limits : Limits) where
 
   -- a token that does not end the line is next in what is alike
   only_same : {X : Type 0} (R : Reader limits X) (fits : Fitting) (none : List ℕ → Type 0) (line : ℕ) (token : Token) (rest : List Token) → (EndsLine (token ∷ rest) → ⊥) → ((more : List Token) → IsErrOn limits fits none line (token ∷ more) (R (token ∷ more)))
-      → (more : List Token) → Alike limits (token ∷ rest) more → IsErrOn limits fits none line more (R more)
+      → (more : List Token) → Alike (token ∷ rest) more → IsErrOn limits fits none line more (R more)
   only_same R fits none line token rest going h more (same t a b) = h b
   only_same R fits none line token rest going h more (ended a b p q) = absurd (going p)
 
@@ -112,7 +113,7 @@ module _ (limits : Limits) where
     pub none : G []
     pub more : (front back : List Token) → P front → G back → G (Mark mark ∷ front ++ back)
 
-  no_next : (mark : List ℕ) (tokens more : List Token) → Akin limits tokens more → next_is mark tokens ≡ false → next_is mark more ≡ false
+  no_next : (mark : List ℕ) (tokens more : List Token) → Akin tokens more → next_is mark tokens ≡ false → next_is mark more ≡ false
   no_next mark tokens more (same_next (Mark found) a b) none = none
   no_next mark tokens more (same_next token a b) none = refl
   no_next mark tokens more (noun_next word noun a b is) none = refl

@@ -1,5 +1,5 @@
 -- The law of faults: what is refused of the tokens up to and with one too many, said of those of the whole text.
-use Rattle.std.proofs.Common.{◌≡◌, ◌≢◌, ℕ, zero, suc, ◌≤◌, false, List, [], ◌∷◌, ◌++◌, Ok, Err, refl, sym, ap, subst, ◌∙◌, append_assoc, ◌⊎◌, inl, inr, arith}
+use Rattle.std.proofs.Common.{◌≡◌, ◌≢◌, ℕ, zero, suc, ◌≤◌, false, List, [], ◌∷◌, ◌++◌, length, Ok, Err, refl, sym, ap, subst, ◌∙◌, append_assoc, ◌⊎◌, inl, inr, arith}
 use Rattle.std.proofs.lemmas.List.{append-nil}
 use Rattle.std.specs.Prelude.{codes}
 use Rattle.scan.specs.Laws.{OneTokenAtAPlace}
@@ -88,8 +88,8 @@ module _ (spare_bytes deepest spare_statements : ℕ) where
   same_kind Bad a b = refl
   same_kind first a b = refl
 
-  read_on_alike : (fits : Fitting) (token first : Token) (a b : List Token) (kind : RuleFaultKind) → IsReadOn fits token (first ∷ a) kind → IsReadOn fits token (first ∷ b) kind
-  read_on_alike fits token first a b kind (word, is, deep, none, told) = (
+  read_on_alike : (n : ℕ) (fits : Fitting) (token first : Token) (a b : List Token) (kind : RuleFaultKind) → IsReadOn limits n fits token (first ∷ a) kind → IsReadOn limits n fits token (first ∷ b) kind
+  read_on_alike n fits token first a b kind (word, is, deep, none, told) = (
     word,
     is,
     deep,
@@ -97,22 +97,22 @@ module _ (spare_bytes deepest spare_statements : ℕ) where
     told ∙ same_kind first a b,
   )
 
-  misfit_alike : (fits : Fitting) (token first : Token) (a b : List Token) (kind : RuleFaultKind) → IsMisfit limits fits token (first ∷ a) kind → IsMisfit limits fits token (first ∷ b) kind
-  misfit_alike fits token first a b kind (itself is) = itself is
-  misfit_alike fits token first a b kind (read_on is) = read_on (read_on_alike fits token first a b kind is)
+  misfit_alike : (n : ℕ) (fits : Fitting) (token first : Token) (a b : List Token) (kind : RuleFaultKind) → IsMisfit limits n fits token (first ∷ a) kind → IsMisfit limits n fits token (first ∷ b) kind
+  misfit_alike n fits token first a b kind (itself is) = itself is
+  misfit_alike n fits token first a b kind (read_on is) = read_on (read_on_alike n fits token first a b kind is)
 
   -- in front of the same tokens, with one too many or with others behind it
-  misfit_before : (fits : Fitting) (token last : Token) (g a b : List Token) (kind : RuleFaultKind) → IsMisfit limits fits token (g ++ last ∷ a) kind → IsMisfit limits fits token (g ++ last ∷ b) kind
-  misfit_before fits token last [] a b kind is = misfit_alike fits token last a b kind is
-  misfit_before fits token last (first ∷ g) a b kind is = misfit_alike fits token first (g ++ last ∷ a) (g ++ last ∷ b) kind is
+  misfit_before : (n : ℕ) (fits : Fitting) (token last : Token) (g a b : List Token) (kind : RuleFaultKind) → IsMisfit limits n fits token (g ++ last ∷ a) kind → IsMisfit limits n fits token (g ++ last ∷ b) kind
+  misfit_before n fits token last [] a b kind is = misfit_alike n fits token last a b kind is
+  misfit_before n fits token last (first ∷ g) a b kind is = misfit_alike n fits token first (g ++ last ∷ a) (g ++ last ∷ b) kind is
 
-  told_before : (fits : Fitting) (token last : Token) (g a b : List Token) (kind : RuleFaultKind) → IsMisfit limits fits token (g ++ last ∷ a) kind ⊎ IsOtherVersion fits token kind → IsMisfit limits fits token (g ++ last ∷ b) kind ⊎ IsOtherVersion fits token kind
-  told_before fits token last g a b kind (inl is) = inl (misfit_before fits token last g a b kind is)
-  told_before fits token last g a b kind (inr is) = inr is
+  told_before : (n : ℕ) (fits : Fitting) (token last : Token) (g a b : List Token) (kind : RuleFaultKind) → IsMisfit limits n fits token (g ++ last ∷ a) kind ⊎ IsOtherVersion fits token kind → IsMisfit limits n fits token (g ++ last ∷ b) kind ⊎ IsOtherVersion fits token kind
+  told_before n fits token last g a b kind (inl is) = inl (misfit_before n fits token last g a b kind is)
+  told_before n fits token last g a b kind (inr is) = inr is
 
-  told_itself : (fits : Fitting) (token : Token) (behind : List Token) (kind : RuleFaultKind) → Says limits fits token kind ⊎ IsOtherVersion fits token kind → IsMisfit limits fits token behind kind ⊎ IsOtherVersion fits token kind
-  told_itself fits token behind kind (inl is) = inl (itself is)
-  told_itself fits token behind kind (inr is) = inr is
+  told_itself : (n : ℕ) (fits : Fitting) (token : Token) (behind : List Token) (kind : RuleFaultKind) → Says limits n fits token kind ⊎ IsOtherVersion fits token kind → IsMisfit limits n fits token behind kind ⊎ IsOtherVersion fits token kind
+  told_itself n fits token behind kind (inl is) = inl (itself is)
+  told_itself n fits token behind kind (inr is) = inr is
 
   -- ---- where no rule is too large
 
@@ -166,7 +166,7 @@ module _ (spare_bytes deepest spare_statements : ℕ) where
             fits = at.fits;
             within = subst IsWithinLimit (sym before) c.within;
             line = at.line;
-            kind = inl (record { misfit = at.misfit; told = told_itself (FitsBehind limits at.front) at.token c.rest found.kind (at.in_front (of_text_at tokens at.front at.token c.rest are stands) [] behind); no_noun = at.no_noun; repeats_none = at.new });
+            kind = inl (record { misfit = at.misfit; told = told_itself (length at.front) (FitsBehind limits at.front) at.token c.rest found.kind (at.in_front (of_text_at tokens at.front at.token c.rest are stands) [] behind); no_noun = at.no_noun; repeats_none = at.new });
           }
 
       -- one before it does not fit
@@ -184,8 +184,8 @@ module _ (spare_bytes deepest spare_statements : ℕ) where
             kind = inl (record {
               misfit = at.misfit;
               told =
-                  told_before (FitsBehind limits at.front) at.token c.token g (Excess ∷ []) c.rest found.kind
-                  (subst (λ (ts : List Token). IsMisfit limits (FitsBehind limits at.front) at.token ts found.kind ⊎ IsOtherVersion (FitsBehind limits at.front) at.token found.kind) behind (at.told (of_text_at tokens at.front at.token (g ++ c.token ∷ c.rest) are stands)));
+                  told_before (length at.front) (FitsBehind limits at.front) at.token c.token g (Excess ∷ []) c.rest found.kind
+                  (subst (λ (ts : List Token). IsMisfit limits (length at.front) (FitsBehind limits at.front) at.token ts found.kind ⊎ IsOtherVersion (FitsBehind limits at.front) at.token found.kind) behind (at.told (of_text_at tokens at.front at.token (g ++ c.token ∷ c.rest) are stands)));
               no_noun = at.no_noun;
               repeats_none = at.new;
             });

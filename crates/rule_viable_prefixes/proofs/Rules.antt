@@ -1,5 +1,5 @@
 -- What the readers of lines do: each is read whole, or refused within a line, or missed at the end of the text.
-use Rattle.std.proofs.Common.{◌≡◌, ℕ, List, [], ◌∷◌, ◌++◌, Result, Ok, Err, refl, sym, ap, subst, ◌∙◌, append_assoc, ◌⊎◌, inl, inr}
+use Rattle.std.proofs.Common.{◌≡◌, ℕ, List, [], ◌∷◌, ◌++◌, length, Result, Ok, Err, refl, sym, ap, subst, ◌∙◌, append_assoc, ◌⊎◌, inl, inr, arith}
 use Rattle.std.proofs.lemmas.List.{append-nil}
 use Rattle.rule_tokens.specs.declared.fault.RuleFaultKind.TheVariants.{Syntax}
 use Rattle.rule_tokens.specs.RuleFaults.{RuleFault}
@@ -10,7 +10,8 @@ use Rattle.rule_tokens.proofs.Ends.{EndsLine}
 use Rattle.rule_viable_prefixes.specs.Fits.{line_behind}
 use Rattle.rule_viable_prefixes.specs.Misfits.{Fitting, IsNoun}
 use Rattle.rule_viable_prefixes.proofs.FlagRuns.{IsNew, new_on_line}
-use Rattle.rule_viable_prefixes.proofs.Outcomes.{Lack, lack_wider, Akin, same_next, akin, akin_behind, akin_noun, NoNoun, Takes, says_wider, Alike, same, ended, alike_behind, Inline, Spelling, Shape, pair, Reader, IsErr, SaysFirst, Begins, Outcome, Good}
+use Rattle.rule_viable_prefixes.proofs.Outcomes.{longer_behind, Lack, lack_wider, Akin, same_next, akin, akin_behind, akin_noun, NoNoun, Takes, Alike, same, ended, alike_behind, Inline, Spelling, Shape, pair, Reader, IsErr, Begins, Outcome, Good}
+use Rattle.rule_viable_prefixes.proofs.Tolds.{says_wider, SaysFirst}
 use Rattle.rule_viable_prefixes.proofs.Parts.{Spelled}
 use Rattle.rule_tokens.specs.Limits.{Limits}
 
@@ -37,7 +38,7 @@ module _ (limits : Limits) where
     pub there : tokens ≡ own ++ rest
     pub ends : EndsLine rest
     pub is : found ≡ shape value rest
-    pub kept : (number : ℕ) (a b : List Token) → rest ≡ Line number ∷ a → Akin limits a b → R (own ++ Line number ∷ b) ≡ Ok (shape value (Line number ∷ b))
+    pub kept : (number : ℕ) (a b : List Token) → rest ≡ Line number ∷ a → Akin a b → R (own ++ Line number ∷ b) ≡ Ok (shape value (Line number ∷ b))
 
   -- refused behind a front that begins with a line
   pub record Within {X : Type 0} (R : Reader limits X) (L F : Part) (tokens : List Token) (found : RuleFault) : Type 0 where
@@ -46,9 +47,9 @@ module _ (limits : Limits) where
     pub behind : List Token
     pub there : tokens ≡ Line number ∷ front ++ behind
     pub begins : Completes L F (Line number ∷ front)
-    pub refused : (more : List Token) → Alike limits behind more → IsErr limits (R (Line number ∷ front ++ more))
+    pub refused : (more : List Token) → Alike behind more → IsErr limits (R (Line number ∷ front ++ more))
     pub here : found.line ≡ line_behind number front
-    pub says : SaysFirst limits (GoesOn L F number front) (Lack limits (λ ts. R (Line number ∷ ts)) front) behind found.kind
+    pub says : SaysFirst limits (length front) (GoesOn L F number front) (Lack limits (λ ts. R (Line number ∷ ts)) front) behind found.kind
     pub new : IsNew front found.kind
 
   -- missed at the end of the text, where another line may begin
@@ -109,7 +110,7 @@ module _ (limits : Limits) where
         begins = completes_first L M F (Line w.number ∷ w.front) w.begins;
         refused = λ more alike. let f = w.refused more alike in (f.0, rw f.1 refl);
         here = w.here;
-        says = says_wider limits (GoesOn L (M ⨾ F) w.number w.front) (GoesOn (L ⨾ M) F w.number w.front) (λ token. completes_first L M F (Line w.number ∷ w.front ++ token ∷ [])) w.behind
+        says = says_wider limits (length w.front) (length w.front) (omega arith) (GoesOn L (M ⨾ F) w.number w.front) (GoesOn (L ⨾ M) F w.number w.front) (λ token. completes_first L M F (Line w.number ∷ w.front ++ token ∷ [])) w.behind
             (λ word rest is_word. lack_wider limits [] w.front w.front word refl (λ n noun is_noun more. let f = n noun is_noun more in (f.0, rw f.1 refl))) e.kind w.says;
         new = w.new;
       })
@@ -117,16 +118,16 @@ module _ (limits : Limits) where
       by (Ok x) is o = behind (S x) (subst (λ (y : X). Verdict t (λ ts. S (s o.value ts)) M F last o.rest (S y)) (sym o.is) (two o.value o.rest (is ∙ ap Ok o.is) o.ends))
         where
           -- what the first one reads stands, where the second one goes on alike
-          kept : (number : ℕ) (a b : List Token) → o.rest ≡ Line number ∷ a → Akin limits a b → (R (o.own ++ Line number ∷ b) >>= S) ≡ S (s o.value (Line number ∷ b))
+          kept : (number : ℕ) (a b : List Token) → o.rest ≡ Line number ∷ a → Akin a b → (R (o.own ++ Line number ∷ b) >>= S) ≡ S (s o.value (Line number ∷ b))
           kept number a b there alike = rw (o.kept number a b there alike) refl
 
-          read : (own rest : List Token) (y : B) → o.rest ≡ own ++ rest → ((number : ℕ) (a b : List Token) → rest ≡ Line number ∷ a → Akin limits a b → S (s o.value (own ++ Line number ∷ b)) ≡ Ok (t y (Line number ∷ b)))
-              → (number : ℕ) (a b : List Token) → rest ≡ Line number ∷ a → Akin limits a b → (R ((o.own ++ own) ++ Line number ∷ b) >>= S) ≡ Ok (t y (Line number ∷ b))
+          read : (own rest : List Token) (y : B) → o.rest ≡ own ++ rest → ((number : ℕ) (a b : List Token) → rest ≡ Line number ∷ a → Akin a b → S (s o.value (own ++ Line number ∷ b)) ≡ Ok (t y (Line number ∷ b)))
+              → (number : ℕ) (a b : List Token) → rest ≡ Line number ∷ a → Akin a b → (R ((o.own ++ own) ++ Line number ∷ b) >>= S) ≡ Ok (t y (Line number ∷ b))
           read [] rest y there h number a b is_rest alike = rw (append-nil o.own) (kept number a b (there ∙ is_rest) alike ∙ h number a b is_rest alike)
           read (token ∷ own) rest y there h number a b is_rest alike =
               let start = starts_line token own rest (subst EndsLine there o.ends) in
               let as_line : o.rest ≡ Line start.0 ∷ (own ++ Line number ∷ a) = there ∙ ap (λ (ts : List Token). token ∷ own ++ ts) is_rest ∙ ap (λ (u : Token). u ∷ own ++ Line number ∷ a) start.1 in
-              ap (λ (ts : List Token). R ts >>= S) (led_both o.own own (Line number ∷ b) token (Line start.0) start.1) ∙ kept start.0 (own ++ Line number ∷ a) (own ++ Line number ∷ b) as_line (akin_behind limits own (Line number ∷ a) (Line number ∷ b) (same_next (Line number) a b))
+              ap (λ (ts : List Token). R ts >>= S) (led_both o.own own (Line number ∷ b) token (Line start.0) start.1) ∙ kept start.0 (own ++ Line number ∷ a) (own ++ Line number ∷ b) as_line (akin_behind own (Line number ∷ a) (Line number ∷ b) (same_next (Line number) a b))
               ∙ ap (λ (u : Token). S (s o.value (u ∷ own ++ Line number ∷ b))) (sym start.1) ∙ h number a b is_rest alike
 
           behind : (q : Result Y RuleFault) → Verdict t (λ ts. S (s o.value ts)) M F last o.rest q → Verdict t (λ ts. R ts >>= S) (L ⨾ M) F last tokens q
@@ -142,15 +143,15 @@ module _ (limits : Limits) where
           }
           behind (Err e) (inl w) = inl (by_own o.own refl)
             where
-              failed : (more : List Token) → Alike limits w.behind more → IsErr limits (R (o.own ++ Line w.number ∷ (w.front ++ more)) >>= S)
+              failed : (more : List Token) → Alike w.behind more → IsErr limits (R (o.own ++ Line w.number ∷ (w.front ++ more)) >>= S)
               failed more alike =
                   let f = w.refused more alike in
-                  (f.0, kept w.number (w.front ++ w.behind) (w.front ++ more) w.there (akin_behind limits w.front w.behind more (akin limits alike)) ∙ f.1)
+                  (f.0, kept w.number (w.front ++ w.behind) (w.front ++ more) w.there (akin_behind w.front w.behind more (akin alike)) ∙ f.1)
 
               no_noun : (word : List ℕ) (rest : List Token) → w.behind ≡ Word word ∷ rest → NoNoun limits (λ ts. S (s o.value (Line w.number ∷ ts))) w.front → (noun : List ℕ) → IsNoun noun → (more : List Token) → IsErr limits (R (o.own ++ Line w.number ∷ (w.front ++ Word noun ∷ more)) >>= S)
               no_noun word rest is_word n noun is_noun more =
                   let f = n noun is_noun more in
-                  (f.0, kept w.number (w.front ++ w.behind) (w.front ++ Word noun ∷ more) w.there (akin_noun limits w.front w.behind word rest is_word noun is_noun more) ∙ f.1)
+                  (f.0, kept w.number (w.front ++ w.behind) (w.front ++ Word noun ∷ more) w.there (akin_noun w.front w.behind word rest is_word noun is_noun more) ∙ f.1)
 
               begun : Completes (L ⨾ M) F (o.own ++ Line w.number ∷ w.front)
               begun = completes_second L M F o.own (Line w.number ∷ w.front) o.is_own w.begins
@@ -170,7 +171,7 @@ module _ (limits : Limits) where
                 begins = subst (λ (ts : List Token). Completes (L ⨾ M) F (ts ++ Line w.number ∷ w.front)) none begun;
                 refused = λ more alike. subst (λ (ts : List Token). IsErr limits (R (ts ++ Line w.number ∷ (w.front ++ more)) >>= S)) none (failed more alike);
                 here = w.here;
-                says = says_wider limits (GoesOn M F w.number w.front) (GoesOn (L ⨾ M) F w.number w.front)
+                says = says_wider limits (length w.front) (length w.front) (omega arith) (GoesOn M F w.number w.front) (GoesOn (L ⨾ M) F w.number w.front)
                     (λ token is. subst (λ (ts : List Token). Completes (L ⨾ M) F (ts ++ Line w.number ∷ (w.front ++ token ∷ []))) none (goes_on token is)) w.behind
                     (λ word rest is_word. lack_wider limits [] w.front w.front word refl (λ n noun is_noun more. subst (λ (ts : List Token). IsErr limits (R (ts ++ Line w.number ∷ (w.front ++ Word noun ∷ more)) >>= S)) none (no_noun word rest is_word n noun is_noun more))) e.kind w.says;
                 new = w.new;
@@ -188,7 +189,7 @@ module _ (limits : Limits) where
                         subst (λ (ts : List Token). IsErr limits (R (Line start.0 ∷ ts) >>= S)) (sym (append_assoc own (Line w.number ∷ w.front) more))
                         (subst (λ (ts : List Token). IsErr limits (R (ts ++ Line w.number ∷ (w.front ++ more)) >>= S)) as_line (failed more alike));
                     here = w.here ∙ sym (line_of_both own w.front start.0 w.number);
-                    says = says_wider limits (GoesOn M F w.number w.front) (GoesOn (L ⨾ M) F start.0 (own ++ Line w.number ∷ w.front))
+                    says = says_wider limits (length w.front) (length (own ++ Line w.number ∷ w.front)) (let le = longer_behind own (Line w.number ∷ w.front) in omega (arith, le)) (GoesOn M F w.number w.front) (GoesOn (L ⨾ M) F start.0 (own ++ Line w.number ∷ w.front))
                         (λ token is.
                         subst (λ (ts : List Token). Completes (L ⨾ M) F (Line start.0 ∷ ts)) (sym (append_assoc own (Line w.number ∷ w.front) (token ∷ [])))
                         (subst (λ (ts : List Token). Completes (L ⨾ M) F (ts ++ Line w.number ∷ (w.front ++ token ∷ []))) as_line (goes_on token is))) w.behind
@@ -220,7 +221,7 @@ module _ (limits : Limits) where
         there = ap (λ (ts : List Token). Line number ∷ ts) o.there;
         ends = ends o.value o.rest (is ∙ ap Ok o.is);
         is = o.is;
-        kept = λ n a b there alike. o.kept (Line n ∷ b) (subst (λ (ts : List Token). Akin limits ts (Line n ∷ b)) (sym there) (same_next (Line n) a b));
+        kept = λ n a b there alike. o.kept (Line n ∷ b) (subst (λ (ts : List Token). Akin ts (Line n ∷ b)) (sym there) (same_next (Line n) a b));
       }
       by (Err e) is o = inl (record {
         number = number;
@@ -230,7 +231,7 @@ module _ (limits : Limits) where
         begins = completed o.front o.begins;
         refused = o.refused;
         here = o.here ∙ sym (ap (line_behind number) (sym (append-nil o.front)) ∙ o.inline number [] ∙ nothing_behind number);
-        says = says_wider limits (Takes limits (Spelled limits (λ own. L (Line number ∷ own)) {A = A}) o.front) (GoesOn L F number o.front) (λ token. completed (o.front ++ token ∷ [])) o.behind (λ word rest is_word n. n) e.kind o.says;
+        says = says_wider limits (length o.front) (length o.front) (omega arith) (Takes limits (Spelled limits (λ own. L (Line number ∷ own)) {A = A}) o.front) (GoesOn L F number o.front) (λ token. completed (o.front ++ token ∷ [])) o.behind (λ word rest is_word n. n) e.kind o.says;
         new = o.new;
       })
         where
@@ -251,7 +252,7 @@ module _ (limits : Limits) where
     begins = let c = w.begins in (c.0, (c.1.0, c.1.1, f c.1.0 c.1.2, c.1.3, c.1.4));
     refused = w.refused;
     here = w.here;
-    says = says_wider limits (GoesOn L F w.number w.front) (GoesOn N F w.number w.front) (λ token c. (c.0, (c.1.0, c.1.1, f c.1.0 c.1.2, c.1.3, c.1.4))) w.behind (λ word rest is_word n. n) e.kind w.says;
+    says = says_wider limits (length w.front) (length w.front) (omega arith) (GoesOn L F w.number w.front) (GoesOn N F w.number w.front) (λ token c. (c.0, (c.1.0, c.1.1, f c.1.0 c.1.2, c.1.3, c.1.4))) w.behind (λ word rest is_word n. n) e.kind w.says;
     new = w.new;
   })
   verdict_wider shape R L N F last tokens f (Err e) (inr m) = inr (record { begins = λ number. let c = m.begins number in (c.0, (c.1.0, c.1.1, f c.1.0 c.1.2, c.1.3, c.1.4)); here = m.here; says = m.says })

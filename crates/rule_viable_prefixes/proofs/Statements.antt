@@ -56,7 +56,8 @@ use Rattle.rule_parse.proofs.Beginnings.{BeginsOperand, argument_begins}
 use Rattle.rule_viable_prefixes.specs.Misfits as kinds
 use Rattle.rule_viable_prefixes.specs.Misfits.{Fitting, RepeatsFlag, IsNoun, NounFits, IsTooMany, kind_at, IsMisfit, itself, read_on}
 use Rattle.rule_viable_prefixes.proofs.Nouns.{no_flag_in, not_to, constant_noun, noun_other, source_other, to_other}
-use Rattle.rule_viable_prefixes.proofs.Outcomes.{akin, alike_itself, Inline, inline_none, inline_token, repeats_behind, Lack, Akin, same_next, noun_next, ended_next, NoNoun, IsErr, same_as, says_word, Takes, says_syntax, says_too_many, says_misplaced, Alike, same, ended, Sample, pair, bare, Reader, IsErrOn, Outcome, Good, then, refused_here, passed, took, led, alike_as, widen, Branch, takes, refuses, by_token, widened, then_done, says_unexpected, says_left_out, OutcomeBy, SaysFirst, then_by}
+use Rattle.rule_viable_prefixes.proofs.Outcomes.{akin, alike_itself, Inline, inline_none, inline_token, repeats_behind, Lack, Akin, same_next, noun_next, ended_next, NoNoun, IsErr, same_as, Takes, Alike, same, ended, Sample, pair, bare, Reader, IsErrOn, Outcome, Good, then, refused_here, passed, took, led, alike_as, widen, Branch, takes, refuses, by_token, widened, then_done, OutcomeBy, then_by}
+use Rattle.rule_viable_prefixes.proofs.Tolds.{says_word, says_syntax, says_too_many, says_misplaced, says_unexpected, says_left_out, SaysFirst}
 use Rattle.rule_viable_prefixes.proofs.Outcomes.{Parts}
 use Rattle.rule_viable_prefixes.proofs.FlagRuns.{NoFlag, NoFlagLast, IsNew, new_behind, last_both}
 use Rattle.rule_viable_prefixes.proofs.Parts.{Spelled, then_seq, ends_alike, ends_akin, refused_token, then_end, IsType, type_good}
@@ -99,7 +100,7 @@ module _ (spare_bytes deepest spare_statements : ℕ) (version : Version) where
   undef_sample half = (arguments.Undef, refl)
 
   -- a register whose name is too long
-  long_register : (half : Half) (name : List ℕ) → limits.name_bytes < length name → IsTooMany limits (Takes limits (Spelled limits (IsArgument half) {A = RawArgument}) []) (Register name)
+  long_register : (half : Half) (name : List ℕ) → limits.name_bytes < length name → IsTooMany limits 0 (Takes limits (Spelled limits (IsArgument half) {A = RawArgument}) []) (Register name)
   long_register half name long = kinds.register name (codes "a", long, omega arith, tt, tt, (arguments.Register (codes "a"), [], (arguments.Register (codes "a"), (omega arith, refl))))
 
   source_word_branch : (line : ℕ) (word : List ℕ) → Branch limits (pair limits) (argument_at limits Source line) (Spelled limits (IsArgument Source)) line (Word word)
@@ -110,20 +111,20 @@ module _ (spare_bytes deepest spare_statements : ℕ) (version : Version) where
       other (Some value) c f = takes value (source_other word value f) (value, source_word_in-is limits word value f) (λ more. rw (c, f) refl)
       other None c f = refuses (λ more. (misplaced_word line word, rw (c, f) refl, refl, says_misplaced limits (codes "C", kinds.constant refl, (arguments.Constant (codes "C"), [], (arguments.Constant (codes "C"), (refl, omega arith, refl)))) line word more))
 
-      constant : is_constant word ≡ true → Named spare_bytes deepest spare_statements line word → Branch limits (pair limits) (argument_at limits Source line) (Spelled limits (IsArgument Source)) line (Word word)
+      constant : is_constant word ≡ true → Named limits line word → Branch limits (pair limits) (argument_at limits Source line) (Spelled limits (IsArgument Source)) line (Word word)
       constant c (is_short le n) = takes (arguments.Constant word) (noun_other word (kinds.constant c)) (arguments.Constant word, (c, le, refl)) (λ more. rw (c, n) refl)
       constant c (is_long long n) =
           refuses (λ more. (fault line TooMany, rw (c, n) refl, refl, says_too_many limits (Word word) more (kinds.constant word (codes "C", long, omega arith, c, refl, (arguments.Constant (codes "C"), [], (arguments.Constant (codes "C"), (refl, omega arith, refl)))))))
 
       by : (c : Bool) → is_constant word ≡ c → Branch limits (pair limits) (argument_at limits Source line) (Spelled limits (IsArgument Source)) line (Word word)
-      by true c = constant c (named spare_bytes deepest spare_statements line word)
+      by true c = constant c (named limits line word)
       by false c = other (source_word_in word) c refl
 
   source_branch : (line : ℕ) (token : Token) → Branch limits (pair limits) (argument_at limits Source line) (Spelled limits (IsArgument Source)) line token
   unfolding argument_at
-  source_branch line (Register name) = by (named spare_bytes deepest spare_statements line name)
+  source_branch line (Register name) = by (named limits line name)
     where
-      by : Named spare_bytes deepest spare_statements line name → Branch limits (pair limits) (argument_at limits Source line) (Spelled limits (IsArgument Source)) line (Register name)
+      by : Named limits line name → Branch limits (pair limits) (argument_at limits Source line) (Spelled limits (IsArgument Source)) line (Register name)
       by (is_short le n) = takes (arguments.Register name) tt (arguments.Register name, (le, refl)) (λ more. rw n refl)
       by (is_long long n) = refuses (λ more. (fault line TooMany, rw n refl, refl, says_too_many limits (Register name) more (long_register Source name long)))
   source_branch line (Number text) = takes (arguments.Literal (literal_value text)) tt (arguments.Literal (literal_value text), (text, refl, refl)) (λ more. refl)
@@ -131,11 +132,11 @@ module _ (spare_bytes deepest spare_statements : ℕ) (version : Version) where
   source_branch line token = refuses (λ more. (unexpected line (token ∷ more), refl, refl, says_unexpected limits line token more (λ word is. absurd cc)))
 
   -- tokens that another reader reads the same way
-  same_reading : {X : Type 0} (R S : Reader limits X) (token : Token) (rest : List Token) → (EndsLine (token ∷ rest) → ⊥) → ((more : List Token) → R (token ∷ more) ≡ S (token ∷ more)) → (more : List Token) → Alike limits (token ∷ rest) more → R more ≡ S more
+  same_reading : {X : Type 0} (R S : Reader limits X) (token : Token) (rest : List Token) → (EndsLine (token ∷ rest) → ⊥) → ((more : List Token) → R (token ∷ more) ≡ S (token ∷ more)) → (more : List Token) → Alike (token ∷ rest) more → R more ≡ S more
   same_reading R S token rest going h more (same t a b) = h b
   same_reading R S token rest going h more (ended a b p q) = absurd (going p)
 
-  same_at_end : {X : Type 0} (R S : Reader limits X) → R [] ≡ S [] → ((number : ℕ) (more : List Token) → R (Line number ∷ more) ≡ S (Line number ∷ more)) → (tokens more : List Token) → EndsLine tokens → Alike limits tokens more → R more ≡ S more
+  same_at_end : {X : Type 0} (R S : Reader limits X) → R [] ≡ S [] → ((number : ℕ) (more : List Token) → R (Line number ∷ more) ≡ S (Line number ∷ more)) → (tokens more : List Token) → EndsLine tokens → Alike tokens more → R more ≡ S more
   same_at_end R S none new tokens more ends alike = by more (ends_alike limits tokens more alike ends)
     where
       by : (more : List Token) → EndsLine more → R more ≡ S more
@@ -176,7 +177,7 @@ module _ (spare_bytes deepest spare_statements : ℕ) (version : Version) where
       let whole : term_argument_at limits line (Word (codes "C") ∷ []) ≡ Ok (argument_of (raw_nodes.Constant (codes "C") ∷ []), []) = rw read refl in
       ok_no_err (term_argument_at limits line (Word (codes "C") ∷ [])) _ whole (n (codes "C") constant_noun [])
 
-  as_term : (line : ℕ) (tokens : List Token) → ((more : List Token) → Alike limits tokens more → argument_at limits Target line more ≡ term_argument_at limits line more) → Outcome limits (pair limits) (term_argument_at limits line) (Spelled limits (IsArgument Target)) line tokens (term_argument_at limits line tokens)
+  as_term : (line : ℕ) (tokens : List Token) → ((more : List Token) → Alike tokens more → argument_at limits Target line more ≡ term_argument_at limits line more) → Outcome limits (pair limits) (term_argument_at limits line) (Spelled limits (IsArgument Target)) line tokens (term_argument_at limits line tokens)
       → Outcome limits (pair limits) (argument_at limits Target line) (Spelled limits (IsArgument Target)) line tokens (argument_at limits Target line tokens)
   as_term line tokens h o = alike_as limits (pair limits) (argument_at limits Target line) (term_argument_at limits line) (Spelled limits (IsArgument Target)) line tokens (λ x is. some_argument Target is) (term_reads line) h o
 
@@ -203,9 +204,9 @@ module _ (spare_bytes deepest spare_statements : ℕ) (version : Version) where
 
   target_outcome : (line : ℕ) (tokens : List Token) → Outcome limits (pair limits) (argument_at limits Target line) (Spelled limits (IsArgument Target)) line tokens (argument_at limits Target line tokens)
   unfolding argument_at
-  target_outcome line (Register name ∷ rest) = by (named spare_bytes deepest spare_statements line name)
+  target_outcome line (Register name ∷ rest) = by (named limits line name)
     where
-      by : Named spare_bytes deepest spare_statements line name → Outcome limits (pair limits) (argument_at limits Target line) (Spelled limits (IsArgument Target)) line (Register name ∷ rest) (argument_at limits Target line (Register name ∷ rest))
+      by : Named limits line name → Outcome limits (pair limits) (argument_at limits Target line) (Spelled limits (IsArgument Target)) line (Register name ∷ rest) (argument_at limits Target line (Register name ∷ rest))
       by (is_short le n) = took limits (pair limits) (argument_at limits Target line) (Spelled limits (IsArgument Target)) line (Register name) rest (arguments.Register name) tt (arguments.Register name, (le, refl)) (λ more. rw n refl)
       by (is_long long n) = refused_token limits (pair limits) (argument_at limits Target line) (Spelled limits (IsArgument Target)) line (Register name) rest (arguments.Undef, Word (codes "undef") ∷ [], undef_sample Target) (λ p. p)
           (λ more. (fault line TooMany, rw n refl, refl, says_too_many limits (Register name) more (long_register Target name long)))
@@ -246,7 +247,7 @@ module _ (spare_bytes deepest spare_statements : ℕ) (version : Version) where
       none : (back : List Token) → back ≡ [] → SpellsArgument limits half a.value back → ⊥
       none back e is = some_argument half (a.value, subst (SpellsArgument limits half a.value) e is)
 
-  as_untyped : (half : Half) (line : ℕ) (tokens : List Token) → ((more : List Token) → Alike limits tokens more → operand_at limits half line more ≡ typed_at limits half line None more) → Outcome limits (pair limits) (typed_at limits half line None) (Spelled limits (IsOperand half)) line tokens (typed_at limits half line None tokens)
+  as_untyped : (half : Half) (line : ℕ) (tokens : List Token) → ((more : List Token) → Alike tokens more → operand_at limits half line more ≡ typed_at limits half line None more) → Outcome limits (pair limits) (typed_at limits half line None) (Spelled limits (IsOperand half)) line tokens (typed_at limits half line None tokens)
       → Outcome limits (pair limits) (operand_at limits half line) (Spelled limits (IsOperand half)) line tokens (operand_at limits half line tokens)
   as_untyped half line tokens h o = alike_as limits (pair limits) (operand_at limits half line) (typed_at limits half line None) (Spelled limits (IsOperand half)) line tokens (λ x is. some_operand half is) (argument_reads half line None) h o
 
@@ -271,7 +272,7 @@ module _ (spare_bytes deepest spare_statements : ℕ) (version : Version) where
   -- ---- two operands
 
   comma_good : (line : ℕ) → Good limits (bare limits) (mark_at (codes ",") line) (Spelled limits Comma) line
-  comma_good line = mark_good spare_bytes deepest spare_statements (codes ",") line
+  comma_good line = mark_good limits (codes ",") line
 
   pair_made : (half : Half) (own : List Token) → (IsOperand half ⨾ Comma ⨾ IsArgument half) own → IsPair half own
   pair_made half own (front, back, (a, is_a), (comma, rest, c, (b, is_b), whole), all) =
@@ -289,7 +290,7 @@ module _ (spare_bytes deepest spare_statements : ℕ) (version : Version) where
   abbrev Adds : Flags → Flags → Part
   Adds set before own = (written : List Flag) × (after : Flags) × AddsFlags set before written after × (own ≡ map (λ flag. Word (flag_keyword flag)) written)
 
-  no_flag : (set : Flags) (tokens more : List Token) → Akin limits tokens more → next_flag set tokens ≡ None → next_flag set more ≡ None
+  no_flag : (set : Flags) (tokens more : List Token) → Akin tokens more → next_flag set tokens ≡ None → next_flag set more ≡ None
   no_flag set tokens more (same_next (Word word) a b) none = none
   no_flag set tokens more (same_next token a b) none = refl
   no_flag set tokens more (noun_next word noun a b is) none = no_flag_in set noun is
@@ -357,10 +358,10 @@ module _ (spare_bytes deepest spare_statements : ℕ) (version : Version) where
   -- behind these flags no other stands
   no_more_flags : (set : Flags) (line : ℕ) (written : List Flag) (before : Flags) (tokens : List Token) → AddsFlags set no_flags written before → next_flag set tokens ≡ None → FlagsAre set line (flag_tokens written ++ tokens)
   no_more_flags set line written before tokens adds none =
-      subst (OutcomeBy limits (OwnFlags set) (pair limits) (flags_at set line no_flags) (Spelled limits (Adds set no_flags)) line (flag_tokens written ++ tokens)) (sym (kept tokens (akin limits (alike_itself limits tokens))))
+      subst (OutcomeBy limits (OwnFlags set) (pair limits) (flags_at set line no_flags) (Spelled limits (Adds set no_flags)) line (flag_tokens written ++ tokens)) (sym (kept tokens (akin (alike_itself tokens))))
       (record { value = before; own = flag_tokens written; rest = tokens; is_own = (written, before, adds, refl); inline = flags_inline written; there = refl; is = refl; kept = kept; apart = ((written, before, adds, refl), none) })
     where
-      kept : (more : List Token) → Akin limits tokens more → flags_at set line no_flags (flag_tokens written ++ more) ≡ Ok (before, more)
+      kept : (more : List Token) → Akin tokens more → flags_at set line no_flags (flag_tokens written ++ more) ≡ Ok (before, more)
       kept more alike = flags_read set line written no_flags before more adds ∙ flags_done limits set line before more (no_flag set tokens more alike none)
 
   -- or one of them again
@@ -382,7 +383,7 @@ module _ (spare_bytes deepest spare_statements : ℕ) (version : Version) where
       again : (more : List Token) → flags_at set line no_flags (flag_tokens written ++ Word word ∷ more) ≡ Err (fault line Syntax)
       again more = flags_read set line written no_flags before (Word word ∷ more) adds ∙ flags-again limits set line before flag (Word word ∷ more) found has
 
-      refused : (more : List Token) → Alike limits (Word word ∷ rest) more → IsErr limits (flags_at set line no_flags (flag_tokens written ++ more))
+      refused : (more : List Token) → Alike (Word word ∷ rest) more → IsErr limits (flags_at set line no_flags (flag_tokens written ++ more))
       refused more (same t a b) = (fault line Syntax, again b)
       refused more (ended a b p q) = absurd p
 
@@ -416,17 +417,17 @@ module _ (spare_bytes deepest spare_statements : ℕ) (version : Version) where
   repeated_own set (f ∷ written) before after left (takes_, new, adds) (t ∷ first, flag, flags, word, whole) none = repeated_own set written (with_flag before f) after left adds (first, flag, flags, word, cc) none
 
   -- what is left out is the next word
-  word_left : (fits : Fitting) (none : List ℕ → Type 0) (tokens : List Token) (kind : RuleFaultKind) (left : List ℕ) → SaysFirst limits fits none tokens kind → kind ≡ LeftOut left → (more : List Token) × (tokens ≡ Word left ∷ more)
-  word_left fits none [] kind left says is = let both = sym says ∙ is in absurd cc
-  word_left fits none (Excess ∷ tokens) kind left told is = let both = sym (told.excess refl) ∙ is in absurd cc
-  word_left fits none (token ∷ tokens) kind left told is = (tokens, ap (λ (t : Token). t ∷ tokens) (of_word (subst (IsMisfit limits fits token tokens) is (told.misfit (λ e. cc)))))
+  word_left : (before : ℕ) (fits : Fitting) (none : List ℕ → Type 0) (tokens : List Token) (kind : RuleFaultKind) (left : List ℕ) → SaysFirst limits before fits none tokens kind → kind ≡ LeftOut left → (more : List Token) × (tokens ≡ Word left ∷ more)
+  word_left before fits none [] kind left says is = let both = sym says ∙ is in absurd cc
+  word_left before fits none (Excess ∷ tokens) kind left told is = let both = sym (told.excess refl) ∙ is in absurd cc
+  word_left before fits none (token ∷ tokens) kind left told is = (tokens, ap (λ (t : Token). t ∷ tokens) (of_word (subst (IsMisfit limits before fits token tokens) is (told.misfit (λ e. cc)))))
     where
       first_kind : (ts : List Token) → LeftOut left ≡ kind_at ts → ⊥
       first_kind [] e = cc
       first_kind (Bad ∷ ts) e = cc
       first_kind (t ∷ ts) e = cc
 
-      of_word : IsMisfit limits fits token tokens (LeftOut left) → token ≡ Word left
+      of_word : IsMisfit limits before fits token tokens (LeftOut left) → token ≡ Word left
       of_word (itself says) = says.0
       of_word (read_on (word, same_word_, deep, none, e)) = absurd (first_kind tokens e)
 
@@ -473,17 +474,17 @@ module _ (spare_bytes deepest spare_statements : ℕ) (version : Version) where
   flags_parts : {B Y : Type 0} (set : Flags) (M : Part) → (M [] → ⊥) → ((token : Token) (tokens : List Token) → M (token ∷ tokens) → NoFlag token)
       → (S : Flags × List Token → Result Y RuleFault) (line : ℕ) → Parts limits {A = Flags} {B = B} (OwnFlags set) (pair limits) S (λ x. Spelled limits M) line
   flags_parts {B} {Y} set M some other S line = record {
-    new = λ own rest c x found p. new _ _ own rest c found.kind p.front p.behind p.there p.begins.1 p.begins.2 p.says p.new;
+    new = λ own rest c x found p. new _ _ _ own rest c found.kind p.front p.behind p.there p.begins.1 p.begins.2 p.says p.new;
     last = λ own rest c x y more is last_. last own more is last_;
   }
     where
-      new : (fits : Fitting) (none : List ℕ → Type 0) (own rest : List Token) → OwnFlags set own rest → (kind : RuleFaultKind) (front behind : List Token) → rest ≡ front ++ behind → (more : List Token) → M (front ++ more) → SaysFirst limits fits none behind kind → IsNew front kind → IsNew (own ++ front) kind
-      new fits none own rest c kind [] behind there more is says new_ = λ left left_out_ again.
-          let w = word_left fits none behind kind left says left_out_ in
+      new : (before : ℕ) (fits : Fitting) (none : List ℕ → Type 0) (own rest : List Token) → OwnFlags set own rest → (kind : RuleFaultKind) (front behind : List Token) → rest ≡ front ++ behind → (more : List Token) → M (front ++ more) → SaysFirst limits before fits none behind kind → IsNew front kind → IsNew (own ++ front) kind
+      new before fits none own rest c kind [] behind there more is says new_ = λ left left_out_ again.
+          let w = word_left before fits none behind kind left says left_out_ in
           let flags = c.0 in
           repeated_own set flags.0 no_flags flags.1 left flags.2 (subst (λ (ts : List Token). RepeatsFlag ts left) (append-nil own ∙ flags.3) again)
           (subst (λ (ts : List Token). next_flag set ts ≡ None) (there ∙ w.1) c.1)
-      new fits none own rest c kind (u ∷ front) behind there more is says new_ = new_behind own (u ∷ front) kind (inr (other u (front ++ more) is)) new_
+      new before fits none own rest c kind (u ∷ front) behind there more is says new_ = new_behind own (u ∷ front) kind (inr (other u (front ++ more) is)) new_
 
       last : (own more : List Token) → M more → NoFlagLast more → NoFlagLast (own ++ more)
       last own [] is last_ = absurd (some is)
@@ -716,7 +717,7 @@ module _ (spare_bytes deepest spare_statements : ℕ) (version : Version) where
       by Two (front, back, word, behind, whole) = first_no (Word (codes "freeze")) front back word (sym whole)
   some_op (Copy a, is) = some_operand Target (a, is)
 
-  as_copy : (line : ℕ) (tokens : List Token) → ((more : List Token) → Alike limits tokens more → op_at limits version Target line more ≡ copy_at limits line more) → Outcome limits (pair limits) (copy_at limits line) (Spelled limits (IsOp Target)) line tokens (copy_at limits line tokens) → Outcome limits (pair limits) (op_at limits version Target line) (Spelled limits (IsOp Target)) line tokens (op_at limits version Target line tokens)
+  as_copy : (line : ℕ) (tokens : List Token) → ((more : List Token) → Alike tokens more → op_at limits version Target line more ≡ copy_at limits line more) → Outcome limits (pair limits) (copy_at limits line) (Spelled limits (IsOp Target)) line tokens (copy_at limits line tokens) → Outcome limits (pair limits) (op_at limits version Target line) (Spelled limits (IsOp Target)) line tokens (op_at limits version Target line tokens)
   as_copy line tokens h o = alike_as limits (pair limits) (op_at limits version Target line) (copy_at limits line) (Spelled limits (IsOp Target)) line tokens (λ x is. some_op is) (copy_reads line) h o
 
   target_op_outcome : (line : ℕ) (tokens : List Token) → Outcome limits (pair limits) (op_at limits version Target line) (Spelled limits (IsOp Target)) line tokens (op_at limits version Target line tokens)
@@ -755,5 +756,5 @@ module _ (spare_bytes deepest spare_statements : ℕ) (version : Version) where
       made op = record { line = line; name = name; op = op }
 
       behind : Good limits {A = RawStatement} (pair limits) (λ ts. mark_at (codes "=") line ts >>= λ rest. (op_at limits version half line rest >>= λ op. Ok (made op.0, op.1))) (Spelled limits (IsAssigned half)) line
-      behind = then limits {s = (bare limits)} {t = (pair limits)} _ {L = Spelled limits (Is (Mark (codes "=")))} {M = λ x. Spelled limits (IsOp half)} (λ x y front back mark op. assigned_join half front back mark op) (mark_good spare_bytes deepest spare_statements (codes "=") line)
+      behind = then limits {s = (bare limits)} {t = (pair limits)} _ {L = Spelled limits (Is (Mark (codes "=")))} {M = λ x. Spelled limits (IsOp half)} (λ x y front back mark op. assigned_join half front back mark op) (mark_good limits (codes "=") line)
           (λ u. then_done limits {s = (pair limits)} {L = Spelled limits (IsOp half)} made _ (λ x rest. refl) (λ x own is. is) (op_good half line))

@@ -33,14 +33,12 @@ use Rattle.rule_terms.proofs.Readings.{operand_shorter}
 use Rattle.rule_viable_prefixes.specs.Misfits as kinds
 use Rattle.rule_viable_prefixes.specs.Misfits.{Fitting, NounFits, Nests, IsTooDeep, IsTooMany}
 use Rattle.rule_viable_prefixes.proofs.Nouns.{noun_other}
-use Rattle.rule_viable_prefixes.proofs.Outcomes.{Lack, Akin, same_next, noun_next, ended_next, Takes, says_misplaced, says_syntax, says_too_many, IsTold, says_deep, IsOwn, Spelling, pair, bare, IsErrOn, Outcome, Good, then_at, then, passed, led, Branch, takes, refuses, goes, by_token, widened, on_line, then_done, bind_named, says_unexpected}
+use Rattle.rule_viable_prefixes.proofs.Outcomes.{Lack, Akin, same_next, noun_next, ended_next, Takes, IsOwn, Spelling, pair, bare, IsErrOn, Outcome, Good, then_at, then, passed, led, Branch, takes, refuses, goes, goes_in, by_token, widened, on_line, then_done, bind_named}
+use Rattle.rule_viable_prefixes.proofs.Tolds.{says_misplaced, says_syntax, says_too_many, IsTold, says_deep, says_unexpected}
 use Rattle.rule_tokens.specs.Limits.{Limits}
 use Rattle.rule_viable_prefixes.proofs.Roomy.{roomy}
 
-module _ (spare_bytes deepest spare_statements : ℕ) where
-  abbrev limits : Limits
-  limits = roomy spare_bytes deepest spare_statements
-
+module _ (limits : Limits) where
   -- ---- names and marks
 
   pub data Named (line : ℕ) (name : List ℕ) : Type 0 where
@@ -87,6 +85,14 @@ module _ (spare_bytes deepest spare_statements : ℕ) where
   parenthesis_missed line [] e is = inr ((λ more wrong. absurd cc), sym (ap (λ (f : RuleFault). f.kind) (err_is (fault line Syntax) e is)))
   parenthesis_missed line (token ∷ tokens) e is = inr ((λ more wrong. absurd cc), sym (ap (λ (f : RuleFault). f.kind) (err_is (unexpected line (token ∷ tokens)) e is)))
 
+module _ (spare_bytes deepest spare_statements : ℕ) where
+  abbrev limits : Limits
+  limits = roomy spare_bytes deepest spare_statements
+
+  -- the limits where so many levels of nesting are left
+  abbrev levels : ℕ → Limits
+  levels nesting = roomy spare_bytes nesting spare_statements
+
   -- ---- terms
 
   abbrev pub IsTerm : TermPlace → ℕ → ℕ → List Token → Type 0
@@ -122,7 +128,7 @@ module _ (spare_bytes deepest spare_statements : ℕ) where
 
   -- ---- operators
 
-  no_operator : (level : ℕ) (tokens more : List Token) → Akin limits tokens more → operator_at level tokens ≡ None → operator_at level more ≡ None
+  no_operator : (level : ℕ) (tokens more : List Token) → Akin tokens more → operator_at level tokens ≡ None → operator_at level more ≡ None
   unfolding operator_at
   no_operator level tokens more (same_next (Mark mark) a b) none = by (operator_in mark) none
     where
@@ -151,18 +157,18 @@ module _ (spare_bytes deepest spare_statements : ℕ) where
       by (Err f) e = chain-fault limits operand level left (Mark (operator_mark op) ∷ more) (op, more) _ (Refused f) found e refl
 
   -- the chain, where what goes on with it is known
-  chain_by : (place : TermPlace) (nesting line level : ℕ) (operand : TermReader) → Shortens limits operand → ((left : List RawNode) → Good limits (pair limits) (operand left) (Term place nesting level) line)
+  chain_by : (place : TermPlace) (nesting line level : ℕ) (operand : TermReader) → Shortens limits operand → ((left : List RawNode) → Good (levels nesting) (pair limits) (operand left) (Term place nesting level) line)
       → (left : List RawNode) (tokens : List Token)
-      → ((ls : List RawNode) (ts : List Token) → length ts < length tokens → Outcome limits (pair limits) (whole_chain_at operand (suc level) ls) (More place nesting (suc level) (suc level)) line ts (whole_chain_at operand (suc level) ls ts))
-      → (found : Option (Opcode × List Token)) → operator_at (suc level) tokens ≡ found → Outcome limits (pair limits) (whole_chain_at operand (suc level) left) (More place nesting (suc level) (suc level)) line tokens (whole_chain_at operand (suc level) left tokens)
+      → ((ls : List RawNode) (ts : List Token) → length ts < length tokens → Outcome (levels nesting) (pair limits) (whole_chain_at operand (suc level) ls) (More place nesting (suc level) (suc level)) line ts (whole_chain_at operand (suc level) ls ts))
+      → (found : Option (Opcode × List Token)) → operator_at (suc level) tokens ≡ found → Outcome (levels nesting) (pair limits) (whole_chain_at operand (suc level) left) (More place nesting (suc level) (suc level)) line tokens (whole_chain_at operand (suc level) left tokens)
   chain_by place nesting line level operand shortens good left tokens further None e =
-      passed limits (pair limits) (whole_chain_at operand (suc level) left) (More place nesting (suc level) (suc level)) line tokens left (goes_nowhere place nesting (suc level)) (λ more alike. chain-done limits operand (suc level) left more (no_operator (suc level) tokens more alike e))
+      passed (levels nesting) (pair limits) (whole_chain_at operand (suc level) left) (More place nesting (suc level) (suc level)) line tokens left (goes_nowhere place nesting (suc level)) (λ more alike. chain-done limits operand (suc level) left more (no_operator (suc level) tokens more alike e))
   chain_by place nesting line level operand shortens good left tokens further (Some next) e =
       let n = operator_at-is (suc level) tokens next e in
-      subst (λ (ts : List Token). Outcome limits (pair limits) (whole_chain_at operand (suc level) left) (More place nesting (suc level) (suc level)) line ts (whole_chain_at operand (suc level) left ts)) (sym n.whole)
-      (led limits (pair limits) (whole_chain_at operand (suc level) left) (λ ts. operand left ts >>= λ both. whole_chain_at operand (suc level) (join next.0 left both.0) both.1)
+      subst (λ (ts : List Token). Outcome (levels nesting) (pair limits) (whole_chain_at operand (suc level) left) (More place nesting (suc level) (suc level)) line ts (whole_chain_at operand (suc level) left ts)) (sym n.whole)
+      (led (levels nesting) (pair limits) (whole_chain_at operand (suc level) left) (λ ts. operand left ts >>= λ both. whole_chain_at operand (suc level) (join next.0 left both.0) both.1)
       (More place nesting (suc level) (suc level)) line (Mark (operator_mark next.0)) next.1 tt (λ more. chain_step operand (suc level) left next.0 more shortens n.is_level)
-      (then_at limits (pair limits) (pair limits) (operand left) (λ both. whole_chain_at operand (suc level) (join next.0 left both.0) both.1)
+      (then_at (levels nesting) (pair limits) (pair limits) (operand left) (λ both. whole_chain_at operand (suc level) (join next.0 left both.0) both.1)
       (Term place nesting level) (λ x. More place nesting (suc level) (suc level)) (λ x own. GoesOn place nesting (suc level) (suc level) (Mark (operator_mark next.0) ∷ own)) line next.1
       (λ x y front back is more. goes_both place nesting (suc level) (suc level) (suc level) (Mark (operator_mark next.0) ∷ front) back (goes_joined place nesting level next.0 front n.is_level is) more)
       (λ x own is. (left, [], goes_nowhere place nesting (suc level)))
@@ -171,15 +177,15 @@ module _ (spare_bytes deepest spare_statements : ℕ) where
       let fewer : length rest < length next.1 = shortens left next.1 (x, rest) is in
       further (join next.0 left x) rest (omega (arith, ap length n.whole)))))
 
-  chain_outcome : (place : TermPlace) (nesting line level : ℕ) (operand : TermReader) → Shortens limits operand → ((left : List RawNode) → Good limits (pair limits) (operand left) (Term place nesting level) line)
+  chain_outcome : (place : TermPlace) (nesting line level : ℕ) (operand : TermReader) → Shortens limits operand → ((left : List RawNode) → Good (levels nesting) (pair limits) (operand left) (Term place nesting level) line)
       → (fuel : ℕ) (left : List RawNode) (tokens : List Token) → length tokens < fuel
-      → Outcome limits (pair limits) (whole_chain_at operand (suc level) left) (More place nesting (suc level) (suc level)) line tokens (whole_chain_at operand (suc level) left tokens)
+      → Outcome (levels nesting) (pair limits) (whole_chain_at operand (suc level) left) (More place nesting (suc level) (suc level)) line tokens (whole_chain_at operand (suc level) left tokens)
   chain_outcome place nesting line level operand shortens good zero left tokens few = absurd (omega arith)
   chain_outcome place nesting line level operand shortens good (suc fuel) left tokens few =
       chain_by place nesting line level operand shortens good left tokens (λ ls ts fewer. chain_outcome place nesting line level operand shortens good fuel ls ts (omega arith)) (operator_at (suc level) tokens) refl
 
-  chain_good : (place : TermPlace) (nesting line level : ℕ) (operand : TermReader) → Shortens limits operand → ((left : List RawNode) → Good limits (pair limits) (operand left) (Term place nesting level) line)
-      → (left : List RawNode) → Good limits (pair limits) (whole_chain_at operand (suc level) left) (More place nesting (suc level) (suc level)) line
+  chain_good : (place : TermPlace) (nesting line level : ℕ) (operand : TermReader) → Shortens limits operand → ((left : List RawNode) → Good (levels nesting) (pair limits) (operand left) (Term place nesting level) line)
+      → (left : List RawNode) → Good (levels nesting) (pair limits) (whole_chain_at operand (suc level) left) (More place nesting (suc level) (suc level)) line
   chain_good place nesting line level operand shortens good left = record {
     sample = (left, [], goes_nowhere place nesting (suc level));
     outcome = λ tokens. chain_outcome place nesting line level operand shortens good (suc (length tokens)) left tokens (omega arith);
@@ -189,36 +195,36 @@ module _ (spare_bytes deepest spare_statements : ℕ) where
 
   -- the readers of primaries are those of terms
   abbrev Primaries : TermPlace → ℕ → ℕ → Type 0
-  Primaries place nesting line = (before : List RawNode) → Good limits (pair limits) (primary_at limits place line nesting before) (Term place nesting 0) line
+  Primaries place nesting line = (before : List RawNode) → Good (levels nesting) (pair limits) (primary_at limits place line nesting before) (Term place nesting 0) line
 
-  behind_good : (place : TermPlace) (nesting line : ℕ) → Primaries place nesting line → (level : ℕ) (left : List RawNode) → Good limits (pair limits) (behind_at (primary_at limits place line nesting) level left) (More place nesting 0 level) line
+  behind_good : (place : TermPlace) (nesting line : ℕ) → Primaries place nesting line → (level : ℕ) (left : List RawNode) → Good (levels nesting) (pair limits) (behind_at (primary_at limits place line nesting) level left) (More place nesting 0 level) line
   unfolding behind_at
   behind_good place nesting line primaries zero left = record {
     sample = (left, [], goes_nowhere place nesting 0);
-    outcome = λ tokens. passed limits (pair limits) (λ ts. Ok (left, ts)) (More place nesting 0 0) line tokens left (goes_nowhere place nesting 0) (λ more alike. refl);
+    outcome = λ tokens. passed (levels nesting) (pair limits) (λ ts. Ok (left, ts)) (More place nesting 0 0) line tokens left (goes_nowhere place nesting 0) (λ more alike. refl);
   }
   behind_good place nesting line primaries (suc level) left =
-      then limits _ {L = More place nesting 0 level} {M = λ x. More place nesting (suc level) (suc level)}
+      then (levels nesting) _ {L = More place nesting 0 level} {M = λ x. More place nesting (suc level) (suc level)}
       (λ x y front back one two before is. subst (IsTerm place nesting (suc level)) (append_assoc before front back) (two (before ++ front) (goes_looser place nesting level (before ++ front) (one before is))))
       (behind_good place nesting line primaries level left)
       (λ first. chain_good place nesting line level (operand_at (primary_at limits place line nesting) level) (operand_shorter limits place line nesting level)
-      (λ before. then limits _ {L = Term place nesting 0} {M = λ x. More place nesting 0 level} (λ x y front back one two. two front one) (primaries before) (λ x. behind_good place nesting line primaries level x)) first)
+      (λ before. then (levels nesting) _ {L = Term place nesting 0} {M = λ x. More place nesting 0 level} (λ x y front back one two. two front one) (primaries before) (λ x. behind_good place nesting line primaries level x)) first)
 
-  operand_good : (place : TermPlace) (nesting line level : ℕ) → Primaries place nesting line → (before : List RawNode) → Good limits (pair limits) (operand_at (primary_at limits place line nesting) level before) (Term place nesting level) line
+  operand_good : (place : TermPlace) (nesting line level : ℕ) → Primaries place nesting line → (before : List RawNode) → Good (levels nesting) (pair limits) (operand_at (primary_at limits place line nesting) level before) (Term place nesting level) line
   operand_good place nesting line level primaries before =
-      then limits _ {L = Term place nesting 0} {M = λ x. More place nesting 0 level} (λ x y front back one two. two front one) (primaries before) (λ x. behind_good place nesting line primaries level x)
+      then (levels nesting) _ {L = Term place nesting 0} {M = λ x. More place nesting 0 level} (λ x y front back one two. two front one) (primaries before) (λ x. behind_good place nesting line primaries level x)
 
   -- ---- what a primary begins with
 
   -- what the reader of starts does with the token, whatever stands behind it, where these fit
-  data Opens (fits : Fitting) (none : List ℕ → Type 0) (place : TermPlace) (line : ℕ) : Token → Type 0 where
-    misfit : (token : Token) → ((more : List Token) → IsErrOn limits fits none line (token ∷ more) (start_at limits place line (token ∷ more))) → Opens fits none place line token
-    of_leaf : (token : Token) (node : RawNode) → SpellsLeaf limits place node (token ∷ []) → IsOwn limits token → ((more : List Token) → start_at limits place line (token ∷ more) ≡ Ok (Leaf node, more)) → Opens fits none place line token
-    of_parenthesis : ((more : List Token) → start_at limits place line (Mark (codes "(") ∷ more) ≡ Ok (Parenthesis, more)) → Opens fits none place line (Mark (codes "("))
-    of_prefix : (function : Function) (mark : List ℕ) → IsPrefix function mark → ((more : List Token) → start_at limits place line (Mark mark ∷ more) ≡ Ok (Prefix function, more)) → Opens fits none place line (Mark mark)
+  data Opens (nesting : ℕ) (fits : Fitting) (none : List ℕ → Type 0) (place : TermPlace) (line : ℕ) : Token → Type 0 where
+    misfit : (token : Token) → ((more : List Token) → IsErrOn (levels nesting) fits none line (token ∷ more) (start_at limits place line (token ∷ more))) → Opens nesting fits none place line token
+    of_leaf : (token : Token) (node : RawNode) → SpellsLeaf limits place node (token ∷ []) → IsOwn limits token → ((more : List Token) → start_at limits place line (token ∷ more) ≡ Ok (Leaf node, more)) → Opens nesting fits none place line token
+    of_parenthesis : ((more : List Token) → start_at limits place line (Mark (codes "(") ∷ more) ≡ Ok (Parenthesis, more)) → Opens nesting fits none place line (Mark (codes "("))
+    of_prefix : (function : Function) (mark : List ℕ) → IsPrefix function mark → ((more : List Token) → start_at limits place line (Mark mark ∷ more) ≡ Ok (Prefix function, more)) → Opens nesting fits none place line (Mark mark)
     of_call : (function : Function) (word : List ℕ) → IsCalled function word
-        → ((more : List Token) → start_at limits place line (Word word ∷ more) ≡ (mark_at (codes "(") line more >>= λ behind. Ok (Call function, behind))) → Opens fits none place line (Word word)
-    of_width : ((more : List Token) → start_at limits place line (Word (codes "width") ∷ more) ≡ (mark_at (codes "(") line more >>= λ behind. Ok (Width, behind))) → Opens fits none place line (Word (codes "width"))
+        → ((more : List Token) → start_at limits place line (Word word ∷ more) ≡ (mark_at (codes "(") line more >>= λ behind. Ok (Call function, behind))) → Opens nesting fits none place line (Word word)
+    of_width : ((more : List Token) → start_at limits place line (Word (codes "width") ∷ more) ≡ (mark_at (codes "(") line more >>= λ behind. Ok (Width, behind))) → Opens nesting fits none place line (Word (codes "width"))
 
   -- nodes of one token fit
   abbrev Leaves : TermPlace → Fitting → Type 0
@@ -235,75 +241,75 @@ module _ (spare_bytes deepest spare_statements : ℕ) where
   zero_fits : (place : TermPlace) (fits : Fitting) → Leaves place fits → fits (Number (codes "0"))
   zero_fits place fits leaves = leaves (Number (codes "0")) (raw_nodes.Literal (literal_value (codes "0"))) (codes "0", refl, refl)
 
-  long_constant : (place : TermPlace) (fits : Fitting) → Leaves place fits → (name : List ℕ) → limits.name_bytes < length name → IsTrue (is_constant name) → IsTooMany limits fits (Word name)
+  long_constant : (nesting : ℕ) (place : TermPlace) (fits : Fitting) → Leaves place fits → (name : List ℕ) → limits.name_bytes < length name → IsTrue (is_constant name) → IsTooMany (levels nesting) 0 fits (Word name)
   unfolding is_constant
-  long_constant place fits leaves name long is = kinds.constant name (codes "C", long, omega arith, is, refl, constant_fits place fits leaves)
+  long_constant nesting place fits leaves name long is = kinds.constant name (codes "C", long, omega arith, is, refl, constant_fits place fits leaves)
 
   short_choice : IsChoice (codes "t1") 0
   unfolding is_digit
   short_choice = (codes "1", refl, refl, refl, refl)
 
-  long_choice : (fits : Fitting) → Leaves places.Witness fits → (name : List ℕ) (k : ℕ) → limits.name_bytes < length name → IsChoice name k → IsTooMany limits fits (Word name)
-  long_choice fits leaves name k long is =
+  long_choice : (nesting : ℕ) (fits : Fitting) → Leaves places.Witness fits → (name : List ℕ) (k : ℕ) → limits.name_bytes < length name → IsChoice name k → IsTooMany (levels nesting) 0 fits (Word name)
+  long_choice nesting fits leaves name k long is =
       kinds.choice name (codes "t1", long, omega arith, (k, is), (0, short_choice), leaves (Word (codes "t1")) (raw_nodes.Choice 0) (codes "t1", refl, short_choice, omega arith, refl))
 
-  long_register : (fits : Fitting) → Leaves places.Witness fits → (name : List ℕ) → limits.name_bytes < length name → IsTooMany limits fits (Register name)
-  long_register fits leaves name long = kinds.register name (codes "a", long, omega arith, tt, tt, leaves (Register (codes "a")) (raw_nodes.Register (codes "a")) (refl, omega arith, refl))
+  long_register : (nesting : ℕ) (fits : Fitting) → Leaves places.Witness fits → (name : List ℕ) → limits.name_bytes < length name → IsTooMany (levels nesting) 0 fits (Register name)
+  long_register nesting fits leaves name long = kinds.register name (codes "a", long, omega arith, tt, tt, leaves (Register (codes "a")) (raw_nodes.Register (codes "a")) (refl, omega arith, refl))
 
-  opens_word : (fits : Fitting) (none : List ℕ → Type 0) (place : TermPlace) (line : ℕ) → Leaves place fits → (word : List ℕ) (found : Option Meaning) → meaning_in place word ≡ found → Opens fits none place line (Word word)
+  opens_word : (nesting : ℕ) (fits : Fitting) (none : List ℕ → Type 0) (place : TermPlace) (line : ℕ) → Leaves place fits → (word : List ℕ) (found : Option Meaning) → meaning_in place word ≡ found → Opens nesting fits none place line (Word word)
   unfolding start_at
-  opens_word fits none place line leaves word None f = misfit (Word word) (λ more. (misplaced_word line word, rw f refl, refl, says_misplaced limits (noun_fits place fits leaves) line word more))
-  opens_word fits none place line leaves word (Some meanings.Width) f =
-      subst (λ (w : List ℕ). Opens fits none place line (Word w)) (sym (meaning_in-is place word meanings.Width f)) (of_width (λ more. rw (meaning_in-of place meanings.Width (codes "width") refl) refl))
-  opens_word fits none place line leaves word (Some (meanings.Call function)) f = of_call function word (meaning_in-is place word (meanings.Call function) f) (λ more. rw f refl)
-  opens_word fits none place line leaves word (Some meanings.Constant) f = by (named line word)
+  opens_word nesting fits none place line leaves word None f = misfit (Word word) (λ more. (misplaced_word line word, rw f refl, refl, says_misplaced (levels nesting) (noun_fits place fits leaves) line word more))
+  opens_word nesting fits none place line leaves word (Some meanings.Width) f =
+      subst (λ (w : List ℕ). Opens nesting fits none place line (Word w)) (sym (meaning_in-is place word meanings.Width f)) (of_width (λ more. rw (meaning_in-of place meanings.Width (codes "width") refl) refl))
+  opens_word nesting fits none place line leaves word (Some (meanings.Call function)) f = of_call function word (meaning_in-is place word (meanings.Call function) f) (λ more. rw f refl)
+  opens_word nesting fits none place line leaves word (Some meanings.Constant) f = by (named limits line word)
     where
-      by : Named line word → Opens fits none place line (Word word)
+      by : Named limits line word → Opens nesting fits none place line (Word word)
       by (is_short le n) = of_leaf (Word word) (raw_nodes.Constant word) (meaning_in-is place word meanings.Constant f, le, refl) (noun_other word (kinds.constant (meaning_in-is place word meanings.Constant f))) (λ more. rw (f, n) refl)
-      by (is_long long n) = misfit (Word word) (λ more. (fault line TooMany, rw (f, n) refl, refl, says_too_many limits (Word word) more (long_constant place fits leaves word long (meaning_in-is place word meanings.Constant f))))
-  opens_word fits none place line leaves word (Some (meanings.Choice k)) f = by (named line word)
+      by (is_long long n) = misfit (Word word) (λ more. (fault line TooMany, rw (f, n) refl, refl, says_too_many (levels nesting) (Word word) more (long_constant nesting place fits leaves word long (meaning_in-is place word meanings.Constant f))))
+  opens_word nesting fits none place line leaves word (Some (meanings.Choice k)) f = by (named limits line word)
     where
       m : (place ≡ places.Witness) × IsChoice word k
       m = meaning_in-is place word (meanings.Choice k) f
 
-      by : Named line word → Opens fits none place line (Word word)
+      by : Named limits line word → Opens nesting fits none place line (Word word)
       by (is_short le n) = of_leaf (Word word) (raw_nodes.Choice k) (word, m.0, m.1, le, refl) (noun_other word (kinds.choice k m.1)) (λ more. rw (f, n) refl)
       by (is_long long n) =
           let witness : Leaves places.Witness fits = subst (λ (p : TermPlace). Leaves p fits) m.0 leaves in
-          misfit (Word word) (λ more. (fault line TooMany, rw (f, n) refl, refl, says_too_many limits (Word word) more (long_choice fits witness word k long m.1)))
+          misfit (Word word) (λ more. (fault line TooMany, rw (f, n) refl, refl, says_too_many (levels nesting) (Word word) more (long_choice nesting fits witness word k long m.1)))
 
-  opens_register : (fits : Fitting) (none : List ℕ → Type 0) (place : TermPlace) (line : ℕ) → Leaves place fits → (name : List ℕ) → Opens fits none place line (Register name)
+  opens_register : (nesting : ℕ) (fits : Fitting) (none : List ℕ → Type 0) (place : TermPlace) (line : ℕ) → Leaves place fits → (name : List ℕ) → Opens nesting fits none place line (Register name)
   unfolding start_at
-  opens_register fits none places.Constant line leaves name = misfit (Register name) (λ more. (fault line Syntax, refl, refl, says_syntax limits (Register name) more tt))
-  opens_register fits none places.Witness line leaves name = by (named line name)
+  opens_register nesting fits none places.Constant line leaves name = misfit (Register name) (λ more. (fault line Syntax, refl, refl, says_syntax (levels nesting) (Register name) more tt))
+  opens_register nesting fits none places.Witness line leaves name = by (named limits line name)
     where
-      by : Named line name → Opens fits none places.Witness line (Register name)
+      by : Named limits line name → Opens nesting fits none places.Witness line (Register name)
       by (is_short le n) = of_leaf (Register name) (raw_nodes.Register name) (refl, le, refl) tt (λ more. rw n refl)
-      by (is_long long n) = misfit (Register name) (λ more. (fault line TooMany, rw n refl, refl, says_too_many limits (Register name) more (long_register fits leaves name long)))
+      by (is_long long n) = misfit (Register name) (λ more. (fault line TooMany, rw n refl, refl, says_too_many (levels nesting) (Register name) more (long_register nesting fits leaves name long)))
 
-  opens_mark : (fits : Fitting) (none : List ℕ → Type 0) (place : TermPlace) (line : ℕ) (mark : List ℕ) → Opens fits none place line (Mark mark)
+  opens_mark : (nesting : ℕ) (fits : Fitting) (none : List ℕ → Type 0) (place : TermPlace) (line : ℕ) (mark : List ℕ) → Opens nesting fits none place line (Mark mark)
   unfolding start_at opening_in
-  opens_mark fits none place line mark = first (bytes_eq mark (codes "(")) refl
+  opens_mark nesting fits none place line mark = first (bytes_eq mark (codes "(")) refl
     where
-      third : (b : Bool) → bytes_eq mark (codes "(") ≡ false → bytes_eq mark (codes "-") ≡ false → bytes_eq mark (codes "~") ≡ b → Opens fits none place line (Mark mark)
+      third : (b : Bool) → bytes_eq mark (codes "(") ≡ false → bytes_eq mark (codes "-") ≡ false → bytes_eq mark (codes "~") ≡ b → Opens nesting fits none place line (Mark mark)
       third true g h k = of_prefix Not mark (same_word mark (codes "~") k) (λ more. rw (g, h, k) refl)
-      third false g h k = misfit (Mark mark) (λ more. (fault line Syntax, rw (g, h, k) refl, refl, says_syntax limits (Mark mark) more tt))
+      third false g h k = misfit (Mark mark) (λ more. (fault line Syntax, rw (g, h, k) refl, refl, says_syntax (levels nesting) (Mark mark) more tt))
 
-      second : (b : Bool) → bytes_eq mark (codes "(") ≡ false → bytes_eq mark (codes "-") ≡ b → Opens fits none place line (Mark mark)
+      second : (b : Bool) → bytes_eq mark (codes "(") ≡ false → bytes_eq mark (codes "-") ≡ b → Opens nesting fits none place line (Mark mark)
       second true g h = of_prefix Negate mark (same_word mark (codes "-") h) (λ more. rw (g, h) refl)
       second false g h = third (bytes_eq mark (codes "~")) g h refl
 
-      first : (b : Bool) → bytes_eq mark (codes "(") ≡ b → Opens fits none place line (Mark mark)
-      first true g = subst (λ (m : List ℕ). Opens fits none place line (Mark m)) (sym (same_word mark (codes "(") g)) (of_parenthesis (λ more. refl))
+      first : (b : Bool) → bytes_eq mark (codes "(") ≡ b → Opens nesting fits none place line (Mark mark)
+      first true g = subst (λ (m : List ℕ). Opens nesting fits none place line (Mark m)) (sym (same_word mark (codes "(") g)) (of_parenthesis (λ more. refl))
       first false g = second (bytes_eq mark (codes "-")) g refl
 
-  opens : (fits : Fitting) (none : List ℕ → Type 0) (place : TermPlace) (line : ℕ) → Leaves place fits → (token : Token) → Opens fits none place line token
+  opens : (nesting : ℕ) (fits : Fitting) (none : List ℕ → Type 0) (place : TermPlace) (line : ℕ) → Leaves place fits → (token : Token) → Opens nesting fits none place line token
   unfolding start_at
-  opens fits none place line leaves (Number text) = of_leaf (Number text) (raw_nodes.Literal (literal_value text)) (text, refl, refl) tt (λ more. refl)
-  opens fits none place line leaves (Register name) = opens_register fits none place line leaves name
-  opens fits none place line leaves (Word word) = opens_word fits none place line leaves word (meaning_in place word) refl
-  opens fits none place line leaves (Mark mark) = opens_mark fits none place line mark
-  opens fits none place line leaves token = misfit token (λ more. (unexpected line (token ∷ more), refl, refl, says_unexpected limits line token more (λ word is. absurd cc)))
+  opens nesting fits none place line leaves (Number text) = of_leaf (Number text) (raw_nodes.Literal (literal_value text)) (text, refl, refl) tt (λ more. refl)
+  opens nesting fits none place line leaves (Register name) = opens_register nesting fits none place line leaves name
+  opens nesting fits none place line leaves (Word word) = opens_word nesting fits none place line leaves word (meaning_in place word) refl
+  opens nesting fits none place line leaves (Mark mark) = opens_mark nesting fits none place line mark
+  opens nesting fits none place line leaves token = misfit token (λ more. (unexpected line (token ∷ more), refl, refl, says_unexpected (levels nesting) line token more (λ word is. absurd cc)))
 
   -- ---- parentheses
 
@@ -312,30 +318,30 @@ module _ (spare_bytes deepest spare_statements : ℕ) where
   Closed P own = (inside : List Token) × P inside × (own ≡ inside ++ Mark (codes ")") ∷ [])
 
   -- a value that was read, and a parenthesis behind it
-  pub closing : {A : Type 0} (x : A) (line : ℕ) → Good limits (pair limits) (λ ts. mark_at (codes ")") line ts >>= λ behind. Ok (x, behind)) (λ y own. (y ≡ x) × (own ≡ Mark (codes ")") ∷ [])) line
-  closing x line = then_done limits {s = (bare limits)} {L = λ u own. own ≡ Mark (codes ")") ∷ []} (λ u. x) (λ behind. Ok (x, behind)) (λ u rest. refl) (λ u own is. (refl, is)) (mark_good (codes ")") line)
+  pub closing : {A : Type 0} (x : A) (nesting line : ℕ) → Good (levels nesting) (pair limits) (λ ts. mark_at (codes ")") line ts >>= λ behind. Ok (x, behind)) (λ y own. (y ≡ x) × (own ≡ Mark (codes ")") ∷ [])) line
+  closing x nesting line = then_done (levels nesting) {s = (bare limits)} {L = λ u own. own ≡ Mark (codes ")") ∷ []} (λ u. x) (λ behind. Ok (x, behind)) (λ u rest. refl) (λ u own is. (refl, is)) (mark_good (levels nesting) (codes ")") line)
 
-  inside_good : (place : TermPlace) (nesting line : ℕ) → Primaries place nesting line → (before : List RawNode) → Good limits (pair limits) (inside_at line (primary_at limits place line nesting) before) (λ x. Closed (IsTerm place nesting loosest)) line
+  inside_good : (place : TermPlace) (nesting line : ℕ) → Primaries place nesting line → (before : List RawNode) → Good (levels nesting) (pair limits) (inside_at line (primary_at limits place line nesting) before) (λ x. Closed (IsTerm place nesting loosest)) line
   inside_good place nesting line primaries before =
-      then limits _ {L = Term place nesting loosest} {M = λ x y own. (y ≡ x) × (own ≡ Mark (codes ")") ∷ [])} (λ x y front back one two. (front, one, ap (λ (ts : List Token). front ++ ts) two.1))
-      (operand_good place nesting line loosest primaries before) (λ x. closing x line)
+      then (levels nesting) _ {L = Term place nesting loosest} {M = λ x y own. (y ≡ x) × (own ≡ Mark (codes ")") ∷ [])} (λ x y front back one two. (front, one, ap (λ (ts : List Token). front ++ ts) two.1))
+      (operand_good place nesting line loosest primaries before) (λ x. closing x nesting line)
 
   abbrev Measured : Spelling limits (List ℕ)
   Measured name own = (length name ≤ limits.name_bytes) × (own ≡ Register name ∷ Mark (codes ")") ∷ [])
 
-  measured_branch : (line : ℕ) (token : Token) → Branch limits (pair limits) (measured_at limits line) Measured line token
+  measured_branch : (nesting line : ℕ) (token : Token) → Branch (levels nesting) (pair limits) (measured_at limits line) Measured line token
   unfolding measured_at
-  measured_branch line (Register name) = by (named line name)
+  measured_branch nesting line (Register name) = by (named limits line name)
     where
-      by : Named line name → Branch limits (pair limits) (measured_at limits line) Measured line (Register name)
+      by : Named limits line name → Branch (levels nesting) (pair limits) (measured_at limits line) Measured line (Register name)
       by (is_short le n) = goes (λ ts. mark_at (codes ")") line ts >>= λ behind. Ok (name, behind)) tt (λ more. rw n refl)
-          (then_done limits {s = (bare limits)} {L = λ u own. own ≡ Mark (codes ")") ∷ []} (λ u. name) (λ behind. Ok (name, behind)) (λ u rest. refl) (λ u own is. (le, ap (λ (ts : List Token). Register name ∷ ts) is)) (mark_good (codes ")") line))
-      by (is_long long n) = refuses (λ more. (fault line TooMany, rw n refl, refl, says_too_many limits (Register name) more (kinds.register name (codes "a", long, omega arith, tt, tt, (codes "a", Mark (codes ")") ∷ [], (omega arith, refl))))))
-  measured_branch line token = refuses (λ more. (unexpected line (token ∷ more), refl, refl, says_unexpected limits line token more (λ word is. inr (inr (λ noun is_noun others. (unexpected line (Word noun ∷ others), refl))))))
+          (then_done (levels nesting) {s = (bare limits)} {L = λ u own. own ≡ Mark (codes ")") ∷ []} (λ u. name) (λ behind. Ok (name, behind)) (λ u rest. refl) (λ u own is. (le, ap (λ (ts : List Token). Register name ∷ ts) is)) (mark_good (levels nesting) (codes ")") line))
+      by (is_long long n) = refuses (λ more. (fault line TooMany, rw n refl, refl, says_too_many (levels nesting) (Register name) more (kinds.register name (codes "a", long, omega arith, tt, tt, (codes "a", Mark (codes ")") ∷ [], (omega arith, refl))))))
+  measured_branch nesting line token = refuses (λ more. (unexpected line (token ∷ more), refl, refl, says_unexpected (levels nesting) line token more (λ word is. inr (inr (λ noun is_noun others. (unexpected line (Word noun ∷ others), refl))))))
 
-  measured_good : (line : ℕ) → Good limits (pair limits) (measured_at limits line) Measured line
+  measured_good : (nesting line : ℕ) → Good (levels nesting) (pair limits) (measured_at limits line) Measured line
   unfolding measured_at
-  measured_good line = by_token limits ([], Register [] ∷ Mark (codes ")") ∷ [], (omega arith, refl)) (measured_branch line) (fault line Syntax, refl, refl, refl)
+  measured_good nesting line = by_token (levels nesting) ([], Register [] ∷ Mark (codes ")") ∷ [], (omega arith, refl)) (measured_branch nesting line) (fault line Syntax, refl, refl, refl)
 
   -- ---- primaries
 
@@ -368,59 +374,59 @@ module _ (spare_bytes deepest spare_statements : ℕ) where
   leaves_at : (place : TermPlace) (nesting : ℕ) → Leaves place (FitsAt place nesting)
   leaves_at place nesting token node is = ([], [], leaf_term place nesting node (token ∷ []) is)
 
-  too_deep : (place : TermPlace) (nesting : ℕ) (token : Token) → Nests token → IsTooDeep (FitsAt place nesting) token
-  too_deep place nesting token nests = (nests, zero_fits place (FitsAt place nesting) (leaves_at place nesting))
+  too_deep : (place : TermPlace) (token : Token) → Nests token → IsTooDeep (levels zero) 0 (FitsAt place zero) token
+  too_deep place token nests = (omega arith, nests, zero_fits place (FitsAt place zero) (leaves_at place zero))
 
-  shallow_branch : (place : TermPlace) (line : ℕ) (before : List RawNode) (token : Token) → Opens (FitsAt place zero) (Lack limits (primary_at limits place line zero before) []) place line token → Branch limits (pair limits) (primary_at limits place line zero before) (Term place zero 0) line token
+  shallow_branch : (place : TermPlace) (line : ℕ) (before : List RawNode) (token : Token) → Opens zero (FitsAt place zero) (Lack limits (primary_at limits place line zero before) []) place line token → Branch (levels zero) (pair limits) (primary_at limits place line zero before) (Term place zero 0) line token
   unfolding primary_at
   shallow_branch place line before token (misfit t h) = refuses (λ more. let e = h more in (e.0, rw e.1 refl, e.2, e.3))
   shallow_branch place line before token (of_leaf t node is stays h) = takes (before ++ node ∷ []) stays (leaf_term place 0 node (t ∷ []) is) (λ more. rw (h more) refl)
   shallow_branch place line before token (of_parenthesis h) =
-      refuses (λ more. (fault line TooMany, rw (h more) refl, refl, says_too_many limits (Mark (codes "(")) more (kinds.nesting (Mark (codes "(")) (too_deep place zero (Mark (codes "(")) kinds.parenthesis))))
+      refuses (λ more. (fault line TooMany, rw (h more) refl, refl, says_too_many (levels zero) (Mark (codes "(")) more (kinds.nesting (Mark (codes "(")) (too_deep place (Mark (codes "(")) kinds.parenthesis))))
   shallow_branch place line before token (of_prefix function mark is h) =
-      refuses (λ more. (fault line TooMany, rw (h more) refl, refl, says_too_many limits (Mark mark) more (kinds.nesting (Mark mark) (too_deep place zero (Mark mark) (kinds.sign function mark is)))))
+      refuses (λ more. (fault line TooMany, rw (h more) refl, refl, says_too_many (levels zero) (Mark mark) more (kinds.nesting (Mark mark) (too_deep place (Mark mark) (kinds.sign function mark is)))))
   shallow_branch place line before token (of_call function word is h) = refuses (λ more. by more (mark_at (codes "(") line more) refl)
     where
-      by : (more : List Token) (r : Result (List Token) RuleFault) → mark_at (codes "(") line more ≡ r → IsErrOn limits (FitsAt place zero) (Lack limits (primary_at limits place line zero before) []) line (Word word ∷ more) (primary_at limits place line zero before (Word word ∷ more))
-      by more (Ok behind) e = (fault line TooMany, rw (h more, e) refl, refl, says_deep limits word (too_deep place zero (Word word) (kinds.function function word is)) more TooMany (inl refl))
-      by more (Err f) e = (f, rw (h more, e) refl, on_line limits (mark_good (codes "(") line) more f e, says_deep limits word (too_deep place zero (Word word) (kinds.function function word is)) more f.kind (parenthesis_missed line more f e))
+      by : (more : List Token) (r : Result (List Token) RuleFault) → mark_at (codes "(") line more ≡ r → IsErrOn (levels zero) (FitsAt place zero) (Lack limits (primary_at limits place line zero before) []) line (Word word ∷ more) (primary_at limits place line zero before (Word word ∷ more))
+      by more (Ok behind) e = (fault line TooMany, rw (h more, e) refl, refl, says_deep (levels zero) word (too_deep place (Word word) (kinds.function function word is)) more TooMany (inl refl))
+      by more (Err f) e = (f, rw (h more, e) refl, on_line (levels zero) (mark_good (levels zero) (codes "(") line) more f e, says_deep (levels zero) word (too_deep place (Word word) (kinds.function function word is)) more f.kind (parenthesis_missed limits line more f e))
   shallow_branch place line before token (of_width h) = refuses (λ more. by more (mark_at (codes "(") line more) refl)
     where
-      by : (more : List Token) (r : Result (List Token) RuleFault) → mark_at (codes "(") line more ≡ r → IsErrOn limits (FitsAt place zero) (Lack limits (primary_at limits place line zero before) []) line (Word (codes "width") ∷ more) (primary_at limits place line zero before (Word (codes "width") ∷ more))
-      by more (Ok behind) e = (fault line TooMany, rw (h more, e) refl, refl, says_deep limits (codes "width") (too_deep place zero (Word (codes "width")) kinds.width) more TooMany (inl refl))
-      by more (Err f) e = (f, rw (h more, e) refl, on_line limits (mark_good (codes "(") line) more f e, says_deep limits (codes "width") (too_deep place zero (Word (codes "width")) kinds.width) more f.kind (parenthesis_missed line more f e))
+      by : (more : List Token) (r : Result (List Token) RuleFault) → mark_at (codes "(") line more ≡ r → IsErrOn (levels zero) (FitsAt place zero) (Lack limits (primary_at limits place line zero before) []) line (Word (codes "width") ∷ more) (primary_at limits place line zero before (Word (codes "width") ∷ more))
+      by more (Ok behind) e = (fault line TooMany, rw (h more, e) refl, refl, says_deep (levels zero) (codes "width") (too_deep place (Word (codes "width")) kinds.width) more TooMany (inl refl))
+      by more (Err f) e = (f, rw (h more, e) refl, on_line (levels zero) (mark_good (levels zero) (codes "(") line) more f e, says_deep (levels zero) (codes "width") (too_deep place (Word (codes "width")) kinds.width) more f.kind (parenthesis_missed limits line more f e))
 
-  deep_branch : (place : TermPlace) (line nesting : ℕ) (before : List RawNode) (token : Token) → Primaries place nesting line → Opens (FitsAt place (suc nesting)) (Lack limits (primary_at limits place line (suc nesting) before) []) place line token → Branch limits (pair limits) (primary_at limits place line (suc nesting) before) (Term place (suc nesting) 0) line token
+  deep_branch : (place : TermPlace) (line nesting : ℕ) (before : List RawNode) (token : Token) → Primaries place nesting line → Opens (suc nesting) (FitsAt place (suc nesting)) (Lack limits (primary_at limits place line (suc nesting) before) []) place line token → Branch (levels (suc nesting)) (pair limits) (primary_at limits place line (suc nesting) before) (Term place (suc nesting) 0) line token
   unfolding primary_at
   deep_branch place line nesting before token primaries (misfit t h) = refuses (λ more. let e = h more in (e.0, rw e.1 refl, e.2, e.3))
   deep_branch place line nesting before token primaries (of_leaf t node is stays h) = takes (before ++ node ∷ []) stays (leaf_term place (suc nesting) node (t ∷ []) is) (λ more. rw (h more) refl)
-  deep_branch place line nesting before token primaries (of_parenthesis h) = goes (inside_at line (primary_at limits place line nesting) before) tt (λ more. rw (h more) refl)
-      (widened limits (λ x own is. enclosed_term place nesting own is) (inside_good place nesting line primaries before))
-  deep_branch place line nesting before token primaries (of_prefix function mark is h) = goes (λ ts. primary_at limits place line nesting before ts >>= λ x. Ok (add_unary function x.0, x.1)) tt (λ more. rw (h more) refl)
-      (then_done limits {s = (pair limits)} {L = Term place nesting 0} (add_unary function) (λ x. Ok (add_unary function x.0, x.1)) (λ x rest. refl) (λ x own t. prefixed_term place nesting function mark own is t) (primaries before))
+  deep_branch place line nesting before token primaries (of_parenthesis h) = goes_in (levels (suc nesting)) (levels nesting) refl (omega arith) (inside_at line (primary_at limits place line nesting) before) tt (λ more. rw (h more) refl)
+      (widened (levels nesting) (λ x own is. enclosed_term place nesting own is) (inside_good place nesting line primaries before))
+  deep_branch place line nesting before token primaries (of_prefix function mark is h) = goes_in (levels (suc nesting)) (levels nesting) refl (omega arith) (λ ts. primary_at limits place line nesting before ts >>= λ x. Ok (add_unary function x.0, x.1)) tt (λ more. rw (h more) refl)
+      (then_done (levels nesting) {s = (pair limits)} {L = Term place nesting 0} (add_unary function) (λ x. Ok (add_unary function x.0, x.1)) (λ x rest. refl) (λ x own t. prefixed_term place nesting function mark own is t) (primaries before))
   deep_branch place line nesting before token primaries (of_call function word is h) =
-      goes (λ ts. mark_at (codes "(") line ts >>= λ behind. (inside_at line (primary_at limits place line nesting) before behind >>= λ x. Ok (add_unary function x.0, x.1))) (noun_other word (kinds.function function is))
+      goes_in (levels (suc nesting)) (levels nesting) refl (omega arith) (λ ts. mark_at (codes "(") line ts >>= λ behind. (inside_at line (primary_at limits place line nesting) before behind >>= λ x. Ok (add_unary function x.0, x.1))) (noun_other word (kinds.function function is))
       (λ more. rw (h more) (bind_named limits (mark_at (codes "(") line more) (Call function) _))
-      (then limits {s = (bare limits)} _ {L = λ u own. own ≡ Mark (codes "(") ∷ []} {M = λ u y own. IsTerm place (suc nesting) 0 (Word word ∷ Mark (codes "(") ∷ own)}
+      (then (levels nesting) {s = (bare limits)} _ {L = λ u own. own ≡ Mark (codes "(") ∷ []} {M = λ u y own. IsTerm place (suc nesting) 0 (Word word ∷ Mark (codes "(") ∷ own)}
       (λ u y front back one two. subst (λ (ts : List Token). IsTerm place (suc nesting) 0 (Word word ∷ (ts ++ back))) (sym one) two)
-      (mark_good (codes "(") line)
-      (λ u. then_done limits {s = (pair limits)} {L = λ x. Closed (IsTerm place nesting loosest)} (add_unary function) (λ x. Ok (add_unary function x.0, x.1)) (λ x rest. refl) (λ x own c. called_term place nesting function word own is c) (inside_good place nesting line primaries before)))
+      (mark_good (levels nesting) (codes "(") line)
+      (λ u. then_done (levels nesting) {s = (pair limits)} {L = λ x. Closed (IsTerm place nesting loosest)} (add_unary function) (λ x. Ok (add_unary function x.0, x.1)) (λ x rest. refl) (λ x own c. called_term place nesting function word own is c) (inside_good place nesting line primaries before)))
   deep_branch place line nesting before token primaries (of_width h) =
-      goes (λ ts. mark_at (codes "(") line ts >>= λ behind. (measured_at limits line behind >>= λ x. Ok (before ++ raw_nodes.Width x.0 ∷ [], x.1))) (noun_other (codes "width") (kinds.width refl))
+      goes_in (levels (suc nesting)) (levels nesting) refl (omega arith) (λ ts. mark_at (codes "(") line ts >>= λ behind. (measured_at limits line behind >>= λ x. Ok (before ++ raw_nodes.Width x.0 ∷ [], x.1))) (noun_other (codes "width") (kinds.width refl))
       (λ more. rw (h more) (bind_named limits (mark_at (codes "(") line more) Width _))
-      (then limits {s = (bare limits)} _ {L = λ u own. own ≡ Mark (codes "(") ∷ []} {M = λ u y own. IsTerm place (suc nesting) 0 (Word (codes "width") ∷ Mark (codes "(") ∷ own)}
+      (then (levels nesting) {s = (bare limits)} _ {L = λ u own. own ≡ Mark (codes "(") ∷ []} {M = λ u y own. IsTerm place (suc nesting) 0 (Word (codes "width") ∷ Mark (codes "(") ∷ own)}
       (λ u y front back one two. subst (λ (ts : List Token). IsTerm place (suc nesting) 0 (Word (codes "width") ∷ (ts ++ back))) (sym one) two)
-      (mark_good (codes "(") line)
-      (λ u. then_done limits {s = (pair limits)} {L = Measured} (λ name. before ++ raw_nodes.Width name ∷ []) (λ x. Ok (before ++ raw_nodes.Width x.0 ∷ [], x.1)) (λ x rest. refl) (λ x own m. width_term place nesting x own m) (measured_good line)))
+      (mark_good (levels nesting) (codes "(") line)
+      (λ u. then_done (levels nesting) {s = (pair limits)} {L = Measured} (λ name. before ++ raw_nodes.Width name ∷ []) (λ x. Ok (before ++ raw_nodes.Width x.0 ∷ [], x.1)) (λ x rest. refl) (λ x own m. width_term place nesting x own m) (measured_good nesting line)))
 
   zero_term : (place : TermPlace) (nesting : ℕ) → IsTerm place nesting 0 (Number [] ∷ [])
   zero_term place nesting = leaf_term place nesting (raw_nodes.Literal (literal_value [])) (Number [] ∷ []) ([], refl, refl)
 
-  pub primary_good : (place : TermPlace) (line nesting : ℕ) (before : List RawNode) → Good limits (pair limits) (primary_at limits place line nesting before) (Term place nesting 0) line
+  pub primary_good : (place : TermPlace) (line nesting : ℕ) (before : List RawNode) → Good (levels nesting) (pair limits) (primary_at limits place line nesting before) (Term place nesting 0) line
   unfolding primary_at start_at
-  primary_good place line zero before = by_token limits (before, Number [] ∷ [], zero_term place zero) (λ token. shallow_branch place line before token (opens (FitsAt place zero) (Lack limits (primary_at limits place line zero before) []) place line (leaves_at place zero) token)) (fault line Syntax, refl, refl, refl)
-  primary_good place line (suc nesting) before = by_token limits (before, Number [] ∷ [], zero_term place (suc nesting)) (λ token. deep_branch place line nesting before token (primary_good place line nesting) (opens (FitsAt place (suc nesting)) (Lack limits (primary_at limits place line (suc nesting) before) []) place line (leaves_at place (suc nesting)) token)) (fault line Syntax, refl, refl, refl)
+  primary_good place line zero before = by_token (levels zero) (before, Number [] ∷ [], zero_term place zero) (λ token. shallow_branch place line before token (opens zero (FitsAt place zero) (Lack limits (primary_at limits place line zero before) []) place line (leaves_at place zero) token)) (fault line Syntax, refl, refl, refl)
+  primary_good place line (suc nesting) before = by_token (levels (suc nesting)) (before, Number [] ∷ [], zero_term place (suc nesting)) (λ token. deep_branch place line nesting before token (primary_good place line nesting) (opens (suc nesting) (FitsAt place (suc nesting)) (Lack limits (primary_at limits place line (suc nesting) before) []) place line (leaves_at place (suc nesting)) token)) (fault line Syntax, refl, refl, refl)
 
-  pub term_good : (place : TermPlace) (nesting line : ℕ) → Good limits (pair limits) (term_at limits place nesting line) (Term place nesting loosest) line
+  pub term_good : (place : TermPlace) (nesting line : ℕ) → Good (levels nesting) (pair limits) (term_at limits place nesting line) (Term place nesting loosest) line
   unfolding term_at
   term_good place nesting line = operand_good place nesting line loosest (primary_good place line nesting) []

@@ -1,5 +1,5 @@
 -- What holds of the faults of rule files.
-use Rattle.std.specs.Prelude.{◌≡◌, ◌⊎◌, ℕ, ◌+◌, ◌≤◌, List, [], ◌∷◌, ◌++◌}
+use Rattle.std.specs.Prelude.{◌≡◌, ◌⊎◌, ℕ, ◌+◌, ◌≤◌, List, [], ◌∷◌, ◌++◌, length}
 use Rattle.rule_tokens.specs.declared.fault.RuleFaultKind.{RuleFaultKind}
 use Rattle.rule_tokens.specs.declared.fault.RuleFaultKind.TheVariants.{Syntax, LeftOut, TooMany}
 use Rattle.rule_tokens.specs.RuleFaults.{RuleFault}
@@ -17,8 +17,8 @@ use Rattle.rule_tokens.specs.Limits.{Limits}
 -- that is left out repeats no flag.
 pub record DoesNotFit (limits : Limits) (front : List Token) (token : Token) (behind : List Token) (kind : RuleFaultKind) : Type 0 where
   pub misfit : ¬ FitsBehind limits front token
-  pub told : IsMisfit limits (FitsBehind limits front) token behind kind ⊎ IsOtherVersion (FitsBehind limits front) token kind
-  pub no_noun : kind ≡ Syntax → (word : List ℕ) → token ≡ Word word → NounFits (FitsBehind limits front) → IsExcused (FitsBehind limits front) front word
+  pub told : IsMisfit limits (length front) (FitsBehind limits front) token behind kind ⊎ IsOtherVersion (FitsBehind limits front) token kind
+  pub no_noun : kind ≡ Syntax → (word : List ℕ) → token ≡ Word word → NounFits (FitsBehind limits front) → IsExcused limits (FitsBehind limits front) front word
   pub repeats_none : (left : List ℕ) → kind ≡ LeftOut left → ¬ RepeatsFlag front left
 
 -- The token fits, and with it a rule has more than 256 operands, literals, names, operators and functions.

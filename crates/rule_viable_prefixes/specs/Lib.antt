@@ -1,4 +1,5 @@
 pub mod Fits
 pub mod Laws
 pub mod Misfits
+pub mod OneKind
 pub mod WiderLimits

@@ -50,9 +50,10 @@ pub data Nests : Token → Type 0 where
   negation : Nests (Mark (codes "!"))
   test : (predicate : Predicate) → Nests (Word (predicate_word predicate))
 
--- One of them may not stand where an operand of one token may: it is nested too deep.
-abbrev pub IsTooDeep : Fitting → Token → Type 0
-IsTooDeep fits token = Nests token × fits (Number (codes "0"))
+-- One of them may not stand where an operand of one token may, behind so many tokens that as many are nested as may be: it is nested
+-- too deep.
+abbrev pub IsTooDeep : Limits → ℕ → Fitting → Token → Type 0
+IsTooDeep limits before fits token = (limits.nested ≤ before) × Nests token × fits (Number (codes "0"))
 
 -- ---- words that are told as `Syntax` though a noun fits
 
@@ -62,13 +63,13 @@ RepeatsFlag front word =
     (before : List Token) × (flag : Flag) × (flags : List Flag) × (word ≡ flag_keyword flag)
     × (front ≡ before ++ map (λ f. Word (flag_keyword f)) (flag ∷ flags))
 
-pub data IsExcused (fits : Fitting) (front : List Token) (word : List ℕ) : Type 0 where
+pub data IsExcused (limits : Limits) (fits : Fitting) (front : List Token) (word : List ℕ) : Type 0 where
   -- it is a word of `Pre:` that may stand elsewhere: `%r = hasOneUse`
-  one_use : word ≡ codes "hasOneUse" → IsExcused fits front word
+  one_use : word ≡ codes "hasOneUse" → IsExcused limits fits front word
   -- the instruction has the flag already: `%r = add nuw nuw`
-  repeated : RepeatsFlag front word → IsExcused fits front word
+  repeated : RepeatsFlag front word → IsExcused limits fits front word
   -- a function or a predicate is nested too deep: `log2 +` behind 32 `(`
-  nested : IsTooDeep fits (Word word) → IsExcused fits front word
+  nested : IsTooDeep limits (length front) fits (Word word) → IsExcused limits fits front word
 
 -- ---- limits
 
@@ -81,26 +82,26 @@ IsTooLong limits fits token IsOfSort name =
 abbrev pub HalfEnds : Fitting → Type 0
 HalfEnds fits = fits Arrow ⊎ fits (Head (codes "Name:"))
 
--- With the token a limit of names, statements or nesting is passed.
-pub data IsTooMany (limits : Limits) (fits : Fitting) : Token → Type 0 where
-  name : (name : List ℕ) → IsTooLong limits fits Name (λ text. 1 ≤ length text) name → IsTooMany limits fits (Name name)
-  register : (name : List ℕ) → IsTooLong limits fits Register (λ text. Unit {0}) name → IsTooMany limits fits (Register name)
-  constant : (name : List ℕ) → IsTooLong limits fits Word (λ word. IsTrue (is_constant word)) name → IsTooMany limits fits (Word name)
-  choice : (name : List ℕ) → IsTooLong limits fits Word (λ word. (place : ℕ) × IsChoice word place) name → IsTooMany limits fits (Word name)
+-- With the token, which stands behind so many, a limit of names, statements or nesting is passed.
+pub data IsTooMany (limits : Limits) (before : ℕ) (fits : Fitting) : Token → Type 0 where
+  name : (name : List ℕ) → IsTooLong limits fits Name (λ text. 1 ≤ length text) name → IsTooMany limits before fits (Name name)
+  register : (name : List ℕ) → IsTooLong limits fits Register (λ text. Unit {0}) name → IsTooMany limits before fits (Register name)
+  constant : (name : List ℕ) → IsTooLong limits fits Word (λ word. IsTrue (is_constant word)) name → IsTooMany limits before fits (Word name)
+  choice : (name : List ℕ) → IsTooLong limits fits Word (λ word. (place : ℕ) × IsChoice word place) name → IsTooMany limits before fits (Word name)
   -- the register of one more statement, where the half may end
-  statement : (name : List ℕ) → HalfEnds fits → IsTooMany limits fits (Register name)
-  nesting : (token : Token) → IsTooDeep fits token → IsTooMany limits fits token
+  statement : (name : List ℕ) → HalfEnds fits → IsTooMany limits before fits (Register name)
+  nesting : (token : Token) → IsTooDeep limits before fits token → IsTooMany limits before fits token
 
 -- ---- kinds
 
 -- What a kind says of the token itself: it is a byte that may not stand; with it a limit is passed; it is a word that is left out, not
 -- `hasOneUse`, and a noun fits in its place; or it is no byte that may not stand. No token is of another kind.
-abbrev pub Says : Limits → Fitting → Token → RuleFaultKind → Type 0
-Says limits fits token BadByte = token ≡ Bad
-Says limits fits token TooMany = IsTooMany limits fits token
-Says limits fits token (LeftOut left) = (token ≡ Word left) × (left ≢ codes "hasOneUse") × NounFits fits
-Says limits fits token Syntax = token ≢ Bad
-Says limits fits token kind = ⊥
+abbrev pub Says : Limits → ℕ → Fitting → Token → RuleFaultKind → Type 0
+Says limits before fits token BadByte = token ≡ Bad
+Says limits before fits token TooMany = IsTooMany limits before fits token
+Says limits before fits token (LeftOut left) = (token ≡ Word left) × (left ≢ codes "hasOneUse") × NounFits fits
+Says limits before fits token Syntax = token ≢ Bad
+Says limits before fits token kind = ⊥
 
 -- what the kind of a fault at the first of these tokens is where no word is left out and no other limit is passed
 abbrev pub kind_at : List Token → RuleFaultKind
@@ -108,14 +109,14 @@ kind_at (Bad ∷ tokens) = BadByte
 kind_at tokens = Syntax
 
 -- A function or a predicate that is nested too deep, with no `(` behind it, is told as the token behind it is: `log2 +` behind 32 `(`.
-abbrev pub IsReadOn : Fitting → Token → List Token → RuleFaultKind → Type 0
-IsReadOn fits token behind kind =
-    (word : List ℕ) × (token ≡ Word word) × IsTooDeep fits token × ((more : List Token) → behind ≢ Mark (codes "(") ∷ more) × (kind ≡ kind_at behind)
+abbrev pub IsReadOn : Limits → ℕ → Fitting → Token → List Token → RuleFaultKind → Type 0
+IsReadOn limits before fits token behind kind =
+    (word : List ℕ) × (token ≡ Word word) × IsTooDeep limits before fits token × ((more : List Token) → behind ≢ Mark (codes "(") ∷ more) × (kind ≡ kind_at behind)
 
--- what the kind of a fault says of its token, before these others
-pub data IsMisfit (limits : Limits) (fits : Fitting) (token : Token) (behind : List Token) (kind : RuleFaultKind) : Type 0 where
-  itself : Says limits fits token kind → IsMisfit limits fits token behind kind
-  read_on : IsReadOn fits token behind kind → IsMisfit limits fits token behind kind
+-- what the kind of a fault says of its token, which stands behind so many others, and before these
+pub data IsMisfit (limits : Limits) (before : ℕ) (fits : Fitting) (token : Token) (behind : List Token) (kind : RuleFaultKind) : Type 0 where
+  itself : Says limits before fits token kind → IsMisfit limits before fits token behind kind
+  read_on : IsReadOn limits before fits token behind kind → IsMisfit limits before fits token behind kind
 
 -- It is the number of a version, left out where that of the first one fits.
 abbrev pub IsOtherVersion : Fitting → Token → RuleFaultKind → Type 0

@@ -1,5 +1,6 @@
 //! The laws of faults, each the contract of a function that does nothing.
 ghost use Rattle.rule_viable_prefixes.specs.Laws.{FaultsAreWhereTextsDoNotFit};
+ghost use Rattle.rule_viable_prefixes.specs.OneKind.{OtherKindsAreOfWideLimits};
 ghost use Rattle.rule_viable_prefixes.specs.WiderLimits.{
   TextsAreRefusedByLimitsAsTooMany,
   WiderLimitsChangeTooManyAlone,
@@ -18,6 +19,13 @@ pub fn faults_are_where_texts_do_not_fit()
 pub fn limits_are_told_as_too_many()
     ensures wider { WiderLimitsChangeTooManyAlone }
     ensures texts { TextsAreRefusedByLimitsAsTooMany }
+{
+    scan::every_place_has_one_rule_token();
+}
+
+/// What is told by another kind than `TooMany` is told by the one kind that holds where no limit is passed, however wide the limits are.
+pub fn other_kinds_are_of_wide_limits()
+    ensures { OtherKindsAreOfWideLimits }
 {
     scan::every_place_has_one_rule_token();
 }
