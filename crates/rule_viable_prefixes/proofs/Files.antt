@@ -19,11 +19,11 @@ use Rattle.rule_parse.proofs.Readings.{rule_at-shorter, rules_at-is}
 use Rattle.rule_parse.proofs.Spellings.{rules_at-of}
 use Rattle.rule_viable_prefixes.specs.Fits.{line_behind, line_of}
 use Rattle.rule_viable_prefixes.proofs.Lines.{IsNameLine, NamesEndLines, names_behind, name_follows, name_verdict, IsPrecondition, precondition_verdict, IsWitness, witness_verdict, IsHalf, half_opens, some_of_opens, Follows, by_arrow, by_rule, follows_open, source_verdict, target_verdict, IsArrow, arrow_follows, arrow_verdict, verdict_made}
-use Rattle.rule_viable_prefixes.specs.Misfits.{Fitting, IsNoun, NounFits, RepeatsFlag, IsExcused, one_use, repeated, nested, Says, IsMisfit}
+use Rattle.rule_viable_prefixes.specs.Misfits.{openings_on_line, Fitting, IsNoun, NounFits, RepeatsFlag, IsExcused, one_use, repeated, nested, Says, IsMisfit}
 use Rattle.rule_viable_prefixes.proofs.FlagRuns.{IsNew, new_on_line}
-use Rattle.rule_viable_prefixes.proofs.Outcomes.{longer_behind, lack_wider, repeats_behind, Akin, akin, akin_behind, akin_noun, Alike, same, ended, pair, bare, IsErr}
+use Rattle.rule_viable_prefixes.proofs.Outcomes.{lack_wider, repeats_behind, Akin, akin, akin_behind, akin_noun, Alike, same, ended, pair, bare, IsErr}
 use Rattle.rule_viable_prefixes.proofs.Tolds.{Excuse, Told, says_wider, SaysFirst}
-use Rattle.rule_viable_prefixes.proofs.Rules.{GoesOn, Whole, Within, Missed, Verdict, verdict_both, verdict_wider, begins_line, line_of_both, starts_line}
+use Rattle.rule_viable_prefixes.proofs.Rules.{on_new_line, GoesOn, Whole, Within, Missed, Verdict, verdict_both, verdict_wider, begins_line, line_of_both, starts_line}
 use Rattle.rule_tokens.specs.declared.version.Version.{Version}
 use Rattle.rule_tokens.specs.Limits.{Limits}
 use Rattle.rule_viable_prefixes.proofs.Roomy.{roomy}
@@ -156,7 +156,7 @@ module _ (spare_bytes deepest spare_statements : ℕ) (version : Version) where
     begins : (more : List Token) × AreRules (Line number ∷ front ++ more)
     misfit : (more : List Token) → Alike behind more → AreRules (Line number ∷ front ++ more) → ⊥
     here : found.line ≡ line_behind number front
-    says : SaysFirst limits (length front) (RulesGoOn number front) (RulesLack number front) behind found.kind
+    says : SaysFirst limits (openings_on_line front) (RulesGoOn number front) (RulesLack number front) behind found.kind
     new : IsNew front found.kind
 
   -- missed at the end
@@ -182,7 +182,7 @@ module _ (spare_bytes deepest spare_statements : ℕ) (version : Version) where
         let f = rules_first last (Line w.number) (w.front ++ more) rules in
         ok_no_err (rule_at limits version last (Line w.number ∷ w.front ++ more)) f.0 f.1 (w.refused more alike);
     here = w.here;
-    says = says_wider limits (length w.front) (length w.front) (omega arith) (GoesOn limits IsRule AreRules w.number w.front) (RulesGoOn w.number w.front) (λ token c. (c.0, rules_made (Line w.number ∷ (w.front ++ token ∷ []) ++ c.0) c.1)) w.behind
+    says = says_wider limits (openings_on_line w.front) (openings_on_line w.front) (omega arith) (GoesOn limits IsRule AreRules w.number w.front) (RulesGoOn w.number w.front) (λ token c. (c.0, rules_made (Line w.number ∷ (w.front ++ token ∷ []) ++ c.0) c.1)) w.behind
         (λ word r is_word. lack_wider limits [] w.front w.front word refl (λ n noun is_noun more rules.
         let f = rules_first last (Line w.number) (w.front ++ Word noun ∷ more) rules in
         ok_no_err (rule_at limits version last (Line w.number ∷ w.front ++ Word noun ∷ more)) f.0 f.1 (n noun is_noun more))) found.kind w.says;
@@ -232,7 +232,7 @@ module _ (spare_bytes deepest spare_statements : ℕ) (version : Version) where
             begins = (w.begins.0, subst (λ (ts : List Token). AreRules (Line start.0 ∷ ts)) (sym (append_assoc own (Line w.number ∷ w.front) w.begins.0)) (rules_of (Line start.0 ∷ own) (Line w.number ∷ w.front ++ w.begins.0) as_line w.begins.1));
             misfit = λ more alike rules. no_rules (Line start.0) own more as_line (akin_behind w.front w.behind more (akin alike)) (w.misfit more alike) (subst (λ (ts : List Token). AreRules (Line start.0 ∷ ts)) (append_assoc own (Line w.number ∷ w.front) more) rules);
             here = w.here ∙ sym (line_of_both limits own w.front start.0 w.number);
-            says = says_wider limits (length w.front) (length (own ++ Line w.number ∷ w.front)) (let le = longer_behind own (Line w.number ∷ w.front) in omega (arith, le)) (RulesGoOn w.number w.front) (RulesGoOn start.0 (own ++ Line w.number ∷ w.front))
+            says = says_wider limits (openings_on_line w.front) (openings_on_line (own ++ Line w.number ∷ w.front)) (let same_line = on_new_line limits own w.front 0 w.number in omega (arith, same_line)) (RulesGoOn w.number w.front) (RulesGoOn start.0 (own ++ Line w.number ∷ w.front))
                 (λ token a.
                 let whole : (own ++ (Line w.number ∷ w.front)) ++ token ∷ [] ≡ own ++ Line w.number ∷ (w.front ++ token ∷ []) = append_assoc own (Line w.number ∷ w.front) (token ∷ []) in
                 let all : ((own ++ (Line w.number ∷ w.front)) ++ token ∷ []) ++ a.0 ≡ own ++ Line w.number ∷ ((w.front ++ token ∷ []) ++ a.0) =
@@ -288,9 +288,9 @@ module _ (spare_bytes deepest spare_statements : ℕ) (version : Version) where
     pub fits : Fit (Line number ∷ inner)
     pub misfit : ¬ FitBehind (Line number ∷ inner) token
     pub line : found.line ≡ line_behind number inner
-    pub told : token ≢ Excess → IsMisfit limits (suc (length inner)) (FitBehind (Line number ∷ inner)) token behind found.kind
+    pub told : token ≢ Excess → IsMisfit limits (openings_on_line inner) (FitBehind (Line number ∷ inner)) token behind found.kind
     pub excess : token ≡ Excess → found.kind ≡ TooMany
-    pub in_front : token ≢ Excess → (more : List Token) → behind ≡ Excess ∷ more → Says limits (suc (length inner)) (FitBehind (Line number ∷ inner)) token found.kind
+    pub in_front : token ≢ Excess → (more : List Token) → behind ≡ Excess ∷ more → Says limits (openings_on_line inner) (FitBehind (Line number ∷ inner)) token found.kind
     pub no_noun : found.kind ≡ Syntax → (word : List ℕ) → token ≡ Word word → NounFits (FitBehind (Line number ∷ inner)) → IsExcused limits (FitBehind (Line number ∷ inner)) (Line number ∷ inner) word
     pub new : IsNew inner found.kind
 
@@ -323,11 +323,11 @@ module _ (spare_bytes deepest spare_statements : ℕ) (version : Version) where
     new = w.new;
   })
     where
-      told : Told limits (suc (length w.front)) (FitBehind (Line w.number ∷ w.front)) (RulesLack w.number w.front) token behind found.kind
-      told = says_wider limits (length w.front) (suc (length w.front)) (omega arith) (RulesGoOn w.number w.front) (FitBehind (Line w.number ∷ w.front)) (λ other a. (a.1.0, a.0, a.1.1)) (token ∷ behind) (λ word r is_word n. n) found.kind
-          (subst (λ (ts : List Token). SaysFirst limits (length w.front) (RulesGoOn w.number w.front) (RulesLack w.number w.front) ts found.kind) is w.says)
+      told : Told limits (openings_on_line w.front) (FitBehind (Line w.number ∷ w.front)) (RulesLack w.number w.front) token behind found.kind
+      told = says_wider limits (openings_on_line w.front) (openings_on_line w.front) (omega arith) (RulesGoOn w.number w.front) (FitBehind (Line w.number ∷ w.front)) (λ other a. (a.1.0, a.0, a.1.1)) (token ∷ behind) (λ word r is_word n. n) found.kind
+          (subst (λ (ts : List Token). SaysFirst limits (openings_on_line w.front) (RulesGoOn w.number w.front) (RulesLack w.number w.front) ts found.kind) is w.says)
 
-      by : (word : List ℕ) → Excuse limits (suc (length w.front)) (FitBehind (Line w.number ∷ w.front)) word ⊎ RulesLack w.number w.front word → NounFits (FitBehind (Line w.number ∷ w.front)) → IsExcused limits (FitBehind (Line w.number ∷ w.front)) (Line w.number ∷ w.front) word
+      by : (word : List ℕ) → Excuse limits (openings_on_line w.front) (FitBehind (Line w.number ∷ w.front)) word ⊎ RulesLack w.number w.front word → NounFits (FitBehind (Line w.number ∷ w.front)) → IsExcused limits (FitBehind (Line w.number ∷ w.front)) (Line w.number ∷ w.front) word
       by word (inl (inl is_word)) noun = one_use is_word
       by word (inl (inr deep)) noun = nested deep
       by word (inr (inl repeats)) noun = repeated (repeats_behind limits (Line w.number ∷ []) w.front (Line w.number ∷ w.front) word refl repeats)
@@ -339,7 +339,7 @@ module _ (spare_bytes deepest spare_statements : ℕ) (version : Version) where
       inr (record {
         fits = (w.begins.1.0, w.begins.0, subst (λ (ts : List Token). SpellsRules limits version w.begins.1.0 (ts ++ w.begins.0)) (sym whole) w.begins.1.1);
         no_rules = λ rules spelled. w.misfit [] (at_end [] tt) (rules, subst (SpellsRules limits version rules) (whole ∙ sym (ap (λ (ts : List Token). Line w.number ∷ ts) (append-nil w.front))) spelled);
-        kind = subst (λ (ts : List Token). SaysFirst limits (length w.front) (RulesGoOn w.number w.front) (RulesLack w.number w.front) ts found.kind) is w.says;
+        kind = subst (λ (ts : List Token). SaysFirst limits (openings_on_line w.front) (RulesGoOn w.number w.front) (RulesLack w.number w.front) ts found.kind) is w.says;
         line = inr (
           (λ fits.
               w.misfit (Line fits.0 ∷ fits.1.1) (at_end (Line fits.0 ∷ fits.1.1) tt)

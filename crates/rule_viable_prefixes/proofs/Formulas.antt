@@ -41,12 +41,12 @@ use Rattle.rule_terms.proofs.Starts.{mark_at-is}
 use Rattle.rule_viable_prefixes.specs.Misfits as kinds
 use Rattle.rule_viable_prefixes.specs.Misfits.{Fitting, IsNoun, Nests, IsTooDeep}
 use Rattle.rule_viable_prefixes.proofs.Nouns.{constant_noun, not_in_formulas, predicate_other, one_use_other}
-use Rattle.rule_viable_prefixes.proofs.Outcomes.{lack_wider, Lack, NoNoun, Takes, Alike, same, ended, NoLine, Spelling, Sample, pair, bare, Reader, IsErr, IsErrOn, IsRead, IsRefused, Outcome, Good, then_at, then, refused_here, passed, took, led, led_in, alike_as, widen, Branch, takes, refuses, by_token, with_none, widened, on_line, then_done, own_last}
+use Rattle.rule_viable_prefixes.proofs.Outcomes.{lack_wider, Lack, NoNoun, Takes, Alike, same, ended, NoLine, Spelling, Sample, pair, bare, Reader, IsErr, IsErrOn, IsRead, IsRefused, Outcome, Good, then_at, then, refused_here, passed, took, led, led_in, opened, opens_one, alike_as, widen, Branch, takes, refuses, by_token, with_none, widened, on_line, then_done, own_last}
 use Rattle.rule_viable_prefixes.proofs.Tolds.{Told, IsTold, says_syntax, says_too_many, says_deep, says_wider, says_carried, says_unexpected}
 use Rattle.rule_viable_prefixes.proofs.FlagRuns.{IsNew, new_behind}
 use Rattle.rule_viable_prefixes.proofs.Parentheses.{word_and_equals, seen_again, unseen_again, shorter, longer, cut, opens_at_end, closes, formula_seen, BeginsTerm, loosened, not_both, term_instead, Enclosed, parenthesis_begins}
 use Rattle.rule_viable_prefixes.proofs.Parts.{Spelled, then_seq, ends_alike, refused_token, then_end, chain_good}
-use Rattle.rule_viable_prefixes.proofs.Terms.{Named, is_short, is_long, named, mark_good, IsTerm, Term, term_good, Closed, parenthesis_missed}
+use Rattle.rule_viable_prefixes.proofs.Terms.{entered, Named, is_short, is_long, named, mark_good, IsTerm, Term, term_good, Closed, parenthesis_missed}
 use Rattle.rule_tokens.specs.Limits.{Limits}
 use Rattle.rule_viable_prefixes.proofs.Roomy.{roomy}
 
@@ -109,11 +109,12 @@ module _ (spare_bytes deepest spare_statements : ℕ) where
   close_done : {B : Type 0} (value : B) (nesting line : ℕ) → Good (levels nesting) (pair limits) (λ ts. mark_at (codes ")") line ts >>= λ behind. Ok (value, behind)) (Spelled limits (Is (Mark (codes ")")))) line
   close_done value nesting line = then_done (levels nesting) {s = (bare limits)} {L = Spelled limits (Is (Mark (codes ")")))} (λ u. value) (λ behind. Ok (value, behind)) (λ u rest. refl) (λ u own is. is) (mark_good (levels nesting) (codes ")") line)
 
-  tests_good : (predicate : Predicate) (nesting line : ℕ) (before : List RawFormula) → Good (levels nesting) (pair limits) (tests_at limits predicate (suc nesting) line before) (Spelled limits (Is (Mark (codes "(")) ⨾ (IsTerm spare_bytes deepest spare_statements) Constant nesting loosest ⨾ Is (Mark (codes ")")))) line
+  tests_good : (predicate : Predicate) (nesting line : ℕ) (before : List RawFormula) → Good (levels (suc nesting)) (pair limits) (tests_at limits predicate (suc nesting) line before) (Spelled limits (Is (Mark (codes "(")) ⨾ (IsTerm spare_bytes deepest spare_statements) Constant nesting loosest ⨾ Is (Mark (codes ")")))) line
   unfolding tests_at
   tests_good predicate nesting line before =
-      then_seq (levels nesting) {s = (bare limits)} {t = (pair limits)} _ (mark_good (levels nesting) (codes "(") line) (λ u.
-      then_seq (levels nesting) {s = (pair limits)} {t = (pair limits)} _ (term_good spare_bytes deepest spare_statements Constant nesting line) (λ term. close_done (before ++ predicate_node predicate term ∷ []) nesting line))
+      widened (levels (suc nesting)) (λ x own c. (Mark (codes "(") ∷ [], c.0, refl, c.1, c.2))
+      (entered spare_bytes deepest spare_statements nesting line _ (Spelled limits (IsTerm spare_bytes deepest spare_statements Constant nesting loosest ⨾ Is (Mark (codes ")"))))
+      (then_seq (levels nesting) {s = (pair limits)} {t = (pair limits)} _ (term_good spare_bytes deepest spare_statements Constant nesting line) (λ term. close_done (before ++ predicate_node predicate term ∷ []) nesting line)))
 
   -- what is told of a predicate where nothing more may be nested
   abbrev IsShallow : {X : Type 0} → ℕ → List Token → Result X RuleFault → Type 0
@@ -409,7 +410,7 @@ module _ (spare_bytes deepest spare_statements : ℕ) where
         inline = inline_one (Mark (codes "(")) o.front tt o.inline;
         refused = λ more alike. failed more alike (opens_formula 0 (o.front ++ more)) refl;
         here = o.here;
-        says = says_carried (levels nesting) (levels (suc nesting)) (length o.front) (suc (length o.front)) refl (λ far. omega (arith, far)) (Takes limits (Spelled limits (Closed spare_bytes deepest spare_statements (IsFormula Within Alternatives nesting))) o.front) (Takes limits (Spelled limits (IsFormula standing Member (suc nesting))) (Mark (codes "(") ∷ o.front))
+        says = says_carried (levels nesting) (levels (suc nesting)) (opened o.front) (opened (Mark (codes "(") ∷ o.front)) refl (λ far. opens_one (codes "(") nesting refl o.front far) (Takes limits (Spelled limits (Closed spare_bytes deepest spare_statements (IsFormula Within Alternatives nesting))) o.front) (Takes limits (Spelled limits (IsFormula standing Member (suc nesting))) (Mark (codes "(") ∷ o.front))
             (λ token b. (b.0, b.1, closed_formula standing nesting ((o.front ++ token ∷ []) ++ b.1) b.2)) o.behind (λ word r is_word. lack_wider limits (Mark (codes "(") ∷ []) o.front (Mark (codes "(") ∷ o.front) word refl (λ n noun is_noun more. no_noun n noun is_noun more (opens_formula 0 (o.front ++ Word noun ∷ more)) refl)) e.kind o.says;
         new = new_behind (Mark (codes "(") ∷ []) o.front e.kind (inl (λ flag is. cc)) o.new;
       }
@@ -495,7 +496,7 @@ module _ (spare_bytes deepest spare_statements : ℕ) where
                 inline = subst (Rattle.rule_viable_prefixes.proofs.Outcomes.Inline limits) whole o.inline;
                 refused = λ more alike. failed front more whole there alike (opens_formula 0 (front ++ more)) refl;
                 here = o.here;
-                says = says_wider (levels (suc nesting)) (length o.front) (length (Mark (codes "(") ∷ front)) (omega (arith, ap length whole)) (Takes limits (Spelled limits (IsCompared (suc nesting))) o.front) (Takes limits (Spelled limits (IsFormula standing Member (suc nesting))) (Mark (codes "(") ∷ front))
+                says = says_wider (levels (suc nesting)) (opened o.front) (opened (Mark (codes "(") ∷ front)) (omega (arith, ap opened whole)) (Takes limits (Spelled limits (IsCompared (suc nesting))) o.front) (Takes limits (Spelled limits (IsFormula standing Member (suc nesting))) (Mark (codes "(") ∷ front))
                     (λ token b. (b.0, b.1, subst (λ (ts : List Token). IsFormula standing Member (suc nesting) ((ts ++ token ∷ []) ++ b.1)) whole (compared standing (suc nesting) ((o.front ++ token ∷ []) ++ b.1) b.2))) o.behind
                     (λ word r is_word. lack_wider limits [] o.front (Mark (codes "(") ∷ front) word (sym whole) (λ n noun is_noun more. no_noun front whole there (subst (NoNoun limits (compares_at limits (suc nesting) line before)) whole n) noun is_noun more (opens_formula 0 (front ++ Word noun ∷ more)) refl)) e.kind o.says;
                 new = subst (λ (ts : List Token). IsNew ts e.kind) whole o.new;
@@ -609,7 +610,7 @@ module _ (spare_bytes deepest spare_statements : ℕ) where
       refused_token (levels zero) (pair limits) (member_at limits zero line before) (Spelled limits (IsFormula standing Member zero)) line (Mark (codes "!")) rest (member_sample standing zero line before) (λ p. p)
       (λ more. (fault line TooMany, turns-too_deep limits zero line before (Mark (codes "!") ∷ more) (fault line TooMany) refl refl, refl, says_too_many (levels zero) (Mark (codes "!")) more (kinds.nesting (Mark (codes "!")) (too_deep standing (Mark (codes "!")) kinds.negation))))
   turned_outcome standing (suc nesting) line before rest inner =
-      led_in (levels nesting) (levels (suc nesting)) refl (omega arith) (pair limits) (member_at limits (suc nesting) line before) (turns_at (member_at limits nesting line) before) (Spelled limits (IsFormula standing Member (suc nesting))) line (Mark (codes "!")) rest tt (λ more. member-turns limits (suc nesting) line nesting before (Mark (codes "!") ∷ more) refl refl)
+      led_in (levels nesting) (levels (suc nesting)) refl (Mark (codes "!")) (λ front far. opens_one (codes "!") nesting refl front far) (pair limits) (member_at limits (suc nesting) line before) (turns_at (member_at limits nesting line) before) (Spelled limits (IsFormula standing Member (suc nesting))) line rest tt (λ more. member-turns limits (suc nesting) line nesting before (Mark (codes "!") ∷ more) refl refl)
       (widen (levels nesting) (pair limits) (turns_at (member_at limits nesting line) before) (Spelled limits (IsFormula Within Member nesting)) (λ x own. IsFormula standing Member (suc nesting) (Mark (codes "!") ∷ own)) line rest (λ x own is. turned standing nesting own is) (turns_at (member_at limits nesting line) before rest) ((turns_good nesting line (member_at limits nesting line) inner before).outcome rest))
 
   predicate_outcome : (standing : Standing) (nesting line : ℕ) (before : List RawFormula) (word : List ℕ) (rest : List Token) (predicate : Predicate) → predicate_in word ≡ Some predicate → MemberIs standing nesting line before (Word word ∷ rest)
@@ -629,8 +630,8 @@ module _ (spare_bytes deepest spare_statements : ℕ) where
   predicate_outcome standing (suc nesting) line before word rest predicate f =
       let opened : opening_at (Word word ∷ []) ≡ Tests predicate = rw f refl in
       let is : Word word ∷ [] ≡ Word (predicate_word predicate) ∷ [] = subst (λ (o : Opening). Rattle.rule_terms.proofs.FormulaReadings.StartsSo limits o (Word word ∷ [])) opened (opening_at-is limits (Word word ∷ [])) in
-      led_in (levels nesting) (levels (suc nesting)) refl (omega arith) (pair limits) (member_at limits (suc nesting) line before) (tests_at limits predicate (suc nesting) line before) (Spelled limits (IsFormula standing Member (suc nesting))) line (Word word) rest (λ flag equal. predicate_other predicate flag (let word_is : predicate_word predicate ≡ word = cc in word_is ∙ equal)) (λ more. member-tests limits (suc nesting) line predicate before (Word word ∷ more) (rw f refl))
-      (widen (levels nesting) (pair limits) (tests_at limits predicate (suc nesting) line before) (Spelled limits (Is (Mark (codes "(")) ⨾ (IsTerm spare_bytes deepest spare_statements) Constant nesting loosest ⨾ Is (Mark (codes ")")))) (λ x own. IsFormula standing Member (suc nesting) (Word word ∷ own)) line rest
+      led (levels (suc nesting)) (pair limits) (member_at limits (suc nesting) line before) (tests_at limits predicate (suc nesting) line before) (Spelled limits (IsFormula standing Member (suc nesting))) line (Word word) rest (λ flag equal. predicate_other predicate flag (let word_is : predicate_word predicate ≡ word = cc in word_is ∙ equal)) (λ more. member-tests limits (suc nesting) line predicate before (Word word ∷ more) (rw f refl))
+      (widen (levels (suc nesting)) (pair limits) (tests_at limits predicate (suc nesting) line before) (Spelled limits (Is (Mark (codes "(")) ⨾ (IsTerm spare_bytes deepest spare_statements) Constant nesting loosest ⨾ Is (Mark (codes ")")))) (λ x own. IsFormula standing Member (suc nesting) (Word word ∷ own)) line rest
       (λ x own h. subst (λ (ts : List Token). IsFormula standing Member (suc nesting) (ts ++ own)) (sym is) (tested standing predicate nesting own h)) (tests_at limits predicate (suc nesting) line before rest) ((tests_good predicate nesting line before).outcome rest))
 
   member_outcome : (standing : Standing) (nesting line : ℕ) (before : List RawFormula) (tokens : List Token) → Inner nesting line → MemberIs standing nesting line before tokens
@@ -726,7 +727,7 @@ module _ (spare_bytes deepest spare_statements : ℕ) where
         kept = o.kept;
         apart = o.apart;
       }
-      by tokens (Err f) e o = record { front = o.front; behind = o.behind; there = o.there; begins = (HasOneUse [] ∷ [], o.begins.1, any_first (o.front ++ o.begins.1) o.begins.2); inline = o.inline; refused = o.refused; here = o.here; says = says_wider limits (length o.front) (length o.front) (omega arith) (Takes limits (Spelled limits (IsFormula Outermost Members limits.nested) {A = List RawFormula}) o.front) (Takes limits First o.front) (λ token b. (HasOneUse [] ∷ [], b.1, any_first ((o.front ++ token ∷ []) ++ b.1) b.2)) o.behind (λ word r is_word n. n) f.kind o.says; new = o.new }
+      by tokens (Err f) e o = record { front = o.front; behind = o.behind; there = o.there; begins = (HasOneUse [] ∷ [], o.begins.1, any_first (o.front ++ o.begins.1) o.begins.2); inline = o.inline; refused = o.refused; here = o.here; says = says_wider limits (opened o.front) (opened o.front) (omega arith) (Takes limits (Spelled limits (IsFormula Outermost Members limits.nested) {A = List RawFormula}) o.front) (Takes limits First o.front) (λ token b. (HasOneUse [] ∷ [], b.1, any_first ((o.front ++ token ∷ []) ++ b.1) b.2)) o.behind (λ word r is_word n. n) f.kind o.says; new = o.new }
 
   -- what onward on with members, of which one may ask for one use
   abbrev After : Bool → Part

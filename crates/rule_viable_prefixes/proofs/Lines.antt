@@ -32,7 +32,7 @@ use Rattle.rule_parse.proofs.Expressions.{expression_shortens}
 use Rattle.rule_parse.proofs.Readings.{name_at-is}
 use Rattle.rule_viable_prefixes.proofs.Formulas.{IsWholeFormula, formula_good}
 use Rattle.rule_viable_prefixes.specs.Misfits as kinds
-use Rattle.rule_viable_prefixes.specs.Misfits.{HalfEnds}
+use Rattle.rule_viable_prefixes.specs.Misfits.{openings_on_line, HalfEnds}
 use Rattle.rule_viable_prefixes.proofs.FlagRuns.{none_new}
 use Rattle.rule_viable_prefixes.proofs.Outcomes.{lack_wider, Lack, Akin, same_next, noun_next, ended_next, akin, akin_behind, akin_noun, NoNoun, Alike, same, ended, alike_itself, alike_behind, Spelling, Shape, pair, bare, Reader, IsErr, IsErrOn, Outcome, Good, then, led, widen, Branch, takes, refuses, by_token, then_done, none_behind, with_none, widened}
 use Rattle.rule_viable_prefixes.proofs.Tolds.{says_wider, says_syntax, says_too_many, says_unexpected}
@@ -159,7 +159,7 @@ module _ (spare_bytes deepest spare_statements : ℕ) (version : Version) where
                 let f = w.refused more alike in
                 (f.0, subst (λ (k : ℕ). R (Line k ∷ w.front ++ more) ≡ S (Line k ∷ w.front ++ more)) first (h (w.front ++ more) (subst (λ (ts : List Token). Akin ts (w.front ++ more)) (sym rest) (akin_behind w.front w.behind more (akin alike)))) ∙ f.1);
             here = w.here;
-            says = says_wider limits (length w.front) (length w.front) (omega arith) (GoesOn limits L F w.number w.front) (GoesOn limits L F w.number w.front) (λ t fits. fits) w.behind
+            says = says_wider limits (openings_on_line w.front) (openings_on_line w.front) (omega arith) (GoesOn limits L F w.number w.front) (GoesOn limits L F w.number w.front) (λ t fits. fits) w.behind
                 (λ word r is_word. lack_wider limits [] w.front w.front word refl (λ n noun is_noun more.
                 let f = n noun is_noun more in (
                   f.0,
@@ -175,7 +175,7 @@ module _ (spare_bytes deepest spare_statements : ℕ) (version : Version) where
     where
       by : (r : Result (A × List Token) RuleFault) → Verdict limits (pair limits) R L F last tokens r → Verdict limits (pair limits) (λ ts. R ts >>= λ x. Ok (f x.0, x.1)) L F last tokens (r >>= λ x. Ok (f x.0, x.1))
       by (Ok x) o = record { value = f o.value; own = o.own; rest = o.rest; is_own = o.is_own; there = o.there; ends = o.ends; is = ap (λ (y : A × List Token). (f y.0, y.1)) o.is; kept = λ n a b e alike. rw (o.kept n a b e alike) refl }
-      by (Err e) (inl w) = inl (record { number = w.number; front = w.front; behind = w.behind; there = w.there; begins = w.begins; refused = λ more alike. let g = w.refused more alike in (g.0, rw g.1 refl); here = w.here; says = says_wider limits (length w.front) (length w.front) (omega arith) (GoesOn limits L F w.number w.front) (GoesOn limits L F w.number w.front) (λ t fits. fits) w.behind (λ word r is_word. lack_wider limits [] w.front w.front word refl (λ n noun is_noun more. let g = n noun is_noun more in (g.0, rw g.1 refl))) e.kind w.says; new = w.new })
+      by (Err e) (inl w) = inl (record { number = w.number; front = w.front; behind = w.behind; there = w.there; begins = w.begins; refused = λ more alike. let g = w.refused more alike in (g.0, rw g.1 refl); here = w.here; says = says_wider limits (openings_on_line w.front) (openings_on_line w.front) (omega arith) (GoesOn limits L F w.number w.front) (GoesOn limits L F w.number w.front) (λ t fits. fits) w.behind (λ word r is_word. lack_wider limits [] w.front w.front word refl (λ n noun is_noun more. let g = n noun is_noun more in (g.0, rw g.1 refl))) e.kind w.says; new = w.new })
       by (Err e) (inr m) = inr (record { begins = m.begins; here = m.here; says = m.says })
 
   -- ---- a part that may be absent

@@ -1,5 +1,5 @@
 -- What is told by another kind than `TooMany`, where the limits are wide.
-use Rattle.std.proofs.Common.{◌≡◌, ◌≢◌, ℕ, ◌+◌, ◌≤◌, List, [], ◌∷◌, ◌++◌, length, Err, refl, sym, ap, ◌∙◌, ◌⊎◌, inl, inr, arith}
+use Rattle.std.proofs.Common.{◌≡◌, ◌≢◌, ℕ, ◌≤◌, List, [], ◌∷◌, ◌++◌, Err, refl, sym, ap, ◌∙◌, ◌⊎◌, inl, inr, arith}
 use Rattle.std.specs.Prelude.{codes}
 use Rattle.scan.specs.Laws.{OneTokenAtAPlace}
 use Rattle.rule_tokens.specs.declared.fault.RuleFaultKind.{RuleFaultKind}
@@ -13,24 +13,19 @@ use Rattle.rule_parse.specs.RuleReaders.{all_rules}
 use Rattle.rule_parse.specs.Text.{IsFaultWithin}
 use Rattle.rule_viable_prefixes.specs.Fits.{FitsBehind}
 use Rattle.rule_viable_prefixes.specs.Laws.{DoesNotFit, IsOneTooMany, IsAtToken, IsAtEnd, AreRoomy}
-use Rattle.rule_viable_prefixes.specs.Misfits.{Fitting, IsExcused, one_use, repeated, nested, Says, IsMisfit, itself, read_on, IsOtherVersion}
-use Rattle.rule_viable_prefixes.specs.OneKind.{IsMisplaced, IsKindOf, IsAtMisfit, OtherKindsAreOfWideLimits}
+use Rattle.rule_viable_prefixes.specs.Misfits.{openings_on_line, Fitting, IsExcused, one_use, repeated, nested, Says, IsMisfit, itself, read_on, IsOtherVersion}
+use Rattle.rule_viable_prefixes.specs.OneKind.{NestsLess, IsMisplaced, IsKindOf, IsAtMisfit, OtherKindsAreOfWideLimits}
 use Rattle.rule_viable_prefixes.proofs.LimitLaws.{fault_is}
 use Rattle.rule_viable_prefixes.proofs.Refusals.{fault_of, faults}
 use Rattle.rule_viable_prefixes.proofs.Wider.{Below, same_answer, too_many}
 use Rattle.rule_viable_prefixes.proofs.WiderRules.{all_rules_below}
 
-longer_with : (front : List Token) (token : Token) (behind : List Token) → length front + 1 ≤ length (front ++ token ∷ behind)
-longer_with [] token behind = omega arith
-longer_with (first ∷ front) token behind = let le = longer_with front token behind in omega (arith, le)
-
-module _ (wide : Limits) (tokens : List Token) (few : length tokens ≤ wide.nested) (found : RuleFault) (other : found.kind ≢ TooMany) (at : IsAtToken wide tokens found) where
+module _ (wide : Limits) (tokens : List Token) (few : NestsLess wide tokens) (found : RuleFault) (other : found.kind ≢ TooMany) (at : IsAtToken wide tokens found) where
   abbrev fits : Fitting
   fits = FitsBehind wide at.front
 
-  -- fewer tokens stand in front than may be nested
-  not_deep : {A : Type 0} → wide.nested ≤ length at.front → A
-  not_deep far = let le = longer_with at.front at.token at.behind in let whole = ap length at.stands in absurd (omega (arith, far, le, whole, few))
+  not_deep : {A : Type 0} → wide.nested ≤ openings_on_line at.front → A
+  not_deep far = let less = few at.front (at.token ∷ at.behind) at.stands in absurd (omega (arith, far, less))
 
   not_excused : (word : List ℕ) → IsMisplaced at.front fits word → IsExcused wide fits at.front word → ⊥
   not_excused word is (one_use same) = is.other same
@@ -40,7 +35,7 @@ module _ (wide : Limits) (tokens : List Token) (few : length tokens ≤ wide.nes
   is_kind : (kind : RuleFaultKind) → kind ≢ TooMany → DoesNotFit wide at.front at.token at.behind kind → IsKindOf at.front fits at.token kind
   is_kind kind apart misfit = by kind apart misfit misfit.told
     where
-      by : (k : RuleFaultKind) → k ≢ TooMany → DoesNotFit wide at.front at.token at.behind k → IsMisfit wide (length at.front) fits at.token at.behind k ⊎ IsOtherVersion fits at.token k → IsKindOf at.front fits at.token k
+      by : (k : RuleFaultKind) → k ≢ TooMany → DoesNotFit wide at.front at.token at.behind k → IsMisfit wide (openings_on_line at.front) fits at.token at.behind k ⊎ IsOtherVersion fits at.token k → IsKindOf at.front fits at.token k
       by k apart misfit (inl (read_on (word, is, (far, nests, more), missed, told))) = not_deep far
       by k apart misfit (inr (left, is, told, one)) = rw told (inr (is, one))
       by BadByte apart misfit (inl (itself is)) = is

@@ -1,15 +1,15 @@
 -- What a reader does on a line, said so that it composes: it reads tokens in front, whatever stands behind the next one, or it refuses
 -- what stands behind a front that some other tokens complete.
-use Rattle.std.proofs.Common.{◌≡◌, ℕ, suc, ◌≤◌, List, [], ◌∷◌, ◌++◌, length, map, Result, Ok, Err, refl, sym, ap, subst, ◌∙◌, append_assoc, ◌⊎◌, inl, inr, arith}
+use Rattle.std.proofs.Common.{◌≡◌, ℕ, suc, ◌+◌, ◌≤◌, List, [], ◌∷◌, ◌++◌, length, map, Result, Ok, Err, refl, sym, ap, subst, ◌∙◌, append_assoc, ◌⊎◌, inl, inr, arith}
 use Rattle.std.proofs.lemmas.List.{append-nil}
 use Rattle.rule_tokens.specs.declared.fault.RuleFaultKind.{RuleFaultKind}
 use Rattle.rule_tokens.specs.declared.fault.RuleFaultKind.TheVariants.{Syntax}
 use Rattle.rule_tokens.specs.RuleFaults.{RuleFault}
 use Rattle.rule_tokens.specs.Steps.{◌>>=◌}
-use Rattle.rule_tokens.specs.Tokens.{Token, Line, Word}
+use Rattle.rule_tokens.specs.Tokens.{Token, Line, Word, Mark}
 use Rattle.rule_tokens.proofs.Ends.{EndsLine}
 use Rattle.rule_viable_prefixes.specs.Fits.{line_behind}
-use Rattle.rule_viable_prefixes.specs.Misfits.{Fitting, IsNoun, RepeatsFlag}
+use Rattle.rule_viable_prefixes.specs.Misfits.{Fitting, IsNoun, openings, RepeatsFlag}
 use Rattle.ops.specs.FlagKeywords.{flag_keyword}
 use Rattle.ops.specs.declared.keywords.flag.Flag.{Flag}
 use Rattle.rule_viable_prefixes.proofs.FlagRuns.{NoFlag, NoFlagLast, IsNew, new_behind, none_new, last_of_both}
@@ -48,10 +48,19 @@ akin_behind (token ∷ own) a b h = same_next token (own ++ a) (own ++ b)
 pub akin_noun : (front behind : List Token) (word : List ℕ) (rest : List Token) → behind ≡ Word word ∷ rest → (noun : List ℕ) → IsNoun noun → (more : List Token) → Akin (front ++ behind) (front ++ Word noun ∷ more)
 akin_noun front behind word rest is noun is_noun more = akin_behind front behind (Word noun ∷ more) (subst (λ (ts : List Token). Akin ts (Word noun ∷ more)) (sym is) (noun_next word noun rest more is_noun))
 
--- more tokens stand in front of some with others before them
-pub longer_behind : (before front : List Token) → length front ≤ length (before ++ front)
-longer_behind [] front = omega arith
-longer_behind (token ∷ before) front = let le = longer_behind before front in omega (arith, le)
+-- how many marks that open levels stand among tokens of one line
+abbrev pub opened : List Token → ℕ
+opened [] = 0
+opened (token ∷ tokens) = openings token + opened tokens
+
+-- one of them opens a level
+pub opens_one : (mark : List ℕ) (nesting : ℕ) → openings (Mark mark) ≡ 1 → (front : List Token) → nesting ≤ opened front → suc nesting ≤ openings (Mark mark) + opened front
+opens_one mark nesting is front far = rw is (omega (arith, far))
+
+-- with others before them they are no fewer
+pub more_opened : (before front : List Token) → opened front ≤ opened (before ++ front)
+more_opened [] front = omega arith
+more_opened (token ∷ before) front = let le = more_opened before front in omega (arith, le)
 
 module _ (limits : Limits) where
   -- ---- tokens on one line
@@ -168,7 +177,7 @@ module _ (limits : Limits) where
     pub inline : Inline front
     pub refused : (more : List Token) → Alike behind more → IsErr (R (front ++ more))
     pub here : found.line ≡ line
-    pub says : SaysFirst limits (length front) (Takes L front) (Lack R front) behind found.kind
+    pub says : SaysFirst limits (opened front) (Takes L front) (Lack R front) behind found.kind
     pub new : IsNew front found.kind
 
   -- this holds of the tokens that are read and those that are left
@@ -223,7 +232,7 @@ module _ (limits : Limits) where
         inline = o.inline;
         refused = λ more alike. let f = o.refused more alike in (f.0, rw f.1 refl);
         here = o.here;
-        says = says_wider limits (length o.front) (length o.front) (omega arith) (Takes L o.front) (Takes N o.front) (λ token. begun (o.front ++ token ∷ [])) o.behind
+        says = says_wider limits (opened o.front) (opened o.front) (omega arith) (Takes L o.front) (Takes N o.front) (λ token. begun (o.front ++ token ∷ [])) o.behind
             (λ word rest is_word. lack_wider [] o.front o.front word refl (λ n noun is_noun more. let f = n noun is_noun more in (f.0, rw f.1 refl))) e.kind o.says;
         new = o.new;
       }
@@ -258,7 +267,7 @@ module _ (limits : Limits) where
             inline = inline_both o.own p.front o.inline p.inline;
             refused = λ more alike. failed p.front more p.behind (akin_behind p.front p.behind more (akin alike)) p.there (p.refused more alike);
             here = p.here;
-            says = says_wider limits (length p.front) (length (o.own ++ p.front)) (longer_behind o.own p.front) (Takes (M o.value) p.front) (Takes N (o.own ++ p.front))
+            says = says_wider limits (opened p.front) (opened (o.own ++ p.front)) (more_opened o.own p.front) (Takes (M o.value) p.front) (Takes N (o.own ++ p.front))
                 (λ token is. subst (Begins N) (sym (append_assoc o.own p.front (token ∷ []))) (own_begun (p.front ++ token ∷ []) is)) p.behind
                 (λ word rest is_word. lack_wider o.own p.front (o.own ++ p.front) word refl (λ n noun is_noun more. failed p.front (Word noun ∷ more) p.behind (akin_noun p.front p.behind word rest is_word noun is_noun more) p.there (n noun is_noun more))) e.kind p.says;
             new = parted.new o.own o.rest o.apart o.value e p;
@@ -312,10 +321,10 @@ module _ (limits : Limits) where
       (record { value = x; own = token ∷ []; rest = rest; is_own = is; inline = inline_token token [] (own_line token stays) inline_none; there = refl; is = refl; kept = λ more alike. h more; apart = own_flag token stays })
 
 -- behind the first token another reader goes on, maybe one level further in
-module _ (inner limits : Limits) (bytes : inner.name_bytes ≡ limits.name_bytes) (deep : limits.nested ≤ suc inner.nested) where
-  pub led_in : {A X : Type 0} (shape : Shape limits A X) (R S : Reader limits X) (L : Spelling limits A) (line : ℕ) (token : Token) (rest : List Token) → IsOwn limits token → ((more : List Token) → R (token ∷ more) ≡ S more)
+module _ (inner limits : Limits) (bytes : inner.name_bytes ≡ limits.name_bytes) (token : Token) (deep : (front : List Token) → inner.nested ≤ opened front → limits.nested ≤ openings token + opened front) where
+  pub led_in : {A X : Type 0} (shape : Shape limits A X) (R S : Reader limits X) (L : Spelling limits A) (line : ℕ) (rest : List Token) → IsOwn limits token → ((more : List Token) → R (token ∷ more) ≡ S more)
       → Outcome inner shape S (λ x own. L x (token ∷ own)) line rest (S rest) → Outcome limits shape R L line (token ∷ rest) (R (token ∷ rest))
-  led_in {A} {X} shape R S L line token rest stays h o = subst (Outcome limits shape R L line (token ∷ rest)) (sym (h rest)) (by (S rest) o)
+  led_in {A} {X} shape R S L line rest stays h o = subst (Outcome limits shape R L line (token ∷ rest)) (sym (h rest)) (by (S rest) o)
     where
       by : (r : Result X RuleFault) → Outcome inner shape S (λ x own. L x (token ∷ own)) line rest r → Outcome limits shape R L line (token ∷ rest) r
       by (Ok x) o = record {
@@ -337,14 +346,14 @@ module _ (inner limits : Limits) (bytes : inner.name_bytes ≡ limits.name_bytes
         inline = inline_token limits token o.front (own_line limits token stays) o.inline;
         refused = λ more alike. let f = o.refused more alike in (f.0, h (o.front ++ more) ∙ f.1);
         here = o.here;
-        says = says_carried inner limits (length o.front) (suc (length o.front)) bytes (λ far. omega (arith, deep, far)) (Takes limits L (token ∷ o.front)) (Takes limits L (token ∷ o.front)) (λ t fits. fits) o.behind (λ word r is_word. lack_wider limits (token ∷ []) o.front (token ∷ o.front) word refl (λ n noun is_noun more. let f = n noun is_noun more in (f.0, h (o.front ++ Word noun ∷ more) ∙ f.1))) e.kind o.says;
+        says = says_carried inner limits (opened o.front) (opened (token ∷ o.front)) bytes (λ far. deep o.front far) (Takes limits L (token ∷ o.front)) (Takes limits L (token ∷ o.front)) (λ t fits. fits) o.behind (λ word r is_word. lack_wider limits (token ∷ []) o.front (token ∷ o.front) word refl (λ n noun is_noun more. let f = n noun is_noun more in (f.0, h (o.front ++ Word noun ∷ more) ∙ f.1))) e.kind o.says;
         new = new_behind (token ∷ []) o.front e.kind (inl (own_flag limits token stays)) o.new;
       }
 
 module _ (limits : Limits) where
   pub led : {A X : Type 0} (shape : Shape limits A X) (R S : Reader limits X) (L : Spelling limits A) (line : ℕ) (token : Token) (rest : List Token) → IsOwn limits token → ((more : List Token) → R (token ∷ more) ≡ S more)
       → Outcome limits shape S (λ x own. L x (token ∷ own)) line rest (S rest) → Outcome limits shape R L line (token ∷ rest) (R (token ∷ rest))
-  led shape R S L line token rest stays h o = led_in limits limits refl (omega arith) shape R S L line token rest stays h o
+  led shape R S L line token rest stays h o = led_in limits limits refl token (λ front far. omega (arith, far)) shape R S L line rest stays h o
 
   -- ---- the same reader, by other words
 
@@ -361,7 +370,7 @@ module _ (limits : Limits) where
         inline = o.inline;
         refused = λ more alike. let f = o.refused more alike in (f.0, h (o.front ++ more) ∙ f.1);
         here = o.here;
-        says = says_wider limits (length o.front) (length o.front) (omega arith) (Takes limits L o.front) (Takes limits L o.front) (λ t fits. fits) o.behind (λ word r is_word. lack_wider limits [] o.front o.front word refl (λ n noun is_noun more. let f = n noun is_noun more in (f.0, h (o.front ++ Word noun ∷ more) ∙ f.1))) e.kind o.says;
+        says = says_wider limits (opened o.front) (opened o.front) (omega arith) (Takes limits L o.front) (Takes limits L o.front) (λ t fits. fits) o.behind (λ word r is_word. lack_wider limits [] o.front o.front word refl (λ n noun is_noun more. let f = n noun is_noun more in (f.0, h (o.front ++ Word noun ∷ more) ∙ f.1))) e.kind o.says;
         new = o.new;
       }
 
@@ -401,14 +410,14 @@ module _ (limits : Limits) where
         inline = o.inline;
         refused = λ more alike. let f = o.refused more alike in (f.0, h (o.front ++ more) (alike_front o.front o.behind more o.there alike) ∙ f.1);
         here = o.here;
-        says = says_wider limits (length o.front) (length o.front) (omega arith) (Takes limits L o.front) (Takes limits L o.front) (λ t fits. fits) o.behind (λ word r is_word. lack_wider limits [] o.front o.front word refl (no_noun o.front o.behind o.there)) e.kind o.says;
+        says = says_wider limits (opened o.front) (opened o.front) (omega arith) (Takes limits L o.front) (Takes limits L o.front) (λ t fits. fits) o.behind (λ word r is_word. lack_wider limits [] o.front o.front word refl (no_noun o.front o.behind o.there)) e.kind o.says;
         new = o.new;
       }
 
   -- a wider spelling
   pub widen : {A X : Type 0} (shape : Shape limits A X) (R : Reader limits X) (L N : Spelling limits A) (line : ℕ) (tokens : List Token) → ((x : A) (own : List Token) → L x own → N x own) → (r : Result X RuleFault) → Outcome limits shape R L line tokens r → Outcome limits shape R N line tokens r
   widen shape R L N line tokens f (Ok x) o = record { value = o.value; own = o.own; rest = o.rest; is_own = f o.value o.own o.is_own; inline = o.inline; there = o.there; is = o.is; kept = o.kept; apart = o.apart }
-  widen shape R L N line tokens f (Err e) o = record { front = o.front; behind = o.behind; there = o.there; begins = (o.begins.0, o.begins.1, f o.begins.0 (o.front ++ o.begins.1) o.begins.2); inline = o.inline; refused = o.refused; here = o.here; says = says_wider limits (length o.front) (length o.front) (omega arith) (Takes limits L o.front) (Takes limits N o.front) (λ token b. (b.0, b.1, f b.0 ((o.front ++ token ∷ []) ++ b.1) b.2)) o.behind (λ word r is_word n. n) e.kind o.says; new = o.new }
+  widen shape R L N line tokens f (Err e) o = record { front = o.front; behind = o.behind; there = o.there; begins = (o.begins.0, o.begins.1, f o.begins.0 (o.front ++ o.begins.1) o.begins.2); inline = o.inline; refused = o.refused; here = o.here; says = says_wider limits (opened o.front) (opened o.front) (omega arith) (Takes limits L o.front) (Takes limits N o.front) (λ token b. (b.0, b.1, f b.0 ((o.front ++ token ∷ []) ++ b.1) b.2)) o.behind (λ word r is_word n. n) e.kind o.says; new = o.new }
 
   -- ---- readers that the first token decides
 
@@ -420,9 +429,9 @@ module _ (limits : Limits) where
     goes : (S : Reader limits X) → IsOwn limits token → ((more : List Token) → R (token ∷ more) ≡ S more) → Good limits shape S (λ x own. L x (token ∷ own)) line → Branch shape R L line token
 
   -- it goes on one level further in
-  pub goes_in : {A X : Type 0} {shape : Shape limits A X} {R : Reader limits X} {L : Spelling limits A} {line : ℕ} {token : Token} (inner : Limits) → inner.name_bytes ≡ limits.name_bytes → limits.nested ≤ suc inner.nested → (S : Reader limits X) → IsOwn limits token
+  pub goes_in : {A X : Type 0} {shape : Shape limits A X} {R : Reader limits X} {L : Spelling limits A} {line : ℕ} {token : Token} (inner : Limits) → inner.name_bytes ≡ limits.name_bytes → ((front : List Token) → inner.nested ≤ opened front → limits.nested ≤ openings token + opened front) → (S : Reader limits X) → IsOwn limits token
       → ((more : List Token) → R (token ∷ more) ≡ S more) → Good inner shape S (λ x own. L x (token ∷ own)) line → Branch shape R L line token
-  goes_in {A} {X} {shape} {R} {L} {line} {token} inner bytes deep S stays h good = knows stays (λ rest. led_in inner limits bytes deep shape R S L line token rest stays h (good.outcome rest))
+  goes_in {A} {X} {shape} {R} {L} {line} {token} inner bytes deep S stays h good = knows stays (λ rest. led_in inner limits bytes token deep shape R S L line rest stays h (good.outcome rest))
 
   -- where it refuses the end of the line
   pub refused_at_end : {A X : Type 0} (shape : Shape limits A X) (R : Reader limits X) (L : Spelling limits A) (line : ℕ) → ((token : Token) → Branch shape R L line token) → IsErrOn limits (Takes limits L []) (Lack limits R []) line [] (R []) → (more : List Token) → EndsLine more → IsErrOn limits (Takes limits L []) (Lack limits R []) line more (R more)

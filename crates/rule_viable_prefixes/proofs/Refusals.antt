@@ -1,5 +1,5 @@
 -- The law of faults: what is refused of the tokens up to and with one too many, said of those of the whole text.
-use Rattle.std.proofs.Common.{◌≡◌, ◌≢◌, ℕ, zero, suc, ◌≤◌, false, List, [], ◌∷◌, ◌++◌, length, Ok, Err, refl, sym, ap, subst, ◌∙◌, append_assoc, ◌⊎◌, inl, inr, arith}
+use Rattle.std.proofs.Common.{◌≡◌, ◌≢◌, ℕ, zero, suc, ◌≤◌, false, List, [], ◌∷◌, ◌++◌, Ok, Err, refl, sym, ap, subst, ◌∙◌, append_assoc, ◌⊎◌, inl, inr, arith}
 use Rattle.std.proofs.lemmas.List.{append-nil}
 use Rattle.std.specs.Prelude.{codes}
 use Rattle.scan.specs.Laws.{OneTokenAtAPlace}
@@ -20,7 +20,7 @@ use Rattle.rule_parse.proofs.Files.{all_rules-of}
 use Rattle.rule_parse.proofs.Weight.{file_of_text}
 use Rattle.rule_viable_prefixes.specs.Fits.{Fits, FitsBehind, line_behind, line_of}
 use Rattle.rule_viable_prefixes.specs.Laws.{IsAtToken, IsAtEnd, FaultsAreWhereTextsDoNotFit}
-use Rattle.rule_viable_prefixes.specs.Misfits.{Fitting, Says, IsReadOn, kind_at, IsMisfit, itself, read_on, IsOtherVersion}
+use Rattle.rule_viable_prefixes.specs.Misfits.{openings_on_line, Fitting, Says, IsReadOn, kind_at, IsMisfit, itself, read_on, IsOtherVersion}
 use Rattle.rule_viable_prefixes.proofs.Versions.{AtToken, AtEnd, where_refused}
 use Rattle.rule_viable_prefixes.proofs.Texts.{names_in, of_text, text_begins, limited_begins, limited_names}
 use Rattle.rule_tokens.specs.Limits.{Limits}
@@ -166,7 +166,7 @@ module _ (spare_bytes deepest spare_statements : ℕ) where
             fits = at.fits;
             within = subst IsWithinLimit (sym before) c.within;
             line = at.line;
-            kind = inl (record { misfit = at.misfit; told = told_itself (length at.front) (FitsBehind limits at.front) at.token c.rest found.kind (at.in_front (of_text_at tokens at.front at.token c.rest are stands) [] behind); no_noun = at.no_noun; repeats_none = at.new });
+            kind = inl (record { misfit = at.misfit; told = told_itself (openings_on_line at.front) (FitsBehind limits at.front) at.token c.rest found.kind (at.in_front (of_text_at tokens at.front at.token c.rest are stands) [] behind); no_noun = at.no_noun; repeats_none = at.new });
           }
 
       -- one before it does not fit
@@ -184,8 +184,8 @@ module _ (spare_bytes deepest spare_statements : ℕ) where
             kind = inl (record {
               misfit = at.misfit;
               told =
-                  told_before (length at.front) (FitsBehind limits at.front) at.token c.token g (Excess ∷ []) c.rest found.kind
-                  (subst (λ (ts : List Token). IsMisfit limits (length at.front) (FitsBehind limits at.front) at.token ts found.kind ⊎ IsOtherVersion (FitsBehind limits at.front) at.token found.kind) behind (at.told (of_text_at tokens at.front at.token (g ++ c.token ∷ c.rest) are stands)));
+                  told_before (openings_on_line at.front) (FitsBehind limits at.front) at.token c.token g (Excess ∷ []) c.rest found.kind
+                  (subst (λ (ts : List Token). IsMisfit limits (openings_on_line at.front) (FitsBehind limits at.front) at.token ts found.kind ⊎ IsOtherVersion (FitsBehind limits at.front) at.token found.kind) behind (at.told (of_text_at tokens at.front at.token (g ++ c.token ∷ c.rest) are stands)));
               no_noun = at.no_noun;
               repeats_none = at.new;
             });

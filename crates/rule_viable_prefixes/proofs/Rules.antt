@@ -1,5 +1,5 @@
 -- What the readers of lines do: each is read whole, or refused within a line, or missed at the end of the text.
-use Rattle.std.proofs.Common.{◌≡◌, ℕ, List, [], ◌∷◌, ◌++◌, length, Result, Ok, Err, refl, sym, ap, subst, ◌∙◌, append_assoc, ◌⊎◌, inl, inr, arith}
+use Rattle.std.proofs.Common.{◌≡◌, ℕ, ◌+◌, List, [], ◌∷◌, ◌++◌, Result, Ok, Err, refl, sym, ap, subst, ◌∙◌, append_assoc, ◌⊎◌, inl, inr, arith}
 use Rattle.std.proofs.lemmas.List.{append-nil}
 use Rattle.rule_tokens.specs.declared.fault.RuleFaultKind.TheVariants.{Syntax}
 use Rattle.rule_tokens.specs.RuleFaults.{RuleFault}
@@ -8,9 +8,9 @@ use Rattle.rule_tokens.specs.Parts.{Part, ◌⨾◌}
 use Rattle.rule_tokens.specs.Tokens.{Token, Line, Word}
 use Rattle.rule_tokens.proofs.Ends.{EndsLine}
 use Rattle.rule_viable_prefixes.specs.Fits.{line_behind}
-use Rattle.rule_viable_prefixes.specs.Misfits.{Fitting, IsNoun}
+use Rattle.rule_viable_prefixes.specs.Misfits.{openings, openings_behind, openings_on_line, Fitting, IsNoun}
 use Rattle.rule_viable_prefixes.proofs.FlagRuns.{IsNew, new_on_line}
-use Rattle.rule_viable_prefixes.proofs.Outcomes.{longer_behind, Lack, lack_wider, Akin, same_next, akin, akin_behind, akin_noun, NoNoun, Takes, Alike, same, ended, alike_behind, Inline, Spelling, Shape, pair, Reader, IsErr, Begins, Outcome, Good}
+use Rattle.rule_viable_prefixes.proofs.Outcomes.{opened, Lack, lack_wider, Akin, same_next, akin, akin_behind, akin_noun, NoNoun, Takes, Alike, same, ended, alike_behind, Inline, Spelling, Shape, pair, Reader, IsErr, Begins, Outcome, Good}
 use Rattle.rule_viable_prefixes.proofs.Tolds.{says_wider, SaysFirst}
 use Rattle.rule_viable_prefixes.proofs.Parts.{Spelled}
 use Rattle.rule_tokens.specs.Limits.{Limits}
@@ -49,7 +49,7 @@ module _ (limits : Limits) where
     pub begins : Completes L F (Line number ∷ front)
     pub refused : (more : List Token) → Alike behind more → IsErr limits (R (Line number ∷ front ++ more))
     pub here : found.line ≡ line_behind number front
-    pub says : SaysFirst limits (length front) (GoesOn L F number front) (Lack limits (λ ts. R (Line number ∷ ts)) front) behind found.kind
+    pub says : SaysFirst limits (openings_on_line front) (GoesOn L F number front) (Lack limits (λ ts. R (Line number ∷ ts)) front) behind found.kind
     pub new : IsNew front found.kind
 
   -- missed at the end of the text, where another line may begin
@@ -73,6 +73,19 @@ module _ (limits : Limits) where
   pub begins_line : (number line : ℕ) (tokens : List Token) → line_behind line (Line number ∷ tokens) ≡ line_behind number tokens
   unfolding line_behind
   begins_line number line tokens = refl
+
+  -- marks that open levels on a line of its own
+  pub on_new_line : (own front : List Token) (before number : ℕ) → openings_behind before (own ++ Line number ∷ front) ≡ openings_on_line front
+  on_new_line [] front before number = refl
+  on_new_line (Line other ∷ own) front before number = on_new_line own front 0 number
+  on_new_line (token ∷ own) front before number = on_new_line own front (before + openings token) number
+
+  -- and on the same line as those before
+  on_one_line : (front : List Token) (before : ℕ) → Inline limits front → openings_behind before front ≡ before + opened front
+  unfolding line_behind
+  on_one_line [] before inline = omega arith
+  on_one_line (Line number ∷ front) before inline = let zero_line = inline 0 [] in let one_line = inline 1 [] in let both = sym zero_line ∙ one_line in absurd (omega (arith, both))
+  on_one_line (token ∷ front) before inline = let rest = on_one_line front (before + openings token) inline in omega (arith, rest)
 
   -- the line of tokens behind others that begin a line
   pub line_of_both : (own front : List Token) (line number : ℕ) → line_behind line (own ++ Line number ∷ front) ≡ line_behind number front
@@ -110,7 +123,7 @@ module _ (limits : Limits) where
         begins = completes_first L M F (Line w.number ∷ w.front) w.begins;
         refused = λ more alike. let f = w.refused more alike in (f.0, rw f.1 refl);
         here = w.here;
-        says = says_wider limits (length w.front) (length w.front) (omega arith) (GoesOn L (M ⨾ F) w.number w.front) (GoesOn (L ⨾ M) F w.number w.front) (λ token. completes_first L M F (Line w.number ∷ w.front ++ token ∷ [])) w.behind
+        says = says_wider limits (openings_on_line w.front) (openings_on_line w.front) (omega arith) (GoesOn L (M ⨾ F) w.number w.front) (GoesOn (L ⨾ M) F w.number w.front) (λ token. completes_first L M F (Line w.number ∷ w.front ++ token ∷ [])) w.behind
             (λ word rest is_word. lack_wider limits [] w.front w.front word refl (λ n noun is_noun more. let f = n noun is_noun more in (f.0, rw f.1 refl))) e.kind w.says;
         new = w.new;
       })
@@ -171,7 +184,7 @@ module _ (limits : Limits) where
                 begins = subst (λ (ts : List Token). Completes (L ⨾ M) F (ts ++ Line w.number ∷ w.front)) none begun;
                 refused = λ more alike. subst (λ (ts : List Token). IsErr limits (R (ts ++ Line w.number ∷ (w.front ++ more)) >>= S)) none (failed more alike);
                 here = w.here;
-                says = says_wider limits (length w.front) (length w.front) (omega arith) (GoesOn M F w.number w.front) (GoesOn (L ⨾ M) F w.number w.front)
+                says = says_wider limits (openings_on_line w.front) (openings_on_line w.front) (omega arith) (GoesOn M F w.number w.front) (GoesOn (L ⨾ M) F w.number w.front)
                     (λ token is. subst (λ (ts : List Token). Completes (L ⨾ M) F (ts ++ Line w.number ∷ (w.front ++ token ∷ []))) none (goes_on token is)) w.behind
                     (λ word rest is_word. lack_wider limits [] w.front w.front word refl (λ n noun is_noun more. subst (λ (ts : List Token). IsErr limits (R (ts ++ Line w.number ∷ (w.front ++ Word noun ∷ more)) >>= S)) none (no_noun word rest is_word n noun is_noun more))) e.kind w.says;
                 new = w.new;
@@ -189,7 +202,7 @@ module _ (limits : Limits) where
                         subst (λ (ts : List Token). IsErr limits (R (Line start.0 ∷ ts) >>= S)) (sym (append_assoc own (Line w.number ∷ w.front) more))
                         (subst (λ (ts : List Token). IsErr limits (R (ts ++ Line w.number ∷ (w.front ++ more)) >>= S)) as_line (failed more alike));
                     here = w.here ∙ sym (line_of_both own w.front start.0 w.number);
-                    says = says_wider limits (length w.front) (length (own ++ Line w.number ∷ w.front)) (let le = longer_behind own (Line w.number ∷ w.front) in omega (arith, le)) (GoesOn M F w.number w.front) (GoesOn (L ⨾ M) F start.0 (own ++ Line w.number ∷ w.front))
+                    says = says_wider limits (openings_on_line w.front) (openings_on_line (own ++ Line w.number ∷ w.front)) (let same_line = on_new_line own w.front 0 w.number in omega (arith, same_line)) (GoesOn M F w.number w.front) (GoesOn (L ⨾ M) F start.0 (own ++ Line w.number ∷ w.front))
                         (λ token is.
                         subst (λ (ts : List Token). Completes (L ⨾ M) F (Line start.0 ∷ ts)) (sym (append_assoc own (Line w.number ∷ w.front) (token ∷ [])))
                         (subst (λ (ts : List Token). Completes (L ⨾ M) F (ts ++ Line w.number ∷ (w.front ++ token ∷ []))) as_line (goes_on token is))) w.behind
@@ -231,7 +244,7 @@ module _ (limits : Limits) where
         begins = completed o.front o.begins;
         refused = o.refused;
         here = o.here ∙ sym (ap (line_behind number) (sym (append-nil o.front)) ∙ o.inline number [] ∙ nothing_behind number);
-        says = says_wider limits (length o.front) (length o.front) (omega arith) (Takes limits (Spelled limits (λ own. L (Line number ∷ own)) {A = A}) o.front) (GoesOn L F number o.front) (λ token. completed (o.front ++ token ∷ [])) o.behind (λ word rest is_word n. n) e.kind o.says;
+        says = says_wider limits (opened o.front) (openings_on_line o.front) (let same_line = on_one_line o.front 0 o.inline in omega (arith, same_line)) (Takes limits (Spelled limits (λ own. L (Line number ∷ own)) {A = A}) o.front) (GoesOn L F number o.front) (λ token. completed (o.front ++ token ∷ [])) o.behind (λ word rest is_word n. n) e.kind o.says;
         new = o.new;
       })
         where
@@ -252,7 +265,7 @@ module _ (limits : Limits) where
     begins = let c = w.begins in (c.0, (c.1.0, c.1.1, f c.1.0 c.1.2, c.1.3, c.1.4));
     refused = w.refused;
     here = w.here;
-    says = says_wider limits (length w.front) (length w.front) (omega arith) (GoesOn L F w.number w.front) (GoesOn N F w.number w.front) (λ token c. (c.0, (c.1.0, c.1.1, f c.1.0 c.1.2, c.1.3, c.1.4))) w.behind (λ word rest is_word n. n) e.kind w.says;
+    says = says_wider limits (openings_on_line w.front) (openings_on_line w.front) (omega arith) (GoesOn L F w.number w.front) (GoesOn N F w.number w.front) (λ token c. (c.0, (c.1.0, c.1.1, f c.1.0 c.1.2, c.1.3, c.1.4))) w.behind (λ word rest is_word n. n) e.kind w.says;
     new = w.new;
   })
   verdict_wider shape R L N F last tokens f (Err e) (inr m) = inr (record { begins = λ number. let c = m.begins number in (c.0, (c.1.0, c.1.1, f c.1.0 c.1.2, c.1.3, c.1.4)); here = m.here; says = m.says })

@@ -31,9 +31,9 @@ use Rattle.rule_terms.proofs.Chains.{Shortens, chain-more, chain-fault, chain-do
 use Rattle.rule_terms.proofs.Meanings.{operator_at-is, operator_at-of, meaning_in-is, meaning_in-of}
 use Rattle.rule_terms.proofs.Readings.{operand_shorter}
 use Rattle.rule_viable_prefixes.specs.Misfits as kinds
-use Rattle.rule_viable_prefixes.specs.Misfits.{Fitting, NounFits, Nests, IsTooDeep, IsTooMany}
+use Rattle.rule_viable_prefixes.specs.Misfits.{Fitting, NounFits, Nests, openings, IsTooDeep, IsTooMany}
 use Rattle.rule_viable_prefixes.proofs.Nouns.{noun_other}
-use Rattle.rule_viable_prefixes.proofs.Outcomes.{Lack, Akin, same_next, noun_next, ended_next, Takes, IsOwn, Spelling, pair, bare, IsErrOn, Outcome, Good, then_at, then, passed, led, Branch, takes, refuses, goes, goes_in, by_token, widened, on_line, then_done, bind_named}
+use Rattle.rule_viable_prefixes.proofs.Outcomes.{Lack, Akin, same_next, noun_next, ended_next, Takes, IsOwn, Spelling, pair, bare, IsErrOn, Outcome, Good, then_at, then, passed, led, Branch, takes, refuses, goes, goes_in, opens_one, Reader, by_token, widened, on_line, then_done, bind_named}
 use Rattle.rule_viable_prefixes.proofs.Tolds.{says_misplaced, says_syntax, says_too_many, IsTold, says_deep, says_unexpected}
 use Rattle.rule_tokens.specs.Limits.{Limits}
 use Rattle.rule_viable_prefixes.proofs.Roomy.{roomy}
@@ -326,6 +326,32 @@ module _ (spare_bytes deepest spare_statements : ℕ) where
       then (levels nesting) _ {L = Term place nesting loosest} {M = λ x y own. (y ≡ x) × (own ≡ Mark (codes ")") ∷ [])} (λ x y front back one two. (front, one, ap (λ (ts : List Token). front ++ ts) two.1))
       (operand_good place nesting line loosest primaries before) (λ x. closing x nesting line)
 
+  -- a parenthesis, and behind it a value
+  abbrev pub Entered : {A : Type 0} → Spelling limits A → Spelling limits A
+  Entered L x own = (inside : List Token) × L x inside × (own ≡ Mark (codes "(") ∷ inside)
+
+  -- and a reader of it one level further in
+  pub entered : {A : Type 0} (nesting line : ℕ) (R : Reader limits (A × List Token)) (L : Spelling limits A) → Good (levels nesting) (pair limits) R L line
+      → Good (levels (suc nesting)) (pair limits) (λ ts. mark_at (codes "(") line ts >>= R) (Entered L) line
+  unfolding mark_at
+  entered {A} nesting line R L good = by_token (levels (suc nesting)) (let s = good.sample in (s.0, Mark (codes "(") ∷ s.1, (s.1, s.2, refl))) branch (fault line Syntax, refl, refl, refl)
+    where
+      enters : Branch (levels (suc nesting)) (pair limits) (λ ts. mark_at (codes "(") line ts >>= R) (Entered L) line (Mark (codes "("))
+      enters = goes_in (levels (suc nesting)) (levels nesting) refl (λ front far. opens_one (codes "(") nesting refl front far) R tt (λ more. refl) (widened (levels nesting) (λ x own is. (own, is, refl)) good)
+
+      branch : (token : Token) → Branch (levels (suc nesting)) (pair limits) (λ ts. mark_at (codes "(") line ts >>= R) (Entered L) line token
+      branch (Mark mark) = by (bytes_eq mark (codes "(")) refl
+        where
+          by : (b : Bool) → bytes_eq mark (codes "(") ≡ b → Branch (levels (suc nesting)) (pair limits) (λ ts. mark_at (codes "(") line ts >>= R) (Entered L) line (Mark mark)
+          by true h = subst (λ (m : List ℕ). Branch (levels (suc nesting)) (pair limits) (λ ts. mark_at (codes "(") line ts >>= R) (Entered L) line (Mark m)) (sym (same_word mark (codes "(") h)) enters
+          by false h = refuses (λ more. (fault line Syntax, rw h refl, refl, says_syntax (levels (suc nesting)) (Mark mark) more tt))
+      branch token = refuses (λ more. (unexpected line (token ∷ more), refl, refl, says_unexpected (levels (suc nesting)) line token more (λ word is. inr (inr (λ noun is_noun others. (unexpected line (Word noun ∷ others), refl))))))
+
+  prefix_opens : (function : Function) (mark : List ℕ) → IsPrefix function mark → openings (Mark mark) ≡ 1
+  prefix_opens Negate mark is = rw is refl
+  prefix_opens Not mark is = rw is refl
+  prefix_opens function mark is = absurd is
+
   abbrev Measured : Spelling limits (List ℕ)
   Measured name own = (length name ≤ limits.name_bytes) × (own ≡ Register name ∷ Mark (codes ")") ∷ [])
 
@@ -400,24 +426,23 @@ module _ (spare_bytes deepest spare_statements : ℕ) where
   unfolding primary_at
   deep_branch place line nesting before token primaries (misfit t h) = refuses (λ more. let e = h more in (e.0, rw e.1 refl, e.2, e.3))
   deep_branch place line nesting before token primaries (of_leaf t node is stays h) = takes (before ++ node ∷ []) stays (leaf_term place (suc nesting) node (t ∷ []) is) (λ more. rw (h more) refl)
-  deep_branch place line nesting before token primaries (of_parenthesis h) = goes_in (levels (suc nesting)) (levels nesting) refl (omega arith) (inside_at line (primary_at limits place line nesting) before) tt (λ more. rw (h more) refl)
+  deep_branch place line nesting before token primaries (of_parenthesis h) = goes_in (levels (suc nesting)) (levels nesting) refl (λ front far. opens_one (codes "(") nesting refl front far) (inside_at line (primary_at limits place line nesting) before) tt (λ more. rw (h more) refl)
       (widened (levels nesting) (λ x own is. enclosed_term place nesting own is) (inside_good place nesting line primaries before))
-  deep_branch place line nesting before token primaries (of_prefix function mark is h) = goes_in (levels (suc nesting)) (levels nesting) refl (omega arith) (λ ts. primary_at limits place line nesting before ts >>= λ x. Ok (add_unary function x.0, x.1)) tt (λ more. rw (h more) refl)
+  deep_branch place line nesting before token primaries (of_prefix function mark is h) = goes_in (levels (suc nesting)) (levels nesting) refl (λ front far. opens_one mark nesting (prefix_opens function mark is) front far) (λ ts. primary_at limits place line nesting before ts >>= λ x. Ok (add_unary function x.0, x.1)) tt (λ more. rw (h more) refl)
       (then_done (levels nesting) {s = (pair limits)} {L = Term place nesting 0} (add_unary function) (λ x. Ok (add_unary function x.0, x.1)) (λ x rest. refl) (λ x own t. prefixed_term place nesting function mark own is t) (primaries before))
   deep_branch place line nesting before token primaries (of_call function word is h) =
-      goes_in (levels (suc nesting)) (levels nesting) refl (omega arith) (λ ts. mark_at (codes "(") line ts >>= λ behind. (inside_at line (primary_at limits place line nesting) before behind >>= λ x. Ok (add_unary function x.0, x.1))) (noun_other word (kinds.function function is))
+      goes (λ ts. mark_at (codes "(") line ts >>= λ behind. (inside_at line (primary_at limits place line nesting) before behind >>= λ x. Ok (add_unary function x.0, x.1))) (noun_other word (kinds.function function is))
       (λ more. rw (h more) (bind_named limits (mark_at (codes "(") line more) (Call function) _))
-      (then (levels nesting) {s = (bare limits)} _ {L = λ u own. own ≡ Mark (codes "(") ∷ []} {M = λ u y own. IsTerm place (suc nesting) 0 (Word word ∷ Mark (codes "(") ∷ own)}
-      (λ u y front back one two. subst (λ (ts : List Token). IsTerm place (suc nesting) 0 (Word word ∷ (ts ++ back))) (sym one) two)
-      (mark_good (levels nesting) (codes "(") line)
-      (λ u. then_done (levels nesting) {s = (pair limits)} {L = λ x. Closed (IsTerm place nesting loosest)} (add_unary function) (λ x. Ok (add_unary function x.0, x.1)) (λ x rest. refl) (λ x own c. called_term place nesting function word own is c) (inside_good place nesting line primaries before)))
+      (widened (levels (suc nesting)) (λ x own c. subst (λ (ts : List Token). IsTerm place (suc nesting) 0 (Word word ∷ ts)) (sym c.2) (called_term place nesting function word c.0 is c.1))
+      (entered nesting line (λ behind. inside_at line (primary_at limits place line nesting) before behind >>= λ x. Ok (add_unary function x.0, x.1)) (λ x. Closed (IsTerm place nesting loosest))
+      (then_done (levels nesting) {s = (pair limits)} {L = λ x. Closed (IsTerm place nesting loosest)} (add_unary function) (λ x. Ok (add_unary function x.0, x.1)) (λ x rest. refl) (λ x own c. c) (inside_good place nesting line primaries before))))
   deep_branch place line nesting before token primaries (of_width h) =
-      goes_in (levels (suc nesting)) (levels nesting) refl (omega arith) (λ ts. mark_at (codes "(") line ts >>= λ behind. (measured_at limits line behind >>= λ x. Ok (before ++ raw_nodes.Width x.0 ∷ [], x.1))) (noun_other (codes "width") (kinds.width refl))
+      goes (λ ts. mark_at (codes "(") line ts >>= λ behind. (measured_at limits line behind >>= λ x. Ok (before ++ raw_nodes.Width x.0 ∷ [], x.1))) (noun_other (codes "width") (kinds.width refl))
       (λ more. rw (h more) (bind_named limits (mark_at (codes "(") line more) Width _))
-      (then (levels nesting) {s = (bare limits)} _ {L = λ u own. own ≡ Mark (codes "(") ∷ []} {M = λ u y own. IsTerm place (suc nesting) 0 (Word (codes "width") ∷ Mark (codes "(") ∷ own)}
+      (then (levels (suc nesting)) {s = (bare limits)} _ {L = λ u own. own ≡ Mark (codes "(") ∷ []} {M = λ u y own. IsTerm place (suc nesting) 0 (Word (codes "width") ∷ Mark (codes "(") ∷ own)}
       (λ u y front back one two. subst (λ (ts : List Token). IsTerm place (suc nesting) 0 (Word (codes "width") ∷ (ts ++ back))) (sym one) two)
-      (mark_good (levels nesting) (codes "(") line)
-      (λ u. then_done (levels nesting) {s = (pair limits)} {L = Measured} (λ name. before ++ raw_nodes.Width name ∷ []) (λ x. Ok (before ++ raw_nodes.Width x.0 ∷ [], x.1)) (λ x rest. refl) (λ x own m. width_term place nesting x own m) (measured_good nesting line)))
+      (mark_good (levels (suc nesting)) (codes "(") line)
+      (λ u. then_done (levels (suc nesting)) {s = (pair limits)} {L = Measured} (λ name. before ++ raw_nodes.Width name ∷ []) (λ x. Ok (before ++ raw_nodes.Width x.0 ∷ [], x.1)) (λ x rest. refl) (λ x own m. width_term place nesting x own m) (measured_good (suc nesting) line)))
 
   zero_term : (place : TermPlace) (nesting : ℕ) → IsTerm place nesting 0 (Number [] ∷ [])
   zero_term place nesting = leaf_term place nesting (raw_nodes.Literal (literal_value [])) (Number [] ∷ []) ([], refl, refl)

@@ -1,5 +1,5 @@
 -- Rule files: where the line of the version or the rules behind it are refused, the tokens of the file do not fit.
-use Rattle.std.proofs.Common.{◌≡◌, ◌≢◌, ℕ, Bool, true, false, cond, List, [], ◌∷◌, ◌++◌, length, Option, Some, None, Result, Ok, Err, refl, sym, ap, subst, ◌∙◌, append_assoc, ◌⊎◌, inl, inr, arith}
+use Rattle.std.proofs.Common.{◌≡◌, ◌≢◌, ℕ, Bool, true, false, cond, List, [], ◌∷◌, ◌++◌, Option, Some, None, Result, Ok, Err, refl, sym, ap, subst, ◌∙◌, append_assoc, ◌⊎◌, inl, inr, arith}
 use Rattle.std.proofs.lemmas.List.{append-nil}
 use Rattle.std.specs.Prelude.{codes}
 use Rattle.std.specs.Str.{bytes_eq}
@@ -22,14 +22,14 @@ use Rattle.rule_parse.specs.Grammar.{SpellsRules, SpellsVersion, SpellsFile}
 use Rattle.rule_parse.specs.RuleReaders.{version_number_at, version_at, rules_at, rules_of, all_rules}
 use Rattle.rule_parse.proofs.Files.{version_read}
 use Rattle.rule_viable_prefixes.specs.Fits.{Fits, FitsBehind, LineFits, line_behind, line_of}
-use Rattle.rule_viable_prefixes.specs.Misfits.{NounFits, IsExcused, one_use, repeated, nested, Says, IsMisfit, itself, IsOtherVersion}
+use Rattle.rule_viable_prefixes.specs.Misfits.{openings_on_line, NounFits, IsExcused, one_use, repeated, nested, Says, IsMisfit, itself, IsOtherVersion}
 use Rattle.rule_viable_prefixes.proofs.Files.{Fit, FitBehind, LineFit, AtRuleToken, AtRulesEnd, where_rules_refused}
 use Rattle.rule_viable_prefixes.proofs.FlagRuns.{IsNew, new_behind, none_new, new_on_line}
 use Rattle.rule_viable_prefixes.proofs.Lines.{NamesEndLines}
-use Rattle.rule_viable_prefixes.proofs.Outcomes.{longer_behind, repeats_behind}
+use Rattle.rule_viable_prefixes.proofs.Outcomes.{repeats_behind}
 use Rattle.rule_viable_prefixes.proofs.Tolds.{Told, kind_carried, misfit_carried, says_unexpected}
 use Rattle.rule_viable_prefixes.proofs.Roomy.{roomy}
-use Rattle.rule_viable_prefixes.proofs.Rules.{begins_line, line_of_both}
+use Rattle.rule_viable_prefixes.proofs.Rules.{on_new_line, begins_line, line_of_both}
 
 module _ (spare_bytes deepest spare_statements : ℕ) where
   abbrev limits : Limits
@@ -46,9 +46,9 @@ module _ (spare_bytes deepest spare_statements : ℕ) where
     pub fits : Fits limits front
     pub misfit : ¬ FitsBehind limits front token
     pub line : found.line ≡ line_of front
-    pub told : token ≢ Excess → IsMisfit limits (length front) (FitsBehind limits front) token behind found.kind ⊎ IsOtherVersion (FitsBehind limits front) token found.kind
+    pub told : token ≢ Excess → IsMisfit limits (openings_on_line front) (FitsBehind limits front) token behind found.kind ⊎ IsOtherVersion (FitsBehind limits front) token found.kind
     pub excess : token ≡ Excess → found.kind ≡ TooMany
-    pub in_front : token ≢ Excess → (more : List Token) → behind ≡ Excess ∷ more → Says limits (length front) (FitsBehind limits front) token found.kind ⊎ IsOtherVersion (FitsBehind limits front) token found.kind
+    pub in_front : token ≢ Excess → (more : List Token) → behind ≡ Excess ∷ more → Says limits (openings_on_line front) (FitsBehind limits front) token found.kind ⊎ IsOtherVersion (FitsBehind limits front) token found.kind
     pub no_noun : found.kind ≡ Syntax → (word : List ℕ) → token ≡ Word word → NounFits (FitsBehind limits front) → IsExcused limits (FitsBehind limits front) front word
     pub new : IsNew front found.kind
 
@@ -124,20 +124,20 @@ module _ (spare_bytes deepest spare_statements : ℕ) where
           fits = up front at.fits;
           misfit = λ fits. at.misfit (down at.number at.inner (at.token ∷ at.behind) at.stands at.token (first at.behind refl) fits);
           line = at.line ∙ sym (line_of_both limits own at.inner 0 at.number);
-          told = λ read. inl (misfit_carried limits limits (length front) (length (own ++ front)) refl (λ far. let le = longer_behind own front in omega (arith, far, le)) (FitNext front) (FitsBehind limits (own ++ front)) (up_next front) at.token at.behind found.kind (at.told read));
+          told = λ read. inl (misfit_carried limits limits (openings_on_line at.inner) (openings_on_line (own ++ front)) refl (λ far. let same_line = on_new_line limits own at.inner 0 at.number in omega (arith, far, same_line)) (FitNext front) (FitsBehind limits (own ++ front)) (up_next front) at.token at.behind found.kind (at.told read));
           excess = at.excess;
-          in_front = λ read more is. inl (kind_carried limits limits (length front) (length (own ++ front)) refl (λ far. let le = longer_behind own front in omega (arith, far, le)) (FitNext front) (FitsBehind limits (own ++ front)) (up_next front) at.token found.kind (at.in_front read more is));
-          no_noun = λ syntax_ word is noun. excused front word (at.no_noun syntax_ word is (noun_down noun));
+          in_front = λ read more is. inl (kind_carried limits limits (openings_on_line at.inner) (openings_on_line (own ++ front)) refl (λ far. let same_line = on_new_line limits own at.inner 0 at.number in omega (arith, far, same_line)) (FitNext front) (FitsBehind limits (own ++ front)) (up_next front) at.token found.kind (at.in_front read more is));
+          no_noun = λ syntax_ word is noun. excused word (at.no_noun syntax_ word is (noun_down noun));
           new = new_on_line own at.number at.inner found.kind at.new;
         }
       where
         noun_down : NounFits (FitsBehind limits (own ++ Line at.number ∷ at.inner)) → NounFits (FitNext (Line at.number ∷ at.inner))
         noun_down (noun, is_noun, fits) = (noun, is_noun, down at.number at.inner (at.token ∷ at.behind) at.stands (Word noun) (other tt) fits)
 
-        excused : (front : List Token) (word : List ℕ) → IsExcused limits (FitNext front) front word → IsExcused limits (FitsBehind limits (own ++ front)) (own ++ front) word
-        excused front word (one_use is) = one_use is
-        excused front word (repeated again) = repeated (repeats_behind limits own front (own ++ front) word refl again)
-        excused front word (nested (far, nests, fits)) = nested ((let le = longer_behind own front in omega (arith, far, le)), nests, up_next front (Number (codes "0")) fits)
+        excused : (word : List ℕ) → IsExcused limits (FitNext (Line at.number ∷ at.inner)) (Line at.number ∷ at.inner) word → IsExcused limits (FitsBehind limits (own ++ Line at.number ∷ at.inner)) (own ++ Line at.number ∷ at.inner) word
+        excused word (one_use is) = one_use is
+        excused word (repeated again) = repeated (repeats_behind limits own (Line at.number ∷ at.inner) (own ++ Line at.number ∷ at.inner) word refl again)
+        excused word (nested (far, nests, fits)) = nested ((let same_line = on_new_line limits own at.inner 0 at.number in omega (arith, far, same_line)), nests, up_next (Line at.number ∷ at.inner) (Number (codes "0")) fits)
 
     end_lifted : (last number : ℕ) (inner : List Token) (found : RuleFault) → tokens ≡ Line number ∷ inner → AtRulesEnd spare_bytes deepest spare_statements version tokens last found → AtEnd (own ++ tokens) last found
     end_lifted last number inner found is at = record {
@@ -276,7 +276,7 @@ module _ (spare_bytes deepest spare_statements : ℕ) where
       on_line Excess = refl
       on_line t = refl
 
-      told : Told limits (length front) (FitsBehind limits front) (λ word. NounFits (FitsBehind limits front) → ⊥) token behind (unexpected line (token ∷ behind)).kind
+      told : Told limits (openings_on_line front) (FitsBehind limits front) (λ word. NounFits (FitsBehind limits front) → ⊥) token behind (unexpected line (token ∷ behind)).kind
       told = says_unexpected limits line token behind (λ word is. inr (λ noun. none noun.0 noun.2))
 
   -- no number of a version behind the head
@@ -307,11 +307,11 @@ module _ (spare_bytes deepest spare_statements : ℕ) where
         new = head_new line (cond b Syntax (LeftOut text));
       })
         where
-          why : (c : Bool) → IsMisfit limits (length (begun line [])) (FitsBehind limits (begun line [])) (Number text) rest (cond c Syntax (LeftOut text)) ⊎ IsOtherVersion (FitsBehind limits (begun line [])) (Number text) (cond c Syntax (LeftOut text))
+          why : (c : Bool) → IsMisfit limits (openings_on_line (begun line [])) (FitsBehind limits (begun line [])) (Number text) rest (cond c Syntax (LeftOut text)) ⊎ IsOtherVersion (FitsBehind limits (begun line [])) (Number text) (cond c Syntax (LeftOut text))
           why true = inl (itself (λ is. cc))
           why false = inr (text, refl, refl, one_fits line)
 
-          itself_why : (c : Bool) → Says limits (length (begun line [])) (FitsBehind limits (begun line [])) (Number text) (cond c Syntax (LeftOut text)) ⊎ IsOtherVersion (FitsBehind limits (begun line [])) (Number text) (cond c Syntax (LeftOut text))
+          itself_why : (c : Bool) → Says limits (openings_on_line (begun line [])) (FitsBehind limits (begun line [])) (Number text) (cond c Syntax (LeftOut text)) ⊎ IsOtherVersion (FitsBehind limits (begun line [])) (Number text) (cond c Syntax (LeftOut text))
           itself_why true = inl (λ is. cc)
           itself_why false = inr (text, refl, refl, one_fits line)
 

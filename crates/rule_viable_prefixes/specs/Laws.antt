@@ -1,5 +1,5 @@
 -- What holds of the faults of rule files.
-use Rattle.std.specs.Prelude.{◌≡◌, ◌⊎◌, ℕ, ◌+◌, ◌≤◌, List, [], ◌∷◌, ◌++◌, length}
+use Rattle.std.specs.Prelude.{◌≡◌, ◌⊎◌, ℕ, ◌+◌, ◌≤◌, List, [], ◌∷◌, ◌++◌}
 use Rattle.rule_tokens.specs.declared.fault.RuleFaultKind.{RuleFaultKind}
 use Rattle.rule_tokens.specs.declared.fault.RuleFaultKind.TheVariants.{Syntax, LeftOut, TooMany}
 use Rattle.rule_tokens.specs.RuleFaults.{RuleFault}
@@ -10,14 +10,14 @@ use Rattle.rule_parse.specs.Limits.{most_nodes}
 use Rattle.rule_parse.specs.NodeCounts.{counted_at_end, IsWithinLimit}
 use Rattle.rule_parse.specs.Text.{IsFaultWithin}
 use Rattle.rule_viable_prefixes.specs.Fits.{Fits, FitsBehind, LineFits, line_of}
-use Rattle.rule_viable_prefixes.specs.Misfits.{IsMisfit, IsOtherVersion, IsExcused, NounFits, RepeatsFlag}
+use Rattle.rule_viable_prefixes.specs.Misfits.{openings_on_line, IsMisfit, IsOtherVersion, IsExcused, NounFits, RepeatsFlag}
 use Rattle.rule_tokens.specs.Limits.{Limits}
 
 -- The token does not fit, and the kind says why: a word is told as `Syntax` only where no noun fits, but for three cases; and a word
 -- that is left out repeats no flag.
 pub record DoesNotFit (limits : Limits) (front : List Token) (token : Token) (behind : List Token) (kind : RuleFaultKind) : Type 0 where
   pub misfit : ¬ FitsBehind limits front token
-  pub told : IsMisfit limits (length front) (FitsBehind limits front) token behind kind ⊎ IsOtherVersion (FitsBehind limits front) token kind
+  pub told : IsMisfit limits (openings_on_line front) (FitsBehind limits front) token behind kind ⊎ IsOtherVersion (FitsBehind limits front) token kind
   pub no_noun : kind ≡ Syntax → (word : List ℕ) → token ≡ Word word → NounFits (FitsBehind limits front) → IsExcused limits (FitsBehind limits front) front word
   pub repeats_none : (left : List ℕ) → kind ≡ LeftOut left → ¬ RepeatsFlag front left
 

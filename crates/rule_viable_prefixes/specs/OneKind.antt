@@ -1,5 +1,5 @@
 -- What is told where no limit is passed: the one kind that holds.
-use Rattle.std.specs.Prelude.{◌≡◌, ◌≢◌, ◌⊎◌, ℕ, ◌≤◌, List, [], ◌∷◌, ◌++◌, length, codes}
+use Rattle.std.specs.Prelude.{◌≡◌, ◌≢◌, ◌⊎◌, ℕ, ◌<◌, List, [], ◌∷◌, ◌++◌, codes}
 use Rattle.rule_tokens.specs.declared.fault.RuleFaultKind.{RuleFaultKind}
 use Rattle.rule_tokens.specs.declared.fault.RuleFaultKind.TheVariants.{BadByte, Syntax, LeftOut, TooMany}
 use Rattle.rule_tokens.specs.Limits.{Limits, AreWithin}
@@ -9,7 +9,7 @@ use Rattle.rule_parse.specs.NodeCounts.{IsWithinLimit}
 use Rattle.rule_parse.specs.Text.{IsFaultWithin}
 use Rattle.rule_viable_prefixes.specs.Fits.{Fits, FitsBehind, line_of}
 use Rattle.rule_viable_prefixes.specs.Laws.{IsAtEnd, AreRoomy}
-use Rattle.rule_viable_prefixes.specs.Misfits.{Fitting, NounFits, RepeatsFlag}
+use Rattle.rule_viable_prefixes.specs.Misfits.{openings_on_line, Fitting, NounFits, RepeatsFlag}
 
 -- a noun fits in the place of the word, which is not `hasOneUse` and no flag that stands there already
 pub record IsMisplaced (front : List Token) (fits : Fitting) (word : List ℕ) : Type 0 where
@@ -37,9 +37,13 @@ pub record IsAtMisfit (limits : Limits) (tokens : List Token) (found : RuleFault
   pub line : found.line ≡ line_of front
   pub kind : IsKindOf front (FitsBehind limits front) token found.kind
 
--- What is told by another kind than `TooMany` is told by the one kind that holds where limits are wide, however wide they are: at
--- least as many levels of nesting are left as the text has tokens, so that no token is nested too deep.
+-- fewer marks that open levels stand on each line than levels may be nested
+abbrev pub NestsLess : Limits → List Token → Type 0
+NestsLess limits tokens = (front back : List Token) → tokens ≡ front ++ back → openings_on_line front < limits.nested
+
+-- What is told by another kind than `TooMany` is told by the one kind that holds within all wider limits, however wide, that leave
+-- more levels of nesting than any line of the text opens.
 abbrev pub OtherKindsAreOfWideLimits : Type 0
 OtherKindsAreOfWideLimits = (limits wide : Limits) → AreWithin wide limits → AreRoomy wide
-    → (text : List ℕ) (tokens : List Token) (last : ℕ) (found : RuleFault) → length tokens ≤ wide.nested
+    → (text : List ℕ) (tokens : List Token) (last : ℕ) (found : RuleFault) → NestsLess wide tokens
     → AreTokens text tokens last → IsFaultWithin limits text found → found.kind ≢ TooMany → IsAtMisfit wide tokens found ⊎ IsAtEnd wide tokens last found
