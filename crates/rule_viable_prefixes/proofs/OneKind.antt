@@ -1,19 +1,17 @@
 -- What is told by another kind than `TooMany`, where the limits are wide.
-use Rattle.std.proofs.Common.{◌≡◌, ◌≢◌, ℕ, ◌≤◌, List, [], ◌∷◌, ◌++◌, Err, refl, sym, ap, ◌∙◌, ◌⊎◌, inl, inr, arith}
-use Rattle.std.specs.Prelude.{codes}
+use Rattle.std.proofs.Common.{◌≡◌, ◌≢◌, ℕ, ◌≤◌, List, ◌∷◌, Err, refl, sym, ap, ◌∙◌, ◌⊎◌, inl, inr, arith}
 use Rattle.scan.specs.Laws.{OneTokenAtAPlace}
 use Rattle.rule_tokens.specs.declared.fault.RuleFaultKind.{RuleFaultKind}
 use Rattle.rule_tokens.specs.declared.fault.RuleFaultKind.TheVariants.{BadByte, Syntax, LeftOut, TooMany}
-use Rattle.rule_tokens.specs.Limits.{Limits, AreWithin}
+use Rattle.rule_tokens.specs.Limits.{Limits}
 use Rattle.rule_tokens.specs.PartReaders.{fault}
 use Rattle.rule_tokens.specs.RuleFaults.{RuleFault}
-use Rattle.rule_tokens.specs.Tokens.{Token, Word, AreTokens}
+use Rattle.rule_tokens.specs.Tokens.{Token}
 use Rattle.rule_parse.specs.CutTokens.{limited}
 use Rattle.rule_parse.specs.RuleReaders.{all_rules}
-use Rattle.rule_parse.specs.Text.{IsFaultWithin}
 use Rattle.rule_viable_prefixes.specs.Fits.{FitsBehind}
-use Rattle.rule_viable_prefixes.specs.Laws.{DoesNotFit, IsOneTooMany, IsAtToken, IsAtEnd, AreRoomy}
-use Rattle.rule_viable_prefixes.specs.Misfits.{openings_on_line, Fitting, IsExcused, one_use, repeated, nested, Says, IsMisfit, itself, read_on, IsOtherVersion}
+use Rattle.rule_viable_prefixes.specs.Laws.{DoesNotFit, IsOneTooMany, IsAtToken, IsAtEnd}
+use Rattle.rule_viable_prefixes.specs.Misfits.{openings_on_line, Fitting, IsExcused, one_use, repeated, nested, IsMisfit, itself, read_on, IsOtherVersion}
 use Rattle.rule_viable_prefixes.specs.OneKind.{NestsLess, IsMisplaced, IsKindOf, IsAtMisfit, OtherKindsAreOfWideLimits}
 use Rattle.rule_viable_prefixes.proofs.LimitLaws.{fault_is}
 use Rattle.rule_viable_prefixes.proofs.Refusals.{fault_of, faults}

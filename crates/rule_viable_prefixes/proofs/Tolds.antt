@@ -1,4 +1,4 @@
--- What the kind of a fault says of the token that is refused, where it stands behind so many others of a line or of a file.
+-- What the kind of a fault says of the token that is refused, behind so many marks that open levels.
 use Rattle.std.proofs.Common.{◌≡◌, ◌≢◌, ℕ, ◌≤◌, Bool, true, false, cond, List, [], ◌∷◌, refl, sym, ap, subst, ◌∙◌, ◌⊎◌, inl, inr, arith}
 use Rattle.std.specs.Prelude.{codes}
 use Rattle.std.specs.Str.{bytes_eq}
@@ -11,22 +11,22 @@ use Rattle.ops.proofs.KeywordLemmas.{same_word}
 use Rattle.rule_viable_prefixes.specs.Misfits.{Fitting, NounFits, IsTooDeep, IsTooMany, name, register, constant, choice, statement, nesting, Says, kind_at, IsMisfit, itself, read_on}
 
 module _ (limits : Limits) where
-  -- why a word is told as `Syntax`, whatever stands before it
+  -- why a word is told as `Syntax`, whatever stands opened it
   abbrev pub Excuse : ℕ → Fitting → List ℕ → Type 0
-  Excuse before fits word = (word ≡ codes "hasOneUse") ⊎ IsTooDeep limits before fits (Word word)
+  Excuse opened fits word = (word ≡ codes "hasOneUse") ⊎ IsTooDeep limits opened fits (Word word)
 
   -- what the kind says of the token, where these fit, and of a word that is told as `Syntax`
-  pub record Told (before : ℕ) (fits : Fitting) (none : List ℕ → Type 0) (token : Token) (behind : List Token) (kind : RuleFaultKind) : Type 0 where
-    pub misfit : token ≢ Excess → IsMisfit limits before fits token behind kind
+  pub record Told (opened : ℕ) (fits : Fitting) (none : List ℕ → Type 0) (token : Token) (behind : List Token) (kind : RuleFaultKind) : Type 0 where
+    pub misfit : token ≢ Excess → IsMisfit limits opened fits token behind kind
     -- the mark of the end of what is read is told as a limit that is passed, and in front of it a token by itself
     pub excess : token ≡ Excess → kind ≡ TooMany
-    pub in_front : token ≢ Excess → (more : List Token) → behind ≡ Excess ∷ more → Says limits before fits token kind
-    pub lacks : kind ≡ Syntax → (word : List ℕ) → token ≡ Word word → Excuse before fits word ⊎ none word
+    pub in_front : token ≢ Excess → (more : List Token) → behind ≡ Excess ∷ more → Says limits opened fits token kind
+    pub lacks : kind ≡ Syntax → (word : List ℕ) → token ≡ Word word → Excuse opened fits word ⊎ none word
 
   -- and of the first of the tokens
   abbrev pub SaysFirst : ℕ → Fitting → (List ℕ → Type 0) → List Token → RuleFaultKind → Type 0
-  SaysFirst before fits none [] kind = kind ≡ Syntax
-  SaysFirst before fits none (token ∷ tokens) kind = Told before fits none token tokens kind
+  SaysFirst opened fits none [] kind = kind ≡ Syntax
+  SaysFirst opened fits none (token ∷ tokens) kind = Told opened fits none token tokens kind
 
   -- ---- what kinds say
 
@@ -46,17 +46,17 @@ module _ (limits : Limits) where
   no_word : (token : Token) (word : List ℕ) → IsPlain token → token ≡ Word word → ⊥
   no_word token word plain is = subst IsPlain is plain
 
-  pub says_syntax : {before : ℕ} {fits : Fitting} {none : List ℕ → Type 0} (token : Token) (more : List Token) → IsPlain token → Told before fits none token more Syntax
+  pub says_syntax : {opened : ℕ} {fits : Fitting} {none : List ℕ → Type 0} (token : Token) (more : List Token) → IsPlain token → Told opened fits none token more Syntax
   says_syntax token more plain = record { misfit = λ read. itself (no_bad token plain); excess = λ is. absurd (no_excess token plain is); in_front = λ read others is. no_bad token plain; lacks = λ kind word is. absurd (no_word token word plain is) }
 
-  pub says_word : {before : ℕ} {fits : Fitting} {none : List ℕ → Type 0} (word : List ℕ) (more : List Token) → Excuse before fits word ⊎ none word → Told before fits none (Word word) more Syntax
-  says_word {before} {fits} {none} word more why = record { misfit = λ read. itself (λ e. absurd cc); excess = λ is. absurd cc; in_front = λ read others is e. absurd cc; lacks = λ kind other is. subst (λ (w : List ℕ). Excuse before fits w ⊎ none w) (let equal = is in cc) why }
+  pub says_word : {opened : ℕ} {fits : Fitting} {none : List ℕ → Type 0} (word : List ℕ) (more : List Token) → Excuse opened fits word ⊎ none word → Told opened fits none (Word word) more Syntax
+  says_word {opened} {fits} {none} word more why = record { misfit = λ read. itself (λ e. absurd cc); excess = λ is. absurd cc; in_front = λ read others is e. absurd cc; lacks = λ kind other is. subst (λ (w : List ℕ). Excuse opened fits w ⊎ none w) (let equal = is in cc) why }
 
-  pub says_too_many : {before : ℕ} {fits : Fitting} {none : List ℕ → Type 0} (token : Token) (more : List Token) → IsTooMany limits before fits token → Told before fits none token more TooMany
+  pub says_too_many : {opened : ℕ} {fits : Fitting} {none : List ℕ → Type 0} (token : Token) (more : List Token) → IsTooMany limits opened fits token → Told opened fits none token more TooMany
   says_too_many token more is = record { misfit = λ read. itself is; excess = λ e. refl; in_front = λ read others e. is; lacks = λ kind word same_token. absurd cc }
 
   -- a word has the reason that is given
-  pub says_unexpected : {before : ℕ} {fits : Fitting} {none : List ℕ → Type 0} (line : ℕ) (token : Token) (more : List Token) → ((word : List ℕ) → token ≡ Word word → Excuse before fits word ⊎ none word) → Told before fits none token more (unexpected line (token ∷ more)).kind
+  pub says_unexpected : {opened : ℕ} {fits : Fitting} {none : List ℕ → Type 0} (line : ℕ) (token : Token) (more : List Token) → ((word : List ℕ) → token ≡ Word word → Excuse opened fits word ⊎ none word) → Told opened fits none token more (unexpected line (token ∷ more)).kind
   says_unexpected line Bad more why = record { misfit = λ read. itself refl; excess = λ is. absurd cc; in_front = λ read others is. refl; lacks = λ kind word is. absurd cc }
   says_unexpected line Excess more why = record { misfit = λ read. absurd (read refl); excess = λ is. refl; in_front = λ read others is. absurd (read refl); lacks = λ kind word is. absurd cc }
   says_unexpected line (Line number) more why = says_syntax (Line number) more tt
@@ -69,16 +69,16 @@ module _ (limits : Limits) where
   says_unexpected line (Mark text) more why = says_syntax (Mark text) more tt
   says_unexpected line Other more why = says_syntax Other more tt
 
-  pub says_misplaced : {before : ℕ} {fits : Fitting} {none : List ℕ → Type 0} → NounFits fits → (line : ℕ) (word : List ℕ) (more : List Token) → Told before fits none (Word word) more (misplaced_word line word).kind
-  says_misplaced {before} {fits} {none} noun line word more = by (bytes_eq word (codes "hasOneUse")) refl
+  pub says_misplaced : {opened : ℕ} {fits : Fitting} {none : List ℕ → Type 0} → NounFits fits → (line : ℕ) (word : List ℕ) (more : List Token) → Told opened fits none (Word word) more (misplaced_word line word).kind
+  says_misplaced {opened} {fits} {none} noun line word more = by (bytes_eq word (codes "hasOneUse")) refl
     where
-      by : (b : Bool) → bytes_eq word (codes "hasOneUse") ≡ b → Told before fits none (Word word) more (cond b Syntax (LeftOut word))
+      by : (b : Bool) → bytes_eq word (codes "hasOneUse") ≡ b → Told opened fits none (Word word) more (cond b Syntax (LeftOut word))
       by true h = says_word word more (inl (inl (same_word word (codes "hasOneUse") h)))
       by false h =
           let other : word ≢ codes "hasOneUse" = λ same_word_. let is = ap (λ (w : List ℕ). bytes_eq w (codes "hasOneUse")) same_word_ in let both = sym h ∙ is in absurd cc in
           record { misfit = λ read. itself (refl, other, noun); excess = λ is. absurd cc; in_front = λ read others is. (refl, other, noun); lacks = λ kind other is. absurd cc }
 
-  pub says_left_out : {before : ℕ} {fits : Fitting} {none : List ℕ → Type 0} → NounFits fits → (line : ℕ) (token : Token) (more : List Token) → Told before fits none token more (left_out line (token ∷ more)).kind
+  pub says_left_out : {opened : ℕ} {fits : Fitting} {none : List ℕ → Type 0} → NounFits fits → (line : ℕ) (token : Token) (more : List Token) → Told opened fits none token more (left_out line (token ∷ more)).kind
   says_left_out noun line (Word word) more = says_misplaced noun line word more
   says_left_out noun line Bad more = says_unexpected line Bad more (λ word is. absurd cc)
   says_left_out noun line Excess more = says_unexpected line Excess more (λ word is. absurd cc)
@@ -100,17 +100,17 @@ module _ (limits : Limits) where
   abbrev pub IsTold : List Token → RuleFaultKind → Type 0
   IsTold tokens kind = (kind ≡ TooMany) ⊎ (((more : List Token) → tokens ≡ Mark (codes "(") ∷ more → ⊥) × (kind ≡ kind_first tokens))
 
-  pub says_deep : {before : ℕ} {fits : Fitting} {none : List ℕ → Type 0} (word : List ℕ) → IsTooDeep limits before fits (Word word) → (tokens : List Token) (kind : RuleFaultKind) → IsTold tokens kind → Told before fits none (Word word) tokens kind
-  says_deep {before} {fits} {none} word deep tokens kind (inl is) = subst (Told before fits none (Word word) tokens) (sym is) (says_too_many (Word word) tokens (nesting (Word word) deep))
-  says_deep {before} {fits} {none} word deep (Excess ∷ tokens) kind (inr (none_, is)) = subst (Told before fits none (Word word) (Excess ∷ tokens)) (sym is) (says_too_many (Word word) (Excess ∷ tokens) (nesting (Word word) deep))
-  says_deep {before} {fits} {none} word deep tokens kind (inr (none_, is)) = record {
+  pub says_deep : {opened : ℕ} {fits : Fitting} {none : List ℕ → Type 0} (word : List ℕ) → IsTooDeep limits opened fits (Word word) → (tokens : List Token) (kind : RuleFaultKind) → IsTold tokens kind → Told opened fits none (Word word) tokens kind
+  says_deep {opened} {fits} {none} word deep tokens kind (inl is) = subst (Told opened fits none (Word word) tokens) (sym is) (says_too_many (Word word) tokens (nesting (Word word) deep))
+  says_deep {opened} {fits} {none} word deep (Excess ∷ tokens) kind (inr (none_, is)) = subst (Told opened fits none (Word word) (Excess ∷ tokens)) (sym is) (says_too_many (Word word) (Excess ∷ tokens) (nesting (Word word) deep))
+  says_deep {opened} {fits} {none} word deep tokens kind (inr (none_, is)) = record {
     misfit = λ read. read_on (word, refl, deep, none_, is);
     excess = λ is_excess. absurd cc;
     in_front = λ read more is_excess. absurd cc;
-    lacks = λ kind_ other is_other. inl (subst (Excuse before fits) (let equal = is_other in cc) (inr deep));
+    lacks = λ kind_ other is_other. inl (subst (Excuse opened fits) (let equal = is_other in cc) (inr deep));
   }
 
--- ---- the same where more fits, within other limits and behind more tokens
+-- ---- the same where more fits, within other limits and behind more of these marks
 
 module _ (inner limits : Limits) (a b : ℕ) (bytes : inner.name_bytes ≡ limits.name_bytes) (deep : inner.nested ≤ a → limits.nested ≤ b) (P Q : Fitting) (f : (token : Token) → P token → Q token) where
   many_carried : (token : Token) → IsTooMany inner a P token → IsTooMany limits b Q token

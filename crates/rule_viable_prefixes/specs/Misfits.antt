@@ -50,7 +50,7 @@ pub data Nests : Token → Type 0 where
   negation : Nests (Mark (codes "!"))
   test : (predicate : Predicate) → Nests (Word (predicate_word predicate))
 
--- what opens one level of nesting: `(`, and the operators of one operand, whose marks are those of operators of two, too
+-- the marks that open a level of nesting: `(`, and the operators of one operand, of which `-` may also join two
 abbrev pub opening_marks : List (List ℕ)
 opening_marks = codes "(" ∷ codes "-" ∷ codes "~" ∷ codes "!" ∷ []
 

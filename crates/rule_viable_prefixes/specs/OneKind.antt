@@ -1,5 +1,5 @@
 -- What is told where no limit is passed: the one kind that holds.
-use Rattle.std.specs.Prelude.{◌≡◌, ◌≢◌, ◌⊎◌, ℕ, ◌<◌, List, [], ◌∷◌, ◌++◌, codes}
+use Rattle.std.specs.Prelude.{◌≡◌, ◌≢◌, ◌⊎◌, ℕ, ◌<◌, List, ◌∷◌, ◌++◌, codes}
 use Rattle.rule_tokens.specs.declared.fault.RuleFaultKind.{RuleFaultKind}
 use Rattle.rule_tokens.specs.declared.fault.RuleFaultKind.TheVariants.{BadByte, Syntax, LeftOut, TooMany}
 use Rattle.rule_tokens.specs.Limits.{Limits, AreWithin}
