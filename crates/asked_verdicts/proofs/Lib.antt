@@ -4,3 +4,4 @@ pub mod Sequence
 pub mod Storing
 pub mod Keeping
 pub mod Passing
+pub mod Parts

@@ -21,7 +21,7 @@ use Rattle.asked_verdicts.proofs.Sequence.{asks_both, row_stays}
 pub next_match : (ms : List Match) (k : ℕ) (m : Match) → k < length ms → m ≡ get_or ms k m → take (k + 1) ms ≡ take k ms ++ m ∷ []
 next_match ms k m within is = take_more ms k m within ∙ ap (λ (n : Match). take k ms ++ n ∷ []) (sym is)
 
-any_left : {X : Type 0} (P : X → Type 0) (xs ys : List X) → Any P xs → Any P (xs ++ ys)
+pub any_left : {X : Type 0} (P : X → Type 0) (xs ys : List X) → Any P xs → Any P (xs ++ ys)
 any_left P xs ys (k, x, within, at, h) = (let has = Contains-append_left xs ys x (k, within, at) in (has.0, x, has.1, has.2, h))
 
 all_more : {X : Type 0} (P : X → Type 0) (xs : List X) (x : X) → All P xs → P x → All P (xs ++ x ∷ [])

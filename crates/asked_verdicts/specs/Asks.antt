@@ -1,9 +1,11 @@
 -- The verdicts that are kept, and what one search asks.
-use Rattle.std.specs.Prelude.{◌≡◌, ℕ, List, [], ◌∷◌, ◌++◌, map, take, All, Option, None, Some, slice_get}
+use Rattle.std.specs.Prelude.{◌≡◌, ℕ, Bool, false, List, [], ◌∷◌, ◌++◌, map, All, Any, MatchBool, Option, None, Some}
+use Rattle.ir_core.specs.declared.function.Function.{Function}
 use Rattle.rule_core.specs.declared.rule.Rule.{Rule}
 use Rattle.verdict.specs.declared.verdict.Row.{Row}
 use Rattle.verdict.specs.Table.{IsHonestTable}
 use Rattle.rule_matches.specs.declared.matches.Match.{Match}
+use Rattle.rule_matches.specs.Matches.{IsMatchAmong, ComesBefore, AreMatchesWhere}
 use Rattle.asked_verdicts.specs.declared.verdicts.Verdicts.{Verdicts}
 use Rattle.asked_verdicts.specs.Asked.{Pair, pair_of, pair_in, IsAdmitted, IsTurnedDown, AreFirstAsked}
 
@@ -24,9 +26,30 @@ pub record Asks (rules : List Rule) (conflicts : ℕ) (pairs : List Pair) (old n
   pub rows : new.table ≡ old.table ++ more
   pub asked : (before : List Pair) → AreVerdictsOn rules conflicts before old → AreVerdictsOn rules conflicts (before ++ pairs) new
 
--- the matches up to the first that is admitted are asked, or all, if none is
-abbrev pub AsksToFirst : List Rule → ℕ → List Match → Verdicts → Verdicts → Option ℕ → Type 0
-AsksToFirst rules conflicts matches old new None = Asks rules conflicts (map pair_of matches) old new × All (IsTurnedDown new.table) matches
-AsksToFirst rules conflicts matches old new (Some place) = (chosen : Match) × (slice_get matches place ≡ Some chosen)
-    × Asks rules conflicts (map pair_of (take place matches ++ chosen ∷ [])) old new
-    × All (IsTurnedDown new.table) (take place matches) × IsAdmitted new.table chosen
+-- ---- a search through the matches of a function of which something holds
+
+-- any match of the function
+abbrev pub IsAnywhere : Match → Type 0
+IsAnywhere m = Unit {0}
+
+-- all are asked, in order, and it is told whether one of them is admitted
+pub record AsksAll (rules : List Rule) (conflicts : ℕ) (f : Function) (P : Match → Type 0) (old new : Verdicts) (any : Bool) : Type 0 where
+  pub matches : List Match
+  pub are_matches : AreMatchesWhere rules f P matches
+  pub asks : Asks rules conflicts (map pair_of matches) old new
+  pub answer : MatchBool any (Any (IsAdmitted new.table) matches) (All (IsTurnedDown new.table) matches)
+
+-- all that come before this one are asked, in order, and are turned down, and then this one, which is admitted
+pub record AsksUpTo (rules : List Rule) (conflicts : ℕ) (f : Function) (P : Match → Type 0) (old new : Verdicts) (chosen : Match) : Type 0 where
+  pub is_match : IsMatchAmong rules f chosen
+  pub holds : P chosen
+  pub passed : List Match
+  pub are_before : AreMatchesWhere rules f (λ m. P m × ComesBefore m chosen) passed
+  pub asks : Asks rules conflicts (map pair_of (passed ++ chosen ∷ [])) old new
+  pub turned_down : All (IsTurnedDown new.table) passed
+  pub admitted : IsAdmitted new.table chosen
+
+-- the first that is admitted is found, and all up to it are asked; or all are, if none is admitted
+abbrev pub AsksToFirst : List Rule → ℕ → Function → (Match → Type 0) → Verdicts → Verdicts → Option Match → Type 0
+AsksToFirst rules conflicts f P old new None = AsksAll rules conflicts f P old new false
+AsksToFirst rules conflicts f P old new (Some chosen) = AsksUpTo rules conflicts f P old new chosen

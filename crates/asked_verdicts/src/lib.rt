@@ -2,7 +2,8 @@
 //! is stored for it is asked before there is a search.
 //!
 //! The definitions stand in `specs/`: `Asked` says which verdicts matches ask for, in which order pairs are first asked, and what a
-//! table of verdicts says; `Asks` what one search asks, and what is kept; `Stored` which log is stored for a pair.
+//! table of verdicts says; `Asks` what one search asks, and what is kept; `Stored` which log is stored for a pair. `Parts` serves
+//! the private functions.
 #![tactic(auto)]
 
 mod searching;

@@ -1,18 +1,22 @@
 -- The matches of one part of a function, and behind them those of the next.
-use Rattle.std.proofs.Common.{◌≡◌, ◌⊎◌, inl, inr, zero, suc, List, [], ◌∷◌, ◌++◌, get_or, refl, arith}
-use Rattle.std.specs.Prelude.{All, AllPairs, Contains}
+use Rattle.std.proofs.Common.{◌≡◌, ◌⊎◌, inl, inr, ℕ, zero, suc, ◌<◌, ◌≤◌, List, [], ◌∷◌, ◌++◌, length, get_or, take, Some, refl, sym, ap, subst, ◌∙◌, arith}
+use Rattle.std.specs.Prelude.{All, AllPairs, Contains, slice_get}
+use Rattle.std.proofs.lemmas.Bool.{cases_eq, cases_lt}
+use Rattle.std.proofs.lemmas.List.{get_or-take, length-take-le}
 use Rattle.std.proofs.lemmas.List.Elements.{All-append, All-contains, Contains-append_left, Contains-append_right, Contains-get_or}
 use Rattle.std.proofs.lemmas.List.Kept.{AllPairs-cons}
+use Rattle.std.proofs.lemmas.Option.{get_or_from_slice_get, slice_get-get_or, slice_get_within}
+use Rattle.ir_core.specs.Assigned.{IsBefore}
 use Rattle.ir_core.specs.declared.function.Function.{Function}
 use Rattle.rule_core.specs.declared.rule.Rule.{Rule}
+use Rattle.rule_core.proofs.Givens.{Contains-take}
 use Rattle.rule_matches.specs.declared.matches.Match.{Match}
-use Rattle.rule_matches.specs.Matches.{IsMatchAmong, ComesBefore, AreMatches}
-use Rattle.rule_matches.specs.Found.{AreMatchesWhere}
+use Rattle.rule_matches.specs.Matches.{IsMatchAmong, ComesBefore, AreMatches, AreMatchesWhere}
 
-pairs_first : {X : Type 0} (R : X → X → Type 0) (x : X) (xs : List X) → AllPairs R (x ∷ xs) → All (R x) xs
+pub pairs_first : {X : Type 0} (R : X → X → Type 0) (x : X) (xs : List X) → AllPairs R (x ∷ xs) → All (R x) xs
 pairs_first R x xs h k d lt = h 0 (suc k) d (omega arith) (omega arith)
 
-pairs_later : {X : Type 0} (R : X → X → Type 0) (x : X) (xs : List X) → AllPairs R (x ∷ xs) → AllPairs R xs
+pub pairs_later : {X : Type 0} (R : X → X → Type 0) (x : X) (xs : List X) → AllPairs R (x ∷ xs) → AllPairs R xs
 pairs_later R x xs h i j d less within = h (suc i) (suc j) d (omega arith) (omega arith)
 
 pub pairs_append : {X : Type 0} (R : X → X → Type 0) (xs ys : List X) → AllPairs R xs → AllPairs R ys
@@ -22,6 +26,22 @@ pairs_append R (x ∷ xs) ys first later cross =
     AllPairs-cons R x (xs ++ ys)
     (All-append (R x) xs ys (pairs_first R x xs first) (λ k d lt. cross x (get_or ys k d) (0, omega arith, refl) (Contains-get_or ys k d lt)))
     (pairs_append R xs ys (pairs_later R x xs first) later (λ a b has. cross a b (suc has.0, omega (arith, has.1), has.2)))
+
+-- of two places neither comes before the other both ways
+pub not_after : (b k i c l j : ℕ) → IsBefore b k i c l j → IsBefore c l j b k i → ⊥
+not_after b k i c l j first later = elim first [
+  | inl p ↦ elim later [ inl q ↦ omega (arith, p, q) | inr q ↦ omega (arith, p, q.0) ]
+  | inr p ↦ elim later [
+    | inl q ↦ omega (arith, p.0, q)
+    | inr q ↦ elim p.1 [
+      | inl s ↦ elim q.1 [ inl t ↦ omega (arith, s, t) | inr t ↦ omega (arith, s, t.0) ]
+      | inr s ↦ elim q.1 [ inl t ↦ omega (arith, s.0, t) | inr t ↦ omega (arith, s.1, t.1) ]
+    ]
+  ]
+]
+
+pub not_both : (m n : Match) → ComesBefore m n → ComesBefore n m → ⊥
+not_both m n = not_after m.binding.block m.binding.place m.rule n.binding.block n.binding.place n.rule
 
 module _ (rules : List Rule) (f : Function) where
   -- where no rule matches
@@ -78,3 +98,56 @@ module _ (rules : List Rule) (f : Function) where
     all = λ m is. found.all m is (all m is);
     in_order = found.in_order;
   }
+
+  -- of all of one part and of those of the next that come before one of it, which are all of both that do
+  pub joined_before : (P Q R : Match → Type 0) (chosen : Match) (xs ys : List Match) → Q chosen
+      → AreMatchesWhere rules f P xs → AreMatchesWhere rules f (λ m. Q m × ComesBefore m chosen) ys
+      → ((m n : Match) → P m → Q n → ComesBefore m n)
+      → ((m : Match) → R m → ComesBefore m chosen → P m ⊎ Q m) → ((m : Match) → P m → R m) → ((m : Match) → Q m → R m)
+      → AreMatchesWhere rules f (λ m. R m × ComesBefore m chosen) (xs ++ ys)
+  joined_before P Q R chosen xs ys here first later before split from_p from_q =
+      joined P (λ m. Q m × ComesBefore m chosen) (λ m. R m × ComesBefore m chosen) xs ys first later
+      (λ m n p q. before m n p q.0)
+      (λ m is r. elim (split m r.0 r.1) [ inl p ↦ inl p | inr q ↦ inr (q, r.1) ])
+      (λ m p. (from_p m p, before m chosen p here))
+      (λ m q. (from_q m q.0, q.1))
+
+  -- those that come before one of a list are those that stand before it
+  module _ (P : Match → Type 0) (ms : List Match) (i : ℕ) (chosen : Match) (at : slice_get ms i ≡ Some chosen) (found : AreMatchesWhere rules f P ms) where
+    size : length (take i ms) ≡ i
+    size = (let within : i < length ms = slice_get_within ms i chosen at in length-take-le i ms (omega arith))
+
+    earlier : (k : ℕ) (d : Match) → k < i → ComesBefore (get_or ms k d) chosen
+    earlier k d early = subst (ComesBefore (get_or ms k d)) (get_or_from_slice_get ms i chosen d at) (found.in_order k i d early (slice_get_within ms i chosen at))
+
+    not_later : (j : ℕ) (m : Match) → i ≤ j → j < length ms → get_or ms j m ≡ m → ¬ ComesBefore m chosen
+    not_later j m late within is before = elim (cases_eq i j) [
+      | inl same ↦
+          let equal : chosen ≡ m = sym (get_or_from_slice_get ms i chosen m at) ∙ ap (λ (n : ℕ). get_or ms n m) same ∙ is in
+          let twice : ComesBefore m m = subst (ComesBefore m) equal before in
+          not_both m m twice twice
+      | inr other ↦
+          let past : i < j = omega (arith, late, other) in
+          let after : ComesBefore (get_or ms i m) (get_or ms j m) = found.in_order i j m past within in
+          not_both m chosen before (subst (ComesBefore chosen) is (subst (λ (n : Match). ComesBefore n (get_or ms j m)) (get_or_from_slice_get ms i chosen m at) after))
+    ]
+
+    pub before_chosen : AreMatchesWhere rules f (λ m. P m × ComesBefore m chosen) (take i ms)
+    before_chosen = record {
+      each = λ k d lt.
+          let early : k < i = omega (arith, lt, size) in
+          let within : i < length ms = slice_get_within ms i chosen at in
+          let h = found.each k d (omega (arith, early, within)) in
+          subst (λ (m : Match). IsMatchAmong rules f m × (P m × ComesBefore m chosen)) (sym (get_or-take i ms k d early)) (h.0, (h.1, earlier k d early));
+      all = λ m is p.
+          let (j, within, at_j) = found.all m is p.0 in
+          elim (cases_lt j i) [
+            | inl early ↦ Contains-take ms i j m early (slice_get-get_or ms j m within ∙ ap Some at_j)
+            | inr late ↦ absurd (not_later j m late within at_j p.1)
+          ];
+      in_order = λ j k d less within.
+          let early : k < i = omega (arith, within, size) in
+          let whole : i < length ms = slice_get_within ms i chosen at in
+          subst (λ (m : Match). ComesBefore m (get_or (take i ms) k d)) (sym (get_or-take i ms j d (omega (arith, less, early))))
+          (subst (ComesBefore (get_or ms j d)) (sym (get_or-take i ms k d early)) (found.in_order j k d less (omega (arith, early, whole))));
+    }

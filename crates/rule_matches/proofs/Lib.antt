@@ -4,3 +4,4 @@ pub mod Groups
 pub mod Rooting
 pub mod Joining
 pub mod Matching
+pub mod Ordering

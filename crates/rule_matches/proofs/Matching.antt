@@ -1,13 +1,10 @@
--- The steps of the search for matches.
-use Rattle.std.proofs.Common.{◌≡◌, ◌⊎◌, inl, inr, ℕ, ◌+◌, ◌<◌, ◌≤◌, List, [], ◌∷◌, ◌++◌, length, get_or, take, Option, Some, refl, sym, ap, subst, ◌∙◌, append_assoc, arith}
-use Rattle.std.specs.Prelude.{AllPairs, Contains, option_map, slice_get, unwrap_or}
-use Rattle.std.proofs.lemmas.Bool.{cases_lt}
-use Rattle.std.proofs.lemmas.List.{append-nil, get_or-take, length-take-le, take_all, take_more}
+-- The matches at an instruction, rule by rule.
+use Rattle.std.proofs.Common.{◌≡◌, ◌⊎◌, inl, inr, ℕ, ◌+◌, ◌<◌, ◌≤◌, List, [], ◌∷◌, ◌++◌, length, get_or, take, Some, refl, sym, ap, subst, ◌∙◌, arith}
+use Rattle.std.specs.Prelude.{AllPairs, Contains, slice_get}
+use Rattle.std.proofs.lemmas.List.{get_or-take, length-take-le, take_all, take_more}
 use Rattle.std.proofs.lemmas.List.Elements.{Contains-append_left, Contains-push, Contains-push_cases}
-use Rattle.std.proofs.lemmas.Option.{get_or_from_slice_get, same_Some, slice_get-get_or, slice_get_within}
+use Rattle.std.proofs.lemmas.Option.{get_or_from_slice_get, same_Some, slice_get-get_or}
 use Rattle.ir_core.specs.Checks.{IsInst}
-use Rattle.ir_core.specs.Reads.{end_of}
-use Rattle.ir_core.specs.declared.function.Block.{Block}
 use Rattle.ir_core.specs.declared.function.Function.{Function}
 use Rattle.ir_core.specs.declared.instruction.Inst.{Inst}
 use Rattle.rule_core.specs.declared.rule.Rule.{Rule}
@@ -16,17 +13,12 @@ use Rattle.bindings.specs.declared.binding.Binding.{Binding}
 use Rattle.matcher.proofs.OneBinding.{matches_have_one_binding}
 use Rattle.bindings.proofs.Reading.{same_inst}
 use Rattle.rule_matches.specs.declared.matches.Match.{Match}
-use Rattle.rule_matches.specs.Found.{AddsMatches, AreMatchesWhere, IsAt, IsInBlock, IsOf}
-use Rattle.rule_matches.specs.Matches.{AreMatches, ComesBefore, IsMatchAmong}
+use Rattle.rule_matches.specs.Found.{IsOf}
+use Rattle.rule_matches.specs.Matches.{AreMatchesWhere, ComesBefore, IsAt, IsMatchAmong}
 use Rattle.rule_matches.specs.Ready.{AreReady}
 use Rattle.rule_matches.specs.Roots.{AreCandidates, kind_of_inst}
-use Rattle.rule_matches.proofs.Joining.{everywhere, joined, none_where, one_where, same_where}
+use Rattle.rule_matches.proofs.Joining.{joined, none_where, one_where, same_where}
 use Rattle.rule_matches.proofs.Rooting.{root_stands}
-
--- what stands in a block stands before its end
-pub before_end : (f : Function) (b k : ℕ) (inst : Inst) → IsInst f b k inst → k < end_of f b
-before_end f b k inst is =
-    subst (λ (o : Option Block). k < unwrap_or (option_map (λ (block : Block). length block.insts) o) 0) (sym is.is_block) (slice_get_within is.block.insts k inst is.is_inst)
 
 -- it is the match of one of these rules at the instruction
 abbrev pub IsAtAmong : ℕ → ℕ → List ℕ → Match → Type 0
@@ -57,21 +49,15 @@ module _ (rules : List Rule) (f : Function) where
         one_where rules f (IsOf b k r) m (record { rule = tried; is_rule = at; matches = there }) (is.block, is.place, refl) (λ n is_n of.
         same_match m n (sym of.2) (matches_have_one_binding f b k tried binding n.binding (ready r tried at).checks (ready r tried at).typed is (here n is_n of)))
 
-  -- of none of the rules
-  pub adds_none : (P : Match → Type 0) (found : List Match) → ((m : Match) → IsMatchAmong rules f m → ¬ P m) → AddsMatches rules f P found found
-  adds_none P found never = ([], sym (append-nil found), none_where rules f P never)
-
   -- and of the next one
-  pub next_rule : (b k : ℕ) (places : List ℕ) (i r : ℕ) (old between new more : List Match) → i < length places → r ≡ get_or places i 0 → AllPairs (λ q s. q < s) places
-      → AddsMatches rules f (IsAtAmong b k (take i places)) old between → new ≡ between ++ more → AreMatchesWhere rules f (IsOf b k r) more
-      → AddsMatches rules f (IsAtAmong b k (take (i + 1) places)) old new
-  next_rule b k places i r old between new more within is ordered (first, begun, found) then later = (
-    first ++ more,
-    then ∙ ap (λ (l : List Match). l ++ more) begun ∙ append_assoc old first more,
-    joined rules f (IsAtAmong b k (take i places)) (IsOf b k r) (IsAtAmong b k (take (i + 1) places)) first more found later before split
-        (λ m of. (of.0, of.1, subst (λ (l : List ℕ). Contains l m.rule) (sym grown) (Contains-append_left (take i places) (r ∷ []) m.rule of.2)))
-        (λ m of. (of.0, of.1, subst (λ (l : List ℕ). Contains l m.rule) (sym grown) (subst (Contains (take i places ++ r ∷ [])) (sym of.2) (Contains-push (take i places) r)))),
-  )
+  pub next_rule : (b k : ℕ) (places : List ℕ) (i r : ℕ) (old new more : List Match) → i < length places → r ≡ get_or places i 0 → AllPairs (λ q s. q < s) places
+      → AreMatchesWhere rules f (IsAtAmong b k (take i places)) old → new ≡ old ++ more → AreMatchesWhere rules f (IsOf b k r) more
+      → AreMatchesWhere rules f (IsAtAmong b k (take (i + 1) places)) new
+  next_rule b k places i r old new more within is ordered found then later =
+      subst (AreMatchesWhere rules f (IsAtAmong b k (take (i + 1) places))) (sym then)
+      (joined rules f (IsAtAmong b k (take i places)) (IsOf b k r) (IsAtAmong b k (take (i + 1) places)) old more found later before split
+      (λ m of. (of.0, of.1, subst (λ (l : List ℕ). Contains l m.rule) (sym grown) (Contains-append_left (take i places) (r ∷ []) m.rule of.2)))
+      (λ m of. (of.0, of.1, subst (λ (l : List ℕ). Contains l m.rule) (sym grown) (subst (Contains (take i places ++ r ∷ [])) (sym of.2) (Contains-push (take i places) r)))))
     where
       grown : take (i + 1) places ≡ take i places ++ r ∷ []
       grown = take_more places i 0 within ∙ ap (λ (s : ℕ). take i places ++ s ∷ []) (sym is)
@@ -95,13 +81,10 @@ module _ (rules : List Rule) (f : Function) where
       ]
 
   -- of all that may match
-  pub each_rule : (b k : ℕ) (inst : Inst) (places : List ℕ) (i : ℕ) (old new : List Match) → AreReady rules → IsInst f b k inst → AreCandidates rules inst.op places → length places ≤ i
-      → AddsMatches rules f (IsAtAmong b k (take i places)) old new → AddsMatches rules f (IsAt b k) old new
-  each_rule b k inst places i old new ready at candidates past (more, added, found) = (
-    more,
-    added,
-    same_where rules f (IsAtAmong b k (take i places)) (IsAt b k) more found back (λ m of. (of.0, of.1)),
-  )
+  pub each_rule : (b k : ℕ) (inst : Inst) (places : List ℕ) (i : ℕ) (found : List Match) → AreReady rules → IsInst f b k inst → AreCandidates rules inst.op places → length places ≤ i
+      → AreMatchesWhere rules f (IsAtAmong b k (take i places)) found → AreMatchesWhere rules f (IsAt b k) found
+  each_rule b k inst places i found ready at candidates past are =
+      same_where rules f (IsAtAmong b k (take i places)) (IsAt b k) found are back (λ m of. (of.0, of.1))
     where
       back : (m : Match) → IsMatchAmong rules f m → IsAt b k m → IsAtAmong b k (take i places) m
       back m is of =
@@ -110,41 +93,3 @@ module _ (rules : List Rule) (f : Function) where
           let same : root.inst ≡ inst = same_inst f b k root.inst inst there at in
           let among : Contains places m.rule = (candidates.same m.rule).1 (root.kind, subst (λ (x : Inst). kind_of_inst x.op ≡ Some root.kind) same root.of_inst, root.of_rule) in
           (of.0, of.1, subst (λ (l : List ℕ). Contains l m.rule) (sym (take_all i places past)) among)
-
-  -- of the next instruction
-  pub next_place : (b k : ℕ) (old between new : List Match) → AddsMatches rules f (λ m. IsInBlock b m × (m.binding.place < k)) old between → AddsMatches rules f (IsAt b k) between new
-      → AddsMatches rules f (λ m. IsInBlock b m × (m.binding.place < k + 1)) old new
-  next_place b k old between new (first, begun, found) (more, then, later) = (
-    first ++ more,
-    then ∙ ap (λ (l : List Match). l ++ more) begun ∙ append_assoc old first more,
-    joined rules f (λ m. IsInBlock b m × (m.binding.place < k)) (IsAt b k) (λ m. IsInBlock b m × (m.binding.place < k + 1)) first more found later
-        (λ m n of_m of_n. inr (of_m.0 ∙ sym of_n.0, inl (omega (arith, of_m.1, of_n.1))))
-        (λ m is of. elim (cases_lt m.binding.place k) [ inl less ↦ inl (of.0, less) | inr past ↦ inr (of.0, omega (arith, of.1, past)) ])
-        (λ m of. (of.0, omega (arith, of.1)))
-        (λ m of. (of.0, omega (arith, of.1))),
-  )
-
-  pub each_place : (b k : ℕ) (old new : List Match) → AreReady rules → end_of f b ≤ k → AddsMatches rules f (λ m. IsInBlock b m × (m.binding.place < k)) old new → AddsMatches rules f (IsInBlock b) old new
-  each_place b k old new ready past (more, added, found) = (
-    more,
-    added,
-    same_where rules f (λ m. IsInBlock b m × (m.binding.place < k)) (IsInBlock b) more found (λ m is of.
-        let root = root_stands rules f m ready is in
-        let there : IsInst f b m.binding.place root.inst = subst (λ (d : ℕ). IsInst f d m.binding.place root.inst) of root.is_inst in
-        (of, omega (arith, before_end f b m.binding.place root.inst there, past))) (λ m of. of.0),
-  )
-
-  -- of the next block
-  pub next_block : (b : ℕ) (old new : List Match) → AreMatchesWhere rules f (λ m. m.binding.block < b) old → AddsMatches rules f (IsInBlock b) old new → AreMatchesWhere rules f (λ m. m.binding.block < b + 1) new
-  next_block b old new found (more, added, later) =
-      subst (AreMatchesWhere rules f (λ m. m.binding.block < b + 1)) (sym added)
-      (joined rules f (λ m. m.binding.block < b) (IsInBlock b) (λ m. m.binding.block < b + 1) old more found later
-      (λ m n of_m of_n. inl (omega (arith, of_m, of_n)))
-      (λ m is of. elim (cases_lt m.binding.block b) [ inl less ↦ inl less | inr past ↦ inr (omega (arith, of, past)) ])
-      (λ m of. omega (arith, of))
-      (λ m of. omega (arith, of)))
-
-  pub each_block : (b : ℕ) (found : List Match) → AreReady rules → length f.blocks ≤ b → AreMatchesWhere rules f (λ m. m.binding.block < b) found → AreMatches rules f found
-  each_block b found ready past are = everywhere rules f (λ m. m.binding.block < b) found are (λ m is.
-      let root = root_stands rules f m ready is in
-      omega (arith, slice_get_within f.blocks m.binding.block root.is_inst.block root.is_inst.is_block, past))

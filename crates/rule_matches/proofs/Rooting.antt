@@ -1,6 +1,9 @@
 -- A rule matches only at instructions of its root's kind.
-use Rattle.std.proofs.Common.{◌≡◌, ℕ, suc, ◌-◌, ◌<◌, List, Some, length, refl, sym, ap, subst, ◌∙◌, arith}
-use Rattle.std.specs.Prelude.{slice_get, option_and_then}
+use Rattle.std.proofs.Common.{◌≡◌, ℕ, suc, ◌-◌, ◌<◌, List, Option, Some, length, refl, sym, ap, subst, ◌∙◌, arith}
+use Rattle.std.proofs.lemmas.Option.{slice_get_within}
+use Rattle.std.specs.Prelude.{slice_get, option_and_then, option_map, unwrap_or}
+use Rattle.ir_core.specs.Reads.{end_of}
+use Rattle.ir_core.specs.declared.function.Block.{Block}
 use Rattle.ir_core.specs.declared.function.Function.{Function}
 use Rattle.ir_core.specs.declared.instruction.Inst.{Inst}
 use Rattle.ir_core.specs.declared.instruction.Op.{Op as InstOp}
@@ -55,3 +58,8 @@ root_stands rules f m ready is = by (length is.rule.source - 1) (let some : 0 < 
           of_inst = same.2;
           of_rule = (rule, is.is_rule, root ∙ same.1);
         }
+
+-- what stands in a block stands before its end
+pub before_end : (f : Function) (b k : ℕ) (inst : Inst) → IsInst f b k inst → k < end_of f b
+before_end f b k inst is =
+    subst (λ (o : Option Block). k < unwrap_or (option_map (λ (block : Block). length block.insts) o) 0) (sym is.is_block) (slice_get_within is.block.insts k inst is.is_inst)

@@ -3,3 +3,4 @@ pub mod Matches
 pub mod Ready
 pub mod Roots
 pub mod Found
+pub mod Laws

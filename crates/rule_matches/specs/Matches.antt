@@ -1,5 +1,5 @@
 -- Where the rules of a file match in a function, in the order in which a search comes to them.
-use Rattle.std.specs.Prelude.{◌≡◌, List, Some, All, AllPairs, Contains, slice_get}
+use Rattle.std.specs.Prelude.{◌≡◌, ℕ, List, Some, All, AllPairs, Contains, slice_get}
 use Rattle.ir_core.specs.Assigned.{IsBefore}
 use Rattle.ir_core.specs.declared.function.Function.{Function}
 use Rattle.rule_core.specs.declared.rule.Rule.{Rule}
@@ -21,3 +21,17 @@ pub record AreMatches (rules : List Rule) (f : Function) (matches : List Match) 
   pub each : All (IsMatchAmong rules f) matches
   pub all : (m : Match) → IsMatchAmong rules f m → Contains matches m
   pub in_order : AllPairs ComesBefore matches
+
+-- these are all of which this holds, in order
+pub record AreMatchesWhere (rules : List Rule) (f : Function) (P : Match → Type 0) (matches : List Match) : Type 0 where
+  pub each : All (λ m. IsMatchAmong rules f m × P m) matches
+  pub all : (m : Match) → IsMatchAmong rules f m → P m → Contains matches m
+  pub in_order : AllPairs ComesBefore matches
+
+-- and these all that come before this one
+abbrev pub AreMatchesBefore : List Rule → Function → Match → List Match → Type 0
+AreMatchesBefore rules f chosen matches = AreMatchesWhere rules f (λ m. ComesBefore m chosen) matches
+
+-- the match stands at this instruction
+abbrev pub IsAt : ℕ → ℕ → Match → Type 0
+IsAt b k m = (m.binding.block ≡ b) × (m.binding.place ≡ k)

@@ -1,17 +1,17 @@
-//! The matches of rules in a function.
+//! The matches of rules at the instructions of a function.
 
 ghost use Rattle.std.specs.Prelude.{◌≡◌, ◌<◌, ◌^◌, ◌++◌, length, option_to_list, All, IfOk, OnOk};
 ghost use Rattle.ir_core.specs.Blocks.{HasInst};
 ghost use Rattle.ir_core.specs.Checks.{IsInst, MeetsChecks};
 ghost use Rattle.bindings.specs.Facts.{AreFactsOf};
-ghost use Rattle.rule_matches.specs.Found.{AddsMatches, AreMatchesWhere, IsAt, IsInBlock, IsOf};
+ghost use Rattle.rule_matches.specs.Found.{IsOf};
 ghost use Rattle.rule_matches.specs.Ready.{AreReady};
-ghost use Rattle.rule_matches.specs.Matches.{AreMatches};
+ghost use Rattle.rule_matches.specs.Matches.{AreMatchesWhere, IsAt};
 ghost use Rattle.rule_matches.specs.Roots.{AreByRoot};
 
 use crate::roots::RulesByRoot;
 use bindings::{Binding, FunctionFacts};
-use ir_core::{Function, Inst, end_of};
+use ir_core::{Function, Inst};
 use lists::List;
 use matcher::match_in;
 use rule_core::Rule;
@@ -33,75 +33,32 @@ pub struct Rules<'a> {
     pub by_root: &'a RulesByRoot,
 }
 
-/// All matches of the rules in a function, in order: of blocks, in a block of places, and at an instruction of rules.
+/// All matches of the rules at an instruction, in the order of the rules.
 ///
-/// At each instruction only those rules are tried whose root is of its kind. The only error is want of memory.
-pub fn all_matches(
-    alloc: Global,
-    f: &Function,
-    rules: &Rules<'_>,
-) -> Result<List<Match>, AllocError>
-    requires checks { MeetsChecks f.now }
-    requires blocks { length f.now.blocks < 2 ^ 32 }
-    requires insts { All (λ b. length b.insts < 2 ^ 32) f.now.blocks }
-    requires ready { AreReady rules.now.all.now }
-    requires by_root { AreByRoot rules.now.all.now rules.now.by_root.now }
-    ensures { IfOk result (AreMatches rules.now.all.now f.now) }
-{
-    let facts = FunctionFacts::of(alloc, f)?;
-    let mut found = List::new(alloc);
-    for block in 0..f.blocks.len() as u32 {
-        push_in_block(alloc, f, &facts, rules, block, &mut found)?;
-    }
-    Ok(found)
-}
-
-/// Adds the matches in a block.
-fn push_in_block(
-    alloc: Global,
-    f: &Function,
-    facts: &FunctionFacts,
-    rules: &Rules<'_>,
-    block: u32,
-    found: &mut List<Match>,
-) -> Result<(), AllocError>
-    requires checks { MeetsChecks f.now }
-    requires insts { All (λ b. length b.insts < 2 ^ 32) f.now.blocks }
-    requires facts { AreFactsOf f.now facts.now }
-    requires ready { AreReady rules.now.all.now }
-    requires by_root { AreByRoot rules.now.all.now rules.now.by_root.now }
-    ensures { OnOk result (AddsMatches rules.now.all.now f.now (IsInBlock block) found.old found.new) }
-{
-    for place in 0..end_of(f, block) {
-        push_at(alloc, f, facts, rules, block, place, found)?;
-    }
-    Ok(())
-}
-
-/// Adds the matches at an instruction.
-fn push_at(
+/// Only those rules are tried whose root is of its kind. The only error is want of memory.
+pub fn matches_at(
     alloc: Global,
     f: &Function,
     facts: &FunctionFacts,
     rules: &Rules<'_>,
     block: u32,
     place: u32,
-    found: &mut List<Match>,
-) -> Result<(), AllocError>
+) -> Result<List<Match>, AllocError>
     requires checks { MeetsChecks f.now }
     requires insts { All (λ b. length b.insts < 2 ^ 32) f.now.blocks }
     requires facts { AreFactsOf f.now facts.now }
     requires ready { AreReady rules.now.all.now }
     requires by_root { AreByRoot rules.now.all.now rules.now.by_root.now }
     requires place { HasInst f.now block place }
-    ensures { OnOk result (AddsMatches rules.now.all.now f.now (IsAt block place) found.old found.new) }
+    ensures { IfOk result (AreMatchesWhere rules.now.all.now f.now (IsAt block place)) }
 {
     let inst = inst_at(f, block, place);
+    let mut found = List::new(alloc);
     for rule in rules.by_root.at(&inst.op) {
         let matched = match_of(alloc, f, facts, rules.all, block, place, *rule)?;
-        push_if_any(found, matched)?;
+        push_if_any(&mut found, matched)?;
     }
-    Ok(())
+    Ok(found)
 }
 
 /// The instruction at a place.

@@ -13,14 +13,13 @@ use Rattle.strategy.specs.PlainStrategy.{IsStep, ComesOf, itself, by_step, IsLas
 module _ (rules : List Rule) (table larger : List Row) (grows : (row : Row) → Contains table row → Contains larger row) where
   pub step_stays : (f new : Function) (asked : List Pair) → IsStep rules table f new asked → IsStep rules larger f new asked
   step_stays f new asked s = record {
-    passed = s.passed;
     chosen = s.chosen;
-    later = s.later;
-    matches = s.matches;
+    is_match = s.is_match;
+    passed = s.passed;
+    are_before = s.are_before;
     turned_down = all_turned_down_stay rules table larger grows s.passed s.turned_down;
     admitted = admitted_stays rules table larger grows s.chosen s.admitted;
     asks = s.asks;
-    is_match = s.is_match;
     rewritten = s.rewritten;
     is_rewritten = s.is_rewritten;
     is_cleaned = s.is_cleaned;

@@ -1,11 +1,8 @@
 -- One search after the other, up to what becomes of a function.
-use Rattle.std.proofs.Common.{◌≡◌, ℕ, zero, suc, ◌+◌, ◌-◌, ◌<◌, ◌≤◌, Bool, true, false, List, [], ◌∷◌, ◌++◌, map, take, drop, None, Some, refl, sym, ap, subst, ◌∙◌, arith}
-use Rattle.std.specs.Prelude.{All, Any, MatchBool, slice_get}
-use Rattle.std.proofs.lemmas.Option.{same_Some}
-use Rattle.std.proofs.lemmas.List.Elements.{All-contains}
+use Rattle.std.proofs.Common.{◌≡◌, ℕ, suc, ◌+◌, ◌-◌, ◌<◌, ◌≤◌, Bool, true, false, List, [], ◌∷◌, ◌++◌, map, refl, subst, arith}
+use Rattle.std.specs.Prelude.{All, Any, MatchBool}
 use Rattle.ir_core.specs.declared.function.Function.{Function}
 use Rattle.ir_core.specs.Checks.{MeetsChecks}
-use Rattle.ir_meaning.proofs.Pieces.{contains_at}
 use Rattle.rule_core.specs.declared.rule.Rule.{Rule}
 use Rattle.run_history.specs.Laws.{NumbersFit}
 use Rattle.needed.specs.Cleaned.{IsCleaned}
@@ -15,55 +12,46 @@ use Rattle.rule_matches.specs.declared.matches.Match.{Match}
 use Rattle.asked_verdicts.specs.declared.verdicts.Verdicts.{Verdicts}
 use Rattle.asked_verdicts.specs.Asked.{Pair, pair_of, IsAdmitted, IsTurnedDown}
 use Rattle.strategy.specs.Countable.{IsCountable}
-use Rattle.rule_matches.specs.Matches.{IsMatchAmong, AreMatches}
+use Rattle.rule_matches.specs.Matches.{AreMatches, ComesBefore}
+use Rattle.rule_matches.proofs.Joining.{everywhere, same_where}
 use Rattle.strategy.specs.PlainStrategy.{IsStep, ComesOf, itself, by_step, IsLastSearch}
-use Rattle.asked_verdicts.specs.Asks.{Asks, AsksToFirst}
+use Rattle.asked_verdicts.specs.Asks.{Asks, AsksAll, AsksUpTo, IsAnywhere}
 use Rattle.strategy.specs.Searches.{StepsOrEnds, OptimisesFunction}
 use Rattle.strategy.proofs.Growing.{steps_stay}
 use Rattle.rule_matches.specs.Ready.{AreReady}
 use Rattle.strategy.proofs.Sizes.{cleaned_countable, rewritten_countable}
 use Rattle.asked_verdicts.proofs.Sequence.{asks_nothing, asks_both, row_stays}
 
--- a list before a place, what stands there, and what is behind it
-split_there : {X : Type 0} (xs : List X) (k : ℕ) (x : X) → slice_get xs k ≡ Some x → take k xs ++ x ∷ drop (suc k) xs ≡ xs
-split_there [] k x at = absurd cc
-split_there (y ∷ xs) zero x at = ap (λ z. z ∷ xs) (sym (same_Some y x at))
-split_there (y ∷ xs) (suc k) x at = ap (λ l. y ∷ l) (split_there xs k x at)
-
 module _ (rules : List Rule) (conflicts : ℕ) where
   -- the function is rewritten at the first admitted match, and cleaned
-  pub step_made : (f rewritten new : Function) (matches : List Match) (place : ℕ) (chosen : Match) (rule : Rule) (before after : Verdicts)
-      → AreMatches rules f matches → slice_get matches place ≡ Some chosen → slice_get rules chosen.rule ≡ Some rule
-      → AsksToFirst rules conflicts matches before after (Some place)
-      → IsRewritten f chosen.binding rule rewritten → IsCleaned rewritten new
+  pub step_made : (f rewritten new : Function) (chosen : Match) (before after : Verdicts)
+      → (first : AsksUpTo rules conflicts f IsAnywhere before after chosen) → IsRewritten f chosen.binding first.is_match.rule rewritten → IsCleaned rewritten new
       → StepsOrEnds rules conflicts f new before after true
-  step_made f rewritten new matches place chosen rule before after are at is_rule asks put cleaned =
-      let same : asks.0 ≡ chosen = same_Some asks.0 chosen (sym asks.1 ∙ at) in
-      let pairs = map pair_of (take place matches ++ chosen ∷ []) in
-      let is : IsMatchAmong rules f chosen = All-contains (IsMatchAmong rules f) matches chosen are.each (contains_at matches place chosen at) in
-      let same_rule : rule ≡ is.rule = same_Some rule is.rule (sym is_rule ∙ is.is_rule) in (
-        pairs,
-        subst (λ (m : Match). Asks rules conflicts (map pair_of (take place matches ++ m ∷ [])) before after) same asks.2,
-        record {
-          passed = take place matches;
-          chosen = chosen;
-          later = drop (suc place) matches;
-          matches = subst (AreMatches rules f) (sym (split_there matches place chosen at)) are;
-          turned_down = asks.3;
-          admitted = subst (IsAdmitted after.table) same asks.4;
-          asks = refl;
-          is_match = is;
-          rewritten = rewritten;
-          is_rewritten = subst (λ (r : Rule). IsRewritten f chosen.binding r rewritten) same_rule put;
-          is_cleaned = cleaned;
-        },
-      )
+  step_made f rewritten new chosen before after first put cleaned = (
+    map pair_of (first.passed ++ chosen ∷ []),
+    first.asks,
+    record {
+      chosen = chosen;
+      is_match = first.is_match;
+      passed = first.passed;
+      are_before = same_where rules f (λ m. IsAnywhere m × ComesBefore m chosen) (λ m. ComesBefore m chosen) first.passed first.are_before (λ m is h. (tt, h)) (λ m h. h.1);
+      turned_down = first.turned_down;
+      admitted = first.admitted;
+      asks = refl;
+      rewritten = rewritten;
+      is_rewritten = put;
+      is_cleaned = cleaned;
+    },
+  )
+
+  -- all matches of the function were asked
+  all_asked : (f : Function) (before after : Verdicts) (any : Bool) (all : AsksAll rules conflicts f IsAnywhere before after any) → AreMatches rules f all.matches
+  all_asked f before after any all = everywhere rules f IsAnywhere all.matches all.are_matches (λ m is. tt)
 
   -- none is admitted
-  pub search_ended : (f : Function) (matches : List Match) (before after : Verdicts)
-      → AreMatches rules f matches → AsksToFirst rules conflicts matches before after None → StepsOrEnds rules conflicts f f before after false
-  search_ended f matches before after are asks =
-      (map pair_of matches, asks.0, refl, λ left. record { matches = matches; are_matches = are; asks = refl; ends = asks.1 })
+  pub search_ended : (f : Function) (before after : Verdicts) → AsksAll rules conflicts f IsAnywhere before after false → StepsOrEnds rules conflicts f f before after false
+  search_ended f before after all =
+      (map pair_of all.matches, all.asks, refl, λ left. record { matches = all.matches; are_matches = all_asked f before after false all; asks = refl; ends = all.answer })
 
   pub step_countable : (steps : ℕ) (f new : Function) (table : List Row) (asked : List Pair) → AreReady rules → IsStep rules table f new asked
       → IsCountable (suc steps) f → IsCountable steps new
@@ -121,12 +109,12 @@ module _ (rules : List Rule) (conflicts : ℕ) where
     },
   )
 
-  -- when no step is left, all matches were asked
-  pub at_the_limit : (f : Function) (matches : List Match) (limited : Bool) (table : List Row) (left : ℕ) → left ≡ 0 → AreMatches rules f matches
-      → MatchBool limited (Any (IsAdmitted table) matches) (All (IsTurnedDown table) matches) → IsLastSearch rules table left f limited (map pair_of matches)
-  at_the_limit f matches limited table left none are answer = record { matches = matches; are_matches = are; asks = refl; ends = by limited answer }
+  -- when no step is left
+  pub at_the_limit : (f : Function) (before after : Verdicts) (limited : Bool) (left : ℕ) → left ≡ 0 → (all : AsksAll rules conflicts f IsAnywhere before after limited)
+      → IsLastSearch rules after.table left f limited (map pair_of all.matches)
+  at_the_limit f before after limited left none all = record { matches = all.matches; are_matches = all_asked f before after limited all; asks = refl; ends = by limited all.answer }
     where
-      by : (limited : Bool) → MatchBool limited (Any (IsAdmitted table) matches) (All (IsTurnedDown table) matches)
-          → MatchBool limited ((left ≡ 0) × Any (IsAdmitted table) matches) (All (IsTurnedDown table) matches)
+      by : (limited : Bool) → MatchBool limited (Any (IsAdmitted after.table) all.matches) (All (IsTurnedDown after.table) all.matches)
+          → MatchBool limited ((left ≡ 0) × Any (IsAdmitted after.table) all.matches) (All (IsTurnedDown after.table) all.matches)
       by true any = (none, any)
       by false all = all

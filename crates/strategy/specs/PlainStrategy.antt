@@ -13,21 +13,20 @@ use Rattle.verdict.specs.declared.verdict.Row.{Row}
 use Rattle.needed.specs.Cleaned.{IsCleaned}
 use Rattle.rewriter.specs.Applied.{IsRewritten}
 use Rattle.rule_matches.specs.declared.matches.Match.{Match}
-use Rattle.rule_matches.specs.Matches.{IsMatchAmong, AreMatches}
+use Rattle.rule_matches.specs.Matches.{IsMatchAmong, AreMatches, AreMatchesBefore}
 use Rattle.asked_verdicts.specs.Asked.{Pair, pair_of, pair_in, IsAdmitted, IsTurnedDown, AreFirstAsked}
 
 module _ (rules : List Rule) (table : List Row) where
-  -- A step: the search asks for the verdicts of the first matches, in order. All but the last of these are turned down, and at the last,
-  -- which is admitted, the function is rewritten and then cleaned.
+  -- A step: the search asks for the verdicts of a match and of all that come before it, in order. Those before it are turned down, and at
+  -- this one, which is admitted, the function is rewritten and then cleaned.
   pub record IsStep (f new : Function) (asked : List Pair) : Type 0 where
-    pub passed : List Match
     pub chosen : Match
-    pub later : List Match
-    pub matches : AreMatches rules f (passed ++ chosen ∷ later)
+    pub is_match : IsMatchAmong rules f chosen
+    pub passed : List Match
+    pub are_before : AreMatchesBefore rules f chosen passed
     pub turned_down : All (IsTurnedDown table) passed
     pub admitted : IsAdmitted table chosen
     pub asks : asked ≡ map pair_of (passed ++ chosen ∷ [])
-    pub is_match : IsMatchAmong rules f chosen
     pub rewritten : Function
     pub is_rewritten : IsRewritten f chosen.binding is_match.rule rewritten
     pub is_cleaned : IsCleaned rewritten new

@@ -18,7 +18,7 @@ use ir_core::Function;
 use needed::{clean, every_cleaned_function_refines_the_old, every_cleaned_number_was_there};
 use rewriter::{apply, rewritten_functions_meet_checks};
 use rule_core::Rule;
-use rule_matches::{Match, Rules, all_matches};
+use rule_matches::{Match, Rules};
 use std::alloc::{AllocError, Global};
 
 /// How far a function and its verdicts may be brought.
@@ -67,14 +67,7 @@ pub(crate) fn optimise_function(
             });
         }
     }
-    let left = all_matches(alloc, f, rules)?;
-    let limited = any_admitted(
-        alloc,
-        rules.all,
-        left.as_slice(),
-        verdicts,
-        bounds.conflicts,
-    )?;
+    let limited = any_admitted(alloc, f, rules, verdicts, bounds.conflicts)?;
     Ok(Turns {
         count: bounds.steps,
         limited,
@@ -103,13 +96,10 @@ fn step(
     ensures checks { OnOk result (MeetsChecks f.new) }
     ensures numbers { OnOk result (NumbersFit f.new) }
 {
-    let found = all_matches(alloc, f, rules)?;
-    let matches = found.as_slice();
-    let admitted = first_admitted(alloc, rules.all, matches, verdicts, conflicts)?;
-    let Some(place) = admitted else {
+    let Some(chosen) = first_admitted(alloc, f, rules, verdicts, conflicts)? else {
         return Ok(false);
     };
-    apply_match(alloc, f, rules.all, &matches[place])?;
+    apply_match(alloc, f, rules.all, &chosen)?;
     clean_checked(alloc, f)?;
     Ok(true)
 }

@@ -1,50 +1,22 @@
-use Rattle.std.proofs.Common.{◌≡◌, ◌+◌, List, ◌++◌, ◌∷◌, [], map, take, sym, subst, arith}
-use Rattle.std.specs.Prelude.{◌||◌, All, Any, MatchBool}
-use Rattle.std.proofs.lemmas.List.{take_all}
-use Rattle.rule_matches.specs.declared.matches.Match.{Match}
-use Rattle.rule_matches.specs.Matches.{IsMatchAmong}
-use Rattle.asked_verdicts.specs.Asked.{pair_of, IsAdmitted, IsTurnedDown}
-use Rattle.asked_verdicts.specs.Asks.{Asks}
-use Rattle.asked_verdicts.proofs.Passing.{next_match, match_at, rule_within, rule_of, asks_more, any_more}
+use Rattle.std.proofs.Common.{map, arith}
+use Rattle.asked_verdicts.specs.Asked.{pair_of}
+use Rattle.asked_verdicts.proofs.Parts.{next_block, no_block_asked, whole_function}
 use Rattle.asked_verdicts.proofs.Sequence.{still_verdicts}
 use Rattle.asked_verdicts.proofs.searching.any_admitted.Goals as goal
-use Rattle.asked_verdicts.proofs.searching.any_admitted.Goals.{After-asking-item}
 
-is_match : (c : After-asking-item) → IsMatchAmong c.args.rules.now c.requires.matches.0 c.asking-item.result
-is_match c = match_at c.args.rules.now c.requires.matches.0 c.args.matches.now c.loop-asking.asking-index c.asking-item.result c.requires.matches.1 c.loop-asking-test.true c.asking-item.is
+pub loop-block-init : goal.loop-block-init
+loop-block-init c = no_block_asked c.args.rules.now.all.now c.args.conflicts c.args.f.now c.args.verdicts.now
 
-pub admits-requires-clause-place : goal.admits-requires-clause-place
-admits-requires-clause-place c = rule_within c.args.rules.now c.requires.matches.0 c.asking-item.result (is_match (goal.at.admits-requires-clause-place c).After-asking-item)
+pub any_in_block-requires-clause-verdicts : goal.any_in_block-requires-clause-verdicts
+any_in_block-requires-clause-verdicts c =
+    still_verdicts c.args.rules.now.all.now c.args.conflicts (map pair_of c.loop-block.invariant.matches) c.args.verdicts.now c.loop-block.verdicts c.requires.verdicts c.loop-block.invariant.asks
 
-pub admits-requires-clause-rule : goal.admits-requires-clause-rule
-admits-requires-clause-rule c = rule_of c.args.rules.now c.requires.matches.0 c.asking-item.result c.requires.ready (is_match (goal.at.admits-requires-clause-rule c).After-asking-item)
+pub loop-block-preserved : goal.loop-block-preserved
+loop-block-preserved c =
+    next_block c.args.rules.now.all.now c.args.conflicts c.args.f.now c.loop-block.block c.args.verdicts.now c.loop-block.verdicts c.any_in_block.new.verdicts c.loop-block.any c.in_ok-admitted.admitted
+    c.loop-block.invariant c.in_ok-admitted.ensures
 
-pub admits-requires-clause-verdicts : goal.admits-requires-clause-verdicts
-admits-requires-clause-verdicts c = still_verdicts c.args.rules.now c.args.conflicts (map pair_of (take c.loop-asking.asking-index c.args.matches.now)) c.args.verdicts.now c.loop-asking.verdicts c.requires.verdicts c.loop-asking.invariant.asks
-
-pub loop-asking-preserved : goal.loop-asking-preserved
-loop-asking-preserved c =
-    let rules = c.args.rules.now in
-    let conflicts = c.args.conflicts in
-    let ms = c.args.matches.now in
-    let k = c.loop-asking.asking-index in
-    let m = c.asking-item.result in
-    let first = c.args.verdicts.now in
-    let before = c.loop-asking.verdicts in
-    let after = c.admits.new.self in
-    let one = c.in_ok-admitted.ensures.asks in
-    let any = c.loop-asking.any || c.in_ok-admitted.admitted in
-    let next : take (k + 1) ms ≡ take k ms ++ m ∷ [] = next_match ms k m c.loop-asking-test.true c.asking-item.is in
-    record {
-      asks = subst (λ (l : List Match). Asks rules conflicts (map pair_of l) first after) (sym next) (asks_more rules conflicts (take k ms) m first before after one c.loop-asking.invariant.asks);
-      answer = subst (λ (l : List Match). MatchBool any (Any (IsAdmitted after.table) l) (All (IsTurnedDown after.table) l)) (sym next) (any_more rules conflicts (take k ms) m first before after one c.loop-asking.any c.in_ok-admitted.admitted c.loop-asking.invariant.answer c.in_ok-admitted.ensures.answer);
-    }
-
-pub returns-clause-asks : goal.returns-clause-asks
-returns-clause-asks c =
-    subst (λ (l : List Match). Asks c.args.rules.now c.args.conflicts (map pair_of l) c.args.verdicts.now c.loop-asking.verdicts) (take_all c.loop-asking.asking-index c.args.matches.now (omega arith)) c.loop-asking.invariant.asks
-
-pub returns-clause-answer : goal.returns-clause-answer
-returns-clause-answer c =
-    let table = c.loop-asking.verdicts.table in
-    subst (λ (l : List Match). MatchBool c.loop-asking.any (Any (IsAdmitted table) l) (All (IsTurnedDown table) l)) (take_all c.loop-asking.asking-index c.args.matches.now (omega arith)) c.loop-asking.invariant.answer
+pub returns : goal.returns
+returns c =
+    whole_function c.args.rules.now.all.now c.args.conflicts c.args.f.now c.loop-block.block c.args.verdicts.now c.loop-block.verdicts c.loop-block.any c.requires.ready
+    (omega (arith, c.len-block-end.ensures, c.loop-block-test.false)) c.loop-block.invariant

@@ -1,12 +1,7 @@
--- the matches so far are asked, and it is told whether one of them is admitted
-use Rattle.std.proofs.Common.{map, take}
-use Rattle.std.specs.Prelude.{All, Any, MatchBool}
-use Rattle.asked_verdicts.specs.Asked.{pair_of, IsAdmitted, IsTurnedDown}
-use Rattle.asked_verdicts.specs.Asks.{Asks}
+-- the matches in the blocks so far are asked
+use Rattle.asked_verdicts.specs.Asks.{AsksAll}
+use Rattle.asked_verdicts.proofs.Parts.{IsInEarlierBlock}
 use Rattle.asked_verdicts.proofs.searching.any_admitted.Given as goal
 
-abbrev pub invariant-loop-asking : goal.invariant-loop-asking
-invariant-loop-asking l = record {
-  asks : Asks l.rules l.conflicts (map pair_of (take l.asking-index l.matches)) l.fn.verdicts l.verdicts;
-  answer : MatchBool l.any (Any (IsAdmitted l.verdicts.table) (take l.asking-index l.matches)) (All (IsTurnedDown l.verdicts.table) (take l.asking-index l.matches));
-}
+abbrev pub invariant-loop-block : goal.invariant-loop-block
+invariant-loop-block l = AsksAll l.rules.all.now l.conflicts l.f (IsInEarlierBlock l.block) l.fn.verdicts l.verdicts l.any

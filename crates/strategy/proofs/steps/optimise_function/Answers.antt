@@ -1,6 +1,5 @@
 use Rattle.std.proofs.Common.{◌≡◌, ℕ, ◌-◌, true, false, map, sym, subst, arith}
 use Rattle.ir_core.specs.declared.function.Function.{Function}
-use Rattle.rule_matches.specs.Matches.{AreMatches}
 use Rattle.asked_verdicts.specs.Asked.{pair_of}
 use Rattle.strategy.specs.Searches.{StepsOrEnds, OptimisesFunction}
 use Rattle.asked_verdicts.proofs.Sequence.{still_verdicts}
@@ -49,10 +48,11 @@ returns c =
     let conflicts = c.args.bounds.conflicts in
     let steps = c.args.bounds.steps in
     let f = c.loop-count.f in
-    let matches = c.as_slice.result.now in
+    let now = c.loop-count.verdicts in
+    let after = c.any_admitted.new.verdicts in
+    let limited = c.in_ok-limited.limited in
+    let asks = c.in_ok-limited.ensures in
     let all : c.loop-count.count ≡ steps = omega (arith, c.loop-count-test.false, c.loop-count.auto.count-end) in
-    let along = subst (λ (n : ℕ). Along rules conflicts steps n c.clean_checked.new.f f c.args.verdicts.now c.loop-count.verdicts) all c.loop-count.invariant in
-    all_searched rules conflicts steps steps c.args.f.now c.clean_checked.new.f f c.args.verdicts.now c.loop-count.verdicts c.any_admitted.new.verdicts c.in_ok-limited.limited (map pair_of matches)
-    c.in_ok-clean_checked.ensures.cleaned (omega arith) along c.in_ok-limited.ensures.asks
-    (at_the_limit rules conflicts f matches c.in_ok-limited.limited c.any_admitted.new.verdicts.table (steps - steps) (omega arith)
-    (subst (AreMatches rules f) (sym c.as_slice.ensures) c.in_ok-left.ensures) c.in_ok-limited.ensures.answer)
+    let along = subst (λ (n : ℕ). Along rules conflicts steps n c.clean_checked.new.f f c.args.verdicts.now now) all c.loop-count.invariant in
+    all_searched rules conflicts steps steps c.args.f.now c.clean_checked.new.f f c.args.verdicts.now now after limited (map pair_of asks.matches)
+    c.in_ok-clean_checked.ensures.cleaned (omega arith) along asks.asks (at_the_limit rules conflicts f now after limited (steps - steps) (omega arith) asks)
