@@ -10,7 +10,9 @@ use Rattle.ir_tokens.specs.declared.fault.IrFaultKind.{IrFaultKind}
 use Rattle.ir_tokens.specs.declared.reader.TokenReader.{TokenReader}
 use Rattle.ir_tokens.specs.Order.{AreTokens}
 use Rattle.ir_tokens.specs.ReaderPlaces.{HasPassed, HasCome}
+use Rattle.ir_tokens.specs.SeenTokens.{seen}
 use Rattle.ir_tokens.specs.Tokens.{Placed, End}
+use Rattle.ir_tokens.specs.declared.token.Placed.{Placed as ScannedPlaced}
 use Rattle.ir_tokens.specs.declared.raw.RawEntry.{RawEntry}
 use Rattle.ir_instructions.specs.Parts.{Part, Each, Is}
 use Rattle.ir_instructions.specs.Readers.{each_at}
@@ -36,6 +38,10 @@ whole_is tokens rest e false found read all is = rw is tt
 -- the tokens of a reader's last call stand behind those before
 abbrev pub Came : TokenReader → List Placed → Bool → TokenReader → Type 0
 Came before taken ends after = (text : List ℕ) (front : List Placed) → HasPassed text front before → HasCome text (front ++ taken) ends after
+
+-- they were taken where none was
+pub came_alone : (before after : TokenReader) (old new : List ScannedPlaced) (ends : Bool) → old ≡ [] → ((text : List ℕ) (front : List Placed) → HasPassed text (front ++ seen old) before → HasCome text (front ++ seen new) ends after) → Came before (seen new) ends after
+came_alone before after old new ends none come text front h = come text front (subst (λ l. HasPassed text l before) (sym (ap (λ l. front ++ seen l) none ∙ append-nil front)) h)
 
 module _ (before after : TokenReader) (taken : List Placed) where
   -- the tokens that were taken are one entry

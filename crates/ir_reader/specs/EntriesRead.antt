@@ -1,5 +1,5 @@
 -- A text that is read entry by entry.
-use Rattle.std.specs.Prelude.{◌↔◌, ℕ, List, ◌++◌}
+use Rattle.std.specs.Prelude.{◌↔◌, ℕ, Bool, true, false, List, [], ◌∷◌, ◌++◌}
 use Rattle.ir_tokens.specs.declared.reader.TokenReader.{TokenReader}
 use Rattle.ir_tokens.specs.declared.raw.RawEntry.{RawEntry}
 use Rattle.ir_tokens.specs.Order.{AreTokens}
@@ -31,6 +31,11 @@ abbrev pub IsReadingOf : List RawEntry → Reading → Type 0
 IsReadingOf written (readings.Faultless read names) =
     AreEntriesOf written read × ((name : List ℕ) → HasText names name ↔ HasNameOf (functions_of written) name)
 IsReadingOf written (readings.Faulty fault) = IsFaultOfEntries written fault
+
+-- behind the entries in front, one more is read, which these tokens are, or none is
+abbrev pub Continues : List RawEntry → List Placed → Bool → Reading → Type 0
+Continues front tokens true read = (e : RawEntry) × SpellsEntry e tokens [] × IsReadingOf (front ++ e ∷ []) read
+Continues front tokens false read = IsReadingOf front read
 
 -- the text is that of entries as written, and that is read of these
 abbrev pub IsReadingOfText : List ℕ → Reading → Type 0

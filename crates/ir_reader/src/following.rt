@@ -39,21 +39,20 @@ pub(crate) fn whole_entry(
 
 /// Takes the tokens up to the last of the text behind those that are there.
 pub(crate) fn take_rest<'a>(
-    alloc: Global,
-    reader: &mut TokenReader<'a>,
+    reader: TokenReader<'a>,
     tokens: &mut Vec<Placed<'a>>,
 ) -> Result<(), AllocError>
-    requires { StandsIn reader.old.text.now reader.old }
+    requires { StandsIn reader.text.now reader }
     ensures { OnOk result ((text : Seq ℕ) (front : Seq PlacedToken) →
-        HasPassed text (front ++ seen tokens.old.items) reader.old →
+        HasPassed text (front ++ seen tokens.old.items) reader.entry →
         AreTokens text (front ++ seen tokens.new.items)) }
 {
-    let mut more = Vec::new(alloc);
+    let mut reader = reader;
     loop {
-        let are_last = reader.take_entry(&mut more)?;
-        tokens.extend_from_slice(more.as_slice())?;
+        let (behind, are_last) = reader.take_entry(tokens)?;
         if are_last {
             return Ok(());
         }
+        reader = behind;
     }
 }

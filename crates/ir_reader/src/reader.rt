@@ -9,7 +9,7 @@ ghost use Rattle.ir_tokens.specs.declared.raw.RawFunction.{RawFunction as writte
 ghost use Rattle.refusal.specs.Refusals.{IfRefused};
 ghost use Rattle.ir_reader.specs.RepeatedNames.{MarksEntry};
 ghost use Rattle.ir_reader.specs.WellWritten.{IsWellWrittenEntry};
-ghost use Rattle.ir_reader.specs.EntriesRead.{HasLeft, IsReadingOf, IsReadingOfText};
+ghost use Rattle.ir_reader.specs.EntriesRead.{HasLeft, IsReadingOf, Continues, IsReadingOfText};
 ghost use Rattle.ir_reader.specs.Faults.{IsEntryOf, IsFaultOfEntry, IsModuleText, IsFault};
 
 use crate::following::{ends, take_rest, whole_entry};
@@ -65,16 +65,35 @@ fn first_entries<'a>(
 {
     let mut reader = TokenReader::new(bytes);
     let mut reading = Reading::new(alloc);
-    while !reader.take_entry(tokens)? {
-        match whole_entry(alloc, tokens.as_slice())? {
-            Some(written) => reading = reading.with(alloc, &written)?,
-            None => {
-                take_rest(alloc, &mut reader, tokens)?;
-                return Ok(reading);
-            }
+    loop {
+        tokens.clear();
+        let (behind, are_last) = reader.take_entry(tokens)?;
+        if are_last {
+            return Ok(reading);
         }
+        let (read, is_whole) = with_whole(alloc, reading, tokens.as_slice())?;
+        reading = read;
+        if !is_whole {
+            take_rest(behind, tokens)?;
+            return Ok(reading);
+        }
+        reader = behind;
     }
-    Ok(reading)
+}
+
+/// Reads the entry that these tokens are, all of them, if they are one, and answers whether they are.
+fn with_whole(
+    alloc: Global,
+    reading: Reading,
+    tokens: &[Placed<'_>],
+) -> Result<(Reading, bool), AllocError>
+    ensures { IfOk result (λ (read, is_whole). (front : Seq entry_written) →
+        IsReadingOf front reading → Continues front (seen tokens.now) is_whole read) }
+{
+    match whole_entry(alloc, tokens)? {
+        Some(written) => Ok((reading.with(alloc, &written)?, true)),
+        None => Ok((reading, false)),
+    }
 }
 
 /// Reads the entries that these tokens are, which are the last of a text, or answers the first fault of the text.

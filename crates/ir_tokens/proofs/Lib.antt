@@ -2,6 +2,7 @@ pub mod Decimals
 pub mod Moving
 pub mod Nexts
 pub mod Passing
+pub mod Pushing
 pub mod OneEntry
 pub mod OneList
 pub mod Ranges

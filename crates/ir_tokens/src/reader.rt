@@ -1,8 +1,9 @@
 //! The tokens of a text, entry by entry.
 
-ghost use Rattle.std.specs.Prelude.{◌≡◌, ◌<◌, ℕ, List as Seq, [], ◌++◌, OnOk, IfOk, false};
+ghost use Rattle.std.specs.Prelude.{◌≡◌, ◌<◌, ℕ, List as Seq, [], ◌++◌, IfOk, OnErr, false};
 ghost use Rattle.ir_tokens.specs.ReaderPlaces.{StandsIn, HasPassed, HasCome, IsOneEntry};
 ghost use Rattle.ir_tokens.specs.SeenTokens.{seen};
+ghost use Rattle.ir_tokens.specs.declared.token.Placed.{Placed as placed};
 ghost use Rattle.ir_tokens.specs.Tokens.{Placed as PlacedToken};
 
 use crate::place::{Place, place_behind};
@@ -31,26 +32,55 @@ impl<'a> TokenReader<'a> {
         }
     }
 
-    /// Takes the tokens of the next entry, up to where another may begin, in place of those that were there. Answers whether the last
-    /// token of the text is among them; nothing is read behind it.
-    pub fn take_entry(&mut self, tokens: &mut Vec<Placed<'a>>) -> Result<bool, AllocError>
-        requires { StandsIn self.old.text.now self.old }
-        ensures come { IfOk result (λ ends. (text : Seq ℕ) (front : Seq PlacedToken) →
-            HasPassed text front self.old → HasCome text (front ++ seen tokens.new.items) ends self.new) }
-        ensures entry { IfOk result (λ ends. IsOneEntry self.old.place (seen tokens.new.items) ends) }
-        ensures stands { OnOk result (StandsIn self.old.text.now self.new) }
-        ensures goes { IfOk result (λ ends. ends ≡ false → self.old.cursor.at < self.new.cursor.at) }
+    /// Takes the tokens of the next entry, up to where another may begin, behind those that are there. Answers the
+    /// reader behind them, and whether the last token of the text is among them; nothing is read behind it. Where
+    /// memory is short the tokens are as before.
+    pub fn take_entry(
+        self,
+        tokens: &mut Vec<Placed<'a>>,
+    ) -> Result<(TokenReader<'a>, bool), AllocError>
+        requires { StandsIn self.text.now self }
+        ensures come { IfOk result (λ (reader, ends). (text : Seq ℕ) (front : Seq PlacedToken) →
+            HasPassed text (front ++ seen tokens.old.items) self.entry →
+            HasCome text (front ++ seen tokens.new.items) ends reader) }
+        ensures entry { IfOk result (λ (reader, ends). (taken : Seq placed)
+            × (tokens.new.items ≡ tokens.old.items ++ taken) × IsOneEntry self.entry.place (seen taken) ends) }
+        ensures stands { IfOk result (λ (reader, ends). StandsIn self.entry.text.now reader) }
+        ensures goes { IfOk result (λ (reader, ends). ends ≡ false → self.entry.cursor.at < reader.cursor.at) }
+        ensures unmoved { OnErr result (tokens.new.items ≡ tokens.old.items) }
     {
-        tokens.clear();
+        let TokenReader {
+            text,
+            mut cursor,
+            mut place,
+        } = self;
+        let count = tokens.as_slice().len();
         loop {
-            let placed = next(&mut self.cursor, self.text, self.place);
-            tokens.push(placed)?;
-            if is_last(placed.token) {
-                return Ok(true);
+            let placed = next(&mut cursor, text, place);
+            if tokens.push(placed).is_err() {
+                tokens.truncate(count);
+                return Err(AllocError);
             }
-            self.place = place_behind(self.place, placed);
-            if let Place::AtEntry(_) = self.place {
-                return Ok(false);
+            if is_last(placed.token) {
+                return Ok((
+                    TokenReader {
+                        text,
+                        cursor,
+                        place,
+                    },
+                    true,
+                ));
+            }
+            place = place_behind(place, placed);
+            if let Place::AtEntry(_) = place {
+                return Ok((
+                    TokenReader {
+                        text,
+                        cursor,
+                        place,
+                    },
+                    false,
+                ));
             }
         }
     }

@@ -150,12 +150,16 @@ fn texts_have_their_tokens(rt: HostRuntime) -> Result<(), Fail> {
 /// A kept line, a function and the end, each an entry.
 #[test]
 fn entries_are_taken_in_turn(rt: HostRuntime) -> Result<(), Fail> {
-    let mut reader = TokenReader::new(b"declare x ; c\n\ndefine y\n{ z }\n");
+    let reader = TokenReader::new(b"declare x ; c\n\ndefine y\n{ z }\n");
     let mut tokens = Vec::new(rt.alloc());
-    assert!(rt; !reader.take_entry(&mut tokens)?);
-    expect_tokens(&rt, tokens.as_slice(), &[(1, Kept(b"declare x ; c"))]);
-    assert!(rt; !reader.take_entry(&mut tokens)?);
+    let (reader, are_last) = reader.take_entry(&mut tokens)?;
+    assert!(rt; !are_last);
+    let line = (1, Kept(b"declare x ; c"));
+    expect_tokens(&rt, tokens.as_slice(), &[line]);
+    let (reader, are_last) = reader.take_entry(&mut tokens)?;
+    assert!(rt; !are_last);
     let function = [
+        line,
         (3, Word(b"define")),
         (3, Word(b"y")),
         (4, Mark(b'{')),
@@ -163,7 +167,9 @@ fn entries_are_taken_in_turn(rt: HostRuntime) -> Result<(), Fail> {
         (4, Mark(b'}')),
     ];
     expect_tokens(&rt, tokens.as_slice(), &function);
-    assert!(rt; reader.take_entry(&mut tokens)?);
+    tokens.clear();
+    let (_, are_last) = reader.take_entry(&mut tokens)?;
+    assert!(rt; are_last);
     expect_tokens(&rt, tokens.as_slice(), &[(4, End)]);
     Ok(())
 }

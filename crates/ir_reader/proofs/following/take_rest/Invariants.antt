@@ -5,11 +5,11 @@ use Rattle.ir_tokens.specs.SeenTokens.{seen}
 use Rattle.ir_tokens.specs.Tokens.{Placed}
 use Rattle.ir_reader.proofs.following.take_rest.Given as goal
 
-abbrev pub invariant-loop-more : goal.invariant-loop-more
-invariant-loop-more l = record {
+abbrev pub invariant-loop-behind : goal.invariant-loop-behind
+invariant-loop-behind l = record {
   stands : StandsIn l.fn.reader.text.now l.reader;
-  passed : (text : List ℕ) (front : List Placed) → HasPassed text (front ++ seen l.initial.tokens.items) l.initial.reader → HasPassed text (front ++ seen l.tokens.items) l.reader;
+  passed : (text : List ℕ) (front : List Placed) → HasPassed text (front ++ seen l.initial.tokens.items) l.fn.reader → HasPassed text (front ++ seen l.tokens.items) l.reader;
 }
 
-abbrev pub decreases-loop-more : goal.decreases-loop-more
-decreases-loop-more l = length l.fn.reader.text.now - l.reader.cursor.at
+abbrev pub decreases-loop-behind : goal.decreases-loop-behind
+decreases-loop-behind l = length l.fn.reader.text.now - l.reader.cursor.at

@@ -1,90 +1,118 @@
-use Rattle.std.proofs.Common.{◌∙◌, ◌<◌, ◌≤◌, ◌++◌, true, false, length, sym, ap, subst, arith}
-use Rattle.std.proofs.lemmas.List.{append-nil, map_push}
+use Rattle.std.proofs.Common.{◌∙◌, ◌<◌, ◌≤◌, [], ◌∷◌, ◌++◌, true, false, length, refl, sym, ap, subst, arith, append-nil}
+use Rattle.std.proofs.lemmas.List.{map_push}
 use Rattle.ir_tokens.specs.ReaderPlaces.{MayBegin}
 use Rattle.ir_tokens.specs.SeenTokens.{seen, seen_placed}
 use Rattle.ir_tokens.proofs.Moving.{token_moves, token_within}
 use Rattle.ir_tokens.proofs.OneEntry.{Within, none_taken, none_begins, ends_with, goes_on_with}
 use Rattle.ir_tokens.proofs.Passing.{token_passed, last_passed}
+use Rattle.ir_tokens.proofs.Pushing.{pushed, kept, one_more, cut}
 use Rattle.ir_tokens.proofs.Reading.{SoFar}
 use Rattle.ir_tokens.proofs.reader.TokenReader.take_entry.Goals as goal
 
-pub loop-placed-init : goal.loop-placed-init
-loop-placed-init c = record {
-  stands = c.requires;
+pub loop-text-init : goal.loop-text-init
+loop-text-init c = record {
+  cursor = c.requires.cursor;
+  within = c.requires.within;
   goes = omega arith;
-  entry = subst (λ l. Within c.args.self.now.place (seen l) c.args.self.now.place) (sym c.clear.ensures.items) (none_taken c.args.self.now.place);
-  so_far = λ text front h. rw (c.clear.ensures.items, append-nil front) h.leads;
+  entry = ([], sym (append-nil c.args.tokens.now.items), none_taken c.args.self.place);
+  so_far = λ text front h. h.leads;
 }
 
 pub next-placed-requires-clause-text : goal.next-placed-requires-clause-text
-next-placed-requires-clause-text c = c.loop-placed.invariant.stands.cursor ∙ sym c.loop-placed.invariant.stands.of_text
+next-placed-requires-clause-text c = c.loop-text.invariant.cursor
 
 pub next-placed-requires-clause-within : goal.next-placed-requires-clause-within
-next-placed-requires-clause-within c = rw c.loop-placed.invariant.stands.of_text c.loop-placed.invariant.stands.within
+next-placed-requires-clause-within c = c.loop-text.invariant.within
+
+-- what was taken is cut off again
+pub returns-then-is_err-clause-unmoved : goal.returns-then-is_err-clause-unmoved
+returns-then-is_err-clause-unmoved c =
+    let (taken, are, within) = c.loop-text.invariant.entry in
+    let same = kept c.loop-text.tokens.items c.push.new.self.items c.next-placed.result c.is_err.ensures.negation c.if-is_err.true c.push.ensures.items in
+    cut c.args.tokens.now.items taken c.push.new.self.items c.truncate.new.self.items (length c.as_slice-count.result.now) (ap length c.as_slice-count.ensures.value) (same ∙ are) c.truncate.ensures.items
 
 -- where the reader stands behind a token
 pub returns-then-is_last-clause-stands : goal.returns-then-is_last-clause-stands
 returns-then-is_last-clause-stands c = record {
-  of_text = c.loop-placed.invariant.stands.of_text;
-  cursor = c.next-placed.ensures.text ∙ c.loop-placed.invariant.stands.of_text;
-  within = rw (sym c.loop-placed.invariant.stands.of_text) (token_within (rw c.loop-placed.invariant.stands.of_text c.loop-placed.invariant.stands.within) c.next-placed.ensures.token);
+  of_text = refl;
+  cursor = c.next-placed.ensures.text;
+  within = token_within c.loop-text.invariant.within c.next-placed.ensures.token;
 }
 
 pub returns-then-is_last-clause-come : goal.returns-then-is_last-clause-come
 returns-then-is_last-clause-come c = λ text front h.
-    last_passed text c.loop-placed.self.text.now c.loop-placed.self.place c.loop-placed.self.cursor.at c.next-placed.new.cursor.at front (seen c.loop-placed.tokens.items) (seen c.push.new.self.items) (seen_placed c.next-placed.result)
-    (c.loop-placed.invariant.stands.of_text ∙ h.stands.of_text) (ap seen c.in_ok-push.ensures.items ∙ map_push seen_placed c.loop-placed.tokens.items c.next-placed.result) (c.loop-placed.invariant.so_far text front h) c.next-placed.ensures.token (sym c.is_last.ensures ∙ c.if-is_last.true)
+    let more = pushed c.loop-text.tokens.items c.push.new.self.items c.next-placed.result c.is_err.ensures.negation c.if-is_err.false c.push.ensures.items in
+    last_passed text c.args.self.text.now c.loop-text.place c.loop-text.cursor.at c.next-placed.new.cursor.at front (seen c.loop-text.tokens.items) (seen c.push.new.self.items) (seen_placed c.next-placed.result)
+    (h.stands.of_text) (ap seen more ∙ map_push seen_placed c.loop-text.tokens.items c.next-placed.result) (c.loop-text.invariant.so_far text front h) c.next-placed.ensures.token (sym c.is_last.ensures ∙ c.if-is_last.true)
 
 pub returns-then-is_last-clause-entry : goal.returns-then-is_last-clause-entry
 returns-then-is_last-clause-entry c =
-    ends_with c.args.self.now.place c.loop-placed.self.place (seen c.loop-placed.tokens.items) (seen c.push.new.self.items) (seen_placed c.next-placed.result) true c.loop-placed.invariant.entry
-    (ap seen c.in_ok-push.ensures.items ∙ map_push seen_placed c.loop-placed.tokens.items c.next-placed.result) (λ goes. cc)
+    let (taken, are, within) = c.loop-text.invariant.entry in
+    let more = pushed c.loop-text.tokens.items c.push.new.self.items c.next-placed.result c.is_err.ensures.negation c.if-is_err.false c.push.ensures.items in
+    let now = taken ++ c.next-placed.result ∷ [] in (
+      now,
+      one_more c.args.tokens.now.items taken c.loop-text.tokens.items c.push.new.self.items c.next-placed.result are more,
+      ends_with c.args.self.place c.loop-text.place (seen taken) (seen now) (seen_placed c.next-placed.result) true within (map_push seen_placed taken c.next-placed.result) (λ goes. cc),
+    )
 
 pub returns-in-AtEntry-clause-entry : goal.returns-in-AtEntry-clause-entry
 returns-in-AtEntry-clause-entry c =
-    ends_with c.args.self.now.place c.loop-placed.self.place (seen c.loop-placed.tokens.items) (seen c.push.new.self.items) (seen_placed c.next-placed.result) false c.loop-placed.invariant.entry
-    (ap seen c.in_ok-push.ensures.items ∙ map_push seen_placed c.loop-placed.tokens.items c.next-placed.result) (λ _. subst MayBegin (sym c.in-AtEntry.is ∙ c.place_behind-self.ensures) tt)
+    let (taken, are, within) = c.loop-text.invariant.entry in
+    let more = pushed c.loop-text.tokens.items c.push.new.self.items c.next-placed.result c.is_err.ensures.negation c.if-is_err.false c.push.ensures.items in
+    let now = taken ++ c.next-placed.result ∷ [] in (
+      now,
+      one_more c.args.tokens.now.items taken c.loop-text.tokens.items c.push.new.self.items c.next-placed.result are more,
+      ends_with c.args.self.place c.loop-text.place (seen taken) (seen now) (seen_placed c.next-placed.result) false within (map_push seen_placed taken c.next-placed.result)
+          (λ _. subst MayBegin (sym c.in-AtEntry.is ∙ c.place_behind-place.ensures) tt),
+    )
 
 pub returns-in-AtEntry-clause-stands : goal.returns-in-AtEntry-clause-stands
 returns-in-AtEntry-clause-stands c = record {
-  of_text = c.loop-placed.invariant.stands.of_text;
-  cursor = c.next-placed.ensures.text ∙ c.loop-placed.invariant.stands.of_text;
-  within = rw (sym c.loop-placed.invariant.stands.of_text) (token_within (rw c.loop-placed.invariant.stands.of_text c.loop-placed.invariant.stands.within) c.next-placed.ensures.token);
+  of_text = refl;
+  cursor = c.next-placed.ensures.text;
+  within = token_within c.loop-text.invariant.within c.next-placed.ensures.token;
 }
 
 pub returns-in-AtEntry-clause-come : goal.returns-in-AtEntry-clause-come
-returns-in-AtEntry-clause-come c = λ text front h. record {
-  stands = record {
-    of_text = c.loop-placed.invariant.stands.of_text ∙ h.stands.of_text;
-    cursor = c.next-placed.ensures.text ∙ c.loop-placed.invariant.stands.of_text ∙ h.stands.of_text;
-    within = rw (sym (c.loop-placed.invariant.stands.of_text ∙ h.stands.of_text)) (token_within (rw c.loop-placed.invariant.stands.of_text c.loop-placed.invariant.stands.within) c.next-placed.ensures.token);
-  };
-  leads = subst (λ p. SoFar text p c.next-placed.new.cursor.at (front ++ seen c.push.new.self.items)) (sym c.place_behind-self.ensures)
-      (token_passed text c.loop-placed.self.text.now c.loop-placed.self.place c.loop-placed.self.cursor.at c.next-placed.new.cursor.at front (seen c.loop-placed.tokens.items) (seen c.push.new.self.items) (seen_placed c.next-placed.result)
-      (c.loop-placed.invariant.stands.of_text ∙ h.stands.of_text) (ap seen c.in_ok-push.ensures.items ∙ map_push seen_placed c.loop-placed.tokens.items c.next-placed.result) (c.loop-placed.invariant.so_far text front h) c.next-placed.ensures.token (sym c.is_last.ensures ∙ c.if-is_last.false));
-}
+returns-in-AtEntry-clause-come c = λ text front h.
+    let more = pushed c.loop-text.tokens.items c.push.new.self.items c.next-placed.result c.is_err.ensures.negation c.if-is_err.false c.push.ensures.items in
+    record {
+      stands = record {
+        of_text = h.stands.of_text;
+        cursor = c.next-placed.ensures.text ∙ h.stands.of_text;
+        within = subst (λ t. c.next-placed.new.cursor.at ≤ length t) h.stands.of_text (token_within c.loop-text.invariant.within c.next-placed.ensures.token);
+      };
+      leads = subst (λ p. SoFar text p c.next-placed.new.cursor.at (front ++ seen c.push.new.self.items)) (sym c.place_behind-place.ensures)
+          (token_passed text c.args.self.text.now c.loop-text.place c.loop-text.cursor.at c.next-placed.new.cursor.at front (seen c.loop-text.tokens.items) (seen c.push.new.self.items) (seen_placed c.next-placed.result)
+          (h.stands.of_text) (ap seen more ∙ map_push seen_placed c.loop-text.tokens.items c.next-placed.result) (c.loop-text.invariant.so_far text front h) c.next-placed.ensures.token (sym c.is_last.ensures ∙ c.if-is_last.false));
+    }
 
 pub returns-in-AtEntry-clause-goes : goal.returns-in-AtEntry-clause-goes
-returns-in-AtEntry-clause-goes c = λ e. omega (arith, c.loop-placed.invariant.goes, token_moves c.next-placed.ensures.token (sym c.is_last.ensures ∙ c.if-is_last.false))
+returns-in-AtEntry-clause-goes c = λ e. omega (arith, c.loop-text.invariant.goes, token_moves c.next-placed.ensures.token (sym c.is_last.ensures ∙ c.if-is_last.false))
 
-pub loop-placed-smaller : goal.loop-placed-smaller
-loop-placed-smaller c =
-    let moves : c.loop-placed.self.cursor.at < c.next-placed.new.cursor.at = token_moves c.next-placed.ensures.token (sym c.is_last.ensures ∙ c.if-is_last.false) in
-    let within : c.next-placed.new.cursor.at ≤ length c.args.self.now.text.now = rw (sym c.loop-placed.invariant.stands.of_text) (token_within (rw c.loop-placed.invariant.stands.of_text c.loop-placed.invariant.stands.within) c.next-placed.ensures.token) in
+pub loop-text-smaller : goal.loop-text-smaller
+loop-text-smaller c =
+    let moves : c.loop-text.cursor.at < c.next-placed.new.cursor.at = token_moves c.next-placed.ensures.token (sym c.is_last.ensures ∙ c.if-is_last.false) in
+    let within : c.next-placed.new.cursor.at ≤ length c.args.self.text.now = token_within c.loop-text.invariant.within c.next-placed.ensures.token in
     omega (arith, moves, within)
 
-pub loop-placed-preserved : goal.loop-placed-preserved
-loop-placed-preserved c = record {
-  stands = record {
-    of_text = c.loop-placed.invariant.stands.of_text;
-    cursor = c.next-placed.ensures.text ∙ c.loop-placed.invariant.stands.of_text;
-    within = rw (sym c.loop-placed.invariant.stands.of_text) (token_within (rw c.loop-placed.invariant.stands.of_text c.loop-placed.invariant.stands.within) c.next-placed.ensures.token);
-  };
-  goes = omega (arith, c.loop-placed.invariant.goes, token_moves c.next-placed.ensures.token (sym c.is_last.ensures ∙ c.if-is_last.false));
-  entry = subst (Within c.args.self.now.place (seen c.push.new.self.items)) (sym c.place_behind-self.ensures)
-      (goes_on_with c.args.self.now.place c.loop-placed.self.place (seen c.loop-placed.tokens.items) (seen c.push.new.self.items) (seen_placed c.next-placed.result) c.loop-placed.invariant.entry
-      (ap seen c.in_ok-push.ensures.items ∙ map_push seen_placed c.loop-placed.tokens.items c.next-placed.result) (subst (λ p. ¬ MayBegin p) c.place_behind-self.ensures (none_begins c.place_behind-self.result c.in_default.not-AtEntry)));
-  so_far = λ text front h. subst (λ p. SoFar text p c.next-placed.new.cursor.at (front ++ seen c.push.new.self.items)) (sym c.place_behind-self.ensures)
-      (token_passed text c.loop-placed.self.text.now c.loop-placed.self.place c.loop-placed.self.cursor.at c.next-placed.new.cursor.at front (seen c.loop-placed.tokens.items) (seen c.push.new.self.items) (seen_placed c.next-placed.result)
-      (c.loop-placed.invariant.stands.of_text ∙ h.stands.of_text) (ap seen c.in_ok-push.ensures.items ∙ map_push seen_placed c.loop-placed.tokens.items c.next-placed.result) (c.loop-placed.invariant.so_far text front h) c.next-placed.ensures.token (sym c.is_last.ensures ∙ c.if-is_last.false));
-}
+pub loop-text-preserved : goal.loop-text-preserved
+loop-text-preserved c =
+    let (taken, are, within) = c.loop-text.invariant.entry in
+    let more = pushed c.loop-text.tokens.items c.push.new.self.items c.next-placed.result c.is_err.ensures.negation c.if-is_err.false c.push.ensures.items in
+    let now = taken ++ c.next-placed.result ∷ [] in
+    record {
+      cursor = c.next-placed.ensures.text;
+      within = token_within c.loop-text.invariant.within c.next-placed.ensures.token;
+      goes = omega (arith, c.loop-text.invariant.goes, token_moves c.next-placed.ensures.token (sym c.is_last.ensures ∙ c.if-is_last.false));
+      entry = (
+        now,
+        one_more c.args.tokens.now.items taken c.loop-text.tokens.items c.push.new.self.items c.next-placed.result are more,
+        subst (Within c.args.self.place (seen now)) (sym c.place_behind-place.ensures)
+            (goes_on_with c.args.self.place c.loop-text.place (seen taken) (seen now) (seen_placed c.next-placed.result) within (map_push seen_placed taken c.next-placed.result)
+            (subst (λ p. ¬ MayBegin p) c.place_behind-place.ensures (none_begins c.place_behind-place.result c.in_default.not-AtEntry))),
+      );
+      so_far = λ text front h. subst (λ p. SoFar text p c.next-placed.new.cursor.at (front ++ seen c.push.new.self.items)) (sym c.place_behind-place.ensures)
+          (token_passed text c.args.self.text.now c.loop-text.place c.loop-text.cursor.at c.next-placed.new.cursor.at front (seen c.loop-text.tokens.items) (seen c.push.new.self.items) (seen_placed c.next-placed.result)
+          (h.stands.of_text) (ap seen more ∙ map_push seen_placed c.loop-text.tokens.items c.next-placed.result) (c.loop-text.invariant.so_far text front h) c.next-placed.ensures.token (sym c.is_last.ensures ∙ c.if-is_last.false));
+    }

@@ -1,19 +1,21 @@
--- the tokens that were taken stand behind those in front, and behind none of them an entry may begin
-use Rattle.std.proofs.Common.{◌≤◌, ℕ, List, ◌++◌, ◌-◌, length}
-use Rattle.ir_tokens.specs.ReaderPlaces.{StandsIn, HasPassed}
+-- the tokens that were taken stand behind those that were there, and behind none of them an entry may begin
+use Rattle.std.proofs.Common.{◌≡◌, ◌≤◌, ℕ, List, ◌++◌, ◌-◌, length}
+use Rattle.ir_tokens.specs.declared.token.Placed.{Placed as ScannedPlaced}
+use Rattle.ir_tokens.specs.ReaderPlaces.{HasPassed}
 use Rattle.ir_tokens.specs.SeenTokens.{seen}
 use Rattle.ir_tokens.specs.Tokens.{Placed}
 use Rattle.ir_tokens.proofs.OneEntry.{Within}
 use Rattle.ir_tokens.proofs.Reading.{SoFar}
 use Rattle.ir_tokens.proofs.reader.TokenReader.take_entry.Given as goal
 
-abbrev pub invariant-loop-placed : goal.invariant-loop-placed
-invariant-loop-placed l = record {
-  stands : StandsIn l.fn.self.text.now l.self;
-  goes : l.fn.self.cursor.at ≤ l.self.cursor.at;
-  entry : Within l.fn.self.place (seen l.tokens.items) l.self.place;
-  so_far : (text : List ℕ) (front : List Placed) → HasPassed text front l.fn.self → SoFar text l.self.place l.self.cursor.at (front ++ seen l.tokens.items);
+abbrev pub invariant-loop-text : goal.invariant-loop-text
+invariant-loop-text l = record {
+  cursor : l.cursor.text ≡ l.fn.self.text.now;
+  within : l.cursor.at ≤ length l.fn.self.text.now;
+  goes : l.fn.self.cursor.at ≤ l.cursor.at;
+  entry : (taken : List ScannedPlaced) × (l.tokens.items ≡ l.initial.tokens.items ++ taken) × Within l.fn.self.place (seen taken) l.place;
+  so_far : (text : List ℕ) (front : List Placed) → HasPassed text (front ++ seen l.initial.tokens.items) l.fn.self → SoFar text l.place l.cursor.at (front ++ seen l.tokens.items);
 }
 
-abbrev pub decreases-loop-placed : goal.decreases-loop-placed
-decreases-loop-placed l = length l.fn.self.text.now - l.self.cursor.at
+abbrev pub decreases-loop-text : goal.decreases-loop-text
+decreases-loop-text l = length l.fn.self.text.now - l.cursor.at
