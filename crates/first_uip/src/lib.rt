@@ -4,11 +4,11 @@
 mod analysis;
 mod learning;
 mod look;
-mod luby;
 mod numbers;
 mod order;
 mod policy;
 mod propagation;
+mod restarts;
 mod roles;
 mod start;
 mod watches;

@@ -4,8 +4,8 @@ ghost use Rattle.std.specs.Prelude.{◌≡◌, ◌+◌, ◌<◌, ℕ, length, If
 ghost use Rattle.clauses.specs.Literal.{IsVariable};
 ghost use Rattle.depth_first.specs.TrailEntries.{literals, IsOpen, IsSet};
 
-use crate::luby::Luby;
 use crate::order::Order;
+use crate::restarts::Restarts;
 use crate::roles::Role;
 use clauses::{Cnf, Lit};
 use depth_first::Trail;
@@ -17,7 +17,7 @@ pub(crate) struct Policy {
     order: Order,
     /// For each variable whether its last value was false.
     pub(crate) negated: Vec<bool>,
-    restarts: Luby,
+    restarts: Restarts,
     ghost sizes: { length order.activities.items ≡ length negated.items },
 }
 
@@ -47,7 +47,7 @@ impl Policy {
         Ok(Policy {
             order: Order::new(alloc, cnf.count)?,
             negated: vec![in alloc; false; cnf.count as usize + 1]?,
-            restarts: Luby::new(),
+            restarts: Restarts::new(),
         })
     }
 
@@ -96,19 +96,31 @@ impl Policy {
         Ok(())
     }
 
-    /// Counts a conflict and what it rests on; the answer is true where the search is to restart.
+    /// Counts a conflict, what it rests on, and the levels that its clause spans; the answer is true where the search
+    /// is to restart.
     pub(crate) fn count_conflict(&mut self, trail: &Trail, roles: &[Role]) -> bool
         requires variables { length trail.now.values.items ≡ length self.old.negated.items }
         requires roles { length roles.now ≡ length self.old.negated.items }
         ensures { length self.new.negated.items ≡ length self.old.negated.items }
     {
+        let mut levels: u32 = 0;
+        // whether the level of the place is one of them
+        let mut is_counted = true;
         for place in 0..trail.entries.len() {
-            let variable = trail.entries[place].literal.variable();
-            if roles[variable as usize] != Role::Unseen {
-                self.order.bump(variable);
+            let entry = trail.entries[place];
+            if entry.cause.is_decision() {
+                is_counted = false;
+            }
+            let role = roles[entry.literal.variable() as usize];
+            if role != Role::Unseen {
+                self.order.bump(entry.literal.variable());
+            }
+            if role == Role::Kept && !is_counted {
+                levels = levels.saturating_add(1);
+                is_counted = true;
             }
         }
         self.order.decay();
-        self.restarts.count_conflict()
+        self.restarts.count_conflict(levels)
     }
 }

@@ -1,0 +1,53 @@
+//! When to restart: where the clauses that were learned of late span more levels than those before (Glucose).
+
+/// How many clauses the mean of late ones weighs, each less than the next.
+const LATE: u64 = 16;
+
+/// A run has at least so many conflicts.
+const SHORTEST: u32 = 10;
+
+/// How many levels the learned clauses span.
+#[derive(Clone, Copy, Debug)]
+pub(crate) struct Restarts {
+    /// The mean of late clauses, in 65,536ths.
+    late: u64,
+    /// The sum of all clauses.
+    total: u64,
+    clauses: u64,
+    /// The conflicts since the last restart.
+    run: u32,
+}
+
+impl Restarts {
+    /// No conflict yet.
+    pub(crate) fn new() -> Restarts {
+        Restarts {
+            late: 0,
+            total: 0,
+            clauses: 0,
+            run: 0,
+        }
+    }
+
+    /// Counts a conflict, whose clause spans so many levels; the answer is true where it ends a run: the late mean is
+    /// more than a tenth above the mean of all.
+    pub(crate) fn count_conflict(&mut self, levels: u32) -> bool {
+        let scaled = u64::from(levels) << 16;
+        self.late = (self.late - self.late / LATE).saturating_add(scaled / LATE);
+        self.total = self.total.saturating_add(u64::from(levels));
+        self.clauses = self.clauses.saturating_add(1);
+        self.run = self.run.saturating_add(1);
+        if self.run < SHORTEST || !self.are_late_higher() {
+            return false;
+        }
+        self.run = 0;
+        true
+    }
+
+    /// Whether the mean of late clauses is more than a tenth above that of all.
+    fn are_late_higher(&self) -> bool {
+        let late = self.late.saturating_mul(self.clauses).saturating_mul(10);
+        let all = self.total.saturating_mul(11) << 16;
+        late > all
+    }
+}
