@@ -3,7 +3,7 @@
 ghost use Rattle.std.specs.Prelude.{◌≤◌};
 
 use crate::failure::Failure;
-use cdcl_log::{Found, search};
+use cdcl_log::{Found, search_counted};
 use clauses::{Cnf, Step};
 use rup_checker::check_refutation;
 use std::time::{Duration, Instant};
@@ -30,6 +30,8 @@ pub(crate) enum Outcome {
 pub(crate) struct Searched {
     pub(crate) outcome: Outcome,
     pub(crate) searching: Duration,
+    /// How many entries were propagated where the search learned from conflicts.
+    pub(crate) propagations: u64,
 }
 
 impl LogSize {
@@ -57,10 +59,15 @@ pub(crate) fn search_set(rt: &HostRuntime, set: &Cnf, limit: u32) -> Result<Sear
     requires { limit ≤ 1000000 }
 {
     let start = now(rt)?;
-    let found = search(rt.alloc(), set, limit)?;
+    let mut propagations = 0;
+    let found = search_counted(rt.alloc(), set, limit, &mut propagations)?;
     let searching = now(rt)?.duration_since(start);
     let outcome = checked(rt, set, found)?;
-    Ok(Searched { outcome, searching })
+    Ok(Searched {
+        outcome,
+        searching,
+        propagations,
+    })
 }
 
 /// What was found, with the log of a refutation checked.

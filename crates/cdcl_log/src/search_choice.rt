@@ -19,8 +19,22 @@ pub fn search(alloc: Global, cnf: &Cnf, limit: u32) -> Result<Found, AllocError>
     requires { limit ≤ 1000000 }
     ensures { IfOk result (IsFound cnf.now limit) }
 {
+    let mut propagations = 0;
+    search_counted(alloc, cnf, limit, &mut propagations)
+}
+
+/// The same search, which adds how many entries it propagated to a count where it learns from conflicts.
+pub fn search_counted(
+    alloc: Global,
+    cnf: &Cnf,
+    limit: u32,
+    propagations: &mut u64,
+) -> Result<Found, AllocError>
+    requires { limit ≤ 1000000 }
+    ensures { IfOk result (IsFound cnf.now limit) }
+{
     if has_many_inputs(alloc, cnf)? {
-        first_uip::search(alloc, cnf, limit)
+        first_uip::search_counted(alloc, cnf, limit, propagations)
     } else {
         depth_first::search(alloc, cnf, limit)
     }

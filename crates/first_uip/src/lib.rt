@@ -13,4 +13,4 @@ mod roles;
 mod start;
 mod watches;
 
-pub use learning::search;
+pub use learning::{search, search_counted};

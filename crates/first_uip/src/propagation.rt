@@ -46,13 +46,14 @@ fn propagate_entry(
 }
 
 /// Propagates the entries from `head` on, which wait, and those that come of it, up to the first clause that is
-/// false.
+/// false. It counts the entries.
 pub(crate) fn propagate(
     cnf: &Cnf,
     log: &[Step],
     watches: &mut Watches,
     trail: &mut Trail,
     mut head: usize,
+    propagations: &mut u64,
 ) -> Result<Option<u32>, AllocError>
     requires variables { length trail.old.values.items ≡ cnf.now.count + 1 }
     requires follows { LogFollows cnf.now log.now }
@@ -66,6 +67,7 @@ pub(crate) fn propagate(
     ensures falsified { IfOk result (λ conflict. IfSome conflict (NamesFalse (clauses_with cnf.now log.now) (literals trail.new.entries.items))) }
 {
     while head < trail.entries.len() {
+        *propagations = propagations.saturating_add(1);
         let conflict = propagate_entry(cnf, log, watches, trail, head)?;
         if conflict.is_some() {
             return Ok(conflict);

@@ -14,8 +14,8 @@ use Rattle.first_uip.specs.Conflict.{DecidedAt}
 use Rattle.first_uip.specs.Searching.{IsSearching}
 use Rattle.first_uip.proofs.Measure.{less_after_conflict}
 use Rattle.first_uip.proofs.SearchLemmas.{no_decisions as none_decided_gives_none, EachCaused-from_forced, EachForced-grown, closed_before, model_found, limit_found, IsSearching-decided, first_or_jump}
-use Rattle.first_uip.proofs.learning.search.Goals as goal
-use Rattle.first_uip.proofs.learning.search.Goals.{then-count_conflict, else-count_conflict}
+use Rattle.first_uip.proofs.learning.search_counted.Goals as goal
+use Rattle.first_uip.proofs.learning.search_counted.Goals.{then-count_conflict, else-count_conflict}
 
 pub refutation-requires-clause-caused : goal.refutation-requires-clause-caused
 refutation-requires-clause-caused c =

@@ -2,7 +2,7 @@ use Rattle.std.proofs.Common.{◌≡◌, ◌+◌, ◌≤◌, length}
 use Rattle.first_uip.specs.Watching.{CoversBelow}
 use Rattle.first_uip.specs.Searching.{IsSearching}
 use Rattle.first_uip.proofs.Measure.{work_left}
-use Rattle.first_uip.proofs.learning.search.Given as goal
+use Rattle.first_uip.proofs.learning.search_counted.Given as goal
 
 abbrev pub invariant-loop-policy : goal.invariant-loop-policy
 invariant-loop-policy l =
