@@ -1,13 +1,14 @@
 //! From a conflict to the clause of its first unique implication point (GRASP, Chaff).
 
-ghost use Rattle.std.specs.Prelude.{◌≡◌, ◌+◌, ◌<◌, ◌≤◌, ◌++◌, ◌∷◌, [], ℕ, true, false, length, replicate, take, IsTrue, IfOk, IfSome, IfNone, All};
+ghost use Rattle.std.specs.Prelude.{◌≡◌, ◌+◌, ◌<◌, ◌≤◌, ◌++◌, ◌∷◌, [], ℕ, true, false, length, replicate, take, IfOk, IfSome, IfNone};
 ghost use Rattle.clauses.specs.Propagation.{NamesFalse, negations_of};
 ghost use Rattle.clauses.specs.ClauseSet.{IsNew, LogFollows, StepFollows, clauses_with};
 ghost use Rattle.clauses.proofs.Closed.{IsClosed};
 ghost use Rattle.depth_first.specs.TrailEntries.{literals, reasons};
 ghost use Rattle.depth_first.specs.TrailEntries.{EachForced};
-ghost use Rattle.first_uip.specs.Conflict.{DecidedAt, IsAnalysis, IsAsserting, IsJump, IsLastLevel, IsOther, NoneDecided, NoneKept, NoneSeen, Resolves, SameKeptFrom, SeenAt, is_kept, is_seen, kept_entries, resolved_entries, role_of};
+ghost use Rattle.first_uip.specs.Conflict.{DecidedAt, IsAnalysis, IsAsserting, IsJump, IsLastLevel, IsOther, NoneDecided, NoneKept, NoneSeen, Resolves, SeenAt, is_kept, is_seen, kept_entries, resolved_entries, role_of};
 
+use crate::minimisation::{mark_implied, settle_earlier};
 use crate::roles::{Role, resolve, see};
 use clauses::{Clause, Cnf, Lit, Step};
 use depth_first::{Trail, numbered};
@@ -73,76 +74,6 @@ fn resolve_level(cnf: &Cnf, log: &[Step], trail: &Trail, start: usize, roles: &m
             }
         }
         resolve(cnf, log, trail, place, roles);
-    }
-}
-
-/// Whether all variables of the clause but this one are seen.
-fn all_seen(clause: &[Lit], roles: &[Role], but: u32) -> bool
-    requires { All (λ l. l.variable < length roles.now) clause.now }
-{
-    for literal in clause {
-        if literal.variable() != but && roles[literal.variable() as usize] == Role::Unseen {
-            return false;
-        }
-    }
-    true
-}
-
-/// Whether the entry at a place is to be resolved rather than kept: it stands before any decision, or the others
-/// of its reason's literals are seen (local minimisation).
-fn is_redundant(
-    cnf: &Cnf,
-    log: &[Step],
-    trail: &Trail,
-    place: usize,
-    root: usize,
-    roles: &[Role],
-) -> bool
-    requires variables { length trail.now.values.items ≡ cnf.now.count + 1 }
-    requires size { length roles.now ≡ cnf.now.count + 1 }
-    requires follows { LogFollows cnf.now log.now }
-    requires forced { EachForced (clauses_with cnf.now log.now) trail.now.entries.items }
-    requires within { place < length trail.now.entries.items }
-    ensures { IsTrue result → NoneDecided trail.now.entries.items place (place + 1) }
-{
-    let entry = trail.entries[place];
-    match entry.cause.reason() {
-        None => false,
-        Some(number) => {
-            place < root || all_seen(numbered(cnf, log, number), roles, entry.literal.variable())
-        }
-    }
-}
-
-/// Keeps or resolves the entries before `start` on which the conflict rests.
-fn settle_earlier(
-    cnf: &Cnf,
-    log: &[Step],
-    trail: &Trail,
-    start: usize,
-    root: usize,
-    roles: &mut [Role],
-)
-    requires variables { length trail.now.values.items ≡ cnf.now.count + 1 }
-    requires size { length roles.old ≡ cnf.now.count + 1 }
-    requires follows { LogFollows cnf.now log.now }
-    requires forced { EachForced (clauses_with cnf.now log.now) trail.now.entries.items }
-    requires within { start ≤ length trail.now.entries.items }
-    ensures resolves { Resolves (clauses_with cnf.now log.now) trail.now.entries.items start roles.old 0 roles.new }
-    ensures same_later { SameKeptFrom trail.now.entries.items roles.old roles.new start }
-{
-    let mut place = start;
-    while place > 0 {
-        place -= 1;
-        let variable = trail.entries[place].literal.variable() as usize;
-        if roles[variable] == Role::Unseen {
-            continue;
-        }
-        if is_redundant(cnf, log, trail, place, root, roles) {
-            resolve(cnf, log, trail, place, roles);
-        } else {
-            roles[variable] = Role::Kept;
-        }
     }
 }
 
@@ -267,16 +198,18 @@ fn no_parts(alloc: Global, count: u32) -> Result<Vec<Role>, AllocError>
 }
 
 /// Gives each variable its part in the conflict at a clause, where the last decision stands at `start`, and tells
-/// the place of the first unique implication point.
+/// the place of the first unique implication point. What is implied is marked anew.
 fn give_parts(
     cnf: &Cnf,
     log: &[Step],
     trail: &Trail,
     conflict: u32,
     start: usize,
+    implied: &mut [bool],
     roles: &mut [Role],
 ) -> usize
     requires variables { length trail.now.values.items ≡ cnf.now.count + 1 }
+    requires implied { length implied.old ≡ cnf.now.count + 1 }
     requires size { length roles.old ≡ cnf.now.count + 1 }
     requires unseen { (n : ℕ) → role_of roles.old n ≡ Role.Unseen }
     requires follows { LogFollows cnf.now log.now }
@@ -289,8 +222,8 @@ fn give_parts(
     see(numbered(cnf, log, conflict), roles);
     let point = resolve_level(cnf, log, trail, start, roles);
     roles[trail.entries[point].literal.variable() as usize] = Role::Kept;
-    let root = first_decision(trail).unwrap_or(0);
-    settle_earlier(cnf, log, trail, start, root, roles);
+    mark_implied(cnf, log, trail, start, roles, implied);
+    settle_earlier(cnf, log, trail, start, implied, roles);
     point
 }
 
@@ -358,7 +291,8 @@ pub(crate) fn analyse(
     ensures roles { IfOk result (λ both. length both.1.items ≡ cnf.now.count + 1) }
 {
     let mut roles = no_parts(alloc, cnf.count)?;
-    let point = give_parts(cnf, log, trail, conflict, start, &mut roles);
+    let mut implied = vec![in alloc; false; cnf.count as usize + 1]?;
+    let point = give_parts(cnf, log, trail, conflict, start, &mut implied, &mut roles);
     let learned = learned_of(alloc, cnf, log, trail, &roles, conflict, start, point)?;
     Ok((learned, roles))
 }

@@ -4,6 +4,7 @@
 mod analysis;
 mod learning;
 mod look;
+mod minimisation;
 mod numbers;
 mod order;
 mod policy;

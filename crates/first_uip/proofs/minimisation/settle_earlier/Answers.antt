@@ -8,7 +8,7 @@ use Rattle.depth_first.specs.declared.trail.Entry.{Entry}
 use Rattle.first_uip.specs.declared.roles.Role.TheVariants.{Unseen, Resolved, Kept}
 use Rattle.first_uip.specs.Conflict.{IsResolution, part_of, role_of, is_seen, is_kept}
 use Rattle.first_uip.proofs.RoleLemmas.{IsResolution-skip, IsResolution-keep, other_entry, unseen_if}
-use Rattle.first_uip.proofs.analysis.settle_earlier.Goals as goal
+use Rattle.first_uip.proofs.minimisation.settle_earlier.Goals as goal
 
 pub loop-place-preserved-then-eq : goal.loop-place-preserved-then-eq
 loop-place-preserved-then-eq c =

@@ -1,7 +1,7 @@
 use Rattle.std.proofs.Common.{◌≤◌}
 use Rattle.clauses.specs.ClauseSet.{clauses_with}
 use Rattle.first_uip.specs.Conflict.{Resolves, SameKeptFrom}
-use Rattle.first_uip.proofs.analysis.settle_earlier.Given as goal
+use Rattle.first_uip.proofs.minimisation.settle_earlier.Given as goal
 
 abbrev pub invariant-loop-place : goal.invariant-loop-place
 invariant-loop-place l =
