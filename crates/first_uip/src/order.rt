@@ -176,11 +176,11 @@ impl Order {
         }
     }
 
-    /// Later gains are greater by a ninth, so that earlier ones count for less.
+    /// Later gains are greater by an eleventh, so that earlier ones count for less.
     pub(crate) fn decay(&mut self)
         ensures { length self.new.activities.items ≡ length self.old.activities.items }
     {
-        self.gain = self.gain.saturating_add(self.gain / 9);
+        self.gain = self.gain.saturating_add(self.gain / 11);
         if self.gain > GREATEST {
             self.scale_down();
         }
