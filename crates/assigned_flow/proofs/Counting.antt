@@ -7,7 +7,7 @@ use Rattle.ir_core.specs.declared.function.Function.{Function}
 use Rattle.ir_core.specs.declared.function.Block.{Block}
 use Rattle.ir_core.specs.declared.instruction.Inst.{Inst}
 use Rattle.ir_core.specs.declared.instruction.Op.{Op}
-use Rattle.ir_core.specs.declared.instruction.Op.TheVariants.{Binary, Compare, Select, Convert, Freeze, Phi}
+use Rattle.ir_core.specs.declared.instruction.Op.TheVariants.{Binary, Compare, Unary, Select, Convert, Freeze, Phi}
 use Rattle.ir_core.specs.declared.terminator.Terminator.{Terminator}
 use Rattle.ir_core.specs.declared.terminator.Terminator.TheVariants as terminators
 use Rattle.ir_core.specs.Reads.{Read, reads_of, reads_at_end, reads_by, reads_in, reads_at}
@@ -23,6 +23,7 @@ few_of f b k width (Binary op flags x y) few = omega arith
 few_of f b k width (Compare pred samesign compared x y) few = omega arith
 few_of f b k width (Select c x y) few = omega arith
 few_of f b k width (Convert cast flags from x) few = omega arith
+few_of f b k width (Unary op truth x) few = omega arith
 few_of f b k width (Freeze x) few = omega arith
 few_of f b k width (Phi entries) few = simp length-map few
 

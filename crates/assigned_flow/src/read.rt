@@ -50,7 +50,12 @@ fn read_by(f: &Function, block: u32, place: u32, op: &Op, operand: u32) -> Optio
             read_here(block, place, &[*x, *y], operand)
         }
         Op::Select(condition, x, y) => read_here(block, place, &[*condition, *x, *y], operand),
-        Op::Convert(_, _, _, x) | Op::Freeze(x) => read_here(block, place, &[*x], operand),
+        Op::Unary(_, _, x) | Op::Convert(_, _, _, x) | Op::Freeze(x) => read_here(
+            block,
+            place,
+            &[*x],
+            operand,
+        ),
         Op::Phi(entries) => {
             let (value, from) = *entries.as_slice().get(operand as usize)?;
             Some(Read {

@@ -63,6 +63,6 @@ pub(crate) fn flags_of_inst(op: &Op) -> Flags
         Op::Binary(_, flags, _, _) => *flags,
         Op::Compare(_, samesign, _, _, _) => Flags::of_icmp(*samesign),
         Op::Convert(_, flags, _, _) => *flags,
-        Op::Select(_, _, _) | Op::Freeze(_) | Op::Phi(_) => Flags::NONE,
+        Op::Unary(_, _, _) | Op::Select(_, _, _) | Op::Freeze(_) | Op::Phi(_) => Flags::NONE,
     }
 }

@@ -1,7 +1,7 @@
 -- How many gates there are at most.
 use Rattle.std.proofs.Common.{ℕ, zero, suc, ◌+◌, ◌-◌, ◌*◌, ◌^◌, ◌≤◌, max, min, Bool, true, false, nat_lt, if◌then◌else◌, arith}
 use Rattle.std.proofs.Math.Nat.{mul-le-mul_left, mul-le-mul}
-use Rattle.ops.specs.declared.opcode.Opcode.TheVariants.{Add, Sub, Mul, UDiv, SDiv, URem, SRem, Shl, LShr, AShr, And, Or, Xor}
+use Rattle.ops.specs.declared.opcode.Opcode.TheVariants.{Add, Sub, Mul, UDiv, SDiv, URem, SRem, Shl, LShr, AShr, And, Or, Xor, UMin, UMax, SMin, SMax}
 use Rattle.ops.specs.declared.conversion.Cast.TheVariants.{Trunc, ZExt, SExt}
 use Rattle.circuits.specs.Gates.{stages, shift_gates}
 use Rattle.circuits.proofs.Stages.{stages-least}
@@ -49,6 +49,10 @@ few_at (Binary AShr flags) n m k some low h g = omega (arith, shift-few n low)
 few_at (Binary And flags) n m k some low h g = omega arith
 few_at (Binary Or flags) n m k some low h g = omega arith
 few_at (Binary Xor flags) n m k some low h g = omega arith
+few_at (Binary UMin flags) n m k some low h g = omega arith
+few_at (Binary UMax flags) n m k some low h g = omega arith
+few_at (Binary SMin flags) n m k some low h g = omega arith
+few_at (Binary SMax flags) n m k some low h g = omega arith
 few_at (Compare pred samesign) n m k some low h g = omega arith
 few_at Select n m k some low h g = omega arith
 few_at (Convert Trunc flags) n m k some low h g = omega arith

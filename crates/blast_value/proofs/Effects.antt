@@ -1,5 +1,5 @@
 -- What instructions do where operands may be poison.
-use Rattle.std.proofs.Common.{◌≡◌, ◌≢◌, ◌==◌, ℕ, zero, suc, ◌+◌, ◌-◌, ◌*◌, ◌%◌, ◌/◌, ◌^◌, ◌<◌, ◌≤◌, ◌⊎◌, Bool, true, false, not, ◌&&◌, ◌||◌, nat_lt, nat_le, if◌then◌else◌, List, [], ◌∷◌, map, length, get_or, replicate, refl, sym, ap, ◌∙◌, ⊎_elim, arith}
+use Rattle.std.proofs.Common.{◌≡◌, ◌≢◌, ◌==◌, ℕ, zero, suc, ◌+◌, ◌-◌, ◌*◌, ◌%◌, ◌/◌, ◌^◌, ◌<◌, ◌≤◌, ◌⊎◌, Bool, true, false, not, ◌&&◌, ◌||◌, min, max, nat_lt, nat_le, if◌then◌else◌, List, [], ◌∷◌, map, length, get_or, replicate, refl, sym, ap, ◌∙◌, ⊎_elim, arith}
 use Rattle.std.specs.Prelude.{bit_and, ℤ, pos, negsuc, neg_ℤ, ◌-ℤ◌, int_le, int_lt, unsigned_abs}
 use Rattle.std.proofs.lemmas.Bool.{cases_lt}
 use Rattle.std.proofs.lemmas.Bool.Decides.{nat_tests}
@@ -11,6 +11,7 @@ use Rattle.ops.specs.declared.value.Value.TheVariants.{Poison}
 use Rattle.ops.specs.declared.value.Effect.{Effect}
 use Rattle.ops.specs.declared.value.Effect.TheVariants.{Undefined, Gives}
 use Rattle.ops.specs.declared.opcode.Opcode.{Opcode}
+use Rattle.ops.specs.declared.opcode.Opcode.TheVariants as opcodes
 use Rattle.ops.specs.declared.opcode.Flags.{Flags}
 use Rattle.ops.specs.declared.comparison.Pred.{Pred}
 use Rattle.ops.specs.declared.comparison.Pred.TheVariants.{Eq, Ne, Ugt, Uge, Ult, Ule, Sgt, Sge, Slt, Sle}
@@ -29,13 +30,16 @@ use Rattle.circ_muldiv.specs.Overflow.{fits}
 use Rattle.circ_muldiv.proofs.SignedQuotients.{remainder_of}
 use Rattle.blast_value.specs.declared.arithmetic.Arithmetic.{Arithmetic}
 use Rattle.blast_value.specs.declared.arithmetic.Arithmetic.TheVariants.{Add, Sub, Mul}
+use Rattle.blast_value.specs.declared.extreme.Extreme.{Extreme}
+use Rattle.blast_value.specs.declared.extreme.Extreme.TheVariants.{UMin, UMax, SMin, SMax}
+use Rattle.circuits.specs.Extreme.{smaller, larger}
 use Rattle.blast_value.specs.declared.bitwise.Bitwise.{Bitwise}
 use Rattle.blast_value.specs.declared.bitwise.Bitwise.TheVariants.{And, Or, Xor}
 use Rattle.blast_value.specs.declared.division.Division.{Division}
 use Rattle.blast_value.specs.declared.division.Division.TheVariants.{UDiv, SDiv, URem, SRem}
 use Rattle.blast_value.specs.declared.strict.Strict.{Strict}
 use Rattle.blast_value.specs.declared.strict.Strict.TheVariants as strict
-use Rattle.blast_value.specs.Families.{arithmetic_opcode, bitwise_opcode, bitwise, promises_disjoint, division_opcode, strict_opcode, divided, exact, is_signed, is_negation}
+use Rattle.blast_value.specs.Families.{arithmetic_opcode, extreme, extreme_opcode, bitwise_opcode, bitwise, promises_disjoint, division_opcode, strict_opcode, divided, exact, is_signed, is_negation}
 use Rattle.blast_value.proofs.Numbers.{signed_same, residue-pos, residue-difference}
 
 -- ---- instructions that give poison where an operand is
@@ -78,6 +82,45 @@ bitwise_numbers Xor flags N a b = refl
 pub bitwise_value : (op : Bitwise) (flags : Flags) (N l n a b : ℕ) (asked poison : Bool) → l ≡ N → n ≡ bitwise op a b → asked ≡ promises_disjoint op flags → poison ≡ (asked && not (bit_and a b == 0)) → Gives (if poison then Poison else bits l n) ≡ on_numbers (bitwise_opcode op) flags N a b
 bitwise_value op flags N l n a b asked poison width n_is asked_is poison_is = rw (poison_is, asked_is, width, n_is) (sym (bitwise_numbers op flags N a b))
 
+extreme_poison : (op : Extreme) (N : ℕ) (w : Value) → on_poison (extreme_opcode op) N w ≡ Gives Poison
+unfolding on_poison
+extreme_poison UMin N w = refl
+extreme_poison UMax N w = refl
+extreme_poison SMin N w = refl
+extreme_poison SMax N w = refl
+
+-- the smaller and the larger by a comparison, as the circuits choose
+lesser : (a b : ℕ) → min a b ≡ (if nat_lt a b then a else b)
+lesser a b = grind (arith, nat_tests)
+
+greater : (a b : ℕ) → max a b ≡ (if nat_lt a b then b else a)
+greater a b = grind (arith, nat_tests)
+
+umin_is : (flags : Flags) (N a b : ℕ) → on_numbers opcodes.UMin flags N a b ≡ Gives (bits N (smaller false N a b))
+unfolding on_numbers
+umin_is flags N a b = rw (lesser a b) refl
+
+umax_is : (flags : Flags) (N a b : ℕ) → on_numbers opcodes.UMax flags N a b ≡ Gives (bits N (larger false N a b))
+unfolding on_numbers
+umax_is flags N a b = rw (greater a b) refl
+
+smin_is : (flags : Flags) (N a b : ℕ) → on_numbers opcodes.SMin flags N a b ≡ Gives (bits N (smaller true N a b))
+unfolding on_numbers
+smin_is flags N a b = rw (signed_same N a, signed_same N b) refl
+
+smax_is : (flags : Flags) (N a b : ℕ) → on_numbers opcodes.SMax flags N a b ≡ Gives (bits N (larger true N a b))
+unfolding on_numbers
+smax_is flags N a b = rw (signed_same N a, signed_same N b) refl
+
+extreme_numbers : (op : Extreme) (flags : Flags) (N a b : ℕ) → on_numbers (extreme_opcode op) flags N a b ≡ Gives (bits N (extreme op N a b))
+extreme_numbers UMin flags N a b = umin_is flags N a b
+extreme_numbers UMax flags N a b = umax_is flags N a b
+extreme_numbers SMin flags N a b = smin_is flags N a b
+extreme_numbers SMax flags N a b = smax_is flags N a b
+
+pub extreme_value : (op : Extreme) (flags : Flags) (N l n a b : ℕ) (poison : Bool) → l ≡ N → n ≡ extreme op N a b → poison ≡ false → Gives (if poison then Poison else bits l n) ≡ on_numbers (extreme_opcode op) flags N a b
+extreme_value op flags N l n a b poison width n_is no_poison = rw (no_poison, width, n_is) (sym (extreme_numbers op flags N a b))
+
 pub strict_poison : (op : Strict) (N : ℕ) (w : Value) → on_poison (strict_opcode op) N w ≡ Gives Poison
 unfolding on_poison
 strict_poison (strict.Arithmetic op) N w = arithmetic_poison op N w
@@ -85,6 +128,7 @@ strict_poison strict.Shl N w = refl
 strict_poison strict.LShr N w = refl
 strict_poison strict.AShr N w = refl
 strict_poison (strict.Bitwise op) N w = bitwise_poison op N w
+strict_poison (strict.Extreme op) N w = extreme_poison op N w
 
 -- ---- sums, differences and products
 pub exact_signed : (op : Arithmetic) (N a b : ℕ) → exact op (words.signed N a) (words.signed N b) ≡ exact op (signed N a) (signed N b)

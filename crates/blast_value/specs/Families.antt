@@ -10,6 +10,7 @@ use Rattle.ops.specs.Flags.{no_flags}
 use Rattle.ops.specs.Integer.{bits, signed, residue}
 use Rattle.ops.specs.Division.{divides, quotient, remainder, exactly}
 use Rattle.ops.specs.Shifts as shifts
+use Rattle.circuits.specs.Extreme.{smaller, larger}
 use Rattle.circuits.specs.Word.{bit}
 use Rattle.blast_value.specs.declared.arithmetic.Arithmetic.{Arithmetic}
 use Rattle.blast_value.specs.declared.arithmetic.Arithmetic.TheVariants.{Add, Sub, Mul}
@@ -17,6 +18,8 @@ use Rattle.blast_value.specs.declared.bitwise.Bitwise.{Bitwise}
 use Rattle.blast_value.specs.declared.bitwise.Bitwise.TheVariants.{And, Or, Xor}
 use Rattle.blast_value.specs.declared.division.Division.{Division}
 use Rattle.blast_value.specs.declared.division.Division.TheVariants.{UDiv, SDiv, URem, SRem}
+use Rattle.blast_value.specs.declared.extreme.Extreme.{Extreme}
+use Rattle.blast_value.specs.declared.extreme.Extreme.TheVariants.{UMin, UMax, SMin, SMax}
 use Rattle.blast_value.specs.declared.strict.Strict.{Strict}
 use Rattle.blast_value.specs.declared.strict.Strict.TheVariants as strict
 
@@ -36,12 +39,19 @@ bitwise_opcode And = opcodes.And
 bitwise_opcode Or = opcodes.Or
 bitwise_opcode Xor = opcodes.Xor
 
+abbrev pub extreme_opcode : Extreme → Opcode
+extreme_opcode UMin = opcodes.UMin
+extreme_opcode UMax = opcodes.UMax
+extreme_opcode SMin = opcodes.SMin
+extreme_opcode SMax = opcodes.SMax
+
 abbrev pub strict_opcode : Strict → Opcode
 strict_opcode (strict.Arithmetic op) = arithmetic_opcode op
 strict_opcode strict.Shl = opcodes.Shl
 strict_opcode strict.LShr = opcodes.LShr
 strict_opcode strict.AShr = opcodes.AShr
 strict_opcode (strict.Bitwise op) = bitwise_opcode op
+strict_opcode (strict.Extreme op) = extreme_opcode op
 
 -- the whole number that a sum, a difference or a product is
 abbrev pub exact : Arithmetic → ℤ → ℤ → ℤ
@@ -80,6 +90,13 @@ abbrev pub bitwise : Bitwise → ℕ → ℕ → ℕ
 bitwise And a b = bit_and a b
 bitwise Or a b = bit_or a b
 bitwise Xor a b = bit_xor a b
+
+-- the smaller or the larger of two numbers of N bits
+abbrev pub extreme : Extreme → ℕ → ℕ → ℕ → ℕ
+extreme UMin N a b = smaller false N a b
+extreme UMax N a b = larger false N a b
+extreme SMin N a b = smaller true N a b
+extreme SMax N a b = larger true N a b
 
 -- the number n of N bits made longer, its highest bit coming in above where it is read as signed
 abbrev pub extended : Bool → ℕ → ℕ → ℕ → ℕ

@@ -1,10 +1,10 @@
 -- How many gates the circuit of an instruction adds at most.
 use Rattle.std.specs.Prelude.{ℕ, ◌+◌, ◌*◌, max, fold, Bool, true, false, List}
 use Rattle.ops.specs.declared.opcode.Opcode.{Opcode}
-use Rattle.ops.specs.declared.opcode.Opcode.TheVariants.{Add, Sub, Mul, UDiv, SDiv, URem, SRem, Shl, LShr, AShr, And, Or, Xor}
+use Rattle.ops.specs.declared.opcode.Opcode.TheVariants.{Add, Sub, Mul, UDiv, SDiv, URem, SRem, Shl, LShr, AShr, And, Or, Xor, UMin, UMax, SMin, SMax}
 use Rattle.ops.specs.declared.conversion.Cast.{Cast}
 use Rattle.ops.specs.declared.conversion.Cast.TheVariants.{Trunc, ZExt, SExt}
-use Rattle.circuits.specs.Gates.{adder_gates, comparison_gates, equality_gates, select_gates, shift_gates}
+use Rattle.circuits.specs.Gates.{adder_gates, comparison_gates, equality_gates, extreme_gates, select_gates, shift_gates}
 use Rattle.circ_muldiv.specs.Gates.{product_gates, overflow_add_gates, overflow_mul_gates, division_gates, signed_division_gates}
 use Rattle.blast_value.specs.declared.arithmetic.Arithmetic.{Arithmetic}
 use Rattle.blast_value.specs.declared.arithmetic.Arithmetic.TheVariants as arithmetic
@@ -51,6 +51,7 @@ number_gates strict.Shl width = left_gates width
 number_gates strict.LShr width = right_gates width
 number_gates strict.AShr width = right_gates width
 number_gates (strict.Bitwise op) width = bitwise_gates width
+number_gates (strict.Extreme op) width = extreme_gates width
 
 -- A quotient and a remainder, unsigned or signed.
 abbrev pub quotient_gates : Bool → ℕ → ℕ
@@ -80,6 +81,10 @@ opcode_gates AShr width = right_gates width + poison_gates
 opcode_gates And width = bitwise_gates width + poison_gates
 opcode_gates Or width = bitwise_gates width + poison_gates
 opcode_gates Xor width = bitwise_gates width + poison_gates
+opcode_gates UMin width = extreme_gates width + poison_gates
+opcode_gates UMax width = extreme_gates width + poison_gates
+opcode_gates SMin width = extreme_gates width + poison_gates
+opcode_gates SMax width = extreme_gates width + poison_gates
 
 -- Whether sign bits differ, and the poison of that and of two operands.
 abbrev pub sign_gates : ℕ

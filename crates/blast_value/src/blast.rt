@@ -12,6 +12,7 @@ use crate::bitwise::Bitwise;
 use crate::comparison::{choose, compare};
 use crate::conversion::convert;
 use crate::division::{Division, divide};
+use crate::extreme::Extreme;
 use crate::held::{Blasted, Held};
 use crate::instruction::Instruction;
 use crate::strict::{Strict, strict_effect};
@@ -111,5 +112,9 @@ fn binary<C: Circuit>(
         Opcode::And => strict_effect(alloc, c, Strict::Bitwise(Bitwise::And), flags, width, a, b),
         Opcode::Or => strict_effect(alloc, c, Strict::Bitwise(Bitwise::Or), flags, width, a, b),
         Opcode::Xor => strict_effect(alloc, c, Strict::Bitwise(Bitwise::Xor), flags, width, a, b),
+        Opcode::UMin => strict_effect(alloc, c, Strict::Extreme(Extreme::UMin), flags, width, a, b),
+        Opcode::UMax => strict_effect(alloc, c, Strict::Extreme(Extreme::UMax), flags, width, a, b),
+        Opcode::SMin => strict_effect(alloc, c, Strict::Extreme(Extreme::SMin), flags, width, a, b),
+        Opcode::SMax => strict_effect(alloc, c, Strict::Extreme(Extreme::SMax), flags, width, a, b),
     }
 }

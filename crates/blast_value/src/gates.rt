@@ -43,6 +43,7 @@ fn opcode_gates(op: Opcode, width: u32) -> u32
         Opcode::Shl => 3 * shift_gates(width) + 6 * width + 4,
         Opcode::LShr | Opcode::AShr => 2 * shift_gates(width) + 4 * width + 3,
         Opcode::And | Opcode::Or | Opcode::Xor => 4 * width + 2,
+        Opcode::UMin | Opcode::UMax | Opcode::SMin | Opcode::SMax => 3 * width + 2,
     }
 }
 

@@ -10,6 +10,7 @@ mod blast;
 mod comparison;
 mod conversion;
 mod division;
+mod extreme;
 mod gates;
 mod held;
 mod instruction;

@@ -12,6 +12,7 @@ ghost use Rattle.blast_value.specs.Gates.{number_gates, poison_gates};
 
 use crate::arithmetic::{Arithmetic, checked};
 use crate::bitwise::{Bitwise, bit_by_bit};
+use crate::extreme::{Extreme, one_of_two};
 use crate::held::{Blasted, Held};
 use crate::shift::{moved_left, moved_right};
 use circuits::{Bits, Circuit, or};
@@ -26,6 +27,7 @@ pub(crate) enum Strict {
     LShr,
     AShr,
     Bitwise(Bitwise),
+    Extreme(Extreme),
 }
 
 /// The effect of such an instruction: poison where an operand is, and else what it makes of their numbers.
@@ -82,6 +84,7 @@ fn at_numbers<C: Circuit>(
         Strict::LShr => moved_right(alloc, c, flags.exact, false, width, a, b),
         Strict::AShr => moved_right(alloc, c, flags.exact, true, width, a, b),
         Strict::Bitwise(which) => bit_by_bit(alloc, c, which, flags, width, a, b),
+        Strict::Extreme(which) => one_of_two(alloc, c, which, flags, width, a, b),
     }
 }
 

@@ -197,8 +197,8 @@ chosen false on off = refl
 pub number_below : {L : Type 0} (value : L → Bool) (a : List L) → number (map value a) < 2 ^ length a
 number_below value a = subst (λ k. number (map value a) < 2 ^ k) (length-map a value) (number-below (map value a))
 
-pub magnitude_value : {L : Type 0} (old mid new : L → Bool) (a negation word : List L) (x : L) → 0 < length a → x ≡ get_or a (length a - 1) x → mid x ≡ old x → map mid a ≡ map old a → number (map mid negation) ≡ (2 ^ length a - number (map old a)) % 2 ^ length a → map new word ≡ (if mid x then map mid negation else map mid a) → number (map new word) ≡ unsigned_abs (signed (length a) (number (map old a)))
-magnitude_value old mid new a negation word x some at_x x_kept a_kept negation_is word_is =
+pub absolute_value : {L : Type 0} (old mid new : L → Bool) (a negation word : List L) (x : L) → 0 < length a → x ≡ get_or a (length a - 1) x → mid x ≡ old x → map mid a ≡ map old a → number (map mid negation) ≡ (2 ^ length a - number (map old a)) % 2 ^ length a → map new word ≡ (if mid x then map mid negation else map mid a) → number (map new word) ≡ unsigned_abs (signed (length a) (number (map old a)))
+absolute_value old mid new a negation word x some at_x x_kept a_kept negation_is word_is =
     rw word_is (chosen (mid x) (map mid negation) (map mid a) ∙ (rw (negation_is, x_kept, a_kept) (magnitude_is (length a) (number (map old a)) (old x) some (number_below old a) (highest_bit old a x some at_x))))
 
 -- the same tests on words of literals

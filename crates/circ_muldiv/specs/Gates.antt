@@ -12,8 +12,8 @@ abbrev pub product_gates : ℕ → ℕ
 product_gates width = width + 3 * width * (width - 1) + 4 * (width - 1)
 
 -- An absolute value: a negation, and a choice by the sign.
-abbrev pub magnitude_gates : ℕ → ℕ
-magnitude_gates width = adder_gates width + select_gates width
+abbrev pub absolute_gates : ℕ → ℕ
+absolute_gates width = adder_gates width + select_gates width
 
 -- Whether a sum or a difference overflows: the sum, and three gates for the signs.
 abbrev pub overflow_add_gates : ℕ → ℕ
@@ -23,7 +23,7 @@ overflow_add_gates width = adder_gates width + 3
 -- above the greatest.
 abbrev pub overflow_mul_gates : Bool → ℕ → ℕ
 overflow_mul_gates false width = product_gates width
-overflow_mul_gates true width = 2 * magnitude_gates width + product_gates width + comparison_gates width + 2
+overflow_mul_gates true width = 2 * absolute_gates width + product_gates width + comparison_gates width + 2
 
 -- One step of a division: a difference of one bit more, and a choice by it.
 abbrev pub division_step_gates : ℕ → ℕ
@@ -36,4 +36,4 @@ division_gates width = width * division_step_gates width
 -- A signed quotient and remainder: two absolute values, their quotient and remainder, whether the signs differ, and for each of
 -- the two a negation and a choice.
 abbrev pub signed_division_gates : ℕ → ℕ
-signed_division_gates width = 4 * magnitude_gates width + division_gates width + 1
+signed_division_gates width = 4 * absolute_gates width + division_gates width + 1

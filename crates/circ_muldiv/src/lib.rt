@@ -6,14 +6,14 @@
 
 mod division;
 mod joining;
-mod magnitude;
 mod overflow;
 mod product;
 mod row;
 mod signed_division;
+mod signs;
 
 pub use division::{Divided, divide_unsigned};
-pub use magnitude::sign;
 pub use overflow::{overflow_add, overflow_mul, overflow_sub};
 pub use product::multiply;
 pub use signed_division::divide_signed;
+pub use signs::{absolute, sign};

@@ -7,8 +7,8 @@ ghost use Rattle.circuits.specs.Word.{number_of};
 ghost use Rattle.circ_muldiv.specs.Gates.{overflow_add_gates, overflow_mul_gates};
 ghost use Rattle.circ_muldiv.specs.Overflow.{fits, whole};
 
-use crate::magnitude::{magnitude, sign};
 use crate::product::multiply_with_overflow;
+use crate::signs::{absolute, sign};
 use circuits::{Bits, Circuit, add_with_carry, less_unsigned, or, repeated, sub};
 use std::alloc::{AllocError, Global};
 
@@ -124,9 +124,9 @@ fn overflow_mul_signed<C: Circuit>(
     ensures adds { Adds C.State c.old c.new
         (overflow_mul_gates true (length a.now)) }
 {
-    let magnitude_a = magnitude(alloc, c, a)?;
-    let magnitude_b = magnitude(alloc, c, b)?;
-    let product = multiply_with_overflow(alloc, c, magnitude_a.as_slice(), magnitude_b.as_slice())?;
+    let absolute_a = absolute(alloc, c, a)?;
+    let absolute_b = absolute(alloc, c, b)?;
+    let product = multiply_with_overflow(alloc, c, absolute_a.as_slice(), absolute_b.as_slice())?;
     let differ = c.xor(alloc, sign(a), sign(b))?;
     let greatest = greatest(alloc, c, differ, a.len())?;
     let exceeds = less_unsigned(alloc, c, &greatest, &product.bits)?;

@@ -3,11 +3,11 @@ ghost use Rattle.std.specs.Prelude.{◌≡◌, ◌≢◌, ◌-◌, ◌%◌, ◌^
 ghost use Rattle.std.specs.List.{All};
 ghost use Rattle.circuits.specs.Circuit.{Adds};
 ghost use Rattle.circuits.specs.Word.{number_of, signed};
-ghost use Rattle.circ_muldiv.specs.Gates.{magnitude_gates, signed_division_gates};
+ghost use Rattle.circ_muldiv.specs.Gates.{absolute_gates, signed_division_gates};
 ghost use Rattle.circ_muldiv.specs.Division.{quotient, remainder, residue};
 
 use crate::division::{Divided, divide_unsigned};
-use crate::magnitude::{magnitude, sign};
+use crate::signs::{absolute, sign};
 use circuits::{Bits, Circuit, neg, select};
 use std::alloc::{AllocError, Global};
 
@@ -41,9 +41,9 @@ pub fn divide_signed<C: Circuit>(
     ensures adds { Adds C.State c.old c.new
         (signed_division_gates (length a.now)) }
 {
-    let magnitude_a = magnitude(alloc, c, a)?;
-    let magnitude_b = magnitude(alloc, c, b)?;
-    let divided = divide_unsigned(alloc, c, &magnitude_a, &magnitude_b)?;
+    let absolute_a = absolute(alloc, c, a)?;
+    let absolute_b = absolute(alloc, c, b)?;
+    let divided = divide_unsigned(alloc, c, &absolute_a, &absolute_b)?;
     let sign_a = sign(a);
     let sign_b = sign(b);
     let differ = c.xor(alloc, sign_a, sign_b)?;
@@ -71,7 +71,7 @@ fn negated_where<C: Circuit>(
         number_of (C.value c.new inputs) made
         ≡ (if C.value c.old inputs negative then (2 ^ length word.now - n) % 2 ^ length word.now else n)) }
     ensures adds { Adds C.State c.old c.new
-        (magnitude_gates (length word.now)) }
+        (absolute_gates (length word.now)) }
 {
     let negation = neg(alloc, c, word)?;
     select(alloc, c, negative, negation.as_slice(), word.as_slice())

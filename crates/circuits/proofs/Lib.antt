@@ -1,6 +1,7 @@
 pub mod Truth
 pub mod Words
 pub mod Stages
+pub mod Chosen
 pub mod Kept
 pub mod Chain
 pub mod Compared

@@ -17,6 +17,10 @@ adder_gates width = 5 * width
 abbrev pub comparison_gates : ℕ → ℕ
 comparison_gates width = 2 * width
 
+-- The smaller or the larger of two numbers: a comparison, and a choice by it.
+abbrev pub extreme_gates : ℕ → ℕ
+extreme_gates width = comparison_gates width + select_gates width
+
 -- Whether two numbers are equal: two gates a bit.
 abbrev pub equality_gates : ℕ → ℕ
 equality_gates width = 2 * width

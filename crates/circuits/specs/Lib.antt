@@ -1,5 +1,6 @@
 pub mod Circuit
 pub mod Evaluation
+pub mod Extreme
 pub mod Gates
 pub mod Move
 pub mod Word

@@ -3,6 +3,7 @@
 use Rattle.std.specs.Prelude.{◌≡◌, ℕ, ◌<◌, ◌↔◌, List, length, Option, Some, IsSome, All, Contains, slice_get}
 use Rattle.ops.specs.Conversion.{CastFits}
 use Rattle.ops.specs.Flags.{FlagsFit, CastFlagsFit}
+use Rattle.ops.specs.Truths.{TruthFits}
 use Rattle.ops.specs.Number.{Number}
 use Rattle.ops.specs.declared.conversion.Cast.{Cast}
 use Rattle.ops.specs.declared.conversion.Cast.TheVariants.{Trunc, ZExt, SExt}
@@ -12,7 +13,7 @@ use Rattle.ir_core.specs.declared.function.Function.{Function}
 use Rattle.ir_core.specs.declared.function.Block.{Block}
 use Rattle.ir_core.specs.declared.instruction.Inst.{Inst}
 use Rattle.ir_core.specs.declared.instruction.Op.{Op}
-use Rattle.ir_core.specs.declared.instruction.Op.TheVariants.{Binary, Compare, Select, Convert, Freeze, Phi}
+use Rattle.ir_core.specs.declared.instruction.Op.TheVariants.{Binary, Compare, Unary, Select, Convert, Freeze, Phi}
 use Rattle.ir_core.specs.declared.operand.Operand.{Operand}
 use Rattle.ir_core.specs.declared.operand.Operand.TheVariants as operands
 use Rattle.ir_core.specs.declared.terminator.Terminator.{Terminator}
@@ -50,10 +51,11 @@ OperandHasWidth f width (operands.Number n) = n.width ≡ width
 OperandHasWidth f width operands.Undef = Unit {0}
 OperandHasWidth f width operands.Poison = Unit {0}
 
--- the types that an instruction asks for beside those of its operands, and its flags
+-- the types that an instruction asks for beside those of its operands, and its flags and its truth value
 abbrev pub IsTyped : ℕ → Op → Type 0
 IsTyped width (Binary op flags x y) = FlagsFit op flags
 IsTyped width (Compare pred samesign compared x y) = width ≡ 1
+IsTyped width (Unary op truth x) = TruthFits op truth
 IsTyped width (Select c x y) = Unit {0}
 IsTyped width (Convert cast flags from x) = CastFlagsFit cast flags × CastFits cast from width
 IsTyped width (Freeze x) = Unit {0}
@@ -71,6 +73,7 @@ abbrev pub IsPhi : Op → Type 0
 IsPhi (Phi entries) = Unit {0}
 IsPhi (Binary op flags x y) = ⊥
 IsPhi (Compare pred samesign width x y) = ⊥
+IsPhi (Unary op truth x) = ⊥
 IsPhi (Select c x y) = ⊥
 IsPhi (Convert cast flags from x) = ⊥
 IsPhi (Freeze x) = ⊥

@@ -5,7 +5,7 @@ use Rattle.ir_core.specs.declared.function.Function.{Function}
 use Rattle.ir_core.specs.declared.function.Block.{Block}
 use Rattle.ir_core.specs.declared.instruction.Inst.{Inst}
 use Rattle.ir_core.specs.declared.instruction.Op.{Op}
-use Rattle.ir_core.specs.declared.instruction.Op.TheVariants.{Binary, Compare, Select, Convert, Freeze, Phi}
+use Rattle.ir_core.specs.declared.instruction.Op.TheVariants.{Binary, Compare, Unary, Select, Convert, Freeze, Phi}
 use Rattle.ir_core.specs.declared.operand.Operand.{Operand}
 use Rattle.ir_core.specs.declared.read.Read.{Read as ReadOperand}
 use Rattle.ir_core.specs.declared.terminator.Terminator.{Terminator}
@@ -28,6 +28,7 @@ end_of f b = unwrap_or (option_map (λ block. length block.insts) (slice_get f.b
 abbrev pub reads_of : Function → ℕ → ℕ → ℕ → Op → List Read
 reads_of f b k width (Binary op flags x y) = read b k width x ∷ read b k width y ∷ []
 reads_of f b k width (Compare pred samesign compared x y) = read b k compared x ∷ read b k compared y ∷ []
+reads_of f b k width (Unary op truth x) = read b k width x ∷ []
 reads_of f b k width (Select c x y) = read b k 1 c ∷ read b k width x ∷ read b k width y ∷ []
 reads_of f b k width (Convert cast flags from x) = read b k from x ∷ []
 reads_of f b k width (Freeze x) = read b k width x ∷ []

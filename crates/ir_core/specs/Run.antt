@@ -7,6 +7,7 @@ use Rattle.ops.specs.Number.{Number}
 use Rattle.ops.specs.Instruction.{instruction}
 use Rattle.ops.specs.Comparison.{comparison, selection}
 use Rattle.ops.specs.Conversion.{conversion}
+use Rattle.ops.specs.Unary.{unary}
 use Rattle.ops.specs.declared.value.Value.{Value}
 use Rattle.ops.specs.declared.value.Value.TheVariants as values
 use Rattle.ops.specs.declared.value.Effect.{Effect}
@@ -16,7 +17,7 @@ use Rattle.ir_core.specs.declared.function.Parameter.{Parameter}
 use Rattle.ir_core.specs.declared.function.Block.{Block}
 use Rattle.ir_core.specs.declared.instruction.Inst.{Inst}
 use Rattle.ir_core.specs.declared.instruction.Op.{Op}
-use Rattle.ir_core.specs.declared.instruction.Op.TheVariants.{Binary, Compare, Select, Convert, Freeze, Phi}
+use Rattle.ir_core.specs.declared.instruction.Op.TheVariants.{Binary, Compare, Unary, Select, Convert, Freeze, Phi}
 use Rattle.ir_core.specs.declared.operand.Operand.{Operand}
 use Rattle.ir_core.specs.declared.operand.Operand.TheVariants as operands
 use Rattle.ir_core.specs.declared.operand.Register.{Register}
@@ -132,6 +133,7 @@ module _ (MayChoose : ℕ → ℕ → Type 0) where
   abbrev pub OpGives : Registers → ℕ → Op → Effect → Type 0
   OpGives held width (Binary op flags a b) e = (x : Value) × (y : Value) × OperandGives held width a x × OperandGives held width b y × (e ≡ instruction op flags width x y)
   OpGives held width (Compare pred samesign compared a b) e = (x : Value) × (y : Value) × OperandGives held compared a x × OperandGives held compared b y × (e ≡ effects.Gives (comparison pred samesign compared x y))
+  OpGives held width (Unary op truth a) e = (x : Value) × OperandGives held width a x × (e ≡ effects.Gives (unary op truth width x))
   OpGives held width (Select c a b) e = (z : Value) × (x : Value) × (y : Value) × OperandGives held 1 c z × OperandGives held width a x × OperandGives held width b y × (e ≡ effects.Gives (selection z x y))
   OpGives held width (Convert cast flags from a) e = (x : Value) × OperandGives held from a x × (e ≡ effects.Gives (conversion cast flags from width x))
   OpGives held width (Freeze a) e = (x : Value) × (v : Value) × OperandGives held width a x × Freezes width x v × (e ≡ effects.Gives v)

@@ -101,6 +101,7 @@ fn copy_op(alloc: Global, op: &Op) -> Result<Op, AllocError>
         Op::Compare(pred, samesign, width, x, y) => Ok(Op::Compare(
             *pred, *samesign, *width, *x, *y,
         )),
+        Op::Unary(op, truth, x) => Ok(Op::Unary(*op, *truth, *x)),
         Op::Select(condition, x, y) => Ok(Op::Select(*condition, *x, *y)),
         Op::Convert(cast, flags, from, x) => Ok(Op::Convert(*cast, *flags, *from, *x)),
         Op::Freeze(x) => Ok(Op::Freeze(*x)),

@@ -2,7 +2,7 @@
 
 use crate::operand::Operand;
 use lists::{List, Text};
-use ops::{Cast, Flags, Opcode, Pred, Width};
+use ops::{Cast, Flags, Opcode, Pred, Unary, Width};
 
 /// An instruction, whose result is a register.
 #[derive(Debug, Drop)]
@@ -17,10 +17,12 @@ pub struct Inst {
 /// What an instruction computes (LangRef, "Instruction Reference"). A block is known by its place in the function.
 #[derive(Debug, Drop)]
 pub enum Op {
-    /// A binary operation on two operands of the result's width.
+    /// A binary operation, or an intrinsic such as `umin`, on two operands of the result's width.
     Binary(Opcode, Flags, Operand, Operand),
     /// `icmp`, with `samesign` where that is true: a comparison of two operands of the width; the result is an i1.
     Compare(Pred, bool, Width, Operand, Operand),
+    /// An intrinsic on one operand of the result's width, with its truth value, which is false where it has none.
+    Unary(Unary, bool, Operand),
     /// `select`: an i1, what it gives where that is 1, and what it gives where that is 0.
     Select(Operand, Operand, Operand),
     /// `trunc`, `zext` or `sext` of an operand of the width.

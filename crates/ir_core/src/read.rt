@@ -52,7 +52,7 @@ fn count_by(op: &Op) -> usize
     match op {
         Op::Binary(_, _, _, _) | Op::Compare(_, _, _, _, _) => 2,
         Op::Select(_, _, _) => 3,
-        Op::Convert(_, _, _, _) | Op::Freeze(_) => 1,
+        Op::Unary(_, _, _) | Op::Convert(_, _, _, _) | Op::Freeze(_) => 1,
         Op::Phi(entries) => entries.len(),
     }
 }
@@ -118,7 +118,7 @@ fn read_by(
             one_of(&[condition, arms[0], arms[1]], operand)
         }
         Op::Convert(_, _, from, x) => one_of(&[here(block, place, *from, *x)], operand),
-        Op::Freeze(x) => one_of(&[here(block, place, width, *x)], operand),
+        Op::Unary(_, _, x) | Op::Freeze(x) => one_of(&[here(block, place, width, *x)], operand),
         Op::Phi(entries) => {
             let (value, from) = *entries.as_slice().get(operand)?;
             Some(here(from, end_of(f, from), width, value))

@@ -9,3 +9,11 @@ pub mod TakenFlags
 pub mod Takings
 pub mod TerminatorReadings
 pub mod WordLemmas
+pub mod ItemReadings
+pub mod ItemSizes
+pub mod ItemSpellings
+pub mod CallReadings
+pub mod FirstDot
+pub mod NameReadings
+pub mod CallSpellings
+pub mod LateItemSpellings

@@ -1,5 +1,5 @@
 -- What is read of instructions is spelled so.
-use Rattle.std.proofs.Common.{◌≡◌, ℕ, suc, length, Bool, true, false, cond, List, [], ◌∷◌, Option, Some, None, Ok, Err, refl, sym, ap, subst}
+use Rattle.std.proofs.Common.{◌≡◌, ℕ, suc, length, Bool, true, false, cond, List, [], ◌∷◌, Option, Some, None, Ok, Err, refl, sym, ap, subst, ◌∙◌}
 use Rattle.std.specs.Prelude.{codes}
 use Rattle.ops.specs.declared.opcode.Opcode.{Opcode}
 use Rattle.ops.specs.declared.opcode.Flags.{Flags}
@@ -13,7 +13,7 @@ use Rattle.ops.proofs.FlagKeywordLemmas.{flag_in-is, flags_are_icmp}
 use Rattle.ir_tokens.specs.Tokens.{Placed, Word}
 use Rattle.ir_tokens.specs.declared.fault.IrFaultKind.TheVariants.{Syntax}
 use Rattle.ir_tokens.specs.declared.raw.RawOp.{RawOp}
-use Rattle.ir_tokens.specs.declared.raw.RawOp.TheVariants.{Binary, Compare, Select, Convert, Freeze, Phi}
+use Rattle.ir_tokens.specs.declared.raw.RawOp.TheVariants.{Binary, Compare, Call, Select, Convert, Freeze, Phi}
 use Rattle.ir_instructions.specs.declared.word.Operation.{Operation}
 use Rattle.ir_instructions.specs.declared.word.Operation.TheVariants as operations
 use Rattle.ir_instructions.specs.Grammar.{SpellsFlags, SpellsIncoming, SpellsOp, SpellsInst}
@@ -25,7 +25,10 @@ use Rattle.ir_instructions.proofs.Loops.{Adds, repeat-is, each-is, all_read}
 use Rattle.ir_instructions.proofs.Readings.{mark_at-is, keyword_at-is, register_at-is, type_at-is, operand_at-is, typed_at-is, tail_at-is}
 use Rattle.ir_instructions.proofs.Steps.{Reads, bind_ok, read_as, not_left_out, same_front}
 use Rattle.ir_instructions.proofs.TakenFlags.{taken_flags}
-use Rattle.ir_instructions.proofs.WordLemmas.{operation_in-is}
+use Rattle.ir_instructions.proofs.WordLemmas.{operation_in-is, operation_is_no_intrinsic}
+use Rattle.ops.specs.Intrinsics.{is_intrinsic}
+use Rattle.ir_instructions.specs.CallGrammar.{unmarked, tail, notail}
+use Rattle.ir_instructions.proofs.CallReadings.{call_at-is, marked_call_at-is}
 use Rattle.ir_instructions.specs.Punctuation as marks
 
 -- ---- flags
@@ -62,16 +65,16 @@ flags_at-is taken tokens x e =
 abbrev ReadsOp : Operation → ℕ → List Placed → RawOp × List Placed → Type 0
 ReadsOp operation line tokens x = SpellsOp x.0 ((line, Word (operation_word operation)) ∷ tokens) x.1
 
-binary_at-is : (op : Opcode) (line : ℕ) (tokens : List Placed) (x : RawOp × List Placed) → binary_at op tokens ≡ Ok x → ReadsOp (operations.Binary op) line tokens x
+binary_at-is : (op : Opcode) (line : ℕ) (tokens : List Placed) (x : RawOp × List Placed) → is_intrinsic op ≡ false → binary_at op tokens ≡ Ok x → ReadsOp (operations.Binary op) line tokens x
 unfolding binary_at
-binary_at-is op line tokens x e =
+binary_at-is op line tokens x own e =
     let a = bind_ok (flags_at (flags_of op) tokens) _ _ e in
     let b = bind_ok (type_at a.0.1) _ _ a.2 in
     let c = bind_ok (operand_at b.0.0 b.0.1) _ _ b.2 in
     let d = bind_ok (mark_at marks.comma c.0.1) _ _ c.2 in
     let f = bind_ok (operand_at b.0.0 d.0.1) _ _ d.2 in
     read_as (ReadsOp (operations.Binary op) line tokens) (Binary op a.0.0 b.0.0 c.0.0 f.0.0, f.0.1) x f.2
-    (tokens, (line, refl), (a.0.1, flags_at-is (flags_of op) tokens a.0 a.1, (b.0.1, type_at-is a.0.1 b.0 b.1, (c.0.1, operand_at-is b.0.0 b.0.1 c.0 c.1, (d.0.1, mark_at-is marks.comma c.0.1 d.0 d.1, operand_at-is b.0.0 d.0.1 f.0 f.1)))))
+    (tokens, (own, (line, refl)), (a.0.1, flags_at-is (flags_of op) tokens a.0 a.1, (b.0.1, type_at-is a.0.1 b.0 b.1, (c.0.1, operand_at-is b.0.0 b.0.1 c.0 c.1, (d.0.1, mark_at-is marks.comma c.0.1 d.0 d.1, operand_at-is b.0.0 d.0.1 f.0 f.1)))))
 
 pred_at-is : Reads pred_at (λ pred. Is (Word (predicate_keyword pred)))
 unfolding pred_at
@@ -157,20 +160,24 @@ phi_at-is line tokens x e =
     read_as (ReadsOp operations.Phi line tokens) (Phi a.0.0 c.0.0, c.0.1) x c.2
     (tokens, (line, refl), (a.0.1, type_at-is tokens a.0 a.1, separated (SpellsIncoming a.0.0) b.0.0 a.0.1 b.0.1 c.0.0 c.0.1 (incoming_at-is a.0.0 a.0.1 b.0 b.1) each.0))
 
-operation_at-is : (operation : Operation) (line : ℕ) (tokens : List Placed) (x : RawOp × List Placed) → operation_at operation tokens ≡ Ok x → ReadsOp operation line tokens x
-operation_at-is (operations.Binary op) line tokens x e = binary_at-is op line tokens x e
-operation_at-is operations.Compare line tokens x e = compare_at-is line tokens x e
-operation_at-is operations.Select line tokens x e = select_at-is line tokens x e
-operation_at-is (operations.Convert cast) line tokens x e = convert_at-is cast line tokens x e
-operation_at-is operations.Freeze line tokens x e = freeze_at-is line tokens x e
-operation_at-is operations.Phi line tokens x e = phi_at-is line tokens x e
+operation_at-is : (operation : Operation) (line : ℕ) (tokens : List Placed) (x : RawOp × List Placed) → ((op : Opcode) → operation ≡ operations.Binary op → is_intrinsic op ≡ false)
+    → operation_at line operation tokens ≡ Ok x → ReadsOp operation line tokens x
+operation_at-is (operations.Binary op) line tokens x own e = binary_at-is op line tokens x (own op refl) e
+operation_at-is operations.Compare line tokens x own e = compare_at-is line tokens x e
+operation_at-is operations.Select line tokens x own e = select_at-is line tokens x e
+operation_at-is (operations.Convert cast) line tokens x own e = convert_at-is cast line tokens x e
+operation_at-is operations.Freeze line tokens x own e = freeze_at-is line tokens x e
+operation_at-is operations.Phi line tokens x own e = phi_at-is line tokens x e
+operation_at-is operations.Call line tokens x own e = call_at-is line ((line, Word (codes "call")) ∷ tokens) tokens x (unmarked refl) e
+operation_at-is operations.Tail line tokens x own e = marked_call_at-is ((line, Word (codes "tail")) ∷ tokens) tokens x (λ rest same. tail (line, ap (λ ts. (line, Word (codes "tail")) ∷ ts) (sym same))) e
+operation_at-is operations.NoTail line tokens x own e = marked_call_at-is ((line, Word (codes "notail")) ∷ tokens) tokens x (λ rest same. notail (line, ap (λ ts. (line, Word (codes "notail")) ∷ ts) (sym same))) e
 
 op_at-is : Reads op_at SpellsOp
 unfolding op_at
 op_at-is ((line, Word word) ∷ rest) x e =
     let a = bind_ok (or_left_out line word (operation_in word) rest) _ _ e in
     let named = not_left_out line word (operation_in word) rest a.0 a.1 in
-    subst (λ ts. SpellsOp x.0 ts x.1) (sym (same_front line word (operation_word a.0.0) rest a.0.1 (operation_in-is word a.0.0 named.0) named.1)) (operation_at-is a.0.0 line a.0.1 x a.2)
+    subst (λ ts. SpellsOp x.0 ts x.1) (sym (same_front line word (operation_word a.0.0) rest a.0.1 (operation_in-is word a.0.0 named.0) named.1)) (operation_at-is a.0.0 line a.0.1 x (λ op is. operation_is_no_intrinsic word op (named.0 ∙ ap (λ o. Some o) is)) a.2)
 op_at-is tokens x e = absurd cc
 
 pub inst_at-is : Reads inst_at SpellsInst

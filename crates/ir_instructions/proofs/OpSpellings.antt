@@ -1,5 +1,5 @@
 -- What is spelled of instructions and terminators is read, where what follows may follow.
-use Rattle.std.proofs.Common.{◌≡◌, ℕ, true, false, List, [], ◌∷◌, Ok, refl, ◌∙◌}
+use Rattle.std.proofs.Common.{◌≡◌, ℕ, Bool, true, false, not, List, [], ◌∷◌, Ok, refl, ◌∙◌}
 use Rattle.std.specs.Prelude.{codes}
 use Rattle.ops.specs.declared.opcode.Flags.{Flags}
 use Rattle.ops.specs.declared.comparison.Pred.{Pred}
@@ -13,7 +13,7 @@ use Rattle.ir_tokens.specs.Tokens.{Placed, Word, Mark}
 use Rattle.ir_tokens.specs.declared.raw.RawIncoming.{RawIncoming}
 use Rattle.ir_tokens.specs.declared.raw.RawInst.{RawInst}
 use Rattle.ir_tokens.specs.declared.raw.RawOp.{RawOp}
-use Rattle.ir_tokens.specs.declared.raw.RawOp.TheVariants.{Binary, Compare, Select, Convert, Freeze, Phi}
+use Rattle.ir_tokens.specs.declared.raw.RawOp.TheVariants.{Binary, Compare, Call, Select, Convert, Freeze, Phi}
 use Rattle.ir_tokens.specs.declared.raw.RawTerminator.{RawTerminator}
 use Rattle.ir_tokens.specs.declared.raw.RawTerminator.TheVariants.{Return, Unreachable, Jump, Branch, Switch}
 use Rattle.ir_tokens.specs.declared.raw.RawCase.{RawCase}
@@ -21,9 +21,14 @@ use Rattle.ir_instructions.specs.declared.word.Operation.TheVariants as operatio
 use Rattle.ir_instructions.specs.declared.word.Ending.TheVariants as endings
 use Rattle.ir_instructions.specs.Grammar.{Tail, SpellsType, SpellsFlags, SpellsIncoming, SpellsOp, SpellsInst, SpellsCase, SpellsCases, SpellsTerminator}
 use Rattle.ir_instructions.specs.InstructionReaders.{is_mark, is_register, is_flag, flag_at, flags_at, binary_at, pred_at, compare_at, select_at, convert_at, freeze_at, incoming_at, begins_incoming, further_incoming_at, incomings_at, phi_at, op_at, inst_at, insts_at, return_at, jump_at, conditional_at, branch_at, begins_case, case_at, cases_at, switch_at, terminator_at}
-use Rattle.ir_instructions.specs.Parts.{Part, Is, ◌⨾◌, Each, Comma, Separated}
+use Rattle.ir_instructions.specs.Parts.{Part, IsOn, Is, ◌⨾◌, Each, Comma, Separated}
+use Rattle.ir_instructions.specs.CallGrammar.{SpellsMarker, unmarked, tail, notail}
+use Rattle.ir_instructions.specs.CallReaders.{call_word_at, marked_call_at}
+use Rattle.ir_instructions.specs.ItemGrammar.{MayFollowItem}
+use Rattle.ir_tokens.specs.declared.raw.RawCall.{RawCall}
 use Rattle.ir_instructions.specs.Readers.{repeat_at}
 use Rattle.ir_instructions.specs.Punctuation as marks
+use Rattle.ir_instructions.proofs.CallSpellings.{SpellsCalled, call_at-of}
 use Rattle.ir_instructions.proofs.Loops.{ReadsEach, each-of, repeat-more, repeat-done}
 use Rattle.ir_instructions.proofs.Spellings.{mark_at-of, keyword_at-of, register_at-of, target_at-of, type_at-of, type_begins_no_flag, type_is_no_keyword, operand_at-of, case_value_at-of, typed_at-of, tail_at-of}
 use Rattle.ir_instructions.proofs.Takings.{flag-takes, incoming-takes, inst-takes, case-takes}
@@ -77,20 +82,31 @@ phi_at-of width (first ∷ others) tokens t1 rest type (t2, one, each) none =
 predicate_begins_no_flag : (taken : Flags) (pred : Pred) (tokens rest : List Placed) → Is (Word (predicate_keyword pred)) tokens rest → is_flag taken tokens ≡ false
 predicate_begins_no_flag taken pred tokens rest (line, is) = rw (is, predicate_is_no_flag taken pred) refl
 
-op_at-of : (o : RawOp) (tokens rest : List Placed) → SpellsOp o tokens rest → begins_incoming rest ≡ false → op_at tokens ≡ Ok (o, rest)
+not_so : {b : Bool} → b ≡ false → not b ≡ true
+not_so e = rw e refl
+
+-- a call behind its marker
+marked_call : (w : RawCall) (tokens t1 t2 rest : List Placed) → SpellsMarker tokens t1 → IsOn w.line (Word (codes "call")) t1 t2 → SpellsCalled w t2 rest → MayFollowItem rest → op_at tokens ≡ Ok (Call w, rest)
+unfolding op_at marked_call_at call_word_at
+marked_call w tokens t1 t2 rest (unmarked same) is call may = rw (same, is, operation_in-of operations.Call refl) (call_at-of w t2 rest call may)
+marked_call w tokens t1 t2 rest (tail (line, one)) is call may = rw (one, operation_in-of operations.Tail refl, is) (call_at-of w t2 rest call may)
+marked_call w tokens t1 t2 rest (notail (line, one)) is call may = rw (one, operation_in-of operations.NoTail refl, is) (call_at-of w t2 rest call may)
+
+op_at-of : (o : RawOp) (tokens rest : List Placed) → SpellsOp o tokens rest → begins_incoming rest ≡ false → MayFollowItem rest → op_at tokens ≡ Ok (o, rest)
 unfolding op_at binary_at compare_at select_at convert_at freeze_at
-op_at-of (Binary op flags width a b) tokens rest (t1, (line, is), (t2, fs, (t3, type, (t4, left, (t5, comma, right))))) none =
-    rw (is, operation_in-of (operations.Binary op), flags_at-of (flags_of op) flags t1 t2 fs (type_begins_no_flag (flags_of op) width t2 t3 type), type_at-of width t2 t3 type, operand_at-of width a t3 t4 left, mark_at-of marks.comma t4 t5 comma, operand_at-of width b t5 rest right) refl
-op_at-of (Compare pred samesign width a b) tokens rest (t1, (line, is), (t2, fs, (t3, p, (t4, type, (t5, left, (t6, comma, right)))))) none =
-    rw (is, operation_in-of operations.Compare, flags_at-of flags_of_icmp (icmp_flags samesign) t1 t2 fs (predicate_begins_no_flag flags_of_icmp pred t2 t3 p), pred_at-of pred t2 t3 p, type_at-of width t3 t4 type, operand_at-of width a t4 t5 left, mark_at-of marks.comma t5 t6 comma, operand_at-of width b t6 rest right) refl
-op_at-of (Select condition if_true if_false) tokens rest (t1, (line, is), (t2, c, (t3, comma, (t4, yes_part, (t5, comma', no_part))))) none =
-    rw (is, operation_in-of operations.Select, typed_at-of condition t1 t2 c, mark_at-of marks.comma t2 t3 comma, typed_at-of if_true t3 t4 yes_part, mark_at-of marks.comma t4 t5 comma', typed_at-of if_false t5 rest no_part) refl
-op_at-of (Convert cast flags from a to) tokens rest (t1, (line, is), (t2, fs, (t3, type, (t4, operand, (t5, keyword, type'))))) none =
-    rw (is, operation_in-of (operations.Convert cast), flags_at-of (flags_of_cast cast) flags t1 t2 fs (type_begins_no_flag (flags_of_cast cast) from t2 t3 type), typed_at-of (record { width = from; operand = a }) t2 t4 (t3, type, operand), keyword_at-of (codes "to") t4 t5 keyword, type_at-of to t5 rest type') refl
-op_at-of (Freeze width a) tokens rest (t1, (line, is), (t2, type, operand)) none =
-    rw (is, operation_in-of operations.Freeze, typed_at-of (record { width = width; operand = a }) t1 rest (t2, type, operand)) refl
-op_at-of (Phi width incomings) tokens rest (t1, (line, is), (t2, type, separated)) none =
-    rw (is, operation_in-of operations.Phi) (phi_at-of width incomings t1 t2 rest type separated none)
+op_at-of (Binary op flags width a b) tokens rest (t1, (own, (line, is)), (t2, fs, (t3, type, (t4, left, (t5, comma, right))))) none may =
+    rw (is, operation_in-of (operations.Binary op) (not_so own), flags_at-of (flags_of op) flags t1 t2 fs (type_begins_no_flag (flags_of op) width t2 t3 type), type_at-of width t2 t3 type, operand_at-of width a t3 t4 left, mark_at-of marks.comma t4 t5 comma, operand_at-of width b t5 rest right) refl
+op_at-of (Compare pred samesign width a b) tokens rest (t1, (line, is), (t2, fs, (t3, p, (t4, type, (t5, left, (t6, comma, right)))))) none may =
+    rw (is, operation_in-of operations.Compare refl, flags_at-of flags_of_icmp (icmp_flags samesign) t1 t2 fs (predicate_begins_no_flag flags_of_icmp pred t2 t3 p), pred_at-of pred t2 t3 p, type_at-of width t3 t4 type, operand_at-of width a t4 t5 left, mark_at-of marks.comma t5 t6 comma, operand_at-of width b t6 rest right) refl
+op_at-of (Call w) tokens rest (t1, marker, (t2, is, call)) none may = marked_call w tokens t1 t2 rest marker is call may
+op_at-of (Select condition if_true if_false) tokens rest (t1, (line, is), (t2, c, (t3, comma, (t4, yes_part, (t5, comma', no_part))))) none may =
+    rw (is, operation_in-of operations.Select refl, typed_at-of condition t1 t2 c, mark_at-of marks.comma t2 t3 comma, typed_at-of if_true t3 t4 yes_part, mark_at-of marks.comma t4 t5 comma', typed_at-of if_false t5 rest no_part) refl
+op_at-of (Convert cast flags from a to) tokens rest (t1, (line, is), (t2, fs, (t3, type, (t4, operand, (t5, keyword, type'))))) none may =
+    rw (is, operation_in-of (operations.Convert cast) refl, flags_at-of (flags_of_cast cast) flags t1 t2 fs (type_begins_no_flag (flags_of_cast cast) from t2 t3 type), typed_at-of (record { width = from; operand = a }) t2 t4 (t3, type, operand), keyword_at-of (codes "to") t4 t5 keyword, type_at-of to t5 rest type') refl
+op_at-of (Freeze width a) tokens rest (t1, (line, is), (t2, type, operand)) none may =
+    rw (is, operation_in-of operations.Freeze refl, typed_at-of (record { width = width; operand = a }) t1 rest (t2, type, operand)) refl
+op_at-of (Phi width incomings) tokens rest (t1, (line, is), (t2, type, separated)) none may =
+    rw (is, operation_in-of operations.Phi refl) (phi_at-of width incomings t1 t2 rest type separated none)
 
 -- no incoming value begins attachments, or what no `,` begins
 no_comma_no_incoming : (tokens : List Placed) → is_mark marks.comma tokens ≡ false → begins_incoming tokens ≡ false
@@ -101,25 +117,33 @@ tail_begins_no_incoming : (tokens rest : List Placed) → Tail tokens rest → i
 tail_begins_no_incoming tokens rest ([], same) none = rw same (no_comma_no_incoming rest none)
 tail_begins_no_incoming tokens rest (once ∷ times, (middle, (t1, (line, is), (name, number, plain, digits, (t2, (next, metadata), behind))), more)) none = rw (is, metadata) refl
 
+tail_may_follow : (tokens rest : List Placed) → Tail tokens rest → MayFollowItem rest → MayFollowItem tokens
+tail_may_follow tokens rest ([], same) may = rw same may
+tail_may_follow tokens rest (once ∷ times, (middle, (t1, (line, is), attachment), more)) may = rw is refl
+
 -- no `,` follows
 abbrev pub HasNoTail : List Placed → Type 0
 HasNoTail tokens = is_mark marks.comma tokens ≡ false
 
-inst_at-of : (i : RawInst) (tokens rest : List Placed) → SpellsInst i tokens rest → HasNoTail rest → inst_at tokens ≡ Ok (i, rest)
+-- and nothing that goes on in an item
+abbrev pub MayFollowInst : List Placed → Type 0
+MayFollowInst tokens = HasNoTail tokens × MayFollowItem tokens
+
+inst_at-of : (i : RawInst) (tokens rest : List Placed) → SpellsInst i tokens rest → MayFollowInst rest → inst_at tokens ≡ Ok (i, rest)
 unfolding inst_at
-inst_at-of i tokens rest (t1, register, (t2, equals, (t3, op, tail))) none =
-    rw (register_at-of i.result tokens t1 register, mark_at-of marks.equals t1 t2 equals, op_at-of i.op t2 t3 op (tail_begins_no_incoming t3 rest tail none), tail_at-of t3 rest tail none) refl
+inst_at-of i tokens rest (t1, register, (t2, equals, (t3, op, behind))) may =
+    rw (register_at-of i.result tokens t1 register, mark_at-of marks.equals t1 t2 equals, op_at-of i.op t2 t3 op (tail_begins_no_incoming t3 rest behind may.0) (tail_may_follow t3 rest behind may.1), tail_at-of t3 rest behind may.0) refl
 
 pub inst_is_next : (i : RawInst) (tokens rest : List Placed) → SpellsInst i tokens rest → is_register tokens ≡ true
 inst_is_next i tokens rest (t1, (written, same, is), behind) = rw is refl
 
-inst_may_follow : (i : RawInst) (tokens rest : List Placed) → SpellsInst i tokens rest → HasNoTail tokens
-inst_may_follow i tokens rest (t1, (written, same, is), behind) = rw is refl
+inst_may_follow : (i : RawInst) (tokens rest : List Placed) → SpellsInst i tokens rest → MayFollowInst tokens
+inst_may_follow i tokens rest (t1, (written, same, is), behind) = rw is (refl, tt)
 
-pub insts_at-of : (insts : List RawInst) (tokens rest : List Placed) → Each SpellsInst insts tokens rest → is_register rest ≡ false → HasNoTail rest → insts_at tokens ≡ Ok (insts, rest)
+pub insts_at-of : (insts : List RawInst) (tokens rest : List Placed) → Each SpellsInst insts tokens rest → is_register rest ≡ false → MayFollowInst rest → insts_at tokens ≡ Ok (insts, rest)
 unfolding insts_at
 insts_at-of insts tokens rest each none may =
-    each-of is_register inst_at SpellsInst HasNoTail (record { takes = inst-takes; next = inst_is_next; follows = inst_may_follow; reads = inst_at-of }) insts [] tokens rest each none may
+    each-of is_register inst_at SpellsInst MayFollowInst (record { takes = inst-takes; next = inst_is_next; follows = inst_may_follow; reads = inst_at-of }) insts [] tokens rest each none may
 
 -- ---- terminators
 

@@ -64,7 +64,7 @@ type_at-is tokens x e = absurd cc
 
 -- ---- operands
 
-number_value-is : (width line : ℕ) (digits : List ℕ) (found : Option Numeral) (rest : List Placed) (x : RawOperand × List Placed) → constant_of digits width ≡ found → given (number_value line found) rest ≡ Ok x → SpellsOperand width x.0 ((line, Number digits) ∷ rest) x.1
+pub number_value-is : (width line : ℕ) (digits : List ℕ) (found : Option Numeral) (rest : List Placed) (x : RawOperand × List Placed) → constant_of digits width ≡ found → given (number_value line found) rest ≡ Ok x → SpellsOperand width x.0 ((line, Number digits) ∷ rest) x.1
 number_value-is width line digits (Some number) rest x is e =
     read_as (λ y. SpellsOperand width y.0 ((line, Number digits) ∷ rest) y.1) (record { line = line; value = values.Number number }, rest) x e (Number digits, (digits, is, refl), refl)
 number_value-is width line digits None rest x is e = absurd cc
@@ -79,7 +79,7 @@ tried P word wanted value found others false h is next e = next e
 abbrev IsTruth : RawValue → List ℕ → Type 0
 IsTruth value word = IsCaseValue value × ((width : ℕ) → IsValueToken width value (Word word))
 
-truth_in-is : (word : List ℕ) (value : RawValue) → truth_in word ≡ Some value → IsTruth value word
+pub truth_in-is : (word : List ℕ) (value : RawValue) → truth_in word ≡ Some value → IsTruth value word
 unfolding truth_in
 truth_in-is word value =
     tried IsTruth word (codes "true") values.True value _ (bytes_eq word (codes "true")) refl (tt, λ width. refl)
@@ -105,7 +105,7 @@ operand_at-is width ((line, Word word) ∷ rest) x e =
     (Word word, value_in-is width word a.0.0 named.0, ap (λ (ts : List Placed). (line, Word word) ∷ ts) named.1)
 operand_at-is width tokens x e = absurd cc
 
-number_case-is : (width line : ℕ) (digits : List ℕ) (found : Option Numeral) (rest : List Placed) (x : RawOperand × List Placed) → given (number_value line found) rest ≡ Ok x → IsCaseValue x.0.value
+pub number_case-is : (width line : ℕ) (digits : List ℕ) (found : Option Numeral) (rest : List Placed) (x : RawOperand × List Placed) → given (number_value line found) rest ≡ Ok x → IsCaseValue x.0.value
 number_case-is width line digits (Some number) rest x e = read_as (λ y. IsCaseValue y.0.value) (record { line = line; value = values.Number number }, rest) x e tt
 number_case-is width line digits None rest x e = absurd cc
 

@@ -1,19 +1,28 @@
 -- Behind a part fewer tokens are left, or no more.
 use Rattle.std.proofs.Common.{◌≡◌, ◌<◌, ◌≤◌, ℕ, List, [], ◌∷◌, length, Option, Some, None, ap, arith}
 use Rattle.ops.specs.declared.opcode.Flags.{Flags}
+use Rattle.ops.specs.declared.opcode.Opcode.{Opcode}
 use Rattle.ops.specs.Flags.{flags_of, flags_of_cast, flags_of_icmp, icmp_flags}
-use Rattle.ir_tokens.specs.Tokens.{Token, Placed}
+use Rattle.ops.specs.declared.opcode.Unary.{Unary}
+use Rattle.ir_tokens.specs.Tokens.{Token, Placed, Mark}
 use Rattle.ir_tokens.specs.declared.raw.RawIdentifier.{RawIdentifier}
 use Rattle.ir_tokens.specs.declared.raw.RawInst.{RawInst}
+use Rattle.ir_tokens.specs.declared.raw.RawArguments.{RawArguments}
+use Rattle.ir_tokens.specs.declared.raw.RawArguments.TheVariants as arguments
+use Rattle.ir_tokens.specs.declared.raw.RawCall.{RawCall}
 use Rattle.ir_tokens.specs.declared.raw.RawOp.{RawOp}
-use Rattle.ir_tokens.specs.declared.raw.RawOp.TheVariants.{Binary, Compare, Select, Convert, Freeze, Phi}
+use Rattle.ir_tokens.specs.declared.raw.RawOp.TheVariants.{Binary, Compare, Call, Select, Convert, Freeze, Phi}
 use Rattle.ir_tokens.specs.declared.raw.TypedOperand.{TypedOperand}
 use Rattle.ir_tokens.specs.declared.raw.RawOperand.{RawOperand}
 use Rattle.ir_tokens.specs.declared.raw.RawIncoming.{RawIncoming}
 use Rattle.ir_tokens.specs.declared.raw.RawTerminator.{RawTerminator}
 use Rattle.ir_tokens.specs.declared.raw.RawTerminator.TheVariants.{Return, Unreachable, Jump, Branch, Switch}
 use Rattle.ir_tokens.specs.declared.raw.RawCase.{RawCase}
-use Rattle.ir_instructions.specs.Grammar.{SpellsRegister, SpellsTarget, SpellsType, SpellsOperand, SpellsTyped, Attachment, Tail, SpellsFlags, SpellsIncoming, SpellsOp, SpellsInst, SpellsCase, SpellsCases, SpellsTerminator}
+use Rattle.ir_instructions.specs.Grammar.{SpellsRegister, SpellsTarget, SpellsType, SpellsOperand, SpellsTyped, Attachment, Tail, SpellsFlags, SpellsIncoming, IsOpcode, SpellsOp, SpellsInst, SpellsCase, SpellsCases, SpellsTerminator}
+use Rattle.ir_instructions.specs.declared.intrinsic.Intrinsic.{Intrinsic}
+use Rattle.ir_instructions.specs.ItemGrammar.{SpellsItem, of_word, of_word_and_group, of_number, of_group, of_quoted, of_key_and_value}
+use Rattle.ir_instructions.specs.CallGrammar.{Items, SpellsArgument, SpellsTruthOf, SpellsArguments, SpellsCallee, SpellsClose, SpellsMarker, unmarked, tail as tail_marker, notail, SpellsCall, intrinsic_of}
+use Rattle.ir_instructions.specs.Punctuation as marks
 use Rattle.ir_instructions.specs.Parts.{Part, IsOn, Is, ◌⨾◌, Maybe, Each, Comma, Separated, Repeated}
 
 abbrev pub Shorter : Part → Type 0
@@ -109,10 +118,57 @@ pub separated : {A : Type 0} (P : A → Part) → ((x : A) → NoLonger (P x)) �
 separated P p [] tokens rest h = absurd h
 separated P p (x ∷ xs) tokens rest h = both (P x) (Each (λ y. Comma ⨾ P y) xs) (p x) (each (λ y. Comma ⨾ P y) (λ y. both Comma (P y) (a_token _) (p y)) xs) tokens rest h
 
+-- ---- calls
+
+item : (i : List ℕ) → NoLonger (SpellsItem i)
+item i tokens rest (of_word is one) = a_token _ tokens rest one
+item i tokens rest (of_word_and_group name group is same two) = both _ _ (a_token _) (a_token _) tokens rest two
+item i tokens rest (of_number one) = a_token _ tokens rest one
+item i tokens rest (of_group one) = a_token _ tokens rest one
+item i tokens rest (of_quoted one) = a_token _ tokens rest one
+item i tokens rest (of_key_and_value key value same three) = both _ _ (a_token _) (both _ _ (a_token _) (a_token _)) tokens rest three
+
+items : NoLonger Items
+items tokens rest (is, h) = each SpellsItem item is tokens rest h
+
+argument : (t : TypedOperand) → NoLonger (SpellsArgument t)
+argument t = both _ _ (a_type t.width) (both _ _ items (operand t.width t.operand))
+
+truth : (op : Unary) (t : Option TypedOperand) → NoLonger (SpellsTruthOf op t)
+truth op None tokens rest (own, h) = no_part tokens rest h
+truth op (Some t) tokens rest (own, (middle, comma, (value, h))) = both Comma (SpellsArgument t) (a_token _) (argument t) tokens rest (middle, comma, h)
+
+call_arguments : (w : RawArguments) → NoLonger (SpellsArguments w)
+call_arguments (arguments.Binary op a b) = both _ _ (argument a) (both _ _ (a_token _) (argument b))
+call_arguments (arguments.Unary op a t) = both _ _ (argument a) (truth op t)
+
+callee : (named : Intrinsic × ℕ) → NoLonger (SpellsCallee named)
+callee named tokens rest (written, name, is, intrinsic, one) = a_token _ tokens rest one
+
+close : NoLonger SpellsClose
+close tokens rest (line, stops, (middle, one, (is, taken, h, same, on))) =
+    both (IsOn line (Mark marks.close_paren)) Items (weaker _ (on_line line _)) items tokens rest (middle, one, (is, h))
+
+marker : NoLonger SpellsMarker
+marker tokens rest (unmarked h) = no_part tokens rest h
+marker tokens rest (tail_marker h) = a_token _ tokens rest h
+marker tokens rest (notail h) = a_token _ tokens rest h
+
+call : (w : RawCall) → NoLonger (SpellsCall w)
+call w =
+    both _ _ marker (both _ _ (weaker _ (on_line w.line _)) (both _ _ items (both _ _ (a_type w.width) (both _ _ (callee (intrinsic_of w.arguments, w.named))
+    (both _ _ (a_token _) (both _ _ (call_arguments w.arguments) close))))))
+
+-- ---- instructions
+
+an_opcode : (opcode : Opcode) → NoLonger (IsOpcode opcode)
+an_opcode opcode tokens rest (own, one) = a_token _ tokens rest one
+
 op : (o : RawOp) → NoLonger (SpellsOp o)
-op (Binary opcode fs width a b) = both _ _ (a_token _) (both _ _ (flags (flags_of opcode) fs) (both _ _ (a_type width) (both _ _ (operand width a) (both _ _ (a_token _) (operand width b)))))
+op (Binary opcode fs width a b) = both _ _ (an_opcode opcode) (both _ _ (flags (flags_of opcode) fs) (both _ _ (a_type width) (both _ _ (operand width a) (both _ _ (a_token _) (operand width b)))))
 op (Compare pred samesign width a b) =
     both _ _ (a_token _) (both _ _ (flags flags_of_icmp (icmp_flags samesign)) (both _ _ (a_token _) (both _ _ (a_type width) (both _ _ (operand width a) (both _ _ (a_token _) (operand width b))))))
+op (Call w) = call w
 op (Select condition if_true if_false) = both _ _ (a_token _) (both _ _ (typed condition) (both _ _ (a_token _) (both _ _ (typed if_true) (both _ _ (a_token _) (typed if_false)))))
 op (Convert cast fs from a to) =
     both _ _ (a_token _) (both _ _ (flags (flags_of_cast cast) fs) (both _ _ (a_type from) (both _ _ (operand from a) (both _ _ (a_token _) (a_type to)))))

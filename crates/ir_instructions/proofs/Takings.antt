@@ -6,7 +6,12 @@ use Rattle.ops.specs.FlagKeywords.{has_flag, with_flag, flag_in}
 use Rattle.ir_tokens.specs.Tokens.{Placed, Word}
 use Rattle.ir_tokens.specs.declared.fault.IrFaultKind.TheVariants.{Syntax}
 use Rattle.ir_instructions.specs.InstructionReaders.{is_mark, is_register, is_metadata, attachment_at, tail_attachment_at, is_flag, add_flag, flag_at, begins_incoming, further_incoming_at, inst_at, begins_case, case_at}
+use Rattle.ops.proofs.FlagSets.{both}
+use Rattle.ir_instructions.specs.CallReaders.{begins_inner_item, begins_late_item, late_item_at}
+use Rattle.ir_instructions.specs.ItemReaders.{item_at}
 use Rattle.ir_instructions.specs.Readers.{TakesSome, fault}
+use Rattle.ir_instructions.proofs.CallReadings.{late_item-is}
+use Rattle.ir_instructions.proofs.ItemSizes.{item-shorter, item-takes}
 use Rattle.ir_instructions.specs.Punctuation as marks
 use Rattle.ir_instructions.proofs.OpReadings.{further_incoming_at-is, inst_at-is}
 use Rattle.ir_instructions.proofs.Readings.{attachment_at-is, tail_attachment_at-is}
@@ -41,3 +46,9 @@ inst-takes tokens x next e = inst-shorter x.0 tokens x.1 (inst_at-is tokens x e)
 
 pub case-takes : TakesSome begins_case case_at
 case-takes tokens x next e = case-shorter x.0 tokens x.1 (case_at-is tokens x e)
+
+pub inner-takes : TakesSome begins_inner_item item_at
+inner-takes tokens x next e = let first = both _ _ next in item-takes tokens x first.0 e
+
+pub late-takes : (line : ℕ) → TakesSome (begins_late_item line) (late_item_at line)
+late-takes line tokens x next e = let one = late_item-is line tokens x next e in item-shorter one.0 tokens x.1 one.2

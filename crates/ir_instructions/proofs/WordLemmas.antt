@@ -1,18 +1,22 @@
 -- Words: what those that are read spell, and that what is spelled is read.
-use Rattle.std.proofs.Common.{◌≡◌, ℕ, ◌≤◌, Bool, true, false, cond, eqb, leb, ◌&&◌, List, [], ◌∷◌, Some, None, refl, sym, ap, subst}
-use Rattle.std.specs.Prelude.{codes}
+use Rattle.std.proofs.Common.{◌≡◌, ℕ, ◌≤◌, Bool, true, false, cond, not, eqb, leb, ◌&&◌, List, [], ◌∷◌, Option, Some, None, refl, sym, ap, subst}
+use Rattle.std.specs.Prelude.{codes, find}
+use Rattle.std.specs.List.{list_all}
 use Rattle.std.specs.Str.{bytes_eq}
 use Rattle.std.proofs.lemmas.Bool.{eqb-true, leb-true, le-leb}
 use Rattle.ops.specs.declared.opcode.Flags.{Flags}
-use Rattle.ops.specs.declared.opcode.Opcode.TheVariants.{Add, Sub, Mul, UDiv, SDiv, URem, SRem, Shl, LShr, AShr, And, Or, Xor}
+use Rattle.ops.specs.declared.opcode.Opcode.{Opcode}
+use Rattle.ops.specs.declared.opcode.Opcode.TheVariants.{Add, Sub, Mul, UDiv, SDiv, URem, SRem, Shl, LShr, AShr, And, Or, Xor, UMin, UMax, SMin, SMax}
 use Rattle.ops.specs.declared.conversion.Cast.TheVariants.{Trunc, ZExt, SExt}
 use Rattle.ops.specs.FlagKeywords.{flag_in}
+use Rattle.ops.specs.Intrinsics.{is_intrinsic}
+use Rattle.ops.proofs.FlagSets.{both}
 use Rattle.ops.proofs.KeywordLemmas.{same_word, found-passes}
 use Rattle.scan.specs.Bytes.{are_digits}
 use Rattle.ir_tokens.specs.Numbers.{decimal_value}
 use Rattle.ir_instructions.specs.declared.word.TypeWord.TheVariants as types
 use Rattle.ir_instructions.specs.declared.word.Operation.{Operation}
-use Rattle.ir_instructions.specs.declared.word.Operation.TheVariants.{Binary, Compare, Select, Convert, Freeze, Phi}
+use Rattle.ir_instructions.specs.declared.word.Operation.TheVariants.{Binary, Compare, Select, Convert, Freeze, Phi, Call, Tail, NoTail}
 use Rattle.ir_instructions.specs.declared.word.Ending.{Ending}
 use Rattle.ir_instructions.specs.declared.word.Ending.TheVariants.{Return, Unreachable, Branch, Switch}
 use Rattle.ir_instructions.specs.Keywords.{IsTypeWord, type_of_bits, type_in, operation_word, operations, operation_in, ending_word, ending_in}
@@ -57,28 +61,61 @@ pub operation_in-is : (word : List ℕ) (operation : Operation) → operation_in
 unfolding operation_in
 operation_in-is word operation e = same_word word (operation_word operation) (found-passes (λ (o : Operation). bytes_eq word (operation_word o)) operations operation e)
 
-pub operation_in-of : (operation : Operation) → operation_in (operation_word operation) ≡ Some operation
+-- what is found in a list passes a test that all of the list pass
+first_among : {A : Type 0} (q : A → Bool) (x y : A) (rest : Option A) (b : Bool) → q x ≡ true → (rest ≡ Some y → q y ≡ true) → cond b (Some x) rest ≡ Some y → q y ≡ true
+first_among q x y rest true h others e = let same : x ≡ y = cc in subst (λ z. q z ≡ true) same h
+first_among q x y rest false h others e = others e
+
+pub found_among : {A : Type 0} (p q : A → Bool) (xs : List A) (y : A) → list_all q xs ≡ true → find p xs ≡ Some y → q y ≡ true
+found_among p q [] y all e = absurd cc
+found_among p q (x ∷ xs) y all e =
+    let here = both (q x) (list_all q xs) all in
+    first_among q x y (find p xs) (p x) here.0 (found_among p q xs y here.1) e
+
+-- the operation has a first word of its own: no intrinsic has one
+abbrev pub has_opcode : Operation → Bool
+has_opcode (Binary op) = not (is_intrinsic op)
+has_opcode operation = true
+
+flipped : (b : Bool) → not b ≡ true → b ≡ false
+flipped true h = absurd cc
+flipped false h = refl
+
+pub operation_in-of : (operation : Operation) → has_opcode operation ≡ true → operation_in (operation_word operation) ≡ Some operation
 unfolding operation_in
-operation_in-of (Binary Add) = refl
-operation_in-of (Binary Sub) = refl
-operation_in-of (Binary Mul) = refl
-operation_in-of (Binary UDiv) = refl
-operation_in-of (Binary SDiv) = refl
-operation_in-of (Binary URem) = refl
-operation_in-of (Binary SRem) = refl
-operation_in-of (Binary Shl) = refl
-operation_in-of (Binary LShr) = refl
-operation_in-of (Binary AShr) = refl
-operation_in-of (Binary And) = refl
-operation_in-of (Binary Or) = refl
-operation_in-of (Binary Xor) = refl
-operation_in-of Compare = refl
-operation_in-of Select = refl
-operation_in-of (Convert Trunc) = refl
-operation_in-of (Convert ZExt) = refl
-operation_in-of (Convert SExt) = refl
-operation_in-of Freeze = refl
-operation_in-of Phi = refl
+operation_in-of (Binary Add) own = refl
+operation_in-of (Binary Sub) own = refl
+operation_in-of (Binary Mul) own = refl
+operation_in-of (Binary UDiv) own = refl
+operation_in-of (Binary SDiv) own = refl
+operation_in-of (Binary URem) own = refl
+operation_in-of (Binary SRem) own = refl
+operation_in-of (Binary Shl) own = refl
+operation_in-of (Binary LShr) own = refl
+operation_in-of (Binary AShr) own = refl
+operation_in-of (Binary And) own = refl
+operation_in-of (Binary Or) own = refl
+operation_in-of (Binary Xor) own = refl
+operation_in-of (Binary UMin) own = absurd cc
+operation_in-of (Binary UMax) own = absurd cc
+operation_in-of (Binary SMin) own = absurd cc
+operation_in-of (Binary SMax) own = absurd cc
+operation_in-of Compare own = refl
+operation_in-of Select own = refl
+operation_in-of (Convert Trunc) own = refl
+operation_in-of (Convert ZExt) own = refl
+operation_in-of (Convert SExt) own = refl
+operation_in-of Freeze own = refl
+operation_in-of Phi own = refl
+operation_in-of Call own = refl
+operation_in-of Tail own = refl
+operation_in-of NoTail own = refl
+
+-- an opcode that is read is no intrinsic
+pub operation_is_no_intrinsic : (word : List ℕ) (op : Opcode) → operation_in word ≡ Some (Binary op) → is_intrinsic op ≡ false
+unfolding operation_in
+operation_is_no_intrinsic word op e =
+    flipped (is_intrinsic op) (found_among (λ (o : Operation). bytes_eq word (operation_word o)) has_opcode operations (Binary op) refl e)
 
 pub ending_in-is : (word : List ℕ) (ending : Ending) → ending_in word ≡ Some ending → word ≡ ending_word ending
 unfolding ending_in

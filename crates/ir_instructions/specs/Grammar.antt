@@ -1,9 +1,11 @@
 -- What instructions and terminators are in a text: each part as it is written, and the tokens that spell it (LLVM Language Reference,
 -- "Instruction Reference", "Metadata"). Attachments of metadata are dropped.
-use Rattle.std.specs.Prelude.{◌≡◌, ℕ, List, Some, IsTrue, codes}
+use Rattle.std.specs.Prelude.{◌≡◌, ℕ, false, List, IsTrue, codes}
 use Rattle.ops.specs.declared.opcode.Flags.{Flags}
+use Rattle.ops.specs.declared.opcode.Opcode.{Opcode}
 use Rattle.ops.specs.Flags.{no_flags, flags_of, flags_of_cast, flags_of_icmp, icmp_flags}
 use Rattle.ops.specs.declared.keywords.flag.Flag.{Flag}
+use Rattle.ops.specs.Intrinsics.{is_intrinsic}
 use Rattle.ops.specs.Keywords.{opcode_keyword, cast_keyword, predicate_keyword}
 use Rattle.ops.specs.FlagKeywords.{AddsFlags, flag_keyword}
 use Rattle.scan.specs.IrTokens.{is_plain_name}
@@ -13,7 +15,7 @@ use Rattle.ir_tokens.specs.Tokens.{Token, Word, Number, Register, Metadata, Mark
 use Rattle.ir_tokens.specs.declared.raw.RawIdentifier.{RawIdentifier}
 use Rattle.ir_tokens.specs.declared.raw.RawInst.{RawInst}
 use Rattle.ir_tokens.specs.declared.raw.RawOp.{RawOp}
-use Rattle.ir_tokens.specs.declared.raw.RawOp.TheVariants.{Binary, Compare, Select, Convert, Freeze, Phi}
+use Rattle.ir_tokens.specs.declared.raw.RawOp.TheVariants.{Binary, Compare, Call, Select, Convert, Freeze, Phi}
 use Rattle.ir_tokens.specs.declared.raw.TypedOperand.{TypedOperand}
 use Rattle.ir_tokens.specs.declared.raw.RawOperand.{RawOperand}
 use Rattle.ir_tokens.specs.declared.raw.RawValue.{RawValue}
@@ -25,36 +27,8 @@ use Rattle.ir_tokens.specs.declared.raw.RawCase.{RawCase}
 use Rattle.ir_instructions.specs.Parts.{Part, IsOn, Is, ◌⨾◌, Each, Comma, Separated, Repeated}
 use Rattle.ir_instructions.specs.Keywords.{IsTypeWord}
 use Rattle.ir_instructions.specs.Punctuation as marks
-
--- ---- names, types and values
-
--- REGISTER
-abbrev pub SpellsRegister : RawIdentifier → Part
-SpellsRegister r tokens rest = (written : List ℕ) × (r.identifier ≡ identifier_of written) × IsOn r.line (Register written) tokens rest
-
--- target := 'label' REGISTER
-abbrev pub SpellsTarget : RawIdentifier → Part
-SpellsTarget target = Is (Word (codes "label")) ⨾ SpellsRegister target
-
--- type
-abbrev pub SpellsType : ℕ → Part
-SpellsType width tokens rest = (word : List ℕ) × IsTypeWord word width × Is (Word word) tokens rest
-
--- val := REGISTER | NUMBER | 'true' | 'false' | 'undef' | 'poison'
-abbrev pub IsValueToken : ℕ → RawValue → Token → Type 0
-IsValueToken width (values.Register name) token = (written : List ℕ) × (name ≡ identifier_of written) × (token ≡ Register written)
-IsValueToken width (values.Number number) token = (digits : List ℕ) × (constant_of digits width ≡ Some number) × (token ≡ Number digits)
-IsValueToken width values.True token = token ≡ Word (codes "true")
-IsValueToken width values.False token = token ≡ Word (codes "false")
-IsValueToken width values.Undef token = token ≡ Word (codes "undef")
-IsValueToken width values.Poison token = token ≡ Word (codes "poison")
-
-abbrev pub SpellsOperand : ℕ → RawOperand → Part
-SpellsOperand width a tokens rest = (token : Token) × IsValueToken width a.value token × IsOn a.line token tokens rest
-
--- type val
-abbrev pub SpellsTyped : TypedOperand → Part
-SpellsTyped t = SpellsType t.width ⨾ SpellsOperand t.width t.operand
+pub use Rattle.ir_instructions.specs.PieceGrammar.{SpellsRegister, SpellsTarget, SpellsType, IsValueToken, SpellsOperand, SpellsTyped, IsCaseValue}
+use Rattle.ir_instructions.specs.CallGrammar.{SpellsCall}
 
 -- ---- attachments
 
@@ -76,15 +50,20 @@ SpellsFlags taken flags tokens rest = (written : List Flag) × AddsFlags taken n
 abbrev pub SpellsIncoming : ℕ → RawIncoming → Part
 SpellsIncoming width i = Is (Mark marks.open_bracket) ⨾ SpellsOperand width i.value ⨾ Comma ⨾ SpellsRegister i.block ⨾ Is (Mark marks.close_bracket)
 
+-- binop: an intrinsic has no opcode of its own
+abbrev pub IsOpcode : Opcode → Part
+IsOpcode op tokens rest = (is_intrinsic op ≡ false) × Is (Word (opcode_keyword op)) tokens rest
+
 -- op := binop flag* type val ',' val
 --     | 'icmp' flag* pred type val ',' val
 --     | 'select' type val ',' type val ',' type val
 --     | ('trunc' | 'zext' | 'sext') flag* type val 'to' type
 --     | 'freeze' type val
 --     | 'phi' type incoming (',' incoming)*
+--     | call
 abbrev pub SpellsOp : RawOp → Part
-SpellsOp (Binary op flags width a b) =
-    Is (Word (opcode_keyword op)) ⨾ SpellsFlags (flags_of op) flags ⨾ SpellsType width ⨾ SpellsOperand width a ⨾ Comma ⨾ SpellsOperand width b
+SpellsOp (Binary op flags width a b) = IsOpcode op ⨾ SpellsFlags (flags_of op) flags ⨾ SpellsType width ⨾ SpellsOperand width a ⨾ Comma ⨾ SpellsOperand width b
+SpellsOp (Call call) = SpellsCall call
 SpellsOp (Compare pred samesign width a b) =
     Is (Word (codes "icmp")) ⨾ SpellsFlags flags_of_icmp (icmp_flags samesign) ⨾ Is (Word (predicate_keyword pred)) ⨾ SpellsType width ⨾ SpellsOperand width a ⨾ Comma ⨾ SpellsOperand width b
 SpellsOp (Select condition if_true if_false) = Is (Word (codes "select")) ⨾ SpellsTyped condition ⨾ Comma ⨾ SpellsTyped if_true ⨾ Comma ⨾ SpellsTyped if_false
@@ -98,13 +77,6 @@ abbrev pub SpellsInst : RawInst → Part
 SpellsInst i = SpellsRegister i.result ⨾ Is (Mark marks.equals) ⨾ SpellsOp i.op ⨾ Tail
 
 -- ---- terminators
-
--- a case has a number, `true` or `false`
-abbrev pub IsCaseValue : RawValue → Type 0
-IsCaseValue (values.Number number) = Unit {0}
-IsCaseValue values.True = Unit {0}
-IsCaseValue values.False = Unit {0}
-IsCaseValue value = ⊥
 
 -- case := type (NUMBER | 'true' | 'false') ',' target
 abbrev pub SpellsCase : RawCase → Part

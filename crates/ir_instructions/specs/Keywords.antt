@@ -11,7 +11,7 @@ use Rattle.ir_tokens.specs.declared.raw.RawValue.TheVariants.{True, False, Undef
 use Rattle.ir_instructions.specs.declared.word.TypeWord.{TypeWord}
 use Rattle.ir_instructions.specs.declared.word.TypeWord.TheVariants as types
 use Rattle.ir_instructions.specs.declared.word.Operation.{Operation}
-use Rattle.ir_instructions.specs.declared.word.Operation.TheVariants.{Binary, Compare, Select, Convert, Freeze, Phi}
+use Rattle.ir_instructions.specs.declared.word.Operation.TheVariants.{Binary, Compare, Select, Convert, Freeze, Phi, Call, Tail, NoTail}
 use Rattle.ir_instructions.specs.declared.word.Ending.{Ending}
 use Rattle.ir_instructions.specs.declared.word.Ending.TheVariants.{Return, Unreachable, Branch, Switch}
 
@@ -39,13 +39,17 @@ operation_word Select = codes "select"
 operation_word (Convert cast) = cast_keyword cast
 operation_word Freeze = codes "freeze"
 operation_word Phi = codes "phi"
+operation_word Call = codes "call"
+operation_word Tail = codes "tail"
+operation_word NoTail = codes "notail"
 
 abbrev pub operations : List Operation
 operations =
     Binary Add ∷ Binary Sub ∷ Binary Mul ∷ Binary UDiv ∷ Binary SDiv ∷ Binary URem ∷ Binary SRem ∷ Binary Shl ∷ Binary LShr ∷ Binary AShr
-    ∷ Binary And ∷ Binary Or ∷ Binary Xor ∷ Compare ∷ Select ∷ Convert Trunc ∷ Convert ZExt ∷ Convert SExt ∷ Freeze ∷ Phi ∷ []
+    ∷ Binary And ∷ Binary Or ∷ Binary Xor ∷ Compare ∷ Select ∷ Convert Trunc ∷ Convert ZExt ∷ Convert SExt ∷ Freeze ∷ Phi
+    ∷ Call ∷ Tail ∷ NoTail ∷ []
 
--- the operation whose opcode a word is
+-- the operation whose first word a word is
 unfoldable pub operation_in : List ℕ → Option Operation
 operation_in word = find (λ operation. bytes_eq word (operation_word operation)) operations
 

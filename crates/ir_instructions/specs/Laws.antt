@@ -3,6 +3,7 @@ use Rattle.std.specs.Prelude.{◌≡◌, ◌↔◌, ℕ, false, List, Ok}
 use Rattle.ir_tokens.specs.Tokens.{Placed, Word, Mark}
 use Rattle.ir_tokens.specs.declared.raw.RawOperand.{RawOperand}
 use Rattle.ir_instructions.specs.Grammar.{Attachment, IsCaseValue, SpellsInst, SpellsOperand, SpellsRegister, SpellsTarget, SpellsTerminator, SpellsType, SpellsTyped, Tail}
+use Rattle.ir_instructions.specs.ItemGrammar.{MayFollowItem}
 use Rattle.ir_instructions.specs.InstructionReaders.{attachments_at, case_value_at, insts_at, is_mark, is_metadata, is_register, keyword_at, mark_at, operand_at, register_at, tail_at, target_at, terminator_at, type_at, typed_at}
 use Rattle.ir_instructions.specs.Parts.{Part, Is, Each, Repeated}
 use Rattle.ir_instructions.specs.Punctuation as marks
@@ -21,7 +22,7 @@ IsReadAsSpelledBefore {A} Stops reader P =
 abbrev pub SpellsCaseValue : ℕ → RawOperand → Part
 SpellsCaseValue width a tokens rest = IsCaseValue a.value × SpellsOperand width a tokens rest
 
--- no metadata, no `,`, and no register and no `,`
+-- no metadata, no `,`, and nothing that begins an instruction or goes on in one
 abbrev pub HasNoMetadata : List Placed → Type 0
 HasNoMetadata rest = is_metadata rest ≡ false
 
@@ -29,7 +30,7 @@ abbrev pub HasNoComma : List Placed → Type 0
 HasNoComma rest = is_mark marks.comma rest ≡ false
 
 abbrev pub HasNoInst : List Placed → Type 0
-HasNoInst rest = (is_register rest ≡ false) × HasNoComma rest
+HasNoInst rest = (is_register rest ≡ false) × HasNoComma rest × MayFollowItem rest
 
 pub record PartsAreReadAsSpelled : Type 0 where
   pub mark : (byte : ℕ) → IsReadAsSpelled (mark_at byte) (λ once. Is (Mark byte))

@@ -12,3 +12,11 @@ pub mod Places
 pub mod Readers
 pub mod Keywords
 pub mod Laws
+pub mod CallGrammar
+pub mod CallReaders
+pub mod Intrinsics
+pub mod ItemGrammar
+pub mod ItemReaders
+pub mod Items
+pub mod TokenReaders
+pub mod PieceGrammar

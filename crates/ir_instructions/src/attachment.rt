@@ -22,7 +22,7 @@ pub(crate) fn is_metadata(tokens: &[Placed<'_>]) -> bool
 }
 
 /// The name of metadata.
-#[tactic(auto, unfolding(crate::specs::InstructionReaders::metadata_at))]
+#[tactic(auto, unfolding(crate::specs::TokenReaders::metadata_at))]
 fn metadata_name(tokens: &mut &[Placed<'_>]) -> Result<(), IrFault>
     ensures { parsing.metadata_at names.is_plain_name (seen tokens.old.now) ≡ readers.given result (seen tokens.new.now) }
 {
@@ -43,7 +43,7 @@ fn metadata_name(tokens: &mut &[Placed<'_>]) -> Result<(), IrFault>
 }
 
 /// The number of metadata.
-#[tactic(auto, unfolding(crate::specs::InstructionReaders::metadata_at))]
+#[tactic(auto, unfolding(crate::specs::TokenReaders::metadata_at))]
 fn metadata_number(tokens: &mut &[Placed<'_>]) -> Result<(), IrFault>
     ensures { parsing.metadata_at numbers.is_number (seen tokens.old.now) ≡ readers.given result (seen tokens.new.now) }
 {
@@ -64,7 +64,7 @@ fn metadata_number(tokens: &mut &[Placed<'_>]) -> Result<(), IrFault>
 }
 
 /// An attachment: a name and a number.
-#[tactic(auto, unfolding(crate::specs::InstructionReaders::attachment_at))]
+#[tactic(auto, unfolding(crate::specs::TokenReaders::attachment_at))]
 fn attachment(tokens: &mut &[Placed<'_>]) -> Result<(), IrFault>
     ensures { parsing.attachment_at (seen tokens.old.now) ≡ readers.given result (seen tokens.new.now) }
 {
@@ -73,7 +73,7 @@ fn attachment(tokens: &mut &[Placed<'_>]) -> Result<(), IrFault>
 }
 
 /// The attachments of a function.
-#[tactic(auto, unfolding(crate::specs::InstructionReaders::attachments_at))]
+#[tactic(auto, unfolding(crate::specs::TokenReaders::attachments_at))]
 pub fn attachments(tokens: &mut &[Placed<'_>]) -> Result<(), IrFault>
     ensures read { parsing.attachments_at (seen tokens.old.now) ≡ readers.given result (seen tokens.new.now) }
     ensures unmoved { OnErr result (tokens.new.now ≡ tokens.old.now) }
@@ -87,7 +87,7 @@ pub fn attachments(tokens: &mut &[Placed<'_>]) -> Result<(), IrFault>
 }
 
 /// An attachment of an instruction, behind a `,`.
-#[tactic(auto, unfolding(crate::specs::InstructionReaders::tail_attachment_at))]
+#[tactic(auto, unfolding(crate::specs::TokenReaders::tail_attachment_at))]
 fn tail_attachment(tokens: &mut &[Placed<'_>]) -> Result<(), IrFault>
     ensures { parsing.tail_attachment_at (seen tokens.old.now) ≡ readers.given result (seen tokens.new.now) }
 {
@@ -96,7 +96,7 @@ fn tail_attachment(tokens: &mut &[Placed<'_>]) -> Result<(), IrFault>
 }
 
 /// The attachments of an instruction.
-#[tactic(auto, unfolding(crate::specs::InstructionReaders::tail_at))]
+#[tactic(auto, unfolding(crate::specs::TokenReaders::tail_at))]
 pub fn tail(tokens: &mut &[Placed<'_>]) -> Result<(), IrFault>
     ensures read { parsing.tail_at (seen tokens.old.now) ≡ readers.given result (seen tokens.new.now) }
     ensures unmoved { OnErr result (tokens.new.now ≡ tokens.old.now) }

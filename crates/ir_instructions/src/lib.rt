@@ -4,7 +4,13 @@
 //! left out of the language where, and `part` reads what stands any number of times.
 #![tactic(auto)]
 
+mod argument;
 mod attachment;
+mod call;
+mod intrinsic;
+mod item;
+mod item_word;
+mod late_items;
 mod laws;
 mod op;
 mod operand;
@@ -15,6 +21,8 @@ mod token;
 mod word;
 
 pub use attachment::{attachments, tail};
+pub use intrinsic::Intrinsic;
+pub use item::{items, last_items};
 pub use laws::parts_are_read_as_they_are_spelled;
 pub use op::insts;
 pub use operand::integer_type;

@@ -7,6 +7,7 @@ ghost use Rattle.ir_instructions.specs.InstructionReaders as parsing;
 ghost use Rattle.ir_instructions.specs.Readers as readers;
 
 use crate::attachment::{is_metadata, tail};
+use crate::call::{call, marked_call};
 use crate::operand::{integer_type, operand, typed};
 use crate::part::{Part, each};
 use crate::place::{Place, fault, left_out, misplaced, unexpected};
@@ -215,13 +216,14 @@ fn phi(alloc: Global, tokens: &mut &[Placed<'_>]) -> Result<RawOp, IrError>
     Ok(RawOp::Phi(width, incomings))
 }
 
-/// What an instruction computes, behind its opcode.
+/// What an instruction computes, behind its first word, which is on this line.
 fn behind_opcode(
     alloc: Global,
+    line: usize,
     operation: Operation,
     tokens: &mut &[Placed<'_>],
 ) -> Result<RawOp, IrError>
-    ensures { Gives (λ x. (x, seen tokens.new.now)) result (parsing.operation_at operation (seen tokens.old.now)) }
+    ensures { Gives (λ x. (x, seen tokens.new.now)) result (parsing.operation_at line operation (seen tokens.old.now)) }
 {
     match operation {
         Operation::Binary(opcode) => binary(alloc, opcode, tokens),
@@ -230,6 +232,8 @@ fn behind_opcode(
         Operation::Convert(cast) => conversion(alloc, cast, tokens),
         Operation::Freeze => freezing(alloc, tokens),
         Operation::Phi => phi(alloc, tokens),
+        Operation::Call => call(alloc, line, tokens),
+        Operation::Tail | Operation::NoTail => marked_call(alloc, tokens),
     }
 }
 
@@ -243,7 +247,7 @@ fn op(alloc: Global, tokens: &mut &[Placed<'_>]) -> Result<RawOp, IrError>
             Token::Word(word) => match operation_of(word) {
                 Some(operation) => {
                     *tokens = rest;
-                    behind_opcode(alloc, operation, tokens)
+                    behind_opcode(alloc, *line, operation, tokens)
                 }
                 None => Err(left_out(alloc, *line, word)),
             },

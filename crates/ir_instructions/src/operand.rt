@@ -17,7 +17,7 @@ use refusal::refused;
 use std::alloc::Global;
 
 /// An integer type.
-#[tactic(auto, unfolding(crate::specs::InstructionReaders::type_at))]
+#[tactic(auto, unfolding(crate::specs::TokenReaders::type_at))]
 pub fn integer_type(alloc: Global, tokens: &mut &[Placed<'_>]) -> Result<Width, IrError>
     ensures read { Gives (λ x. (x, seen tokens.new.now)) result (parsing.type_at (seen tokens.old.now)) }
     ensures unmoved { OnErr result (tokens.new.now ≡ tokens.old.now) }
@@ -39,7 +39,7 @@ pub fn integer_type(alloc: Global, tokens: &mut &[Placed<'_>]) -> Result<Width, 
 }
 
 /// The value of a number at a width.
-fn number(line: usize, digits: &[u8], width: Width) -> Result<RawOperand, IrFault>
+pub(crate) fn number(line: usize, digits: &[u8], width: Width) -> Result<RawOperand, IrFault>
     ensures { result ≡ parsing.number_value line (constant_of digits.now width) }
 {
     match constant(digits, width) {
@@ -52,7 +52,7 @@ fn number(line: usize, digits: &[u8], width: Width) -> Result<RawOperand, IrFaul
 }
 
 /// A value of a type of this width.
-#[tactic(auto, unfolding(crate::specs::InstructionReaders::operand_at))]
+#[tactic(auto, unfolding(crate::specs::TokenReaders::operand_at))]
 pub(crate) fn operand(
     alloc: Global,
     width: Width,
@@ -85,7 +85,7 @@ pub(crate) fn operand(
 }
 
 /// The value of a case: a number, `true` or `false`.
-#[tactic(auto, unfolding(crate::specs::InstructionReaders::case_value_at))]
+#[tactic(auto, unfolding(crate::specs::TokenReaders::case_value_at))]
 pub(crate) fn case_value(
     alloc: Global,
     width: Width,
@@ -113,7 +113,7 @@ pub(crate) fn case_value(
 }
 
 /// A type and a value of it.
-#[tactic(auto, unfolding(crate::specs::InstructionReaders::typed_at))]
+#[tactic(auto, unfolding(crate::specs::TokenReaders::typed_at))]
 pub(crate) fn typed(alloc: Global, tokens: &mut &[Placed<'_>]) -> Result<TypedOperand, IrError>
     ensures { Gives (λ x. (x, seen tokens.new.now)) result (parsing.typed_at (seen tokens.old.now)) }
 {

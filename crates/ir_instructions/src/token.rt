@@ -35,7 +35,7 @@ pub(crate) fn is_keyword(wanted: &str, tokens: &[Placed<'_>]) -> bool
 }
 
 /// A mark.
-#[tactic(auto, unfolding(crate::specs::InstructionReaders::mark_at))]
+#[tactic(auto, unfolding(crate::specs::TokenReaders::mark_at))]
 pub fn mark(wanted: u8, tokens: &mut &[Placed<'_>]) -> Result<(), IrFault>
     ensures read { parsing.mark_at wanted (seen tokens.old.now) ≡ readers.given result (seen tokens.new.now) }
     ensures unmoved { OnErr result (tokens.new.now ≡ tokens.old.now) }
@@ -57,7 +57,7 @@ pub fn mark(wanted: u8, tokens: &mut &[Placed<'_>]) -> Result<(), IrFault>
 }
 
 /// A word that has to stand here.
-#[tactic(auto, unfolding(crate::specs::InstructionReaders::keyword_at))]
+#[tactic(auto, unfolding(crate::specs::TokenReaders::keyword_at))]
 pub(crate) fn keyword(wanted: &str, tokens: &mut &[Placed<'_>]) -> Result<(), IrFault>
     ensures { parsing.keyword_at wanted.now (seen tokens.old.now) ≡ readers.given result (seen tokens.new.now) }
 {
@@ -78,7 +78,7 @@ pub(crate) fn keyword(wanted: &str, tokens: &mut &[Placed<'_>]) -> Result<(), Ir
 }
 
 /// A register.
-#[tactic(auto, unfolding(crate::specs::InstructionReaders::register_at))]
+#[tactic(auto, unfolding(crate::specs::TokenReaders::register_at))]
 pub(crate) fn register(alloc: Global, tokens: &mut &[Placed<'_>]) -> Result<RawIdentifier, IrError>
     ensures { Gives (λ x. (x, seen tokens.new.now)) result (parsing.register_at (seen tokens.old.now)) }
 {
@@ -98,7 +98,7 @@ pub(crate) fn register(alloc: Global, tokens: &mut &[Placed<'_>]) -> Result<RawI
 }
 
 /// `label` and a register: where a terminator goes.
-#[tactic(auto, unfolding(crate::specs::InstructionReaders::target_at))]
+#[tactic(auto, unfolding(crate::specs::TokenReaders::target_at))]
 pub(crate) fn target(alloc: Global, tokens: &mut &[Placed<'_>]) -> Result<RawIdentifier, IrError>
     ensures { Gives (λ x. (x, seen tokens.new.now)) result (parsing.target_at (seen tokens.old.now)) }
 {

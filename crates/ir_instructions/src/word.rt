@@ -29,6 +29,10 @@ pub enum Operation {
     Convert(Cast),
     Freeze,
     Phi,
+    Call,
+    /// `tail`, behind which a call stands; and `notail`.
+    Tail,
+    NoTail,
 }
 
 /// How a block ends.
@@ -100,10 +104,13 @@ fn operation_name(operation: Operation) -> &'static str
         Operation::Convert(cast) => cast_name(cast),
         Operation::Freeze => "freeze",
         Operation::Phi => "phi",
+        Operation::Call => "call",
+        Operation::Tail => "tail",
+        Operation::NoTail => "notail",
     }
 }
 
-const OPERATIONS: [Operation; 20] = [
+const OPERATIONS: [Operation; 23] = [
     Operation::Binary(Opcode::Add),
     Operation::Binary(Opcode::Sub),
     Operation::Binary(Opcode::Mul),
@@ -124,9 +131,12 @@ const OPERATIONS: [Operation; 20] = [
     Operation::Convert(Cast::SExt),
     Operation::Freeze,
     Operation::Phi,
+    Operation::Call,
+    Operation::Tail,
+    Operation::NoTail,
 ];
 
-/// The operation whose opcode a word is.
+/// The operation whose first word a word is.
 #[tactic(auto, unfolding(crate::specs::Keywords::operation_in))]
 pub(crate) fn operation_of(word: &[u8]) -> Option<Operation>
     ensures { result ≡ spelled.operation_in word.now }

@@ -17,7 +17,7 @@ use Rattle.ir_core.specs.declared.function.Function.{Function}
 use Rattle.ir_core.specs.declared.function.Block.{Block}
 use Rattle.ir_core.specs.declared.instruction.Inst.{Inst}
 use Rattle.ir_core.specs.declared.instruction.Op.{Op}
-use Rattle.ir_core.specs.declared.instruction.Op.TheVariants.{Binary, Compare, Select, Convert, Freeze, Phi}
+use Rattle.ir_core.specs.declared.instruction.Op.TheVariants.{Binary, Compare, Unary, Select, Convert, Freeze, Phi}
 use Rattle.ir_core.specs.declared.operand.Operand.{Operand}
 use Rattle.ir_core.specs.declared.operand.Register.TheVariants as registers
 use Rattle.ir_core.specs.declared.outcome.Outcome.{Outcome}
@@ -39,7 +39,8 @@ op_fits_by : (f : Function) (b k w : ℕ) (op : Op) → ((i : ℕ) (r : Read) �
 op_fits_by f b k w (Binary op flags x y) reads typed no_phi = (typed, reads 0 (read b k w x) refl, reads 1 (read b k w y) refl)
 op_fits_by f b k w (Compare pred samesign compared x y) reads typed no_phi = (typed, reads 0 (read b k compared x) refl, reads 1 (read b k compared y) refl)
 op_fits_by f b k w (Select c x y) reads typed no_phi = (reads 0 (read b k 1 c) refl, reads 1 (read b k w x) refl, reads 2 (read b k w y) refl)
-op_fits_by f b k w (Convert cast flags from x) reads typed no_phi = (typed.1, reads 0 (read b k from x) refl)
+op_fits_by f b k w (Convert cast flags from x) reads typed no_phi = (typed.0, typed.1, reads 0 (read b k from x) refl)
+op_fits_by f b k w (Unary op truth x) reads typed no_phi = (typed, reads 0 (read b k w x) refl)
 op_fits_by f b k w (Freeze x) reads typed no_phi = reads 0 (read b k w x) refl
 op_fits_by f b k w (Phi entries) reads typed no_phi = no_phi tt
 
@@ -123,6 +124,7 @@ if_phi_then (Binary op flags a b) P R f h = absurd h
 if_phi_then (Compare pred samesign width a b) P R f h = absurd h
 if_phi_then (Select c a b) P R f h = absurd h
 if_phi_then (Convert cast flags from a) P R f h = absurd h
+if_phi_then (Unary op truth a) P R f h = absurd h
 if_phi_then (Freeze a) P R f h = absurd h
 
 if_phi_not : (op : Op) (P : List (Operand × ℕ) → Type 0) (Q : Type 0) → ((entries : List (Operand × ℕ)) → P entries → ⊥) → IfPhi P Q op → ¬ IsPhi op
@@ -131,6 +133,7 @@ if_phi_not (Binary op flags a b) P Q f h = λ is. is
 if_phi_not (Compare pred samesign width a b) P Q f h = λ is. is
 if_phi_not (Select c a b) P Q f h = λ is. is
 if_phi_not (Convert cast flags from a) P Q f h = λ is. is
+if_phi_not (Unary op truth a) P Q f h = λ is. is
 if_phi_not (Freeze a) P Q f h = λ is. is
 
 -- what a phi takes, and what those behind it take
@@ -209,6 +212,7 @@ not_phi (Binary op flags a b) h = λ is. is
 not_phi (Compare pred samesign width a b) h = λ is. is
 not_phi (Select c a b) h = λ is. is
 not_phi (Convert cast flags from a) h = λ is. is
+not_phi (Unary op truth a) h = λ is. is
 not_phi (Freeze a) h = λ is. is
 
 pub holding_next : (held : Registers) (b k : ℕ) (vs : List Value) (v : Value) → k < length vs → v ≡ get_or vs k v → holding_all (holding held b k v) b (k + 1) (drop (k + 1) vs) ≡ holding_all held b k (drop k vs)

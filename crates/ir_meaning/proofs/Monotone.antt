@@ -4,7 +4,8 @@ use Rattle.ops.specs.Value.{AllowsValue, AllowsEffect, IsValueOf}
 use Rattle.ops.specs.Instruction.{instruction}
 use Rattle.ops.specs.Comparison.{comparison, selection}
 use Rattle.ops.specs.Conversion.{conversion}
-use Rattle.ops.proofs.Monotone.{instruction-monotone, comparison-monotone, conversion-monotone, selection-monotone}
+use Rattle.ops.specs.Unary.{unary}
+use Rattle.ops.proofs.Monotone.{instruction-monotone, comparison-monotone, unary-monotone, conversion-monotone, selection-monotone}
 use Rattle.ops.specs.declared.value.Value.{Value}
 use Rattle.ops.specs.declared.value.Value.TheVariants as values
 use Rattle.ops.specs.declared.value.Effect.{Effect}
@@ -13,7 +14,7 @@ use Rattle.ir_core.specs.Checks.{OperandHasWidth}
 use Rattle.ir_core.specs.Reads.{read}
 use Rattle.ir_core.specs.Run.{Registers, OperandGives, Freezes, AnyNumber}
 use Rattle.ir_core.specs.declared.function.Function.{Function}
-use Rattle.ir_core.specs.declared.instruction.Op.TheVariants.{Binary, Compare, Select, Convert, Freeze, Phi}
+use Rattle.ir_core.specs.declared.instruction.Op.TheVariants.{Binary, Compare, Unary, Select, Convert, Freeze, Phi}
 use Rattle.ir_core.specs.declared.operand.Operand.{Operand}
 use Rattle.ir_core.specs.declared.operand.Operand.TheVariants as operands
 use Rattle.ir_meaning.specs.Laws.{HoldAllowing, HoldWidths, InstructionsAreMonotone, PhisAreMonotone}
@@ -69,6 +70,9 @@ instructions-monotone f held held' w (Select c a b) e' fits widths more h =
 instructions-monotone f held held' w (Convert cast flags from a) e' fits widths more h =
     let x = operand_allows held held' more from a h.0 h.1 in
     (effects.Gives (conversion cast flags from w x.0), (x.0, x.1, refl), allows_same (effects.Gives (conversion cast flags from w x.0)) (effects.Gives (conversion cast flags from w h.0)) e' (conversion-monotone cast flags from w x.0 h.0 x.2) h.2)
+instructions-monotone f held held' w (Unary op truth a) e' fits widths more h =
+    let x = operand_allows held held' more w a h.0 h.1 in
+    (effects.Gives (unary op truth w x.0), (x.0, x.1, refl), allows_same (effects.Gives (unary op truth w x.0)) (effects.Gives (unary op truth w h.0)) e' (unary-monotone op truth w x.0 h.0 x.2) h.2)
 instructions-monotone f held held' w (Freeze a) e' fits widths more h =
     let x = freeze_allows f held held' more widths w a (fits 0 0 0 (read 0 0 w a) refl) h.0 h.1 h.2 h.3 in
     (effects.Gives x.1, (x.0, x.1, x.2, x.3, refl), allows_same (effects.Gives x.1) (effects.Gives h.1) e' x.4 h.4)

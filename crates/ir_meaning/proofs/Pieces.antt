@@ -6,7 +6,7 @@ use Rattle.std.proofs.lemmas.Option.{slice_get_within, get_or_from_slice_get}
 use Rattle.ops.specs.Number.{Number}
 use Rattle.ir_core.specs.Run.{Ending, IfPhi, branch_target, switch_target}
 use Rattle.ir_core.specs.declared.instruction.Op.{Op}
-use Rattle.ir_core.specs.declared.instruction.Op.TheVariants.{Binary, Compare, Select, Convert, Freeze, Phi}
+use Rattle.ir_core.specs.declared.instruction.Op.TheVariants.{Binary, Compare, Unary, Select, Convert, Freeze, Phi}
 use Rattle.ir_core.specs.declared.operand.Operand.{Operand}
 
 pub not_in_empty : {A : Type 0} (x : A) → Contains [] x → ⊥
@@ -65,6 +65,7 @@ if_phi_map (Binary op flags a b) P P' Q Q' f g h = g h
 if_phi_map (Compare pred samesign width a b) P P' Q Q' f g h = g h
 if_phi_map (Select c a b) P P' Q Q' f g h = g h
 if_phi_map (Convert cast flags from a) P P' Q Q' f g h = g h
+if_phi_map (Unary op truth a) P P' Q Q' f g h = g h
 if_phi_map (Freeze a) P P' Q Q' f g h = g h
 
 -- the same where an ending is to be found
@@ -77,6 +78,7 @@ if_phi_ends (Binary op flags a b) P P' Q Q' S f g h = g h
 if_phi_ends (Compare pred samesign width a b) P P' Q Q' S f g h = g h
 if_phi_ends (Select c a b) P P' Q Q' S f g h = g h
 if_phi_ends (Convert cast flags from a) P P' Q Q' S f g h = g h
+if_phi_ends (Unary op truth a) P P' Q Q' S f g h = g h
 if_phi_ends (Freeze a) P P' Q Q' S f g h = g h
 
 -- ---- where terminators go

@@ -17,7 +17,7 @@ use Rattle.ir_core.specs.declared.function.Function.{Function}
 use Rattle.ir_core.specs.declared.function.Block.{Block}
 use Rattle.ir_core.specs.declared.instruction.Inst.{Inst}
 use Rattle.ir_core.specs.declared.instruction.Op.{Op}
-use Rattle.ir_core.specs.declared.instruction.Op.TheVariants.{Binary, Compare, Select, Convert, Freeze, Phi}
+use Rattle.ir_core.specs.declared.instruction.Op.TheVariants.{Binary, Compare, Unary, Select, Convert, Freeze, Phi}
 use Rattle.ir_core.specs.declared.operand.Operand.{Operand}
 use Rattle.ir_core.specs.declared.operand.Operand.TheVariants as operands
 use Rattle.ir_core.specs.declared.operand.Register.{Register}
@@ -126,6 +126,8 @@ op_restricts C held full within f b k w (Select c x y) e reads h = (
 )
 op_restricts C held full within f b k w (Convert cast flags from x) e reads h =
     (h.0, operand_restricts C held full within from x h.0 (λ r is. reads 0 (read b k from x) r refl refl refl is) h.1, h.2)
+op_restricts C held full within f b k w (Unary op truth x) e reads h =
+    (h.0, operand_restricts C held full within w x h.0 (λ r is. reads 0 (read b k w x) r refl refl refl is) h.1, h.2)
 op_restricts C held full within f b k w (Freeze x) e reads h =
     (h.0, h.1, operand_restricts C held full within w x h.0 (λ r is. reads 0 (read b k w x) r refl refl refl is) h.2, h.3, h.4)
 op_restricts C held full within f b k w (Phi entries) e reads h = h

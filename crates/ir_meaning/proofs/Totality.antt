@@ -4,6 +4,7 @@ use Rattle.std.specs.Prelude.{Contains, slice_get}
 use Rattle.ops.specs.Instruction.{instruction}
 use Rattle.ops.specs.Comparison.{comparison, selection}
 use Rattle.ops.specs.Conversion.{conversion}
+use Rattle.ops.specs.Unary.{unary}
 use Rattle.ops.specs.declared.value.Value.{Value}
 use Rattle.ops.specs.declared.value.Value.TheVariants as values
 use Rattle.ops.specs.declared.value.Effect.{Effect}
@@ -15,7 +16,7 @@ use Rattle.ir_core.specs.declared.function.Function.{Function}
 use Rattle.ir_core.specs.declared.function.Block.{Block}
 use Rattle.ir_core.specs.declared.instruction.Inst.{Inst}
 use Rattle.ir_core.specs.declared.instruction.Op.{Op}
-use Rattle.ir_core.specs.declared.instruction.Op.TheVariants.{Binary, Compare, Select, Convert, Freeze, Phi}
+use Rattle.ir_core.specs.declared.instruction.Op.TheVariants.{Binary, Compare, Unary, Select, Convert, Freeze, Phi}
 use Rattle.ir_core.specs.declared.operand.Operand.{Operand}
 use Rattle.ir_core.specs.declared.operand.Operand.TheVariants as operands
 use Rattle.ir_core.specs.declared.operand.Register.{Register}
@@ -61,6 +62,9 @@ op_gives held all w (Select c a b) no_phi =
 op_gives held all w (Convert cast flags from a) no_phi =
     let x = operand_gives held all from a in
     (effects.Gives (conversion cast flags from w x.0), (x.0, x.1, refl))
+op_gives held all w (Unary op truth a) no_phi =
+    let x = operand_gives held all w a in
+    (effects.Gives (unary op truth w x.0), (x.0, x.1, refl))
 op_gives held all w (Freeze a) no_phi =
     let x = operand_gives held all w a in
     let v = freezes w x.0 in
@@ -156,6 +160,7 @@ is_phi_or_not (Binary op flags a b) P Q f g = g (λ is. is)
 is_phi_or_not (Compare pred samesign width a b) P Q f g = g (λ is. is)
 is_phi_or_not (Select c a b) P Q f g = g (λ is. is)
 is_phi_or_not (Convert cast flags from a) P Q f g = g (λ is. is)
+is_phi_or_not (Unary op truth a) P Q f g = g (λ is. is)
 is_phi_or_not (Freeze a) P Q f g = g (λ is. is)
 
 -- a phi later has a phi before it

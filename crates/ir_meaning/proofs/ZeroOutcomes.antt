@@ -9,7 +9,7 @@ use Rattle.ir_core.specs.Run.{Registers, arguments, holding, Ending, Undefines, 
 use Rattle.ir_core.specs.declared.function.Function.{Function}
 use Rattle.ir_core.specs.declared.instruction.Inst.{Inst}
 use Rattle.ir_core.specs.declared.instruction.Op.{Op}
-use Rattle.ir_core.specs.declared.instruction.Op.TheVariants.{Binary, Compare, Select, Convert, Freeze, Phi}
+use Rattle.ir_core.specs.declared.instruction.Op.TheVariants.{Binary, Compare, Unary, Select, Convert, Freeze, Phi}
 use Rattle.ir_core.specs.declared.operand.Operand.{Operand}
 use Rattle.ir_core.specs.declared.operand.Operand.TheVariants as operands
 use Rattle.ir_core.specs.declared.terminator.Terminator.{Terminator}
@@ -36,6 +36,7 @@ op_any held w (Binary op flags a b) e h = (h.0, h.1, operand_any held w a h.0 h.
 op_any held w (Compare pred samesign compared a b) e h = (h.0, h.1, operand_any held compared a h.0 h.2, operand_any held compared b h.1 h.3, h.4)
 op_any held w (Select c a b) e h = (h.0, h.1, h.2, operand_any held 1 c h.0 h.3, operand_any held w a h.1 h.4, operand_any held w b h.2 h.5, h.6)
 op_any held w (Convert cast flags from a) e h = (h.0, operand_any held from a h.0 h.1, h.2)
+op_any held w (Unary op truth a) e h = (h.0, operand_any held w a h.0 h.1, h.2)
 op_any held w (Freeze a) e h = (h.0, h.1, operand_any held w a h.0 h.2, freezes_any w h.0 h.1 h.3, h.4)
 op_any held w (Phi entries) e h = h
 

@@ -1,6 +1,7 @@
 -- How a pass through a block ends, as the code has it.
 use Rattle.std.specs.Prelude.{◌≡◌, ℕ, List, Contains, Option, None, Some}
-use Rattle.ops.specs.Flags.{FlagsFit}
+use Rattle.ops.specs.Flags.{FlagsFit, CastFlagsFit}
+use Rattle.ops.specs.Truths.{TruthFits}
 use Rattle.ops.specs.declared.value.Value.{Value}
 use Rattle.ir_core.specs.Blocks.{Names}
 use Rattle.ir_core.specs.Checks.{OperandHasWidth}
@@ -8,7 +9,7 @@ use Rattle.ops.specs.Conversion.{CastFits}
 use Rattle.ir_core.specs.Run.{Registers, Ending, Undefines, Returns, Goes, OnlyZero, OperandGives, going_by}
 use Rattle.ir_core.specs.declared.function.Function.{Function}
 use Rattle.ir_core.specs.declared.instruction.Op.{Op}
-use Rattle.ir_core.specs.declared.instruction.Op.TheVariants.{Binary, Compare, Select, Convert, Freeze, Phi}
+use Rattle.ir_core.specs.declared.instruction.Op.TheVariants.{Binary, Compare, Unary, Select, Convert, Freeze, Phi}
 use Rattle.ir_core.specs.declared.operand.Operand.{Operand}
 use Rattle.ir_core.specs.declared.terminator.Terminator.{Terminator}
 use Rattle.ir_core.specs.declared.terminator.Terminator.TheVariants as terminators
@@ -32,12 +33,13 @@ abbrev pub IsEntered : Function → Option ℕ → ℕ → Type 0
 IsEntered f None b = b ≡ 0
 IsEntered f (Some c) b = Names f c b
 
--- the operation is no phi, and its operands, flags and types fit a result of the width
+-- the operation is no phi, and its operands, its flags, its truth value and its types fit a result of the width
 abbrev pub OpFits : Function → ℕ → Op → Type 0
 OpFits f width (Binary op flags x y) = FlagsFit op flags × OperandHasWidth f width x × OperandHasWidth f width y
 OpFits f width (Compare pred samesign compared x y) = (width ≡ 1) × OperandHasWidth f compared x × OperandHasWidth f compared y
+OpFits f width (Unary op truth x) = TruthFits op truth × OperandHasWidth f width x
 OpFits f width (Select c x y) = OperandHasWidth f 1 c × OperandHasWidth f width x × OperandHasWidth f width y
-OpFits f width (Convert cast flags from x) = CastFits cast from width × OperandHasWidth f from x
+OpFits f width (Convert cast flags from x) = CastFlagsFit cast flags × CastFits cast from width × OperandHasWidth f from x
 OpFits f width (Freeze x) = OperandHasWidth f width x
 OpFits f width (Phi entries) = ⊥
 

@@ -9,7 +9,7 @@ ghost use Rattle.ir_meaning.specs.Table.{IsTable, held_of};
 use crate::operand::{operand, zero};
 use crate::table::Table;
 use ir_core::{Function, Op};
-use ops::{Effect, Value, Width, choose, compare, convert, evaluate};
+use ops::{Effect, Value, Width, choose, compare, convert, evaluate, unary};
 
 /// The effect of an instruction of the function that is no phi, where each number that is left open is 0.
 pub(crate) fn instruction(f: &Function, table: &Table, width: Width, op: &Op) -> Effect
@@ -28,6 +28,10 @@ pub(crate) fn instruction(f: &Function, table: &Table, width: Width, op: &Op) ->
             let left = operand(f, table, *compared, *x);
             let right = operand(f, table, *compared, *y);
             Effect::Gives(compare(*pred, *samesign, *compared, left, right))
+        }
+        Op::Unary(op, truth, x) => {
+            let a = operand(f, table, width, *x);
+            Effect::Gives(unary(*op, *truth, width, a))
         }
         Op::Select(c, x, y) => {
             let condition = operand(f, table, Width::ONE, *c);

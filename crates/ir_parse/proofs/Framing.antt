@@ -1,8 +1,16 @@
 -- What is spelled by tokens is spelled by them where more tokens stand behind.
-use Rattle.std.proofs.Common.{ℕ, List, [], ◌∷◌, ◌++◌, Option, Some, None, ap}
+use Rattle.std.proofs.Common.{ℕ, List, [], ◌∷◌, ◌++◌, Option, Some, None, ap, ◌∙◌, append_assoc}
 use Rattle.ops.specs.declared.opcode.Flags.{Flags}
+use Rattle.ops.specs.declared.opcode.Opcode.{Opcode}
 use Rattle.ops.specs.Flags.{flags_of, flags_of_cast, flags_of_icmp, icmp_flags}
-use Rattle.ir_tokens.specs.Tokens.{Token, Placed}
+use Rattle.ops.specs.declared.opcode.Unary.{Unary}
+use Rattle.ir_tokens.specs.Tokens.{Token, Placed, End, Other, Bad, Kept, KeptGroup, Label, Word, Number, Register, Function, Group, Metadata, Quoted, Mark}
+use Rattle.ir_tokens.specs.declared.raw.RawArguments.{RawArguments}
+use Rattle.ir_tokens.specs.declared.raw.RawArguments.TheVariants as arguments
+use Rattle.ir_tokens.specs.declared.raw.RawCall.{RawCall}
+use Rattle.ir_instructions.specs.declared.intrinsic.Intrinsic.{Intrinsic}
+use Rattle.ir_instructions.specs.CallGrammar.{Items, ItemsOn, StopsOn, SpellsArgument, SpellsTruthOf, SpellsArguments, SpellsCallee, SpellsClose, SpellsMarker, unmarked, tail as tail_marker, notail, SpellsCall, intrinsic_of}
+use Rattle.ir_instructions.specs.Punctuation as marks
 use Rattle.ir_tokens.specs.declared.raw.RawEntry.{RawEntry}
 use Rattle.ir_tokens.specs.declared.raw.RawEntry.TheVariants as entries
 use Rattle.ir_tokens.specs.declared.raw.RawFunction.{RawFunction}
@@ -11,16 +19,17 @@ use Rattle.ir_tokens.specs.declared.raw.RawIdentifier.{RawIdentifier}
 use Rattle.ir_tokens.specs.declared.raw.RawBlock.{RawBlock}
 use Rattle.ir_tokens.specs.declared.raw.RawInst.{RawInst}
 use Rattle.ir_tokens.specs.declared.raw.RawOp.{RawOp}
-use Rattle.ir_tokens.specs.declared.raw.RawOp.TheVariants.{Binary, Compare, Select, Convert, Freeze, Phi}
+use Rattle.ir_tokens.specs.declared.raw.RawOp.TheVariants.{Binary, Compare, Call, Select, Convert, Freeze, Phi}
 use Rattle.ir_tokens.specs.declared.raw.TypedOperand.{TypedOperand}
 use Rattle.ir_tokens.specs.declared.raw.RawOperand.{RawOperand}
 use Rattle.ir_tokens.specs.declared.raw.RawIncoming.{RawIncoming}
 use Rattle.ir_tokens.specs.declared.raw.RawTerminator.{RawTerminator}
 use Rattle.ir_tokens.specs.declared.raw.RawTerminator.TheVariants.{Return, Unreachable, Jump, Branch, Switch}
 use Rattle.ir_tokens.specs.declared.raw.RawCase.{RawCase}
-use Rattle.ir_instructions.specs.Grammar.{Attachment, SpellsRegister, SpellsTarget, SpellsType, SpellsOperand, SpellsTyped, Tail, SpellsFlags, SpellsIncoming, SpellsOp, SpellsInst, SpellsCase, SpellsCases, SpellsTerminator}
+use Rattle.ir_instructions.specs.Grammar.{Attachment, SpellsRegister, SpellsTarget, SpellsType, SpellsOperand, SpellsTyped, Tail, SpellsFlags, SpellsIncoming, IsOpcode, SpellsOp, SpellsInst, SpellsCase, SpellsCases, SpellsTerminator}
 use Rattle.ir_instructions.specs.Parts.{Part, IsOn, Is, Nothing, ◌⨾◌, Maybe, Each, Comma, Separated, Repeated}
-use Rattle.ir_parse.specs.Grammar.{SpellsItem, of_word, of_word_and_group, of_number, of_group, of_quoted, of_key_and_value, SpellsLabel, SpellsBlock, SpellsLabelledBlock, SpellsBlocks, SpellsParameter, SpellsParameterList, SpellsParameters, SpellsName, SpellsBody, SpellsFunction, SpellsEntry}
+use Rattle.ir_parse.specs.Grammar.{SpellsLabel, SpellsBlock, SpellsLabelledBlock, SpellsBlocks, SpellsParameter, SpellsParameterList, SpellsParameters, SpellsName, SpellsBody, SpellsFunction, SpellsEntry}
+use Rattle.ir_instructions.specs.ItemGrammar.{SpellsItem, of_word, of_word_and_group, of_number, of_group, of_quoted, of_key_and_value}
 
 -- a part stays one where more tokens stand behind
 abbrev pub Frames : Part → Type 0
@@ -81,6 +90,67 @@ attachment more tokens rest (name, number, n, m, two) = (name, number, n, m, bot
 tail : Frames Tail
 tail = repeated (Comma ⨾ Attachment) (both Comma Attachment (is _) attachment)
 
+-- ---- calls
+
+item : (x : List ℕ) → Frames (SpellsItem x)
+item x more tokens rest (of_word word h) = of_word word (is _ more tokens rest h)
+item x more tokens rest (of_word_and_group name group word same h) = of_word_and_group name group word same (both _ _ (is _) (is _) more tokens rest h)
+item x more tokens rest (of_number h) = of_number (is _ more tokens rest h)
+item x more tokens rest (of_group h) = of_group (is _ more tokens rest h)
+item x more tokens rest (of_quoted h) = of_quoted (is _ more tokens rest h)
+item x more tokens rest (of_key_and_value key value same h) = of_key_and_value key value same (both _ _ (is _) (both _ _ (is _) (is _)) more tokens rest h)
+
+items_framed : Frames Items
+items_framed more tokens rest (xs, h) = (xs, each SpellsItem item xs more tokens rest h)
+
+argument : (t : TypedOperand) → Frames (SpellsArgument t)
+argument t = both _ _ (type t.width) (both _ _ items_framed (operand t.width t.operand))
+
+truth_of : (op : Unary) (t : Option TypedOperand) → Frames (SpellsTruthOf op t)
+truth_of op None more tokens rest (own, h) = (own, none more tokens rest h)
+truth_of op (Some t) more tokens rest (own, (middle, comma, (value, h))) = (own, (middle ++ more, is _ more tokens middle comma, (value, argument t more middle rest h)))
+
+call_arguments : (w : RawArguments) → Frames (SpellsArguments w)
+call_arguments (arguments.Binary op a b) = both _ _ (argument a) (both _ _ (is _) (argument b))
+call_arguments (arguments.Unary op a t) = both _ _ (argument a) (truth_of op t)
+
+callee : (named : Intrinsic × ℕ) → Frames (SpellsCallee named)
+callee named more tokens rest (written, name, called, intrinsic, h) = (written, name, called, intrinsic, is _ more tokens rest h)
+
+stops : (line : ℕ) (rest more : List Placed) → StopsOn line rest → StopsOn line (rest ++ more)
+stops line [] more h = absurd h
+stops line ((at, End) ∷ rest) more h = h
+stops line ((at, Other) ∷ rest) more h = h
+stops line ((at, Bad) ∷ rest) more h = h
+stops line ((at, (Kept text)) ∷ rest) more h = h
+stops line ((at, (KeptGroup text)) ∷ rest) more h = h
+stops line ((at, (Label text)) ∷ rest) more h = h
+stops line ((at, (Word text)) ∷ rest) more h = h
+stops line ((at, (Number text)) ∷ rest) more h = h
+stops line ((at, (Register text)) ∷ rest) more h = h
+stops line ((at, (Function text)) ∷ rest) more h = h
+stops line ((at, (Group text)) ∷ rest) more h = h
+stops line ((at, (Metadata text)) ∷ rest) more h = h
+stops line ((at, (Quoted text)) ∷ rest) more h = h
+stops line ((at, (Mark byte)) ∷ rest) more h = h
+
+items_on : (line : ℕ) → Frames (ItemsOn line)
+items_on line more tokens rest (xs, taken, h, same, all) =
+    (xs, taken, each SpellsItem item xs more tokens rest h, ap (λ l. l ++ more) same ∙ append_assoc taken rest more, all)
+
+close : Frames SpellsClose
+close more tokens rest (line, stop, h) = (line, stops line rest more stop, both (IsOn line (Mark marks.close_paren)) (ItemsOn line) (on line _) (items_on line) more tokens rest h)
+
+marker : Frames SpellsMarker
+marker more tokens rest (unmarked h) = unmarked (none more tokens rest h)
+marker more tokens rest (tail_marker h) = tail_marker (is _ more tokens rest h)
+marker more tokens rest (notail h) = notail (is _ more tokens rest h)
+
+call : (w : RawCall) → Frames (SpellsCall w)
+call w =
+    both _ _ marker (both _ _ (on w.line _) (both _ _ items_framed (both _ _ (type w.width) (both _ _ (callee (intrinsic_of w.arguments, w.named))
+    (both _ _ (is _) (both _ _ (call_arguments w.arguments) close))))))
+
 -- ---- instructions
 
 flags : (taken fs : Flags) → Frames (SpellsFlags taken fs)
@@ -92,9 +162,13 @@ two_values width a b = both _ _ (type width) (both _ _ (operand width a) (both _
 incoming : (width : ℕ) (i : RawIncoming) → Frames (SpellsIncoming width i)
 incoming width i = both _ _ (is _) (both _ _ (operand width i.value) (both _ _ (is _) (both _ _ (register i.block) (is _))))
 
+an_opcode : (opcode : Opcode) → Frames (IsOpcode opcode)
+an_opcode opcode more tokens rest (own, h) = (own, is _ more tokens rest h)
+
 op : (o : RawOp) → Frames (SpellsOp o)
-op (Binary opcode fs width a b) = both _ _ (is _) (both _ _ (flags (flags_of opcode) fs) (two_values width a b))
+op (Binary opcode fs width a b) = both _ _ (an_opcode opcode) (both _ _ (flags (flags_of opcode) fs) (two_values width a b))
 op (Compare pred samesign width a b) = both _ _ (is _) (both _ _ (flags flags_of_icmp (icmp_flags samesign)) (both _ _ (is _) (two_values width a b)))
+op (Call w) = call w
 op (Select c a b) = both _ _ (is _) (both _ _ (typed c) (both _ _ (is _) (both _ _ (typed a) (both _ _ (is _) (typed b)))))
 op (Convert cast fs from a to) = both _ _ (is _) (both _ _ (flags (flags_of_cast cast) fs) (both _ _ (type from) (both _ _ (operand from a) (both _ _ (is _) (type to)))))
 op (Freeze width a) = both _ _ (is _) (typed_value width a)
@@ -119,14 +193,6 @@ terminator line (Branch width a to other) = both _ _ (on line _) (both _ _ (type
 terminator line (Switch width a other cs) = both _ _ (on line _) (both _ _ (type width) (both _ _ (operand width a) (both _ _ (is _) (both _ _ (target other) (cases cs)))))
 
 -- ---- functions
-
-item : (x : List ℕ) → Frames (SpellsItem x)
-item x more tokens rest (of_word word h) = of_word word (is _ more tokens rest h)
-item x more tokens rest (of_word_and_group name group word same h) = of_word_and_group name group word same (both _ _ (is _) (is _) more tokens rest h)
-item x more tokens rest (of_number h) = of_number (is _ more tokens rest h)
-item x more tokens rest (of_group h) = of_group (is _ more tokens rest h)
-item x more tokens rest (of_quoted h) = of_quoted (is _ more tokens rest h)
-item x more tokens rest (of_key_and_value key value same h) = of_key_and_value key value same (both _ _ (is _) (both _ _ (is _) (is _)) more tokens rest h)
 
 label : (l : RawIdentifier) → Frames (SpellsLabel l)
 label l more tokens rest (written, same, h) = (written, same, on l.line _ more tokens rest h)

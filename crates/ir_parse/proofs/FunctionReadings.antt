@@ -21,12 +21,13 @@ use Rattle.ir_instructions.specs.Parts.{Part, Is, ◌⨾◌, Maybe, Comma, Separ
 use Rattle.ir_instructions.specs.Readers.{Read, ◌>>=◌, done, fault}
 use Rattle.ir_instructions.specs.Punctuation as marks
 use Rattle.ir_parse.specs.Grammar.{SpellsLabel, SpellsBlock, SpellsLabelledBlock, SpellsBlocks, SpellsParameter, SpellsParameterList, SpellsParameters, SpellsBody, SpellsName, SpellsFunction, SpellsEntry, SpellsModule}
-use Rattle.ir_parse.specs.ModuleReaders.{is_label, items_at, last_items_at, label_at, block_at, blocks_at, parameter_name_at, parameter_at, further_parameter_at, some_parameters_at, parameter_list_at, parameters_at, named_function, function_name_at, body_at, function_at, entry_at, begins_entry, entries_at, module_from, module_of}
+use Rattle.ir_parse.specs.ModuleReaders.{is_label, label_at, block_at, blocks_at, parameter_name_at, parameter_at, further_parameter_at, some_parameters_at, parameter_list_at, parameters_at, named_function, function_name_at, body_at, function_at, entry_at, begins_entry, entries_at, module_from, module_of}
+use Rattle.ir_instructions.specs.ItemReaders.{items_at, last_items_at}
 use Rattle.ir_instructions.proofs.Loops.{each-is, all_read}
 use Rattle.ir_instructions.proofs.OpReadings.{insts_at-is, separated}
 use Rattle.ir_instructions.proofs.Readings.{mark_at-is, type_at-is, tail_at-is, attachments_at-is}
 use Rattle.ir_instructions.proofs.Steps.{Reads, bind_ok, read_as}
-use Rattle.ir_parse.proofs.ItemReadings.{items_at-is, last_items_at-is}
+use Rattle.ir_instructions.proofs.ItemReadings.{items_at-is, last_items_at-is}
 use Rattle.ir_instructions.proofs.TerminatorReadings.{terminator_at-is}
 
 -- ---- blocks

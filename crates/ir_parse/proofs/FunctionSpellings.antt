@@ -12,6 +12,7 @@ use Rattle.ir_tokens.specs.declared.raw.RawBlock.{RawBlock}
 use Rattle.ir_tokens.specs.declared.raw.RawInst.{RawInst}
 use Rattle.ir_instructions.specs.Grammar.{SpellsRegister, SpellsInst, SpellsTerminator, SpellsType}
 use Rattle.ir_instructions.specs.InstructionReaders.{is_mark}
+use Rattle.ir_instructions.specs.ItemGrammar.{MayFollowItem}
 use Rattle.ir_instructions.specs.Parts.{Part, Is, ◌⨾◌, Maybe, Each, Comma}
 use Rattle.ir_instructions.specs.Punctuation as marks
 use Rattle.ir_parse.specs.Grammar.{SpellsLabel, SpellsBlock, SpellsLabelledBlock, SpellsBlocks, SpellsParameter, SpellsParameterList, SpellsParameters, SpellsBody, SpellsName, SpellsFunction, SpellsEntry, SpellsModule}
@@ -19,7 +20,7 @@ use Rattle.ir_parse.specs.ModuleReaders.{is_label, label_at, block_at, blocks_at
 use Rattle.ir_instructions.proofs.Loops.{ReadsEach, each-of}
 use Rattle.ir_instructions.proofs.OpSpellings.{HasNoTail, insts_at-of, terminator_at-of, terminator_begins}
 use Rattle.ir_instructions.proofs.Spellings.{mark_at-of, type_at-of, attachments_at-of, tail_at-of}
-use Rattle.ir_parse.proofs.ItemSpellings.{type_begins_no_item, MayFollowItem, items_at-of, MayFollowItems, last_items_at-of}
+use Rattle.ir_instructions.proofs.ItemSpellings.{type_begins_no_item, items_at-of, MayFollowItems, last_items_at-of}
 use Rattle.ir_parse.proofs.TakingParts.{block-takes, parameter-takes, entry-takes}
 
 -- ---- blocks
@@ -44,7 +45,7 @@ block_at-of b tokens rest (t1, label, (t2, insts, (t3, end, tail))) none =
     let w = terminator_begins b.end_line b.end t2 t3 end in
     rw (
       label_at-of b.label tokens t1 label (no_label b.end_line b b.insts t1 t2 t3 insts end),
-      insts_at-of b.insts t1 t2 insts (rw w.2 refl) (rw w.2 refl),
+      insts_at-of b.insts t1 t2 insts (rw w.2 refl) (rw w.2 (refl, tt)),
       terminator_at-of b.end_line b.end t2 t3 end,
       tail_at-of t3 rest tail none,
     ) refl

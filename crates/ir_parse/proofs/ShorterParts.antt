@@ -9,19 +9,13 @@ use Rattle.ir_tokens.specs.declared.raw.RawIdentifier.{RawIdentifier}
 use Rattle.ir_tokens.specs.declared.raw.RawBlock.{RawBlock}
 use Rattle.ir_instructions.specs.Grammar.{SpellsRegister, Attachment}
 use Rattle.ir_instructions.specs.Parts.{◌⨾◌, Maybe, Each, Comma}
-use Rattle.ir_parse.specs.Grammar.{SpellsLabel, SpellsItem, of_word, of_word_and_group, of_number, of_group, of_quoted, of_key_and_value, SpellsBlock, SpellsLabelledBlock, SpellsBlocks, SpellsParameter, SpellsParameterList, SpellsParameters, SpellsBody, SpellsName, SpellsFunction, SpellsEntry}
+use Rattle.ir_instructions.specs.ItemGrammar.{SpellsItem}
+use Rattle.ir_instructions.proofs.ItemSizes.{item-shorter}
+use Rattle.ir_parse.specs.Grammar.{SpellsLabel, SpellsBlock, SpellsLabelledBlock, SpellsBlocks, SpellsParameter, SpellsParameterList, SpellsParameters, SpellsBody, SpellsName, SpellsFunction, SpellsEntry}
 use Rattle.ir_instructions.proofs.Shorter.{Shorter, NoLonger, weaker, begins, both, on_line, token, a_token, no_part, maybe, each, repeated, a_register, a_type, attachment-shorter, tail, separated, terminator, insts}
 
 label : (l : RawIdentifier) → Shorter (SpellsLabel l)
 label l tokens rest (written, same, is) = on_line l.line _ tokens rest is
-
-pub item-shorter : (item : List ℕ) → Shorter (SpellsItem item)
-item-shorter item tokens rest (of_word is one) = token _ tokens rest one
-item-shorter item tokens rest (of_word_and_group name group is same two) = begins _ _ (token _) (a_token _) tokens rest two
-item-shorter item tokens rest (of_number one) = token _ tokens rest one
-item-shorter item tokens rest (of_group one) = token _ tokens rest one
-item-shorter item tokens rest (of_quoted one) = token _ tokens rest one
-item-shorter item tokens rest (of_key_and_value key value same three) = begins _ _ (token _) (both _ _ (a_token _) (a_token _)) tokens rest three
 
 items : (xs : List (List ℕ)) → NoLonger (Each SpellsItem xs)
 items xs = each SpellsItem (λ item. weaker (SpellsItem item) (item-shorter item)) xs

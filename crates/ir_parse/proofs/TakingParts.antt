@@ -2,13 +2,9 @@
 use Rattle.ir_instructions.specs.InstructionReaders.{is_mark}
 use Rattle.ir_instructions.specs.Readers.{TakesSome}
 use Rattle.ir_instructions.specs.Punctuation as marks
-use Rattle.ir_parse.specs.ModuleReaders.{is_label, begins_item, item_at, block_at, further_parameter_at, begins_entry, entry_at}
+use Rattle.ir_parse.specs.ModuleReaders.{is_label, block_at, further_parameter_at, begins_entry, entry_at}
 use Rattle.ir_parse.proofs.FunctionReadings.{block_is_labelled, further_parameter_at-is, entry_at-is}
-use Rattle.ir_parse.proofs.ItemReadings.{item_at-is}
-use Rattle.ir_parse.proofs.ShorterParts.{item-shorter, block-shorter, further_parameter-shorter, entry-shorter}
-
-pub item-takes : TakesSome begins_item item_at
-item-takes tokens x next e = item-shorter x.0 tokens x.1 (item_at-is tokens x next e)
+use Rattle.ir_parse.proofs.ShorterParts.{block-shorter, further_parameter-shorter, entry-shorter}
 
 pub block-takes : TakesSome is_label block_at
 block-takes tokens x next e = block-shorter x.0 tokens x.1 (block_is_labelled tokens x next e)

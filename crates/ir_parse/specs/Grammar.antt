@@ -14,22 +14,9 @@ use Rattle.ir_tokens.specs.declared.raw.RawParameter.{RawParameter}
 use Rattle.ir_tokens.specs.declared.raw.RawIdentifier.{RawIdentifier}
 use Rattle.ir_tokens.specs.declared.raw.RawBlock.{RawBlock}
 use Rattle.ir_instructions.specs.Parts.{Part, IsOn, Is, Nothing, Never, ◌⨾◌, Maybe, Each, Separated, Repeated}
-use Rattle.ir_parse.specs.Items.{is_item_word}
+use Rattle.ir_instructions.specs.ItemGrammar.{SpellsItem}
 use Rattle.ir_instructions.specs.Grammar.{Attachment, SpellsInst, SpellsRegister, SpellsTerminator, SpellsType, Tail}
 use Rattle.ir_instructions.specs.Punctuation as marks
-
--- ---- items
-
--- item := WORD | WORD KEPTGROUP | NUMBER | GROUP | QUOTED ['=' QUOTED]
-pub data SpellsItem (item : List ℕ) (tokens rest : List Placed) : Type 0 where
-  of_word : IsTrue (is_item_word item) → Is (Word item) tokens rest → SpellsItem item tokens rest
-  of_word_and_group : (name group : List ℕ) → IsTrue (is_item_word name) → item ≡ name ++ group
-      → (Is (Word name) ⨾ Is (KeptGroup group)) tokens rest → SpellsItem item tokens rest
-  of_number : Is (Number item) tokens rest → SpellsItem item tokens rest
-  of_group : Is (Group item) tokens rest → SpellsItem item tokens rest
-  of_quoted : Is (Quoted item) tokens rest → SpellsItem item tokens rest
-  of_key_and_value : (key value : List ℕ) → item ≡ key ++ marks.equals ∷ value
-      → (Is (Quoted key) ⨾ Is (Mark marks.equals) ⨾ Is (Quoted value)) tokens rest → SpellsItem item tokens rest
 
 -- ---- functions
 

@@ -5,9 +5,8 @@ ghost use Rattle.refusal.specs.Refusals.{Gives};
 ghost use Rattle.ir_parse.specs.ModuleReaders as parsing;
 
 use crate::block::blocks;
-use crate::item::{items, last_items};
 use crate::parameter::parameters;
-use ir_instructions::{attachments, integer_type, left_out, mark, misplaced};
+use ir_instructions::{attachments, integer_type, items, last_items, left_out, mark, misplaced};
 use ir_tokens::{Identifier, IrError, Placed, RawBlock, RawFunction, Token, identifier};
 use lists::{List, Text};
 use std::alloc::Global;

@@ -1,16 +1,14 @@
 //! Modules of LLVM IR as they are written in a text, or the first fault of the text, with its line.
 //!
-//! Tokens are read from left to right, and each function reads one part of the grammar: items, blocks, parameters, functions and entries.
+//! Tokens are read from left to right, and each function reads one part of the grammar: blocks, parameters, functions and entries.
 #![tactic(auto)]
 
 mod block;
 mod entries;
 mod function;
-mod item;
 mod laws;
 mod parameter;
 mod reader;
-mod word;
 
 pub use entries::entry;
 pub use ir_tokens::{IrError, IrFault, IrFaultKind};

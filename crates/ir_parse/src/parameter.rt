@@ -4,8 +4,7 @@ ghost use Rattle.ir_tokens.specs.SeenTokens.{seen};
 ghost use Rattle.refusal.specs.Refusals.{Gives};
 ghost use Rattle.ir_parse.specs.ModuleReaders as parsing;
 
-use crate::item::last_items;
-use ir_instructions::{Part, each, integer_type, is_mark, mark};
+use ir_instructions::{Part, each, integer_type, is_mark, last_items, mark};
 use ir_tokens::{IrError, Placed, RawIdentifier, RawParameter, Token, identifier};
 use lists::List;
 use std::alloc::Global;

@@ -2,7 +2,7 @@
 
 ghost use Rattle.std.specs.Prelude.{◌≡◌, ◌==◌, if◌then◌else◌, [], ◌++◌, codes, OnOk};
 ghost use Rattle.std.specs.List.{join_by};
-ghost use Rattle.ir_text.specs.PrintedText.{incoming_text, op_text, inst_text};
+ghost use Rattle.ir_text.specs.PrintedText.{callee_text, incoming_text, op_text, inst_text, truth_text};
 
 use crate::identifiers::Identifiers;
 use crate::name::{push_block_name, push_result};
@@ -10,10 +10,12 @@ use crate::number::push_type;
 use crate::operand::{push_condition, push_operand, push_typed};
 use crate::word::{push_cast, push_flags, push_opcode, push_pred};
 use ir_core::{Inst, Op, Operand};
-use ops::{Cast, Flags, Opcode, Pred, Width};
+use ops::keywords::{opcode_name, unary_name};
+use ops::{Cast, Flags, Opcode, Pred, Unary, Width};
 use std::alloc::AllocError;
 
-#[tactic(auto, unfolding(ir_text::specs::PrintedText::op_text))]
+/// Adds an instruction with two operands, or a call of an intrinsic with two.
+#[tactic(auto, unfolding(ir_text::specs::PrintedText::op_text, ir_text::specs::PrintedText::binary_text))]
 fn push_binary(
     out: &mut Vec<u8>,
     called: &Identifiers<'_>,
@@ -26,12 +28,67 @@ fn push_binary(
     ensures { OnOk result (out.new.items
         ≡ out.old.items ++ op_text called.now.function.now width (Op.Binary opcode flags left right)) }
 {
+    if opcode.is_intrinsic() {
+        push_callee(out, opcode_name(opcode), width)?;
+        out.push(b'(')?;
+        push_typed(out, called, width, left)?;
+        out.extend_from_slice(b", ")?;
+        push_typed(out, called, width, right)?;
+        out.push(b')')?;
+        return Ok(());
+    }
     push_opcode(out, opcode)?;
     push_flags(out, flags)?;
     out.push(b' ')?;
     push_typed(out, called, width, left)?;
     out.extend_from_slice(b", ")?;
     push_operand(out, called, right)
+}
+
+/// Adds what stands before the arguments of a call of the intrinsic with this keyword.
+#[tactic(auto, unfolding(ir_text::specs::PrintedText::callee_text))]
+fn push_callee(out: &mut Vec<u8>, keyword: &str, width: Width) -> Result<(), AllocError>
+    ensures { OnOk result (out.new.items ≡ out.old.items ++ callee_text keyword.now width) }
+{
+    out.extend_from_slice(b"call ")?;
+    push_type(out, width)?;
+    out.extend_from_slice(b" @llvm.")?;
+    out.extend_from_slice(keyword.as_bytes())?;
+    out.push(b'.')?;
+    push_type(out, width)
+}
+
+/// Adds the truth value behind the operand of an intrinsic that has one.
+#[tactic(auto, unfolding(ir_text::specs::PrintedText::truth_text))]
+fn push_truth(out: &mut Vec<u8>, op: Unary, truth: bool) -> Result<(), AllocError>
+    ensures { OnOk result (out.new.items ≡ out.old.items ++ truth_text op truth) }
+{
+    if !op.has_truth() {
+        return Ok(());
+    }
+    let text: &[u8] = if truth { b", i1 true" } else { b", i1 false" };
+    out.extend_from_slice(text)
+}
+
+/// Adds a call of an intrinsic with one operand.
+#[tactic(auto, unfolding(ir_text::specs::PrintedText::op_text))]
+fn push_unary(
+    out: &mut Vec<u8>,
+    called: &Identifiers<'_>,
+    width: Width,
+    op: Unary,
+    truth: bool,
+    operand: Operand,
+) -> Result<(), AllocError>
+    ensures { OnOk result (out.new.items
+        ≡ out.old.items ++ op_text called.now.function.now width (Op.Unary op truth operand)) }
+{
+    push_callee(out, unary_name(op), width)?;
+    out.push(b'(')?;
+    push_typed(out, called, width, operand)?;
+    push_truth(out, op, truth)?;
+    out.push(b')')?;
+    Ok(())
 }
 
 /// Adds a comparison of operands of the width.
@@ -187,6 +244,7 @@ fn push_op(
                 out, called, width, *pred, *samesign, *compared, *left, *right,
             )
         }
+        Op::Unary(op, truth, operand) => { push_unary(out, called, width, *op, *truth, *operand) }
         Op::Select(condition, first, second) => {
             push_select(out, called, width, *condition, *first, *second)
         }

@@ -5,7 +5,7 @@ ghost use Rattle.ops.specs.Keywords.{opcode_keyword, predicate_keyword, cast_key
 ghost use Rattle.std.specs.List.{flat_map};
 ghost use Rattle.ir_text.specs.PrintedText.{flag_text, flags_text};
 
-use ops::keywords::{EVERY_FLAG, Flag, flag_name, has_flag};
+use ops::keywords::{EVERY_FLAG, Flag, flag_name, has_flag, opcode_name};
 use ops::{Cast, Flags, Opcode, Pred};
 use std::alloc::AllocError;
 
@@ -13,22 +13,7 @@ use std::alloc::AllocError;
 pub(crate) fn push_opcode(out: &mut Vec<u8>, opcode: Opcode) -> Result<(), AllocError>
     ensures { OnOk result (out.new.items ≡ out.old.items ++ opcode_keyword opcode) }
 {
-    let word: &[u8] = match opcode {
-        Opcode::Add => b"add",
-        Opcode::Sub => b"sub",
-        Opcode::Mul => b"mul",
-        Opcode::UDiv => b"udiv",
-        Opcode::SDiv => b"sdiv",
-        Opcode::URem => b"urem",
-        Opcode::SRem => b"srem",
-        Opcode::Shl => b"shl",
-        Opcode::LShr => b"lshr",
-        Opcode::AShr => b"ashr",
-        Opcode::And => b"and",
-        Opcode::Or => b"or",
-        Opcode::Xor => b"xor",
-    };
-    out.extend_from_slice(word)
+    out.extend_from_slice(opcode_name(opcode).as_bytes())
 }
 
 /// Adds the word of a predicate.

@@ -1,5 +1,5 @@
 -- What is read meets the checks of functions and of modules.
-use Rattle.std.proofs.Common.{◌≡◌, inl, inr, ℕ, zero, suc, ◌<◌, List, [], ◌∷◌, length, take, Some, refl, sym, ap, subst, ◌∙◌, arith}
+use Rattle.std.proofs.Common.{◌≡◌, inl, inr, ℕ, zero, suc, ◌<◌, List, [], ◌∷◌, length, take, Some, refl, sym, ap, subst, ◌∙◌, arith, Option, None, is_some}
 use Rattle.std.specs.Prelude.{slice_get}
 use Rattle.std.proofs.lemmas.Option.{slice_get_within}
 use Rattle.ops.specs.Flags.{flags_of, flags_of_cast}
@@ -20,7 +20,13 @@ use Rattle.ir_tokens.specs.declared.raw.RawEntry.{RawEntry}
 use Rattle.ir_tokens.specs.declared.raw.RawEntry.TheVariants as raw_entries
 use Rattle.ir_tokens.specs.declared.raw.RawFunction.{RawFunction}
 use Rattle.ir_tokens.specs.declared.raw.RawBlock.{RawBlock}
+use Rattle.ir_tokens.specs.declared.raw.RawArguments.{RawArguments}
+use Rattle.ir_tokens.specs.declared.raw.RawArguments.TheVariants as arguments
 use Rattle.ir_tokens.specs.declared.raw.RawOp.{RawOp}
+use Rattle.ir_tokens.specs.declared.raw.TypedOperand.{TypedOperand}
+use Rattle.ops.specs.declared.opcode.Unary.{Unary}
+use Rattle.ops.specs.Truths.{has_truth}
+use Rattle.ir_instructions.specs.CallGrammar.{SpellsArguments, SpellsTruthOf}
 use Rattle.ir_tokens.specs.declared.raw.RawOp.TheVariants as ops
 use Rattle.ir_instructions.specs.Grammar.{SpellsIncoming, SpellsOp, SpellsInst}
 use Rattle.ir_instructions.specs.Parts.{Part, Separated}
@@ -31,7 +37,7 @@ use Rattle.ir_tokens.specs.declared.fault.IrFaultKind.TheVariants.{Duplicate, Ty
 use Rattle.ir_resolve.specs.Faults.{HasNoFault}
 use Rattle.ir_resolve.specs.Means.{Means, IncomingMeans, OpMeans, InstMeans}
 use Rattle.ir_resolve.specs.Written.{Thing, Calls}
-use Rattle.ir_resolve.specs.Formed.{IsWellWrittenOp, IsWellWritten, IsWellNamed as IsNamed}
+use Rattle.ir_resolve.specs.Formed.{IsWellWrittenOp, IsWellWritten, IsWellNamed as IsNamed, IsWellWrittenCall}
 use Rattle.ir_resolve.proofs.Resolved.{resolved}
 use Rattle.ir_reader.specs.Phis.{OnlyPhisBefore, OpFits}
 use Rattle.ir_reader.specs.Faults.{ResolvesTo, IsFunctionOf, functions_of, IsEntryOf, IsModuleText}
@@ -47,9 +53,19 @@ some_separated : {X : Type 0} (P : X → Part) (xs : List X) (tokens rest : List
 some_separated P [] tokens rest spelled = absurd spelled
 some_separated P (x ∷ xs) tokens rest spelled = omega arith
 
+truth_written : (op : Unary) (truth : Option TypedOperand) (tokens rest : List Placed) → SpellsTruthOf op truth tokens rest → is_some truth ≡ has_truth op
+truth_written op None tokens rest spelled = sym spelled.0
+truth_written op (Some t) tokens rest spelled = sym spelled.0
+
+call_written : (w : RawArguments) (tokens rest : List Placed) → SpellsArguments w tokens rest → IsWellWrittenCall w
+call_written (arguments.Binary op a b) tokens rest spelled = tt
+call_written (arguments.Unary op a truth) tokens rest (between, one, spelled) = truth_written op truth between rest spelled
+
 op_written : (op : RawOp) (tokens rest : List Placed) → SpellsOp op tokens rest → IsWellWrittenOp op
 op_written (ops.Binary op flags width a b) tokens rest spelled = taken_flags (flags_of op) flags _ _ spelled.2.1
 op_written (ops.Compare pred samesign width a b) tokens rest spelled = tt
+op_written (ops.Call w) tokens rest (t1, marker, (t2, call, (t3, items, (t4, type, (t5, callee, (t6, opens, (t7, spelled, closes))))))) =
+    call_written w.arguments t6 t7 spelled
 op_written (ops.Select c a b) tokens rest spelled = tt
 op_written (ops.Convert cast flags from a to) tokens rest spelled = taken_flags (flags_of_cast cast) flags _ _ spelled.2.1
 op_written (ops.Freeze width a) tokens rest spelled = tt

@@ -8,7 +8,7 @@ use Rattle.ir_core.specs.declared.function.Function.{Function}
 use Rattle.ir_core.specs.declared.function.Block.{Block}
 use Rattle.ir_core.specs.declared.instruction.Inst.{Inst}
 use Rattle.ir_core.specs.declared.instruction.Op.{Op}
-use Rattle.ir_core.specs.declared.instruction.Op.TheVariants.{Binary, Compare, Select, Convert, Freeze, Phi}
+use Rattle.ir_core.specs.declared.instruction.Op.TheVariants.{Binary, Compare, Unary, Select, Convert, Freeze, Phi}
 use Rattle.ir_core.specs.declared.operand.Operand.{Operand}
 use Rattle.ir_core.specs.declared.operand.Operand.TheVariants as operands
 use Rattle.ir_core.specs.declared.operand.Register.{Register}
@@ -50,6 +50,7 @@ dec_is_phi (Binary op flags x y) = no (λ h. h)
 dec_is_phi (Compare pred samesign width x y) = no (λ h. h)
 dec_is_phi (Select c x y) = no (λ h. h)
 dec_is_phi (Convert cast flags from x) = no (λ h. h)
+dec_is_phi (Unary op truth x) = no (λ h. h)
 dec_is_phi (Freeze x) = no (λ h. h)
 
 -- an instruction stands at the place
@@ -129,4 +130,5 @@ dec_fits f b k (Binary op flags x y) = yes tt
 dec_fits f b k (Compare pred samesign width x y) = yes tt
 dec_fits f b k (Select c x y) = yes tt
 dec_fits f b k (Convert cast flags from x) = yes tt
+dec_fits f b k (Unary op truth x) = yes tt
 dec_fits f b k (Freeze x) = yes tt

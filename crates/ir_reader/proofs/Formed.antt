@@ -3,7 +3,7 @@ use Rattle.std.proofs.Common.{◌≡◌, ℕ, sym, subst, refl}
 use Rattle.ir_core.specs.declared.function.Function.{Function}
 use Rattle.ir_core.specs.declared.instruction.Inst.{Inst}
 use Rattle.ir_core.specs.declared.instruction.Op.{Op}
-use Rattle.ir_core.specs.declared.instruction.Op.TheVariants.{Binary, Compare, Select, Convert, Freeze, Phi}
+use Rattle.ir_core.specs.declared.instruction.Op.TheVariants.{Binary, Compare, Unary, Select, Convert, Freeze, Phi}
 use Rattle.ir_core.specs.Checks.{IsInst, IsPhi, IsFormed}
 use Rattle.ir_reader.specs.Phis.{OpFits}
 
@@ -20,6 +20,7 @@ module _ (f : Function) (formed : IsFormed f) (b k : ℕ) (inst : Inst) (is : Is
   phi_fits (Compare pred samesign width x y) e = tt
   phi_fits (Select c x y) e = tt
   phi_fits (Convert cast flags from x) e = tt
+  phi_fits (Unary op truth x) e = tt
   phi_fits (Freeze x) e = tt
 
 pub formed_fits : (f : Function) → IsFormed f → PhisFit f

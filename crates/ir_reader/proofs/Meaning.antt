@@ -20,6 +20,8 @@ use Rattle.ir_core.specs.Reads.{Read, read, end_of, reads_of, reads_at_end, read
 use Rattle.ir_tokens.specs.declared.called.Identifier.{Identifier as Called}
 use Rattle.ir_tokens.specs.declared.raw.RawFunction.{RawFunction}
 use Rattle.ir_tokens.specs.declared.raw.RawBlock.{RawBlock}
+use Rattle.ir_tokens.specs.declared.raw.RawArguments.{RawArguments}
+use Rattle.ir_tokens.specs.declared.raw.RawArguments.TheVariants as arguments
 use Rattle.ir_tokens.specs.declared.raw.RawOp.{RawOp}
 use Rattle.ir_tokens.specs.declared.raw.RawOp.TheVariants as ops
 use Rattle.ir_tokens.specs.declared.raw.RawTerminator.{RawTerminator}
@@ -30,8 +32,8 @@ use Rattle.ir_tokens.specs.declared.raw.RawValue.TheVariants as values
 use Rattle.ir_tokens.specs.declared.raw.RawIncoming.{RawIncoming}
 use Rattle.ir_tokens.specs.declared.raw.RawCase.{RawCase}
 use Rattle.ir_resolve.specs.Written.{Thing, Calls}
-use Rattle.ir_resolve.specs.TypedReads.{Typed, typed, read_by, read_at_end}
-use Rattle.ir_resolve.specs.Means.{Means, ValueMeans, BlockMeans, IncomingMeans, OpMeans, InstMeans, CaseMeans, EndMeans, BlockIsOf}
+use Rattle.ir_resolve.specs.TypedReads.{Typed, typed, read_by, read_at_end, read_by_call}
+use Rattle.ir_resolve.specs.Means.{Means, ValueMeans, BlockMeans, IncomingMeans, OpMeans, InstMeans, CaseMeans, EndMeans, BlockIsOf, ArgumentsMean}
 use Rattle.refusal.specs.declared.fault.Fault.{Fault}
 use Rattle.ir_tokens.specs.declared.fault.IrFaultKind.{IrFaultKind}
 use Rattle.ir_tokens.specs.declared.fault.IrFaultKind.TheVariants as kinds
@@ -77,9 +79,15 @@ module _ (CallsThing : Called → Thing → Type 0) where
   incoming_reads f width wide (w ∷ ws) [] all = absurd all
   incoming_reads f width wide (w ∷ ws) (e ∷ entries) all = (all.0.0, incoming_reads f width wide ws entries all.1)
 
+  call_reads : (f : Function) (b k width : ℕ) (w : RawArguments) (op : Op) → ArgumentsMean CallsThing w op → AllZip ReadMeans (read_by_call w) (reads_of f b k width op)
+  call_reads f b k wide (arguments.Binary op a c) (core.Binary opcode set x y) means = (means.2, (means.3, tt))
+  call_reads f b k wide (arguments.Unary op a truth) (core.Unary intrinsic t x) means = (means.2, tt)
+  call_reads f b k wide w op means = absurd means
+
   op_reads : (f : Function) (b k width : ℕ) (w : RawOp) (op : Op) → OpMeans CallsThing w op → AllZip ReadMeans (read_by w) (reads_of f b k width op)
   op_reads f b k wide (ops.Binary op flags width a c) (core.Binary opcode set x y) means = (means.2, (means.3, tt))
   op_reads f b k wide (ops.Compare pred samesign width a c) (core.Compare p s w x y) means = (means.3, (means.4, tt))
+  op_reads f b k wide (ops.Call w) op means = call_reads f b k wide w.arguments op means
   op_reads f b k wide (ops.Select d a c) (core.Select z x y) means = (means.0, (means.1, (means.2, tt)))
   op_reads f b k wide (ops.Convert cast flags from a to) (core.Convert d g w x) means = (means.3, tt)
   op_reads f b k wide (ops.Freeze width a) (core.Freeze x) means = (means, tt)

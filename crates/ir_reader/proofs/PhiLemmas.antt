@@ -16,7 +16,7 @@ use Rattle.ir_core.specs.declared.function.Function.{Function}
 use Rattle.ir_core.specs.declared.function.Block.{Block}
 use Rattle.ir_core.specs.declared.instruction.Inst.{Inst}
 use Rattle.ir_core.specs.declared.instruction.Op.{Op}
-use Rattle.ir_core.specs.declared.instruction.Op.TheVariants.{Binary, Compare, Select, Convert, Freeze, Phi}
+use Rattle.ir_core.specs.declared.instruction.Op.TheVariants.{Binary, Compare, Unary, Select, Convert, Freeze, Phi}
 use Rattle.ir_core.specs.declared.operand.Operand.{Operand}
 use Rattle.ir_core.specs.Blocks.{IsBlock, Names}
 use Rattle.ir_core.specs.Checks.{IsPhi}
@@ -151,6 +151,7 @@ module _ {R : Type 0} (set : IndexSet ℕ R) where
   fits_where P Q f (Compare pred samesign width x y) h = tt
   fits_where P Q f (Select c x y) h = tt
   fits_where P Q f (Convert cast flags from x) h = tt
+  fits_where P Q f (Unary op truth x) h = tt
   fits_where P Q f (Freeze x) h = tt
 
   module _ (written : List RawInst) (insts : List Inst) (k : ℕ) (inst : Inst) (w : RawInst) (here : slice_get insts k ≡ Some inst) (w_here : slice_get written k ≡ Some w) where
@@ -203,6 +204,7 @@ module _ {R : Type 0} (raw : RawFunction) (f : Function) (sets : List (IndexSet 
   op_fits k (Compare pred samesign width x y) = (λ h. tt, λ h. tt)
   op_fits k (Select c x y) = (λ h. tt, λ h. tt)
   op_fits k (Convert cast flags from x) = (λ h. tt, λ h. tt)
+  op_fits k (Unary op truth x) = (λ h. tt, λ h. tt)
   op_fits k (Freeze x) = (λ h. tt, λ h. tt)
 
   pub bad_in_block : (found : Option ℕ) → IsFirst (λ line. (k : ℕ) × BadPhiIn set w.insts block.insts k line) found → IsFirst (λ line. (k : ℕ) × BadPhiHere raw f b k line) found

@@ -3,7 +3,7 @@ use Rattle.std.specs.Prelude.{◌≡◌, ◌↔◌, ℕ, ◌<◌, List, Contains
 use Rattle.ir_core.specs.declared.function.Function.{Function}
 use Rattle.ir_core.specs.declared.instruction.Inst.{Inst}
 use Rattle.ir_core.specs.declared.instruction.Op.{Op}
-use Rattle.ir_core.specs.declared.instruction.Op.TheVariants.{Binary, Compare, Select, Convert, Freeze, Phi}
+use Rattle.ir_core.specs.declared.instruction.Op.TheVariants.{Binary, Compare, Unary, Select, Convert, Freeze, Phi}
 use Rattle.ir_core.specs.declared.operand.Operand.{Operand}
 use Rattle.ir_core.specs.Blocks.{Names}
 use Rattle.ir_core.specs.Checks.{IsInst, IsPhi}
@@ -24,6 +24,7 @@ abbrev pub OpFits : Function → ℕ → ℕ → Op → Type 0
 OpFits f b k (Phi entries) = PhiFits f b k entries
 OpFits f b k (Binary op flags x y) = Unit {0}
 OpFits f b k (Compare pred samesign width x y) = Unit {0}
+OpFits f b k (Unary op truth x) = Unit {0}
 OpFits f b k (Select c x y) = Unit {0}
 OpFits f b k (Convert cast flags from x) = Unit {0}
 OpFits f b k (Freeze x) = Unit {0}

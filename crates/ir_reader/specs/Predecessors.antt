@@ -5,7 +5,7 @@ use Rattle.ir_core.specs.declared.function.Function.{Function}
 use Rattle.ir_core.specs.declared.function.Block.{Block}
 use Rattle.ir_core.specs.declared.instruction.Inst.{Inst}
 use Rattle.ir_core.specs.declared.instruction.Op.{Op}
-use Rattle.ir_core.specs.declared.instruction.Op.TheVariants.{Binary, Compare, Select, Convert, Freeze, Phi}
+use Rattle.ir_core.specs.declared.instruction.Op.TheVariants.{Binary, Compare, Unary, Select, Convert, Freeze, Phi}
 use Rattle.ir_core.specs.declared.operand.Operand.{Operand}
 use Rattle.ir_core.specs.Checks.{IsPhi}
 use Rattle.ir_tokens.specs.declared.raw.RawInst.{RawInst}
@@ -41,6 +41,7 @@ module _ {S : Type 0} where
   OpFitsIn set may_stand (Phi entries) = may_stand × EntriesFitIn set entries
   OpFitsIn set may_stand (Binary op flags x y) = Unit {0}
   OpFitsIn set may_stand (Compare pred samesign width x y) = Unit {0}
+  OpFitsIn set may_stand (Unary op truth x) = Unit {0}
   OpFitsIn set may_stand (Select c x y) = Unit {0}
   OpFitsIn set may_stand (Convert cast flags from x) = Unit {0}
   OpFitsIn set may_stand (Freeze x) = Unit {0}

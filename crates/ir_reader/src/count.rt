@@ -17,6 +17,7 @@ fn has_few_entries(op: &Op) -> bool
         Op::Phi(entries) => entries.len() <= MOST,
         Op::Binary(_, _, _, _)
         | Op::Compare(_, _, _, _, _)
+        | Op::Unary(_, _, _)
         | Op::Select(_, _, _)
         | Op::Convert(_, _, _, _)
         | Op::Freeze(_) => true,

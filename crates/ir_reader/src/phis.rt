@@ -114,6 +114,7 @@ fn op_fits(
         Op::Phi(entries) => Ok(only_phis && entries_fit(alloc, predecessors, entries.as_slice())?),
         Op::Binary(_, _, _, _)
         | Op::Compare(_, _, _, _, _)
+        | Op::Unary(_, _, _)
         | Op::Select(_, _, _)
         | Op::Convert(_, _, _, _)
         | Op::Freeze(_) => Ok(true),
@@ -127,6 +128,7 @@ fn is_phi(op: &Op) -> bool
         Op::Phi(_) => true,
         Op::Binary(_, _, _, _)
         | Op::Compare(_, _, _, _, _)
+        | Op::Unary(_, _, _)
         | Op::Select(_, _, _)
         | Op::Convert(_, _, _, _)
         | Op::Freeze(_) => false,

@@ -2,10 +2,10 @@
 
 ghost use Rattle.std.specs.Prelude.{◌≡◌, ℕ, [], ◌∷◌, option_map, slice_get};
 ghost use Rattle.std.specs.Option.{option_copied};
-ghost use Rattle.ir_resolve.specs.TypedReads.{typed, read_by, read_at_end};
+ghost use Rattle.ir_resolve.specs.TypedReads.{typed, read_by, read_by_call, read_at_end};
 ghost use Rattle.ir_reader.specs.Operands.{written_at};
 
-use ir_tokens::{RawFunction, RawOp, RawOperand, RawTerminator};
+use ir_tokens::{RawArguments, RawFunction, RawOp, RawOperand, RawTerminator};
 
 /// One of the operands that are written at a place of a block; the terminator's place is the number of instructions.
 pub(crate) fn operand(raw: &RawFunction, block: u32, place: u32, index: u32) -> Option<&RawOperand>
@@ -29,6 +29,7 @@ fn operand_of(op: &RawOp, index: u32) -> Option<&RawOperand>
             1 => Some(right),
             _ => None,
         },
+        RawOp::Call(call) => operand_of_call(&call.arguments, index),
         RawOp::Select(condition, first, second) => match index {
             0 => Some(&condition.operand),
             1 => Some(&first.operand),
@@ -37,6 +38,20 @@ fn operand_of(op: &RawOp, index: u32) -> Option<&RawOperand>
         },
         RawOp::Convert(_, _, _, operand, _) | RawOp::Freeze(_, operand) => only(operand, index),
         RawOp::Phi(_, incoming) => Some(&incoming.as_slice().get(index as usize)?.value),
+    }
+}
+
+/// One of the operands of a call.
+fn operand_of_call(arguments: &RawArguments, index: u32) -> Option<&RawOperand>
+    ensures { option_copied result ≡ option_map (λ t. t.operand) (slice_get (read_by_call arguments.now) index) }
+{
+    match arguments {
+        RawArguments::Binary(_, left, right) => match index {
+            0 => Some(&left.operand),
+            1 => Some(&right.operand),
+            _ => None,
+        },
+        RawArguments::Unary(_, operand, _) => only(&operand.operand, index),
     }
 }
 

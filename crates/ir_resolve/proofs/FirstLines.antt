@@ -16,7 +16,11 @@ use Rattle.ir_tokens.specs.declared.raw.RawFunction.{RawFunction}
 use Rattle.ir_tokens.specs.declared.raw.RawBlock.{RawBlock}
 use Rattle.ir_tokens.specs.declared.raw.RawIdentifier.{RawIdentifier}
 use Rattle.ir_tokens.specs.declared.raw.RawInst.{RawInst}
+use Rattle.ir_tokens.specs.declared.raw.RawArguments.{RawArguments}
+use Rattle.ir_tokens.specs.declared.raw.RawArguments.TheVariants as arguments
 use Rattle.ir_tokens.specs.declared.raw.RawOp.{RawOp}
+use Rattle.ir_tokens.specs.declared.raw.RawCall.{RawCall}
+use Rattle.ir_tokens.specs.declared.raw.TypedOperand.{TypedOperand}
 use Rattle.ir_tokens.specs.declared.raw.RawOp.TheVariants as ops
 use Rattle.ir_tokens.specs.declared.raw.RawTerminator.{RawTerminator}
 use Rattle.ir_tokens.specs.declared.raw.RawTerminator.TheVariants as terminators
@@ -28,7 +32,7 @@ use Rattle.ir_resolve.specs.declared.names.definition.Entity.TheVariants as enti
 use Rattle.ir_resolve.specs.FirstLines.{SomeAt, lesser}
 use Rattle.ir_resolve.specs.Written.{written_names, called_in}
 use Rattle.ir_resolve.specs.TypedReads.{Typed, cases_of, reads_of, targets_of}
-use Rattle.ir_resolve.specs.FaultKinds.{IsMisnumbered, MisnumbersHere, NumberingAt, Repeats, HasName, IsWrittenOn, literal_of, HasNumber, IsCaseOn, HasNameOf, DuplicateAt, IsUnknownValue, IsUnknownBlock, UnknownIn, UnknownAt, LiteralClashes, ValueClashes, ReadClashesIn, OpClashesAt, CaseClashes, EndClashesAt, BlockClashesAt, TypeClashAt}
+use Rattle.ir_resolve.specs.FaultKinds.{IsMisnumbered, MisnumbersHere, NumberingAt, Repeats, HasName, IsWrittenOn, literal_of, HasNumber, IsCaseOn, HasNameOf, DuplicateAt, IsUnknownValue, IsUnknownBlock, UnknownIn, UnknownAt, LiteralClashes, ValueClashes, ReadClashesIn, OpClashesAt, CaseClashes, EndClashesAt, BlockClashesAt, TypeClashAt, TruthIsBit, ArgumentsFit, CallFits}
 use Rattle.ir_resolve.specs.Views.{Known, CallsIn, CallsRegisterIn, entity_in, register_of, block_of}
 use Rattle.ir_resolve.specs.NameTable.{Tabulates}
 use Rattle.ir_resolve.proofs.Places.{place_of_contained, contained_at}
@@ -183,11 +187,29 @@ dec_cast Trunc from to = dec_lt to from
 dec_cast ZExt from to = dec_lt from to
 dec_cast SExt from to = dec_lt from to
 
+-- both of two
+dec_both : {P Q : Type 0} → Dec P → Dec Q → Dec (P × Q)
+dec_both (yes p) (yes q) = yes (p, q)
+dec_both (yes p) (no q) = no (λ h. q h.1)
+dec_both (no p) q = no (λ h. p h.0)
+
+dec_truth : (truth : Option TypedOperand) → Dec (TruthIsBit truth)
+dec_truth None = yes tt
+dec_truth (Some t) = dec_both (dec_number t.width 1) (dec_not (dec_literal_clash 1 t.operand.value))
+
+dec_arguments : (width : ℕ) (w : RawArguments) → Dec (ArgumentsFit width w)
+dec_arguments width (arguments.Binary op a b) = dec_both (dec_number a.width width) (dec_number b.width width)
+dec_arguments width (arguments.Unary op a truth) = dec_both (dec_number a.width width) (dec_truth truth)
+
+dec_call : (call : RawCall) → Dec (CallFits call)
+dec_call call = dec_both (dec_number call.named call.width) (dec_arguments call.width call.arguments)
+
 first_op_clash : (op : RawOp) → FirstOf (OpClashesAt op)
 first_op_clash (ops.Select c a b) =
     first_of_two (λ line. (c.width ≢ 1) × (c.operand.line ≡ line)) (λ line. (a.width ≢ b.width) × (b.operand.line ≡ line))
     (first_on c.operand.line (dec_not (dec_number c.width 1))) (first_on b.operand.line (dec_not (dec_number a.width b.width)))
 first_op_clash (ops.Convert cast flags from a to) = first_on a.line (dec_not (dec_cast cast from to))
+first_op_clash (ops.Call call) = first_on call.line (dec_not (dec_call call))
 first_op_clash (ops.Binary op flags width a b) = (None, λ line h. h)
 first_op_clash (ops.Compare pred samesign width a b) = (None, λ line h. h)
 first_op_clash (ops.Freeze width a) = (None, λ line h. h)

@@ -1,10 +1,12 @@
 -- A function that is meant, and has no fault, meets its checks by names, widths and cases.
-use Rattle.std.proofs.Common.{◌≡◌, ◌≢◌, inl, inr, ℕ, ◌<◌, List, [], ◌∷◌, ◌++◌, map, get_or, Some, refl, sym, ap, ◌∙◌, arith}
+use Rattle.std.proofs.Common.{◌≡◌, ◌≢◌, inl, inr, ℕ, ◌<◌, List, [], ◌∷◌, ◌++◌, map, get_or, Some, refl, sym, ap, ◌∙◌, arith, Bool, true, false, ◌&&◌, Option, None, is_some}
 use Rattle.std.specs.Prelude.{All, slice_get}
 use Rattle.std.specs.List.{AllZip, flat_map}
 use Rattle.std.proofs.lemmas.Bool.{cases_lt}
 use Rattle.std.proofs.lemmas.List.{map-append}
 use Rattle.std.proofs.lemmas.Option.{slice_get-get_or}
+use Rattle.ops.specs.declared.opcode.Unary.{Unary}
+use Rattle.ops.specs.Truths.{TruthFits, has_truth}
 use Rattle.ops.specs.Number.{Number}
 use Rattle.ops.specs.declared.conversion.Cast.{Cast}
 use Rattle.ops.specs.declared.conversion.Cast.TheVariants.{Trunc, ZExt, SExt}
@@ -28,7 +30,10 @@ use Rattle.ir_tokens.specs.declared.raw.RawParameter.{RawParameter}
 use Rattle.ir_tokens.specs.declared.raw.RawIdentifier.{RawIdentifier}
 use Rattle.ir_tokens.specs.declared.raw.RawBlock.{RawBlock}
 use Rattle.ir_tokens.specs.declared.raw.RawInst.{RawInst}
+use Rattle.ir_tokens.specs.declared.raw.RawArguments.{RawArguments}
+use Rattle.ir_tokens.specs.declared.raw.RawArguments.TheVariants as arguments
 use Rattle.ir_tokens.specs.declared.raw.RawOp.{RawOp}
+use Rattle.ir_tokens.specs.declared.raw.TypedOperand.{TypedOperand}
 use Rattle.ir_tokens.specs.declared.raw.RawOp.TheVariants as ops
 use Rattle.ir_tokens.specs.declared.raw.RawTerminator.{RawTerminator}
 use Rattle.ir_tokens.specs.declared.raw.RawTerminator.TheVariants as terminators
@@ -37,10 +42,10 @@ use Rattle.ir_tokens.specs.declared.raw.RawValue.TheVariants as values
 use Rattle.ir_tokens.specs.declared.raw.RawOperand.{RawOperand}
 use Rattle.ir_tokens.specs.declared.raw.RawCase.{RawCase}
 use Rattle.ir_resolve.specs.Written.{Thing, given, written_in}
-use Rattle.ir_resolve.specs.TypedReads.{Typed, read_by, read_at_end, named_at_end, cases_of}
-use Rattle.ir_resolve.specs.FaultKinds.{literal_of, result_width, Repeats, HasNumber, IsCaseOn, OpClashesAt, EndClashesAt}
-use Rattle.ir_resolve.specs.Means.{ValueMeans, BlockMeans, IncomingMeans, OpMeans, InstMeans, CaseMeans, EndMeans, BlockIsOf, ParameterMeans}
-use Rattle.ir_resolve.specs.Formed.{IsWellWrittenOp}
+use Rattle.ir_resolve.specs.TypedReads.{Typed, read_by, read_at_end, named_at_end, cases_of, read_by_call}
+use Rattle.ir_resolve.specs.FaultKinds.{literal_of, result_width, Repeats, HasNumber, IsCaseOn, OpClashesAt, EndClashesAt, ArgumentsFit, truth_of}
+use Rattle.ir_resolve.specs.Means.{ValueMeans, BlockMeans, IncomingMeans, OpMeans, InstMeans, CaseMeans, EndMeans, BlockIsOf, ParameterMeans, ArgumentsMean}
+use Rattle.ir_resolve.specs.Formed.{IsWellWrittenOp, IsWellWrittenCall}
 use Rattle.ir_resolve.proofs.Places.{contained_at, before_place}
 use Rattle.ir_resolve.proofs.Tabling.{once}
 use Rattle.ir_resolve.proofs.Pairs.{pair_of_second, made_pairs}
@@ -100,9 +105,20 @@ abbrev pub ReadMeans : (Called → Thing → Type 0) → Typed → Read → Type
 ReadMeans C t r = ValueMeans C t.operand.value r.operand × (t.width ≡ r.width)
 
 module _ (C : Called → Thing → Type 0) (f : Function) (b k : ℕ) where
+  call_meant : (w : RawArguments) (n width : ℕ) (o : Op) → ArgumentsMean C w o → width ≡ n → ¬ ¬ ArgumentsFit n w → AllZip (ReadMeans C) (read_by_call w) (reads_of f b k width o)
+  call_meant (arguments.Binary op a c) n width (core.Binary op' flags x y) h wide fits =
+      let left : a.width ≡ n = same_unless a.width n (λ apart. fits (λ fit. apart fit.0)) in
+      let right : c.width ≡ n = same_unless c.width n (λ apart. fits (λ fit. apart fit.1)) in
+      ((h.2, left ∙ sym wide), ((h.3, right ∙ sym wide), tt))
+  call_meant (arguments.Unary op a truth) n width (core.Unary op' t x) h wide fits =
+      let left : a.width ≡ n = same_unless a.width n (λ apart. fits (λ fit. apart fit.0)) in
+      ((h.2, left ∙ sym wide), tt)
+  call_meant w n width o h wide fits = absurd h
+
   pub reads_meant : (w : RawOp) (width : ℕ) (o : Op) → OpMeans C w o → width ≡ result_width w → ((line : ℕ) → ¬ OpClashesAt w line) → AllZip (ReadMeans C) (read_by w) (reads_of f b k width o)
   reads_meant (ops.Binary op flags n a c) width (core.Binary op' flags' x y) h wide typed = ((h.2, sym wide), ((h.3, sym wide), tt))
   reads_meant (ops.Compare pred samesign n a c) width (core.Compare pred' samesign' m x y) h wide typed = ((h.3, sym h.2), ((h.4, sym h.2), tt))
+  reads_meant (ops.Call w) width o h wide typed = call_meant w.arguments w.width width o h wide (λ unfit. typed w.line ((λ fits. unfit fits.1), refl))
   reads_meant (ops.Select z a c) width (core.Select z' x y) h wide typed =
       let one : z.width ≡ 1 = same_unless z.width 1 (λ apart. typed z.operand.line (inl (apart, refl))) in
       let arms : a.width ≡ c.width = same_unless a.width c.width (λ apart. typed c.operand.line (inr (apart, refl))) in
@@ -132,9 +148,23 @@ targets_meant C w t h = absurd h
 
 -- ---- types and cases
 
+truth_fits : (op : Unary) (truth : Option TypedOperand) → is_some truth ≡ has_truth op → TruthFits op (truth_of truth)
+truth_fits op None own = refl
+truth_fits op (Some t) own = rw (sym own) (kept (truth_of (Some t)))
+  where
+    kept : (b : Bool) → (b && true) ≡ b
+    kept true = refl
+    kept false = refl
+
+call_typed : (C : Called → Thing → Type 0) (w : RawArguments) (width : ℕ) (o : Op) → ArgumentsMean C w o → IsWellWrittenCall w → IsTyped width o
+call_typed C (arguments.Binary op a c) width (core.Binary op' flags x y) h own = rw h.1 refl
+call_typed C (arguments.Unary op a truth) width (core.Unary op' t x) h own = rw (h.0, h.1) (truth_fits op truth own)
+call_typed C w width o h own = absurd h
+
 pub op_typed : (C : Called → Thing → Type 0) (w : RawOp) (width : ℕ) (o : Op) → OpMeans C w o → width ≡ result_width w → ((line : ℕ) → ¬ OpClashesAt w line) → IsWellWrittenOp w → IsTyped width o
 op_typed C (ops.Binary op flags n a c) width (core.Binary op' flags' x y) h wide typed own = rw (h.0, h.1) own
 op_typed C (ops.Compare pred samesign n a c) width (core.Compare pred' samesign' m x y) h wide typed own = wide
+op_typed C (ops.Call w) width o h wide typed own = call_typed C w.arguments width o h own
 op_typed C (ops.Select z a c) width (core.Select z' x y) h wide typed own = tt
 op_typed C (ops.Convert cast flags from a to) width (core.Convert cast' flags' n x) h wide typed own = rw (h.0, h.1, h.2, wide) (own, fits_unless cast from to (λ unfit. typed a.line (unfit, refl)))
 op_typed C (ops.Freeze n a) width (core.Freeze x) h wide typed own = tt

@@ -15,6 +15,8 @@ use Rattle.ir_core.specs.declared.terminator.Terminator.TheVariants as ends
 use Rattle.ir_tokens.specs.declared.raw.RawFunction.{RawFunction}
 use Rattle.ir_tokens.specs.declared.raw.RawBlock.{RawBlock}
 use Rattle.ir_tokens.specs.declared.raw.RawInst.{RawInst}
+use Rattle.ir_tokens.specs.declared.raw.RawArguments.{RawArguments}
+use Rattle.ir_tokens.specs.declared.raw.RawArguments.TheVariants as arguments
 use Rattle.ir_tokens.specs.declared.raw.RawOp.{RawOp}
 use Rattle.ir_tokens.specs.declared.raw.RawOp.TheVariants as ops
 use Rattle.ir_tokens.specs.declared.raw.RawTerminator.{RawTerminator}
@@ -24,7 +26,7 @@ use Rattle.ir_tokens.specs.declared.raw.RawValue.TheVariants as values
 use Rattle.ir_tokens.specs.declared.raw.RawIncoming.{RawIncoming}
 use Rattle.ir_tokens.specs.declared.raw.RawCase.{RawCase}
 use Rattle.ir_resolve.specs.Written.{Thing, Value, Block, Calls}
-use Rattle.ir_resolve.specs.Means.{ValueMeans, IncomingMeans, OpMeans, InstMeans, CaseMeans, EndMeans, BlockIsOf, MeansBy, Means}
+use Rattle.ir_resolve.specs.Means.{ValueMeans, IncomingMeans, OpMeans, InstMeans, CaseMeans, EndMeans, BlockIsOf, MeansBy, Means, ArgumentsMean}
 use Rattle.ir_resolve.specs.Views.{Known, CallsIn}
 use Rattle.ir_resolve.specs.NameTable.{Tabulates}
 
@@ -42,9 +44,15 @@ module _ (F G : Called → Thing → Type 0) (to : (x : Called) (thing : Thing) 
   incoming : (w : RawIncoming) (entry : Operand × ℕ) → IncomingMeans F w entry → IncomingMeans G w entry
   incoming w entry h = (value w.value.value entry.0 h.0, to w.block.identifier (Block entry.1) h.1)
 
+  call : (w : RawArguments) (o : Op) → ArgumentsMean F w o → ArgumentsMean G w o
+  call (arguments.Binary op a b) (core.Binary c set x y) h = (h.0, h.1, value a.operand.value x h.2, value b.operand.value y h.3)
+  call (arguments.Unary op a truth) (core.Unary c t x) h = (h.0, h.1, value a.operand.value x h.2)
+  call w o h = h
+
   op : (w : RawOp) (o : Op) → OpMeans F w o → OpMeans G w o
   op (ops.Binary opcode flags width a b) (core.Binary c set x y) h = (h.0, h.1, value a.value x h.2, value b.value y h.3)
   op (ops.Compare pred samesign width a b) (core.Compare p s n x y) h = (h.0, h.1, h.2, value a.value x h.3, value b.value y h.4)
+  op (ops.Call w) o h = call w.arguments o h
   op (ops.Select c a b) (core.Select z x y) h = (value c.operand.value z h.0, value a.operand.value x h.1, value b.operand.value y h.2)
   op (ops.Convert cast flags from a to') (core.Convert c g n x) h = (h.0, h.1, h.2, value a.value x h.3)
   op (ops.Freeze width a) (core.Freeze x) h = value a.value x h

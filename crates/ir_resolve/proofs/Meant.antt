@@ -1,6 +1,7 @@
 -- A function whose reads and targets are known means a function.
 use Rattle.std.proofs.Common.{◌≡◌, ℕ, List, [], ◌∷◌, map, Option, None, Some, refl, sym, ◌∙◌}
 use Rattle.std.specs.List.{AllZip, AllByRecursion}
+use Rattle.ops.specs.Flags.{no_flags}
 use Rattle.ops.specs.Number.{Number}
 use Rattle.ir_tokens.specs.declared.called.Identifier.{Identifier as Called}
 use Rattle.ir_core.specs.declared.function.Function.{Function}
@@ -17,6 +18,8 @@ use Rattle.ir_tokens.specs.declared.raw.RawFunction.{RawFunction}
 use Rattle.ir_tokens.specs.declared.raw.RawParameter.{RawParameter}
 use Rattle.ir_tokens.specs.declared.raw.RawBlock.{RawBlock}
 use Rattle.ir_tokens.specs.declared.raw.RawInst.{RawInst}
+use Rattle.ir_tokens.specs.declared.raw.RawArguments.{RawArguments}
+use Rattle.ir_tokens.specs.declared.raw.RawArguments.TheVariants as arguments
 use Rattle.ir_tokens.specs.declared.raw.RawOp.{RawOp}
 use Rattle.ir_tokens.specs.declared.raw.RawOp.TheVariants as ops
 use Rattle.ir_tokens.specs.declared.raw.RawTerminator.{RawTerminator}
@@ -28,9 +31,9 @@ use Rattle.ir_tokens.specs.declared.raw.RawCase.{RawCase}
 use Rattle.ir_resolve.specs.declared.names.definition.Entity.{Entity}
 use Rattle.ir_resolve.specs.declared.names.definition.Entity.TheVariants as entities
 use Rattle.ir_resolve.specs.Written.{given}
-use Rattle.ir_resolve.specs.TypedReads.{typed, read_by, named_by}
-use Rattle.ir_resolve.specs.FaultKinds.{literal_of, result_width, IsUnknownValue, IsUnknownBlock}
-use Rattle.ir_resolve.specs.Means.{ValueMeans, BlockMeans, IncomingMeans, OpMeans, InstMeans, CaseMeans, EndMeans, BlockIsOf, ParameterMeans, MeansBy}
+use Rattle.ir_resolve.specs.TypedReads.{typed, read_by, named_by, read_by_call}
+use Rattle.ir_resolve.specs.FaultKinds.{literal_of, result_width, IsUnknownValue, IsUnknownBlock, truth_of}
+use Rattle.ir_resolve.specs.Means.{ValueMeans, BlockMeans, IncomingMeans, OpMeans, InstMeans, CaseMeans, EndMeans, BlockIsOf, ParameterMeans, MeansBy, ArgumentsMean}
 use Rattle.ir_resolve.specs.Views.{Known, CallsIn, entity_in}
 use Rattle.ir_resolve.specs.KnownNames.{ReadsAreKnown, TargetsAreKnown, IsReadyInst, IsReadyEnd, IsReadyBlock}
 
@@ -75,6 +78,14 @@ module _ (known : List Known) where
       let (rest, all) = some_entries width ws reads.1 targets.1 in
       ((a, b) ∷ rest, ((a_is, b_is), all))
 
+  some_call : (w : RawArguments) → ReadsAreKnown known (read_by_call w) → (op : Op) × ArgumentsMean (CallsIn known) w op
+  some_call (arguments.Binary op a b) reads =
+      let (x, x_is) = some_value a.operand.value reads.0 in
+      let (y, y_is) = some_value b.operand.value reads.1.0 in
+      (core.Binary op no_flags x y, (refl, refl, x_is, y_is))
+  some_call (arguments.Unary op a truth) reads =
+      let (x, x_is) = some_value a.operand.value reads.0 in (core.Unary op (truth_of truth) x, (refl, refl, x_is))
+
   some_op : (w : RawOp) → ReadsAreKnown known (read_by w) → TargetsAreKnown known (named_by w) → (op : Op) × OpMeans (CallsIn known) w op
   some_op (ops.Binary op flags width a b) reads targets =
       let (x, x_is) = some_value a.value reads.0 in
@@ -84,6 +95,7 @@ module _ (known : List Known) where
       let (x, x_is) = some_value a.value reads.0 in
       let (y, y_is) = some_value b.value reads.1.0 in
       (core.Compare pred samesign width x y, (refl, refl, refl, x_is, y_is))
+  some_op (ops.Call w) reads targets = some_call w.arguments reads
   some_op (ops.Select c a b) reads targets =
       let (z, z_is) = some_value c.operand.value reads.0 in
       let (x, x_is) = some_value a.operand.value reads.1.0 in

@@ -4,6 +4,7 @@ use Rattle.std.specs.List.{AllZip, zip}
 use Rattle.std.proofs.lemmas.Bool.{cases_lt}
 use Rattle.ops.specs.Number.{Number}
 use Rattle.ops.specs.declared.opcode.Opcode.{Opcode}
+use Rattle.ops.specs.declared.opcode.Unary.{Unary}
 use Rattle.ops.specs.declared.opcode.Flags.{Flags}
 use Rattle.ops.specs.declared.comparison.Pred.{Pred}
 use Rattle.ops.specs.declared.conversion.Cast.{Cast}
@@ -23,6 +24,8 @@ use Rattle.ir_tokens.specs.declared.raw.RawFunction.{RawFunction}
 use Rattle.ir_tokens.specs.declared.raw.RawParameter.{RawParameter}
 use Rattle.ir_tokens.specs.declared.raw.RawBlock.{RawBlock}
 use Rattle.ir_tokens.specs.declared.raw.RawInst.{RawInst}
+use Rattle.ir_tokens.specs.declared.raw.RawArguments.{RawArguments}
+use Rattle.ir_tokens.specs.declared.raw.RawArguments.TheVariants as arguments
 use Rattle.ir_tokens.specs.declared.raw.RawOp.{RawOp}
 use Rattle.ir_tokens.specs.declared.raw.RawOp.TheVariants as ops
 use Rattle.ir_tokens.specs.declared.raw.RawTerminator.{RawTerminator}
@@ -37,7 +40,7 @@ use Rattle.ir_tokens.specs.declared.fault.IrFaultKind.TheVariants.{Numbering, Du
 use Rattle.ir_resolve.specs.FirstLines.{IsFirstLine}
 use Rattle.ir_resolve.specs.Written.{Thing, Value, Block, written_names, identifiers_of, Calls}
 use Rattle.ir_resolve.specs.FaultKinds.{literal_of, Repeats, HasName, IsWrittenOn}
-use Rattle.ir_resolve.specs.Means.{ValueMeans, IncomingMeans, OpMeans, InstMeans, CaseMeans, EndMeans, BlockIsOf, ParameterMeans, MeansBy, Means}
+use Rattle.ir_resolve.specs.Means.{ValueMeans, IncomingMeans, OpMeans, InstMeans, CaseMeans, EndMeans, BlockIsOf, ParameterMeans, MeansBy, Means, ArgumentsMean}
 use Rattle.ir_resolve.specs.Faults.{rank, HasFaultAt, HasNoFault, IsFirstNameFault}
 use Rattle.ir_resolve.specs.Views.{Known}
 use Rattle.ir_resolve.specs.Definitions.{Defined, definitions_of}
@@ -101,39 +104,60 @@ module _ (C : Called → Thing → Type 0) (one_register : (x : Called) (r s : R
   incoming w d e h k = pair (value w.value.value d.0 e.0 h.0 k.0) (one_block w.block.identifier d.1 e.1 h.1 k.1)
 
   -- of an instruction, and of its parts
+  -- of a call
+  call : (w : RawArguments) (o p : Op) → ArgumentsMean C w o → ArgumentsMean C w p → o ≡ p
+  call (arguments.Binary op a b) (core.Binary c set x y) (core.Binary c' set' x' y') h k =
+      cc (h.0, h.1, k.0, k.1, value a.operand.value x x' h.2 k.2, value b.operand.value y y' h.3 k.3)
+  call (arguments.Binary op a b) (core.Binary c set x y) p h k = absurd k
+  call (arguments.Binary op a b) o p h k = absurd h
+  call (arguments.Unary op a truth) (core.Unary c t x) (core.Unary c' t' x') h k = cc (h.0, h.1, k.0, k.1, value a.operand.value x x' h.2 k.2)
+  call (arguments.Unary op a truth) (core.Unary c t x) p h k = absurd k
+  call (arguments.Unary op a truth) o p h k = absurd h
+
   binary : (w : RawOp) (c : Opcode) (set : Flags) (x y : Operand) (p : Op) → OpMeans C w (core.Binary c set x y) → OpMeans C w p → core.Binary c set x y ≡ p
   binary (ops.Binary op flags n a b) c set x y (core.Binary c' set' x' y') h k = cc (h.0, h.1, k.0, k.1, value a.value x x' h.2 k.2, value b.value y y' h.3 k.3)
   binary (ops.Binary op flags n a b) c set x y p h k = absurd k
+  binary (ops.Call w) c set x y p h k = call w.arguments (core.Binary c set x y) p h k
   binary w c set x y p h k = absurd h
 
   compare : (w : RawOp) (c : Pred) (s : Bool) (m : ℕ) (x y : Operand) (p : Op) → OpMeans C w (core.Compare c s m x y) → OpMeans C w p → core.Compare c s m x y ≡ p
   compare (ops.Compare pred samesign n a b) c s m x y (core.Compare c' s' m' x' y') h k = cc (h.0, h.1, h.2, k.0, k.1, k.2, value a.value x x' h.3 k.3, value b.value y y' h.4 k.4)
   compare (ops.Compare pred samesign n a b) c s m x y p h k = absurd k
+  compare (ops.Call w) c s m x y p h k = call w.arguments (core.Compare c s m x y) p h k
   compare w c s m x y p h k = absurd h
+
+  unary : (w : RawOp) (c : Unary) (t : Bool) (x : Operand) (p : Op) → OpMeans C w (core.Unary c t x) → OpMeans C w p → core.Unary c t x ≡ p
+  unary (ops.Call w) c t x p h k = call w.arguments (core.Unary c t x) p h k
+  unary w c t x p h k = absurd h
 
   select : (w : RawOp) (z x y : Operand) (p : Op) → OpMeans C w (core.Select z x y) → OpMeans C w p → core.Select z x y ≡ p
   select (ops.Select c a b) z x y (core.Select z' x' y') h k = cc (value c.operand.value z z' h.0 k.0, value a.operand.value x x' h.1 k.1, value b.operand.value y y' h.2 k.2)
   select (ops.Select c a b) z x y p h k = absurd k
+  select (ops.Call w) z x y p h k = call w.arguments (core.Select z x y) p h k
   select w z x y p h k = absurd h
 
   convert : (w : RawOp) (c : Cast) (g : Flags) (m : ℕ) (x : Operand) (p : Op) → OpMeans C w (core.Convert c g m x) → OpMeans C w p → core.Convert c g m x ≡ p
   convert (ops.Convert cast flags from a to) c g m x (core.Convert c' g' m' x') h k = cc (h.0, h.1, h.2, k.0, k.1, k.2, value a.value x x' h.3 k.3)
   convert (ops.Convert cast flags from a to) c g m x p h k = absurd k
+  convert (ops.Call w) c g m x p h k = call w.arguments (core.Convert c g m x) p h k
   convert w c g m x p h k = absurd h
 
   freeze : (w : RawOp) (x : Operand) (p : Op) → OpMeans C w (core.Freeze x) → OpMeans C w p → core.Freeze x ≡ p
   freeze (ops.Freeze n a) x (core.Freeze x') h k = ap core.Freeze (value a.value x x' h k)
   freeze (ops.Freeze n a) x p h k = absurd k
+  freeze (ops.Call w) x p h k = call w.arguments (core.Freeze x) p h k
   freeze w x p h k = absurd h
 
   phi : (w : RawOp) (entries : List (Operand × ℕ)) (p : Op) → OpMeans C w (core.Phi entries) → OpMeans C w p → core.Phi entries ≡ p
   phi (ops.Phi n written) entries (core.Phi others) h k = ap core.Phi (zip_once (IncomingMeans C) incoming written entries others h k)
   phi (ops.Phi n written) entries p h k = absurd k
+  phi (ops.Call w) entries p h k = call w.arguments (core.Phi entries) p h k
   phi w entries p h k = absurd h
 
   op : (w : RawOp) (o p : Op) → OpMeans C w o → OpMeans C w p → o ≡ p
   op w (core.Binary c set x y) p h k = binary w c set x y p h k
   op w (core.Compare c s m x y) p h k = compare w c s m x y p h k
+  op w (core.Unary c t x) p h k = unary w c t x p h k
   op w (core.Select z x y) p h k = select w z x y p h k
   op w (core.Convert c g m x) p h k = convert w c g m x p h k
   op w (core.Freeze x) p h k = freeze w x p h k

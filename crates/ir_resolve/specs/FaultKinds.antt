@@ -1,5 +1,5 @@
 -- The kinds of faults that a function as written may have before it is known by places: for each, the lines at which it has it.
-use Rattle.std.specs.Prelude.{◌≡◌, ◌≢◌, ◌⊎◌, ℕ, List, take, Option, Some, None, Contains, slice_get}
+use Rattle.std.specs.Prelude.{◌≡◌, ◌≢◌, ◌⊎◌, ℕ, ◌==◌, Bool, false, List, take, Option, Some, None, Contains, slice_get}
 use Rattle.ops.specs.Number.{Number}
 use Rattle.ops.specs.Conversion.{CastFits}
 use Rattle.ir_core.specs.Names.{Identifier, Numbered}
@@ -12,6 +12,10 @@ use Rattle.ir_tokens.specs.declared.raw.RawBlock.{RawBlock}
 use Rattle.ir_tokens.specs.declared.raw.RawInst.{RawInst}
 use Rattle.ir_tokens.specs.declared.raw.RawOp.{RawOp}
 use Rattle.ir_tokens.specs.declared.raw.RawOp.TheVariants as ops
+use Rattle.ir_tokens.specs.declared.raw.RawArguments.{RawArguments}
+use Rattle.ir_tokens.specs.declared.raw.RawArguments.TheVariants as arguments
+use Rattle.ir_tokens.specs.declared.raw.RawCall.{RawCall}
+use Rattle.ir_tokens.specs.declared.raw.TypedOperand.{TypedOperand}
 use Rattle.ir_tokens.specs.declared.raw.RawTerminator.{RawTerminator}
 use Rattle.ir_tokens.specs.declared.raw.RawTerminator.TheVariants as terminators
 use Rattle.ir_tokens.specs.declared.raw.RawValue.{RawValue}
@@ -67,6 +71,16 @@ literal_of (values.Register x) = None
 literal_of values.Undef = None
 literal_of values.Poison = None
 
+-- whether it is the number 1
+abbrev pub is_one : Option Number → Bool
+is_one (Some n) = n.number == 1
+is_one None = false
+
+-- the truth value of a call: false where none is written
+abbrev pub truth_of : Option TypedOperand → Bool
+truth_of None = false
+truth_of (Some truth) = is_one (literal_of truth.operand.value)
+
 -- a case of a switch has the number, and stands on the line
 abbrev pub HasNumber : RawCase → ℕ → Type 0
 HasNumber c number = (n : Number) × (literal_of c.value.value ≡ Some n) × (n.number ≡ number)
@@ -110,6 +124,7 @@ UnknownAt raw = UnknownIn (Calls raw) (reads_of raw) (targets_of raw)
 abbrev pub result_width : RawOp → ℕ
 result_width (ops.Binary op flags width a b) = width
 result_width (ops.Compare pred samesign width a b) = 1
+result_width (ops.Call call) = call.width
 result_width (ops.Select c a b) = a.width
 result_width (ops.Convert cast flags from a to) = to
 result_width (ops.Freeze width a) = width
@@ -139,11 +154,26 @@ ValueClashes CallsThis width value =
 abbrev pub ReadClashesIn : (Called → Register → ℕ → Type 0) → List Typed → ℕ → Type 0
 ReadClashesIn CallsThis reads = SomeAt reads (λ t at. ValueClashes CallsThis t.width t.operand.value × (t.operand.line ≡ at))
 
--- the types that are written in an instruction don't go together: a condition that is no i1, arms of two types, or a cast that is
--- not to a strictly smaller or larger type; on the line of that operand, of the second arm, or of what is cast
+-- the truth value of a call, if it has one, is a number of i1
+abbrev pub TruthIsBit : Option TypedOperand → Type 0
+TruthIsBit None = Unit {0}
+TruthIsBit (Some truth) = (truth.width ≡ 1) × ¬ LiteralClashes 1 truth.operand.value
+
+-- the types in a call go together: operands and the name of the intrinsic have the width of the result
+abbrev pub ArgumentsFit : ℕ → RawArguments → Type 0
+ArgumentsFit width (arguments.Binary op a b) = (a.width ≡ width) × (b.width ≡ width)
+ArgumentsFit width (arguments.Unary op a truth) = (a.width ≡ width) × TruthIsBit truth
+
+abbrev pub CallFits : RawCall → Type 0
+CallFits call = (call.named ≡ call.width) × ArgumentsFit call.width call.arguments
+
+-- the types that are written in an instruction don't go together: a condition that is no i1, arms of two types, a cast that is not to
+-- a strictly smaller or larger type, or a call of another width; on the line of that operand, of the second arm, of what is cast, or of
+-- the word `call`
 abbrev pub OpClashesAt : RawOp → ℕ → Type 0
 OpClashesAt (ops.Select c a b) line = ((c.width ≢ 1) × (c.operand.line ≡ line)) ⊎ ((a.width ≢ b.width) × (b.operand.line ≡ line))
 OpClashesAt (ops.Convert cast flags from a to) line = ¬ CastFits cast from to × (a.line ≡ line)
+OpClashesAt (ops.Call call) line = ¬ CallFits call × (call.line ≡ line)
 OpClashesAt (ops.Binary op flags width a b) line = ⊥
 OpClashesAt (ops.Compare pred samesign width a b) line = ⊥
 OpClashesAt (ops.Freeze width a) line = ⊥

@@ -1,7 +1,8 @@
 -- What a function that is read meets, as far as names, types and cases go (`IsFormed` in `ir_core`), where it is written as the grammar
 -- has it.
-use Rattle.std.specs.Prelude.{ℕ, ◌<◌, length, Contains}
+use Rattle.std.specs.Prelude.{◌≡◌, ℕ, ◌<◌, length, is_some, Contains}
 use Rattle.ops.specs.Flags.{FlagsFit, CastFlagsFit}
+use Rattle.ops.specs.Truths.{has_truth}
 use Rattle.ir_core.specs.declared.function.Function.{Function}
 use Rattle.ir_core.specs.declared.function.Block.{Block}
 use Rattle.ir_core.specs.declared.instruction.Inst.{Inst}
@@ -12,13 +13,21 @@ use Rattle.ir_core.specs.Reads.{Read, IsRead}
 use Rattle.ir_tokens.specs.declared.raw.RawFunction.{RawFunction}
 use Rattle.ir_tokens.specs.declared.raw.RawBlock.{RawBlock}
 use Rattle.ir_tokens.specs.declared.raw.RawInst.{RawInst}
+use Rattle.ir_tokens.specs.declared.raw.RawArguments.{RawArguments}
+use Rattle.ir_tokens.specs.declared.raw.RawArguments.TheVariants as arguments
 use Rattle.ir_tokens.specs.declared.raw.RawOp.{RawOp}
-use Rattle.ir_tokens.specs.declared.raw.RawOp.TheVariants.{Binary, Compare, Select, Convert, Freeze, Phi}
+use Rattle.ir_tokens.specs.declared.raw.RawOp.TheVariants.{Binary, Compare, Call, Select, Convert, Freeze, Phi}
 
--- the flags of an operation are its own, and a phi has an entry
+-- a call has a truth value exactly where its intrinsic has one
+abbrev pub IsWellWrittenCall : RawArguments → Type 0
+IsWellWrittenCall (arguments.Binary op a b) = Unit {0}
+IsWellWrittenCall (arguments.Unary op a truth) = is_some truth ≡ has_truth op
+
+-- the flags of an operation are its own, and so is the truth value of a call; a phi has an entry
 abbrev pub IsWellWrittenOp : RawOp → Type 0
 IsWellWrittenOp (Binary op flags width a b) = FlagsFit op flags
 IsWellWrittenOp (Compare pred samesign width a b) = Unit {0}
+IsWellWrittenOp (Call call) = IsWellWrittenCall call.arguments
 IsWellWrittenOp (Select c a b) = Unit {0}
 IsWellWrittenOp (Convert cast flags from a to) = CastFlagsFit cast flags
 IsWellWrittenOp (Freeze width a) = Unit {0}

@@ -1,6 +1,7 @@
 -- What a function as written means: the function whose registers and blocks are known by their places.
 use Rattle.std.specs.Prelude.{◌≡◌, ℕ, Some}
 use Rattle.std.specs.List.{AllZip}
+use Rattle.ops.specs.Flags.{no_flags}
 use Rattle.ops.specs.Number.{Number}
 use Rattle.ir_tokens.specs.declared.called.Identifier.{Identifier as Called}
 use Rattle.ir_core.specs.declared.function.Function.{Function}
@@ -19,6 +20,8 @@ use Rattle.ir_tokens.specs.declared.raw.RawBlock.{RawBlock}
 use Rattle.ir_tokens.specs.declared.raw.RawInst.{RawInst}
 use Rattle.ir_tokens.specs.declared.raw.RawOp.{RawOp}
 use Rattle.ir_tokens.specs.declared.raw.RawOp.TheVariants as ops
+use Rattle.ir_tokens.specs.declared.raw.RawArguments.{RawArguments}
+use Rattle.ir_tokens.specs.declared.raw.RawArguments.TheVariants as arguments
 use Rattle.ir_tokens.specs.declared.raw.RawTerminator.{RawTerminator}
 use Rattle.ir_tokens.specs.declared.raw.RawTerminator.TheVariants as terminators
 use Rattle.ir_tokens.specs.declared.raw.RawValue.{RawValue}
@@ -26,7 +29,7 @@ use Rattle.ir_tokens.specs.declared.raw.RawValue.TheVariants as values
 use Rattle.ir_tokens.specs.declared.raw.RawIncoming.{RawIncoming}
 use Rattle.ir_tokens.specs.declared.raw.RawCase.{RawCase}
 use Rattle.ir_resolve.specs.Written.{Thing, Value, Block, Calls, given}
-use Rattle.ir_resolve.specs.FaultKinds.{literal_of, result_width}
+use Rattle.ir_resolve.specs.FaultKinds.{literal_of, result_width, truth_of}
 
 -- Where these names call these things:
 module _ (CallsThing : Called → Thing → Type 0) where
@@ -46,9 +49,17 @@ module _ (CallsThing : Called → Thing → Type 0) where
   abbrev pub IncomingMeans : RawIncoming → Operand × ℕ → Type 0
   IncomingMeans written entry = ValueMeans written.value.value entry.0 × BlockMeans written.block.identifier entry.1
 
+  abbrev pub ArgumentsMean : RawArguments → Op → Type 0
+  ArgumentsMean (arguments.Binary op a b) (core.Binary opcode set x y) =
+      (opcode ≡ op) × (set ≡ no_flags) × ValueMeans a.operand.value x × ValueMeans b.operand.value y
+  ArgumentsMean (arguments.Unary op a truth) (core.Unary intrinsic t x) = (intrinsic ≡ op) × (t ≡ truth_of truth) × ValueMeans a.operand.value x
+  -- no other instruction is meant
+  ArgumentsMean written op = ⊥
+
   abbrev pub OpMeans : RawOp → Op → Type 0
   OpMeans (ops.Binary op flags width a b) (core.Binary opcode set x y) = (opcode ≡ op) × (set ≡ flags) × ValueMeans a.value x × ValueMeans b.value y
   OpMeans (ops.Compare pred samesign width a b) (core.Compare p s w x y) = (p ≡ pred) × (s ≡ samesign) × (w ≡ width) × ValueMeans a.value x × ValueMeans b.value y
+  OpMeans (ops.Call call) op = ArgumentsMean call.arguments op
   OpMeans (ops.Select c a b) (core.Select z x y) = ValueMeans c.operand.value z × ValueMeans a.operand.value x × ValueMeans b.operand.value y
   OpMeans (ops.Convert cast flags from a to) (core.Convert c g w x) = (c ≡ cast) × (g ≡ flags) × (w ≡ from) × ValueMeans a.value x
   OpMeans (ops.Freeze width a) (core.Freeze x) = ValueMeans a.value x

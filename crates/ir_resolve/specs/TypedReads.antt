@@ -5,6 +5,8 @@ use Rattle.ir_tokens.specs.declared.raw.RawFunction.{RawFunction}
 use Rattle.ir_tokens.specs.declared.raw.RawBlock.{RawBlock}
 use Rattle.ir_tokens.specs.declared.raw.RawOp.{RawOp}
 use Rattle.ir_tokens.specs.declared.raw.RawOp.TheVariants as ops
+use Rattle.ir_tokens.specs.declared.raw.RawArguments.{RawArguments}
+use Rattle.ir_tokens.specs.declared.raw.RawArguments.TheVariants as arguments
 use Rattle.ir_tokens.specs.declared.raw.RawTerminator.{RawTerminator}
 use Rattle.ir_tokens.specs.declared.raw.RawTerminator.TheVariants as terminators
 use Rattle.ir_tokens.specs.declared.raw.RawOperand.{RawOperand}
@@ -19,10 +21,16 @@ pub record Typed : Type 0 where
 abbrev pub typed : ℕ → RawOperand → Typed
 typed width operand = record { width = width; operand = operand }
 
+-- what a call reads; its truth value is part of what is called
+abbrev pub read_by_call : RawArguments → List Typed
+read_by_call (arguments.Binary op a b) = typed a.width a.operand ∷ typed b.width b.operand ∷ []
+read_by_call (arguments.Unary op a truth) = typed a.width a.operand ∷ []
+
 -- what an instruction reads
 abbrev pub read_by : RawOp → List Typed
 read_by (ops.Binary op flags width a b) = typed width a ∷ typed width b ∷ []
 read_by (ops.Compare pred samesign width a b) = typed width a ∷ typed width b ∷ []
+read_by (ops.Call call) = read_by_call call.arguments
 read_by (ops.Select c a b) = typed c.width c.operand ∷ typed a.width a.operand ∷ typed b.width b.operand ∷ []
 read_by (ops.Convert cast flags from a to) = typed from a ∷ []
 read_by (ops.Freeze width a) = typed width a ∷ []
@@ -32,6 +40,7 @@ read_by (ops.Phi width incoming) = map (λ i. typed width i.value) incoming
 abbrev pub named_by : RawOp → List RawIdentifier
 named_by (ops.Binary op flags width a b) = []
 named_by (ops.Compare pred samesign width a b) = []
+named_by (ops.Call call) = []
 named_by (ops.Select c a b) = []
 named_by (ops.Convert cast flags from a to) = []
 named_by (ops.Freeze width a) = []

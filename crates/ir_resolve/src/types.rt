@@ -3,7 +3,7 @@
 ghost use Rattle.std.specs.Prelude.{◌≡◌, ◌↔◌, map, IsTrue};
 ghost use Rattle.ops.specs.Conversion.{CastFits};
 ghost use Rattle.ir_resolve.specs.FirstLines.{IsFirst, SomeAt};
-ghost use Rattle.ir_resolve.specs.FaultKinds.{LiteralClashes, ValueClashes, ReadClashesIn, OpClashesAt, CaseClashes, EndClashesAt, BlockClashesAt};
+ghost use Rattle.ir_resolve.specs.FaultKinds.{LiteralClashes, ValueClashes, ReadClashesIn, TruthIsBit, ArgumentsFit, CallFits, OpClashesAt, CaseClashes, EndClashesAt, BlockClashesAt};
 ghost use Rattle.ir_resolve.specs.Views.{known_by, CallsRegisterIn};
 ghost use Rattle.ir_resolve.specs.Uses.{seen_read};
 
@@ -11,7 +11,9 @@ use crate::least::lesser;
 use crate::literal::literal;
 use crate::names::{Names, register};
 use crate::uses::Read;
-use ir_tokens::{RawBlock, RawCase, RawInst, RawOp, RawTerminator, RawValue};
+use ir_tokens::{
+    RawArguments, RawBlock, RawCall, RawCase, RawInst, RawOp, RawTerminator, RawValue, TypedOperand,
+};
 use ops::{Cast, Width};
 
 /// Whether the value is a literal of another width.
@@ -60,6 +62,33 @@ fn cast_fits(cast: Cast, from: Width, to: Width) -> bool
     }
 }
 
+/// Whether the truth value of a call, if it has one, is a number of one bit.
+fn truth_is_bit(truth: &Option<TypedOperand>) -> bool
+    ensures { IsTrue result ↔ TruthIsBit truth.now }
+{
+    match truth {
+        Some(truth) => truth.width.bits() == 1 && !literal_clashes(1, &truth.operand.value),
+        None => true,
+    }
+}
+
+/// Whether a call's operands have the width of the result.
+fn arguments_fit(width: Width, arguments: &RawArguments) -> bool
+    ensures { IsTrue result ↔ ArgumentsFit width arguments.now }
+{
+    match arguments {
+        RawArguments::Binary(_, left, right) => left.width == width && right.width == width,
+        RawArguments::Unary(_, operand, truth) => operand.width == width && truth_is_bit(truth),
+    }
+}
+
+/// Whether the types in a call go together.
+fn call_fits(call: &RawCall) -> bool
+    ensures { IsTrue result ↔ CallFits call.now }
+{
+    call.named == call.width && arguments_fit(call.width, &call.arguments)
+}
+
 /// The first line at which the types that an instruction writes do not go together.
 fn op_clash(op: &RawOp) -> Option<usize>
     ensures { IsFirst (OpClashesAt op.now) result }
@@ -72,6 +101,7 @@ fn op_clash(op: &RawOp) -> Option<usize>
         RawOp::Convert(cast, _, from, operand, to) => {
             (!cast_fits(*cast, *from, *to)).then_some(operand.line)
         }
+        RawOp::Call(call) => (!call_fits(call)).then_some(call.line),
         RawOp::Binary(_, _, _, _, _)
         | RawOp::Compare(_, _, _, _, _)
         | RawOp::Freeze(_, _)

@@ -1,11 +1,12 @@
 //! What a function as written reads, and which blocks it names.
 
 ghost use Rattle.std.specs.Prelude.{◌≡◌, [], ◌∷◌, map, OnOk, IfOk};
-ghost use Rattle.ir_resolve.specs.TypedReads.{typed, read_by, named_by, read_at_end, named_at_end, read_in, named_in, reads_of, targets_of};
+ghost use Rattle.ir_resolve.specs.TypedReads.{typed, read_by, read_by_call, named_by, read_at_end, named_at_end, read_in, named_in, reads_of, targets_of};
 ghost use Rattle.ir_resolve.specs.Uses.{seen_reads, seen_targets, Adds};
 
 use ir_tokens::{
-    RawBlock, RawCase, RawFunction, RawIdentifier, RawIncoming, RawOp, RawOperand, RawTerminator,
+    RawArguments, RawBlock, RawCase, RawFunction, RawIdentifier, RawIncoming, RawOp, RawOperand,
+    RawTerminator,
 };
 use ops::Width;
 use std::alloc::{AllocError, Global};
@@ -61,6 +62,19 @@ impl<'a> Uses<'a> {
         Ok(())
     }
 
+    /// Adds what a call reads.
+    fn add_arguments(&mut self, arguments: &'a RawArguments) -> Result<(), AllocError>
+        ensures { OnOk result (Adds self.old self.new (read_by_call arguments.now) []) }
+    {
+        match arguments {
+            RawArguments::Binary(_, left, right) => {
+                self.add_read(left.width, &left.operand)?;
+                self.add_read(right.width, &right.operand)
+            }
+            RawArguments::Unary(_, operand, _) => self.add_read(operand.width, &operand.operand),
+        }
+    }
+
     /// Adds what an instruction reads and names.
     fn add_op(&mut self, op: &'a RawOp) -> Result<(), AllocError>
         ensures { OnOk result (Adds self.old self.new (read_by op.now) (named_by op.now)) }
@@ -70,6 +84,7 @@ impl<'a> Uses<'a> {
                 self.add_read(*width, left)?;
                 self.add_read(*width, right)
             }
+            RawOp::Call(call) => self.add_arguments(&call.arguments),
             RawOp::Select(condition, first, second) => {
                 self.add_read(condition.width, &condition.operand)?;
                 self.add_read(first.width, &first.operand)?;

@@ -66,6 +66,7 @@ module _ (C : Called → Thing → Type 0) where
       (map (λ e. e.1) entries, made_pairs IsBlockName (IncomingMeans C) (λ (i : RawIncoming). i.block) (λ (e : Operand × ℕ). e.1) (λ i e means. means.1) written entries h)
   op_names (ops.Binary op flags width a b) o h = ([], tt)
   op_names (ops.Compare pred samesign width a b) o h = ([], tt)
+  op_names (ops.Call w) o h = ([], tt)
   op_names (ops.Select c a b) o h = ([], tt)
   op_names (ops.Convert cast flags from a to) o h = ([], tt)
   op_names (ops.Freeze width a) o h = ([], tt)
@@ -76,6 +77,7 @@ module _ (C : Called → Thing → Type 0) where
   pub op_fits : (w : RawOp) (width line : ℕ) (o : Op) → OpMeans C w o → width ≡ result_width w → TypesFit w → IsTyped width o → ¬ OpClashesAt w line
   op_fits (ops.Select c a b) width line o h wide fit typed clash = elim clash [ inl (apart, on) ↦ apart fit.0 | inr (apart, on) ↦ apart (sym fit.1) ]
   op_fits (ops.Convert cast flags from a to) width line (core.Convert c g n x) h wide fit typed clash = clash.0 (rw (h.0, h.2, wide) at typed.1)
+  op_fits (ops.Call w) width line o h wide fit typed clash = clash.0 fit
   op_fits (ops.Binary op flags n a b) width line o h wide fit typed clash = clash
   op_fits (ops.Compare pred samesign n a b) width line o h wide fit typed clash = clash
   op_fits (ops.Freeze n a) width line o h wide fit typed clash = clash

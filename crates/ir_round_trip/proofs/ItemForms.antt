@@ -16,8 +16,8 @@ use Rattle.ir_instructions.specs.Punctuation as marks
 use Rattle.ir_instructions.specs.Parts.{Is}
 use Rattle.ir_text.specs.Laws.{LexemesAreTokens}
 use Rattle.ir_text.specs.Lexemes.{Lexeme, HasForm, IsGroupText, AreLexemes, bytes_of, goes_on, placed_from, spelled}
-use Rattle.ir_parse.specs.Items.{is_item_word}
-use Rattle.ir_parse.specs.Grammar.{SpellsItem, of_word, of_word_and_group, of_number, of_group, of_quoted, of_key_and_value}
+use Rattle.ir_instructions.specs.Items.{is_item_word}
+use Rattle.ir_instructions.specs.ItemGrammar.{SpellsItem, of_word, of_word_and_group, of_number, of_group, of_quoted, of_key_and_value}
 use Rattle.ir_text.specs.Forms.{IsItem}
 use Rattle.ir_round_trip.proofs.StatementForms.{Yields, on_line}
 

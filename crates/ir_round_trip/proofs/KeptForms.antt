@@ -187,7 +187,11 @@ line_begins (InHeader word) line bytes e = by (bytes_eq bytes (codes "(") && is_
     by : (b : Bool) → cond b extents.Group extents.Itself ≡ extents.Line → begins_kept bytes ≡ true
     by true h = absurd cc
     by false h = absurd cc
-line_begins InBody line bytes e = absurd cc
+line_begins (InBody word) line bytes e = by (bytes_eq bytes (codes "(") && is_on line word) e
+  where
+    by : (b : Bool) → cond b extents.Group extents.Itself ≡ extents.Line → begins_kept bytes ≡ true
+    by true h = absurd cc
+    by false h = absurd cc
 
 pub kept_alone : (text : List ℕ) (place : Place) (at : ℕ) (t : Scanned) (rest : Span) → IsNextToken text at t → HasExtent text place t extents.Line → IsKeptLine text t.span.end rest
     → IsKeptAlone (between text t.span.start rest.end)

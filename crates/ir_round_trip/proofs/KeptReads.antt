@@ -6,7 +6,7 @@ use Rattle.ir_core.specs.declared.function.Function.{Function}
 use Rattle.ir_core.specs.declared.function.Block.{Block}
 use Rattle.ir_core.specs.declared.instruction.Inst.{Inst}
 use Rattle.ir_core.specs.declared.instruction.Op.{Op}
-use Rattle.ir_core.specs.declared.instruction.Op.TheVariants.{Binary, Compare, Select, Convert, Freeze, Phi}
+use Rattle.ir_core.specs.declared.instruction.Op.TheVariants.{Binary, Compare, Unary, Select, Convert, Freeze, Phi}
 use Rattle.ir_core.specs.declared.operand.Operand.{Operand}
 use Rattle.ir_core.specs.declared.operand.Operand.TheVariants as operands
 use Rattle.ir_core.specs.declared.terminator.Terminator.{Terminator}
@@ -63,6 +63,7 @@ module _ (kept : KeptMarks) where
     op_moved w (Compare pred samesign compared x y) = refl
     op_moved w (Select z x y) = refl
     op_moved w (Convert cast flags from x) = refl
+    op_moved w (Unary op truth x) = refl
     op_moved w (Freeze x) = refl
     op_moved w (Phi entries) = entries_moved w entries
 

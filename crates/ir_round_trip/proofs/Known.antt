@@ -22,6 +22,8 @@ use Rattle.ir_core.specs.Names.{width_of}
 use Rattle.ir_core.specs.Reads.{Read, read, end_of, reads_of, reads_at_end, reads_by, reads_in, reads_at}
 use Rattle.ir_tokens.specs.declared.raw.RawFunction.{RawFunction}
 use Rattle.ir_tokens.specs.declared.raw.RawBlock.{RawBlock}
+use Rattle.ir_tokens.specs.declared.raw.RawArguments.{RawArguments}
+use Rattle.ir_tokens.specs.declared.raw.RawArguments.TheVariants as arguments
 use Rattle.ir_tokens.specs.declared.raw.RawOp.{RawOp}
 use Rattle.ir_tokens.specs.declared.raw.RawOp.TheVariants as ops
 use Rattle.ir_tokens.specs.declared.raw.RawTerminator.{RawTerminator}
@@ -31,7 +33,7 @@ use Rattle.ir_tokens.specs.declared.raw.RawValue.TheVariants as values
 use Rattle.ir_tokens.specs.declared.raw.RawIncoming.{RawIncoming}
 use Rattle.ir_tokens.specs.declared.raw.RawCase.{RawCase}
 use Rattle.ir_resolve.specs.Written.{Thing, Value, Block}
-use Rattle.ir_resolve.specs.Means.{ValueMeans, IncomingMeans, OpMeans, InstMeans, CaseMeans, EndMeans, BlockIsOf, MeansBy}
+use Rattle.ir_resolve.specs.Means.{ValueMeans, IncomingMeans, OpMeans, InstMeans, CaseMeans, EndMeans, BlockIsOf, MeansBy, ArgumentsMean}
 use Rattle.ir_reader.proofs.Places.{contained}
 
 -- ---- what is read and named, where it stands
@@ -89,9 +91,15 @@ module _ (F G : Called → Thing → Type 0) (f : Function) (to_register : (x : 
   cases (w ∷ ws) [] there all = all
   cases (w ∷ ws) (e ∷ es) there all = ((all.0.0, to_block w.target.identifier e.1 there.0 all.0.1), cases ws es there.1 all.1)
 
+  call : (b k width : ℕ) (w : RawArguments) (o : Op) → AllKnown f (reads_of f b k width o) → ArgumentsMean F w o → ArgumentsMean G w o
+  call b k width (arguments.Binary op v w) (core.Binary c set x y) known h = (h.0, h.1, value v.operand.value x known.0 h.2, value w.operand.value y known.1.0 h.3)
+  call b k width (arguments.Unary op v truth) (core.Unary c t x) known h = (h.0, h.1, value v.operand.value x known.0 h.2)
+  call b k width w o known h = h
+
   op : (b k width : ℕ) (w : RawOp) (o : Op) → AllKnown f (reads_of f b k width o) → ((entries : List (Operand × ℕ)) → o ≡ core.Phi entries → AllThere f (map (λ e. e.1) entries)) → OpMeans F w o → OpMeans G w o
   op b k width (ops.Binary opcode flags n v w) (core.Binary c set x y) known there h = (h.0, h.1, value v.value x known.0 h.2, value w.value y known.1.0 h.3)
   op b k width (ops.Compare pred samesign n v w) (core.Compare p s m x y) known there h = (h.0, h.1, h.2, value v.value x known.0 h.3, value w.value y known.1.0 h.4)
+  op b k width (ops.Call w) o known there h = call b k width w.arguments o known h
   op b k width (ops.Select c v w) (core.Select z x y) known there h =
       (value c.operand.value z known.0 h.0, value v.operand.value x known.1.0 h.1, value w.operand.value y known.1.1.0 h.2)
   op b k width (ops.Convert cast flags from v to) (core.Convert c g n x) known there h = (h.0, h.1, h.2, value v.value x known.0 h.3)

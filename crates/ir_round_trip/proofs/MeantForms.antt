@@ -23,6 +23,8 @@ use Rattle.ir_tokens.specs.declared.raw.RawParameter.{RawParameter}
 use Rattle.ir_tokens.specs.declared.raw.RawIdentifier.{RawIdentifier}
 use Rattle.ir_tokens.specs.declared.raw.RawBlock.{RawBlock}
 use Rattle.ir_tokens.specs.declared.raw.RawInst.{RawInst}
+use Rattle.ir_tokens.specs.declared.raw.RawArguments.{RawArguments}
+use Rattle.ir_tokens.specs.declared.raw.RawArguments.TheVariants as arguments
 use Rattle.ir_tokens.specs.declared.raw.RawOp.{RawOp}
 use Rattle.ir_tokens.specs.declared.raw.RawOp.TheVariants as ops
 use Rattle.ir_tokens.specs.declared.raw.RawTerminator.{RawTerminator}
@@ -32,7 +34,7 @@ use Rattle.ir_tokens.specs.declared.raw.RawValue.TheVariants as values
 use Rattle.ir_tokens.specs.declared.raw.RawIncoming.{RawIncoming}
 use Rattle.ir_resolve.specs.Written.{Thing, Calls, name_in, given, written_in, written_names}
 use Rattle.ir_resolve.specs.FaultKinds.{literal_of, result_width}
-use Rattle.ir_resolve.specs.Means.{Means, ValueMeans, IncomingMeans, OpMeans, InstMeans, CaseMeans, EndMeans, BlockIsOf, ParameterMeans}
+use Rattle.ir_resolve.specs.Means.{Means, ValueMeans, IncomingMeans, OpMeans, InstMeans, CaseMeans, EndMeans, BlockIsOf, ParameterMeans, ArgumentsMean}
 use Rattle.ir_resolve.proofs.Forming.{literal_meant}
 use Rattle.ir_resolve.proofs.Resolved.{names_are}
 use Rattle.ir_reader.proofs.Meaning.{block_written}
@@ -40,7 +42,7 @@ use Rattle.ir_reader.proofs.Places.{somewhere, zip_right}
 use Rattle.ir_text.specs.Forms.{IsItem, IsName, IsWidth, NumberFits, OperandFits, ReadHasForms, CasesHaveForms, ParameterHasForms, FunctionHasForms}
 use Rattle.ir_round_trip.proofs.Every.{every_all, every_append, every_at, every_map, every_zip}
 use Rattle.ir_round_trip.proofs.TokenForms.{CalledFormed}
-use Rattle.ir_round_trip.proofs.StatementForms.{ValueFormed, OpFormed, InstFormed, CaseFormed, EndFormed}
+use Rattle.ir_round_trip.proofs.StatementForms.{ValueFormed, OpFormed, InstFormed, CaseFormed, EndFormed, ArgumentsFormed}
 use Rattle.ir_round_trip.proofs.ModuleForms.{WrittenFormed, BlockFormed, ParameterFormed, FunctionFormed}
 
 -- ---- numbers and widths
@@ -59,6 +61,7 @@ one_wide = (omega arith, omega arith)
 result_wide : (w : RawOp) → OpFormed w → IsWidth (result_width w)
 result_wide (ops.Binary op flags width a b) formed = formed.0
 result_wide (ops.Compare pred samesign width a b) formed = one_wide
+result_wide (ops.Call w) formed = formed.0
 result_wide (ops.Select c a b) formed = formed.1.0.0
 result_wide (ops.Convert cast flags from a to) formed = formed.1.1
 result_wide (ops.Freeze width a) formed = formed.0
@@ -83,11 +86,18 @@ module _ (C : Called → Thing → Type 0) where
         every_map (λ (e : Operand × ℕ). read e.1 (end_of f e.1) width e.0) (λ e. OperandFits e.0) ReadHasForms (λ e fits. record { width = wide; operand = fits }) entries
         (every_zip (IncomingMeans C) (λ i. ValueFormed i.value.value) (λ e. OperandFits e.0) (λ i e means formed. operand_fits i.value.value e.0 means.0 formed) ws entries all every)
 
+    call_reads : (f : Function) (width : ℕ) (w : RawArguments) (o : Op) → ArgumentsMean C w o → IsWidth width → ArgumentsFormed w → AllByRecursion ReadHasForms (reads_of f b k width o)
+    call_reads f width (arguments.Binary op a c) (core.Binary opcode set x y) means wide formed =
+        (reads_so width a.operand.value x wide means.2 formed.0.1, (reads_so width c.operand.value y wide means.3 formed.1.1, tt))
+    call_reads f width (arguments.Unary op a truth) (core.Unary intrinsic t x) means wide formed = (reads_so width a.operand.value x wide means.2 formed.1, tt)
+    call_reads f width w o means wide formed = absurd means
+
     op_reads : (f : Function) (width : ℕ) (w : RawOp) (o : Op) → OpMeans C w o → IsWidth width → OpFormed w → AllByRecursion ReadHasForms (reads_of f b k width o)
     op_reads f width (ops.Binary op flags n a c) (core.Binary opcode set x y) means wide formed = (reads_so width a.value x wide means.2 formed.1.0, (reads_so width c.value y wide means.3 formed.1.1, tt))
     op_reads f width (ops.Compare pred samesign n a c) (core.Compare p s m x y) means wide formed =
         let compared : IsWidth m = subst IsWidth (sym means.2) formed.0 in
         (reads_so m a.value x compared means.3 formed.1.0, (reads_so m c.value y compared means.4 formed.1.1, tt))
+    op_reads f width (ops.Call w) o means wide formed = call_reads f width w.arguments o means wide formed.1
     op_reads f width (ops.Select z a c) (core.Select i x y) means wide formed =
         (reads_so 1 z.operand.value i one_wide means.0 formed.0.1, (reads_so width a.operand.value x wide means.1 formed.1.0.1, (reads_so width c.operand.value y wide means.2 formed.1.1.1, tt)))
     op_reads f width (ops.Convert cast flags from a to) (core.Convert d g m x) means wide formed = (reads_so m a.value x (subst IsWidth (sym means.2) formed.0) means.3 formed.1.0, tt)

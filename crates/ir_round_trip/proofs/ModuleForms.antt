@@ -10,7 +10,8 @@ use Rattle.ir_tokens.specs.declared.raw.RawIdentifier.{RawIdentifier}
 use Rattle.ir_tokens.specs.declared.raw.RawBlock.{RawBlock}
 use Rattle.ir_instructions.specs.Grammar.{SpellsRegister, Attachment}
 use Rattle.ir_instructions.specs.Parts.{Part, Maybe, Each}
-use Rattle.ir_parse.specs.Grammar.{SpellsLabel, SpellsItem, SpellsBlock, SpellsLabelledBlock, SpellsBlocks, SpellsParameter, SpellsParameterList, SpellsParameters, SpellsBody, SpellsName, SpellsFunction, SpellsEntry}
+use Rattle.ir_parse.specs.Grammar.{SpellsLabel, SpellsBlock, SpellsLabelledBlock, SpellsBlocks, SpellsParameter, SpellsParameterList, SpellsParameters, SpellsBody, SpellsName, SpellsFunction, SpellsEntry}
+use Rattle.ir_instructions.specs.ItemGrammar.{SpellsItem}
 use Rattle.ir_text.specs.Laws.{LexemesAreTokens}
 use Rattle.ir_text.specs.Forms.{IsItem, IsKeptText, IsName, IsWidth}
 use Rattle.ir_round_trip.proofs.TokenForms.{CalledFormed, Formed}

@@ -13,9 +13,11 @@ use Rattle.ir_core.specs.declared.instruction.Op.TheVariants as core
 use Rattle.ir_tokens.specs.declared.raw.RawEntry.{RawEntry}
 use Rattle.ir_tokens.specs.declared.raw.RawEntry.TheVariants as entries
 use Rattle.ir_tokens.specs.declared.raw.RawFunction.{RawFunction}
+use Rattle.ir_tokens.specs.declared.raw.RawArguments.{RawArguments}
+use Rattle.ir_tokens.specs.declared.raw.RawArguments.TheVariants as arguments
 use Rattle.ir_tokens.specs.declared.raw.RawOp.{RawOp}
-use Rattle.ir_tokens.specs.declared.raw.RawOp.TheVariants.{Binary, Compare, Select, Convert, Freeze, Phi}
-use Rattle.ir_resolve.specs.Means.{IncomingMeans, OpMeans, InstMeans, BlockIsOf, ParameterMeans, Means}
+use Rattle.ir_tokens.specs.declared.raw.RawOp.TheVariants.{Binary, Compare, Call, Select, Convert, Freeze, Phi}
+use Rattle.ir_resolve.specs.Means.{IncomingMeans, OpMeans, InstMeans, BlockIsOf, ParameterMeans, Means, ArgumentsMean}
 use Rattle.ir_resolve.specs.Written.{Calls}
 use Rattle.ir_resolve.proofs.Pairs.{pair_of_second, same_length}
 use Rattle.ir_parse.proofs.ShorterParts.{entry-shorter}
@@ -27,10 +29,15 @@ use Rattle.ir_round_trip.proofs.Every.{every_at}
 use Rattle.ir_round_trip.proofs.WrittenSizes.{few_tokens, few_each, OpFew, InstFew, BlockFew, FunctionFew, EntryFew, entries_few}
 
 module _ (n : ℕ) where
+  call_is_no_phi : (raw : RawFunction) (w : RawArguments) (phi : List (Operand × ℕ)) → ¬ ArgumentsMean (Calls raw) w (core.Phi phi)
+  call_is_no_phi raw (arguments.Binary op a b) phi means = means
+  call_is_no_phi raw (arguments.Unary op a truth) phi means = means
+
   phi_has : (raw : RawFunction) (o : RawOp) (phi : List (Operand × ℕ)) → OpMeans (Calls raw) o (core.Phi phi) → OpFew n o → length phi ≤ n
   phi_has raw (Phi width incoming) phi means few = omega (arith, same_length (IncomingMeans (Calls raw)) incoming phi means)
   phi_has raw (Binary op flags width a b) phi means few = absurd means
   phi_has raw (Compare pred samesign width a b) phi means few = absurd means
+  phi_has raw (Call w) phi means few = absurd (call_is_no_phi raw w.arguments phi means)
   phi_has raw (Select condition a b) phi means few = absurd means
   phi_has raw (Convert cast flags from a to) phi means few = absurd means
   phi_has raw (Freeze width a) phi means few = absurd means

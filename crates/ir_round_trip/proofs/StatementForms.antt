@@ -1,5 +1,5 @@
 -- What is read of tokens that have their forms: instructions and terminators.
-use Rattle.std.proofs.Common.{◌≡◌, ℕ, Bool, true, false, cond, List, [], ◌∷◌, Some, None, sym, subst}
+use Rattle.std.proofs.Common.{◌≡◌, ℕ, Bool, true, false, cond, List, [], ◌∷◌, Option, Some, None, sym, subst}
 use Rattle.std.specs.List.{AllByRecursion}
 use Rattle.ops.specs.Number.{Number as OpsNumber}
 use Rattle.ops.specs.Integer.{residue}
@@ -10,8 +10,11 @@ use Rattle.ir_tokens.specs.Numbers.{constant_of, is_in_range, number_of}
 use Rattle.ir_tokens.specs.Tokens.{Placed, Token}
 use Rattle.ir_tokens.specs.declared.raw.RawIdentifier.{RawIdentifier}
 use Rattle.ir_tokens.specs.declared.raw.RawInst.{RawInst}
+use Rattle.ir_tokens.specs.declared.raw.RawArguments.{RawArguments}
+use Rattle.ir_tokens.specs.declared.raw.RawArguments.TheVariants as arguments
+use Rattle.ir_tokens.specs.declared.raw.RawCall.{RawCall}
 use Rattle.ir_tokens.specs.declared.raw.RawOp.{RawOp}
-use Rattle.ir_tokens.specs.declared.raw.RawOp.TheVariants.{Binary, Compare, Select, Convert, Freeze, Phi}
+use Rattle.ir_tokens.specs.declared.raw.RawOp.TheVariants.{Binary, Compare, Call, Select, Convert, Freeze, Phi}
 use Rattle.ir_tokens.specs.declared.raw.TypedOperand.{TypedOperand}
 use Rattle.ir_tokens.specs.declared.raw.RawOperand.{RawOperand}
 use Rattle.ir_tokens.specs.declared.raw.RawValue.{RawValue}
@@ -20,7 +23,12 @@ use Rattle.ir_tokens.specs.declared.raw.RawIncoming.{RawIncoming}
 use Rattle.ir_tokens.specs.declared.raw.RawTerminator.{RawTerminator}
 use Rattle.ir_tokens.specs.declared.raw.RawTerminator.TheVariants.{Return, Unreachable, Jump, Branch, Switch}
 use Rattle.ir_tokens.specs.declared.raw.RawCase.{RawCase}
-use Rattle.ir_instructions.specs.Grammar.{SpellsRegister, SpellsTarget, SpellsType, IsValueToken, SpellsOperand, SpellsTyped, Attachment, Tail, SpellsFlags, SpellsIncoming, SpellsOp, SpellsInst, SpellsCase, SpellsCases, SpellsTerminator}
+use Rattle.ir_instructions.specs.Grammar.{SpellsRegister, SpellsTarget, SpellsType, IsValueToken, SpellsOperand, SpellsTyped, Attachment, Tail, SpellsFlags, SpellsIncoming, IsOpcode, SpellsOp, SpellsInst, SpellsCase, SpellsCases, SpellsTerminator}
+use Rattle.ops.specs.declared.opcode.Opcode.{Opcode}
+use Rattle.ops.specs.declared.opcode.Unary.{Unary}
+use Rattle.ir_instructions.specs.declared.intrinsic.Intrinsic.{Intrinsic}
+use Rattle.ir_instructions.specs.CallGrammar.{Items, SpellsArgument, SpellsTruthOf, SpellsArguments, SpellsCallee, SpellsClose, SpellsMarker, unmarked, tail as tail_marker, notail, SpellsCall, intrinsic_of}
+use Rattle.ir_instructions.specs.ItemGrammar.{SpellsItem, of_word, of_word_and_group, of_number, of_group, of_quoted, of_key_and_value}
 use Rattle.ir_instructions.specs.Parts.{Part, IsOn, Is, ◌⨾◌, Each, Comma, Separated, Repeated}
 use Rattle.ir_text.specs.Forms.{IsWidth, NumberFits}
 use Rattle.ir_round_trip.proofs.TokenForms.{CalledFormed, TokenFormed, Formed}
@@ -140,9 +148,14 @@ tail = repeated (Comma ⨾ Attachment) (keep_both Comma Attachment (token _) att
 
 -- ---- instructions
 
+abbrev pub ArgumentsFormed : RawArguments → Type 0
+ArgumentsFormed (arguments.Binary op a b) = TypedFormed a.width a.operand × TypedFormed b.width b.operand
+ArgumentsFormed (arguments.Unary op a truth) = TypedFormed a.width a.operand
+
 abbrev pub OpFormed : RawOp → Type 0
 OpFormed (Binary op flags width a b) = IsWidth width × (ValueFormed a.value × ValueFormed b.value)
 OpFormed (Compare pred samesign width a b) = IsWidth width × (ValueFormed a.value × ValueFormed b.value)
+OpFormed (Call w) = IsWidth w.width × ArgumentsFormed w.arguments
 OpFormed (Select c a b) = TypedFormed c.width c.operand × (TypedFormed a.width a.operand × TypedFormed b.width b.operand)
 OpFormed (Convert cast flags from a to) = IsWidth from × (ValueFormed a.value × IsWidth to)
 OpFormed (Freeze width a) = TypedFormed width a
@@ -160,9 +173,53 @@ two_values width a b = both _ _ _ _ (type width) (both _ _ _ _ (operand width a)
 incoming : (width : ℕ) (i : RawIncoming) → Yields (SpellsIncoming width i) (ValueFormed i.value.value)
 incoming width i = after _ _ _ (token _) (before _ _ _ (operand width i.value) (keep_both _ _ (token _) (keep_both _ _ (a_register i.block) (token _))))
 
+-- ---- calls
+
+kept_item : (i : List ℕ) → Keeps (SpellsItem i)
+kept_item i tokens rest (of_word is one) formed = token _ tokens rest one formed
+kept_item i tokens rest (of_word_and_group name group is same two) formed = keep_both _ _ (token _) (token _) tokens rest two formed
+kept_item i tokens rest (of_number one) formed = token _ tokens rest one formed
+kept_item i tokens rest (of_group one) formed = token _ tokens rest one formed
+kept_item i tokens rest (of_quoted one) formed = token _ tokens rest one formed
+kept_item i tokens rest (of_key_and_value key value same three) formed = keep_both _ _ (token _) (keep_both _ _ (token _) (token _)) tokens rest three formed
+
+items : Keeps Items
+items tokens rest (xs, h) formed = keep_each SpellsItem kept_item xs tokens rest h formed
+
+argument : (t : TypedOperand) → Yields (SpellsArgument t) (TypedFormed t.width t.operand)
+argument t = both _ _ _ _ (type t.width) (after _ _ _ items (operand t.width t.operand))
+
+truth : (op : Unary) (t : Option TypedOperand) → Keeps (SpellsTruthOf op t)
+truth op None tokens rest (own, same) formed = subst Formed same formed
+truth op (Some t) tokens rest (own, (middle, comma, (value, h))) formed = (argument t middle rest h (token _ tokens middle comma formed)).0
+
+call_arguments : (w : RawArguments) → Yields (SpellsArguments w) (ArgumentsFormed w)
+call_arguments (arguments.Binary op a b) = both _ _ _ _ (argument a) (after _ _ _ (token _) (argument b))
+call_arguments (arguments.Unary op a t) = before _ _ _ (argument a) (truth op t)
+
+callee : (named : Intrinsic × ℕ) → Keeps (SpellsCallee named)
+callee named tokens rest (written, name, called, intrinsic, one) formed = token _ tokens rest one formed
+
+close : Keeps SpellsClose
+close tokens rest (line, stop, (middle, one, (xs, taken, h, same, all))) formed = items middle rest (xs, h) (word line _ tokens middle one formed)
+
+marker : Keeps SpellsMarker
+marker tokens rest (unmarked same) formed = subst Formed same formed
+marker tokens rest (tail_marker one) formed = token _ tokens rest one formed
+marker tokens rest (notail one) formed = token _ tokens rest one formed
+
+call : (w : RawCall) → Yields (SpellsCall w) (IsWidth w.width × ArgumentsFormed w.arguments)
+call w =
+    after _ _ _ marker (after _ _ _ (word w.line _) (after _ _ _ items (both _ _ _ _ (type w.width) (after _ _ _ (callee (intrinsic_of w.arguments, w.named))
+    (after _ _ _ (token _) (before _ _ _ (call_arguments w.arguments) close))))))
+
+an_opcode : (opcode : Opcode) → Keeps (IsOpcode opcode)
+an_opcode opcode tokens rest (own, one) formed = token _ tokens rest one formed
+
 op : (o : RawOp) → Yields (SpellsOp o) (OpFormed o)
-op (Binary opcode fs width a b) = after _ _ _ (token _) (after _ _ _ (flags (flags_of opcode) fs) (two_values width a b))
+op (Binary opcode fs width a b) = after _ _ _ (an_opcode opcode) (after _ _ _ (flags (flags_of opcode) fs) (two_values width a b))
 op (Compare pred samesign width a b) = after _ _ _ (token _) (after _ _ _ (flags flags_of_icmp (icmp_flags samesign)) (after _ _ _ (token _) (two_values width a b)))
+op (Call w) = call w
 op (Select c a b) = after _ _ _ (token _) (both _ _ _ _ (typed c) (after _ _ _ (token _) (both _ _ _ _ (typed a) (after _ _ _ (token _) (typed b)))))
 op (Convert cast fs from a to) = after _ _ _ (token _) (after _ _ _ (flags (flags_of_cast cast) fs) (both _ _ _ _ (type from) (both _ _ _ _ (operand from a) (after _ _ _ (token _) (type to)))))
 op (Freeze width a) = after _ _ _ (token _) (typed_value width a)

@@ -13,14 +13,16 @@ use Rattle.ir_tokens.specs.declared.raw.RawBlock.{RawBlock}
 use Rattle.ir_tokens.specs.declared.raw.RawIdentifier.{RawIdentifier}
 use Rattle.ir_tokens.specs.declared.raw.RawInst.{RawInst}
 use Rattle.ir_tokens.specs.declared.raw.RawOp.{RawOp}
-use Rattle.ir_tokens.specs.declared.raw.RawOp.TheVariants.{Binary, Compare, Select, Convert, Freeze, Phi}
+use Rattle.ir_tokens.specs.declared.raw.RawOp.TheVariants.{Binary, Compare, Call, Select, Convert, Freeze, Phi}
 use Rattle.ir_tokens.specs.declared.raw.RawIncoming.{RawIncoming}
 use Rattle.ir_instructions.specs.Grammar.{Attachment, SpellsType, SpellsIncoming, SpellsOp, SpellsInst, SpellsTerminator, Tail}
 use Rattle.ir_instructions.specs.Punctuation as marks
 use Rattle.ir_instructions.specs.Parts.{Part, Is, ◌⨾◌, Maybe, Each, Comma, Separated}
 use Rattle.ir_instructions.proofs.Shorter.{Shorter, NoLonger, weaker, both, on_line, token as one_token, a_token, no_part, maybe, each, repeated, a_type, attachment-shorter, tail, terminator, further_incoming-shorter, inst-shorter, insts}
-use Rattle.ir_parse.specs.Grammar.{SpellsLabel, SpellsItem, SpellsBlock, SpellsLabelledBlock, SpellsBlocks, SpellsParameter, SpellsParameterList, SpellsParameters, SpellsName, SpellsFunction, SpellsEntry}
-use Rattle.ir_parse.proofs.ShorterParts.{item-shorter, block-shorter, further_parameter-shorter, entry-shorter}
+use Rattle.ir_parse.specs.Grammar.{SpellsLabel, SpellsBlock, SpellsLabelledBlock, SpellsBlocks, SpellsParameter, SpellsParameterList, SpellsParameters, SpellsName, SpellsFunction, SpellsEntry}
+use Rattle.ir_instructions.specs.ItemGrammar.{SpellsItem}
+use Rattle.ir_instructions.proofs.ItemSizes.{item-shorter}
+use Rattle.ir_parse.proofs.ShorterParts.{block-shorter, further_parameter-shorter, entry-shorter}
 
 -- ---- tokens
 
@@ -77,6 +79,7 @@ abbrev pub OpFew : ℕ → RawOp → Type 0
 OpFew n (Phi width incoming) = length incoming ≤ n
 OpFew n (Binary op flags width a b) = Unit {0}
 OpFew n (Compare pred samesign width a b) = Unit {0}
+OpFew n (Call w) = Unit {0}
 OpFew n (Select condition a b) = Unit {0}
 OpFew n (Convert cast flags from a to) = Unit {0}
 OpFew n (Freeze width a) = Unit {0}
@@ -105,6 +108,7 @@ module _ (n : ℕ) where
       omega arith
   op_few (Binary op flags width a b) tokens rest h within = tt
   op_few (Compare pred samesign width a b) tokens rest h within = tt
+  op_few (Call w) tokens rest h within = tt
   op_few (Select condition a b) tokens rest h within = tt
   op_few (Convert cast flags from a to) tokens rest h within = tt
   op_few (Freeze width a) tokens rest h within = tt

@@ -76,7 +76,10 @@ bracket_is (InHeader word) line bytes e = ⊎_elim
     (λ (h : (bytes_eq bytes (codes "(") && is_on line word) ≡ true). (bytes_eq-Decides bytes (codes "(")).0 (and_left (bytes_eq bytes (codes "(")) (is_on line word) h))
     (λ (h : (bytes_eq bytes (codes "(") && is_on line word) ≡ false). absurd (let other : extents.Itself ≡ extents.Group = rw h at e in cc))
     (which (bytes_eq bytes (codes "(") && is_on line word))
-bracket_is InBody line bytes e = absurd (cc)
+bracket_is (InBody word) line bytes e = ⊎_elim
+    (λ (h : (bytes_eq bytes (codes "(") && is_on line word) ≡ true). (bytes_eq-Decides bytes (codes "(")).0 (and_left (bytes_eq bytes (codes "(")) (is_on line word) h))
+    (λ (h : (bytes_eq bytes (codes "(") && is_on line word) ≡ false). absurd (let other : extents.Itself ≡ extents.Group = rw h at e in cc))
+    (which (bytes_eq bytes (codes "(") && is_on line word))
 
 between_both : (text : List ℕ) (a b c : ℕ) → a ≤ b → b ≤ c → between text a c ≡ between text a b ++ between text b c
 between_both text a b c le more =

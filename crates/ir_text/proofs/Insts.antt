@@ -1,12 +1,12 @@
 -- Instructions as they are printed and read.
-use Rattle.std.proofs.Common.{◌≡◌, ℕ, suc, ◌<◌, Bool, true, false, cond, List, [], ◌∷◌, ◌++◌, Some, codes, length, refl, ap, ◌∙◌, arith}
+use Rattle.std.proofs.Common.{◌≡◌, ℕ, suc, ◌<◌, Bool, true, false, cond, ◌&&◌, List, [], ◌∷◌, ◌++◌, Some, codes, length, refl, sym, ap, subst, ◌∙◌, append_assoc, arith}
 use Rattle.std.specs.Prelude.{slice_get, option_map, filter}
 use Rattle.std.specs.List.{flat_map, join_by, AllZip}
 use Rattle.std.proofs.lemmas.Option.{slice_get-map}
 use Rattle.scan.specs.Bytes.{begins_name, begins_word, is_letter, is_name_byte}
 use Rattle.scan.specs.IrTokens.{is_word}
 use Rattle.ops.specs.declared.opcode.Opcode.{Opcode}
-use Rattle.ops.specs.declared.opcode.Opcode.TheVariants.{Add, Sub, Mul, UDiv, SDiv, URem, SRem, Shl, LShr, AShr, And, Or, Xor}
+use Rattle.ops.specs.declared.opcode.Opcode.TheVariants.{Add, Sub, Mul, UDiv, SDiv, URem, SRem, Shl, LShr, AShr, And, Or, Xor, UMin, UMax, SMin, SMax}
 use Rattle.ops.specs.declared.opcode.Flags.{Flags}
 use Rattle.ops.specs.declared.comparison.Pred.{Pred}
 use Rattle.ops.specs.declared.comparison.Pred.TheVariants.{Eq, Ne, Ugt, Uge, Ult, Ule, Sgt, Sge, Slt, Sle}
@@ -14,7 +14,8 @@ use Rattle.ops.specs.declared.conversion.Cast.{Cast}
 use Rattle.ops.specs.declared.conversion.Cast.TheVariants.{Trunc, ZExt, SExt}
 use Rattle.ops.specs.declared.keywords.flag.Flag.{Flag}
 use Rattle.ops.specs.declared.keywords.flag.Flag.TheVariants.{Nuw, Nsw, Exact, NNeg, Disjoint, SameSign}
-use Rattle.ops.specs.Flags.{AreWithin, flags_of, flags_of_cast, flags_of_icmp, icmp_flags}
+use Rattle.ops.specs.Intrinsics.{is_intrinsic}
+use Rattle.ops.specs.Flags.{AreWithin, no_flags, flags_of, flags_of_cast, flags_of_icmp, icmp_flags}
 use Rattle.ops.specs.FlagKeywords.{flag_keyword, every_flag, has_flag}
 use Rattle.ops.proofs.FlagKeywordLemmas.{flags_in_order, icmp_flags-fit}
 use Rattle.ops.specs.Keywords.{opcode_keyword, cast_keyword, predicate_keyword}
@@ -36,15 +37,15 @@ use Rattle.ir_tokens.specs.declared.raw.RawOp.TheVariants as ops
 use Rattle.ir_tokens.specs.declared.raw.RawIncoming.{RawIncoming}
 use Rattle.ir_instructions.specs.Grammar.{SpellsType, SpellsOperand, SpellsFlags, SpellsIncoming, SpellsOp, SpellsInst}
 use Rattle.ir_instructions.specs.Parts.{Part, Is, ◌⨾◌, Each, Comma, Separated}
-use Rattle.ir_resolve.specs.FaultKinds.{result_width}
-use Rattle.ir_resolve.specs.Means.{IncomingMeans, OpMeans, InstMeans}
+use Rattle.ir_resolve.specs.Means.{IncomingMeans, InstMeans}
 use Rattle.ir_resolve.specs.Written.{Value}
 use Rattle.ir_text.specs.Forms.{IsWidth, ReadHasForms}
 use Rattle.ir_text.proofs.Placing.{space_stops, comma_stops}
-use Rattle.ir_text.specs.PrintedText.{operand_text, typed_text, flag_text, flags_text, incoming_text, op_text, inst_text}
+use Rattle.ir_text.specs.PrintedText.{register_text, operand_text, typed_text, flag_text, flags_text, incoming_text, truth_text, callee_text, binary_text, op_text, inst_text}
 use Rattle.ir_text.specs.CanonicalModule.{Identifies, TypesFit}
-use Rattle.ir_text.proofs.Prints.{Body, Prints, Reads, prints_map, prints_weak, prints_nothing, prints_then, prints_next, prints_lines, behind_space, Opens, opens_with, opens_none, opens_each}
-use Rattle.ir_text.proofs.Tokens.{in_body, word_in_body, equals_in_body, open_in_body, close_in_body, blank, indent, spaced, mark_spaced, line_ends, comma_space}
+use Rattle.ir_text.proofs.Prints.{Body, Prints, Reads, prints_as, prints_map, prints_nothing, prints_then, prints_next, prints_lines, behind_space, Opens, opens_with, opens_none, opens_each}
+use Rattle.ir_text.proofs.Tokens.{in_body, word_in_body, equals_in_body, open_in_body, close_in_body, blank, indent, spaced, mark_spaced, line_ends, mark_line_ends, comma_space}
+use Rattle.ir_text.proofs.Calls.{MeansOp, call_of_two, call_of_one}
 use Rattle.ir_text.proofs.Calling.{IsPrintable, is_called, result_named}
 use Rattle.ir_text.proofs.Operands.{type_prints, register_called, block_name_prints, MeansOperand, operand_prints, typed_prints}
 
@@ -65,6 +66,10 @@ opcode_is_word AShr = refl
 opcode_is_word And = refl
 opcode_is_word Or = refl
 opcode_is_word Xor = refl
+opcode_is_word UMin = refl
+opcode_is_word UMax = refl
+opcode_is_word SMin = refl
+opcode_is_word SMax = refl
 
 pred_is_word : (pred : Pred) → is_word (predicate_keyword pred) ≡ true
 unfolding is_word begins_word begins_name is_letter is_name_byte
@@ -145,9 +150,20 @@ read_prints f fits r ok = operand_prints f fits r.width r.operand ok.has ok.form
 pub read_typed : (f : Function) → IsPrintable f → (r : Read) → ReadFits f r → Prints Body Body false (SpellsType r.width ⨾ Reads (SpellsOperand r.width) (MeansOperand f) r.operand) (typed_text f r.width r.operand)
 read_typed f fits r ok = typed_prints f fits r.width r.operand ok.has ok.form.width ok.form.operand
 
--- what is written for an operation of this width
-abbrev pub MeansOp : Function → ℕ → RawOp → Op → Type 0
-MeansOp f width raw op = OpMeans (Identifies f) raw op × (width ≡ result_width raw) × TypesFit raw
+-- an intrinsic takes no flags
+intrinsic_takes_none : (op : Opcode) → is_intrinsic op ≡ true → flags_of op ≡ no_flags
+intrinsic_takes_none UMin own = refl
+intrinsic_takes_none UMax own = refl
+intrinsic_takes_none SMin own = refl
+intrinsic_takes_none SMax own = refl
+intrinsic_takes_none op own = absurd cc
+
+never_both : (b : Bool) → (b && false) ≡ false
+never_both true = refl
+never_both false = refl
+
+within_none : (flags : Flags) → AreWithin flags no_flags → flags ≡ no_flags
+within_none flags fit = sym fit ∙ rw (never_both flags.nuw, never_both flags.nsw, never_both flags.exact, never_both flags.nneg, never_both flags.disjoint, never_both flags.samesign) refl
 
 -- one entry of a phi
 incoming_prints : (f : Function) → IsPrintable f → (b k width : ℕ) (entry : Operand × ℕ) (block : CoreBlock) → ReadFits f (read entry.1 (end_of f entry.1) width entry.0) → IsBlock f entry.1 block
@@ -175,56 +191,84 @@ incomings_print f fits b k width (first ∷ entries) each some =
     let there = each (suc i) entry at in
     prints_map _ (λ tokens rest (m2, comma, (a, spells, means)). (a, (m2, comma, spells), means)) (prints_next comma_space (incoming_prints f fits b k width entry there.1.0 there.0 there.1.1)))))
 
--- an operation, where its operands fit, its flags are its own, and the blocks of a phi are there
+-- ---- operations of two operands
+
+plain_text : (f : Function) (width : ℕ) (op : Opcode) (flags : Flags) (x y : Operand) → is_intrinsic op ≡ false
+    → binary_text f width op flags x y ≡ opcode_keyword op ++ flags_text flags ++ codes " " ++ typed_text f width x ++ codes ", " ++ operand_text f y
+unfolding binary_text
+plain_text f width op flags x y own = rw own refl
+
+called_text : (f : Function) (width : ℕ) (op : Opcode) (flags : Flags) (x y : Operand) → is_intrinsic op ≡ true
+    → binary_text f width op flags x y ≡ callee_text (opcode_keyword op) width ++ codes "(" ++ typed_text f width x ++ codes ", " ++ typed_text f width y ++ codes ")"
+unfolding binary_text
+called_text f width op flags x y own = rw own refl
+
+binary_prints : (f : Function) → IsPrintable f → (b k width : ℕ) (op : Opcode) (flags : Flags) (x y : Operand) → IsWidth width → AreWithin flags (flags_of op) → ReadFits f (read b k width x) → ReadFits f (read b k width y)
+    → Prints Body Body true (Reads SpellsOp (MeansOp f width) (core.Binary op flags x y)) (binary_text f width op flags x y ++ codes "\n")
+binary_prints f fits b k width op flags x y ok typed left right = by (is_intrinsic op) refl
+  where
+    by : (called : Bool) → is_intrinsic op ≡ called → Prints Body Body true (Reads SpellsOp (MeansOp f width) (core.Binary op flags x y)) (binary_text f width op flags x y ++ codes "\n")
+    by true own =
+        let none : flags ≡ no_flags = within_none flags (subst (λ (taken : Flags). AreWithin flags taken) (intrinsic_takes_none op own) typed) in
+        prints_as (ap (λ (t : List ℕ). t ++ codes "\n") (called_text f width op flags x y own))
+        (call_of_two f width op flags x y own none ok (read_typed f fits (read b k width x) left) (read_typed f fits (read b k width y) right))
+    by false own =
+        prints_as (ap (λ (t : List ℕ). t ++ codes "\n") (plain_text f width op flags x y own))
+        (prints_map (Reads SpellsOp (MeansOp f width) (core.Binary op flags x y)) (λ tokens rest (m1, (m2, (m3, (m4, word, flag), (m5, type, (a, spell, mean))), comma), (c, spells, means)).
+        (ops.Binary op flags width a c, (m4, (own, word), (m3, flag, (m5, type, (m2, spell, (m1, comma, spells))))), ((refl, refl, mean, means), refl, tt)))
+        (line_ends tt
+        (prints_next
+        (prints_then
+        (prints_next (spaced tt (prints_then (word_in_body (opcode_keyword op) (opcode_is_word op)) (flags_print (flags_of op) flags typed) (flags_open flags))) (read_typed f fits (read b k width x) left))
+        comma_space opens_comma)
+        (read_prints f fits (read b k width y) right))))
+
+-- an operation up to the end of its line, where its operands fit, its flags are its own, and the blocks of a phi are there
 pub op_prints : (f : Function) → IsPrintable f → (b k width : ℕ) (op : Op) → IsWidth width → ((i : ℕ) (r : Read) → slice_get (reads_of f b k width op) i ≡ Some r → ReadFits f r) → IsTyped width op
     → ((entries : List (Operand × ℕ)) → op ≡ core.Phi entries → (0 < length entries) × ((i : ℕ) (entry : Operand × ℕ) → slice_get entries i ≡ Some entry → (block : CoreBlock) × IsBlock f entry.1 block))
-    → Prints Body Body false (Reads SpellsOp (MeansOp f width) op) (op_text f width op)
+    → Prints Body Body true (Reads SpellsOp (MeansOp f width) op) (op_text f width op ++ codes "\n")
 unfolding op_text is_word begins_word begins_name is_letter is_name_byte
 op_prints f fits b k width (core.Binary op flags x y) ok reads typed phi =
-    prints_map _ (λ tokens rest (m1, (m2, (m3, (m4, word, flag), (m5, type, (a, spell, mean))), comma), (c, spells, means)).
-    (ops.Binary op flags width a c, (m4, word, (m3, flag, (m5, type, (m2, spell, (m1, comma, spells))))), ((refl, refl, mean, means), refl, tt)))
-    (prints_next
-    (prints_then
-    (prints_next (spaced tt (prints_then (word_in_body (opcode_keyword op) (opcode_is_word op)) (flags_print (flags_of op) flags typed) (flags_open flags))) (read_typed f fits (read b k width x) (reads 0 (read b k width x) refl)))
-    comma_space opens_comma)
-    (read_prints f fits (read b k width y) (reads 1 (read b k width y) refl)))
+    binary_prints f fits b k width op flags x y ok typed (reads 0 (read b k width x) refl) (reads 1 (read b k width y) refl)
+op_prints f fits b k width (core.Unary op truth x) ok reads typed phi =
+    call_of_one f width op truth x typed ok (read_typed f fits (read b k width x) (reads 0 (read b k width x) refl))
 op_prints f fits b k width (core.Compare pred samesign compared x y) ok reads typed phi =
     let icmp = spaced tt (prints_then (word_in_body (codes "icmp") refl) (flags_print flags_of_icmp (icmp_flags samesign) (icmp_flags-fit samesign)) (flags_open (icmp_flags samesign))) in
     prints_map _ (λ tokens rest (m1, (m2, (m3, (m4, (m5, word, flag), is), (m6, type, (a, spell, mean))), comma), (c, spells, means)).
     (ops.Compare pred samesign compared a c, (m5, word, (m4, flag, (m3, is, (m6, type, (m2, spell, (m1, comma, spells)))))), ((refl, refl, refl, mean, means), typed, tt)))
-    (prints_next
+    (line_ends tt (prints_next
     (prints_then
     (prints_next (spaced tt (prints_next icmp (word_in_body (predicate_keyword pred) (pred_is_word pred)))) (read_typed f fits (read b k compared x) (reads 0 (read b k compared x) refl)))
     comma_space opens_comma)
-    (read_prints f fits (read b k compared y) (reads 1 (read b k compared y) refl)))
+    (read_prints f fits (read b k compared y) (reads 1 (read b k compared y) refl))))
 op_prints f fits b k width (core.Select c x y) ok reads typed phi =
     prints_map _ (λ tokens rest (m1, (m2, (m3, (m4, (m5, word, (m6, type, (z, spell, mean))), comma), (m7, type_x, (u, spell_x, mean_x))), comma_y), (m8, type_y, (v, spell_y, mean_y))). (
       ops.Select (record { width = 1; operand = z }) (record { width = width; operand = u }) (record { width = width; operand = v }),
       (m5, word, (m4, (m6, type, spell), (m3, comma, (m2, (m7, type_x, spell_x), (m1, comma_y, (m8, type_y, spell_y)))))),
       ((mean, mean_x, mean_y), refl, (refl, refl)),
     ))
-    (prints_next
+    (line_ends tt (prints_next
     (prints_then
     (prints_next
     (prints_then (prints_next (word_spaced (codes "select") refl) (read_typed f fits (read b k 1 c) (reads 0 (read b k 1 c) refl))) comma_space opens_comma)
     (read_typed f fits (read b k width x) (reads 1 (read b k width x) refl)))
     comma_space opens_comma)
-    (read_typed f fits (read b k width y) (reads 2 (read b k width y) refl)))
+    (read_typed f fits (read b k width y) (reads 2 (read b k width y) refl))))
 op_prints f fits b k width (core.Convert cast flags from x) ok reads typed phi =
     prints_map _ (λ tokens rest (m1, (m2, (m3, (m4, word, flag), (m5, type, (a, spell, mean))), to), type_to).
     (ops.Convert cast flags from a width, (m4, word, (m3, flag, (m5, type, (m2, spell, (m1, to, type_to))))), ((refl, refl, refl, mean), refl, tt)))
-    (prints_next
+    (line_ends tt (prints_next
     (prints_then
     (prints_next (spaced tt (prints_then (word_in_body (cast_keyword cast) (cast_is_word cast)) (flags_print (flags_of_cast cast) flags typed.0) (flags_open flags))) (read_typed f fits (read b k from x) (reads 0 (read b k from x) refl)))
     (behind_space (codes " ") blank tt (word_spaced (codes "to") refl)) (opens_with 32 (codes "to ") space_stops))
-    (type_prints in_body width ok))
+    (type_prints in_body width ok)))
 op_prints f fits b k width (core.Freeze x) ok reads typed phi =
     prints_map _ (λ tokens rest (m1, word, (m2, type, (a, spell, mean))). (ops.Freeze width a, (m1, word, (m2, type, spell)), (mean, refl, tt)))
-    (prints_next (word_spaced (codes "freeze") refl) (read_typed f fits (read b k width x) (reads 0 (read b k width x) refl)))
+    (line_ends tt (prints_next (word_spaced (codes "freeze") refl) (read_typed f fits (read b k width x) (reads 0 (read b k width x) refl))))
 op_prints f fits b k width (core.Phi entries) ok reads typed phi =
     let (some, blocks) = phi entries refl in
     prints_map _ (λ tokens rest (m1, (m2, word, type), (incoming, spell, mean)). (ops.Phi width incoming, (m2, word, (m1, type, spell)), (mean, refl, tt)))
-    (prints_weak
+    (mark_line_ends tt
     (prints_next (spaced tt (prints_next (word_spaced (codes "phi") refl) (type_prints in_body width ok)))
     (incomings_print f fits b k width entries (λ i entry at. (
       reads i (read entry.1 (end_of f entry.1) width entry.0) (slice_get-map (λ (e : Operand × ℕ). read e.1 (end_of f e.1) width e.0) entries i ∙ ap (option_map (λ (e : Operand × ℕ). read e.1 (end_of f e.1) width e.0)) at),
@@ -238,13 +282,14 @@ abbrev pub MeansInst : Function → ℕ → RawInst → ℕ × Inst → Type 0
 MeansInst f b raw i = InstMeans (Identifies f) raw i.1 × Identifies f raw.result.identifier (Value (registers.Result b i.0)) × TypesFit raw.op
 
 pub inst_prints : (f : Function) → IsPrintable f → (b k : ℕ) (block : CoreBlock) (inst : Inst) → IsBlock f b block → slice_get block.insts k ≡ Some inst
-    → Prints Body Body false (Reads SpellsOp (MeansOp f inst.width) inst.op) (op_text f inst.width inst.op)
+    → Prints Body Body true (Reads SpellsOp (MeansOp f inst.width) inst.op) (op_text f inst.width inst.op ++ codes "\n")
     → Prints Body Body true (Reads SpellsInst (MeansInst f b) (k, inst)) (inst_text f b (k, inst))
 unfolding inst_text
 inst_prints f fits b k block inst at here op =
     let r = registers.Result b k in
-    prints_map _ (λ tokens rest (m1, (m2, (w, spell, (is, name)), equals), (raw, spells, (means, width, types))). (record { result = w; op = raw }, (m2, spell, (m1, equals, (rest, spells, ([], refl)))), ((name, width, means), is, types)))
-    (line_ends tt
+    prints_as (append_assoc (codes "  " ++ register_text f r ++ codes " = ") (op_text f inst.width inst.op) (codes "\n"))
+    (prints_map (Reads SpellsInst (MeansInst f b) (k, inst))
+    (λ tokens rest (m1, (m2, (w, spell, (is, name)), equals), (raw, spells, (means, width, types))). (record { result = w; op = raw }, (m2, spell, (m1, equals, (rest, spells, ([], refl)))), ((name, width, means), is, types)))
     (prints_next
     (prints_then
     (behind_space (codes "  ") indent tt (register_called in_body f r inst.name (is_called f fits (place_of f r) inst.name (result_named f b k block inst at here))))

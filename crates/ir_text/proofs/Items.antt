@@ -13,7 +13,8 @@ use Rattle.ir_tokens.specs.declared.raw.RawParameter.{RawParameter}
 use Rattle.ir_instructions.specs.Grammar.{SpellsType}
 use Rattle.ir_instructions.specs.Parts.{Part, Is, ◌⨾◌, Each, Comma}
 use Rattle.ir_instructions.specs.Punctuation as marks
-use Rattle.ir_parse.specs.Grammar.{SpellsItem, of_word, of_word_and_group, of_number, of_group, of_quoted, of_key_and_value, SpellsParameter, SpellsParameterList, SpellsName}
+use Rattle.ir_parse.specs.Grammar.{SpellsParameter, SpellsParameterList, SpellsName}
+use Rattle.ir_instructions.specs.ItemGrammar.{SpellsItem, of_word, of_word_and_group, of_number, of_group, of_quoted, of_key_and_value}
 use Rattle.ir_resolve.specs.Means.{ParameterMeans}
 use Rattle.ir_resolve.specs.Written.{Value}
 use Rattle.ir_text.specs.Forms.{IsName, IsItem, ParameterHasForms}

@@ -185,7 +185,7 @@ line_extent : (place : Place) (line : ℕ) (bytes : List ℕ) → takes_line pla
 unfolding extent_of
 line_extent (AtEntry before) line bytes takes begins = rw (begins, takes) refl
 line_extent (InHeader word) line bytes takes begins = absurd (false≢true takes)
-line_extent InBody line bytes takes begins = absurd (false≢true takes)
+line_extent (InBody word) line bytes takes begins = absurd (false≢true takes)
 
 -- a line ends where the next begins
 line_stops : (line rest : List ℕ) → take_while in_line line ≡ line → is_at_line_end rest ≡ true → take_while in_line (line ++ rest) ≡ line

@@ -65,7 +65,7 @@ pub none_extends : (place : Place) (line : ℕ) → extent_of place line [] ≡ 
 unfolding extent_of begins_kept
 none_extends (AtEntry before) line = refl
 none_extends (InHeader word) line = refl
-none_extends InBody line = refl
+none_extends (InBody word) line = refl
 
 tokens_from : (lexemes : List Lexeme) (text before gap : List ℕ) (place : Place) (line : ℕ) → text ≡ before ++ (spelled lexemes ++ gap) → AreLexemes place line lexemes gap → IsLastGap gap
     → line ≡ feeds before + 1 → TokensFrom text place (length before) (placed_from line lexemes ++ (last_line text, End) ∷ [])

@@ -17,6 +17,7 @@ mod Tokens
 mod Calling
 mod Numbered
 mod Operands
+mod Calls
 mod Insts
 mod Ends
 mod Items

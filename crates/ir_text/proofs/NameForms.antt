@@ -173,11 +173,11 @@ plain_itself (b ∷ name) e = ⊎_elim
     (which (eqb b 34))
 
 -- a name that is written so is a name's text and is read as the name
-record IsNamed (name text : List ℕ) : Type 0 where
-  form : IsNameText text
-  calls : identifier_of text ≡ Named name
+pub record IsNamed (name text : List ℕ) : Type 0 where
+  pub form : IsNameText text
+  pub calls : identifier_of text ≡ Named name
 
-plain : (name : List ℕ) → is_plain_name name ≡ true → IsNamed name name
+pub plain : (name : List ℕ) → is_plain_name name ≡ true → IsNamed name name
 unfolding is_name identifier_of is_plain_name
 plain name e = record {
   form = (rw e refl, plain_no_zero name (names_no_quote name (and_right (begins_with begins_name name) (list_all is_name_byte name) e)));

@@ -1,6 +1,7 @@
 -- Numbers as they are printed are read as themselves.
-use Rattle.std.proofs.Common.{◌≡◌, ℕ, zero, suc, ◌+◌, ◌-◌, ◌*◌, ◌/◌, ◌%◌, ◌^◌, ◌<◌, ◌≤◌, ltb, leb, Bool, true, false, eqb, ◌&&◌, ℤ, pos, negsuc, neg_ℤ, decimal, List, [], ◌∷◌, ◌++◌, Some, refl, sym, ap, subst, ◌∙◌, ⊎_elim, eqb-true, le-leb, ltb-false, mod-lt, mod-eq_of_lt, pow_mono, arith}
+use Rattle.std.proofs.Common.{◌≡◌, ◌≢◌, ℕ, zero, suc, ◌+◌, ◌-◌, ◌*◌, ◌/◌, ◌%◌, ◌^◌, ◌<◌, ◌≤◌, ltb, leb, Bool, true, false, eqb, ◌&&◌, ℤ, pos, negsuc, neg_ℤ, decimal, List, [], ◌∷◌, ◌++◌, Some, refl, sym, ap, subst, ◌∙◌, ⊎_elim, eqb-true, le-leb, ltb-false, mod-lt, mod-eq_of_lt, ne_eqb, pow_mono, take, codes, arith}
 use Rattle.std.specs.List.{list_all}
+use Rattle.std.specs.Str.{bytes_eq}
 use Rattle.std.proofs.lemmas.Bool.{false≢true}
 use Rattle.std.proofs.lemmas.Fmt.{decimal_by_steps}
 use Rattle.std.proofs.lemmas.Grind.{fold-append}
@@ -61,6 +62,28 @@ digits_names bytes e = list_all-along is_digit is_name_byte bytes digit_name (an
 pub type_form : (n : ℕ) → n < 2 ^ 64 → is_word (105 ∷ decimal n) ≡ true
 unfolding is_word begins_word begins_name is_letter is_name_byte is_digit
 type_form n less = digits_names (decimal n) (decimal_digits n less)
+
+-- a number that is not 0 begins with no 0
+record NoZeroFirst (n : ℕ) (digits : List ℕ) : Type 0 where
+  first : 1 ≤ n → (b : ℕ) × (rest : List ℕ) × (digits ≡ b ∷ rest) × (b ≢ 48)
+
+one_first : (n : ℕ) → n < 10 → NoZeroFirst n ((48 + n) ∷ [])
+one_first n less = record { first = λ some. (48 + n, [], refl, λ is. omega arith) }
+
+more_first : (n : ℕ) (digits : List ℕ) → 10 ≤ n → NoZeroFirst (n / 10) digits → NoZeroFirst n (digits ++ (48 + n % 10) ∷ [])
+more_first n digits le h = record {
+  first = λ some.
+      let (b, rest, is, other) = h.first (omega arith) in
+      (b, rest ++ (48 + n % 10) ∷ [], ap (λ (ts : List ℕ). ts ++ (48 + n % 10) ∷ []) is, other);
+}
+
+first_of : (n : ℕ) → n < 2 ^ 64 → NoZeroFirst n (decimal n)
+first_of n less = decimal_by_steps NoZeroFirst one_first more_first n less
+
+pub plain_type : (n : ℕ) → 1 ≤ n → n < 2 ^ 64 → bytes_eq (take 2 (105 ∷ decimal n)) (codes "i0") ≡ false
+plain_type n some less =
+    let (b, rest, is, other) = (first_of n less).first some in
+    rw (is, ne_eqb b 48 other) refl
 
 -- ---- numbers
 

@@ -51,10 +51,6 @@ one_feed = refl
 
 -- ---- places
 
-pub itself_in_body : (line : ℕ) (bytes : List ℕ) → extent_of InBody line bytes ≡ extents.Itself
-unfolding extent_of
-itself_in_body line bytes = refl
-
 pub itself_behind_no_word : (line : ℕ) (bytes : List ℕ) → extent_of (InHeader None) line bytes ≡ extents.Itself
 unfolding extent_of
 itself_behind_no_word line bytes = ⊎_elim
@@ -62,9 +58,23 @@ itself_behind_no_word line bytes = ⊎_elim
     (λ (h : bytes_eq bytes (codes "(") ≡ false). rw h refl)
     (which (bytes_eq bytes (codes "(")))
 
+pub itself_behind_no_word_in_body : (line : ℕ) (bytes : List ℕ) → extent_of (InBody None) line bytes ≡ extents.Itself
+unfolding extent_of
+itself_behind_no_word_in_body line bytes = ⊎_elim
+    (λ (h : bytes_eq bytes (codes "(") ≡ true). rw h refl)
+    (λ (h : bytes_eq bytes (codes "(") ≡ false). rw h refl)
+    (which (bytes_eq bytes (codes "(")))
+
 pub itself_in_header : (word : Option ℕ) (line : ℕ) (bytes : List ℕ) → bytes ≢ codes "(" → extent_of (InHeader word) line bytes ≡ extents.Itself
 unfolding extent_of
 itself_in_header word line bytes other = ⊎_elim
+    (λ (h : bytes_eq bytes (codes "(") ≡ true). absurd (other ((bytes_eq-Decides bytes (codes "(")).0 h)))
+    (λ (h : bytes_eq bytes (codes "(") ≡ false). rw h refl)
+    (which (bytes_eq bytes (codes "(")))
+
+pub itself_in_body : (word : Option ℕ) (line : ℕ) (bytes : List ℕ) → bytes ≢ codes "(" → extent_of (InBody word) line bytes ≡ extents.Itself
+unfolding extent_of
+itself_in_body word line bytes other = ⊎_elim
     (λ (h : bytes_eq bytes (codes "(") ≡ true). absurd (other ((bytes_eq-Decides bytes (codes "(")).0 h)))
     (λ (h : bytes_eq bytes (codes "(") ≡ false). rw h refl)
     (which (bytes_eq bytes (codes "(")))

@@ -15,20 +15,23 @@ use Rattle.ir_text.proofs.Streams.{Streams, streams_as, behind_gap, with_token}
 
 -- ---- places
 
--- where a text goes on: between entries, on a line without a token or behind one; in a header, maybe behind a function's name; in a body
+-- where a text goes on: between entries, on a line without a token or behind one; in a header or in a body, maybe behind a
+-- function's name
 pub data Mode : Type 0 where
   Fresh : Mode
   Used : Mode
   Header : Mode
   Called : Mode
   Body : Mode
+  Callee : Mode
 
 abbrev pub Stands : Mode → Place → ℕ → Type 0
 Stands Fresh place line = (n : ℕ) → takes_line place (line + n) ≡ true
 Stands Used place line = place ≡ AtEntry (Some line)
 Stands Header place line = (word : Option ℕ) × (place ≡ InHeader word)
 Stands Called place line = place ≡ InHeader None
-Stands Body place line = place ≡ InBody
+Stands Body place line = (word : Option ℕ) × (place ≡ InBody word)
+Stands Callee place line = place ≡ InBody None
 
 -- a gap may follow there
 abbrev pub TakesGap : Mode → Type 0
@@ -41,6 +44,7 @@ stands_later Used place line n takes stands = absurd takes
 stands_later Header place line n takes stands = stands
 stands_later Called place line n takes stands = stands
 stands_later Body place line n takes stands = stands
+stands_later Callee place line n takes stands = stands
 
 -- ---- what follows a text
 

@@ -149,7 +149,7 @@ takes_is : (place : Place) (line : ℕ) → takes_group place line ≡ true → 
 unfolding extent_of
 takes_is (AtEntry before) line e = absurd (false≢true e)
 takes_is (InHeader word) line e = rw e refl
-takes_is InBody line e = absurd (false≢true e)
+takes_is (InBody word) line e = rw e refl
 
 pub group_stands : (text before gap rest bytes content : List ℕ) (place : Place) (line : ℕ) → IsBalanced content → bytes ≡ 40 ∷ (content ++ 41 ∷ []) → text ≡ before ++ (gap ++ (bytes ++ rest)) → IsGap gap
     → takes_group place (line + feeds gap) ≡ true → line ≡ feeds before + 1

@@ -1,6 +1,7 @@
 -- Tokens where they stand in a printed module.
-use Rattle.std.proofs.Common.{◌≡◌, ◌≢◌, ℕ, suc, ◌+◌, eqb, true, false, List, [], ◌∷◌, ◌++◌, Option, Some, None, codes, refl, sym, subst, append_assoc, add-zero, arith}
+use Rattle.std.proofs.Common.{◌≡◌, ◌≢◌, ℕ, suc, ◌+◌, eqb, true, false, List, [], ◌∷◌, ◌++◌, length, ap, Option, Some, None, codes, refl, sym, subst, append_assoc, add-zero, arith}
 use Rattle.std.specs.List.{list_all}
+use Rattle.std.proofs.lemmas.List.{length-append}
 use Rattle.scan.specs.Bytes.{begins_name, begins_word, is_blank, is_digit, is_letter, is_name_byte, is_space}
 use Rattle.scan.specs.IrTokens.{is_word, is_group}
 use Rattle.scan.specs.Quoted.{is_quoted}
@@ -14,9 +15,9 @@ use Rattle.ir_tokens.specs.Tokens.{End, Kept, KeptGroup, Label, Word, Number, Re
 use Rattle.ir_instructions.specs.Parts.{Part, Is, ◌⨾◌, Comma}
 use Rattle.ir_instructions.specs.Punctuation as marks
 use Rattle.ir_text.specs.Lexemes.{takes_line, IsNameText, HasForm, MayStand}
-use Rattle.ir_text.proofs.Placing.{itself_in_body, itself_in_header, itself_behind_no_word, itself_at_entry, define_begins_none, later_line, same_line, space_stops, feed_stops}
+use Rattle.ir_text.proofs.Placing.{itself_in_body, itself_behind_no_word_in_body, itself_in_header, itself_behind_no_word, itself_at_entry, define_begins_none, later_line, same_line, space_stops, feed_stops}
 use Rattle.ir_text.proofs.Streams.{Streams, streams_as, behind_gap, with_token}
-use Rattle.ir_text.proofs.Prints.{Mode, Fresh, Used, Header, Called, Body, Stands, TakesGap, Stop, Prints, prints_token, before_space}
+use Rattle.ir_text.proofs.Prints.{Mode, Fresh, Used, Header, Called, Body, Callee, Stands, TakesGap, Stop, Prints, prints_token, before_space}
 
 -- ---- where what is printed goes on
 
@@ -24,21 +25,10 @@ pub data Inside : Mode → Type 0 where
   in_header : Inside Header
   in_body : Inside Body
 
--- ---- tokens of bodies
-
-pub word_in_body : (word : List ℕ) → is_word word ≡ true → Prints Body Body false (Is (Word word)) word
-word_in_body word form = prints_token Body Body false (Word word) form (λ place line is. rw is refl) (λ place line rest is stop. (rw is (itself_in_body line word), rw stop refl))
-
-pub number_in_body : (digits : List ℕ) → is_number digits ≡ true → Prints Body Body false (Is (Number digits)) digits
-number_in_body digits form = prints_token Body Body false (Number digits) form (λ place line is. rw is refl) (λ place line rest is stop. (rw is (itself_in_body line digits), rw stop refl))
-
-pub label_in_body : (name : List ℕ) → IsNameText name → Prints Body Body false (Is (Label name)) (name ++ 58 ∷ [])
-label_in_body name form = prints_token Body Body false (Label name) form (λ place line is. rw is refl) (λ place line rest is stop. (rw is (itself_in_body line (name ++ 58 ∷ [])), rw stop refl))
-
--- ---- tokens of headers
+-- ---- brackets
 
 -- a token that is no bracket
-no_bracket : (c : ℕ) (bytes : List ℕ) → eqb c 40 ≡ false → c ∷ bytes ≢ codes "("
+pub no_bracket : (c : ℕ) (bytes : List ℕ) → eqb c 40 ≡ false → c ∷ bytes ≢ codes "("
 no_bracket c bytes other same = let is : c ≡ 40 = cc in let no : true ≡ false = subst (λ (n : ℕ). eqb n 40 ≡ false) is other in absurd cc
 
 word_no_bracket : (word : List ℕ) → is_word word ≡ true → word ≢ codes "("
@@ -56,6 +46,26 @@ group_no_bracket text form same = let here : is_group (codes "(") ≡ true = sub
 quoted_no_bracket : (text : List ℕ) → is_quoted text ≡ true → text ≢ codes "("
 unfolding is_quoted
 quoted_no_bracket text form same = let here : is_quoted (codes "(") ≡ true = subst (λ (w : List ℕ). is_quoted w ≡ true) same form in absurd cc
+
+label_no_bracket : (name : List ℕ) → name ++ 58 ∷ [] ≢ codes "("
+label_no_bracket [] same = absurd cc
+label_no_bracket (c ∷ name) same = absurd (omega (arith, ap length same, length-append name (58 ∷ [])))
+
+-- ---- tokens of bodies
+
+pub word_in_body : (word : List ℕ) → is_word word ≡ true → Prints Body Body false (Is (Word word)) word
+word_in_body word form = prints_token Body Body false (Word word) form (λ place line (before, is). (Some line, rw is refl))
+    (λ place line rest (before, is) stop. (rw is (itself_in_body before line word (word_no_bracket word form)), rw stop refl))
+
+pub number_in_body : (digits : List ℕ) → is_number digits ≡ true → Prints Body Body false (Is (Number digits)) digits
+number_in_body digits form = prints_token Body Body false (Number digits) form (λ place line (before, is). (None, rw is refl))
+    (λ place line rest (before, is) stop. (rw is (itself_in_body before line digits (number_no_bracket digits form)), rw stop refl))
+
+pub label_in_body : (name : List ℕ) → IsNameText name → Prints Body Body false (Is (Label name)) (name ++ 58 ∷ [])
+label_in_body name form = prints_token Body Body false (Label name) form (λ place line (before, is). (None, rw is refl))
+    (λ place line rest (before, is) stop. (rw is (itself_in_body before line (name ++ 58 ∷ []) (label_no_bracket name)), rw stop refl))
+
+-- ---- tokens of headers
 
 pub word_in_header : (word : List ℕ) → is_word word ≡ true → Prints Header Header false (Is (Word word)) word
 word_in_header word form = prints_token Header Header false (Word word) form (λ place line (before, is). (Some line, rw is refl))
@@ -98,10 +108,22 @@ function_in_header name form = prints_token Header Called false (Function name) 
 pub bracket_behind_name : Prints Called Header true (Is (Mark marks.open_paren)) (codes "(")
 bracket_behind_name = prints_token Called Header true (Mark 40) refl (λ place line is. (None, rw is refl)) (λ place line rest is stop. (rw is (itself_behind_no_word line (codes "(")), refl))
 
+-- the same in a body: what is called, and the brackets of its arguments
+pub callee_in_body : (name : List ℕ) → IsNameText name → Prints Body Callee false (Is (Function name)) (64 ∷ name)
+callee_in_body name form = prints_token Body Callee false (Function name) form (λ place line (before, is). rw is refl)
+    (λ place line rest (before, is) stop. (rw is (itself_in_body before line (64 ∷ name) (no_bracket 64 name refl)), rw stop refl))
+
+pub bracket_behind_callee : Prints Callee Body true (Is (Mark marks.open_paren)) (codes "(")
+bracket_behind_callee = prints_token Callee Body true (Mark 40) refl (λ place line is. (None, rw is refl)) (λ place line rest is stop. (rw is (itself_behind_no_word_in_body line (codes "(")), refl))
+
+pub closed_in_body : Prints Body Body true (Is (Mark marks.close_paren)) (codes ")")
+closed_in_body = prints_token Body Body true (Mark 41) refl (λ place line (before, is). (None, rw is refl)) (λ place line rest (before, is) stop. (rw is (itself_in_body before line (codes ")") (no_bracket 41 [] refl)), refl))
+
 -- ---- tokens of both
 
 pub register_inside : {mode : Mode} → Inside mode → (name : List ℕ) → IsNameText name → Prints mode mode false (Is (Register name)) (37 ∷ name)
-register_inside in_body name form = prints_token Body Body false (Register name) form (λ place line is. rw is refl) (λ place line rest is stop. (rw is (itself_in_body line (37 ∷ name)), rw stop refl))
+register_inside in_body name form = prints_token Body Body false (Register name) form (λ place line (before, is). (None, rw is refl))
+    (λ place line rest (before, is) stop. (rw is (itself_in_body before line (37 ∷ name) (no_bracket 37 name refl)), rw stop refl))
 register_inside in_header name form = prints_token Header Header false (Register name) form (λ place line (before, is). (None, rw is refl))
     (λ place line rest (before, is) stop. (rw is (itself_in_header before line (37 ∷ name) (no_bracket 37 name refl)), rw stop refl))
 
@@ -112,16 +134,16 @@ word_inside in_header word form = word_in_header word form
 -- ---- marks
 
 pub comma_in_body : Prints Body Body true (Is (Mark marks.comma)) (codes ",")
-comma_in_body = prints_token Body Body true (Mark 44) refl (λ place line is. rw is refl) (λ place line rest is stop. (rw is (itself_in_body line (codes ",")), refl))
+comma_in_body = prints_token Body Body true (Mark 44) refl (λ place line (before, is). (None, rw is refl)) (λ place line rest (before, is) stop. (rw is (itself_in_body before line (codes ",") (no_bracket 44 [] refl)), refl))
 
 pub equals_in_body : Prints Body Body true (Is (Mark marks.equals)) (codes "=")
-equals_in_body = prints_token Body Body true (Mark 61) refl (λ place line is. rw is refl) (λ place line rest is stop. (rw is (itself_in_body line (codes "=")), refl))
+equals_in_body = prints_token Body Body true (Mark 61) refl (λ place line (before, is). (None, rw is refl)) (λ place line rest (before, is) stop. (rw is (itself_in_body before line (codes "=") (no_bracket 61 [] refl)), refl))
 
 pub open_in_body : Prints Body Body true (Is (Mark marks.open_bracket)) (codes "[")
-open_in_body = prints_token Body Body true (Mark 91) refl (λ place line is. rw is refl) (λ place line rest is stop. (rw is (itself_in_body line (codes "[")), refl))
+open_in_body = prints_token Body Body true (Mark 91) refl (λ place line (before, is). (None, rw is refl)) (λ place line rest (before, is) stop. (rw is (itself_in_body before line (codes "[") (no_bracket 91 [] refl)), refl))
 
 pub close_in_body : Prints Body Body true (Is (Mark marks.close_bracket)) (codes "]")
-close_in_body = prints_token Body Body true (Mark 93) refl (λ place line is. rw is refl) (λ place line rest is stop. (rw is (itself_in_body line (codes "]")), refl))
+close_in_body = prints_token Body Body true (Mark 93) refl (λ place line (before, is). (None, rw is refl)) (λ place line rest (before, is) stop. (rw is (itself_in_body before line (codes "]") (no_bracket 93 [] refl)), refl))
 
 pub comma_in_header : Prints Header Header true (Is (Mark marks.comma)) (codes ",")
 comma_in_header = prints_token Header Header true (Mark 44) refl (λ place line (before, is). (None, rw is refl)) (λ place line rest (before, is) stop. (rw is (itself_in_header before line (codes ",") (no_bracket 44 [] refl)), refl))
@@ -134,17 +156,17 @@ equals_in_header = prints_token Header Header true (Mark 61) refl (λ place line
 
 -- the bracket that begins a body, and that which ends it
 pub body_begins : Prints Header Body true (Is (Mark marks.open_brace)) (codes "{")
-body_begins = prints_token Header Body true (Mark 123) refl (λ place line (before, is). rw is refl) (λ place line rest (before, is) stop. (rw is (itself_in_header before line (codes "{") (no_bracket 123 [] refl)), refl))
+body_begins = prints_token Header Body true (Mark 123) refl (λ place line (before, is). (None, rw is refl)) (λ place line rest (before, is) stop. (rw is (itself_in_header before line (codes "{") (no_bracket 123 [] refl)), refl))
 
 pub body_ends : Prints Body Used true (Is (Mark marks.close_brace)) (codes "}")
-body_ends = prints_token Body Used true (Mark 125) refl (λ place line is. rw is refl) (λ place line rest is stop. (rw is (itself_in_body line (codes "}")), refl))
+body_ends = prints_token Body Used true (Mark 125) refl (λ place line (before, is). rw is refl) (λ place line rest (before, is) stop. (rw is (itself_in_body before line (codes "}") (no_bracket 125 [] refl)), refl))
 
 -- ---- tokens between entries
 
 fresh_place : (P : Place → Type 0) (place : Place) (line : ℕ) → Stands Fresh place line → ((before : Option ℕ) → P (AtEntry before)) → P place
 fresh_place P (AtEntry before) line stands at = at before
 fresh_place P (InHeader word) line stands at = absurd (let no : false ≡ true = stands 0 in cc)
-fresh_place P InBody line stands at = absurd (let no : false ≡ true = stands 0 in cc)
+fresh_place P (InBody word) line stands at = absurd (let no : false ≡ true = stands 0 in cc)
 
 pub define_begins : Prints Fresh Header false (Is (Word (codes "define"))) (codes "define")
 unfolding is_word begins_word begins_name is_letter is_name_byte

@@ -18,6 +18,7 @@ use Rattle.ir_tokens.specs.declared.raw.RawOp.{RawOp}
 use Rattle.ir_tokens.specs.declared.raw.RawOp.TheVariants as ops
 use Rattle.ir_tokens.specs.declared.raw.RawTerminator.{RawTerminator}
 use Rattle.ir_tokens.specs.declared.raw.RawTerminator.TheVariants as terminators
+use Rattle.ir_resolve.specs.FaultKinds.{CallFits}
 use Rattle.ir_resolve.specs.Means.{MeansBy}
 use Rattle.ir_resolve.specs.Written.{Thing, Value, Block, identifier, given, written_names}
 use Rattle.ir_text.specs.PrintedText.{block_identifier}
@@ -30,6 +31,7 @@ Identifies f x (Block b) = block_identifier f b ≡ Some (identifier x)
 -- the types in an instruction that stand for one are one
 abbrev pub TypesFit : RawOp → Type 0
 TypesFit (ops.Select c a b) = (c.width ≡ 1) × (b.width ≡ a.width)
+TypesFit (ops.Call call) = CallFits call
 TypesFit (ops.Binary op flags width a b) = Unit {0}
 TypesFit (ops.Compare pred samesign width a b) = Unit {0}
 TypesFit (ops.Convert cast flags from a to) = Unit {0}

@@ -21,7 +21,7 @@ use Rattle.ir_tokens.specs.declared.place.Place.TheVariants.{InHeader}
 use Rattle.ir_tokens.specs.Order.{AreTokens, TokensFrom}
 use Rattle.ir_tokens.specs.Tokens.{Placed, End, Kept}
 use Rattle.ir_instructions.specs.Parts.{Is, ◌⨾◌}
-use Rattle.ir_parse.specs.Grammar.{SpellsItem}
+use Rattle.ir_instructions.specs.ItemGrammar.{SpellsItem}
 
 -- ---- texts
 

@@ -103,13 +103,13 @@ is_at_line_end (b ∷ rest) = b == 10
 abbrev pub takes_line : Place → ℕ → Bool
 takes_line (AtEntry before) line = not (is_on line before)
 takes_line (InHeader word) line = false
-takes_line InBody line = false
+takes_line (InBody word) line = false
 
--- a kept group may: in a header, behind a word on the line
+-- a kept group may: in a function, behind a word on the line
 abbrev pub takes_group : Place → ℕ → Bool
 takes_group (AtEntry before) line = false
 takes_group (InHeader word) line = is_on line word
-takes_group InBody line = false
+takes_group (InBody word) line = is_on line word
 
 -- the token may stand in the place on this line and before the rest
 abbrev pub MayStand : Place → ℕ → Token → List ℕ → Type 0

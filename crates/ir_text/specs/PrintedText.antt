@@ -1,13 +1,17 @@
 -- The printed form of a module: one function of the module. Each line ends by a line feed (LLVM Language Reference, "Module
 -- Structure", "Functions", "Identifiers", "Instruction Reference").
-use Rattle.std.specs.Prelude.{ℕ, ◌==◌, if◌then◌else◌, List, [], ◌∷◌, ◌++◌, Option, None, Some, slice_get, codes, decimal}
+use Rattle.std.specs.Prelude.{ℕ, ◌==◌, Bool, if◌then◌else◌, List, [], ◌∷◌, ◌++◌, Option, None, Some, slice_get, codes, decimal}
 use Rattle.std.specs.List.{flat_map, enumerate_from, join_by}
 use Rattle.ops.specs.Number.{Number}
 use Rattle.ops.specs.declared.opcode.Flags.{Flags}
 use Rattle.ops.specs.declared.keywords.flag.Flag.{Flag}
 use Rattle.ops.specs.Flags.{icmp_flags}
 use Rattle.ops.specs.FlagKeywords.{flag_keyword, every_flag, has_flag}
-use Rattle.ops.specs.Keywords.{opcode_keyword, predicate_keyword, cast_keyword}
+use Rattle.ops.specs.declared.opcode.Opcode.{Opcode}
+use Rattle.ops.specs.declared.opcode.Unary.{Unary as UnaryOp}
+use Rattle.ops.specs.Intrinsics.{is_intrinsic}
+use Rattle.ops.specs.Truths.{has_truth}
+use Rattle.ops.specs.Keywords.{opcode_keyword, unary_keyword, predicate_keyword, cast_keyword}
 use Rattle.ir_text.specs.NameText.{name_text}
 use Rattle.ir_text.specs.NumberText.{number_text}
 use Rattle.ir_core.specs.Names.{Name, Identifier, Named, Numbered, identifiers_of, identifier_of, block_place}
@@ -19,7 +23,7 @@ use Rattle.ir_core.specs.declared.function.Parameter.{Parameter}
 use Rattle.ir_core.specs.declared.function.Block.{Block}
 use Rattle.ir_core.specs.declared.instruction.Inst.{Inst}
 use Rattle.ir_core.specs.declared.instruction.Op.{Op}
-use Rattle.ir_core.specs.declared.instruction.Op.TheVariants.{Binary, Compare, Select, Convert, Freeze, Phi}
+use Rattle.ir_core.specs.declared.instruction.Op.TheVariants.{Binary, Compare, Unary, Select, Convert, Freeze, Phi}
 use Rattle.ir_core.specs.declared.operand.Operand.{Operand}
 use Rattle.ir_core.specs.declared.operand.Operand.TheVariants as operands
 use Rattle.ir_core.specs.declared.operand.Register.{Register}
@@ -87,9 +91,25 @@ flags_text flags = flat_map (flag_text flags) every_flag
 unfoldable pub incoming_text : Function → Operand × ℕ → List ℕ
 incoming_text f entry = codes "[ " ++ operand_text f entry.0 ++ codes ", " ++ block_name_text f entry.1 ++ codes " ]"
 
+-- the truth value behind the operand of an intrinsic that has one
+unfoldable pub truth_text : UnaryOp → Bool → List ℕ
+truth_text op truth = if has_truth op then codes ", i1 " ++ (if truth then codes "true" else codes "false") else []
+
+-- what stands before the arguments of a call of the intrinsic that has this keyword
+unfoldable pub callee_text : List ℕ → ℕ → List ℕ
+callee_text keyword width = codes "call " ++ type_text width ++ codes " @llvm." ++ keyword ++ codes "." ++ type_text width
+
+-- an instruction with two operands, and a call of an intrinsic with two
+unfoldable pub binary_text : Function → ℕ → Opcode → Flags → Operand → Operand → List ℕ
+binary_text f width op flags a b =
+    if is_intrinsic op
+    then callee_text (opcode_keyword op) width ++ codes "(" ++ typed_text f width a ++ codes ", " ++ typed_text f width b ++ codes ")"
+    else opcode_keyword op ++ flags_text flags ++ codes " " ++ typed_text f width a ++ codes ", " ++ operand_text f b
+
 -- what stands behind the `=` of an instruction
 unfoldable pub op_text : Function → ℕ → Op → List ℕ
-op_text f width (Binary op flags a b) = opcode_keyword op ++ flags_text flags ++ codes " " ++ typed_text f width a ++ codes ", " ++ operand_text f b
+op_text f width (Binary op flags a b) = binary_text f width op flags a b
+op_text f width (Unary op truth a) = callee_text (unary_keyword op) width ++ codes "(" ++ typed_text f width a ++ truth_text op truth ++ codes ")"
 op_text f width (Compare pred samesign compared a b) =
     codes "icmp" ++ flags_text (icmp_flags samesign) ++ codes " " ++ predicate_keyword pred ++ codes " " ++ typed_text f compared a
     ++ codes ", " ++ operand_text f b

@@ -40,7 +40,7 @@ goes_on : (place : Place) (number : ℕ) (bytes : List ℕ) (extent : Extent) �
 unfolding extent_of begins_kept
 goes_on (AtEntry before) number [] extent e other = absurd (other (sym e))
 goes_on (InHeader word) number [] extent e other = absurd (other (sym e))
-goes_on InBody number [] extent e other = absurd (other (sym e))
+goes_on (InBody word) number [] extent e other = absurd (other (sym e))
 goes_on place number (b ∷ bytes) extent e other = omega arith
 
 extent_moves : (text : List ℕ) (place : Place) (t : Scanned) (extent : Extent) → HasExtent text place t extent → extent ≢ extents.Itself → t.span.start < t.span.end

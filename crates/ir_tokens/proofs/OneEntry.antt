@@ -37,7 +37,7 @@ ends_with place behind tokens new t ends h is may = subst (λ l. IsOneEntry plac
 pub none_begins : (place : Place) → ((before : Option ℕ) → place ≡ AtEntry before → ⊥) → ¬ MayBegin place
 none_begins (AtEntry before) not_there may = not_there before refl
 none_begins (InHeader word) not_there may = may
-none_begins InBody not_there may = may
+none_begins (InBody word) not_there may = may
 
 -- no entry may begin behind the token
 pub goes_on_with : (place behind : Place) (tokens new : List Placed) (t : Placed) → Within place tokens behind → new ≡ tokens ++ t ∷ [] → ¬ MayBegin (place_behind behind t) → Within place new (place_behind behind t)

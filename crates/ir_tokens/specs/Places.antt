@@ -1,4 +1,4 @@
--- Tokens that depend on where they stand: kept lines between the entries of a module, and kept groups in a function's header.
+-- Tokens that depend on where they stand: kept lines between the entries of a module, and kept groups in functions.
 use Rattle.std.specs.Prelude.{ℕ, ◌==◌, Bool, false, not, ◌&&◌, ◌||◌, if◌then◌else◌, List, [], ◌∷◌, Option, Some, None, codes}
 use Rattle.std.specs.List.{list_any}
 use Rattle.std.specs.Str.{bytes_eq}
@@ -23,11 +23,11 @@ is_on line None = false
 is_on line (Some before) = before == line
 
 -- How far a token on a line goes on that has these bytes by itself. Between entries, one that is the first on its line and
--- begins a kept line is that whole line. In a header, a `(` behind a word on the same line is the group in these brackets.
+-- begins a kept line is that whole line. In a function, a `(` behind a word on the same line is the group in these brackets.
 unfoldable pub extent_of : Place → ℕ → List ℕ → Extent
 extent_of (AtEntry before) line bytes = if begins_kept bytes && not (is_on line before) then Line else Itself
 extent_of (InHeader word) line bytes = if bytes_eq bytes (codes "(") && is_on line word then Group else Itself
-extent_of InBody line bytes = Itself
+extent_of (InBody word) line bytes = if bytes_eq bytes (codes "(") && is_on line word then Group else Itself
 
 -- The place behind a token. The word `define` between entries begins a header, `{` ends the header and begins the body, and `}`
 -- ends the body.
@@ -35,7 +35,8 @@ abbrev pub place_behind : Place → Placed → Place
 place_behind (AtEntry before) (line, Word text) = if bytes_eq text (codes "define") then InHeader (Some line) else AtEntry (Some line)
 place_behind (AtEntry before) (line, token) = AtEntry (Some line)
 place_behind (InHeader word) (line, Word text) = InHeader (Some line)
-place_behind (InHeader word) (line, Mark byte) = if byte == 123 then InBody else InHeader None
+place_behind (InHeader word) (line, Mark byte) = if byte == 123 then InBody None else InHeader None
 place_behind (InHeader word) (line, token) = InHeader None
-place_behind InBody (line, Mark byte) = if byte == 125 then AtEntry (Some line) else InBody
-place_behind InBody (line, token) = InBody
+place_behind (InBody word) (line, Word text) = InBody (Some line)
+place_behind (InBody word) (line, Mark byte) = if byte == 125 then AtEntry (Some line) else InBody None
+place_behind (InBody word) (line, token) = InBody None

@@ -21,8 +21,8 @@ pub use naming::identifier;
 pub use number::constant;
 pub use place::{Extent, Place};
 pub use raw::{
-    RawBlock, RawCase, RawEntry, RawFunction, RawIdentifier, RawIncoming, RawInst, RawModule,
-    RawOp, RawOperand, RawParameter, RawTerminator, RawValue, TypedOperand,
+    RawArguments, RawBlock, RawCall, RawCase, RawEntry, RawFunction, RawIdentifier, RawIncoming,
+    RawInst, RawModule, RawOp, RawOperand, RawParameter, RawTerminator, RawValue, TypedOperand,
 };
 pub use reader::TokenReader;
 pub use token::{Placed, Token};

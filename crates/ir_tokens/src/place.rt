@@ -15,8 +15,8 @@ pub enum Place {
     /// In the header of a function, from the word `define` to the body; with the line of the token before, where that is
     /// a word.
     InHeader(Option<usize>),
-    /// In the body of a function.
-    InBody,
+    /// In the body of a function; with the line of the token before, where that is a word.
+    InBody(Option<usize>),
 }
 
 /// How far a token goes on.
@@ -48,8 +48,10 @@ pub(crate) fn extent_of(place: Place, line: usize, bytes: &[u8]) -> Extent
 {
     match place {
         Place::AtEntry(before) if begins_kept(bytes) && before != Some(line) => Extent::Line,
-        Place::InHeader(word) if is(bytes, "(") && word == Some(line) => Extent::Group,
-        Place::AtEntry(_) | Place::InHeader(_) | Place::InBody => Extent::Itself,
+        Place::InHeader(word) | Place::InBody(word) if is(bytes, "(") && word == Some(line) => {
+            Extent::Group
+        }
+        Place::AtEntry(_) | Place::InHeader(_) | Place::InBody(_) => Extent::Itself,
     }
 }
 
@@ -62,9 +64,10 @@ pub(crate) fn place_behind(place: Place, placed: Placed<'_>) -> Place
         (Place::AtEntry(_), Token::Word(word)) if is(word, "define") => Place::InHeader(Some(line)),
         (Place::AtEntry(_), _) => Place::AtEntry(Some(line)),
         (Place::InHeader(_), Token::Word(_)) => Place::InHeader(Some(line)),
-        (Place::InHeader(_), Token::Mark(b'{')) => Place::InBody,
+        (Place::InHeader(_), Token::Mark(b'{')) => Place::InBody(None),
         (Place::InHeader(_), _) => Place::InHeader(None),
-        (Place::InBody, Token::Mark(b'}')) => Place::AtEntry(Some(line)),
-        (Place::InBody, _) => Place::InBody,
+        (Place::InBody(_), Token::Word(_)) => Place::InBody(Some(line)),
+        (Place::InBody(_), Token::Mark(b'}')) => Place::AtEntry(Some(line)),
+        (Place::InBody(_), _) => Place::InBody(None),
     }
 }

@@ -2,7 +2,7 @@
 
 use crate::Identifier;
 use lists::{List, Text};
-use ops::{Cast, Flags, Opcode, Pred, Width, Word};
+use ops::{Cast, Flags, Opcode, Pred, Unary, Width, Word};
 
 /// A module as written.
 #[derive(Debug, Drop)]
@@ -79,6 +79,8 @@ pub enum RawOp {
     Binary(Opcode, Flags, Width, RawOperand, RawOperand),
     /// `icmp`, with `samesign` where that is true; the width is that of both operands.
     Compare(Pred, bool, Width, RawOperand, RawOperand),
+    /// `call` of an integer intrinsic.
+    Call(RawCall),
     /// `select`: the condition, what it gives where the condition is true, and what where it is false.
     Select(TypedOperand, TypedOperand, TypedOperand),
     /// A cast with its flags, from a width to another.
@@ -87,6 +89,27 @@ pub enum RawOp {
     Freeze(Width, RawOperand),
     /// `phi`, with one incoming value or more.
     Phi(Width, List<RawIncoming>),
+}
+
+/// A call of an integer intrinsic as written. What else stands in it is dropped.
+#[derive(Debug, Drop)]
+pub struct RawCall {
+    /// The line of the word `call`, counted from 1.
+    pub line: usize,
+    /// The width of the result.
+    pub width: Width,
+    /// The width in the name of the intrinsic.
+    pub named: Width,
+    pub arguments: RawArguments,
+}
+
+/// An integer intrinsic with what it is called with.
+#[derive(Debug, Drop)]
+pub enum RawArguments {
+    /// `umin`, `umax`, `smin` or `smax` of two operands.
+    Binary(Opcode, TypedOperand, TypedOperand),
+    /// An intrinsic of one operand, and the number, `true` or `false` beside it, where the intrinsic has one.
+    Unary(Unary, TypedOperand, Option<TypedOperand>),
 }
 
 /// An operand with the width that is written before it.

@@ -17,7 +17,7 @@ use Rattle.ir_instructions.specs.Places.{begins_record, misfit}
 use Rattle.ir_instructions.specs.Readers.{Read, Reader, fault, unexpected, ◌>>=◌, done, each_at}
 use Rattle.ir_instructions.specs.Keywords.{ending_word, type_in}
 use Rattle.ir_instructions.specs.Punctuation as marks
-use Rattle.ir_parse.specs.Items.{is_item_word}
+use Rattle.ir_instructions.specs.Items.{is_item_word}
 use Rattle.ir_parse.specs.ModuleReaders as parsing
 use Rattle.ir_parse.proofs.TakingParts.{block-takes, parameter-takes}
 use Rattle.ops.specs.FlagKeywords.{flag_keyword}

@@ -16,15 +16,15 @@ use Rattle.ops.specs.declared.keywords.flag.Flag.TheVariants.{Nuw, Nsw, Exact, N
 use Rattle.ops.specs.FlagKeywords.{flag_keyword}
 use Rattle.ir_instructions.specs.Keywords.{ending_word, type_in}
 use Rattle.ir_instructions.specs.Punctuation as marks
-use Rattle.ir_parse.specs.Grammar.{SpellsItem, of_word, of_word_and_group, of_number, of_group, of_quoted, of_key_and_value}
-use Rattle.ir_parse.specs.Items.{is_item_word}
+use Rattle.ir_instructions.specs.ItemGrammar.{SpellsItem, MayFollowItem, of_word, of_word_and_group, of_number, of_group, of_quoted, of_key_and_value}
+use Rattle.ir_instructions.specs.Items.{is_item_word}
 use Rattle.ir_parse.specs.ModuleReaders as parsing
 use Rattle.ir_instructions.proofs.Loops.{repeat-is, each-more, each-done}
 use Rattle.ir_instructions.proofs.Steps.{read_as}
 use Rattle.ir_instructions.proofs.WordLemmas.{type_in-of}
-use Rattle.ir_parse.proofs.ItemReadings.{items_at-is}
-use Rattle.ir_parse.proofs.ItemSpellings.{MayFollowItem, items_at-of}
-use Rattle.ir_parse.proofs.TakingParts.{item-takes}
+use Rattle.ir_instructions.proofs.ItemReadings.{items_at-is}
+use Rattle.ir_instructions.proofs.ItemSpellings.{items_at-of}
+use Rattle.ir_instructions.proofs.ItemSizes.{item-takes}
 use Rattle.ir_viable_prefixes.specs.Misfits.{RepeatsFlag}
 use Rattle.ir_viable_prefixes.specs.Misfits as nouns
 use Rattle.ir_viable_prefixes.proofs.Choices.{AsksNext, Tested, tested_next, Opens, OpensRecords, either-good, reasons_transferred}

@@ -7,7 +7,7 @@ use Rattle.ops.specs.declared.comparison.Pred.{Pred}
 use Rattle.ops.specs.declared.comparison.Pred.TheVariants.{Eq}
 use Rattle.ops.specs.declared.comparison.Pred.TheVariants as preds
 use Rattle.ops.specs.declared.conversion.Cast.TheVariants.{Trunc, ZExt, SExt}
-use Rattle.ops.specs.declared.opcode.Opcode.TheVariants.{Add, Sub, Mul, UDiv, SDiv, URem, SRem, Shl, LShr, AShr, And, Or, Xor}
+use Rattle.ops.specs.declared.opcode.Opcode.TheVariants.{Add, Sub, Mul, UDiv, SDiv, URem, SRem, Shl, LShr, AShr, And, Or, Xor, UMin, UMax, SMin, SMax}
 use Rattle.scan.specs.Bytes as bytes
 use Rattle.ir_tokens.specs.Numbers.{constant_of}
 use Rattle.ir_tokens.specs.Tokens.{Token, Placed, Word, Number, Register, Function, Group, Metadata, Mark}
@@ -63,6 +63,10 @@ opcode_is_free (operations.Binary AShr) = (refl, refl)
 opcode_is_free (operations.Binary And) = (refl, refl)
 opcode_is_free (operations.Binary Or) = (refl, refl)
 opcode_is_free (operations.Binary Xor) = (refl, refl)
+opcode_is_free (operations.Binary UMin) = (refl, refl)
+opcode_is_free (operations.Binary UMax) = (refl, refl)
+opcode_is_free (operations.Binary SMin) = (refl, refl)
+opcode_is_free (operations.Binary SMax) = (refl, refl)
 opcode_is_free operations.Compare = (refl, refl)
 opcode_is_free operations.Select = (refl, refl)
 opcode_is_free (operations.Convert Trunc) = (refl, refl)
@@ -70,6 +74,9 @@ opcode_is_free (operations.Convert ZExt) = (refl, refl)
 opcode_is_free (operations.Convert SExt) = (refl, refl)
 opcode_is_free operations.Freeze = (refl, refl)
 opcode_is_free operations.Phi = (refl, refl)
+opcode_is_free operations.Call = (refl, refl)
+opcode_is_free operations.Tail = (refl, refl)
+opcode_is_free operations.NoTail = (refl, refl)
 
 pred_is_free : (p : Pred) → IsFree (predicate_keyword p)
 pred_is_free preds.Eq = (refl, refl)
@@ -155,6 +162,10 @@ opcode_is_no_type (operations.Binary AShr) width is = absurd cc
 opcode_is_no_type (operations.Binary And) width is = absurd cc
 opcode_is_no_type (operations.Binary Or) width is = absurd cc
 opcode_is_no_type (operations.Binary Xor) width is = absurd cc
+opcode_is_no_type (operations.Binary UMin) width is = absurd cc
+opcode_is_no_type (operations.Binary UMax) width is = absurd cc
+opcode_is_no_type (operations.Binary SMin) width is = absurd cc
+opcode_is_no_type (operations.Binary SMax) width is = absurd cc
 opcode_is_no_type operations.Compare width is = absurd cc
 opcode_is_no_type operations.Select width is = absurd cc
 opcode_is_no_type (operations.Convert Trunc) width is = absurd cc
@@ -162,6 +173,9 @@ opcode_is_no_type (operations.Convert ZExt) width is = absurd cc
 opcode_is_no_type (operations.Convert SExt) width is = absurd cc
 opcode_is_no_type operations.Freeze width is = absurd cc
 opcode_is_no_type operations.Phi width is = absurd cc
+opcode_is_no_type operations.Call width is = absurd cc
+opcode_is_no_type operations.Tail width is = absurd cc
+opcode_is_no_type operations.NoTail width is = absurd cc
 
 type_is_no_opcode : (u : List ℕ) (width : ℕ) → IsTypeWord u width → operation_in u ≡ None
 type_is_no_opcode u width is = by (operation_in u) refl

@@ -9,7 +9,7 @@ use Rattle.ir_core.specs.declared.function.Function.{Function}
 use Rattle.ir_core.specs.declared.function.Block.{Block}
 use Rattle.ir_core.specs.declared.instruction.Inst.{Inst}
 use Rattle.ir_core.specs.declared.instruction.Op.{Op}
-use Rattle.ir_core.specs.declared.instruction.Op.TheVariants.{Binary, Compare, Select, Convert, Freeze, Phi}
+use Rattle.ir_core.specs.declared.instruction.Op.TheVariants.{Binary, Compare, Unary, Select, Convert, Freeze, Phi}
 use Rattle.ir_core.specs.declared.operand.Operand.{Operand}
 use Rattle.ir_core.specs.declared.operand.Operand.TheVariants as operands
 use Rattle.ir_core.specs.declared.operand.Register.{Register}
@@ -124,6 +124,7 @@ typed-moved kept w (Binary op flags x y) h = h
 typed-moved kept w (Compare pred samesign compared x y) h = h
 typed-moved kept w (Select c x y) h = h
 typed-moved kept w (Convert cast flags from x) h = h
+typed-moved kept w (Unary op truth x) h = h
 typed-moved kept w (Freeze x) h = h
 typed-moved kept w (Phi entries) h = h
 
@@ -132,6 +133,7 @@ phi-moved kept (Binary op flags x y) h = h
 phi-moved kept (Compare pred samesign compared x y) h = h
 phi-moved kept (Select c x y) h = h
 phi-moved kept (Convert cast flags from x) h = h
+phi-moved kept (Unary op truth x) h = h
 phi-moved kept (Freeze x) h = h
 phi-moved kept (Phi entries) h = h
 
@@ -140,6 +142,7 @@ phi-back kept (Binary op flags x y) h = h
 phi-back kept (Compare pred samesign compared x y) h = h
 phi-back kept (Select c x y) h = h
 phi-back kept (Convert cast flags from x) h = h
+phi-back kept (Unary op truth x) h = h
 phi-back kept (Freeze x) h = h
 phi-back kept (Phi entries) h = h
 
@@ -158,6 +161,7 @@ entries_back kept (Binary op flags x y) new e = absurd cc
 entries_back kept (Compare pred samesign compared x y) new e = absurd cc
 entries_back kept (Select c x y) new e = absurd cc
 entries_back kept (Convert cast flags from x) new e = absurd cc
+entries_back kept (Unary op truth x) new e = absurd cc
 entries_back kept (Freeze x) new e = absurd cc
 entries_back kept (Phi entries) new e = (entries, refl, cc)
 
@@ -297,6 +301,7 @@ module _ (f : Function) (m : MeetsChecks f) (kept : KeptMarks) (needed : KeepsNe
   reads_of-moved b k w (Compare pred samesign compared x y) = refl
   reads_of-moved b k w (Select c x y) = refl
   reads_of-moved b k w (Convert cast flags from x) = refl
+  reads_of-moved b k w (Unary op truth x) = refl
   reads_of-moved b k w (Freeze x) = refl
   reads_of-moved b k w (Phi entries) = entry_reads-moved w entries
 

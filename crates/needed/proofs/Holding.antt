@@ -7,6 +7,7 @@ use Rattle.std.proofs.lemmas.Option.{slice_get-map}
 use Rattle.ops.specs.Instruction.{instruction}
 use Rattle.ops.specs.Comparison.{comparison, selection}
 use Rattle.ops.specs.Conversion.{conversion}
+use Rattle.ops.specs.Unary.{unary}
 use Rattle.ops.specs.declared.value.Value.{Value}
 use Rattle.ops.specs.declared.value.Value.TheVariants as values
 use Rattle.ops.specs.declared.value.Effect.{Effect}
@@ -15,7 +16,7 @@ use Rattle.ir_core.specs.declared.function.Function.{Function}
 use Rattle.ir_core.specs.declared.function.Parameter.{Parameter}
 use Rattle.ir_core.specs.declared.function.Block.{Block}
 use Rattle.ir_core.specs.declared.instruction.Op.{Op}
-use Rattle.ir_core.specs.declared.instruction.Op.TheVariants.{Binary, Compare, Select, Convert, Freeze, Phi}
+use Rattle.ir_core.specs.declared.instruction.Op.TheVariants.{Binary, Compare, Unary, Select, Convert, Freeze, Phi}
 use Rattle.ir_core.specs.declared.operand.Operand.{Operand}
 use Rattle.ir_core.specs.declared.operand.Operand.TheVariants as operands
 use Rattle.ir_core.specs.declared.operand.Register.{Register}
@@ -157,6 +158,9 @@ op_gives f b k w held (Select c x y) h n =
 op_gives f b k w held (Convert cast flags from x) h n =
     let p : (v : Value) × OperandGives AnyNumber held from x v = operand_gives held from x (h 0 (read b k from x) refl) in
     (effects.Gives (conversion cast flags from w p.0), (p.0, p.1, refl))
+op_gives f b k w held (Unary op truth x) h n =
+    let p : (v : Value) × OperandGives AnyNumber held w x v = operand_gives held w x (h 0 (read b k w x) refl) in
+    (effects.Gives (unary op truth w p.0), (p.0, p.1, refl))
 op_gives f b k w held (Freeze x) h n =
     let p : (v : Value) × OperandGives AnyNumber held w x v = operand_gives held w x (h 0 (read b k w x) refl) in
     let q : (v : Value) × Freezes AnyNumber w p.0 v = freezes w p.0 in
@@ -220,6 +224,7 @@ op_back f kept b k w held new (Compare pred samesign compared x y) e h s g =
 op_back f kept b k w held new (Select c x y) e h s g =
     (g.0, g.1, g.2, operand_back kept held new 1 c g.0 h (s 0 (read b k 1 c) refl) g.3, operand_back kept held new w x g.1 h (s 1 (read b k w x) refl) g.4, operand_back kept held new w y g.2 h (s 2 (read b k w y) refl) g.5, g.6)
 op_back f kept b k w held new (Convert cast flags from x) e h s g = (g.0, operand_back kept held new from x g.0 h (s 0 (read b k from x) refl) g.1, g.2)
+op_back f kept b k w held new (Unary op truth x) e h s g = (g.0, operand_back kept held new w x g.0 h (s 0 (read b k w x) refl) g.1, g.2)
 op_back f kept b k w held new (Freeze x) e h s g = (g.0, g.1, operand_back kept held new w x g.0 h (s 0 (read b k w x) refl) g.2, g.3, g.4)
 op_back f kept b k w held new (Phi entries) e h s g = g
 

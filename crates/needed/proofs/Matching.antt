@@ -12,7 +12,7 @@ use Rattle.ir_core.specs.declared.function.Function.{Function}
 use Rattle.ir_core.specs.declared.function.Block.{Block}
 use Rattle.ir_core.specs.declared.instruction.Inst.{Inst}
 use Rattle.ir_core.specs.declared.instruction.Op.{Op}
-use Rattle.ir_core.specs.declared.instruction.Op.TheVariants.{Binary, Compare, Select, Convert, Freeze, Phi}
+use Rattle.ir_core.specs.declared.instruction.Op.TheVariants.{Binary, Compare, Unary, Select, Convert, Freeze, Phi}
 use Rattle.ir_core.specs.declared.operand.Operand.{Operand}
 use Rattle.ir_core.specs.declared.operand.Operand.TheVariants as operands
 use Rattle.ir_core.specs.declared.operand.Register.{Register}
@@ -41,6 +41,7 @@ phi_or_not (Binary op flags x y) = inr (λ h. h)
 phi_or_not (Compare pred samesign compared x y) = inr (λ h. h)
 phi_or_not (Select c x y) = inr (λ h. h)
 phi_or_not (Convert cast flags from x) = inr (λ h. h)
+phi_or_not (Unary op truth x) = inr (λ h. h)
 phi_or_not (Freeze x) = inr (λ h. h)
 phi_or_not (Phi entries) = inl (entries, refl)
 
@@ -49,6 +50,7 @@ no_phi_to P Q (Binary op flags x y) n q = q
 no_phi_to P Q (Compare pred samesign compared x y) n q = q
 no_phi_to P Q (Select c x y) n q = q
 no_phi_to P Q (Convert cast flags from x) n q = q
+no_phi_to P Q (Unary op truth x) n q = q
 no_phi_to P Q (Freeze x) n q = q
 no_phi_to P Q (Phi entries) n q = absurd (n tt)
 
@@ -57,6 +59,7 @@ no_phi_from kept P Q (Binary op flags x y) n q = q
 no_phi_from kept P Q (Compare pred samesign compared x y) n q = q
 no_phi_from kept P Q (Select c x y) n q = q
 no_phi_from kept P Q (Convert cast flags from x) n q = q
+no_phi_from kept P Q (Unary op truth x) n q = q
 no_phi_from kept P Q (Freeze x) n q = q
 no_phi_from kept P Q (Phi entries) n q = absurd (n tt)
 

@@ -8,7 +8,7 @@ use Rattle.ir_core.specs.declared.function.Function.{Function}
 use Rattle.ir_core.specs.declared.function.Block.{Block}
 use Rattle.ir_core.specs.declared.instruction.Inst.{Inst}
 use Rattle.ir_core.specs.declared.instruction.Op.{Op}
-use Rattle.ir_core.specs.declared.instruction.Op.TheVariants.{Binary, Compare, Select, Convert, Freeze, Phi}
+use Rattle.ir_core.specs.declared.instruction.Op.TheVariants.{Binary, Compare, Unary, Select, Convert, Freeze, Phi}
 use Rattle.ir_core.specs.declared.operand.Operand.{Operand}
 use Rattle.ir_core.specs.declared.operand.Operand.TheVariants as operands
 use Rattle.ir_core.specs.declared.operand.Register.{Register}
@@ -62,6 +62,7 @@ operands-of f b k w (Binary op flags x y) = refl
 operands-of f b k w (Compare pred samesign compared x y) = refl
 operands-of f b k w (Select c x y) = refl
 operands-of f b k w (Convert cast flags from x) = refl
+operands-of f b k w (Unary op truth x) = refl
 operands-of f b k w (Freeze x) = refl
 operands-of f b k w (Phi entries) = entries_in f w entries
 

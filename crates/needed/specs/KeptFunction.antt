@@ -4,7 +4,7 @@ use Rattle.ir_core.specs.declared.function.Function.{Function}
 use Rattle.ir_core.specs.declared.function.Block.{Block}
 use Rattle.ir_core.specs.declared.instruction.Inst.{Inst}
 use Rattle.ir_core.specs.declared.instruction.Op.{Op}
-use Rattle.ir_core.specs.declared.instruction.Op.TheVariants.{Binary, Compare, Select, Convert, Freeze, Phi}
+use Rattle.ir_core.specs.declared.instruction.Op.TheVariants.{Binary, Compare, Unary, Select, Convert, Freeze, Phi}
 use Rattle.ir_core.specs.declared.operand.Operand.{Operand}
 use Rattle.ir_core.specs.declared.operand.Operand.TheVariants as operands
 use Rattle.ir_core.specs.declared.operand.Register.{Register}
@@ -35,6 +35,7 @@ moved_operand kept operands.Poison = operands.Poison
 abbrev pub moved_op : KeptMarks → Op → Op
 moved_op kept (Binary op flags x y) = Binary op flags (moved_operand kept x) (moved_operand kept y)
 moved_op kept (Compare pred samesign width x y) = Compare pred samesign width (moved_operand kept x) (moved_operand kept y)
+moved_op kept (Unary op truth x) = Unary op truth (moved_operand kept x)
 moved_op kept (Select c x y) = Select (moved_operand kept c) (moved_operand kept x) (moved_operand kept y)
 moved_op kept (Convert cast flags from x) = Convert cast flags from (moved_operand kept x)
 moved_op kept (Freeze x) = Freeze (moved_operand kept x)

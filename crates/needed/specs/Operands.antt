@@ -1,7 +1,7 @@
 -- What instructions and terminators read, without widths and places.
 use Rattle.std.specs.Prelude.{List, [], ◌∷◌, map}
 use Rattle.ir_core.specs.declared.instruction.Op.{Op}
-use Rattle.ir_core.specs.declared.instruction.Op.TheVariants.{Binary, Compare, Select, Convert, Freeze, Phi}
+use Rattle.ir_core.specs.declared.instruction.Op.TheVariants.{Binary, Compare, Unary, Select, Convert, Freeze, Phi}
 use Rattle.ir_core.specs.declared.operand.Operand.{Operand}
 use Rattle.ir_core.specs.declared.terminator.Terminator.{Terminator}
 use Rattle.ir_core.specs.declared.terminator.Terminator.TheVariants as terminators
@@ -9,6 +9,7 @@ use Rattle.ir_core.specs.declared.terminator.Terminator.TheVariants as terminato
 abbrev pub operands_of : Op → List Operand
 operands_of (Binary op flags x y) = x ∷ y ∷ []
 operands_of (Compare pred samesign compared x y) = x ∷ y ∷ []
+operands_of (Unary op truth x) = x ∷ []
 operands_of (Select c x y) = c ∷ x ∷ y ∷ []
 operands_of (Convert cast flags from x) = x ∷ []
 operands_of (Freeze x) = x ∷ []

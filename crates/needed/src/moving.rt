@@ -62,6 +62,7 @@ fn moved_op(kept: &Kept, op: Op) -> Op
             let x = moved_operand(kept, x);
             Op::Compare(pred, samesign, width, x, moved_operand(kept, y))
         }
+        Op::Unary(op, truth, x) => Op::Unary(op, truth, moved_operand(kept, x)),
         Op::Select(condition, x, y) => {
             let condition = moved_operand(kept, condition);
             let x = moved_operand(kept, x);

@@ -88,7 +88,9 @@ impl Search {
                 &[*x, *y],
             ),
             Op::Select(condition, x, y) => self.mark_all(numbers, &[*condition, *x, *y]),
-            Op::Convert(_, _, _, x) | Op::Freeze(x) => self.mark_all(numbers, &[*x]),
+            Op::Unary(_, _, x) | Op::Convert(_, _, _, x) | Op::Freeze(x) => {
+                self.mark_all(numbers, &[*x])
+            }
             Op::Phi(entries) => self.mark_entries(numbers, entries.as_slice()),
         }
     }

@@ -1,3 +1,4 @@
+pub mod BitCounts
 pub mod Monotone
 pub mod Quotients
 pub mod Signed

@@ -14,7 +14,8 @@ use Rattle.ops.specs.Division.{udiv, sdiv, urem, srem}
 use Rattle.ops.specs.Instruction.{instruction, on_numbers, on_poison}
 use Rattle.ops.specs.Comparison.{comparison, selection}
 use Rattle.ops.specs.Conversion.{conversion}
-use Rattle.ops.specs.Laws.{InstructionIsMonotone, ComparisonIsMonotone, ConversionIsMonotone, SelectionIsMonotone}
+use Rattle.ops.specs.Unary.{unary}
+use Rattle.ops.specs.Laws.{InstructionIsMonotone, ComparisonIsMonotone, ConversionIsMonotone, UnaryIsMonotone, SelectionIsMonotone}
 use Rattle.ops.proofs.Values.{AllowsValue-refl, AllowsEffect-refl, AllowsEffect-trans}
 
 -- a division of poison allows one of a number by the same divisor
@@ -71,6 +72,11 @@ pub conversion-monotone : ConversionIsMonotone
 unfolding conversion
 conversion-monotone cast flags from to Poison a' p = tt
 conversion-monotone cast flags from to (Bits a) a' p = rw p (AllowsValue-refl (conversion cast flags from to (Bits a)))
+
+pub unary-monotone : UnaryIsMonotone
+unfolding unary
+unary-monotone op truth N Poison a' p = tt
+unary-monotone op truth N (Bits a) a' p = rw p (AllowsValue-refl (unary op truth N (Bits a)))
 
 chosen : (c : Bool) (a b a' b' : Value) → AllowsValue a a' → AllowsValue b b' → AllowsValue (cond c a b) (cond c a' b')
 chosen true a b a' b' p q = p

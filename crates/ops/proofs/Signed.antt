@@ -1,6 +1,6 @@
 -- Numbers in two's complement, and 2 to the power of a width.
 use Rattle.std.proofs.Common.{ℕ, ◌≡◌, ◌*◌, ◌-◌, ◌^◌, ◌<◌, ◌≤◌, ◌+◌, cond, ltb, ap, sym, ◌∙◌, arith, add-one}
-use Rattle.std.specs.Prelude.{ℤ, pos, negsuc, neg_ℤ, ◌-ℤ◌, ◌↔◌}
+use Rattle.std.specs.Prelude.{ℤ, pos, negsuc, neg_ℤ, ◌-ℤ◌, ◌↔◌, unsigned_abs}
 use Rattle.std.proofs.Math.Nat.{mod-lt, pow-succ'}
 use Rattle.std.proofs.lemmas.Nat.{pow_pos}
 use Rattle.std.proofs.lemmas.Int.{ints}
@@ -17,6 +17,14 @@ pub pow_doubled : (N : ℕ) → 1 ≤ N → 2 ^ N ≡ 2 * 2 ^ (N - 1)
 pow_doubled N h =
     let e : (N - 1) + 1 ≡ N = omega arith in
     ap (λ k. 2 ^ k) (sym e ∙ add-one (N - 1)) ∙ pow-succ' 2 (N - 1)
+
+-- the absolute value of a signed number, which the least one has too
+absolute_by_half : (half power n : ℕ) → 0 < half → n < power → unsigned_abs (cond (ltb n half) (pos n) (pos n -ℤ pos power)) < power
+absolute_by_half half power n p h = grind (arith, ints, nat_tests)
+
+pub absolute-lt : (N n : ℕ) → n < 2 ^ N → unsigned_abs (signed N n) < 2 ^ N
+unfolding signed
+absolute-lt N n h = absolute_by_half (2 ^ (N - 1)) (2 ^ N) n (pow_pos (N - 1)) h
 
 -- which number is 0, -1 and the least one
 zero_by_half : (half power n : ℕ) → 0 < half → n < power → (cond (ltb n half) (pos n) (pos n -ℤ pos power) ≡ pos 0) ↔ (n ≡ 0)

@@ -1,5 +1,5 @@
 -- The widths that instructions keep.
-use Rattle.std.proofs.Common.{ℕ, ◌^◌, ◌<◌, ◌/◌, ◌%◌, Bool, true, false, cond, not, ◌&&◌, nat_le, refl, arith, div-le_self}
+use Rattle.std.proofs.Common.{ℕ, zero, suc, ◌^◌, ◌<◌, ◌≤◌, ◌/◌, ◌%◌, Bool, true, false, cond, not, ◌&&◌, nat_le, refl, arith, div-le_self}
 use Rattle.std.proofs.Math.Nat.{mod-lt, mod-le}
 use Rattle.std.proofs.lemmas.Nat.{pow_pos, pow_below, and_le_l, or_lt, xor_lt}
 use Rattle.std.specs.Prelude.{ℤ, pos, ◌==◌, unsigned_abs}
@@ -8,8 +8,10 @@ use Rattle.ops.specs.declared.value.Value.{Value}
 use Rattle.ops.specs.declared.value.Value.TheVariants.{Poison, Bits}
 use Rattle.ops.specs.declared.value.Effect.TheVariants.{Undefined, Gives}
 use Rattle.ops.specs.declared.opcode.Opcode.{Opcode}
-use Rattle.ops.specs.declared.opcode.Opcode.TheVariants.{Add, Sub, Mul, UDiv, SDiv, URem, SRem, Shl, LShr, AShr, And, Or, Xor}
+use Rattle.ops.specs.declared.opcode.Opcode.TheVariants.{Add, Sub, Mul, UDiv, SDiv, URem, SRem, Shl, LShr, AShr, And, Or, Xor, UMin, UMax, SMin, SMax}
 use Rattle.ops.specs.declared.opcode.Flags.{Flags}
+use Rattle.ops.specs.declared.opcode.Unary.{Unary}
+use Rattle.ops.specs.declared.opcode.Unary.TheVariants.{Abs, CtPop, CtLz, CtTz}
 use Rattle.ops.specs.declared.conversion.Cast.TheVariants.{Trunc, ZExt, SExt}
 use Rattle.ops.specs.Value.{IsValueOf, IsEffectOf}
 use Rattle.ops.specs.Integer.{bits, signed, residue}
@@ -17,11 +19,14 @@ use Rattle.ops.specs.Arithmetic.{arithmetic}
 use Rattle.ops.specs.Division.{udiv, sdiv, urem, srem, exactly, divides, quotient, has_no_quotient}
 use Rattle.ops.specs.Shifts.{shl, lshr, ashr}
 use Rattle.ops.specs.Bitwise.{or}
+use Rattle.ops.specs.Extremes.{smin, smax}
+use Rattle.ops.specs.Unary.{unary, at_number}
 use Rattle.ops.specs.Instruction.{instruction, on_numbers, on_poison}
 use Rattle.ops.specs.Comparison.{comparison, selection, holds}
 use Rattle.ops.specs.Conversion.{conversion, converted}
-use Rattle.ops.specs.Laws.{InstructionKeepsWidth, ComparisonIsOneBit, ConversionHasWidth, SelectionKeepsWidth}
-use Rattle.ops.proofs.Signed.{residue-lt}
+use Rattle.ops.specs.Laws.{InstructionKeepsWidth, ComparisonIsOneBit, ConversionHasWidth, UnaryKeepsWidth, SelectionKeepsWidth}
+use Rattle.ops.proofs.Signed.{residue-lt, absolute-lt}
+use Rattle.ops.proofs.BitCounts.{ctpop-most, ctlz-most, cttz-most}
 
 IsValueOf-cond : (N : ℕ) (c : Bool) (v : Value) → IsValueOf N v → IsValueOf N (cond c Poison v)
 IsValueOf-cond N true v h = tt
@@ -40,6 +45,10 @@ IsValueOf-arithmetic flags N u s = IsValueOf-cond N _ (bits N _) (refl, residue-
 
 IsValueOf-exactly : (N : ℕ) (flags : Flags) (divided : Bool) (n : ℕ) → n < 2 ^ N → IsValueOf N (exactly flags divided (bits N n))
 IsValueOf-exactly N flags divided n h = IsValueOf-cond N (flags.exact && not divided) (bits N n) (refl, h)
+
+either_lt : (N : ℕ) (c : Bool) (a b : ℕ) → a < 2 ^ N → b < 2 ^ N → cond c a b < 2 ^ N
+either_lt N true a b p q = p
+either_lt N false a b p q = q
 
 pub IsEffectOf-on_numbers : (op : Opcode) (flags : Flags) (N a b : ℕ) → a < 2 ^ N → b < 2 ^ N → IsEffectOf N (on_numbers op flags N a b)
 unfolding on_numbers udiv sdiv urem srem shl lshr ashr or
@@ -64,6 +73,10 @@ IsEffectOf-on_numbers AShr flags N a b p q =
 IsEffectOf-on_numbers And flags N a b p q = (refl, omega (arith, and_le_l a b))
 IsEffectOf-on_numbers Or flags N a b p q = IsValueOf-cond N _ (bits N _) (refl, or_lt N a b p q)
 IsEffectOf-on_numbers Xor flags N a b p q = (refl, xor_lt N a b p q)
+IsEffectOf-on_numbers UMin flags N a b p q = (refl, omega arith)
+IsEffectOf-on_numbers UMax flags N a b p q = (refl, omega arith)
+IsEffectOf-on_numbers SMin flags N a b p q = (refl, either_lt N _ a b p q)
+IsEffectOf-on_numbers SMax flags N a b p q = (refl, either_lt N _ b a q p)
 
 pub IsEffectOf-on_poison : (op : Opcode) (N : ℕ) (b : Value) → IsEffectOf N (on_poison op N b)
 unfolding on_poison
@@ -100,6 +113,26 @@ IsValueOf-conversion cast flags from to Poison h p = tt
 IsValueOf-conversion Trunc flags from to (Bits a) h p = IsValueOf-cond to _ (bits to _) (refl, mod-lt a.number (pow_pos to))
 IsValueOf-conversion ZExt flags from to (Bits a) h p = IsValueOf-cond to _ (bits to _) (refl, omega (arith, p.1, pow_below from to h))
 IsValueOf-conversion SExt flags from to (Bits a) h p = IsValueOf-cond to _ (bits to _) (refl, residue-lt to _)
+
+below_pow : (n : ℕ) → n < 2 ^ n
+below_pow zero = omega arith
+below_pow (suc n) = omega (arith, native.Mathlib.Nat.two-pow-succ n, below_pow n)
+
+-- no count of bits is more than there are, and that is below 2 ^ N
+pub count_lt : (N n : ℕ) → n ≤ N → n < 2 ^ N
+count_lt N n h = omega (arith, below_pow N)
+
+pub at_number-lt : (op : Unary) (N a : ℕ) → a < 2 ^ N → at_number op N a < 2 ^ N
+unfolding at_number
+at_number-lt Abs N a h = absolute-lt N a h
+at_number-lt CtPop N a h = count_lt N _ (ctpop-most N a h)
+at_number-lt CtLz N a h = count_lt N _ (ctlz-most N a h)
+at_number-lt CtTz N a h = count_lt N _ (cttz-most N a)
+
+pub IsValueOf-unary : UnaryKeepsWidth
+unfolding unary
+IsValueOf-unary op truth N Poison p = tt
+IsValueOf-unary op truth N (Bits a) p = IsValueOf-cond N _ (bits N _) (refl, at_number-lt op N a.number p.1)
 
 selected : (N : ℕ) (c : Bool) (a b : Value) → IsValueOf N a → IsValueOf N b → IsValueOf N (cond c a b)
 selected N true a b p q = p

@@ -1,7 +1,7 @@
 -- The flags that an instruction may be written with (LLVM Language Reference, "Instruction Reference").
 use Rattle.std.specs.Prelude.{◌≡◌, Bool, true, false, ◌&&◌}
 use Rattle.ops.specs.declared.opcode.Opcode.{Opcode}
-use Rattle.ops.specs.declared.opcode.Opcode.TheVariants.{Add, Sub, Mul, UDiv, SDiv, URem, SRem, Shl, LShr, AShr, And, Or, Xor}
+use Rattle.ops.specs.declared.opcode.Opcode.TheVariants.{Add, Sub, Mul, UDiv, SDiv, URem, SRem, Shl, LShr, AShr, And, Or, Xor, UMin, UMax, SMin, SMax}
 use Rattle.ops.specs.declared.opcode.Flags.{Flags}
 use Rattle.ops.specs.declared.conversion.Cast.{Cast}
 use Rattle.ops.specs.declared.conversion.Cast.TheVariants.{Trunc, ZExt, SExt}
@@ -40,6 +40,10 @@ flags_of AShr = exact_flag
 flags_of And = no_flags
 flags_of Or = disjoint_flag
 flags_of Xor = no_flags
+flags_of UMin = no_flags
+flags_of UMax = no_flags
+flags_of SMin = no_flags
+flags_of SMax = no_flags
 
 -- those that a cast takes
 abbrev pub flags_of_cast : Cast → Flags

@@ -1,8 +1,11 @@
--- The keywords of binary operations, casts and predicates (LLVM Language Reference, "Instruction Reference").
+-- The keywords of binary operations, casts, predicates and intrinsics (LLVM Language Reference, "Instruction Reference", "Intrinsic
+-- Functions").
 use Rattle.std.specs.Prelude.{ℕ, List, [], ◌∷◌, find, Option, codes}
 use Rattle.std.specs.Str.{bytes_eq}
 use Rattle.ops.specs.declared.opcode.Opcode.{Opcode}
-use Rattle.ops.specs.declared.opcode.Opcode.TheVariants.{Add, Sub, Mul, UDiv, SDiv, URem, SRem, Shl, LShr, AShr, And, Or, Xor}
+use Rattle.ops.specs.declared.opcode.Opcode.TheVariants.{Add, Sub, Mul, UDiv, SDiv, URem, SRem, Shl, LShr, AShr, And, Or, Xor, UMin, UMax, SMin, SMax}
+use Rattle.ops.specs.declared.opcode.Unary.{Unary}
+use Rattle.ops.specs.declared.opcode.Unary.TheVariants.{Abs, CtPop, CtLz, CtTz}
 use Rattle.ops.specs.declared.comparison.Pred.{Pred}
 use Rattle.ops.specs.declared.comparison.Pred.TheVariants.{Eq, Ne, Ugt, Uge, Ult, Ule, Sgt, Sge, Slt, Sle}
 use Rattle.ops.specs.declared.conversion.Cast.{Cast}
@@ -22,6 +25,16 @@ opcode_keyword AShr = codes "ashr"
 opcode_keyword And = codes "and"
 opcode_keyword Or = codes "or"
 opcode_keyword Xor = codes "xor"
+opcode_keyword UMin = codes "umin"
+opcode_keyword UMax = codes "umax"
+opcode_keyword SMin = codes "smin"
+opcode_keyword SMax = codes "smax"
+
+abbrev pub unary_keyword : Unary → List ℕ
+unary_keyword Abs = codes "abs"
+unary_keyword CtPop = codes "ctpop"
+unary_keyword CtLz = codes "ctlz"
+unary_keyword CtTz = codes "cttz"
 
 abbrev pub cast_keyword : Cast → List ℕ
 cast_keyword Trunc = codes "trunc"

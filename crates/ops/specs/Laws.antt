@@ -7,6 +7,7 @@ use Rattle.ops.specs.declared.value.Effect.TheVariants.{Undefined}
 use Rattle.ops.specs.declared.opcode.Opcode.{Opcode}
 use Rattle.ops.specs.declared.opcode.Opcode.TheVariants.{UDiv, SDiv, URem, SRem}
 use Rattle.ops.specs.declared.opcode.Flags.{Flags}
+use Rattle.ops.specs.declared.opcode.Unary.{Unary}
 use Rattle.ops.specs.declared.comparison.Pred.{Pred}
 use Rattle.ops.specs.declared.conversion.Cast.{Cast}
 use Rattle.ops.specs.Value.{AllowsValue, AllowsEffect, IsValueOf, IsEffectOf}
@@ -14,6 +15,7 @@ use Rattle.ops.specs.Integer.{signed}
 use Rattle.ops.specs.Instruction.{instruction}
 use Rattle.ops.specs.Comparison.{comparison, selection}
 use Rattle.ops.specs.Conversion.{CastFits, conversion}
+use Rattle.ops.specs.Unary.{unary}
 
 -- a value allows itself, and so does an effect
 abbrev pub AllowsValueIsReflexive : Type 0
@@ -42,6 +44,10 @@ abbrev pub ConversionIsMonotone : Type 0
 ConversionIsMonotone = (cast : Cast) (flags : Flags) (from to : ℕ) (a a' : Value) →
     AllowsValue a a' → AllowsValue (conversion cast flags from to a) (conversion cast flags from to a')
 
+abbrev pub UnaryIsMonotone : Type 0
+UnaryIsMonotone = (op : Unary) (truth : Bool) (N : ℕ) (a a' : Value) →
+    AllowsValue a a' → AllowsValue (unary op truth N a) (unary op truth N a')
+
 abbrev pub SelectionIsMonotone : Type 0
 SelectionIsMonotone = (c a b c' a' b' : Value) →
     AllowsValue c c' → AllowsValue a a' → AllowsValue b b' → AllowsValue (selection c a b) (selection c' a' b')
@@ -57,6 +63,9 @@ ComparisonIsOneBit = (pred : Pred) (samesign : Bool) (N : ℕ) (a b : Value) →
 abbrev pub ConversionHasWidth : Type 0
 ConversionHasWidth = (cast : Cast) (flags : Flags) (from to : ℕ) (a : Value) →
     CastFits cast from to → IsValueOf from a → IsValueOf to (conversion cast flags from to a)
+
+abbrev pub UnaryKeepsWidth : Type 0
+UnaryKeepsWidth = (op : Unary) (truth : Bool) (N : ℕ) (a : Value) → IsValueOf N a → IsValueOf N (unary op truth N a)
 
 abbrev pub SelectionKeepsWidth : Type 0
 SelectionKeepsWidth = (N : ℕ) (c a b : Value) → IsValueOf N a → IsValueOf N b → IsValueOf N (selection c a b)

@@ -8,6 +8,7 @@ ghost use Rattle.ops.specs.Value.{HasWidth, IsEffectOf};
 use crate::arithmetic::{add, mul, sub};
 use crate::bitwise::{and, or, xor};
 use crate::division::{sdiv, signed_poison, srem, udiv, unsigned_poison, urem};
+use crate::extremes::{smax, smin, umax, umin};
 use crate::opcode::{Flags, Opcode};
 use crate::shift::{ashr, lshr, shl};
 use crate::value::{Effect, Value};
@@ -47,7 +48,11 @@ fn on_poison(op: Opcode, width: Width, b: Value) -> Effect
         | Opcode::AShr
         | Opcode::And
         | Opcode::Or
-        | Opcode::Xor => Effect::Gives(Value::Poison),
+        | Opcode::Xor
+        | Opcode::UMin
+        | Opcode::UMax
+        | Opcode::SMin
+        | Opcode::SMax => Effect::Gives(Value::Poison),
     }
 }
 
@@ -72,5 +77,9 @@ fn on_numbers(op: Opcode, flags: Flags, width: Width, a: u64, b: u64) -> Effect
         Opcode::And => Effect::Gives(and(width, a, b)),
         Opcode::Or => Effect::Gives(or(flags, width, a, b)),
         Opcode::Xor => Effect::Gives(xor(width, a, b)),
+        Opcode::UMin => Effect::Gives(umin(width, a, b)),
+        Opcode::UMax => Effect::Gives(umax(width, a, b)),
+        Opcode::SMin => Effect::Gives(smin(width, a, b)),
+        Opcode::SMax => Effect::Gives(smax(width, a, b)),
     }
 }

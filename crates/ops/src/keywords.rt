@@ -6,6 +6,6 @@ mod predicate;
 mod spelling;
 
 pub use flag::{EVERY_FLAG, Flag, flag_name, flag_of, has_flag, with_flag};
-pub use instruction::{cast_name, opcode_name};
+pub use instruction::{cast_name, opcode_name, unary_name};
 pub use predicate::predicate_of;
 pub use spelling::is;

@@ -1,5 +1,5 @@
 //! The laws of values and instructions, each the contract of a function that does nothing.
-ghost use Rattle.ops.specs.Laws.{AllowsValueIsReflexive, AllowsEffectIsReflexive, AllowsValueIsTransitive, AllowsEffectIsTransitive, InstructionIsMonotone, ComparisonIsMonotone, ConversionIsMonotone, SelectionIsMonotone, InstructionKeepsWidth, ComparisonIsOneBit, ConversionHasWidth, SelectionKeepsWidth, UndefinedIsOfDivisions};
+ghost use Rattle.ops.specs.Laws.{AllowsValueIsReflexive, AllowsEffectIsReflexive, AllowsValueIsTransitive, AllowsEffectIsTransitive, InstructionIsMonotone, ComparisonIsMonotone, ConversionIsMonotone, UnaryIsMonotone, SelectionIsMonotone, InstructionKeepsWidth, ComparisonIsOneBit, ConversionHasWidth, UnaryKeepsWidth, SelectionKeepsWidth, UndefinedIsOfDivisions};
 
 /// Each value, and each effect, allows itself.
 pub fn allowing_is_reflexive()
@@ -18,6 +18,7 @@ pub fn instructions_are_monotone()
     ensures evaluate { InstructionIsMonotone }
     ensures compare { ComparisonIsMonotone }
     ensures convert { ConversionIsMonotone }
+    ensures unary { UnaryIsMonotone }
     ensures choose { SelectionIsMonotone }
 {}
 
@@ -26,6 +27,7 @@ pub fn instructions_keep_widths()
     ensures evaluate { InstructionKeepsWidth }
     ensures compare { ComparisonIsOneBit }
     ensures convert { ConversionHasWidth }
+    ensures unary { UnaryKeepsWidth }
     ensures choose { SelectionKeepsWidth }
 {}
 

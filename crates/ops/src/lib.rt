@@ -5,11 +5,14 @@ mod arithmetic;
 mod bitwise;
 mod comparison;
 mod conversion;
+mod counts;
 mod division;
+mod extremes;
 mod instruction;
 mod integer;
 pub mod keywords;
 mod laws;
+mod one_operand;
 mod opcode;
 mod shift;
 mod value;
@@ -24,7 +27,8 @@ pub use laws::{
     allowing_is_reflexive, allowing_is_transitive, instructions_are_monotone,
     instructions_keep_widths, undefined_is_of_divisions,
 };
-pub use opcode::{Flags, Opcode};
+pub use one_operand::unary;
+pub use opcode::{Flags, Opcode, Unary};
 pub use value::{Effect, Value};
 pub use width::Width;
 pub use word::Word;

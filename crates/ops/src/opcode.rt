@@ -1,10 +1,12 @@
-//! Which instructions with two operands of one type there are, and what they may promise.
+//! Which instructions and intrinsics with operands of one type there are, and what they may promise.
 
 ghost use Rattle.std.specs.Prelude.{◌≡◌, ◌↔◌, IsTrue};
 ghost use Rattle.ops.specs.Flags.{AreWithin, FlagsFit, common, flags_of, icmp_flags};
+ghost use Rattle.ops.specs.Intrinsics.{is_intrinsic};
+ghost use Rattle.ops.specs.Truths.{TruthFits, has_truth};
 
-/// The instructions with two operands of one type, and a result of that type.
-/// (LLVM Language Reference, "Binary Operations" and "Bitwise Binary Operations".)
+/// The instructions and intrinsics with two operands of one type, and a result of that type. (LLVM Language Reference, "Binary
+/// Operations", "Bitwise Binary Operations" and "Standard C/C++ Library Intrinsics".)
 #[derive(Clone, Copy, PartialEq, Eq, Debug)]
 pub enum Opcode {
     Add,
@@ -20,6 +22,10 @@ pub enum Opcode {
     And,
     Or,
     Xor,
+    UMin,
+    UMax,
+    SMin,
+    SMax,
 }
 
 impl Opcode {
@@ -31,7 +37,36 @@ impl Opcode {
             Opcode::Add | Opcode::Sub | Opcode::Mul | Opcode::Shl => Flags::WRAP,
             Opcode::UDiv | Opcode::SDiv | Opcode::LShr | Opcode::AShr => Flags::EXACT,
             Opcode::Or => Flags::DISJOINT,
-            Opcode::URem | Opcode::SRem | Opcode::And | Opcode::Xor => Flags::NONE,
+            Opcode::URem
+            | Opcode::SRem
+            | Opcode::And
+            | Opcode::Xor
+            | Opcode::UMin
+            | Opcode::UMax
+            | Opcode::SMin
+            | Opcode::SMax => Flags::NONE,
+        }
+    }
+
+    /// Whether it is an intrinsic, which modules call, and no instruction with an opcode of its own.
+    pub fn is_intrinsic(self) -> bool
+        ensures { result ≡ is_intrinsic self }
+    {
+        match self {
+            Opcode::UMin | Opcode::UMax | Opcode::SMin | Opcode::SMax => true,
+            Opcode::Add
+            | Opcode::Sub
+            | Opcode::Mul
+            | Opcode::UDiv
+            | Opcode::SDiv
+            | Opcode::URem
+            | Opcode::SRem
+            | Opcode::Shl
+            | Opcode::LShr
+            | Opcode::AShr
+            | Opcode::And
+            | Opcode::Or
+            | Opcode::Xor => false,
         }
     }
 
@@ -40,6 +75,39 @@ impl Opcode {
         ensures { IsTrue result ↔ FlagsFit self flags }
     {
         flags.are_within(self.flags())
+    }
+}
+
+/// The integer intrinsics with one operand, whose result has the operand's type. (LLVM Language Reference, "Standard C/C++
+/// Library Intrinsics", "Bit Manipulation Intrinsics".)
+#[derive(Clone, Copy, PartialEq, Eq, Debug)]
+pub enum Unary {
+    /// The absolute value. With its truth value, the least number gives poison, and else itself.
+    Abs,
+    /// How many bits are 1. It has no truth value.
+    CtPop,
+    /// How many bits are 0 above the highest 1. With its truth value, 0 gives poison, and else the width.
+    CtLz,
+    /// How many bits are 0 below the lowest 1. With its truth value, 0 gives poison, and else the width.
+    CtTz,
+}
+
+impl Unary {
+    /// Whether the intrinsic has a truth value beside its operand.
+    pub fn has_truth(self) -> bool
+        ensures { result ≡ has_truth self }
+    {
+        match self {
+            Unary::Abs | Unary::CtLz | Unary::CtTz => true,
+            Unary::CtPop => false,
+        }
+    }
+
+    /// Whether the intrinsic may be called with this truth value; one that has none is called with a false one.
+    pub fn takes(self, truth: bool) -> bool
+        ensures { IsTrue result ↔ TruthFits self truth }
+    {
+        truth & self.has_truth() == truth
     }
 }
 

@@ -61,6 +61,7 @@ module _ (to : Substitution) (f g : Function) (b k n : ℕ) where
   stayed_op width (ops.Compare pred samesign compared x y) own forms = let w : IsWidth compared = (forms 0 (read b k compared x) refl).width in (w, (w, tt))
   stayed_op width (ops.Select c x y) own forms = (one, (own, (own, tt)))
   stayed_op width (ops.Convert cast flags from x) own forms = ((forms 0 (read b k from x) refl).width, tt)
+  stayed_op width (ops.Unary op truth x) own forms = (own, tt)
   stayed_op width (ops.Freeze x) own forms = (own, tt)
   stayed_op width (ops.Phi entries) own forms = entries_have width own (substituted_entries to entries)
 

@@ -24,7 +24,7 @@ use Rattle.ir_core.specs.Run.{Registers, AnyNumber, IsChosen, OperandGives, Free
 use Rattle.ir_core.specs.declared.function.Function.{Function}
 use Rattle.ir_core.specs.declared.instruction.Op.{Op}
 use Rattle.ir_core.specs.declared.operand.Operand.TheVariants as operands
-use Rattle.ir_core.specs.declared.instruction.Op.TheVariants.{Binary, Compare, Select, Convert, Freeze, Phi}
+use Rattle.ir_core.specs.declared.instruction.Op.TheVariants.{Binary, Compare, Unary, Select, Convert, Freeze, Phi}
 use Rattle.rule_core.specs.Positions.{operands_of}
 use Rattle.rule_core.specs.Run.{Held, Given, OperandGives as RuleOperandGives, OpGives as RuleOpGives, frozen}
 use Rattle.rule_core.specs.declared.rule.Argument.TheVariants as arguments
@@ -116,6 +116,7 @@ computed_by w (Binary op flags x y) = Calculates op flags w
 computed_by w (Compare pred samesign compared x y) = Compares pred samesign compared
 computed_by w (Select c x y) = Selects
 computed_by w (Convert cast flags from x) = Converts cast flags from w
+computed_by w (Unary op truth x) = Copies
 computed_by w (Freeze x) = Freezing
 computed_by w (Phi entries) = Copies
 
@@ -125,6 +126,7 @@ IsComputed (Binary op flags x y) = Unit {0}
 IsComputed (Compare pred samesign compared x y) = Unit {0}
 IsComputed (Select c x y) = Unit {0}
 IsComputed (Convert cast flags from x) = Unit {0}
+IsComputed (Unary op truth x) = ⊥
 IsComputed (Freeze x) = Unit {0}
 IsComputed (Phi entries) = ⊥
 
@@ -201,6 +203,7 @@ module _ (f : Function) (b k : ℕ) (held : Registers) where
   op_computes w (Select c x y) e is h =
       (before_all h.0 (before_all h.1 (before_all h.2 no_values)), first (read b k 1 c) h.0 h.3 (read b k w x ∷ read b k w y ∷ []) (before_all h.1 (before_all h.2 no_values)) (first (read b k w x) h.1 h.4 (read b k w y ∷ []) (before_all h.2 no_values) (first (read b k w y) h.2 h.5 [] no_values (nothing no_values))), h.6)
   op_computes w (Convert cast flags from x) e is h = (before_all h.0 no_values, first (read b k from x) h.0 h.1 [] no_values (nothing no_values), h.2)
+  op_computes w (Unary op truth x) e is h = absurd is
   op_computes w (Freeze x) e is h =
       let by = freezes_by w h.0 h.1 h.3 in
       (before_all h.0 (before_all by.0 no_values), first (read b k w x) h.0 h.2 (read b k w operands.Undef ∷ []) (before_all by.0 no_values) (first (read b k w operands.Undef) by.0 by.1 [] no_values (nothing no_values)), h.4 ∙ ap effects.Gives by.2)
@@ -211,6 +214,7 @@ module _ (f : Function) (b k : ℕ) (held : Registers) where
   op_gives w (Compare pred samesign compared x y) v is each = (v 0, v 1, each 0 (read b k compared x) refl, each 1 (read b k compared y) refl, refl)
   op_gives w (Select c x y) v is each = (v 0, v 1, v 2, each 0 (read b k 1 c) refl, each 1 (read b k w x) refl, each 2 (read b k w y) refl, refl)
   op_gives w (Convert cast flags from x) v is each = (v 0, each 0 (read b k from x) refl, refl)
+  op_gives w (Unary op truth x) v is each = absurd is
   op_gives w (Freeze x) v is each = (v 0, frozen (v 0) (number_of (v 1)), each 0 (read b k w x) refl, by_choice w (v 0) (v 1) (each 1 (read b k w operands.Undef) refl), refl)
   op_gives w (Phi entries) v is each = absurd is
 

@@ -14,7 +14,7 @@ use Rattle.ir_core.specs.Reads.{Read, read, reads_of}
 use Rattle.ir_core.specs.declared.function.Function.{Function}
 use Rattle.ir_core.specs.declared.instruction.Op.{Op}
 use Rattle.ir_core.specs.declared.operand.Operand.{Operand}
-use Rattle.ir_core.specs.declared.instruction.Op.TheVariants.{Binary, Compare, Select, Convert, Freeze, Phi}
+use Rattle.ir_core.specs.declared.instruction.Op.TheVariants.{Binary, Compare, Unary, Select, Convert, Freeze, Phi}
 use Rattle.ir_meaning.proofs.Pieces.{some_at}
 use Rattle.rule_core.specs.Positions.{operands_of}
 use Rattle.rule_core.specs.declared.rule.Op.{Op as RuleOp}
@@ -76,6 +76,7 @@ all_here f b k w (Binary opcode flags x y) is = one_here b k w x (read b k w y �
 all_here f b k w (Compare pred samesign compared x y) is = one_here b k compared x (read b k compared y ∷ []) (one_here b k compared y [] (none_here b k))
 all_here f b k w (Select c x y) is = one_here b k 1 c (read b k w x ∷ read b k w y ∷ []) (one_here b k w x (read b k w y ∷ []) (one_here b k w y [] (none_here b k)))
 all_here f b k w (Convert cast flags from x) is = one_here b k from x [] (none_here b k)
+all_here f b k w (Unary op truth x) is = absurd is
 all_here f b k w (Freeze x) is = one_here b k w x [] (none_here b k)
 all_here f b k w (Phi entries) is = absurd is
 

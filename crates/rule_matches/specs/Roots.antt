@@ -23,6 +23,7 @@ kind_of_inst (ops.Binary opcode flags x y) = Some (Binary opcode)
 kind_of_inst (ops.Compare pred samesign width x y) = Some (Compare pred)
 kind_of_inst (ops.Select c x y) = Some Select
 kind_of_inst (ops.Convert cast flags from x) = Some (Convert cast)
+kind_of_inst (ops.Unary op truth x) = None
 kind_of_inst (ops.Freeze x) = Some Freeze
 kind_of_inst (ops.Phi entries) = None
 

@@ -65,7 +65,7 @@ fn kind_of_inst(op: &Op) -> Option<RootKind>
         Op::Select(_, _, _) => Some(RootKind::Select),
         Op::Convert(cast, _, _, _) => Some(RootKind::Convert(*cast)),
         Op::Freeze(_) => Some(RootKind::Freeze),
-        Op::Phi(_) => None,
+        Op::Unary(_, _, _) | Op::Phi(_) => None,
     }
 }
 

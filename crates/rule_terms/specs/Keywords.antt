@@ -2,7 +2,7 @@
 use Rattle.std.specs.Prelude.{◌≡◌, ℕ, ◌-◌, ◌^◌, ◌==◌, not, ◌&&◌, min, if◌then◌else◌, IsTrue, List, [], ◌∷◌, find, Option, Some, None, codes}
 use Rattle.std.specs.Str.{bytes_eq}
 use Rattle.ops.specs.declared.opcode.Opcode.{Opcode}
-use Rattle.ops.specs.declared.opcode.Opcode.TheVariants.{Add, Sub, Mul, UDiv, SDiv, URem, SRem, Shl, LShr, AShr, And, Or, Xor}
+use Rattle.ops.specs.declared.opcode.Opcode.TheVariants.{Add, Sub, Mul, UDiv, SDiv, URem, SRem, Shl, LShr, AShr, And, Or, Xor, UMin, UMax, SMin, SMax}
 use Rattle.rule_core.specs.declared.rule.Function.{Function}
 use Rattle.rule_core.specs.declared.rule.Function.TheVariants.{Negate, Not, Log2, Abs}
 use Rattle.scan.specs.Bytes.{begins_with, are_digits}
@@ -30,6 +30,10 @@ operator_mark LShr = codes "u>>"
 operator_mark And = codes "&"
 operator_mark Xor = codes "^"
 operator_mark Or = codes "|"
+operator_mark UMin = []
+operator_mark UMax = []
+operator_mark SMin = []
+operator_mark SMax = []
 
 abbrev pub operators : List Opcode
 operators = Mul ∷ SDiv ∷ UDiv ∷ SRem ∷ URem ∷ Add ∷ Sub ∷ Shl ∷ AShr ∷ LShr ∷ And ∷ Xor ∷ Or ∷ []
@@ -53,6 +57,10 @@ level_of LShr = 3
 level_of And = 4
 level_of Xor = 5
 level_of Or = 6
+level_of UMin = 6
+level_of UMax = 6
+level_of SMin = 6
+level_of SMax = 6
 
 -- the level of a whole term
 abbrev pub loosest : ℕ

@@ -28,6 +28,7 @@ fn operator_mark(opcode: Opcode) -> &'static str
         Opcode::And => "&",
         Opcode::Xor => "^",
         Opcode::Or => "|",
+        Opcode::UMin | Opcode::UMax | Opcode::SMin | Opcode::SMax => "",
     }
 }
 
@@ -41,7 +42,7 @@ pub(crate) fn level_of(opcode: Opcode) -> u32
         Opcode::Shl | Opcode::AShr | Opcode::LShr => 3,
         Opcode::And => 4,
         Opcode::Xor => 5,
-        Opcode::Or => 6,
+        Opcode::Or | Opcode::UMin | Opcode::UMax | Opcode::SMin | Opcode::SMax => 6,
     }
 }
 

@@ -9,7 +9,7 @@ use Rattle.ir_core.specs.declared.function.Function.{Function}
 use Rattle.ir_core.specs.declared.function.Block.{Block}
 use Rattle.ir_core.specs.declared.instruction.Inst.{Inst}
 use Rattle.ir_core.specs.declared.instruction.Op.{Op}
-use Rattle.ir_core.specs.declared.instruction.Op.TheVariants.{Binary, Compare, Select, Convert, Freeze, Phi}
+use Rattle.ir_core.specs.declared.instruction.Op.TheVariants.{Binary, Compare, Unary, Select, Convert, Freeze, Phi}
 use Rattle.ir_core.specs.declared.operand.Operand.{Operand}
 use Rattle.ir_core.specs.declared.operand.Operand.TheVariants as operands
 use Rattle.ir_core.specs.declared.operand.Register.{Register}
@@ -46,6 +46,7 @@ module _ (f : Function) (d j : ℕ) (held now : Registers) (same : (r : Register
   op_kept w (Select c x y) e other a h =
       (h.0, h.1, h.2, kept 1 c h.0 (a 0 (read d j 1 c) refl) h.3, kept w x h.1 (a 1 (read d j w x) refl) h.4, kept w y h.2 (a 2 (read d j w y) refl) h.5, h.6)
   op_kept w (Convert cast flags from x) e other a h = (h.0, kept from x h.0 (a 0 (read d j from x) refl) h.1, h.2)
+  op_kept w (Unary op truth x) e other a h = (h.0, kept w x h.0 (a 0 (read d j w x) refl) h.1, h.2)
   op_kept w (Freeze x) e other a h = (h.0, h.1, kept w x h.0 (a 0 (read d j w x) refl) h.2, h.3, h.4)
   op_kept w (Phi entries) e other a h = absurd (other tt)
 
@@ -56,6 +57,7 @@ if_no_phi (Binary op flags x y) P Q other h = h
 if_no_phi (Compare pred samesign compared x y) P Q other h = h
 if_no_phi (Select c x y) P Q other h = h
 if_no_phi (Convert cast flags from x) P Q other h = h
+if_no_phi (Unary op truth x) P Q other h = h
 if_no_phi (Freeze x) P Q other h = h
 if_no_phi (Phi entries) P Q other h = absurd (other tt)
 

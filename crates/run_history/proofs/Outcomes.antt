@@ -8,7 +8,7 @@ use Rattle.ir_core.specs.declared.function.Function.{Function}
 use Rattle.ir_core.specs.declared.function.Block.{Block}
 use Rattle.ir_core.specs.declared.instruction.Inst.{Inst}
 use Rattle.ir_core.specs.declared.instruction.Op.{Op}
-use Rattle.ir_core.specs.declared.instruction.Op.TheVariants.{Binary, Compare, Select, Convert, Freeze, Phi}
+use Rattle.ir_core.specs.declared.instruction.Op.TheVariants.{Binary, Compare, Unary, Select, Convert, Freeze, Phi}
 use Rattle.ir_core.specs.declared.operand.Operand.{Operand}
 use Rattle.ir_core.specs.declared.outcome.Outcome.{Outcome}
 use Rattle.ir_core.specs.declared.outcome.Outcome.TheVariants as outcomes
@@ -32,6 +32,7 @@ phi_cases (Binary op flags x y) P Q R f g h = g h
 phi_cases (Compare pred samesign compared x y) P Q R f g h = g h
 phi_cases (Select c x y) P Q R f g h = g h
 phi_cases (Convert cast flags from x) P Q R f g h = g h
+phi_cases (Unary op truth x) P Q R f g h = g h
 phi_cases (Freeze x) P Q R f g h = g h
 
 -- ---- a block
@@ -70,6 +71,7 @@ module _ (f : Function) (args : List Value) (b : ℕ) (block : Block) (at : IsBl
   inst_from_op k held w (Compare pred samesign compared x y) e g = g
   inst_from_op k held w (Select c x y) e g = g
   inst_from_op k held w (Convert cast flags from' x) e g = g
+  inst_from_op k held w (Unary op truth x) e g = g
   inst_from_op k held w (Freeze x) e g = g
   inst_from_op k held w (Phi entries) e g = absurd g
 

@@ -8,16 +8,17 @@ use Rattle.ops.specs.Value.{IsValueOf, IsEffectOf}
 use Rattle.ops.specs.Instruction.{instruction}
 use Rattle.ops.specs.Comparison.{comparison, selection}
 use Rattle.ops.specs.Conversion.{conversion}
+use Rattle.ops.specs.Unary.{unary}
 use Rattle.ops.specs.declared.value.Value.{Value}
 use Rattle.ops.specs.declared.value.Value.TheVariants as values
 use Rattle.ops.specs.declared.value.Effect.{Effect}
 use Rattle.ops.specs.declared.value.Effect.TheVariants as effects
-use Rattle.ops.proofs.Widths.{IsEffectOf-instruction, IsValueOf-comparison, IsValueOf-conversion, IsValueOf-selection}
+use Rattle.ops.proofs.Widths.{IsEffectOf-instruction, IsValueOf-comparison, IsValueOf-conversion, IsValueOf-unary, IsValueOf-selection}
 use Rattle.ir_core.specs.declared.function.Function.{Function}
 use Rattle.ir_core.specs.declared.function.Parameter.{Parameter}
 use Rattle.ir_core.specs.declared.instruction.Inst.{Inst}
 use Rattle.ir_core.specs.declared.instruction.Op.{Op}
-use Rattle.ir_core.specs.declared.instruction.Op.TheVariants.{Binary, Compare, Select, Convert, Freeze, Phi}
+use Rattle.ir_core.specs.declared.instruction.Op.TheVariants.{Binary, Compare, Unary, Select, Convert, Freeze, Phi}
 use Rattle.ir_core.specs.declared.operand.Operand.{Operand}
 use Rattle.ir_core.specs.declared.operand.Operand.TheVariants as operands
 use Rattle.ir_core.specs.declared.operand.Register.TheVariants as registers
@@ -59,6 +60,7 @@ widths_anywhere f b k w (Compare pred samesign compared x y) other h = λ c j. t
 widths_anywhere f b k w (Select c x y) other h =
     λ d j. three_reads (ReadHasWidth f) (read d j 1 c) (read d j w x) (read d j w y) (h 0 (read b k 1 c) refl) (h 1 (read b k w x) refl) (h 2 (read b k w y) refl)
 widths_anywhere f b k w (Convert cast flags from x) other h = λ c j. one_read (ReadHasWidth f) (read c j from x) (h 0 (read b k from x) refl)
+widths_anywhere f b k w (Unary op truth x) other h = λ c j. one_read (ReadHasWidth f) (read c j w x) (h 0 (read b k w x) refl)
 widths_anywhere f b k w (Freeze x) other h = λ c j. one_read (ReadHasWidth f) (read c j w x) (h 0 (read b k w x) refl)
 widths_anywhere f b k w (Phi entries) other h = absurd (other tt)
 
@@ -108,6 +110,9 @@ op_width f held widths b k w (Select c x y) v fits typed h =
 op_width f held widths b k w (Convert cast flags from x) v fits typed h =
     let p = fits 0 (read b k from x) refl in
     given_width w (conversion cast flags from w h.0) v h.2 (IsValueOf-conversion cast flags from w h.0 typed.1 (operand_width f held widths from x h.0 p.0 p.1 h.1))
+op_width f held widths b k w (Unary op truth x) v fits typed h =
+    let p = fits 0 (read b k w x) refl in
+    given_width w (unary op truth w h.0) v h.2 (IsValueOf-unary op truth w h.0 (operand_width f held widths w x h.0 p.0 p.1 h.1))
 op_width f held widths b k w (Freeze x) v fits typed h =
     let p = fits 0 (read b k w x) refl in
     given_width w h.1 v h.4 (freeze_width w h.0 h.1 (operand_width f held widths w x h.0 p.0 p.1 h.2) h.3)

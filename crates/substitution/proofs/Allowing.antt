@@ -5,7 +5,8 @@ use Rattle.ops.specs.Value.{AllowsValue, AllowsEffect, IsValueOf}
 use Rattle.ops.specs.Instruction.{instruction}
 use Rattle.ops.specs.Comparison.{comparison, selection}
 use Rattle.ops.specs.Conversion.{conversion}
-use Rattle.ops.proofs.Monotone.{instruction-monotone, comparison-monotone, conversion-monotone, selection-monotone}
+use Rattle.ops.specs.Unary.{unary}
+use Rattle.ops.proofs.Monotone.{instruction-monotone, comparison-monotone, unary-monotone, conversion-monotone, selection-monotone}
 use Rattle.ops.proofs.Values.{AllowsValue-refl}
 use Rattle.ops.specs.declared.value.Value.{Value}
 use Rattle.ops.specs.declared.value.Value.TheVariants as values
@@ -15,7 +16,7 @@ use Rattle.ir_core.specs.Checks.{OperandHasWidth}
 use Rattle.ir_core.specs.Reads.{Read, read, reads_of, reads_at_end}
 use Rattle.ir_core.specs.Run.{Registers, Ending, Undefines, Returns, Goes, returning, going_by, branch_target, switch_target, has_noundef, OperandGives, Freezes, AnyNumber}
 use Rattle.ir_core.specs.declared.function.Function.{Function}
-use Rattle.ir_core.specs.declared.instruction.Op.TheVariants.{Binary, Compare, Select, Convert, Freeze, Phi}
+use Rattle.ir_core.specs.declared.instruction.Op.TheVariants.{Binary, Compare, Unary, Select, Convert, Freeze, Phi}
 use Rattle.ir_core.specs.declared.operand.Operand.{Operand}
 use Rattle.ir_core.specs.declared.operand.Operand.TheVariants as operands
 use Rattle.ir_core.specs.declared.operand.Register.{Register}
@@ -90,6 +91,9 @@ instructions_monotone f held held' b k w (Select c x y) e' fits widths more h =
 instructions_monotone f held held' b k w (Convert cast flags from a) e' fits widths more h =
     let x : GivesAllowing held from a h.0 = operand_allows held held' from a h.0 (read_allows held held' (reads_of f b k w (Convert cast flags from a)) more 0 (read b k from a) refl) h.1 in
     (effects.Gives (conversion cast flags from w x.0), (x.0, x.1, refl), allows_same (effects.Gives (conversion cast flags from w x.0)) (effects.Gives (conversion cast flags from w h.0)) e' (conversion-monotone cast flags from w x.0 h.0 x.2) h.2)
+instructions_monotone f held held' b k w (Unary op truth a) e' fits widths more h =
+    let x : GivesAllowing held w a h.0 = operand_allows held held' w a h.0 (read_allows held held' (reads_of f b k w (Unary op truth a)) more 0 (read b k w a) refl) h.1 in
+    (effects.Gives (unary op truth w x.0), (x.0, x.1, refl), allows_same (effects.Gives (unary op truth w x.0)) (effects.Gives (unary op truth w h.0)) e' (unary-monotone op truth w x.0 h.0 x.2) h.2)
 instructions_monotone f held held' b k w (Freeze a) e' fits widths more h =
     let x : (x : Value) × (v : Value) × OperandGives AnyNumber held w a x × Freezes AnyNumber w x v × AllowsValue v h.1 =
     freeze_allows f held held' widths w a (fits 0 0 0 (read 0 0 w a) refl) h.0 h.1 (read_allows held held' (reads_of f b k w (Freeze a)) more 0 (read b k w a) refl) h.2 h.3 in

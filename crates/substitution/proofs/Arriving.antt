@@ -12,7 +12,7 @@ use Rattle.ir_core.specs.declared.function.Function.{Function}
 use Rattle.ir_core.specs.declared.function.Block.{Block}
 use Rattle.ir_core.specs.declared.instruction.Inst.{Inst}
 use Rattle.ir_core.specs.declared.instruction.Op.{Op}
-use Rattle.ir_core.specs.declared.instruction.Op.TheVariants.{Binary, Compare, Select, Convert, Freeze, Phi}
+use Rattle.ir_core.specs.declared.instruction.Op.TheVariants.{Binary, Compare, Unary, Select, Convert, Freeze, Phi}
 use Rattle.ir_core.specs.declared.operand.Operand.{Operand}
 use Rattle.ir_core.specs.declared.terminator.Terminator.{Terminator}
 use Rattle.run_history.specs.Histories.{Moment, InstGives, IsHistory}
@@ -71,6 +71,7 @@ as_no_phi P held w (Binary op flags x y) v h = h
 as_no_phi P held w (Compare pred samesign compared x y) v h = h
 as_no_phi P held w (Select c x y) v h = h
 as_no_phi P held w (Convert cast flags from x) v h = h
+as_no_phi P held w (Unary op truth x) v h = h
 as_no_phi P held w (Freeze x) v h = h
 as_no_phi P held w (Phi entries) v h = absurd h
 

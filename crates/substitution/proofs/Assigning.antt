@@ -11,7 +11,7 @@ use Rattle.ir_core.specs.Reads.{Read, read, end_of, reads_of, reads_at_end, read
 use Rattle.ir_core.specs.declared.function.Function.{Function}
 use Rattle.ir_core.specs.declared.function.Block.{Block}
 use Rattle.ir_core.specs.declared.instruction.Op.{Op}
-use Rattle.ir_core.specs.declared.instruction.Op.TheVariants.{Binary, Compare, Select, Convert, Freeze, Phi}
+use Rattle.ir_core.specs.declared.instruction.Op.TheVariants.{Binary, Compare, Unary, Select, Convert, Freeze, Phi}
 use Rattle.ir_core.specs.declared.operand.Operand.{Operand}
 use Rattle.ir_core.specs.declared.operand.Register.{Register}
 use Rattle.ir_core.specs.declared.operand.Register.TheVariants as registers
@@ -81,6 +81,7 @@ own_place f b k w (Binary op flags x y) other = two_there b k w x y
 own_place f b k w (Compare pred samesign compared x y) other = two_there b k compared x y
 own_place f b k w (Select c x y) other = each_first (IsThere b k) (read b k 1 c) (read b k w x ∷ read b k w y ∷ []) (refl, refl) (two_there b k w x y)
 own_place f b k w (Convert cast flags from x) other = one_there b k from x
+own_place f b k w (Unary op truth x) other = one_there b k w x
 own_place f b k w (Freeze x) other = one_there b k w x
 own_place f b k w (Phi entries) other = absurd (other tt)
 

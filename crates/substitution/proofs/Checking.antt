@@ -12,7 +12,7 @@ use Rattle.ir_core.specs.declared.function.Function.{Function}
 use Rattle.ir_core.specs.declared.function.Block.{Block}
 use Rattle.ir_core.specs.declared.instruction.Inst.{Inst}
 use Rattle.ir_core.specs.declared.instruction.Op.{Op}
-use Rattle.ir_core.specs.declared.instruction.Op.TheVariants.{Binary, Compare, Select, Convert, Freeze, Phi}
+use Rattle.ir_core.specs.declared.instruction.Op.TheVariants.{Binary, Compare, Unary, Select, Convert, Freeze, Phi}
 use Rattle.ir_core.specs.declared.operand.Operand.{Operand}
 use Rattle.ir_core.specs.declared.operand.Operand.TheVariants as operands
 use Rattle.ir_core.specs.declared.operand.Register.{Register}
@@ -38,6 +38,7 @@ typed_on w width (Binary op flags x y) h = h
 typed_on w width (Compare pred samesign compared x y) h = h
 typed_on w width (Select c x y) h = h
 typed_on w width (Convert cast flags from x) h = h
+typed_on w width (Unary op truth x) h = h
 typed_on w width (Freeze x) h = h
 typed_on w width (Phi entries) h = h
 
@@ -46,6 +47,7 @@ phi_on w (Binary op flags x y) h = h
 phi_on w (Compare pred samesign compared x y) h = h
 phi_on w (Select c x y) h = h
 phi_on w (Convert cast flags from x) h = h
+phi_on w (Unary op truth x) h = h
 phi_on w (Freeze x) h = h
 phi_on w (Phi entries) h = h
 
@@ -54,6 +56,7 @@ phi_back w (Binary op flags x y) h = h
 phi_back w (Compare pred samesign compared x y) h = h
 phi_back w (Select c x y) h = h
 phi_back w (Convert cast flags from x) h = h
+phi_back w (Unary op truth x) h = h
 phi_back w (Freeze x) h = h
 phi_back w (Phi entries) h = h
 
@@ -69,6 +72,7 @@ entries_back w (Binary op flags x y) new e = absurd cc
 entries_back w (Compare pred samesign compared x y) new e = absurd cc
 entries_back w (Select c x y) new e = absurd cc
 entries_back w (Convert cast flags from x) new e = absurd cc
+entries_back w (Unary op truth x) new e = absurd cc
 entries_back w (Freeze x) new e = absurd cc
 entries_back w (Phi entries) new e = (entries, refl, cc)
 
@@ -78,6 +82,7 @@ reads_elsewhere f g b k c n width (Binary op flags x y) other = refl
 reads_elsewhere f g b k c n width (Compare pred samesign compared x y) other = refl
 reads_elsewhere f g b k c n width (Select z x y) other = refl
 reads_elsewhere f g b k c n width (Convert cast flags from x) other = refl
+reads_elsewhere f g b k c n width (Unary op truth x) other = refl
 reads_elsewhere f g b k c n width (Freeze x) other = refl
 reads_elsewhere f g b k c n width (Phi entries) other = absurd (other tt)
 
@@ -129,6 +134,7 @@ module _ (f : Function) (w : Rewrite) where
   reads_of-moved b k width (Compare pred samesign compared x y) = refl
   reads_of-moved b k width (Select c x y) = refl
   reads_of-moved b k width (Convert cast flags from x) = refl
+  reads_of-moved b k width (Unary op truth x) = refl
   reads_of-moved b k width (Freeze x) = refl
   reads_of-moved b k width (Phi entries) = entry_reads-moved width entries
 

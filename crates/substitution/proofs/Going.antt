@@ -10,7 +10,7 @@ use Rattle.ir_core.specs.Run.{Registers, holding, Ending, Undefines, GoesOn, IfP
 use Rattle.ir_core.specs.declared.function.Function.{Function}
 use Rattle.ir_core.specs.declared.instruction.Inst.{Inst}
 use Rattle.ir_core.specs.declared.instruction.Op.{Op}
-use Rattle.ir_core.specs.declared.instruction.Op.TheVariants.{Binary, Compare, Select, Convert, Freeze, Phi}
+use Rattle.ir_core.specs.declared.instruction.Op.TheVariants.{Binary, Compare, Unary, Select, Convert, Freeze, Phi}
 use Rattle.ir_core.specs.declared.operand.Operand.{Operand}
 use Rattle.ir_core.specs.declared.operand.Operand.TheVariants as operands
 use Rattle.ir_core.specs.declared.operand.Register.TheVariants as registers
@@ -26,6 +26,7 @@ phi_or_not (Binary op flags x y) = inr (λ h. h)
 phi_or_not (Compare pred samesign compared x y) = inr (λ h. h)
 phi_or_not (Select c x y) = inr (λ h. h)
 phi_or_not (Convert cast flags from x) = inr (λ h. h)
+phi_or_not (Unary op truth x) = inr (λ h. h)
 phi_or_not (Freeze x) = inr (λ h. h)
 phi_or_not (Phi entries) = inl (entries, refl)
 
@@ -34,6 +35,7 @@ no_phi_to P Q (Binary op flags x y) n q = q
 no_phi_to P Q (Compare pred samesign compared x y) n q = q
 no_phi_to P Q (Select c x y) n q = q
 no_phi_to P Q (Convert cast flags from x) n q = q
+no_phi_to P Q (Unary op truth x) n q = q
 no_phi_to P Q (Freeze x) n q = q
 no_phi_to P Q (Phi entries) n q = absurd (n tt)
 
@@ -42,6 +44,7 @@ no_phi_from P Q (Binary op flags x y) n q = q
 no_phi_from P Q (Compare pred samesign compared x y) n q = q
 no_phi_from P Q (Select c x y) n q = q
 no_phi_from P Q (Convert cast flags from x) n q = q
+no_phi_from P Q (Unary op truth x) n q = q
 no_phi_from P Q (Freeze x) n q = q
 no_phi_from P Q (Phi entries) n q = absurd (n tt)
 
@@ -50,6 +53,7 @@ no_phi_substituted w (Binary op flags x y) n h = h
 no_phi_substituted w (Compare pred samesign compared x y) n h = h
 no_phi_substituted w (Select c x y) n h = h
 no_phi_substituted w (Convert cast flags from x) n h = h
+no_phi_substituted w (Unary op truth x) n h = h
 no_phi_substituted w (Freeze x) n h = h
 no_phi_substituted w (Phi entries) n h = n h
 

@@ -9,7 +9,7 @@ use Rattle.ir_core.specs.declared.function.Function.{Function}
 use Rattle.ir_core.specs.declared.function.Block.{Block}
 use Rattle.ir_core.specs.declared.instruction.Inst.{Inst}
 use Rattle.ir_core.specs.declared.instruction.Op.{Op}
-use Rattle.ir_core.specs.declared.instruction.Op.TheVariants.{Binary, Compare, Select, Convert, Freeze, Phi}
+use Rattle.ir_core.specs.declared.instruction.Op.TheVariants.{Binary, Compare, Unary, Select, Convert, Freeze, Phi}
 use Rattle.ir_core.specs.declared.operand.Operand.{Operand}
 use Rattle.ir_core.specs.declared.operand.Operand.TheVariants as operands
 use Rattle.ir_core.specs.declared.operand.Register.TheVariants as registers
@@ -107,6 +107,7 @@ module _ (w : Rewrite) where
     op_room b k width (Compare pred samesign compared x y) h = (operand_room x (h 0 (read b k compared x) refl), operand_room y (h 1 (read b k compared y) refl))
     op_room b k width (Select c x y) h = (operand_room c (h 0 (read b k 1 c) refl), operand_room x (h 1 (read b k width x) refl), operand_room y (h 2 (read b k width y) refl))
     op_room b k width (Convert cast flags from x) h = operand_room x (h 0 (read b k from x) refl)
+    op_room b k width (Unary op truth x) h = operand_room x (h 0 (read b k width x) refl)
     op_room b k width (Freeze x) h = operand_room x (h 0 (read b k width x) refl)
     op_room b k width (Phi entries) h = λ i d lt.
         let of_entry : Operand × ℕ → Read = λ e. read e.1 (end_of f e.1) width e.0 in

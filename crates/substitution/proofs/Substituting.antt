@@ -6,7 +6,7 @@ use Rattle.ops.specs.declared.value.Value.TheVariants as values
 use Rattle.ops.specs.declared.value.Effect.{Effect}
 use Rattle.ir_core.specs.declared.function.Function.{Function}
 use Rattle.ir_core.specs.declared.instruction.Op.{Op}
-use Rattle.ir_core.specs.declared.instruction.Op.TheVariants.{Binary, Compare, Select, Convert, Freeze, Phi}
+use Rattle.ir_core.specs.declared.instruction.Op.TheVariants.{Binary, Compare, Unary, Select, Convert, Freeze, Phi}
 use Rattle.ir_core.specs.declared.operand.Operand.{Operand}
 use Rattle.ir_core.specs.declared.operand.Operand.TheVariants as operands
 use Rattle.ir_core.specs.declared.operand.Register.{Register}
@@ -50,6 +50,7 @@ op_back to held d w (Binary op flags x y) e h = (h.0, h.1, operand_back to held 
 op_back to held d w (Compare pred samesign compared x y) e h = (h.0, h.1, operand_back to held d compared x h.0 h.2, operand_back to held d compared y h.1 h.3, h.4)
 op_back to held d w (Select c x y) e h = (h.0, h.1, h.2, operand_back to held d 1 c h.0 h.3, operand_back to held d w x h.1 h.4, operand_back to held d w y h.2 h.5, h.6)
 op_back to held d w (Convert cast flags from x) e h = (h.0, operand_back to held d from x h.0 h.1, h.2)
+op_back to held d w (Unary op truth x) e h = (h.0, operand_back to held d w x h.0 h.1, h.2)
 op_back to held d w (Freeze x) e h = (h.0, h.1, operand_back to held d w x h.0 h.2, h.3, h.4)
 op_back to held d w (Phi entries) e h = h
 
@@ -58,6 +59,7 @@ op_on to held w (Binary op flags x y) e h = (h.0, h.1, operand_on to held w x h.
 op_on to held w (Compare pred samesign compared x y) e h = (h.0, h.1, operand_on to held compared x h.0 h.2, operand_on to held compared y h.1 h.3, h.4)
 op_on to held w (Select c x y) e h = (h.0, h.1, h.2, operand_on to held 1 c h.0 h.3, operand_on to held w x h.1 h.4, operand_on to held w y h.2 h.5, h.6)
 op_on to held w (Convert cast flags from x) e h = (h.0, operand_on to held from x h.0 h.1, h.2)
+op_on to held w (Unary op truth x) e h = (h.0, operand_on to held w x h.0 h.1, h.2)
 op_on to held w (Freeze x) e h = (h.0, h.1, operand_on to held w x h.0 h.2, h.3, h.4)
 op_on to held w (Phi entries) e h = h
 

@@ -3,7 +3,7 @@ use Rattle.std.specs.Prelude.{◌≡◌, ℕ, ◌+◌, ◌≤◌, ◌^◌, List,
 use Rattle.ir_core.specs.declared.function.Block.{Block}
 use Rattle.ir_core.specs.declared.instruction.Inst.{Inst}
 use Rattle.ir_core.specs.declared.instruction.Op.{Op}
-use Rattle.ir_core.specs.declared.instruction.Op.TheVariants.{Binary, Compare, Select, Convert, Freeze, Phi}
+use Rattle.ir_core.specs.declared.instruction.Op.TheVariants.{Binary, Compare, Unary, Select, Convert, Freeze, Phi}
 use Rattle.ir_core.specs.declared.operand.Operand.{Operand}
 use Rattle.ir_core.specs.declared.operand.Operand.TheVariants as operands
 use Rattle.ir_core.specs.declared.operand.Register.TheVariants as registers
@@ -23,6 +23,7 @@ HasRoom w operands.Poison = Unit {0}
 abbrev pub OpHasRoom : Rewrite → Op → Type 0
 OpHasRoom w (Binary op flags x y) = HasRoom w x × HasRoom w y
 OpHasRoom w (Compare pred samesign width x y) = HasRoom w x × HasRoom w y
+OpHasRoom w (Unary op truth x) = HasRoom w x
 OpHasRoom w (Select c x y) = HasRoom w c × HasRoom w x × HasRoom w y
 OpHasRoom w (Convert cast flags from x) = HasRoom w x
 OpHasRoom w (Freeze x) = HasRoom w x

@@ -6,7 +6,7 @@ use Rattle.ir_core.specs.Run.{Registers, Ending, Undefines, Returns, Goes}
 use Rattle.ir_core.specs.declared.function.Block.{Block}
 use Rattle.ir_core.specs.declared.instruction.Inst.{Inst}
 use Rattle.ir_core.specs.declared.instruction.Op.{Op}
-use Rattle.ir_core.specs.declared.instruction.Op.TheVariants.{Binary, Compare, Select, Convert, Freeze, Phi}
+use Rattle.ir_core.specs.declared.instruction.Op.TheVariants.{Binary, Compare, Unary, Select, Convert, Freeze, Phi}
 use Rattle.ir_core.specs.declared.operand.Operand.{Operand}
 use Rattle.ir_core.specs.declared.operand.Operand.TheVariants as operands
 use Rattle.ir_core.specs.declared.operand.Register.{Register}
@@ -31,6 +31,7 @@ substituted_entries to entries = map (λ e. (substituted_operand to e.0, e.1)) e
 abbrev pub substituted_op : Substitution → Op → Op
 substituted_op to (Binary op flags x y) = Binary op flags (substituted_operand to x) (substituted_operand to y)
 substituted_op to (Compare pred samesign width x y) = Compare pred samesign width (substituted_operand to x) (substituted_operand to y)
+substituted_op to (Unary op truth x) = Unary op truth (substituted_operand to x)
 substituted_op to (Select c x y) = Select (substituted_operand to c) (substituted_operand to x) (substituted_operand to y)
 substituted_op to (Convert cast flags from x) = Convert cast flags from (substituted_operand to x)
 substituted_op to (Freeze x) = Freeze (substituted_operand to x)

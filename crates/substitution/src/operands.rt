@@ -48,6 +48,7 @@ fn substituted_op(rewrite: &Rewrite, op: Op) -> Op
             let x = substituted_operand(rewrite, x);
             Op::Compare(pred, samesign, width, x, substituted_operand(rewrite, y))
         }
+        Op::Unary(op, truth, x) => Op::Unary(op, truth, substituted_operand(rewrite, x)),
         Op::Select(condition, x, y) => {
             let condition = substituted_operand(rewrite, condition);
             let x = substituted_operand(rewrite, x);

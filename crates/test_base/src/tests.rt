@@ -5,6 +5,7 @@ mod files;
 mod graphs;
 mod growing;
 mod instructions;
+mod intrinsics;
 mod module_tokens;
 mod rule_tokens;
 

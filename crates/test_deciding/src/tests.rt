@@ -5,6 +5,7 @@ mod decided;
 mod evaluated;
 mod folded;
 mod graphs;
+mod intrinsics;
 mod logs;
 mod operations;
 mod progressions;

@@ -1,19 +1,21 @@
 //! Instructions.
 
-ghost use Rattle.std.specs.Prelude.{map, IfOk};
+ghost use Rattle.std.specs.Prelude.{◌≡◌, map, IfOk};
 ghost use Rattle.std.specs.List.{AllZip, AllByRecursion};
-ghost use Rattle.ir_resolve.specs.TypedReads.{read_by, named_by};
-ghost use Rattle.ir_resolve.specs.FaultKinds.{IsUnknownValue};
-ghost use Rattle.ir_resolve.specs.Means.{IncomingMeans, OpMeans, InstMeans};
+ghost use Rattle.ir_resolve.specs.TypedReads.{read_by, read_by_call, named_by};
+ghost use Rattle.ir_resolve.specs.FaultKinds.{IsUnknownValue, truth_of};
+ghost use Rattle.ir_resolve.specs.Means.{ArgumentsMean, IncomingMeans, OpMeans, InstMeans};
 ghost use Rattle.ir_resolve.specs.Views.{known_by, CallsIn};
 ghost use Rattle.ir_resolve.specs.KnownNames.{ReadsAreKnown, TargetsAreKnown, IsReadyInst};
 
 use crate::building::operand::{operand, target};
 use crate::building::text::name;
+use crate::literal::literal;
 use crate::names::{Names, result_width};
 use ir_core::{Inst, Op, Operand};
-use ir_tokens::{RawIncoming, RawInst, RawOp};
+use ir_tokens::{RawArguments, RawIncoming, RawInst, RawOp, TypedOperand};
 use lists::List;
+use ops::Flags;
 use std::alloc::{AllocError, Global};
 
 /// The entries of a `phi`.
@@ -37,6 +39,39 @@ fn entries(
     Ok(entries)
 }
 
+/// The truth value of a call: false where none is written.
+fn truth(written: &Option<TypedOperand>) -> bool
+    ensures { result ≡ truth_of written.now }
+{
+    match written {
+        Some(truth) => match literal(&truth.operand.value) {
+            Some(word) => word.number() == 1,
+            None => false,
+        },
+        None => false,
+    }
+}
+
+/// What a call computes.
+fn called(names: &Names<'_>, written: &RawArguments) -> Op
+    requires { ReadsAreKnown (known_by names.now) (read_by_call written.now) }
+    ensures { ArgumentsMean (CallsIn (known_by names.now)) written.now result }
+{
+    match written {
+        RawArguments::Binary(opcode, left, right) => Op::Binary(
+            *opcode,
+            Flags::NONE,
+            operand(names, &left.operand.value),
+            operand(names, &right.operand.value),
+        ),
+        RawArguments::Unary(op, of, written) => Op::Unary(
+            *op,
+            truth(written),
+            operand(names, &of.operand.value),
+        ),
+    }
+}
+
 /// What an instruction computes.
 fn op(alloc: Global, names: &Names<'_>, written: &RawOp) -> Result<Op, AllocError>
     requires reads { ReadsAreKnown (known_by names.now) (read_by written.now) }
@@ -57,6 +92,7 @@ fn op(alloc: Global, names: &Names<'_>, written: &RawOp) -> Result<Op, AllocErro
             operand(names, &left.value),
             operand(names, &right.value),
         )),
+        RawOp::Call(call) => Ok(called(names, &call.arguments)),
         RawOp::Select(condition, first, second) => Ok(Op::Select(
             operand(names, &condition.operand.value),
             operand(names, &first.operand.value),

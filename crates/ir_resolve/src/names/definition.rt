@@ -41,6 +41,7 @@ pub(crate) fn result_width(op: &RawOp) -> Width
     match op {
         RawOp::Binary(_, _, width, _, _) => *width,
         RawOp::Compare(_, _, _, _, _) => Width::ONE,
+        RawOp::Call(call) => call.width,
         RawOp::Select(_, first, _) => first.width,
         RawOp::Convert(_, _, _, _, to) => *to,
         RawOp::Freeze(width, _) => *width,

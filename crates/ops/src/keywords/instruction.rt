@@ -1,9 +1,9 @@
-//! The keywords of binary operations and of casts.
+//! The keywords of binary operations, of intrinsics with one operand and of casts.
 
 ghost use Rattle.std.specs.Prelude.{◌≡◌};
-ghost use Rattle.ops.specs.Keywords.{opcode_keyword, cast_keyword};
+ghost use Rattle.ops.specs.Keywords.{opcode_keyword, unary_keyword, cast_keyword};
 
-use crate::{Cast, Opcode};
+use crate::{Cast, Opcode, Unary};
 
 /// The keyword of a binary operation.
 pub fn opcode_name(opcode: Opcode) -> &'static str
@@ -23,6 +23,22 @@ pub fn opcode_name(opcode: Opcode) -> &'static str
         Opcode::And => "and",
         Opcode::Or => "or",
         Opcode::Xor => "xor",
+        Opcode::UMin => "umin",
+        Opcode::UMax => "umax",
+        Opcode::SMin => "smin",
+        Opcode::SMax => "smax",
+    }
+}
+
+/// The keyword of an intrinsic with one operand.
+pub fn unary_name(op: Unary) -> &'static str
+    ensures { result.now ≡ unary_keyword op }
+{
+    match op {
+        Unary::Abs => "abs",
+        Unary::CtPop => "ctpop",
+        Unary::CtLz => "ctlz",
+        Unary::CtTz => "cttz",
     }
 }
 

@@ -34,7 +34,7 @@ const NSW: Flags = Flags {
 
 // An operand or an effect at a width of N bits. A number is taken modulo 2^N.
 #[derive(Clone, Copy)]
-enum Cell {
+pub(super) enum Cell {
     Undefined,
     Poison,
     Is(i64),
@@ -337,7 +337,7 @@ static COMPARISONS: [(u32, Cell, Cell, bool, &[Pred]); 5] = [
     (2, Half(1), Half(0), true, &[Ne, Ugt, Uge, Sgt, Sge]),
 ];
 
-fn width(rt: &impl Abort, bits: u32) -> Width
+pub(super) fn width(rt: &impl Abort, bits: u32) -> Width
     ensures { result ≡ bits }
 {
     Width::new(bits).expect(rt, "a width")
@@ -350,7 +350,7 @@ fn number(width: Width, number: i64) -> Value
 }
 
 // The cell as an operand.
-fn value(width: Width, cell: Cell) -> Value
+pub(super) fn value(width: Width, cell: Cell) -> Value
     ensures { HasWidth result width }
 {
     let highest = 1u64 << 63;

@@ -27,7 +27,7 @@ fn name(kind: &IrFaultKind) -> &'static str {
 
 /// The beginning of texts, and what stands behind it in each, with the line and the kind of its first fault. A word that is left out is
 /// told, and a register that is not assigned, with its block.
-type Refused = (&'static str, &'static [(&'static str, &'static str)]);
+pub(super) type Refused = (&'static str, &'static [(&'static str, &'static str)]);
 
 const TOKENS: [Refused; 3] = [
     (
@@ -86,7 +86,7 @@ const TOKENS: [Refused; 3] = [
             ("#0", "1: Syntax"),
             ("%a\n\n= add", "3: Syntax"),
             ("%a add", "1: Syntax"),
-            ("%a = tail call i8", "1: LeftOut tail"),
+            ("%a = tail call i8", "1: Syntax"),
             ("%a = #", "1: Syntax"),
             ("%a = icmp i8", "1: LeftOut i8"),
             ("%a = icmp samesign", "1: Syntax"),
@@ -339,7 +339,7 @@ fn told(alloc: Global, text: &[u8]) -> Result<String, Fail> {
 }
 
 /// Fails unless of each text this is told.
-fn expect_told(rt: &impl Abort, alloc: Global, texts: &Refused) -> Result<(), Fail> {
+pub(super) fn expect_told(rt: &impl Abort, alloc: Global, texts: &Refused) -> Result<(), Fail> {
     let (begin, rests) = texts;
     for (rest, wanted) in *rests {
         let mut text = Vec::from_slice(alloc, begin.as_bytes())?;

@@ -215,7 +215,7 @@ b:
 ];
 
 /// What is written of a module without rules.
-fn cleaned(alloc: Global, text: &'static str) -> Result<Optimised, Fail> {
+pub(super) fn cleaned(alloc: Global, text: &'static str) -> Result<Optimised, Fail> {
     let options = OptimiseOptions {
         conflicts: 0,
         steps: 0,

@@ -30,3 +30,7 @@ returns-in-AShr-clause-value g c =
 pub returns-in-Bitwise-clause-value : goal.returns-in-Bitwise-clause-value
 returns-in-Bitwise-clause-value g c =
     IfOk-weaker c.bit_by_bit.result _ _ (λ made known inputs admitted. rw c.in-Bitwise.is (known inputs admitted)) c.bit_by_bit.ensures.value
+
+pub returns-in-Extreme-clause-value : goal.returns-in-Extreme-clause-value
+returns-in-Extreme-clause-value g c =
+    IfOk-weaker c.one_of_two.result _ _ (λ made known inputs admitted. rw c.in-Extreme.is (known inputs admitted)) c.one_of_two.ensures.value

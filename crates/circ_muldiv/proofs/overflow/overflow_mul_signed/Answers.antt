@@ -2,7 +2,7 @@ use Rattle.std.proofs.Common.{true, ◌<◌, ◌≤◌, ◌-◌, ◌+◌, length
 use Rattle.std.proofs.lemmas.Result.{IfOk-weaker}
 use Rattle.circuits.specs.Gates.{comparison_gates}
 use Rattle.circuits.proofs.Kept.{own_at, map-kept, Keeps-trans, Adds-trans, Adds-weaken}
-use Rattle.circ_muldiv.specs.Gates.{magnitude_gates, product_gates, overflow_mul_gates}
+use Rattle.circ_muldiv.specs.Gates.{absolute_gates, product_gates, overflow_mul_gates}
 use Rattle.circ_muldiv.proofs.OverflowTests.{product_exceeds_limit}
 use Rattle.circ_muldiv.proofs.overflow.overflow_mul_signed.Goals as goal
 
@@ -11,8 +11,8 @@ returns-clause-value g c =
     let m = g.C.State in
     let a = c.args.a.now in
     let b = c.args.b.now in
-    let k1 = c.magnitude.ensures.adds.keeps in
-    let k2 = c.magnitude-2.ensures.adds.keeps in
+    let k1 = c.absolute.ensures.adds.keeps in
+    let k2 = c.absolute-2.ensures.adds.keeps in
     let k3 = c.multiply_with_overflow.ensures.adds.keeps in
     let k4 = c.xor.ensures.adds.keeps in
     let k5 = c.less_unsigned.ensures.adds.keeps in
@@ -29,13 +29,13 @@ returns-clause-value g c =
     let after_2 = to_2.admitted inputs admitted in
     let after_3 = to_3.admitted inputs admitted in
     let after_4 = to_4.admitted inputs admitted in
-    known inputs (to_5.admitted inputs admitted) ∙ product_exceeds_limit (m.value c.args.c.now inputs) (m.value c.magnitude.new.c inputs) (m.value c.magnitude-2.new.c inputs) (m.value c.multiply_with_overflow.new.c inputs) (m.value c.xor.new.self inputs) (m.value c.less_unsigned.new.c inputs) a b c.in_ok-magnitude_a.magnitude_a c.in_ok-magnitude_b.magnitude_b c.in_ok-product.product.bits c.in_ok-greatest.greatest c.sign.result c.sign-2.result c.in_ok-differ.differ c.in_ok-product.product.overflow c.in_ok-exceeds.exceeds c.requires.width c.requires.same_width c.in_ok-magnitude_a.ensures.width c.sign.ensures c.sign-2.ensures
+    known inputs (to_5.admitted inputs admitted) ∙ product_exceeds_limit (m.value c.args.c.now inputs) (m.value c.absolute.new.c inputs) (m.value c.absolute-2.new.c inputs) (m.value c.multiply_with_overflow.new.c inputs) (m.value c.xor.new.self inputs) (m.value c.less_unsigned.new.c inputs) a b c.in_ok-absolute_a.absolute_a c.in_ok-absolute_b.absolute_b c.in_ok-product.product.bits c.in_ok-greatest.greatest c.sign.result c.sign-2.result c.in_ok-differ.differ c.in_ok-product.product.overflow c.in_ok-exceeds.exceeds c.requires.width c.requires.same_width c.in_ok-absolute_a.ensures.width c.sign.ensures c.sign-2.ensures
     (to_3.values inputs c.sign.result admitted own_x) (to_3.values inputs c.sign-2.result admitted own_y)
     ((Keeps-trans k4 k5).values inputs c.in_ok-product.product.overflow after_3 c.in_ok-product.ensures.own_overflow)
     (map-kept k1 inputs admitted b c.requires.own_b)
-    (map-kept k2 inputs after_1 c.in_ok-magnitude_a.magnitude_a c.in_ok-magnitude_a.ensures.own)
+    (map-kept k2 inputs after_1 c.in_ok-absolute_a.absolute_a c.in_ok-absolute_a.ensures.own)
     (map-kept k4 inputs after_3 c.in_ok-product.product.bits c.in_ok-product.ensures.own_bits)
-    (c.in_ok-magnitude_a.ensures.number inputs admitted) (c.in_ok-magnitude_b.ensures.number inputs after_1)
+    (c.in_ok-absolute_a.ensures.number inputs admitted) (c.in_ok-absolute_b.ensures.number inputs after_1)
     (rw (c.as_slice.ensures, c.as_slice-2.ensures) at (c.in_ok-product.ensures.number inputs after_2))
     (rw (c.as_slice.ensures, c.as_slice-2.ensures) at (c.in_ok-product.ensures.overflow inputs after_2))
     (c.in_ok-differ.ensures.value inputs after_3)
@@ -45,42 +45,42 @@ returns-clause-value g c =
 
 pub returns-clause-adds : goal.returns-clause-adds
 returns-clause-adds g c =
-    let width_a = ap length c.as_slice.ensures ∙ c.in_ok-magnitude_a.ensures.width in
+    let width_a = ap length c.as_slice.ensures ∙ c.in_ok-absolute_a.ensures.width in
     let width = c.in_ok-greatest.ensures.width ∙ c.len.ensures in
-    let few : magnitude_gates (length c.args.a.now) + magnitude_gates (length c.args.b.now) + product_gates (length c.as_slice.result.now) + 1 + comparison_gates (length c.in_ok-greatest.greatest) + 1 ≤ overflow_mul_gates true (length c.args.a.now) = rw (width_a, width, c.requires.same_width) (omega arith) in
-    Adds-weaken (Adds-trans (Adds-trans (Adds-trans (Adds-trans (Adds-trans c.magnitude.ensures.adds c.magnitude-2.ensures.adds) c.multiply_with_overflow.ensures.adds) c.xor.ensures.adds) c.less_unsigned.ensures.adds) c.or.ensures.adds) few
+    let few : absolute_gates (length c.args.a.now) + absolute_gates (length c.args.b.now) + product_gates (length c.as_slice.result.now) + 1 + comparison_gates (length c.in_ok-greatest.greatest) + 1 ≤ overflow_mul_gates true (length c.args.a.now) = rw (width_a, width, c.requires.same_width) (omega arith) in
+    Adds-weaken (Adds-trans (Adds-trans (Adds-trans (Adds-trans (Adds-trans c.absolute.ensures.adds c.absolute-2.ensures.adds) c.multiply_with_overflow.ensures.adds) c.xor.ensures.adds) c.less_unsigned.ensures.adds) c.or.ensures.adds) few
 
-pub returns-in_err-magnitude_a-clause-adds : goal.returns-in_err-magnitude_a-clause-adds
-returns-in_err-magnitude_a-clause-adds g c =
-    let few : magnitude_gates (length c.args.a.now) ≤ overflow_mul_gates true (length c.args.a.now) = omega arith in
-    Adds-weaken c.magnitude.ensures.adds few
+pub returns-in_err-absolute_a-clause-adds : goal.returns-in_err-absolute_a-clause-adds
+returns-in_err-absolute_a-clause-adds g c =
+    let few : absolute_gates (length c.args.a.now) ≤ overflow_mul_gates true (length c.args.a.now) = omega arith in
+    Adds-weaken c.absolute.ensures.adds few
 
-pub returns-in_err-magnitude_b-clause-adds : goal.returns-in_err-magnitude_b-clause-adds
-returns-in_err-magnitude_b-clause-adds g c =
-    let few : magnitude_gates (length c.args.a.now) + magnitude_gates (length c.args.b.now) ≤ overflow_mul_gates true (length c.args.a.now) = rw (c.requires.same_width) (omega arith) in
-    Adds-weaken (Adds-trans c.magnitude.ensures.adds c.magnitude-2.ensures.adds) few
+pub returns-in_err-absolute_b-clause-adds : goal.returns-in_err-absolute_b-clause-adds
+returns-in_err-absolute_b-clause-adds g c =
+    let few : absolute_gates (length c.args.a.now) + absolute_gates (length c.args.b.now) ≤ overflow_mul_gates true (length c.args.a.now) = rw (c.requires.same_width) (omega arith) in
+    Adds-weaken (Adds-trans c.absolute.ensures.adds c.absolute-2.ensures.adds) few
 
 pub returns-in_err-product-clause-adds : goal.returns-in_err-product-clause-adds
 returns-in_err-product-clause-adds g c =
-    let width_a = ap length c.as_slice.ensures ∙ c.in_ok-magnitude_a.ensures.width in
-    let few : magnitude_gates (length c.args.a.now) + magnitude_gates (length c.args.b.now) + product_gates (length c.as_slice.result.now) ≤ overflow_mul_gates true (length c.args.a.now) = rw (width_a, c.requires.same_width) (omega arith) in
-    Adds-weaken (Adds-trans (Adds-trans c.magnitude.ensures.adds c.magnitude-2.ensures.adds) c.multiply_with_overflow.ensures.adds) few
+    let width_a = ap length c.as_slice.ensures ∙ c.in_ok-absolute_a.ensures.width in
+    let few : absolute_gates (length c.args.a.now) + absolute_gates (length c.args.b.now) + product_gates (length c.as_slice.result.now) ≤ overflow_mul_gates true (length c.args.a.now) = rw (width_a, c.requires.same_width) (omega arith) in
+    Adds-weaken (Adds-trans (Adds-trans c.absolute.ensures.adds c.absolute-2.ensures.adds) c.multiply_with_overflow.ensures.adds) few
 
 pub returns-in_err-differ-clause-adds : goal.returns-in_err-differ-clause-adds
 returns-in_err-differ-clause-adds g c =
-    let width_a = ap length c.as_slice.ensures ∙ c.in_ok-magnitude_a.ensures.width in
-    let few : magnitude_gates (length c.args.a.now) + magnitude_gates (length c.args.b.now) + product_gates (length c.as_slice.result.now) + 1 ≤ overflow_mul_gates true (length c.args.a.now) = rw (width_a, c.requires.same_width) (omega arith) in
-    Adds-weaken (Adds-trans (Adds-trans (Adds-trans c.magnitude.ensures.adds c.magnitude-2.ensures.adds) c.multiply_with_overflow.ensures.adds) c.xor.ensures.adds) few
+    let width_a = ap length c.as_slice.ensures ∙ c.in_ok-absolute_a.ensures.width in
+    let few : absolute_gates (length c.args.a.now) + absolute_gates (length c.args.b.now) + product_gates (length c.as_slice.result.now) + 1 ≤ overflow_mul_gates true (length c.args.a.now) = rw (width_a, c.requires.same_width) (omega arith) in
+    Adds-weaken (Adds-trans (Adds-trans (Adds-trans c.absolute.ensures.adds c.absolute-2.ensures.adds) c.multiply_with_overflow.ensures.adds) c.xor.ensures.adds) few
 
 pub returns-in_err-greatest-clause-adds : goal.returns-in_err-greatest-clause-adds
 returns-in_err-greatest-clause-adds g c =
-    let width_a = ap length c.as_slice.ensures ∙ c.in_ok-magnitude_a.ensures.width in
-    let few : magnitude_gates (length c.args.a.now) + magnitude_gates (length c.args.b.now) + product_gates (length c.as_slice.result.now) + 1 ≤ overflow_mul_gates true (length c.args.a.now) = rw (width_a, c.requires.same_width) (omega arith) in
-    Adds-weaken (Adds-trans (Adds-trans (Adds-trans c.magnitude.ensures.adds c.magnitude-2.ensures.adds) c.multiply_with_overflow.ensures.adds) c.xor.ensures.adds) few
+    let width_a = ap length c.as_slice.ensures ∙ c.in_ok-absolute_a.ensures.width in
+    let few : absolute_gates (length c.args.a.now) + absolute_gates (length c.args.b.now) + product_gates (length c.as_slice.result.now) + 1 ≤ overflow_mul_gates true (length c.args.a.now) = rw (width_a, c.requires.same_width) (omega arith) in
+    Adds-weaken (Adds-trans (Adds-trans (Adds-trans c.absolute.ensures.adds c.absolute-2.ensures.adds) c.multiply_with_overflow.ensures.adds) c.xor.ensures.adds) few
 
 pub returns-in_err-exceeds-clause-adds : goal.returns-in_err-exceeds-clause-adds
 returns-in_err-exceeds-clause-adds g c =
-    let width_a = ap length c.as_slice.ensures ∙ c.in_ok-magnitude_a.ensures.width in
+    let width_a = ap length c.as_slice.ensures ∙ c.in_ok-absolute_a.ensures.width in
     let width = c.in_ok-greatest.ensures.width ∙ c.len.ensures in
-    let few : magnitude_gates (length c.args.a.now) + magnitude_gates (length c.args.b.now) + product_gates (length c.as_slice.result.now) + 1 + comparison_gates (length c.in_ok-greatest.greatest) ≤ overflow_mul_gates true (length c.args.a.now) = rw (width_a, width, c.requires.same_width) (omega arith) in
-    Adds-weaken (Adds-trans (Adds-trans (Adds-trans (Adds-trans c.magnitude.ensures.adds c.magnitude-2.ensures.adds) c.multiply_with_overflow.ensures.adds) c.xor.ensures.adds) c.less_unsigned.ensures.adds) few
+    let few : absolute_gates (length c.args.a.now) + absolute_gates (length c.args.b.now) + product_gates (length c.as_slice.result.now) + 1 + comparison_gates (length c.in_ok-greatest.greatest) ≤ overflow_mul_gates true (length c.args.a.now) = rw (width_a, width, c.requires.same_width) (omega arith) in
+    Adds-weaken (Adds-trans (Adds-trans (Adds-trans (Adds-trans c.absolute.ensures.adds c.absolute-2.ensures.adds) c.multiply_with_overflow.ensures.adds) c.xor.ensures.adds) c.less_unsigned.ensures.adds) few

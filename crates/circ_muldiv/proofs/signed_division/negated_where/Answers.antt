@@ -2,7 +2,7 @@ use Rattle.std.proofs.Common.{◌≤◌, ◌+◌, length, ap, ◌∙◌, arith}
 use Rattle.std.proofs.lemmas.Result.{IfOk-weaker}
 use Rattle.circuits.specs.Gates.{adder_gates, select_gates}
 use Rattle.circuits.proofs.Kept.{map-kept, Adds-trans, Adds-weaken}
-use Rattle.circ_muldiv.specs.Gates.{magnitude_gates}
+use Rattle.circ_muldiv.specs.Gates.{absolute_gates}
 use Rattle.circ_muldiv.proofs.SignedQuotients.{negated_value}
 use Rattle.circ_muldiv.proofs.signed_division.negated_where.Goals as goal
 
@@ -20,5 +20,5 @@ returns-in_err-negation-clause-adds g c = Adds-weaken c.neg.ensures.adds (omega 
 
 pub returns-clause-adds : goal.returns-clause-adds
 returns-clause-adds g c =
-    let few : adder_gates (length c.args.word.now) + select_gates (length c.as_slice.result.now) ≤ magnitude_gates (length c.args.word.now) = rw (ap length c.as_slice.ensures ∙ c.in_ok-negation.ensures.width) (omega arith) in
+    let few : adder_gates (length c.args.word.now) + select_gates (length c.as_slice.result.now) ≤ absolute_gates (length c.args.word.now) = rw (ap length c.as_slice.ensures ∙ c.in_ok-negation.ensures.width) (omega arith) in
     Adds-weaken (Adds-trans c.neg.ensures.adds c.select.ensures.adds) few

@@ -17,6 +17,6 @@ returns c = record {
   typed = λ tokens rest x. (λ read. typed_at-is tokens (x, rest) read, λ spelled. typed_at-of x tokens rest spelled);
   attachments = λ tokens rest x. (λ read. attachments_at-is tokens (x, rest) read, λ none spelled. attachments_at-of tokens rest spelled none);
   tail = λ tokens rest x. (λ read. tail_at-is tokens (x, rest) read, λ none spelled. tail_at-of tokens rest spelled none);
-  insts = λ tokens rest x. (λ read. insts_at-is tokens (x, rest) read, λ none spelled. insts_at-of x tokens rest spelled none.0 none.1);
+  insts = λ tokens rest x. (λ read. insts_at-is tokens (x, rest) read, λ none spelled. insts_at-of x tokens rest spelled none.0 (none.1, none.2));
   terminator = λ tokens rest x. (λ read. terminator_at-is tokens (x, rest) read, λ spelled. terminator_at-of x.0 x.1 tokens rest spelled);
 }

@@ -1,4 +1,4 @@
-use Rattle.ops.proofs.Monotone.{instruction-monotone, comparison-monotone, conversion-monotone, selection-monotone}
+use Rattle.ops.proofs.Monotone.{instruction-monotone, comparison-monotone, conversion-monotone, unary-monotone, selection-monotone}
 use Rattle.ops.proofs.laws.instructions_are_monotone.Goals as goal
 
 pub returns : goal.returns
@@ -6,5 +6,6 @@ returns c = record {
   evaluate = instruction-monotone;
   compare = comparison-monotone;
   convert = conversion-monotone;
+  unary = unary-monotone;
   choose = selection-monotone;
 }

@@ -1,4 +1,4 @@
-use Rattle.ops.proofs.Widths.{IsEffectOf-instruction, IsValueOf-comparison, IsValueOf-conversion, IsValueOf-selection}
+use Rattle.ops.proofs.Widths.{IsEffectOf-instruction, IsValueOf-comparison, IsValueOf-conversion, IsValueOf-unary, IsValueOf-selection}
 use Rattle.ops.proofs.laws.instructions_keep_widths.Goals as goal
 
 pub returns : goal.returns
@@ -6,5 +6,6 @@ returns c = record {
   evaluate = IsEffectOf-instruction;
   compare = IsValueOf-comparison;
   convert = IsValueOf-conversion;
+  unary = IsValueOf-unary;
   choose = IsValueOf-selection;
 }

@@ -1,0 +1,64 @@
+-- The first `.` of a text, and the names behind `llvm.` by its place.
+use Rattle.std.proofs.Common.{◌≡◌, ℕ, ◌+◌, ◌-◌, ◌≤◌, ltb, ltb-false, Bool, true, false, cond, eqb, List, [], length, take, drop, Option, Some, None, refl, ap, sym, ◌∙◌, arith}
+use Rattle.std.specs.Prelude.{option_and_then, option_map}
+use Rattle.std.specs.List.{before_first, after_first, position_or_len}
+use Rattle.std.proofs.lemmas.List.{drop_all, take_all, length-drop}
+use Rattle.ir_instructions.specs.declared.intrinsic.Intrinsic.{Intrinsic}
+use Rattle.ir_instructions.specs.Intrinsics.{keyword_in, plain_width_in, named_in}
+use Rattle.ir_instructions.specs.Keywords.{type_in}
+
+-- the place of the first `.`, if there is one
+abbrev pub IsDot : List ℕ → Option ℕ → Type 0
+IsDot text found = found ≡ cond (ltb (position_or_len (λ b. eqb b 46) text) (length text)) (Some (position_or_len (λ b. eqb b 46) text)) None
+
+none_behind : (text : List ℕ) → IsDot text None → after_first (λ b. eqb b 46) text ≡ []
+none_behind text is = by (ltb (position_or_len (λ b. eqb b 46) text) (length text)) refl is
+  where
+    by : (b : Bool) → ltb (position_or_len (λ b. eqb b 46) text) (length text) ≡ b → None ≡ cond b (Some (position_or_len (λ b. eqb b 46) text)) None → after_first (λ b. eqb b 46) text ≡ []
+    by true h e = absurd cc
+    by false h e =
+        let past : length text ≤ position_or_len (λ b. eqb b 46) text = ltb-false (position_or_len (λ b. eqb b 46) text) (length text) h in
+        drop_all (position_or_len (λ b. eqb b 46) text + 1) text (omega arith)
+
+no_width : (word : List ℕ) (found : Option Intrinsic) → word ≡ [] → option_and_then (λ what. option_map (λ width. (what, width)) (plain_width_in word)) found ≡ None
+unfolding plain_width_in type_in
+no_width word None is = refl
+no_width word (Some what) is = rw is refl
+
+pub no_dot : (text : List ℕ) → IsDot text None → named_in text ≡ None
+unfolding named_in
+no_dot text is = no_width (after_first (λ b. eqb b 46) text) (keyword_in (before_first (λ b. eqb b 46) text)) (none_behind text is)
+
+dot_is : (text : List ℕ) (dot : ℕ) → IsDot text (Some dot) → dot ≡ position_or_len (λ b. eqb b 46) text
+dot_is text dot is = by (ltb (position_or_len (λ b. eqb b 46) text) (length text)) is
+  where
+    by : (b : Bool) → Some dot ≡ cond b (Some (position_or_len (λ b. eqb b 46) text)) None → dot ≡ position_or_len (λ b. eqb b 46) text
+    by true e = cc
+    by false e = absurd cc
+
+at_dot : (text : List ℕ) (dot : ℕ) → IsDot text (Some dot)
+    → named_in text ≡ option_and_then (λ what. option_map (λ width. (what, width)) (plain_width_in (drop (dot + 1) text))) (keyword_in (take dot text))
+unfolding named_in
+at_dot text dot is = let same : dot ≡ position_or_len (λ b. eqb b 46) text = dot_is text dot is in rw same refl
+
+pub no_keyword : (text : List ℕ) (dot : ℕ) → IsDot text (Some dot) → keyword_in (take dot text) ≡ None → named_in text ≡ None
+no_keyword text dot is none = at_dot text dot is ∙ ap (λ (found : Option Intrinsic). option_and_then (λ what. option_map (λ width. (what, width)) (plain_width_in (drop (dot + 1) text))) found) none
+
+keyword_and_type : (what : Intrinsic) (text : List ℕ) (dot : ℕ) → IsDot text (Some dot) → keyword_in (take dot text) ≡ Some what → named_in text ≡ option_map (λ width. (what, width)) (plain_width_in (drop (dot + 1) text))
+keyword_and_type what text dot is keyword =
+    at_dot text dot is ∙ ap (λ (found : Option Intrinsic). option_and_then (λ w. option_map (λ width. (w, width)) (plain_width_in (drop (dot + 1) text))) found) keyword
+
+-- what stands behind the `.` is all that is left
+behind : (text : List ℕ) (n : ℕ) → take (length text - n) (drop n text) ≡ drop n text
+behind text n = take_all (length text - n) (drop n text) (omega (arith, length-drop n text))
+
+pub no_type : (what : Intrinsic) (text : List ℕ) (dot : ℕ) → IsDot text (Some dot) → keyword_in (take dot text) ≡ Some what → plain_width_in (take (length text - (dot + 1)) (drop (dot + 1) text)) ≡ None → named_in text ≡ None
+no_type what text dot is keyword none =
+    keyword_and_type what text dot is keyword
+    ∙ ap (λ (found : Option ℕ). option_map (λ width. (what, width)) found) (ap plain_width_in (sym (behind text (dot + 1))) ∙ none)
+
+pub named_at : (what : Intrinsic) (width : ℕ) (text : List ℕ) (dot : ℕ) → IsDot text (Some dot) → keyword_in (take dot text) ≡ Some what → plain_width_in (take (length text - (dot + 1)) (drop (dot + 1) text)) ≡ Some width
+    → named_in text ≡ Some (what, width)
+named_at what width text dot is keyword type =
+    keyword_and_type what text dot is keyword
+    ∙ ap (λ (found : Option ℕ). option_map (λ w. (what, w)) found) (ap plain_width_in (sym (behind text (dot + 1))) ∙ type)

@@ -1,0 +1,106 @@
+//! Arguments of calls from tokens: the items in them are dropped, and the value is what stands directly before the end.
+
+ghost use Rattle.std.specs.Prelude.{◌≡◌};
+ghost use Rattle.ir_tokens.specs.SeenTokens.{seen};
+ghost use Rattle.refusal.specs.Refusals.{Gives};
+ghost use Rattle.ir_instructions.specs.CallReaders as parsing;
+
+use crate::item::{begins_item, item};
+use crate::operand::{integer_type, number, operand};
+use crate::part::{Part, each};
+use crate::place::{fault, misplaced};
+use crate::token::is_mark;
+use crate::word::truth_of;
+use ir_tokens::{IrError, IrFaultKind, Placed, RawOperand, Token, TypedOperand};
+use lists::{List, Text};
+use ops::Width;
+use std::alloc::Global;
+
+/// Whether an argument ends before the first token.
+fn ends_argument(tokens: &[Placed<'_>]) -> bool
+    ensures { result ≡ parsing.ends_argument (seen tokens.now) }
+{
+    is_mark(b',', tokens) || is_mark(b')', tokens)
+}
+
+/// An item of an argument, which is not its value.
+enum InnerItem {}
+
+impl Part for InnerItem {
+    ghost use Rattle.ir_instructions.specs.CallReaders.{begins_inner_item};
+    ghost use Rattle.ir_instructions.specs.ItemReaders.{item_at};
+
+    ghost begins = { begins_inner_item };
+
+    ghost reader = { item_at };
+
+    type Value = Text;
+
+    fn is_next(tokens: &[Placed<'_>]) -> bool {
+        match tokens {
+            [_, rest @ ..] => begins_item(tokens) && !ends_argument(rest),
+            [] => false,
+        }
+    }
+
+    fn read(alloc: Global, tokens: &mut &[Placed<'_>]) -> Result<Text, IrError> {
+        item(alloc, tokens)
+    }
+}
+
+/// The items of an argument.
+#[tactic(auto, unfolding(crate::specs::CallReaders::inner_items_at))]
+fn inner_items(alloc: Global, tokens: &mut &[Placed<'_>]) -> Result<List<Text>, IrError>
+    ensures { Gives (λ x. (x, seen tokens.new.now)) result (parsing.inner_items_at (seen tokens.old.now)) }
+{
+    each::<InnerItem>(alloc, List::new(alloc), tokens)
+}
+
+/// A type and a value of it.
+#[tactic(auto, unfolding(crate::specs::CallReaders::argument_at))]
+pub(crate) fn argument(alloc: Global, tokens: &mut &[Placed<'_>]) -> Result<TypedOperand, IrError>
+    ensures { Gives (λ x. (x, seen tokens.new.now)) result (parsing.argument_at (seen tokens.old.now)) }
+{
+    let width = integer_type(alloc, tokens)?;
+    inner_items(alloc, tokens)?;
+    let operand = operand(alloc, width, tokens)?;
+    Ok(TypedOperand { width, operand })
+}
+
+/// A truth value: a number, `true` or `false`. Nothing else fits.
+#[tactic(auto, unfolding(crate::specs::CallReaders::truth_value_at))]
+fn truth_value(width: Width, tokens: &mut &[Placed<'_>]) -> Result<RawOperand, IrError>
+    ensures { Gives (λ x. (x, seen tokens.new.now)) result (parsing.truth_value_at width (seen tokens.old.now)) }
+{
+    match *tokens {
+        [Placed { line, token }, rest @ ..] => match *token {
+            Token::Number(digits) => {
+                *tokens = rest;
+                Ok(number(*line, digits, width)?)
+            }
+            Token::Word(word) => match truth_of(word) {
+                Some(value) => {
+                    *tokens = rest;
+                    Ok(RawOperand { line: *line, value })
+                }
+                None => Err(fault(*line, IrFaultKind::Syntax).into()),
+            },
+            _ => Err(misplaced(*tokens).into()),
+        },
+        [] => Err(misplaced(*tokens).into()),
+    }
+}
+
+/// A type and a truth value of it.
+#[tactic(auto, unfolding(crate::specs::CallReaders::truth_argument_at))]
+pub(crate) fn truth_argument(
+    alloc: Global,
+    tokens: &mut &[Placed<'_>],
+) -> Result<TypedOperand, IrError>
+    ensures { Gives (λ x. (x, seen tokens.new.now)) result (parsing.truth_argument_at (seen tokens.old.now)) }
+{
+    let width = integer_type(alloc, tokens)?;
+    inner_items(alloc, tokens)?;
+    let operand = truth_value(width, tokens)?;
+    Ok(TypedOperand { width, operand })
+}
