@@ -20,7 +20,14 @@ none_behind text is = by (ltb (position_or_len (λ b. eqb b 46) text) (length te
         let past : length text ≤ position_or_len (λ b. eqb b 46) text = ltb-false (position_or_len (λ b. eqb b 46) text) (length text) h in
         drop_all (position_or_len (λ b. eqb b 46) text + 1) text (omega arith)
 
-no_width : (word : List ℕ) (found : Option Intrinsic) → word ≡ [] → option_and_then (λ what. option_map (λ width. (what, width)) (plain_width_in word)) found ≡ None
+-- the intrinsic of a keyword, if there is one, at the width of a type, if it is one
+abbrev at_width : Intrinsic → Option ℕ → Option (Intrinsic × ℕ)
+at_width what width = option_map (λ w. (what, w)) width
+
+abbrev at_type : List ℕ → Option Intrinsic → Option (Intrinsic × ℕ)
+at_type word found = option_and_then (λ what. at_width what (plain_width_in word)) found
+
+no_width : (word : List ℕ) (found : Option Intrinsic) → word ≡ [] → at_type word found ≡ None
 unfolding plain_width_in type_in
 no_width word None is = refl
 no_width word (Some what) is = rw is refl
@@ -36,17 +43,15 @@ dot_is text dot is = by (ltb (position_or_len (λ b. eqb b 46) text) (length tex
     by true e = cc
     by false e = absurd cc
 
-at_dot : (text : List ℕ) (dot : ℕ) → IsDot text (Some dot)
-    → named_in text ≡ option_and_then (λ what. option_map (λ width. (what, width)) (plain_width_in (drop (dot + 1) text))) (keyword_in (take dot text))
+at_dot : (text : List ℕ) (dot : ℕ) → IsDot text (Some dot) → named_in text ≡ at_type (drop (dot + 1) text) (keyword_in (take dot text))
 unfolding named_in
 at_dot text dot is = let same : dot ≡ position_or_len (λ b. eqb b 46) text = dot_is text dot is in rw same refl
 
 pub no_keyword : (text : List ℕ) (dot : ℕ) → IsDot text (Some dot) → keyword_in (take dot text) ≡ None → named_in text ≡ None
-no_keyword text dot is none = at_dot text dot is ∙ ap (λ (found : Option Intrinsic). option_and_then (λ what. option_map (λ width. (what, width)) (plain_width_in (drop (dot + 1) text))) found) none
+no_keyword text dot is none = at_dot text dot is ∙ ap (at_type (drop (dot + 1) text)) none
 
-keyword_and_type : (what : Intrinsic) (text : List ℕ) (dot : ℕ) → IsDot text (Some dot) → keyword_in (take dot text) ≡ Some what → named_in text ≡ option_map (λ width. (what, width)) (plain_width_in (drop (dot + 1) text))
-keyword_and_type what text dot is keyword =
-    at_dot text dot is ∙ ap (λ (found : Option Intrinsic). option_and_then (λ w. option_map (λ width. (w, width)) (plain_width_in (drop (dot + 1) text))) found) keyword
+keyword_and_type : (what : Intrinsic) (text : List ℕ) (dot : ℕ) → IsDot text (Some dot) → keyword_in (take dot text) ≡ Some what → named_in text ≡ at_width what (plain_width_in (drop (dot + 1) text))
+keyword_and_type what text dot is keyword = at_dot text dot is ∙ ap (at_type (drop (dot + 1) text)) keyword
 
 -- what stands behind the `.` is all that is left
 behind : (text : List ℕ) (n : ℕ) → take (length text - n) (drop n text) ≡ drop n text
@@ -55,10 +60,10 @@ behind text n = take_all (length text - n) (drop n text) (omega (arith, length-d
 pub no_type : (what : Intrinsic) (text : List ℕ) (dot : ℕ) → IsDot text (Some dot) → keyword_in (take dot text) ≡ Some what → plain_width_in (take (length text - (dot + 1)) (drop (dot + 1) text)) ≡ None → named_in text ≡ None
 no_type what text dot is keyword none =
     keyword_and_type what text dot is keyword
-    ∙ ap (λ (found : Option ℕ). option_map (λ width. (what, width)) found) (ap plain_width_in (sym (behind text (dot + 1))) ∙ none)
+    ∙ ap (at_width what) (ap plain_width_in (sym (behind text (dot + 1))) ∙ none)
 
 pub named_at : (what : Intrinsic) (width : ℕ) (text : List ℕ) (dot : ℕ) → IsDot text (Some dot) → keyword_in (take dot text) ≡ Some what → plain_width_in (take (length text - (dot + 1)) (drop (dot + 1) text)) ≡ Some width
     → named_in text ≡ Some (what, width)
 named_at what width text dot is keyword type =
     keyword_and_type what text dot is keyword
-    ∙ ap (λ (found : Option ℕ). option_map (λ w. (what, w)) found) (ap plain_width_in (sym (behind text (dot + 1))) ∙ type)
+    ∙ ap (at_width what) (ap plain_width_in (sym (behind text (dot + 1))) ∙ type)

@@ -180,7 +180,7 @@ unfolding truth_text
 false_text op own = rw own refl
 
 given : (op : Unary) (truth : Bool) → has_truth op ≡ true → Prints Body Body false (Reads (SpellsTruthOf op) MeansTruth truth) (truth_text op truth)
-unfolding is_word begins_word begins_name is_letter is_name_byte
+unfolding is_word begins_word begins_name is_letter is_name_byte is_digit
 given op true own =
     prints_as (true_text op own)
     (prints_map (Reads (SpellsTruthOf op) MeansTruth true)

@@ -1,7 +1,6 @@
 -- Tokens where they stand in a printed module.
-use Rattle.std.proofs.Common.{◌≡◌, ◌≢◌, ℕ, suc, ◌+◌, eqb, true, false, List, [], ◌∷◌, ◌++◌, length, ap, Option, Some, None, codes, refl, sym, subst, append_assoc, add-zero, arith}
+use Rattle.std.proofs.Common.{◌≡◌, ◌≢◌, ℕ, suc, ◌+◌, eqb, true, false, List, [], ◌∷◌, ◌++◌, ap, Option, Some, None, codes, refl, sym, subst, append_assoc, add-zero, arith}
 use Rattle.std.specs.List.{list_all}
-use Rattle.std.proofs.lemmas.List.{length-append}
 use Rattle.scan.specs.Bytes.{begins_name, begins_word, is_blank, is_digit, is_letter, is_name_byte, is_space}
 use Rattle.scan.specs.IrTokens.{is_word, is_group}
 use Rattle.scan.specs.Quoted.{is_quoted}
@@ -47,9 +46,13 @@ quoted_no_bracket : (text : List ℕ) → is_quoted text ≡ true → text ≢ c
 unfolding is_quoted
 quoted_no_bracket text form same = let here : is_quoted (codes "(") ≡ true = subst (λ (w : List ℕ). is_quoted w ≡ true) same form in absurd cc
 
+not_empty : (name : List ℕ) → name ++ 58 ∷ [] ≢ []
+not_empty [] same = cc
+not_empty (c ∷ name) same = cc
+
 label_no_bracket : (name : List ℕ) → name ++ 58 ∷ [] ≢ codes "("
-label_no_bracket [] same = absurd cc
-label_no_bracket (c ∷ name) same = absurd (omega (arith, ap length same, length-append name (58 ∷ [])))
+label_no_bracket [] same = no_bracket 58 [] refl same
+label_no_bracket (c ∷ name) same = let none : name ++ 58 ∷ [] ≡ [] = cc in not_empty name none
 
 -- ---- tokens of bodies
 
