@@ -35,7 +35,7 @@ use Rattle.ir_parse.specs.Text.{IsRaw}
 use Rattle.ir_instructions.proofs.TakenFlags.{taken_flags}
 use Rattle.ir_tokens.specs.declared.fault.IrFaultKind.TheVariants.{Duplicate, TypeClash}
 use Rattle.ir_resolve.specs.Faults.{HasNoFault}
-use Rattle.ir_resolve.specs.Means.{Means, IncomingMeans, OpMeans, InstMeans}
+use Rattle.ir_resolve.specs.Means.{Means, IncomingMeans, ArgumentsMean, OpMeans, InstMeans}
 use Rattle.ir_resolve.specs.Written.{Thing, Calls}
 use Rattle.ir_resolve.specs.Formed.{IsWellWrittenOp, IsWellWritten, IsWellNamed as IsNamed, IsWellWrittenCall}
 use Rattle.ir_resolve.proofs.Resolved.{resolved}
@@ -102,9 +102,15 @@ phi_first : (f : Function) (b k : ℕ) (op : Op) → IsPhi op → OpFits f b k o
 phi_first f b k (core.Phi es) phi fits = fits.only_phis
 phi_first f b k op phi fits = absurd phi
 
+-- no call means a phi
+call_no_phi : (CallsThing : Called → Thing → Type 0) (w : RawArguments) (es : List (Operand × ℕ)) → ArgumentsMean CallsThing w (core.Phi es) → ⊥
+call_no_phi CallsThing (arguments.Binary op a b) es means = means
+call_no_phi CallsThing (arguments.Unary op a truth) es means = means
+
 -- a phi as the grammar has it has an entry, and so has the phi that is meant
 some_entry : (CallsThing : Called → Thing → Type 0) (w : RawOp) (es : List (Operand × ℕ)) → OpMeans CallsThing w (core.Phi es) → IsWellWrittenOp w → 0 < length es
 some_entry CallsThing (ops.Phi width incoming) es means some = let long = zip_length (IncomingMeans CallsThing) incoming es means in omega arith
+some_entry CallsThing (ops.Call call) es means some = absurd (call_no_phi CallsThing call.arguments es means)
 some_entry CallsThing w es means some = absurd means
 
 phi_has_entry : (raw : RawFunction) (f : Function) (b k : ℕ) (inst : Inst) (es : List (Operand × ℕ)) → Means raw f → IsWellWritten raw → IsInst f b k inst → inst.op ≡ core.Phi es → 0 < length es
