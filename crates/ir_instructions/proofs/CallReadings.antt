@@ -49,7 +49,7 @@ use Rattle.ir_instructions.proofs.Steps.{Reads, bind_ok, read, read_as, tested}
 inner_item-is : (tokens : List Placed) (x : List ℕ × List Placed) → begins_inner_item tokens ≡ true → item_at tokens ≡ Ok x → SpellsItem x.0 tokens x.1
 inner_item-is tokens x next e = let first = both _ _ next in item_at-is tokens x first.0 e
 
-inner_items_at-is : Reads inner_items_at (λ items. Items)
+pub inner_items_at-is : Reads inner_items_at (λ items. Items)
 unfolding inner_items_at
 inner_items_at-is tokens x e =
     let r = each-is begins_inner_item item_at SpellsItem inner_item-is [] tokens x e in (x.0, all_read SpellsItem tokens x.0 x.1 r.0)
@@ -69,7 +69,7 @@ truth_word-is width line word (Some value) rest x is e =
     read_as (λ y. SpellsCaseValue width y.0 ((line, Word word) ∷ rest) y.1) (record { line = line; value = value }, rest) x e (truth.0, (Word word, truth.1 width, refl))
 truth_word-is width line word None rest x is e = absurd cc
 
-truth_value_at-is : (width : ℕ) → Reads (truth_value_at width) (SpellsCaseValue width)
+pub truth_value_at-is : (width : ℕ) → Reads (truth_value_at width) (SpellsCaseValue width)
 unfolding truth_value_at
 truth_value_at-is width ((line, Number digits) ∷ rest) x e =
     (number_case-is width line digits (constant_of digits width) rest x e, number_value-is width line digits (constant_of digits width) rest x refl e)
