@@ -1,7 +1,6 @@
 -- Calls of intrinsics as they are printed and read. A call ends its line: what stands behind its `)` on the line would be an item of it.
-use Rattle.std.proofs.Common.{◌≡◌, ℕ, ◌+◌, ◌<◌, ◌^◌, Bool, true, false, ◌&&◌, not, eqb, ne_eqb, decimal, List, [], ◌∷◌, ◌++◌, Option, None, Some, codes, refl, sym, ap, subst, ◌∙◌, append_assoc, arith}
-use Rattle.std.specs.Prelude.{take}
-use Rattle.scan.specs.Bytes.{begins_name, begins_word, begins_with, is_blank, is_digit, is_letter, is_name_byte, is_space}
+use Rattle.std.proofs.Common.{◌≡◌, ℕ, ◌+◌, ◌<◌, ◌^◌, Bool, true, false, ◌&&◌, eqb, ne_eqb, decimal, List, [], ◌∷◌, ◌++◌, Option, None, Some, codes, refl, sym, ap, subst, append_assoc, arith}
+use Rattle.scan.specs.Bytes.{begins_name, begins_word, is_blank, is_digit, is_letter, is_name_byte, is_space}
 use Rattle.scan.specs.IrTokens.{is_plain_name, is_word}
 use Rattle.scan.specs.Lines.{feeds}
 use Rattle.ops.specs.declared.opcode.Opcode.{Opcode}
@@ -21,7 +20,6 @@ use Rattle.ir_tokens.specs.Tokens.{Placed, End, Word, Mark}
 use Rattle.ir_tokens.specs.declared.raw.RawArguments.TheVariants as arguments
 use Rattle.ir_tokens.specs.declared.raw.RawOp.{RawOp}
 use Rattle.ir_tokens.specs.declared.raw.RawOp.TheVariants as ops
-use Rattle.ir_tokens.specs.declared.raw.RawOperand.{RawOperand}
 use Rattle.ir_tokens.specs.declared.raw.RawValue.TheVariants as values
 use Rattle.ir_tokens.specs.declared.raw.TypedOperand.{TypedOperand}
 use Rattle.ir_core.specs.declared.function.Function.{Function}
@@ -31,11 +29,10 @@ use Rattle.ir_core.specs.declared.operand.Operand.{Operand}
 use Rattle.ir_instructions.specs.declared.intrinsic.Intrinsic.{Intrinsic}
 use Rattle.ir_instructions.specs.declared.intrinsic.Intrinsic.TheVariants as intrinsics
 use Rattle.ir_instructions.specs.CallGrammar.{StopsOn, SpellsCallee, SpellsClose, SpellsTruthOf, unmarked}
-use Rattle.ir_instructions.specs.CallReaders.{begins_late_item}
 use Rattle.ir_instructions.specs.Grammar.{SpellsType, SpellsOperand, SpellsOp}
 use Rattle.ir_instructions.specs.Intrinsics.{intrinsic_keyword, is_called}
 use Rattle.ir_instructions.specs.Keywords.{IsTypeWord}
-use Rattle.ir_instructions.specs.Parts.{Part, Is, ◌⨾◌, Comma}
+use Rattle.ir_instructions.specs.Parts.{Part, Is, ◌⨾◌}
 use Rattle.ir_instructions.specs.Punctuation as marks
 use Rattle.ir_resolve.specs.FaultKinds.{LiteralClashes, TruthIsBit, result_width, truth_of}
 use Rattle.ir_resolve.specs.Means.{OpMeans}

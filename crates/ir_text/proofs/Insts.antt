@@ -32,7 +32,6 @@ use Rattle.ir_core.specs.Checks.{OperandHasWidth, IsTyped}
 use Rattle.ir_core.specs.Names.{place_of}
 use Rattle.ir_core.specs.Reads.{Read, read, reads_of, end_of}
 use Rattle.ir_tokens.specs.declared.raw.RawInst.{RawInst}
-use Rattle.ir_tokens.specs.declared.raw.RawOp.{RawOp}
 use Rattle.ir_tokens.specs.declared.raw.RawOp.TheVariants as ops
 use Rattle.ir_tokens.specs.declared.raw.RawIncoming.{RawIncoming}
 use Rattle.ir_instructions.specs.Grammar.{SpellsType, SpellsOperand, SpellsFlags, SpellsIncoming, SpellsOp, SpellsInst}
@@ -41,7 +40,7 @@ use Rattle.ir_resolve.specs.Means.{IncomingMeans, InstMeans}
 use Rattle.ir_resolve.specs.Written.{Value}
 use Rattle.ir_text.specs.Forms.{IsWidth, ReadHasForms}
 use Rattle.ir_text.proofs.Placing.{space_stops, comma_stops}
-use Rattle.ir_text.specs.PrintedText.{register_text, operand_text, typed_text, flag_text, flags_text, incoming_text, truth_text, callee_text, binary_text, op_text, inst_text}
+use Rattle.ir_text.specs.PrintedText.{register_text, operand_text, typed_text, flag_text, flags_text, incoming_text, callee_text, binary_text, op_text, inst_text}
 use Rattle.ir_text.specs.CanonicalModule.{Identifies, TypesFit}
 use Rattle.ir_text.proofs.Prints.{Body, Prints, Reads, prints_as, prints_map, prints_nothing, prints_then, prints_next, prints_lines, behind_space, Opens, opens_with, opens_none, opens_each}
 use Rattle.ir_text.proofs.Tokens.{in_body, word_in_body, equals_in_body, open_in_body, close_in_body, blank, indent, spaced, mark_spaced, line_ends, mark_line_ends, comma_space}

@@ -1,5 +1,5 @@
 -- Tokens where they stand in a printed module.
-use Rattle.std.proofs.Common.{◌≡◌, ◌≢◌, ℕ, suc, ◌+◌, eqb, true, false, List, [], ◌∷◌, ◌++◌, ap, Option, Some, None, codes, refl, sym, subst, append_assoc, add-zero, arith}
+use Rattle.std.proofs.Common.{◌≡◌, ◌≢◌, ℕ, suc, ◌+◌, eqb, true, false, List, [], ◌∷◌, ◌++◌, Option, Some, None, codes, refl, sym, subst, append_assoc, add-zero, arith}
 use Rattle.std.specs.List.{list_all}
 use Rattle.scan.specs.Bytes.{begins_name, begins_word, is_blank, is_digit, is_letter, is_name_byte, is_space}
 use Rattle.scan.specs.IrTokens.{is_word, is_group}
