@@ -1,16 +1,16 @@
 -- Readers that go on by what stands next.
-use Rattle.std.proofs.Common.{◌≡◌, ℕ, Bool, true, false, cond, List, [], ◌∷◌, ◌++◌, Ok, Err, refl, sym, subst, ◌∙◌, ◌⊎◌, inl, inr}
-use Rattle.ir_tokens.specs.Tokens.{Token, Placed, Word, Group}
+use Rattle.std.proofs.Common.{◌≡◌, ℕ, Bool, true, false, cond, List, [], ◌∷◌, ◌++◌, Ok, Err, refl, sym, ap, subst, ◌∙◌, ◌⊎◌, inl, inr, append_assoc}
+use Rattle.ir_tokens.specs.Tokens.{Token, Placed, Word, Number, Function, Group}
 use Rattle.ir_tokens.specs.declared.fault.IrFaultKind.{IrFaultKind}
 use Rattle.refusal.specs.declared.fault.Fault.{Fault}
 use Rattle.ir_instructions.specs.declared.word.Ending.{Ending}
 use Rattle.ir_instructions.specs.Places.{begins_record}
 use Rattle.ir_instructions.specs.Readers.{Read, Reader}
 use Rattle.ir_instructions.specs.Keywords.{ending_word}
-use Rattle.ir_viable_prefixes.proofs.Outcomes.{Follow, Next, next_map, StopsAt, Halts, CompletesBegun, Sample, Fit, RefusesAt, Bad, Why, Reasons, ReasonsIf, OutcomeIf, Outcome, Good, GoodIf}
-use Rattle.ir_viable_prefixes.specs.Misfits.{RepeatsFlag}
+use Rattle.ops.specs.Keywords.{predicate_keyword}
+use Rattle.ir_viable_prefixes.proofs.Outcomes.{Follow, Next, next_map, StopsBefore, Halts, CompletesBegun, Sample, Fit, FitsEnd, RefusesAt, RefusesEnd, Bad, a_truth, no_truth, Again, NoValue, no_number, no_word, no_truth_value, no_group, no_quoted, InCall, of_callee, of_value, of_truth, New, Why, Reasons, ReasonsIf, OutcomeIf, Outcome, Good, GoodIf, GoodOpen}
 use Rattle.ir_viable_prefixes.proofs.FlagRuns.{either_apart}
-use Rattle.ir_viable_prefixes.proofs.Reasons.{an_end, a_group, Like, like_map, NoRecord, NoGroup, Maps, reason_map}
+use Rattle.ir_viable_prefixes.proofs.Reasons.{a_type, a_pred, an_end, a_group, Like, like_map, NoRecord, NoGroup, Maps, reason_map}
 
 -- the test asks for the next token alone
 abbrev pub AsksNext : (List Placed → Bool) → Type 0
@@ -70,20 +70,38 @@ fits_transferred test asks b R S agree D E F within enters tokens next ((l, v) �
   λ none. absurd cc,
 )
 
+pub bad_transferred : {A : Type 0} (test : List Placed → Bool) → AsksNext test → (b : Bool) (R S : Reader A) → ((tokens : List Placed) → test tokens ≡ b → S tokens ≡ R tokens)
+    → (U U' : Type 0) → (U → U') → Opens test b U → (tokens : List Placed) → test tokens ≡ b
+    → (front : List Placed) (l : ℕ) (t : Token) (behind : List Placed) → tokens ≡ front ++ (l, t) ∷ behind → (u : Token) → Bad U R front t u → Bad U' S front t u
+bad_transferred test asks b R S agree U U' voiced opens tokens next [] l t behind there u (refused, like) = (
+  λ more.
+      let now : Tested test b t = asks 0 l t [] behind ∙ subst (λ (ts : List Placed). test ts ≡ b) there next in
+      let r = refused more in
+      (r.0, agree ((0, u) ∷ more) (asks 0 0 u more [] ∙ opens t u now (like refl)) ∙ r.1),
+  λ none. like_map voiced (like refl),
+)
+bad_transferred test asks b R S agree U U' voiced opens tokens next ((i, v) ∷ front) l t behind there u (refused, like) = (
+  λ more.
+      let r = refused more in
+      (r.0, agree ((i, v) ∷ (front ++ (0, u) ∷ more)) (asks i i v (front ++ (0, u) ∷ more) (front ++ (l, t) ∷ behind) ∙ subst (λ (ts : List Placed). test ts ≡ b) there next) ∙ r.1),
+  λ none. absurd cc,
+)
+
 -- What holds of a reader holds of one that does the same where the test says so.
 pub transfer : {A : Type 0} (test : List Placed → Bool) → AsksNext test → (b : Bool) (R S : Reader A) → ((tokens : List Placed) → test tokens ≡ b → S tokens ≡ R tokens)
     → (U U' Z : Type 0) → (U → U') → Opens test b U → (D E F : Follow) → OpensRecords test b E S F → (V W : Why) → ((t : Token) → D t → Tested test b t) → ((t : Token) → D t → E t)
-    → (tokens : List Placed) → ((front : List Placed) (l : ℕ) (t : Token) (behind : List Placed) → tokens ≡ front ++ (l, t) ∷ behind → (kind : IrFaultKind) → V front t kind → W front t kind)
+    → (tokens : List Placed) → ((front : List Placed) (t : Placed) (behind : List Placed) → tokens ≡ front ++ t ∷ behind → (found : Fault IrFaultKind) → V front t found → W front t found)
     → test tokens ≡ b → (r : Read A) → OutcomeIf U D R F Z V tokens r → OutcomeIf U' E S F Z W tokens r
 transfer {A} test asks b R S agree U U' Z voiced opens D E F records V W within enters tokens lift next (Ok x) o = record {
   front = o.front;
   there = o.there;
   ended = o.ended;
   stopped = here x.1 o.there o.stopped;
-  follows = λ t f line more.
-      agree (o.front ++ (line, t) ∷ more)
-      (begun_test test asks b o.front x.1 ((line, t) ∷ more) (subst (λ (ts : List Placed). test ts ≡ b) o.there next) (λ none. asks line 0 t more [] ∙ within t (o.nothing none t f)))
-      ∙ o.follows t f line more;
+  follows = λ t f more.
+      agree (o.front ++ (0, t) ∷ more)
+      (begun_test test asks b o.front x.1 ((0, t) ∷ more) (subst (λ (ts : List Placed). test ts ≡ b) o.there next) (λ none. asks 0 0 t more [] ∙ within t (o.nothing none t f)))
+      ∙ o.follows t f more;
+  completes = completes o.front x.1 o.there o.completes;
   halts = halts_here x.1 o.front o.there o.halts o.words;
   records = records_here x.1 o.front o.there o.records;
   groups = λ end. groups_here x.1 o.front o.there (o.groups end) (λ none. within an_end (o.nothing none an_end end));
@@ -91,11 +109,19 @@ transfer {A} test asks b R S agree U U' Z voiced opens D E F records V W within 
   words = λ none. voiced_next x.1 (o.words none);
 }
   where
-    moved : (front : List Placed) (u : Token) (line : ℕ) (more : List Placed) → test (front ++ (line, u) ∷ more) ≡ b
-        → (R (front ++ (line, u) ∷ more) ≡ Ok (x.0, (line, u) ∷ more)) ⊎ ((e : Fault IrFaultKind) × (R (front ++ (line, u) ∷ more) ≡ Err e))
-        → (S (front ++ (line, u) ∷ more) ≡ Ok (x.0, (line, u) ∷ more)) ⊎ ((e : Fault IrFaultKind) × (S (front ++ (line, u) ∷ more) ≡ Err e))
-    moved front u line more h (inl one) = inl (agree (front ++ (line, u) ∷ more) h ∙ one)
-    moved front u line more h (inr (e, one)) = inr (e, agree (front ++ (line, u) ∷ more) h ∙ one)
+    completes : (front rest : List Placed) → tokens ≡ front ++ rest → CompletesBegun R F front → CompletesBegun S F front
+    completes [] rest there c = tt
+    completes ((i, u) ∷ front) rest there c = (
+      c.0,
+      c.1,
+      λ ts f. agree ((i, u) ∷ (front ++ (c.1 ++ ts))) (asks i i u (front ++ (c.1 ++ ts)) (front ++ rest) ∙ subst (λ (ts : List Placed). test ts ≡ b) there next) ∙ c.2 ts f,
+    )
+
+    moved : (front : List Placed) (u : Token) (more : List Placed) → test (front ++ (0, u) ∷ more) ≡ b
+        → (R (front ++ (0, u) ∷ more) ≡ Ok (x.0, (0, u) ∷ more)) ⊎ ((e : Fault IrFaultKind) × (R (front ++ (0, u) ∷ more) ≡ Err e))
+        → (S (front ++ (0, u) ∷ more) ≡ Ok (x.0, (0, u) ∷ more)) ⊎ ((e : Fault IrFaultKind) × (S (front ++ (0, u) ∷ more) ≡ Err e))
+    moved front u more h (inl one) = inl (agree (front ++ (0, u) ∷ more) h ∙ one)
+    moved front u more h (inr (e, one)) = inr (e, agree (front ++ (0, u) ∷ more) h ∙ one)
 
     voiced_next : (rest : List Placed) → Next (λ t. (u : Token) → Like Z t u → Like U t u) rest → Next (λ t. (u : Token) → Like Z t u → Like U' t u) rest
     voiced_next [] h = absurd h
@@ -103,23 +129,23 @@ transfer {A} test asks b R S agree U U' Z voiced opens D E F records V W within 
 
     halts_here : (rest front : List Placed) → tokens ≡ front ++ rest → Next (λ t. (u : Token) → Like Z t u → Halts R front x.0 u) rest → (front ≡ [] → Next (λ t. (u : Token) → Like Z t u → Like U t u) rest) → Next (λ t. (u : Token) → Like Z t u → Halts S front x.0 u) rest
     halts_here [] front there h w = absurd h
-    halts_here ((l, t) ∷ rest) [] there h w = λ u like line more.
+    halts_here ((l, t) ∷ rest) [] there h w = λ u like more.
         let now : Tested test b t = asks 0 l t [] rest ∙ subst (λ (ts : List Placed). test ts ≡ b) there next in
-        moved [] u line more (asks line 0 u more [] ∙ opens t u now (w refl u like)) (h u like line more)
-    halts_here ((l, t) ∷ rest) ((i, v) ∷ front) there h w = λ u like line more.
-        moved ((i, v) ∷ front) u line more (asks i i v (front ++ (line, u) ∷ more) (front ++ (l, t) ∷ rest) ∙ subst (λ (ts : List Placed). test ts ≡ b) there next) (h u like line more)
+        moved [] u more (asks 0 0 u more [] ∙ opens t u now (w refl u like)) (h u like more)
+    halts_here ((l, t) ∷ rest) ((i, v) ∷ front) there h w = λ u like more.
+        moved ((i, v) ∷ front) u more (asks i i v (front ++ (0, u) ∷ more) (front ++ (l, t) ∷ rest) ∙ subst (λ (ts : List Placed). test ts ≡ b) there next) (h u like more)
 
     both_records : (l : ℕ) (t : Token) (rest : List Placed) → tokens ≡ (l, t) ∷ rest → NoRecord (Fit D R F []) (Halts R [] x.0) → NoRecord (Fit E S F []) (Tested test b) → NoRecord (Fit E S F []) (Halts S [] x.0)
     both_records l t rest there h (inl fit) = inl fit
     both_records l t rest there (inl fit) (inr says) = inl (fits_transferred test asks b R S agree D E F within enters tokens next [] (l, t) rest there a_group fit)
     both_records l t rest there (inr h) (inr says) =
-        inr (λ ending line more. moved [] (Word (ending_word ending)) line more (asks line 0 (Word (ending_word ending)) more [] ∙ says ending) (h ending line more))
+        inr (λ ending more. moved [] (Word (ending_word ending)) more (asks 0 0 (Word (ending_word ending)) more [] ∙ says ending) (h ending more))
 
     then_records : (l : ℕ) (t : Token) (rest : List Placed) (i : ℕ) (v : Token) (front : List Placed) → tokens ≡ (i, v) ∷ (front ++ (l, t) ∷ rest) → NoRecord (Fit D R F ((i, v) ∷ front)) (Halts R ((i, v) ∷ front) x.0) → NoRecord (Fit E S F ((i, v) ∷ front)) (Halts S ((i, v) ∷ front) x.0)
     then_records l t rest i v front there (inl fit) = inl (fits_transferred test asks b R S agree D E F within enters tokens next ((i, v) ∷ front) (l, t) rest there a_group fit)
     then_records l t rest i v front there (inr h) =
-        inr (λ ending line more.
-        moved ((i, v) ∷ front) (Word (ending_word ending)) line more (asks i i v (front ++ (line, Word (ending_word ending)) ∷ more) (front ++ (l, t) ∷ rest) ∙ subst (λ (ts : List Placed). test ts ≡ b) there next) (h ending line more))
+        inr (λ ending more.
+        moved ((i, v) ∷ front) (Word (ending_word ending)) more (asks i i v (front ++ (0, Word (ending_word ending)) ∷ more) (front ++ (l, t) ∷ rest) ∙ subst (λ (ts : List Placed). test ts ≡ b) there next) (h ending more))
 
     records_here : (rest front : List Placed) → tokens ≡ front ++ rest → Next (λ t. begins_record t ≡ true → NoRecord (Fit D R F front) (Halts R front x.0)) rest → Next (λ t. begins_record t ≡ true → NoRecord (Fit E S F front) (Halts S front x.0)) rest
     records_here [] front there h = absurd h
@@ -128,55 +154,46 @@ transfer {A} test asks b R S agree U U' Z voiced opens D E F records V W within 
 
     groups_here : (rest front : List Placed) → tokens ≡ front ++ rest → Next (λ t. begins_record t ≡ true → NoGroup (Halts R front x.0)) rest → (front ≡ [] → Tested test b an_end) → Next (λ t. begins_record t ≡ true → NoGroup (Halts S front x.0)) rest
     groups_here [] front there h end = absurd h
-    groups_here ((l, t) ∷ rest) [] there h end = λ begins text line more.
-        moved [] (Group text) line more (asks line 0 (Group text) more [] ∙ (records t begins (asks 0 l t [] rest ∙ subst (λ (ts : List Placed). test ts ≡ b) there next)).1 (end refl) text) (h begins text line more)
-    groups_here ((l, t) ∷ rest) ((i, v) ∷ front) there h end = λ begins text line more.
-        moved ((i, v) ∷ front) (Group text) line more (asks i i v (front ++ (line, Group text) ∷ more) (front ++ (l, t) ∷ rest) ∙ subst (λ (ts : List Placed). test ts ≡ b) there next) (h begins text line more)
+    groups_here ((l, t) ∷ rest) [] there h end = λ begins text more.
+        moved [] (Group text) more (asks 0 0 (Group text) more [] ∙ (records t begins (asks 0 l t [] rest ∙ subst (λ (ts : List Placed). test ts ≡ b) there next)).1 (end refl) text) (h begins text more)
+    groups_here ((l, t) ∷ rest) ((i, v) ∷ front) there h end = λ begins text more.
+        moved ((i, v) ∷ front) (Group text) more (asks i i v (front ++ (0, Group text) ∷ more) (front ++ (l, t) ∷ rest) ∙ subst (λ (ts : List Placed). test ts ≡ b) there next) (h begins text more)
 
-    here : (rest : List Placed) → tokens ≡ o.front ++ rest → Next (StopsAt R o.front x.0) rest → Next (StopsAt S o.front x.0) rest
+    here : (rest : List Placed) → tokens ≡ o.front ++ rest → StopsBefore R o.front x.0 rest → StopsBefore S o.front x.0 rest
     here [] there h = absurd h
-    here ((l, t) ∷ rest) there h = λ line more.
-        agree (o.front ++ (line, t) ∷ more) (same_test test asks o.front line l t more rest ∙ subst (λ (ts : List Placed). test ts ≡ b) there next) ∙ h line more
+    here ((l, t) ∷ rest) there h = λ more.
+        agree (o.front ++ (l, t) ∷ more) (same_test test asks o.front l l t more rest ∙ subst (λ (ts : List Placed). test ts ≡ b) there next) ∙ h more
 transfer {A} test asks b R S agree U U' Z voiced opens D E F records V W within enters tokens lift next (Err e) o = record {
   front = o.front;
   token = o.token;
   behind = o.behind;
   there = o.there;
   refused = λ more.
-      agree (o.front ++ (e.line, o.token) ∷ more)
-      (same_test test asks o.front e.line e.line o.token more o.behind ∙ subst (λ (ts : List Placed). test ts ≡ b) o.there next)
+      agree (o.front ++ o.token ∷ more)
+      (same_test test asks o.front o.token.0 o.token.0 o.token.1 more o.behind ∙ subst (λ (ts : List Placed). test ts ≡ b) o.there next)
       ∙ o.refused more;
   completes = completes o.front o.there o.completes;
-  why = lift o.front e.line o.token o.behind o.there e.kind o.why;
-  new = o.new;
+  why = lift o.front o.token o.behind o.there e o.why;
+  new = λ left. new_here (o.new left);
 }
   where
-    completes : (front : List Placed) → tokens ≡ front ++ (e.line, o.token) ∷ o.behind → CompletesBegun R F front → CompletesBegun S F front
+    new_here : New U R o.front o.token.1 → New U' S o.front o.token.1
+    new_here (inl new) = inl new
+    new_here (inr free) =
+        inr (
+          λ w width is. bad_transferred test asks b R S agree U U' voiced opens tokens next o.front o.token.0 o.token.1 o.behind o.there (Word w) (free.0 w width is),
+          λ pred. bad_transferred test asks b R S agree U U' voiced opens tokens next o.front o.token.0 o.token.1 o.behind o.there (Word (predicate_keyword pred)) (free.1 pred),
+        )
+
+    completes : (front : List Placed) → tokens ≡ front ++ o.token ∷ o.behind → CompletesBegun R F front → CompletesBegun S F front
     completes [] there c = tt
     completes ((i, u) ∷ front) there c = (
       c.0,
       c.1,
       λ ts f.
-          agree ((i, u) ∷ (front ++ (c.1 ++ ts))) (asks i i u (front ++ (c.1 ++ ts)) (front ++ (e.line, o.token) ∷ o.behind) ∙ subst (λ (ts : List Placed). test ts ≡ b) there next)
+          agree ((i, u) ∷ (front ++ (c.1 ++ ts))) (asks i i u (front ++ (c.1 ++ ts)) (front ++ o.token ∷ o.behind) ∙ subst (λ (ts : List Placed). test ts ≡ b) there next)
           ∙ c.2 ts f,
     )
-
-pub bad_transferred : {A : Type 0} (test : List Placed → Bool) → AsksNext test → (b : Bool) (R S : Reader A) → ((tokens : List Placed) → test tokens ≡ b → S tokens ≡ R tokens)
-    → (U U' : Type 0) → (U → U') → Opens test b U → (tokens : List Placed) → test tokens ≡ b
-    → (front : List Placed) (l : ℕ) (t : Token) (behind : List Placed) → tokens ≡ front ++ (l, t) ∷ behind → (u : Token) → Bad U R front t u → Bad U' S front t u
-bad_transferred test asks b R S agree U U' voiced opens tokens next [] l t behind there u (refused, like) = (
-  λ line more.
-      let now : Tested test b t = asks 0 l t [] behind ∙ subst (λ (ts : List Placed). test ts ≡ b) there next in
-      let r = refused line more in
-      (r.0, agree ((line, u) ∷ more) (asks line 0 u more [] ∙ opens t u now (like refl)) ∙ r.1),
-  λ none. like_map voiced (like refl),
-)
-bad_transferred test asks b R S agree U U' voiced opens tokens next ((i, v) ∷ front) l t behind there u (refused, like) = (
-  λ line more.
-      let r = refused line more in
-      (r.0, agree ((i, v) ∷ (front ++ (line, u) ∷ more)) (asks i i v (front ++ (line, u) ∷ more) (front ++ (l, t) ∷ behind) ∙ subst (λ (ts : List Placed). test ts ≡ b) there next) ∙ r.1),
-  λ none. absurd cc,
-)
 
 records_transferred : {A : Type 0} (test : List Placed → Bool) → AsksNext test → (b : Bool) (R S : Reader A) → ((tokens : List Placed) → test tokens ≡ b → S tokens ≡ R tokens)
     → (D E F : Follow) → OpensRecords test b E S F → ((t : Token) → D t → Tested test b t) → ((t : Token) → D t → E t) → (tokens : List Placed) → test tokens ≡ b
@@ -187,43 +204,126 @@ records_transferred test asks b R S agree D E F opens within enters tokens next 
     by : NoRecord (Fit E S F []) (Tested test b) → NoRecord (Fit E S F []) (RefusesAt S [])
     by (inl fit) = inl fit
     by (inr says) =
-        inr (λ ending line more.
-        let r = refused ending line more in
-        (r.0, agree ((line, Word (ending_word ending)) ∷ more) (asks line 0 (Word (ending_word ending)) more [] ∙ says ending) ∙ r.1))
+        inr (λ ending more.
+        let r = refused ending more in
+        (r.0, agree ((0, Word (ending_word ending)) ∷ more) (asks 0 0 (Word (ending_word ending)) more [] ∙ says ending) ∙ r.1))
 records_transferred test asks b R S agree D E F opens within enters tokens next ((i, v) ∷ front) l t behind there begins (inr refused) =
-    inr (λ ending line more.
-    let r = refused ending line more in
-    (r.0, agree ((i, v) ∷ (front ++ (line, Word (ending_word ending)) ∷ more)) (asks i i v (front ++ (line, Word (ending_word ending)) ∷ more) (front ++ (l, t) ∷ behind) ∙ subst (λ (ts : List Placed). test ts ≡ b) there next) ∙ r.1))
+    inr (λ ending more.
+    let r = refused ending more in
+    (r.0, agree ((i, v) ∷ (front ++ (0, Word (ending_word ending)) ∷ more)) (asks i i v (front ++ (0, Word (ending_word ending)) ∷ more) (front ++ (l, t) ∷ behind) ∙ subst (λ (ts : List Placed). test ts ≡ b) there next) ∙ r.1))
 
 groups_transferred : {A : Type 0} (test : List Placed → Bool) → AsksNext test → (b : Bool) (R S : Reader A) → ((tokens : List Placed) → test tokens ≡ b → S tokens ≡ R tokens)
     → (D E F : Follow) → OpensRecords test b E S F → ((t : Token) → D t → Tested test b t) → (tokens : List Placed) → test tokens ≡ b
     → (front : List Placed) (l : ℕ) (t : Token) (behind : List Placed) → tokens ≡ front ++ (l, t) ∷ behind → begins_record t ≡ true → Fit D R F front an_end → NoGroup (RefusesAt R front) → NoGroup (RefusesAt S front)
-groups_transferred test asks b R S agree D E F opens within tokens next [] l t behind there begins end refused text line more =
+groups_transferred test asks b R S agree D E F opens within tokens next [] l t behind there begins end refused text more =
     let says = (opens t begins (asks 0 l t [] behind ∙ subst (λ (ts : List Placed). test ts ≡ b) there next)).1 (within an_end (end.1 refl)) text in
-    let r = refused text line more in
-    (r.0, agree ((line, Group text) ∷ more) (asks line 0 (Group text) more [] ∙ says) ∙ r.1)
-groups_transferred test asks b R S agree D E F opens within tokens next ((i, v) ∷ front) l t behind there begins end refused text line more =
-    let r = refused text line more in
-    (r.0, agree ((i, v) ∷ (front ++ (line, Group text) ∷ more)) (asks i i v (front ++ (line, Group text) ∷ more) (front ++ (l, t) ∷ behind) ∙ subst (λ (ts : List Placed). test ts ≡ b) there next) ∙ r.1)
+    let r = refused text more in
+    (r.0, agree ((0, Group text) ∷ more) (asks 0 0 (Group text) more [] ∙ says) ∙ r.1)
+groups_transferred test asks b R S agree D E F opens within tokens next ((i, v) ∷ front) l t behind there begins end refused text more =
+    let r = refused text more in
+    (r.0, agree ((i, v) ∷ (front ++ (0, Group text) ∷ more)) (asks i i v (front ++ (0, Group text) ∷ more) (front ++ (l, t) ∷ behind) ∙ subst (λ (ts : List Placed). test ts ≡ b) there next) ∙ r.1)
 
 pub maps_transferred : {A : Type 0} (test : List Placed → Bool) → AsksNext test → (b : Bool) (R S : Reader A) → ((tokens : List Placed) → test tokens ≡ b → S tokens ≡ R tokens)
     → (U U' : Type 0) → (U → U') → Opens test b U → (D E F : Follow) → OpensRecords test b E S F → ((t : Token) → D t → Tested test b t) → ((t : Token) → D t → E t) → (tokens : List Placed) → test tokens ≡ b
     → (front : List Placed) (l : ℕ) (t : Token) (behind : List Placed) → tokens ≡ front ++ (l, t) ∷ behind
-    → Maps (Fit D R F front) (Fit E S F front) (Bad U R front) (Bad U' S front) (RepeatsFlag front) (RepeatsFlag front) (RefusesAt R front) (RefusesAt S front) t
+    → Maps (Fit D R F front) (Fit E S F front) (Bad U R front) (Bad U' S front) (Again D R F front) (Again E S F front) (RefusesAt R front) (RefusesAt S front) t
 maps_transferred test asks b R S agree U U' voiced opens D E F records within enters tokens next front l t behind there = record {
   fits = λ v fit. fits_transferred test asks b R S agree D E F within enters tokens next front (l, t) behind there v fit;
   bad = λ u bad. bad_transferred test asks b R S agree U U' voiced opens tokens next front l t behind there u bad;
-  repeats = λ w r. r;
+  repeats = λ w again. (again.0, go_on again.1);
   records = λ begins none. records_transferred test asks b R S agree D E F records within enters tokens next front l t behind there begins none;
   groups = λ begins end refused. groups_transferred test asks b R S agree D E F records within tokens next front l t behind there begins end refused;
 }
+  where
+    go_on : Fit D R F front a_type ⊎ Fit D R F front a_pred → Fit E S F front a_type ⊎ Fit E S F front a_pred
+    go_on (inl fit) = inl (fits_transferred test asks b R S agree D E F within enters tokens next front (l, t) behind there a_type fit)
+    go_on (inr fit) = inr (fits_transferred test asks b R S agree D E F within enters tokens next front (l, t) behind there a_pred fit)
+
+-- the same of values
+fits_end_transferred : {A : Type 0} (test : List Placed → Bool) → AsksNext test → (b : Bool) (R S : Reader A) → ((tokens : List Placed) → test tokens ≡ b → S tokens ≡ R tokens)
+    → (D E F : Follow) → ((t : Token) → D t → Tested test b t) → ((t : Token) → D t → E t) → (tokens : List Placed) → test tokens ≡ b
+    → (front : List Placed) (u : Placed) (behind : List Placed) → tokens ≡ front ++ u ∷ behind → (v : Token) → FitsEnd D R F front v → FitsEnd E S F front v
+fits_end_transferred test asks b R S agree D E F within enters tokens next [] u behind there v (c, entered) = (
+  (c.0, c.1, λ ts f. let end = c.2 ts f in (agree ((0, v) ∷ (c.1 ++ ts)) (asks 0 0 v (c.1 ++ ts) [] ∙ within v (entered refl)) ∙ end.0, end.1)),
+  λ none. enters v (entered refl),
+)
+fits_end_transferred test asks b R S agree D E F within enters tokens next ((l, w) ∷ front) u behind there v (c, entered) = (
+  (
+    c.0,
+    c.1,
+    λ ts f.
+        let end = c.2 ts f in (
+          agree ((l, w) ∷ (front ++ (0, v) ∷ (c.1 ++ ts))) (asks l l w (front ++ (0, v) ∷ (c.1 ++ ts)) (front ++ u ∷ behind) ∙ subst (λ (ts : List Placed). test ts ≡ b) there next) ∙ end.0,
+          end.1,
+        ),
+  ),
+  λ none. absurd cc,
+)
+
+refuses_end_transferred : {A : Type 0} (test : List Placed → Bool) → AsksNext test → (b : Bool) (R S : Reader A) → ((tokens : List Placed) → test tokens ≡ b → S tokens ≡ R tokens)
+    → (U U' : Type 0) → (U → U') → Opens test b U → (tokens : List Placed) → test tokens ≡ b
+    → (front : List Placed) (l : ℕ) (t : Token) (behind : List Placed) → tokens ≡ front ++ (l, t) ∷ behind → (v : Token) → RefusesEnd U R front t v → RefusesEnd U' S front t v
+refuses_end_transferred test asks b R S agree U U' voiced opens tokens next [] l t behind there v (refused, like) = (
+  λ end more ends.
+      let now : Tested test b t = asks 0 l t [] behind ∙ subst (λ (ts : List Placed). test ts ≡ b) there next in
+      let r = refused end more ends in
+      (r.0, agree ((0, v) ∷ end ∷ more) (asks 0 0 v (end ∷ more) [] ∙ opens t v now (like refl)) ∙ r.1),
+  λ none. like_map voiced (like refl),
+)
+refuses_end_transferred test asks b R S agree U U' voiced opens tokens next ((i, w) ∷ front) l t behind there v (refused, like) = (
+  λ end more ends.
+      let r = refused end more ends in
+      (r.0, agree ((i, w) ∷ (front ++ (0, v) ∷ end ∷ more)) (asks i i w (front ++ (0, v) ∷ end ∷ more) (front ++ (l, t) ∷ behind) ∙ subst (λ (ts : List Placed). test ts ≡ b) there next) ∙ r.1),
+  λ none. absurd cc,
+)
+
+-- a token that is refused behind others
+refuses_moved : {A : Type 0} (test : List Placed → Bool) → AsksNext test → (b : Bool) (R S : Reader A) → ((tokens : List Placed) → test tokens ≡ b → S tokens ≡ R tokens)
+    → (tokens : List Placed) → test tokens ≡ b → (front before : List Placed) (last : Placed) (rest : List Placed) → tokens ≡ front ++ rest → front ≡ before ++ last ∷ [] → (u : Token) → RefusesAt R front u → RefusesAt S front u
+refuses_moved test asks b R S agree tokens next [] before last rest there same u refused = absurd (none before same)
+  where
+    none : (before : List Placed) → [] ≡ before ++ last ∷ [] → ⊥
+    none [] e = cc
+    none (t ∷ before) e = cc
+refuses_moved test asks b R S agree tokens next ((i, v) ∷ front) before last rest there same u refused = λ more.
+    let r = refused more in
+    (r.0, agree ((i, v) ∷ (front ++ (0, u) ∷ more)) (asks i i v (front ++ (0, u) ∷ more) (front ++ rest) ∙ subst (λ (ts : List Placed). test ts ≡ b) there next) ∙ r.1)
+
+-- what is told of a call
+module _ {A : Type 0} (test : List Placed → Bool) (asks : AsksNext test) (b : Bool) (R S : Reader A) (agree : (tokens : List Placed) → test tokens ≡ b → S tokens ≡ R tokens)
+    (U U' : Type 0) (voiced : U → U') (opens : Opens test b U) (D E F : Follow) (within : (t : Token) → D t → Tested test b t) (enters : (t : Token) → D t → E t) (tokens : List Placed) (next : test tokens ≡ b) where
+  no_value_moved : (front : List Placed) (l : ℕ) {t : Token} (behind : List Placed) → tokens ≡ front ++ (l, t) ∷ behind → {kind : IrFaultKind} → NoValue U D R F front t kind → NoValue U' E S F front t kind
+  no_value_moved front l behind there (no_number digits width out fit bad) =
+      no_number digits width out (λ other number is. fits_end_transferred test asks b R S agree D E F within enters tokens next front (l, Number digits) behind there (Number other) (fit other number is))
+      (λ other is. refuses_end_transferred test asks b R S agree U U' voiced opens tokens next front l (Number digits) behind there (Number other) (bad other is))
+  no_value_moved front l behind there (no_word w fit) = no_word w (fits_end_transferred test asks b R S agree D E F within enters tokens next front (l, Word w) behind there no_truth fit)
+  no_value_moved front l behind there (no_truth_value w bad) = no_truth_value w (refuses_end_transferred test asks b R S agree U U' voiced opens tokens next front l (Word w) behind there no_truth bad)
+  no_value_moved front l behind there (no_group text) = no_group text
+  no_value_moved front l behind there (no_quoted text) = no_quoted text
+
+  in_call_moved : (front : List Placed) {t : Placed} (behind : List Placed) → tokens ≡ front ++ t ∷ behind → {found : Fault IrFaultKind} → InCall U D R F front t found → InCall U' E S F front t found
+  in_call_moved front behind there (of_callee line at written one stands fit bad) =
+      of_callee line at written one stands (fits_transferred test asks b R S agree D E F within enters tokens next front (at, Function written) behind there (Function one) fit)
+      (λ other is. bad_transferred test asks b R S agree U U' voiced opens tokens next front at (Function written) behind there (Function other) (bad other is))
+  in_call_moved front behind there (of_value before line last end kind same ends none fit why) =
+      let whole : tokens ≡ before ++ (line, last) ∷ (end ∷ behind) = there ∙ ap (λ (ts : List Placed). ts ++ end ∷ behind) same ∙ append_assoc before ((line, last) ∷ []) (end ∷ behind) in
+      of_value before line last end kind same ends (λ other is. refuses_moved test asks b R S agree tokens next front before (line, last) (end ∷ behind) there same other (none other is))
+      (fits_end_transferred test asks b R S agree D E F within enters tokens next before (line, last) (end ∷ behind) whole a_truth fit) (no_value_moved before line (end ∷ behind) whole why)
+  in_call_moved front behind there (of_truth line w fit bad) =
+      of_truth line w (fits_end_transferred test asks b R S agree D E F within enters tokens next front (line, Word w) behind there a_truth fit)
+      (refuses_end_transferred test asks b R S agree U U' voiced opens tokens next front line (Word w) behind there no_truth bad)
+
+  pub reasons_moved : OpensRecords test b E S F → (front : List Placed) (t : Placed) (behind : List Placed) → tokens ≡ front ++ t ∷ behind → (found : Fault IrFaultKind) → ReasonsIf U D R F front t found → ReasonsIf U' E S F front t found
+  reasons_moved records front t behind there found (inl (same, why)) =
+      inl (same, reason_map _ _ _ _ _ _ _ _ t.1 (maps_transferred test asks b R S agree U U' voiced opens D E F records within enters tokens next front t.0 t.1 behind there) found.kind why)
+  reasons_moved records front t behind there found (inr call) = inr (in_call_moved front behind there call)
 
 pub reasons_transferred : {A : Type 0} (test : List Placed → Bool) → AsksNext test → (b : Bool) (R S : Reader A) → ((tokens : List Placed) → test tokens ≡ b → S tokens ≡ R tokens)
     → (U U' Z : Type 0) → (U → U') → Opens test b U → (D E F : Follow) → OpensRecords test b E S F → ((t : Token) → D t → Tested test b t) → ((t : Token) → D t → E t) → (tokens : List Placed) → test tokens ≡ b → (r : Read A)
     → OutcomeIf U D R F Z (ReasonsIf U D R F) tokens r → OutcomeIf U' E S F Z (ReasonsIf U' E S F) tokens r
 reasons_transferred test asks b R S agree U U' Z voiced opens D E F records within enters tokens next r o =
     transfer test asks b R S agree U U' Z voiced opens D E F records (ReasonsIf U D R F) (ReasonsIf U' E S F) within enters tokens
-    (λ front l t behind there kind why. reason_map _ _ _ _ _ _ _ _ t (maps_transferred test asks b R S agree U U' voiced opens D E F records within enters tokens next front l t behind there) kind why)
+    (reasons_moved test asks b R S agree U U' voiced opens D E F within enters tokens next records)
     next r o
 
 -- ---- one of two
@@ -270,4 +370,13 @@ same-good {A} {V} {W} {E} {F} {R} {S} same r = record {
       subst (OutcomeIf V E S F W (ReasonsIf V E S F) tokens) (sym (same tokens))
       (reasons_transferred (λ ts. true) (λ l k t a b. refl) true R S (λ ts h. same ts) V V W (λ v. v) (λ t u h like. refl) E E F (λ t begins h. (inr (λ ending. refl), λ end text. refl)) (λ t d. refl) (λ t d. d) tokens refl (R tokens) (r.outcome tokens e));
   apart = λ tokens x is. r.apart tokens x (sym (same tokens) ∙ is);
+}
+
+pub same_open : {A : Type 0} {E F : Follow} {R S : Reader A} → ((tokens : List Placed) → S tokens ≡ R tokens) → GoodOpen E R F → GoodOpen E S F
+same_open {A} {E} {F} {R} {S} same r = record {
+  sample = (r.sample.0, r.sample.1, λ ts f. let h = r.sample.2 ts f in (same (r.sample.1 ++ ts) ∙ h.0, h.1));
+  outcome = λ tokens e.
+      subst (Outcome E S F (Reasons E S F) tokens) (sym (same tokens))
+      (reasons_transferred (λ ts. true) (λ l k t a b. refl) true R S (λ ts h. same ts) (Unit {0}) (Unit {0}) (Unit {0}) (λ v. v) (λ t u h like. refl) E E F (λ t begins h. (inr (λ ending. refl), λ end text. refl)) (λ t d. refl) (λ t d. d) tokens refl (R tokens) (r.outcome tokens e));
+  splits = λ tokens x is. r.splits tokens x (sym (same tokens) ∙ is);
 }

@@ -5,22 +5,25 @@ use Rattle.std.specs.Str.{bytes_eq}
 use Rattle.ir_tokens.specs.Tokens.{Token, Placed, End, Kept, Word, Mark}
 use Rattle.ir_tokens.specs.declared.raw.RawEntry.{RawEntry}
 use Rattle.ir_tokens.specs.declared.raw.RawEntry.TheVariants as entries
+use Rattle.refusal.specs.declared.fault.Fault.{Fault}
 use Rattle.ir_tokens.specs.declared.fault.IrFaultKind.{IrFaultKind}
 use Rattle.ir_tokens.specs.declared.fault.IrFaultKind.TheVariants.{LeftOut}
 use Rattle.ir_instructions.specs.declared.place.Place.TheVariants as places
 use Rattle.ir_instructions.specs.Places.{leaves_out, misfit, shown}
-use Rattle.ir_instructions.specs.Readers.{Reader, fault, unexpected, ◌>>=◌, done, repeat_at, another_at}
+use Rattle.ir_instructions.specs.Readers.{Read, Reader, fault, unexpected, ◌>>=◌, done, repeat_at, another_at}
 use Rattle.ir_instructions.proofs.Loops.{repeat-done}
 use Rattle.ir_parse.specs.ModuleReaders as parsing
 use Rattle.ir_parse.proofs.TakingParts.{entry-takes}
-use Rattle.ir_viable_prefixes.proofs.Choices.{AsksNext, Tested, tested_next, Opens, SaysOfRecords, transfer, begun_test, maps_transferred}
-use Rattle.ir_viable_prefixes.proofs.Functions.{function-good}
-use Rattle.ir_viable_prefixes.proofs.Outcomes.{Follow, Next, next_map, Anything, Ended, StopsAt, stops, Sample, Why, Reasons, IsReadIf, Lifts, Outcome, outcome_both, maps_first, maps_second, Takes, takes, refuses, token_outcome, Good, done-good, ◌then◌, TakesNoFlag, RefusesAt, token_apart, apart_new}
+use Rattle.ir_viable_prefixes.proofs.Choices.{AsksNext, Tested, Opens, SaysOfRecords, transfer, begun_test, reasons_moved}
+use Rattle.ir_instructions.proofs.Steps.{read_as}
+use Rattle.ir_viable_prefixes.proofs.Closed.{Closes, closes_done}
+use Rattle.ir_viable_prefixes.proofs.Functions.{function-good, function-closes}
+use Rattle.ir_viable_prefixes.proofs.Outcomes.{Follow, Anything, Ended, ended_behind, StopsAt, StopsBefore, stops, Sample, Why, Reasons, IsReadIf, Lifts, Outcome, outcome_both, reasons_first, reasons_second, Takes, takes, refuses, token_outcome, Good, done-good, ◌then◌, TakesNoFlag, RefusesEach, token_apart, apart_new}
 use Rattle.ir_viable_prefixes.proofs.FlagRuns.{ReadsApart, both_apart}
 use Rattle.ops.specs.declared.keywords.flag.Flag.{Flag}
 use Rattle.ops.specs.declared.keywords.flag.Flag.TheVariants.{Nuw, Nsw, Exact, NNeg, Disjoint, SameSign}
 use Rattle.ops.specs.FlagKeywords.{flag_keyword}
-use Rattle.ir_viable_prefixes.proofs.Reasons.{like_word, like_type, like_function, like_width, like_number, reason_map}
+use Rattle.ir_viable_prefixes.proofs.Reasons.{like_word, like_type, like_function, like_width, like_number}
 use Rattle.ir_viable_prefixes.proofs.Repeats.{Steps, steps_of, another_apart, loop_sample, loop_lifts, one_step, repeat_outcomes}
 
 -- ---- an entry
@@ -47,7 +50,7 @@ same_entry tokens = refl
 
 -- the first token is no entry's
 abbrev pub IsFirst : Why
-IsFirst front t kind = (front ≡ []) × (kind ≡ misfit places.Entry t)
+IsFirst front t found = (front ≡ []) × (found.line ≡ t.0) × (found.kind ≡ misfit places.Entry t.1)
 
 pub entry_token_takes : (line : ℕ) (t : Token) → Takes entry_token_at IsFirst line t
 unfolding unexpected misfit leaves_out shown
@@ -56,13 +59,13 @@ entry_token_takes line (Word word) = by (bytes_eq word (codes "define")) refl
   where
     by : (b : Bool) → bytes_eq word (codes "define") ≡ b → Takes entry_token_at IsFirst line (Word word)
     by true h = takes None refl (λ more. rw h refl)
-    by false h = refuses (LeftOut word) (refl, refl) (λ more. rw h refl)
-entry_token_takes line t = refuses (misfit places.Entry t) (refl, refl) (λ more. refl)
+    by false h = refuses (fault line (LeftOut word)) (refl, refl, refl) (λ more. rw h refl)
+entry_token_takes line t = refuses (fault line (misfit places.Entry t)) (refl, refl, refl) (λ more. refl)
 
 entry_flags : TakesNoFlag entry_token_at
 entry_flags = ((unexpected places.Entry [], refl), by)
   where
-    by : (flag : Flag) → RefusesAt entry_token_at [] (Word (flag_keyword flag))
+    by : (flag : Flag) → RefusesEach entry_token_at (Word (flag_keyword flag))
     by Nuw line more = (fault line (LeftOut (codes "nuw")), refl)
     by Nsw line more = (fault line (LeftOut (codes "nsw")), refl)
     by Exact line more = (fault line (LeftOut (codes "exact")), refl)
@@ -85,7 +88,7 @@ entry_apart tokens x is = both_apart entry_token_at behind_entry (token_apart en
 
 -- what a refusal says, or that the first token is no entry's
 abbrev pub OrFirst : {A : Type 0} → Follow → Reader A → Follow → Why
-OrFirst E R F front t kind = IsFirst front t kind ⊎ Reasons E R F front t kind
+OrFirst E R F front t found = IsFirst front t found ⊎ Reasons E R F front t found
 
 entry_outcome : (tokens : List Placed) → Ended tokens → Outcome Begins parsing.entry_at Anything (OrFirst Begins parsing.entry_at Anything) tokens (parsing.entry_at tokens)
 entry_outcome tokens e =
@@ -93,29 +96,29 @@ entry_outcome tokens e =
     (transfer (λ ts. true) (λ l k t a b. refl) true read parsing.entry_at (λ ts h. same_entry ts) (Unit {0}) (Unit {0}) (Unit {0}) (λ v. v) (λ t u h like. refl) Begins Begins Anything (λ t begins h. (inr (λ ending. refl), λ end text. refl)) (OrFirst Begins read Anything) (OrFirst Begins parsing.entry_at Anything) (λ t d. refl) (λ t d. d) tokens over refl (read tokens)
     (outcome_both (Unit {0}) (Unit {0}) (Unit {0}) Begins Anything Anything entry_token_at behind_entry IsFirst (λ x. Reasons Anything (behind_entry x) Anything) (OrFirst Begins read Anything) tokens
     (record {
-      first = λ front l t behind there kind why. inl why;
-      second = λ x is o front l t behind there kind why.
-          inr (reason_map _ _ _ _ _ _ _ _ t (maps_second (Unit {0}) (Unit {0}) Begins Anything Anything entry_token_at behind_entry (λ y. (behind_entry-good y).sample) tokens x o front l t behind there) kind why);
+      first = λ front t behind there found why. inl why;
+      second = λ x is o front t behind there found why.
+          inr (reasons_second (Unit {0}) (Unit {0}) Begins Anything Anything entry_token_at behind_entry (λ y. (behind_entry-good y).sample) tokens x o front t behind there found why);
     })
     (apart_new (Unit {0}) (Unit {0}) Begins Anything Anything entry_token_at behind_entry (λ x. Reasons Anything (behind_entry x) Anything) tokens (token_apart entry_token_at IsFirst entry_flags entry_token_takes)) (λ x. (behind_entry-good x).sample) (entry_token_at tokens) refl (token_outcome (Unit {0}) Begins entry_token_at Anything (Unit {0}) IsFirst entry_token_takes tokens e) (λ x is ended. (behind_entry-good x.0).outcome x.1 ended)))
   where
     read : Reader RawEntry
     read ts = (entry_token_at >>= behind_entry) ts
 
-    over : (front : List Placed) (l : ℕ) (t : Token) (behind : List Placed) → tokens ≡ front ++ (l, t) ∷ behind → (kind : IrFaultKind) → OrFirst Begins read Anything front t kind → OrFirst Begins parsing.entry_at Anything front t kind
-    over front l t behind there kind (inl why) = inl why
-    over front l t behind there kind (inr why) =
-        inr (reason_map _ _ _ _ _ _ _ _ t (maps_transferred (λ ts. true) (λ k i v a b. refl) true read parsing.entry_at (λ ts h. same_entry ts) (Unit {0}) (Unit {0}) (λ v. v) (λ v u h like. refl) Begins Begins Anything (λ v begins h. (inr (λ ending. refl), λ end text. refl)) (λ w d. refl) (λ w d. d) tokens refl front l t behind there) kind why)
+    over : (front : List Placed) (t : Placed) (behind : List Placed) → tokens ≡ front ++ t ∷ behind → (found : Fault IrFaultKind) → OrFirst Begins read Anything front t found → OrFirst Begins parsing.entry_at Anything front t found
+    over front t behind there found (inl why) = inl why
+    over front t behind there found (inr why) =
+        inr (reasons_moved (λ ts. true) (λ k i v a b. refl) true read parsing.entry_at (λ ts h. same_entry ts) (Unit {0}) (Unit {0}) (λ v. v) (λ v u h like. refl) Begins Begins Anything (λ w d. refl) (λ w d. d) tokens refl (λ v begins h. (inr (λ ending. refl), λ end text. refl)) front t behind there found why)
 
 -- ---- entries
 
 -- the reader may end behind the front
 abbrev pub EndsAt : {A : Type 0} → Reader A → Follow → List Placed → Type 0
-EndsAt {A} R F front = (x : A) × ((tokens : List Placed) → Next F tokens → R (front ++ tokens) ≡ Ok (x, tokens))
+EndsAt {A} R F front = (x : A) × ((t : Token) → F t → StopsAt R front x t)
 
 -- what a refusal says, or that the entries may end there, and the token begins none
 abbrev pub OrEnds : {A : Type 0} → Follow → Reader A → Follow → Why
-OrEnds E R F front t kind = (EndsAt R F front × (kind ≡ misfit places.Entry t)) ⊎ Reasons E R F front t kind
+OrEnds E R F front t found = (EndsAt R F front × (found.line ≡ t.0) × (found.kind ≡ misfit places.Entry t.1)) ⊎ Reasons E R F front t found
 
 entry_next : AsksNext parsing.begins_entry
 entry_next l k End a b = refl
@@ -145,45 +148,78 @@ entry_steps = steps_of (record { asks = entry_next; takes = entry-takes; ends = 
 abbrev pub Loop : List RawEntry → Reader (List RawEntry)
 Loop = repeat_at parsing.begins_entry (another_at parsing.entry_at)
 
+-- what is read as an entry is so whatever stands behind it
+entry-closes : Closes parsing.entry_at
+entry-closes tokens x e is = by tokens e (sym (same_entry tokens) ∙ is)
+  where
+    the_read : Read RawEntry → Read RawEntry
+    the_read r = r
+
+    Found : List Placed → RawEntry × List Placed → Type 0
+    Found ts y = (t : Placed) × (front : List Placed) × (ts ≡ t ∷ (front ++ y.1)) × ((others : List Placed) → parsing.entry_at (t ∷ (front ++ others)) ≡ Ok (y.0, others))
+
+    by : (ts : List Placed) → Ended ts → (entry_token_at >>= behind_entry) ts ≡ Ok x → Found ts x
+    by [] e read = absurd e
+    by ((line, Kept text) ∷ rest) e read = read_as (Found ((line, Kept text) ∷ rest)) (entries.Kept text, rest) x read ((line, Kept text), [], refl, λ others. same_entry ((line, Kept text) ∷ others))
+    by ((line, Word word) ∷ rest) e read = of (bytes_eq word (codes "define")) refl
+      where
+        of : (b : Bool) → bytes_eq word (codes "define") ≡ b → Found ((line, Word word) ∷ rest) x
+        of true h =
+            let defined : (more : List Placed) → (entry_token_at >>= behind_entry) ((line, Word word) ∷ more) ≡ behind_entry None more = (λ more. rw h refl) in
+            let behind : behind_entry None rest ≡ Ok x = sym (defined rest) ∙ read in
+            let c = closes_done function-closes entries.Function rest x (ended_behind (line, Word word) rest refl e) behind in (
+              (line, Word word),
+              c.0 ∷ c.1,
+              ap (λ (ts : List Placed). (line, Word word) ∷ ts) c.2,
+              λ others. same_entry ((line, Word word) ∷ c.0 ∷ (c.1 ++ others)) ∙ defined (c.0 ∷ (c.1 ++ others)) ∙ c.3 others,
+            )
+        of false h =
+            let refused : (entry_token_at >>= behind_entry) ((line, Word word) ∷ rest) ≡ Err (fault line (LeftOut word)) = rw h refl in
+            let both : the_read (Err (fault line (LeftOut word))) ≡ the_read (Ok x) = sym refused ∙ read in absurd cc
+    by (t ∷ rest) e read = absurd cc
+
+pub another-closes : (before : List RawEntry) → Closes (another_at parsing.entry_at before)
+another-closes before = closes_done entry-closes (λ x. before ++ x ∷ [])
+
 -- another entry, behind those in front
 pub another_outcome : (before : List RawEntry) (tokens : List Placed) → Ended tokens
     → Outcome Begins (another_at parsing.entry_at before) Anything (OrFirst Begins (another_at parsing.entry_at before) Anything) tokens (another_at parsing.entry_at before tokens)
 another_outcome before tokens e =
     outcome_both (Unit {0}) (Unit {0}) (Unit {0}) Begins Anything Anything parsing.entry_at (λ x. done (before ++ x ∷ [])) (OrFirst Begins parsing.entry_at Anything) (λ x. Reasons Anything (done (before ++ x ∷ [])) Anything) (OrFirst Begins (another_at parsing.entry_at before) Anything) tokens
     (record {
-      first = λ front l t behind there kind why. first front t kind why;
-      second = λ x is o front l t behind there kind why.
-          inr (reason_map _ _ _ _ _ _ _ _ t (maps_second (Unit {0}) (Unit {0}) Begins Anything Anything parsing.entry_at (λ y. done (before ++ y ∷ [])) (λ y. (last y).sample) tokens x o front l t behind there) kind why);
+      first = λ front t behind there found why. first front t found why;
+      second = λ x is o front t behind there found why.
+          inr (reasons_second (Unit {0}) (Unit {0}) Begins Anything Anything parsing.entry_at (λ y. done (before ++ y ∷ [])) (λ y. (last y).sample) tokens x o front t behind there found why);
     })
     (λ x is o found p failed left. absurd cc) (λ x. (last x).sample) (parsing.entry_at tokens) refl (entry_outcome tokens e) (λ x is ended. (last x.0).outcome x.1 ended)
   where
     last : (x : RawEntry) → Good Anything (done (before ++ x ∷ [])) Anything
     last x = done-good (λ t d. d) (before ++ x ∷ [])
 
-    first : (front : List Placed) (t : Token) (kind : IrFaultKind) → OrFirst Begins parsing.entry_at Anything front t kind → OrFirst Begins (another_at parsing.entry_at before) Anything front t kind
-    first front t kind (inl why) = inl why
-    first front t kind (inr why) =
-        inr (reason_map _ _ _ _ _ _ _ _ t (maps_first (Unit {0}) Begins Anything Anything parsing.entry_at (λ x. done (before ++ x ∷ [])) (λ x. (last x).sample) front t) kind why)
+    first : (front : List Placed) (t : Placed) (found : Fault IrFaultKind) → OrFirst Begins parsing.entry_at Anything front t found → OrFirst Begins (another_at parsing.entry_at before) Anything front t found
+    first front t found (inl why) = inl why
+    first front t found (inr why) = inr (reasons_first (Unit {0}) Begins Anything Anything parsing.entry_at (λ x. done (before ++ x ∷ [])) (λ x. (last x).sample) front t found why)
 
 ends_first : (a : List RawEntry) (front : List Placed) → front ≡ [] → EndsAt (Loop a) Ends front
 ends_first a front none =
-    (a, λ tokens next. subst (λ (f : List Placed). Loop a (f ++ tokens) ≡ Ok (a, tokens)) (sym none) (repeat-done parsing.begins_entry (another_at parsing.entry_at) a tokens (tested_next parsing.begins_entry entry_next false tokens next)))
+    (a, λ t ends more. subst (λ (f : List Placed). Loop a (f ++ (0, t) ∷ more) ≡ Ok (a, (0, t) ∷ more)) (sym none) (repeat-done parsing.begins_entry (another_at parsing.entry_at) a ((0, t) ∷ more) (entry_next 0 0 t more [] ∙ ends)))
 
 -- where entries may end behind an entry, they may behind both
 ends_second : (a : List RawEntry) (tokens : List Placed) (x : List RawEntry × List Placed) → parsing.begins_entry tokens ≡ true → another_at parsing.entry_at a tokens ≡ Ok x → (o : IsReadIf (Unit {0}) Begins (another_at parsing.entry_at a) Anything (Unit {0}) tokens x.0 x.1)
     (front : List Placed) (u : Placed) (behind : List Placed) → x.1 ≡ front ++ u ∷ behind → EndsAt (Loop x.0) Ends front → EndsAt (Loop a) Ends (o.front ++ front)
 ends_second a tokens x next is o front u behind there (all, ends) = (
   all,
-  λ ts last.
-      let one : another_at parsing.entry_at a (o.front ++ (front ++ ts)) ≡ Ok (x.0, front ++ ts) = stops (another_at parsing.entry_at a) o.front x.0 (front ++ ts) (stopped front there ts last) in
+  λ t last more.
+      let ts : List Placed = (0, t) ∷ more in
+      let one : another_at parsing.entry_at a (o.front ++ (front ++ ts)) ≡ Ok (x.0, front ++ ts) = stops (another_at parsing.entry_at a) o.front x.0 (front ++ ts) (stopped front there t more) in
       let begun : parsing.begins_entry (o.front ++ (front ++ ts)) ≡ true =
       begun_test parsing.begins_entry entry_next true o.front x.1 (front ++ ts) (subst (λ (f : List Placed). parsing.begins_entry f ≡ true) o.there next) (λ none. absurd (some o.front none o.there)) in
-      ap (Loop a) (append_assoc o.front front ts) ∙ one_step parsing.begins_entry (another_at parsing.entry_at) entry_steps.takes a (o.front ++ (front ++ ts)) begun ∙ read_on (o.front ++ (front ++ ts)) (front ++ ts) one ∙ ends ts last,
+      ap (Loop a) (append_assoc o.front front ts) ∙ one_step parsing.begins_entry (another_at parsing.entry_at) entry_steps.takes a (o.front ++ (front ++ ts)) begun ∙ read_on (o.front ++ (front ++ ts)) (front ++ ts) one ∙ ends t last more,
 )
   where
-    stopped : (f : List Placed) → x.1 ≡ f ++ u ∷ behind → (ts : List Placed) → Next Ends ts → Next (StopsAt (another_at parsing.entry_at a) o.front x.0) (f ++ ts)
-    stopped [] same ts last = next_map Ends (StopsAt (another_at parsing.entry_at a) o.front x.0) ts (λ t d. o.follows t tt) last
-    stopped ((l, v) ∷ f) same ts last = subst (Next (StopsAt (another_at parsing.entry_at a) o.front x.0)) same o.stopped
+    stopped : (f : List Placed) → x.1 ≡ f ++ u ∷ behind → (t : Token) (more : List Placed) → StopsBefore (another_at parsing.entry_at a) o.front x.0 (f ++ (0, t) ∷ more)
+    stopped [] same t more = o.follows t tt
+    stopped (v ∷ f) same t more = subst (StopsBefore (another_at parsing.entry_at a) o.front x.0) same o.stopped
 
     some : (f : List Placed) → f ≡ [] → tokens ≡ f ++ x.1 → ⊥
     some [] none same = let fewer : length x.1 < length tokens = entry_steps.takes a tokens x next is in omega (arith, ap length same)
@@ -195,21 +231,21 @@ ends_second a tokens x next is o front u behind there (all, ends) = (
 entry_lifts : (E : Follow) → ((t : Token) → Begins t → E t) → (a : List RawEntry) (tokens : List Placed) → parsing.begins_entry tokens ≡ true
     → Lifts (Unit {0}) (Unit {0}) Begins Anything Ends (another_at parsing.entry_at a) Loop (OrFirst Begins (another_at parsing.entry_at a) Anything) (λ x. OrEnds Anything (Loop x) Ends) (OrEnds E (Loop a) Ends) tokens
 entry_lifts E enters a tokens next = record {
-  first = λ front l t behind there kind why. first front l t behind there kind why;
-  second = λ x is o front l t behind there kind why. second x is o front l t behind there kind why;
+  first = λ front t behind there found why. first front t behind there found why;
+  second = λ x is o front t behind there found why. second x is o front t behind there found why;
 }
   where
     lifts : Lifts (Unit {0}) (Unit {0}) Begins Anything Ends (another_at parsing.entry_at a) Loop (Reasons Begins (another_at parsing.entry_at a) Anything) (λ x. Reasons Anything (Loop x) Ends) (Reasons E (Loop a) Ends) tokens
     lifts = loop_lifts (Unit {0}) Anything Ends (Unit {0}) parsing.begins_entry (another_at parsing.entry_at) entry_steps E enters a tokens next
 
-    first : (front : List Placed) (l : ℕ) (t : Token) (behind : List Placed) → tokens ≡ front ++ (l, t) ∷ behind → (kind : IrFaultKind) → OrFirst Begins (another_at parsing.entry_at a) Anything front t kind → OrEnds E (Loop a) Ends front t kind
-    first front l t behind there kind (inl why) = inl (ends_first a front why.0, why.1)
-    first front l t behind there kind (inr why) = inr (lifts.first front l t behind there kind why)
+    first : (front : List Placed) (t : Placed) (behind : List Placed) → tokens ≡ front ++ t ∷ behind → (found : Fault IrFaultKind) → OrFirst Begins (another_at parsing.entry_at a) Anything front t found → OrEnds E (Loop a) Ends front t found
+    first front t behind there found (inl why) = inl (ends_first a front why.0, why.1, why.2)
+    first front t behind there found (inr why) = inr (lifts.first front t behind there found why)
 
-    second : (x : List RawEntry × List Placed) → another_at parsing.entry_at a tokens ≡ Ok x → (o : IsReadIf (Unit {0}) Begins (another_at parsing.entry_at a) Anything (Unit {0}) tokens x.0 x.1) (front : List Placed) (l : ℕ) (t : Token) (behind : List Placed) → x.1 ≡ front ++ (l, t) ∷ behind
-        → (kind : IrFaultKind) → OrEnds Anything (Loop x.0) Ends front t kind → OrEnds E (Loop a) Ends (o.front ++ front) t kind
-    second x is o front l t behind there kind (inl why) = inl (ends_second a tokens x next is o front (l, t) behind there why.0, why.1)
-    second x is o front l t behind there kind (inr why) = inr (lifts.second x is o front l t behind there kind why)
+    second : (x : List RawEntry × List Placed) → another_at parsing.entry_at a tokens ≡ Ok x → (o : IsReadIf (Unit {0}) Begins (another_at parsing.entry_at a) Anything (Unit {0}) tokens x.0 x.1) (front : List Placed) (t : Placed) (behind : List Placed) → x.1 ≡ front ++ t ∷ behind
+        → (found : Fault IrFaultKind) → OrEnds Anything (Loop x.0) Ends front t found → OrEnds E (Loop a) Ends (o.front ++ front) t found
+    second x is o front t behind there found (inl why) = inl (ends_second a tokens x next is o front t behind there why.0, why.1, why.2)
+    second x is o front t behind there found (inr why) = inr (lifts.second x is o front t behind there found why)
 
 -- what may follow entries
 abbrev pub EndsText : Follow

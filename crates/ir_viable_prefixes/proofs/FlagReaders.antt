@@ -4,6 +4,7 @@ use Rattle.std.proofs.lemmas.List.{append-nil, append_cancel_right}
 use Rattle.ops.specs.declared.opcode.Flags.{Flags}
 use Rattle.ops.specs.Flags.{no_flags}
 use Rattle.ir_tokens.specs.Tokens.{Token, Placed, Word, Mark}
+use Rattle.refusal.specs.declared.fault.Fault.{Fault}
 use Rattle.ir_tokens.specs.declared.fault.IrFaultKind.{IrFaultKind}
 use Rattle.ir_tokens.specs.declared.fault.IrFaultKind.TheVariants.{Syntax, LeftOut}
 use Rattle.ir_instructions.specs.declared.word.Ending.{Ending}
@@ -15,18 +16,17 @@ use Rattle.ir_instructions.specs.InstructionReaders as parsing
 use Rattle.ir_instructions.specs.Parts.{Is, Each}
 use Rattle.ir_instructions.specs.Places.{begins_record}
 use Rattle.ir_instructions.specs.Readers.{Read, Reader, fault, ◌>>=◌, repeat_at}
-use Rattle.ir_instructions.proofs.Loops.{repeat-is}
+use Rattle.ir_instructions.proofs.Loops.{repeat-is, repeat-more, repeat-done}
 use Rattle.ir_instructions.specs.Keywords.{ending_word, type_in}
 use Rattle.ir_instructions.proofs.Steps.{bind_ok, read_as, same_front}
 use Rattle.ops.specs.FlagKeywords.{flag_in, flag_keyword, has_flag, with_flag}
 use Rattle.ir_instructions.proofs.Takings.{flag-takes}
 use Rattle.ir_instructions.proofs.WordLemmas.{type_is_no_flag}
 use Rattle.ops.proofs.FlagKeywordLemmas.{flag_in-is}
-use Rattle.ir_viable_prefixes.specs.Misfits.{RepeatsFlag, IsRepeated}
 use Rattle.ir_viable_prefixes.proofs.Choices.{AsksNext, Tested, Opens, SaysOfRecords}
-use Rattle.ir_viable_prefixes.proofs.Outcomes.{Follow, Anything, Ended, Why, Reasons, Lifts, OutcomeIf, Takes, takes, refuses, taken, repeats_behind, outcome_map, GoodIf, Sample, sample_both, RefusesAt, CompletesBegun, OutcomesIf, ReasonsIf, reasons_lift, outcome_both}
-use Rattle.ir_viable_prefixes.proofs.FlagRuns.{NoFlag, NoFlagNext, IsLeft, leaves_both, new_behind}
-use Rattle.ir_viable_prefixes.proofs.Reasons.{like_word, like_type, like_function, like_width, like_number}
+use Rattle.ir_viable_prefixes.proofs.Outcomes.{Follow, Anything, Ended, Why, Reasons, Lifts, IsReadIf, IsRefused, New, free_second, OutcomeIf, Takes, takes, refuses, taken, repeats_behind, GoodIf, Sample, sample_both, Fit, Bad, Again, RefusesAt, RefusesEach, CompletesBegun, ReasonsIf, reasons_second, fits_first, ◌then◌, outcome_both}
+use Rattle.ir_viable_prefixes.proofs.FlagRuns.{FollowsFlag, IsAgain, NoFlag, NoFlagNext, IsLeft, leaves_both, new_behind}
+use Rattle.ir_viable_prefixes.proofs.Reasons.{a_type, a_pred, Reason, like_word, like_type, like_function, like_width, like_number}
 use Rattle.ir_viable_prefixes.proofs.Repeats.{Steps, loop_sample, repeat_outcomes}
 
 abbrev pub NotFlag : Flags → Follow
@@ -89,7 +89,7 @@ flag_steps set = record { asks = flag_next set; takes = flag-takes set; ends = �
 
 -- the token is a flag that is there already
 abbrev IsThere : Flags → Why
-IsThere before front t kind = (front ≡ []) × (w : List ℕ) × (flag : Flag) × (t ≡ Word w) × (w ≡ flag_keyword flag) × (has_flag before flag ≡ true) × (kind ≡ Syntax)
+IsThere before front t found = (front ≡ []) × (w : List ℕ) × (flag : Flag) × (t.1 ≡ Word w) × (w ≡ flag_keyword flag) × (has_flag before flag ≡ true) × (found.line ≡ t.0) × (found.kind ≡ Syntax)
 
 flag_outcome : (set : Flags) (before : Flags) (tokens : List Placed) → Ended tokens → parsing.is_flag set tokens ≡ true → OutcomeIf ⊥ (IsFlag set) (parsing.flag_at set before) Anything (Unit {0}) (IsThere before) tokens (parsing.flag_at set before tokens)
 unfolding parsing.flag_at
@@ -97,7 +97,7 @@ flag_outcome set before [] e next = absurd e
 flag_outcome set before ((line, Word w) ∷ rest) e next = by (flag_in set w) refl
   where
     one : (flag : Flag) (b : Bool) → flag_in set w ≡ Some flag → has_flag before flag ≡ b → Takes (parsing.flag_at set before) (IsThere before) line (Word w)
-    one flag true h k = refuses Syntax (refl, w, flag, refl, (flag_in-is set w flag h).0, k, refl) (λ more. rw (h, k) refl)
+    one flag true h k = refuses (fault line Syntax) (refl, w, flag, refl, (flag_in-is set w flag h).0, k, refl, refl) (λ more. rw (h, k) refl)
     one flag false h k = takes (with_flag before flag) refl (λ more. rw (h, k) refl)
 
     by : (flag : Option Flag) → flag_in set w ≡ flag → OutcomeIf ⊥ (IsFlag set) (parsing.flag_at set before) Anything (Unit {0}) (IsThere before) ((line, Word w) ∷ rest) (parsing.flag_at set before ((line, Word w) ∷ rest))
@@ -108,19 +108,30 @@ flag_outcome set before ((line, t) ∷ rest) e next = absurd cc
 abbrev the_read : {A : Type 0} → A × List Placed → Read A
 the_read x = Ok x
 
--- the flag that a step reads
-flag_step : (set : Flags) (before : Flags) (tokens : List Placed) (x : Flags × List Placed) → parsing.flag_at set before tokens ≡ Ok x → (l : ℕ) × (f : Flag) × (tokens ≡ (l, Word (flag_keyword f)) ∷ x.1) × (x.0 ≡ with_flag before f)
+-- the flag that a step reads, whatever stands behind it
+flag_step : (set : Flags) (before : Flags) (tokens : List Placed) (x : Flags × List Placed) → parsing.flag_at set before tokens ≡ Ok x
+    → (l : ℕ) × (f : Flag) × (tokens ≡ (l, Word (flag_keyword f)) ∷ x.1) × (x.0 ≡ with_flag before f) × ((more : List Placed) → parsing.flag_at set before ((l, Word (flag_keyword f)) ∷ more) ≡ Ok (x.0, more))
 unfolding parsing.flag_at
 flag_step set before ((line, Word w) ∷ rest) x is = by (flag_in set w) refl
   where
-    one : (flag : Flag) (b : Bool) → flag_in set w ≡ Some flag → has_flag before flag ≡ b → (l : ℕ) × (f : Flag) × ((line, Word w) ∷ rest ≡ (l, Word (flag_keyword f)) ∷ x.1) × (x.0 ≡ with_flag before f)
+    Stepped : List ℕ → Type 0
+    Stepped v = (l : ℕ) × (f : Flag) × ((line, Word v) ∷ rest ≡ (l, Word (flag_keyword f)) ∷ x.1) × (x.0 ≡ with_flag before f) × ((more : List Placed) → parsing.flag_at set before ((l, Word (flag_keyword f)) ∷ more) ≡ Ok (x.0, more))
+
+    one : (flag : Flag) (b : Bool) → flag_in set w ≡ Some flag → has_flag before flag ≡ b → Stepped w
     one flag true h k = let none : parsing.flag_at set before ((line, Word w) ∷ rest) ≡ Err (fault line Syntax) = rw (h, k) refl in absurd cc
     one flag false h k =
-        let read : parsing.flag_at set before ((line, Word w) ∷ rest) ≡ Ok (with_flag before flag, rest) = rw (h, k) refl in
-        let same : the_read (with_flag before flag, rest) ≡ the_read x = sym read ∙ is in
-        (line, flag, same_front line w (flag_keyword flag) rest x.1 (flag_in-is set w flag h).0 (read_as (λ y. rest ≡ y.1) (with_flag before flag, rest) x same refl), read_as (λ y. y.0 ≡ with_flag before flag) (with_flag before flag, rest) x same refl)
+        let reads : (more : List Placed) → parsing.flag_at set before ((line, Word w) ∷ more) ≡ Ok (with_flag before flag, more) = (λ more. rw (h, k) refl) in
+        let same : the_read (with_flag before flag, rest) ≡ the_read x = sym (reads rest) ∙ is in
+        let keyword : w ≡ flag_keyword flag = (flag_in-is set w flag h).0 in (
+          line,
+          flag,
+          same_front line w (flag_keyword flag) rest x.1 keyword (read_as (λ y. rest ≡ y.1) (with_flag before flag, rest) x same refl),
+          read_as (λ y. y.0 ≡ with_flag before flag) (with_flag before flag, rest) x same refl,
+          subst (λ (v : List ℕ). (more : List Placed) → parsing.flag_at set before ((line, Word v) ∷ more) ≡ Ok (x.0, more)) keyword
+              (read_as (λ y. (more : List Placed) → parsing.flag_at set before ((line, Word w) ∷ more) ≡ Ok (y.0, more)) (with_flag before flag, rest) x same reads),
+        )
 
-    by : (flag : Option Flag) → flag_in set w ≡ flag → (l : ℕ) × (f : Flag) × ((line, Word w) ∷ rest ≡ (l, Word (flag_keyword f)) ∷ x.1) × (x.0 ≡ with_flag before f)
+    by : (flag : Option Flag) → flag_in set w ≡ flag → Stepped w
     by (Some flag) h = one flag (has_flag before flag) h refl
     by None h = let none : parsing.flag_at set before ((line, Word w) ∷ rest) ≡ Err (fault line Syntax) = rw h refl in absurd cc
 flag_step set before tokens x is = absurd cc
@@ -168,38 +179,84 @@ has_with before SameSign SameSign h = inr refl
 abbrev AreFlags : List Placed → Type 0
 AreFlags front = (flags : List Flag) × Each (λ f. Is (Word (flag_keyword f))) flags front []
 
--- the token is a flag that is there before, or among these
-abbrev IsThereOrRead : Flags → Why
-IsThereOrRead before front t kind =
-    (w : List ℕ) × (flag : Flag) × (t ≡ Word w) × (w ≡ flag_keyword flag) × (kind ≡ Syntax) × (RepeatsFlag front w ⊎ ((has_flag before flag ≡ true) × AreFlags front))
+-- flags, from those before on
+abbrev FlagsFrom : Flags → Flags → Reader Flags
+FlagsFrom set = repeat_at (parsing.is_flag set) (parsing.flag_at set)
 
-read_behind : (before after : Flags) (line : ℕ) (new : Flag) (front : List Placed) (t : Token) (kind : IrFaultKind) → after ≡ with_flag before new → IsThereOrRead after front t kind → IsThereOrRead before ((line, Word (flag_keyword new)) ∷ front) t kind
-read_behind before after line new front t kind is (w, flag, token, same, syntax, inl repeats) = (w, flag, token, same, syntax, inl (repeats_behind ((line, Word (flag_keyword new)) ∷ []) front w repeats))
-read_behind before after line new front t kind is (w, flag, token, same, syntax, inr (has, (flags, each))) =
-    (w, flag, token, same, syntax, by (has_with before new flag (subst (λ (f : Flags). has_flag f flag ≡ true) is has)))
+-- behind these a token that is none is left
+abbrev StopsAtNone : Flags → Flags → List Placed → Type 0
+StopsAtNone set before front = (u : Token) → NotFlag set u → (after : Flags) × ((more : List Placed) → FlagsFrom set before (front ++ (0, u) ∷ more) ≡ Ok (after, (0, u) ∷ more))
+
+stops_at_once : (set before : Flags) → StopsAtNone set before []
+stops_at_once set before u none = (before, λ more. repeat-done (parsing.is_flag set) (parsing.flag_at set) before ((0, u) ∷ more) (flag_next set 0 0 u more [] ∙ none))
+
+stops_behind : (set before after : Flags) (line : ℕ) (new : Flag) (front : List Placed) → ((more : List Placed) → parsing.flag_at set before ((line, Word (flag_keyword new)) ∷ more) ≡ Ok (after, more)) → IsFlag set (Word (flag_keyword new))
+    → StopsAtNone set after front → StopsAtNone set before ((line, Word (flag_keyword new)) ∷ front)
+stops_behind set before after line new front one next stops u none =
+    let s = stops u none in
+    (s.0, λ more. repeat-more (parsing.is_flag set) (parsing.flag_at set) (flag-takes set) before ((line, Word (flag_keyword new)) ∷ (front ++ (0, u) ∷ more)) (after, front ++ (0, u) ∷ more) (flag_next set line 0 (Word (flag_keyword new)) (front ++ (0, u) ∷ more) [] ∙ next) (one (front ++ (0, u) ∷ more)) ∙ s.1 more)
+
+-- the token is a flag that is there before, or among these
+abbrev IsThereOrRead : Flags → Flags → Why
+IsThereOrRead set before front t found =
+    ((w : List ℕ) × (flag : Flag) × (t.1 ≡ Word w) × (w ≡ flag_keyword flag) × (found.line ≡ t.0) × (found.kind ≡ Syntax) × (FollowsFlag front w ⊎ ((has_flag before flag ≡ true) × AreFlags front))) × StopsAtNone set before front
+
+read_behind : (set before after : Flags) (line : ℕ) (new : Flag) (front : List Placed) (t : Placed) (found : Fault IrFaultKind) → after ≡ with_flag before new
+    → ((more : List Placed) → parsing.flag_at set before ((line, Word (flag_keyword new)) ∷ more) ≡ Ok (after, more)) → IsFlag set (Word (flag_keyword new)) → IsThereOrRead set after front t found → IsThereOrRead set before ((line, Word (flag_keyword new)) ∷ front) t found
+read_behind set before after line new front t found is one next ((w, flag, token, same, place, syntax, r), stops) =
+    ((w, flag, token, same, place, syntax, by r), stops_behind set before after line new front one next stops)
   where
-    by : (has_flag before flag ≡ true) ⊎ (new ≡ flag) → RepeatsFlag ((line, Word (flag_keyword new)) ∷ front) w ⊎ ((has_flag before flag ≡ true) × AreFlags ((line, Word (flag_keyword new)) ∷ front))
-    by (inl old) = inr (old, (new ∷ flags, (front, (line, refl), each)))
-    by (inr now) = inl ([], (line, Word (flag_keyword new)) ∷ front, new, flags, refl, same ∙ ap flag_keyword (sym now), (front, (line, refl), each))
+    old_or_new : (flags : List Flag) → Each (λ f. Is (Word (flag_keyword f))) flags front [] → (has_flag before flag ≡ true) ⊎ (new ≡ flag) → FollowsFlag ((line, Word (flag_keyword new)) ∷ front) w ⊎ ((has_flag before flag ≡ true) × AreFlags ((line, Word (flag_keyword new)) ∷ front))
+    old_or_new flags each (inl old) = inr (old, (new ∷ flags, (front, (line, refl), each)))
+    old_or_new flags each (inr now) = inl ([], (line, Word (flag_keyword new)) ∷ front, new, flags, refl, same ∙ ap flag_keyword (sym now), (front, (line, refl), each))
+
+    by : FollowsFlag front w ⊎ ((has_flag after flag ≡ true) × AreFlags front) → FollowsFlag ((line, Word (flag_keyword new)) ∷ front) w ⊎ ((has_flag before flag ≡ true) × AreFlags ((line, Word (flag_keyword new)) ∷ front))
+    by (inl repeats) = inl (repeats_behind ((line, Word (flag_keyword new)) ∷ []) front w repeats)
+    by (inr (has, (flags, each))) = old_or_new flags each (has_with before new flag (subst (λ (f : Flags). has_flag f flag ≡ true) is has))
 
 flag_lifts : (set : Flags) (E : Follow) → ((t : Token) → IsFlag set t → E t) → (a : Flags) (tokens : List Placed) → parsing.is_flag set tokens ≡ true
-    → Lifts ⊥ (Unit {0}) (IsFlag set) Anything (NotFlag set) (parsing.flag_at set a) (repeat_at (parsing.is_flag set) (parsing.flag_at set)) (IsThere a) IsThereOrRead (IsThereOrRead a) tokens
+    → Lifts ⊥ (Unit {0}) (IsFlag set) Anything (NotFlag set) (parsing.flag_at set a) (FlagsFrom set) (IsThere a) (IsThereOrRead set) (IsThereOrRead set a) tokens
 flag_lifts set E enters a tokens next = record {
-  first = λ front l t behind there kind why.
-      (why.1, why.2, why.3, why.4, why.6, inr (why.5, subst AreFlags (sym why.0) ([], refl)));
-  second = λ x is o front l t behind there kind why.
+  first = λ front t behind there found why.
+      ((why.1, why.2, why.3, why.4, why.6, why.7, inr (why.5, subst AreFlags (sym why.0) ([], refl))), subst (StopsAtNone set a) (sym why.0) (stops_at_once set a));
+  second = λ x is o front t behind there found why.
       let s = flag_step set a tokens x is in
       let first : o.front ≡ (s.0, Word (flag_keyword s.1)) ∷ [] = append_cancel_right o.front ((s.0, Word (flag_keyword s.1)) ∷ []) x.1 (sym o.there ∙ s.2) in
-      subst (λ (ts : List Placed). IsThereOrRead a (ts ++ front) t kind) (sym first) (read_behind a x.0 s.0 s.1 front t kind s.3 why);
+      let flag : IsFlag set (Word (flag_keyword s.1)) = flag_next set 0 s.0 (Word (flag_keyword s.1)) [] x.1 ∙ subst (λ (us : List Placed). parsing.is_flag set us ≡ true) s.2 next in
+      subst (λ (ts : List Placed). IsThereOrRead set a (ts ++ front) t found) (sym first) (read_behind set a x.0 s.0 s.1 front t found s.3 s.4 flag why);
 }
 
-there_before : (set : Flags) (front : List Placed) (t : Token) (kind : IrFaultKind) → IsThereOrRead no_flags front t kind → Reasons Anything (parsing.flags_at set) (NotFlag set) front t kind
-there_before set front t kind (w, flag, token, same, syntax, r) = subst (Reasons Anything (parsing.flags_at set) (NotFlag set) front t) (sym syntax) (λ u like. inr (w, token, by flag r), λ begins. absurd (is_no_record t w token begins), λ bad. cc)
+-- a token of a reader behind flags fits where they are left
+fits_behind : {A : Type 0} (set : Flags) (S : Flags → Reader A) (front : List Placed) (u : Token) → StopsAtNone set no_flags front → ((x : Flags) → Fit (NotFlag set) (S x) Anything [] u) → Fit Anything (parsing.flags_at set >>= S) Anything front u
+unfolding parsing.flags_at
+fits_behind set S front u stops fits =
+    let s = stops u ((fits no_flags).1 refl) in
+    let fit = fits s.0 in
+    ((fit.0.0, fit.0.1, λ ts f. rw (s.1 (fit.0.1 ++ ts)) (fit.0.2 ts f)), λ none. tt)
+
+-- what the reader behind flags takes first
+abbrev pub TakesNoun : {A : Type 0} → Flags → Reader A → Type 0
+TakesNoun set R = Fit (NotFlag set) R Anything [] a_type ⊎ Fit (NotFlag set) R Anything [] a_pred
+
+there_again : {A : Type 0} (set : Flags) (S : Flags → Reader A) → ((x : Flags) → Fit (NotFlag set) (S x) Anything [] a_type) ⊎ ((x : Flags) → Fit (NotFlag set) (S x) Anything [] a_pred)
+    → (front : List Placed) (t : Placed) (found : Fault IrFaultKind) → IsThereOrRead set no_flags front t found → Reasons Anything (parsing.flags_at set >>= S) Anything front t found
+there_again set S nouns front t found ((w, flag, token, same, place, syntax, r), stops) =
+    inl (place, subst said (sym syntax) (λ u like. inr (w, token, (by flag r, noun nouns)), λ begins. absurd (is_no_record t.1 w token begins), λ bad. cc))
   where
+    said : IrFaultKind → Type 0
+    said =
+        Reason (Fit Anything (parsing.flags_at set >>= S) Anything front) (Bad (Unit {0}) (parsing.flags_at set >>= S) front) (Again Anything (parsing.flags_at set >>= S) Anything front)
+        (RefusesAt (parsing.flags_at set >>= S) front) t.1
+
+    noun : ((x : Flags) → Fit (NotFlag set) (S x) Anything [] a_type) ⊎ ((x : Flags) → Fit (NotFlag set) (S x) Anything [] a_pred)
+        → Fit Anything (parsing.flags_at set >>= S) Anything front a_type ⊎ Fit Anything (parsing.flags_at set >>= S) Anything front a_pred
+    noun (inl fits) = inl (fits_behind set S front a_type stops fits)
+    noun (inr fits) = inr (fits_behind set S front a_pred stops fits)
+
     is_no_record : (u : Token) (v : List ℕ) → u ≡ Word v → begins_record u ≡ true → ⊥
     is_no_record u v is begins = let no : begins_record u ≡ false = rw is refl in cc
 
-    by : (flag : Flag) → RepeatsFlag front w ⊎ ((has_flag no_flags flag ≡ true) × AreFlags front) → RepeatsFlag front w
+    by : (flag : Flag) → FollowsFlag front w ⊎ ((has_flag no_flags flag ≡ true) × AreFlags front) → FollowsFlag front w
     by flag (inl repeats) = repeats
     by Nuw (inr h) = let no = h.0 in absurd cc
     by Nsw (inr h) = let no = h.0 in absurd cc
@@ -212,11 +269,10 @@ flags_sample : (set : Flags) → Sample Anything (parsing.flags_at set) (NotFlag
 unfolding parsing.flags_at
 flags_sample set = loop_sample ⊥ Anything (NotFlag set) ⊥ (parsing.is_flag set) (parsing.flag_at set) (flag_steps set) Anything (λ t f. tt) no_flags
 
-flags_outcome : (set : Flags) → OutcomesIf (Unit {0}) Anything (parsing.flags_at set) (NotFlag set) ⊥
+flags_outcome : (set : Flags) (tokens : List Placed) → Ended tokens → OutcomeIf (Unit {0}) Anything (parsing.flags_at set) (NotFlag set) ⊥ (IsThereOrRead set no_flags) tokens (parsing.flags_at set tokens)
 unfolding parsing.flags_at
 flags_outcome set tokens e =
-    outcome_map (Unit {0}) Anything (parsing.flags_at set) (NotFlag set) ⊥ (IsThereOrRead no_flags) (Reasons Anything (parsing.flags_at set) (NotFlag set)) (there_before set) tokens (parsing.flags_at set tokens)
-    (repeat_outcomes ⊥ Anything (NotFlag set) ⊥ (parsing.is_flag set) (parsing.flag_at set) (flag_steps set) IsThere (λ E a. IsThereOrRead a) (flag_lifts set) (λ a ts x is o found p failed left. absurd (syntax_left p.why.4 left)) (flag_outcome set) (suc (length tokens)) Anything (λ t f. tt) (λ t n. tt) no_flags tokens (omega arith) e)
+    repeat_outcomes ⊥ Anything (NotFlag set) ⊥ (parsing.is_flag set) (parsing.flag_at set) (flag_steps set) IsThere (λ E a. IsThereOrRead set a) (flag_lifts set) (λ a ts x is o found p failed left. absurd (syntax_left p.why.0.5 left)) (flag_outcome set) (suc (length tokens)) Anything (λ t f. tt) (λ t n. tt) no_flags tokens (omega arith) e
   where
     syntax_left : {kind : IrFaultKind} → kind ≡ Syntax → IsLeft kind → ⊥
     syntax_left syntax (text, left) = let both : Syntax ≡ LeftOut text = sym syntax ∙ left in cc
@@ -244,7 +300,7 @@ flags_are set tokens x is =
         ((s.0, Word (flag_keyword s.1)) ∷ front, s.2 ∙ ap (λ (us : List Placed). (s.0, Word (flag_keyword s.1)) ∷ us) there, (flag, own))
 
 -- so the next token repeats none of them
-next_new : (set : Flags) (front : List Placed) (l : ℕ) (t : Token) (rest : List Placed) → AreOwn set front → parsing.is_flag set ((l, t) ∷ rest) ≡ false → ¬ IsRepeated front t
+next_new : (set : Flags) (front : List Placed) (l : ℕ) (t : Token) (rest : List Placed) → AreOwn set front → parsing.is_flag set ((l, t) ∷ rest) ≡ false → ¬ IsAgain front t
 next_new set front l t rest own none (w, is, (before, run, flag, flags, same, word, (between, (k, one), each))) =
     let there : front ≡ before ++ (k, Word (flag_keyword flag)) ∷ between = same ∙ ap (λ (ts : List Placed). before ++ ts) one in
     let next : IsFlag set (Word (flag_keyword flag)) = own_flag set before (k, Word (flag_keyword flag)) between (subst (AreOwn set) there own) in
@@ -254,36 +310,57 @@ next_new set front l t rest own none (w, is, (before, run, flag, flags, same, wo
     is_one : (b : Bool) → b ≡ true → b ≡ false → ⊥
     is_one b holds fails = cc
 
--- flags, and a reader behind them that takes none at once
-pub flags_then : {A : Type 0} {W : Type 0} (set : Flags) {S : Flags → Reader A} → ((x : Flags) → GoodIf ⊥ (NotFlag set) (S x) Anything W) → ((x : Flags) (flag : Flag) → RefusesAt (S x) [] (Word (flag_keyword flag))) → GoodIf (Unit {0}) Anything (parsing.flags_at set >>= S) Anything W
-flags_then {A} {W} set {S} s no_flags_at = record {
-  sample = sample_both Anything (NotFlag set) Anything (parsing.flags_at set) S (flags_sample set) (λ x. (s x).sample);
+-- flags, and behind them a reader that takes none at once, but a type or a predicate
+pub flags_then : {A B : Type 0} {V W : Type 0} (set : Flags) {R : Reader B} {S : Flags → B → Reader A} → GoodIf ⊥ (NotFlag set) R Anything V → ((x : Flags) (y : B) → GoodIf V Anything (S x y) Anything W) → ((flag : Flag) → RefusesEach R (Word (flag_keyword flag))) → TakesNoun set R
+    → GoodIf (Unit {0}) Anything (parsing.flags_at set >>= λ x. R >>= S x) Anything W
+flags_then {A} {B} {V} {W} set {R} {S} r s no_flags_at nouns = record {
+  sample = sample_both Anything (NotFlag set) Anything (parsing.flags_at set) Rest (flags_sample set) (λ x. (rest x).sample);
   outcome = λ tokens e.
-      outcome_both (Unit {0}) ⊥ W Anything (NotFlag set) Anything (parsing.flags_at set) S (Reasons Anything (parsing.flags_at set) (NotFlag set)) (λ x. ReasonsIf ⊥ (NotFlag set) (S x) Anything) (Reasons Anything (parsing.flags_at set >>= S) Anything) tokens
-      (reasons_lift (Unit {0}) ⊥ Anything (NotFlag set) Anything (parsing.flags_at set) S (λ x. (s x).sample) tokens) (λ x is o found p failed left. new tokens x is o.front o.there p.front found.line p.token p.behind p.there (p.new left) p.completes)
-      (λ x. (s x).sample) (parsing.flags_at set tokens) refl (flags_outcome set tokens e) (λ x is ended. (s x.0).outcome x.1 ended);
+      outcome_both (Unit {0}) ⊥ W Anything (NotFlag set) Anything (parsing.flags_at set) Rest (IsThereOrRead set no_flags) (λ x. ReasonsIf ⊥ (NotFlag set) (Rest x) Anything) (Reasons Anything (parsing.flags_at set >>= Rest) Anything) tokens
+      (record {
+        first = λ front t behind there found why. there_again set Rest (noun nouns) front t found why;
+        second = λ x is o front t behind there found why. reasons_second (Unit {0}) ⊥ Anything (NotFlag set) Anything (parsing.flags_at set) Rest (λ x. (rest x).sample) tokens x o front t behind there found why;
+      })
+      (λ x is o found p failed left. either tokens x is o found p (p.new left)) (λ x. (rest x).sample) (parsing.flags_at set tokens) refl (flags_outcome set tokens e) (λ x is ended. (rest x.0).outcome x.1 ended);
   apart = λ tokens y is.
-      let one = bind_ok (parsing.flags_at set tokens) S y is in
+      let one = bind_ok (parsing.flags_at set tokens) Rest y is in
       let a = flags_are set tokens one.0 one.1 in
-      leaves_both tokens one.0.1 y.1 (a.0.0, a.0.1, inr (next one.0.0 one.0.1 y one.2)) ((s one.0.0).apart one.0.1 y one.2);
+      leaves_both tokens one.0.1 y.1 (a.0.0, a.0.1, inr (next one.0.0 one.0.1 y one.2)) ((rest one.0.0).apart one.0.1 y one.2);
 }
   where
-    no_flag : (x : Flags) (l : ℕ) (t : Token) (more : List Placed) (y : A × List Placed) → S x ((l, t) ∷ more) ≡ Ok y → NoFlag t
+    Rest : Flags → Reader A
+    Rest x = R >>= S x
+
+    rest : (x : Flags) → GoodIf ⊥ (NotFlag set) (Rest x) Anything W
+    rest x = r then s x
+
+    noun : TakesNoun set R → ((x : Flags) → Fit (NotFlag set) (Rest x) Anything [] a_type) ⊎ ((x : Flags) → Fit (NotFlag set) (Rest x) Anything [] a_pred)
+    noun (inl fit) = inl (λ x. fits_first (NotFlag set) Anything Anything R (S x) (λ y. (s x y).sample) [] a_type fit)
+    noun (inr fit) = inr (λ x. fits_first (NotFlag set) Anything Anything R (S x) (λ y. (s x y).sample) [] a_pred fit)
+
+    no_flag : (x : Flags) (l : ℕ) (t : Token) (more : List Placed) (y : A × List Placed) → Rest x ((l, t) ∷ more) ≡ Ok y → NoFlag t
     no_flag x l t more y read flag same =
-        let r = no_flags_at x flag l more in
-        let both : the_result (Err r.0) ≡ Ok y = sym r.1 ∙ ap (λ (u : Token). S x ((l, u) ∷ more)) (sym same) ∙ read in absurd cc
+        let one = bind_ok (R ((l, t) ∷ more)) (S x) y read in
+        let none = no_flags_at flag l more in
+        let both : the_result (Err none.0) ≡ Ok one.0 = sym none.1 ∙ ap (λ (u : Token). R ((l, u) ∷ more)) (sym same) ∙ one.1 in absurd cc
       where
-        the_result : Read A → Read A
+        the_result : Read B → Read B
         the_result q = q
 
-    next : (x : Flags) (tokens : List Placed) (y : A × List Placed) → S x tokens ≡ Ok y → NoFlagNext tokens
+    next : (x : Flags) (tokens : List Placed) (y : A × List Placed) → Rest x tokens ≡ Ok y → NoFlagNext tokens
     next x [] y read = tt
     next x ((l, t) ∷ more) y read = no_flag x l t more y read
 
     new : (tokens : List Placed) (x : Flags × List Placed) → parsing.flags_at set tokens ≡ Ok x → (first : List Placed) → tokens ≡ first ++ x.1 → (front : List Placed) (l : ℕ) (t : Token) (behind : List Placed) → x.1 ≡ front ++ (l, t) ∷ behind
-        → ¬ IsRepeated front t → CompletesBegun (S x.0) Anything front → ¬ IsRepeated (first ++ front) t
+        → ¬ IsAgain front t → CompletesBegun (Rest x.0) Anything front → ¬ IsAgain (first ++ front) t
     new tokens x is first whole [] l t behind there none c =
         let a = flags_are set tokens x is in
         let same : a.0.0 ≡ first = append_cancel_right a.0.0 first x.1 (sym a.0.1 ∙ whole) in
-        subst (λ (f : List Placed). ¬ IsRepeated f t) (sym (append-nil first)) (next_new set first l t behind (subst (AreOwn set) same a.0.2) (subst (λ (ts : List Placed). parsing.is_flag set ts ≡ false) there a.1))
-    new tokens x is first whole ((k, u) ∷ front) l t behind there none c = new_behind first ((k, u) ∷ front) l t behind (inr (no_flag x.0 k u (front ++ (c.1 ++ (k, u) ∷ [])) (c.0, (k, u) ∷ []) (c.2 ((k, u) ∷ []) tt))) none
+        subst (λ (f : List Placed). ¬ IsAgain f t) (sym (append-nil first)) (next_new set first l t behind (subst (AreOwn set) same a.0.2) (subst (λ (ts : List Placed). parsing.is_flag set ts ≡ false) there a.1))
+    new tokens x is first whole ((k, u) ∷ front) l t behind there none c =
+        new_behind first ((k, u) ∷ front) l t behind (inr (no_flag x.0 k u (front ++ (c.1 ++ (k, u) ∷ [])) (c.0, (k, u) ∷ []) (c.2 ((k, u) ∷ []) tt))) none
+
+    either : (tokens : List Placed) (x : Flags × List Placed) → parsing.flags_at set tokens ≡ Ok x → (o : IsReadIf (Unit {0}) Anything (parsing.flags_at set) (NotFlag set) ⊥ tokens x.0 x.1) (found : Fault IrFaultKind) (p : IsRefused ⊥ (Rest x.0) Anything (ReasonsIf ⊥ (NotFlag set) (Rest x.0) Anything) x.1 found)
+        → New ⊥ (Rest x.0) p.front p.token.1 → New (Unit {0}) (parsing.flags_at set >>= Rest) (o.front ++ p.front) p.token.1
+    either tokens x is o found p (inl none) = inl (new tokens x is o.front o.there p.front p.token.0 p.token.1 p.behind p.there none p.completes)
+    either tokens x is o found p (inr free) = inr (free_second (Unit {0}) ⊥ Anything (NotFlag set) (parsing.flags_at set) Rest tokens x o p.front p.token p.behind p.there free)

@@ -11,7 +11,15 @@ use Rattle.ir_instructions.proofs.Loops.{repeat-is}
 use Rattle.ir_instructions.proofs.Steps.{bind_ok, read_as}
 use Rattle.ops.specs.declared.keywords.flag.Flag.{Flag}
 use Rattle.ops.specs.FlagKeywords.{flag_keyword}
-use Rattle.ir_viable_prefixes.specs.Misfits.{IsRepeated}
+
+-- flags stand last, of which the first is this word
+abbrev pub FollowsFlag : List Placed → List ℕ → Type 0
+FollowsFlag front word =
+    (before behind : List Placed) × (flag : Flag) × (flags : List Flag) × (front ≡ before ++ behind) × (word ≡ flag_keyword flag)
+    × Each (λ f. Is (Word (flag_keyword f))) (flag ∷ flags) behind []
+
+abbrev pub IsAgain : List Placed → Token → Type 0
+IsAgain front token = (word : List ℕ) × (token ≡ Word word) × FollowsFlag front word
 
 abbrev pub NoFlag : Token → Type 0
 NoFlag t = (flag : Flag) → t ≡ Word (flag_keyword flag) → ⊥
@@ -59,7 +67,7 @@ parted_tail u [] rest p = inl tt
 parted_tail u (v ∷ first) rest p = p
 
 -- flags that stand last stand all behind where the tokens are parted
-pub new_behind : (first front : List Placed) (line : ℕ) (t : Token) (behind : List Placed) → Parted first (front ++ (line, t) ∷ behind) → ¬ IsRepeated front t → ¬ IsRepeated (first ++ front) t
+pub new_behind : (first front : List Placed) (line : ℕ) (t : Token) (behind : List Placed) → Parted first (front ++ (line, t) ∷ behind) → ¬ IsAgain front t → ¬ IsAgain (first ++ front) t
 new_behind [] front line t behind parted new again = new again
 new_behind (u ∷ first) front line t behind parted new (w, is, ([], run, flag, flags, same, word, each)) = by parted
   where
@@ -72,7 +80,7 @@ new_behind (u ∷ first) front line t behind parted new (w, is, ([], run, flag, 
 new_behind (u ∷ first) front line t behind parted new (w, is, (v ∷ before, run, flag, flags, same, word, each)) =
     new_behind first front line t behind (parted_tail u first (front ++ (line, t) ∷ behind) parted) new (w, is, (before, run, flag, flags, cc, word, each))
 
-pub none_repeated : (t : Token) → ¬ IsRepeated [] t
+pub none_repeated : (t : Token) → ¬ IsAgain [] t
 none_repeated t (w, is, (before, run, flag, flags, same, word, (between, (l, one), each))) = by before (same ∙ ap (λ (ts : List Placed). before ++ ts) one)
   where
     by : (before : List Placed) → [] ≡ before ++ (l, Word (flag_keyword flag)) ∷ between → ⊥
@@ -84,6 +92,27 @@ none_repeated t (w, is, (before, run, flag, flags, same, word, (between, (l, one
 -- what it reads is parted from what it leaves
 abbrev pub ReadsApart : {A : Type 0} → Reader A → Type 0
 ReadsApart {A} R = (tokens : List Placed) (x : A × List Placed) → R tokens ≡ Ok x → (front : List Placed) × (tokens ≡ front ++ x.1) × Parted front x.1
+
+-- what it reads is some tokens
+abbrev pub Splits : {A : Type 0} → Reader A → Type 0
+Splits {A} R = (tokens : List Placed) (x : A × List Placed) → R tokens ≡ Ok x → (front : List Placed) × (tokens ≡ front ++ x.1)
+
+pub apart_splits : {A : Type 0} {R : Reader A} → ReadsApart R → Splits R
+apart_splits r tokens x is = let a = r tokens x is in (a.0, a.1)
+
+pub both_splits : {A B : Type 0} (R : Reader A) (S : A → Reader B) → Splits R → ((x : A) → Splits (S x)) → Splits (R >>= S)
+both_splits R S r s tokens y is =
+    let one = bind_ok (R tokens) S y is in
+    let a = r tokens one.0 one.1 in
+    let b = s one.0.0 one.0.1 y one.2 in
+    (a.0 ++ b.0, a.1 ∙ ap (λ (ts : List Placed). a.0 ++ ts) b.1 ∙ sym (append_assoc a.0 b.0 y.1))
+
+pub loop_splits : {A : Type 0} (is_next : List Placed → Bool) (step : A → Reader A) → ((a : A) → Splits (step a)) → (a : A) → Splits (repeat_at is_next step a)
+loop_splits {A} is_next step parts a tokens x is =
+    (repeat-is is_next step (λ b ts c rest. (front : List Placed) × (ts ≡ front ++ rest)) (λ b ts. ([], refl)) (λ b ts y c rest next one more. another b ts y rest one more) _ a tokens x is).0
+  where
+    another : (b : A) (ts : List Placed) (y : A × List Placed) (rest : List Placed) → step b ts ≡ Ok y → (front : List Placed) × (y.1 ≡ front ++ rest) → (front : List Placed) × (ts ≡ front ++ rest)
+    another b ts y rest one (front, there) = let a = parts b ts y one in (a.0 ++ front, a.1 ∙ ap (λ (us : List Placed). a.0 ++ us) there ∙ sym (append_assoc a.0 front rest))
 
 last_both : (first : List Placed) (u : Placed) (front : List Placed) → NoFlagLast (u ∷ front) → NoFlagLast (first ++ u ∷ front)
 last_both [] u front last = last

@@ -1,5 +1,5 @@
 -- Readers of blocks, parameters and functions.
-use Rattle.std.proofs.Common.{◌≡◌, ℕ, Bool, true, false, eqb, List, [], ◌∷◌, Option, Some, None, Ok, Err, refl, sym, subst, inl, inr}
+use Rattle.std.proofs.Common.{◌≡◌, ℕ, Bool, true, false, eqb, List, [], ◌∷◌, Option, Some, None, Ok, Err, refl, sym, subst, ◌⊎◌, inl, inr}
 use Rattle.std.specs.Prelude.{codes}
 use Rattle.std.proofs.lemmas.Bool.{eqb-true}
 use Rattle.scan.specs.Bytes as bytes
@@ -10,26 +10,36 @@ use Rattle.ir_tokens.specs.Tokens.{Token, Placed, Label, Word, Number, Register,
 use Rattle.ir_tokens.specs.declared.raw.RawBlock.{RawBlock}
 use Rattle.ir_tokens.specs.declared.raw.RawIdentifier.{RawIdentifier}
 use Rattle.ir_tokens.specs.declared.raw.RawParameter.{RawParameter}
+use Rattle.refusal.specs.declared.fault.Fault.{Fault}
+use Rattle.ir_tokens.specs.declared.fault.IrFaultKind.{IrFaultKind}
 use Rattle.ir_tokens.specs.declared.fault.IrFaultKind.TheVariants.{LeftOut}
 use Rattle.ir_instructions.specs.declared.place.Place.TheVariants as places
+use Rattle.ir_instructions.specs.CallReaders.{callee_named}
+use Rattle.ir_instructions.specs.Intrinsics.{intrinsic_in}
 use Rattle.ir_instructions.specs.InstructionReaders.{attachments_at, identified, insts_at, is_mark, is_metadata, is_register, tail_at, terminator_at}
 use Rattle.ir_instructions.specs.Places.{begins_record, misfit}
 use Rattle.ir_instructions.specs.Readers.{Read, Reader, fault, unexpected, ◌>>=◌, done, each_at}
-use Rattle.ir_instructions.specs.Keywords.{ending_word, type_in}
+use Rattle.ops.specs.declared.comparison.Pred.{Pred}
+use Rattle.ops.specs.declared.comparison.Pred.TheVariants as preds
+use Rattle.ops.specs.declared.keywords.flag.Flag.{Flag}
+use Rattle.ops.specs.declared.keywords.flag.Flag.TheVariants as flags
+use Rattle.ops.specs.Keywords.{predicate_keyword}
+use Rattle.ir_tokens.specs.declared.raw.RawTerminator.{RawTerminator}
+use Rattle.ir_instructions.specs.Keywords.{ending_in, ending_word, type_in}
 use Rattle.ir_instructions.specs.Punctuation as marks
 use Rattle.ir_instructions.specs.Items.{is_item_word}
 use Rattle.ir_parse.specs.ModuleReaders as parsing
 use Rattle.ir_parse.proofs.TakingParts.{block-takes, parameter-takes}
 use Rattle.ops.specs.FlagKeywords.{flag_keyword}
-use Rattle.ir_viable_prefixes.specs.Misfits.{RepeatsFlag}
 use Rattle.ir_viable_prefixes.proofs.Choices.{AsksNext, Tested, Opens, SaysOfRecords, reasons_transferred, either-good}
-use Rattle.ir_viable_prefixes.proofs.Instructions.{insts-good}
+use Rattle.ir_viable_prefixes.proofs.Closed.{Closes, closes_behind, closes_done, mark_closes}
+use Rattle.ir_viable_prefixes.proofs.Instructions.{insts-open}
 use Rattle.ir_viable_prefixes.proofs.Items.{FollowsLast, items-good, last_items-good}
-use Rattle.ir_viable_prefixes.proofs.Outcomes.{Follow, Next, next_map, Anything, Ended, StopsAt, Halts, CompletesBegun, Fit, RefusesAt, Bad, Why, Reasons, Outcome, Takes, takes, refuses, fits_alone, one_token, MayTake, may_take, leaves, token_or_none, Good, done-good, ◌then◌, TakesNoFlag, LeavesFlags}
-use Rattle.ir_viable_prefixes.proofs.Reasons.{a_type, an_end, a_group, NoRecord, Like, like_word, like_type, like_function, like_width, like_number, reason_map, fixed_reason, function_reason}
+use Rattle.ir_viable_prefixes.proofs.Outcomes.{Again, Follow, Next, next_map, Anything, Ended, StopsEach, Halts, CompletesBegun, Fit, FitsEnd, RefusesAt, Bad, NoValue, no_number, no_word, no_truth_value, no_group, no_quoted, a_truth, no_truth, InCall, of_callee, of_value, of_truth, Why, Reasons, Outcome, RefusesEach, Apart, behind_open, Takes, takes, refuses, fits_alone, one_token, MayTake, may_take, leaves, token_or_none, Good, GoodOpen, done-good, ◌then◌, TakesNoFlag, LeavesFlags}
+use Rattle.ir_viable_prefixes.proofs.Reasons.{a_type, a_pred, an_end, a_group, NoRecord, Like, like_word, like_type, like_function, like_width, like_number, reason_map, fixed_reason, function_reason}
 use Rattle.ir_viable_prefixes.proofs.Repeats.{each-good}
 use Rattle.ir_viable_prefixes.proofs.Statements.{NotComma, NotMetadata, NotRegister, mark_next, mark_open, mark_shut, mark_records, attachments-good, tail-good, terminator-good}
-use Rattle.ir_viable_prefixes.proofs.TokenReaders.{all_bad, mark-good, type-good}
+use Rattle.ir_viable_prefixes.proofs.TokenReaders.{type_is_no_ending, all_bad, mark-good, type-good}
 
 -- ---- blocks
 
@@ -40,7 +50,7 @@ label_next l k t a b = refl
 abbrev NotLabel : Follow
 NotLabel = Tested parsing.is_label false
 
-label_stops : {t u : Token} → Like (Unit {0}) t u → StopsAt parsing.label_at [] None u
+label_stops : {t u : Token} → Like (Unit {0}) t u → StopsEach parsing.label_at [] None u
 unfolding parsing.label_at
 label_stops (like_word v w other noun) = λ l more. refl
 label_stops (like_type m other width begins is) = λ l more. refl
@@ -71,7 +81,7 @@ unfolding parsing.label_at
 label_takes W line (Label name) = may_take (takes _ refl (λ more. refl))
 label_takes W line t = leaves (λ l more. refl) (λ u like. label_stops like) (λ begins. (λ ending l more. refl, λ text l more. refl))
 
-no_label : (t : Token) → NotLabel t → StopsAt parsing.label_at [] None t
+no_label : (t : Token) → NotLabel t → StopsEach parsing.label_at [] None t
 unfolding parsing.label_at
 no_label (Label name) none = absurd cc
 no_label t none = λ l more. refl
@@ -99,11 +109,45 @@ block_behind label = do
   _ ← tail_at
   done (record { label = label; insts = insts; end = end.1; end_line = end.0 })
 
+-- a terminator begins with no flag, type or predicate
+terminator_refuses : (w : List ℕ) → ending_in w ≡ None → RefusesEach terminator_at (Word w)
+unfolding terminator_at
+terminator_refuses w none line more = (fault line (LeftOut w), rw none refl)
+
+flag_is_no_ending : (flag : Flag) → ending_in (flag_keyword flag) ≡ None
+unfolding ending_in
+flag_is_no_ending flags.Nuw = refl
+flag_is_no_ending flags.Nsw = refl
+flag_is_no_ending flags.Exact = refl
+flag_is_no_ending flags.NNeg = refl
+flag_is_no_ending flags.Disjoint = refl
+flag_is_no_ending flags.SameSign = refl
+
+pred_is_no_ending : (pred : Pred) → ending_in (predicate_keyword pred) ≡ None
+unfolding ending_in
+pred_is_no_ending preds.Eq = refl
+pred_is_no_ending preds.Ne = refl
+pred_is_no_ending preds.Ugt = refl
+pred_is_no_ending preds.Uge = refl
+pred_is_no_ending preds.Ult = refl
+pred_is_no_ending preds.Ule = refl
+pred_is_no_ending preds.Sgt = refl
+pred_is_no_ending preds.Sge = refl
+pred_is_no_ending preds.Slt = refl
+pred_is_no_ending preds.Sle = refl
+
+end_apart : {B : Type 0} (S : ℕ × RawTerminator → Reader B) → Apart (terminator_at >>= S)
+end_apart S = record {
+  flags = λ flag line more. let r = terminator_refuses (flag_keyword flag) (flag_is_no_ending flag) line more in (r.0, rw r.1 refl);
+  types = λ w width is line more. let r = terminator_refuses w (type_is_no_ending w width is) line more in (r.0, rw r.1 refl);
+  preds = λ pred line more. let r = terminator_refuses (predicate_keyword pred) (pred_is_no_ending pred) line more in (r.0, rw r.1 refl);
+}
+
 block_behind-good : (label : Option RawIdentifier) → Good NotLabel (block_behind label) NotComma
-block_behind-good label = insts then (λ insts. terminator-good (refl, refl, refl) then (λ end. tail-good then (λ u. done-good (λ t f. f) _)))
+block_behind-good label = behind_open insts (λ insts. terminator-good (refl, refl, refl) then (λ end. tail-good then (λ u. done-good (λ t f. f) _))) (λ insts. end_apart _) (Mark marks.open_paren) refl
   where
-    insts : Good NotLabel insts_at FollowsInsts
-    insts = insts-good (λ t f. f.0) (λ t f. f.1) (λ t f. f.2) register_is_no_label
+    insts : GoodOpen NotLabel insts_at FollowsInsts
+    insts = insts-open (λ t f. f.0) (λ t f. f.1) (λ t f. f.2) register_is_no_label
 
 block-good : Good Anything parsing.block_at NotComma
 unfolding parsing.block_at
@@ -121,7 +165,7 @@ some_label_bad like = all_bad some_label_at (λ w line more. (fault line (misfit
 some_label_takes : (E F : Follow) (line : ℕ) (t : Token) → Takes some_label_at (Reasons E some_label_at F) line t
 unfolding unexpected
 some_label_takes E F line (Label name) = takes _ refl (λ more. refl)
-some_label_takes E F line t = refuses (misfit places.Fixed t) (fixed_reason (Fit E some_label_at F []) (Bad (Unit {0}) some_label_at []) (RepeatsFlag []) (RefusesAt some_label_at []) t (λ u like. some_label_bad like, λ begins. inr (λ ending l more. (fault l (misfit places.Fixed (Word (ending_word ending))), refl)))) (λ more. refl)
+some_label_takes E F line t = refuses (fault line (misfit places.Fixed t)) (inl (refl, (fixed_reason (Fit E some_label_at F []) (Bad (Unit {0}) some_label_at []) (Again E some_label_at F []) (RefusesAt some_label_at []) t (λ u like. some_label_bad like, λ begins. inr (λ ending more. (fault 0 (misfit places.Fixed (Word (ending_word ending))), refl)))))) (λ more. refl)
 
 some_label_flags : TakesNoFlag some_label_at
 unfolding unexpected
@@ -145,6 +189,35 @@ narrowed {A} {E} {F} {G} {R} within r = record { sample = (r.sample.0, r.sample.
     records front x [] h = absurd h
     records front x ((l, t) ∷ rest) h = λ begins. no_records (Halts R front x) front (h begins)
 
+    go_on : (front : List Placed) → Fit E R F front a_type ⊎ Fit E R F front a_pred → Fit E R G front a_type ⊎ Fit E R G front a_pred
+    go_on front (inl fit) = inl (fits front a_type fit)
+    go_on front (inr fit) = inr (fits front a_pred fit)
+
+    fits_end : (front : List Placed) (v : Token) → FitsEnd E R F front v → FitsEnd E R G front v
+    fits_end front v fit = ((fit.0.0, fit.0.1, λ ts next. fit.0.2 ts (next_map G F ts within next)), fit.1)
+
+    no_value : (front : List Placed) {t : Token} {kind : IrFaultKind} → NoValue (Unit {0}) E R F front t kind → NoValue (Unit {0}) E R G front t kind
+    no_value front (no_number digits width out fit bad) = no_number digits width out (λ other number is. fits_end front (Number other) (fit other number is)) bad
+    no_value front (no_word w fit) = no_word w (fits_end front no_truth fit)
+    no_value front (no_truth_value w bad) = no_truth_value w bad
+    no_value front (no_group text) = no_group text
+    no_value front (no_quoted text) = no_quoted text
+
+    in_call : (front : List Placed) {t : Placed} {found : Fault IrFaultKind} → InCall (Unit {0}) E R F front t found → InCall (Unit {0}) E R G front t found
+    in_call front (of_callee line at written one stands fit bad) = of_callee line at written one stands (fits front (Function one) fit) bad
+    in_call front (of_value before line last end kind same ends none fit why) = of_value before line last end kind same ends none (fits_end before a_truth fit) (no_value before why)
+    in_call front (of_truth line w fit bad) = of_truth line w (fits_end front a_truth fit) bad
+
+    reasons : (front : List Placed) (t : Placed) (found : Fault IrFaultKind) → Reasons E R F front t found → Reasons E R G front t found
+    reasons front t found (inl (same, why)) =
+        inl (
+          same,
+          reason_map (Fit E R F front) (Fit E R G front) (Bad (Unit {0}) R front) (Bad (Unit {0}) R front) (Again E R F front) (Again E R G front)
+              (RefusesAt R front) (RefusesAt R front) t.1
+              (record { fits = fits front; bad = λ u b. b; repeats = λ w again. (again.0, go_on front again.1); records = λ begins none. no_records (RefusesAt R front) front none; groups = λ begins end none. none }) found.kind why,
+        )
+    reasons front t found (inr call) = inr (in_call front call)
+
     outcome : (tokens : List Placed) (q : Read A) → Outcome E R F (Reasons E R F) tokens q → Outcome E R G (Reasons E R G) tokens q
     outcome tokens (Ok x) o = record {
       front = o.front;
@@ -156,6 +229,7 @@ narrowed {A} {E} {F} {G} {R} within r = record { sample = (r.sample.0, r.sample.
       groups = λ end. o.groups (within an_end end);
       words = o.words;
       follows = λ t g. o.follows t (within t g);
+      completes = begun o.front o.completes;
       nothing = λ none t g. o.nothing none t (within t g);
     }
     outcome tokens (Err x) o = record {
@@ -165,10 +239,7 @@ narrowed {A} {E} {F} {G} {R} within r = record { sample = (r.sample.0, r.sample.
       there = o.there;
       refused = o.refused;
       completes = begun o.front o.completes;
-      why =
-          reason_map (Fit E R F o.front) (Fit E R G o.front) (Bad (Unit {0}) R o.front) (Bad (Unit {0}) R o.front) (RepeatsFlag o.front) (RepeatsFlag o.front)
-          (RefusesAt R o.front) (RefusesAt R o.front) o.token
-          (record { fits = fits o.front; bad = λ u b. b; repeats = λ w r. r; records = λ begins none. no_records (RefusesAt R o.front) o.front none; groups = λ begins end none. none }) x.kind o.why;
+      why = reasons o.front o.token x o.why;
       new = o.new;
     }
 
@@ -205,7 +276,7 @@ blocks-good = block-good then (λ first. others (first ∷ []))
 
 -- ---- parameters
 
-name_stops : {t u : Token} → Like (Unit {0}) t u → StopsAt parsing.parameter_name_at [] None u
+name_stops : {t u : Token} → Like (Unit {0}) t u → StopsEach parsing.parameter_name_at [] None u
 unfolding parsing.parameter_name_at
 name_stops (like_word v w other noun) = λ l more. refl
 name_stops (like_type m other width begins is) = λ l more. refl
@@ -218,7 +289,7 @@ unfolding parsing.parameter_name_at
 parameter_name_takes W line (Register name) = may_take (takes _ refl (λ more. refl))
 parameter_name_takes W line t = leaves (λ l more. refl) (λ u like. name_stops like) (λ begins. (λ ending l more. refl, λ text l more. refl))
 
-no_name : (t : Token) → NotRegister t → StopsAt parsing.parameter_name_at [] None t
+no_name : (t : Token) → NotRegister t → StopsEach parsing.parameter_name_at [] None t
 unfolding parsing.parameter_name_at
 no_name (Register name) none = absurd cc
 no_name t none = λ l more. refl
@@ -254,10 +325,10 @@ comma_follows (Mark m) next = mark_follows m marks.comma next refl
 comma_follows t next = absurd cc
 
 -- the mark that closes parameters
-abbrev Closes : Follow
-Closes = Tested (is_mark marks.close_paren) true
+abbrev ClosesList : Follow
+ClosesList = Tested (is_mark marks.close_paren) true
 
-close_follows : (t : Token) → Closes t → FollowsParameters t
+close_follows : (t : Token) → ClosesList t → FollowsParameters t
 close_follows (Mark m) next = (mark_follows m marks.close_paren next refl, subst (λ (n : ℕ). eqb n marks.comma ≡ false) (sym (eqb-true m marks.close_paren next)) refl)
 close_follows t next = absurd cc
 
@@ -271,7 +342,7 @@ some_parameters-good e = parameter-good e then (λ first. others (first ∷ []))
         (record { asks = mark_next marks.comma; takes = parameter-takes; ends = λ t f. f.1; ends_part = λ t f. f.0; next_ends_part = comma_follows; opens = mark_open marks.comma refl; shuts = mark_shut marks.comma; records = λ a b t begins h. let r = mark_records marks.comma refl b t begins h in (inr r.0, λ end. r.1) })
         (further_parameter-good {E = Anything} tt).apart (λ tokens e next. (further_parameter-good {E = Tested (is_mark marks.comma) true} refl).outcome tokens e) (λ t f. f.0) comma_follows front
 
-parameter_list-good : Good Anything parsing.parameter_list_at Closes
+parameter_list-good : Good Anything parsing.parameter_list_at ClosesList
 unfolding parsing.parameter_list_at
 parameter_list-good = either-good (is_mark marks.close_paren) (mark_next marks.close_paren) (mark_open marks.close_paren refl) (mark_shut marks.close_paren) (mark_records marks.close_paren refl) (done-good (λ t is. (tt, is)) []) (narrowed close_follows (some_parameters-good (tt, refl)))
 
@@ -291,11 +362,16 @@ is_function t = false
 
 function_name_bad : {t u : Token} → is_function t ≡ false → Like (Unit {0}) t u → Bad (Unit {0}) parsing.function_name_at [] t u
 unfolding parsing.function_name_at unexpected
-function_name_bad none (like_word v w other noun) = (λ line more. (fault line (misfit places.Fixed (Word other)), refl), λ empty. like_word v w other noun)
-function_name_bad none (like_type m other width begins is) = (λ line more. (fault line (misfit places.Fixed (Word other)), refl), λ empty. like_type m other width begins is)
+function_name_bad none (like_word v w other noun) = (λ more. (fault 0 (misfit places.Fixed (Word other)), refl), λ empty. like_word v w other noun)
+function_name_bad none (like_type m other width begins is) = (λ more. (fault 0 (misfit places.Fixed (Word other)), refl), λ empty. like_type m other width begins is)
 function_name_bad none (like_function written other) = absurd cc
-function_name_bad none (like_width w other width out is) = (λ line more. (fault line (misfit places.Fixed (Word other)), refl), λ empty. like_width w other width out is)
-function_name_bad none (like_number digits other) = (λ line more. (fault line (misfit places.Fixed (Number other)), refl), λ empty. like_number digits other)
+function_name_bad none (like_width w other width out is) = (λ more. (fault 0 (misfit places.Fixed (Word other)), refl), λ empty. like_width w other width out is)
+function_name_bad none (like_number digits other) = (λ more. (fault 0 (misfit places.Fixed (Number other)), refl), λ empty. like_number digits other)
+
+-- `@f` is no intrinsic
+no_intrinsic : callee_named (identifier_of (codes "f")) ≡ None
+unfolding identifier_of name_of bytes.is_digit intrinsic_in
+no_intrinsic = refl
 
 function_name_takes : (E F : Follow) → Fit E parsing.function_name_at F [] a_function → (line : ℕ) (t : Token) → Takes parsing.function_name_at (Reasons E parsing.function_name_at F) line t
 unfolding parsing.function_name_at unexpected
@@ -303,8 +379,8 @@ function_name_takes E F fit line (Function written) = by (identifier_of written)
   where
     by : (i : Identifier) → identifier_of written ≡ i → Takes parsing.function_name_at (Reasons E parsing.function_name_at F) line (Function written)
     by (Named name) h = takes (line, name) refl (λ more. rw h refl)
-    by (Numbered n) h = refuses (LeftOut (codes "@")) (function_reason (Fit E parsing.function_name_at F []) (Bad (Unit {0}) parsing.function_name_at []) (RepeatsFlag []) (RefusesAt parsing.function_name_at []) written (codes "f") fit) (λ more. rw h refl)
-function_name_takes E F fit line t = refuses (misfit places.Fixed t) (fixed_reason (Fit E parsing.function_name_at F []) (Bad (Unit {0}) parsing.function_name_at []) (RepeatsFlag []) (RefusesAt parsing.function_name_at []) t (λ u like. function_name_bad refl like, λ begins. inr (λ ending l more. (fault l (misfit places.Fixed (Word (ending_word ending))), refl)))) (λ more. refl)
+    by (Numbered n) h = refuses (fault line (LeftOut (codes "@"))) (inl (refl, (function_reason (Fit E parsing.function_name_at F []) (Bad (Unit {0}) parsing.function_name_at []) (Again E parsing.function_name_at F []) (RefusesAt parsing.function_name_at []) written (codes "f") no_intrinsic fit))) (λ more. rw h refl)
+function_name_takes E F fit line t = refuses (fault line (misfit places.Fixed t)) (inl (refl, (fixed_reason (Fit E parsing.function_name_at F []) (Bad (Unit {0}) parsing.function_name_at []) (Again E parsing.function_name_at F []) (RefusesAt parsing.function_name_at []) t (λ u like. function_name_bad refl like, λ begins. inr (λ ending more. (fault 0 (misfit places.Fixed (Word (ending_word ending))), refl)))))) (λ more. refl)
 
 function_name_flags : TakesNoFlag parsing.function_name_at
 unfolding parsing.function_name_at unexpected
@@ -333,3 +409,18 @@ pub function-good : Good Anything parsing.function_at Anything
 unfolding parsing.function_at is_item_word type_in bytes.is_digit
 function-good =
     items-good then (λ before. type-good (refl, tt) then (λ width. function_name-good then (λ name. parameters-good then (λ parameters. last_items-good then (λ after. body-good then (λ blocks. done-good (λ t f. tt) _))))))
+
+-- ---- what closes
+
+body-closes : Closes parsing.body_at
+unfolding parsing.body_at
+body-closes =
+    closes_behind (attachments-good {E = Anything} {F = NotMetadata} (λ t f. f) (λ t f. tt) (λ t n. tt))
+    (λ u. closes_behind (mark-good {E = Anything} marks.open_brace tt) (λ v. closes_behind blocks-good (λ blocks. closes_done (mark_closes marks.close_brace) (λ w. blocks))))
+
+pub function-closes : Closes parsing.function_at
+unfolding parsing.function_at
+function-closes =
+    closes_behind items-good
+    (λ before. closes_behind (type-good {V = Unit {0}} {E = Anything} tt)
+    (λ width. closes_behind function_name-good (λ name. closes_behind parameters-good (λ parameters. closes_behind last_items-good (λ after. closes_done body-closes _)))))

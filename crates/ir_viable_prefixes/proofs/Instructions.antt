@@ -1,25 +1,36 @@
 -- Readers of instructions. A `,` behind a `phi` begins an incoming value or an attachment, and the token behind it says which.
-use Rattle.std.proofs.Common.{◌≡◌, ◌<◌, ◌≤◌, ℕ, zero, suc, Bool, true, false, List, [], ◌∷◌, ◌++◌, length, Option, Some, None, Ok, Err, refl, sym, ap, subst, ◌∙◌, inr, arith, length-append}
+use Rattle.std.proofs.Common.{◌≡◌, ◌<◌, ◌≤◌, ℕ, zero, suc, Bool, true, false, List, [], ◌∷◌, ◌++◌, length, Option, Some, None, Ok, Err, refl, sym, ap, subst, ◌∙◌, inl, inr, arith, length-append}
 use Rattle.ir_tokens.specs.Tokens.{Token, Placed, Word, Register, Mark}
 use Rattle.ir_tokens.specs.declared.raw.RawOp.{RawOp}
 use Rattle.ir_tokens.specs.declared.raw.RawOp.TheVariants.{Phi}
 use Rattle.ir_tokens.specs.declared.raw.RawIncoming.{RawIncoming}
+use Rattle.ir_tokens.specs.declared.raw.RawInst.{RawInst}
+use Rattle.refusal.specs.declared.fault.Fault.{Fault}
+use Rattle.ir_tokens.specs.declared.fault.IrFaultKind.{IrFaultKind}
+use Rattle.std.specs.Prelude.{codes}
+use Rattle.std.proofs.lemmas.List.{append_cancel_right}
 use Rattle.ir_instructions.specs.declared.word.Operation.{Operation}
 use Rattle.ir_instructions.specs.declared.word.Operation.TheVariants as operations
 use Rattle.ir_instructions.specs.InstructionReaders as parsing
-use Rattle.ir_instructions.specs.Readers.{Read, Reader, goes_on, ◌>>=◌, done, another_at}
-use Rattle.ir_instructions.specs.Keywords.{operation_in}
+use Rattle.ir_instructions.specs.CallReaders.{call_word_at}
+use Rattle.ir_instructions.specs.Readers.{Read, Reader, goes_on, ◌>>=◌, done, repeat_at, another_at}
+use Rattle.ir_instructions.specs.Keywords.{operation_in, operation_word}
 use Rattle.ir_instructions.specs.Punctuation as marks
 use Rattle.ir_instructions.proofs.Loops.{same_behind, each-done, repeat-done}
 use Rattle.ir_instructions.proofs.Readings.{mark_at-is}
+use Rattle.ir_instructions.proofs.Steps.{read_as}
+use Rattle.ir_instructions.proofs.WordLemmas.{operation_in-is}
 use Rattle.ir_instructions.proofs.Shorter.{token}
 use Rattle.ir_instructions.proofs.Takings.{tail-takes, incoming-takes, inst-takes}
-use Rattle.ir_viable_prefixes.proofs.Choices.{Tested, tested_next, And, Either, either_outcome, either_sample, reasons_transferred, same-good}
-use Rattle.ir_viable_prefixes.proofs.Outcomes.{Follow, next_map, Anything, Ended, Sample, Why, Reasons, IsReadIf, Outcome, both, Good, done-good, ◌then◌}
-use Rattle.ir_viable_prefixes.proofs.Repeats.{one_step, another_takes, another_apart, each-good}
-use Rattle.ir_viable_prefixes.proofs.FlagRuns.{ReadsApart, both_apart, loop_apart}
-use Rattle.ir_viable_prefixes.proofs.Statements.{NotComma, NotRegister, mark_shut, mark_open, metadata_shut, metadata_open, register_shut, register_open, mark_records, metadata_records, register_records, mark_next, metadata_next, register_next, attachment-good, tail-good, binary-good, compare-good, select-good, convert-good, freeze-good, incoming-good}
-use Rattle.ir_viable_prefixes.proofs.TokenReaders.{mark-good, a_register, register-good, type-good, opcode_at, opcode-good}
+use Rattle.ir_viable_prefixes.proofs.Choices.{Tested, tested_next, And, Either, either_outcome, either_sample, reasons_transferred, same-good, same_open}
+use Rattle.ir_viable_prefixes.specs.Calls.{CallStands}
+use Rattle.ir_viable_prefixes.proofs.Calls.{CalleeOr, StandsTyped, callee_second, callee_told, Called, called_sample, called_outcome, called_splits, call_from, marked-open, marked_from}
+use Rattle.ir_viable_prefixes.proofs.Endings.{Ending, ending-good}
+use Rattle.ir_viable_prefixes.proofs.Outcomes.{Follow, next_map, Anything, Ended, Sample, sample_both, Why, Reasons, reasons_first, reasons_second, IsReadIf, OutcomeIf, Outcome, outcome_both, apart_new, StaysNew, New, free_second, both, Good, GoodOpen, done-good, ◌then◌, ◌then_open◌}
+use Rattle.ir_viable_prefixes.proofs.Repeats.{Steps, steps_of, loop_sample, loop_lifts, repeat_outcomes, another, one_step, another_takes, another_apart}
+use Rattle.ir_viable_prefixes.proofs.FlagRuns.{NoFlagNext, new_behind, ReadsApart, Splits, apart_splits, both_splits, loop_splits, done_apart, both_apart, loop_apart}
+use Rattle.ir_viable_prefixes.proofs.Statements.{NotComma, NotRegister, mark_shut, mark_open, metadata_shut, metadata_open, register_shut, register_open, mark_records, metadata_records, register_records, mark_next, metadata_next, register_next, attachment-good, binary-good, compare-good, select-good, convert-good, freeze-good, incoming-good}
+use Rattle.ir_viable_prefixes.proofs.TokenReaders.{mark-good, a_register, register-good, type-good, placed_operation, opcode_at, opcode-good}
 
 -- readers one behind the other are so in either order of brackets
 assoc : {A B C : Type 0} (r : Read A) (f : A → Reader B) (g : B → Reader C) → goes_on (goes_on r f) g ≡ goes_on r (λ x. f x >>= g)
@@ -27,13 +38,6 @@ assoc (Ok x) f g = refl
 assoc (Err e) f g = refl
 
 -- ---- incoming values behind the first, and attachments
-
--- attachments, and what is made then
-abbrev Ending : {A : Type 0} → A → Reader A
-Ending x = parsing.tail_at >>= λ u. done x
-
-ending-good : {A : Type 0} (x : A) → Good Anything (Ending x) NotComma
-ending-good x = tail-good then (λ u. done-good (λ t f. f) x)
 
 -- incoming values behind those in front, and attachments
 abbrev Others : {A : Type 0} → ℕ → (List RawIncoming → A) → List RawIncoming → Reader A
@@ -160,34 +164,134 @@ phi_ending f tokens =
 phi-good : {A : Type 0} (f : RawOp → A) → Good Anything (parsing.phi_at >>= λ op. Ending (f op)) NotComma
 phi-good f = same-good (phi_ending f) (type-good tt then (λ width. incoming-good width tt then (λ first. others-good width (λ incomings. f (Phi width incomings)) (first ∷ []))))
 
-operation-good : {A : Type 0} (f : RawOp → A) → (operation : Operation) → Good Anything (parsing.operation_at operation >>= λ op. Ending (f op)) NotComma
-operation-good f (operations.Binary op) = binary-good op then (λ o. ending-good (f o))
-operation-good f operations.Compare = compare-good then (λ o. ending-good (f o))
-operation-good f operations.Select = select-good then (λ o. ending-good (f o))
-operation-good f (operations.Convert cast) = convert-good cast then (λ o. ending-good (f o))
-operation-good f operations.Freeze = freeze-good then (λ o. ending-good (f o))
-operation-good f operations.Phi = phi-good f
+-- what is read behind the line and the word of an operation
+abbrev Behind : {A : Type 0} → (RawOp → A) → ℕ → Operation → Reader A
+Behind f line operations.Call = Called f line
+Behind f line operations.Tail = call_word_at >>= Called f
+Behind f line operations.NoTail = call_word_at >>= Called f
+Behind f line operation = parsing.operation_at line operation >>= λ op. Ending (f op)
 
-op_ending : {A : Type 0} (f : RawOp → A) (tokens : List Placed) → (parsing.op_at >>= λ op. Ending (f op)) tokens ≡ (opcode_at >>= λ operation. parsing.operation_at operation >>= λ op. Ending (f op)) tokens
+abbrev BehindWord : {A : Type 0} → (RawOp → A) → ℕ × Operation → Reader A
+BehindWord f o = Behind f o.0 o.1
+
+same_behind_word : {A : Type 0} (f : RawOp → A) (line : ℕ) (operation : Operation) (tokens : List Placed) → (parsing.operation_at line operation >>= λ op. Ending (f op)) tokens ≡ Behind f line operation tokens
+same_behind_word f line operations.Call tokens = call_from f line tokens
+same_behind_word f line operations.Tail tokens = marked_from f tokens
+same_behind_word f line operations.NoTail tokens = marked_from f tokens
+same_behind_word f line operation tokens = refl
+
+-- what is told behind the word of an operation
+abbrev BehindWhy : {A : Type 0} → (RawOp → A) → ℕ → Operation → Why
+BehindWhy f line operations.Call = CalleeOr (Called f line) NotComma line StandsTyped
+BehindWhy f line operation = Reasons Anything (Behind f line operation) NotComma
+
+behind_open : {A : Type 0} (f : RawOp → A) (line : ℕ) (operation : Operation)
+    → Sample Anything (Behind f line operation) NotComma × ((tokens : List Placed) → Ended tokens → OutcomeIf (Unit {0}) Anything (Behind f line operation) NotComma (Unit {0}) (BehindWhy f line operation) tokens (Behind f line operation tokens)) × Splits (Behind f line operation)
+behind_open f line operations.Call = (called_sample f line, called_outcome f line, called_splits f line)
+behind_open f line operations.Tail = let r = marked-open f in (r.sample, r.outcome, r.splits)
+behind_open f line operations.NoTail = let r = marked-open f in (r.sample, r.outcome, r.splits)
+behind_open f line (operations.Binary op) = let r = binary-good op then (λ o. ending-good (f o)) in (r.sample, r.outcome, apart_splits r.apart)
+behind_open f line operations.Compare = let r = compare-good then (λ o. ending-good (f o)) in (r.sample, r.outcome, apart_splits r.apart)
+behind_open f line operations.Select = let r = select-good then (λ o. ending-good (f o)) in (r.sample, r.outcome, apart_splits r.apart)
+behind_open f line (operations.Convert cast) = let r = convert-good cast then (λ o. ending-good (f o)) in (r.sample, r.outcome, apart_splits r.apart)
+behind_open f line operations.Freeze = let r = freeze-good then (λ o. ending-good (f o)) in (r.sample, r.outcome, apart_splits r.apart)
+behind_open f line operations.Phi = let r = phi-good f in (r.sample, r.outcome, apart_splits r.apart)
+
+behind_sample : {A : Type 0} (f : RawOp → A) (o : ℕ × Operation) → Sample Anything (BehindWord f o) NotComma
+behind_sample f o = (behind_open f o.0 o.1).0
+
+-- the word of an operation that is read
+opcode_read : (tokens : List Placed) (x : (ℕ × Operation) × List Placed) → opcode_at tokens ≡ Ok x → tokens ≡ (x.0.0, Word (operation_word x.0.1)) ∷ x.1
+opcode_read [] x is = absurd cc
+opcode_read ((line, Word w) ∷ rest) x is = by (operation_in w) refl is
+  where
+    by : (operation : Option Operation) → operation_in w ≡ operation → placed_operation line w operation rest ≡ Ok x → (line, Word w) ∷ rest ≡ (x.0.0, Word (operation_word x.0.1)) ∷ x.1
+    by (Some operation) h read = read_as (λ z. (line, Word w) ∷ rest ≡ (z.0.0, Word (operation_word z.0.1)) ∷ z.1) ((line, operation), rest) x read (ap (λ (v : List ℕ). (line, Word v) ∷ rest) (operation_in-is w operation h))
+    by None h read = absurd cc
+opcode_read ((line, t) ∷ rest) x is = absurd cc
+
+op_lifts : {A : Type 0} (f : RawOp → A) (tokens : List Placed) (line : ℕ) (operation : Operation) (rest : List Placed) → opcode_at tokens ≡ Ok ((line, operation), rest) → (o : IsReadIf (Unit {0}) Anything opcode_at Anything (Unit {0}) tokens (line, operation) rest)
+    → (front : List Placed) (t : Placed) (behind : List Placed) → rest ≡ front ++ t ∷ behind → (found : Fault IrFaultKind) → BehindWhy f line operation front t found → Reasons Anything (opcode_at >>= BehindWord f) NotComma (o.front ++ front) t found
+op_lifts f tokens line operations.Call rest is o front t behind there found why =
+    callee_told (opcode_at >>= BehindWord f) NotComma line (o.front ++ front) t found
+    (callee_second NotComma opcode_at (BehindWord f) (behind_sample f) line StandsTyped (CallStands line) tokens ((line, operations.Call), rest) o
+    (λ ts stands.
+    let same : (line, Word (codes "call")) ∷ [] ≡ o.front = append_cancel_right ((line, Word (codes "call")) ∷ []) o.front rest (sym (opcode_read tokens ((line, operations.Call), rest) is) ∙ o.there) in
+    subst (λ (first : List Placed). CallStands line (first ++ ts)) same ([], ts, stands.0, refl, stands.1))
+    front t behind there found why)
+op_lifts f tokens line operation rest is o front t behind there found why =
+    reasons_second (Unit {0}) (Unit {0}) Anything Anything NotComma opcode_at (BehindWord f) (behind_sample f) tokens ((line, operation), rest) o front t behind there found why
+
+op-open : {A : Type 0} (f : RawOp → A) → GoodOpen Anything (opcode_at >>= BehindWord f) NotComma
+op-open f = record {
+  sample = sample_both Anything Anything NotComma opcode_at (BehindWord f) opcode-good.sample (behind_sample f);
+  outcome = λ tokens e.
+      outcome_both (Unit {0}) (Unit {0}) (Unit {0}) Anything Anything NotComma opcode_at (BehindWord f) (Reasons Anything opcode_at Anything) (λ o. BehindWhy f o.0 o.1) (Reasons Anything (opcode_at >>= BehindWord f) NotComma) tokens
+      (record {
+        first = λ front t behind there found why. reasons_first (Unit {0}) Anything Anything NotComma opcode_at (BehindWord f) (behind_sample f) front t found why;
+        second = λ x is o front t behind there found why. op_lifts f tokens x.0.0 x.0.1 x.1 is o front t behind there found why;
+      })
+      (apart_new (Unit {0}) (Unit {0}) Anything Anything NotComma opcode_at (BehindWord f) (λ o. BehindWhy f o.0 o.1) tokens opcode-good.apart)
+      (behind_sample f) (opcode_at tokens) refl (opcode-good.outcome tokens e) (λ x is ended. (behind_open f x.0.0 x.0.1).1 x.1 ended);
+  splits = both_splits opcode_at (BehindWord f) (apart_splits opcode-good.apart) (λ o. (behind_open f o.0 o.1).2);
+}
+
+op_ending : {A : Type 0} (f : RawOp → A) (tokens : List Placed) → (parsing.op_at >>= λ op. Ending (f op)) tokens ≡ (opcode_at >>= BehindWord f) tokens
 unfolding parsing.op_at
 op_ending f ((line, Word w) ∷ rest) = by (operation_in w) refl
   where
-    by : (operation : Option Operation) → operation_in w ≡ operation → (parsing.op_at >>= λ op. Ending (f op)) ((line, Word w) ∷ rest) ≡ (opcode_at >>= λ o. parsing.operation_at o >>= λ op. Ending (f op)) ((line, Word w) ∷ rest)
-    by (Some operation) h = rw h refl
+    by : (operation : Option Operation) → operation_in w ≡ operation → (parsing.op_at >>= λ op. Ending (f op)) ((line, Word w) ∷ rest) ≡ (opcode_at >>= BehindWord f) ((line, Word w) ∷ rest)
+    by (Some operation) h = rw h (same_behind_word f line operation rest)
     by None h = rw h refl
 op_ending f tokens = refl
 
-inst-good : {E : Follow} → E a_register → Good E parsing.inst_at NotComma
+inst-open : {E : Follow} → E a_register → GoodOpen E parsing.inst_at NotComma
 unfolding parsing.inst_at
-inst-good e =
-    register-good e then (λ result. mark-good marks.equals tt then (λ u. same-good (op_ending (λ op. record { result = result; op = op })) (opcode-good then (operation-good (λ op. record { result = result; op = op })))))
+inst-open e =
+    register-good e then_open (λ result. mark-good marks.equals tt then_open (λ u. same_open (op_ending (λ op. record { result = result; op = op })) (op-open (λ op. record { result = result; op = op }))))
 
 register_is_no_comma : (t : Token) → Tested parsing.is_register true t → NotComma t
 register_is_no_comma (Register name) next = refl
 register_is_no_comma t next = absurd cc
 
-pub insts-good : {E F : Follow} → ((t : Token) → F t → NotComma t) → ((t : Token) → F t → NotRegister t) → ((t : Token) → F t → E t) → ((t : Token) → Tested parsing.is_register true t → E t) → Good E parsing.insts_at F
+-- ---- any number of instructions
+
+abbrev Step : List RawInst → Reader (List RawInst)
+Step = another_at parsing.inst_at
+
+abbrev Loop : List RawInst → Reader (List RawInst)
+Loop = repeat_at parsing.is_register Step
+
+register_no_flag : (tokens : List Placed) → parsing.is_register tokens ≡ true → NoFlagNext tokens
+register_no_flag [] next = tt
+register_no_flag ((line, Register written) ∷ rest) next = λ flag same. cc
+register_no_flag ((line, t) ∷ rest) next = absurd cc
+
+pub insts-open : {E F : Follow} → ((t : Token) → F t → NotComma t) → ((t : Token) → F t → NotRegister t) → ((t : Token) → F t → E t) → ((t : Token) → Tested parsing.is_register true t → E t) → GoodOpen E parsing.insts_at F
 unfolding parsing.insts_at
-insts-good no_comma no_register enters next_enters =
-    each-good (Unit {0}) NotComma parsing.is_register parsing.inst_at (record { asks = register_next; takes = inst-takes; ends = no_register; ends_part = no_comma; next_ends_part = register_is_no_comma; opens = register_open; shuts = register_shut; records = λ a b t begins h. let r = register_records b t begins h in (inr r.0, λ end. r.1) })
-    (inst-good {E = Anything} tt).apart (λ tokens e next. (inst-good {E = Tested parsing.is_register true} refl).outcome tokens e) enters next_enters []
+insts-open {E} {F} no_comma no_register enters next_enters = record {
+  sample = loop_sample (Unit {0}) NotComma F (Unit {0}) parsing.is_register Step steps E enters [];
+  outcome = λ tokens e.
+      repeat_outcomes (Unit {0}) NotComma F (Unit {0}) parsing.is_register Step steps (λ a. Reasons (Tested parsing.is_register true) (Step a) NotComma) (λ G a. Reasons G (Loop a) F)
+      (loop_lifts (Unit {0}) NotComma F (Unit {0}) parsing.is_register Step steps) (λ a ts. new a ts)
+      (λ a ts ended next. another (Unit {0}) (Tested parsing.is_register true) NotComma parsing.inst_at a ts ((inst-open {E = Tested parsing.is_register true} refl).outcome ts ended)) (suc (length tokens)) E enters next_enters [] tokens (omega arith) e;
+  splits = loop_splits parsing.is_register Step (λ a. both_splits parsing.inst_at (λ x. done (a ++ x ∷ [])) (inst-open {E = Anything} tt).splits (λ x. apart_splits (done_apart (a ++ x ∷ [])))) [];
+}
+  where
+    steps : Steps (Unit {0}) NotComma F (Unit {0}) parsing.is_register Step
+    steps = steps_of (record { asks = register_next; takes = inst-takes; ends = no_register; ends_part = no_comma; next_ends_part = register_is_no_comma; opens = register_open; shuts = register_shut; records = λ a b t begins h. let r = register_records b t begins h in (inr r.0, λ end. r.1) })
+
+    -- where no register is next, nothing is refused; where one is, no flag is
+    new : (a : List RawInst) (tokens : List Placed) → StaysNew (Unit {0}) (Unit {0}) (Tested parsing.is_register true) NotComma F (Step a) Loop (λ b. Reasons NotComma (Loop b) F) tokens
+    new a tokens x is o found p failed left = by (parsing.is_register x.1) refl
+      where
+        the_read : Read (List RawInst) → Read (List RawInst)
+        the_read r = r
+
+        by : (b : Bool) → parsing.is_register x.1 ≡ b → New (Unit {0}) (Step a >>= Loop) (o.front ++ p.front) p.token.1
+        by false none = let both : the_read (Ok (x.0, x.1)) ≡ the_read (Err found) = sym (repeat-done parsing.is_register Step x.0 x.1 none) ∙ failed in absurd cc
+        by true next = of (p.new left)
+          where
+            of : New (Unit {0}) (Loop x.0) p.front p.token.1 → New (Unit {0}) (Step a >>= Loop) (o.front ++ p.front) p.token.1
+            of (inl n) = inl (new_behind o.front p.front p.token.0 p.token.1 p.behind (inr (subst NoFlagNext p.there (register_no_flag x.1 next))) n)
+            of (inr free) = inr (free_second (Unit {0}) (Unit {0}) (Tested parsing.is_register true) NotComma (Step a) Loop tokens x o p.front p.token p.behind p.there free)

@@ -18,19 +18,18 @@ use Rattle.ir_instructions.specs.Keywords.{ending_word, type_in}
 use Rattle.ir_instructions.specs.Punctuation as marks
 use Rattle.ir_instructions.specs.ItemGrammar.{SpellsItem, MayFollowItem, of_word, of_word_and_group, of_number, of_group, of_quoted, of_key_and_value}
 use Rattle.ir_instructions.specs.Items.{is_item_word}
-use Rattle.ir_parse.specs.ModuleReaders as parsing
+use Rattle.ir_instructions.specs.ItemReaders as parsing
 use Rattle.ir_instructions.proofs.Loops.{repeat-is, each-more, each-done}
 use Rattle.ir_instructions.proofs.Steps.{read_as}
 use Rattle.ir_instructions.proofs.WordLemmas.{type_in-of}
 use Rattle.ir_instructions.proofs.ItemReadings.{items_at-is}
 use Rattle.ir_instructions.proofs.ItemSpellings.{items_at-of}
 use Rattle.ir_instructions.proofs.ItemSizes.{item-takes}
-use Rattle.ir_viable_prefixes.specs.Misfits.{RepeatsFlag}
 use Rattle.ir_viable_prefixes.specs.Misfits as nouns
 use Rattle.ir_viable_prefixes.proofs.Choices.{AsksNext, Tested, tested_next, Opens, OpensRecords, either-good, reasons_transferred}
-use Rattle.ir_viable_prefixes.proofs.Outcomes.{Follow, Next, next_map, Anything, Ended, StopsAt, stops, Sample, sample_both, Fit, RefusesAt, Bad, bad_second, Why, Reasons, ReasonsIf, Halts, OutcomeIf, Outcome, outcome_both, maps_first, Takes, takes, refuses, one_token, MayTake, may_take, leaves, token_or_none, Good, GoodIf, done-good, ◌then◌, TakesNoFlag, LeavesFlags, apart_new, nothing_new, reasons_lift, token_outcome}
+use Rattle.ir_viable_prefixes.proofs.Outcomes.{Again, Follow, Next, next_map, Anything, Ended, StopsEach, stops, stops_next, Sample, sample_both, Fit, RefusesAt, Bad, bad_second, Why, Reasons, ReasonsIf, Halts, OutcomeIf, Outcome, outcome_both, reasons_first, Takes, takes, refuses, one_token, MayTake, may_take, leaves, token_or_none, Good, GoodIf, done-good, ◌then◌, TakesNoFlag, LeavesFlags, apart_new, nothing_new, reasons_lift, token_outcome}
 use Rattle.ir_viable_prefixes.proofs.FlagRuns.{NoFlagNext, none_repeated, ReadsApart, Leaves, leaves_all, done_apart, both_apart, IsLeft, LeavesNothingOut, fault_left, done_nothing, both_nothing, loop_nothing}
-use Rattle.ir_viable_prefixes.proofs.Reasons.{a_group, Like, like_word, like_type, like_function, like_width, like_number, Widths, like_other, reason_map, word_reason, fixed_reason}
+use Rattle.ir_viable_prefixes.proofs.Reasons.{a_group, Reason, Like, like_word, like_type, like_function, like_width, like_number, Widths, like_other, word_reason, fixed_reason}
 use Rattle.ir_viable_prefixes.proofs.Repeats.{Steps, steps_of, loop_sample, loop_lifts, repeat_outcomes, another}
 use Rattle.ir_viable_prefixes.proofs.Statements.{none_like, no_record, mark_next, mark_open, mark_shut, mark_records}
 use Rattle.ir_viable_prefixes.proofs.TokenReaders.{all_bad, types_bad, mark-good}
@@ -47,7 +46,7 @@ some_token_takes E F line t = by (is_last t) refl
   where
     by : (b : Bool) → is_last t ≡ b → Takes some_token_at (ReasonsIf ⊥ E some_token_at F) line t
     by true h =
-        refuses (misfit places.Fixed t) (fixed_reason (Fit E some_token_at F []) (Bad ⊥ some_token_at []) (RepeatsFlag []) (RefusesAt some_token_at []) t (λ u like. absurd (none_like like h), λ begins. absurd (no_record t begins h)))
+        refuses (fault line (misfit places.Fixed t)) (inl (refl, (fixed_reason (Fit E some_token_at F []) (Bad ⊥ some_token_at []) (Again E some_token_at F []) (RefusesAt some_token_at []) t (λ u like. absurd (none_like like h), λ begins. absurd (no_record t begins h)))))
         (λ more. rw h refl)
     by false h = takes t h (λ more. rw h refl)
 
@@ -67,7 +66,7 @@ item_from ((line, Group text) ∷ rest) next = refl
 item_from ((line, Quoted key) ∷ rest) next = refl
 item_from tokens next = absurd cc
 
-word_item_stops : (word : List ℕ) {t u : Token} → Like (Unit {0}) t u → StopsAt (parsing.word_item_at word) [] word u
+word_item_stops : (word : List ℕ) {t u : Token} → Like (Unit {0}) t u → StopsEach (parsing.word_item_at word) [] word u
 unfolding parsing.word_item_at
 word_item_stops word (like_word v w other noun) = λ l more. refl
 word_item_stops word (like_type m other width begins is) = λ l more. refl
@@ -84,7 +83,7 @@ word_item_takes W word line t = leaves (λ l more. refl) (λ u like. word_item_s
 abbrev FollowsItem : Follow
 FollowsItem t = MayFollowItem ((0, t) ∷ [])
 
-word_alone : (word : List ℕ) (t : Token) → FollowsItem t → StopsAt (parsing.word_item_at word) [] word t
+word_alone : (word : List ℕ) (t : Token) → FollowsItem t → StopsEach (parsing.word_item_at word) [] word t
 unfolding parsing.word_item_at
 word_alone word (KeptGroup group) may = absurd may
 word_alone word t may = λ l more. refl
@@ -107,7 +106,7 @@ quoted_value_bad key like = all_bad (parsing.quoted_value_at key) (λ w line mor
 quoted_value_takes : (E F : Follow) (key : List ℕ) (line : ℕ) (t : Token) → Takes (parsing.quoted_value_at key) (Reasons E (parsing.quoted_value_at key) F) line t
 unfolding parsing.quoted_value_at unexpected
 quoted_value_takes E F key line (Quoted value) = takes _ refl (λ more. refl)
-quoted_value_takes E F key line t = refuses (misfit places.Fixed t) (fixed_reason (Fit E (parsing.quoted_value_at key) F []) (Bad (Unit {0}) (parsing.quoted_value_at key) []) (RepeatsFlag []) (RefusesAt (parsing.quoted_value_at key) []) t (λ u like. quoted_value_bad key like, λ begins. inr (λ ending l more. (fault l (misfit places.Fixed (Word (ending_word ending))), refl)))) (λ more. refl)
+quoted_value_takes E F key line t = refuses (fault line (misfit places.Fixed t)) (inl (refl, (fixed_reason (Fit E (parsing.quoted_value_at key) F []) (Bad (Unit {0}) (parsing.quoted_value_at key) []) (Again E (parsing.quoted_value_at key) F []) (RefusesAt (parsing.quoted_value_at key) []) t (λ u like. quoted_value_bad key like, λ begins. inr (λ ending more. (fault 0 (misfit places.Fixed (Word (ending_word ending))), refl)))))) (λ more. refl)
 
 quoted_value_flags : (key : List ℕ) → TakesNoFlag (parsing.quoted_value_at key)
 unfolding parsing.quoted_value_at unexpected
@@ -129,14 +128,14 @@ behind_item-good (Group text) = done-good (λ t is. tt) text
 behind_item-good t = done-good (λ u is. tt) []
 
 -- items leave nothing out
-fixed_left : (t : Token) → ¬ IsLeft (misfit places.Fixed t)
+pub fixed_left : (t : Token) → ¬ IsLeft (misfit places.Fixed t)
 unfolding misfit leaves_out
 fixed_left Bad_token (text, left) = cc
 fixed_left Other (text, left) = cc
 fixed_left End (text, left) = cc
 fixed_left t (text, left) = cc
 
-choice_left : (t : Token) → is_word t ≡ false → ¬ IsLeft (misfit places.Choice t)
+pub choice_left : (t : Token) → is_word t ≡ false → ¬ IsLeft (misfit places.Choice t)
 unfolding misfit leaves_out
 choice_left Bad_token none (text, left) = cc
 choice_left Other none (text, left) = cc
@@ -147,7 +146,7 @@ choice_left t none (text, left) = cc
 abbrev the_read : {A : Type 0} → Read A → Read A
 the_read r = r
 
-syntax_left : ¬ IsLeft Syntax
+pub syntax_left : ¬ IsLeft Syntax
 syntax_left (text, left) = cc
 
 equals_nothing : LeavesNothingOut (mark_at marks.equals)
@@ -211,7 +210,7 @@ item_parts_outcome tokens e =
     (λ t. (behind_item-good t).sample) (some_token_at tokens) refl (token_outcome ⊥ (Tested parsing.begins_item true) some_token_at Anything (Unit {0}) (ReasonsIf ⊥ (Tested parsing.begins_item true) some_token_at Anything) (some_token_takes (Tested parsing.begins_item true) Anything) tokens e)
     (λ x is ended. (behind_item-good x.0).outcome x.1 ended)
 
-item_next : AsksNext parsing.begins_item
+pub item_next : AsksNext parsing.begins_item
 item_next l k (Word word) a b = refl
 item_next l k (Number digits) a b = refl
 item_next l k (Group text) a b = refl
@@ -263,7 +262,7 @@ item_records front b t begins next = absurd cc
 abbrev Local : Part → Type 0
 Local P = (tokens rest : List Placed) → P tokens rest → (front : List Placed) × (tokens ≡ front ++ rest) × ((others : List Placed) → P (front ++ others) others)
 
-item_is_local : (item : List ℕ) → Local (SpellsItem item)
+pub item_is_local : (item : List ℕ) → Local (SpellsItem item)
 item_is_local item tokens rest (of_word is (l, one)) = ((l, Word item) ∷ [], one, λ others. of_word is (l, refl))
 item_is_local item tokens rest (of_word_and_group name group is same (middle, (l, one), (k, two))) =
     ((l, Word name) ∷ (k, KeptGroup group) ∷ [], one ∙ ap (λ (ts : List Placed). (l, Word name) ∷ ts) two, λ others. of_word_and_group name group is same ((k, KeptGroup group) ∷ others, (l, refl), (k, refl)))
@@ -277,7 +276,7 @@ item_is_local item tokens rest (of_key_and_value key value same (middle, (l, one
 )
 
 -- items, and one more
-one_more : (items : List (List ℕ)) (last : List ℕ) (tokens rest : List Placed) → Each SpellsItem items tokens rest → (front : List Placed) × (tokens ≡ front ++ rest) × ((middle others : List Placed) → SpellsItem last middle others → Each SpellsItem (items ++ last ∷ []) (front ++ middle) others)
+pub one_more : (items : List (List ℕ)) (last : List ℕ) (tokens rest : List Placed) → Each SpellsItem items tokens rest → (front : List Placed) × (tokens ≡ front ++ rest) × ((middle others : List Placed) → SpellsItem last middle others → Each SpellsItem (items ++ last ∷ []) (front ++ middle) others)
 one_more [] last tokens rest same = ([], same, λ middle others is. (others, is, refl))
 one_more (item ∷ items) last tokens rest (between, one, more) =
     let a = item_is_local item tokens between one in
@@ -364,13 +363,13 @@ word_is_read tokens x front is there others next =
 
 -- the word that may not follow items
 abbrev IsWordFirst : Why
-IsWordFirst front t kind = (front ≡ []) × (w : List ℕ) × (t ≡ Word w) × (kind ≡ LeftOut w)
+IsWordFirst front t found = (front ≡ []) × (w : List ℕ) × (t.1 ≡ Word w) × (found.line ≡ t.0) × (found.kind ≡ LeftOut w)
 
 -- tokens but words
 abbrev NotWord : Follow
 NotWord t = is_word t ≡ false
 
-no_word_stops : (t : Token) → NotWord t → StopsAt parsing.no_word_at [] tt t
+no_word_stops : (t : Token) → NotWord t → StopsEach parsing.no_word_at [] tt t
 unfolding parsing.no_word_at
 no_word_stops (Word word) none = absurd cc
 no_word_stops t none = λ l more. refl
@@ -385,18 +384,18 @@ Behind items = parsing.no_word_at >>= λ u. done items
 
 behind_sample : (items : List (List ℕ)) → Sample FollowsItems (Behind items) FollowsLast
 behind_sample items =
-    (items, [], λ tokens next. (ended tokens (next_map FollowsLast (StopsAt parsing.no_word_at [] tt) tokens (λ t f. no_word_stops t f.1) next), next_map FollowsLast FollowsItems tokens (λ t f. f.0) next))
+    (items, [], λ tokens next. (ended tokens (next_map FollowsLast (StopsEach parsing.no_word_at [] tt) tokens (λ t f. no_word_stops t f.1) next), next_map FollowsLast FollowsItems tokens (λ t f. f.0) next))
   where
-    ended : (tokens : List Placed) → Next (StopsAt parsing.no_word_at [] tt) tokens → Behind items tokens ≡ Ok (items, tokens)
-    ended tokens next = rw (stops parsing.no_word_at [] tt tokens next) refl
+    ended : (tokens : List Placed) → Next (StopsEach parsing.no_word_at [] tt) tokens → Behind items tokens ≡ Ok (items, tokens)
+    ended tokens next = rw (stops parsing.no_word_at [] tt tokens (stops_next parsing.no_word_at [] tt tokens next)) refl
 
 behind_halts : (items : List (List ℕ)) {t u : Token} → is_word t ≡ false → Like (Unit {0}) t u → Halts (Behind items) [] items u
 unfolding parsing.no_word_at
 behind_halts items none (like_word v w other noun) = absurd cc
-behind_halts items none (like_type m other width begins is) = λ l more. inr (fault l (LeftOut other), refl)
-behind_halts items none (like_function written other) = λ l more. inl refl
+behind_halts items none (like_type m other width begins is) = λ more. inr (fault 0 (LeftOut other), refl)
+behind_halts items none (like_function written other) = λ more. inl refl
 behind_halts items none (like_width w other width out is) = absurd cc
-behind_halts items none (like_number digits other) = λ l more. inl refl
+behind_halts items none (like_number digits other) = λ more. inl refl
 
 no_word_apart : ReadsApart parsing.no_word_at
 unfolding parsing.no_word_at
@@ -410,8 +409,8 @@ behind_apart items = both_apart parsing.no_word_at (λ u. done items) no_word_ap
 behind_outcome : (items : List (List ℕ)) (tokens : List Placed) → Ended tokens → OutcomeIf ⊥ FollowsItems (Behind items) FollowsLast (Unit {0}) IsWordFirst tokens (Behind items tokens)
 unfolding parsing.no_word_at
 behind_outcome items [] e = absurd e
-behind_outcome items ((line, Word w) ∷ rest) e = record { front = []; token = Word w; behind = rest; there = refl; refused = λ more. refl; completes = tt; why = (refl, w, refl, refl); new = λ left. none_repeated (Word w) }
-behind_outcome items ((line, t) ∷ rest) e = record { front = []; there = refl; ended = e; stopped = λ l more. refl; follows = λ u f l more. let s = no_word_stops u f.1 l more in rw s refl; nothing = λ none u f. f.0; halts = λ u like. behind_halts items refl like; records = λ begins. inr (λ ending l more. inr (fault l (LeftOut (ending_word ending)), refl)); groups = λ end begins text l more. inl refl; words = λ none u like. like_other refl like }
+behind_outcome items ((line, Word w) ∷ rest) e = record { front = []; token = (line, Word w); behind = rest; there = refl; refused = λ more. refl; completes = tt; why = (refl, w, refl, refl, refl); new = λ left. inl (none_repeated (Word w)) }
+behind_outcome items ((line, t) ∷ rest) e = record { front = []; there = refl; ended = e; stopped = λ more. refl; follows = λ u f more. let s = no_word_stops u f.1 0 more in rw s refl; completes = tt; nothing = λ none u f. f.0; halts = λ u like. behind_halts items refl like; records = λ begins. inr (λ ending more. inr (fault 0 (LeftOut (ending_word ending)), refl)); groups = λ end begins text more. inl refl; words = λ none u like. like_other refl like }
 
 abbrev three : List Placed → Token → IrFaultKind → List Placed × Token × IrFaultKind
 three front t kind = (front, t, kind)
@@ -429,14 +428,18 @@ unfolding parsing.last_items_at behind_sample
 last_items_outcome tokens e =
     outcome_both (Unit {0}) ⊥ (Unit {0}) Anything FollowsItems FollowsLast parsing.items_at Behind (Reasons Anything parsing.items_at FollowsItems) (λ items. IsWordFirst) (Reasons Anything parsing.last_items_at FollowsLast) tokens
     (record {
-      first = λ front l t behind there kind why. reason_map _ _ _ _ _ _ _ _ t (maps_first (Unit {0}) Anything FollowsItems FollowsLast parsing.items_at Behind behind_sample front t) kind why;
-      second = λ x is o front l t behind there kind why. second x is o.front o.there front t kind (λ u ws. bad_second (Unit {0}) ⊥ Anything FollowsItems parsing.items_at Behind tokens x o front l t behind there u (no_type x.0 front t u why.0 ws)) why;
+      first = λ front t behind there found why. reasons_first (Unit {0}) Anything FollowsItems FollowsLast parsing.items_at Behind behind_sample front t found why;
+      second = λ x is o front t behind there found why.
+          inl (why.3, second x is o.front o.there front t.1 found.kind (λ u ws. bad_second (Unit {0}) ⊥ Anything FollowsItems parsing.items_at Behind tokens x o front t.0 t.1 behind there u (no_type x.0 front t.1 u why.0 ws)) why.0 (why.1, why.2, why.4));
     })
     (apart_new (Unit {0}) ⊥ Anything FollowsItems FollowsLast parsing.items_at Behind (λ items. IsWordFirst) tokens items_apart)
     behind_sample (parsing.items_at tokens) refl (items-good.outcome tokens e) (λ x is ended. behind_outcome x.0 x.1 ended)
   where
-    second : (x : List (List ℕ) × List Placed) → parsing.items_at tokens ≡ Ok x → (first : List Placed) → tokens ≡ first ++ x.1 → (front : List Placed) (t : Token) (kind : IrFaultKind) → ((u : Token) → Widths t u → Bad (Unit {0}) parsing.last_items_at (first ++ front) t u) → IsWordFirst front t kind → Reasons Anything parsing.last_items_at FollowsLast (first ++ front) t kind
-    second x is first there front t kind no_types (none, w, is_one, is_left_out) =
+    said : List Placed → Token → IrFaultKind → Type 0
+    said front t kind = Reason (Fit Anything parsing.last_items_at FollowsLast front) (Bad (Unit {0}) parsing.last_items_at front) (Again Anything parsing.last_items_at FollowsLast front) (RefusesAt parsing.last_items_at front) t kind
+
+    second : (x : List (List ℕ) × List Placed) → parsing.items_at tokens ≡ Ok x → (first : List Placed) → tokens ≡ first ++ x.1 → (front : List Placed) (t : Token) (kind : IrFaultKind) → ((u : Token) → Widths t u → Bad (Unit {0}) parsing.last_items_at (first ++ front) t u) → front ≡ [] → (w : List ℕ) × (t ≡ Word w) × (kind ≡ LeftOut w) → said (first ++ front) t kind
+    second x is first there front t kind no_types none (w, is_one, is_left_out) =
         let whole : first ++ front ≡ first = ap (λ (ts : List Placed). first ++ ts) none ∙ append-nil first in
         let fit : Fit Anything parsing.last_items_at FollowsLast first (Word a_word) = (
           (
@@ -450,8 +453,8 @@ last_items_outcome tokens e =
         ) in
         let types : (u : Token) → Widths (Word w) u → Bad (Unit {0}) parsing.last_items_at first (Word w) u =
         subst (λ (p : List Placed × Token × IrFaultKind). (u : Token) → Widths p.1 u → Bad (Unit {0}) parsing.last_items_at p.0 p.1 u) (sym (same_three (first ++ front) first (Word w) t (LeftOut w) kind whole is_one is_left_out)) no_types in
-        subst (λ (p : List Placed × Token × IrFaultKind). Reasons Anything parsing.last_items_at FollowsLast p.0 p.1 p.2) (same_three (first ++ front) first (Word w) t (LeftOut w) kind whole is_one is_left_out)
-        (word_reason (Fit Anything parsing.last_items_at FollowsLast first) (Bad (Unit {0}) parsing.last_items_at first) (RepeatsFlag first) (RefusesAt parsing.last_items_at first) w a_word (nouns.value 1 values.True refl) fit types)
+        subst (λ (p : List Placed × Token × IrFaultKind). said p.0 p.1 p.2) (same_three (first ++ front) first (Word w) t (LeftOut w) kind whole is_one is_left_out)
+        (word_reason (Fit Anything parsing.last_items_at FollowsLast first) (Bad (Unit {0}) parsing.last_items_at first) (Again Anything parsing.last_items_at FollowsLast first) (RefusesAt parsing.last_items_at first) w a_word (nouns.value 1 values.True refl) fit types)
 
 pub last_items-good : Good Anything parsing.last_items_at FollowsLast
 unfolding parsing.last_items_at

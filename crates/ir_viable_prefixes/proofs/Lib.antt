@@ -1,4 +1,8 @@
+pub mod Arguments
+pub mod Calls
 pub mod Choices
+pub mod Closed
+pub mod Endings
 pub mod Entries
 pub mod FlagReaders
 pub mod FlagRuns
@@ -7,9 +11,11 @@ pub mod Instructions
 pub mod Items
 pub mod OneKind
 pub mod Outcomes
+pub mod Prefixed
 pub mod Reasons
 pub mod Refusals
 pub mod Repeats
 pub mod Statements
 pub mod TextEnds
 pub mod TokenReaders
+pub mod Values

@@ -48,7 +48,7 @@ bad_width front bad wrong = let same : Word wrong.0 ≡ Bad_token = sym wrong.1 
 bad_another : {front : List Placed} {t : Token} → AnotherFits front t → t ≡ Bad_token → ⊥
 bad_another (of_word word fits) bad = cc
 bad_another (of_mark t begins fits) bad = let none : begins_type Bad_token ≡ true = subst (λ (u : Token). begins_type u ≡ true) bad begins in cc
-bad_another (of_function written other fits) bad = cc
+bad_another (of_function written other other_name fits) bad = cc
 
 bad_left_out : {front : List Placed} {t : Token} → IsLeftOut front t → t ≡ Bad_token → ⊥
 bad_left_out (another a) bad = bad_another a bad
@@ -63,7 +63,7 @@ width_number front wide wrong = let same : Word wide.0 ≡ Number wrong.0 = sym 
 -- a flag is no type but for its width
 flag_no_width : (front : List Placed) {t : Token} (word : List ℕ) → t ≡ Word word → type_in word ≡ OutOfRange → IsRepeated front t → ⊥
 unfolding type_in
-flag_no_width front {t} word is out (w, same, (before, run, flag, flags, stands, keyword, each)) = by flag (subst (λ (v : List ℕ). type_in v ≡ OutOfRange) (sym (word_is w word (sym same ∙ is)) ∙ keyword) out)
+flag_no_width front {t} word is out (w, same, (before, run, flag, flags, stands, keyword, each), fits) = by flag (subst (λ (v : List ℕ). type_in v ≡ OutOfRange) (sym (word_is w word (sym same ∙ is)) ∙ keyword) out)
   where
     word_is : (v w : List ℕ) → Word v ≡ Word w → v ≡ w
     word_is v w equal = cc
@@ -83,7 +83,7 @@ width_nothing front {t} (word, is, out, (other, width, is_type, fits)) nothing =
 number_another : {front : List Placed} {t : Token} → AnotherFits front t → (digits : List ℕ) → t ≡ Number digits → ⊥
 number_another (of_word word fits) digits is = cc
 number_another (of_mark t begins fits) digits is = let none : begins_type (Number digits) ≡ true = subst (λ (u : Token). begins_type u ≡ true) is begins in cc
-number_another (of_function written other fits) digits is = cc
+number_another (of_function written other other_name fits) digits is = cc
 
 number_left_out : {front : List Placed} {t : Token} → EndsHaveNoNumbers front → IsLeftOut front t → IsWrongNumber front t → ⊥
 number_left_out none (another a) wrong = number_another a wrong.0 wrong.2

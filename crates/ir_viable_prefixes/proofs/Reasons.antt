@@ -3,6 +3,7 @@ use Rattle.std.proofs.Common.{◌≡◌, ℕ, Bool, true, false, cond, List, Som
 use Rattle.std.proofs.lemmas.Bool.{eqb-true}
 use Rattle.std.specs.Prelude.{codes}
 use Rattle.ops.specs.Number.{Number as Numeral}
+use Rattle.ir_tokens.specs.Identifiers.{identifier_of}
 use Rattle.ir_tokens.specs.Numbers.{constant_of}
 use Rattle.ir_tokens.specs.Tokens.{Token, End, Other, Bad as Bad_token, Word, Number, Function, Group, Mark}
 use Rattle.ir_tokens.specs.declared.fault.IrFaultKind.{IrFaultKind}
@@ -10,6 +11,7 @@ use Rattle.ir_tokens.specs.declared.fault.IrFaultKind.TheVariants.{BadByte, Synt
 use Rattle.ir_instructions.specs.declared.place.Place.TheVariants as places
 use Rattle.ir_instructions.specs.declared.word.Ending.{Ending}
 use Rattle.ir_instructions.specs.declared.word.TypeWord.TheVariants.{Other as Nothing, OutOfRange}
+use Rattle.ir_instructions.specs.CallReaders.{callee_named}
 use Rattle.ir_instructions.specs.Places.{begins_record, begins_type, is_word, leaves_out, misfit, shown}
 use Rattle.ir_instructions.specs.Keywords.{IsTypeWord, ending_word, type_in}
 use Rattle.ir_instructions.specs.Punctuation as marks
@@ -19,6 +21,9 @@ use Rattle.ir_viable_prefixes.specs.Misfits.{IsNoun}
 
 abbrev pub a_type : Token
 a_type = Word (codes "i8")
+
+abbrev pub a_pred : Token
+a_pred = Word (codes "eq")
 
 -- a terminator of one word
 abbrev pub an_end : Token
@@ -34,7 +39,7 @@ a_group = Group (codes "#0")
 pub data LeftOutBy (Fit : Token → Type 0) : Token → Type 0 where
   word : (word other : List ℕ) → IsNoun other → Fit (Word other) → LeftOutBy Fit (Word word)
   mark_of_type : (token : Token) → begins_type token ≡ true → Fit a_type → LeftOutBy Fit token
-  function : (written other : List ℕ) → Fit (Function other) → LeftOutBy Fit (Function written)
+  function : (written other : List ℕ) → callee_named (identifier_of other) ≡ None → Fit (Function other) → LeftOutBy Fit (Function written)
   mark_of_record : (token : Token) → begins_record token ≡ true → Fit an_end → LeftOutBy Fit token
 
 -- a word that is no type for its width alone, and a type
@@ -102,13 +107,13 @@ begins_one t type record_of = absurd cc
 record_fits : {Fit : Token → Type 0} {t : Token} → LeftOutBy Fit t → begins_record t ≡ true → Fit an_end
 record_fits (word w other noun fit) begins = absurd cc
 record_fits (mark_of_type t type fit) begins = absurd (begins_one t type begins)
-record_fits (function written other fit) begins = absurd cc
+record_fits (function written other none fit) begins = absurd cc
 record_fits (mark_of_record t is fit) begins = fit
 
 left_out_map : (P Q : Token → Type 0) → ((u : Token) → P u → Q u) → {t : Token} → LeftOutBy P t → LeftOutBy Q t
 left_out_map P Q f (word w other noun fit) = word w other noun (f (Word other) fit)
 left_out_map P Q f (mark_of_type t begins fit) = mark_of_type t begins (f a_type fit)
-left_out_map P Q f (function written other fit) = function written other (f (Function other) fit)
+left_out_map P Q f (function written other none fit) = function written other none (f (Function other) fit)
 left_out_map P Q f (mark_of_record t begins fit) = mark_of_record t begins (f an_end fit)
 
 pub record Maps (P Q : Token → Type 0) (B C : Token → Token → Type 0) (R S : List ℕ → Type 0) (M N : Token → Type 0) (t : Token) : Type 0 where
@@ -137,10 +142,10 @@ pub word_reason : (Fit : Token → Type 0) (Bad : Token → Token → Type 0) (R
 unfolding shown
 word_reason Fit Bad Repeats Refused w other noun fit types = (refl, word w other noun fit, types, λ begins. absurd cc)
 
--- a number of a function is left out where a name of one fits
-pub function_reason : (Fit : Token → Type 0) (Bad : Token → Token → Type 0) (Repeats : List ℕ → Type 0) (Refused : Token → Type 0) (written other : List ℕ) → Fit (Function other) → Reason Fit Bad Repeats Refused (Function written) (LeftOut (codes "@"))
+-- a number of a function is left out where a name of one fits that is no intrinsic
+pub function_reason : (Fit : Token → Type 0) (Bad : Token → Token → Type 0) (Repeats : List ℕ → Type 0) (Refused : Token → Type 0) (written other : List ℕ) → callee_named (identifier_of other) ≡ None → Fit (Function other) → Reason Fit Bad Repeats Refused (Function written) (LeftOut (codes "@"))
 unfolding shown
-function_reason Fit Bad Repeats Refused written other fit = (refl, function written other fit, λ u ws. absurd (no_widths refl ws), λ begins. absurd cc)
+function_reason Fit Bad Repeats Refused written other none fit = (refl, function written other none fit, λ u ws. absurd (no_widths refl ws), λ begins. absurd cc)
 
 -- none of its sort fits, and no record
 abbrev pub NoneLike : (Token → Type 0) → (Token → Token → Type 0) → (Token → Type 0) → Token → Type 0

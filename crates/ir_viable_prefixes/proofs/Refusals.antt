@@ -1,13 +1,20 @@
 -- Where the fault of a text stands.
-use Rattle.std.proofs.Common.{◌≡◌, ◌≤◌, ℕ, Bool, true, false, List, [], ◌∷◌, ◌++◌, length, Result, Ok, Err, refl, sym, ap, subst, ◌∙◌, ◌⊎◌, inl, inr, append_assoc, arith}
+use Rattle.std.proofs.Common.{◌≡◌, ◌≢◌, ◌≤◌, ℕ, Bool, true, false, List, [], ◌∷◌, ◌++◌, length, Result, Ok, Err, refl, sym, ap, subst, ◌∙◌, ◌⊎◌, inl, inr, append_assoc, arith}
 use Rattle.std.proofs.lemmas.List.{append-nil}
 use Rattle.std.specs.Prelude.{codes, Option, Some, None, IsSome, is_some}
 use Rattle.ops.specs.Number.{Number as Numeral}
+use Rattle.ir_tokens.specs.declared.called.Identifier.{Identifier}
+use Rattle.ir_tokens.specs.declared.called.Identifier.TheVariants.{Named, Numbered}
+use Rattle.ir_tokens.specs.Identifiers.{identifier_of}
 use Rattle.ir_tokens.specs.Numbers.{constant_of}
 use Rattle.ir_tokens.specs.declared.place.Place.{Place}
 use Rattle.ir_tokens.specs.Laws.{TextsHaveOneListOfTokens}
-use Rattle.ir_tokens.specs.Order.{TokensFrom, last, token, AreTokens}
-use Rattle.ir_tokens.specs.Tokens.{Token, Placed, End, Other, Bad as Bad_token, Word, Number, Function, Group, Mark, is_last}
+use Rattle.scan.specs.IrTokens.{line_at}
+use Rattle.scan.specs.Lines.{between}
+use Rattle.scan.specs.declared.ir.token.TokenKind.{TokenKind}
+use Rattle.scan.specs.declared.ir.token.TokenKind.TheVariants as kinds
+use Rattle.ir_tokens.specs.Order.{IsTokenAt, itself, kept_line, kept_group, unclosed, bad_byte, TokensFrom, last, token, AreTokens}
+use Rattle.ir_tokens.specs.Tokens.{Token, Placed, End, Other, Bad as Bad_token, Word, Number, Function, Group, Mark, token_of, is_last}
 use Rattle.ir_tokens.specs.declared.raw.RawEntry.{RawEntry}
 use Rattle.ir_tokens.specs.declared.raw.RawModule.{RawModule}
 use Rattle.ir_tokens.specs.declared.fault.IrFaultKind.{IrFaultKind}
@@ -15,20 +22,28 @@ use Rattle.ir_tokens.specs.declared.fault.IrFaultKind.TheVariants.{BadByte, Synt
 use Rattle.refusal.specs.declared.fault.Fault.{Fault}
 use Rattle.ir_instructions.specs.declared.place.Place.TheVariants as places
 use Rattle.ir_instructions.specs.declared.word.Ending.TheVariants.{Unreachable}
+use Rattle.ir_instructions.specs.declared.intrinsic.Intrinsic.{Intrinsic}
+use Rattle.ir_instructions.specs.CallReaders.{callee_named}
+use Rattle.ir_instructions.specs.Intrinsics.{intrinsic_in}
+use Rattle.ir_instructions.proofs.NameReadings.{intrinsic_in-is, intrinsic_in-of}
 use Rattle.ir_instructions.specs.Places.{begins_record, begins_type, leaves_out, misfit as misfit_at}
 use Rattle.ir_instructions.specs.Readers.{Read}
 use Rattle.ir_instructions.specs.Keywords.{ending_word}
+use Rattle.ops.specs.declared.comparison.Pred.TheVariants.{Eq}
+use Rattle.ops.specs.Keywords.{predicate_keyword}
 use Rattle.ir_parse.specs.Grammar.{SpellsModule}
 use Rattle.ir_parse.specs.Laws.{ModulesAreReadAsSpelled}
 use Rattle.ir_parse.specs.ModuleReaders.{entries_at, module_from, module_of}
 use Rattle.ir_parse.specs.Text.{most_bytes, IsTextFault, too_long, misfit}
 use Rattle.ir_viable_prefixes.specs.Fits.{Fits, FitsBehind}
-use Rattle.ir_viable_prefixes.specs.Laws.{IsFirstMisfit, FaultsAreWhereTextsDoNotFit}
+use Rattle.ir_viable_prefixes.specs.Calls.{NamesIntrinsic, EndsArgument, ValueFits, IsNoValue, IsToldInCall}
+use Rattle.ir_viable_prefixes.specs.Calls as calls
+use Rattle.ir_viable_prefixes.specs.Laws.{IsTold, of_token, in_call, IsFirstMisfit, FaultsAreWhereTextsDoNotFit}
 use Rattle.ir_viable_prefixes.specs.Misfits.{TypeFits, TerminatorFits, AttributesFit, AnotherFits, IsLeftOut, IsRepeated, IsNothingElse, IsWrongWidth, IsWrongNumber, IsMisfit}
 use Rattle.ir_viable_prefixes.specs.Misfits as nouns
 use Rattle.ir_viable_prefixes.proofs.Entries.{EndsAt, EndsText, OrEnds, entries_outcome, entries_sample}
-use Rattle.ir_viable_prefixes.proofs.Outcomes.{Next, Anything, Ended, CompletesBegun, Fit, RefusesAt, Bad, Reasons, IsRefused, Outcome}
-use Rattle.ir_viable_prefixes.proofs.Reasons.{a_type, an_end, a_group, LeftOutBy, NoRecord, NoGroup, Widths, widths, Like, like_word, like_type, like_function, like_number}
+use Rattle.ir_viable_prefixes.proofs.Outcomes.{Next, Anything, Ended, CompletesBegun, Fit, FitsEnd, RefusesAt, RefusesEnd, Bad, Again, a_truth, no_truth, NoValue, no_number, no_word, no_truth_value, no_group, no_quoted, InCall, of_callee, of_value, of_truth, New, IsRefused, Outcome}
+use Rattle.ir_viable_prefixes.proofs.Reasons.{a_type, a_pred, an_end, a_group, Reason, LeftOutBy, NoRecord, NoGroup, Widths, widths, Like, like_word, like_type, like_function, like_number}
 use Rattle.ir_viable_prefixes.proofs.Reasons as reasons
 use Rattle.ir_viable_prefixes.proofs.FlagRuns.{IsLeft}
 use Rattle.ir_viable_prefixes.proofs.OneKind.{EndsHaveNoNumbers, one_kind}
@@ -36,11 +51,23 @@ use Rattle.ir_viable_prefixes.proofs.Statements.{no_record}
 use Rattle.ir_viable_prefixes.proofs.TextEnds.{UpTo, ended_before, is_left_out, refused_at_end, types_refused_at_end, numbers_refused_at_end}
 use Rattle.ir_viable_prefixes.proofs.TokenReaders.{i8}
 
+-- a mark of a text stands on a line from 1 on
+mark_line : (kind : TokenKind) (bytes text : List ℕ) (start mark : ℕ) → token_of kind bytes ≡ Mark mark → line_at kind text start ≢ 0
+mark_line kinds.End bytes text start mark is = absurd cc
+mark_line kind bytes text start mark is = λ none. omega arith
+
+on_some_line : {text : List ℕ} {place : Place} {at end : ℕ} {t : Placed} → IsTokenAt text place at t end → (mark : ℕ) → t.1 ≡ Mark mark → t.0 ≢ 0
+on_some_line {text = text} (itself t next extent) mark is = λ none. mark_line t.kind (between text t.span.start t.span.end) text t.span.start mark is (sym next.line ∙ none)
+on_some_line (kept_line t rest next extent kept) mark is = absurd cc
+on_some_line (kept_group t rest next extent group) mark is = absurd cc
+on_some_line (unclosed t next extent none) mark is = absurd cc
+on_some_line (bad_byte line bad) mark is = absurd cc
+
 -- the tokens of a text end with the end, or with what stands in no module
 tokens_end : {text : List ℕ} {place : Place} {at : ℕ} {tokens : List Placed} → TokensFrom text place at tokens → Ended tokens
 tokens_end (last one end) = end
-tokens_end (token one going (last next end)) = (going, end)
-tokens_end (token one going (token next goes more)) = (going, tokens_end (token next goes more))
+tokens_end (token one going (last next end)) = (going, end, on_some_line one)
+tokens_end (token one going (token next goes more)) = (going, tokens_end (token next goes more), on_some_line one)
 
 -- what is read of tokens up to the end of a text, they fit
 read_to_end : ModulesAreReadAsSpelled → (front more : List Placed) (all : List RawEntry) → ((tokens : List Placed) → Next EndsText tokens → entries_at (front ++ (more ++ tokens)) ≡ Ok (all, tokens)) → Fits front
@@ -54,44 +81,65 @@ front_fits law (t ∷ front) c = read_to_end law (t ∷ front) c.1 c.0 c.2
 
 token_fits : ModulesAreReadAsSpelled → (front : List Placed) (t : Token) → Fit Anything entries_at EndsText front t → FitsBehind front t
 token_fits law front t fit =
-    (0, read_to_end law (front ++ (0, t) ∷ []) fit.0.1 fit.0.0 (λ ts next. ap entries_at (append_assoc front ((0, t) ∷ []) (fit.0.1 ++ ts)) ∙ fit.0.2 ts next))
+    read_to_end law (front ++ (0, t) ∷ []) fit.0.1 fit.0.0 (λ ts next. ap entries_at (append_assoc front ((0, t) ∷ []) (fit.0.1 ++ ts)) ∙ fit.0.2 ts next)
 
 end_fits : ModulesAreReadAsSpelled → (front : List Placed) → EndsAt entries_at EndsText front → FitsBehind front End
 end_fits law front (all, ends) =
     let text : List Placed = front ++ (0, End) ∷ [] in
-    let spelled : SpellsModule (record { entries = all }) text = (law text (record { entries = all })).0 (ap module_from (ends ((0, End) ∷ []) refl)) in
-    (0, ([], record { entries = all }, subst (SpellsModule (record { entries = all })) (sym (append-nil text)) spelled))
+    let spelled : SpellsModule (record { entries = all }) text = (law text (record { entries = all })).0 (ap module_from (ends End refl [])) in
+    ([], record { entries = all }, subst (SpellsModule (record { entries = all })) (sym (append-nil text)) spelled)
 
 -- ---- kinds
 
 abbrev the_module : Result RawModule (Fault IrFaultKind) → Result RawModule (Fault IrFaultKind)
 the_module r = r
 
+-- the names of intrinsics are those that may be called
+is_called : (written : List ℕ) → NamesIntrinsic written → IsSome (callee_named (identifier_of written))
+is_called written (name, named, is, intrinsic) = rw (is, intrinsic_in-of name named intrinsic) refl
+
+no_intrinsic : (written : List ℕ) → callee_named (identifier_of written) ≡ None → ¬ NamesIntrinsic written
+no_intrinsic written none names = let some : is_some (callee_named (identifier_of written)) ≡ false = rw none refl in let called = is_called written names in cc
+
 left_out_is : ModulesAreReadAsSpelled → (front : List Placed) {t : Token} → (begins_record t ≡ true → ¬ AttributesFit front) → LeftOutBy (Fit Anything entries_at EndsText front) t → IsLeftOut front t
 left_out_is law front none (reasons.word w other noun fit) = nouns.another (nouns.of_word w (other, noun, token_fits law front (Word other) fit))
 left_out_is law front none (reasons.mark_of_type t begins fit) = nouns.another (nouns.of_mark t begins (codes "i8", 8, i8, token_fits law front a_type fit))
-left_out_is law front none (reasons.function written other fit) = nouns.another (nouns.of_function written other (token_fits law front (Function other) fit))
+left_out_is law front none (reasons.function written other other_name fit) = nouns.another (nouns.of_function written other (no_intrinsic other other_name) (token_fits law front (Function other) fit))
 left_out_is law front none (reasons.mark_of_record t begins fit) = nouns.mark_of_record begins (Unreachable, token_fits law front an_end fit) (none begins)
 
 -- what the reader refuses does not fit
 bad_misfits : ModulesAreReadAsSpelled → (front : List Placed) (u : Token) → RefusesAt entries_at front u → ¬ FitsBehind front u
-bad_misfits law front u refused (line, (more, m, spelled)) =
-    let read : module_of ((front ++ (line, u) ∷ []) ++ more) ≡ Ok m = (law ((front ++ (line, u) ∷ []) ++ more) m).1 spelled in
-    let same : (front ++ (line, u) ∷ []) ++ more ≡ front ++ (line, u) ∷ more = append_assoc front ((line, u) ∷ []) more in
-    let r = refused line more in
-    let refusal : module_of (front ++ (line, u) ∷ more) ≡ Err r.0 = ap module_from r.1 in
+bad_misfits law front u refused (more, m, spelled) =
+    let read : module_of ((front ++ (0, u) ∷ []) ++ more) ≡ Ok m = (law ((front ++ (0, u) ∷ []) ++ more) m).1 spelled in
+    let same : (front ++ (0, u) ∷ []) ++ more ≡ front ++ (0, u) ∷ more = append_assoc front ((0, u) ∷ []) more in
+    let r = refused more in
+    let refusal : module_of (front ++ (0, u) ∷ more) ≡ Err r.0 = ap module_from r.1 in
     let both : the_module (Ok m) ≡ Err r.0 = sym read ∙ ap module_of same ∙ refusal in absurd cc
 
-none_else : ModulesAreReadAsSpelled → (front : List Placed) (t u : Token) → Bad (Unit {0}) entries_at front t u ⊎ IsRepeated front t → FitsBehind front u → IsRepeated front t
+-- a word repeats a flag
+abbrev AgainThere : List Placed → Token → Type 0
+AgainThere front t = (w : List ℕ) × (t ≡ Word w) × Again Anything entries_at EndsText front w
+
+again_is : ModulesAreReadAsSpelled → (front : List Placed) (t : Token) → AgainThere front t → IsRepeated front t
+again_is law front t (w, is, (follows, inl fit)) = (w, is, follows, inl (codes "i8", 8, i8, token_fits law front a_type fit))
+again_is law front t (w, is, (follows, inr fit)) = (w, is, follows, inr (Eq, token_fits law front a_pred fit))
+
+-- what repeats no flag, or where what follows flags does not fit
+no_repeat : ModulesAreReadAsSpelled → (front : List Placed) (t : Token) → New (Unit {0}) entries_at front t → ¬ IsRepeated front t
+no_repeat law front t (inl new) (w, is, follows, fits) = new (w, is, follows)
+no_repeat law front t (inr free) (w, is, follows, inl (other, width, type, fits)) = bad_misfits law front (Word other) (free.0 other width type).0 fits
+no_repeat law front t (inr free) (w, is, follows, inr (pred, fits)) = bad_misfits law front (Word (predicate_keyword pred)) (free.1 pred).0 fits
+
+none_else : ModulesAreReadAsSpelled → (front : List Placed) (t u : Token) → Bad (Unit {0}) entries_at front t u ⊎ AgainThere front t → FitsBehind front u → IsRepeated front t
 none_else law front t u (inl bad) fit = absurd (bad_misfits law front u bad.0 fit)
-none_else law front t u (inr repeats) fit = repeats
+none_else law front t u (inr again) fit = again_is law front t again
 
 abbrev NoneLike : List Placed → Token → Type 0
-NoneLike front t = (u : Token) → Like (Unit {0}) t u → Bad (Unit {0}) entries_at front t u ⊎ IsRepeated front t
+NoneLike front t = (u : Token) → Like (Unit {0}) t u → Bad (Unit {0}) entries_at front t u ⊎ AgainThere front t
 
 syntax_is : ModulesAreReadAsSpelled → (front : List Placed) {t : Token} → NoneLike front t → AnotherFits front t → IsRepeated front t
 syntax_is law front h (nouns.of_word w (other, noun, fit)) = none_else law front (Word w) (Word other) (h (Word other) (like_word tt w other noun)) fit
-syntax_is law front h (nouns.of_function written other fit) = none_else law front (Function written) (Function other) (h (Function other) (like_function written other)) fit
+syntax_is law front h (nouns.of_function written other other_name fit) = none_else law front (Function written) (Function other) (h (Function other) (like_function written other)) fit
 syntax_is law front h (nouns.of_mark (Mark m) begins (other, width, is, fit)) = none_else law front (Mark m) (Word other) (h (Word other) (like_type m other width begins is)) fit
 syntax_is law front h (nouns.of_mark t begins types) = absurd cc
 
@@ -116,7 +164,11 @@ no_width_is : ModulesAreReadAsSpelled → (front : List Placed) (t : Token) → 
 no_width_is law front t bad (w, is, out, (other, width, is_type, fits)) =
     bad_misfits law front (Word other) (bad (Word other) (subst (λ (v : Token). Widths v (Word other)) (sym is) (widths w other width out is_type))).0 fits
 
-number_is : ModulesAreReadAsSpelled → (front : List Placed) (t : Token) → Reasons Anything entries_at EndsText front t ConstRange → IsWrongNumber front t
+-- what a reason says
+abbrev Said : List Placed → Token → IrFaultKind → Type 0
+Said front t kind = Reason (Fit Anything entries_at EndsText front) (Bad (Unit {0}) entries_at front) (Again Anything entries_at EndsText front) (RefusesAt entries_at front) t kind
+
+number_is : ModulesAreReadAsSpelled → (front : List Placed) (t : Token) → Said front t ConstRange → IsWrongNumber front t
 number_is law front t (digits, width, is, out, fit, bad) = (digits, width, is, out, λ other. (fits_in other, in_fits other))
   where
     fits_in : (other : List ℕ) → FitsBehind front (Number other) → IsSome (constant_of other width)
@@ -134,14 +186,21 @@ number_is law front t (digits, width, is, out, fit, bad) = (digits, width, is, o
         by None h = let none : is_some (constant_of other width) ≡ false = rw h refl in absurd cc
 
 -- no other number fits
+no_function_is : ModulesAreReadAsSpelled → (front : List Placed) {t : Token} → NoneLike front t → (written other : List ℕ) → t ≡ Function written → ¬ FitsBehind front (Function other)
+no_function_is law front {t} h written other is fits = by (h (Function other) (subst (λ (v : Token). Like (Unit {0}) v (Function other)) (sym is) (like_function written other)))
+  where
+    by : Bad (Unit {0}) entries_at front t (Function other) ⊎ AgainThere front t → ⊥
+    by (inl bad) = bad_misfits law front (Function other) bad.0 fits
+    by (inr repeats) = let word = repeats.1 in absurd cc
+
 no_number_is : ModulesAreReadAsSpelled → (front : List Placed) {t : Token} → NoneLike front t → (digits other : List ℕ) → t ≡ Number digits → ¬ FitsBehind front (Number other)
 no_number_is law front {t} h digits other is fits = by (h (Number other) (subst (λ (v : Token). Like (Unit {0}) v (Number other)) (sym is) (like_number digits other)))
   where
-    by : Bad (Unit {0}) entries_at front t (Number other) ⊎ IsRepeated front t → ⊥
+    by : Bad (Unit {0}) entries_at front t (Number other) ⊎ AgainThere front t → ⊥
     by (inl bad) = bad_misfits law front (Number other) bad.0 fits
     by (inr repeats) = let word = repeats.1 in absurd cc
 
-reason_is : ModulesAreReadAsSpelled → (front : List Placed) (t : Token) (kind : IrFaultKind) → EndsLeaveOut front t kind → (IsLeft kind → ¬ IsRepeated front t) → Reasons Anything entries_at EndsText front t kind → IsMisfit front t kind
+reason_is : ModulesAreReadAsSpelled → (front : List Placed) (t : Token) (kind : IrFaultKind) → EndsLeaveOut front t kind → (IsLeft kind → ¬ IsRepeated front t) → Said front t kind → IsMisfit front t kind
 reason_is law front t BadByte ends new h = h
 reason_is law front t Width ends new h = (h.0, h.1, h.2, (codes "i8", 8, i8, token_fits law front a_type h.3))
 reason_is law front t ConstRange ends new h = number_is law front t h
@@ -151,6 +210,7 @@ reason_is law front t Syntax ends new h = record {
   another = syntax_is law front h.0;
   mark_of_record = λ begins. terminator_is law front (h.1 begins);
   number = no_number_is law front h.0;
+  function = no_function_is law front h.0;
   entry = λ goes fits. is_left_out t goes (ends goes fits);
 }
 reason_is law front t kind ends new h = absurd h
@@ -159,10 +219,10 @@ reason_is law front t kind ends new h = absurd h
 last_none : {front : List Placed} {t : Token} → is_last t ≡ true → begins_type t ≡ false → AnotherFits front t → IsRepeated front t
 last_none end none (nouns.of_word w fits) = absurd cc
 last_none end none (nouns.of_mark t begins types) = absurd cc
-last_none end none (nouns.of_function written other fits) = absurd cc
+last_none end none (nouns.of_function written other other_name fits) = absurd cc
 
 last_is : {front : List Placed} {t : Token} → is_last t ≡ true → begins_type t ≡ false → ¬ (t ≡ Bad_token) → IsNothingElse front t
-last_is {t = t} end none no_bad = record { no_bad_byte = no_bad; another = last_none end none; mark_of_record = λ begins. absurd (no_record t begins end); number = λ digits other is fits. is_one (is_last t) end (rw is refl); entry = λ goes. absurd (is_one (is_last t) end goes) }
+last_is {t = t} end none no_bad = record { no_bad_byte = no_bad; another = last_none end none; mark_of_record = λ begins. absurd (no_record t begins end); number = λ digits other is fits. is_one (is_last t) end (rw is refl); function = λ written other is fits. is_one (is_last t) end (rw is refl); entry = λ goes. absurd (is_one (is_last t) end goes) }
   where
     is_one : (b : Bool) → b ≡ true → b ≡ false → ⊥
     is_one b holds fails = cc
@@ -174,10 +234,82 @@ entry_is front Other ends types new = last_is refl refl (λ bad. cc)
 entry_is front End ends types new = last_is refl refl (λ bad. cc)
 entry_is front t ends types new = (refl, nouns.entry refl ends, λ wrong. types ends wrong.3, new (_, refl))
 
-kind_is : ModulesAreReadAsSpelled → (front : List Placed) (t : Token) (kind : IrFaultKind) → EndsLeaveOut front t kind → EndsHaveNoTypes front → (IsLeft kind → ¬ IsRepeated front t) → OrEnds Anything entries_at EndsText front t kind → IsMisfit front t kind
-kind_is law front t kind ends types new (inl why) =
-    subst (IsMisfit front t) (sym why.1) (entry_is front t (end_fits law front why.0) types (subst (λ (k : IrFaultKind). IsLeft k → ¬ IsRepeated front t) why.1 new))
-kind_is law front t kind ends types new (inr why) = reason_is law front t kind ends new why
+-- ---- calls
+
+-- the value fits, and behind it the end of an argument
+value_fits : ModulesAreReadAsSpelled → (front : List Placed) (v : Token) → FitsEnd Anything entries_at EndsText front v → ValueFits front v
+value_fits law front v (c, enters) = by c.1 (c.2 ((0, End) ∷ []) refl)
+  where
+    by : (more : List Placed) → (entries_at (front ++ (0, v) ∷ (more ++ (0, End) ∷ [])) ≡ Ok (c.0, (0, End) ∷ [])) × Next EndsArgument (more ++ (0, End) ∷ []) → ValueFits front v
+    by [] (read, ends) = absurd (no_end refl ends)
+      where
+        no_end : {t : Token} → t ≡ End → EndsArgument t → ⊥
+        no_end is calls.comma = cc
+        no_end is calls.close = cc
+    by (end ∷ more) (read, ends) =
+        let tokens : List Placed = (front ++ (0, v) ∷ end ∷ []) ++ (more ++ (0, End) ∷ []) in
+        let same : tokens ≡ front ++ (0, v) ∷ end ∷ (more ++ (0, End) ∷ []) = append_assoc front ((0, v) ∷ end ∷ []) (more ++ (0, End) ∷ []) in
+        (end, ends, (more ++ (0, End) ∷ [], record { entries = c.0 }, (law tokens (record { entries = c.0 })).0 (ap module_from (ap entries_at same ∙ read))))
+
+-- what is refused with each end of an argument behind it does not fit
+no_value_fits : ModulesAreReadAsSpelled → (front : List Placed) (t v : Token) → RefusesEnd (Unit {0}) entries_at front t v → ¬ ValueFits front v
+no_value_fits law front t v (refused, like) (end, ends, (more, m, spelled)) =
+    let read : module_of ((front ++ (0, v) ∷ end ∷ []) ++ more) ≡ Ok m = (law ((front ++ (0, v) ∷ end ∷ []) ++ more) m).1 spelled in
+    let same : (front ++ (0, v) ∷ end ∷ []) ++ more ≡ front ++ (0, v) ∷ end ∷ more = append_assoc front ((0, v) ∷ end ∷ []) more in
+    let r = refused end more ends in
+    let refusal : module_of (front ++ (0, v) ∷ end ∷ more) ≡ Err r.0 = ap module_from r.1 in
+    let both : the_module (Ok m) ≡ Err r.0 = sym read ∙ ap module_of same ∙ refusal in absurd cc
+
+no_value_is : ModulesAreReadAsSpelled → (front : List Placed) {t : Token} {kind : IrFaultKind} → NoValue (Unit {0}) Anything entries_at EndsText front t kind → IsNoValue front t kind
+no_value_is law front (no_number digits width out fit bad) = calls.number digits width out (λ other. (fits_in other, in_fits other))
+  where
+    fits_in : (other : List ℕ) → ValueFits front (Number other) → IsSome (constant_of other width)
+    fits_in other fits = by (constant_of other width) refl
+      where
+        by : (number : Option Numeral) → constant_of other width ≡ number → is_some (constant_of other width) ≡ true
+        by (Some number) h = rw h refl
+        by None h = absurd (no_value_fits law front (Number digits) (Number other) (bad other h) fits)
+
+    in_fits : (other : List ℕ) → IsSome (constant_of other width) → ValueFits front (Number other)
+    in_fits other some = by (constant_of other width) refl
+      where
+        by : (number : Option Numeral) → constant_of other width ≡ number → ValueFits front (Number other)
+        by (Some number) h = value_fits law front (Number other) (fit other number h)
+        by None h = let none : is_some (constant_of other width) ≡ false = rw h refl in absurd cc
+no_value_is law front (no_word w fit) = calls.word w (value_fits law front no_truth fit)
+no_value_is law front (no_truth_value w bad) = calls.truth w (no_value_fits law front (Word w) no_truth bad)
+no_value_is law front (no_group text) = calls.group text
+no_value_is law front (no_quoted text) = calls.quoted text
+
+-- a function that fits there is an intrinsic
+callee_is : ModulesAreReadAsSpelled → (front : List Placed) (t : Token) → ((other : List ℕ) → callee_named (identifier_of other) ≡ None → Bad (Unit {0}) entries_at front t (Function other)) → (other : List ℕ) → FitsBehind front (Function other) → NamesIntrinsic other
+callee_is law front t bad other fits = by (identifier_of other) refl
+  where
+    by : (called : Identifier) → identifier_of other ≡ called → NamesIntrinsic other
+    by (Numbered n) is = absurd (bad_misfits law front (Function other) (bad other (ap callee_named is)).0 fits)
+    by (Named name) is = found (intrinsic_in name) refl
+      where
+        found : (named : Option (Intrinsic × ℕ)) → intrinsic_in name ≡ named → NamesIntrinsic other
+        found (Some named) h = (name, named, is, intrinsic_in-is name named h)
+        found None h = absurd (bad_misfits law front (Function other) (bad other (ap callee_named is ∙ h)).0 fits)
+
+call_is : ModulesAreReadAsSpelled → (front : List Placed) {t : Placed} {found : Fault IrFaultKind} → InCall (Unit {0}) Anything entries_at EndsText front t found → IsToldInCall front t found
+call_is law front (of_callee line at written one stands fit bad) =
+    calls.callee line at written (record { one = one; fits = token_fits law front (Function one) fit; alone = callee_is law front (Function written) bad }) stands
+call_is law front (of_value before line value end kind same ends none fit why) =
+    calls.value before line value end kind same ends (λ other is. bad_misfits law front other (none other is)) (value_fits law before a_truth fit) (no_value_is law before why)
+call_is law front (of_truth line w fit bad) = calls.truth line w (value_fits law front a_truth fit) (no_value_fits law front (Word w) no_truth bad)
+
+-- ---- what is told
+
+told_is : ModulesAreReadAsSpelled → (front : List Placed) (t : Placed) (found : Fault IrFaultKind) → EndsLeaveOut front t.1 found.kind → EndsHaveNoTypes front → EndsHaveNoNumbers front → (IsLeft found.kind → ¬ IsRepeated front t.1) → OrEnds Anything entries_at EndsText front t found → IsTold front t found
+told_is law front t found ends types numbers new (inl (end, line, kind)) =
+    let told : IsMisfit front t.1 found.kind = subst (IsMisfit front t.1) (sym kind) (entry_is front t.1 (end_fits law front end) types (subst (λ (k : IrFaultKind). IsLeft k → ¬ IsRepeated front t.1) kind new)) in
+    of_token line told (λ other h. one_kind front t.1 numbers found.kind other told h)
+told_is law front t found ends types numbers new (inr (inl (line, why))) =
+    let told : IsMisfit front t.1 found.kind = reason_is law front t.1 found.kind ends new why in
+    of_token line told (λ other h. one_kind front t.1 numbers found.kind other told h)
+told_is law front t found ends types numbers new (inr (inr call)) = in_call (call_is law front call)
 
 -- ---- where a fault stands
 
@@ -194,52 +326,49 @@ refused_misfits law front t found refused (more, m, spelled) =
     the_result r = r
 
 -- what fits with the end behind it is read up to there
-read_up_to : ModulesAreReadAsSpelled → (front : List Placed) (ends : FitsBehind front End) → Ended (UpTo front ends.0) → (x : List RawEntry × List Placed) × (entries_at (UpTo front ends.0) ≡ Ok x)
-read_up_to law front (line, (more, m, spelled)) e = by (entries_at (UpTo front line)) refl (entries_outcome (UpTo front line) e)
+read_up_to : ModulesAreReadAsSpelled → (front : List Placed) (ends : FitsBehind front End) → Ended (UpTo front 0) → (x : List RawEntry × List Placed) × (entries_at (UpTo front 0) ≡ Ok x)
+read_up_to law front (more, m, spelled) e = by (entries_at (UpTo front 0)) refl (entries_outcome (UpTo front 0) e)
   where
-    by : (r : Read (List RawEntry)) → entries_at (UpTo front line) ≡ r → Outcome Anything entries_at EndsText (OrEnds Anything entries_at EndsText) (UpTo front line) r → (x : List RawEntry × List Placed) × (entries_at (UpTo front line) ≡ Ok x)
+    by : (r : Read (List RawEntry)) → entries_at (UpTo front 0) ≡ r → Outcome Anything entries_at EndsText (OrEnds Anything entries_at EndsText) (UpTo front 0) r → (x : List RawEntry × List Placed) × (entries_at (UpTo front 0) ≡ Ok x)
     by (Ok x) is o = (x, is)
     by (Err f) is o =
-        let read : module_of (UpTo front line ++ more) ≡ Ok m = (law (UpTo front line ++ more) m).1 spelled in
-        let same : UpTo front line ++ more ≡ o.front ++ (f.line, o.token) ∷ (o.behind ++ more) = ap (λ (ts : List Placed). ts ++ more) o.there ∙ append_assoc o.front ((f.line, o.token) ∷ o.behind) more in
-        let refusal : module_of (o.front ++ (f.line, o.token) ∷ (o.behind ++ more)) ≡ Err f = ap module_from (o.refused (o.behind ++ more)) in
+        let read : module_of (UpTo front 0 ++ more) ≡ Ok m = (law (UpTo front 0 ++ more) m).1 spelled in
+        let same : UpTo front 0 ++ more ≡ o.front ++ o.token ∷ (o.behind ++ more) = ap (λ (ts : List Placed). ts ++ more) o.there ∙ append_assoc o.front (o.token ∷ o.behind) more in
+        let refusal : module_of (o.front ++ o.token ∷ (o.behind ++ more)) ≡ Err f = ap module_from (o.refused (o.behind ++ more)) in
         let both : the_module (Ok m) ≡ Err f = sym read ∙ ap module_of same ∙ refusal in absurd cc
 
-ends_leave_out : ModulesAreReadAsSpelled → (tokens : List Placed) (found : Fault IrFaultKind) → Ended tokens → (o : IsRefused entries_at EndsText (OrEnds Anything entries_at EndsText) tokens found) → EndsLeaveOut o.front o.token found.kind
+ends_leave_out : ModulesAreReadAsSpelled → (tokens : List Placed) (found : Fault IrFaultKind) → Ended tokens → (o : IsRefused (Unit {0}) entries_at EndsText (OrEnds Anything entries_at EndsText) tokens found) → EndsLeaveOut o.front o.token.1 found.kind
 ends_leave_out law tokens found e o goes ends =
-    let ended : Ended (UpTo o.front ends.0) = ended_before o.front (found.line, o.token) o.behind (subst Ended o.there e) ends.0 in
+    let ended : Ended (UpTo o.front 0) = ended_before o.front o.token o.behind (subst Ended o.there e) 0 in
     let r = read_up_to law o.front ends ended in
-    refused_at_end o.front ends.0 o.token r.0 found ended r.1 goes o.refused
+    (refused_at_end o.front 0 o.token r.0 found ended r.1 goes o.refused).1
 
-ends_have_no_types : ModulesAreReadAsSpelled → (tokens : List Placed) (found : Fault IrFaultKind) → Ended tokens → (o : IsRefused entries_at EndsText (OrEnds Anything entries_at EndsText) tokens found) → EndsHaveNoTypes o.front
+ends_have_no_types : ModulesAreReadAsSpelled → (tokens : List Placed) (found : Fault IrFaultKind) → Ended tokens → (o : IsRefused (Unit {0}) entries_at EndsText (OrEnds Anything entries_at EndsText) tokens found) → EndsHaveNoTypes o.front
 ends_have_no_types law tokens found e o ends (w, width, is, fits) =
-    let ended : Ended (UpTo o.front ends.0) = ended_before o.front (found.line, o.token) o.behind (subst Ended o.there e) ends.0 in
+    let ended : Ended (UpTo o.front 0) = ended_before o.front o.token o.behind (subst Ended o.there e) 0 in
     let r = read_up_to law o.front ends ended in
-    bad_misfits law o.front (Word w) (types_refused_at_end o.front ends.0 r.0 ended r.1 w width is) fits
+    bad_misfits law o.front (Word w) (types_refused_at_end o.front 0 r.0 ended r.1 w width is) fits
 
-ends_have_no_numbers : ModulesAreReadAsSpelled → (tokens : List Placed) (found : Fault IrFaultKind) → Ended tokens → (o : IsRefused entries_at EndsText (OrEnds Anything entries_at EndsText) tokens found) → EndsHaveNoNumbers o.front
+ends_have_no_numbers : ModulesAreReadAsSpelled → (tokens : List Placed) (found : Fault IrFaultKind) → Ended tokens → (o : IsRefused (Unit {0}) entries_at EndsText (OrEnds Anything entries_at EndsText) tokens found) → EndsHaveNoNumbers o.front
 ends_have_no_numbers law tokens found e o ends digits fits =
-    let ended : Ended (UpTo o.front ends.0) = ended_before o.front (found.line, o.token) o.behind (subst Ended o.there e) ends.0 in
+    let ended : Ended (UpTo o.front 0) = ended_before o.front o.token o.behind (subst Ended o.there e) 0 in
     let r = read_up_to law o.front ends ended in
-    bad_misfits law o.front (Number digits) (numbers_refused_at_end o.front ends.0 r.0 ended r.1 digits) fits
+    bad_misfits law o.front (Number digits) (numbers_refused_at_end o.front 0 r.0 ended r.1 digits) fits
 
-first_misfit : ModulesAreReadAsSpelled → (tokens : List Placed) (found : Fault IrFaultKind) → Ended tokens → IsRefused entries_at EndsText (OrEnds Anything entries_at EndsText) tokens found → IsFirstMisfit tokens found
+first_misfit : ModulesAreReadAsSpelled → (tokens : List Placed) (found : Fault IrFaultKind) → Ended tokens → IsRefused (Unit {0}) entries_at EndsText (OrEnds Anything entries_at EndsText) tokens found → IsFirstMisfit tokens found
 first_misfit law tokens found e o = record {
   front = o.front;
   token = o.token;
   behind = o.behind;
   stands = o.there;
   fits = front_fits law o.front o.completes;
-  misfit = refused_misfits law o.front (found.line, o.token) found o.refused;
-  kind = kind_is law o.front o.token found.kind (ends_leave_out law tokens found e o) (ends_have_no_types law tokens found e o) o.new o.why;
-  only = λ other h.
-      one_kind o.front o.token (ends_have_no_numbers law tokens found e o) found.kind other
-      (kind_is law o.front o.token found.kind (ends_leave_out law tokens found e o) (ends_have_no_types law tokens found e o) o.new o.why) h;
+  misfit = refused_misfits law o.front o.token found o.refused;
+  told = told_is law o.front o.token found (ends_leave_out law tokens found e o) (ends_have_no_types law tokens found e o) (ends_have_no_numbers law tokens found e o) (λ left. no_repeat law o.front o.token.1 (o.new left)) o.why;
 }
 
 refused_at : ModulesAreReadAsSpelled → (tokens : List Placed) (found : Fault IrFaultKind) (r : Read (List RawEntry)) → module_from r ≡ Err found → Ended tokens → Outcome Anything entries_at EndsText (OrEnds Anything entries_at EndsText) tokens r → IsFirstMisfit tokens found
 refused_at law tokens found (Ok x) is ended o = absurd cc
-refused_at law tokens found (Err e) is ended o = first_misfit law tokens found ended (subst (IsRefused entries_at EndsText (OrEnds Anything entries_at EndsText) tokens) (err_is e found is) o)
+refused_at law tokens found (Err e) is ended o = first_misfit law tokens found ended (subst (IsRefused (Unit {0}) entries_at EndsText (OrEnds Anything entries_at EndsText) tokens) (err_is e found is) o)
   where
     err_is : (a b : Fault IrFaultKind) → module_from (Err a) ≡ Err b → a ≡ b
     err_is a b same = cc
@@ -257,7 +386,7 @@ begun_fits front rest (more, m, spelled) = (rest ++ more, m, subst (SpellsModule
 read : ModulesAreReadAsSpelled → TextsHaveOneListOfTokens → (text : List ℕ) (tokens : List Placed) (found : Fault IrFaultKind) → length text ≤ most_bytes → AreTokens text tokens → Fits tokens → ¬ IsTextFault text found
 read law one text tokens found within are all_fit fault =
     let first = refused law one text tokens found within are fault in
-    let t : List Placed = (found.line, first.token) ∷ [] in
+    let t : List Placed = first.token ∷ [] in
     first.misfit (begun_fits (first.front ++ t) first.behind (subst Fits (first.stands ∙ sym (append_assoc first.front t first.behind)) all_fit))
 
 pub faults : ModulesAreReadAsSpelled → TextsHaveOneListOfTokens → FaultsAreWhereTextsDoNotFit

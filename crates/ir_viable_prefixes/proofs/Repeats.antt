@@ -1,13 +1,13 @@
 -- Readers of what stands any number of times.
 use Rattle.std.proofs.Common.{◌≡◌, ◌<◌, ℕ, zero, suc, Bool, true, false, List, [], ◌∷◌, ◌++◌, length, Ok, Err, refl, sym, ap, subst, ◌∙◌, append_assoc, arith}
 use Rattle.ir_tokens.specs.Tokens.{Token, Placed}
+use Rattle.refusal.specs.declared.fault.Fault.{Fault}
 use Rattle.ir_tokens.specs.declared.fault.IrFaultKind.{IrFaultKind}
 use Rattle.ir_instructions.specs.Readers.{Read, Reader, goes_on, ◌>>=◌, done, TakesSome, steps_at, repeat_at, another_at, each_at}
 use Rattle.ir_instructions.proofs.Loops.{repeat-more, repeat-done}
 use Rattle.ir_viable_prefixes.proofs.FlagRuns.{ReadsApart, done_apart, both_apart, loop_apart}
-use Rattle.ir_viable_prefixes.proofs.Choices.{AsksNext, Tested, tested_next, Opens, OpensRecords, opens_wider, transfer, And, maps_transferred}
-use Rattle.ir_viable_prefixes.proofs.Outcomes.{Follow, next_map, Ended, Sample, Why, Reasons, ReasonsIf, Lifts, OutcomeIf, StaysNew, apart_new, outcome_both, reasons_lift, maps_first, maps_second, GoodIf, done-good}
-use Rattle.ir_viable_prefixes.proofs.Reasons.{reason_map}
+use Rattle.ir_viable_prefixes.proofs.Choices.{AsksNext, Tested, tested_next, Opens, OpensRecords, opens_wider, transfer, And, reasons_moved}
+use Rattle.ir_viable_prefixes.proofs.Outcomes.{Follow, next_map, Ended, Sample, Why, Reasons, ReasonsIf, Lifts, OutcomeIf, StaysNew, apart_new, outcome_both, reasons_lift, reasons_first, reasons_second, GoodIf, done-good}
 
 -- What a loop has of its steps: one is next or not by the next token, takes some, and ends before such tokens as D, as before each that
 -- begins another. Tokens of one sort are next alike, words among them where V holds, or where W does if none is next.
@@ -49,11 +49,11 @@ repeat_outcomes {A} V D F W is_next step s X Y lifts new good (suc n) E enters n
     by more false none =
         let nothing : GoodIf W (And E (Tested is_next false)) (done a) F W = done-good (λ t f. (enters t f, s.ends t f)) a in
         subst (OutcomeIf (Unit {0}) E (repeat_at is_next step a) F W (Y E a) tokens) (sym (repeat-done is_next step a tokens none))
-        (transfer is_next s.asks false (done a) (repeat_at is_next step a) (λ ts h. repeat-done is_next step a ts h) W (Unit {0}) W (λ w. tt) s.shuts (And E (Tested is_next false)) E F (opens_wider is_next false (Tested is_next true) E (repeat_at is_next step a) F next_enters (s.records a false)) (Y E a) (Y E a) (λ t d. d.1) (λ t d. d.0) tokens (λ front l t behind there kind why. why) none (Ok (a, tokens)) (nothing.outcome tokens e))
+        (transfer is_next s.asks false (done a) (repeat_at is_next step a) (λ ts h. repeat-done is_next step a ts h) W (Unit {0}) W (λ w. tt) s.shuts (And E (Tested is_next false)) E F (opens_wider is_next false (Tested is_next true) E (repeat_at is_next step a) F next_enters (s.records a false)) (Y E a) (Y E a) (λ t d. d.1) (λ t d. d.0) tokens (λ front t behind there found why. why) none (Ok (a, tokens)) (nothing.outcome tokens e))
     by more true next =
         subst (OutcomeIf (Unit {0}) E (repeat_at is_next step a) F W (Y E a) tokens) (sym (one_step is_next step s.takes a tokens next))
         (transfer is_next s.asks true (step a >>= repeat_at is_next step) (repeat_at is_next step a) (one_step is_next step s.takes a) V (Unit {0}) W (λ v. tt) s.opens (Tested is_next true) E F (opens_wider is_next true (Tested is_next true) E (repeat_at is_next step a) F next_enters (s.records a true)) (Y E a) (Y E a) (λ t d. d) next_enters
-        tokens (λ front l t behind there kind why. why) next (goes_on (step a tokens) (repeat_at is_next step))
+        tokens (λ front t behind there found why. why) next (goes_on (step a tokens) (repeat_at is_next step))
         (outcome_both V (Unit {0}) W (Tested is_next true) D F (step a) (repeat_at is_next step) (X a) (Y D) (Y E a) tokens (lifts E next_enters a tokens next) (new a tokens) (λ x. loop_sample V D F W is_next step s D s.ends_step x) (step a tokens) refl (good a tokens e next)
         (λ x is ended. more x (s.takes a tokens x next is) ended)))
 
@@ -62,16 +62,17 @@ pub loop_lifts : {A : Type 0} (V : Type 0) (D F : Follow) (W : Type 0) (is_next 
     → (E : Follow) → ((t : Token) → Tested is_next true t → E t) → (a : A) (tokens : List Placed) → is_next tokens ≡ true
     → Lifts V (Unit {0}) (Tested is_next true) D F (step a) (repeat_at is_next step) (ReasonsIf V (Tested is_next true) (step a) D) (λ x. Reasons D (repeat_at is_next step x) F) (Reasons E (repeat_at is_next step a) F) tokens
 loop_lifts {A} V D F W is_next step s E next_enters a tokens next = record {
-  first = λ front l t behind there kind why.
-      over front l t behind there kind (reason_map _ _ _ _ _ _ _ _ t (maps_first V (Tested is_next true) D F (step a) (repeat_at is_next step) (λ x. loop_sample V D F W is_next step s D s.ends_step x) front t) kind why);
-  second = λ x is o front l t behind there kind why.
-      over (o.front ++ front) l t behind (o.there ∙ ap (λ (ts : List Placed). o.front ++ ts) there ∙ sym (append_assoc o.front front ((l, t) ∷ behind))) kind
-      (reason_map _ _ _ _ _ _ _ _ t (maps_second V (Unit {0}) (Tested is_next true) D F (step a) (repeat_at is_next step) (λ y. loop_sample V D F W is_next step s D s.ends_step y) tokens x o front l t behind there) kind why);
+  first = λ front t behind there found why.
+      over front t behind there found (reasons_first V (Tested is_next true) D F (step a) (repeat_at is_next step) (λ x. loop_sample V D F W is_next step s D s.ends_step x) front t found why);
+  second = λ x is o front t behind there found why.
+      over (o.front ++ front) t behind (o.there ∙ ap (λ (ts : List Placed). o.front ++ ts) there ∙ sym (append_assoc o.front front (t ∷ behind))) found
+      (reasons_second V (Unit {0}) (Tested is_next true) D F (step a) (repeat_at is_next step) (λ y. loop_sample V D F W is_next step s D s.ends_step y) tokens x o front t behind there found why);
 }
   where
-    over : (front : List Placed) (l : ℕ) (t : Token) (behind : List Placed) → tokens ≡ front ++ (l, t) ∷ behind → (kind : IrFaultKind) → ReasonsIf V (Tested is_next true) (step a >>= repeat_at is_next step) F front t kind → Reasons E (repeat_at is_next step a) F front t kind
-    over front l t behind there kind why =
-        reason_map _ _ _ _ _ _ _ _ t (maps_transferred is_next s.asks true (step a >>= repeat_at is_next step) (repeat_at is_next step a) (one_step is_next step s.takes a) V (Unit {0}) (λ v. tt) s.opens (Tested is_next true) E F (opens_wider is_next true (Tested is_next true) E (repeat_at is_next step a) F next_enters (s.records a true)) (λ v d. d) next_enters tokens next front l t behind there) kind why
+    over : (front : List Placed) (t : Placed) (behind : List Placed) → tokens ≡ front ++ t ∷ behind → (found : Fault IrFaultKind) → ReasonsIf V (Tested is_next true) (step a >>= repeat_at is_next step) F front t found → Reasons E (repeat_at is_next step a) F front t found
+    over =
+        reasons_moved is_next s.asks true (step a >>= repeat_at is_next step) (repeat_at is_next step a) (one_step is_next step s.takes a) V (Unit {0}) (λ v. tt) s.opens (Tested is_next true) E F (λ v d. d) next_enters tokens next
+        (opens_wider is_next true (Tested is_next true) E (repeat_at is_next step a) F next_enters (s.records a true))
 
 pub repeat-good : {A : Type 0} {E F : Follow} {W : Type 0} (V : Type 0) (D : Follow) (is_next : List Placed → Bool) (step : A → Reader A) → Steps V D F W is_next step → ((a : A) → ReadsApart (step a))
     → ((a : A) (tokens : List Placed) → Ended tokens → is_next tokens ≡ true → OutcomeIf V (Tested is_next true) (step a) D (Unit {0}) (ReasonsIf V (Tested is_next true) (step a) D) tokens (step a tokens))

@@ -1,5 +1,5 @@
 -- Readers of instructions and terminators.
-use Rattle.std.proofs.Common.{◌≡◌, ℕ, Bool, true, false, not, eqb, List, [], ◌∷◌, Option, Some, None, refl, sym, subst, ◌∙◌, inr}
+use Rattle.std.proofs.Common.{◌≡◌, ℕ, Bool, true, false, not, eqb, List, [], ◌∷◌, Option, Some, None, refl, sym, subst, ◌∙◌, inl, inr}
 use Rattle.std.proofs.lemmas.Bool.{eqb-true}
 use Rattle.std.specs.Prelude.{codes}
 use Rattle.std.specs.Str.{bytes_eq}
@@ -11,6 +11,7 @@ use Rattle.scan.specs.IrTokens.{is_plain_name}
 use Rattle.ir_tokens.specs.Numbers.{is_number}
 use Rattle.ir_tokens.specs.Tokens.{Token, Placed, Word, Register, Metadata, Mark, is_last}
 use Rattle.ir_tokens.specs.declared.raw.RawIdentifier.{RawIdentifier}
+use Rattle.ir_tokens.specs.declared.raw.RawValue.TheVariants.{True}
 use Rattle.ir_tokens.specs.declared.raw.RawTerminator.{RawTerminator}
 use Rattle.ir_tokens.specs.declared.raw.RawTerminator.TheVariants.{Jump}
 use Rattle.ir_instructions.specs.declared.word.Ending.{Ending}
@@ -19,20 +20,20 @@ use Rattle.ir_instructions.specs.declared.word.TypeWord.TheVariants.{OutOfRange}
 use Rattle.ir_instructions.specs.InstructionReaders as parsing
 use Rattle.ir_instructions.specs.Places.{begins_record, begins_type}
 use Rattle.ir_instructions.specs.Readers.{Reader, ◌>>=◌, done, each_at}
-use Rattle.ir_instructions.specs.Keywords.{ending_in, ending_word, type_in}
+use Rattle.ir_instructions.specs.Keywords.{ending_in, ending_word, type_in, value_in, truth_in}
 use Rattle.ops.specs.Flags.{flags_of, flags_of_cast, flags_of_icmp}
-use Rattle.ops.specs.FlagKeywords.{flag_in}
+use Rattle.ops.specs.declared.keywords.flag.Flag.{Flag}
+use Rattle.ops.specs.FlagKeywords.{flag_in, flag_keyword}
 use Rattle.ir_instructions.specs.Punctuation as marks
 use Rattle.ir_instructions.proofs.Takings.{attachment-takes, tail-takes, case-takes}
 use Rattle.ir_viable_prefixes.proofs.Choices.{AsksNext, Tested, Opens, SaysOfRecords, And, either_outcome, either_sample, same-good}
-use Rattle.ir_viable_prefixes.specs.Misfits.{IsNoun, RepeatsFlag}
 use Rattle.ir_viable_prefixes.specs.Misfits as nouns
-use Rattle.ir_viable_prefixes.proofs.Outcomes.{Follow, Anything, Ended, ReasonsIf, OutcomeIf, takes, GoodIf, Good, done-good, ◌then◌, taken, both}
+use Rattle.ir_viable_prefixes.proofs.Outcomes.{Follow, Anything, Ended, Fit, RefusesEach, ReasonsIf, OutcomeIf, takes, GoodIf, Good, done-good, ◌then◌, taken, both}
 use Rattle.ir_viable_prefixes.proofs.Reasons.{a_type, an_end, Like, like_word, like_type, like_function, like_width, like_number}
-use Rattle.ir_viable_prefixes.proofs.FlagReaders.{flags_then}
+use Rattle.ir_viable_prefixes.proofs.FlagReaders.{NotFlag, flags_then}
 use Rattle.ir_viable_prefixes.proofs.FlagRuns.{either_apart}
 use Rattle.ir_viable_prefixes.proofs.Repeats.{repeat-good, each-good}
-use Rattle.ir_viable_prefixes.proofs.TokenReaders.{no_label, no_to, type_flags, pred_flags, mark-good, keyword-good, register-good, type-good, operand-good, case_value-good, metadata-good, pred-good, ending_word_at, ending-good}
+use Rattle.ir_viable_prefixes.proofs.TokenReaders.{no_label, no_to, type_flags, type_fits, pred_flags, pred_fits, mark-good, keyword-good, register-good, type-good, operand-good, case_value-good, metadata-good, pred-good, ending_word_at, ending-good}
 
 -- ---- what stands next
 
@@ -196,27 +197,32 @@ tail-good =
 pub binary-good : (op : Opcode) → Good Anything (parsing.binary_at op) Anything
 unfolding parsing.binary_at flag_in
 binary-good op =
-    flags_then (flags_of op)
-    (λ flags. type-good refl then (λ width. operand-good width then (λ left. mark-good marks.comma tt then (λ u. operand-good width then (λ right. done-good (λ t f. tt) _)))))
-    (λ flags flag line more. let r = type_flags.1 flag line more in (r.0, rw r.1 refl))
+    flags_then (flags_of op) (type-good refl) (λ flags width. operand-good width then (λ left. mark-good marks.comma tt then (λ u. operand-good width then (λ right. done-good (λ t f. tt) _)))) type_flags.1
+    (inl (type_fits (NotFlag (flags_of op)) refl))
 
 pub compare-good : Good Anything parsing.compare_at Anything
 unfolding parsing.compare_at flag_in
 compare-good =
-    flags_then flags_of_icmp
-    (λ flags. pred-good refl then (λ pred. type-good tt then (λ width. operand-good width then (λ left. mark-good marks.comma tt then (λ u. operand-good width then (λ right. done-good (λ t f. tt) _))))))
-    (λ flags flag line more. let r = pred_flags.1 flag line more in (r.0, rw r.1 refl))
+    flags_then flags_of_icmp (pred-good refl) (λ flags pred. type-good tt then (λ width. operand-good width then (λ left. mark-good marks.comma tt then (λ u. operand-good width then (λ right. done-good (λ t f. tt) _))))) pred_flags.1
+    (inr (pred_fits (NotFlag flags_of_icmp) refl))
 
 pub select-good : Good Anything parsing.select_at Anything
 unfolding parsing.select_at
 select-good = typed-good tt then (λ condition. mark-good marks.comma tt then (λ u. typed-good tt then (λ if_true. mark-good marks.comma tt then (λ v. typed-good tt then (λ if_false. done-good (λ t f. tt) _)))))
 
+typed_flags : (flag : Flag) → RefusesEach parsing.typed_at (Word (flag_keyword flag))
+unfolding parsing.typed_at
+typed_flags flag line more = let r = type_flags.1 flag line more in (r.0, rw r.1 refl)
+
+typed_fits : (E : Follow) → E a_type → Fit E parsing.typed_at Anything [] a_type
+unfolding parsing.typed_at parsing.type_at parsing.operand_at type_in bytes.is_digit value_in truth_in
+typed_fits E e = ((record { width = 8; operand = record { line = 0; value = True } }, (0, Word (codes "true")) ∷ [], λ ts f. refl), λ none. e)
+
 pub convert-good : (cast : Cast) → Good Anything (parsing.convert_at cast) Anything
-unfolding parsing.convert_at parsing.typed_at flag_in
+unfolding parsing.convert_at flag_in
 convert-good cast =
-    flags_then (flags_of_cast cast)
-    (λ flags. typed-good refl then (λ from. keyword-good (codes "to") no_to tt then (λ u. type-good tt then (λ to. done-good (λ t f. tt) _))))
-    (λ flags flag line more. let r = type_flags.1 flag line more in (r.0, rw r.1 refl))
+    flags_then (flags_of_cast cast) (typed-good refl) (λ flags from. keyword-good (codes "to") no_to tt then (λ u. type-good tt then (λ to. done-good (λ t f. tt) _))) typed_flags
+    (inl (typed_fits (NotFlag (flags_of_cast cast)) refl))
 
 pub freeze-good : Good Anything parsing.freeze_at Anything
 unfolding parsing.freeze_at

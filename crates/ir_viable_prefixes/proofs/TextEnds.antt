@@ -1,4 +1,5 @@
 -- Where the text may end, whole entries stand, and a token that is refused there begins none.
+use Rattle.std.proofs.lemmas.List.{append_cancel_right}
 use Rattle.std.proofs.Common.{◌≡◌, ◌<◌, ℕ, zero, suc, true, false, List, [], ◌∷◌, ◌++◌, length, Option, Ok, Err, refl, sym, ap, subst, ◌∙◌, append_assoc, arith, length-append}
 use Rattle.std.specs.Prelude.{codes}
 use Rattle.std.specs.Str.{bytes_eq}
@@ -14,7 +15,7 @@ use Rattle.ir_instructions.specs.Keywords.{IsTypeWord}
 use Rattle.ir_instructions.proofs.Loops.{repeat-done}
 use Rattle.ir_instructions.proofs.Steps.{ok_is}
 use Rattle.ir_parse.specs.ModuleReaders as parsing
-use Rattle.ir_viable_prefixes.proofs.Entries.{entry_token_at, behind_entry, same_entry, IsFirst, entry_token_takes, behind_entry-good, Begins, OrFirst, Loop, entry_steps, another_outcome}
+use Rattle.ir_viable_prefixes.proofs.Entries.{entry_token_at, behind_entry, same_entry, IsFirst, entry_token_takes, behind_entry-good, Begins, OrFirst, Loop, entry_steps, another_outcome, another-closes}
 use Rattle.ir_viable_prefixes.proofs.Outcomes.{Anything, Ended, RefusesAt, IsReadIf, Outcome, Takes, takes, refuses}
 use Rattle.ir_viable_prefixes.proofs.Repeats.{one_step}
 
@@ -31,8 +32,8 @@ UpTo front l = front ++ (l, End) ∷ []
 -- with the end in place of a token, a text ends there
 pub ended_before : (front : List Placed) (t : Placed) (behind : List Placed) → Ended (front ++ t ∷ behind) → (l : ℕ) → Ended (UpTo front l)
 ended_before [] t behind e l = refl
-ended_before (u ∷ []) t behind e l = (e.0, refl)
-ended_before (u ∷ v ∷ front) t behind e l = (e.0, ended_before (v ∷ front) t behind e.1 l)
+ended_before (u ∷ []) t behind e l = (e.0, refl, e.2)
+ended_before (u ∷ v ∷ front) t behind e l = (e.0, ended_before (v ∷ front) t behind e.1 l, e.2)
 
 -- what is left of such a list ends with the same
 left_over : (front first rest : List Placed) (t : Placed) → front ++ t ∷ [] ≡ first ++ rest → Ended rest → (others : List Placed) × (rest ≡ others ++ t ∷ []) × (front ≡ first ++ others)
@@ -70,9 +71,11 @@ step : (a : List RawEntry) (u : Placed) (tokens : List Placed) → is_last u.1 �
 step a u tokens goes = one_step parsing.begins_entry One entry_steps.takes a (u ∷ tokens) (begins u.0 u.1 tokens goes)
 
 -- an entry that is read is so whatever stands behind it
-whatever_follows : (a : List RawEntry) (tokens : List Placed) (x : List RawEntry × List Placed) (o : IsRead a tokens x) (others : List Placed) (t : Placed) (more : List Placed) → One a (o.front ++ (others ++ t ∷ more)) ≡ Ok (x.0, others ++ t ∷ more)
-whatever_follows a tokens x o [] t more = o.follows t.1 tt t.0 more
-whatever_follows a tokens x o (u ∷ others) t more = o.follows u.1 tt u.0 (others ++ t ∷ more)
+whatever_follows : (a : List RawEntry) (tokens : List Placed) (x : List RawEntry × List Placed) (o : IsRead a tokens x) → Ended tokens → One a tokens ≡ Ok x → (others : List Placed) → One a (o.front ++ others) ≡ Ok (x.0, others)
+whatever_follows a tokens x o e is others =
+    let c = another-closes a tokens x e is in
+    let same : c.0 ∷ c.1 ≡ o.front = append_cancel_right (c.0 ∷ c.1) o.front x.1 (sym c.2 ∙ o.there) in
+    subst (λ (f : List Placed). One a (f ++ others) ≡ Ok (x.0, others)) same (c.3 others)
 
 -- what is to be shown of fewer tokens
 abbrev Follows : ℕ → ℕ → List RawEntry × List Placed → Placed → List Placed → Type 0
@@ -80,15 +83,15 @@ Follows n l x t more = (a : List RawEntry) (front : List Placed) → length fron
 
 -- the same where an entry is read first
 entry_follows : (n : ℕ) (l : ℕ) (x : List RawEntry × List Placed) (t : Placed) (more : List Placed) → Follows n l x t more → (a : List RawEntry) (u : Placed) (front : List Placed) → length (u ∷ front) < suc n → is_last u.1 ≡ false → Loop a (UpTo (u ∷ front) l) ≡ Ok x
-    → (y : List RawEntry × List Placed) → One a (UpTo (u ∷ front) l) ≡ Ok y → IsRead a (UpTo (u ∷ front) l) y → Loop a ((u ∷ front) ++ t ∷ more) ≡ Loop x.0 (t ∷ more)
-entry_follows n l x t more follows a u front short goes read y is o =
+    → (y : List RawEntry × List Placed) → One a (UpTo (u ∷ front) l) ≡ Ok y → IsRead a (UpTo (u ∷ front) l) y → Ended (UpTo (u ∷ front) l) → Loop a ((u ∷ front) ++ t ∷ more) ≡ Loop x.0 (t ∷ more)
+entry_follows n l x t more follows a u front short goes read y is o e =
     let s = left_over (u ∷ front) o.front y.1 (l, End) o.there o.ended in
     let fewer : length y.1 < length (UpTo (u ∷ front) l) = entry_steps.takes a (UpTo (u ∷ front) l) y (begins u.0 u.1 (UpTo front l) goes) is in
     let left : length y.1 ≡ length (UpTo s.0 l) = ap length s.1 in
     let shorter : length s.0 < n = omega (arith, length-append s.0 ((l, End) ∷ []), length-append (u ∷ front) ((l, End) ∷ [])) in
     let rest : Loop y.0 (UpTo s.0 l) ≡ Ok x = ap (Loop y.0) (sym s.1) ∙ sym (ap (λ (r : Read (List RawEntry)). goes_on r Loop) is) ∙ sym (step a u (UpTo front l) goes) ∙ read in
     let same : (u ∷ front) ++ t ∷ more ≡ o.front ++ (s.0 ++ t ∷ more) = ap (λ (ts : List Placed). ts ++ t ∷ more) s.2 ∙ append_assoc o.front s.0 (t ∷ more) in
-    let one : One a ((u ∷ front) ++ t ∷ more) ≡ Ok (y.0, s.0 ++ t ∷ more) = ap (One a) same ∙ whatever_follows a (UpTo (u ∷ front) l) y o s.0 t more in
+    let one : One a ((u ∷ front) ++ t ∷ more) ≡ Ok (y.0, s.0 ++ t ∷ more) = ap (One a) same ∙ whatever_follows a (UpTo (u ∷ front) l) y o e is (s.0 ++ t ∷ more) in
     step a u (front ++ t ∷ more) goes ∙ ap (λ (r : Read (List RawEntry)). goes_on r Loop) one ∙ follows y.0 s.0 shorter (subst Ended s.1 o.ended) rest
 
 pub others_follow : (n : ℕ) (a : List RawEntry) (front : List Placed) (l : ℕ) (x : List RawEntry × List Placed) → length front < n → Ended (UpTo front l) → Loop a (UpTo front l) ≡ Ok x
@@ -101,7 +104,7 @@ others_follow (suc n) a (u ∷ front) l x short e read t more =
     by (λ b others shorter ended is. others_follow n b others l x shorter ended is t more) (One a (UpTo (u ∷ front) l)) refl (another_outcome a (UpTo (u ∷ front) l) e)
   where
     by : Follows n l x t more → (r : Read (List RawEntry)) → One a (UpTo (u ∷ front) l) ≡ r → Outcome Begins (One a) Anything (OrFirst Begins (One a) Anything) (UpTo (u ∷ front) l) r → Loop a ((u ∷ front) ++ t ∷ more) ≡ Loop x.0 (t ∷ more)
-    by follows (Ok y) is o = entry_follows n l x t more follows a u front short (going u front (l, End) e) read y is o
+    by follows (Ok y) is o = entry_follows n l x t more follows a u front short (going u front (l, End) e) read y is o e
     by follows (Err f) is o =
         let failed : the_read (Err f) ≡ Ok x = sym (ap (λ (r : Read (List RawEntry)). goes_on r Loop) is) ∙ sym (step a u (UpTo front l) (going u front (l, End) e)) ∙ read in absurd cc
 
@@ -114,7 +117,7 @@ fault_is : (f g : Fault IrFaultKind) → the_fault f ≡ the_fault g → f ≡ g
 fault_is f g same = cc
 
 -- behind entries, what begins no entry is refused as such
-pub begins_none : (a : List RawEntry) (line : ℕ) (t : Token) (found : Fault IrFaultKind) → is_last t ≡ false → ((more : List Placed) → Loop a ((line, t) ∷ more) ≡ Err found) → found.kind ≡ misfit places.Entry t
+pub begins_none : (a : List RawEntry) (line : ℕ) (t : Token) (found : Fault IrFaultKind) → is_last t ≡ false → ((more : List Placed) → Loop a ((line, t) ∷ more) ≡ Err found) → (found.line ≡ line) × (found.kind ≡ misfit places.Entry t)
 begins_none a line t found goes refused = by (entry_token_takes line t)
   where
     read : (more : List Placed) → Loop a ((line, t) ∷ more) ≡ goes_on (goes_on (goes_on (entry_token_at ((line, t) ∷ more)) behind_entry) (λ x. done (a ++ x ∷ []))) Loop
@@ -122,7 +125,7 @@ begins_none a line t found goes refused = by (entry_token_takes line t)
         step a (line, t) more goes
         ∙ ap (λ (r : Read RawEntry). goes_on (goes_on r (λ x. done (a ++ x ∷ []))) Loop) (same_entry ((line, t) ∷ more))
 
-    by : Takes entry_token_at IsFirst line t → found.kind ≡ misfit places.Entry t
+    by : Takes entry_token_at IsFirst line t → (found.line ≡ line) × (found.kind ≡ misfit places.Entry t)
     by (takes x going_on h) =
         let s = (behind_entry-good x).sample in
         let end : List Placed = (0, End) ∷ [] in
@@ -130,9 +133,10 @@ begins_none a line t found goes refused = by (entry_token_takes line t)
         let done_here : Loop (a ++ s.0 ∷ []) end ≡ Ok (a ++ s.0 ∷ [], end) = repeat-done parsing.begins_entry One (a ++ s.0 ∷ []) end refl in
         let all : Loop a ((line, t) ∷ (s.1 ++ end)) ≡ Ok (a ++ s.0 ∷ [], end) = read (s.1 ++ end) ∙ rw (h (s.1 ++ end), entry) done_here in
         let both : the_fault found ≡ Ok (a ++ s.0 ∷ [], end) = sym (refused (s.1 ++ end)) ∙ all in absurd cc
-    by (refuses kind why h) =
-        let failed : Loop a ((line, t) ∷ []) ≡ Err (fault line kind) = read [] ∙ rw (h []) refl in
-        ap (λ (f : Fault IrFaultKind). f.kind) (fault_is found (fault line kind) (sym (refused []) ∙ failed)) ∙ why.1
+    by (refuses given why h) =
+        let failed : Loop a ((line, t) ∷ []) ≡ Err given = read [] ∙ rw (h []) refl in
+        let same : found ≡ given = fault_is found given (sym (refused []) ∙ failed) in
+        (ap (λ (f : Fault IrFaultKind). f.line) same ∙ why.1, ap (λ (f : Fault IrFaultKind). f.kind) same ∙ why.2)
 
 -- no such token is refused as what nothing else is
 pub is_left_out : (t : Token) → is_last t ≡ false → Syntax ≡ misfit places.Entry t → ⊥
@@ -143,11 +147,11 @@ is_left_out Bad_token goes is = absurd cc
 is_left_out t goes is = absurd cc
 
 -- a token that is refused where the text may end
-pub refused_at_end : (front : List Placed) (l : ℕ) (t : Token) (x : List RawEntry × List Placed) (found : Fault IrFaultKind) → Ended (UpTo front l) → parsing.entries_at (UpTo front l) ≡ Ok x → is_last t ≡ false
-    → ((more : List Placed) → parsing.entries_at (front ++ (found.line, t) ∷ more) ≡ Err found) → found.kind ≡ misfit places.Entry t
+pub refused_at_end : (front : List Placed) (l : ℕ) (t : Placed) (x : List RawEntry × List Placed) (found : Fault IrFaultKind) → Ended (UpTo front l) → parsing.entries_at (UpTo front l) ≡ Ok x → is_last t.1 ≡ false
+    → ((more : List Placed) → parsing.entries_at (front ++ t ∷ more) ≡ Err found) → (found.line ≡ t.0) × (found.kind ≡ misfit places.Entry t.1)
 unfolding parsing.entries_at
 refused_at_end front l t x found e read goes refused =
-    begins_none x.0 found.line t found goes (λ more. sym (others_follow (suc (length front)) [] front l x (omega arith) e read (found.line, t) more) ∙ refused more)
+    begins_none x.0 t.0 t.1 found goes (λ more. sym (others_follow (suc (length front)) [] front l x (omega arith) e read t more) ∙ refused more)
 
 -- no type begins an entry
 no_type_begins : (a : List RawEntry) (line : ℕ) (w : List ℕ) (width : ℕ) → IsTypeWord w width → (more : List Placed) → (e : Fault IrFaultKind) × (Loop a ((line, Word w) ∷ more) ≡ Err e)
@@ -162,8 +166,8 @@ no_type_begins a line w width is more =
 
 pub types_refused_at_end : (front : List Placed) (l : ℕ) (x : List RawEntry × List Placed) → Ended (UpTo front l) → parsing.entries_at (UpTo front l) ≡ Ok x → (w : List ℕ) (width : ℕ) → IsTypeWord w width → RefusesAt parsing.entries_at front (Word w)
 unfolding parsing.entries_at
-types_refused_at_end front l x e read w width is line more =
-    let r = no_type_begins x.0 line w width is more in (r.0, others_follow (suc (length front)) [] front l x (omega arith) e read (line, Word w) more ∙ r.1)
+types_refused_at_end front l x e read w width is more =
+    let r = no_type_begins x.0 0 w width is more in (r.0, others_follow (suc (length front)) [] front l x (omega arith) e read (0, Word w) more ∙ r.1)
 
 -- nor does a number
 no_number_begins : (a : List RawEntry) (line : ℕ) (digits : List ℕ) (more : List Placed) → (e : Fault IrFaultKind) × (Loop a ((line, Number digits) ∷ more) ≡ Err e)
@@ -178,5 +182,5 @@ no_number_begins a line digits more =
 
 pub numbers_refused_at_end : (front : List Placed) (l : ℕ) (x : List RawEntry × List Placed) → Ended (UpTo front l) → parsing.entries_at (UpTo front l) ≡ Ok x → (digits : List ℕ) → RefusesAt parsing.entries_at front (Number digits)
 unfolding parsing.entries_at
-numbers_refused_at_end front l x e read digits line more =
-    let r = no_number_begins x.0 line digits more in (r.0, others_follow (suc (length front)) [] front l x (omega arith) e read (line, Number digits) more ∙ r.1)
+numbers_refused_at_end front l x e read digits more =
+    let r = no_number_begins x.0 0 digits more in (r.0, others_follow (suc (length front)) [] front l x (omega arith) e read (0, Number digits) more ∙ r.1)

@@ -25,7 +25,7 @@ use Rattle.ir_instructions.specs.declared.word.Operation.TheVariants as operatio
 use Rattle.ir_instructions.specs.declared.word.TypeWord.{TypeWord}
 use Rattle.ir_instructions.specs.declared.word.TypeWord.TheVariants as types
 use Rattle.ir_instructions.specs.InstructionReaders.{mark_at, keyword_at, register_at, type_at, operand_at, case_value_at, metadata_at, pred_at}
-use Rattle.ir_instructions.specs.Readers.{Reader, fault, unexpected, or_left_out}
+use Rattle.ir_instructions.specs.Readers.{Reader, fault, unexpected}
 use Rattle.refusal.specs.declared.fault.Fault.{Fault}
 use Rattle.ir_tokens.specs.declared.fault.IrFaultKind.{IrFaultKind}
 use Rattle.ir_instructions.specs.Grammar.{IsValueToken}
@@ -38,9 +38,9 @@ use Rattle.ops.proofs.KeywordLemmas.{word_is}
 use Rattle.ops.specs.declared.keywords.flag.Flag.{Flag}
 use Rattle.ops.specs.declared.keywords.flag.Flag.TheVariants.{Nuw, Nsw, Exact, NNeg, Disjoint, SameSign}
 use Rattle.ops.specs.FlagKeywords.{flag_keyword}
-use Rattle.ir_viable_prefixes.specs.Misfits.{IsNoun, RepeatsFlag}
+use Rattle.ir_viable_prefixes.specs.Misfits.{IsNoun}
 use Rattle.ir_viable_prefixes.specs.Misfits as nouns
-use Rattle.ir_viable_prefixes.proofs.Outcomes.{Follow, Anything, Fit, RefusesAt, Bad, Reasons, ReasonsIf, Takes, takes, refuses, fits_alone, Good, GoodIf, one_token, TakesNoFlag}
+use Rattle.ir_viable_prefixes.proofs.Outcomes.{Again, Follow, Anything, Fit, RefusesAt, RefusesEach, Bad, a_truth, Reasons, ReasonsIf, Takes, takes, refuses, fits_alone, Good, GoodIf, one_token, TakesNoFlag}
 use Rattle.ir_viable_prefixes.proofs.Reasons.{a_type, an_end, Widths, widths, no_other_widths, Like, like_word, like_type, like_function, like_width, like_number, word_reason, fixed_reason, choice_reason, type_reason, instruction_reason}
 
 -- ---- nouns
@@ -135,7 +135,7 @@ type_is_no_value : (u : List ℕ) (width : ℕ) → IsTypeWord u width → value
 unfolding value_in truth_in
 type_is_no_value u width is = rw is.1 refl
 
-type_is_no_truth : (u : List ℕ) (width : ℕ) → IsTypeWord u width → truth_in u ≡ None
+pub type_is_no_truth : (u : List ℕ) (width : ℕ) → IsTypeWord u width → truth_in u ≡ None
 unfolding truth_in
 type_is_no_truth u width is = rw is.1 refl
 
@@ -143,7 +143,7 @@ type_is_no_pred : (u : List ℕ) (width : ℕ) → IsTypeWord u width → pred_i
 unfolding pred_in
 type_is_no_pred u width is = rw is.1 refl
 
-type_is_no_ending : (u : List ℕ) (width : ℕ) → IsTypeWord u width → ending_in u ≡ None
+pub type_is_no_ending : (u : List ℕ) (width : ℕ) → IsTypeWord u width → ending_in u ≡ None
 unfolding ending_in
 type_is_no_ending u width is = rw is.1 refl
 
@@ -191,46 +191,46 @@ Refusing R u = (line : ℕ) (more : List Placed) → (e : Fault IrFaultKind) × 
 
 -- each word, each function and each number
 pub all_bad : {A : Type 0} (R : Reader A) → ((w : List ℕ) → Refusing R (Word w)) → ((f : List ℕ) → Refusing R (Function f)) → ((n : List ℕ) → Refusing R (Number n)) → {t u : Token} → Like (Unit {0}) t u → Bad (Unit {0}) R [] t u
-all_bad R words functions numbers (like_word v w other noun) = (words other, λ none. like_word v w other noun)
-all_bad R words functions numbers (like_type m other width begins is) = (words other, λ none. like_type m other width begins is)
-all_bad R words functions numbers (like_function written other) = (functions other, λ none. like_function written other)
-all_bad R words functions numbers (like_width w other width out is) = (words other, λ none. like_width w other width out is)
-all_bad R words functions numbers (like_number digits other) = (numbers other, λ none. like_number digits other)
+all_bad R words functions numbers (like_word v w other noun) = (words other 0, λ none. like_word v w other noun)
+all_bad R words functions numbers (like_type m other width begins is) = (words other 0, λ none. like_type m other width begins is)
+all_bad R words functions numbers (like_function written other) = (functions other 0, λ none. like_function written other)
+all_bad R words functions numbers (like_width w other width out is) = (words other 0, λ none. like_width w other width out is)
+all_bad R words functions numbers (like_number digits other) = (numbers other 0, λ none. like_number digits other)
 
 -- each noun, each function and each number
 nouns_bad : {A : Type 0} (R : Reader A) → ((w : List ℕ) → IsNoun w → Refusing R (Word w)) → ((f : List ℕ) → Refusing R (Function f)) → ((n : List ℕ) → Refusing R (Number n)) → {t u : Token} → Like (Unit {0}) t u → Bad (Unit {0}) R [] t u
-nouns_bad R words functions numbers (like_word v w other noun) = (words other noun, λ none. like_word v w other noun)
-nouns_bad R words functions numbers (like_type m other width begins is) = (words other (nouns.type width is), λ none. like_type m other width begins is)
-nouns_bad R words functions numbers (like_function written other) = (functions other, λ none. like_function written other)
-nouns_bad R words functions numbers (like_width w other width out is) = (words other (nouns.type width is), λ none. like_width w other width out is)
-nouns_bad R words functions numbers (like_number digits other) = (numbers other, λ none. like_number digits other)
+nouns_bad R words functions numbers (like_word v w other noun) = (words other noun 0, λ none. like_word v w other noun)
+nouns_bad R words functions numbers (like_type m other width begins is) = (words other (nouns.type width is) 0, λ none. like_type m other width begins is)
+nouns_bad R words functions numbers (like_function written other) = (functions other 0, λ none. like_function written other)
+nouns_bad R words functions numbers (like_width w other width out is) = (words other (nouns.type width is) 0, λ none. like_width w other width out is)
+nouns_bad R words functions numbers (like_number digits other) = (numbers other 0, λ none. like_number digits other)
 
 -- in place of what is neither a word nor a mark that begins a type, each function and each number
 function_bad : {A : Type 0} {V : Type 0} (R : Reader A) {t : Token} → is_word t ≡ false → begins_type t ≡ false → ((f : List ℕ) → Refusing R (Function f)) → ((n : List ℕ) → Refusing R (Number n)) → {u : Token} → Like (Unit {0}) t u → Bad V R [] t u
 function_bad R none no_type functions numbers (like_word v w other noun) = absurd cc
 function_bad R none no_type functions numbers (like_type m other width begins is) = absurd cc
-function_bad R none no_type functions numbers (like_function written other) = (functions other, λ empty. like_function written other)
+function_bad R none no_type functions numbers (like_function written other) = (functions other 0, λ empty. like_function written other)
 function_bad R none no_type functions numbers (like_width w other width out is) = absurd cc
-function_bad R none no_type functions numbers (like_number digits other) = (numbers other, λ empty. like_number digits other)
+function_bad R none no_type functions numbers (like_number digits other) = (numbers other 0, λ empty. like_number digits other)
 
 -- in place of what is no word, each type and each function, and in place of a number each number
 pub other_bad : {A : Type 0} {V : Type 0} (R : Reader A) {t : Token} → is_word t ≡ false → ((w : List ℕ) (width : ℕ) → IsTypeWord w width → Refusing R (Word w)) → ((f : List ℕ) → Refusing R (Function f))
     → ((digits other : List ℕ) → t ≡ Number digits → Refusing R (Number other)) → {u : Token} → Like (Unit {0}) t u → Bad V R [] t u
 other_bad R none words functions numbers (like_word v w other noun) = absurd cc
-other_bad R none words functions numbers (like_type m other width begins is) = (words other width is, λ empty. like_type m other width begins is)
-other_bad R none words functions numbers (like_function written other) = (functions other, λ empty. like_function written other)
+other_bad R none words functions numbers (like_type m other width begins is) = (words other width is 0, λ empty. like_type m other width begins is)
+other_bad R none words functions numbers (like_function written other) = (functions other 0, λ empty. like_function written other)
 other_bad R none words functions numbers (like_width w other width out is) = absurd cc
-other_bad R none words functions numbers (like_number digits other) = (numbers digits other refl, λ empty. like_number digits other)
+other_bad R none words functions numbers (like_number digits other) = (numbers digits other refl 0, λ empty. like_number digits other)
 
 -- in place of a word of a width out of range, each type
 pub types_bad : {A : Type 0} {V : Type 0} (R : Reader A) → ((w : List ℕ) (width : ℕ) → IsTypeWord w width → Refusing R (Word w)) → {t u : Token} → Widths t u → Bad V R [] t u
-types_bad R words (widths w other width out is) = (words other width is, λ empty. like_width w other width out is)
+types_bad R words (widths w other width out is) = (words other width is 0, λ empty. like_width w other width out is)
 
-abbrev is_number : Token → Bool
+abbrev pub is_number : Token → Bool
 is_number (Number digits) = true
 is_number t = false
 
-no_number : (t : Token) (digits : List ℕ) → is_number t ≡ false → t ≡ Number digits → ⊥
+pub no_number : (t : Token) (digits : List ℕ) → is_number t ≡ false → t ≡ Number digits → ⊥
 no_number t digits none is = let number : is_number t ≡ true = rw is refl in cc
 
 -- ---- what the readers refuse
@@ -255,7 +255,7 @@ type_bad : {V : Type 0} {t u : Token} → is_word t ≡ false → begins_type t 
 unfolding type_at unexpected
 type_bad none no_type like = function_bad type_at none no_type (λ f line more. (fault line (misfit places.Type (Function f)), refl)) (λ n line more. (fault line (misfit places.Type (Number n)), refl)) like
 
-operand_no_type : (width : ℕ) (w : List ℕ) (n : ℕ) → IsTypeWord w n → Refusing (operand_at width) (Word w)
+pub operand_no_type : (width : ℕ) (w : List ℕ) (n : ℕ) → IsTypeWord w n → Refusing (operand_at width) (Word w)
 unfolding operand_at
 operand_no_type width w n is line more = (fault line (LeftOut w), rw (type_is_no_value w n is) refl)
 
@@ -285,7 +285,7 @@ pred_bad none like = other_bad pred_at none pred_no_type (λ f line more. (fault
 
 mark_refuses : (wanted : ℕ) (ending : Ending) → RefusesAt (mark_at wanted) [] (Word (ending_word ending))
 unfolding mark_at unexpected
-mark_refuses wanted ending line more = (fault line (misfit places.Fixed (Word (ending_word ending))), refl)
+mark_refuses wanted ending more = (fault 0 (misfit places.Fixed (Word (ending_word ending))), refl)
 
 mark_takes : (E F : Follow) (wanted line : ℕ) (t : Token) → Takes (mark_at wanted) (Reasons E (mark_at wanted) F) line t
 unfolding mark_at unexpected
@@ -293,8 +293,8 @@ mark_takes E F wanted line (Mark m) = by (eqb m wanted) refl
   where
     by : (b : Bool) → eqb m wanted ≡ b → Takes (mark_at wanted) (Reasons E (mark_at wanted) F) line (Mark m)
     by true h = takes tt refl (λ more. rw h refl)
-    by false h = refuses Syntax (λ u like. inl (mark_bad wanted like), λ begins. inr (mark_refuses wanted), λ bad. cc) (λ more. rw h refl)
-mark_takes E F wanted line t = refuses (misfit places.Fixed t) (fixed_reason (Fit E (mark_at wanted) F []) (Bad (Unit {0}) (mark_at wanted) []) (RepeatsFlag []) (RefusesAt (mark_at wanted) []) t (λ u like. mark_bad wanted like, λ begins. inr (mark_refuses wanted))) (λ more. refl)
+    by false h = refuses (fault line Syntax) (inl (refl, (λ u like. inl (mark_bad wanted like), λ begins. inr (mark_refuses wanted), λ bad. cc))) (λ more. rw h refl)
+mark_takes E F wanted line t = refuses (fault line (misfit places.Fixed t)) (inl (refl, (fixed_reason (Fit E (mark_at wanted) F []) (Bad (Unit {0}) (mark_at wanted) []) (Again E (mark_at wanted) F []) (RefusesAt (mark_at wanted) []) t (λ u like. mark_bad wanted like, λ begins. inr (mark_refuses wanted))))) (λ more. refl)
 
 mark_flags : (wanted : ℕ) → TakesNoFlag (mark_at wanted)
 unfolding mark_at unexpected
@@ -306,7 +306,7 @@ mark-good {E} wanted e = one_token (Mark wanted, e, tt, λ more. rw (eq-eqb want
 
 keyword_refuses : (wanted : List ℕ) → ((u : List ℕ) → IsNoun u → bytes_eq u wanted ≡ false) → (ending : Ending) → RefusesAt (keyword_at wanted) [] (Word (ending_word ending))
 unfolding keyword_at unexpected
-keyword_refuses wanted free ending line more = (fault line Syntax, rw (free (ending_word ending) (nouns.terminator ending refl)) refl)
+keyword_refuses wanted free ending more = (fault 0 Syntax, rw (free (ending_word ending) (nouns.terminator ending refl)) refl)
 
 keyword_takes : (E F : Follow) (wanted : List ℕ) → ((u : List ℕ) → IsNoun u → bytes_eq u wanted ≡ false) → (line : ℕ) (t : Token) → Takes (keyword_at wanted) (Reasons E (keyword_at wanted) F) line t
 unfolding keyword_at unexpected
@@ -314,8 +314,8 @@ keyword_takes E F wanted free line (Word w) = by (bytes_eq w wanted) refl
   where
     by : (b : Bool) → bytes_eq w wanted ≡ b → Takes (keyword_at wanted) (Reasons E (keyword_at wanted) F) line (Word w)
     by true h = takes tt refl (λ more. rw h refl)
-    by false h = refuses Syntax (λ u like. inl (keyword_bad wanted free like), λ begins. absurd cc, λ bad. cc) (λ more. rw h refl)
-keyword_takes E F wanted free line t = refuses (misfit places.Fixed t) (fixed_reason (Fit E (keyword_at wanted) F []) (Bad (Unit {0}) (keyword_at wanted) []) (RepeatsFlag []) (RefusesAt (keyword_at wanted) []) t (λ u like. keyword_bad wanted free like, λ begins. inr (keyword_refuses wanted free))) (λ more. refl)
+    by false h = refuses (fault line Syntax) (inl (refl, (λ u like. inl (keyword_bad wanted free like), λ begins. absurd cc, λ bad. cc))) (λ more. rw h refl)
+keyword_takes E F wanted free line t = refuses (fault line (misfit places.Fixed t)) (inl (refl, (fixed_reason (Fit E (keyword_at wanted) F []) (Bad (Unit {0}) (keyword_at wanted) []) (Again E (keyword_at wanted) F []) (RefusesAt (keyword_at wanted) []) t (λ u like. keyword_bad wanted free like, λ begins. inr (keyword_refuses wanted free))))) (λ more. refl)
 
 pub keyword_flags : (wanted : List ℕ) → ((u : List ℕ) → IsNoun u → bytes_eq u wanted ≡ false) → TakesNoFlag (keyword_at wanted)
 unfolding keyword_at
@@ -332,7 +332,7 @@ a_register = Register (codes "a")
 register_takes : (E F : Follow) (line : ℕ) (t : Token) → Takes register_at (Reasons E register_at F) line t
 unfolding register_at unexpected
 register_takes E F line (Register written) = takes _ refl (λ more. refl)
-register_takes E F line t = refuses (misfit places.Fixed t) (fixed_reason (Fit E register_at F []) (Bad (Unit {0}) register_at []) (RepeatsFlag []) (RefusesAt register_at []) t (λ u like. register_bad like, λ begins. inr (λ ending l more. (fault l (misfit places.Fixed (Word (ending_word ending))), refl)))) (λ more. refl)
+register_takes E F line t = refuses (fault line (misfit places.Fixed t)) (inl (refl, (fixed_reason (Fit E register_at F []) (Bad (Unit {0}) register_at []) (Again E register_at F []) (RefusesAt register_at []) t (λ u like. register_bad like, λ begins. inr (λ ending more. (fault 0 (misfit places.Fixed (Word (ending_word ending))), refl)))))) (λ more. refl)
 
 register_flags : TakesNoFlag register_at
 unfolding register_at unexpected
@@ -355,32 +355,28 @@ i8 = (codes "8", refl, refl, refl, one_le, eight_le)
     eight_le : 8 ≤ 64
     eight_le = omega arith
 
--- a value
-abbrev pub a_truth : Token
-a_truth = Word (codes "true")
-
 type_refuses : (ending : Ending) → RefusesAt type_at [] (Word (ending_word ending))
 unfolding type_at type_in
-type_refuses endings.Return line more = (fault line (LeftOut (codes "ret")), refl)
-type_refuses endings.Unreachable line more = (fault line (LeftOut (codes "unreachable")), refl)
-type_refuses endings.Branch line more = (fault line (LeftOut (codes "br")), refl)
-type_refuses endings.Switch line more = (fault line (LeftOut (codes "switch")), refl)
+type_refuses endings.Return more = (fault 0 (LeftOut (codes "ret")), refl)
+type_refuses endings.Unreachable more = (fault 0 (LeftOut (codes "unreachable")), refl)
+type_refuses endings.Branch more = (fault 0 (LeftOut (codes "br")), refl)
+type_refuses endings.Switch more = (fault 0 (LeftOut (codes "switch")), refl)
 
 type_takes : (V : Type 0) (E F : Follow) → Fit E type_at F [] a_type → (line : ℕ) (t : Token) → Takes type_at (ReasonsIf V E type_at F) line t
 unfolding type_at unexpected
 type_takes V E F fit line (Word w) = by (type_in w) refl
   where
     by : (type : TypeWord) → type_in w ≡ type → Takes type_at (ReasonsIf V E type_at F) line (Word w)
-    by types.Other h = refuses (LeftOut w) (word_reason (Fit E type_at F []) (Bad V type_at []) (RepeatsFlag []) (RefusesAt type_at []) w (codes "i8") (nouns.type 8 i8) fit (λ u ws. absurd (no_other_widths w h ws))) (λ more. rw h refl)
-    by types.OutOfRange h = refuses misfits.Width (w, refl, h, fit) (λ more. rw h refl)
+    by types.Other h = refuses (fault line (LeftOut w)) (inl (refl, (word_reason (Fit E type_at F []) (Bad V type_at []) (Again E type_at F []) (RefusesAt type_at []) w (codes "i8") (nouns.type 8 i8) fit (λ u ws. absurd (no_other_widths w h ws))))) (λ more. rw h refl)
+    by types.OutOfRange h = refuses (fault line misfits.Width) (inl (refl, (w, refl, h, fit))) (λ more. rw h refl)
     by (types.Integer width) h = takes width refl (λ more. rw h refl)
-type_takes V E F fit line t = refuses (misfit places.Type t) (type_reason (Fit E type_at F []) (Bad V type_at []) (RepeatsFlag []) (RefusesAt type_at []) t refl fit (λ no_type. (λ u like. type_bad refl no_type like, λ begins. inr type_refuses))) (λ more. refl)
+type_takes V E F fit line t = refuses (fault line (misfit places.Type t)) (inl (refl, (type_reason (Fit E type_at F []) (Bad V type_at []) (Again E type_at F []) (RefusesAt type_at []) t refl fit (λ no_type. (λ u like. type_bad refl no_type like, λ begins. inr type_refuses))))) (λ more. refl)
 
 pub type_flags : TakesNoFlag type_at
 unfolding type_at type_in
 type_flags = ((unexpected places.Type [], refl), by)
   where
-    by : (flag : Flag) → RefusesAt type_at [] (Word (flag_keyword flag))
+    by : (flag : Flag) → RefusesEach type_at (Word (flag_keyword flag))
     by Nuw line more = (fault line (LeftOut (codes "nuw")), refl)
     by Nsw line more = (fault line (LeftOut (codes "nsw")), refl)
     by Exact line more = (fault line (LeftOut (codes "exact")), refl)
@@ -388,16 +384,20 @@ type_flags = ((unexpected places.Type [], refl), by)
     by Disjoint line more = (fault line (LeftOut (codes "disjoint")), refl)
     by SameSign line more = (fault line (LeftOut (codes "samesign")), refl)
 
+pub type_fits : (E : Follow) → E a_type → Fit E type_at Anything [] a_type
+unfolding type_at type_in bytes.is_digit
+type_fits E e = fits_alone E type_at Anything a_type 8 e (λ more. refl)
+
 pub type-good : {V : Type 0} {E : Follow} → E a_type → GoodIf V E type_at Anything (Unit {0})
 unfolding type_at type_in bytes.is_digit
 type-good {V} {E} e = one_token (a_type, e, 8, λ more. refl) type_flags (type_takes V E Anything (fits_alone E type_at Anything a_type 8 e (λ more. refl)))
 
 operand_refuses : (width : ℕ) (ending : Ending) → RefusesAt (operand_at width) [] (Word (ending_word ending))
 unfolding operand_at value_in truth_in
-operand_refuses width endings.Return line more = (fault line (LeftOut (codes "ret")), refl)
-operand_refuses width endings.Unreachable line more = (fault line (LeftOut (codes "unreachable")), refl)
-operand_refuses width endings.Branch line more = (fault line (LeftOut (codes "br")), refl)
-operand_refuses width endings.Switch line more = (fault line (LeftOut (codes "switch")), refl)
+operand_refuses width endings.Return more = (fault 0 (LeftOut (codes "ret")), refl)
+operand_refuses width endings.Unreachable more = (fault 0 (LeftOut (codes "unreachable")), refl)
+operand_refuses width endings.Branch more = (fault 0 (LeftOut (codes "br")), refl)
+operand_refuses width endings.Switch more = (fault 0 (LeftOut (codes "switch")), refl)
 
 operand_takes : (E F : Follow) (width : ℕ) → Fit E (operand_at width) F [] a_truth → ((other : List ℕ) (number : Numeral) → constant_of other width ≡ Some number → Fit E (operand_at width) F [] (Number other)) → (line : ℕ) (t : Token) → Takes (operand_at width) (Reasons E (operand_at width) F) line t
 unfolding operand_at unexpected
@@ -406,19 +406,19 @@ operand_takes E F width fit numbers line (Number digits) = by (constant_of digit
   where
     by : (number : Option Numeral) → constant_of digits width ≡ number → Takes (operand_at width) (Reasons E (operand_at width) F) line (Number digits)
     by (Some number) h = takes (record { line = line; value = values.Number number }) refl (λ more. rw h refl)
-    by None h = refuses ConstRange (digits, width, refl, h, numbers, λ other is. (λ l more. (fault l ConstRange, rw is refl), λ none. like_number digits other)) (λ more. rw h refl)
+    by None h = refuses (fault line ConstRange) (inl (refl, (digits, width, refl, h, numbers, λ other is. (λ more. (fault 0 ConstRange, rw is refl), λ none. like_number digits other)))) (λ more. rw h refl)
 operand_takes E F width fit numbers line (Word w) = by (value_in w) refl
   where
     by : (value : Option RawValue) → value_in w ≡ value → Takes (operand_at width) (Reasons E (operand_at width) F) line (Word w)
     by (Some value) h = takes (record { line = line; value = value }) refl (λ more. rw h refl)
-    by None h = refuses (LeftOut w) (word_reason (Fit E (operand_at width) F []) (Bad (Unit {0}) (operand_at width) []) (RepeatsFlag []) (RefusesAt (operand_at width) []) w (codes "true") (nouns.value 1 values.True refl) fit (λ u ws. types_bad (operand_at width) (operand_no_type width) ws)) (λ more. rw h refl)
-operand_takes E F width fit numbers line t = refuses (misfit places.Choice t) (choice_reason (Fit E (operand_at width) F []) (Bad (Unit {0}) (operand_at width) []) (RepeatsFlag []) (RefusesAt (operand_at width) []) t refl (λ u like. operand_bad width refl refl like, λ begins. inr (operand_refuses width))) (λ more. refl)
+    by None h = refuses (fault line (LeftOut w)) (inl (refl, (word_reason (Fit E (operand_at width) F []) (Bad (Unit {0}) (operand_at width) []) (Again E (operand_at width) F []) (RefusesAt (operand_at width) []) w (codes "true") (nouns.value 1 values.True refl) fit (λ u ws. types_bad (operand_at width) (operand_no_type width) ws)))) (λ more. rw h refl)
+operand_takes E F width fit numbers line t = refuses (fault line (misfit places.Choice t)) (inl (refl, (choice_reason (Fit E (operand_at width) F []) (Bad (Unit {0}) (operand_at width) []) (Again E (operand_at width) F []) (RefusesAt (operand_at width) []) t refl (λ u like. operand_bad width refl refl like, λ begins. inr (operand_refuses width))))) (λ more. refl)
 
 operand_flags : (width : ℕ) → TakesNoFlag (operand_at width)
 unfolding operand_at value_in truth_in
 operand_flags width = ((unexpected places.Choice [], refl), by)
   where
-    by : (flag : Flag) → RefusesAt (operand_at width) [] (Word (flag_keyword flag))
+    by : (flag : Flag) → RefusesEach (operand_at width) (Word (flag_keyword flag))
     by Nuw line more = (fault line (LeftOut (codes "nuw")), refl)
     by Nsw line more = (fault line (LeftOut (codes "nsw")), refl)
     by Exact line more = (fault line (LeftOut (codes "exact")), refl)
@@ -433,10 +433,10 @@ operand-good width = one_token (a_register, tt, _, λ more. refl) (operand_flags
 
 case_value_refuses : (width : ℕ) (ending : Ending) → RefusesAt (case_value_at width) [] (Word (ending_word ending))
 unfolding case_value_at truth_in
-case_value_refuses width endings.Return line more = (fault line (LeftOut (codes "ret")), refl)
-case_value_refuses width endings.Unreachable line more = (fault line (LeftOut (codes "unreachable")), refl)
-case_value_refuses width endings.Branch line more = (fault line (LeftOut (codes "br")), refl)
-case_value_refuses width endings.Switch line more = (fault line (LeftOut (codes "switch")), refl)
+case_value_refuses width endings.Return more = (fault 0 (LeftOut (codes "ret")), refl)
+case_value_refuses width endings.Unreachable more = (fault 0 (LeftOut (codes "unreachable")), refl)
+case_value_refuses width endings.Branch more = (fault 0 (LeftOut (codes "br")), refl)
+case_value_refuses width endings.Switch more = (fault 0 (LeftOut (codes "switch")), refl)
 
 case_value_takes : (E F : Follow) (width : ℕ) → Fit E (case_value_at width) F [] a_truth → ((other : List ℕ) (number : Numeral) → constant_of other width ≡ Some number → Fit E (case_value_at width) F [] (Number other)) → (line : ℕ) (t : Token) → Takes (case_value_at width) (Reasons E (case_value_at width) F) line t
 unfolding case_value_at unexpected
@@ -444,19 +444,19 @@ case_value_takes E F width fit numbers line (Number digits) = by (constant_of di
   where
     by : (number : Option Numeral) → constant_of digits width ≡ number → Takes (case_value_at width) (Reasons E (case_value_at width) F) line (Number digits)
     by (Some number) h = takes (record { line = line; value = values.Number number }) refl (λ more. rw h refl)
-    by None h = refuses ConstRange (digits, width, refl, h, numbers, λ other is. (λ l more. (fault l ConstRange, rw is refl), λ none. like_number digits other)) (λ more. rw h refl)
+    by None h = refuses (fault line ConstRange) (inl (refl, (digits, width, refl, h, numbers, λ other is. (λ more. (fault 0 ConstRange, rw is refl), λ none. like_number digits other)))) (λ more. rw h refl)
 case_value_takes E F width fit numbers line (Word w) = by (truth_in w) refl
   where
     by : (value : Option RawValue) → truth_in w ≡ value → Takes (case_value_at width) (Reasons E (case_value_at width) F) line (Word w)
     by (Some value) h = takes (record { line = line; value = value }) refl (λ more. rw h refl)
-    by None h = refuses (LeftOut w) (word_reason (Fit E (case_value_at width) F []) (Bad (Unit {0}) (case_value_at width) []) (RepeatsFlag []) (RefusesAt (case_value_at width) []) w (codes "true") (nouns.value 1 values.True refl) fit (λ u ws. types_bad (case_value_at width) (case_value_no_type width) ws)) (λ more. rw h refl)
-case_value_takes E F width fit numbers line t = refuses (misfit places.Choice t) (choice_reason (Fit E (case_value_at width) F []) (Bad (Unit {0}) (case_value_at width) []) (RepeatsFlag []) (RefusesAt (case_value_at width) []) t refl (λ u like. case_value_bad width refl refl like, λ begins. inr (case_value_refuses width))) (λ more. refl)
+    by None h = refuses (fault line (LeftOut w)) (inl (refl, (word_reason (Fit E (case_value_at width) F []) (Bad (Unit {0}) (case_value_at width) []) (Again E (case_value_at width) F []) (RefusesAt (case_value_at width) []) w (codes "true") (nouns.value 1 values.True refl) fit (λ u ws. types_bad (case_value_at width) (case_value_no_type width) ws)))) (λ more. rw h refl)
+case_value_takes E F width fit numbers line t = refuses (fault line (misfit places.Choice t)) (inl (refl, (choice_reason (Fit E (case_value_at width) F []) (Bad (Unit {0}) (case_value_at width) []) (Again E (case_value_at width) F []) (RefusesAt (case_value_at width) []) t refl (λ u like. case_value_bad width refl refl like, λ begins. inr (case_value_refuses width))))) (λ more. refl)
 
 case_value_flags : (width : ℕ) → TakesNoFlag (case_value_at width)
 unfolding case_value_at truth_in
 case_value_flags width = ((unexpected places.Choice [], refl), by)
   where
-    by : (flag : Flag) → RefusesAt (case_value_at width) [] (Word (flag_keyword flag))
+    by : (flag : Flag) → RefusesEach (case_value_at width) (Word (flag_keyword flag))
     by Nuw line more = (fault line (LeftOut (codes "nuw")), refl)
     by Nsw line more = (fault line (LeftOut (codes "nsw")), refl)
     by Exact line more = (fault line (LeftOut (codes "exact")), refl)
@@ -477,8 +477,8 @@ metadata_takes E F test line (Metadata text) = by (test text) refl
   where
     by : (b : Bool) → test text ≡ b → Takes (metadata_at test) (Reasons E (metadata_at test) F) line (Metadata text)
     by true h = takes tt refl (λ more. rw h refl)
-    by false h = refuses Syntax (λ u like. inl (metadata_bad test like), λ begins. absurd cc, λ bad. cc) (λ more. rw h refl)
-metadata_takes E F test line t = refuses (misfit places.Fixed t) (fixed_reason (Fit E (metadata_at test) F []) (Bad (Unit {0}) (metadata_at test) []) (RepeatsFlag []) (RefusesAt (metadata_at test) []) t (λ u like. metadata_bad test like, λ begins. inr (λ ending l more. (fault l (misfit places.Fixed (Word (ending_word ending))), refl)))) (λ more. refl)
+    by false h = refuses (fault line Syntax) (inl (refl, (λ u like. inl (metadata_bad test like), λ begins. absurd cc, λ bad. cc))) (λ more. rw h refl)
+metadata_takes E F test line t = refuses (fault line (misfit places.Fixed t)) (inl (refl, (fixed_reason (Fit E (metadata_at test) F []) (Bad (Unit {0}) (metadata_at test) []) (Again E (metadata_at test) F []) (RefusesAt (metadata_at test) []) t (λ u like. metadata_bad test like, λ begins. inr (λ ending more. (fault 0 (misfit places.Fixed (Word (ending_word ending))), refl)))))) (λ more. refl)
 
 metadata_flags : (test : List ℕ → Bool) → TakesNoFlag (metadata_at test)
 unfolding metadata_at unexpected
@@ -490,10 +490,10 @@ metadata-good {E} test text h e = one_token (Metadata text, e, tt, λ more. rw h
 
 pred_refuses : (ending : Ending) → RefusesAt pred_at [] (Word (ending_word ending))
 unfolding pred_at pred_in
-pred_refuses endings.Return line more = (fault line (LeftOut (codes "ret")), refl)
-pred_refuses endings.Unreachable line more = (fault line (LeftOut (codes "unreachable")), refl)
-pred_refuses endings.Branch line more = (fault line (LeftOut (codes "br")), refl)
-pred_refuses endings.Switch line more = (fault line (LeftOut (codes "switch")), refl)
+pred_refuses endings.Return more = (fault 0 (LeftOut (codes "ret")), refl)
+pred_refuses endings.Unreachable more = (fault 0 (LeftOut (codes "unreachable")), refl)
+pred_refuses endings.Branch more = (fault 0 (LeftOut (codes "br")), refl)
+pred_refuses endings.Switch more = (fault 0 (LeftOut (codes "switch")), refl)
 
 pred_takes : (V : Type 0) (E F : Follow) → Fit E pred_at F [] (Word (codes "eq")) → (line : ℕ) (t : Token) → Takes pred_at (ReasonsIf V E pred_at F) line t
 unfolding pred_at unexpected
@@ -501,14 +501,14 @@ pred_takes V E F fit line (Word w) = by (pred_in w) refl
   where
     by : (pred : Option Pred) → pred_in w ≡ pred → Takes pred_at (ReasonsIf V E pred_at F) line (Word w)
     by (Some pred) h = takes pred refl (λ more. rw h refl)
-    by None h = refuses (LeftOut w) (word_reason (Fit E pred_at F []) (Bad V pred_at []) (RepeatsFlag []) (RefusesAt pred_at []) w (codes "eq") (nouns.predicate Eq refl) fit (λ u ws. types_bad pred_at pred_no_type ws)) (λ more. rw h refl)
-pred_takes V E F fit line t = refuses (misfit places.Choice t) (choice_reason (Fit E pred_at F []) (Bad V pred_at []) (RepeatsFlag []) (RefusesAt pred_at []) t refl (λ u like. pred_bad refl like, λ begins. inr pred_refuses)) (λ more. refl)
+    by None h = refuses (fault line (LeftOut w)) (inl (refl, (word_reason (Fit E pred_at F []) (Bad V pred_at []) (Again E pred_at F []) (RefusesAt pred_at []) w (codes "eq") (nouns.predicate Eq refl) fit (λ u ws. types_bad pred_at pred_no_type ws)))) (λ more. rw h refl)
+pred_takes V E F fit line t = refuses (fault line (misfit places.Choice t)) (inl (refl, (choice_reason (Fit E pred_at F []) (Bad V pred_at []) (Again E pred_at F []) (RefusesAt pred_at []) t refl (λ u like. pred_bad refl like, λ begins. inr pred_refuses)))) (λ more. refl)
 
 pub pred_flags : TakesNoFlag pred_at
 unfolding pred_at pred_in
 pred_flags = ((unexpected places.Choice [], refl), by)
   where
-    by : (flag : Flag) → RefusesAt pred_at [] (Word (flag_keyword flag))
+    by : (flag : Flag) → RefusesEach pred_at (Word (flag_keyword flag))
     by Nuw line more = (fault line (LeftOut (codes "nuw")), refl)
     by Nsw line more = (fault line (LeftOut (codes "nsw")), refl)
     by Exact line more = (fault line (LeftOut (codes "exact")), refl)
@@ -516,13 +516,21 @@ pred_flags = ((unexpected places.Choice [], refl), by)
     by Disjoint line more = (fault line (LeftOut (codes "disjoint")), refl)
     by SameSign line more = (fault line (LeftOut (codes "samesign")), refl)
 
+pub pred_fits : (E : Follow) → E (Word (codes "eq")) → Fit E pred_at Anything [] (Word (codes "eq"))
+unfolding pred_at pred_in
+pred_fits E e = fits_alone E pred_at Anything (Word (codes "eq")) Eq e (λ more. refl)
+
 pub pred-good : {V : Type 0} {E : Follow} → E (Word (codes "eq")) → GoodIf V E pred_at Anything (Unit {0})
 unfolding pred_at pred_in
 pred-good {V} {E} e = one_token (Word (codes "eq"), e, _, λ more. refl) pred_flags (pred_takes V E Anything (fits_alone E pred_at Anything (Word (codes "eq")) Eq e (λ more. refl)))
 
--- the word of an operation
-abbrev pub opcode_at : Reader Operation
-opcode_at ((line, Word word) ∷ rest) = or_left_out line word (operation_in word) rest
+-- the line and the word of an operation
+abbrev pub placed_operation : ℕ → List ℕ → Option Operation → Reader (ℕ × Operation)
+placed_operation line word (Some operation) rest = Ok ((line, operation), rest)
+placed_operation line word None rest = Err (fault line (LeftOut word))
+
+abbrev pub opcode_at : Reader (ℕ × Operation)
+opcode_at ((line, Word word) ∷ rest) = placed_operation line word (operation_in word) rest
 opcode_at tokens = Err (unexpected places.Choice tokens)
 
 opcode_no_type : (w : List ℕ) (n : ℕ) → IsTypeWord w n → Refusing opcode_at (Word w)
@@ -534,25 +542,25 @@ opcode_bad none like = other_bad opcode_at none opcode_no_type (λ f line more. 
 
 opcode_refuses : (ending : Ending) → RefusesAt opcode_at [] (Word (ending_word ending))
 unfolding operation_in
-opcode_refuses endings.Return line more = (fault line (LeftOut (codes "ret")), refl)
-opcode_refuses endings.Unreachable line more = (fault line (LeftOut (codes "unreachable")), refl)
-opcode_refuses endings.Branch line more = (fault line (LeftOut (codes "br")), refl)
-opcode_refuses endings.Switch line more = (fault line (LeftOut (codes "switch")), refl)
+opcode_refuses endings.Return more = (fault 0 (LeftOut (codes "ret")), refl)
+opcode_refuses endings.Unreachable more = (fault 0 (LeftOut (codes "unreachable")), refl)
+opcode_refuses endings.Branch more = (fault 0 (LeftOut (codes "br")), refl)
+opcode_refuses endings.Switch more = (fault 0 (LeftOut (codes "switch")), refl)
 
 opcode_takes : (E F : Follow) → Fit E opcode_at F [] (Word (codes "freeze")) → (line : ℕ) (t : Token) → Takes opcode_at (Reasons E opcode_at F) line t
 unfolding unexpected
 opcode_takes E F fit line (Word w) = by (operation_in w) refl
   where
     by : (operation : Option Operation) → operation_in w ≡ operation → Takes opcode_at (Reasons E opcode_at F) line (Word w)
-    by (Some operation) h = takes operation refl (λ more. rw h refl)
-    by None h = refuses (LeftOut w) (word_reason (Fit E opcode_at F []) (Bad (Unit {0}) opcode_at []) (RepeatsFlag []) (RefusesAt opcode_at []) w (codes "freeze") (nouns.opcode operations.Freeze refl) fit (λ u ws. types_bad opcode_at opcode_no_type ws)) (λ more. rw h refl)
-opcode_takes E F fit line t = refuses (misfit places.Choice t) (choice_reason (Fit E opcode_at F []) (Bad (Unit {0}) opcode_at []) (RepeatsFlag []) (RefusesAt opcode_at []) t refl (λ u like. opcode_bad refl like, λ begins. inr opcode_refuses)) (λ more. refl)
+    by (Some operation) h = takes (line, operation) refl (λ more. rw h refl)
+    by None h = refuses (fault line (LeftOut w)) (inl (refl, (word_reason (Fit E opcode_at F []) (Bad (Unit {0}) opcode_at []) (Again E opcode_at F []) (RefusesAt opcode_at []) w (codes "freeze") (nouns.opcode operations.Freeze refl) fit (λ u ws. types_bad opcode_at opcode_no_type ws)))) (λ more. rw h refl)
+opcode_takes E F fit line t = refuses (fault line (misfit places.Choice t)) (inl (refl, (choice_reason (Fit E opcode_at F []) (Bad (Unit {0}) opcode_at []) (Again E opcode_at F []) (RefusesAt opcode_at []) t refl (λ u like. opcode_bad refl like, λ begins. inr opcode_refuses)))) (λ more. refl)
 
 opcode_flags : TakesNoFlag opcode_at
 unfolding operation_in
 opcode_flags = ((unexpected places.Choice [], refl), by)
   where
-    by : (flag : Flag) → RefusesAt opcode_at [] (Word (flag_keyword flag))
+    by : (flag : Flag) → RefusesEach opcode_at (Word (flag_keyword flag))
     by Nuw line more = (fault line (LeftOut (codes "nuw")), refl)
     by Nsw line more = (fault line (LeftOut (codes "nsw")), refl)
     by Exact line more = (fault line (LeftOut (codes "exact")), refl)
@@ -562,7 +570,7 @@ opcode_flags = ((unexpected places.Choice [], refl), by)
 
 pub opcode-good : Good Anything opcode_at Anything
 unfolding operation_in
-opcode-good = one_token (Word (codes "freeze"), tt, _, λ more. refl) opcode_flags (opcode_takes Anything Anything (fits_alone Anything opcode_at Anything (Word (codes "freeze")) operations.Freeze tt (λ more. refl)))
+opcode-good = one_token (Word (codes "freeze"), tt, _, λ more. refl) opcode_flags (opcode_takes Anything Anything (fits_alone Anything opcode_at Anything (Word (codes "freeze")) (0, operations.Freeze) tt (λ more. refl)))
 
 -- the line and the first word of a terminator
 abbrev pub placed_ending : ℕ → List ℕ → Option Ending → Reader (ℕ × Ending)
@@ -586,14 +594,14 @@ ending_takes E F fit line (Word w) = by (ending_in w) refl
   where
     by : (ending : Option Ending) → ending_in w ≡ ending → Takes ending_word_at (Reasons E ending_word_at F) line (Word w)
     by (Some ending) h = takes (line, ending) refl (λ more. rw h refl)
-    by None h = refuses (LeftOut w) (word_reason (Fit E ending_word_at F []) (Bad (Unit {0}) ending_word_at []) (RepeatsFlag []) (RefusesAt ending_word_at []) w (codes "unreachable") (nouns.terminator endings.Unreachable refl) fit (λ u ws. types_bad ending_word_at ending_no_type ws)) (λ more. rw h refl)
-ending_takes E F fit line t = refuses (misfit places.Instruction t) (instruction_reason (Fit E ending_word_at F []) (Bad (Unit {0}) ending_word_at []) (RepeatsFlag []) (RefusesAt ending_word_at []) t refl fit (λ text l more. (fault l (misfit places.Instruction (Group text)), refl)) (λ u like. ending_bad refl like)) (λ more. refl)
+    by None h = refuses (fault line (LeftOut w)) (inl (refl, (word_reason (Fit E ending_word_at F []) (Bad (Unit {0}) ending_word_at []) (Again E ending_word_at F []) (RefusesAt ending_word_at []) w (codes "unreachable") (nouns.terminator endings.Unreachable refl) fit (λ u ws. types_bad ending_word_at ending_no_type ws)))) (λ more. rw h refl)
+ending_takes E F fit line t = refuses (fault line (misfit places.Instruction t)) (inl (refl, (instruction_reason (Fit E ending_word_at F []) (Bad (Unit {0}) ending_word_at []) (Again E ending_word_at F []) (RefusesAt ending_word_at []) t refl fit (λ text more. (fault 0 (misfit places.Instruction (Group text)), refl)) (λ u like. ending_bad refl like)))) (λ more. refl)
 
 ending_flags : TakesNoFlag ending_word_at
 unfolding ending_in
 ending_flags = ((unexpected places.Instruction [], refl), by)
   where
-    by : (flag : Flag) → RefusesAt ending_word_at [] (Word (flag_keyword flag))
+    by : (flag : Flag) → RefusesEach ending_word_at (Word (flag_keyword flag))
     by Nuw line more = (fault line (LeftOut (codes "nuw")), refl)
     by Nsw line more = (fault line (LeftOut (codes "nsw")), refl)
     by Exact line more = (fault line (LeftOut (codes "exact")), refl)

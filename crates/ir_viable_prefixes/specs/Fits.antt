@@ -8,6 +8,10 @@ use Rattle.ir_parse.specs.Grammar.{SpellsModule}
 abbrev pub Fits : List Placed → Type 0
 Fits front = (more : List Placed) × (m : RawModule) × SpellsModule m (front ++ more)
 
--- the token fits behind them, on some line
+-- a line on which no token of a text stands, since its lines count from 1
+abbrev pub own_line : ℕ
+own_line = 0
+
+-- the token fits behind them on a line of its own
 abbrev pub FitsBehind : List Placed → Token → Type 0
-FitsBehind front token = (line : ℕ) × Fits (front ++ (line, token) ∷ [])
+FitsBehind front token = Fits (front ++ (own_line, token) ∷ [])

@@ -1,24 +1,29 @@
 -- What holds of the faults of texts.
 use Rattle.std.specs.Prelude.{◌≡◌, ℕ, ◌≤◌, List, [], ◌∷◌, ◌++◌, length}
 use Rattle.ir_tokens.specs.Order.{AreTokens}
-use Rattle.ir_tokens.specs.Tokens.{Token, Placed}
+use Rattle.ir_tokens.specs.Tokens.{Placed}
 use Rattle.refusal.specs.declared.fault.Fault.{Fault}
 use Rattle.ir_tokens.specs.declared.fault.IrFaultKind.{IrFaultKind}
 use Rattle.ir_parse.specs.Text.{most_bytes, IsTextFault}
 use Rattle.ir_viable_prefixes.specs.Fits.{Fits}
+use Rattle.ir_viable_prefixes.specs.Calls.{IsToldInCall}
 use Rattle.ir_viable_prefixes.specs.Misfits.{IsMisfit}
 
--- The fault is that of the first token with which the tokens do not fit: those before it do, and its kind says why it does not. What
--- any other kind says does not hold of it.
+-- What a fault tells of a token that does not fit behind these: on its line why it does not, where no other kind says so too; or, in
+-- a call of an intrinsic, what is wrong with its callee or with a value.
+pub data IsTold (front : List Placed) (token : Placed) (found : Fault IrFaultKind) : Type 0 where
+  of_token : found.line ≡ token.0 → IsMisfit front token.1 found.kind → ((other : IrFaultKind) → IsMisfit front token.1 other → found.kind ≡ other) → IsTold front token found
+  in_call : IsToldInCall front token found → IsTold front token found
+
+-- The fault is that of the first token with which the tokens do not fit: those before it do.
 pub record IsFirstMisfit (tokens : List Placed) (found : Fault IrFaultKind) : Type 0 where
   pub front : List Placed
-  pub token : Token
+  pub token : Placed
   pub behind : List Placed
-  pub stands : tokens ≡ front ++ (found.line, token) ∷ behind
+  pub stands : tokens ≡ front ++ token ∷ behind
   pub fits : Fits front
-  pub misfit : ¬ Fits (front ++ (found.line, token) ∷ [])
-  pub kind : IsMisfit front token found.kind
-  pub only : (other : IrFaultKind) → IsMisfit front token other → found.kind ≡ other
+  pub misfit : ¬ Fits (front ++ token ∷ [])
+  pub told : IsTold front token found
 
 -- A text within the limit is refused at its first misfit; one whose tokens fit, up to its end, is not refused.
 pub record FaultsAreWhereTextsDoNotFit : Type 0 where

@@ -1,5 +1,5 @@
 -- Why a token does not fit behind tokens that do, said by which other tokens fit there.
-use Rattle.std.specs.Prelude.{◌≡◌, ◌↔◌, ℕ, false, true, List, [], ◌∷◌, ◌++◌, None, IsSome}
+use Rattle.std.specs.Prelude.{◌≡◌, ◌↔◌, ◌⊎◌, ℕ, false, true, List, [], ◌∷◌, ◌++◌, None, IsSome}
 use Rattle.ops.specs.declared.comparison.Pred.{Pred}
 use Rattle.ir_tokens.specs.Numbers.{constant_of}
 use Rattle.ir_tokens.specs.Tokens.{Token, Placed, End, Bad, Word, Number, Function, Group, is_last}
@@ -16,6 +16,7 @@ use Rattle.ir_instructions.specs.Places.{begins_record, begins_type, shown}
 use Rattle.ir_instructions.specs.Keywords.{IsTypeWord, ending_word, operation_word, type_in}
 use Rattle.ops.specs.Keywords.{predicate_keyword}
 use Rattle.ops.specs.FlagKeywords.{flag_keyword}
+use Rattle.ir_viable_prefixes.specs.Calls.{NamesIntrinsic}
 use Rattle.ir_viable_prefixes.specs.Fits.{FitsBehind}
 
 -- a type, an opcode, a predicate, a flag, a value, or the first word of a terminator
@@ -33,6 +34,9 @@ NounFits front = (word : List ℕ) × IsNoun word × FitsBehind front (Word word
 abbrev pub TypeFits : List Placed → Type 0
 TypeFits front = (word : List ℕ) × (width : ℕ) × IsTypeWord word width × FitsBehind front (Word word)
 
+abbrev pub PredicateFits : List Placed → Type 0
+PredicateFits front = (pred : Pred) × FitsBehind front (Word (predicate_keyword pred))
+
 abbrev pub TerminatorFits : List Placed → Type 0
 TerminatorFits front = (ending : Ending) × FitsBehind front (Word (ending_word ending))
 
@@ -40,11 +44,12 @@ TerminatorFits front = (ending : Ending) × FitsBehind front (Word (ending_word 
 abbrev pub AttributesFit : List Placed → Type 0
 AttributesFit front = (text : List ℕ) × FitsBehind front (Group text)
 
--- Another token of its sort fits: a noun in place of a word, a type in place of a mark that begins a type, or another function.
+-- Another token of its sort fits: a noun in place of a word, a type in place of a mark that begins a type, or another function, and not
+-- intrinsics alone.
 pub data AnotherFits (front : List Placed) : Token → Type 0 where
   of_word : (word : List ℕ) → NounFits front → AnotherFits front (Word word)
   of_mark : (token : Token) → begins_type token ≡ true → TypeFits front → AnotherFits front token
-  of_function : (written other : List ℕ) → FitsBehind front (Function other) → AnotherFits front (Function written)
+  of_function : (written other : List ℕ) → ¬ NamesIntrinsic other → FitsBehind front (Function other) → AnotherFits front (Function written)
 
 -- A token is left out where another of its sort fits; the mark of a record of debug information where a terminator fits, but not as an
 -- item of a header may; and every token where the text may end, since an entry may begin there.
@@ -53,22 +58,26 @@ pub data IsLeftOut (front : List Placed) (token : Token) : Type 0 where
   mark_of_record : begins_record token ≡ true → TerminatorFits front → ¬ AttributesFit front → IsLeftOut front token
   entry : is_last token ≡ false → FitsBehind front End → IsLeftOut front token
 
--- Flags stand last, of which the first is this word: an instruction has a flag once, though a type or another flag fits there.
+-- Flags stand last, of which the first is this word.
 abbrev pub RepeatsFlag : List Placed → List ℕ → Type 0
 RepeatsFlag front word =
     (before behind : List Placed) × (flag : Flag) × (flags : List Flag) × (front ≡ before ++ behind) × (word ≡ flag_keyword flag)
     × Each (λ f. Is (Word (flag_keyword f))) (flag ∷ flags) behind []
 
+-- A word repeats a flag where what follows flags fits: an instruction has a flag once, though a type or another flag fits there. Words
+-- behind a call may be those of flags too, but a type does not fit there.
 abbrev pub IsRepeated : List Placed → Token → Type 0
-IsRepeated front token = (word : List ℕ) × (token ≡ Word word) × RepeatsFlag front word
+IsRepeated front token = (word : List ℕ) × (token ≡ Word word) × RepeatsFlag front word × (TypeFits front ⊎ PredicateFits front)
 
 -- It is no bad byte; no other token of its sort fits, unless it repeats a flag; a terminator fits in place of the mark of a record only
--- as an item of a header may; no other number fits in place of a number; and the text may not end there, unless the token is a last one.
+-- as an item of a header may; no other number fits in place of a number, and no function in place of one; and the text may not end there,
+-- unless the token is a last one.
 pub record IsNothingElse (front : List Placed) (token : Token) : Type 0 where
   pub no_bad_byte : ¬ (token ≡ Bad)
   pub another : AnotherFits front token → IsRepeated front token
   pub mark_of_record : begins_record token ≡ true → TerminatorFits front → AttributesFit front
   pub number : (digits other : List ℕ) → token ≡ Number digits → ¬ FitsBehind front (Number other)
+  pub function : (written other : List ℕ) → token ≡ Function written → ¬ FitsBehind front (Function other)
   pub entry : is_last token ≡ false → ¬ FitsBehind front End
 
 -- A word is a type but for its width, where a type fits.

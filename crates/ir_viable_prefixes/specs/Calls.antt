@@ -1,0 +1,67 @@
+-- What faults are told in calls of intrinsics, where other tokens are named than the first that does not fit.
+use Rattle.std.specs.Prelude.{◌≡◌, ◌↔◌, ℕ, List, [], ◌∷◌, ◌++◌, None, IsSome, codes}
+use Rattle.ir_tokens.specs.declared.called.Identifier.TheVariants.{Named}
+use Rattle.ir_tokens.specs.Identifiers.{identifier_of}
+use Rattle.ir_tokens.specs.Numbers.{constant_of}
+use Rattle.ir_tokens.specs.Tokens.{Token, Placed, Word, Number, Function, Group, Quoted, Mark}
+use Rattle.refusal.specs.declared.fault.Fault.{Fault}
+use Rattle.ir_tokens.specs.declared.fault.IrFaultKind.{IrFaultKind}
+use Rattle.ir_tokens.specs.declared.fault.IrFaultKind.TheVariants.{Syntax, LeftOut, ConstRange}
+use Rattle.ir_instructions.specs.declared.intrinsic.Intrinsic.{Intrinsic}
+use Rattle.ir_instructions.specs.CallGrammar.{Items}
+use Rattle.ir_instructions.specs.Intrinsics.{IsIntrinsicName}
+use Rattle.ir_instructions.specs.Parts.{◌⨾◌}
+use Rattle.ir_instructions.specs.PieceGrammar.{SpellsType}
+use Rattle.ir_instructions.specs.Punctuation as marks
+use Rattle.ir_viable_prefixes.specs.Fits.{Fits, FitsBehind, own_line}
+
+-- ---- callees
+
+-- as written, it is the name of an intrinsic at a width
+abbrev pub NamesIntrinsic : List ℕ → Type 0
+NamesIntrinsic written = (name : List ℕ) × (named : Intrinsic × ℕ) × (identifier_of written ≡ Named name) × IsIntrinsicName name named
+
+-- an intrinsic fits, and no other function does
+pub record CalleeFits (front : List Placed) : Type 0 where
+  pub one : List ℕ
+  pub fits : FitsBehind front (Function one)
+  pub alone : (other : List ℕ) → FitsBehind front (Function other) → NamesIntrinsic other
+
+-- the word `call` on this line, and its items and the type behind it, stand last
+abbrev pub CallStands : ℕ → List Placed → Type 0
+CallStands line front =
+    (before behind : List Placed) × (width : ℕ) × (front ≡ before ++ (line, Word (codes "call")) ∷ behind) × (Items ⨾ SpellsType width) behind []
+
+-- ---- values
+
+-- a mark that ends an argument
+pub data EndsArgument : Token → Type 0 where
+  comma : EndsArgument (Mark marks.comma)
+  close : EndsArgument (Mark marks.close_paren)
+
+-- the value fits, and behind it the end of an argument
+abbrev pub ValueFits : List Placed → Token → Type 0
+ValueFits front value = (end : Placed) × EndsArgument end.1 × Fits (front ++ (own_line, value) ∷ end ∷ [])
+
+-- Why what stands last before the end of an argument is no value of it. A number is so for its range; a word is left out, but where a
+-- truth value is expected, as is seen by `undef`; a group and a quoted text are nothing else.
+pub data IsNoValue (front : List Placed) : Token → IrFaultKind → Type 0 where
+  number : (digits : List ℕ) (width : ℕ) → constant_of digits width ≡ None → ((other : List ℕ) → ValueFits front (Number other) ↔ IsSome (constant_of other width))
+      → IsNoValue front (Number digits) ConstRange
+  word : (word : List ℕ) → ValueFits front (Word (codes "undef")) → IsNoValue front (Word word) (LeftOut word)
+  truth : (word : List ℕ) → ¬ ValueFits front (Word (codes "undef")) → IsNoValue front (Word word) Syntax
+  group : (text : List ℕ) → IsNoValue front (Group text) Syntax
+  quoted : (text : List ℕ) → IsNoValue front (Quoted text) Syntax
+
+-- What a fault tells of a token on a line that does not fit behind these.
+pub data IsToldInCall (front : List Placed) : Placed → Fault IrFaultKind → Type 0 where
+  -- a function that is no intrinsic: the word `call` is left out
+  callee : (line at : ℕ) (written : List ℕ) → CalleeFits front → CallStands line front
+      → IsToldInCall front (at, Function written) (record { line = line; kind = LeftOut (codes "call") })
+  -- the end of an argument, behind what is no value: no other end fits either
+  value : (before : List Placed) (line : ℕ) (last : Token) (end : Placed) (kind : IrFaultKind) → front ≡ before ++ (line, last) ∷ [] → EndsArgument end.1
+      → ((other : Token) → EndsArgument other → ¬ FitsBehind front other) → ValueFits before (Word (codes "true")) → IsNoValue before last kind
+      → IsToldInCall front end (record { line = line; kind = kind })
+  -- a word that is no item, where a truth value is expected
+  truth : (line : ℕ) (word : List ℕ) → ValueFits front (Word (codes "true")) → ¬ ValueFits front (Word (codes "undef"))
+      → IsToldInCall front (line, Word word) (record { line = line; kind = Syntax })
