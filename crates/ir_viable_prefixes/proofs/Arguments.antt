@@ -1,5 +1,5 @@
 -- Readers of the arguments of calls.
-use Rattle.std.proofs.Common.{◌≡◌, ◌<◌, ℕ, suc, Bool, true, false, cond, List, [], ◌∷◌, ◌++◌, length, Option, Some, None, Ok, Err, refl, sym, ap, subst, ◌∙◌, ◌⊎◌, inl, inr, append_assoc, arith}
+use Rattle.std.proofs.Common.{◌≡◌, ℕ, suc, Bool, true, false, cond, List, [], ◌∷◌, ◌++◌, length, Option, Some, None, Ok, Err, refl, sym, ap, subst, ◌∙◌, ◌⊎◌, inl, inr, append_assoc, arith}
 use Rattle.std.specs.Prelude.{codes}
 use Rattle.ops.specs.declared.keywords.flag.Flag.{Flag}
 use Rattle.ops.specs.declared.keywords.flag.Flag.TheVariants.{Nuw, Nsw, Exact, NNeg, Disjoint, SameSign}

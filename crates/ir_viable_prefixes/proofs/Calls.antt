@@ -261,33 +261,6 @@ module _ {A : Type 0} (f : RawOp → A) where
       assoc (close_at a.1) _ _ ∙ same_behind (close_at a.1) _ _ (λ l is_l. assoc (late_items_at l.0 l.1) _ _))))))
       ∙ sym (assoc (items_at tokens) (λ items. type_at) (Callee line))
 
-  -- ---- with the word `call` before it
-
-  -- a reader of that word, which gives its line, and of the call behind it
-  module _ (R : Reader ℕ) (r : Good Anything R Anything) (reads : (tokens : List Placed) (x : ℕ × List Placed) → R tokens ≡ Ok x → tokens ≡ (x.0, Word (codes "call")) ∷ x.1) where
-    call_stands : (line : ℕ) (front : List Placed) → StandsTyped front → CallStands line ((line, Word (codes "call")) ∷ front)
-    call_stands line front (width, spelled) = ([], front, width, refl, spelled)
-
-    pub call-open : GoodOpen Anything (R >>= Called) NotComma
-    call-open = record {
-      sample = sample_both Anything Anything NotComma R Called r.sample called_sample;
-      outcome = λ tokens e.
-          outcome_both (Unit {0}) (Unit {0}) (Unit {0}) Anything Anything NotComma R Called (Reasons Anything R Anything) (λ line. CalleeOr (Called line) NotComma line StandsTyped) (Reasons Anything (R >>= Called) NotComma) tokens
-          (record {
-            first = λ front t behind there found why. reasons_first (Unit {0}) Anything Anything NotComma R Called called_sample front t found why;
-            second = λ x is o front t behind there found why.
-                callee_told (R >>= Called) NotComma x.0 (o.front ++ front) t found
-                (callee_second NotComma R Called called_sample x.0 StandsTyped (CallStands x.0) tokens x o
-                (λ ts stands.
-                let same : (x.0, Word (codes "call")) ∷ [] ≡ o.front = append_cancel_right ((x.0, Word (codes "call")) ∷ []) o.front x.1 (sym (reads tokens x is) ∙ o.there) in
-                subst (λ (first : List Placed). CallStands x.0 (first ++ ts)) same (call_stands x.0 ts stands))
-                front t behind there found why);
-          })
-          (apart_new (Unit {0}) (Unit {0}) Anything Anything NotComma R Called (λ line. CalleeOr (Called line) NotComma line StandsTyped) tokens r.apart)
-          called_sample (R tokens) refl (r.outcome tokens e) (λ x is ended. called_outcome x.0 x.1 ended);
-      splits = both_splits R Called (apart_splits r.apart) called_splits;
-    }
-
 -- ---- `call` behind `tail` or `notail`
 
 call_word : (w : List ℕ) → bytes_eq w (codes "call") ≡ true → w ≡ codes "call"
@@ -352,8 +325,35 @@ call_word_read ((line, Word w) ∷ rest) x is = by (bytes_eq w (codes "call")) r
     by false h read = absurd cc
 call_word_read ((line, t) ∷ rest) x is = absurd cc
 
-pub marked-open : {A : Type 0} (f : RawOp → A) → GoodOpen Anything (call_word_at >>= Called f) NotComma
-marked-open f = call-open f call_word_at call_word-good call_word_read
+-- `call` stands first, and behind it items and a type
+abbrev pub StandsMarked : ℕ → List Placed → Type 0
+StandsMarked line front = (behind : List Placed) × (front ≡ (line, Word (codes "call")) ∷ behind) × StandsTyped behind
+
+abbrev pub MarkedWhy : {A : Type 0} → (RawOp → A) → Why
+MarkedWhy f front t found = (line : ℕ) × CalleeOr (call_word_at >>= Called f) NotComma line (StandsMarked line) front t found
+
+pub marked_sample : {A : Type 0} (f : RawOp → A) → Sample Anything (call_word_at >>= Called f) NotComma
+marked_sample f = sample_both Anything Anything NotComma call_word_at (Called f) call_word-good.sample (called_sample f)
+
+pub marked_outcome : {A : Type 0} (f : RawOp → A) (tokens : List Placed) → Ended tokens → OutcomeIf (Unit {0}) Anything (call_word_at >>= Called f) NotComma (Unit {0}) (MarkedWhy f) tokens ((call_word_at >>= Called f) tokens)
+marked_outcome f tokens e =
+    outcome_both (Unit {0}) (Unit {0}) (Unit {0}) Anything Anything NotComma call_word_at (Called f) (Reasons Anything call_word_at Anything) (λ line. CalleeOr (Called f line) NotComma line StandsTyped) (MarkedWhy f) tokens
+    (record {
+      first = λ front t behind there found why. (0, inl (reasons_first (Unit {0}) Anything Anything NotComma call_word_at (Called f) (called_sample f) front t found why));
+      second = λ x is o front t behind there found why. (
+        x.0,
+        callee_second NotComma call_word_at (Called f) (called_sample f) x.0 StandsTyped (StandsMarked x.0) tokens x o
+            (λ ts stands.
+            let same : (x.0, Word (codes "call")) ∷ [] ≡ o.front = append_cancel_right ((x.0, Word (codes "call")) ∷ []) o.front x.1 (sym (call_word_read tokens x is) ∙ o.there) in
+            subst (λ (first : List Placed). StandsMarked x.0 (first ++ ts)) same (ts, refl, stands))
+            front t behind there found why,
+      );
+    })
+    (apart_new (Unit {0}) (Unit {0}) Anything Anything NotComma call_word_at (Called f) (λ line. CalleeOr (Called f line) NotComma line StandsTyped) tokens call_word-good.apart)
+    (called_sample f) (call_word_at tokens) refl (call_word-good.outcome tokens e) (λ x is ended. called_outcome f x.0 x.1 ended)
+
+pub marked_splits : {A : Type 0} (f : RawOp → A) → Splits (call_word_at >>= Called f)
+marked_splits f = both_splits call_word_at (Called f) (apart_splits call_word-good.apart) (called_splits f)
 
 pub marked_from : {A : Type 0} (f : RawOp → A) (tokens : List Placed) → (marked_call_at >>= λ op. Ending (f op)) tokens ≡ (call_word_at >>= Called f) tokens
 unfolding marked_call_at

@@ -18,13 +18,14 @@ use Rattle.ir_instructions.specs.Keywords.{operation_in, operation_word}
 use Rattle.ir_instructions.specs.Punctuation as marks
 use Rattle.ir_instructions.proofs.Loops.{same_behind, each-done, repeat-done}
 use Rattle.ir_instructions.proofs.Readings.{mark_at-is}
-use Rattle.ir_instructions.proofs.Steps.{read_as}
+use Rattle.ir_instructions.proofs.Steps.{bind_ok, read_as}
 use Rattle.ir_instructions.proofs.WordLemmas.{operation_in-is}
 use Rattle.ir_instructions.proofs.Shorter.{token}
 use Rattle.ir_instructions.proofs.Takings.{tail-takes, incoming-takes, inst-takes}
 use Rattle.ir_viable_prefixes.proofs.Choices.{Tested, tested_next, And, Either, either_outcome, either_sample, reasons_transferred, same-good, same_open}
 use Rattle.ir_viable_prefixes.specs.Calls.{CallStands}
-use Rattle.ir_viable_prefixes.proofs.Calls.{CalleeOr, StandsTyped, callee_second, callee_told, Called, called_sample, called_outcome, called_splits, call_from, marked-open, marked_from}
+use Rattle.ir_viable_prefixes.specs.Calls as calls
+use Rattle.ir_viable_prefixes.proofs.Calls.{CalleeOr, StandsTyped, StandsMarked, MarkedWhy, callee_second, callee_told, Called, called_sample, called_outcome, called_splits, call_from, marked_sample, marked_outcome, marked_splits, marked_from}
 use Rattle.ir_viable_prefixes.proofs.Endings.{Ending, ending-good}
 use Rattle.ir_viable_prefixes.proofs.Outcomes.{Follow, next_map, Anything, Ended, Sample, sample_both, Why, Reasons, reasons_first, reasons_second, IsReadIf, OutcomeIf, Outcome, outcome_both, apart_new, StaysNew, New, free_second, both, Good, GoodOpen, done-good, ◌then◌, ◌then_open◌}
 use Rattle.ir_viable_prefixes.proofs.Repeats.{Steps, steps_of, loop_sample, loop_lifts, repeat_outcomes, another, one_step, another_takes, another_apart}
@@ -183,13 +184,15 @@ same_behind_word f line operation tokens = refl
 -- what is told behind the word of an operation
 abbrev BehindWhy : {A : Type 0} → (RawOp → A) → ℕ → Operation → Why
 BehindWhy f line operations.Call = CalleeOr (Called f line) NotComma line StandsTyped
+BehindWhy f line operations.Tail = MarkedWhy f
+BehindWhy f line operations.NoTail = MarkedWhy f
 BehindWhy f line operation = Reasons Anything (Behind f line operation) NotComma
 
 behind_open : {A : Type 0} (f : RawOp → A) (line : ℕ) (operation : Operation)
     → Sample Anything (Behind f line operation) NotComma × ((tokens : List Placed) → Ended tokens → OutcomeIf (Unit {0}) Anything (Behind f line operation) NotComma (Unit {0}) (BehindWhy f line operation) tokens (Behind f line operation tokens)) × Splits (Behind f line operation)
 behind_open f line operations.Call = (called_sample f line, called_outcome f line, called_splits f line)
-behind_open f line operations.Tail = let r = marked-open f in (r.sample, r.outcome, r.splits)
-behind_open f line operations.NoTail = let r = marked-open f in (r.sample, r.outcome, r.splits)
+behind_open f line operations.Tail = (marked_sample f, marked_outcome f, marked_splits f)
+behind_open f line operations.NoTail = (marked_sample f, marked_outcome f, marked_splits f)
 behind_open f line (operations.Binary op) = let r = binary-good op then (λ o. ending-good (f o)) in (r.sample, r.outcome, apart_splits r.apart)
 behind_open f line operations.Compare = let r = compare-good then (λ o. ending-good (f o)) in (r.sample, r.outcome, apart_splits r.apart)
 behind_open f line operations.Select = let r = select-good then (λ o. ending-good (f o)) in (r.sample, r.outcome, apart_splits r.apart)
@@ -210,30 +213,79 @@ opcode_read ((line, Word w) ∷ rest) x is = by (operation_in w) refl is
     by None h read = absurd cc
 opcode_read ((line, t) ∷ rest) x is = absurd cc
 
-op_lifts : {A : Type 0} (f : RawOp → A) (tokens : List Placed) (line : ℕ) (operation : Operation) (rest : List Placed) → opcode_at tokens ≡ Ok ((line, operation), rest) → (o : IsReadIf (Unit {0}) Anything opcode_at Anything (Unit {0}) tokens (line, operation) rest)
-    → (front : List Placed) (t : Placed) (behind : List Placed) → rest ≡ front ++ t ∷ behind → (found : Fault IrFaultKind) → BehindWhy f line operation front t found → Reasons Anything (opcode_at >>= BehindWord f) NotComma (o.front ++ front) t found
-op_lifts f tokens line operations.Call rest is o front t behind there found why =
-    callee_told (opcode_at >>= BehindWord f) NotComma line (o.front ++ front) t found
-    (callee_second NotComma opcode_at (BehindWord f) (behind_sample f) line StandsTyped (CallStands line) tokens ((line, operations.Call), rest) o
-    (λ ts stands.
-    let same : (line, Word (codes "call")) ∷ [] ≡ o.front = append_cancel_right ((line, Word (codes "call")) ∷ []) o.front rest (sym (opcode_read tokens ((line, operations.Call), rest) is) ∙ o.there) in
-    subst (λ (first : List Placed). CallStands line (first ++ ts)) same ([], ts, stands.0, refl, stands.1))
-    front t behind there found why)
-op_lifts f tokens line operation rest is o front t behind there found why =
-    reasons_second (Unit {0}) (Unit {0}) Anything Anything NotComma opcode_at (BehindWord f) (behind_sample f) tokens ((line, operation), rest) o front t behind there found why
+-- `=`, and behind it the line and the word of an operation
+abbrev Opcode : Reader (ℕ × Operation)
+Opcode = parsing.mark_at marks.equals >>= λ u. opcode_at
 
-op-open : {A : Type 0} (f : RawOp → A) → GoodOpen Anything (opcode_at >>= BehindWord f) NotComma
+equals_opcode-good : Good Anything Opcode Anything
+equals_opcode-good = mark-good marks.equals tt then (λ u. opcode-good)
+
+equals_read : (tokens : List Placed) (x : (ℕ × Operation) × List Placed) → Opcode tokens ≡ Ok x → (l : ℕ) × (tokens ≡ (l, Mark marks.equals) ∷ (x.0.0, Word (operation_word x.0.1)) ∷ x.1)
+equals_read tokens x is =
+    let one = bind_ok (parsing.mark_at marks.equals tokens) (λ u. opcode_at) x is in
+    let mark = mark_at-is marks.equals tokens one.0 one.1 in
+    (mark.0, mark.1 ∙ ap (λ (ts : List Placed). (mark.0, Mark marks.equals) ∷ ts) (opcode_read one.0.1 x one.2))
+
+-- the tokens that are read so
+begun_by : (tokens : List Placed) (line : ℕ) (operation : Operation) (rest : List Placed) → Opcode tokens ≡ Ok ((line, operation), rest) → (o : IsReadIf (Unit {0}) Anything Opcode Anything (Unit {0}) tokens (line, operation) rest)
+    → (l : ℕ) × ((l, Mark marks.equals) ∷ (line, Word (operation_word operation)) ∷ [] ≡ o.front)
+begun_by tokens line operation rest is o =
+    let r = equals_read tokens ((line, operation), rest) is in
+    (r.0, append_cancel_right ((r.0, Mark marks.equals) ∷ (line, Word (operation_word operation)) ∷ []) o.front rest (sym r.1 ∙ o.there))
+
+op_lifts : {A : Type 0} (f : RawOp → A) (tokens : List Placed) (line : ℕ) (operation : Operation) (rest : List Placed) → Opcode tokens ≡ Ok ((line, operation), rest) → (o : IsReadIf (Unit {0}) Anything Opcode Anything (Unit {0}) tokens (line, operation) rest)
+    → (front : List Placed) (t : Placed) (behind : List Placed) → rest ≡ front ++ t ∷ behind → (found : Fault IrFaultKind) → BehindWhy f line operation front t found → Reasons Anything (Opcode >>= BehindWord f) NotComma (o.front ++ front) t found
+op_lifts f tokens line operations.Call rest is o front t behind there found why =
+    let b = begun_by tokens line operations.Call rest is o in
+    callee_told (Opcode >>= BehindWord f) NotComma line (o.front ++ front) t found
+    (callee_second NotComma Opcode (BehindWord f) (behind_sample f) line StandsTyped (CallStands line) tokens ((line, operations.Call), rest) o
+    (λ ts stands. subst (λ (first : List Placed). CallStands line (first ++ ts)) b.1 ([], (b.0, Mark marks.equals) ∷ (line, Word (codes "call")) ∷ [], ts, stands.0, calls.plain b.0, refl, stands.1))
+    front t behind there found why)
+op_lifts f tokens line operations.Tail rest is o front t behind there found why =
+    let b = begun_by tokens line operations.Tail rest is o in
+    callee_told (Opcode >>= BehindWord f) NotComma why.0 (o.front ++ front) t found
+    (callee_second NotComma Opcode (BehindWord f) (behind_sample f) why.0 (StandsMarked why.0) (CallStands why.0) tokens ((line, operations.Tail), rest) o
+    (λ ts stands.
+    subst (λ (first : List Placed). CallStands why.0 (first ++ ts)) b.1 (
+      [],
+      (b.0, Mark marks.equals) ∷ (line, Word (codes "tail")) ∷ (why.0, Word (codes "call")) ∷ [],
+      stands.0,
+      stands.2.0,
+      calls.tail b.0 line,
+      ap (λ (us : List Placed). (b.0, Mark marks.equals) ∷ (line, Word (codes "tail")) ∷ us) stands.1,
+      stands.2.1,
+    ))
+    front t behind there found why.1)
+op_lifts f tokens line operations.NoTail rest is o front t behind there found why =
+    let b = begun_by tokens line operations.NoTail rest is o in
+    callee_told (Opcode >>= BehindWord f) NotComma why.0 (o.front ++ front) t found
+    (callee_second NotComma Opcode (BehindWord f) (behind_sample f) why.0 (StandsMarked why.0) (CallStands why.0) tokens ((line, operations.NoTail), rest) o
+    (λ ts stands.
+    subst (λ (first : List Placed). CallStands why.0 (first ++ ts)) b.1 (
+      [],
+      (b.0, Mark marks.equals) ∷ (line, Word (codes "notail")) ∷ (why.0, Word (codes "call")) ∷ [],
+      stands.0,
+      stands.2.0,
+      calls.no_tail b.0 line,
+      ap (λ (us : List Placed). (b.0, Mark marks.equals) ∷ (line, Word (codes "notail")) ∷ us) stands.1,
+      stands.2.1,
+    ))
+    front t behind there found why.1)
+op_lifts f tokens line operation rest is o front t behind there found why =
+    reasons_second (Unit {0}) (Unit {0}) Anything Anything NotComma Opcode (BehindWord f) (behind_sample f) tokens ((line, operation), rest) o front t behind there found why
+
+op-open : {A : Type 0} (f : RawOp → A) → GoodOpen Anything (Opcode >>= BehindWord f) NotComma
 op-open f = record {
-  sample = sample_both Anything Anything NotComma opcode_at (BehindWord f) opcode-good.sample (behind_sample f);
+  sample = sample_both Anything Anything NotComma Opcode (BehindWord f) equals_opcode-good.sample (behind_sample f);
   outcome = λ tokens e.
-      outcome_both (Unit {0}) (Unit {0}) (Unit {0}) Anything Anything NotComma opcode_at (BehindWord f) (Reasons Anything opcode_at Anything) (λ o. BehindWhy f o.0 o.1) (Reasons Anything (opcode_at >>= BehindWord f) NotComma) tokens
+      outcome_both (Unit {0}) (Unit {0}) (Unit {0}) Anything Anything NotComma Opcode (BehindWord f) (Reasons Anything Opcode Anything) (λ o. BehindWhy f o.0 o.1) (Reasons Anything (Opcode >>= BehindWord f) NotComma) tokens
       (record {
-        first = λ front t behind there found why. reasons_first (Unit {0}) Anything Anything NotComma opcode_at (BehindWord f) (behind_sample f) front t found why;
+        first = λ front t behind there found why. reasons_first (Unit {0}) Anything Anything NotComma Opcode (BehindWord f) (behind_sample f) front t found why;
         second = λ x is o front t behind there found why. op_lifts f tokens x.0.0 x.0.1 x.1 is o front t behind there found why;
       })
-      (apart_new (Unit {0}) (Unit {0}) Anything Anything NotComma opcode_at (BehindWord f) (λ o. BehindWhy f o.0 o.1) tokens opcode-good.apart)
-      (behind_sample f) (opcode_at tokens) refl (opcode-good.outcome tokens e) (λ x is ended. (behind_open f x.0.0 x.0.1).1 x.1 ended);
-  splits = both_splits opcode_at (BehindWord f) (apart_splits opcode-good.apart) (λ o. (behind_open f o.0 o.1).2);
+      (apart_new (Unit {0}) (Unit {0}) Anything Anything NotComma Opcode (BehindWord f) (λ o. BehindWhy f o.0 o.1) tokens equals_opcode-good.apart)
+      (behind_sample f) (Opcode tokens) refl (equals_opcode-good.outcome tokens e) (λ x is ended. (behind_open f x.0.0 x.0.1).1 x.1 ended);
+  splits = both_splits Opcode (BehindWord f) (apart_splits equals_opcode-good.apart) (λ o. (behind_open f o.0 o.1).2);
 }
 
 op_ending : {A : Type 0} (f : RawOp → A) (tokens : List Placed) → (parsing.op_at >>= λ op. Ending (f op)) tokens ≡ (opcode_at >>= BehindWord f) tokens
@@ -245,10 +297,14 @@ op_ending f ((line, Word w) ∷ rest) = by (operation_in w) refl
     by None h = rw h refl
 op_ending f tokens = refl
 
+equals_ending : {A : Type 0} (f : RawOp → A) (tokens : List Placed) → (parsing.mark_at marks.equals >>= λ u. parsing.op_at >>= λ op. Ending (f op)) tokens ≡ (Opcode >>= BehindWord f) tokens
+equals_ending f tokens =
+    same_behind (parsing.mark_at marks.equals tokens) (λ u. parsing.op_at >>= λ op. Ending (f op)) (λ u. opcode_at >>= BehindWord f) (λ x is. op_ending f x.1) ∙ sym (assoc (parsing.mark_at marks.equals tokens) (λ u. opcode_at) (BehindWord f))
+
 inst-open : {E : Follow} → E a_register → GoodOpen E parsing.inst_at NotComma
 unfolding parsing.inst_at
 inst-open e =
-    register-good e then_open (λ result. mark-good marks.equals tt then_open (λ u. same_open (op_ending (λ op. record { result = result; op = op })) (op-open (λ op. record { result = result; op = op }))))
+    register-good e then_open (λ result. same_open (equals_ending (λ op. record { result = result; op = op })) (op-open (λ op. record { result = result; op = op })))
 
 register_is_no_comma : (t : Token) → Tested parsing.is_register true t → NotComma t
 register_is_no_comma (Register name) next = refl

@@ -701,8 +701,8 @@ no_value_second U V E F G R S tokens x o front l behind there (no_group text) = 
 no_value_second U V E F G R S tokens x o front l behind there (no_quoted text) = no_quoted text
 
 pub stands_behind : (first front : List Placed) (line : ℕ) → CallStands line front → CallStands line (first ++ front)
-stands_behind first front line (before, behind, width, same, spelled) =
-    (first ++ before, behind, width, ap (λ (ts : List Placed). first ++ ts) same ∙ sym (append_assoc first before ((line, Word (codes "call")) ∷ behind)), spelled)
+stands_behind first front line (before, call, behind, width, begins, same, spelled) =
+    (first ++ before, call, behind, width, begins, ap (λ (ts : List Placed). first ++ ts) same ∙ sym (append_assoc first before (call ++ behind)), spelled)
 
 -- a token that the second reader refuses behind others of its own
 refuses_begun : {A B : Type 0} (U V : Type 0) (E F : Follow) (R : Reader A) (S : A → Reader B) (tokens : List Placed) (x : A × List Placed) (o : IsReadIf U E R F V tokens x.0 x.1)

@@ -27,10 +27,16 @@ pub record CalleeFits (front : List Placed) : Type 0 where
   pub fits : FitsBehind front (Function one)
   pub alone : (other : List ℕ) → FitsBehind front (Function other) → NamesIntrinsic other
 
--- the word `call` on this line, and its items and the type behind it, stand last
+-- `=`, and the words up to `call`, which stands on this line
+pub data BeginsCall (line : ℕ) : List Placed → Type 0 where
+  plain : (at : ℕ) → BeginsCall line ((at, Mark marks.equals) ∷ (line, Word (codes "call")) ∷ [])
+  tail : (at on : ℕ) → BeginsCall line ((at, Mark marks.equals) ∷ (on, Word (codes "tail")) ∷ (line, Word (codes "call")) ∷ [])
+  no_tail : (at on : ℕ) → BeginsCall line ((at, Mark marks.equals) ∷ (on, Word (codes "notail")) ∷ (line, Word (codes "call")) ∷ [])
+
+-- the words that begin a call, and its items and the type behind them, stand last
 abbrev pub CallStands : ℕ → List Placed → Type 0
 CallStands line front =
-    (before behind : List Placed) × (width : ℕ) × (front ≡ before ++ (line, Word (codes "call")) ∷ behind) × (Items ⨾ SpellsType width) behind []
+    (before call behind : List Placed) × (width : ℕ) × BeginsCall line call × (front ≡ before ++ (call ++ behind)) × (Items ⨾ SpellsType width) behind []
 
 -- ---- values
 
