@@ -148,7 +148,7 @@ truth_alone width items l (Word w) none = by (truth_in w) refl
     by (Some value) h = takes (record { line = l; value = value }) refl (λ more. no_item (truth_value_at width) items (l, Word w) more none ∙ rw h refl)
     by None h =
         refuses (fault l Syntax) (
-          inr (of_truth l w (value_end (truth_value_at width) width (truth_reads width) items a_truth (λ line. (record { line = line; value = values.True }, λ more. refl)))
+          inr (of_truth l w (fit_group (truth_value_at width) width (truth_reads width) items) (value_end (truth_value_at width) width (truth_reads width) items a_truth (λ line. (record { line = line; value = values.True }, λ more. refl)))
               (none_end (truth_value_at width) width (truth_reads width) items (Word w) no_truth Syntax (like_word tt w (codes "undef") (nouns.value 1 values.Undef refl)) (λ line more. refl))),
           λ left. absurd (syntax_left left),
         )

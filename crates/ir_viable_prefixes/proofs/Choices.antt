@@ -305,12 +305,13 @@ module _ {A : Type 0} (test : List Placed → Bool) (asks : AsksNext test) (b : 
   in_call_moved front behind there (of_callee line at written one stands fit bad) =
       of_callee line at written one stands (fits_transferred test asks b R S agree D E F within enters tokens next front (at, Function written) behind there (Function one) fit)
       (λ other is. bad_transferred test asks b R S agree U U' voiced opens tokens next front at (Function written) behind there (Function other) (bad other is))
-  in_call_moved front behind there (of_value before line last end kind same ends none fit why) =
+  in_call_moved front behind there (of_value before line last end kind same ends none item fit why) =
       let whole : tokens ≡ before ++ (line, last) ∷ (end ∷ behind) = there ∙ ap (λ (ts : List Placed). ts ++ end ∷ behind) same ∙ append_assoc before ((line, last) ∷ []) (end ∷ behind) in
       of_value before line last end kind same ends (λ other is. refuses_moved test asks b R S agree tokens next front before (line, last) (end ∷ behind) there same other (none other is))
+      (fits_transferred test asks b R S agree D E F within enters tokens next before (line, last) (end ∷ behind) whole a_group item)
       (fits_end_transferred test asks b R S agree D E F within enters tokens next before (line, last) (end ∷ behind) whole a_truth fit) (no_value_moved before line (end ∷ behind) whole why)
-  in_call_moved front behind there (of_truth line w fit bad) =
-      of_truth line w (fits_end_transferred test asks b R S agree D E F within enters tokens next front (line, Word w) behind there a_truth fit)
+  in_call_moved front behind there (of_truth line w item fit bad) =
+      of_truth line w (fits_transferred test asks b R S agree D E F within enters tokens next front (line, Word w) behind there a_group item) (fits_end_transferred test asks b R S agree D E F within enters tokens next front (line, Word w) behind there a_truth fit)
       (refuses_end_transferred test asks b R S agree U U' voiced opens tokens next front line (Word w) behind there no_truth bad)
 
   pub reasons_moved : OpensRecords test b E S F → (front : List Placed) (t : Placed) (behind : List Placed) → tokens ≡ front ++ t ∷ behind → (found : Fault IrFaultKind) → ReasonsIf U D R F front t found → ReasonsIf U' E S F front t found

@@ -205,8 +205,8 @@ narrowed {A} {E} {F} {G} {R} within r = record { sample = (r.sample.0, r.sample.
 
     in_call : (front : List Placed) {t : Placed} {found : Fault IrFaultKind} → InCall (Unit {0}) E R F front t found → InCall (Unit {0}) E R G front t found
     in_call front (of_callee line at written one stands fit bad) = of_callee line at written one stands (fits front (Function one) fit) bad
-    in_call front (of_value before line last end kind same ends none fit why) = of_value before line last end kind same ends none (fits_end before a_truth fit) (no_value before why)
-    in_call front (of_truth line w fit bad) = of_truth line w (fits_end front a_truth fit) bad
+    in_call front (of_value before line last end kind same ends none item fit why) = of_value before line last end kind same ends none (fits before a_group item) (fits_end before a_truth fit) (no_value before why)
+    in_call front (of_truth line w item fit bad) = of_truth line w (fits front a_group item) (fits_end front a_truth fit) bad
 
     reasons : (front : List Placed) (t : Placed) (found : Fault IrFaultKind) → Reasons E R F front t found → Reasons E R G front t found
     reasons front t found (inl (same, why)) =

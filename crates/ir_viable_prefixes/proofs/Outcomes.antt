@@ -154,8 +154,8 @@ pub data InCall {A : Type 0} (V : Type 0) (E : Follow) (R : Reader A) (F : Follo
   of_callee : (line at : ℕ) (written one : List ℕ) → CallStands line front → Fit E R F front (Function one)
       → ((other : List ℕ) → callee_named (identifier_of other) ≡ None → Bad V R front (Function written) (Function other)) → InCall V E R F front (at, Function written) (fault line (LeftOut (codes "call")))
   of_value : (before : List Placed) (line : ℕ) (last : Token) (end : Placed) (kind : IrFaultKind) → front ≡ before ++ (line, last) ∷ [] → EndsArgument end.1
-      → ((other : Token) → EndsArgument other → RefusesAt R front other) → FitsEnd E R F before a_truth → NoValue V E R F before last kind → InCall V E R F front end (fault line kind)
-  of_truth : (line : ℕ) (w : List ℕ) → FitsEnd E R F front a_truth → RefusesEnd V R front (Word w) no_truth → InCall V E R F front (line, Word w) (fault line Syntax)
+      → ((other : Token) → EndsArgument other → RefusesAt R front other) → Fit E R F before a_group → FitsEnd E R F before a_truth → NoValue V E R F before last kind → InCall V E R F front end (fault line kind)
+  of_truth : (line : ℕ) (w : List ℕ) → Fit E R F front a_group → FitsEnd E R F front a_truth → RefusesEnd V R front (Word w) no_truth → InCall V E R F front (line, Word w) (fault line Syntax)
 
 -- the word is that of a flag that stands last, and the reader reads on with what follows flags
 abbrev pub Again : {A : Type 0} → Follow → Reader A → Follow → List Placed → List ℕ → Type 0
@@ -684,10 +684,10 @@ no_value_first V E F G R S s front (no_quoted text) = no_quoted text
 in_call_first : {A B : Type 0} (V : Type 0) (E F G : Follow) (R : Reader A) (S : A → Reader B) → ((x : A) → Sample F (S x) G) → (front : List Placed) {t : Placed} {found : Fault IrFaultKind} → InCall V E R F front t found → InCall V E (R >>= S) G front t found
 in_call_first V E F G R S s front (of_callee line at written one stands fit bad) =
     of_callee line at written one stands (fits_first E F G R S s front (Function one) fit) (λ other is. bad_first V R S front (Function written) (Function other) (bad other is))
-in_call_first V E F G R S s front (of_value before line last end kind same ends none fit why) =
-    of_value before line last end kind same ends (λ other o more. let r = none other o more in (r.0, rw r.1 refl)) (fits_end_first E F G R S s before a_truth fit) (no_value_first V E F G R S s before why)
-in_call_first V E F G R S s front (of_truth line w fit bad) =
-    of_truth line w (fits_end_first E F G R S s front a_truth fit) (λ end more ends. let r = bad.0 end more ends in (r.0, rw r.1 refl), bad.1)
+in_call_first V E F G R S s front (of_value before line last end kind same ends none item fit why) =
+    of_value before line last end kind same ends (λ other o more. let r = none other o more in (r.0, rw r.1 refl)) (fits_first E F G R S s before a_group item) (fits_end_first E F G R S s before a_truth fit) (no_value_first V E F G R S s before why)
+in_call_first V E F G R S s front (of_truth line w item fit bad) =
+    of_truth line w (fits_first E F G R S s front a_group item) (fits_end_first E F G R S s front a_truth fit) (λ end more ends. let r = bad.0 end more ends in (r.0, rw r.1 refl), bad.1)
 
 -- and so is what the second tells
 no_value_second : {A B : Type 0} (U V : Type 0) (E F G : Follow) (R : Reader A) (S : A → Reader B) (tokens : List Placed) (x : A × List Placed) (o : IsReadIf U E R F V tokens x.0 x.1)
@@ -715,13 +715,13 @@ in_call_second : {A B : Type 0} (U V : Type 0) (E F G : Follow) (R : Reader A) (
 in_call_second U V E F G R S tokens x o front behind there (of_callee line at written one stands fit bad) =
     of_callee line at written one (stands_behind o.front front line stands) (fits_second U V E F G R S tokens x o front (at, Function written) behind there (Function one) fit)
     (λ other is. bad_second U V E F R S tokens x o front at (Function written) behind there (Function other) (bad other is))
-in_call_second U V E F G R S tokens x o front behind there (of_value before line last end kind same ends none fit why) =
+in_call_second U V E F G R S tokens x o front behind there (of_value before line last end kind same ends none item fit why) =
     let whole : x.1 ≡ before ++ (line, last) ∷ (end ∷ behind) = there ∙ ap (λ (ts : List Placed). ts ++ end ∷ behind) same ∙ append_assoc before ((line, last) ∷ []) (end ∷ behind) in
     of_value (o.front ++ before) line last end kind (ap (λ (ts : List Placed). o.front ++ ts) same ∙ sym (append_assoc o.front before ((line, last) ∷ []))) ends
     (λ other is. refuses_begun U V E F R S tokens x o front before (line, last) (end ∷ behind) there same other (none other is))
-    (fits_end_second U V E F G R S tokens x o before (line, last) (end ∷ behind) whole a_truth fit) (no_value_second U V E F G R S tokens x o before line (end ∷ behind) whole why)
-in_call_second U V E F G R S tokens x o front behind there (of_truth line w fit bad) =
-    of_truth line w (fits_end_second U V E F G R S tokens x o front (line, Word w) behind there a_truth fit) (refuses_end_second U V E F R S tokens x o front line (Word w) behind there no_truth bad)
+    (fits_second U V E F G R S tokens x o before (line, last) (end ∷ behind) whole a_group item) (fits_end_second U V E F G R S tokens x o before (line, last) (end ∷ behind) whole a_truth fit) (no_value_second U V E F G R S tokens x o before line (end ∷ behind) whole why)
+in_call_second U V E F G R S tokens x o front behind there (of_truth line w item fit bad) =
+    of_truth line w (fits_second U V E F G R S tokens x o front (line, Word w) behind there a_group item) (fits_end_second U V E F G R S tokens x o front (line, Word w) behind there a_truth fit) (refuses_end_second U V E F R S tokens x o front line (Word w) behind there no_truth bad)
 
 pub reasons_first : {A B : Type 0} (V : Type 0) (E F G : Follow) (R : Reader A) (S : A → Reader B) → ((x : A) → Sample F (S x) G) → (front : List Placed) (t : Placed) (found : Fault IrFaultKind) → ReasonsIf V E R F front t found → ReasonsIf V E (R >>= S) G front t found
 reasons_first V E F G R S s front t found (inl (same, why)) = inl (same, reason_map _ _ _ _ _ _ _ _ t.1 (maps_first V E F G R S s front t.1) found.kind why)

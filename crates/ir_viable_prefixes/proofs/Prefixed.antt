@@ -134,13 +134,13 @@ module _ {A : Type 0} (R S : Reader A) (V : Type 0) (E F Own : Follow) (first : 
   call front tail there (of_callee line at written one stands fit b) =
       of_callee line at written one (stands_behind (first ∷ others) front line stands) (fits front ((at, Function written) ∷ tail) there (Function one) fit)
       (λ other is. bad front ((at, Function written) ∷ tail) there (Function written) (Function other) (b other is))
-  call front tail there (of_value before line last end kind same ends none fit why) =
+  call front tail there (of_value before line last end kind same ends none item fit why) =
       let whole : next ∷ rest ≡ before ++ (line, last) ∷ (end ∷ tail) = there ∙ ap (λ (ts : List Placed). ts ++ end ∷ tail) same ∙ append_assoc before ((line, last) ∷ []) (end ∷ tail) in
       of_value (Behind before) line last end kind (ap Behind same ∙ ap (λ (ts : List Placed). first ∷ ts) (sym (append_assoc others before ((line, last) ∷ [])))) ends
       (λ other is more. let r = none other is more in (r.0, moved front (end ∷ tail) there other (λ empty. absurd (not_empty front before (line, last) same empty)) more ∙ r.1))
-      (fits_end before ((line, last) ∷ (end ∷ tail)) whole a_truth fit) (no_value before line (end ∷ tail) whole why)
-  call front tail there (of_truth line w fit b) =
-      of_truth line w (fits_end front ((line, Word w) ∷ tail) there a_truth fit) (refuses_end front ((line, Word w) ∷ tail) there (Word w) no_truth b)
+      (fits before ((line, last) ∷ (end ∷ tail)) whole a_group item) (fits_end before ((line, last) ∷ (end ∷ tail)) whole a_truth fit) (no_value before line (end ∷ tail) whole why)
+  call front tail there (of_truth line w item fit b) =
+      of_truth line w (fits front ((line, Word w) ∷ tail) there a_group item) (fits_end front ((line, Word w) ∷ tail) there a_truth fit) (refuses_end front ((line, Word w) ∷ tail) there (Word w) no_truth b)
 
   pub reasons_behind : (front : List Placed) (t : Placed) (tail : List Placed) → next ∷ rest ≡ front ++ t ∷ tail → (found : Fault IrFaultKind) → Reasons Anything S F front t found → ReasonsIf V E R F (Behind front) t found
   reasons_behind front t tail there found (inl (line, why)) = inl (line, reason_map _ _ _ _ _ _ _ _ t.1 (maps front (t ∷ tail) there t.1) found.kind why)

@@ -35,11 +35,11 @@ use Rattle.ir_parse.specs.Grammar.{SpellsModule}
 use Rattle.ir_parse.specs.Laws.{ModulesAreReadAsSpelled}
 use Rattle.ir_parse.specs.ModuleReaders.{entries_at, module_from, module_of}
 use Rattle.ir_parse.specs.Text.{most_bytes, IsTextFault, too_long, misfit}
-use Rattle.ir_viable_prefixes.specs.Fits.{Fits, FitsBehind}
+use Rattle.ir_viable_prefixes.specs.Fits.{Fits, FitsBehind, AttributesFit}
 use Rattle.ir_viable_prefixes.specs.Calls.{NamesIntrinsic, EndsArgument, ValueFits, IsNoValue, IsToldInCall}
 use Rattle.ir_viable_prefixes.specs.Calls as calls
 use Rattle.ir_viable_prefixes.specs.Laws.{IsTold, of_token, in_call, IsFirstMisfit, FaultsAreWhereTextsDoNotFit}
-use Rattle.ir_viable_prefixes.specs.Misfits.{TypeFits, TerminatorFits, AttributesFit, AnotherFits, IsLeftOut, IsRepeated, IsNothingElse, IsWrongWidth, IsWrongNumber, IsMisfit}
+use Rattle.ir_viable_prefixes.specs.Misfits.{TypeFits, TerminatorFits, AnotherFits, IsLeftOut, IsRepeated, IsNothingElse, IsWrongWidth, IsWrongNumber, IsMisfit}
 use Rattle.ir_viable_prefixes.specs.Misfits as nouns
 use Rattle.ir_viable_prefixes.proofs.Entries.{EndsAt, EndsText, OrEnds, entries_outcome, entries_sample}
 use Rattle.ir_viable_prefixes.proofs.Outcomes.{Next, Anything, Ended, CompletesBegun, Fit, FitsEnd, RefusesAt, RefusesEnd, Bad, Again, a_truth, no_truth, NoValue, no_number, no_word, no_truth_value, no_group, no_quoted, InCall, of_callee, of_value, of_truth, New, IsRefused, Outcome}
@@ -296,9 +296,9 @@ callee_is law front t bad other fits = by (identifier_of other) refl
 call_is : ModulesAreReadAsSpelled → (front : List Placed) {t : Placed} {found : Fault IrFaultKind} → InCall (Unit {0}) Anything entries_at EndsText front t found → IsToldInCall front t found
 call_is law front (of_callee line at written one stands fit bad) =
     calls.callee line at written (record { one = one; fits = token_fits law front (Function one) fit; alone = callee_is law front (Function written) bad }) stands
-call_is law front (of_value before line value end kind same ends none fit why) =
-    calls.value before line value end kind same ends (λ other is. bad_misfits law front other (none other is)) (value_fits law before a_truth fit) (no_value_is law before why)
-call_is law front (of_truth line w fit bad) = calls.truth line w (value_fits law front a_truth fit) (no_value_fits law front (Word w) no_truth bad)
+call_is law front (of_value before line value end kind same ends none item fit why) =
+    calls.value before line value end kind same ends (λ other is. bad_misfits law front other (none other is)) (codes "#0", token_fits law before a_group item) (value_fits law before a_truth fit) (no_value_is law before why)
+call_is law front (of_truth line w item fit bad) = calls.truth line w (codes "#0", token_fits law front a_group item) (value_fits law front a_truth fit) (no_value_fits law front (Word w) no_truth bad)
 
 -- ---- what is told
 

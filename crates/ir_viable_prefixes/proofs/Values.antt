@@ -250,7 +250,7 @@ module _ (Q : Reader RawOperand) (width : ℕ) (q : ReadsValue Q width) where
         refused = λ more. last Q items (l, t) ((k, u) ∷ more) ends ∙ none l ((k, u) ∷ more);
         completes = completion (items ++ item ∷ []) items (l, t) [] (λ more. behind Q items ((l, t) ∷ (0, a_truth) ∷ more) (item, (0, a_truth) ∷ more) (rw (same_item l t ((0, a_truth) ∷ more) [] ∙ begins) refl) (one more));
         why = (
-          inr (of_value [] l t (k, u) kind refl ends (λ other is more. (fault l kind, last Q items (l, t) ((0, other) ∷ more) is ∙ none l ((0, other) ∷ more))) (value_end items a_truth q.truth) no_value),
+          inr (of_value [] l t (k, u) kind refl ends (λ other is more. (fault l kind, last Q items (l, t) ((0, other) ∷ more) is ∙ none l ((0, other) ∷ more))) (fit_group items) (value_end items a_truth q.truth) no_value),
           λ left. ends_no_flag ends,
         );
         new = λ left. inl (λ again. ends_no_flag ends again.2.2 (again.1 ∙ ap Word again.2.5));

@@ -13,7 +13,7 @@ use Rattle.ir_instructions.specs.Intrinsics.{IsIntrinsicName}
 use Rattle.ir_instructions.specs.Parts.{◌⨾◌}
 use Rattle.ir_instructions.specs.PieceGrammar.{SpellsType}
 use Rattle.ir_instructions.specs.Punctuation as marks
-use Rattle.ir_viable_prefixes.specs.Fits.{Fits, FitsBehind, own_line}
+use Rattle.ir_viable_prefixes.specs.Fits.{Fits, FitsBehind, AttributesFit, own_line}
 
 -- ---- callees
 
@@ -64,10 +64,10 @@ pub data IsToldInCall (front : List Placed) : Placed → Fault IrFaultKind → T
   -- a function that is no intrinsic: the word `call` is left out
   callee : (line at : ℕ) (written : List ℕ) → CalleeFits front → CallStands line front
       → IsToldInCall front (at, Function written) (record { line = line; kind = LeftOut (codes "call") })
-  -- the end of an argument, behind what is no value: no other end fits either
+  -- the end of an argument, behind what is no value where items and values stand: no other end fits either
   value : (before : List Placed) (line : ℕ) (last : Token) (end : Placed) (kind : IrFaultKind) → front ≡ before ++ (line, last) ∷ [] → EndsArgument end.1
-      → ((other : Token) → EndsArgument other → ¬ FitsBehind front other) → ValueFits before (Word (codes "true")) → IsNoValue before last kind
+      → ((other : Token) → EndsArgument other → ¬ FitsBehind front other) → AttributesFit before → ValueFits before (Word (codes "true")) → IsNoValue before last kind
       → IsToldInCall front end (record { line = line; kind = kind })
-  -- a word that is no item, where a truth value is expected
-  truth : (line : ℕ) (word : List ℕ) → ValueFits front (Word (codes "true")) → ¬ ValueFits front (Word (codes "undef"))
+  -- a word that is no item, where items and a truth value stand
+  truth : (line : ℕ) (word : List ℕ) → AttributesFit front → ValueFits front (Word (codes "true")) → ¬ ValueFits front (Word (codes "undef"))
       → IsToldInCall front (line, Word word) (record { line = line; kind = Syntax })

@@ -1,6 +1,6 @@
 -- Which tokens begin a text of the grammar of modules. Nothing but its productions decides that.
 use Rattle.std.specs.Prelude.{ℕ, List, [], ◌∷◌, ◌++◌}
-use Rattle.ir_tokens.specs.Tokens.{Token, Placed}
+use Rattle.ir_tokens.specs.Tokens.{Token, Placed, Group}
 use Rattle.ir_tokens.specs.declared.raw.RawModule.{RawModule}
 use Rattle.ir_parse.specs.Grammar.{SpellsModule}
 
@@ -15,3 +15,7 @@ own_line = 0
 -- the token fits behind them on a line of its own
 abbrev pub FitsBehind : List Placed → Token → Type 0
 FitsBehind front token = Fits (front ++ (own_line, token) ∷ [])
+
+-- a group of attributes fits, as it does among items
+abbrev pub AttributesFit : List Placed → Type 0
+AttributesFit front = (text : List ℕ) × FitsBehind front (Group text)

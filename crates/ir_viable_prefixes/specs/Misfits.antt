@@ -2,7 +2,7 @@
 use Rattle.std.specs.Prelude.{◌≡◌, ◌↔◌, ◌⊎◌, ℕ, false, true, List, [], ◌∷◌, ◌++◌, None, IsSome}
 use Rattle.ops.specs.declared.comparison.Pred.{Pred}
 use Rattle.ir_tokens.specs.Numbers.{constant_of}
-use Rattle.ir_tokens.specs.Tokens.{Token, Placed, End, Bad, Word, Number, Function, Group, is_last}
+use Rattle.ir_tokens.specs.Tokens.{Token, Placed, End, Bad, Word, Number, Function, is_last}
 use Rattle.ir_tokens.specs.declared.raw.RawValue.{RawValue}
 use Rattle.ir_tokens.specs.declared.fault.IrFaultKind.{IrFaultKind}
 use Rattle.ir_tokens.specs.declared.fault.IrFaultKind.TheVariants.{BadByte, Syntax, LeftOut, Width, ConstRange}
@@ -17,7 +17,7 @@ use Rattle.ir_instructions.specs.Keywords.{IsTypeWord, ending_word, operation_wo
 use Rattle.ops.specs.Keywords.{predicate_keyword}
 use Rattle.ops.specs.FlagKeywords.{flag_keyword}
 use Rattle.ir_viable_prefixes.specs.Calls.{NamesIntrinsic}
-use Rattle.ir_viable_prefixes.specs.Fits.{FitsBehind}
+use Rattle.ir_viable_prefixes.specs.Fits.{FitsBehind, AttributesFit}
 
 -- a type, an opcode, a predicate, a flag, a value, or the first word of a terminator
 pub data IsNoun (word : List ℕ) : Type 0 where
@@ -40,10 +40,6 @@ PredicateFits front = (pred : Pred) × FitsBehind front (Word (predicate_keyword
 abbrev pub TerminatorFits : List Placed → Type 0
 TerminatorFits front = (ending : Ending) × FitsBehind front (Word (ending_word ending))
 
--- a group of attributes fits, as it does among the items of a header and nowhere else
-abbrev pub AttributesFit : List Placed → Type 0
-AttributesFit front = (text : List ℕ) × FitsBehind front (Group text)
-
 -- Another token of its sort fits: a noun in place of a word, a type in place of a mark that begins a type, or another function, and not
 -- intrinsics alone.
 pub data AnotherFits (front : List Placed) : Token → Type 0 where
@@ -52,7 +48,7 @@ pub data AnotherFits (front : List Placed) : Token → Type 0 where
   of_function : (written other : List ℕ) → ¬ NamesIntrinsic other → FitsBehind front (Function other) → AnotherFits front (Function written)
 
 -- A token is left out where another of its sort fits; the mark of a record of debug information where a terminator fits, but not as an
--- item of a header may; and every token where the text may end, since an entry may begin there.
+-- item may; and every token where the text may end, since an entry may begin there.
 pub data IsLeftOut (front : List Placed) (token : Token) : Type 0 where
   another : AnotherFits front token → IsLeftOut front token
   mark_of_record : begins_record token ≡ true → TerminatorFits front → ¬ AttributesFit front → IsLeftOut front token
@@ -70,7 +66,7 @@ abbrev pub IsRepeated : List Placed → Token → Type 0
 IsRepeated front token = (word : List ℕ) × (token ≡ Word word) × RepeatsFlag front word × (TypeFits front ⊎ PredicateFits front)
 
 -- It is no bad byte; no other token of its sort fits, unless it repeats a flag; a terminator fits in place of the mark of a record only
--- as an item of a header may; no other number fits in place of a number, and no function in place of one; and the text may not end there,
+-- as an item may; no other number fits in place of a number, and no function in place of one; and the text may not end there,
 -- unless the token is a last one.
 pub record IsNothingElse (front : List Placed) (token : Token) : Type 0 where
   pub no_bad_byte : ¬ (token ≡ Bad)
