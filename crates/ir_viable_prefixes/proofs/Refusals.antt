@@ -36,7 +36,7 @@ use Rattle.ir_parse.specs.Laws.{ModulesAreReadAsSpelled}
 use Rattle.ir_parse.specs.ModuleReaders.{entries_at, module_from, module_of}
 use Rattle.ir_parse.specs.Text.{most_bytes, IsTextFault, too_long, misfit}
 use Rattle.ir_viable_prefixes.specs.Fits.{Fits, FitsBehind, AttributesFit}
-use Rattle.ir_viable_prefixes.specs.Calls.{NamesIntrinsic, EndsArgument, ValueFits, IsNoValue, IsToldInCall}
+use Rattle.ir_viable_prefixes.specs.Calls.{NamesIntrinsic, CalleeFits, EndsArgument, ValueFits, IsNoValue, IsToldInCall}
 use Rattle.ir_viable_prefixes.specs.Calls as calls
 use Rattle.ir_viable_prefixes.specs.Laws.{IsTold, of_token, in_call, IsFirstMisfit, FaultsAreWhereTextsDoNotFit}
 use Rattle.ir_viable_prefixes.specs.Misfits.{TypeFits, TerminatorFits, AnotherFits, IsLeftOut, IsRepeated, IsNothingElse, IsWrongWidth, IsWrongNumber, IsMisfit}
@@ -48,7 +48,7 @@ use Rattle.ir_viable_prefixes.proofs.Reasons as reasons
 use Rattle.ir_viable_prefixes.proofs.FlagRuns.{IsLeft}
 use Rattle.ir_viable_prefixes.proofs.OneKind.{EndsHaveNoNumbers, one_kind}
 use Rattle.ir_viable_prefixes.proofs.Statements.{no_record}
-use Rattle.ir_viable_prefixes.proofs.TextEnds.{UpTo, ended_before, is_left_out, refused_at_end, types_refused_at_end, numbers_refused_at_end}
+use Rattle.ir_viable_prefixes.proofs.TextEnds.{UpTo, ended_before, is_left_out, refused_at_end, types_refused_at_end, numbers_refused_at_end, functions_refused_at_end}
 use Rattle.ir_viable_prefixes.proofs.TokenReaders.{i8}
 
 -- a mark of a text stands on a line from 1 on
@@ -300,16 +300,39 @@ call_is law front (of_value before line value end kind same ends none item fit w
     calls.value before line value end kind same ends (λ other is. bad_misfits law front other (none other is)) (codes "#0", token_fits law before a_group item) (value_fits law before a_truth fit) (no_value_is law before why)
 call_is law front (of_truth line w item fit bad) = calls.truth line w (codes "#0", token_fits law front a_group item) (value_fits law front a_truth fit) (no_value_fits law front (Word w) no_truth bad)
 
+-- where the text may end no function fits
+abbrev EndsHaveNoFunctions : List Placed → Type 0
+EndsHaveNoFunctions front = FitsBehind front End → (written : List ℕ) → ¬ FitsBehind front (Function written)
+
+-- where only intrinsics fit, nothing is told of a function by itself
+another_no_callee : (front : List Placed) {t : Token} → AnotherFits front t → (written : List ℕ) → t ≡ Function written → ¬ CalleeFits front
+another_no_callee front (nouns.of_word w noun) written is c = cc
+another_no_callee front (nouns.of_mark mark begins type) written is c = let no : begins_type mark ≡ false = rw is refl in cc
+another_no_callee front (nouns.of_function name other none fits) written is c = none (c.alone other fits)
+
+left_no_callee : (front : List Placed) (t : Token) → EndsHaveNoFunctions front → IsLeftOut front t → (written : List ℕ) → t ≡ Function written → ¬ CalleeFits front
+left_no_callee front t ends (nouns.another fits) written is c = another_no_callee front fits written is c
+left_no_callee front t ends (nouns.mark_of_record begins fits none) written is c = let no : begins_record t ≡ false = rw is refl in cc
+left_no_callee front t ends (nouns.entry goes end) written is c = ends end c.one c.fits
+
+no_callee : (front : List Placed) (t : Token) (kind : IrFaultKind) → EndsHaveNoFunctions front → IsMisfit front t kind → (written : List ℕ) → t ≡ Function written → ¬ CalleeFits front
+no_callee front t BadByte ends told written is c = cc
+no_callee front t Width ends (w, word, out, fits) written is c = cc
+no_callee front t ConstRange ends (digits, width, number, out, fits) written is c = cc
+no_callee front t (LeftOut text) ends (shows, left, no_width, new) written is c = left_no_callee front t ends left written is c
+no_callee front t Syntax ends told written is c = told.function written c.one is c.fits
+no_callee front t kind ends told written is c = absurd told
+
 -- ---- what is told
 
-told_is : ModulesAreReadAsSpelled → (front : List Placed) (t : Placed) (found : Fault IrFaultKind) → EndsLeaveOut front t.1 found.kind → EndsHaveNoTypes front → EndsHaveNoNumbers front → (IsLeft found.kind → ¬ IsRepeated front t.1) → OrEnds Anything entries_at EndsText front t found → IsTold front t found
-told_is law front t found ends types numbers new (inl (end, line, kind)) =
+told_is : ModulesAreReadAsSpelled → (front : List Placed) (t : Placed) (found : Fault IrFaultKind) → EndsLeaveOut front t.1 found.kind → EndsHaveNoTypes front → EndsHaveNoNumbers front → EndsHaveNoFunctions front → (IsLeft found.kind → ¬ IsRepeated front t.1) → OrEnds Anything entries_at EndsText front t found → IsTold front t found
+told_is law front t found ends types numbers functions new (inl (end, line, kind)) =
     let told : IsMisfit front t.1 found.kind = subst (IsMisfit front t.1) (sym kind) (entry_is front t.1 (end_fits law front end) types (subst (λ (k : IrFaultKind). IsLeft k → ¬ IsRepeated front t.1) kind new)) in
-    of_token line told (λ other h. one_kind front t.1 numbers found.kind other told h)
-told_is law front t found ends types numbers new (inr (inl (line, why))) =
+    of_token line told (λ other h. one_kind front t.1 numbers found.kind other told h) (no_callee front t.1 found.kind functions told)
+told_is law front t found ends types numbers functions new (inr (inl (line, why))) =
     let told : IsMisfit front t.1 found.kind = reason_is law front t.1 found.kind ends new why in
-    of_token line told (λ other h. one_kind front t.1 numbers found.kind other told h)
-told_is law front t found ends types numbers new (inr (inr call)) = in_call (call_is law front call)
+    of_token line told (λ other h. one_kind front t.1 numbers found.kind other told h) (no_callee front t.1 found.kind functions told)
+told_is law front t found ends types numbers functions new (inr (inr call)) = in_call (call_is law front call)
 
 -- ---- where a fault stands
 
@@ -355,6 +378,12 @@ ends_have_no_numbers law tokens found e o ends digits fits =
     let r = read_up_to law o.front ends ended in
     bad_misfits law o.front (Number digits) (numbers_refused_at_end o.front 0 r.0 ended r.1 digits) fits
 
+ends_have_no_functions : ModulesAreReadAsSpelled → (tokens : List Placed) (found : Fault IrFaultKind) → Ended tokens → (o : IsRefused (Unit {0}) entries_at EndsText (OrEnds Anything entries_at EndsText) tokens found) → EndsHaveNoFunctions o.front
+ends_have_no_functions law tokens found e o ends written fits =
+    let ended : Ended (UpTo o.front 0) = ended_before o.front o.token o.behind (subst Ended o.there e) 0 in
+    let r = read_up_to law o.front ends ended in
+    bad_misfits law o.front (Function written) (functions_refused_at_end o.front 0 r.0 ended r.1 written) fits
+
 first_misfit : ModulesAreReadAsSpelled → (tokens : List Placed) (found : Fault IrFaultKind) → Ended tokens → IsRefused (Unit {0}) entries_at EndsText (OrEnds Anything entries_at EndsText) tokens found → IsFirstMisfit tokens found
 first_misfit law tokens found e o = record {
   front = o.front;
@@ -363,7 +392,7 @@ first_misfit law tokens found e o = record {
   stands = o.there;
   fits = front_fits law o.front o.completes;
   misfit = refused_misfits law o.front o.token found o.refused;
-  told = told_is law o.front o.token found (ends_leave_out law tokens found e o) (ends_have_no_types law tokens found e o) (ends_have_no_numbers law tokens found e o) (λ left. no_repeat law o.front o.token.1 (o.new left)) o.why;
+  told = told_is law o.front o.token found (ends_leave_out law tokens found e o) (ends_have_no_types law tokens found e o) (ends_have_no_numbers law tokens found e o) (ends_have_no_functions law tokens found e o) (λ left. no_repeat law o.front o.token.1 (o.new left)) o.why;
 }
 
 refused_at : ModulesAreReadAsSpelled → (tokens : List Placed) (found : Fault IrFaultKind) (r : Read (List RawEntry)) → module_from r ≡ Err found → Ended tokens → Outcome Anything entries_at EndsText (OrEnds Anything entries_at EndsText) tokens r → IsFirstMisfit tokens found

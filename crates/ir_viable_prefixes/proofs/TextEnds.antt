@@ -3,7 +3,7 @@ use Rattle.std.proofs.lemmas.List.{append_cancel_right}
 use Rattle.std.proofs.Common.{◌≡◌, ◌<◌, ℕ, zero, suc, true, false, List, [], ◌∷◌, ◌++◌, length, Option, Ok, Err, refl, sym, ap, subst, ◌∙◌, append_assoc, arith, length-append}
 use Rattle.std.specs.Prelude.{codes}
 use Rattle.std.specs.Str.{bytes_eq}
-use Rattle.ir_tokens.specs.Tokens.{Token, Placed, End, Other, Bad as Bad_token, Word, Number, is_last}
+use Rattle.ir_tokens.specs.Tokens.{Token, Placed, End, Other, Bad as Bad_token, Word, Number, Function, is_last}
 use Rattle.ir_tokens.specs.declared.raw.RawEntry.{RawEntry}
 use Rattle.ir_tokens.specs.declared.fault.IrFaultKind.TheVariants.{Syntax, LeftOut}
 use Rattle.refusal.specs.declared.fault.Fault.{Fault}
@@ -184,3 +184,19 @@ pub numbers_refused_at_end : (front : List Placed) (l : ℕ) (x : List RawEntry 
 unfolding parsing.entries_at
 numbers_refused_at_end front l x e read digits more =
     let r = no_number_begins x.0 0 digits more in (r.0, others_follow (suc (length front)) [] front l x (omega arith) e read (0, Number digits) more ∙ r.1)
+
+-- nor does a function
+no_function_begins : (a : List RawEntry) (line : ℕ) (written : List ℕ) (more : List Placed) → (e : Fault IrFaultKind) × (Loop a ((line, Function written) ∷ more) ≡ Err e)
+no_function_begins a line written more =
+    let found : Fault IrFaultKind = unexpected places.Entry ((line, Function written) ∷ more) in
+    let refused : entry_token_at ((line, Function written) ∷ more) ≡ Err found = refl in (
+      found,
+      step a (line, Function written) more refl
+          ∙ ap (λ (r : Read RawEntry). goes_on (goes_on r (λ x. done (a ++ x ∷ []))) Loop) (same_entry ((line, Function written) ∷ more))
+          ∙ ap (λ (r : Read (Option (List ℕ))). goes_on (goes_on (goes_on r behind_entry) (λ x. done (a ++ x ∷ []))) Loop) refused,
+    )
+
+pub functions_refused_at_end : (front : List Placed) (l : ℕ) (x : List RawEntry × List Placed) → Ended (UpTo front l) → parsing.entries_at (UpTo front l) ≡ Ok x → (written : List ℕ) → RefusesAt parsing.entries_at front (Function written)
+unfolding parsing.entries_at
+functions_refused_at_end front l x e read written more =
+    let r = no_function_begins x.0 0 written more in (r.0, others_follow (suc (length front)) [] front l x (omega arith) e read (0, Function written) more ∙ r.1)

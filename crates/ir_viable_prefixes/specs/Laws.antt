@@ -1,18 +1,19 @@
 -- What holds of the faults of texts.
 use Rattle.std.specs.Prelude.{◌≡◌, ℕ, ◌≤◌, List, [], ◌∷◌, ◌++◌, length}
 use Rattle.ir_tokens.specs.Order.{AreTokens}
-use Rattle.ir_tokens.specs.Tokens.{Placed}
+use Rattle.ir_tokens.specs.Tokens.{Placed, Function}
 use Rattle.refusal.specs.declared.fault.Fault.{Fault}
 use Rattle.ir_tokens.specs.declared.fault.IrFaultKind.{IrFaultKind}
 use Rattle.ir_parse.specs.Text.{most_bytes, IsTextFault}
 use Rattle.ir_viable_prefixes.specs.Fits.{Fits}
-use Rattle.ir_viable_prefixes.specs.Calls.{IsToldInCall}
+use Rattle.ir_viable_prefixes.specs.Calls.{CalleeFits, IsToldInCall}
 use Rattle.ir_viable_prefixes.specs.Misfits.{IsMisfit}
 
--- What a fault tells of a token that does not fit behind these: on its line why it does not, where no other kind says so too; or, in
--- a call of an intrinsic, what is wrong with its callee or with a value.
+-- What a fault tells of a token that does not fit behind these: on its line why it does not, where no other kind says so too, and it is
+-- no callee; or, in a call of an intrinsic, what is wrong with its callee or with a value.
 pub data IsTold (front : List Placed) (token : Placed) (found : Fault IrFaultKind) : Type 0 where
-  of_token : found.line ≡ token.0 → IsMisfit front token.1 found.kind → ((other : IrFaultKind) → IsMisfit front token.1 other → found.kind ≡ other) → IsTold front token found
+  of_token : found.line ≡ token.0 → IsMisfit front token.1 found.kind → ((other : IrFaultKind) → IsMisfit front token.1 other → found.kind ≡ other)
+      → ((written : List ℕ) → token.1 ≡ Function written → ¬ CalleeFits front) → IsTold front token found
   in_call : IsToldInCall front token found → IsTold front token found
 
 -- The fault is that of the first token with which the tokens do not fit: those before it do.
