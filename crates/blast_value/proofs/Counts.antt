@@ -3,11 +3,13 @@ use Rattle.std.proofs.Common.{ℕ, zero, suc, ◌+◌, ◌-◌, ◌*◌, ◌^◌
 use Rattle.std.proofs.Math.Nat.{mul-le-mul_left, mul-le-mul}
 use Rattle.ops.specs.declared.opcode.Opcode.TheVariants.{Add, Sub, Mul, UDiv, SDiv, URem, SRem, Shl, LShr, AShr, And, Or, Xor, UMin, UMax, SMin, SMax}
 use Rattle.ops.specs.declared.conversion.Cast.TheVariants.{Trunc, ZExt, SExt}
+use Rattle.ops.specs.declared.opcode.Unary.TheVariants.{Abs, CtPop, CtLz, CtTz}
 use Rattle.circuits.specs.Gates.{stages, shift_gates}
 use Rattle.circuits.proofs.Stages.{stages-least}
 use Rattle.circ_muldiv.specs.Gates.{product_gates}
+use Rattle.circ_counts.specs.Gates.{count_gates}
 use Rattle.blast_value.specs.declared.instruction.Instruction.{Instruction}
-use Rattle.blast_value.specs.declared.instruction.Instruction.TheVariants.{Binary, Compare, Select, Convert}
+use Rattle.blast_value.specs.declared.instruction.Instruction.TheVariants.{Binary, Compare, Select, Convert, Unary}
 use Rattle.blast_value.specs.Gates.{gates_of}
 use Rattle.blast_value.specs.Laws.{bound, GatesAreFew}
 
@@ -28,6 +30,12 @@ pub shift-few : (n : ℕ) → n ≤ 64 → shift_gates n n ≤ 8 * n
 shift-few n h =
     let few : min (stages n) n ≤ 6 = omega (arith, stages-few n h) in
     omega (arith, mul-le-mul_left n few)
+
+pub digits-few : (n : ℕ) → n ≤ 64 → stages (n + 1) ≤ 7
+digits-few n h = stages-least (n + 1) 7 (omega arith)
+
+pub count-few : (n : ℕ) → n ≤ 64 → count_gates n ≤ 35 * n
+count-few n h = omega (arith, mul-le-mul_left n (digits-few n h))
 
 product-few : (n : ℕ) → product_gates n ≤ 3 * (n * n) + 5 * n
 product-few n = let fewer : n - 1 ≤ n = omega arith in omega (arith, mul-le-mul_left (3 * n) fewer)
@@ -58,6 +66,10 @@ few_at Select n m k some low h g = omega arith
 few_at (Convert Trunc flags) n m k some low h g = omega arith
 few_at (Convert ZExt flags) n m k some low h g = omega arith
 few_at (Convert SExt flags) n m k some low h g = omega arith
+few_at (Unary Abs truth) n m k some low h g = omega arith
+few_at (Unary CtPop truth) n m k some low h g = omega (arith, count-few n low)
+few_at (Unary CtLz truth) n m k some low h g = omega (arith, count-few n low)
+few_at (Unary CtTz truth) n m k some low h g = omega (arith, count-few n low)
 
 pub gates_are_few : GatesAreFew
 gates_are_few what n m some low some_m low_m = few_at what n m (max n m) some low (omega arith) (omega arith)

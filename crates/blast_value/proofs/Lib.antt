@@ -1,7 +1,9 @@
+pub mod BinaryDigits
 pub mod Counts
 pub mod Cuts
 pub mod Digits
 pub mod Effects
+pub mod Intrinsics
 pub mod Numbers
 pub mod Moves
 pub mod Operands

@@ -2,16 +2,19 @@
 use Rattle.std.specs.Prelude.{ℕ, ◌+◌, ◌*◌, max, fold, Bool, true, false, List}
 use Rattle.ops.specs.declared.opcode.Opcode.{Opcode}
 use Rattle.ops.specs.declared.opcode.Opcode.TheVariants.{Add, Sub, Mul, UDiv, SDiv, URem, SRem, Shl, LShr, AShr, And, Or, Xor, UMin, UMax, SMin, SMax}
+use Rattle.ops.specs.declared.opcode.Unary.{Unary}
+use Rattle.ops.specs.declared.opcode.Unary.TheVariants.{Abs, CtPop, CtLz, CtTz}
 use Rattle.ops.specs.declared.conversion.Cast.{Cast}
 use Rattle.ops.specs.declared.conversion.Cast.TheVariants.{Trunc, ZExt, SExt}
 use Rattle.circuits.specs.Gates.{adder_gates, comparison_gates, equality_gates, extreme_gates, select_gates, shift_gates}
-use Rattle.circ_muldiv.specs.Gates.{product_gates, overflow_add_gates, overflow_mul_gates, division_gates, signed_division_gates}
+use Rattle.circ_counts.specs.Gates.{count_gates, zeros_gates}
+use Rattle.circ_muldiv.specs.Gates.{absolute_gates, product_gates, overflow_add_gates, overflow_mul_gates, division_gates, signed_division_gates}
 use Rattle.blast_value.specs.declared.arithmetic.Arithmetic.{Arithmetic}
 use Rattle.blast_value.specs.declared.arithmetic.Arithmetic.TheVariants as arithmetic
 use Rattle.blast_value.specs.declared.strict.Strict.{Strict}
 use Rattle.blast_value.specs.declared.strict.Strict.TheVariants as strict
 use Rattle.blast_value.specs.declared.instruction.Instruction.{Instruction}
-use Rattle.blast_value.specs.declared.instruction.Instruction.TheVariants.{Binary, Compare, Select, Convert}
+use Rattle.blast_value.specs.declared.instruction.Instruction.TheVariants as instructions
 
 -- The poison of two operands and of what is made of their numbers.
 abbrev pub poison_gates : ℕ
@@ -100,12 +103,24 @@ broken_gates SExt operand_width = 0
 abbrev pub cast_gates : Cast → ℕ → ℕ
 cast_gates cast operand_width = broken_gates cast operand_width + 1
 
+-- What an intrinsic makes of a number: an absolute value, or a count of bits.
+abbrev pub intrinsic_gates : Unary → ℕ → ℕ
+intrinsic_gates Abs width = absolute_gates width
+intrinsic_gates CtPop width = count_gates width
+intrinsic_gates CtLz width = zeros_gates width
+intrinsic_gates CtTz width = zeros_gates width
+
+-- The same, whether the number makes it poison, and the poison of the operand.
+abbrev pub unary_gates : Unary → ℕ → ℕ
+unary_gates op width = intrinsic_gates op width + equality_gates width + 1
+
 -- An instruction whose result has `width` bits, and whose widest operand has `operand_width`.
 abbrev pub gates_of : Instruction → ℕ → ℕ → ℕ
-gates_of (Binary op flags) width operand_width = opcode_gates op width
-gates_of (Compare pred samesign) width operand_width = comparison_gates operand_width + sign_gates
-gates_of Select width operand_width = select_gates width + 2
-gates_of (Convert cast flags) width operand_width = cast_gates cast operand_width
+gates_of (instructions.Binary op flags) width operand_width = opcode_gates op width
+gates_of (instructions.Compare pred samesign) width operand_width = comparison_gates operand_width + sign_gates
+gates_of instructions.Select width operand_width = select_gates width + 2
+gates_of (instructions.Convert cast flags) width operand_width = cast_gates cast operand_width
+gates_of (instructions.Unary op truth) width operand_width = unary_gates op width
 
 -- The greatest of widths.
 abbrev pub greatest : List ℕ → ℕ

@@ -7,8 +7,9 @@ use Rattle.ops.specs.Value.{HasWidth}
 use Rattle.ops.specs.Instruction.{instruction}
 use Rattle.ops.specs.Comparison.{comparison, selection}
 use Rattle.ops.specs.Conversion.{CastFits, conversion}
+use Rattle.ops.specs.Unary.{unary}
 use Rattle.blast_value.specs.declared.instruction.Instruction.{Instruction}
-use Rattle.blast_value.specs.declared.instruction.Instruction.TheVariants.{Binary, Compare, Select, Convert}
+use Rattle.blast_value.specs.declared.instruction.Instruction.TheVariants.{Binary, Compare, Select, Convert, Unary}
 
 -- an instruction with a result of iN takes operands of these widths
 abbrev pub Takes : Instruction → ℕ → List ℕ → Type 0
@@ -16,6 +17,7 @@ Takes (Binary op flags) N widths = widths ≡ N ∷ N ∷ []
 Takes (Compare pred samesign) N widths = (M : ℕ) × (1 ≤ M) × (widths ≡ M ∷ M ∷ []) × (N ≡ 1)
 Takes Select N widths = widths ≡ 1 ∷ N ∷ N ∷ []
 Takes (Convert cast flags) N widths = (M : ℕ) × (1 ≤ M) × (widths ≡ M ∷ []) × CastFits cast M N
+Takes (Unary op truth) N widths = widths ≡ N ∷ []
 
 -- An instruction with a result of iN has this effect on operands of these values. Whatever width M the operands of a comparison
 -- or of a cast are of, its effect is the one over that width.
@@ -25,4 +27,5 @@ HasEffect (Compare pred samesign) N (a ∷ b ∷ []) e =
     (M : ℕ) → HasWidth a M → HasWidth b M → e ≡ Gives (comparison pred samesign M a b)
 HasEffect Select N (c ∷ a ∷ b ∷ []) e = e ≡ Gives (selection c a b)
 HasEffect (Convert cast flags) N (a ∷ []) e = (M : ℕ) → HasWidth a M → e ≡ Gives (conversion cast flags M N a)
+HasEffect (Unary op truth) N (a ∷ []) e = e ≡ Gives (unary op truth N a)
 HasEffect what N values e = ⊥

@@ -15,6 +15,7 @@ use crate::division::{Division, divide};
 use crate::extreme::Extreme;
 use crate::held::{Blasted, Held};
 use crate::instruction::Instruction;
+use crate::one_operand::unary_effect;
 use crate::strict::{Strict, strict_effect};
 use circuits::Circuit;
 use lists::List;
@@ -49,6 +50,7 @@ pub fn blast_value<C: Circuit>(
         }
         Instruction::Select => choose(alloc, c, &operands[0], &operands[1], &operands[2]),
         Instruction::Convert(cast, flags) => { convert(alloc, c, cast, flags, width, &operands[0]) }
+        Instruction::Unary(op, truth) => { unary_effect(alloc, c, op, truth, width, &operands[0]) }
     }
 }
 

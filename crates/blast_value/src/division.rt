@@ -137,7 +137,7 @@ fn minus_one(width: Width) -> u64
 }
 
 /// The least number in two's complement.
-fn least(width: Width) -> u64
+pub(crate) fn least(width: Width) -> u64
     ensures value { result ≡ least width }
     ensures fits { result < 2 ^ width }
 {

@@ -1,11 +1,12 @@
 //! How many gates the circuit of an instruction has at most.
 ghost use Rattle.std.specs.Prelude.{◌≡◌, ◌≤◌, ◌*◌};
+ghost use Rattle.circ_counts.specs.Gates.{count_gates};
 ghost use Rattle.circuits.specs.Gates.{shift_gates, stages};
-ghost use Rattle.blast_value.specs.Gates.{gates_of, opcode_gates};
+ghost use Rattle.blast_value.specs.Gates.{gates_of, opcode_gates, unary_gates};
 ghost use Rattle.blast_value.specs.Laws.{GatesAreFew};
 
 use crate::instruction::Instruction;
-use ops::{Cast, Opcode, Width};
+use ops::{Cast, Opcode, Unary, Width};
 
 /// The most gates that [`blast_value`](crate::blast_value) adds for an instruction whose result has `width` bits, and whose widest
 /// operand has `operand_width`. It takes no memory.
@@ -19,6 +20,7 @@ pub fn gates_of(what: Instruction, width: Width, operand_width: Width) -> u32
         Instruction::Select => width + 2,
         Instruction::Convert(Cast::Trunc, _) => 4 * operand_width.bits() + 2,
         Instruction::Convert(Cast::ZExt | Cast::SExt, _) => 1,
+        Instruction::Unary(op, _) => unary_gates(op, width),
     }
 }
 
@@ -45,6 +47,30 @@ fn opcode_gates(op: Opcode, width: u32) -> u32
         Opcode::And | Opcode::Or | Opcode::Xor => 4 * width + 2,
         Opcode::UMin | Opcode::UMax | Opcode::SMin | Opcode::SMax => 3 * width + 2,
     }
+}
+
+/// The same of an intrinsic with one operand.
+fn unary_gates(op: Unary, width: u32) -> u32
+    requires least { 1 ≤ width }
+    requires most { width ≤ 64 }
+    ensures { result ≡ unary_gates op width }
+{
+    match op {
+        Unary::Abs => 8 * width + 1,
+        Unary::CtPop => count_gates(width) + 2 * width + 1,
+        Unary::CtLz | Unary::CtTz => count_gates(width) + 3 * width + 1,
+    }
+}
+
+/// The same of a count of true bits: for each a sum of as many binary digits as hold the width.
+fn count_gates(width: u32) -> u32
+    requires least { 1 ≤ width }
+    requires most { width ≤ 64 }
+    ensures value { result ≡ count_gates width }
+    ensures few { result ≤ 35 * width }
+{
+    let digits = width.ilog2() + 1;
+    5 * digits * width
 }
 
 /// The same of a shift by a word of the same width: a choice of two words for each bit that an amount below the width may need,

@@ -1,6 +1,6 @@
 //! Which instructions there are.
 
-use ops::{Cast, Flags, Opcode, Pred};
+use ops::{Cast, Flags, Opcode, Pred, Unary};
 
 /// An instruction, without its operands.
 #[derive(Clone, Copy, PartialEq, Eq, Debug)]
@@ -13,4 +13,6 @@ pub enum Instruction {
     Select,
     /// A cast with its flags: one operand of another width.
     Convert(Cast, Flags),
+    /// An intrinsic with one operand of the result's width, called with a truth value.
+    Unary(Unary, bool),
 }

@@ -15,6 +15,7 @@ mod gates;
 mod held;
 mod instruction;
 mod known;
+mod one_operand;
 mod shift;
 mod strict;
 

@@ -67,7 +67,7 @@ step_left old mid new divisor remainder bits word digit carry same_width width f
 reverse_push : {X : Type 0} (xs : List X) (x : X) → reverse (xs ++ x ∷ []) ≡ x ∷ reverse xs
 reverse_push xs x = reverse-append xs (x ∷ [])
 
-map-reverse : {X Y : Type 0} (f : X → Y) (xs : List X) → map f (reverse xs) ≡ reverse (map f xs)
+pub map-reverse : {X Y : Type 0} (f : X → Y) (xs : List X) → map f (reverse xs) ≡ reverse (map f xs)
 map-reverse f [] = refl
 map-reverse f (x ∷ xs) = rw (reverse_onto xs x [], reverse_onto (map f xs) (f x) [], map-append f (reverse xs) (x ∷ []), map-reverse f xs) refl
 

@@ -47,3 +47,11 @@ returns-in-Convert-clause-effect g c =
     rw (c.in-Convert.is, list) (λ m width_x.
     known inputs admitted ∙ ap Gives (conversion_width (value x.poison) c.in-Convert.cast c.in-Convert.flags (length x.bits) c.args.width (number_of value x.bits) m width_x)))
     c.convert.ensures.effect
+
+pub returns-in-Unary-clause-effect : goal.returns-in-Unary-clause-effect
+returns-in-Unary-clause-effect g c =
+    let takes = rw c.in-Unary.is at c.requires.operands in
+    let x = c.index-operands-0-in-Unary.result in
+    let at_0 = rw c.as_slice-operands.ensures at c.index-operands-0-in-Unary.is in
+    let list = one_operand c.args.operands.now _ x takes at_0 in
+    IfOk-weaker c.unary_effect.result _ _ (λ made known inputs admitted. rw (c.in-Unary.is, list) (known inputs admitted)) c.unary_effect.ensures.effect
