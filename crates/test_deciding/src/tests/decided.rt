@@ -55,7 +55,7 @@ fn answer_of(operation: Operation, a: i64, b: i64) -> Option<u64> {
 }
 
 /// Whether a word has this number.
-fn is_number<C: Circuit>(
+pub(crate) fn is_number<C: Circuit>(
     alloc: Global,
     circuit: &mut C,
     word: &Bits<C::Literal>,
