@@ -8,7 +8,7 @@ use Rattle.ops.specs.declared.value.Effect.TheVariants as effects
 use Rattle.rule_core.specs.declared.rule.Rule.{Rule}
 use Rattle.rule_core.specs.declared.rule.Statement.{Statement}
 use Rattle.rule_core.specs.declared.rule.Op.{Op}
-use Rattle.rule_core.specs.declared.rule.Op.TheVariants.{Binary, Compare, Select, Convert, Freeze, Copy}
+use Rattle.rule_core.specs.declared.rule.Op.TheVariants.{Binary, Compare, Unary, Select, Convert, Freeze, Copy}
 use Rattle.rule_core.specs.declared.rule.Operand.{Operand}
 use Rattle.rule_core.specs.declared.rule.Argument.{Argument}
 use Rattle.rule_core.specs.declared.rule.Argument.TheVariants as arguments
@@ -38,6 +38,7 @@ module _ (typing : List ℕ) (given : Given) where
       let left : x ≡ x' = operand_once held a x x' px qx in
       let right : y ≡ y' = operand_once held b y y' py qy in
       cc
+  op_once held N (Unary op truth a) d e (x, px, is) (x', qx, is') = let operand : x ≡ x' = operand_once held a x x' px qx in cc
   op_once held N (Select c a b) d e (z, x, y, pz, px, py, is) (z', x', y', qz, qx, qy, is') =
       let condition : z ≡ z' = operand_once held c z z' pz qz in
       let yes : x ≡ x' = operand_once held a x x' px qx in

@@ -5,10 +5,11 @@ use Rattle.std.proofs.lemmas.List.{take_all}
 use Rattle.std.proofs.lemmas.Option.{slice_get-get_or, get_or_from_slice_get, same_Some}
 use Rattle.ops.specs.Number.{Number}
 use Rattle.ops.specs.Value.{IsValueOf, IsEffectOf}
-use Rattle.ops.proofs.Widths.{IsEffectOf-instruction, IsValueOf-comparison, IsValueOf-conversion, IsValueOf-selection}
+use Rattle.ops.proofs.Widths.{IsEffectOf-instruction, IsValueOf-comparison, IsValueOf-conversion, IsValueOf-selection, IsValueOf-unary}
 use Rattle.ops.specs.Instruction.{instruction}
 use Rattle.ops.specs.Comparison.{comparison, selection}
 use Rattle.ops.specs.Conversion.{conversion}
+use Rattle.ops.specs.Unary.{unary}
 use Rattle.ops.specs.Integer.{residue, bits}
 use Rattle.ops.specs.declared.value.Value.{Value}
 use Rattle.ops.specs.declared.value.Value.TheVariants.{Poison, Bits}
@@ -17,7 +18,7 @@ use Rattle.ops.specs.declared.value.Effect.TheVariants as effects
 use Rattle.rule_core.specs.declared.rule.Rule.{Rule}
 use Rattle.rule_core.specs.declared.rule.Statement.{Statement}
 use Rattle.rule_core.specs.declared.rule.Op.{Op}
-use Rattle.rule_core.specs.declared.rule.Op.TheVariants.{Binary, Compare, Select, Convert, Freeze, Copy}
+use Rattle.rule_core.specs.declared.rule.Op.TheVariants.{Binary, Compare, Unary, Select, Convert, Freeze, Copy}
 use Rattle.rule_core.specs.declared.rule.Argument.{Argument}
 use Rattle.rule_core.specs.declared.rule.Argument.TheVariants as arguments
 use Rattle.rule_core.specs.Typing.{IsTyping}
@@ -61,6 +62,9 @@ module _ (typing : List ℕ) (given : Given) (held : Held) where
       let y = argument_gives M b.value b_ready in
       let value = comparison pred samesign M x.0 y.0 in
       (effects.Gives value, (M, x.0, y.0, a_width, (M, a_width, x.1), (M, b_width, y.1), refl), rw one (IsValueOf-comparison pred samesign M x.0 y.0))
+  op_gives N (Unary op truth a) (a_width, a_ready) =
+      let x = argument_gives N a.value a_ready in
+      (effects.Gives (unary op truth N x.0), (x.0, (N, a_width, x.1), refl), IsValueOf-unary op truth N x.0 x.2)
   op_gives N (Select c a b) ((c_width, c_ready), (a_width, a_ready), (b_width, b_ready)) =
       let z = argument_gives 1 c.value c_ready in
       let x = argument_gives N a.value a_ready in

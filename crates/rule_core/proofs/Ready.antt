@@ -14,7 +14,7 @@ use Rattle.ops.specs.declared.value.Value.TheVariants.{Poison, Bits}
 use Rattle.rule_core.specs.declared.rule.Rule.{Rule}
 use Rattle.rule_core.specs.declared.rule.Statement.{Statement}
 use Rattle.rule_core.specs.declared.rule.Op.{Op}
-use Rattle.rule_core.specs.declared.rule.Op.TheVariants.{Binary, Compare, Select, Convert, Freeze, Copy}
+use Rattle.rule_core.specs.declared.rule.Op.TheVariants.{Binary, Compare, Unary, Select, Convert, Freeze, Copy}
 use Rattle.rule_core.specs.declared.rule.Operand.{Operand}
 use Rattle.rule_core.specs.declared.rule.Argument.{Argument}
 use Rattle.rule_core.specs.declared.rule.Argument.TheVariants as arguments
@@ -23,7 +23,7 @@ use Rattle.rule_core.specs.declared.rule.Name.TheVariants as names
 use Rattle.rule_core.specs.declared.rule.Term.{Term}
 use Rattle.rule_core.specs.declared.rule.Node.{Node}
 use Rattle.rule_core.specs.declared.rule.Node.TheVariants as nodes
-use Rattle.rule_core.specs.Positions.{operands_of, operands_in, classes_of, choices_of, IsStatementOf, IsOperandAmong, Names, reads, reads_constant, source_assigns, target_assigns, term_constant, binary_left, binary_right, compared, select_true, select_false, freeze, copy, name, term, operand, unary, left, right, comparison, condition, truth, truncated, zero_extended, sign_extended}
+use Rattle.rule_core.specs.Positions.{operands_of, operands_in, classes_of, choices_of, IsStatementOf, IsOperandAmong, Names, reads, reads_constant, source_assigns, target_assigns, term_constant, binary_left, binary_right, compared, one_operand, select_true, select_false, freeze, copy, name, term, operand, unary, left, right, comparison, condition, truth, truncated, zero_extended, sign_extended}
 use Rattle.rule_core.specs.Typing.{IsTyping}
 use Rattle.rule_core.specs.Checks.{IsRule, SourceMayRead, TargetMayRead, MayBeTerm, FlagsFitOp}
 use Rattle.rule_core.specs.Run.{Held, Given}
@@ -131,6 +131,9 @@ op_ready rule typing given held s N (Compare pred samesign a b) typed stands wid
     let right : slice_get typing b.class ≡ Some M.0 = sym (typed.same a.class b.class (compared stands is)) ∙ M.1 in
     let one : N ≡ 1 = same_Some N 1 (sym width ∙ typed.fixed s.class 1 (comparison stands is)) in
     (M.0, (M.1, ready a M.0 (Contains-from_get (a ∷ b ∷ []) 0 a refl) M.1), (right, ready b M.0 (Contains-from_get (a ∷ b ∷ []) 1 b refl) right), one)
+op_ready rule typing given held s N (Unary op truth a) typed stands width is fit ready chosen =
+    let same : slice_get typing a.class ≡ Some N = sym (typed.same s.class a.class (one_operand stands is)) ∙ width in
+    (same, ready a N (Contains-from_get (a ∷ []) 0 a refl) same)
 op_ready rule typing given held s N (Select c a b) typed stands width is fit ready chosen =
     let one : slice_get typing c.class ≡ Some 1 = typed.fixed c.class 1 (condition stands is) in
     let yes : slice_get typing a.class ≡ Some N = sym (typed.same s.class a.class (select_true stands is)) ∙ width in

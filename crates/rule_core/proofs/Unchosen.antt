@@ -9,7 +9,7 @@ use Rattle.ops.specs.declared.value.Effect.TheVariants as effects
 use Rattle.rule_core.specs.declared.rule.Rule.{Rule}
 use Rattle.rule_core.specs.declared.rule.Statement.{Statement}
 use Rattle.rule_core.specs.declared.rule.Op.{Op}
-use Rattle.rule_core.specs.declared.rule.Op.TheVariants.{Binary, Compare, Select, Convert, Freeze, Copy}
+use Rattle.rule_core.specs.declared.rule.Op.TheVariants.{Binary, Compare, Unary, Select, Convert, Freeze, Copy}
 use Rattle.rule_core.specs.declared.rule.Operand.{Operand}
 use Rattle.rule_core.specs.declared.rule.Argument.{Argument}
 use Rattle.rule_core.specs.declared.rule.Argument.TheVariants as arguments
@@ -54,6 +54,7 @@ module _ (rule : Rule) (typing : List ℕ) (constants choices : List Number) whe
   op_same held N (Compare pred samesign a b) e none thawed (M, x, y, at, p, q, is) =
       let among = a ∷ b ∷ [] in
       (M, x, y, at, operand_same held a x (none a (Contains-from_get among 0 a refl)) p, operand_same held b y (none b (Contains-from_get among 1 b refl)) q, is)
+  op_same held N (Unary op truth a) e none thawed (x, p, is) = (x, operand_same held a x (none a (Contains-from_get (a ∷ []) 0 a refl)) p, is)
   op_same held N (Select c a b) e none thawed (z, x, y, o, p, q, is) =
       let among = c ∷ a ∷ b ∷ [] in (
         z,

@@ -2,10 +2,11 @@
 use Rattle.std.specs.Prelude.{◌≡◌, ℕ, suc, ◌+◌, ◌<◌, ◌≤◌, List, length, Some, Contains, slice_get, map, sum_by}
 use Rattle.std.specs.List.{range_with_len}
 use Rattle.ops.specs.Flags.{FlagsFit, CastFlagsFit}
+use Rattle.ops.specs.Truths.{TruthFits}
 use Rattle.rule_core.specs.declared.rule.Rule.{Rule}
 use Rattle.rule_core.specs.declared.rule.Statement.{Statement}
 use Rattle.rule_core.specs.declared.rule.Op.{Op}
-use Rattle.rule_core.specs.declared.rule.Op.TheVariants.{Binary, Convert, Freeze, Copy}
+use Rattle.rule_core.specs.declared.rule.Op.TheVariants.{Binary, Unary, Convert, Freeze, Copy}
 use Rattle.rule_core.specs.declared.rule.Operand.{Operand}
 use Rattle.rule_core.specs.declared.rule.Argument.{Argument}
 use Rattle.rule_core.specs.declared.rule.Argument.TheVariants as arguments
@@ -100,9 +101,10 @@ MayBeFormula rule n (formulas.Not a) = a < n
 MayBeFormula rule n (formulas.And a b) = (a < n) × (b < n)
 MayBeFormula rule n (formulas.Or a b) = (a < n) × (b < n)
 
--- the flags that are written are ones that the instruction takes
+-- the flags that are written are ones that the instruction takes, and so is the truth value of an intrinsic
 abbrev pub FlagsFitOp : Op → Type 0
 FlagsFitOp (Binary op flags a b) = FlagsFit op flags
+FlagsFitOp (Unary op truth a) = TruthFits op truth
 FlagsFitOp (Convert cast flags a to) = CastFlagsFit cast flags
 FlagsFitOp op = Unit {0}
 

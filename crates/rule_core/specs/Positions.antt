@@ -2,6 +2,7 @@
 -- positions at one width, what fixes a width, and what keeps one width below another.
 use Rattle.std.specs.Prelude.{◌≡◌, ℕ, suc, Bool, List, [], ◌∷◌, ◌++◌, length, map, flat_map, Option, Some, Contains, slice_get}
 use Rattle.ops.specs.declared.opcode.Opcode.{Opcode}
+use Rattle.ops.specs.declared.opcode.Unary.{Unary as Intrinsic}
 use Rattle.ops.specs.declared.opcode.Flags.{Flags}
 use Rattle.ops.specs.declared.comparison.Pred.{Pred}
 use Rattle.ops.specs.declared.conversion.Cast.{Cast}
@@ -9,7 +10,7 @@ use Rattle.ops.specs.declared.conversion.Cast.TheVariants.{Trunc, ZExt, SExt}
 use Rattle.rule_core.specs.declared.rule.Rule.{Rule}
 use Rattle.rule_core.specs.declared.rule.Statement.{Statement}
 use Rattle.rule_core.specs.declared.rule.Op.{Op}
-use Rattle.rule_core.specs.declared.rule.Op.TheVariants.{Binary, Compare, Select, Convert, Freeze, Copy}
+use Rattle.rule_core.specs.declared.rule.Op.TheVariants.{Binary, Compare, Unary, Select, Convert, Freeze, Copy}
 use Rattle.rule_core.specs.declared.rule.Operand.{Operand}
 use Rattle.rule_core.specs.declared.rule.Argument.{Argument}
 use Rattle.rule_core.specs.declared.rule.Argument.TheVariants as arguments
@@ -28,6 +29,7 @@ use Rattle.rule_core.specs.declared.rule.Register.TheVariants as registers
 abbrev pub operands_of : Op → List Operand
 operands_of (Binary op flags a b) = a ∷ b ∷ []
 operands_of (Compare pred samesign a b) = a ∷ b ∷ []
+operands_of (Unary op truth a) = a ∷ []
 operands_of (Select c a b) = c ∷ a ∷ b ∷ []
 operands_of (Convert cast flags a to) = a ∷ []
 operands_of (Freeze a k) = a ∷ []
@@ -122,6 +124,8 @@ pub data Line (rule : Rule) : ℕ → ℕ → Type 0 where
   binary_right : {s : Statement} {op : Opcode} {flags : Flags} {a b : Operand} → IsStatementOf rule s → s.op ≡ Binary op flags a b → Line rule s.class b.class
   -- both operands of a comparison
   compared : {s : Statement} {pred : Pred} {samesign : Bool} {a b : Operand} → IsStatementOf rule s → s.op ≡ Compare pred samesign a b → Line rule a.class b.class
+  -- the result and the operand of an intrinsic
+  one_operand : {s : Statement} {op : Intrinsic} {truth : Bool} {a : Operand} → IsStatementOf rule s → s.op ≡ Unary op truth a → Line rule s.class a.class
   -- the result and both arms of a select
   select_true : {s : Statement} {c a b : Operand} → IsStatementOf rule s → s.op ≡ Select c a b → Line rule s.class a.class
   select_false : {s : Statement} {c a b : Operand} → IsStatementOf rule s → s.op ≡ Select c a b → Line rule s.class b.class

@@ -9,7 +9,7 @@ use Rattle.ops.specs.declared.value.Value.TheVariants.{Bits}
 use Rattle.rule_core.specs.declared.rule.Rule.{Rule}
 use Rattle.rule_core.specs.declared.rule.Statement.{Statement}
 use Rattle.rule_core.specs.declared.rule.Op.{Op}
-use Rattle.rule_core.specs.declared.rule.Op.TheVariants.{Binary, Compare, Select, Convert, Freeze, Copy}
+use Rattle.rule_core.specs.declared.rule.Op.TheVariants.{Binary, Compare, Unary, Select, Convert, Freeze, Copy}
 use Rattle.rule_core.specs.declared.rule.Operand.{Operand}
 use Rattle.rule_core.specs.declared.rule.Argument.{Argument}
 use Rattle.rule_core.specs.declared.rule.Argument.TheVariants as arguments
@@ -49,6 +49,7 @@ OperandIsReady typing given held N o = (slice_get typing o.class ≡ Some N) × 
 abbrev pub OpIsReady : List ℕ → Given → Held → ℕ → Op → Type 0
 OpIsReady typing given held N (Binary op flags a b) = FlagsFit op flags × OperandIsReady typing given held N a × OperandIsReady typing given held N b
 OpIsReady typing given held N (Compare pred samesign a b) = (M : ℕ) × OperandIsReady typing given held M a × OperandIsReady typing given held M b × (N ≡ 1)
+OpIsReady typing given held N (Unary op truth a) = OperandIsReady typing given held N a
 OpIsReady typing given held N (Select c a b) = OperandIsReady typing given held 1 c × OperandIsReady typing given held N a × OperandIsReady typing given held N b
 OpIsReady typing given held N (Convert cast flags a to) = (M : ℕ) × OperandIsReady typing given held M a × CastFits cast M N
 OpIsReady typing given held N (Freeze a k) = OperandIsReady typing given held N a × ChoiceIsReady given N k

@@ -4,6 +4,7 @@ use Rattle.std.specs.Prelude.{◌≡◌, ℕ, ◌-◌, if◌then◌else◌, List
 use Rattle.ops.specs.Number.{Number}
 use Rattle.ops.specs.Instruction.{instruction}
 use Rattle.ops.specs.Comparison.{comparison, selection}
+use Rattle.ops.specs.Unary.{unary}
 use Rattle.ops.specs.Conversion.{conversion}
 use Rattle.ops.specs.Integer.{residue, bits}
 use Rattle.ops.specs.declared.value.Value.{Value}
@@ -13,7 +14,7 @@ use Rattle.ops.specs.declared.value.Effect.TheVariants as effects
 use Rattle.rule_core.specs.declared.rule.Rule.{Rule}
 use Rattle.rule_core.specs.declared.rule.Statement.{Statement}
 use Rattle.rule_core.specs.declared.rule.Op.{Op}
-use Rattle.rule_core.specs.declared.rule.Op.TheVariants.{Binary, Compare, Select, Convert, Freeze, Copy}
+use Rattle.rule_core.specs.declared.rule.Op.TheVariants.{Binary, Compare, Unary, Select, Convert, Freeze, Copy}
 use Rattle.rule_core.specs.declared.rule.Operand.{Operand}
 use Rattle.rule_core.specs.declared.rule.Argument.{Argument}
 use Rattle.rule_core.specs.declared.rule.Argument.TheVariants as arguments
@@ -104,6 +105,7 @@ module _ (typing : List ℕ) (given : Given) where
   OpGives held N (Compare pred samesign a b) e =
       (M : ℕ) × (x : Value) × (y : Value)
       × (slice_get typing a.class ≡ Some M) × OperandGives held a x × OperandGives held b y × (e ≡ effects.Gives (comparison pred samesign M x y))
+  OpGives held N (Unary op truth a) e = (x : Value) × OperandGives held a x × (e ≡ effects.Gives (unary op truth N x))
   OpGives held N (Select c a b) e =
       (z : Value) × (x : Value) × (y : Value)
       × OperandGives held c z × OperandGives held a x × OperandGives held b y × (e ≡ effects.Gives (selection z x y))

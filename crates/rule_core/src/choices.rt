@@ -39,7 +39,7 @@ impl Choices {
             Op::Select(condition, yes, no) => {
                 Choices::listed(undef(condition), undef(yes), undef(no))
             }
-            Op::Convert(_, _, operand, _) | Op::Copy(operand) => {
+            Op::Unary(_, _, operand) | Op::Convert(_, _, operand, _) | Op::Copy(operand) => {
                 Choices::listed(undef(operand), None, None)
             }
             Op::Freeze(operand, place) => {

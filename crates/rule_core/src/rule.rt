@@ -6,7 +6,7 @@
 //! the number of its class.
 
 use lists::{List, Text};
-use ops::{Cast, Flags, Opcode, Pred, Width};
+use ops::{Cast, Flags, Opcode, Pred, Unary, Width};
 
 /// A rewrite rule: where the source stands, the target may stand in its place. (Lopes and others, "Provably Correct Peephole
 /// Optimizations with Alive", 2015.)
@@ -51,6 +51,8 @@ pub enum Op {
     Binary(Opcode, Flags, Operand, Operand),
     /// `icmp`, with `samesign` where that is true: a comparison of two operands of one class. The result has the width 1.
     Compare(Pred, bool, Operand, Operand),
+    /// An intrinsic on one operand of the result's class, with its truth value, which is false where it has none.
+    Unary(Unary, bool, Operand),
     /// `select`: the second operand where the first, of width 1, is 1, and else the third; both are of the result's class.
     Select(Operand, Operand, Operand),
     /// A cast of the operand to the result's width, which the last type says, if it is written.

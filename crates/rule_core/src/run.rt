@@ -12,7 +12,7 @@ ghost use Rattle.rule_core.specs.Readiness.{seen, shown, OperandIsReady, Stateme
 use crate::rule::{Argument, Op, Operand, Register, Rule, Statement, Typing};
 use crate::term::{number_or_zero, term_value};
 use lists::List;
-use ops::{Effect, Value, Width, Word, choose, compare, convert, evaluate, residue};
+use ops::{Effect, Value, Width, Word, choose, compare, convert, evaluate, residue, unary};
 use std::alloc::{AllocError, Global};
 
 /// What the registers hold: the inputs, and what the statements so far have assigned.
@@ -206,6 +206,12 @@ fn effect_of(given: Given, held: Held, statement: &Statement) -> Effect
             width_of(given, left.class),
             operand_value(given, held, left),
             operand_value(given, held, right),
+        )),
+        Op::Unary(op, truth, operand) => Effect::Gives(unary(
+            op,
+            truth,
+            width_of(given, statement.class),
+            operand_value(given, held, operand),
         )),
         Op::Select(condition, yes, no) => Effect::Gives(choose(
             operand_value(given, held, condition),

@@ -58,7 +58,7 @@ fn positions_of(statements: &[Statement]) -> u32
         count += match statement.op {
             Op::Select(_, _, _) => 4,
             Op::Binary(_, _, _, _) | Op::Compare(_, _, _, _) => 3,
-            Op::Convert(_, _, _, _) | Op::Freeze(_, _) | Op::Copy(_) => 2,
+            Op::Unary(_, _, _) | Op::Convert(_, _, _, _) | Op::Freeze(_, _) | Op::Copy(_) => 2,
         };
     }
     count
@@ -145,9 +145,15 @@ fn class_in(statement: &Statement, position: usize) -> Result<u32, usize>
         (2, Op::Select(_, yes, _)) => Ok(yes.class),
         (3, Op::Select(_, _, no)) => Ok(no.class),
         (_, Op::Select(_, _, _)) => Err(position - 4),
-        (1, Op::Convert(_, _, operand, _) | Op::Freeze(operand, _) | Op::Copy(operand)) => {
-            Ok(operand.class)
+        (
+            1,
+            Op::Unary(_, _, operand)
+            | Op::Convert(_, _, operand, _)
+            | Op::Freeze(operand, _)
+            | Op::Copy(operand),
+        ) => Ok(operand.class),
+        (_, Op::Unary(_, _, _) | Op::Convert(_, _, _, _) | Op::Freeze(_, _) | Op::Copy(_)) => {
+            Err(position - 2)
         }
-        (_, Op::Convert(_, _, _, _) | Op::Freeze(_, _) | Op::Copy(_)) => Err(position - 2),
     }
 }
