@@ -10,10 +10,12 @@ use Rattle.scan.specs.declared.rule_token.RuleKind.TheVariants as kinds
 use Rattle.scan.specs.declared.rule_token.RuleToken.{RuleToken}
 use Rattle.scan.specs.declared.span.Span.{Span}
 use Rattle.scan.specs.Names.{IsNameNext, rest_of_line}
-use Rattle.scan.specs.RuleTokens.{IsNextRuleToken, IsBadNext, Begins, kind_of, IsLongestToken, ends_primary}
+use Rattle.scan.specs.RuleTokens.{IsNextRuleToken, IsBadNext, Begins, kind_of, IsLongestToken}
 use Rattle.scan.proofs.KindLemmas.{kind_of-empty}
 use Rattle.scan.proofs.PlaceLemmas.{rest_within}
-use Rattle.rule_tokens.specs.Tokens.{Token, Line, Bad, Place, AtName, AtToken, token_on, token_of, place_behind, bytes_at, IsNameToken, TokensFrom, ends, token, name, bad_token}
+use Rattle.rule_tokens.specs.declared.context.Context.{Context}
+use Rattle.rule_tokens.specs.Contexts.{at_start, context_behind, behind_name}
+use Rattle.rule_tokens.specs.Tokens.{Token, Line, Bad, Place, AtName, AtToken, token_on, token_of, token_at, is_called, place_behind, bytes_at, IsNameToken, TokensFrom, ends, token, name, bad_token}
 
 -- a token other than the end has a byte
 longest_some : (operator : Bool) (text : List ℕ) (kind : RuleKind) (n : ℕ) → IsLongestToken operator text kind n → 0 < n
@@ -48,34 +50,34 @@ added front before line t tokens = added_on front (eqb line before) line t token
 
 -- the tokens in front are those of the text up to a place, whatever tokens are read from there on
 abbrev pub SoFar : List ℕ → Place → ℕ → ℕ → List Token → Type 0
-SoFar text place at before front = (tokens : List Token) (last : ℕ) → TokensFrom text place at before tokens last → TokensFrom text (AtToken false) 0 0 (front ++ tokens) last
+SoFar text place at before front = (tokens : List Token) (last : ℕ) → TokensFrom text place at before tokens last → TokensFrom text (AtToken at_start) 0 0 (front ++ tokens) last
 
-pub token_read : (source text : List ℕ) (operator : Bool) (at at' before : ℕ) (front front' : List Token) (t : RuleToken) (found : Token) (bytes : List ℕ) (place : Place) → source ≡ text → SoFar text (AtToken operator) at before front → IsNextRuleToken operator source at t → t.kind ≢ kinds.End
-    → bytes ≡ bytes_at text t.span → found ≡ token_of t.kind bytes → place_behind t.kind bytes ≡ place → front' ≡ front ++ token_on before t.line found [] → at' ≡ t.span.end → SoFar text place at' t.line front'
-token_read source text operator at at' before front front' t found bytes place same so_far next other is token_is place_is made goes tokens last h =
-    let next' : IsNextRuleToken operator text at t = subst (λ (s : List ℕ). IsNextRuleToken operator s at t) same next in
-    let found_is : found ≡ token_of t.kind (bytes_at text t.span) = token_is ∙ ap (token_of t.kind) is in
-    let behind : place ≡ place_behind t.kind (bytes_at text t.span) = sym place_is ∙ ap (place_behind t.kind) is in
-    let step : TokensFrom text (AtToken operator) at before (token_on before t.line (token_of t.kind (bytes_at text t.span)) tokens) last
+pub token_read : (source text : List ℕ) (c : Context) (at at' before : ℕ) (front front' : List Token) (t : RuleToken) (found : Token) (bytes : List ℕ) (called : Bool) (place : Place) → source ≡ text → SoFar text (AtToken c) at before front → IsNextRuleToken c.operator source at t → t.kind ≢ kinds.End
+    → bytes ≡ bytes_at text t.span → called ≡ is_called text t.span.end → found ≡ token_of c called t.kind bytes → place_behind c t.kind bytes ≡ place → front' ≡ front ++ token_on before t.line found [] → at' ≡ t.span.end → SoFar text place at' t.line front'
+token_read source text c at at' before front front' t found bytes called place same so_far next other is call token_is place_is made goes tokens last h =
+    let next' : IsNextRuleToken c.operator text at t = subst (λ (s : List ℕ). IsNextRuleToken c.operator s at t) same next in
+    let found_is : found ≡ token_at text c t = token_is ∙ ap (λ (bs : List ℕ). token_of c called t.kind bs) is ∙ ap (λ (b : Bool). token_of c b t.kind (bytes_at text t.span)) call in
+    let behind : place ≡ place_behind c t.kind (bytes_at text t.span) = sym place_is ∙ ap (place_behind c t.kind) is in
+    let step : TokensFrom text (AtToken c) at before (token_on before t.line (token_at text c t) tokens) last
     = token t next' other (subst (λ (p : Place). TokensFrom text p t.span.end t.line tokens last) behind (subst (λ (i : ℕ). TokensFrom text place i t.line tokens last) goes h)) in
-    let whole : front' ++ tokens ≡ front ++ token_on before t.line (token_of t.kind (bytes_at text t.span)) tokens
+    let whole : front' ++ tokens ≡ front ++ token_on before t.line (token_at text c t) tokens
     = ap (λ (ts : List Token). ts ++ tokens) made ∙ added front before t.line found tokens ∙ ap (λ (f : Token). front ++ token_on before t.line f tokens) found_is in
-    subst (λ (ts : List Token). TokensFrom text (AtToken false) 0 0 ts last) (sym whole) (so_far _ last step)
+    subst (λ (ts : List Token). TokensFrom text (AtToken at_start) 0 0 ts last) (sym whole) (so_far _ last step)
 
-pub name_read : (text : List ℕ) (at line : ℕ) (front : List Token) (found : Token) → SoFar text AtName at line front → IsNameToken text at found → SoFar text (AtToken false) (at + length (rest_of_line text at)) line (front ++ found ∷ [])
-name_read text at line front found so_far is tokens last h =
-    subst (λ (ts : List Token). TokensFrom text (AtToken false) 0 0 ts last) (sym (append_assoc front (found ∷ []) tokens)) (so_far (found ∷ tokens) last (name is h))
+pub name_read : (text : List ℕ) (c : Context) (at line : ℕ) (front : List Token) (found : Token) → SoFar text (AtName c) at line front → IsNameToken text at found → SoFar text (AtToken (behind_name c)) (at + length (rest_of_line text at)) line (front ++ found ∷ [])
+name_read text c at line front found so_far is tokens last h =
+    subst (λ (ts : List Token). TokensFrom text (AtToken at_start) 0 0 ts last) (sym (append_assoc front (found ∷ []) tokens)) (so_far (found ∷ tokens) last (name is h))
 
-pub end_read : (source text : List ℕ) (operator : Bool) (at before : ℕ) (front : List Token) (t : RuleToken) → source ≡ text → SoFar text (AtToken operator) at before front → IsNextRuleToken operator source at t → t.kind ≡ kinds.End → TokensFrom text (AtToken false) 0 0 front t.line
-end_read source text operator at before front t same so_far next end =
-    subst (λ (ts : List Token). TokensFrom text (AtToken false) 0 0 ts t.line) (append-nil front) (so_far [] t.line (ends t (subst (λ (s : List ℕ). IsNextRuleToken operator s at t) same next) end refl))
+pub end_read : (source text : List ℕ) (c : Context) (at before : ℕ) (front : List Token) (t : RuleToken) → source ≡ text → SoFar text (AtToken c) at before front → IsNextRuleToken c.operator source at t → t.kind ≡ kinds.End → TokensFrom text (AtToken at_start) 0 0 front t.line
+end_read source text c at before front t same so_far next end =
+    subst (λ (ts : List Token). TokensFrom text (AtToken at_start) 0 0 ts t.line) (append-nil front) (so_far [] t.line (ends t (subst (λ (s : List ℕ). IsNextRuleToken c.operator s at t) same next) end refl))
 
-pub bad_read : (source text : List ℕ) (operator : Bool) (at before line : ℕ) (front front' : List Token) → source ≡ text → SoFar text (AtToken operator) at before front → IsBadNext source at line → front' ≡ front ++ token_on before line Bad [] → TokensFrom text (AtToken false) 0 0 front' line
-bad_read source text operator at before line front front' same so_far bad made =
-    subst (λ (ts : List Token). TokensFrom text (AtToken false) 0 0 ts line) (sym made) (so_far _ line (bad_token (subst (λ (s : List ℕ). IsBadNext s at line) same bad)))
+pub bad_read : (source text : List ℕ) (c : Context) (at before line : ℕ) (front front' : List Token) → source ≡ text → SoFar text (AtToken c) at before front → IsBadNext source at line → front' ≡ front ++ token_on before line Bad [] → TokensFrom text (AtToken at_start) 0 0 front' line
+bad_read source text c at before line front front' same so_far bad made =
+    subst (λ (ts : List Token). TokensFrom text (AtToken at_start) 0 0 ts line) (sym made) (so_far _ line (bad_token (subst (λ (s : List ℕ). IsBadNext s at line) same bad)))
 
-pub place_name : (kind : RuleKind) (bytes : List ℕ) → bytes_eq bytes (codes "Name:") ≡ true → place_behind kind bytes ≡ AtName
-place_name kind bytes e = rw e refl
+pub place_name : (c : Context) (kind : RuleKind) (bytes : List ℕ) → bytes_eq bytes (codes "Name:") ≡ true → place_behind c kind bytes ≡ AtName c
+place_name c kind bytes e = rw e refl
 
-pub place_token : (kind : RuleKind) (bytes : List ℕ) (operator : Bool) → bytes_eq bytes (codes "Name:") ≡ false → operator ≡ ends_primary kind bytes → place_behind kind bytes ≡ AtToken operator
-place_token kind bytes operator e is = rw e (ap AtToken (sym is))
+pub place_token : (c d : Context) (kind : RuleKind) (bytes : List ℕ) → bytes_eq bytes (codes "Name:") ≡ false → d ≡ context_behind c kind bytes → place_behind c kind bytes ≡ AtToken d
+place_token c d kind bytes e is = rw e (ap AtToken (sym is))

@@ -1,13 +1,16 @@
 -- The tokens of a rule file in order, and which text they are of.
-use Rattle.std.specs.Prelude.{◌≡◌, ◌≢◌, ℕ, ◌+◌, ◌==◌, Bool, false, if◌then◌else◌, List, [], ◌∷◌, length, drop, codes}
+use Rattle.std.specs.Prelude.{◌≡◌, ◌≢◌, ℕ, ◌+◌, ◌==◌, Bool, if◌then◌else◌, List, [], ◌∷◌, length, drop, codes}
 use Rattle.std.specs.Str.{bytes_eq}
 use Rattle.scan.specs.declared.rule_token.RuleKind.{RuleKind}
 use Rattle.scan.specs.declared.rule_token.RuleKind.TheVariants as kinds
 use Rattle.scan.specs.declared.rule_token.RuleToken.{RuleToken}
 use Rattle.scan.specs.declared.span.Span.{Span}
+use Rattle.scan.specs.Bytes.{begins_with}
 use Rattle.scan.specs.Lines.{between}
 use Rattle.scan.specs.Names.{IsNameNext, IsBadInRest, rest_of_line}
-use Rattle.scan.specs.RuleTokens.{IsNextRuleToken, IsBadNext, ends_primary}
+use Rattle.scan.specs.RuleTokens.{IsNextRuleToken, IsBadNext}
+use Rattle.rule_tokens.specs.declared.context.Context.{Context}
+use Rattle.rule_tokens.specs.Contexts.{at_start, context_behind, behind_name, is_opcode}
 
 -- a token, with its bytes
 pub data Token : Type 0 where
@@ -20,6 +23,8 @@ pub data Token : Type 0 where
   -- without the `%`
   Register : (name : List ℕ) → Token
   Word : (text : List ℕ) → Token
+  -- a word that is an opcode, where other tokens of its bytes are the function of terms
+  Opcode : (text : List ℕ) → Token
   Number : (text : List ℕ) → Token
   Arrow : Token
   Mark : (text : List ℕ) → Token
@@ -30,33 +35,45 @@ pub data Token : Type 0 where
   -- behind a token with which a rule has too many operands, literals, names, operators and functions; nothing behind it is read
   Excess : Token
 
--- the token of a kind other than the end, with its bytes
-abbrev pub token_of : RuleKind → List ℕ → Token
-token_of kinds.End bytes = Other
-token_of kinds.Other bytes = Other
-token_of kinds.Head bytes = Head bytes
-token_of kinds.Register bytes = Register (drop 1 bytes)
-token_of kinds.Word bytes = Word bytes
-token_of kinds.Number bytes = Number bytes
-token_of kinds.Arrow bytes = Arrow
-token_of kinds.Mark bytes = Mark bytes
+-- a word, which is an opcode or not
+abbrev pub word_of : Bool → List ℕ → Token
+word_of opcode word = if opcode then Opcode word else Word word
+
+-- the token of a kind other than the end, with its bytes, where `(` stands directly behind it or not
+abbrev pub token_of : Context → Bool → RuleKind → List ℕ → Token
+token_of c called kinds.End bytes = Other
+token_of c called kinds.Other bytes = Other
+token_of c called kinds.Head bytes = Head bytes
+token_of c called kinds.Register bytes = Register (drop 1 bytes)
+token_of c called kinds.Word bytes = word_of (is_opcode c called bytes) bytes
+token_of c called kinds.Number bytes = Number bytes
+token_of c called kinds.Arrow bytes = Arrow
+token_of c called kinds.Mark bytes = Mark bytes
 
 -- a token on a line, behind a token on the line before it or on the same
 abbrev pub token_on : ℕ → ℕ → Token → List Token → List Token
 token_on before line token tokens = if line == before then token ∷ tokens else Line line ∷ token ∷ tokens
 
--- what the next token is read as: the name of a rule, behind `Name:`, or a token, in an operator's place or not
+-- what the next token is read as: the name of a rule, behind `Name:`, or a token
 pub data Place : Type 0 where
-  AtName : Place
-  AtToken : (operator : Bool) → Place
+  AtName : (context : Context) → Place
+  AtToken : (context : Context) → Place
 
 -- what the token behind one of a kind, with these bytes, is read as
-abbrev pub place_behind : RuleKind → List ℕ → Place
-place_behind kind bytes = if bytes_eq bytes (codes "Name:") then AtName else AtToken (ends_primary kind bytes)
+abbrev pub place_behind : Context → RuleKind → List ℕ → Place
+place_behind c kind bytes = if bytes_eq bytes (codes "Name:") then AtName c else AtToken (context_behind c kind bytes)
 
 -- the bytes of a part of the text
 abbrev pub bytes_at : List ℕ → Span → List ℕ
 bytes_at text span = between text span.start span.end
+
+-- `(` stands at a place
+abbrev pub is_called : List ℕ → ℕ → Bool
+is_called text at = begins_with (λ b. b == 40) (drop at text)
+
+-- a token as it is found in the text
+abbrev pub token_at : List ℕ → Context → RuleToken → Token
+token_at text c t = token_of c (is_called text t.span.end) t.kind (bytes_at text t.span)
 
 -- the name of a rule, as it stands at a place
 abbrev pub IsNameToken : List ℕ → ℕ → Token → Type 0
@@ -65,20 +82,20 @@ IsNameToken text at name = (span : Span) × IsNameNext text at span × (name ≡
 -- The tokens of a text from a place in it on, behind a token on a line, and the text's last line. They end with the text, or at
 -- the first byte that may not stand where it does, which is the last one then.
 pub data TokensFrom (text : List ℕ) : Place → ℕ → ℕ → List Token → ℕ → Type 0 where
-  ends : {operator : Bool} {at line last : ℕ} (t : RuleToken)
-      → IsNextRuleToken operator text at t → t.kind ≡ kinds.End → last ≡ t.line
-      → TokensFrom text (AtToken operator) at line [] last
-  token : {operator : Bool} {at line last : ℕ} {tokens : List Token} (t : RuleToken)
-      → IsNextRuleToken operator text at t → t.kind ≢ kinds.End
-      → TokensFrom text (place_behind t.kind (bytes_at text t.span)) t.span.end t.line tokens last
-      → TokensFrom text (AtToken operator) at line (token_on line t.line (token_of t.kind (bytes_at text t.span)) tokens) last
-  name : {at line last : ℕ} {found : Token} {tokens : List Token}
+  ends : {c : Context} {at line last : ℕ} (t : RuleToken)
+      → IsNextRuleToken c.operator text at t → t.kind ≡ kinds.End → last ≡ t.line
+      → TokensFrom text (AtToken c) at line [] last
+  token : {c : Context} {at line last : ℕ} {tokens : List Token} (t : RuleToken)
+      → IsNextRuleToken c.operator text at t → t.kind ≢ kinds.End
+      → TokensFrom text (place_behind c t.kind (bytes_at text t.span)) t.span.end t.line tokens last
+      → TokensFrom text (AtToken c) at line (token_on line t.line (token_at text c t) tokens) last
+  name : {c : Context} {at line last : ℕ} {found : Token} {tokens : List Token}
       → IsNameToken text at found
-      → TokensFrom text (AtToken false) (at + length (rest_of_line text at)) line tokens last
-      → TokensFrom text AtName at line (found ∷ tokens) last
-  bad_token : {operator : Bool} {at line last : ℕ} → IsBadNext text at last → TokensFrom text (AtToken operator) at line (token_on line last Bad []) last
-  bad_name : {at line last : ℕ} → IsBadInRest text at last → TokensFrom text AtName at line (Bad ∷ []) last
+      → TokensFrom text (AtToken (behind_name c)) (at + length (rest_of_line text at)) line tokens last
+      → TokensFrom text (AtName c) at line (found ∷ tokens) last
+  bad_token : {c : Context} {at line last : ℕ} → IsBadNext text at last → TokensFrom text (AtToken c) at line (token_on line last Bad []) last
+  bad_name : {c : Context} {at line last : ℕ} → IsBadInRest text at last → TokensFrom text (AtName c) at line (Bad ∷ []) last
 
 -- the tokens of a text, each line's behind its number, and its last line
 abbrev pub AreTokens : List ℕ → List Token → ℕ → Type 0
-AreTokens text tokens last = TokensFrom text (AtToken false) 0 0 tokens last
+AreTokens text tokens last = TokensFrom text (AtToken at_start) 0 0 tokens last

@@ -1,6 +1,7 @@
 //! The tokens of rule files with their lines, the parts that each part of a rule is made of, and why a token does not fit.
 #![tactic(auto)]
 
+mod context;
 mod end_of_line;
 mod fault;
 mod name;
@@ -11,6 +12,7 @@ mod tokens;
 mod version;
 mod width;
 
+pub use context::{Before, Context};
 pub use end_of_line::line_end;
 pub use fault::{RuleError, RuleFault, RuleFaultKind};
 pub use name::name_within;

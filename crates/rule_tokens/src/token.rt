@@ -12,6 +12,8 @@ pub enum Token<'a> {
     /// The name of a register, without the `%`.
     Register(&'a [u8]),
     Word(&'a [u8]),
+    /// A word that is an opcode where other tokens of its bytes are the function of terms.
+    Opcode(&'a [u8]),
     Number(&'a [u8]),
     /// `=>`.
     Arrow,

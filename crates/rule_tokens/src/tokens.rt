@@ -5,11 +5,12 @@ ghost use Rattle.scan.specs.declared.rule_token.RuleKind.TheVariants as kinds;
 ghost use Rattle.scan.specs.Names.{IsBadInRest, rest_of_line};
 ghost use Rattle.rule_tokens.specs.SeenTokens.{seen, seen_token};
 ghost use Rattle.rule_tokens.specs.Tokens as relation;
-ghost use Rattle.rule_tokens.specs.Tokens.{AreTokens, IsNameToken, token_on};
+ghost use Rattle.rule_tokens.specs.Tokens.{AreTokens, IsNameToken, is_called, token_on};
 
+use crate::context::Context;
 use crate::token::Token;
 use ops::keywords::is;
-use scan::{BadByte, Cursor, RuleKind, ends_primary};
+use scan::{BadByte, Cursor, RuleKind};
 use std::alloc::{AllocError, Global};
 
 /// The tokens of a text, and its last line.
@@ -21,11 +22,19 @@ pub struct Tokens<'a> {
     pub last_line: usize,
 }
 
-/// The token of a kind, with its bytes; the end of a text is none.
-fn token_of(kind: RuleKind, bytes: &[u8]) -> Option<Token<'_>>
+/// Whether `(` stands at a place.
+fn is_called(text: &[u8], at: usize) -> bool
+    requires { at ≤ length text.now }
+    ensures { result ≡ is_called text.now at }
+{
+    matches!(&text[at..], [b'(', ..])
+}
+
+/// The token of a kind, with its bytes, where `(` stands directly behind it or not; the end of a text is none.
+fn token_of(context: Context, called: bool, kind: RuleKind, bytes: &[u8]) -> Option<Token<'_>>
     ensures end { IfNone result (kind ≡ kinds.End) }
     ensures other { OnSome result (kind ≢ kinds.End) }
-    ensures token { IfSome result (λ token. seen_token token ≡ relation.token_of kind bytes.now) }
+    ensures token { IfSome result (λ token. seen_token token ≡ relation.token_of context called kind bytes.now) }
 {
     match kind {
         RuleKind::End => None,
@@ -35,6 +44,7 @@ fn token_of(kind: RuleKind, bytes: &[u8]) -> Option<Token<'_>>
             [_, name @ ..] => name,
             [] => bytes,
         })),
+        RuleKind::Word if context.takes_as_opcode(called, bytes) => Some(Token::Opcode(bytes)),
         RuleKind::Word => Some(Token::Word(bytes)),
         RuleKind::Number => Some(Token::Number(bytes)),
         RuleKind::Arrow => Some(Token::Arrow),
@@ -77,10 +87,10 @@ pub fn tokens_of(alloc: Global, text: &[u8]) -> Result<Tokens<'_>, AllocError>
 {
     let mut tokens = Vec::new(alloc);
     let mut cursor = Cursor::new(text);
-    let mut operator = false;
+    let mut context = Context::START;
     let mut before = 0;
     loop {
-        let token = match cursor.next_rule_token(operator) {
+        let token = match cursor.next_rule_token(context.operator) {
             Ok(token) => token,
             Err(BadByte { line }) => {
                 push(&mut tokens, before, line, Token::Bad)?;
@@ -91,7 +101,8 @@ pub fn tokens_of(alloc: Global, text: &[u8]) -> Result<Tokens<'_>, AllocError>
             }
         };
         let bytes = token.span.bytes(text);
-        let Some(found) = token_of(token.kind, bytes) else {
+        let called = is_called(text, token.span.end);
+        let Some(found) = token_of(context, called, token.kind, bytes) else {
             return Ok(Tokens {
                 tokens,
                 last_line: token.line,
@@ -99,7 +110,6 @@ pub fn tokens_of(alloc: Global, text: &[u8]) -> Result<Tokens<'_>, AllocError>
         };
         push(&mut tokens, before, token.line, found)?;
         before = token.line;
-        operator = ends_primary(token.kind, bytes);
         if is(bytes, "Name:") {
             match name(&mut cursor, text) {
                 Ok(name) => tokens.push(name)?,
@@ -111,7 +121,9 @@ pub fn tokens_of(alloc: Global, text: &[u8]) -> Result<Tokens<'_>, AllocError>
                     });
                 }
             }
-            operator = false;
+            context = context.behind_name();
+        } else {
+            context = context.behind(token.kind, bytes);
         }
     }
 }

@@ -9,7 +9,7 @@ use crate::number::{are_digits, magnitude};
 #[derive(Clone, Copy, PartialEq, Eq, Debug)]
 pub enum Version {
     One,
-    /// The first one with `freeze`.
+    /// The first one with `freeze` and intrinsics.
     Two,
 }
 

@@ -8,7 +8,7 @@ abbrev pub invariant-loop-token : goal.invariant-loop-token
 invariant-loop-token l = record {
   text : l.cursor.text ≡ l.text;
   within : l.cursor.at ≤ length l.text;
-  so_far : SoFar l.text (AtToken l.operator) l.cursor.at l.before (seen l.tokens.items);
+  so_far : SoFar l.text (AtToken l.context) l.cursor.at l.before (seen l.tokens.items);
 }
 
 abbrev pub decreases-loop-token : goal.decreases-loop-token
