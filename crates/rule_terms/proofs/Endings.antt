@@ -1,18 +1,17 @@
 -- No operator is next behind a term that is read.
 use Rattle.std.proofs.Common.{◌≡◌, ℕ, zero, suc, ◌<◌, List, ◌∷◌, length, Option, Some, None, Ok, refl, sym, ap, subst, ⊎_elim, ◌⊎◌, arith}
-use Rattle.std.proofs.lemmas.Bool.{eq-eqb}
+use Rattle.std.proofs.lemmas.Bool.{eq-eqb, ne_eqb}
 use Rattle.ops.specs.declared.opcode.Opcode.{Opcode}
-use Rattle.ops.specs.declared.opcode.Opcode.TheVariants.{Add, Sub, Mul, UDiv, SDiv, URem, SRem, Shl, LShr, AShr, And, Or, Xor}
 use Rattle.rule_tokens.specs.Tokens.{Token, Mark}
 use Rattle.rule_tokens.proofs.Steps.{bound, read_as}
 use Rattle.rule_terms.specs.declared.place.TermPlace.{TermPlace}
 use Rattle.rule_terms.specs.declared.raw.RawNode.{RawNode}
 use Rattle.rule_terms.specs.Grammar.{EndsTerm}
 use Rattle.rule_terms.specs.Laws.{TermsAreReadAsSpelled}
-use Rattle.rule_terms.specs.TermReaders.{Reader, operator_at, join, joined_or_end, chain_at, behind_at, operand_at, primary_at, term_at}
+use Rattle.rule_terms.specs.TermReaders.{Reader, of_level, operator_at, join, joined_or_end, chain_at, behind_at, operand_at, primary_at, term_at}
 use Rattle.rule_terms.specs.Keywords.{operator_in, level_of, loosest}
 use Rattle.rule_terms.proofs.Chains.{Shortens}
-use Rattle.rule_terms.proofs.Meanings.{operator_at-is}
+use Rattle.rule_terms.proofs.Meanings.{operator_level, operator_at-is}
 use Rattle.rule_terms.proofs.Readings.{operand_shorter}
 use Rattle.rule_terms.proofs.Spellings.{term_at-is, term_at-of}
 use Rattle.rule_tokens.specs.Limits.{Limits}
@@ -31,28 +30,15 @@ module _ (limits : Limits) where
       below_or_same : (a b : ℕ) → a < suc b → (a < b) ⊎ (a ≡ b)
       below_or_same a b lt = grind arith
 
-  -- an operator's level is from 1 to 6
-  level_bounds : (op : Opcode) → (0 < level_of op) × (level_of op < 7)
-  level_bounds Mul = (omega arith, omega arith)
-  level_bounds SDiv = (omega arith, omega arith)
-  level_bounds UDiv = (omega arith, omega arith)
-  level_bounds SRem = (omega arith, omega arith)
-  level_bounds URem = (omega arith, omega arith)
-  level_bounds Add = (omega arith, omega arith)
-  level_bounds Sub = (omega arith, omega arith)
-  level_bounds Shl = (omega arith, omega arith)
-  level_bounds AShr = (omega arith, omega arith)
-  level_bounds LShr = (omega arith, omega arith)
-  level_bounds And = (omega arith, omega arith)
-  level_bounds Xor = (omega arith, omega arith)
-  level_bounds Or = (omega arith, omega arith)
-
+  -- no operator has the level 0
   none_at_0 : (rest : List Token) → operator_at 0 rest ≡ None
-  none_at_0 rest = none (operator_at 0 rest) refl
+  unfolding operator_at
+  none_at_0 (Mark mark ∷ rest) = none (operator_in mark) refl
     where
-      none : (found : Option (Opcode × List Token)) → operator_at 0 rest ≡ found → found ≡ None
+      none : (found : Option Opcode) → operator_in mark ≡ found → of_level 0 found rest ≡ None
       none None f = refl
-      none (Some next) f = let some : 0 < level_of next.0 = (level_bounds next.0).0 in absurd (omega (arith, (operator_at-is 0 rest next f).is_level))
+      none (Some op) f = rw (ne_eqb (level_of op) 0 (λ e. omega (arith, e, (operator_level mark op f).0))) refl
+  none_at_0 rest = refl
 
   -- what holds behind each operand holds behind the chain, and no operator of its level is next there
   further : (operand others : Reader) (level : ℕ) (left : List RawNode) (tokens : List Token) (x : List RawNode × List Token) → ((before : List RawNode) (ts : List Token) (y : List RawNode × List Token) → operand before ts ≡ Ok y → NoneBelow level y.1) → Shortens limits operand → NoneBelow level tokens
@@ -88,7 +74,7 @@ module _ (limits : Limits) where
       ended None f = refl
       ended (Some op) f =
           let here : operator_at (level_of op) (Mark mark ∷ rest) ≡ Some (op, rest) = rw (f, eq-eqb (level_of op) (level_of op) refl) refl in
-          let nothing : operator_at (level_of op) (Mark mark ∷ rest) ≡ None = none (level_of op) (level_bounds op).1 in
+          let nothing : operator_at (level_of op) (Mark mark ∷ rest) ≡ None = none (level_of op) (operator_level mark op f).1 in
           absurd cc
   ends_term rest none = tt
 

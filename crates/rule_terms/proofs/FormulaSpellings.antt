@@ -5,7 +5,7 @@ use Rattle.std.specs.List.{list_any}
 use Rattle.std.specs.Str.{bytes_eq}
 use Rattle.std.proofs.lemmas.Bool.{eqb-true}
 use Rattle.ops.specs.declared.opcode.Opcode.{Opcode}
-use Rattle.ops.specs.declared.opcode.Opcode.TheVariants.{Add, Sub, Mul, UDiv, SDiv, URem, SRem, Shl, LShr, AShr, And, Or, Xor}
+use Rattle.ops.specs.declared.opcode.Opcode.TheVariants.{Add, Sub, Mul, UDiv, SDiv, URem, SRem, Shl, LShr, AShr, And, Or, Xor, UMin, UMax, SMin, SMax}
 use Rattle.ops.specs.declared.comparison.Pred.{Pred}
 use Rattle.ops.specs.declared.comparison.Pred.TheVariants.{Eq, Ne, Ugt, Uge, Ult, Ule, Sgt, Sge, Slt, Sle}
 use Rattle.rule_core.specs.declared.rule.Function.{Function}
@@ -102,6 +102,10 @@ module _ (limits : Limits) where
   operator_plain And = refl
   operator_plain Or = refl
   operator_plain Xor = refl
+  operator_plain UMin = refl
+  operator_plain UMax = refl
+  operator_plain SMin = refl
+  operator_plain SMax = refl
 
   called_plain : (function : Function) (word : List ℕ) → IsCalled function word → sign_of (Word word) ≡ signs.Plain
   called_plain Log2 word is = rw is refl

@@ -1,11 +1,11 @@
 -- Words, marks and operators: what those that are read spell, and that what is spelled is read.
-use Rattle.std.proofs.Common.{◌≡◌, ℕ, ◌-◌, ◌^◌, min, Bool, true, false, cond, eqb, ◌&&◌, List, [], ◌∷◌, Option, Some, None, refl, sym, ap, subst, ◌∙◌, ⊎_elim}
+use Rattle.std.proofs.Common.{◌≡◌, ◌≢◌, ℕ, zero, suc, ◌<◌, ◌-◌, ◌^◌, min, Bool, true, false, cond, eqb, ◌&&◌, List, [], ◌∷◌, Option, Some, None, refl, sym, ap, subst, ◌∙◌, ⊎_elim, arith}
 use Rattle.std.specs.Prelude.{codes, not}
 use Rattle.std.specs.List.{list_all}
 use Rattle.std.specs.Str.{bytes_eq}
 use Rattle.std.proofs.lemmas.Bool.{eqb-true, eq-eqb}
 use Rattle.ops.specs.declared.opcode.Opcode.{Opcode}
-use Rattle.ops.specs.declared.opcode.Opcode.TheVariants.{Add, Sub, Mul, UDiv, SDiv, URem, SRem, Shl, LShr, AShr, And, Or, Xor}
+use Rattle.ops.specs.declared.opcode.Opcode.TheVariants.{Add, Sub, Mul, UDiv, SDiv, URem, SRem, Shl, LShr, AShr, And, Or, Xor, UMin, UMax, SMin, SMax}
 use Rattle.rule_core.specs.declared.rule.Function.TheVariants.{Negate, Not, Log2, Abs}
 use Rattle.ops.proofs.KeywordLemmas.{same_word, found-passes}
 use Rattle.scan.specs.Bytes.{begins_with, is_digit, are_digits}
@@ -27,21 +27,55 @@ operator_in-is : (mark : List ℕ) (op : Opcode) → operator_in mark ≡ Some o
 unfolding operator_in
 operator_in-is mark op e = same_word mark (operator_mark op) (found-passes (λ (o : Opcode). bytes_eq mark (operator_mark o)) operators op e)
 
-pub operator_in-of : (op : Opcode) → operator_in (operator_mark op) ≡ Some op
+nothing_marked : operator_in [] ≡ None
 unfolding operator_in
-operator_in-of Add = refl
-operator_in-of Sub = refl
-operator_in-of Mul = refl
-operator_in-of UDiv = refl
-operator_in-of SDiv = refl
-operator_in-of URem = refl
-operator_in-of SRem = refl
-operator_in-of Shl = refl
-operator_in-of LShr = refl
-operator_in-of AShr = refl
-operator_in-of And = refl
-operator_in-of Or = refl
-operator_in-of Xor = refl
+nothing_marked = refl
+
+-- what has no mark is not found
+unmarked : (mark : List ℕ) (op : Opcode) → operator_mark op ≡ [] → operator_in mark ≢ Some op
+unmarked mark op none e =
+    let found : None ≡ Some op = sym nothing_marked ∙ sym (ap operator_in (operator_in-is mark op e ∙ none)) ∙ e in
+    absurd cc
+
+-- what is found has a level of operators
+pub operator_level : (mark : List ℕ) (op : Opcode) → operator_in mark ≡ Some op → (0 < level_of op) × (level_of op < 7)
+operator_level mark Mul e = (omega arith, omega arith)
+operator_level mark SDiv e = (omega arith, omega arith)
+operator_level mark UDiv e = (omega arith, omega arith)
+operator_level mark SRem e = (omega arith, omega arith)
+operator_level mark URem e = (omega arith, omega arith)
+operator_level mark Add e = (omega arith, omega arith)
+operator_level mark Sub e = (omega arith, omega arith)
+operator_level mark Shl e = (omega arith, omega arith)
+operator_level mark AShr e = (omega arith, omega arith)
+operator_level mark LShr e = (omega arith, omega arith)
+operator_level mark And e = (omega arith, omega arith)
+operator_level mark Xor e = (omega arith, omega arith)
+operator_level mark Or e = (omega arith, omega arith)
+operator_level mark UMin e = absurd (unmarked mark UMin refl e)
+operator_level mark UMax e = absurd (unmarked mark UMax refl e)
+operator_level mark SMin e = absurd (unmarked mark SMin refl e)
+operator_level mark SMax e = absurd (unmarked mark SMax refl e)
+
+pub operator_in-of : (level : ℕ) (op : Opcode) → level_of op ≡ suc level → operator_in (operator_mark op) ≡ Some op
+unfolding operator_in
+operator_in-of level Add is = refl
+operator_in-of level Sub is = refl
+operator_in-of level Mul is = refl
+operator_in-of level UDiv is = refl
+operator_in-of level SDiv is = refl
+operator_in-of level URem is = refl
+operator_in-of level SRem is = refl
+operator_in-of level Shl is = refl
+operator_in-of level LShr is = refl
+operator_in-of level AShr is = refl
+operator_in-of level And is = refl
+operator_in-of level Or is = refl
+operator_in-of level Xor is = refl
+operator_in-of level UMin is = absurd (omega (arith, is))
+operator_in-of level UMax is = absurd (omega (arith, is))
+operator_in-of level SMin is = absurd (omega (arith, is))
+operator_in-of level SMax is = absurd (omega (arith, is))
 
 -- the operator of the level is next, and these tokens are behind it
 pub record IsNext (level : ℕ) (tokens : List Token) (next : Opcode × List Token) : Type 0 where
@@ -60,9 +94,9 @@ unfolding operator_at
 operator_at-is level (Mark mark ∷ rest) next e = of_level-is level mark (operator_in mark) rest next refl e
 operator_at-is level tokens next e = absurd cc
 
-pub operator_at-of : (level : ℕ) (op : Opcode) (rest : List Token) → level_of op ≡ level → operator_at level (Mark (operator_mark op) ∷ rest) ≡ Some (op, rest)
+pub operator_at-of : (level : ℕ) (op : Opcode) (rest : List Token) → level_of op ≡ suc level → operator_at (suc level) (Mark (operator_mark op) ∷ rest) ≡ Some (op, rest)
 unfolding operator_at
-operator_at-of level op rest e = rw (operator_in-of op, eq-eqb (level_of op) level e) refl
+operator_at-of level op rest e = rw (operator_in-of level op e, eq-eqb (level_of op) (suc level) e) refl
 
 -- ---- words
 

@@ -1,5 +1,5 @@
 -- What is spelled of a term is read, where no operator that binds tighter than its level is next behind it.
-use Rattle.std.proofs.Common.{◌≡◌, ◌≢◌, ℕ, zero, suc, ◌+◌, ◌<◌, List, [], ◌∷◌, ◌++◌, length, None, Result, Ok, Err, refl, sym, ap, ◌∙◌, append_assoc, length-append, subst, arith}
+use Rattle.std.proofs.Common.{◌≡◌, ℕ, zero, suc, ◌+◌, ◌<◌, List, [], ◌∷◌, ◌++◌, length, None, Result, Ok, Err, refl, sym, ap, ◌∙◌, append_assoc, length-append, subst, arith}
 use Rattle.std.specs.Prelude.{codes}
 use Rattle.std.proofs.lemmas.Bool.{ne_eqb}
 use Rattle.ops.specs.declared.opcode.Opcode.{Opcode}
@@ -51,9 +51,9 @@ module _ (limits : Limits) where
       same (Err e) = refl
 
   -- an operator is of its own level alone
-  other_level : (level : ℕ) (op : Opcode) (rest : List Token) → level_of op ≢ level → operator_at level (Mark (operator_mark op) ∷ rest) ≡ None
+  other_level : (level k : ℕ) (op : Opcode) (rest : List Token) → level_of op ≡ suc level → k < suc level → operator_at k (Mark (operator_mark op) ∷ rest) ≡ None
   unfolding operator_at
-  other_level level op rest other = rw (operator_in-of op, ne_eqb (level_of op) level other) refl
+  other_level level k op rest is less = rw (operator_in-of level op is, ne_eqb (level_of op) k (λ same. omega (arith, same, is, less))) refl
 
   closed : (level : ℕ) (rest : List Token) → operator_at level (Mark (codes ")") ∷ rest) ≡ None
   unfolding operator_at operator_in
@@ -110,11 +110,11 @@ module _ (limits : Limits) where
       let inner = spelled_read s line before rest e (λ k lt. next k (omega arith)) ∙ goes_on-done (primary_at limits place line nesting) level (before ++ nodes) rest (next level (omega arith)) in
       operand_at-more (primary_at limits place line nesting) level before (tokens ++ rest) ∙ rw inner refl
   spelled_read {place = place} (joined {nesting = nesting} {start = start} {level = level} {left = left} {right = right} {front = front} {back = back} op is a b) line before rest e next =
-      let first = spelled_read a line before (Mark (operator_mark op) ∷ (back ++ rest)) e (λ k lt. other_level k op (back ++ rest) (λ same. omega (arith, same, is))) in
+      let first = spelled_read a line before (Mark (operator_mark op) ∷ (back ++ rest)) e (λ k lt. other_level level k op (back ++ rest) is lt) in
       let second = spelled_read b line (before ++ left) rest (starts_behind start before left e) (λ k lt. next k (omega arith)) ∙ goes_on-done (primary_at limits place line nesting) level ((before ++ left) ++ right) rest (next level (omega arith)) in
       rw (append_assoc front (Mark (operator_mark op) ∷ back) rest)
       (first
-      ∙ chain-more limits (operand_at (primary_at limits place line nesting) level) (suc level) (before ++ left) (Mark (operator_mark op) ∷ (back ++ rest)) (op, back ++ rest) ((before ++ left) ++ right, rest) (operand_shorter limits place line nesting level) (operator_at-of (suc level) op (back ++ rest) is) second
+      ∙ chain-more limits (operand_at (primary_at limits place line nesting) level) (suc level) (before ++ left) (Mark (operator_mark op) ∷ (back ++ rest)) (op, back ++ rest) ((before ++ left) ++ right, rest) (operand_shorter limits place line nesting level) (operator_at-of level op (back ++ rest) is) second
       ∙ ap (λ (ns : List RawNode). whole_chain_at (operand_at (primary_at limits place line nesting) level) (suc level) ns rest) (join_as op start before left right e))
 
   -- ---- whole terms

@@ -42,7 +42,7 @@ operators = Mul ∷ SDiv ∷ UDiv ∷ SRem ∷ URem ∷ Add ∷ Sub ∷ Shl ∷ 
 unfoldable pub operator_in : List ℕ → Option Opcode
 operator_in mark = find (λ op. bytes_eq mark (operator_mark op)) operators
 
--- how loosely an operator binds; what is no operation of two operands has the level 0
+-- how loosely an operator binds; what is no operator has the level 0
 abbrev pub level_of : Opcode → ℕ
 level_of Mul = 1
 level_of SDiv = 1
@@ -57,10 +57,10 @@ level_of LShr = 3
 level_of And = 4
 level_of Xor = 5
 level_of Or = 6
-level_of UMin = 6
-level_of UMax = 6
-level_of SMin = 6
-level_of SMax = 6
+level_of UMin = 0
+level_of UMax = 0
+level_of SMin = 0
+level_of SMax = 0
 
 -- the level of a whole term
 abbrev pub loosest : ℕ

@@ -32,7 +32,7 @@ fn operator_mark(opcode: Opcode) -> &'static str
     }
 }
 
-/// How loosely an operator binds: the tightest ones have the level 1.
+/// How loosely an operator binds: the tightest ones have the level 1, and what is no operator of terms has the level 0.
 pub(crate) fn level_of(opcode: Opcode) -> u32
     ensures { result ≡ spelled.level_of opcode }
 {
@@ -42,7 +42,8 @@ pub(crate) fn level_of(opcode: Opcode) -> u32
         Opcode::Shl | Opcode::AShr | Opcode::LShr => 3,
         Opcode::And => 4,
         Opcode::Xor => 5,
-        Opcode::Or | Opcode::UMin | Opcode::UMax | Opcode::SMin | Opcode::SMax => 6,
+        Opcode::Or => 6,
+        Opcode::UMin | Opcode::UMax | Opcode::SMin | Opcode::SMax => 0,
     }
 }
 
