@@ -23,7 +23,9 @@ use Rattle.rule_parse.specs.declared.half.Half.TheVariants.{Source, Target}
 use Rattle.rule_parse.specs.declared.raw.RawArgument.{RawArgument}
 use Rattle.rule_parse.specs.declared.raw.RawArgument.TheVariants as arguments
 use Rattle.rule_parse.specs.Grammar.{SpellsTermOperand, SpellsArgument}
-use Rattle.rule_parse.specs.Keywords.{operation_in}
+use Rattle.rule_parse.specs.Keywords.{operation_in, truth_flag, is_truth_flag}
+use Rattle.ops.specs.declared.opcode.Unary.{Unary as Intrinsic}
+use Rattle.ops.specs.declared.opcode.Unary.TheVariants as intrinsics
 use Rattle.rule_tokens.specs.declared.version.Version.{Version}
 use Rattle.rule_tokens.specs.Limits.{Limits}
 
@@ -31,8 +33,9 @@ module _ (limits : Limits) where
   -- a word that is no type, no opcode and no flag
   pub record IsOperandWord (word : List ℕ) : Type 0 where
     pub no_type : type_in word ≡ None
-    pub no_operation : (version : Version) → operation_in version word ≡ None
+    pub no_operation : (version : Version) → operation_in version false word ≡ None
     pub no_flag : (taken : Flags) → flag_in taken word ≡ None
+    pub no_truth : (op : Intrinsic) → is_truth_flag op word ≡ false
 
   abbrev pub BeginsOperand : List Token → Type 0
   BeginsOperand (Register name ∷ tokens) = Unit {0}
@@ -62,9 +65,16 @@ module _ (limits : Limits) where
 
   -- ---- words
 
+  -- a word that is none of their flags is no flag of an intrinsic
+  pub no_truth_flag : (word : List ℕ) → bytes_eq word (codes "minpoison") ≡ false → bytes_eq word (codes "zeropoison") ≡ false → (op : Intrinsic) → is_truth_flag op word ≡ false
+  no_truth_flag word least zero intrinsics.Abs = least
+  no_truth_flag word least zero intrinsics.CtPop = refl
+  no_truth_flag word least zero intrinsics.CtLz = zero
+  no_truth_flag word least zero intrinsics.CtTz = zero
+
   constant_word : (digits : List ℕ) → IsOperandWord (67 ∷ digits) × (bytes_eq (67 ∷ digits) (codes "undef") ≡ false)
   unfolding type_in operation_in flag_in
-  constant_word digits = (record { no_type = refl; no_operation = λ version. refl; no_flag = λ taken. refl }, refl)
+  constant_word digits = (record { no_type = refl; no_operation = λ version. refl; no_flag = λ taken. refl; no_truth = no_truth_flag _ refl refl }, refl)
 
   constant_begins : (word : List ℕ) → is_constant word ≡ true → IsOperandWord word × (bytes_eq word (codes "undef") ≡ false)
   unfolding is_constant
@@ -73,21 +83,21 @@ module _ (limits : Limits) where
 
   width_word : IsOperandWord (codes "width") × (bytes_eq (codes "width") (codes "undef") ≡ false)
   unfolding type_in operation_in flag_in
-  width_word = (record { no_type = refl; no_operation = λ version. refl; no_flag = λ taken. refl }, refl)
+  width_word = (record { no_type = refl; no_operation = λ version. refl; no_flag = λ taken. refl; no_truth = no_truth_flag _ refl refl }, refl)
 
   called_word : (function : Function) (word : List ℕ) → IsCalled function word → IsOperandWord word × (bytes_eq word (codes "undef") ≡ false)
   unfolding type_in operation_in flag_in
-  called_word Log2 word is = rw is (record { no_type = refl; no_operation = λ version. refl; no_flag = λ taken. refl }, refl)
-  called_word Abs word is = rw is (record { no_type = refl; no_operation = λ version. refl; no_flag = λ taken. refl }, refl)
+  called_word Log2 word is = rw is (record { no_type = refl; no_operation = λ version. refl; no_flag = λ taken. refl; no_truth = no_truth_flag _ refl refl }, refl)
+  called_word Abs word is = rw is (record { no_type = refl; no_operation = λ version. refl; no_flag = λ taken. refl; no_truth = no_truth_flag _ refl refl }, refl)
   called_word Negate word is = absurd is
   called_word Not word is = absurd is
 
   source_word_begins : (word : List ℕ) → ((word ≡ codes "true") → IsOperandWord word) × ((word ≡ codes "false") → IsOperandWord word) × ((word ≡ codes "undef") → IsOperandWord word)
   unfolding type_in operation_in flag_in
   source_word_begins word = (
-    (λ is. rw is (record { no_type = refl; no_operation = λ version. refl; no_flag = λ taken. refl })),
-    (λ is. rw is (record { no_type = refl; no_operation = λ version. refl; no_flag = λ taken. refl })),
-    (λ is. rw is (record { no_type = refl; no_operation = λ version. refl; no_flag = λ taken. refl })),
+    (λ is. rw is (record { no_type = refl; no_operation = λ version. refl; no_flag = λ taken. refl; no_truth = no_truth_flag _ refl refl })),
+    (λ is. rw is (record { no_type = refl; no_operation = λ version. refl; no_flag = λ taken. refl; no_truth = no_truth_flag _ refl refl })),
+    (λ is. rw is (record { no_type = refl; no_operation = λ version. refl; no_flag = λ taken. refl; no_truth = no_truth_flag _ refl refl })),
   )
 
   -- ---- terms

@@ -2,7 +2,7 @@
 use Rattle.std.proofs.Common.{◌≡◌, ℕ, zero, suc, ◌+◌, ◌≤◌, Bool, true, false, not, List, [], ◌∷◌, ◌++◌, Option, Some, None, refl, sym, ap, subst, ◌∙◌, append_assoc, arith}
 use Rattle.std.specs.Prelude.{codes, if◌then◌else◌}
 use Rattle.scan.specs.RuleTokens.{is_among}
-use Rattle.rule_tokens.specs.Tokens.{Token, Line, Head, Register, Word, Number, Arrow, Mark, Excess}
+use Rattle.rule_tokens.specs.Tokens.{Token, Line, Head, Register, Word, Opcode, Number, Arrow, Mark, Excess}
 use Rattle.rule_parse.specs.CutTokens.{is_node_word, plain_marks, ends_before_line, one_less, room_behind, or_excess, limited_to}
 
 -- ---- tokens of texts
@@ -127,6 +127,9 @@ maybe_counted false room left e = let same : room ≡ left = cc in omega (arith,
 
 pub word : (text : List ℕ) → Weighs 0 (Word text ∷ [])
 word text = one 0 (Word text) tt refl (λ room left e. maybe_counted (is_node_word text) room left e)
+
+pub opcode : (text : List ℕ) → Weighs 0 (Opcode text ∷ [])
+opcode text = one 0 (Opcode text) tt refl (λ room left e. maybe_counted false room left e)
 
 pub mark : (text : List ℕ) → Weighs 0 (Mark text ∷ [])
 mark text = one 0 (Mark text) tt refl (λ room left e. maybe_counted (not (is_among plain_marks text)) room left e)

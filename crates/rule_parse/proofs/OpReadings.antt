@@ -1,22 +1,24 @@
 -- What is read of a statement is spelled so, by tokens in front of those that are left.
-use Rattle.std.proofs.Common.{◌≡◌, ℕ, true, false, List, [], ◌∷◌, ◌++◌, map, Option, Some, None, Ok, refl, sym, ap, subst, ◌∙◌, ⊎_elim}
-use Rattle.std.specs.Prelude.{codes}
+use Rattle.std.proofs.Common.{◌≡◌, ℕ, Bool, true, false, List, [], ◌∷◌, ◌++◌, map, Option, Some, None, Result, Ok, Err, refl, sym, ap, subst, ◌∙◌, ⊎_elim}
+use Rattle.std.specs.Prelude.{codes, drop, if◌then◌else◌}
 use Rattle.std.specs.Str.{bytes_eq}
 use Rattle.ops.specs.declared.opcode.Opcode.{Opcode}
+use Rattle.ops.specs.declared.opcode.Unary.{Unary as Intrinsic}
 use Rattle.ops.specs.declared.opcode.Flags.{Flags}
 use Rattle.ops.specs.declared.comparison.Pred.{Pred}
 use Rattle.ops.specs.declared.conversion.Cast.{Cast}
 use Rattle.ops.specs.Flags.{no_flags, flags_of, flags_of_cast, flags_of_icmp, icmp_flags}
 use Rattle.ops.specs.declared.keywords.flag.Flag.{Flag}
-use Rattle.ops.specs.Keywords.{opcode_keyword, cast_keyword, predicate_keyword, pred_in}
+use Rattle.ops.specs.Keywords.{predicate_keyword, pred_in}
 use Rattle.ops.specs.FlagKeywords.{AddsFlags, flag_keyword, has_flag, with_flag}
 use Rattle.ops.proofs.KeywordLemmas.{same_word, pred_in-is}
 use Rattle.ops.proofs.FlagKeywordLemmas.{flag_in-is, flags_are_icmp, taken_flags}
 use Rattle.rule_tokens.specs.declared.fault.RuleFaultKind.TheVariants.{Syntax}
+use Rattle.rule_tokens.specs.RuleFaults.{RuleFault}
 use Rattle.rule_parse.specs.declared.half.Half.{Half}
 use Rattle.rule_parse.specs.declared.half.Half.TheVariants.{Source, Target}
 use Rattle.rule_parse.specs.declared.raw.RawOp.{RawOp}
-use Rattle.rule_parse.specs.declared.raw.RawOp.TheVariants.{Binary, Compare, Select, Convert, Freeze, Copy}
+use Rattle.rule_parse.specs.declared.raw.RawOp.TheVariants.{Binary, Compare, Unary, Select, Convert, Freeze, Copy}
 use Rattle.rule_parse.specs.declared.raw.RawOperand.{RawOperand}
 use Rattle.rule_parse.specs.declared.raw.RawArgument.{RawArgument}
 use Rattle.rule_parse.specs.declared.raw.RawArgument.TheVariants as arguments
@@ -30,20 +32,19 @@ use Rattle.rule_terms.specs.Grammar.{SpellsWholeTerm}
 use Rattle.rule_terms.specs.TermReaders.{mark_at, term_at}
 use Rattle.rule_tokens.specs.Steps.{◌>>=◌}
 use Rattle.rule_tokens.specs.TypeTokens.{SpellsType}
-use Rattle.rule_parse.specs.Grammar.{SpellsArgument, SpellsUntyped, SpellsOperand, SpellsPair, SpellsFlags, SpellsTo, SpellsOp}
+use Rattle.rule_parse.specs.Grammar.{SpellsArgument, SpellsUntyped, SpellsOperand, SpellsPair, SpellsFlags, SpellsTruth, SpellsOpcode, SpellsTo, SpellsOp}
 use Rattle.rule_tokens.specs.Numbers.{literal_value}
 use Rattle.rule_tokens.specs.PartReaders.{fault, name_within, type_at, maybe_type, line_end}
-use Rattle.rule_parse.specs.RuleReaders.{register_at, known_or_misplaced, source_word, term_argument_at, argument_at, typed_at, operand_at, to_at, next_flag, flag_or_end, flags_at, pair_at, binary_at, pred_at, compare_at, select_at, convert_at, freeze_at, copy_at, operation_at, other_at, op_word, op_at}
+use Rattle.rule_parse.specs.RuleReaders.{register_at, known_or_misplaced, source_word, term_argument_at, argument_at, typed_at, operand_at, to_at, next_flag, flag_or_end, flags_at, pair_at, binary_at, pred_at, compare_at, is_truth_next, truth_at, unary_at, select_at, convert_at, freeze_at, copy_at, operation_at, other_at, op_token, op_at}
 use Rattle.rule_tokens.specs.Parts.{Is, Comma, ◌⨾◌, Maybe}
-use Rattle.rule_tokens.specs.Tokens.{Token, Register, Word, Number, Mark}
-use Rattle.rule_parse.specs.Keywords.{operation_word, is_known, operation_in, source_word_in, argument_of}
+use Rattle.rule_tokens.specs.Tokens.{Token, Register, Word, Opcode as OpcodeToken, Number, Mark}
+use Rattle.rule_parse.specs.Keywords.{operation_in, source_word_in, argument_of}
 use Rattle.rule_tokens.proofs.Steps.{done, bind_ok, bound, read_as, passed, refused_not, not_left_out, chosen}
 use Rattle.rule_tokens.proofs.Takes.{Takes, taken_to, both, nothing, one, word_as, name_within-is, type_at-is, maybe_type-is, line_end-is}
-use Rattle.rule_parse.proofs.Pieces.{operation_in-is, source_word_in-is}
+use Rattle.rule_parse.proofs.Pieces.{IsOpcode, operation_in-is, truth_flag-is, source_word_in-is}
 use Rattle.rule_terms.proofs.Spellings.{term_at-is}
 use Rattle.rule_terms.proofs.Starts.{mark_at-is}
 use Rattle.rule_tokens.specs.declared.version.Version.{Version}
-use Rattle.rule_tokens.specs.declared.version.Version.TheVariants.{One, Two}
 use Rattle.rule_tokens.specs.Limits.{Limits}
 
 module _ (limits : Limits) where
@@ -194,6 +195,28 @@ module _ (limits : Limits) where
       let f = flags_read taken line no_flags tokens x e in
       record { own = map (λ (flag : Flag). Word (flag_keyword flag)) f.0; is_own = (f.0, f.1, refl); whole = f.2 }
 
+  -- ---- truth values
+
+  truth_next : (op : Intrinsic) (tokens : List Token) → is_truth_next op tokens ≡ true → Takes (SpellsTruth op true) tokens (drop 1 tokens)
+  truth_next op (Word word ∷ rest) next = one (Word word) rest (word, truth_flag-is limits op word next, refl)
+  truth_next op tokens next = absurd cc
+
+  abbrev IsTruthRead : Intrinsic → List Token → Bool × List Token → Type 0
+  IsTruthRead op tokens x = Takes (SpellsTruth op x.0) tokens x.1
+
+  -- what is read behind a truth value: no second one
+  abbrev truth_once : ℕ → Intrinsic → List Token → Result (Bool × List Token) RuleFault
+  truth_once line op tokens = if is_truth_next op (drop 1 tokens) then Err (fault line Syntax) else Ok (true, drop 1 tokens)
+
+  truth_at-is : (line : ℕ) (op : Intrinsic) (tokens : List Token) (x : Bool × List Token) → truth_at op line tokens ≡ Ok x → Takes (SpellsTruth op x.0) tokens x.1
+  unfolding truth_at
+  truth_at-is line op tokens x e = ⊎_elim
+      (λ (h : (is_truth_next op tokens ≡ true) × (truth_once line op tokens ≡ Ok x)).
+      let new = refused_not (is_truth_next op (drop 1 tokens)) _ x (fault line Syntax) h.1 in
+      read_as (IsTruthRead op tokens) (true, drop 1 tokens) x new.1 (truth_next op tokens h.0))
+      (λ (h : (is_truth_next op tokens ≡ false) × (done (false, tokens) ≡ Ok x)). read_as (IsTruthRead op tokens) (false, tokens) x h.1 (nothing tokens))
+      (chosen (is_truth_next op tokens) (truth_once line op tokens) (done (false, tokens)) (Ok x) e)
+
   -- ---- what a statement computes
 
   pair_at-is : (half : Half) (line : ℕ) (tokens : List Token) (x : (RawOperand × RawOperand) × List Token) → pair_at limits half line tokens ≡ Ok x → Takes (SpellsPair limits half x.0.0 x.0.1) tokens x.1
@@ -209,16 +232,19 @@ module _ (limits : Limits) where
 
   module _ (version : Version) where
     -- an operation that is read behind its opcode
-    abbrev IsOpBehind : Half → List ℕ → List Token → RawOp × List Token → Type 0
-    IsOpBehind half word tokens x = Takes (SpellsOp limits version half x.0) (Word word ∷ tokens) x.1
+    abbrev IsOpBehind : Half → Token → List Token → RawOp × List Token → Type 0
+    IsOpBehind half token tokens x = Takes (SpellsOp limits version half x.0) (token ∷ tokens) x.1
 
-    binary_at-is : (half : Half) (line : ℕ) (op : Opcode) (word : List ℕ) (tokens : List Token) (x : RawOp × List Token) → word ≡ opcode_keyword op → binary_at limits half line op tokens ≡ Ok x → IsOpBehind half word tokens x
+    opcode_is : (operation : Operation) (token : Token) (tokens : List Token) → IsOpcode limits version operation token → Takes (SpellsOpcode version operation) (token ∷ tokens) tokens
+    opcode_is operation token tokens is = one token tokens (is.0, ap (λ (t : Token). t ∷ []) is.1)
+
+    binary_at-is : (half : Half) (line : ℕ) (op : Opcode) (token : Token) (tokens : List Token) (x : RawOp × List Token) → IsOpcode limits version (operations.Binary op) token → binary_at limits half line op tokens ≡ Ok x → IsOpBehind half token tokens x
     unfolding binary_at
-    binary_at-is half line op word tokens x is e =
+    binary_at-is half line op token tokens x is e =
         bound (flags_at (flags_of op) line no_flags tokens) _ _ e (λ flags f e1.
         bound (pair_at limits half line flags.1) _ _ e1 (λ pair p e2.
-        read_as (IsOpBehind half word tokens) (Binary op flags.0 pair.0.0 pair.0.1, pair.1) x e2
-        (both (word_as word (opcode_keyword op) tokens is) (both (flags_at-is (flags_of op) line tokens flags f) (pair_at-is half line flags.1 pair p)))))
+        read_as (IsOpBehind half token tokens) (Binary op flags.0 pair.0.0 pair.0.1, pair.1) x e2
+        (both (opcode_is (operations.Binary op) token tokens is) (both (flags_at-is (flags_of op) line tokens flags f) (pair_at-is half line flags.1 pair p)))))
 
     pred_at-is : (line : ℕ) (tokens : List Token) (x : Pred × List Token) → pred_at line tokens ≡ Ok x → Takes (Is (Word (predicate_keyword x.0))) tokens x.1
     unfolding pred_at
@@ -233,44 +259,53 @@ module _ (limits : Limits) where
         let t = flags_at-is flags_of_icmp line tokens x e in
         subst (λ (flags : Flags). Takes (SpellsFlags flags_of_icmp flags) tokens x.1) (flags_are_icmp x.0 (taken_flags flags_of_icmp t.is_own.0 x.0 t.is_own.1)) t
 
-    compare_at-is : (half : Half) (line : ℕ) (word : List ℕ) (tokens : List Token) (x : RawOp × List Token) → word ≡ codes "icmp" → compare_at limits half line tokens ≡ Ok x → IsOpBehind half word tokens x
+    compare_at-is : (half : Half) (line : ℕ) (token : Token) (tokens : List Token) (x : RawOp × List Token) → IsOpcode limits version operations.Compare token → compare_at limits half line tokens ≡ Ok x → IsOpBehind half token tokens x
     unfolding compare_at
-    compare_at-is half line word tokens x is e =
+    compare_at-is half line token tokens x is e =
         bound (flags_at flags_of_icmp line no_flags tokens) _ _ e (λ flags g e1.
         bound (pred_at line flags.1) _ _ e1 (λ pred f e2.
         bound (pair_at limits half line pred.1) _ _ e2 (λ pair p e3.
-        read_as (IsOpBehind half word tokens) (Compare pred.0 flags.0.samesign pair.0.0 pair.0.1, pair.1) x e3
-        (both (word_as word (codes "icmp") tokens is) (both (icmp_flags-are line tokens flags g) (both (pred_at-is line flags.1 pred f) (pair_at-is half line pred.1 pair p)))))))
+        read_as (IsOpBehind half token tokens) (Compare pred.0 flags.0.samesign pair.0.0 pair.0.1, pair.1) x e3
+        (both (opcode_is operations.Compare token tokens is) (both (icmp_flags-are line tokens flags g) (both (pred_at-is line flags.1 pred f) (pair_at-is half line pred.1 pair p)))))))
 
-    select_at-is : (half : Half) (line : ℕ) (word : List ℕ) (tokens : List Token) (x : RawOp × List Token) → word ≡ codes "select" → select_at limits half line tokens ≡ Ok x → IsOpBehind half word tokens x
+    unary_at-is : (half : Half) (line : ℕ) (op : Intrinsic) (token : Token) (tokens : List Token) (x : RawOp × List Token) → IsOpcode limits version (operations.Unary op) token → unary_at limits half line op tokens ≡ Ok x → IsOpBehind half token tokens x
+    unfolding unary_at
+    unary_at-is half line op token tokens x is e =
+        bound (truth_at op line tokens) _ _ e (λ truth t e1.
+        bound (operand_at limits half line truth.1) _ _ e1 (λ a p e2.
+        bound (line_end line a.1) _ _ e2 (λ rest ends e3.
+        read_as (IsOpBehind half token tokens) (Unary op truth.0 a.0, rest) x e3
+        (both (opcode_is (operations.Unary op) token tokens is) (both (truth_at-is line op tokens truth t) (taken_to (operand_at-is half line truth.1 a p) (line_end-is line a.1 rest ends)))))))
+
+    select_at-is : (half : Half) (line : ℕ) (token : Token) (tokens : List Token) (x : RawOp × List Token) → IsOpcode limits version operations.Select token → select_at limits half line tokens ≡ Ok x → IsOpBehind half token tokens x
     unfolding select_at
-    select_at-is half line word tokens x is e =
+    select_at-is half line token tokens x is e =
         bound (operand_at limits half line tokens) _ _ e (λ a p e1.
         bound (mark_at (codes ",") line a.1) _ _ e1 (λ b q e2.
         bound (operand_at limits half line b) _ _ e2 (λ c r e3.
         bound (mark_at (codes ",") line c.1) _ _ e3 (λ d s e4.
         bound (operand_at limits half line d) _ _ e4 (λ f t e5.
         bound (line_end line f.1) _ _ e5 (λ rest ends e6.
-        read_as (IsOpBehind half word tokens) (Select a.0 c.0 f.0, rest) x e6
-        (both (word_as word (codes "select") tokens is) (both (operand_at-is half line tokens a p) (both (comma_at-is line a.1 b q) (both (operand_at-is half line b c r)
+        read_as (IsOpBehind half token tokens) (Select a.0 c.0 f.0, rest) x e6
+        (both (opcode_is operations.Select token tokens is) (both (operand_at-is half line tokens a p) (both (comma_at-is line a.1 b q) (both (operand_at-is half line b c r)
         (both (comma_at-is line c.1 d s) (taken_to (operand_at-is half line d f t) (line_end-is line f.1 rest ends)))))))))))))
 
-    convert_at-is : (half : Half) (line : ℕ) (cast : Cast) (word : List ℕ) (tokens : List Token) (x : RawOp × List Token) → word ≡ cast_keyword cast → convert_at limits half line cast tokens ≡ Ok x → IsOpBehind half word tokens x
+    convert_at-is : (half : Half) (line : ℕ) (cast : Cast) (token : Token) (tokens : List Token) (x : RawOp × List Token) → IsOpcode limits version (operations.Convert cast) token → convert_at limits half line cast tokens ≡ Ok x → IsOpBehind half token tokens x
     unfolding convert_at
-    convert_at-is half line cast word tokens x is e =
+    convert_at-is half line cast token tokens x is e =
         bound (flags_at (flags_of_cast cast) line no_flags tokens) _ _ e (λ flags f e1.
         bound (operand_at limits half line flags.1) _ _ e1 (λ from p e2.
         bound (to_at line from.1) _ _ e2 (λ to q e3.
-        read_as (IsOpBehind half word tokens) (Convert cast flags.0 from.0 to.0, to.1) x e3
-        (both (word_as word (cast_keyword cast) tokens is) (both (flags_at-is (flags_of_cast cast) line tokens flags f) (both (operand_at-is half line flags.1 from p) (to_at-is line from.1 to q)))))))
+        read_as (IsOpBehind half token tokens) (Convert cast flags.0 from.0 to.0, to.1) x e3
+        (both (opcode_is (operations.Convert cast) token tokens is) (both (flags_at-is (flags_of_cast cast) line tokens flags f) (both (operand_at-is half line flags.1 from p) (to_at-is line from.1 to q)))))))
 
-    freeze_at-is : (half : Half) (line : ℕ) (word : List ℕ) (tokens : List Token) (x : RawOp × List Token) → version ≡ Two → word ≡ codes "freeze" → freeze_at limits half line tokens ≡ Ok x → IsOpBehind half word tokens x
+    freeze_at-is : (half : Half) (line : ℕ) (token : Token) (tokens : List Token) (x : RawOp × List Token) → IsOpcode limits version operations.Freeze token → freeze_at limits half line tokens ≡ Ok x → IsOpBehind half token tokens x
     unfolding freeze_at
-    freeze_at-is half line word tokens x two is e =
+    freeze_at-is half line token tokens x is e =
         bound (operand_at limits half line tokens) _ _ e (λ a p e1.
         bound (line_end line a.1) _ _ e1 (λ rest ends e2.
-        read_as (IsOpBehind half word tokens) (Freeze a.0, rest) x e2
-        (rw two (both (word_as word (codes "freeze") tokens is) (taken_to (operand_at-is half line tokens a p) (line_end-is line a.1 rest ends))))))
+        read_as (IsOpBehind half token tokens) (Freeze a.0, rest) x e2
+        (both (opcode_is operations.Freeze token tokens is) (taken_to (operand_at-is half line tokens a p) (line_end-is line a.1 rest ends)))))
 
     copy_at-is : (line : ℕ) (tokens : List Token) (x : RawOp × List Token) → copy_at limits line tokens ≡ Ok x → Takes (SpellsOp limits version Target x.0) tokens x.1
     unfolding copy_at
@@ -280,29 +315,25 @@ module _ (limits : Limits) where
         read_as (λ (y : RawOp × List Token). Takes (SpellsOp limits version Target y.0) tokens y.1) (Copy a.0, rest) x e2
         (taken_to (operand_at-is Target line tokens a p) (line_end-is line a.1 rest ends))))
 
-    of_version_two : is_known operations.Freeze version ≡ true → version ≡ Two
-    of_version_two known = second version known
-      where
-        second : (v : Version) → is_known operations.Freeze v ≡ true → v ≡ Two
-        second One known = absurd cc
-        second Two known = refl
-
-    operation_at-is : (half : Half) (line : ℕ) (operation : Operation) (word : List ℕ) (tokens : List Token) (x : RawOp × List Token) → (word ≡ operation_word operation) × (is_known operation version ≡ true) → operation_at limits half line operation tokens ≡ Ok x → IsOpBehind half word tokens x
-    operation_at-is half line (operations.Binary op) word tokens x is e = binary_at-is half line op word tokens x is.0 e
-    operation_at-is half line operations.Compare word tokens x is e = compare_at-is half line word tokens x is.0 e
-    operation_at-is half line operations.Select word tokens x is e = select_at-is half line word tokens x is.0 e
-    operation_at-is half line (operations.Convert cast) word tokens x is e = convert_at-is half line cast word tokens x is.0 e
-    operation_at-is half line operations.Freeze word tokens x is e = freeze_at-is half line word tokens x (of_version_two is.1) is.0 e
+    operation_at-is : (half : Half) (line : ℕ) (operation : Operation) (token : Token) (tokens : List Token) (x : RawOp × List Token) → IsOpcode limits version operation token → operation_at limits half line operation tokens ≡ Ok x → IsOpBehind half token tokens x
+    operation_at-is half line (operations.Binary op) token tokens x is e = binary_at-is half line op token tokens x is e
+    operation_at-is half line operations.Compare token tokens x is e = compare_at-is half line token tokens x is e
+    operation_at-is half line (operations.Unary op) token tokens x is e = unary_at-is half line op token tokens x is e
+    operation_at-is half line operations.Select token tokens x is e = select_at-is half line token tokens x is e
+    operation_at-is half line (operations.Convert cast) token tokens x is e = convert_at-is half line cast token tokens x is e
+    operation_at-is half line operations.Freeze token tokens x is e = freeze_at-is half line token tokens x is e
 
     other_at-is : (half : Half) (line : ℕ) (tokens : List Token) (x : RawOp × List Token) → other_at limits half line tokens ≡ Ok x → Takes (SpellsOp limits version half x.0) tokens x.1
     other_at-is Source line tokens x e = absurd cc
     other_at-is Target line tokens x e = copy_at-is line tokens x e
 
-    op_word-is : (half : Half) (line : ℕ) (word : List ℕ) (found : Option Operation) (rest : List Token) (x : RawOp × List Token) → operation_in version word ≡ found → op_word limits half line word found rest ≡ Ok x → IsOpBehind half word rest x
-    op_word-is half line word (Some operation) rest x f e = operation_at-is half line operation word rest x (operation_in-is limits version word operation f) e
-    op_word-is half line word None rest x f e = other_at-is half line (Word word ∷ rest) x e
+    op_token-is : (half : Half) (line : ℕ) (token : Token) (found : Option Operation) (rest : List Token) (x : RawOp × List Token) → ((operation : Operation) → found ≡ Some operation → IsOpcode limits version operation token)
+        → op_token limits half line token found rest ≡ Ok x → IsOpBehind half token rest x
+    op_token-is half line token (Some operation) rest x opcode e = operation_at-is half line operation token rest x (opcode operation refl) e
+    op_token-is half line token None rest x opcode e = other_at-is half line (token ∷ rest) x e
 
     pub op_at-is : (half : Half) (line : ℕ) (tokens : List Token) (x : RawOp × List Token) → op_at limits version half line tokens ≡ Ok x → Takes (SpellsOp limits version half x.0) tokens x.1
     unfolding op_at
-    op_at-is half line (Word word ∷ rest) x e = op_word-is half line word (operation_in version word) rest x refl e
+    op_at-is half line (Word word ∷ rest) x e = op_token-is half line (Word word) (operation_in version false word) rest x (operation_in-is limits version false word) e
+    op_at-is half line (OpcodeToken word ∷ rest) x e = op_token-is half line (OpcodeToken word) (operation_in version true word) rest x (operation_in-is limits version true word) e
     op_at-is half line tokens x e = other_at-is half line tokens x e

@@ -2,6 +2,8 @@
 use Rattle.std.specs.Prelude.{codes}
 use Rattle.std.proofs.Common.{◌≡◌, ◌≤◌, ℕ, length, Bool, true, false, List, [], ◌∷◌, ◌++◌, map, Option, Some, None, Ok, refl, ◌∙◌, append_assoc}
 use Rattle.ops.specs.declared.opcode.Flags.{Flags}
+use Rattle.ops.specs.declared.opcode.Unary.{Unary as Intrinsic}
+use Rattle.ops.specs.declared.opcode.Unary.TheVariants as intrinsics
 use Rattle.ops.specs.declared.comparison.Pred.{Pred}
 use Rattle.ops.specs.Flags.{no_flags, flags_of, flags_of_cast, flags_of_icmp, icmp_flags}
 use Rattle.ops.specs.declared.keywords.flag.Flag.{Flag}
@@ -13,18 +15,19 @@ use Rattle.scan.specs.RuleTokens.{is_constant}
 use Rattle.rule_parse.specs.declared.half.Half.{Half}
 use Rattle.rule_parse.specs.declared.half.Half.TheVariants.{Source, Target}
 use Rattle.rule_parse.specs.declared.raw.RawOp.{RawOp}
-use Rattle.rule_parse.specs.declared.raw.RawOp.TheVariants.{Binary, Compare, Select, Convert, Freeze, Copy}
+use Rattle.rule_parse.specs.declared.raw.RawOp.TheVariants.{Binary, Compare, Unary, Select, Convert, Freeze, Copy}
 use Rattle.rule_parse.specs.declared.raw.RawOperand.{RawOperand}
 use Rattle.rule_parse.specs.declared.raw.RawArgument.{RawArgument}
 use Rattle.rule_parse.specs.declared.raw.RawArgument.TheVariants as arguments
+use Rattle.rule_parse.specs.declared.word.Operation.{Operation}
 use Rattle.rule_parse.specs.declared.word.Operation.TheVariants as operations
 use Rattle.rule_tokens.specs.TypeTokens.{SpellsType}
-use Rattle.rule_parse.specs.Grammar.{SpellsTermOperand, SpellsArgument, SpellsUntyped, SpellsOperand, SpellsPair, SpellsFlags, SpellsTo, SpellsOp}
+use Rattle.rule_parse.specs.Grammar.{SpellsTermOperand, SpellsArgument, SpellsUntyped, SpellsOperand, SpellsPair, SpellsFlags, SpellsTruth, SpellsTo, SpellsOp}
 use Rattle.rule_tokens.specs.PartReaders.{maybe_type}
-use Rattle.rule_parse.specs.RuleReaders.{source_word, term_argument_at, argument_at, typed_at, operand_at, to_at, next_flag, flags_at, pair_at, binary_at, pred_at, compare_at, select_at, convert_at, freeze_at, copy_at, op_at}
+use Rattle.rule_parse.specs.RuleReaders.{source_word, term_argument_at, argument_at, typed_at, operand_at, to_at, next_flag, flags_at, pair_at, binary_at, pred_at, compare_at, is_truth_next, truth_at, unary_at, select_at, convert_at, freeze_at, copy_at, operation_at, op_at}
 use Rattle.rule_tokens.specs.Parts.{Maybe, Comma}
 use Rattle.rule_tokens.specs.Tokens.{Token, Line, Register, Word, Number, Mark}
-use Rattle.rule_parse.specs.Keywords.{truth_word, source_word_in}
+use Rattle.rule_parse.specs.Keywords.{is_known, opcode_token, truth_word, source_word_in}
 use Rattle.rule_terms.specs.declared.place.TermPlace.TheVariants.{Constant}
 use Rattle.rule_terms.specs.Grammar.{EndsTerm}
 use Rattle.rule_terms.specs.TermReaders.{mark_at, term_at}
@@ -33,10 +36,9 @@ use Rattle.rule_terms.proofs.Starts.{mark_at-of}
 use Rattle.rule_terms.proofs.Spellings.{term_at-of}
 use Rattle.rule_parse.proofs.Beginnings.{BeginsTerm, BeginsOperand, term_begins, argument_begins}
 use Rattle.rule_tokens.proofs.Ends.{EndsLine, name_within-of, type_at-of, line_end-of}
-use Rattle.rule_parse.proofs.Pieces.{operation_in-of, type_is_no_flag, type_is_no_operation}
+use Rattle.rule_parse.proofs.Pieces.{operation_in-of, truth_flag-of, type_is_no_flag, type_is_no_truth_flag, type_is_no_operation}
 use Rattle.rule_tokens.proofs.Types.{type_in-of}
 use Rattle.rule_tokens.specs.declared.version.Version.{Version}
-use Rattle.rule_tokens.specs.declared.version.Version.TheVariants.{One, Two}
 use Rattle.rule_tokens.specs.Limits.{Limits}
 
 module _ (limits : Limits) where
@@ -165,6 +167,29 @@ module _ (limits : Limits) where
   begins_no_flag taken None front back rest is begins = rw is (no_flag taken back rest begins)
   begins_no_flag taken (Some width) front back rest (written, type, is) begins = rw is (type_is_no_flag limits taken written width type)
 
+  -- ---- truth values
+
+  truth_at-of : (line : ℕ) (op : Intrinsic) (truth : Bool) (own rest : List Token) → SpellsTruth op truth own → is_truth_next op rest ≡ false → truth_at op line (own ++ rest) ≡ Ok (truth, rest)
+  unfolding truth_at
+  truth_at-of line op false own rest is none = rw (is, none) refl
+  truth_at-of line op true own rest (word, flag, is) none = rw (is, truth_flag-of limits op word flag, none) refl
+
+  -- no flag of an intrinsic begins an operand
+  no_truth : (op : Intrinsic) (own rest : List Token) → BeginsOperand limits own → is_truth_next op (own ++ rest) ≡ false
+  no_truth op (Register name ∷ ts) rest begins = refl
+  no_truth op (Number text ∷ ts) rest begins = refl
+  no_truth op (Word word ∷ ts) rest begins = begins.no_truth op
+  no_truth op (Mark mark ∷ ts) rest begins = refl
+  no_truth op tokens rest begins = absurd begins
+
+  begins_no_truth : (op : Intrinsic) (written : Option ℕ) (front back rest : List Token) → Maybe SpellsType written front → BeginsOperand limits back → is_truth_next op (front ++ (back ++ rest)) ≡ false
+  begins_no_truth op None front back rest is begins = rw is (no_truth op back rest begins)
+  begins_no_truth op (Some width) front back rest (written, type, is) begins = rw is (type_is_no_truth_flag limits op written width type)
+
+  operand_no_truth : (op : Intrinsic) (half : Half) (a : RawOperand) (own rest : List Token) → SpellsOperand limits half a own → is_truth_next op (own ++ rest) ≡ false
+  operand_no_truth op half a own rest (front, back, type, argument, is) =
+      rw (is, append_assoc front back rest) (begins_no_truth op a.written front back rest type (argument_begins limits half a.value back argument))
+
   -- ---- what a statement computes
 
   pair_at-of : (half : Half) (line : ℕ) (a b : RawOperand) (own rest : List Token) → SpellsPair limits half a b own → EndsLine rest → pair_at limits half line (own ++ rest) ≡ Ok ((a, b), rest)
@@ -208,28 +233,34 @@ module _ (limits : Limits) where
     copy_begins line None front back rest is begins = rw is (no_opcode line back rest begins)
     copy_begins line (Some width) front back rest (written, type, is) begins = rw (is, type_is_no_operation limits version written width type) refl
 
-    freeze_begins : (half : Half) (line : ℕ) (a : RawOperand) (own rest : List Token) → SpellsOp limits version half (Freeze a) own → EndsLine rest → op_at limits version half line (own ++ rest) ≡ Ok (Freeze a, rest)
-    unfolding op_at freeze_at
-    freeze_begins half line a own rest is ends = second version is
-      where
-        second : (v : Version) → SpellsOp limits v half (Freeze a) own → op_at limits v half line (own ++ rest) ≡ Ok (Freeze a, rest)
-        second One is = absurd is
-        second Two (t1, o1, word, operand, is1) =
-            rw (is1, word, operation_in-of limits Two operations.Freeze refl, operand_at-of half line a o1 rest operand (line_ends_term rest ends), line_end-of line rest ends) refl
+    -- what stands behind an opcode of the version is read as its operation's
+    opened : (operation : Operation) (half : Half) (line : ℕ) (rest : List Token) → is_known operation version ≡ true → op_at limits version half line (opcode_token operation ∷ rest) ≡ operation_at limits half line operation rest
+    unfolding op_at
+    opened (operations.Binary op) half line rest known = rw (operation_in-of limits version (operations.Binary op) known) refl
+    opened operations.Compare half line rest known = rw (operation_in-of limits version operations.Compare known) refl
+    opened (operations.Unary intrinsics.Abs) half line rest known = rw (operation_in-of limits version (operations.Unary intrinsics.Abs) known) refl
+    opened (operations.Unary intrinsics.CtPop) half line rest known = rw (operation_in-of limits version (operations.Unary intrinsics.CtPop) known) refl
+    opened (operations.Unary intrinsics.CtLz) half line rest known = rw (operation_in-of limits version (operations.Unary intrinsics.CtLz) known) refl
+    opened (operations.Unary intrinsics.CtTz) half line rest known = rw (operation_in-of limits version (operations.Unary intrinsics.CtTz) known) refl
+    opened operations.Select half line rest known = rw (operation_in-of limits version operations.Select known) refl
+    opened (operations.Convert cast) half line rest known = rw (operation_in-of limits version (operations.Convert cast) known) refl
+    opened operations.Freeze half line rest known = rw (operation_in-of limits version operations.Freeze known) refl
 
     pub op_at-of : (half : Half) (line : ℕ) (op : RawOp) (own rest : List Token) → SpellsOp limits version half op own → EndsLine rest → op_at limits version half line (own ++ rest) ≡ Ok (op, rest)
-    unfolding op_at binary_at compare_at select_at convert_at freeze_at
-    op_at-of half line (Binary op flags a b) own rest (t1, o1, word, (t2, o2, fs, pair, is2), is1) ends =
-        rw (is1, word, operation_in-of limits version (operations.Binary op) refl, is2, append_assoc t2 o2 rest, flags_at-of (flags_of op) line flags t2 (o2 ++ rest) fs (pair_begins (flags_of op) half a b o2 rest pair), pair_at-of half line a b o2 rest pair ends) refl
-    op_at-of half line (Compare pred samesign a b) own rest (t1, o1, word, (t2, o2, fs, (t3, o3, pred_is, pair, is3), is2), is1) ends =
-        rw (is1, word, operation_in-of limits version operations.Compare refl, is2, append_assoc t2 o2 rest, flags_at-of flags_of_icmp line (icmp_flags samesign) t2 (o2 ++ rest) fs (predicate_begins flags_of_icmp pred t3 o3 o2 rest pred_is is3), is3, pred_is, pred_at-of line pred (o3 ++ rest), pair_at-of half line a b o3 rest pair ends) refl
-    op_at-of half line (Select condition a b) own rest (t1, o1, word, (t2, o2, choice, (t3, o3, comma, (t4, o4, left, (t5, o5, comma2, right, is5), is4), is3), is2), is1) ends =
+    unfolding binary_at compare_at unary_at select_at convert_at freeze_at
+    op_at-of half line (Binary op flags a b) own rest (t1, o1, (known, token), (t2, o2, fs, pair, is2), is1) ends =
+        rw (is1, token, opened (operations.Binary op) half line (o1 ++ rest) known, is2, append_assoc t2 o2 rest, flags_at-of (flags_of op) line flags t2 (o2 ++ rest) fs (pair_begins (flags_of op) half a b o2 rest pair), pair_at-of half line a b o2 rest pair ends) refl
+    op_at-of half line (Compare pred samesign a b) own rest (t1, o1, (known, token), (t2, o2, fs, (t3, o3, pred_is, pair, is3), is2), is1) ends =
+        rw (is1, token, opened operations.Compare half line (o1 ++ rest) known, is2, append_assoc t2 o2 rest, flags_at-of flags_of_icmp line (icmp_flags samesign) t2 (o2 ++ rest) fs (predicate_begins flags_of_icmp pred t3 o3 o2 rest pred_is is3), is3, pred_is, pred_at-of line pred (o3 ++ rest), pair_at-of half line a b o3 rest pair ends) refl
+    op_at-of half line (Unary op truth a) own rest (t1, o1, (known, token), (t2, o2, flag, operand, is2), is1) ends =
+        rw (is1, token, opened (operations.Unary op) half line (o1 ++ rest) known, is2, append_assoc t2 o2 rest, truth_at-of line op truth t2 (o2 ++ rest) flag (operand_no_truth op half a o2 rest operand), operand_at-of half line a o2 rest operand (line_ends_term rest ends), line_end-of line rest ends) refl
+    op_at-of half line (Select condition a b) own rest (t1, o1, (known, token), (t2, o2, choice, (t3, o3, comma, (t4, o4, left, (t5, o5, comma2, right, is5), is4), is3), is2), is1) ends =
         let behind : EndsTerm (o2 ++ rest) = rw (is3, append_assoc t3 o3 rest) (comma_ends_term t3 (o3 ++ rest) comma) in
         let behind2 : EndsTerm (o4 ++ rest) = rw (is5, append_assoc t5 o5 rest) (comma_ends_term t5 (o5 ++ rest) comma2) in
         rw (
           is1,
-          word,
-          operation_in-of limits version operations.Select refl,
+          token,
+          opened operations.Select half line (o1 ++ rest) known,
           is2,
           append_assoc t2 o2 rest,
           operand_at-of half line condition t2 (o2 ++ rest) choice behind,
@@ -245,9 +276,10 @@ module _ (limits : Limits) where
           operand_at-of half line b o5 rest right (line_ends_term rest ends),
           line_end-of line rest ends,
         ) refl
-    op_at-of half line (Convert cast flags a to) own rest (t1, o1, word, (t2, o2, fs, (t3, o3, operand, behind, is3), is2), is1) ends =
-        rw (is1, word, operation_in-of limits version (operations.Convert cast) refl, is2, append_assoc t2 o2 rest, flags_at-of (flags_of_cast cast) line flags t2 (o2 ++ rest) fs (operand_begins (flags_of_cast cast) half a t3 o3 o2 rest operand is3), is3, append_assoc t3 o3 rest, operand_at-of half line a t3 (o3 ++ rest) operand (to_ends_term to o3 rest behind ends), to_at-of line to o3 rest behind ends) refl
-    op_at-of half line (Freeze a) own rest is ends = freeze_begins half line a own rest is ends
+    op_at-of half line (Convert cast flags a to) own rest (t1, o1, (known, token), (t2, o2, fs, (t3, o3, operand, behind, is3), is2), is1) ends =
+        rw (is1, token, opened (operations.Convert cast) half line (o1 ++ rest) known, is2, append_assoc t2 o2 rest, flags_at-of (flags_of_cast cast) line flags t2 (o2 ++ rest) fs (operand_begins (flags_of_cast cast) half a t3 o3 o2 rest operand is3), is3, append_assoc t3 o3 rest, operand_at-of half line a t3 (o3 ++ rest) operand (to_ends_term to o3 rest behind ends), to_at-of line to o3 rest behind ends) refl
+    op_at-of half line (Freeze a) own rest (t1, o1, (known, token), operand, is1) ends =
+        rw (is1, token, opened operations.Freeze half line (o1 ++ rest) known, operand_at-of half line a o1 rest operand (line_ends_term rest ends), line_end-of line rest ends) refl
     op_at-of Source line (Copy a) own rest is ends = absurd is
     op_at-of Target line (Copy a) own rest (front, back, type, argument, is) ends =
         rw (is, append_assoc front back rest) (copy_begins line a.written front back rest type (argument_begins limits Target a.value back argument))

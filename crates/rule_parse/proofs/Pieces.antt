@@ -1,24 +1,27 @@
 -- Words: what those that are read spell, and that what is spelled is read.
-use Rattle.std.proofs.Common.{◌≡◌, ℕ, true, false, cond, List, [], ◌∷◌, Option, Some, None, refl, sym, subst, ⊎_elim}
+use Rattle.std.proofs.Common.{◌≡◌, ℕ, Bool, true, false, not, cond, List, [], ◌∷◌, Option, Some, None, refl, sym, ap, subst, ◌∙◌, ⊎_elim}
 use Rattle.std.specs.Prelude.{codes, ◌&&◌}
 use Rattle.std.proofs.lemmas.Bool.{and_parts}
 use Rattle.std.specs.Str.{bytes_eq}
 use Rattle.ops.specs.declared.opcode.Flags.{Flags}
-use Rattle.ops.specs.declared.opcode.Opcode.TheVariants.{Add, Sub, Mul, UDiv, SDiv, URem, SRem, Shl, LShr, AShr, And, Or, Xor}
+use Rattle.ops.specs.declared.opcode.Opcode.TheVariants.{Add, Sub, Mul, UDiv, SDiv, URem, SRem, Shl, LShr, AShr, And, Or, Xor, UMin, UMax, SMin, SMax}
+use Rattle.ops.specs.declared.opcode.Unary.{Unary as Intrinsic}
+use Rattle.ops.specs.declared.opcode.Unary.TheVariants.{Abs, CtPop, CtLz, CtTz}
 use Rattle.ops.specs.declared.conversion.Cast.TheVariants.{Trunc, ZExt, SExt}
 use Rattle.ops.specs.FlagKeywords.{flag_in}
-use Rattle.ops.proofs.KeywordLemmas.{same_word, found-passes}
+use Rattle.ops.proofs.KeywordLemmas.{same_word, word_is, found-passes}
 use Rattle.scan.specs.Bytes.{is_digit, are_digits}
 use Rattle.scan.proofs.Fronts.{which}
 use Rattle.rule_parse.specs.declared.half.Half.TheVariants.{Source}
 use Rattle.rule_parse.specs.declared.raw.RawArgument.{RawArgument}
 use Rattle.rule_parse.specs.declared.raw.RawArgument.TheVariants as arguments
 use Rattle.rule_parse.specs.declared.word.Operation.{Operation}
-use Rattle.rule_parse.specs.declared.word.Operation.TheVariants.{Binary, Compare, Select, Convert, Freeze}
+use Rattle.rule_parse.specs.declared.word.Operation.TheVariants.{Binary, Compare, Unary, Select, Convert, Freeze}
 use Rattle.rule_parse.specs.Grammar.{SpellsArgument}
 use Rattle.rule_tokens.specs.Numbers.{IsWrittenType}
-use Rattle.rule_tokens.specs.Tokens.{Word}
-use Rattle.rule_parse.specs.Keywords.{operation_word, operations, is_known, operation_in, source_word_in}
+use Rattle.rule_tokens.specs.Tokens.{Token, Word}
+use Rattle.rule_parse.specs.Keywords.{operation_word, operations, is_known, is_apart, is_told, token_with, opcode_token, operation_in, truth_flag, is_truth_flag, source_word_in}
+use Rattle.rule_parse.proofs.Beginnings.{no_truth_flag}
 use Rattle.rule_tokens.proofs.Steps.{chosen}
 use Rattle.rule_tokens.specs.declared.version.Version.{Version}
 use Rattle.rule_tokens.specs.declared.version.Version.TheVariants.{One, Two}
@@ -27,14 +30,27 @@ use Rattle.rule_tokens.specs.Limits.{Limits}
 module _ (limits : Limits) where
   -- ---- operations and truths
 
-  pub operation_in-is : (version : Version) (word : List ℕ) (operation : Operation) → operation_in version word ≡ Some operation → (word ≡ operation_word operation) × (is_known operation version ≡ true)
-  unfolding operation_in
-  operation_in-is version word operation e =
-      let passes = found-passes (λ (o : Operation). bytes_eq word (operation_word o) && is_known o version) operations operation e in
-      let parts = and_parts (bytes_eq word (operation_word operation)) (is_known operation version) passes in
-      (same_word word (operation_word operation) parts.0, parts.1)
+  -- the token is the opcode of an operation of the version
+  abbrev pub IsOpcode : Version → Operation → Token → Type 0
+  IsOpcode version operation token = (is_known operation version ≡ true) × (token ≡ opcode_token operation)
 
-  pub operation_in-of : (version : Version) (operation : Operation) → is_known operation version ≡ true → operation_in version (operation_word operation) ≡ Some operation
+  told_token : (apart : Bool) (word : List ℕ) (operation : Operation) → word ≡ operation_word operation → is_told apart operation ≡ true → token_with apart word ≡ opcode_token operation
+  told_token true word operation is told = ap (token_with true) is ∙ ap (λ (b : Bool). token_with b (operation_word operation)) (sym told)
+  told_token false word operation is told = ap (token_with false) is ∙ ap (λ (b : Bool). token_with b (operation_word operation)) (sym (turned (is_apart operation) told))
+    where
+      turned : (b : Bool) → not b ≡ true → b ≡ false
+      turned true e = absurd cc
+      turned false e = refl
+
+  pub operation_in-is : (version : Version) (apart : Bool) (word : List ℕ) (operation : Operation) → operation_in version apart word ≡ Some operation → IsOpcode version operation (token_with apart word)
+  unfolding operation_in
+  operation_in-is version apart word operation e =
+      let passes = found-passes (λ (o : Operation). bytes_eq word (operation_word o) && is_known o version && is_told apart o) operations operation e in
+      let parts = and_parts (bytes_eq word (operation_word operation) && is_known operation version) (is_told apart operation) passes in
+      let known = and_parts (bytes_eq word (operation_word operation)) (is_known operation version) parts.0 in
+      (known.1, told_token apart word operation (same_word word (operation_word operation) known.0) parts.1)
+
+  pub operation_in-of : (version : Version) (operation : Operation) → is_known operation version ≡ true → operation_in version (is_apart operation) (operation_word operation) ≡ Some operation
   unfolding operation_in
   operation_in-of version (Binary Add) known = refl
   operation_in-of version (Binary Sub) known = refl
@@ -56,6 +72,33 @@ module _ (limits : Limits) where
   operation_in-of version (Convert SExt) known = refl
   operation_in-of Two Freeze known = refl
   operation_in-of One Freeze known = absurd cc
+  operation_in-of Two (Binary UMin) known = refl
+  operation_in-of One (Binary UMin) known = absurd cc
+  operation_in-of Two (Binary UMax) known = refl
+  operation_in-of One (Binary UMax) known = absurd cc
+  operation_in-of Two (Binary SMin) known = refl
+  operation_in-of One (Binary SMin) known = absurd cc
+  operation_in-of Two (Binary SMax) known = refl
+  operation_in-of One (Binary SMax) known = absurd cc
+  operation_in-of Two (Unary Abs) known = refl
+  operation_in-of One (Unary Abs) known = absurd cc
+  operation_in-of Two (Unary CtPop) known = refl
+  operation_in-of One (Unary CtPop) known = absurd cc
+  operation_in-of Two (Unary CtLz) known = refl
+  operation_in-of One (Unary CtLz) known = absurd cc
+  operation_in-of Two (Unary CtTz) known = refl
+  operation_in-of One (Unary CtTz) known = absurd cc
+
+  -- ---- flags of intrinsics
+
+  pub truth_flag-is : (op : Intrinsic) (word : List ℕ) → is_truth_flag op word ≡ true → truth_flag op ≡ Some word
+  truth_flag-is Abs word e = ap Some (sym (same_word word (codes "minpoison") e))
+  truth_flag-is CtPop word e = absurd cc
+  truth_flag-is CtLz word e = ap Some (sym (same_word word (codes "zeropoison") e))
+  truth_flag-is CtTz word e = ap Some (sym (same_word word (codes "zeropoison") e))
+
+  pub truth_flag-of : (op : Intrinsic) (word : List ℕ) → truth_flag op ≡ Some word → is_truth_flag op word ≡ true
+  truth_flag-of op word e = rw e (word_is word)
 
   -- one word after the other is tried
   tried : (word wanted : List ℕ) (a value : RawArgument) (others : Option RawArgument) → SpellsArgument limits Source a (Word wanted ∷ []) → cond (bytes_eq word wanted) (Some a) others ≡ Some value → (others ≡ Some value → SpellsArgument limits Source value (Word word ∷ [])) → SpellsArgument limits Source value (Word word ∷ [])
@@ -80,6 +123,9 @@ module _ (limits : Limits) where
   unfolding flag_in
   type_is_no_flag taken word width is = rw is.1 refl
 
+  pub type_is_no_truth_flag : (op : Intrinsic) (word : List ℕ) (width : ℕ) → IsWrittenType word width → is_truth_flag op word ≡ false
+  type_is_no_truth_flag op word width is = rw is.1 (no_truth_flag limits _ refl refl op)
+
   digits_are_no_letters : (digits : List ℕ) → are_digits digits ≡ true → bytes_eq digits (codes "cmp") ≡ false
   unfolding is_digit
   digits_are_no_letters digits all = ⊎_elim
@@ -87,6 +133,6 @@ module _ (limits : Limits) where
       (λ (no : bytes_eq digits (codes "cmp") ≡ false). no)
       (which (bytes_eq digits (codes "cmp")))
 
-  pub type_is_no_operation : (version : Version) (word : List ℕ) (width : ℕ) → IsWrittenType word width → operation_in version word ≡ None
+  pub type_is_no_operation : (version : Version) (word : List ℕ) (width : ℕ) → IsWrittenType word width → operation_in version false word ≡ None
   unfolding operation_in
   type_is_no_operation version word width (digits, is, all, value, low, high) = rw (is, digits_are_no_letters digits all) refl

@@ -51,6 +51,10 @@ module _ (limits : Limits) where
   operator_counts opcodes.And = refl
   operator_counts opcodes.Or = refl
   operator_counts opcodes.Xor = refl
+  operator_counts opcodes.UMin = refl
+  operator_counts opcodes.UMax = refl
+  operator_counts opcodes.SMin = refl
+  operator_counts opcodes.SMax = refl
 
   comparison_counts : (pred : Pred) → is_among plain_marks (comparison_mark pred) ≡ false
   comparison_counts preds.Eq = refl

@@ -5,7 +5,8 @@ use Rattle.std.specs.Option.{option_map_or}
 use Rattle.std.proofs.lemmas.List.Sums.{sum_by-cons, sum_by-append}
 use Rattle.std.proofs.lemmas.Grind.{flat_map-append}
 use Rattle.ops.specs.declared.keywords.flag.Flag.{Flag}
-use Rattle.ops.specs.Keywords.{opcode_keyword, cast_keyword, predicate_keyword}
+use Rattle.ops.specs.Keywords.{predicate_keyword}
+use Rattle.ops.specs.declared.opcode.Unary.{Unary as Intrinsic}
 use Rattle.ops.specs.FlagKeywords.{flag_keyword}
 use Rattle.scan.specs.Bytes.{is_digit}
 use Rattle.scan.specs.RuleTokens.{is_constant, is_choice, ends_primary}
@@ -21,21 +22,22 @@ use Rattle.rule_parse.specs.declared.raw.RawStatement.{RawStatement}
 use Rattle.rule_parse.specs.declared.raw.RawPrecondition.{RawPrecondition}
 use Rattle.rule_parse.specs.declared.raw.RawWitness.{RawWitness}
 use Rattle.rule_parse.specs.declared.raw.RawOp.{RawOp}
-use Rattle.rule_parse.specs.declared.raw.RawOp.TheVariants.{Binary, Compare, Select, Convert, Freeze, Copy}
+use Rattle.rule_parse.specs.declared.raw.RawOp.TheVariants.{Binary, Compare, Unary, Select, Convert, Freeze, Copy}
 use Rattle.rule_parse.specs.declared.raw.RawOperand.{RawOperand}
 use Rattle.rule_parse.specs.declared.raw.RawArgument.{RawArgument}
 use Rattle.rule_parse.specs.declared.raw.RawArgument.TheVariants as arguments
-use Rattle.rule_parse.specs.Grammar.{SpellsTermOperand, SpellsArgument, SpellsOperand, SpellsPair, SpellsTo, SpellsOp, SpellsStatements, SpellsPrecondition, SpellsMoreExpressions, SpellsExpressions, SpellsWitness, SpellsRule, SpellsRules, SpellsFile}
+use Rattle.rule_parse.specs.Grammar.{SpellsTermOperand, SpellsArgument, SpellsOperand, SpellsPair, SpellsTruth, SpellsOpcode, SpellsTo, SpellsOp, SpellsStatements, SpellsPrecondition, SpellsMoreExpressions, SpellsExpressions, SpellsWitness, SpellsRule, SpellsRules, SpellsFile}
 use Rattle.rule_parse.specs.Contents.{arguments_of, arguments_among, terms_of_argument, terms_of_formula, target_terms, terms_of, expressions_of, formula_of}
 use Rattle.rule_parse.specs.OneReading.{WrittenRulesAreSmall}
 use Rattle.rule_parse.specs.CutTokens.{is_node_word, ends_before_line, room_behind, or_excess, limited_to, limited}
 use Rattle.rule_parse.specs.Limits.{most_nodes}
 use Rattle.rule_parse.specs.Weight.{argument_weight, node_weight, raw_weight}
-use Rattle.rule_parse.specs.Keywords.{truth_word, argument_of}
-use Rattle.rule_parse.proofs.Cuts.{step, AreOfText, of_both, first_of, begins_of, Weighs, nothing, join, light, at_least, word, mark, number, register, node_word, assigned, behind_one, precondition_led, witness_led, arrow_led}
+use Rattle.rule_parse.specs.Keywords.{operation_word, is_apart, token_with, truth_word, argument_of}
+use Rattle.rule_parse.specs.declared.word.Operation.{Operation}
+use Rattle.rule_parse.specs.declared.word.Operation.TheVariants as operations
+use Rattle.rule_parse.proofs.Cuts.{step, AreOfText, of_both, first_of, begins_of, Weighs, nothing, join, light, at_least, word, opcode, mark, number, register, node_word, assigned, behind_one, precondition_led, witness_led, arrow_led}
 use Rattle.rule_parse.proofs.TermWeights.{constant_counts, nodes_weight, nodes_weight-is, term_weighs, formulas_weight, formulas_weight-is, formula_weighs}
 use Rattle.rule_tokens.specs.declared.version.Version.{Version}
-use Rattle.rule_tokens.specs.declared.version.Version.TheVariants.{One, Two}
 use Rattle.rule_tokens.specs.Limits.{Limits, rule_limits}
 
 module _ (limits : Limits) where
@@ -102,6 +104,19 @@ module _ (limits : Limits) where
   behind_word : (w : ℕ) (text : List ℕ) (own front back : List Token) → front ≡ Word text ∷ [] → Weighs w back → own ≡ front ++ back → Weighs w own
   behind_word w text own front back is b whole = rw (whole, is) (light w (Word text ∷ []) back (word text) b)
 
+  -- an opcode is none of them
+  token_weighs : (apart : Bool) (text : List ℕ) → Weighs 0 (token_with apart text ∷ [])
+  token_weighs true text = opcode text
+  token_weighs false text = word text
+
+  behind_opcode : (version : Version) (operation : Operation) (w : ℕ) (own front back : List Token) → SpellsOpcode version operation front → Weighs w back → own ≡ front ++ back → Weighs w own
+  behind_opcode version operation w own front back (known, is) b whole =
+      rw (whole, is) (light w (token_with (is_apart operation) (operation_word operation) ∷ []) back (token_weighs (is_apart operation) (operation_word operation)) b)
+
+  truth_weighs_none : (op : Intrinsic) (truth : Bool) (own : List Token) → SpellsTruth op truth own → Weighs 0 own
+  truth_weighs_none op false own is = rw is nothing
+  truth_weighs_none op true own (text, flag, is) = rw is (word text)
+
   behind_flags : (w : ℕ) (flags : List Flag) (own front back : List Token) → front ≡ map (λ (flag : Flag). Word (flag_keyword flag)) flags → Weighs w back → own ≡ front ++ back → Weighs w own
   behind_flags w flags own front back is b whole = rw (whole, is) (light w (map (λ (flag : Flag). Word (flag_keyword flag)) flags) back (flags_weigh flags) b)
 
@@ -116,13 +131,16 @@ module _ (limits : Limits) where
   op_weighs : (version : Version) (half : Half) (op : RawOp) (own : List Token) → SpellsOp limits version half op own → Weighs (arguments_weight (arguments_of op)) own
   op_weighs version half (Binary op flags a b) own (f, k, is, (g, h, (written, adds, spelled), pair, at), whole) =
       at_least _ (one_weight a.value + one_weight b.value) own (omega arith)
-      (behind_word _ (opcode_keyword op) own f k is (behind_flags _ written k g h spelled (pair_weighs half a b h pair) at) whole)
+      (behind_opcode version (operations.Binary op) _ own f k is (behind_flags _ written k g h spelled (pair_weighs half a b h pair) at) whole)
   op_weighs version half (Compare pred samesign a b) own (f, k, is, (g, h, (written, adds, spelled), (m, n, is_pred, pair, at'), at), whole) =
       at_least _ (one_weight a.value + one_weight b.value) own (omega arith)
-      (behind_word _ (codes "icmp") own f k is (behind_flags _ written k g h spelled (behind_word _ (predicate_keyword pred) h m n is_pred (pair_weighs half a b n pair) at') at) whole)
+      (behind_opcode version operations.Compare _ own f k is (behind_flags _ written k g h spelled (behind_word _ (predicate_keyword pred) h m n is_pred (pair_weighs half a b n pair) at') at) whole)
+  op_weighs version half (Unary op truth a) own (f, k, is, (x, y, is_truth, operand, at), whole) =
+      at_least _ (one_weight a.value) own (omega arith)
+      (behind_opcode version (operations.Unary op) _ own f k is (rw at (light (one_weight a.value) x y (truth_weighs_none op truth x is_truth) (operand_weighs half a y operand))) whole)
   op_weighs version half (Select c a b) own (f, k, is, (x, k1, is_c, (m1, k2, comma1, (y, k3, is_a, (m2, z, comma2, is_b, w4), w3), w2), w1), whole) =
       at_least _ (one_weight c.value + (one_weight a.value + one_weight b.value)) own (omega arith)
-      (behind_word _ (codes "select") own f k is
+      (behind_opcode version operations.Select _ own f k is
       (behind_comma (one_weight c.value) (one_weight a.value + one_weight b.value) k x k2 (operand_weighs half c x is_c)
       (behind_comma (one_weight a.value) (one_weight b.value) k2 y z (operand_weighs half a y is_a) (operand_weighs half b z is_b)
       (w3 ∙ ap (λ (ts : List Token). y ++ ts) (w4 ∙ ap (λ (ts : List Token). ts ++ z) comma2)))
@@ -130,9 +148,8 @@ module _ (limits : Limits) where
       whole)
   op_weighs version half (Convert cast flags a to) own (f, k, is, (g, h, (written, adds, spelled), (x, y, is_a, is_to, at'), at), whole) =
       at_least _ (one_weight a.value + 0) own (omega arith)
-      (behind_word _ (cast_keyword cast) own f k is (behind_flags _ written k g h spelled (rw at' (join (one_weight a.value) 0 x y (operand_weighs half a x is_a) (to_weighs to y is_to))) at) whole)
-  op_weighs One half (Freeze a) own is = absurd is
-  op_weighs Two half (Freeze a) own (f, k, is, operand, whole) = at_least _ (one_weight a.value) own (omega arith) (behind_word _ (codes "freeze") own f k is (operand_weighs half a k operand) whole)
+      (behind_opcode version (operations.Convert cast) _ own f k is (behind_flags _ written k g h spelled (rw at' (join (one_weight a.value) 0 x y (operand_weighs half a x is_a) (to_weighs to y is_to))) at) whole)
+  op_weighs version half (Freeze a) own (f, k, is, operand, whole) = at_least _ (one_weight a.value) own (omega arith) (behind_opcode version operations.Freeze _ own f k is (operand_weighs half a k operand) whole)
   op_weighs version Source (Copy a) own is = absurd is
   op_weighs version Target (Copy a) own is = at_least _ (one_weight a.value) own (omega arith) (operand_weighs Target a own is)
 

@@ -15,6 +15,7 @@ use Rattle.rule_terms.specs.declared.raw.RawFormula.TheVariants as raw_formulas
 abbrev pub arguments_of : RawOp → List RawArgument
 arguments_of (raw_ops.Binary op flags a b) = a.value ∷ b.value ∷ []
 arguments_of (raw_ops.Compare pred samesign a b) = a.value ∷ b.value ∷ []
+arguments_of (raw_ops.Unary op truth a) = a.value ∷ []
 arguments_of (raw_ops.Select c a b) = c.value ∷ a.value ∷ b.value ∷ []
 arguments_of (raw_ops.Convert cast flags a to) = a.value ∷ []
 arguments_of (raw_ops.Freeze a) = a.value ∷ []

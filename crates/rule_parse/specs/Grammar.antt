@@ -1,9 +1,10 @@
 -- The parts of a rule file as written, and which tokens spell them. Each part stands on a line of its own.
-use Rattle.std.specs.Prelude.{◌≡◌, ◌⊎◌, IsTrue, ℕ, ◌≤◌, List, [], ◌∷◌, ◌++◌, length, map, None, codes}
+use Rattle.std.specs.Prelude.{◌≡◌, ◌⊎◌, IsTrue, ℕ, ◌≤◌, Bool, true, false, List, [], ◌∷◌, ◌++◌, length, map, Option, None, Some, codes}
 use Rattle.ops.specs.declared.opcode.Flags.{Flags}
+use Rattle.ops.specs.declared.opcode.Unary.{Unary as Intrinsic}
 use Rattle.ops.specs.Flags.{no_flags, flags_of, flags_of_cast, flags_of_icmp, icmp_flags}
 use Rattle.ops.specs.declared.keywords.flag.Flag.{Flag}
-use Rattle.ops.specs.Keywords.{opcode_keyword, cast_keyword, predicate_keyword}
+use Rattle.ops.specs.Keywords.{predicate_keyword}
 use Rattle.ops.specs.FlagKeywords.{AddsFlags, flag_keyword}
 use Rattle.scan.specs.Bytes.{are_digits}
 use Rattle.scan.specs.RuleTokens.{is_constant}
@@ -13,24 +14,26 @@ use Rattle.rule_terms.specs.Formulas.{SpellsWholeFormula}
 use Rattle.rule_terms.specs.Grammar.{SpellsWholeTerm}
 use Rattle.rule_parse.specs.declared.half.Half.{Half}
 use Rattle.rule_parse.specs.declared.half.Half.TheVariants.{Source, Target}
+use Rattle.rule_parse.specs.declared.word.Operation.{Operation}
+use Rattle.rule_parse.specs.declared.word.Operation.TheVariants as operations
 use Rattle.rule_parse.specs.declared.raw.RawRule.{RawRule}
 use Rattle.rule_parse.specs.declared.raw.RawStatement.{RawStatement}
 use Rattle.rule_parse.specs.declared.raw.RawPrecondition.{RawPrecondition}
 use Rattle.rule_parse.specs.declared.raw.RawWitness.{RawWitness}
 use Rattle.rule_parse.specs.declared.raw.RawOp.{RawOp}
-use Rattle.rule_parse.specs.declared.raw.RawOp.TheVariants.{Binary, Compare, Select, Convert, Freeze, Copy}
+use Rattle.rule_parse.specs.declared.raw.RawOp.TheVariants.{Binary, Compare, Unary, Select, Convert, Freeze, Copy}
 use Rattle.rule_parse.specs.declared.raw.RawOperand.{RawOperand}
 use Rattle.rule_parse.specs.declared.raw.RawArgument.{RawArgument}
 use Rattle.rule_parse.specs.declared.raw.RawArgument.TheVariants as arguments
 use Rattle.rule_tokens.specs.declared.version.Version.{Version}
-use Rattle.rule_tokens.specs.declared.version.Version.TheVariants.{One, Two}
+use Rattle.rule_tokens.specs.declared.version.Version.TheVariants.{One}
 use Rattle.rule_tokens.specs.Limits.{Limits}
 use Rattle.rule_tokens.specs.TypeTokens.{SpellsType}
 use Rattle.rule_tokens.specs.Numbers.{decimal_value, literal_value}
 use Rattle.rule_tokens.specs.Parts.{Part, Is, Comma, Nothing, Never, ◌⨾◌, Maybe}
 use Rattle.rule_tokens.specs.Tokens.{Token, Line, Head, Name, Register, Word, Number, Arrow, Mark}
 use Rattle.rule_tokens.specs.Versions.{version_number}
-use Rattle.rule_parse.specs.Keywords.{truth_word, argument_of}
+use Rattle.rule_parse.specs.Keywords.{is_known, opcode_token, truth_flag, truth_word, argument_of}
 
 -- a term of constants that is this operand
 abbrev pub SpellsTermOperand : Limits → RawArgument → Part
@@ -66,6 +69,15 @@ SpellsPair limits half a b = SpellsOperand limits half a ⨾ Comma ⨾ SpellsUnt
 abbrev pub SpellsFlags : Flags → Flags → Part
 SpellsFlags taken flags tokens = (written : List Flag) × AddsFlags taken no_flags written flags × (tokens ≡ map (λ flag. Word (flag_keyword flag)) written)
 
+-- [flag], which says that the truth value of the intrinsic is true
+abbrev pub SpellsTruth : Intrinsic → Bool → Part
+SpellsTruth op false = Nothing
+SpellsTruth op true tokens = (word : List ℕ) × (truth_flag op ≡ Some word) × Is (Word word) tokens
+
+-- the opcode of an operation that the version has
+abbrev pub SpellsOpcode : Version → Operation → Part
+SpellsOpcode version operation tokens = IsTrue (is_known operation version) × Is (opcode_token operation) tokens
+
 -- 'to' type
 abbrev pub SpellsTo : ℕ → Part
 SpellsTo width = Is (Word (codes "to")) ⨾ SpellsType width
@@ -75,17 +87,19 @@ SpellsTo width = Is (Word (codes "to")) ⨾ SpellsType width
 --     | 'select' [type] o ',' [type] o ',' [type] o
 --     | ('trunc' | 'zext' | 'sext') flag* [type] o ['to' type]
 -- and from version 2 on 'freeze' [type] o
+--     | ('umin' | 'umax' | 'smin' | 'smax') [type] o ',' o
+--     | 'abs' ['minpoison'] [type] o | 'ctpop' [type] o | ('ctlz' | 'cttz') ['zeropoison'] [type] o
 -- and in the target a copy: [type] o
 abbrev pub SpellsOp : Limits → Version → Half → RawOp → Part
-SpellsOp limits version half (Binary op flags a b) = Is (Word (opcode_keyword op)) ⨾ SpellsFlags (flags_of op) flags ⨾ SpellsPair limits half a b
+SpellsOp limits version half (Binary op flags a b) = SpellsOpcode version (operations.Binary op) ⨾ SpellsFlags (flags_of op) flags ⨾ SpellsPair limits half a b
 SpellsOp limits version half (Compare pred samesign a b) =
-    Is (Word (codes "icmp")) ⨾ SpellsFlags flags_of_icmp (icmp_flags samesign) ⨾ Is (Word (predicate_keyword pred)) ⨾ SpellsPair limits half a b
+    SpellsOpcode version operations.Compare ⨾ SpellsFlags flags_of_icmp (icmp_flags samesign) ⨾ Is (Word (predicate_keyword pred)) ⨾ SpellsPair limits half a b
+SpellsOp limits version half (Unary op truth a) = SpellsOpcode version (operations.Unary op) ⨾ SpellsTruth op truth ⨾ SpellsOperand limits half a
 SpellsOp limits version half (Select condition if_true if_false) =
-    Is (Word (codes "select")) ⨾ SpellsOperand limits half condition ⨾ Comma ⨾ SpellsOperand limits half if_true ⨾ Comma ⨾ SpellsOperand limits half if_false
+    SpellsOpcode version operations.Select ⨾ SpellsOperand limits half condition ⨾ Comma ⨾ SpellsOperand limits half if_true ⨾ Comma ⨾ SpellsOperand limits half if_false
 SpellsOp limits version half (Convert cast flags a to) =
-    Is (Word (cast_keyword cast)) ⨾ SpellsFlags (flags_of_cast cast) flags ⨾ SpellsOperand limits half a ⨾ Maybe SpellsTo to
-SpellsOp limits One half (Freeze a) = Never
-SpellsOp limits Two half (Freeze a) = Is (Word (codes "freeze")) ⨾ SpellsOperand limits half a
+    SpellsOpcode version (operations.Convert cast) ⨾ SpellsFlags (flags_of_cast cast) flags ⨾ SpellsOperand limits half a ⨾ Maybe SpellsTo to
+SpellsOp limits version half (Freeze a) = SpellsOpcode version operations.Freeze ⨾ SpellsOperand limits half a
 SpellsOp limits version Source (Copy a) = Never
 SpellsOp limits version Target (Copy a) = SpellsOperand limits Target a
 

@@ -1,8 +1,9 @@
 -- Reading the parts of a rule from left to right: what the tokens spell and the tokens behind it, or the fault of the first token
 -- that does not fit.
-use Rattle.std.specs.Prelude.{ℕ, zero, suc, if◌then◌else◌, List, [], ◌∷◌, ◌++◌, length, Option, None, Some, Result, Ok, Err, codes}
+use Rattle.std.specs.Prelude.{ℕ, zero, suc, Bool, true, false, if◌then◌else◌, List, [], ◌∷◌, ◌++◌, length, drop, Option, None, Some, Result, Ok, Err, codes}
 use Rattle.std.specs.Str.{bytes_eq}
 use Rattle.ops.specs.declared.opcode.Opcode.{Opcode}
+use Rattle.ops.specs.declared.opcode.Unary.{Unary as Intrinsic}
 use Rattle.ops.specs.declared.opcode.Flags.{Flags}
 use Rattle.ops.specs.declared.comparison.Pred.{Pred}
 use Rattle.ops.specs.declared.conversion.Cast.{Cast}
@@ -19,7 +20,7 @@ use Rattle.rule_parse.specs.declared.raw.RawStatement.{RawStatement}
 use Rattle.rule_parse.specs.declared.raw.RawPrecondition.{RawPrecondition}
 use Rattle.rule_parse.specs.declared.raw.RawWitness.{RawWitness}
 use Rattle.rule_parse.specs.declared.raw.RawOp.{RawOp}
-use Rattle.rule_parse.specs.declared.raw.RawOp.TheVariants.{Binary, Compare, Select, Convert, Freeze, Copy}
+use Rattle.rule_parse.specs.declared.raw.RawOp.TheVariants.{Binary, Compare, Unary, Select, Convert, Freeze, Copy}
 use Rattle.rule_parse.specs.declared.raw.RawOperand.{RawOperand}
 use Rattle.rule_parse.specs.declared.raw.RawArgument.{RawArgument}
 use Rattle.rule_parse.specs.declared.raw.RawArgument.TheVariants as arguments
@@ -34,8 +35,8 @@ use Rattle.scan.specs.RuleTokens.{is_constant}
 use Rattle.rule_tokens.specs.Steps.{◌>>=◌}
 use Rattle.rule_tokens.specs.PartReaders.{Read, fault, unexpected, misplaced_word, left_out, or_left_out, name_within, type_at, maybe_type, line_end}
 use Rattle.rule_tokens.specs.Numbers.{literal_value}
-use Rattle.rule_tokens.specs.Tokens.{Token, Line, Head, Name, Register, Word, Number, Arrow}
-use Rattle.rule_parse.specs.Keywords.{operation_in, source_word_in, argument_of}
+use Rattle.rule_tokens.specs.Tokens.{Token, Line, Head, Name, Register, Word, Opcode as OpcodeToken, Number, Arrow}
+use Rattle.rule_parse.specs.Keywords.{operation_in, is_truth_flag, source_word_in, argument_of}
 use Rattle.rule_tokens.specs.declared.version.Version.{Version}
 use Rattle.rule_tokens.specs.declared.version.Version.TheVariants.{One}
 use Rattle.rule_tokens.specs.Limits.{Limits}
@@ -136,6 +137,26 @@ compare_at limits half line tokens = do
   pair ← pair_at limits half line pred.1
   Ok (Compare pred.0 flags.0.samesign pair.0.0 pair.0.1, pair.1)
 
+-- the flag is next that says that the truth value of an intrinsic is true
+abbrev pub is_truth_next : Intrinsic → List Token → Bool
+is_truth_next op (Word word ∷ rest) = is_truth_flag op word
+is_truth_next op tokens = false
+
+-- the truth value of an intrinsic, which is true where its flag is written, once
+unfoldable pub truth_at : Intrinsic → ℕ → List Token → Read Bool
+truth_at op line tokens =
+    if is_truth_next op tokens
+    then (if is_truth_next op (drop 1 tokens) then Err (fault line Syntax) else Ok (true, drop 1 tokens))
+    else Ok (false, tokens)
+
+-- an intrinsic on one operand, behind its opcode
+unfoldable pub unary_at : Limits → Half → ℕ → Intrinsic → List Token → Read RawOp
+unary_at limits half line op tokens = do
+  truth ← truth_at op line tokens
+  operand ← operand_at limits half line truth.1
+  rest ← line_end line operand.1
+  Ok (Unary op truth.0 operand.0, rest)
+
 -- a choice, behind `select`
 unfoldable pub select_at : Limits → Half → ℕ → List Token → Read RawOp
 select_at limits half line tokens = do
@@ -173,6 +194,7 @@ copy_at limits line tokens = do
 abbrev pub operation_at : Limits → Half → ℕ → Operation → List Token → Read RawOp
 operation_at limits half line (operations.Binary op) tokens = binary_at limits half line op tokens
 operation_at limits half line operations.Compare tokens = compare_at limits half line tokens
+operation_at limits half line (operations.Unary op) tokens = unary_at limits half line op tokens
 operation_at limits half line operations.Select tokens = select_at limits half line tokens
 operation_at limits half line (operations.Convert cast) tokens = convert_at limits half line cast tokens
 operation_at limits half line operations.Freeze tokens = freeze_at limits half line tokens
@@ -182,12 +204,13 @@ abbrev pub other_at : Limits → Half → ℕ → List Token → Read RawOp
 other_at limits Source line tokens = Err (left_out line tokens)
 other_at limits Target line tokens = copy_at limits line tokens
 
-abbrev pub op_word : Limits → Half → ℕ → List ℕ → Option Operation → List Token → Read RawOp
-op_word limits half line word (Some operation) rest = operation_at limits half line operation rest
-op_word limits half line word None rest = other_at limits half line (Word word ∷ rest)
+abbrev pub op_token : Limits → Half → ℕ → Token → Option Operation → List Token → Read RawOp
+op_token limits half line token (Some operation) rest = operation_at limits half line operation rest
+op_token limits half line token None rest = other_at limits half line (token ∷ rest)
 
 unfoldable pub op_at : Limits → Version → Half → ℕ → List Token → Read RawOp
-op_at limits version half line (Word word ∷ rest) = op_word limits half line word (operation_in version word) rest
+op_at limits version half line (Word word ∷ rest) = op_token limits half line (Word word) (operation_in version false word) rest
+op_at limits version half line (OpcodeToken word ∷ rest) = op_token limits half line (OpcodeToken word) (operation_in version true word) rest
 op_at limits version half line tokens = other_at limits half line tokens
 
 -- the statement of a register, behind it

@@ -11,9 +11,9 @@ ghost use Rattle.rule_tokens.specs.Limits.{rule_limits};
 use crate::half::Half;
 use crate::operand::{operand, result_type, typed};
 use crate::raw::{RawOp, RawOperand};
-use crate::word::{Operation, operation_of};
+use crate::word::{Operation, is_truth_flag, operation_of};
 use ops::keywords::{Flag, flag_of, has_flag, predicate_of, with_flag};
-use ops::{Cast, Flags, Opcode, Pred};
+use ops::{Cast, Flags, Opcode, Pred, Unary};
 use rule_terms::mark;
 use rule_tokens::{
     RuleError, RuleFault, RuleFaultKind, Token, Version, line_end, misplaced, misplaced_word,
@@ -116,6 +116,52 @@ fn comparison(
     Ok(RawOp::Compare(pred, flags.samesign, left, right))
 }
 
+/// Whether the flag is next that says that the truth value of an intrinsic is true.
+fn is_truth_next(op: Unary, tokens: &[Token<'_>]) -> bool
+    ensures { result ≡ parsing.is_truth_next op (seen tokens.now) }
+{
+    match tokens {
+        [Token::Word(word), ..] => is_truth_flag(op, word),
+        _ => false,
+    }
+}
+
+/// The truth value of an intrinsic, which is true where its flag is written, once.
+#[tactic(auto, unfolding(crate::specs::RuleReaders::truth_at))]
+fn truth(op: Unary, line: usize, tokens: &mut &[Token<'_>]) -> Result<bool, RuleFault>
+    ensures { Reads (λ x. (x, seen tokens.new.now)) result (parsing.truth_at op line (seen tokens.old.now)) }
+{
+    let [_, rest @ ..] = *tokens else {
+        return Ok(false);
+    };
+    if !is_truth_next(op, *tokens) {
+        return Ok(false);
+    }
+    if is_truth_next(op, rest) {
+        let kind = RuleFaultKind::Syntax;
+        return Err(RuleFault { line, kind });
+    }
+    *tokens = rest;
+    Ok(true)
+}
+
+/// An intrinsic on one operand, behind its opcode.
+#[tactic(auto, unfolding(crate::specs::RuleReaders::unary_at))]
+fn intrinsic(
+    alloc: Global,
+    half: Half,
+    line: usize,
+    op: Unary,
+    tokens: &mut &[Token<'_>],
+) -> Result<RawOp, RuleError>
+    ensures { Gives (λ x. (x, seen tokens.new.now)) result (parsing.unary_at rule_limits half line op (seen tokens.old.now)) }
+{
+    let truth = truth(op, line, tokens)?;
+    let operand = operand(alloc, half, line, tokens)?;
+    line_end(line, *tokens)?;
+    Ok(RawOp::Unary(op, truth, operand))
+}
+
 /// A choice, behind `select`.
 #[tactic(auto, unfolding(crate::specs::RuleReaders::select_at))]
 fn selection(
@@ -190,6 +236,7 @@ fn behind_opcode(
     match operation {
         Operation::Binary(opcode) => binary(alloc, half, line, opcode, tokens),
         Operation::Compare => comparison(alloc, half, line, tokens),
+        Operation::Unary(op) => intrinsic(alloc, half, line, op, tokens),
         Operation::Select => selection(alloc, half, line, tokens),
         Operation::Convert(cast) => conversion(alloc, half, line, cast, tokens),
         Operation::Freeze => freeze(alloc, half, line, tokens),
@@ -222,10 +269,12 @@ pub(crate) fn op(
 ) -> Result<RawOp, RuleError>
     ensures { Gives (λ x. (x, seen tokens.new.now)) result (parsing.op_at rule_limits version half line (seen tokens.old.now)) }
 {
-    let [Token::Word(word), rest @ ..] = *tokens else {
-        return other(alloc, half, line, tokens);
+    let (apart, word, rest) = match *tokens {
+        [Token::Word(word), rest @ ..] => (false, *word, rest),
+        [Token::Opcode(word), rest @ ..] => (true, *word, rest),
+        _ => return other(alloc, half, line, tokens),
     };
-    match operation_of(version, word) {
+    match operation_of(version, apart, word) {
         Some(operation) => {
             *tokens = rest;
             behind_opcode(alloc, half, line, operation, tokens)

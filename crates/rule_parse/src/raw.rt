@@ -1,7 +1,7 @@
 //! Rules as they are written: registers by their names, and each statement with its line.
 
 use lists::{List, Text};
-use ops::{Cast, Flags, Opcode, Pred, Width};
+use ops::{Cast, Flags, Opcode, Pred, Unary, Width};
 use rule_terms::{RawFormula, RawTerm};
 
 /// A rule as written.
@@ -53,6 +53,8 @@ pub enum RawOp {
     Binary(Opcode, Flags, RawOperand, RawOperand),
     /// `icmp`, with `samesign` where that is true. Before its second operand no type is written.
     Compare(Pred, bool, RawOperand, RawOperand),
+    /// An intrinsic on one operand, with its truth value, which is false where it has none.
+    Unary(Unary, bool, RawOperand),
     /// `select`: the condition, and the operands for 1 and for 0.
     Select(RawOperand, RawOperand, RawOperand),
     /// A cast, with the type that is written behind `to`, if one is.

@@ -4,8 +4,8 @@ ghost use Rattle.std.specs.Prelude.{◌≡◌};
 ghost use Rattle.rule_parse.specs.Keywords as spelled;
 
 use crate::raw::RawArgument;
-use ops::keywords::{cast_name, is, opcode_name};
-use ops::{Cast, Opcode};
+use ops::keywords::{cast_name, is, opcode_name, unary_name};
+use ops::{Cast, Opcode, Unary};
 use rule_tokens::Version;
 
 /// An operation that a statement begins with.
@@ -13,6 +13,7 @@ use rule_tokens::Version;
 pub enum Operation {
     Binary(Opcode),
     Compare,
+    Unary(Unary),
     Select,
     Convert(Cast),
     Freeze,
@@ -24,13 +25,14 @@ fn operation_name(operation: Operation) -> &'static str
     match operation {
         Operation::Binary(opcode) => opcode_name(opcode),
         Operation::Compare => "icmp",
+        Operation::Unary(op) => unary_name(op),
         Operation::Select => "select",
         Operation::Convert(cast) => cast_name(cast),
         Operation::Freeze => "freeze",
     }
 }
 
-const OPERATIONS: [Operation; 19] = [
+const OPERATIONS: [Operation; 27] = [
     Operation::Binary(Opcode::Add),
     Operation::Binary(Opcode::Sub),
     Operation::Binary(Opcode::Mul),
@@ -50,26 +52,76 @@ const OPERATIONS: [Operation; 19] = [
     Operation::Convert(Cast::ZExt),
     Operation::Convert(Cast::SExt),
     Operation::Freeze,
+    Operation::Binary(Opcode::UMin),
+    Operation::Binary(Opcode::UMax),
+    Operation::Binary(Opcode::SMin),
+    Operation::Binary(Opcode::SMax),
+    Operation::Unary(Unary::Abs),
+    Operation::Unary(Unary::CtPop),
+    Operation::Unary(Unary::CtLz),
+    Operation::Unary(Unary::CtTz),
 ];
+
+/// Whether version 2 is the first one that has the operation.
+fn is_of_second(operation: Operation) -> bool
+    ensures { result ≡ spelled.is_of_second operation }
+{
+    match operation {
+        Operation::Binary(opcode) => opcode.is_intrinsic(),
+        Operation::Unary(_) | Operation::Freeze => true,
+        Operation::Compare | Operation::Select | Operation::Convert(_) => false,
+    }
+}
 
 /// Whether the operation is one of the version.
 fn is_known(operation: Operation, version: Version) -> bool
     ensures { result ≡ spelled.is_known operation version }
 {
-    match (operation, version) {
-        (Operation::Freeze, Version::One) => false,
-        _ => true,
+    if is_of_second(operation) {
+        matches!(version, Version::Two)
+    } else {
+        true
     }
 }
 
-/// The operation of the version whose opcode a word is.
+/// Whether the operation's word is that of a function of terms too, so that the opcode is a token of its own.
+fn is_apart(operation: Operation) -> bool
+    ensures { result ≡ spelled.is_apart operation }
+{
+    matches!(operation, Operation::Unary(Unary::Abs))
+}
+
+/// Whether the operation's opcode is a token of its own where that is asked for, or else a word.
+fn is_told(apart: bool, operation: Operation) -> bool
+    ensures { result ≡ spelled.is_told apart operation }
+{
+    match apart {
+        true => is_apart(operation),
+        false => !is_apart(operation),
+    }
+}
+
+/// The operation of the version whose opcode a token with these bytes is, which is one of its own or a word.
 #[tactic(auto, unfolding(crate::specs::Keywords::operation_in))]
-pub(crate) fn operation_of(version: Version, word: &[u8]) -> Option<Operation>
-    ensures { result ≡ spelled.operation_in version word.now }
+pub(crate) fn operation_of(version: Version, apart: bool, word: &[u8]) -> Option<Operation>
+    ensures { result ≡ spelled.operation_in version apart word.now }
 {
     OPERATIONS.iter().copied().find(|operation| {
-        is(word, operation_name(*operation)) && is_known(*operation, version)
+        is(word, operation_name(*operation))
+            && is_known(*operation, version)
+            && is_told(apart, *operation)
     })
+}
+
+/// Whether a word is the flag that says that the truth value of an intrinsic is true.
+pub(crate) fn is_truth_flag(op: Unary, word: &[u8]) -> bool
+    ensures { result ≡ spelled.is_truth_flag op word.now }
+{
+    match op {
+        Unary::Abs => is(word, "minpoison"),
+        Unary::CtPop => false,
+        Unary::CtLz | Unary::CtTz => is(word, "zeropoison"),
+    }
 }
 
 /// What a word of the source is as an operand, where it is no constant: a truth or `undef`.
