@@ -39,7 +39,7 @@ use Rattle.rule_terms.proofs.Readings.{spells_some}
 use Rattle.rule_terms.proofs.Spellings.{term_at-is}
 use Rattle.rule_terms.proofs.Starts.{mark_at-is}
 use Rattle.rule_viable_prefixes.specs.Misfits as kinds
-use Rattle.rule_viable_prefixes.specs.Misfits.{Fitting, IsNoun, Nests, IsTooDeep}
+use Rattle.rule_viable_prefixes.specs.Misfits.{Fitting, IsNoun, Nests, IsTooDeep, IsFlagWord}
 use Rattle.rule_viable_prefixes.proofs.Nouns.{constant_noun, not_in_formulas, predicate_other, one_use_other}
 use Rattle.rule_viable_prefixes.proofs.Outcomes.{lack_wider, Lack, NoNoun, Takes, Alike, same, ended, NoLine, Spelling, Sample, pair, bare, Reader, IsErr, IsErrOn, IsRead, IsRefused, Outcome, Good, then_at, then, refused_here, passed, took, led, led_in, opened, opens_one, alike_as, widen, Branch, takes, refuses, by_token, with_none, widened, on_line, then_done, own_last}
 use Rattle.rule_viable_prefixes.proofs.Tolds.{Told, IsTold, says_syntax, says_too_many, says_deep, says_wider, says_carried, says_unexpected}
@@ -412,7 +412,7 @@ module _ (spare_bytes deepest spare_statements : ℕ) where
         here = o.here;
         says = says_carried (levels nesting) (levels (suc nesting)) (opened o.front) (opened (Mark (codes "(") ∷ o.front)) refl (λ far. opens_one (codes "(") nesting refl o.front far) (Takes limits (Spelled limits (Closed spare_bytes deepest spare_statements (IsFormula Within Alternatives nesting))) o.front) (Takes limits (Spelled limits (IsFormula standing Member (suc nesting))) (Mark (codes "(") ∷ o.front))
             (λ token b. (b.0, b.1, closed_formula standing nesting ((o.front ++ token ∷ []) ++ b.1) b.2)) o.behind (λ word r is_word. lack_wider limits (Mark (codes "(") ∷ []) o.front (Mark (codes "(") ∷ o.front) word refl (λ n noun is_noun more. no_noun n noun is_noun more (opens_formula 0 (o.front ++ Word noun ∷ more)) refl)) e.kind o.says;
-        new = new_behind (Mark (codes "(") ∷ []) o.front e.kind (inl (λ flag is. cc)) o.new;
+        new = new_behind (Mark (codes "(") ∷ []) o.front e.kind (inl (λ word flag is. cc)) o.new;
       }
         where
           seen_here : opens_formula 0 (o.front ++ o.behind) ≡ true
@@ -630,7 +630,7 @@ module _ (spare_bytes deepest spare_statements : ℕ) where
   predicate_outcome standing (suc nesting) line before word rest predicate f =
       let opened : opening_at (Word word ∷ []) ≡ Tests predicate = rw f refl in
       let is : Word word ∷ [] ≡ Word (predicate_word predicate) ∷ [] = subst (λ (o : Opening). Rattle.rule_terms.proofs.FormulaReadings.StartsSo limits o (Word word ∷ [])) opened (opening_at-is limits (Word word ∷ [])) in
-      led (levels (suc nesting)) (pair limits) (member_at limits (suc nesting) line before) (tests_at limits predicate (suc nesting) line before) (Spelled limits (IsFormula standing Member (suc nesting))) line (Word word) rest (λ flag equal. predicate_other predicate flag (let word_is : predicate_word predicate ≡ word = cc in word_is ∙ equal)) (λ more. member-tests limits (suc nesting) line predicate before (Word word ∷ more) (rw f refl))
+      led (levels (suc nesting)) (pair limits) (member_at limits (suc nesting) line before) (tests_at limits predicate (suc nesting) line before) (Spelled limits (IsFormula standing Member (suc nesting))) line (Word word) rest (λ flag. predicate_other predicate (subst IsFlagWord (let word_is : word ≡ predicate_word predicate = cc in word_is) flag)) (λ more. member-tests limits (suc nesting) line predicate before (Word word ∷ more) (rw f refl))
       (widen (levels (suc nesting)) (pair limits) (tests_at limits predicate (suc nesting) line before) (Spelled limits (Is (Mark (codes "(")) ⨾ (IsTerm spare_bytes deepest spare_statements) Constant nesting loosest ⨾ Is (Mark (codes ")")))) (λ x own. IsFormula standing Member (suc nesting) (Word word ∷ own)) line rest
       (λ x own h. subst (λ (ts : List Token). IsFormula standing Member (suc nesting) (ts ++ own)) (sym is) (tested standing predicate nesting own h)) (tests_at limits predicate (suc nesting) line before rest) ((tests_good predicate nesting line before).outcome rest))
 
@@ -684,7 +684,7 @@ module _ (spare_bytes deepest spare_statements : ℕ) where
   outer_outcome line before (Word word ∷ rest) = by (bytes_eq word (codes "hasOneUse")) refl
     where
       by : (b : Bool) → bytes_eq word (codes "hasOneUse") ≡ b → OuterIs line before (Word word ∷ rest)
-      by true h = led limits (pair limits) (outer_member_at limits line before) (one_use_at limits line before) (Spelled limits (IsFormula Outermost Member limits.nested)) line (Word word) rest (λ flag equal. one_use_other flag (sym (same_word word (codes "hasOneUse") h) ∙ equal)) (λ more. rw h refl)
+      by true h = led limits (pair limits) (outer_member_at limits line before) (one_use_at limits line before) (Spelled limits (IsFormula Outermost Member limits.nested)) line (Word word) rest (λ flag. one_use_other (subst IsFlagWord (same_word word (codes "hasOneUse") h) flag)) (λ more. rw h refl)
           (widen limits (pair limits) (one_use_at limits line before) (Spelled limits (Is (Mark (codes "(")) ⨾ IsName ⨾ Is (Mark (codes ")")))) (λ x own. IsFormula Outermost Member limits.nested (Word word ∷ own)) line rest
           (λ x own is. subst (λ (w : List ℕ). IsFormula Outermost Member limits.nested (Word w ∷ own)) (sym (same_word word (codes "hasOneUse") h)) (used_once limits.nested own is)) (one_use_at limits line before rest) ((one_use_good line before).outcome rest))
       by false h = outer_as_member line before (Word word ∷ rest) (outer_alike line before (Word word) rest (λ more. rw h refl))

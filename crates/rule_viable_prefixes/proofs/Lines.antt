@@ -10,7 +10,7 @@ use Rattle.rule_tokens.specs.RuleFaults.{RuleFault}
 use Rattle.rule_tokens.specs.Steps.{◌>>=◌}
 use Rattle.rule_tokens.specs.Parts.{Part, ◌⨾◌, Maybe}
 use Rattle.rule_tokens.specs.PartReaders.{fault, unexpected, name_within, type_at, line_end}
-use Rattle.rule_tokens.specs.Tokens.{Token, Line, Head, Name, Register, Word, Arrow}
+use Rattle.rule_tokens.specs.Tokens.{Token, Line, Head, Name, Register, Word, Opcode as OpcodeToken, Arrow}
 use Rattle.rule_tokens.proofs.Ends.{EndsLine, name_within-of}
 use Rattle.rule_tokens.proofs.Steps.{bound, read_as}
 use Rattle.rule_terms.specs.declared.place.TermPlace.TheVariants.{Witness}
@@ -26,7 +26,7 @@ use Rattle.rule_parse.specs.declared.raw.RawWitness.{RawWitness}
 use Rattle.rule_parse.specs.declared.word.Operation.{Operation}
 use Rattle.rule_parse.specs.declared.word.Operation.TheVariants as operations
 use Rattle.rule_parse.specs.Grammar.{SpellsStatement, SpellsStatements, SpellsHalf, SpellsPrecondition, SpellsExpression, SpellsMoreExpressions, SpellsExpressions, SpellsWitness}
-use Rattle.rule_parse.specs.RuleReaders.{typed_at, operand_at, to_at, flags_at, pair_at, binary_at, pred_at, compare_at, select_at, convert_at, freeze_at, copy_at, operation_at, op_word, op_at, statement_at, statements_at, name_text, name_at, behind_precondition, precondition_at, expression_at, more_expressions, expressions_at, behind_witness, witness_at, source_at, arrow_at, target_at, unexpected_line}
+use Rattle.rule_parse.specs.RuleReaders.{typed_at, operand_at, to_at, flags_at, pair_at, binary_at, pred_at, compare_at, truth_at, unary_at, select_at, convert_at, freeze_at, copy_at, operation_at, op_token, op_at, statement_at, statements_at, name_text, name_at, behind_precondition, precondition_at, expression_at, more_expressions, expressions_at, behind_witness, witness_at, source_at, arrow_at, target_at, unexpected_line}
 use Rattle.rule_parse.specs.Keywords.{operation_in}
 use Rattle.rule_parse.proofs.Expressions.{expression_shortens}
 use Rattle.rule_parse.proofs.Readings.{name_at-is}
@@ -94,10 +94,11 @@ module _ (spare_bytes deepest spare_statements : ℕ) (version : Version) where
   to_ends_line line tokens = ends_line line tokens None
 
   operation_ends : (half : Half) (line : ℕ) (operation : Operation) (tokens : List Token) → Ends (operation_at limits half line operation tokens)
-  unfolding binary_at compare_at select_at convert_at freeze_at
+  unfolding binary_at compare_at unary_at select_at convert_at freeze_at
   operation_ends half line (operations.Binary op) tokens = ends_behind (flags_at (flags_of op) line no_flags tokens) _ (λ flags. λ x rest e. bound (pair_at limits half line flags.1) _ (x, rest) e (λ y p e1. read_as (λ z. EndsLine z.1) _ (x, rest) e1 (pair_ends half line flags.1 y.0 y.1 p)))
   operation_ends half line operations.Compare tokens =
       ends_behind (flags_at flags_of_icmp line no_flags tokens) _ (λ flags. ends_behind (pred_at line flags.1) _ (λ pred. λ x rest e. bound (pair_at limits half line pred.1) _ (x, rest) e (λ y p e1. read_as (λ z. EndsLine z.1) _ (x, rest) e1 (pair_ends half line pred.1 y.0 y.1 p))))
+  operation_ends half line (operations.Unary op) tokens = ends_behind (truth_at op line tokens) _ (λ truth. ends_behind (operand_at limits half line truth.1) _ (λ operand. ends_line line operand.1 _))
   operation_ends half line operations.Select tokens =
       ends_behind (operand_at limits half line tokens) _ (λ condition. ends_behind (mark_at (codes ",") line condition.1) _ (λ first. ends_behind (operand_at limits half line first) _ (λ if_true. ends_behind (mark_at (codes ",") line if_true.1) _ (λ second.
       ends_behind (operand_at limits half line second) _ (λ if_false. ends_line line if_false.1 _)))))
@@ -113,13 +114,14 @@ module _ (spare_bytes deepest spare_statements : ℕ) (version : Version) where
   other_ends Source line tokens = λ x rest e. absurd cc
   other_ends Target line tokens = copy_ends line tokens
 
+  token_ends : (half : Half) (line : ℕ) (token : Token) (found : Option Operation) (rest : List Token) → Ends (op_token limits half line token found rest)
+  token_ends half line token (Some operation) rest = operation_ends half line operation rest
+  token_ends half line token None rest = other_ends half line (token ∷ rest)
+
   op_ends : (half : Half) (line : ℕ) (tokens : List Token) → Ends (op_at limits version half line tokens)
   unfolding op_at
-  op_ends half line (Word word ∷ rest) = by (operation_in version word)
-    where
-      by : (found : Option Operation) → Ends (op_word limits half line word found rest)
-      by (Some operation) = operation_ends half line operation rest
-      by None = other_ends half line (Word word ∷ rest)
+  op_ends half line (Word word ∷ rest) = token_ends half line (Word word) (operation_in version false word) rest
+  op_ends half line (OpcodeToken word ∷ rest) = token_ends half line (OpcodeToken word) (operation_in version true word) rest
   op_ends half line tokens = other_ends half line tokens
 
   statement_ends : (half : Half) (line : ℕ) (name : List ℕ) (tokens : List Token) → Ends (statement_at limits version half line name tokens)

@@ -1,8 +1,10 @@
 -- Words that are no nouns.
-use Rattle.std.proofs.Common.{◌≡◌, ℕ, Bool, true, false, List, Option, Some, None, refl, sym, ap, subst, ◌∙◌}
-use Rattle.std.specs.Prelude.{codes}
+use Rattle.std.proofs.Common.{◌≡◌, ◌⊎◌, inl, inr, ℕ, Bool, true, false, List, Option, Some, None, refl, sym, ap, subst, ◌∙◌}
+use Rattle.std.specs.Prelude.{codes, if◌then◌else◌}
 use Rattle.std.specs.Str.{bytes_eq}
 use Rattle.ops.specs.declared.opcode.Flags.{Flags}
+use Rattle.ops.specs.declared.opcode.Unary.{Unary as Intrinsic}
+use Rattle.ops.specs.declared.opcode.Unary.TheVariants as intrinsics
 use Rattle.ops.specs.declared.keywords.flag.Flag.{Flag}
 use Rattle.ops.specs.declared.keywords.flag.Flag.TheVariants.{Nuw, Nsw, Exact, NNeg, Disjoint, SameSign}
 use Rattle.ops.specs.Keywords.{pred_in}
@@ -23,11 +25,10 @@ use Rattle.rule_terms.specs.Keywords.{choice_in, name_in, meaning_in}
 use Rattle.rule_terms.proofs.Meanings.{meaning_in-of}
 use Rattle.rule_parse.specs.declared.raw.RawArgument.{RawArgument}
 use Rattle.rule_parse.specs.declared.word.Operation.{Operation}
-use Rattle.rule_parse.specs.declared.word.Operation.TheVariants.{Binary, Compare, Select, Convert, Freeze}
-use Rattle.rule_parse.specs.Keywords.{is_known, operation_in, source_word_in}
-use Rattle.rule_parse.proofs.Pieces.{operation_in-of}
+use Rattle.rule_parse.specs.Keywords.{is_of_second, is_known, is_apart, operation_in, truth_flag, is_truth_flag, source_word_in}
+use Rattle.rule_parse.proofs.Pieces.{operation_in-of, truth_flag-is}
 use Rattle.rule_viable_prefixes.specs.Misfits as kinds
-use Rattle.rule_viable_prefixes.specs.Misfits.{IsNoun}
+use Rattle.rule_viable_prefixes.specs.Misfits.{IsNoun, IsFlagWord, of_instruction, of_intrinsic}
 use Rattle.rule_tokens.specs.Limits.{rule_limits}
 
 abbrev IsNone : {A : Type 0} → Option A → Type 0
@@ -35,7 +36,7 @@ IsNone {A} o = (x : A) → o ≡ Some x → ⊥
 
 -- a word that no reader knows
 record IsUnknown (word : List ℕ) : Type 0 where
-  no_opcode : IsNone (operation_in Two word)
+  no_opcode : (apart : Bool) → IsNone (operation_in Two apart word)
   no_predicate : IsNone (pred_in word)
   no_type : IsNone (type_in word)
   no_operand : IsNone (source_word_in word)
@@ -43,15 +44,15 @@ record IsUnknown (word : List ℕ) : Type 0 where
 
 -- the last version knows all operations
 all_known : (operation : Operation) → is_known operation Two ≡ true
-all_known (Binary op) = refl
-all_known Compare = refl
-all_known Select = refl
-all_known (Convert cast) = refl
-all_known Freeze = refl
+all_known operation = either (is_of_second operation)
+  where
+    either : (b : Bool) → (if b then true else true) ≡ true
+    either true = refl
+    either false = refl
 
 not_noun : (word : List ℕ) → IsUnknown word → IsNoun word → ⊥
 unfolding source_word_in
-not_noun word u (kinds.opcode operation is) = u.no_opcode operation (ap (operation_in Two) is ∙ operation_in-of rule_limits Two operation (all_known operation))
+not_noun word u (kinds.opcode operation is) = u.no_opcode (is_apart operation) operation (ap (operation_in Two (is_apart operation)) is ∙ operation_in-of rule_limits Two operation (all_known operation))
 not_noun word u (kinds.predicate pred is) = u.no_predicate pred (ap pred_in is ∙ pred_in-of pred)
 not_noun word u (kinds.type width is) = u.no_type width (type_in-of word width is)
 not_noun word u (kinds.constant is) = u.no_term Constant (meaning_in-of Witness Constant word is)
@@ -69,37 +70,57 @@ not_this noun word never is = by (bytes_eq noun word) refl
     by false h = h
     by true h = absurd (never (subst IsNoun (same_word noun word h) is))
 
-no_flag_noun : (flag : Flag) → IsNoun (flag_keyword flag) → ⊥
+no_instruction_flag : (flag : Flag) → IsNoun (flag_keyword flag) → ⊥
 unfolding operation_in pred_in type_in source_word_in meaning_in name_in choice_in is_constant is_digit
-no_flag_noun Nuw is = not_noun (codes "nuw") (record { no_opcode = λ x e. absurd cc; no_predicate = λ x e. absurd cc; no_type = λ x e. absurd cc; no_operand = λ x e. absurd cc; no_term = λ x e. absurd cc }) is
-no_flag_noun Nsw is = not_noun (codes "nsw") (record { no_opcode = λ x e. absurd cc; no_predicate = λ x e. absurd cc; no_type = λ x e. absurd cc; no_operand = λ x e. absurd cc; no_term = λ x e. absurd cc }) is
-no_flag_noun Exact is = not_noun (codes "exact") (record { no_opcode = λ x e. absurd cc; no_predicate = λ x e. absurd cc; no_type = λ x e. absurd cc; no_operand = λ x e. absurd cc; no_term = λ x e. absurd cc }) is
-no_flag_noun NNeg is = not_noun (codes "nneg") (record { no_opcode = λ x e. absurd cc; no_predicate = λ x e. absurd cc; no_type = λ x e. absurd cc; no_operand = λ x e. absurd cc; no_term = λ x e. absurd cc }) is
-no_flag_noun Disjoint is = not_noun (codes "disjoint") (record { no_opcode = λ x e. absurd cc; no_predicate = λ x e. absurd cc; no_type = λ x e. absurd cc; no_operand = λ x e. absurd cc; no_term = λ x e. absurd cc }) is
-no_flag_noun SameSign is = not_noun (codes "samesign") (record { no_opcode = λ x e. absurd cc; no_predicate = λ x e. absurd cc; no_type = λ x e. absurd cc; no_operand = λ x e. absurd cc; no_term = λ x e. absurd cc }) is
+no_instruction_flag Nuw is = not_noun (codes "nuw") (record { no_opcode = λ apart x e. absurd cc; no_predicate = λ x e. absurd cc; no_type = λ x e. absurd cc; no_operand = λ x e. absurd cc; no_term = λ x e. absurd cc }) is
+no_instruction_flag Nsw is = not_noun (codes "nsw") (record { no_opcode = λ apart x e. absurd cc; no_predicate = λ x e. absurd cc; no_type = λ x e. absurd cc; no_operand = λ x e. absurd cc; no_term = λ x e. absurd cc }) is
+no_instruction_flag Exact is = not_noun (codes "exact") (record { no_opcode = λ apart x e. absurd cc; no_predicate = λ x e. absurd cc; no_type = λ x e. absurd cc; no_operand = λ x e. absurd cc; no_term = λ x e. absurd cc }) is
+no_instruction_flag NNeg is = not_noun (codes "nneg") (record { no_opcode = λ apart x e. absurd cc; no_predicate = λ x e. absurd cc; no_type = λ x e. absurd cc; no_operand = λ x e. absurd cc; no_term = λ x e. absurd cc }) is
+no_instruction_flag Disjoint is = not_noun (codes "disjoint") (record { no_opcode = λ apart x e. absurd cc; no_predicate = λ x e. absurd cc; no_type = λ x e. absurd cc; no_operand = λ x e. absurd cc; no_term = λ x e. absurd cc }) is
+no_instruction_flag SameSign is = not_noun (codes "samesign") (record { no_opcode = λ apart x e. absurd cc; no_predicate = λ x e. absurd cc; no_type = λ x e. absurd cc; no_operand = λ x e. absurd cc; no_term = λ x e. absurd cc }) is
+
+-- the flag of an intrinsic is one of two
+truth_word : (op : Intrinsic) (word : List ℕ) → truth_flag op ≡ Some word → (word ≡ codes "minpoison") ⊎ (word ≡ codes "zeropoison")
+truth_word intrinsics.Abs word e = inl cc
+truth_word intrinsics.CtPop word e = absurd cc
+truth_word intrinsics.CtLz word e = inr cc
+truth_word intrinsics.CtTz word e = inr cc
+
+no_intrinsic_flag : (word : List ℕ) → (word ≡ codes "minpoison") ⊎ (word ≡ codes "zeropoison") → IsNoun word → ⊥
+unfolding operation_in pred_in type_in source_word_in meaning_in name_in choice_in is_constant is_digit
+no_intrinsic_flag word (inl e) is = not_noun (codes "minpoison") (record { no_opcode = λ apart x e. absurd cc; no_predicate = λ x e. absurd cc; no_type = λ x e. absurd cc; no_operand = λ x e. absurd cc; no_term = λ x e. absurd cc }) (subst IsNoun e is)
+no_intrinsic_flag word (inr e) is = not_noun (codes "zeropoison") (record { no_opcode = λ apart x e. absurd cc; no_predicate = λ x e. absurd cc; no_type = λ x e. absurd cc; no_operand = λ x e. absurd cc; no_term = λ x e. absurd cc }) (subst IsNoun e is)
 
 -- no noun is a flag
-pub noun_other : (noun : List ℕ) → IsNoun noun → (flag : Flag) → noun ≡ flag_keyword flag → ⊥
-noun_other noun is flag same = no_flag_noun flag (subst IsNoun same is)
+pub noun_other : (noun : List ℕ) → IsNoun noun → IsFlagWord noun → ⊥
+noun_other noun is (of_instruction flag same) = no_instruction_flag flag (subst IsNoun same is)
+noun_other noun is (of_intrinsic op same) = no_intrinsic_flag noun (truth_word op noun same) is
 
 pub no_flag_in : (taken : Flags) (noun : List ℕ) → IsNoun noun → flag_in taken noun ≡ None
 no_flag_in taken noun is = by (flag_in taken noun) refl
   where
     by : (found : Option Flag) → flag_in taken noun ≡ found → flag_in taken noun ≡ None
     by None f = f
-    by (Some flag) f = absurd (no_flag_noun flag (subst IsNoun (flag_in-is taken noun flag f).0 is))
+    by (Some flag) f = absurd (no_instruction_flag flag (subst IsNoun (flag_in-is taken noun flag f).0 is))
+
+pub no_truth_in : (op : Intrinsic) (noun : List ℕ) → IsNoun noun → is_truth_flag op noun ≡ false
+no_truth_in op noun is = by (is_truth_flag op noun) refl
+  where
+    by : (b : Bool) → is_truth_flag op noun ≡ b → is_truth_flag op noun ≡ false
+    by false h = h
+    by true h = absurd (noun_other noun is (of_intrinsic op (truth_flag-is rule_limits op noun h)))
 
 pub not_to : (noun : List ℕ) → IsNoun noun → bytes_eq noun (codes "to") ≡ false
 unfolding operation_in pred_in type_in source_word_in meaning_in name_in choice_in is_constant is_digit
-not_to noun is = not_this noun (codes "to") (not_noun (codes "to") (record { no_opcode = λ x e. absurd cc; no_predicate = λ x e. absurd cc; no_type = λ x e. absurd cc; no_operand = λ x e. absurd cc; no_term = λ x e. absurd cc })) is
+not_to noun is = not_this noun (codes "to") (not_noun (codes "to") (record { no_opcode = λ apart x e. absurd cc; no_predicate = λ x e. absurd cc; no_type = λ x e. absurd cc; no_operand = λ x e. absurd cc; no_term = λ x e. absurd cc })) is
 
 pub not_in_formulas : (noun : List ℕ) → IsNoun noun → is_among formula_words noun ≡ false
 unfolding operation_in pred_in type_in source_word_in meaning_in name_in choice_in is_constant is_digit
 not_in_formulas noun is =
     rw (
-      not_this noun (codes "isPowerOf2") (not_noun (codes "isPowerOf2") (record { no_opcode = λ x e. absurd cc; no_predicate = λ x e. absurd cc; no_type = λ x e. absurd cc; no_operand = λ x e. absurd cc; no_term = λ x e. absurd cc })) is,
-      not_this noun (codes "isSignBit") (not_noun (codes "isSignBit") (record { no_opcode = λ x e. absurd cc; no_predicate = λ x e. absurd cc; no_type = λ x e. absurd cc; no_operand = λ x e. absurd cc; no_term = λ x e. absurd cc })) is,
-      not_this noun (codes "hasOneUse") (not_noun (codes "hasOneUse") (record { no_opcode = λ x e. absurd cc; no_predicate = λ x e. absurd cc; no_type = λ x e. absurd cc; no_operand = λ x e. absurd cc; no_term = λ x e. absurd cc })) is,
+      not_this noun (codes "isPowerOf2") (not_noun (codes "isPowerOf2") (record { no_opcode = λ apart x e. absurd cc; no_predicate = λ x e. absurd cc; no_type = λ x e. absurd cc; no_operand = λ x e. absurd cc; no_term = λ x e. absurd cc })) is,
+      not_this noun (codes "isSignBit") (not_noun (codes "isSignBit") (record { no_opcode = λ apart x e. absurd cc; no_predicate = λ x e. absurd cc; no_type = λ x e. absurd cc; no_operand = λ x e. absurd cc; no_term = λ x e. absurd cc })) is,
+      not_this noun (codes "hasOneUse") (not_noun (codes "hasOneUse") (record { no_opcode = λ apart x e. absurd cc; no_predicate = λ x e. absurd cc; no_type = λ x e. absurd cc; no_operand = λ x e. absurd cc; no_term = λ x e. absurd cc })) is,
     ) refl
 
 pub constant_noun : IsNoun (codes "C")
@@ -108,9 +129,17 @@ constant_noun = kinds.constant refl
 
 -- ---- other words that are no flags
 
-pub source_other : (word : List ℕ) (value : RawArgument) → source_word_in word ≡ Some value → (flag : Flag) → word ≡ flag_keyword flag → ⊥
+-- a word that is none of all flags
+abbrev NoneOfThem : List ℕ → Type 0
+NoneOfThem word = ((flag : Flag) → word ≡ flag_keyword flag → ⊥) × (word ≡ codes "minpoison" → ⊥) × (word ≡ codes "zeropoison" → ⊥)
+
+none_of_them : (word : List ℕ) → NoneOfThem word → IsFlagWord word → ⊥
+none_of_them word none (of_instruction flag is) = none.0 flag is
+none_of_them word none (of_intrinsic op is) = elim (truth_word op word is) [ inl e ↦ none.1 e | inr e ↦ none.2 e ]
+
+pub source_other : (word : List ℕ) (value : RawArgument) → source_word_in word ≡ Some value → IsFlagWord word → ⊥
 unfolding source_word_in
-source_other word value found flag same = by flag (ap source_word_in (sym same) ∙ found)
+source_other word value found = none_of_them word ((λ flag same. by flag (ap source_word_in (sym same) ∙ found)), (λ same. let no = ap source_word_in (sym same) ∙ found in cc), (λ same. let no = ap source_word_in (sym same) ∙ found in cc))
   where
     by : (flag : Flag) → source_word_in (flag_keyword flag) ≡ Some value → ⊥
     by Nuw is = cc
@@ -120,32 +149,44 @@ source_other word value found flag same = by flag (ap source_word_in (sym same) 
     by Disjoint is = cc
     by SameSign is = cc
 
-pub to_other : (flag : Flag) → codes "to" ≡ flag_keyword flag → ⊥
-to_other Nuw is = cc
-to_other Nsw is = cc
-to_other Exact is = cc
-to_other NNeg is = cc
-to_other Disjoint is = cc
-to_other SameSign is = cc
+pub to_other : IsFlagWord (codes "to") → ⊥
+to_other = none_of_them (codes "to") (by, (λ is. cc), (λ is. cc))
+  where
+    by : (flag : Flag) → codes "to" ≡ flag_keyword flag → ⊥
+    by Nuw is = cc
+    by Nsw is = cc
+    by Exact is = cc
+    by NNeg is = cc
+    by Disjoint is = cc
+    by SameSign is = cc
 
-pub one_use_other : (flag : Flag) → codes "hasOneUse" ≡ flag_keyword flag → ⊥
-one_use_other Nuw is = cc
-one_use_other Nsw is = cc
-one_use_other Exact is = cc
-one_use_other NNeg is = cc
-one_use_other Disjoint is = cc
-one_use_other SameSign is = cc
+pub one_use_other : IsFlagWord (codes "hasOneUse") → ⊥
+one_use_other = none_of_them (codes "hasOneUse") (by, (λ is. cc), (λ is. cc))
+  where
+    by : (flag : Flag) → codes "hasOneUse" ≡ flag_keyword flag → ⊥
+    by Nuw is = cc
+    by Nsw is = cc
+    by Exact is = cc
+    by NNeg is = cc
+    by Disjoint is = cc
+    by SameSign is = cc
 
-pub predicate_other : (predicate : Predicate) (flag : Flag) → predicate_word predicate ≡ flag_keyword flag → ⊥
-predicate_other IsPowerOfTwo Nuw is = cc
-predicate_other IsPowerOfTwo Nsw is = cc
-predicate_other IsPowerOfTwo Exact is = cc
-predicate_other IsPowerOfTwo NNeg is = cc
-predicate_other IsPowerOfTwo Disjoint is = cc
-predicate_other IsPowerOfTwo SameSign is = cc
-predicate_other IsSignBit Nuw is = cc
-predicate_other IsSignBit Nsw is = cc
-predicate_other IsSignBit Exact is = cc
-predicate_other IsSignBit NNeg is = cc
-predicate_other IsSignBit Disjoint is = cc
-predicate_other IsSignBit SameSign is = cc
+pub predicate_other : (predicate : Predicate) → IsFlagWord (predicate_word predicate) → ⊥
+predicate_other IsPowerOfTwo = none_of_them (codes "isPowerOf2") (by, (λ is. cc), (λ is. cc))
+  where
+    by : (flag : Flag) → codes "isPowerOf2" ≡ flag_keyword flag → ⊥
+    by Nuw is = cc
+    by Nsw is = cc
+    by Exact is = cc
+    by NNeg is = cc
+    by Disjoint is = cc
+    by SameSign is = cc
+predicate_other IsSignBit = none_of_them (codes "isSignBit") (by, (λ is. cc), (λ is. cc))
+  where
+    by : (flag : Flag) → codes "isSignBit" ≡ flag_keyword flag → ⊥
+    by Nuw is = cc
+    by Nsw is = cc
+    by Exact is = cc
+    by NNeg is = cc
+    by Disjoint is = cc
+    by SameSign is = cc

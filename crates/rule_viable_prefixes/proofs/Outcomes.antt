@@ -7,9 +7,7 @@ use Rattle.rule_tokens.specs.Steps.{◌>>=◌}
 use Rattle.rule_tokens.specs.Tokens.{Token, Line, Word, Mark}
 use Rattle.rule_tokens.proofs.Ends.{EndsLine}
 use Rattle.rule_viable_prefixes.specs.Fits.{line_behind}
-use Rattle.rule_viable_prefixes.specs.Misfits.{Fitting, IsNoun, openings, RepeatsFlag}
-use Rattle.ops.specs.FlagKeywords.{flag_keyword}
-use Rattle.ops.specs.declared.keywords.flag.Flag.{Flag}
+use Rattle.rule_viable_prefixes.specs.Misfits.{Fitting, IsNoun, openings, IsFlagWord, RepeatsFlag}
 use Rattle.rule_viable_prefixes.proofs.FlagRuns.{NoFlag, NoFlagLast, IsNew, new_behind, none_new, last_of_both}
 use Rattle.rule_tokens.specs.Limits.{Limits}
 use Rattle.rule_viable_prefixes.proofs.Tolds.{SaysFirst, says_wider, says_carried}
@@ -73,7 +71,7 @@ module _ (limits : Limits) where
   -- a token that one reads by itself is no flag either
   abbrev pub IsOwn : Token → Type 0
   IsOwn (Line number) = ⊥
-  IsOwn (Word word) = (flag : Flag) → word ≡ flag_keyword flag → ⊥
+  IsOwn (Word word) = IsFlagWord word → ⊥
   IsOwn token = Unit {0}
 
   own_line : (token : Token) → IsOwn token → NoLine token
@@ -81,8 +79,8 @@ module _ (limits : Limits) where
   own_line token own = tt
 
   own_flag : (token : Token) → IsOwn token → NoFlag token
-  own_flag (Word word) own = λ flag is. own flag cc
-  own_flag token own = λ flag is. cc
+  own_flag (Word word) own = λ w flag is. own (subst IsFlagWord (let same_word_ : w ≡ word = cc in same_word_) flag)
+  own_flag token own = λ w flag is. cc
 
   pub own_last : (token : Token) (own : List Token) → IsOwn token → NoFlagLast own → NoFlagLast (token ∷ own)
   own_last token [] is last = own_flag token is
@@ -145,7 +143,7 @@ module _ (limits : Limits) where
   Lack R front word = RepeatsFlag front word ⊎ NoNoun R front
 
   pub repeats_behind : (before front all : List Token) (word : List ℕ) → all ≡ before ++ front → RepeatsFlag front word → RepeatsFlag all word
-  repeats_behind before front all word whole (first, flag, flags, is, stands) = (before ++ first, flag, flags, is, whole ∙ ap (λ (ts : List Token). before ++ ts) stands ∙ sym (append_assoc before first (map (λ f. Word (flag_keyword f)) (flag ∷ flags))))
+  repeats_behind before front all word whole (first, words, flags, stands) = (before ++ first, words, flags, whole ∙ ap (λ (ts : List Token). before ++ ts) stands ∙ sym (append_assoc before first (map (λ w. Word w) (word ∷ words))))
 
   pub lack_wider : {A B : Type 0} (before front all : List Token) (word : List ℕ) → all ≡ before ++ front → (A → B) → RepeatsFlag front word ⊎ A → RepeatsFlag all word ⊎ B
   lack_wider before front all word whole f (inl repeats) = inl (repeats_behind before front all word whole repeats)

@@ -237,7 +237,7 @@ module _ (spare_bytes deepest spare_statements : ℕ) where
   pub refused_within : OneTokenAtAPlace → (text : List ℕ) (tokens : List Token) (last : ℕ) (found : RuleFault) → AreTokens text tokens last → IsFaultWithin limits text found → IsAtToken limits tokens found ⊎ IsAtEnd limits tokens last found
   refused_within one text tokens last found are fault =
       refused_of tokens last found (of_text text are)
-      (where_refused spare_bytes deepest spare_statements last (limited tokens) found (limited_begins most_nodes false tokens (text_begins text tokens last are)) (limited_names most_nodes false tokens (names_in text are (λ wrong. absurd cc)))
+      (where_refused spare_bytes deepest spare_statements last (limited tokens) found (limited_begins most_nodes false tokens (text_begins text tokens last are)) (limited_names most_nodes false tokens (names_in text are (λ wrong. absurd wrong)))
       (fault_of limits one text tokens last found are fault))
 
 -- ---- within any limits

@@ -1,8 +1,9 @@
 -- What the readers of operands, operations and statements do on a line.
 use Rattle.std.proofs.Common.{◌≡◌, ℕ, ◌<◌, Bool, true, false, List, [], ◌∷◌, ◌++◌, length, map, Option, Some, None, Ok, refl, sym, ap, subst, ◌∙◌, append_assoc, ◌≤◌, Result, Err, inl, inr, arith}
-use Rattle.std.specs.Prelude.{IsTrue, codes}
+use Rattle.std.specs.Prelude.{IsTrue, codes, drop, if◌then◌else◌}
 use Rattle.std.specs.Str.{bytes_eq}
 use Rattle.ops.specs.declared.opcode.Opcode.{Opcode}
+use Rattle.ops.specs.declared.opcode.Unary.{Unary as Intrinsic}
 use Rattle.ops.specs.declared.opcode.Flags.{Flags}
 use Rattle.ops.specs.declared.comparison.Pred.{Pred}
 use Rattle.ops.specs.declared.comparison.Pred.TheVariants.{Eq}
@@ -12,7 +13,7 @@ use Rattle.std.proofs.lemmas.List.{append-nil, map-append}
 use Rattle.ops.specs.declared.keywords.flag.Flag.{Flag}
 use Rattle.ops.specs.declared.keywords.flag.Flag.TheVariants.{Nuw, Nsw, Exact, NNeg, Disjoint, SameSign}
 use Rattle.rule_tokens.specs.RuleFaults.{RuleFault}
-use Rattle.ops.specs.Keywords.{predicate_keyword, pred_in, opcode_keyword, cast_keyword}
+use Rattle.ops.specs.Keywords.{predicate_keyword, pred_in}
 use Rattle.ops.specs.FlagKeywords.{AddsFlags, flag_in, flag_keyword, has_flag, with_flag}
 use Rattle.ops.proofs.KeywordLemmas.{same_word, pred_in-is}
 use Rattle.ops.proofs.FlagKeywordLemmas.{flag_in-is, flag_in-of, flags_are_icmp, taken_flags}
@@ -24,7 +25,7 @@ use Rattle.rule_tokens.specs.Numbers.{literal_value, type_in}
 use Rattle.rule_tokens.specs.TypeTokens.{SpellsType}
 use Rattle.rule_tokens.specs.Parts.{Part, Is, Comma, ◌⨾◌, Maybe}
 use Rattle.rule_tokens.specs.PartReaders.{fault, unexpected, misplaced_word, left_out, name_within, type_at, maybe_type, line_end}
-use Rattle.rule_tokens.specs.Tokens.{Token, Line, Register, Word, Number, Mark, Bad, Excess}
+use Rattle.rule_tokens.specs.Tokens.{Token, Line, Register, Word, Opcode as OpcodeToken, Number, Mark, Bad, Excess}
 use Rattle.rule_tokens.proofs.Ends.{EndsLine, name_within-of}
 use Rattle.rule_tokens.proofs.Types.{type_in-is}
 use Rattle.rule_terms.specs.declared.place.TermPlace.TheVariants.{Constant}
@@ -40,30 +41,29 @@ use Rattle.rule_parse.specs.declared.half.Half.{Half}
 use Rattle.rule_parse.specs.declared.half.Half.TheVariants.{Source, Target}
 use Rattle.rule_parse.specs.declared.raw.RawStatement.{RawStatement}
 use Rattle.rule_parse.specs.declared.raw.RawOp.{RawOp}
-use Rattle.rule_parse.specs.declared.raw.RawOp.TheVariants.{Binary, Compare, Select, Convert, Freeze, Copy}
+use Rattle.rule_parse.specs.declared.raw.RawOp.TheVariants.{Binary, Compare, Unary, Select, Convert, Freeze, Copy}
 use Rattle.rule_parse.specs.declared.raw.RawOperand.{RawOperand}
 use Rattle.rule_parse.specs.declared.raw.RawArgument.{RawArgument}
 use Rattle.rule_parse.specs.declared.raw.RawArgument.TheVariants as arguments
 use Rattle.rule_parse.specs.declared.word.Operation.{Operation}
 use Rattle.rule_parse.specs.declared.word.Operation.TheVariants as operations
-use Rattle.rule_parse.specs.Grammar.{SpellsArgument, SpellsOperand, SpellsPair, SpellsTo, SpellsOp}
-use Rattle.rule_parse.specs.RuleReaders.{source_word, term_argument_at, argument_at, typed_at, operand_at, to_at, next_flag, flags_at, pair_at, binary_at, pred_at, compare_at, select_at, convert_at, freeze_at, copy_at, operation_at, op_at, statement_at}
-use Rattle.rule_parse.specs.Keywords.{argument_of, operation_word, is_known, operation_in, source_word_in}
+use Rattle.rule_parse.specs.Grammar.{SpellsArgument, SpellsOperand, SpellsPair, SpellsTruth, SpellsTo, SpellsOp}
+use Rattle.rule_parse.specs.RuleReaders.{source_word, term_argument_at, argument_at, typed_at, operand_at, to_at, next_flag, flags_at, pair_at, binary_at, pred_at, compare_at, is_truth_next, truth_at, unary_at, select_at, convert_at, freeze_at, copy_at, operation_at, op_at, statement_at}
+use Rattle.rule_parse.specs.Keywords.{argument_of, is_known, is_apart, token_with, opcode_token, operation_word, operation_in, truth_flag, is_truth_flag, source_word_in}
 use Rattle.rule_parse.proofs.Loops.{flags-more, flags-again}
 use Rattle.rule_parse.proofs.OpSpellings.{flags_done}
-use Rattle.rule_parse.proofs.Pieces.{operation_in-is, source_word_in-is, type_is_no_flag}
+use Rattle.rule_parse.proofs.Pieces.{IsOpcode, operation_in-is, truth_flag-is, truth_flag-of, source_word_in-is, type_is_no_flag, type_is_no_truth_flag}
 use Rattle.rule_parse.proofs.Beginnings.{BeginsOperand, argument_begins}
 use Rattle.rule_viable_prefixes.specs.Misfits as kinds
-use Rattle.rule_viable_prefixes.specs.Misfits.{Fitting, RepeatsFlag, IsNoun, NounFits, IsTooMany, kind_at, IsMisfit, itself, read_on}
-use Rattle.rule_viable_prefixes.proofs.Nouns.{no_flag_in, not_to, constant_noun, noun_other, source_other, to_other}
-use Rattle.rule_viable_prefixes.proofs.Outcomes.{akin, alike_itself, Inline, inline_none, inline_token, repeats_behind, Lack, Akin, same_next, noun_next, ended_next, NoNoun, IsErr, same_as, Takes, Alike, same, ended, Sample, pair, bare, Reader, IsErrOn, Outcome, Good, then, refused_here, passed, took, led, alike_as, widen, Branch, takes, refuses, by_token, widened, then_done, OutcomeBy, then_by}
+use Rattle.rule_viable_prefixes.specs.Misfits.{Fitting, IsFlagWord, AreFlagWords, of_instruction, of_intrinsic, RepeatsFlag, IsNoun, NounFits, IsTooMany, kind_at, IsMisfit, itself, read_on}
+use Rattle.rule_viable_prefixes.proofs.Nouns.{no_flag_in, no_truth_in, not_to, constant_noun, noun_other, source_other, to_other}
+use Rattle.rule_viable_prefixes.proofs.Outcomes.{akin, alike_itself, IsOwn, Inline, inline_none, inline_token, repeats_behind, Lack, Akin, same_next, noun_next, ended_next, NoNoun, IsErr, same_as, Takes, Alike, same, ended, Sample, pair, bare, Reader, IsErrOn, Outcome, Good, then, refused_here, passed, took, led, alike_as, widen, Branch, takes, refuses, by_token, widened, then_done, OutcomeBy, then_by}
 use Rattle.rule_viable_prefixes.proofs.Tolds.{says_word, says_syntax, says_too_many, says_misplaced, says_unexpected, says_left_out, SaysFirst}
 use Rattle.rule_viable_prefixes.proofs.Outcomes.{Parts}
 use Rattle.rule_viable_prefixes.proofs.FlagRuns.{NoFlag, NoFlagLast, IsNew, new_behind, last_both}
 use Rattle.rule_viable_prefixes.proofs.Parts.{Spelled, then_seq, ends_alike, ends_akin, refused_token, then_end, IsType, type_good}
 use Rattle.rule_viable_prefixes.proofs.Terms.{Named, is_short, is_long, named, mark_good, Term, term_good}
 use Rattle.rule_tokens.specs.declared.version.Version.{Version}
-use Rattle.rule_tokens.specs.declared.version.Version.TheVariants.{One, Two}
 use Rattle.rule_tokens.specs.Limits.{Limits}
 use Rattle.rule_viable_prefixes.proofs.Roomy.{roomy}
 
@@ -318,6 +318,20 @@ module _ (spare_bytes deepest spare_statements : ℕ) (version : Version) where
       (own, first, ap (λ (flags : Flags). with_flag flags flag) adds)
   one_more set (f ∷ written) before middle flag (takes_, new_, adds) own new = (takes_, new_, one_more set written (with_flag before f) middle flag adds own new)
 
+  -- as words
+  flag_words : List Flag → List (List ℕ)
+  flag_words flags = map flag_keyword flags
+
+  flag_tokens-words : (flags : List Flag) → flag_tokens flags ≡ map (λ w. Word w) (flag_words flags)
+  unfolding flag_words
+  flag_tokens-words [] = refl
+  flag_tokens-words (flag ∷ flags) = ap (λ (ts : List Token). Word (flag_keyword flag) ∷ ts) (flag_tokens-words flags)
+
+  are_flag_words : (flags : List Flag) → AreFlagWords (flag_words flags)
+  unfolding flag_words
+  are_flag_words [] = tt
+  are_flag_words (flag ∷ flags) = (of_instruction flag refl, are_flag_words flags)
+
   flags_inline : (written : List Flag) → Inline limits (flag_tokens written)
   flags_inline [] = inline_none limits
   flags_inline (flag ∷ written) = inline_token limits (Word (flag_keyword flag)) (flag_tokens written) tt (flags_inline written)
@@ -337,7 +351,9 @@ module _ (spare_bytes deepest spare_statements : ℕ) (version : Version) where
   repeats set (f ∷ written) before after flag (takes_, new, adds) none has = by (has_flag (with_flag before f) flag) refl (λ h. repeats set written (with_flag before f) after flag adds h has)
     where
       by : (b : Bool) → has_flag (with_flag before f) flag ≡ b → (has_flag (with_flag before f) flag ≡ false → RepeatsFlag (flag_tokens written) (flag_keyword flag)) → RepeatsFlag (flag_tokens (f ∷ written)) (flag_keyword flag)
-      by true h further = ([], f, written, ap flag_keyword (added_is before f flag none h), refl)
+      by true h further =
+          let same_flag : flag ≡ f = added_is before f flag none h in
+          ([], flag_words written, (of_instruction flag refl, are_flag_words written), ap (λ (ts : List Token). Word (flag_keyword f) ∷ ts) (flag_tokens-words written) ∙ ap (λ (g : Flag). Word (flag_keyword g) ∷ map (λ w. Word w) (flag_words written)) (sym same_flag))
       by false h further = repeats_behind limits (Word (flag_keyword f) ∷ []) (flag_tokens written) (flag_tokens (f ∷ written)) (flag_keyword flag) refl (further h)
 
   has_none : (flag : Flag) → has_flag no_flags flag ≡ false
@@ -409,12 +425,12 @@ module _ (spare_bytes deepest spare_statements : ℕ) (version : Version) where
 
   -- a flag that stands there is one of the operation
   repeated_own : (set : Flags) (written : List Flag) (before after : Flags) (left : List ℕ) → AddsFlags set before written after → RepeatsFlag (flag_tokens written) left → flag_in set left ≡ None → ⊥
-  repeated_own set [] before after left adds ([], flag, flags, word, whole) none = cc
-  repeated_own set [] before after left adds (t ∷ first, flag, flags, word, whole) none = cc
-  repeated_own set (f ∷ written) before after left (takes_, new, adds) ([], flag, flags, word, whole) none =
-      let same_flag : flag_keyword f ≡ flag_keyword flag = cc in
-      let both = sym (flag_in-of set f takes_) ∙ ap (flag_in set) (same_flag ∙ sym word) ∙ none in absurd cc
-  repeated_own set (f ∷ written) before after left (takes_, new, adds) (t ∷ first, flag, flags, word, whole) none = repeated_own set written (with_flag before f) after left adds (first, flag, flags, word, cc) none
+  repeated_own set [] before after left adds ([], words, flags, whole) none = cc
+  repeated_own set [] before after left adds (t ∷ first, words, flags, whole) none = cc
+  repeated_own set (f ∷ written) before after left (takes_, new, adds) ([], words, flags, whole) none =
+      let same_flag : flag_keyword f ≡ left = cc in
+      let both = sym (flag_in-of set f takes_) ∙ ap (flag_in set) same_flag ∙ none in absurd cc
+  repeated_own set (f ∷ written) before after left (takes_, new, adds) (t ∷ first, words, flags, whole) none = repeated_own set written (with_flag before f) after left adds (first, words, flags, cc) none
 
   -- what is left out is the next word
   word_left : (before : ℕ) (fits : Fitting) (none : List ℕ → Type 0) (tokens : List Token) (kind : RuleFaultKind) (left : List ℕ) → SaysFirst limits before fits none tokens kind → kind ≡ LeftOut left → (more : List Token) × (tokens ≡ Word left ∷ more)
@@ -445,6 +461,20 @@ module _ (spare_bytes deepest spare_statements : ℕ) (version : Version) where
       by None is = rw is (begins_other set back rest (argument_begins limits half a.value back argument))
       by (Some width) (word, type_, is) = rw is (type_is_no_flag limits set word width type_)
 
+  begins_no_truth : (op : Intrinsic) (own rest : List Token) → BeginsOperand limits own → is_truth_next op (own ++ rest) ≡ false
+  begins_no_truth op (Register name ∷ ts) rest begins = refl
+  begins_no_truth op (Number text ∷ ts) rest begins = refl
+  begins_no_truth op (Word word ∷ ts) rest begins = begins.no_truth op
+  begins_no_truth op (Mark mark ∷ ts) rest begins = refl
+  begins_no_truth op tokens rest begins = absurd begins
+
+  operand_no_truth : (op : Intrinsic) (half : Half) (a : RawOperand) (own rest : List Token) → SpellsOperand limits half a own → is_truth_next op (own ++ rest) ≡ false
+  operand_no_truth op half a own rest (front, back, type, argument, whole) = rw (whole, append_assoc front back rest) (by a.written type)
+    where
+      by : (written : Option ℕ) → Maybe SpellsType written front → is_truth_next op (front ++ (back ++ rest)) ≡ false
+      by None is = rw is (begins_no_truth op back rest (argument_begins limits half a.value back argument))
+      by (Some width) (word, type_, is) = rw is (type_is_no_truth_flag limits op word width type_)
+
   -- an operand stands there, and no flag begins it
   some_behind : (half : Half) (a : RawOperand) (front back : List Token) → SpellsOperand limits half a front → [] ≡ front ++ back → ⊥
   some_behind half a [] back is none = some_operand half (a, is)
@@ -459,10 +489,13 @@ module _ (spare_bytes deepest spare_statements : ℕ) (version : Version) where
   has_own SameSign = refl
 
   operand_other : (half : Half) (a : RawOperand) (front back : List Token) (token : Token) (tokens : List Token) → SpellsOperand limits half a front → token ∷ tokens ≡ front ++ back → NoFlag token
-  operand_other half a front back token tokens is whole flag equal =
+  operand_other half a front back token tokens is whole word (of_instruction flag word_is) equal =
       let set = with_flag no_flags flag in
-      let none : next_flag set (Word (flag_keyword flag) ∷ tokens) ≡ None = ap (λ (t : Token). next_flag set (t ∷ tokens)) (sym equal) ∙ ap (next_flag set) whole ∙ operand_begins set half a front back is in
+      let none : next_flag set (Word (flag_keyword flag) ∷ tokens) ≡ None = ap (λ (w : List ℕ). next_flag set (Word w ∷ tokens)) (sym word_is) ∙ ap (λ (t : Token). next_flag set (t ∷ tokens)) (sym equal) ∙ ap (next_flag set) whole ∙ operand_begins set half a front back is in
       let both = sym (flag_in-of set flag (has_own flag)) ∙ none in absurd cc
+  operand_other half a front back token tokens is whole word (of_intrinsic op flag) equal =
+      let none : is_truth_flag op word ≡ false = ap (λ (t : Token). is_truth_next op (t ∷ tokens)) (sym equal) ∙ ap (is_truth_next op) whole ∙ operand_no_truth op half a front back is in
+      let both = sym (truth_flag-of limits op word flag) ∙ none in absurd cc
 
   some_pair : (half : Half) → IsPair half [] → ⊥
   some_pair half (a, b, (front, back, operand, others, whole)) = some_behind half a front back operand whole
@@ -502,13 +535,20 @@ module _ (spare_bytes deepest spare_statements : ℕ) (version : Version) where
 
   -- ---- what a statement computes
 
-  binary_made : (half : Half) (op : Opcode) (own : List Token) → (Adds (flags_of op) no_flags ⨾ IsPair half) own → IsOp half (Word (opcode_keyword op) ∷ own)
-  binary_made half op own (front, back, (written, after, adds, flags), (a, b, is), whole) =
-      (Binary op after a b, (Word (opcode_keyword op) ∷ [], own, refl, (front, back, (written, adds, flags), is, whole), refl))
+  -- behind the opcode of an operation that the version has
+  abbrev IsOpBehind : Half → Operation → Part
+  IsOpBehind half operation own = IsOp half (opcode_token operation ∷ own)
 
-  binary_good : (half : Half) (line : ℕ) (op : Opcode) → Good limits (pair limits) (binary_at limits half line op) (λ x own. IsOp half (Word (opcode_keyword op) ∷ own)) line
+  abbrev OpGood : Half → ℕ → Operation → Type 0
+  OpGood half line operation = is_known operation version ≡ true → Good limits (pair limits) (operation_at limits half line operation) (λ x own. IsOpBehind half operation own) line
+
+  binary_made : (half : Half) (op : Opcode) (own : List Token) → is_known (operations.Binary op) version ≡ true → (Adds (flags_of op) no_flags ⨾ IsPair half) own → IsOpBehind half (operations.Binary op) own
+  binary_made half op own known (front, back, (written, after, adds, flags), (a, b, is), whole) =
+      (Binary op after a b, (opcode_token (operations.Binary op) ∷ [], own, (known, refl), (front, back, (written, adds, flags), is, whole), refl))
+
+  binary_good : (half : Half) (line : ℕ) (op : Opcode) → OpGood half line (operations.Binary op)
   unfolding binary_at
-  binary_good half line op = widened limits {L = Spelled limits (Adds (flags_of op) no_flags ⨾ IsPair half)} (λ x own is. binary_made half op own is)
+  binary_good half line op known = widened limits {L = Spelled limits (Adds (flags_of op) no_flags ⨾ IsPair half)} (λ x own is. binary_made half op own known is)
       (flags_good (flags_of op) (IsPair half) (some_pair half) (pair_other half) line S behind)
     where
       S : Flags × List Token → Result (RawOp × List Token) RuleFault
@@ -541,19 +581,19 @@ module _ (spare_bytes deepest spare_statements : ℕ) (version : Version) where
   some_predicate half (front, back, (pred, p), others, whole) = first_no (Word (predicate_keyword pred)) front back p (sym whole)
 
   predicate_other : (half : Half) (token : Token) (tokens : List Token) → (IsPred ⨾ IsPair half) (token ∷ tokens) → NoFlag token
-  predicate_other half token tokens (front, back, (pred, p), others, whole) flag equal =
+  predicate_other half token tokens (front, back, (pred, p), others, whole) word flag equal =
       let first : token ∷ tokens ≡ Word (predicate_keyword pred) ∷ back = whole ∙ ap (λ (ts : List Token). ts ++ back) p in
-      let same : predicate_keyword pred ≡ flag_keyword flag = cc in
-      noun_other (predicate_keyword pred) (kinds.predicate pred refl) flag same
+      let same_word_ : word ≡ predicate_keyword pred = cc in
+      noun_other (predicate_keyword pred) (kinds.predicate pred refl) (subst IsFlagWord same_word_ flag)
 
-  compare_made : (half : Half) (own : List Token) → (Adds flags_of_icmp no_flags ⨾ (IsPred ⨾ IsPair half)) own → IsOp half (Word (codes "icmp") ∷ own)
+  compare_made : (half : Half) (own : List Token) → (Adds flags_of_icmp no_flags ⨾ (IsPred ⨾ IsPair half)) own → IsOpBehind half operations.Compare own
   compare_made half own (front, back, (written, after, adds, flags), (first, others, (pred, p), (a, b, is), behind), whole) =
       let own_flags : AddsFlags flags_of_icmp no_flags written (icmp_flags after.samesign) = subst (λ (f : Flags). AddsFlags flags_of_icmp no_flags written f) (flags_are_icmp after (taken_flags flags_of_icmp written after adds)) adds in
-      (Compare pred after.samesign a b, (Word (codes "icmp") ∷ [], own, refl, (front, back, (written, own_flags, flags), (first, others, p, is, behind), whole), refl))
+      (Compare pred after.samesign a b, (opcode_token operations.Compare ∷ [], own, (refl, refl), (front, back, (written, own_flags, flags), (first, others, p, is, behind), whole), refl))
 
-  compare_good : (half : Half) (line : ℕ) → Good limits (pair limits) (compare_at limits half line) (λ x own. IsOp half (Word (codes "icmp") ∷ own)) line
+  compare_good : (half : Half) (line : ℕ) → OpGood half line operations.Compare
   unfolding compare_at
-  compare_good half line = widened limits {L = Spelled limits (Adds flags_of_icmp no_flags ⨾ (IsPred ⨾ IsPair half))} (λ x own is. compare_made half own is)
+  compare_good half line known = widened limits {L = Spelled limits (Adds flags_of_icmp no_flags ⨾ (IsPred ⨾ IsPair half))} (λ x own is. compare_made half own is)
       (flags_good flags_of_icmp (IsPred ⨾ IsPair half) (some_predicate half) (predicate_other half) line S behind)
     where
       S : Flags × List Token → Result (RawOp × List Token) RuleFault
@@ -562,13 +602,13 @@ module _ (spare_bytes deepest spare_statements : ℕ) (version : Version) where
       behind : (flags : Flags) → Good limits {A = RawOp} (pair limits) (λ ts. S (flags, ts)) (Spelled limits (IsPred ⨾ IsPair half)) line
       behind flags = then_seq limits {s = (pair limits)} {t = (pair limits)} _ (pred_good line) (λ pred. then_done limits {s = (pair limits)} {L = Spelled limits (IsPair half)} (λ p. Compare pred flags.samesign p.0 p.1) _ (λ x rest. refl) (λ x own is. is) (pair_good half line))
 
-  select_made : (half : Half) (own : List Token) → (IsOperand half ⨾ Comma ⨾ IsOperand half ⨾ Comma ⨾ IsOperand half) own → IsOp half (Word (codes "select") ∷ own)
+  select_made : (half : Half) (own : List Token) → (IsOperand half ⨾ Comma ⨾ IsOperand half ⨾ Comma ⨾ IsOperand half) own → IsOpBehind half operations.Select own
   select_made half own (f, b, (condition, is_c), (g, c, comma, (h, d, (first, is_first), (i, e, other, (second, is_second), w4), w3), w2), w1) =
-      (Select condition first second, (Word (codes "select") ∷ [], own, refl, (f, b, is_c, (g, c, comma, (h, d, is_first, (i, e, other, is_second, w4), w3), w2), w1), refl))
+      (Select condition first second, (opcode_token operations.Select ∷ [], own, (refl, refl), (f, b, is_c, (g, c, comma, (h, d, is_first, (i, e, other, is_second, w4), w3), w2), w1), refl))
 
-  select_good : (half : Half) (line : ℕ) → Good limits (pair limits) (select_at limits half line) (λ x own. IsOp half (Word (codes "select") ∷ own)) line
+  select_good : (half : Half) (line : ℕ) → OpGood half line operations.Select
   unfolding select_at
-  select_good half line = widened limits {L = Spelled limits (IsOperand half ⨾ Comma ⨾ IsOperand half ⨾ Comma ⨾ IsOperand half)} (λ x own is. select_made half own is)
+  select_good half line known = widened limits {L = Spelled limits (IsOperand half ⨾ Comma ⨾ IsOperand half ⨾ Comma ⨾ IsOperand half)} (λ x own is. select_made half own is)
       (then_seq limits {s = (pair limits)} {t = (pair limits)} _ (operand_good half line) (λ condition.
       then_seq limits {s = (bare limits)} {t = (pair limits)} _ (comma_good line) (λ u.
       then_seq limits {s = (pair limits)} {t = (pair limits)} _ (operand_good half line) (λ if_true.
@@ -602,7 +642,7 @@ module _ (spare_bytes deepest spare_statements : ℕ) (version : Version) where
       made own is (width, type) = (Some width, (Word word ∷ [], own, ap (λ (w : List ℕ). Word w ∷ []) is, type, refl))
 
       by : (b : Bool) → bytes_eq word (codes "to") ≡ b → Outcome limits (pair limits) (to_at line) (Spelled limits IsTo) line (Word word ∷ rest) (to_at line (Word word ∷ rest))
-      by true h = led limits (pair limits) (to_at line) (λ ts. type_at line ts >>= λ width. (line_end line width.1 >>= λ behind. Ok (Some width.0, behind))) (Spelled limits IsTo) line (Word word) rest (λ flag is. to_other flag (sym (same_word word (codes "to") h) ∙ is)) (λ more. rw h refl)
+      by true h = led limits (pair limits) (to_at line) (λ ts. type_at line ts >>= λ width. (line_end line width.1 >>= λ behind. Ok (Some width.0, behind))) (Spelled limits IsTo) line (Word word) rest (λ flag. to_other (subst IsFlagWord (same_word word (codes "to") h) flag)) (λ more. rw h refl)
           (widen limits (pair limits) (λ ts. type_at line ts >>= λ width. (line_end line width.1 >>= λ behind. Ok (Some width.0, behind))) (Spelled limits (IsType limits)) (λ x own. IsTo (Word word ∷ own)) line rest (λ x own is. made own (same_word word (codes "to") h) is) _ ((type_end_good line).outcome rest))
       by false h = refused_token limits (pair limits) (to_at line) (Spelled limits IsTo) line (Word word) rest (None, [], no_to) (λ p. p) (λ more. (fault line Syntax, rw h refl, refl, says_word limits word more (inr (inr (λ noun is others. (fault line Syntax, rw (not_to noun is) refl))))))
   to_outcome line (token ∷ rest) = refused_token limits (pair limits) (to_at line) (Spelled limits IsTo) line token rest (None, [], no_to) (λ p. p) (λ more. (unexpected line (token ∷ more), refl, refl, says_unexpected limits line token more (λ word is. absurd cc)))
@@ -616,13 +656,13 @@ module _ (spare_bytes deepest spare_statements : ℕ) (version : Version) where
   cast_other : (half : Half) (token : Token) (tokens : List Token) → (IsOperand half ⨾ IsTo) (token ∷ tokens) → NoFlag token
   cast_other half token tokens (front, back, (a, is), others, whole) = operand_other half a front back token tokens is whole
 
-  convert_made : (half : Half) (cast : Cast) (own : List Token) → (Adds (flags_of_cast cast) no_flags ⨾ (IsOperand half ⨾ IsTo)) own → IsOp half (Word (cast_keyword cast) ∷ own)
+  convert_made : (half : Half) (cast : Cast) (own : List Token) → (Adds (flags_of_cast cast) no_flags ⨾ (IsOperand half ⨾ IsTo)) own → IsOpBehind half (operations.Convert cast) own
   convert_made half cast own (front, back, (written, after, adds, flags), (first, others, (a, is), (to, t), behind), whole) =
-      (Convert cast after a to, (Word (cast_keyword cast) ∷ [], own, refl, (front, back, (written, adds, flags), (first, others, is, t, behind), whole), refl))
+      (Convert cast after a to, (opcode_token (operations.Convert cast) ∷ [], own, (refl, refl), (front, back, (written, adds, flags), (first, others, is, t, behind), whole), refl))
 
-  convert_good : (half : Half) (line : ℕ) (cast : Cast) → Good limits (pair limits) (convert_at limits half line cast) (λ x own. IsOp half (Word (cast_keyword cast) ∷ own)) line
+  convert_good : (half : Half) (line : ℕ) (cast : Cast) → OpGood half line (operations.Convert cast)
   unfolding convert_at
-  convert_good half line cast = widened limits {L = Spelled limits (Adds (flags_of_cast cast) no_flags ⨾ (IsOperand half ⨾ IsTo))} (λ x own is. convert_made half cast own is)
+  convert_good half line cast known = widened limits {L = Spelled limits (Adds (flags_of_cast cast) no_flags ⨾ (IsOperand half ⨾ IsTo))} (λ x own is. convert_made half cast own is)
       (flags_good (flags_of_cast cast) (IsOperand half ⨾ IsTo) (some_cast half) (cast_other half) line S behind)
     where
       S : Flags × List Token → Result (RawOp × List Token) RuleFault
@@ -637,39 +677,216 @@ module _ (spare_bytes deepest spare_statements : ℕ) (version : Version) where
   unfolding copy_at
   copy_good line = widened limits {L = Spelled limits (IsOperand Target)} (λ x own is. (Copy is.0, is.1)) (then_end limits _ (λ operand. Copy operand) (λ operand rest. refl) (operand_good Target line))
 
-  -- a freeze, where the version knows it
-  freeze_made : (v : Version) (half : Half) (own : List Token) → is_known operations.Freeze v ≡ true → (a : RawOperand) → SpellsOperand limits half a own → SpellsOp limits v half (Freeze a) (Word (codes "freeze") ∷ own)
-  freeze_made One half own known a is = absurd cc
-  freeze_made Two half own known a is = (Word (codes "freeze") ∷ [], own, refl, is, refl)
-
-  freeze_good : (half : Half) (line : ℕ) → is_known operations.Freeze version ≡ true → Good limits (pair limits) (freeze_at limits half line) (λ x own. IsOp half (Word (codes "freeze") ∷ own)) line
+  freeze_good : (half : Half) (line : ℕ) → OpGood half line operations.Freeze
   unfolding freeze_at
-  freeze_good half line known = widened limits {L = Spelled limits (IsOperand half)} (λ x own is. (Freeze is.0, freeze_made version half own known is.0 is.1)) (then_end limits _ (λ operand. Freeze operand) (λ operand rest. refl) (operand_good half line))
+  freeze_good half line known =
+      widened limits {L = Spelled limits (IsOperand half)} (λ x own is. (Freeze is.0, (opcode_token operations.Freeze ∷ [], own, (known, refl), is.1, refl)))
+      (then_end limits _ (λ operand. Freeze operand) (λ operand rest. refl) (operand_good half line))
 
-  operation_good : (half : Half) (line : ℕ) (operation : Operation) → is_known operation version ≡ true → Good limits (pair limits) (operation_at limits half line operation) (λ x own. IsOp half (Word (operation_word operation) ∷ own)) line
-  operation_good half line (operations.Binary op) known = binary_good half line op
-  operation_good half line operations.Compare known = compare_good half line
-  operation_good half line operations.Select known = select_good half line
-  operation_good half line (operations.Convert cast) known = convert_good half line cast
-  operation_good half line operations.Freeze known = freeze_good half line known
+  -- ---- intrinsics
+
+  abbrev IsTruth : Intrinsic → Part
+  IsTruth op own = (truth : Bool) × SpellsTruth op truth own
+
+  truth_none : (op : Intrinsic) → IsTruth op []
+  truth_none op = (false, refl)
+
+  no_truth : (op : Intrinsic) (tokens more : List Token) → Akin tokens more → is_truth_next op tokens ≡ false → is_truth_next op more ≡ false
+  no_truth op tokens more (same_next (Word word) a b) none = none
+  no_truth op tokens more (same_next token a b) none = refl
+  no_truth op tokens more (noun_next word noun a b is) none = no_truth_in op noun is
+  no_truth op tokens more (ended_next a [] p q) none = refl
+  no_truth op tokens more (ended_next a (Line number ∷ b) p q) none = refl
+  no_truth op tokens more (ended_next a b p q) none = absurd q
+
+  -- the flag is read or not, and none is next
+  abbrev OwnTruth : Intrinsic → List Token → List Token → Type 0
+  OwnTruth op own rest = IsTruth op own × (is_truth_next op rest ≡ false)
+
+  abbrev TruthIs : Intrinsic → ℕ → List Token → Type 0
+  TruthIs op line tokens = OutcomeBy limits (OwnTruth op) (pair limits) (truth_at op line) (Spelled limits (IsTruth op)) line tokens (truth_at op line tokens)
+
+  truth_reads_none : (op : Intrinsic) (line : ℕ) (more : List Token) → is_truth_next op more ≡ false → truth_at op line more ≡ Ok (false, more)
+  unfolding truth_at
+  truth_reads_none op line more none = rw none refl
+
+  truth_reads_one : (op : Intrinsic) (line : ℕ) (word : List ℕ) (more : List Token) → is_truth_flag op word ≡ true → is_truth_next op more ≡ false → truth_at op line (Word word ∷ more) ≡ Ok (true, more)
+  unfolding truth_at
+  truth_reads_one op line word more flag none = rw (flag, none) refl
+
+  truth_reads_two : (op : Intrinsic) (line : ℕ) (word again : List ℕ) (more : List Token) → is_truth_flag op word ≡ true → is_truth_flag op again ≡ true → truth_at op line (Word word ∷ Word again ∷ more) ≡ Err (fault line Syntax)
+  unfolding truth_at
+  truth_reads_two op line word again more flag twice = rw (flag, twice) refl
+
+  no_truth_there : (op : Intrinsic) (line : ℕ) (tokens : List Token) → is_truth_next op tokens ≡ false → TruthIs op line tokens
+  no_truth_there op line tokens none =
+      subst (OutcomeBy limits (OwnTruth op) (pair limits) (truth_at op line) (Spelled limits (IsTruth op)) line tokens) (sym (truth_reads_none op line tokens none))
+      (record {
+        value = false;
+        own = [];
+        rest = tokens;
+        is_own = truth_none op;
+        inline = inline_none limits;
+        there = refl;
+        is = refl;
+        kept = λ more alike. truth_reads_none op line more (no_truth op tokens more alike none);
+        apart = (truth_none op, none);
+      })
+
+  one_truth : (op : Intrinsic) (word : List ℕ) → is_truth_flag op word ≡ true → IsTruth op (Word word ∷ [])
+  one_truth op word flag = (true, (word, truth_flag-is limits op word flag, refl))
+
+  truth_there : (op : Intrinsic) (line : ℕ) (word : List ℕ) (rest : List Token) → is_truth_flag op word ≡ true → is_truth_next op rest ≡ false → TruthIs op line (Word word ∷ rest)
+  truth_there op line word rest flag none =
+      subst (OutcomeBy limits (OwnTruth op) (pair limits) (truth_at op line) (Spelled limits (IsTruth op)) line (Word word ∷ rest)) (sym (truth_reads_one op line word rest flag none))
+      (record {
+        value = true;
+        own = Word word ∷ [];
+        rest = rest;
+        is_own = one_truth op word flag;
+        inline = inline_token limits (Word word) [] tt (inline_none limits);
+        there = refl;
+        is = refl;
+        kept = λ more alike. truth_reads_one op line word more flag (no_truth op rest more alike none);
+        apart = (one_truth op word flag, none);
+      })
+
+  -- or the flag again
+  truth_again : (op : Intrinsic) (line : ℕ) (word again : List ℕ) (rest : List Token) → is_truth_flag op word ≡ true → is_truth_flag op again ≡ true → TruthIs op line (Word word ∷ Word again ∷ rest)
+  truth_again op line word again rest flag twice =
+      let same_flag : again ≡ word = some_same (sym (truth_flag-is limits op again twice) ∙ truth_flag-is limits op word flag) in
+      subst (OutcomeBy limits (OwnTruth op) (pair limits) (truth_at op line) (Spelled limits (IsTruth op)) line (Word word ∷ Word again ∷ rest)) (sym (truth_reads_two op line word again rest flag twice))
+      (record {
+        front = Word word ∷ [];
+        behind = Word again ∷ rest;
+        there = refl;
+        begins = (true, [], one_truth op word flag);
+        inline = inline_token limits (Word word) [] tt (inline_none limits);
+        refused = λ more alike. refused more alike;
+        here = refl;
+        says = says_word limits again rest (inr (inl ([], [], (of_intrinsic op (truth_flag-is limits op again twice), tt), ap (λ (w : List ℕ). Word w ∷ []) (sym same_flag))));
+        new = λ left is. absurd cc;
+      })
+    where
+      some_same : {a b : List ℕ} → Some a ≡ Some b → a ≡ b
+      some_same e = cc
+
+      refused : (more : List Token) → Alike (Word again ∷ rest) more → IsErr limits (truth_at op line (Word word ∷ more))
+      refused more (same t a b) = (fault line Syntax, truth_reads_two op line word again b flag twice)
+      refused more (ended a b p q) = absurd p
+
+  truth_outcome : (op : Intrinsic) (line : ℕ) (tokens : List Token) → TruthIs op line tokens
+  truth_outcome op line (Word word ∷ rest) = by (is_truth_flag op word) refl
+    where
+      behind : is_truth_flag op word ≡ true → (ts : List Token) → TruthIs op line (Word word ∷ ts)
+      behind flag (Word again ∷ ts) = next (is_truth_flag op again) refl
+        where
+          next : (b : Bool) → is_truth_flag op again ≡ b → TruthIs op line (Word word ∷ Word again ∷ ts)
+          next true twice = truth_again op line word again ts flag twice
+          next false none = truth_there op line word (Word again ∷ ts) flag none
+      behind flag [] = truth_there op line word [] flag refl
+      behind flag (token ∷ ts) = truth_there op line word (token ∷ ts) flag refl
+
+      by : (b : Bool) → is_truth_flag op word ≡ b → TruthIs op line (Word word ∷ rest)
+      by true flag = behind flag rest
+      by false none = no_truth_there op line (Word word ∷ rest) none
+  truth_outcome op line [] = no_truth_there op line [] refl
+  truth_outcome op line (token ∷ rest) = no_truth_there op line (token ∷ rest) refl
+
+  -- the flag that stands there is no other one
+  repeated_truth : (op : Intrinsic) (own : List Token) (left : List ℕ) → IsTruth op own → RepeatsFlag own left → is_truth_flag op left ≡ false → ⊥
+  repeated_truth op own left (false, is) repeats none = nothing (subst (λ (ts : List Token). RepeatsFlag ts left) is repeats)
+    where
+      nothing : RepeatsFlag [] left → ⊥
+      nothing ([], words, flags, whole) = cc
+      nothing (t ∷ first, words, flags, whole) = cc
+  repeated_truth op own left (true, (word, flag, is)) repeats none = one_flag (subst (λ (ts : List Token). RepeatsFlag ts left) is repeats)
+    where
+      one_flag : RepeatsFlag (Word word ∷ []) left → ⊥
+      one_flag ([], words, flags, whole) =
+          let same_word_ : word ≡ left = cc in
+          let both = sym (truth_flag-of limits op word flag) ∙ ap (is_truth_flag op) same_word_ ∙ none in absurd cc
+      one_flag (t ∷ [], words, flags, whole) = cc
+      one_flag (t ∷ u ∷ first, words, flags, whole) = cc
+
+  -- what stands behind the flag takes a token that is none
+  truth_parts : {B Y : Type 0} (op : Intrinsic) (half : Half) (S : Bool × List Token → Result Y RuleFault) (line : ℕ) → Parts limits {A = Bool} {B = B} (OwnTruth op) (pair limits) S (λ x. Spelled limits (IsOperand half)) line
+  truth_parts {B} {Y} op half S line = record {
+    new = λ own rest c x found p. new _ _ _ own rest c found.kind p.front p.behind p.there p.begins.1 p.begins.2 p.says p.new;
+    last = λ own rest c x y more is last_. last own more is last_;
+  }
+    where
+      new : (before : ℕ) (fits : Fitting) (none : List ℕ → Type 0) (own rest : List Token) → OwnTruth op own rest → (kind : RuleFaultKind) (front behind : List Token) → rest ≡ front ++ behind → (more : List Token) → IsOperand half (front ++ more) → SaysFirst limits before fits none behind kind → IsNew front kind → IsNew (own ++ front) kind
+      new before fits none own rest c kind [] behind there more is says new_ = λ left left_out_ again.
+          let w = word_left before fits none behind kind left says left_out_ in
+          repeated_truth op own left c.0 (subst (λ (ts : List Token). RepeatsFlag ts left) (append-nil own) again)
+          (subst (λ (ts : List Token). is_truth_next op ts ≡ false) (there ∙ w.1) c.1)
+      new before fits none own rest c kind (u ∷ front) behind there more is says new_ =
+          new_behind own (u ∷ front) kind (inr (operand_other half is.0 (u ∷ front ++ more) [] u (front ++ more) is.1 (sym (append-nil (u ∷ front ++ more))))) new_
+
+      last : (own more : List Token) → IsOperand half more → NoFlagLast more → NoFlagLast (own ++ more)
+      last own [] is last_ = absurd (some_operand half is)
+      last own (u ∷ more) is last_ = last_both own u more last_
+
+  unary_made : (half : Half) (op : Intrinsic) (own : List Token) → is_known (operations.Unary op) version ≡ true → (IsTruth op ⨾ IsOperand half) own → IsOpBehind half (operations.Unary op) own
+  unary_made half op own known (front, back, (truth, flag), (a, is), whole) =
+      (Unary op truth a, (opcode_token (operations.Unary op) ∷ [], own, (known, refl), (front, back, flag, is, whole), refl))
+
+  unary_good : (half : Half) (line : ℕ) (op : Intrinsic) → OpGood half line (operations.Unary op)
+  unfolding unary_at
+  unary_good half line op known = widened limits {L = Spelled limits (IsTruth op ⨾ IsOperand half)} (λ x own is. unary_made half op own known is) record {
+    sample = let s = (behind false).sample in (s.0, s.1, ([], s.1, truth_none op, s.2, refl));
+    outcome = λ tokens.
+        then_by limits (OwnTruth op) (pair limits) (pair limits) (truth_at op line) S (Spelled limits (IsTruth op)) (λ x. Spelled limits (IsOperand half)) (Spelled limits (IsTruth op ⨾ IsOperand half)) line tokens (λ x y front back p q. (front, back, p, q, refl)) (λ x own is. (behind x).sample)
+        (truth_parts {B = RawOp} op half S line) (truth_outcome op line tokens) (λ x rest e. (behind x).outcome rest);
+  }
+    where
+      S : Bool × List Token → Result (RawOp × List Token) RuleFault
+      S truth = operand_at limits half line truth.1 >>= λ operand. (line_end line operand.1 >>= λ rest. Ok (Unary op truth.0 operand.0, rest))
+
+      behind : (truth : Bool) → Good limits {A = RawOp} (pair limits) (λ ts. S (truth, ts)) (Spelled limits (IsOperand half)) line
+      behind truth = then_end limits _ (λ operand. Unary op truth operand) (λ operand rest. refl) (operand_good half line)
+
+  operation_good : (half : Half) (line : ℕ) (operation : Operation) → OpGood half line operation
+  operation_good half line (operations.Binary op) = binary_good half line op
+  operation_good half line operations.Compare = compare_good half line
+  operation_good half line (operations.Unary op) = unary_good half line op
+  operation_good half line operations.Select = select_good half line
+  operation_good half line (operations.Convert cast) = convert_good half line cast
+  operation_good half line operations.Freeze = freeze_good half line
 
   op_sample : (half : Half) → Sample limits (Spelled limits (IsOp half) {A = RawOp})
   op_sample half =
-      let s = (select_good half 0).sample in
+      let s = (select_good half 0 refl).sample in
       (s.0, Word (codes "select") ∷ s.1, s.2)
 
   op_fits : (half : Half) → NounFits (Takes limits (Spelled limits (IsOp half) {A = RawOp}) [])
   op_fits half =
-      let s = (select_good half 0).sample in
+      let s = (select_good half 0 refl).sample in
       (codes "select", kinds.opcode operations.Select refl, (s.0, s.1, s.2))
 
-  op_word_outcome : (half : Half) (line : ℕ) (word : List ℕ) (rest : List Token) (operation : Operation) → operation_in version word ≡ Some operation → Outcome limits (pair limits) (op_at limits version half line) (Spelled limits (IsOp half)) line (Word word ∷ rest) (op_at limits version half line (Word word ∷ rest))
+  -- behind an opcode, which is no flag
+  op_token_outcome : (half : Half) (line : ℕ) (token : Token) (rest : List Token) (operation : Operation) → IsOpcode limits version operation token → IsOwn limits token → ((more : List Token) → op_at limits version half line (token ∷ more) ≡ operation_at limits half line operation more)
+      → Outcome limits (pair limits) (op_at limits version half line) (Spelled limits (IsOp half)) line (token ∷ rest) (op_at limits version half line (token ∷ rest))
+  op_token_outcome half line token rest operation opcode own reads =
+      led limits (pair limits) (op_at limits version half line) (operation_at limits half line operation) (Spelled limits (IsOp half)) line token rest own reads
+      (widen limits (pair limits) (operation_at limits half line operation) (λ x own. IsOpBehind half operation own) (λ x own. IsOp half (token ∷ own)) line rest
+      (λ x own is. subst (λ (t : Token). IsOp half (t ∷ own)) (sym opcode.1) is) (operation_at limits half line operation rest) ((operation_good half line operation opcode.0).outcome rest))
+
+  word_is : (apart : Bool) (word text : List ℕ) → Word word ≡ token_with apart text → word ≡ text
+  word_is true word text e = absurd cc
+  word_is false word text e = cc
+
+  op_word_outcome : (half : Half) (line : ℕ) (word : List ℕ) (rest : List Token) (operation : Operation) → operation_in version false word ≡ Some operation → Outcome limits (pair limits) (op_at limits version half line) (Spelled limits (IsOp half)) line (Word word ∷ rest) (op_at limits version half line (Word word ∷ rest))
   unfolding op_at
   op_word_outcome half line word rest operation f =
-      let known = operation_in-is limits version word operation f in
-      led limits (pair limits) (op_at limits version half line) (operation_at limits half line operation) (Spelled limits (IsOp half)) line (Word word) rest (noun_other word (kinds.opcode operation known.0)) (λ more. rw f refl)
-      (widen limits (pair limits) (operation_at limits half line operation) (λ x own. IsOp half (Word (operation_word operation) ∷ own)) (λ x own. IsOp half (Word word ∷ own)) line rest
-      (λ x own is. subst (λ (w : List ℕ). IsOp half (Word w ∷ own)) (sym known.0) is) (operation_at limits half line operation rest) ((operation_good half line operation known.1).outcome rest))
+      let opcode = operation_in-is limits version false word operation f in
+      op_token_outcome half line (Word word) rest operation opcode (noun_other word (kinds.opcode operation (word_is (is_apart operation) word (operation_word operation) opcode.1))) (λ more. rw f refl)
+
+  op_apart_outcome : (half : Half) (line : ℕ) (word : List ℕ) (rest : List Token) (operation : Operation) → operation_in version true word ≡ Some operation → Outcome limits (pair limits) (op_at limits version half line) (Spelled limits (IsOp half)) line (OpcodeToken word ∷ rest) (op_at limits version half line (OpcodeToken word ∷ rest))
+  unfolding op_at
+  op_apart_outcome half line word rest operation f =
+      op_token_outcome half line (OpcodeToken word) rest operation (operation_in-is limits version true word operation f) tt (λ more. rw f refl)
 
   left_out_on : (line : ℕ) (token : Token) (more : List Token) → (left_out line (token ∷ more)).line ≡ line
   left_out_on line (Word word) more = refl
@@ -689,9 +906,14 @@ module _ (spare_bytes deepest spare_statements : ℕ) (version : Version) where
       by [] ends = (fault line Syntax, refl, refl, refl)
       by (Line number ∷ more) ends = (fault line Syntax, refl, refl, says_syntax limits (Line number) more tt)
       by more ends = absurd ends
-  source_op_outcome line (Word word ∷ rest) = by (operation_in version word) refl
+  source_op_outcome line (OpcodeToken word ∷ rest) = by (operation_in version true word) refl
     where
-      by : (found : Option Operation) → operation_in version word ≡ found → Outcome limits (pair limits) (op_at limits version Source line) (Spelled limits (IsOp Source)) line (Word word ∷ rest) (op_at limits version Source line (Word word ∷ rest))
+      by : (found : Option Operation) → operation_in version true word ≡ found → Outcome limits (pair limits) (op_at limits version Source line) (Spelled limits (IsOp Source)) line (OpcodeToken word ∷ rest) (op_at limits version Source line (OpcodeToken word ∷ rest))
+      by (Some operation) f = op_apart_outcome Source line word rest operation f
+      by None f = refused_token limits (pair limits) (op_at limits version Source line) (Spelled limits (IsOp Source)) line (OpcodeToken word) rest (op_sample Source) (λ p. p) (λ more. (fault line Syntax, rw f refl, refl, says_syntax limits (OpcodeToken word) more tt))
+  source_op_outcome line (Word word ∷ rest) = by (operation_in version false word) refl
+    where
+      by : (found : Option Operation) → operation_in version false word ≡ found → Outcome limits (pair limits) (op_at limits version Source line) (Spelled limits (IsOp Source)) line (Word word ∷ rest) (op_at limits version Source line (Word word ∷ rest))
       by (Some operation) f = op_word_outcome Source line word rest operation f
       by None f = refused_token limits (pair limits) (op_at limits version Source line) (Spelled limits (IsOp Source)) line (Word word) rest (op_sample Source) (λ p. p) (λ more. (misplaced_word line word, rw f refl, refl, says_misplaced limits (op_fits Source) line word more))
   source_op_outcome line (token ∷ rest) =
@@ -706,15 +928,12 @@ module _ (spare_bytes deepest spare_statements : ℕ) (version : Version) where
       ok_no_err (copy_at limits line (Word (codes "C") ∷ [])) _ whole (n (codes "C") constant_noun [])
 
   some_op : IsOp Target [] → ⊥
-  some_op (Binary op flags a b, (front, back, is, behind, whole)) = first_no (Word (opcode_keyword op)) front back is (sym whole)
-  some_op (Compare pred samesign a b, (front, back, is, behind, whole)) = first_no (Word (codes "icmp")) front back is (sym whole)
-  some_op (Select a b c, (front, back, is, behind, whole)) = first_no (Word (codes "select")) front back is (sym whole)
-  some_op (Convert cast flags a to, (front, back, is, behind, whole)) = first_no (Word (cast_keyword cast)) front back is (sym whole)
-  some_op (Freeze a, is) = by version is
-    where
-      by : (v : Version) → SpellsOp limits v Target (Freeze a) [] → ⊥
-      by One is = absurd is
-      by Two (front, back, word, behind, whole) = first_no (Word (codes "freeze")) front back word (sym whole)
+  some_op (Binary op flags a b, (front, back, is, behind, whole)) = first_no (opcode_token (operations.Binary op)) front back is.1 (sym whole)
+  some_op (Compare pred samesign a b, (front, back, is, behind, whole)) = first_no (opcode_token operations.Compare) front back is.1 (sym whole)
+  some_op (Unary op truth a, (front, back, is, behind, whole)) = first_no (opcode_token (operations.Unary op)) front back is.1 (sym whole)
+  some_op (Select a b c, (front, back, is, behind, whole)) = first_no (opcode_token operations.Select) front back is.1 (sym whole)
+  some_op (Convert cast flags a to, (front, back, is, behind, whole)) = first_no (opcode_token (operations.Convert cast)) front back is.1 (sym whole)
+  some_op (Freeze a, (front, back, is, behind, whole)) = first_no (opcode_token operations.Freeze) front back is.1 (sym whole)
   some_op (Copy a, is) = some_operand Target (a, is)
 
   as_copy : (line : ℕ) (tokens : List Token) → ((more : List Token) → Alike tokens more → op_at limits version Target line more ≡ copy_at limits line more) → Outcome limits (pair limits) (copy_at limits line) (Spelled limits (IsOp Target)) line tokens (copy_at limits line tokens) → Outcome limits (pair limits) (op_at limits version Target line) (Spelled limits (IsOp Target)) line tokens (op_at limits version Target line tokens)
@@ -722,9 +941,14 @@ module _ (spare_bytes deepest spare_statements : ℕ) (version : Version) where
 
   target_op_outcome : (line : ℕ) (tokens : List Token) → Outcome limits (pair limits) (op_at limits version Target line) (Spelled limits (IsOp Target)) line tokens (op_at limits version Target line tokens)
   unfolding op_at
-  target_op_outcome line (Word word ∷ rest) = by (operation_in version word) refl
+  target_op_outcome line (OpcodeToken word ∷ rest) = by (operation_in version true word) refl
     where
-      by : (found : Option Operation) → operation_in version word ≡ found → Outcome limits (pair limits) (op_at limits version Target line) (Spelled limits (IsOp Target)) line (Word word ∷ rest) (op_at limits version Target line (Word word ∷ rest))
+      by : (found : Option Operation) → operation_in version true word ≡ found → Outcome limits (pair limits) (op_at limits version Target line) (Spelled limits (IsOp Target)) line (OpcodeToken word ∷ rest) (op_at limits version Target line (OpcodeToken word ∷ rest))
+      by (Some operation) f = op_apart_outcome Target line word rest operation f
+      by None f = as_copy line (OpcodeToken word ∷ rest) (same_reading (op_at limits version Target line) (copy_at limits line) (OpcodeToken word) rest (λ p. p) (λ more. rw f refl)) ((copy_good line).outcome (OpcodeToken word ∷ rest))
+  target_op_outcome line (Word word ∷ rest) = by (operation_in version false word) refl
+    where
+      by : (found : Option Operation) → operation_in version false word ≡ found → Outcome limits (pair limits) (op_at limits version Target line) (Spelled limits (IsOp Target)) line (Word word ∷ rest) (op_at limits version Target line (Word word ∷ rest))
       by (Some operation) f = op_word_outcome Target line word rest operation f
       by None f = as_copy line (Word word ∷ rest) (same_reading (op_at limits version Target line) (copy_at limits line) (Word word) rest (λ p. p) (λ more. rw f refl)) ((copy_good line).outcome (Word word ∷ rest))
   target_op_outcome line [] = as_copy line [] (λ more alike. same_at_end (op_at limits version Target line) (copy_at limits line) refl (λ number m. refl) [] more tt alike) ((copy_good line).outcome [])

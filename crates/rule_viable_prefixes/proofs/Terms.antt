@@ -145,16 +145,16 @@ module _ (spare_bytes deepest spare_statements : ℕ) where
   no_operator level tokens more (ended_next a (Line number ∷ b) p q) none = refl
   no_operator level tokens more (ended_next a b p q) none = absurd q
 
-  chain_step : (operand : TermReader) (level : ℕ) (left : List RawNode) (op : Opcode) (more : List Token) → Shortens limits operand → level_of op ≡ level
-      → whole_chain_at operand level left (Mark (operator_mark op) ∷ more) ≡ (operand left more >>= λ both. whole_chain_at operand level (join op left both.0) both.1)
+  chain_step : (operand : TermReader) (level : ℕ) (left : List RawNode) (op : Opcode) (more : List Token) → Shortens limits operand → level_of op ≡ suc level
+      → whole_chain_at operand (suc level) left (Mark (operator_mark op) ∷ more) ≡ (operand left more >>= λ both. whole_chain_at operand (suc level) (join op left both.0) both.1)
   chain_step operand level left op more shortens of = by (operand left more) refl
     where
-      found : operator_at level (Mark (operator_mark op) ∷ more) ≡ Some (op, more)
+      found : operator_at (suc level) (Mark (operator_mark op) ∷ more) ≡ Some (op, more)
       found = operator_at-of level op more of
 
-      by : (r : Result (List RawNode × List Token) RuleFault) → operand left more ≡ r → whole_chain_at operand level left (Mark (operator_mark op) ∷ more) ≡ (r >>= λ both. whole_chain_at operand level (join op left both.0) both.1)
-      by (Ok both) e = chain-more limits operand level left (Mark (operator_mark op) ∷ more) (op, more) both shortens found e
-      by (Err f) e = chain-fault limits operand level left (Mark (operator_mark op) ∷ more) (op, more) _ (Refused f) found e refl
+      by : (r : Result (List RawNode × List Token) RuleFault) → operand left more ≡ r → whole_chain_at operand (suc level) left (Mark (operator_mark op) ∷ more) ≡ (r >>= λ both. whole_chain_at operand (suc level) (join op left both.0) both.1)
+      by (Ok both) e = chain-more limits operand (suc level) left (Mark (operator_mark op) ∷ more) (op, more) both shortens found e
+      by (Err f) e = chain-fault limits operand (suc level) left (Mark (operator_mark op) ∷ more) (op, more) _ (Refused f) found e refl
 
   -- the chain, where what goes on with it is known
   chain_by : (place : TermPlace) (nesting line level : ℕ) (operand : TermReader) → Shortens limits operand → ((left : List RawNode) → Good (levels nesting) (pair limits) (operand left) (Term place nesting level) line)
@@ -167,7 +167,7 @@ module _ (spare_bytes deepest spare_statements : ℕ) where
       let n = operator_at-is (suc level) tokens next e in
       subst (λ (ts : List Token). Outcome (levels nesting) (pair limits) (whole_chain_at operand (suc level) left) (More place nesting (suc level) (suc level)) line ts (whole_chain_at operand (suc level) left ts)) (sym n.whole)
       (led (levels nesting) (pair limits) (whole_chain_at operand (suc level) left) (λ ts. operand left ts >>= λ both. whole_chain_at operand (suc level) (join next.0 left both.0) both.1)
-      (More place nesting (suc level) (suc level)) line (Mark (operator_mark next.0)) next.1 tt (λ more. chain_step operand (suc level) left next.0 more shortens n.is_level)
+      (More place nesting (suc level) (suc level)) line (Mark (operator_mark next.0)) next.1 tt (λ more. chain_step operand level left next.0 more shortens n.is_level)
       (then_at (levels nesting) (pair limits) (pair limits) (operand left) (λ both. whole_chain_at operand (suc level) (join next.0 left both.0) both.1)
       (Term place nesting level) (λ x. More place nesting (suc level) (suc level)) (λ x own. GoesOn place nesting (suc level) (suc level) (Mark (operator_mark next.0) ∷ own)) line next.1
       (λ x y front back is more. goes_both place nesting (suc level) (suc level) (suc level) (Mark (operator_mark next.0) ∷ front) back (goes_joined place nesting level next.0 front n.is_level is) more)

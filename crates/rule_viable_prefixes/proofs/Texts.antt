@@ -18,8 +18,10 @@ use Rattle.scan.specs.Names.{is_in_rest, rest_of_line}
 use Rattle.scan.specs.RuleTokens.{is_unsigned_operator, is_remainder, is_placed_operator, is_mark, is_register, is_rule_word, is_negative, is_literal, kind_of, IsLongestToken, Begins, IsGapBefore, line_at, in_operator_place, IsNextRuleToken, IsBadNext}
 use Rattle.scan.proofs.Fronts.{which}
 use Rattle.scan.proofs.PlaceLemmas.{feeds_append, feeds_between, run_feeds, ends_or_not}
-use Rattle.rule_tokens.specs.Tokens.{Token, Line, Head, Name, Register, Word, Number, Mark, Bad, Excess, token_of, token_on, Place, AtName, AtToken, place_behind, bytes_at, TokensFrom, ends, token, name, bad_token, bad_name, AreTokens}
+use Rattle.rule_tokens.specs.Tokens.{Token, Line, Head, Name, Register, Word, Opcode, Number, Mark, Bad, Excess, word_of, token_of, token_at, token_on, is_called, Place, AtName, AtToken, place_behind, bytes_at, TokensFrom, ends, token, name, bad_token, bad_name, AreTokens}
 use Rattle.rule_tokens.proofs.Ends.{EndsLine}
+use Rattle.rule_tokens.specs.declared.context.Context.{Context}
+use Rattle.rule_tokens.specs.Contexts.{at_start, context_behind, behind_name, is_opcode}
 use Rattle.rule_parse.specs.CutTokens.{limited_to, room_behind, or_excess}
 use Rattle.rule_parse.proofs.Cuts.{IsOfText, AreOfText}
 use Rattle.rule_viable_prefixes.proofs.Lines.{NamesEndLines}
@@ -201,23 +203,27 @@ on_another before line t tokens less = by (eqb line before) refl
     by true e = let equal : line ≡ before = eqb-true line before e in absurd (omega (arith, equal, less))
     by false e = tt
 
-begins_lines : (text : List ℕ) (operator : Bool) (at line : ℕ) (tokens : List Token) (last : ℕ) (place : Place) → place ≡ AtToken operator → TokensFrom text place at line tokens last
+begins_lines : (text : List ℕ) (c : Context) (at line : ℕ) (tokens : List Token) (last : ℕ) (place : Place) → place ≡ AtToken c → TokensFrom text place at line tokens last
     → ((operator : Bool) (t : RuleToken) → IsNextRuleToken operator text at t → t.kind ≢ kinds.End → line < t.line) → ((bad : ℕ) → IsBadNext text at bad → line < bad) → EndsLine tokens
-begins_lines text operator at line tokens last place is (ends t next end same) later_token later_bad = tt
-begins_lines text operator at line tokens last place is (token {operator = o} t next ne more) later_token later_bad = on_another line t.line _ _ (later_token o t next ne)
-begins_lines text operator at line tokens last place is (name found more) later_token later_bad = absurd cc
-begins_lines text operator at line tokens last place is (bad_token bad) later_token later_bad = on_another line last Bad [] (later_bad last bad)
-begins_lines text operator at line tokens last place is (bad_name bad) later_token later_bad = absurd cc
+begins_lines text c at line tokens last place is (ends t next end same) later_token later_bad = tt
+begins_lines text c at line tokens last place is (token {c = d} t next ne more) later_token later_bad = on_another line t.line _ _ (later_token d.operator t next ne)
+begins_lines text c at line tokens last place is (name found more) later_token later_bad = absurd cc
+begins_lines text c at line tokens last place is (bad_token bad) later_token later_bad = on_another line last Bad [] (later_bad last bad)
+begins_lines text c at line tokens last place is (bad_name bad) later_token later_bad = absurd cc
 
-no_name : (kind : RuleKind) (bytes : List ℕ) (tokens : List Token) → NamesEndLines tokens → NamesEndLines (token_of kind bytes ∷ tokens)
-no_name kinds.End bytes tokens n = n
-no_name kinds.Other bytes tokens n = n
-no_name kinds.Head bytes tokens n = n
-no_name kinds.Register bytes tokens n = n
-no_name kinds.Word bytes tokens n = n
-no_name kinds.Number bytes tokens n = n
-no_name kinds.Arrow bytes tokens n = n
-no_name kinds.Mark bytes tokens n = n
+no_word_name : (opcode : Bool) (bytes : List ℕ) (tokens : List Token) → NamesEndLines tokens → NamesEndLines (word_of opcode bytes ∷ tokens)
+no_word_name true bytes tokens n = n
+no_word_name false bytes tokens n = n
+
+no_name : (c : Context) (called : Bool) (kind : RuleKind) (bytes : List ℕ) (tokens : List Token) → NamesEndLines tokens → NamesEndLines (token_of c called kind bytes ∷ tokens)
+no_name c called kinds.End bytes tokens n = n
+no_name c called kinds.Other bytes tokens n = n
+no_name c called kinds.Head bytes tokens n = n
+no_name c called kinds.Register bytes tokens n = n
+no_name c called kinds.Word bytes tokens n = no_word_name (is_opcode c called bytes) bytes tokens n
+no_name c called kinds.Number bytes tokens n = n
+no_name c called kinds.Arrow bytes tokens n = n
+no_name c called kinds.Mark bytes tokens n = n
 
 names_on : (before line : ℕ) (t : Token) (tokens : List Token) → NamesEndLines (t ∷ tokens) → NamesEndLines (token_on before line t tokens)
 names_on before line t tokens n = by (eqb line before)
@@ -227,43 +233,51 @@ names_on before line t tokens n = by (eqb line before)
     by false = n
 
 -- a name is read behind its head, on the head's line
-head_line : (text : List ℕ) (operator : Bool) (at : ℕ) (t : RuleToken) → IsNextRuleToken operator text at t → t.kind ≢ kinds.End → place_behind t.kind (bytes_at text t.span) ≡ AtName → t.line ≡ line_of text t.span.end
-head_line text operator at t next ne is = by (bytes_eq (bytes_at text t.span) (codes "Name:")) refl is
+abbrev pub IsAtName : Place → Type 0
+IsAtName (AtName c) = Unit {0}
+IsAtName (AtToken c) = ⊥
+
+head_line : (text : List ℕ) (c : Context) (at : ℕ) (t : RuleToken) → IsNextRuleToken c.operator text at t → t.kind ≢ kinds.End → IsAtName (place_behind c t.kind (bytes_at text t.span)) → t.line ≡ line_of text t.span.end
+head_line text c at t next ne is = by (bytes_eq (bytes_at text t.span) (codes "Name:")) refl is
   where
-    by : (b : Bool) → bytes_eq (bytes_at text t.span) (codes "Name:") ≡ b → cond b AtName (AtToken (Rattle.scan.specs.RuleTokens.ends_primary t.kind (bytes_at text t.span))) ≡ AtName → t.line ≡ line_of text t.span.end
+    by : (b : Bool) → bytes_eq (bytes_at text t.span) (codes "Name:") ≡ b → IsAtName (cond b (AtName c) (AtToken (context_behind c t.kind (bytes_at text t.span)))) → t.line ≡ line_of text t.span.end
     by true e same =
         let none : feeds (between text t.span.start t.span.end) ≡ 0 = ap feeds (same_word (bytes_at text t.span) (codes "Name:") e) in
         omega (arith, none, feeds_between text t.span.start t.span.end next.order.1, next.line, line_is t.kind text t.span.start ne)
-    by false e same = absurd cc
+    by false e same = absurd same
 
-pub names_in : (text : List ℕ) {place : Place} {at line last : ℕ} {tokens : List Token} → TokensFrom text place at line tokens last → (place ≡ AtName → line ≡ line_of text at) → NamesEndLines tokens
+pub names_in : (text : List ℕ) {place : Place} {at line last : ℕ} {tokens : List Token} → TokensFrom text place at line tokens last → (IsAtName place → line ≡ line_of text at) → NamesEndLines tokens
 names_in text (ends t next end same) on = tt
-names_in text (token {operator} {at} {line} {tokens = tokens} t next ne more) on =
-    names_on line t.line (token_of t.kind (bytes_at text t.span)) tokens (no_name t.kind (bytes_at text t.span) tokens (names_in text more (λ is. head_line text operator at t next ne is)))
-names_in text (name {at} {line} {last} {found = found} {tokens = tokens} is more) on =
-    let here : line ≡ line_of text at = on refl in
-    let new : EndsLine tokens = begins_lines text false (at + length (rest_of_line text at)) line tokens last (AtToken false) refl more
+names_in text (token {c} {at} {line} {tokens = tokens} t next ne more) on =
+    names_on line t.line (token_at text c t) tokens (no_name c (is_called text t.span.end) t.kind (bytes_at text t.span) tokens (names_in text more (λ is. head_line text c at t next ne is)))
+names_in text (name {c} {at} {line} {last} {found = found} {tokens = tokens} is more) on =
+    let here : line ≡ line_of text at = on tt in
+    let new : EndsLine tokens = begins_lines text (behind_name c) (at + length (rest_of_line text at)) line tokens last (AtToken (behind_name c)) refl more
     (λ o t next ne. let after = token_later o text at t next ne in omega (arith, here, after)) (λ bad is_bad. let after = bad_later text at bad is_bad in omega (arith, here, after)) in
-    subst (λ (f : Token). NamesEndLines (f ∷ tokens)) (sym is.2) (new, names_in text more (λ wrong. absurd cc))
+    subst (λ (f : Token). NamesEndLines (f ∷ tokens)) (sym is.2) (new, names_in text more (λ wrong. absurd wrong))
 names_in text (bad_token {line = line} {last = last} bad) on = names_on line last Bad [] tt
 names_in text (bad_name bad) on = tt
 
 pub text_begins : (text : List ℕ) (tokens : List Token) (last : ℕ) → AreTokens text tokens last → EndsLine tokens
 text_begins text tokens last are =
-    begins_lines text false 0 0 tokens last (AtToken false) refl are
+    begins_lines text at_start 0 0 tokens last (AtToken at_start) refl are
     (λ o t next ne. omega (arith, next.line, line_is t.kind text t.span.start ne)) (λ bad is_bad. omega (arith, is_bad.line_is))
 
 -- ---- tokens of texts
 
-of_kind : (kind : RuleKind) (bytes : List ℕ) → IsOfText (token_of kind bytes)
-of_kind kinds.End bytes = tt
-of_kind kinds.Other bytes = tt
-of_kind kinds.Head bytes = tt
-of_kind kinds.Register bytes = tt
-of_kind kinds.Word bytes = tt
-of_kind kinds.Number bytes = tt
-of_kind kinds.Arrow bytes = tt
-of_kind kinds.Mark bytes = tt
+of_word : (opcode : Bool) (bytes : List ℕ) → IsOfText (word_of opcode bytes)
+of_word true bytes = tt
+of_word false bytes = tt
+
+of_kind : (c : Context) (called : Bool) (kind : RuleKind) (bytes : List ℕ) → IsOfText (token_of c called kind bytes)
+of_kind c called kinds.End bytes = tt
+of_kind c called kinds.Other bytes = tt
+of_kind c called kinds.Head bytes = tt
+of_kind c called kinds.Register bytes = tt
+of_kind c called kinds.Word bytes = of_word (is_opcode c called bytes) bytes
+of_kind c called kinds.Number bytes = tt
+of_kind c called kinds.Arrow bytes = tt
+of_kind c called kinds.Mark bytes = tt
 
 of_text_on : (before line : ℕ) (t : Token) (tokens : List Token) → AreOfText (t ∷ tokens) → AreOfText (token_on before line t tokens)
 of_text_on before line t tokens are = by (eqb line before)
@@ -274,7 +288,7 @@ of_text_on before line t tokens are = by (eqb line before)
 
 pub of_text : (text : List ℕ) {place : Place} {at line last : ℕ} {tokens : List Token} → TokensFrom text place at line tokens last → AreOfText tokens
 of_text text (ends t next end same) = tt
-of_text text (token {line = line} {tokens = tokens} t next ne more) = of_text_on line t.line (token_of t.kind (bytes_at text t.span)) tokens (of_kind t.kind (bytes_at text t.span), of_text text more)
+of_text text (token {c} {line = line} {tokens = tokens} t next ne more) = of_text_on line t.line (token_at text c t) tokens (of_kind c (is_called text t.span.end) t.kind (bytes_at text t.span), of_text text more)
 of_text text (name {found = found} {tokens = tokens} is more) = subst (λ (f : Token). AreOfText (f ∷ tokens)) (sym is.2) (tt, of_text text more)
 of_text text (bad_token {line = line} {last = last} bad) = of_text_on line last Bad [] (tt, tt)
 of_text text (bad_name bad) = (tt, tt)
@@ -299,6 +313,7 @@ limited_names room begins (Line number ∷ tokens) n = limited_names room true t
 limited_names room begins (Head text ∷ tokens) n = cut_off (Head text) (room_behind room begins (Head text)) (λ left. limited_to left false tokens) (λ left. limited_names left false tokens n) (λ ts m. m)
 limited_names room begins (Register text ∷ tokens) n = cut_off (Register text) (room_behind room begins (Register text)) (λ left. limited_to left false tokens) (λ left. limited_names left false tokens n) (λ ts m. m)
 limited_names room begins (Word text ∷ tokens) n = cut_off (Word text) (room_behind room begins (Word text)) (λ left. limited_to left false tokens) (λ left. limited_names left false tokens n) (λ ts m. m)
+limited_names room begins (Opcode text ∷ tokens) n = limited_names room false tokens n
 limited_names room begins (Number text ∷ tokens) n = cut_off (Number text) (room_behind room begins (Number text)) (λ left. limited_to left false tokens) (λ left. limited_names left false tokens n) (λ ts m. m)
 limited_names room begins (Mark text ∷ tokens) n = cut_off (Mark text) (room_behind room begins (Mark text)) (λ left. limited_to left false tokens) (λ left. limited_names left false tokens n) (λ ts m. m)
 limited_names room begins (first ∷ tokens) n = limited_names room false tokens n

@@ -6,7 +6,7 @@ use Rattle.rule_tokens.specs.declared.fault.RuleFaultKind.{RuleFaultKind}
 use Rattle.rule_tokens.specs.declared.fault.RuleFaultKind.TheVariants.{BadByte, Syntax, LeftOut, TooMany}
 use Rattle.rule_tokens.specs.Limits.{Limits}
 use Rattle.rule_tokens.specs.PartReaders.{unexpected, misplaced_word, left_out}
-use Rattle.rule_tokens.specs.Tokens.{Token, Line, Head, Name, Register, Word, Number, Arrow, Mark, Other, Bad, Excess}
+use Rattle.rule_tokens.specs.Tokens.{Token, Line, Head, Name, Register, Word, Opcode, Number, Arrow, Mark, Other, Bad, Excess}
 use Rattle.ops.proofs.KeywordLemmas.{same_word}
 use Rattle.rule_viable_prefixes.specs.Misfits.{Fitting, NounFits, IsTooDeep, IsTooMany, name, register, constant, choice, statement, nesting, Says, kind_at, IsMisfit, itself, read_on}
 
@@ -64,6 +64,7 @@ module _ (limits : Limits) where
   says_unexpected line (Name text) more why = says_syntax (Name text) more tt
   says_unexpected line (Register text) more why = says_syntax (Register text) more tt
   says_unexpected line (Word text) more why = says_word text more (why text refl)
+  says_unexpected line (Opcode text) more why = says_syntax (Opcode text) more tt
   says_unexpected line (Number text) more why = says_syntax (Number text) more tt
   says_unexpected line Arrow more why = says_syntax Arrow more tt
   says_unexpected line (Mark text) more why = says_syntax (Mark text) more tt
@@ -86,6 +87,7 @@ module _ (limits : Limits) where
   says_left_out noun line (Head text) more = says_syntax (Head text) more tt
   says_left_out noun line (Name text) more = says_syntax (Name text) more tt
   says_left_out noun line (Register text) more = says_syntax (Register text) more tt
+  says_left_out noun line (Opcode text) more = says_syntax (Opcode text) more tt
   says_left_out noun line (Number text) more = says_syntax (Number text) more tt
   says_left_out noun line Arrow more = says_syntax Arrow more tt
   says_left_out noun line (Mark text) more = says_syntax (Mark text) more tt

@@ -237,7 +237,7 @@ module _ (spare_bytes deepest spare_statements : ℕ) where
 
   -- a head repeats no flag
   head_new : (line : ℕ) (kind : RuleFaultKind) → IsNew (begun line []) kind
-  head_new line kind = new_behind (begun line []) [] kind (inl (λ flag is. cc)) (none_new kind)
+  head_new line kind = new_behind (begun line []) [] kind (inl (λ word flag is. cc)) (none_new kind)
 
   -- what is refused as one of these is none that fits
   none_spelled : (rules : List RawRule) (tokens : List Token) (found : RuleFault) → version_at tokens ≡ Err found → SpellsFile limits rules tokens → ⊥

@@ -1,22 +1,23 @@
 -- What rules are read within wider limits.
-use Rattle.std.proofs.Common.{ℕ, zero, suc, ◌≤◌, List, [], ◌∷◌, length, Option, Some, None, refl, arith}
+use Rattle.std.proofs.Common.{ℕ, zero, suc, ◌≤◌, true, false, List, [], ◌∷◌, length, Option, Some, None, refl, arith}
 use Rattle.std.specs.Prelude.{codes}
 use Rattle.std.specs.Str.{bytes_eq}
 use Rattle.ops.specs.declared.opcode.Opcode.{Opcode}
+use Rattle.ops.specs.declared.opcode.Unary.{Unary as Intrinsic}
 use Rattle.ops.specs.declared.conversion.Cast.{Cast}
 use Rattle.ops.specs.Flags.{no_flags, flags_of_icmp}
 use Rattle.scan.specs.RuleTokens.{is_constant}
 use Rattle.rule_tokens.specs.declared.version.Version.{Version}
 use Rattle.rule_tokens.specs.Limits.{Limits, AreWithin}
 use Rattle.rule_tokens.specs.PartReaders.{maybe_type}
-use Rattle.rule_tokens.specs.Tokens.{Token, Line, Head, Name, Register, Word, Number}
+use Rattle.rule_tokens.specs.Tokens.{Token, Line, Head, Name, Register, Word, Opcode as OpcodeToken, Number}
 use Rattle.rule_terms.specs.declared.place.TermPlace.TheVariants.{Constant, Witness}
 use Rattle.rule_parse.specs.declared.half.Half.{Half}
 use Rattle.rule_parse.specs.declared.half.Half.TheVariants.{Source, Target}
 use Rattle.rule_parse.specs.declared.word.Operation.{Operation}
 use Rattle.rule_parse.specs.declared.word.Operation.TheVariants as operations
 use Rattle.rule_parse.specs.Keywords.{operation_in}
-use Rattle.rule_parse.specs.RuleReaders.{register_at, source_word, term_argument_at, argument_at, typed_at, operand_at, flags_at, pair_at, binary_at, pred_at, compare_at, select_at, convert_at, freeze_at, copy_at, operation_at, other_at, op_word, op_at, statement_at, statements_at, name_text, name_at, precondition_at, expression_at, expressions_at, witness_at, source_at, target_at, rule_at, rules_at, version_at, all_rules}
+use Rattle.rule_parse.specs.RuleReaders.{register_at, source_word, term_argument_at, argument_at, typed_at, operand_at, flags_at, pair_at, binary_at, pred_at, compare_at, truth_at, unary_at, select_at, convert_at, freeze_at, copy_at, operation_at, other_at, op_token, op_at, statement_at, statements_at, name_text, name_at, precondition_at, expression_at, expressions_at, witness_at, source_at, target_at, rule_at, rules_at, version_at, all_rules}
 use Rattle.rule_viable_prefixes.proofs.Wider.{Below, same_answer, too_many, below_bind, below_if, BelowReader, chain_of_below, name_below, term_below}
 use Rattle.rule_viable_prefixes.proofs.WiderFormulas.{formula_below}
 
@@ -66,6 +67,10 @@ module _ (limits wider : Limits) (within : AreWithin wider limits) where
       below_bind {a = flags_at flags_of_icmp line no_flags tokens} (same_answer refl)
       (λ flags. below_bind {a = pred_at line flags.1} (same_answer refl) (λ pred. below_bind (pair_below half line pred.1) (λ pair. same_answer refl)))
 
+  unary_below : (half : Half) (line : ℕ) (op : Intrinsic) (tokens : List Token) → Below (unary_at limits half line op tokens) (unary_at wider half line op tokens)
+  unfolding unary_at
+  unary_below half line op tokens = below_bind {a = truth_at op line tokens} (same_answer refl) (λ truth. below_bind (operand_below half line truth.1) (λ operand. same_answer refl))
+
   select_below : (half : Half) (line : ℕ) (tokens : List Token) → Below (select_at limits half line tokens) (select_at wider half line tokens)
   unfolding select_at
   select_below half line tokens =
@@ -87,6 +92,7 @@ module _ (limits wider : Limits) (within : AreWithin wider limits) where
   operation_below : (half : Half) (line : ℕ) (operation : Operation) (tokens : List Token) → Below (operation_at limits half line operation tokens) (operation_at wider half line operation tokens)
   operation_below half line (operations.Binary op) tokens = binary_below half line op tokens
   operation_below half line operations.Compare tokens = compare_below half line tokens
+  operation_below half line (operations.Unary op) tokens = unary_below half line op tokens
   operation_below half line operations.Select tokens = select_below half line tokens
   operation_below half line (operations.Convert cast) tokens = convert_below half line cast tokens
   operation_below half line operations.Freeze tokens = freeze_below half line tokens
@@ -95,13 +101,14 @@ module _ (limits wider : Limits) (within : AreWithin wider limits) where
   other_below Source line tokens = same_answer refl
   other_below Target line tokens = copy_below line tokens
 
-  op_word_below : (half : Half) (line : ℕ) (word : List ℕ) (found : Option Operation) (rest : List Token) → Below (op_word limits half line word found rest) (op_word wider half line word found rest)
-  op_word_below half line word (Some operation) rest = operation_below half line operation rest
-  op_word_below half line word None rest = other_below half line (Word word ∷ rest)
+  op_token_below : (half : Half) (line : ℕ) (token : Token) (found : Option Operation) (rest : List Token) → Below (op_token limits half line token found rest) (op_token wider half line token found rest)
+  op_token_below half line token (Some operation) rest = operation_below half line operation rest
+  op_token_below half line token None rest = other_below half line (token ∷ rest)
 
   op_below : (version : Version) (half : Half) (line : ℕ) (tokens : List Token) → Below (op_at limits version half line tokens) (op_at wider version half line tokens)
   unfolding op_at
-  op_below version half line (Word word ∷ rest) = op_word_below half line word (operation_in version word) rest
+  op_below version half line (Word word ∷ rest) = op_token_below half line (Word word) (operation_in version false word) rest
+  op_below version half line (OpcodeToken word ∷ rest) = op_token_below half line (OpcodeToken word) (operation_in version true word) rest
   op_below version half line tokens = other_below half line tokens
 
   -- ---- statements

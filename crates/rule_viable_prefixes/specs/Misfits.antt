@@ -1,7 +1,8 @@
 -- Why a token does not fit behind tokens that do, said by which other tokens fit in its place.
-use Rattle.std.specs.Prelude.{◌≡◌, ◌≢◌, ◌⊎◌, ℕ, ◌+◌, ◌<◌, ◌≤◌, Bool, IsTrue, if◌then◌else◌, List, [], ◌∷◌, ◌++◌, length, map, codes}
+use Rattle.std.specs.Prelude.{◌≡◌, ◌≢◌, ◌⊎◌, ℕ, ◌+◌, ◌<◌, ◌≤◌, Bool, IsTrue, if◌then◌else◌, List, [], ◌∷◌, ◌++◌, length, map, Some, codes}
 use Rattle.ops.specs.declared.comparison.Pred.{Pred}
 use Rattle.ops.specs.declared.keywords.flag.Flag.{Flag}
+use Rattle.ops.specs.declared.opcode.Unary.{Unary as Intrinsic}
 use Rattle.ops.specs.FlagKeywords.{flag_keyword}
 use Rattle.ops.specs.Keywords.{predicate_keyword}
 use Rattle.scan.specs.RuleTokens.{is_constant, is_among}
@@ -14,7 +15,7 @@ use Rattle.rule_terms.specs.declared.formula_word.Predicate.{Predicate}
 use Rattle.rule_terms.specs.FormulaKeywords.{predicate_word}
 use Rattle.rule_terms.specs.Keywords.{IsPrefix, IsCalled, IsChoice}
 use Rattle.rule_parse.specs.declared.word.Operation.{Operation}
-use Rattle.rule_parse.specs.Keywords.{operation_word, truth_word}
+use Rattle.rule_parse.specs.Keywords.{operation_word, truth_flag, truth_word}
 use Rattle.rule_tokens.specs.Limits.{Limits}
 
 -- which tokens fit in the place of the one that does not
@@ -74,11 +75,19 @@ IsTooDeep limits opened fits token = (limits.nested ≤ opened) × Nests token �
 
 -- ---- words that are told as `Syntax` though a noun fits
 
+-- a flag of instructions, or the one that says the truth value of an intrinsic
+pub data IsFlagWord (word : List ℕ) : Type 0 where
+  of_instruction : (flag : Flag) → word ≡ flag_keyword flag → IsFlagWord word
+  of_intrinsic : (op : Intrinsic) → truth_flag op ≡ Some word → IsFlagWord word
+
+abbrev pub AreFlagWords : List (List ℕ) → Type 0
+AreFlagWords [] = Unit {0}
+AreFlagWords (word ∷ words) = IsFlagWord word × AreFlagWords words
+
 -- flags stand last, of which the first is this word
 abbrev pub RepeatsFlag : List Token → List ℕ → Type 0
 RepeatsFlag front word =
-    (before : List Token) × (flag : Flag) × (flags : List Flag) × (word ≡ flag_keyword flag)
-    × (front ≡ before ++ map (λ f. Word (flag_keyword f)) (flag ∷ flags))
+    (before : List Token) × (words : List (List ℕ)) × AreFlagWords (word ∷ words) × (front ≡ before ++ map (λ w. Word w) (word ∷ words))
 
 pub data IsExcused (limits : Limits) (fits : Fitting) (front : List Token) (word : List ℕ) : Type 0 where
   -- it is a word of `Pre:` that may stand elsewhere: `%r = hasOneUse`
