@@ -7,7 +7,7 @@ use Rattle.std.proofs.lemmas.List.{length-map, map-append}
 use Rattle.rule_core.specs.declared.rule.Rule.{Rule}
 use Rattle.rule_core.specs.declared.rule.Statement.{Statement}
 use Rattle.rule_core.specs.declared.rule.Op.{Op}
-use Rattle.rule_core.specs.declared.rule.Op.TheVariants.{Binary, Compare, Select, Convert, Freeze, Copy}
+use Rattle.rule_core.specs.declared.rule.Op.TheVariants.{Binary, Compare, Unary, Select, Convert, Freeze, Copy}
 use Rattle.rule_core.specs.declared.rule.Operand.{Operand}
 use Rattle.rule_core.specs.declared.rule.Argument.{Argument}
 use Rattle.rule_core.specs.declared.rule.Argument.TheVariants as arguments
@@ -56,6 +56,7 @@ same_operands_of s t same = sym (operands-mapped_op (λ c. 0) s.op) ∙ ap (λ (
 source_op : (rule : Rule) (k : ℕ) (f : ℕ → ℕ) (op : Op) → MayStandInSource rule k (mapped_op f op) ≡ MayStandInSource rule k op
 source_op rule k f (Binary op flags a b) = refl
 source_op rule k f (Compare pred samesign a b) = refl
+source_op rule k f (Unary op truth a) = refl
 source_op rule k f (Select z a b) = refl
 source_op rule k f (Convert cast flags a to) = refl
 source_op rule k f (Freeze a j) = refl
@@ -64,6 +65,7 @@ source_op rule k f (Copy a) = refl
 flags_op : (f : ℕ → ℕ) (op : Op) → FlagsFitOp (mapped_op f op) ≡ FlagsFitOp op
 flags_op f (Binary op flags a b) = refl
 flags_op f (Compare pred samesign a b) = refl
+flags_op f (Unary op truth a) = refl
 flags_op f (Select z a b) = refl
 flags_op f (Convert cast flags a to) = refl
 flags_op f (Freeze a j) = refl
@@ -99,6 +101,7 @@ stands_at r s same q argument (o, at, is) =
 copies_op : (f : ℕ → ℕ) (op : Op) → ReadsNoUndefAlone (mapped_op f op) ≡ ReadsNoUndefAlone op
 copies_op f (Binary op flags a b) = refl
 copies_op f (Compare pred samesign a b) = refl
+copies_op f (Unary op truth a) = refl
 copies_op f (Select z a b) = refl
 copies_op f (Convert cast flags a to) = refl
 copies_op f (Freeze a j) = refl

@@ -5,7 +5,7 @@ use Rattle.std.proofs.lemmas.List.Sums.{sum_by-cons}
 use Rattle.rule_core.specs.declared.rule.Rule.{Rule}
 use Rattle.rule_core.specs.declared.rule.Statement.{Statement}
 use Rattle.rule_core.specs.declared.rule.Op.{Op}
-use Rattle.rule_core.specs.declared.rule.Op.TheVariants.{Binary, Compare, Select, Convert, Freeze, Copy}
+use Rattle.rule_core.specs.declared.rule.Op.TheVariants.{Binary, Compare, Unary, Select, Convert, Freeze, Copy}
 use Rattle.rule_core.specs.declared.rule.Term.{Term}
 use Rattle.rule_core.specs.declared.rule.Node.{Node}
 use Rattle.rule_core.specs.declared.rule.Node.TheVariants as nodes
@@ -26,6 +26,7 @@ count_classes (s ∷ xs) = omega (arith, count_classes xs, length-append (classe
     four_classes : (c : ℕ) (op : Op) → length (c ∷ map (λ o. o.class) (operands_of op)) ≤ 4
     four_classes c (Binary op flags a b) = omega arith
     four_classes c (Compare pred samesign a b) = omega arith
+    four_classes c (Unary op truth a) = omega arith
     four_classes c (Select z a b) = omega arith
     four_classes c (Convert cast flags a to) = omega arith
     four_classes c (Freeze a j) = omega arith

@@ -6,7 +6,7 @@ use Rattle.std.proofs.lemmas.List.Elements.{Contains-append_left, Contains-appen
 use Rattle.rule_core.specs.declared.rule.Rule.{Rule}
 use Rattle.rule_core.specs.declared.rule.Statement.{Statement}
 use Rattle.rule_core.specs.declared.rule.Op.{Op}
-use Rattle.rule_core.specs.declared.rule.Op.TheVariants.{Binary, Compare, Select, Convert, Freeze, Copy}
+use Rattle.rule_core.specs.declared.rule.Op.TheVariants.{Binary, Compare, Unary, Select, Convert, Freeze, Copy}
 use Rattle.rule_core.specs.declared.rule.Operand.{Operand}
 use Rattle.rule_core.specs.declared.rule.Argument.{Argument}
 use Rattle.rule_core.specs.declared.rule.Argument.TheVariants as arguments
@@ -17,7 +17,7 @@ use Rattle.rule_core.specs.declared.rule.Node.{Node}
 use Rattle.rule_core.specs.declared.rule.Node.TheVariants as nodes
 use Rattle.rule_core.specs.declared.rule.Formula.{Formula}
 use Rattle.rule_core.specs.declared.rule.Formula.TheVariants as formulas
-use Rattle.rule_core.specs.Positions.{operands_among, operands_in, choices_among, IsStatementOf, Names, TermLine, unary, left, right, Line, binary_left, binary_right, compared, select_true, select_false, freeze, copy, name, term, witness_term, operand, compared_terms, witness}
+use Rattle.rule_core.specs.Positions.{operands_among, operands_in, choices_among, IsStatementOf, Names, TermLine, unary, left, right, Line, binary_left, binary_right, compared, one_operand, select_true, select_false, freeze, copy, name, term, witness_term, operand, compared_terms, witness}
 use Rattle.rule_typing.specs.declared.half.Half.{Half}
 use Rattle.rule_typing.specs.declared.half.Half.TheVariants as halves
 use Rattle.rule_typing.specs.Splits.{paired, op_pairs, statement_pairs, node_class, chosen_class, term_class, operand_pairs, choice_pairs, node_pairs, term_pairs, formula_pairs, PairOf}
@@ -83,6 +83,7 @@ On rule p = Line rule p.0 p.1
 at_op : (rule : Rule) (s : Statement) (op : Op) (p : ℕ × ℕ) → IsStatementOf rule s → s.op ≡ op → Contains (op_pairs s.class op) p → On rule p
 at_op rule s (Binary op flags a b) p stands is among = elim (two_pairs (s.class, a.class) (s.class, b.class) p among) [ inl e ↦ subst (On rule) e (binary_left stands is) | inr e ↦ subst (On rule) e (binary_right stands is) ]
 at_op rule s (Compare pred samesign a b) p stands is among = subst (On rule) (one_pair (a.class, b.class) p among) (compared stands is)
+at_op rule s (Unary op truth a) p stands is among = subst (On rule) (one_pair (s.class, a.class) p among) (one_operand stands is)
 at_op rule s (Select z a b) p stands is among = elim (two_pairs (s.class, a.class) (s.class, b.class) p among) [ inl e ↦ subst (On rule) e (select_true stands is) | inr e ↦ subst (On rule) e (select_false stands is) ]
 at_op rule s (Convert cast flags a to) p stands is among = absurd (no_pair p among)
 at_op rule s (Freeze a k) p stands is among = subst (On rule) (one_pair (s.class, a.class) p among) (freeze stands is)
@@ -178,6 +179,7 @@ pub line_cases : (rule : Rule) (c d : ℕ) → Line rule c d → OnLine rule c d
 line_cases rule c d (binary_left {s} {op} {flags} {a} {b} stands is) = op_pair rule s (Binary op flags a b) s.class a.class stands is (here ((s.class, b.class) ∷ []) (s.class, a.class))
 line_cases rule c d (binary_right {s} {op} {flags} {a} {b} stands is) = op_pair rule s (Binary op flags a b) s.class b.class stands is (later (s.class, a.class) (s.class, b.class))
 line_cases rule c d (compared {s} {pred} {samesign} {a} {b} stands is) = op_pair rule s (Compare pred samesign a b) a.class b.class stands is (here [] (a.class, b.class))
+line_cases rule c d (one_operand {s} {op} {truth} {a} stands is) = op_pair rule s (Unary op truth a) s.class a.class stands is (here [] (s.class, a.class))
 line_cases rule c d (select_true {s} {c = z} {a} {b} stands is) = op_pair rule s (Select z a b) s.class a.class stands is (here ((s.class, b.class) ∷ []) (s.class, a.class))
 line_cases rule c d (select_false {s} {c = z} {a} {b} stands is) = op_pair rule s (Select z a b) s.class b.class stands is (later (s.class, a.class) (s.class, b.class))
 line_cases rule c d (freeze {s} {a} {k} stands is) = op_pair rule s (Freeze a k) s.class a.class stands is (here [] (s.class, a.class))

@@ -7,7 +7,7 @@ use Rattle.std.proofs.lemmas.List.Elements.{Contains-append_left, Contains-appen
 use Rattle.rule_core.specs.declared.rule.Rule.{Rule}
 use Rattle.rule_core.specs.declared.rule.Statement.{Statement}
 use Rattle.rule_core.specs.declared.rule.Op.{Op}
-use Rattle.rule_core.specs.declared.rule.Op.TheVariants.{Binary, Compare, Select, Convert, Freeze, Copy}
+use Rattle.rule_core.specs.declared.rule.Op.TheVariants.{Binary, Compare, Unary, Select, Convert, Freeze, Copy}
 use Rattle.rule_core.specs.declared.rule.Operand.{Operand}
 use Rattle.rule_core.specs.declared.rule.Argument.{Argument}
 use Rattle.rule_core.specs.declared.rule.Argument.TheVariants as arguments
@@ -20,7 +20,7 @@ use Rattle.rule_core.specs.declared.rule.Node.{Node}
 use Rattle.rule_core.specs.declared.rule.Node.TheVariants as nodes
 use Rattle.rule_core.specs.declared.rule.Formula.{Formula}
 use Rattle.rule_core.specs.declared.rule.Formula.TheVariants as formulas
-use Rattle.rule_core.specs.Positions.{operands_of, operands_among, operands_in, choices_of, choices_among, terms_in, classes_of, IsTermOf, Names, reads, reads_constant, chooses, source_assigns, target_assigns, assigns_root, term_register, term_constant, term_choice, measures, TermLine, unary, left, right, Line, binary_left, binary_right, compared, select_true, select_false, freeze, copy, name, term, witness_term, operand, compared_terms, witness}
+use Rattle.rule_core.specs.Positions.{operands_of, operands_among, operands_in, choices_of, choices_among, terms_in, classes_of, IsTermOf, Names, reads, reads_constant, chooses, source_assigns, target_assigns, assigns_root, term_register, term_constant, term_choice, measures, TermLine, unary, left, right, Line, binary_left, binary_right, compared, one_operand, select_true, select_false, freeze, copy, name, term, witness_term, operand, compared_terms, witness}
 use Rattle.rule_core.proofs.Members.{source_statement, target_statement, class_stands, operand_class_stands, term_class_stands, measured_class_stands, constant_term, witness_term as witness_node, choice_opens, reads_undef, freezes}
 use Rattle.rule_typing.specs.declared.half.Half.{Half}
 use Rattle.rule_typing.specs.declared.half.Half.TheVariants as halves
@@ -77,6 +77,7 @@ pub line_classes : (rule : Rule) (c d : ℕ) → Line rule c d → Contains (cla
 line_classes rule c d (binary_left {s} {op} {flags} {a} {b} stands is) = (class_stands rule s stands, first_of rule s (Binary op flags a b) a stands is (at (b ∷ []) a))
 line_classes rule c d (binary_right {s} {op} {flags} {a} {b} stands is) = (class_stands rule s stands, first_of rule s (Binary op flags a b) b stands is (behind a b []))
 line_classes rule c d (compared {s} {pred} {samesign} {a} {b} stands is) = (first_of rule s (Compare pred samesign a b) a stands is (at (b ∷ []) a), first_of rule s (Compare pred samesign a b) b stands is (behind a b []))
+line_classes rule c d (one_operand {s} {op} {truth} {a} stands is) = (class_stands rule s stands, first_of rule s (Unary op truth a) a stands is (at [] a))
 line_classes rule c d (select_true {s} {c = z} {a} {b} stands is) = (class_stands rule s stands, first_of rule s (Select z a b) a stands is (behind z a (b ∷ [])))
 line_classes rule c d (select_false {s} {c = z} {a} {b} stands is) = (class_stands rule s stands, first_of rule s (Select z a b) b stands is (2, omega arith, refl))
 line_classes rule c d (freeze {s} {a} {k} stands is) = (class_stands rule s stands, first_of rule s (Freeze a k) a stands is (at [] a))
@@ -86,6 +87,7 @@ line_classes rule c d (term on) = term_ends rule rule.terms c d (λ t among. Con
 line_classes rule c d (witness_term on) = term_ends rule rule.witness_terms c d (λ t among. Contains-append_right rule.terms rule.witness_terms t among) (witness_node rule) on
 line_classes rule c d (operand {o} {n} {t} among is there) = (operand_class rule o among, term_class_stands rule t (constant_term rule n t there))
 line_classes rule c d (compared_terms {pred} {a} {b} {x} {y} among there there') = (term_class_stands rule x (constant_term rule a x there), term_class_stands rule y (constant_term rule b y there'))
+line_classes rule c d (one_operand {s} {op} {truth} {a} stands is) = (class_stands rule s stands, first_of rule s (Unary op truth a) a stands is (at [] a))
 line_classes rule c d (witness {k} {c = e} {n} {t} among chosen there) = (choice_class rule halves.Source (record { place = k; class = e }) among, term_class_stands rule t (witness_node rule n t there))
 
 -- ---- pairs under a map
@@ -102,6 +104,7 @@ module _ (f : ℕ → ℕ) where
   op_pairs-mapped : (r : ℕ) (op : Op) → op_pairs (f r) (mapped_op f op) ≡ map (both f) (op_pairs r op)
   op_pairs-mapped r (Binary op flags a b) = refl
   op_pairs-mapped r (Compare pred samesign a b) = refl
+  op_pairs-mapped r (Unary op truth a) = refl
   op_pairs-mapped r (Select z a b) = refl
   op_pairs-mapped r (Convert cast flags a to) = refl
   op_pairs-mapped r (Freeze a k) = refl

@@ -7,7 +7,7 @@ use Rattle.std.proofs.lemmas.Grind.{flat_map-append}
 use Rattle.rule_core.specs.declared.rule.Rule.{Rule}
 use Rattle.rule_core.specs.declared.rule.Statement.{Statement}
 use Rattle.rule_core.specs.declared.rule.Op.{Op}
-use Rattle.rule_core.specs.declared.rule.Op.TheVariants.{Binary, Compare, Select, Convert, Freeze, Copy}
+use Rattle.rule_core.specs.declared.rule.Op.TheVariants.{Binary, Compare, Unary, Select, Convert, Freeze, Copy}
 use Rattle.rule_core.specs.declared.rule.Operand.{Operand}
 use Rattle.rule_core.specs.declared.rule.Argument.{Argument}
 use Rattle.rule_core.specs.declared.rule.Argument.TheVariants as arguments
@@ -26,6 +26,7 @@ mapped_operand f o = record o { class = f o.class }
 pub operands-mapped_op : (f : ℕ → ℕ) (op : Op) → operands_of (mapped_op f op) ≡ map (mapped_operand f) (operands_of op)
 operands-mapped_op f (Binary op flags a b) = refl
 operands-mapped_op f (Compare pred samesign a b) = refl
+operands-mapped_op f (Unary op truth a) = refl
 operands-mapped_op f (Select z a b) = refl
 operands-mapped_op f (Convert cast flags a to) = refl
 operands-mapped_op f (Freeze a j) = refl
@@ -34,6 +35,7 @@ operands-mapped_op f (Copy a) = refl
 op_classes : (f : ℕ → ℕ) (op : Op) → map (λ o. o.class) (operands_of (mapped_op f op)) ≡ map f (map (λ o. o.class) (operands_of op))
 op_classes f (Binary op flags a b) = refl
 op_classes f (Compare pred samesign a b) = refl
+op_classes f (Unary op truth a) = refl
 op_classes f (Select z a b) = refl
 op_classes f (Convert cast flags a to) = refl
 op_classes f (Freeze a j) = refl
@@ -95,6 +97,7 @@ undef-mapped f c (arguments.Term n) = refl
 frozen-mapped : (f : ℕ → ℕ) (c : ℕ) (op : Op) → frozen_in (f c) (mapped_op f op) ≡ map (mapped_choice f) (frozen_in c op)
 frozen-mapped f c (Binary op flags a b) = refl
 frozen-mapped f c (Compare pred samesign a b) = refl
+frozen-mapped f c (Unary op truth a) = refl
 frozen-mapped f c (Select z a b) = refl
 frozen-mapped f c (Convert cast flags a to) = refl
 frozen-mapped f c (Freeze a j) = refl
@@ -120,6 +123,7 @@ operands_in-mapped f rule = ap operands_among (statements_mapped f rule) ∙ ope
 mapped_op-mapped_op : (g f : ℕ → ℕ) (op : Op) → mapped_op g (mapped_op f op) ≡ mapped_op (λ c. g (f c)) op
 mapped_op-mapped_op g f (Binary op flags a b) = refl
 mapped_op-mapped_op g f (Compare pred samesign a b) = refl
+mapped_op-mapped_op g f (Unary op truth a) = refl
 mapped_op-mapped_op g f (Select z a b) = refl
 mapped_op-mapped_op g f (Convert cast flags a to) = refl
 mapped_op-mapped_op g f (Freeze a j) = refl
@@ -149,6 +153,7 @@ mapped-mapped g f rule = rw (statements-mapped g f rule.source, statements-mappe
 mapped_op-id : (op : Op) → mapped_op (λ c. c) op ≡ op
 mapped_op-id (Binary op flags a b) = refl
 mapped_op-id (Compare pred samesign a b) = refl
+mapped_op-id (Unary op truth a) = refl
 mapped_op-id (Select z a b) = refl
 mapped_op-id (Convert cast flags a to) = refl
 mapped_op-id (Freeze a j) = refl
@@ -184,6 +189,7 @@ alike_mapped f rule = mapped-mapped (λ c. 0) f rule
 numbered_op_bare : (n : ℕ) (op : Op) → mapped_op (λ c. 0) (numbered_op n op) ≡ mapped_op (λ c. 0) op
 numbered_op_bare n (Binary op flags a b) = refl
 numbered_op_bare n (Compare pred samesign a b) = refl
+numbered_op_bare n (Unary op truth a) = refl
 numbered_op_bare n (Select z a b) = refl
 numbered_op_bare n (Convert cast flags a to) = refl
 numbered_op_bare n (Freeze a j) = refl
@@ -223,6 +229,7 @@ alike_numbered rule =
 numbered_mapped_op : (f : ℕ → ℕ) (n : ℕ) (op : Op) → numbered_op n (mapped_op f op) ≡ numbered_op n op
 numbered_mapped_op f n (Binary op flags a b) = refl
 numbered_mapped_op f n (Compare pred samesign a b) = refl
+numbered_mapped_op f n (Unary op truth a) = refl
 numbered_mapped_op f n (Select z a b) = refl
 numbered_mapped_op f n (Convert cast flags a to) = refl
 numbered_mapped_op f n (Freeze a j) = refl
@@ -231,6 +238,7 @@ numbered_mapped_op f n (Copy a) = refl
 count-mapped_op : (f : ℕ → ℕ) (op : Op) → length (map (λ o. o.class) (operands_of (mapped_op f op))) ≡ length (map (λ o. o.class) (operands_of op))
 count-mapped_op f (Binary op flags a b) = refl
 count-mapped_op f (Compare pred samesign a b) = refl
+count-mapped_op f (Unary op truth a) = refl
 count-mapped_op f (Select z a b) = refl
 count-mapped_op f (Convert cast flags a to) = refl
 count-mapped_op f (Freeze a j) = refl
@@ -287,6 +295,7 @@ numbered_alike r s same = sym (numbered-mapped (λ c. 0) r) ∙ ap numbered same
 count-numbered_op : (n : ℕ) (op : Op) → length (map (λ o. o.class) (operands_of (numbered_op n op))) ≡ length (map (λ o. o.class) (operands_of op))
 count-numbered_op n (Binary op flags a b) = refl
 count-numbered_op n (Compare pred samesign a b) = refl
+count-numbered_op n (Unary op truth a) = refl
 count-numbered_op n (Select z a b) = refl
 count-numbered_op n (Convert cast flags a to) = refl
 count-numbered_op n (Freeze a j) = refl
@@ -301,6 +310,9 @@ classes-numbered_op n (Compare pred samesign a b) zero c at = let h = same_Some 
 classes-numbered_op n (Compare pred samesign a b) (suc zero) c at = let h = same_Some (n + 1) c at in omega arith
 classes-numbered_op n (Compare pred samesign a b) (suc (suc zero)) c at = let h = same_Some (n + 1 + 1) c at in omega arith
 classes-numbered_op n (Compare pred samesign a b) (suc (suc (suc k))) c at = cc
+classes-numbered_op n (Unary op truth a) zero c at = let h = same_Some n c at in omega arith
+classes-numbered_op n (Unary op truth a) (suc zero) c at = let h = same_Some (n + 1) c at in omega arith
+classes-numbered_op n (Unary op truth a) (suc (suc k)) c at = cc
 classes-numbered_op n (Select z a b) zero c at = let h = same_Some n c at in omega arith
 classes-numbered_op n (Select z a b) (suc zero) c at = let h = same_Some (n + 1) c at in omega arith
 classes-numbered_op n (Select z a b) (suc (suc zero)) c at = let h = same_Some (n + 1 + 1) c at in omega arith

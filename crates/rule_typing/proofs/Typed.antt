@@ -6,7 +6,7 @@ use Rattle.std.proofs.lemmas.Option.{slice_get-get_or, get_or_from_slice_get, sa
 use Rattle.rule_core.specs.declared.rule.Rule.{Rule}
 use Rattle.rule_core.specs.declared.rule.Statement.{Statement}
 use Rattle.rule_core.specs.declared.rule.Op.{Op}
-use Rattle.rule_core.specs.declared.rule.Op.TheVariants.{Binary, Compare, Select, Convert, Freeze, Copy}
+use Rattle.rule_core.specs.declared.rule.Op.TheVariants.{Binary, Compare, Unary, Select, Convert, Freeze, Copy}
 use Rattle.rule_core.specs.declared.rule.Term.{Term}
 use Rattle.rule_core.specs.declared.rule.Node.{Node}
 use Rattle.rule_core.specs.declared.rule.Node.TheVariants as nodes
@@ -32,6 +32,7 @@ restored_op f n (Compare pred samesign a b) gives =
     let left : f n ≡ a.class = ap f (sym (add-zero n)) ∙ gives 0 a.class refl in
     let right : f (n + 1) ≡ b.class = gives 1 b.class refl in
     rw (left, right) refl
+restored_op f n (Unary op truth a) gives = let left : f n ≡ a.class = ap f (sym (add-zero n)) ∙ gives 0 a.class refl in rw left refl
 restored_op f n (Select z a b) gives =
     let first : f n ≡ z.class = ap f (sym (add-zero n)) ∙ gives 0 z.class refl in
     let second : f (n + 1) ≡ a.class = gives 1 a.class refl in

@@ -3,7 +3,7 @@ use Rattle.std.specs.Prelude.{◌≡◌, ◌⊎◌, ◌<◌, ◌≤◌, ℕ, Boo
 use Rattle.ops.specs.declared.conversion.Cast.TheVariants.{Trunc, ZExt, SExt}
 use Rattle.rule_core.specs.declared.rule.Statement.{Statement}
 use Rattle.rule_core.specs.declared.rule.Op.{Op}
-use Rattle.rule_core.specs.declared.rule.Op.TheVariants.{Binary, Compare, Select, Convert, Freeze, Copy}
+use Rattle.rule_core.specs.declared.rule.Op.TheVariants.{Binary, Compare, Unary, Select, Convert, Freeze, Copy}
 use Rattle.rule_core.specs.declared.rule.Operand.{Operand}
 use Rattle.rule_core.specs.declared.rule.Argument.TheVariants as arguments
 use Rattle.rule_core.specs.Positions.{operands_of}
@@ -12,6 +12,7 @@ use Rattle.rule_core.specs.Positions.{operands_of}
 abbrev pub fixed_line : ℕ → Op → Option (ℕ × ℕ)
 fixed_line r (Binary op flags a b) = None
 fixed_line r (Compare pred samesign a b) = Some (r, 1)
+fixed_line r (Unary op truth a) = None
 fixed_line r (Select z a b) = Some (z.class, 1)
 fixed_line r (Convert cast flags a None) = None
 fixed_line r (Convert cast flags a (Some N)) = Some (r, N)
@@ -34,6 +35,7 @@ StatementFixes c N s = (fixed_line s.class s.op ≡ Some (c, N)) ⊎ OperandFixe
 abbrev pub smaller_line : ℕ → Op → Option (ℕ × ℕ)
 smaller_line r (Binary op flags a b) = None
 smaller_line r (Compare pred samesign a b) = None
+smaller_line r (Unary op truth a) = None
 smaller_line r (Select z a b) = None
 smaller_line r (Convert Trunc flags a to) = Some (r, a.class)
 smaller_line r (Convert ZExt flags a to) = Some (a.class, r)

@@ -3,7 +3,7 @@ use Rattle.std.specs.Prelude.{◌≡◌, ℕ, ◌+◌, ◌==◌, if◌then◌els
 use Rattle.rule_core.specs.declared.rule.Rule.{Rule}
 use Rattle.rule_core.specs.declared.rule.Statement.{Statement}
 use Rattle.rule_core.specs.declared.rule.Op.{Op}
-use Rattle.rule_core.specs.declared.rule.Op.TheVariants.{Binary, Compare, Select, Convert, Freeze, Copy}
+use Rattle.rule_core.specs.declared.rule.Op.TheVariants.{Binary, Compare, Unary, Select, Convert, Freeze, Copy}
 use Rattle.rule_core.specs.declared.rule.Term.{Term}
 use Rattle.rule_core.specs.declared.rule.Node.{Node}
 use Rattle.rule_core.specs.declared.rule.Node.TheVariants as nodes
@@ -15,6 +15,7 @@ use Rattle.rule_core.specs.Positions.{classes_of_statement, classes_of_term}
 abbrev pub mapped_op : (ℕ → ℕ) → Op → Op
 mapped_op f (Binary op flags a b) = Binary op flags (record a { class = f a.class }) (record b { class = f b.class })
 mapped_op f (Compare pred samesign a b) = Compare pred samesign (record a { class = f a.class }) (record b { class = f b.class })
+mapped_op f (Unary op truth a) = Unary op truth (record a { class = f a.class })
 mapped_op f (Select c a b) = Select (record c { class = f c.class }) (record a { class = f a.class }) (record b { class = f b.class })
 mapped_op f (Convert cast flags a to) = Convert cast flags (record a { class = f a.class }) to
 mapped_op f (Freeze a k) = Freeze (record a { class = f a.class }) k
@@ -48,6 +49,7 @@ mapped f rule =
 abbrev pub numbered_op : ℕ → Op → Op
 numbered_op n (Binary op flags a b) = Binary op flags (record a { class = n }) (record b { class = n + 1 })
 numbered_op n (Compare pred samesign a b) = Compare pred samesign (record a { class = n }) (record b { class = n + 1 })
+numbered_op n (Unary op truth a) = Unary op truth (record a { class = n })
 numbered_op n (Select c a b) = Select (record c { class = n }) (record a { class = n + 1 }) (record b { class = n + 2 })
 numbered_op n (Convert cast flags a to) = Convert cast flags (record a { class = n }) to
 numbered_op n (Freeze a k) = Freeze (record a { class = n }) k

@@ -3,7 +3,7 @@ use Rattle.std.specs.Prelude.{◌≡◌, ◌≢◌, ◌⊎◌, ℕ, ◌+◌, ◌
 use Rattle.rule_core.specs.declared.rule.Rule.{Rule}
 use Rattle.rule_core.specs.declared.rule.Statement.{Statement}
 use Rattle.rule_core.specs.declared.rule.Op.{Op}
-use Rattle.rule_core.specs.declared.rule.Op.TheVariants.{Binary, Compare, Select, Convert, Freeze, Copy}
+use Rattle.rule_core.specs.declared.rule.Op.TheVariants.{Binary, Compare, Unary, Select, Convert, Freeze, Copy}
 use Rattle.rule_core.specs.declared.rule.Operand.{Operand}
 use Rattle.rule_core.specs.declared.rule.Argument.{Argument}
 use Rattle.rule_core.specs.declared.rule.Argument.TheVariants as arguments
@@ -34,6 +34,7 @@ paired (Some c) (Some d) = (c, d) ∷ []
 abbrev pub op_pairs : ℕ → Op → List (ℕ × ℕ)
 op_pairs r (Binary op flags a b) = (r, a.class) ∷ (r, b.class) ∷ []
 op_pairs r (Compare pred samesign a b) = (a.class, b.class) ∷ []
+op_pairs r (Unary op truth a) = (r, a.class) ∷ []
 op_pairs r (Select z a b) = (r, a.class) ∷ (r, b.class) ∷ []
 op_pairs r (Convert cast flags a to) = []
 op_pairs r (Freeze a k) = (r, a.class) ∷ []

@@ -68,6 +68,7 @@ fn smaller_line(result_class: u32, op: Op) -> Option<(u32, u32)>
         },
         Op::Binary(_, _, _, _) => None,
         Op::Compare(_, _, _, _) => None,
+        Op::Unary(_, _, _) => None,
         Op::Select(_, _, _) => None,
         Op::Freeze(_, _) | Op::Copy(_) => None,
     }

@@ -199,6 +199,7 @@ fn past_statement(statement: &Statement) -> usize
         Op::Binary(_, _, left, right) => first.max(left.class).max(right.class),
         Op::Compare(_, _, left, right) => first.max(left.class).max(right.class),
         Op::Select(condition, yes, no) => first.max(condition.class).max(yes.class).max(no.class),
+        Op::Unary(_, _, operand) => first.max(operand.class),
         Op::Convert(_, _, operand, _) => first.max(operand.class),
         Op::Freeze(operand, _) => first.max(operand.class),
         Op::Copy(operand) => first.max(operand.class),

@@ -74,6 +74,7 @@ fn fixed_line(result_class: u32, op: Op) -> Option<(u32, Width)>
     match op {
         Op::Binary(_, _, _, _) => None,
         Op::Compare(_, _, _, _) => Some((result_class, Width::ONE)),
+        Op::Unary(_, _, _) => None,
         Op::Select(condition, _, _) => Some((condition.class, Width::ONE)),
         Op::Convert(_, _, _, None) => None,
         Op::Convert(_, _, _, Some(width)) => Some((result_class, width)),

@@ -80,6 +80,7 @@ fn split_by_op(class: u32, op: Op) -> Option<(u32, u32)>
     match op {
         Op::Binary(_, _, left, right) => split_by_two(class, left.class, right.class),
         Op::Compare(_, _, left, right) => split_pair(left.class, right.class),
+        Op::Unary(_, _, operand) => split_pair(class, operand.class),
         Op::Select(_, yes, no) => split_by_two(class, yes.class, no.class),
         Op::Convert(_, _, _, _) => None,
         Op::Freeze(operand, _) => split_pair(class, operand.class),

@@ -40,7 +40,7 @@ impl Operands {
                 held: [condition, yes, no],
                 count: 3,
             },
-            Op::Convert(_, _, operand, _) => Operands {
+            Op::Unary(_, _, operand) | Op::Convert(_, _, operand, _) => Operands {
                 held: [operand, NO_OPERAND, NO_OPERAND],
                 count: 1,
             },

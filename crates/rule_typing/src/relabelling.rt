@@ -57,6 +57,7 @@ impl Renaming {
                 self.operand(left),
                 self.operand(right),
             ),
+            Op::Unary(op, truth, operand) => Op::Unary(op, truth, self.operand(operand)),
             Op::Select(condition, yes, no) => Op::Select(
                 self.operand(condition),
                 self.operand(yes),
@@ -207,6 +208,10 @@ fn numbered_op(op: Op, first: u32) -> (Op, u32)
                 first + 2,
             )
         }
+        Op::Unary(op, truth, operand) => (
+            Op::Unary(op, truth, with_class(operand, first)),
+            first + 1,
+        ),
         Op::Select(condition, yes, no) => {
             let condition = with_class(condition, first);
             let yes = with_class(yes, first + 1);

@@ -6,6 +6,9 @@ returns-in-Binary c = rw c.in-Binary.is c.split_by_two.ensures
 pub returns-in-Compare : goal.returns-in-Compare
 returns-in-Compare c = rw c.in-Compare.is c.split_pair.ensures
 
+pub returns-in-Unary : goal.returns-in-Unary
+returns-in-Unary c = rw c.in-Unary.is c.split_pair-in-Unary.ensures
+
 pub returns-in-Select : goal.returns-in-Select
 returns-in-Select c = rw c.in-Select.is c.split_by_two-in-Select.ensures
 
