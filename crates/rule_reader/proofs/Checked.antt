@@ -1,5 +1,5 @@
 -- A rule that a rule as written without faults means meets each check of a rule.
-use Rattle.std.proofs.Common.{◌≡◌, inl, inr, ℕ, zero, suc, ◌+◌, ◌-◌, ◌<◌, ◌≤◌, List, [], ◌∷◌, ◌++◌, append_assoc, length, Some, refl, sym, ap, subst, ◌∙◌, arith, get_or}
+use Rattle.std.proofs.Common.{◌≡◌, inl, inr, ℕ, zero, suc, ◌+◌, ◌-◌, ◌<◌, ◌≤◌, Bool, List, [], ◌∷◌, ◌++◌, append_assoc, length, Some, refl, sym, ap, subst, ◌∙◌, arith, get_or}
 use Rattle.std.specs.Prelude.{slice_get, Contains, map, flat_map}
 use Rattle.std.specs.List.{range_with_len}
 use Rattle.std.proofs.lemmas.List.{length-map}
@@ -11,6 +11,8 @@ use Rattle.ops.specs.declared.opcode.Opcode.{Opcode}
 use Rattle.ops.specs.declared.opcode.Flags.{Flags}
 use Rattle.ops.specs.declared.conversion.Cast.{Cast}
 use Rattle.ops.specs.Flags.{FlagsFit, CastFlagsFit}
+use Rattle.ops.specs.Truths.{TruthFits}
+use Rattle.ops.specs.declared.opcode.Unary.{Unary as Intrinsic}
 use Rattle.rule_parse.specs.declared.raw.RawRule.{RawRule}
 use Rattle.rule_parse.specs.declared.raw.RawStatement.{RawStatement}
 use Rattle.rule_parse.specs.declared.raw.RawOp.{RawOp}
@@ -78,11 +80,16 @@ same_fit op op' flags flags' same same' fit = subst (λ o. FlagsFit o flags') (s
 same_cast_fit : (cast cast' : Cast) (flags flags' : Flags) → cast' ≡ cast → flags' ≡ flags → CastFlagsFit cast flags → CastFlagsFit cast' flags'
 same_cast_fit cast cast' flags flags' same same' fit = subst (λ c. CastFlagsFit c flags') (sym same) (subst (CastFlagsFit cast) (sym same') fit)
 
+same_truth_fit : (op op' : Intrinsic) (truth truth' : Bool) → op' ≡ op → truth' ≡ truth → TruthFits op truth → TruthFits op' truth'
+same_truth_fit op op' truth truth' same same' fit = subst (λ o. TruthFits o truth') (sym same) (subst (TruthFits op) (sym same') fit)
+
 module _ (raw : RawRule) (names : Names) where
   fits : (b : Counts) (w : RawOp) (op : Op) → OpMeans raw names b w op → FlagsFitRaw w → FlagsFitOp op
   fits b (raw_ops.Binary op flags a c) (ops.Binary op' flags' x y) means fit = same_fit op op' flags flags' means.0 means.1 fit
+  fits b (raw_ops.Unary op truth a) (ops.Unary op' truth' x) means fit = same_truth_fit op op' truth truth' means.0 means.1 fit
   fits b (raw_ops.Convert cast flags a to) (ops.Convert cast' flags' x to') means fit = same_cast_fit cast cast' flags flags' means.0 means.1 fit
   fits b w (ops.Binary op flags x y) means fit = absurd means
+  fits b w (ops.Unary op truth x) means fit = absurd means
   fits b w (ops.Convert cast flags x to) means fit = absurd means
   fits b w op means fit = tt
 
@@ -128,6 +135,7 @@ module _ (raw : RawRule) (names : Names) where
 counted_behind : (op : RawOp) → (frozen : List RawArgument) × (counted_of op ≡ arguments_of op ++ frozen)
 counted_behind (raw_ops.Binary op flags a b) = ([], refl)
 counted_behind (raw_ops.Compare pred samesign a b) = ([], refl)
+counted_behind (raw_ops.Unary op truth a) = ([], refl)
 counted_behind (raw_ops.Select c a b) = ([], refl)
 counted_behind (raw_ops.Convert cast flags a to) = ([], refl)
 counted_behind (raw_ops.Freeze a) = (raw_arguments.Undef ∷ [], refl)

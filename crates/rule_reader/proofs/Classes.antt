@@ -43,6 +43,10 @@ module _ (raw : RawRule) (names : Names) where
       let predicates : o ≡ o' = cc in
       let signs : s ≡ s' = cc in
       (sym predicates ∙ means.0, sym signs ∙ means.1, same_operand u a x x' m n (cc) means.2, same_operand (past u a.value) b y y' (m + 1) (n + 1) (cc) means.3)
+  same_op u m n (raw_ops.Unary op truth a) (ops.Unary o t x) (ops.Unary o' t' x') e means =
+      let intrinsics : o ≡ o' = cc in
+      let truths : t ≡ t' = cc in
+      (sym intrinsics ∙ means.0, sym truths ∙ means.1, same_operand u a x x' m n (cc) means.2)
   same_op u m n (raw_ops.Select c a b) (ops.Select z x y) (ops.Select z' x' y') e means =
       (same_operand u c z z' m n (cc) means.0, same_operand (past u c.value) a x x' (m + 1) (n + 1) (cc) means.1, same_operand (past (past u c.value) a.value) b y y' (m + 2) (n + 2) (cc) means.2)
   same_op u m n (raw_ops.Convert cast flags a to) (ops.Convert o f x t) (ops.Convert o' f' x' t') e means =
@@ -56,6 +60,7 @@ module _ (raw : RawRule) (names : Names) where
   same_op u m n (raw_ops.Copy a) (ops.Copy x) (ops.Copy x') e means = same_operand u a x x' m n (cc) means
   same_op u m n (raw_ops.Binary op flags a b) (ops.Binary o f x y) q e means = absurd (cc)
   same_op u m n (raw_ops.Compare pred samesign a b) (ops.Compare o s x y) q e means = absurd (cc)
+  same_op u m n (raw_ops.Unary op truth a) (ops.Unary o t x) q e means = absurd (cc)
   same_op u m n (raw_ops.Select c a b) (ops.Select z x y) q e means = absurd (cc)
   same_op u m n (raw_ops.Convert cast flags a to) (ops.Convert o f x t) q e means = absurd (cc)
   same_op u m n (raw_ops.Freeze a) (ops.Freeze x j) q e means = absurd (cc)

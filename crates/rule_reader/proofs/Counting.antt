@@ -65,6 +65,7 @@ counts_all ss k c past_end is = is ∙ ap in_half (take_all k ss past_end)
 pub few_read : (c : Counts) (op : RawOp) → AreFew (past_all c (counted_of op)) → AreFew (past_all c (arguments_of op))
 few_read c (raw_ops.Binary op flags a b) few = few
 few_read c (raw_ops.Compare pred samesign a b) few = few
+few_read c (raw_ops.Unary op truth a) few = few
 few_read c (raw_ops.Select z a b) few = few
 few_read c (raw_ops.Convert cast flags a to) few = few
 few_read c (raw_ops.Freeze a) few = few_one (past c a.value) Undef few

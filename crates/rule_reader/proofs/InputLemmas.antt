@@ -8,7 +8,7 @@ use Rattle.std.proofs.lemmas.Option.{slice_get_within}
 use Rattle.std.proofs.lemmas.List.Elements.{Contains-append_left, Contains-push, Contains-push_cases}
 use Rattle.rule_parse.specs.declared.raw.RawStatement.{RawStatement}
 use Rattle.rule_parse.specs.declared.raw.RawOp.{RawOp}
-use Rattle.rule_parse.specs.declared.raw.RawOp.TheVariants.{Binary, Compare, Select, Convert, Freeze, Copy}
+use Rattle.rule_parse.specs.declared.raw.RawOp.TheVariants.{Binary, Compare, Unary, Select, Convert, Freeze, Copy}
 use Rattle.rule_parse.specs.declared.raw.RawArgument.{RawArgument}
 use Rattle.rule_core.proofs.Members.{Contains-from_get, get-append_left}
 use Rattle.rule_reader.specs.declared.names.Names.{Names}
@@ -155,6 +155,7 @@ at_most Gives os names (suc h) q name first at given =
 few_of_op : (op : RawOp) → length (arguments_of op) ≤ 3
 few_of_op (Binary op flags a b) = omega arith
 few_of_op (Compare pred samesign a b) = omega arith
+few_of_op (Unary op truth a) = omega arith
 few_of_op (Select c a b) = omega arith
 few_of_op (Convert cast flags a to) = omega arith
 few_of_op (Freeze a) = omega arith

@@ -90,6 +90,7 @@ unfolding undefs_of
 frozen_choices c (ops.Freeze a k) = refl
 frozen_choices c (ops.Binary op flags a b) = refl
 frozen_choices c (ops.Compare pred samesign a b) = refl
+frozen_choices c (ops.Unary op truth a) = refl
 frozen_choices c (ops.Select z a b) = refl
 frozen_choices c (ops.Convert cast flags a to) = refl
 frozen_choices c (ops.Copy a) = refl
@@ -124,6 +125,7 @@ module _ (raw : RawRule) (names : Names) where
   counted_go : (b : Counts) (c : ℕ) (w : RawOp) (op : Op) → OpMeans raw names b w op → Go b (counted_of w) (operands_meant op ++ frozen_operand c op)
   counted_go b c (raw_ops.Binary op flags a d) (ops.Binary op' flags' x y) means = (means.2.1, (means.3.1, tt))
   counted_go b c (raw_ops.Compare pred samesign a d) (ops.Compare pred' samesign' x y) means = (means.2.1, (means.3.1, tt))
+  counted_go b c (raw_ops.Unary op truth a) (ops.Unary op' truth' x) means = (means.2.1, tt)
   counted_go b c (raw_ops.Select z a d) (ops.Select z' x y) means = (means.0.1, (means.1.1, (means.2.1, tt)))
   counted_go b c (raw_ops.Convert cast flags a to) (ops.Convert cast' flags' x to') means = (means.2.1, tt)
   counted_go b c (raw_ops.Freeze a) (ops.Freeze x k) means = (means.0.1, (means.1, tt))
@@ -133,6 +135,7 @@ module _ (raw : RawRule) (names : Names) where
   pub operands_go : (b : Counts) (w : RawOp) (op : Op) → OpMeans raw names b w op → Go b (arguments_of w) (operands_meant op)
   operands_go b (raw_ops.Binary op flags a c) (ops.Binary op' flags' x y) means = (means.2.1, (means.3.1, tt))
   operands_go b (raw_ops.Compare pred samesign a c) (ops.Compare pred' samesign' x y) means = (means.2.1, (means.3.1, tt))
+  operands_go b (raw_ops.Unary op truth a) (ops.Unary op' truth' x) means = (means.2.1, tt)
   operands_go b (raw_ops.Select c a d) (ops.Select z x y) means = (means.0.1, (means.1.1, (means.2.1, tt)))
   operands_go b (raw_ops.Convert cast flags a to) (ops.Convert cast' flags' x to') means = (means.2.1, tt)
   operands_go b (raw_ops.Freeze a) (ops.Freeze x k) means = (means.0.1, tt)

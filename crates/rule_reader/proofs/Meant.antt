@@ -114,6 +114,7 @@ module _ (raw : RawRule) (names : Names) (are : AreNames raw.source names) where
       let (x, left) = some_operand place u a bound.0 whole.0 in
       let (y, right) = some_operand place (past u a.value) b bound.1.0 whole.1.0 in
       (ops.Compare pred samesign x y, (refl, refl, left, right))
+  some_op place u (raw_ops.Unary op truth a) bound whole = let (x, means) = some_operand place u a bound.0 whole.0 in (ops.Unary op truth x, (refl, refl, means))
   some_op place u (raw_ops.Select c a b) bound whole =
       let (z, condition) = some_operand place u c bound.0 whole.0 in
       let (x, if_true) = some_operand place (past u c.value) a bound.1.0 whole.1.0 in

@@ -126,6 +126,7 @@ dec_freeze (ops.Freeze a) = yes tt
 dec_freeze (ops.Copy a) = no (λ e. e)
 dec_freeze (ops.Binary op flags a b) = no (λ e. e)
 dec_freeze (ops.Compare pred samesign a b) = no (λ e. e)
+dec_freeze (ops.Unary op truth a) = no (λ e. e)
 dec_freeze (ops.Select c a b) = no (λ e. e)
 dec_freeze (ops.Convert cast flags a to) = no (λ e. e)
 
@@ -138,6 +139,7 @@ dec_undef_alone (ops.Freeze a) = dec_undef_argument a.value
 dec_undef_alone (ops.Copy a) = dec_undef_argument a.value
 dec_undef_alone (ops.Binary op flags a b) = no (λ e. e)
 dec_undef_alone (ops.Compare pred samesign a b) = no (λ e. e)
+dec_undef_alone (ops.Unary op truth a) = no (λ e. e)
 dec_undef_alone (ops.Select c a b) = no (λ e. e)
 dec_undef_alone (ops.Convert cast flags a to) = no (λ e. e)
 

@@ -153,6 +153,11 @@ module _ (raw : RawRule) (names : Names) (plain : IsPlain raw) (are : AreNames r
       let predicates : o ≡ o' = p.0 ∙ sym q.0 in
       let signs : s ≡ s' = p.1 ∙ sym q.1 in
       (cc, refl)
+  one_op n u (raw_ops.Unary op truth a) (ops.Unary o t x) (ops.Unary o' t' x') free p q =
+      let operands = one_operand n u a x x' free.0 p.2 q.2 in
+      let intrinsics : o ≡ o' = p.0 ∙ sym q.0 in
+      let truths : t ≡ t' = p.1 ∙ sym q.1 in
+      (cc, refl)
   one_op n u (raw_ops.Select c a b) (ops.Select z x y) (ops.Select z' x' y') free p q =
       let conditions = one_operand n u c z z' free.0 p.0 q.0 in
       let arms = one_operand (n + 1) (past u c.value) a x x' free.1.0 p.1 q.1 in
@@ -171,6 +176,7 @@ module _ (raw : RawRule) (names : Names) (plain : IsPlain raw) (are : AreNames r
   one_op n u (raw_ops.Copy a) (ops.Copy x) (ops.Copy x') free p q = (ap (λ z. ops.Copy z) (one_operand n u a x x' free.0 p q), refl)
   one_op n u (raw_ops.Binary op flags a b) (ops.Binary o f x y) q' free p q = absurd q
   one_op n u (raw_ops.Compare pred samesign a b) (ops.Compare o s x y) q' free p q = absurd q
+  one_op n u (raw_ops.Unary op truth a) (ops.Unary o t x) q' free p q = absurd q
   one_op n u (raw_ops.Select c a b) (ops.Select z x y) q' free p q = absurd q
   one_op n u (raw_ops.Convert cast flags a to) (ops.Convert o f x t) q' free p q = absurd q
   one_op n u (raw_ops.Freeze a) (ops.Freeze x j) q' free p q = absurd q
@@ -413,6 +419,11 @@ same_op m n (ops.Compare o s x y) (ops.Compare o' s' x' y') xs ys e classes =
     let predicates : o ≡ o' = cc in
     let signs : s ≡ s' = cc in
     (cc, cc)
+same_op m n (ops.Unary o t x) (ops.Unary o' t' x') xs ys e classes =
+    let operand : x ≡ x' = same_operand x x' m n (cc) (cc) in
+    let intrinsics : o ≡ o' = cc in
+    let truths : t ≡ t' = cc in
+    (cc, cc)
 same_op m n (ops.Select z x y) (ops.Select z' x' y') xs ys e classes =
     let condition : z ≡ z' = same_operand z z' m n (cc) (cc) in
     let arm : x ≡ x' = same_operand x x' (m + 1) (n + 1) (cc) (cc) in
@@ -451,6 +462,7 @@ same_statements m n (s ∷ ss) (t ∷ ts) xs ys e classes =
 as_many_of : (m n : ℕ) (p q : Op) → numbered_op m p ≡ numbered_op n q → length (op_classes p) ≡ length (op_classes q)
 as_many_of m n (ops.Binary o f x y) (ops.Binary o' f' x' y') e = refl
 as_many_of m n (ops.Compare o s x y) (ops.Compare o' s' x' y') e = refl
+as_many_of m n (ops.Unary o t x) (ops.Unary o' t' x') e = refl
 as_many_of m n (ops.Select z x y) (ops.Select z' x' y') e = refl
 as_many_of m n (ops.Convert o f x t) (ops.Convert o' f' x' t') e = refl
 as_many_of m n (ops.Freeze x j) (ops.Freeze x' j') e = refl

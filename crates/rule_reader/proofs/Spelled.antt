@@ -1,8 +1,11 @@
 -- What the grammar says of operations: names are short, flags fit, a source has no copies and no terms, and a target has constant terms.
 -- A half is known by what its copies are.
-use Rattle.std.proofs.Common.{◌≡◌, ℕ, ◌≤◌, List, [], ◌∷◌, length, subst}
+use Rattle.std.proofs.Common.{◌≡◌, ℕ, ◌≤◌, Bool, true, false, refl, List, [], ◌∷◌, length, subst}
 use Rattle.std.specs.Prelude.{Contains, flat_map}
 use Rattle.ops.specs.Flags.{flags_of, flags_of_cast}
+use Rattle.ops.specs.Truths.{TruthFits}
+use Rattle.ops.specs.declared.opcode.Unary.{Unary as Intrinsic}
+use Rattle.ops.specs.declared.opcode.Unary.TheVariants as intrinsics
 use Rattle.ops.proofs.FlagKeywordLemmas.{taken_flags}
 use Rattle.rule_tokens.specs.Parts.{Part}
 use Rattle.rule_tokens.specs.Tokens.{Token}
@@ -10,11 +13,11 @@ use Rattle.rule_terms.specs.declared.raw.RawNode.{RawNode}
 use Rattle.rule_terms.specs.declared.raw.RawNode.TheVariants as raw_nodes
 use Rattle.rule_parse.specs.declared.raw.RawStatement.{RawStatement}
 use Rattle.rule_parse.specs.declared.raw.RawOp.{RawOp}
-use Rattle.rule_parse.specs.declared.raw.RawOp.TheVariants.{Binary, Compare, Select, Convert, Freeze, Copy}
+use Rattle.rule_parse.specs.declared.raw.RawOp.TheVariants.{Binary, Compare, Unary, Select, Convert, Freeze, Copy}
 use Rattle.rule_parse.specs.declared.raw.RawOperand.{RawOperand}
 use Rattle.rule_parse.specs.declared.raw.RawArgument.{RawArgument}
 use Rattle.rule_parse.specs.declared.raw.RawArgument.TheVariants.{Literal, Constant, Term}
-use Rattle.rule_parse.specs.Grammar.{SpellsArgument, SpellsOperand, SpellsUntyped, SpellsPair, SpellsOp, SpellsStatements, SpellsHalf, SpellsTermOperand}
+use Rattle.rule_parse.specs.Grammar.{SpellsArgument, SpellsOperand, SpellsUntyped, SpellsPair, SpellsTruth, SpellsOp, SpellsStatements, SpellsHalf, SpellsTermOperand}
 use Rattle.rule_parse.specs.Keywords.{argument_of}
 use Rattle.rule_reader.specs.FaultKinds.{Each}
 use Rattle.rule_parse.specs.Contents.{arguments_of, arguments_among, terms_of_argument}
@@ -22,7 +25,6 @@ use Rattle.rule_reader.specs.WellFormed.{MayStandInSource, FlagsFitOp}
 use Rattle.rule_reader.proofs.Members.{each_in, each_append}
 use Rattle.rule_reader.proofs.SpelledTerms.{IsConstantNode, IsConstantTerm, constant_term}
 use Rattle.rule_tokens.specs.declared.version.Version.{Version}
-use Rattle.rule_tokens.specs.declared.version.Version.TheVariants.{One, Two}
 use Rattle.rule_tokens.specs.Limits.{rule_limits}
 
 -- some tokens spell it
@@ -44,11 +46,11 @@ pair half a b tokens spelled = (operand half a spelled.0 spelled.2, (untyped hal
 arguments_spelled : (version : Version) (half : _) → ((a : RawOperand) (tokens : List Token) → SpellsOp rule_limits version half (Copy a) tokens → SpellsOperand rule_limits half a tokens) → (op : RawOp) (tokens : List Token) → SpellsOp rule_limits version half op tokens → Each (IsSpelled (SpellsArgument rule_limits half)) (arguments_of op)
 arguments_spelled version half copies (Binary op flags a b) tokens spelled = pair half a b spelled.3.1 spelled.3.3
 arguments_spelled version half copies (Compare pred samesign a b) tokens spelled = pair half a b spelled.3.3.1 spelled.3.3.3
+arguments_spelled version half copies (Unary op truth a) tokens spelled = (operand half a spelled.3.1 spelled.3.3, tt)
 arguments_spelled version half copies (Select c a b) tokens spelled =
     (operand half c spelled.3.0 spelled.3.2, (operand half a spelled.3.3.3.0 spelled.3.3.3.2, (operand half b spelled.3.3.3.3.1 spelled.3.3.3.3.3, tt)))
 arguments_spelled version half copies (Convert cast flags a to) tokens spelled = (operand half a spelled.3.3.0 spelled.3.3.2, tt)
-arguments_spelled One half copies (Freeze a) tokens spelled = absurd spelled
-arguments_spelled Two half copies (Freeze a) tokens spelled = (operand half a spelled.1 spelled.3, tt)
+arguments_spelled version half copies (Freeze a) tokens spelled = (operand half a spelled.1 spelled.3, tt)
 arguments_spelled version half copies (Copy a) tokens spelled = (operand half a tokens (copies a tokens spelled), tt)
 
 pub argument_spelled : (version : Version) (half : _) → ((a : RawOperand) (tokens : List Token) → SpellsOp rule_limits version half (Copy a) tokens → SpellsOperand rule_limits half a tokens) → (op : RawOp) (tokens : List Token) (a : RawArgument) → SpellsOp rule_limits version half op tokens → Contains (arguments_of op) a → IsSpelled (SpellsArgument rule_limits half) a
@@ -92,9 +94,18 @@ spelled_terms version half copies constant ss tokens spelled = terms_among half 
 
 -- ---- flags and copies
 
+-- a truth value is one that the intrinsic has
+written_truth : (op : Intrinsic) (truth : Bool) (tokens : List Token) → SpellsTruth op truth tokens → TruthFits op truth
+written_truth op false tokens spelled = refl
+written_truth intrinsics.Abs true tokens spelled = refl
+written_truth intrinsics.CtPop true tokens (word, flag, is) = absurd cc
+written_truth intrinsics.CtLz true tokens spelled = refl
+written_truth intrinsics.CtTz true tokens spelled = refl
+
 -- flags are ones that the instruction takes
 pub written_flags : (version : Version) (half : _) (op : RawOp) (tokens : List Token) → SpellsOp rule_limits version half op tokens → FlagsFitOp op
 written_flags version half (Binary op flags a b) tokens spelled = let written = spelled.3.2 in taken_flags (flags_of op) written.0 flags written.1
+written_flags version half (Unary op truth a) tokens spelled = written_truth op truth spelled.3.0 spelled.3.2
 written_flags version half (Convert cast flags a to) tokens spelled = let written = spelled.3.2 in taken_flags (flags_of_cast cast) written.0 flags written.1
 written_flags version half op tokens spelled = tt
 

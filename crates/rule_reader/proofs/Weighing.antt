@@ -72,6 +72,7 @@ terms_weigh (t ∷ ts) = omega (arith, term_weighs t, terms_weigh ts, sum_cons l
 one_counted : (op : RawOp) → (sum_by argument_weight (counted_of op) ≤ sum_by argument_weight (arguments_of op) + 1) × (flat_map terms_of_argument (counted_of op) ≡ flat_map terms_of_argument (arguments_of op))
 one_counted (raw_ops.Binary op flags a b) = (omega arith, refl)
 one_counted (raw_ops.Compare pred samesign a b) = (omega arith, refl)
+one_counted (raw_ops.Unary op truth a) = (omega arith, refl)
 one_counted (raw_ops.Select c a b) = (omega arith, refl)
 one_counted (raw_ops.Convert cast flags a to) = (omega arith, refl)
 one_counted (raw_ops.Freeze a) = (

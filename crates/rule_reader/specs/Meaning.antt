@@ -175,6 +175,7 @@ module _ (raw : RawRule) (names : Names) where
       (op' ≡ op) × (flags' ≡ flags) × OperandMeans before a x × OperandMeans (past before a.value) b y
   OpMeans before (raw_ops.Compare pred samesign a b) (ops.Compare pred' samesign' x y) =
       (pred' ≡ pred) × (samesign' ≡ samesign) × OperandMeans before a x × OperandMeans (past before a.value) b y
+  OpMeans before (raw_ops.Unary op truth a) (ops.Unary op' truth' x) = (op' ≡ op) × (truth' ≡ truth) × OperandMeans before a x
   OpMeans before (raw_ops.Select c a b) (ops.Select z x y) =
       OperandMeans before c z × OperandMeans (past before c.value) a x × OperandMeans (past (past before c.value) a.value) b y
   OpMeans before (raw_ops.Convert cast flags a to) (ops.Convert cast' flags' x to') =

@@ -1,6 +1,7 @@
 -- What the grammar and the limits say of a rule as written.
 use Rattle.std.specs.Prelude.{◌≡◌, ℕ, ◌<◌, ◌≤◌, List, length, map, Some, Contains, slice_get}
 use Rattle.ops.specs.Flags.{FlagsFit, CastFlagsFit}
+use Rattle.ops.specs.Truths.{TruthFits}
 use Rattle.rule_core.specs.FormulaNodes.{Joint, OneUse, Single, Turns, Both, Either, OneUseIsOutermost}
 use Rattle.rule_parse.specs.declared.raw.RawRule.{RawRule}
 use Rattle.rule_parse.specs.declared.raw.RawPrecondition.{RawPrecondition}
@@ -30,6 +31,7 @@ MayStandInSource op = Unit {0}
 -- the flags that are written are ones that the instruction takes
 abbrev pub FlagsFitOp : RawOp → Type 0
 FlagsFitOp (raw_ops.Binary op flags a b) = FlagsFit op flags
+FlagsFitOp (raw_ops.Unary op truth a) = TruthFits op truth
 FlagsFitOp (raw_ops.Convert cast flags a to) = CastFlagsFit cast flags
 FlagsFitOp op = Unit {0}
 

@@ -86,9 +86,10 @@ fn op_is_bound(rule: &RawRule, names: &Names, place: Place, op: &RawOp) -> bool
                 && argument_is_bound(rule, names, place, &if_true.value)
                 && argument_is_bound(rule, names, place, &if_false.value)
         }
-        RawOp::Convert(_, _, operand, _) | RawOp::Freeze(operand) | RawOp::Copy(operand) => {
-            argument_is_bound(rule, names, place, &operand.value)
-        }
+        RawOp::Unary(_, _, operand)
+        | RawOp::Convert(_, _, operand, _)
+        | RawOp::Freeze(operand)
+        | RawOp::Copy(operand) => { argument_is_bound(rule, names, place, &operand.value) }
     }
 }
 

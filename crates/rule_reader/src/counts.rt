@@ -56,7 +56,8 @@ impl Counts {
                 .past(&condition.value)
                 .past(&if_true.value)
                 .past(&if_false.value),
-            RawOp::Convert(_, _, operand, _) | RawOp::Copy(operand) => self.past(&operand.value),
+            RawOp::Unary(_, _, operand) | RawOp::Convert(_, _, operand, _) | RawOp::Copy(operand) =>
+                self.past(&operand.value),
             RawOp::Freeze(operand) => self.past(&operand.value).past(&RawArgument::Undef),
         }
     }

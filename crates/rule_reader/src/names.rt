@@ -52,7 +52,10 @@ fn add_names(
             add_name(alloc, names, source, &if_true.value)?;
             add_name(alloc, names, source, &if_false.value)?;
         }
-        RawOp::Convert(_, _, operand, _) | RawOp::Freeze(operand) | RawOp::Copy(operand) => {
+        RawOp::Unary(_, _, operand)
+        | RawOp::Convert(_, _, operand, _)
+        | RawOp::Freeze(operand)
+        | RawOp::Copy(operand) => {
             add_name(alloc, names, source, &operand.value)?;
         }
     }

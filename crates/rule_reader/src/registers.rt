@@ -85,7 +85,9 @@ pub(crate) fn uses(op: &RawOp, name: &[u8]) -> bool
                 || is_register(if_true, name)
                 || is_register(if_false, name)
         }
-        RawOp::Convert(_, _, operand, _) | RawOp::Freeze(operand) | RawOp::Copy(operand) =>
-            is_register(operand, name),
+        RawOp::Unary(_, _, operand)
+        | RawOp::Convert(_, _, operand, _)
+        | RawOp::Freeze(operand)
+        | RawOp::Copy(operand) => is_register(operand, name),
     }
 }

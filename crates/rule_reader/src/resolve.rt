@@ -183,6 +183,11 @@ fn op(rule: &RawRule, names: &Names, place: Place, before: Counts, written: &Raw
             operand(rule, names, place, before, left),
             operand(rule, names, place, before.past(&left.value), right),
         ),
+        RawOp::Unary(intrinsic, truth, counted) => Op::Unary(
+            *intrinsic,
+            *truth,
+            operand(rule, names, place, before, counted),
+        ),
         RawOp::Select(condition, if_true, if_false) => {
             let arms = before.past(&condition.value);
             Op::Select(

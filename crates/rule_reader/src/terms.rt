@@ -114,9 +114,10 @@ fn add_op(
             add_argument(alloc, terms, rule, names, place, &if_true.value)?;
             add_argument(alloc, terms, rule, names, place, &if_false.value)
         }
-        RawOp::Convert(_, _, operand, _) | RawOp::Freeze(operand) | RawOp::Copy(operand) => {
-            add_argument(alloc, terms, rule, names, place, &operand.value)
-        }
+        RawOp::Unary(_, _, operand)
+        | RawOp::Convert(_, _, operand, _)
+        | RawOp::Freeze(operand)
+        | RawOp::Copy(operand) => { add_argument(alloc, terms, rule, names, place, &operand.value) }
     }
 }
 

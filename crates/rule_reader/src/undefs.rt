@@ -30,9 +30,10 @@ fn reads_undef(op: &RawOp) -> bool
         RawOp::Select(condition, if_true, if_false) => {
             is_undef(condition) || is_undef(if_true) || is_undef(if_false)
         }
-        RawOp::Convert(_, _, operand, _) | RawOp::Freeze(operand) | RawOp::Copy(operand) => {
-            is_undef(operand)
-        }
+        RawOp::Unary(_, _, operand)
+        | RawOp::Convert(_, _, operand, _)
+        | RawOp::Freeze(operand)
+        | RawOp::Copy(operand) => { is_undef(operand) }
     }
 }
 
