@@ -8,13 +8,14 @@ use Rattle.std.proofs.Math.Nat.{mul-le-mul_left, mul-le-mul}
 use Rattle.std.proofs.lemmas.List.Elements.{All-nil, All-cons, All-head, All-tail, All-map, All-weaker, All-contains_itself, Contains-append_left}
 use Rattle.std.proofs.lemmas.List.Sums.{sum_by-cons, sum_by-le}
 use Rattle.std.proofs.lemmas.Option.{slice_get-get_or, slice_get_within, slice_get-map, get_or_from_slice_get, same_Some}
-use Rattle.ops.specs.declared.opcode.Opcode.TheVariants.{Add, Sub, Mul, UDiv, SDiv, URem, SRem, Shl, LShr, AShr, And, Or, Xor}
+use Rattle.ops.specs.declared.opcode.Opcode.TheVariants.{Add, Sub, Mul, UDiv, SDiv, URem, SRem, Shl, LShr, AShr, And, Or, Xor, UMin, UMax, SMin, SMax}
+use Rattle.ops.specs.declared.opcode.Unary.TheVariants.{Abs, CtPop, CtLz, CtTz}
 use Rattle.ops.specs.declared.conversion.Cast.TheVariants.{Trunc, ZExt, SExt}
 use Rattle.rule_core.specs.declared.rule.Rule.{Rule}
 use Rattle.rule_core.specs.declared.rule.Statement.{Statement}
 use Rattle.rule_core.specs.declared.rule.Operand.{Operand}
 use Rattle.rule_core.specs.declared.rule.Op.{Op}
-use Rattle.rule_core.specs.declared.rule.Op.TheVariants.{Binary, Compare, Select, Convert, Freeze, Copy}
+use Rattle.rule_core.specs.declared.rule.Op.TheVariants.{Binary, Compare, Unary, Select, Convert, Freeze, Copy}
 use Rattle.rule_core.specs.Typing.{IsTyping}
 use Rattle.rule_core.specs.Checks.{IsRule, MayBeFormula}
 use Rattle.rule_core.specs.declared.rule.Term.{Term}
@@ -25,7 +26,7 @@ use Rattle.rule_core.specs.declared.rule.Formula.TheVariants as formulas_of
 use Rattle.rule_core.specs.Positions.{operands_of, terms_in, classes_of_statement, classes_of_term, IsStatementOf, IsTermOf}
 use Rattle.rule_core.proofs.Members.{Contains-from_get, Contains-flat_map, source_statement, target_statement, term_class_stands, constant_term, witness_term}
 use Rattle.rule_core.proofs.Weights.{few_terms, few_formulas}
-use Rattle.blast_value.proofs.Counts.{shift-few}
+use Rattle.blast_value.proofs.Counts.{shift-few, count-few}
 use Rattle.blast_rule.specs.Gates.{op_gates, statement_gates, widths_of_terms, widths_of_witness, refusal_gates, root_width, most_gates, greatest_width, op_bound, statement_bound, rule_bound}
 use Rattle.blast_term.specs.Gates.{formula_gates, term_bound, formula_bound, choice_bound}
 use Rattle.blast_term.specs.Terms.{ReadsTerms}
@@ -51,7 +52,15 @@ op-few typing N K (Binary AShr flags a b) some low below all = omega (arith, shi
 op-few typing N K (Binary And flags a b) some low below all = omega arith
 op-few typing N K (Binary Or flags a b) some low below all = omega arith
 op-few typing N K (Binary Xor flags a b) some low below all = omega arith
+op-few typing N K (Binary UMin flags a b) some low below all = omega arith
+op-few typing N K (Binary UMax flags a b) some low below all = omega arith
+op-few typing N K (Binary SMin flags a b) some low below all = omega arith
+op-few typing N K (Binary SMax flags a b) some low below all = omega arith
 op-few typing N K (Compare pred samesign a b) some low below all = omega (arith, all 0 0 (omega arith))
+op-few typing N K (Unary Abs truth a) some low below all = omega arith
+op-few typing N K (Unary CtPop truth a) some low below all = omega (arith, count-few N low)
+op-few typing N K (Unary CtLz truth a) some low below all = omega (arith, count-few N low)
+op-few typing N K (Unary CtTz truth a) some low below all = omega (arith, count-few N low)
 op-few typing N K (Select c a b) some low below all = omega arith
 op-few typing N K (Convert Trunc flags a to) some low below all = omega (arith, all 0 0 (omega arith))
 op-few typing N K (Convert ZExt flags a to) some low below all = omega arith

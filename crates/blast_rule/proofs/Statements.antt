@@ -17,7 +17,7 @@ use Rattle.circuits.specs.Word.{number_of}
 use Rattle.rule_core.specs.declared.rule.Statement.{Statement}
 use Rattle.rule_core.specs.declared.rule.Operand.{Operand}
 use Rattle.rule_core.specs.declared.rule.Op.{Op}
-use Rattle.rule_core.specs.declared.rule.Op.TheVariants.{Binary, Compare, Select, Convert, Freeze, Copy}
+use Rattle.rule_core.specs.declared.rule.Op.TheVariants.{Binary, Compare, Unary, Select, Convert, Freeze, Copy}
 use Rattle.rule_core.specs.Positions.{operands_of}
 use Rattle.rule_core.specs.Readiness.{OperandIsReady, OpIsReady}
 use Rattle.rule_core.specs.Run.{Held as Registry, Given, OperandGives, OpGives, StatementGives}
@@ -114,6 +114,14 @@ module _ {L : Type 0} (has_literal : L → Type 0) (admits : List Bool → Type 
           effect ready.0 (of_width inputs ready.0 h.0 left) (of_width inputs ready.0 h.1 right),
         );
       }
+  blasts (Unary op truth a) what N held is ready all =
+      let h = one Holds a held all in
+      let operand = width_is N a h.0 ready.0 h.2 in
+      rw (sym (same_Some (instructions.Unary op truth) what is), h.1) record {
+        takes = rw operand refl;
+        gates = refl;
+        gives = λ inputs given e admitted is_given effect. (held_value (value inputs) h.0, h.2.gives inputs given admitted is_given, effect);
+      }
   blasts (Select c a b) what N held is ready all =
       let h = three Holds c a b held all in
       let condition = width_is 1 c h.0 ready.0.0 h.4 in
@@ -151,6 +159,7 @@ CanBeRead typing given held o = (N : ℕ) × OperandIsReady typing given held N 
 pub all_ready : (typing : List ℕ) (given : Given) (held : Registry) (N : ℕ) (op : Op) → OpIsReady typing given held N op → All (CanBeRead typing given held) (operands_of op)
 all_ready typing given held N (Binary op flags a b) ready = All-from_recursion (CanBeRead typing given held) (a ∷ b ∷ []) ((N, ready.1), ((N, ready.2), tt))
 all_ready typing given held N (Compare pred samesign a b) ready = All-from_recursion (CanBeRead typing given held) (a ∷ b ∷ []) ((ready.0, ready.1), ((ready.0, ready.2), tt))
+all_ready typing given held N (Unary op truth a) ready = All-from_recursion (CanBeRead typing given held) (a ∷ []) ((N, ready), tt)
 all_ready typing given held N (Select c a b) ready = All-from_recursion (CanBeRead typing given held) (c ∷ a ∷ b ∷ []) ((1, ready.0), ((N, ready.1), ((N, ready.2), tt)))
 all_ready typing given held N (Convert cast flags a to) ready = All-from_recursion (CanBeRead typing given held) (a ∷ []) ((ready.0, ready.1), tt)
 all_ready typing given held N (Freeze a k) ready = All-from_recursion (CanBeRead typing given held) (a ∷ []) ((N, ready.0), tt)

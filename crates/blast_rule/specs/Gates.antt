@@ -5,7 +5,7 @@ use Rattle.circuits.specs.Gates.{equality_gates, select_gates}
 use Rattle.rule_core.specs.declared.rule.Rule.{Rule}
 use Rattle.rule_core.specs.declared.rule.Statement.{Statement}
 use Rattle.rule_core.specs.declared.rule.Op.{Op}
-use Rattle.rule_core.specs.declared.rule.Op.TheVariants.{Binary, Compare, Select, Convert, Freeze, Copy}
+use Rattle.rule_core.specs.declared.rule.Op.TheVariants.{Binary, Compare, Unary, Select, Convert, Freeze, Copy}
 use Rattle.rule_core.specs.Positions.{classes_of_statement}
 use Rattle.blast_value.specs.declared.instruction.Instruction.TheVariants as instructions
 use Rattle.blast_value.specs.Gates.{gates_of, greatest}
@@ -17,6 +17,7 @@ use Rattle.blast_term.specs.Gates.{terms_gates, numbers_gates, choices_gates, pr
 abbrev pub op_gates : List ℕ → ℕ → Op → ℕ
 op_gates typing N (Binary op flags a b) = gates_of (instructions.Binary op flags) N N
 op_gates typing N (Compare pred samesign a b) = gates_of (instructions.Compare pred samesign) N (slice_index typing a.class)
+op_gates typing N (Unary op truth a) = gates_of (instructions.Unary op truth) N N
 op_gates typing N (Select c a b) = gates_of instructions.Select N N
 op_gates typing N (Convert cast flags a to) = gates_of (instructions.Convert cast flags) N (slice_index typing a.class)
 op_gates typing N (Freeze a k) = select_gates N

@@ -7,7 +7,7 @@ use Rattle.ops.specs.declared.value.Value.{Value}
 use Rattle.circuits.specs.Word.{number_of}
 use Rattle.rule_core.specs.declared.rule.Rule.{Rule}
 use Rattle.rule_core.specs.declared.rule.Op.{Op}
-use Rattle.rule_core.specs.declared.rule.Op.TheVariants.{Binary, Compare, Select, Convert, Freeze, Copy}
+use Rattle.rule_core.specs.declared.rule.Op.TheVariants.{Binary, Compare, Unary, Select, Convert, Freeze, Copy}
 use Rattle.rule_core.specs.declared.rule.Operand.{Operand}
 use Rattle.rule_core.specs.Terms.{constant_values, number_or_zero}
 use Rattle.rule_core.specs.Run.{Ending, Undefines, Holds, Given, OperandGives, Follows, temporaries_of, holding_source, holding_target}
@@ -44,6 +44,7 @@ given_shape s =
 abbrev pub instruction_of : Op → Option Instruction
 instruction_of (Binary op flags a b) = Some (instructions.Binary op flags)
 instruction_of (Compare pred samesign a b) = Some (instructions.Compare pred samesign)
+instruction_of (Unary op truth a) = Some (instructions.Unary op truth)
 instruction_of (Select c a b) = Some instructions.Select
 instruction_of (Convert cast flags a to) = Some (instructions.Convert cast flags)
 instruction_of (Freeze a k) = None

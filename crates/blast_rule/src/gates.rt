@@ -108,6 +108,7 @@ fn op_gates(typing: &[Width], width: Width, op: Op) -> u32
                 width_of(typing, left.class),
             )
         }
+        Op::Unary(op, truth, _) => gates_of(Instruction::Unary(op, truth), width, width),
         Op::Select(_, _, _) => gates_of(Instruction::Select, width, width),
         Op::Convert(cast, flags, operand, _) => {
             gates_of(

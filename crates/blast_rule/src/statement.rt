@@ -83,6 +83,10 @@ fn blast_statement<C: Circuit>(
             let what = Instruction::Compare(pred, samesign);
             blast_instruction(alloc, c, typing, scope, statement, what, &[left, right])
         }
+        Op::Unary(op, truth, operand) => {
+            let what = Instruction::Unary(op, truth);
+            blast_instruction(alloc, c, typing, scope, statement, what, &[operand])
+        }
         Op::Select(condition, yes, no) => {
             let what = Instruction::Select;
             blast_instruction(

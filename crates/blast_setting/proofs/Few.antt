@@ -6,7 +6,7 @@ use Rattle.rule_core.specs.declared.rule.Rule.{Rule}
 use Rattle.rule_core.specs.declared.rule.Statement.{Statement}
 use Rattle.rule_core.specs.declared.rule.Operand.{Operand}
 use Rattle.rule_core.specs.declared.rule.Op.{Op}
-use Rattle.rule_core.specs.declared.rule.Op.TheVariants.{Binary, Compare, Select, Convert, Freeze, Copy}
+use Rattle.rule_core.specs.declared.rule.Op.TheVariants.{Binary, Compare, Unary, Select, Convert, Freeze, Copy}
 use Rattle.rule_core.specs.declared.rule.Argument.{Argument}
 use Rattle.rule_core.specs.declared.rule.Argument.TheVariants as arguments
 use Rattle.rule_core.specs.declared.rule.Choice.{Choice}
@@ -21,6 +21,7 @@ use Rattle.blast_setting.proofs.Widths.{count_of}
 op_operands : (op : Op) → length (operands_of op) ≤ 3
 op_operands (Binary op flags a b) = omega arith
 op_operands (Compare pred samesign a b) = omega arith
+op_operands (Unary op truth a) = omega arith
 op_operands (Select c a b) = omega arith
 op_operands (Convert cast flags a to) = omega arith
 op_operands (Freeze a k) = omega arith

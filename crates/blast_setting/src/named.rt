@@ -58,9 +58,10 @@ fn class_naming(op: Op, kind: Kind, k: usize) -> Option<u32>
             class_among(&[left, right], kind, k)
         }
         Op::Select(condition, yes, no) => class_among(&[condition, yes, no], kind, k),
-        Op::Convert(_, _, operand, _) | Op::Freeze(operand, _) | Op::Copy(operand) => {
-            class_among(&[operand], kind, k)
-        }
+        Op::Unary(_, _, operand)
+        | Op::Convert(_, _, operand, _)
+        | Op::Freeze(operand, _)
+        | Op::Copy(operand) => class_among(&[operand], kind, k),
     }
 }
 
