@@ -59,6 +59,7 @@ at_most_three op (suc zero) o at = omega arith
 at_most_three op (suc (suc zero)) o at = omega arith
 at_most_three (rule_ops.Binary opcode flags a b) (suc (suc (suc i))) o at = absurd cc
 at_most_three (rule_ops.Compare pred samesign a b) (suc (suc (suc i))) o at = absurd cc
+at_most_three (rule_ops.Unary op truth a) (suc (suc (suc i))) o at = absurd cc
 at_most_three (rule_ops.Select c a b) (suc (suc (suc i))) o at = absurd cc
 at_most_three (rule_ops.Convert cast flags a to) (suc (suc (suc i))) o at = absurd cc
 at_most_three (rule_ops.Freeze a j) (suc (suc (suc i))) o at = absurd cc
@@ -72,6 +73,8 @@ reads_too f b k N (rule_ops.Binary opcode flags a c) (ops.Binary opcode' flags' 
 reads_too f b k N (rule_ops.Compare pred samesign a c) (ops.Compare pred' samesign' M x y) same zero o at = (read b k M x, refl)
 reads_too f b k N (rule_ops.Compare pred samesign a c) (ops.Compare pred' samesign' M x y) same (suc zero) o at = (read b k M y, refl)
 reads_too f b k N (rule_ops.Compare pred samesign a c) (ops.Compare pred' samesign' M x y) same (suc (suc i)) o at = absurd cc
+reads_too f b k N (rule_ops.Unary op truth a) (ops.Unary op' truth' x) same zero o at = (read b k N x, refl)
+reads_too f b k N (rule_ops.Unary op truth a) (ops.Unary op' truth' x) same (suc i) o at = absurd cc
 reads_too f b k N (rule_ops.Select z a c) (ops.Select w x y) same zero o at = (read b k 1 w, refl)
 reads_too f b k N (rule_ops.Select z a c) (ops.Select w x y) same (suc zero) o at = (read b k N x, refl)
 reads_too f b k N (rule_ops.Select z a c) (ops.Select w x y) same (suc (suc zero)) o at = (read b k N y, refl)

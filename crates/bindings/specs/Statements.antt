@@ -1,7 +1,6 @@
 -- Which instructions the statements of a rule's source match.
 use Rattle.std.specs.Prelude.{◌≡◌, ℕ, suc, ◌<◌, List, length, Some, Contains, slice_get}
-use Rattle.ops.specs.Flags.{AreWithin, no_flags, icmp_flags}
-use Rattle.ops.specs.declared.opcode.Flags.{Flags}
+use Rattle.ops.specs.Flags.{icmp_flags}
 use Rattle.ir_core.specs.Checks.{IsInst}
 use Rattle.ir_core.specs.Reads.{Read, IsRead}
 use Rattle.ir_core.specs.declared.function.Function.{Function}
@@ -19,29 +18,34 @@ use Rattle.rule_core.specs.declared.rule.Register.TheVariants as names
 use Rattle.rule_core.specs.declared.rule.Rule.{Rule}
 use Rattle.rule_core.specs.declared.rule.Statement.{Statement}
 use Rattle.bindings.specs.Operands.{OperandMatches}
+use Rattle.bindings.specs.Promises.{by_flags, by_truth, no_promises, AreKept}
+use Rattle.bindings.specs.declared.promises.Promises.{Promises}
 use Rattle.bindings.specs.declared.binding.Binding.{Binding}
 
--- both are one operation: of one opcode, one predicate or one cast, or both a select or a freeze
+-- both are one operation: of one opcode, one predicate, one intrinsic or one cast, or both a select or a freeze
 abbrev pub IsSameOperation : RuleOp → Op → Type 0
 IsSameOperation (rule_ops.Binary opcode flags a b) (ops.Binary opcode' flags' x y) = opcode ≡ opcode'
 IsSameOperation (rule_ops.Compare pred samesign a b) (ops.Compare pred' samesign' width x y) = pred ≡ pred'
+IsSameOperation (rule_ops.Unary op truth a) (ops.Unary op' truth' x) = op ≡ op'
 IsSameOperation (rule_ops.Select c a b) (ops.Select z x y) = Unit {0}
 IsSameOperation (rule_ops.Convert cast flags a to) (ops.Convert cast' flags' from x) = cast ≡ cast'
 IsSameOperation (rule_ops.Freeze a j) (ops.Freeze x) = Unit {0}
 IsSameOperation s i = ⊥
 
 -- the flags of a statement, and those of an instruction
-abbrev pub flags_of_statement : RuleOp → Flags
-flags_of_statement (rule_ops.Binary opcode flags a b) = flags
-flags_of_statement (rule_ops.Compare pred samesign a b) = icmp_flags samesign
-flags_of_statement (rule_ops.Convert cast flags a to) = flags
-flags_of_statement op = no_flags
+abbrev pub promises_of_statement : RuleOp → Promises
+promises_of_statement (rule_ops.Binary opcode flags a b) = by_flags flags
+promises_of_statement (rule_ops.Compare pred samesign a b) = by_flags (icmp_flags samesign)
+promises_of_statement (rule_ops.Unary op truth a) = by_truth truth
+promises_of_statement (rule_ops.Convert cast flags a to) = by_flags flags
+promises_of_statement op = no_promises
 
-abbrev pub flags_of_inst : Op → Flags
-flags_of_inst (ops.Binary opcode flags x y) = flags
-flags_of_inst (ops.Compare pred samesign width x y) = icmp_flags samesign
-flags_of_inst (ops.Convert cast flags from x) = flags
-flags_of_inst op = no_flags
+abbrev pub promises_of_inst : Op → Promises
+promises_of_inst (ops.Binary opcode flags x y) = by_flags flags
+promises_of_inst (ops.Compare pred samesign width x y) = by_flags (icmp_flags samesign)
+promises_of_inst (ops.Unary op truth x) = by_truth truth
+promises_of_inst (ops.Convert cast flags from x) = by_flags flags
+promises_of_inst op = no_promises
 
 -- an argument is what a statement of the source assigns
 abbrev pub IsTemporary : Argument → Type 0
@@ -61,11 +65,11 @@ pub record InstMatches (f : Function) (rule : Rule) (binding : Binding) (j : ℕ
   -- the root's is that at which the match stands, and a temporary's stands before it
   pub root : suc j ≡ length rule.source → k ≡ binding.place
   pub temporary : suc j < length rule.source → k < binding.place
-  -- the same opcode, predicate or cast
+  -- the same opcode, predicate, intrinsic or cast
   pub operation : IsSameOperation s.op inst.op
   -- it has at least the statement's flags; a temporary's has no others where the target reads a temporary
-  pub flags : AreWithin (flags_of_statement s.op) (flags_of_inst inst.op)
-  pub no_more_flags : suc j < length rule.source → TargetReadsTemporary rule → flags_of_inst inst.op ≡ flags_of_statement s.op
+  pub flags : AreKept (promises_of_statement s.op) (promises_of_inst inst.op)
+  pub no_more_flags : suc j < length rule.source → TargetReadsTemporary rule → promises_of_inst inst.op ≡ promises_of_statement s.op
   -- the width of the result, and the operands from left to right
   pub width : slice_get binding.typing s.class ≡ Some inst.width
   pub operands : (i : ℕ) (o : RuleOperand) (r : Read) → slice_get (operands_of s.op) i ≡ Some o → IsRead f binding.block k i r → OperandMatches binding o r

@@ -1,7 +1,6 @@
 //! Whether a binding is a match.
 
 ghost use Rattle.std.specs.Prelude.{◌≡◌, ◌+◌, ◌<◌, ◌^◌, ◌↔◌, ℕ, suc, length, All, Contains, IsTrue, Some, slice_get};
-ghost use Rattle.ops.specs.Flags.{AreWithin};
 ghost use Rattle.ir_core.specs.Checks.{MeetsChecks};
 ghost use Rattle.rule_core.specs.Checks.{IsRule};
 ghost use Rattle.rule_core.specs.Positions.{operands_among, operands_of};
@@ -11,17 +10,18 @@ ghost use Rattle.rule_typing.specs.Classes.{IsClassified};
 ghost use Rattle.bindings.specs.Checks.{IsOneUse, MatchesAt};
 ghost use Rattle.bindings.specs.Facts.{AreFactsOf};
 ghost use Rattle.bindings.specs.Match.{IsMatch};
-ghost use Rattle.bindings.specs.Statements.{InstMatches, IsTemporary, ReadsTemporary, StatementMatches, TargetReadsTemporary, flags_of_inst, flags_of_statement};
+ghost use Rattle.bindings.specs.Promises.{AreKept};
+ghost use Rattle.bindings.specs.Statements.{InstMatches, IsTemporary, ReadsTemporary, StatementMatches, TargetReadsTemporary, promises_of_inst, promises_of_statement};
 
 use crate::binding::Binding;
 use crate::facts::FunctionFacts;
 use crate::inst::inst_at;
 use crate::operation::{
-    MOST_OPERANDS, flags_of_inst, flags_of_statement, is_same_operation, operand_of,
+    MOST_OPERANDS, is_same_operation, operand_of, promises_of_inst, promises_of_statement,
 };
+use crate::promises::Promises;
 use crate::standing::{has_width, operand_matches};
 use ir_core::{Function, Inst, Op as InstOp, Operand, Register, read_at};
-use ops::Flags;
 use precond::holds;
 use rule_core::{Argument, Formula, Op, Register as Name, Rule, Statement};
 use rule_typing::is_typing;
@@ -97,7 +97,9 @@ fn reads_temporary(op: Op) -> bool
         Op::Select(c, a, b) => {
             is_temporary(c.value) || is_temporary(a.value) || is_temporary(b.value)
         }
-        Op::Convert(_, _, a, _) | Op::Freeze(a, _) | Op::Copy(a) => is_temporary(a.value),
+        Op::Unary(_, _, a) | Op::Convert(_, _, a, _) | Op::Freeze(a, _) | Op::Copy(a) => {
+            is_temporary(a.value)
+        }
     }
 }
 
@@ -179,15 +181,15 @@ fn stands_well(binding: &Binding, is_root: bool, place: u32) -> bool
 
 /// Whether an instruction has the statement's flags, and, where they are to be exact and it is no root's, no others.
 fn flags_match(statement: Op, inst: &InstOp, exact: bool, is_root: bool) -> bool
-    ensures { IsTrue result ↔ (AreWithin (flags_of_statement statement) (flags_of_inst inst.now)
-        × (IsTrue exact → ¬ IsTrue is_root → flags_of_inst inst.now ≡ flags_of_statement statement)) }
+    ensures { IsTrue result ↔ (AreKept (promises_of_statement statement) (promises_of_inst inst.now)
+        × (IsTrue exact → ¬ IsTrue is_root → promises_of_inst inst.now ≡ promises_of_statement statement)) }
 {
-    let (asked, found) = (flags_of_statement(statement), flags_of_inst(inst));
+    let (asked, found) = (promises_of_statement(statement), promises_of_inst(inst));
     asked.are_within(found) && (is_root || !exact || are_same(found, asked))
 }
 
 /// Whether both have the same flags.
-fn are_same(found: Flags, asked: Flags) -> bool
+fn are_same(found: Promises, asked: Promises) -> bool
     ensures { IsTrue result ↔ found ≡ asked }
 {
     found == asked

@@ -10,6 +10,7 @@ mod check;
 mod facts;
 mod inst;
 mod operation;
+mod promises;
 mod root;
 mod standing;
 
@@ -18,4 +19,5 @@ pub use check::is_match;
 pub use facts::FunctionFacts;
 pub use inst::inst_at;
 pub use operation::{MOST_OPERANDS, operand_of};
+pub use promises::Promises;
 pub use root::is_root_operation;

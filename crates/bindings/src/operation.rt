@@ -2,8 +2,9 @@
 
 ghost use Rattle.std.specs.Prelude.{◌≡◌, ◌↔◌, IsTrue, slice_get};
 ghost use Rattle.rule_core.specs.Positions.{operands_of};
-ghost use Rattle.bindings.specs.Statements.{IsSameOperation, flags_of_statement, flags_of_inst};
+ghost use Rattle.bindings.specs.Statements.{IsSameOperation, promises_of_statement, promises_of_inst};
 
+use crate::promises::Promises;
 use ir_core::Op;
 use ops::Flags;
 use rule_core::{Op as RuleOp, Operand as RuleOperand};
@@ -18,7 +19,10 @@ pub fn operand_of(op: RuleOp, index: usize) -> Option<RuleOperand>
     match op {
         RuleOp::Binary(_, _, a, b) | RuleOp::Compare(_, _, a, b) => one_of(&[a, b], index),
         RuleOp::Select(c, a, b) => one_of(&[c, a, b], index),
-        RuleOp::Convert(_, _, a, _) | RuleOp::Freeze(a, _) | RuleOp::Copy(a) => one_of(&[a], index),
+        RuleOp::Unary(_, _, a)
+        | RuleOp::Convert(_, _, a, _)
+        | RuleOp::Freeze(a, _)
+        | RuleOp::Copy(a) => one_of(&[a], index),
     }
 }
 
@@ -29,13 +33,14 @@ fn one_of(operands: &[RuleOperand], index: usize) -> Option<RuleOperand>
     operands.get(index).copied()
 }
 
-/// Whether both are one operation: of one opcode, one predicate or one cast, or both a select or a freeze.
+/// Whether both are one operation: of one opcode, one predicate, one intrinsic or one cast, or both a select or a freeze.
 pub(crate) fn is_same_operation(statement: RuleOp, inst: &Op) -> bool
     ensures { IsTrue result ↔ IsSameOperation statement inst.now }
 {
     match (statement, inst) {
         (RuleOp::Binary(opcode, _, _, _), Op::Binary(other, _, _, _)) => opcode == *other,
         (RuleOp::Compare(pred, _, _, _), Op::Compare(other, _, _, _, _)) => pred == *other,
+        (RuleOp::Unary(op, _, _), Op::Unary(other, _, _)) => op == *other,
         (RuleOp::Select(_, _, _), Op::Select(_, _, _)) => true,
         (RuleOp::Convert(cast, _, _, _), Op::Convert(other, _, _, _)) => cast == *other,
         (RuleOp::Freeze(_, _), Op::Freeze(_)) => true,
@@ -44,25 +49,27 @@ pub(crate) fn is_same_operation(statement: RuleOp, inst: &Op) -> bool
 }
 
 /// The flags of a statement.
-pub(crate) fn flags_of_statement(op: RuleOp) -> Flags
-    ensures { result ≡ flags_of_statement op }
+pub(crate) fn promises_of_statement(op: RuleOp) -> Promises
+    ensures { result ≡ promises_of_statement op }
 {
     match op {
-        RuleOp::Binary(_, flags, _, _) => flags,
-        RuleOp::Compare(_, samesign, _, _) => Flags::of_icmp(samesign),
-        RuleOp::Convert(_, flags, _, _) => flags,
-        RuleOp::Select(_, _, _) | RuleOp::Freeze(_, _) | RuleOp::Copy(_) => Flags::NONE,
+        RuleOp::Binary(_, flags, _, _) => Promises::of_flags(flags),
+        RuleOp::Compare(_, samesign, _, _) => Promises::of_flags(Flags::of_icmp(samesign)),
+        RuleOp::Unary(_, truth, _) => Promises::of_truth(truth),
+        RuleOp::Convert(_, flags, _, _) => Promises::of_flags(flags),
+        RuleOp::Select(_, _, _) | RuleOp::Freeze(_, _) | RuleOp::Copy(_) => Promises::NONE,
     }
 }
 
 /// The flags of an instruction.
-pub(crate) fn flags_of_inst(op: &Op) -> Flags
-    ensures { result ≡ flags_of_inst op.now }
+pub(crate) fn promises_of_inst(op: &Op) -> Promises
+    ensures { result ≡ promises_of_inst op.now }
 {
     match op {
-        Op::Binary(_, flags, _, _) => *flags,
-        Op::Compare(_, samesign, _, _, _) => Flags::of_icmp(*samesign),
-        Op::Convert(_, flags, _, _) => *flags,
-        Op::Unary(_, _, _) | Op::Select(_, _, _) | Op::Freeze(_) | Op::Phi(_) => Flags::NONE,
+        Op::Binary(_, flags, _, _) => Promises::of_flags(*flags),
+        Op::Compare(_, samesign, _, _, _) => Promises::of_flags(Flags::of_icmp(*samesign)),
+        Op::Unary(_, truth, _) => Promises::of_truth(*truth),
+        Op::Convert(_, flags, _, _) => Promises::of_flags(*flags),
+        Op::Select(_, _, _) | Op::Freeze(_) | Op::Phi(_) => Promises::NONE,
     }
 }
