@@ -10,6 +10,8 @@ use Rattle.ops.specs.Value.{AllowsValue, AllowsEffect}
 use Rattle.ops.specs.Instruction.{instruction}
 use Rattle.ops.specs.Comparison.{comparison, selection}
 use Rattle.ops.specs.Conversion.{conversion}
+use Rattle.ops.specs.Unary.{unary}
+use Rattle.ops.specs.declared.opcode.Unary.{Unary as Intrinsic}
 use Rattle.ops.specs.declared.opcode.Opcode.{Opcode}
 use Rattle.ops.specs.declared.opcode.Flags.{Flags}
 use Rattle.ops.specs.declared.comparison.Pred.{Pred}
@@ -18,7 +20,7 @@ use Rattle.ops.specs.declared.value.Value.{Value}
 use Rattle.ops.specs.declared.value.Value.TheVariants as values
 use Rattle.ops.specs.declared.value.Effect.{Effect}
 use Rattle.ops.specs.declared.value.Effect.TheVariants as effects
-use Rattle.ops.proofs.Monotone.{instruction-monotone, comparison-monotone, conversion-monotone, selection-monotone}
+use Rattle.ops.proofs.Monotone.{instruction-monotone, comparison-monotone, conversion-monotone, unary-monotone, selection-monotone}
 use Rattle.ir_core.specs.Reads.{Read, read, reads_of}
 use Rattle.ir_core.specs.Run.{Registers, AnyNumber, IsChosen, OperandGives, Freezes, OpGives}
 use Rattle.ir_core.specs.declared.function.Function.{Function}
@@ -43,6 +45,7 @@ pub freeze_or : (op : RuleOp) → ((a : RuleOperand) × (k : ℕ) × (op ≡ rul
 freeze_or (rule_ops.Freeze a k) = inl (a, k, refl)
 freeze_or (rule_ops.Binary op flags a b) = inr (λ is. is)
 freeze_or (rule_ops.Compare pred samesign a b) = inr (λ is. is)
+freeze_or (rule_ops.Unary op truth a) = inr (λ is. is)
 freeze_or (rule_ops.Select c a b) = inr (λ is. is)
 freeze_or (rule_ops.Convert cast flags a to) = inr (λ is. is)
 freeze_or (rule_ops.Copy a) = inr (λ is. is)
@@ -88,6 +91,7 @@ by_choice w (values.Bits m) c chosen = refl
 pub data Computation : Type 0 where
   Calculates : (op : Opcode) (flags : Flags) (N : ℕ) → Computation
   Compares : (pred : Pred) (samesign : Bool) (N : ℕ) → Computation
+  Calls : (op : Intrinsic) (truth : Bool) (N : ℕ) → Computation
   Selects : Computation
   Converts : (cast : Cast) (flags : Flags) (from to : ℕ) → Computation
   Freezing : Computation
@@ -97,6 +101,7 @@ pub data Computation : Type 0 where
 abbrev pub effect_of : Computation → (ℕ → Value) → Effect
 effect_of (Calculates op flags N) v = instruction op flags N (v 0) (v 1)
 effect_of (Compares pred samesign N) v = effects.Gives (comparison pred samesign N (v 0) (v 1))
+effect_of (Calls op truth N) v = effects.Gives (unary op truth N (v 0))
 effect_of Selects v = effects.Gives (selection (v 0) (v 1) (v 2))
 effect_of (Converts cast flags from to) v = effects.Gives (conversion cast flags from to (v 0))
 effect_of Freezing v = effects.Gives (frozen (v 0) (number_of (v 1)))
@@ -106,6 +111,7 @@ effect_of Copies v = effects.Gives (v 0)
 abbrev pub computed : List ℕ → ℕ → RuleOp → Computation
 computed typing N (rule_ops.Binary op flags a b) = Calculates op flags N
 computed typing N (rule_ops.Compare pred samesign a b) = Compares pred samesign (slice_index typing a.class)
+computed typing N (rule_ops.Unary op truth a) = Calls op truth N
 computed typing N (rule_ops.Select c a b) = Selects
 computed typing N (rule_ops.Convert cast flags a to) = Converts cast flags (slice_index typing a.class) N
 computed typing N (rule_ops.Freeze a k) = Freezing
@@ -116,7 +122,7 @@ computed_by w (Binary op flags x y) = Calculates op flags w
 computed_by w (Compare pred samesign compared x y) = Compares pred samesign compared
 computed_by w (Select c x y) = Selects
 computed_by w (Convert cast flags from x) = Converts cast flags from w
-computed_by w (Unary op truth x) = Copies
+computed_by w (Unary op truth x) = Calls op truth w
 computed_by w (Freeze x) = Freezing
 computed_by w (Phi entries) = Copies
 
@@ -126,7 +132,7 @@ IsComputed (Binary op flags x y) = Unit {0}
 IsComputed (Compare pred samesign compared x y) = Unit {0}
 IsComputed (Select c x y) = Unit {0}
 IsComputed (Convert cast flags from x) = Unit {0}
-IsComputed (Unary op truth x) = ⊥
+IsComputed (Unary op truth x) = Unit {0}
 IsComputed (Freeze x) = Unit {0}
 IsComputed (Phi entries) = ⊥
 
@@ -175,6 +181,7 @@ module _ (typing : List ℕ) (given : Given) (held : Held) where
   rule_gives c N at (rule_ops.Binary op flags a b) v each = (v 0, v 1, each 0 a refl, each 1 b refl, refl)
   rule_gives c N at (rule_ops.Compare pred samesign a b) v each =
       ((each 0 a refl).0, v 0, v 1, (each 0 a refl).1, each 0 a refl, each 1 b refl, ap (λ M. effects.Gives (comparison pred samesign M (v 0) (v 1))) (width_of a (each 0 a refl).0 (each 0 a refl).1))
+  rule_gives c N at (rule_ops.Unary op truth a) v each = (v 0, each 0 a refl, refl)
   rule_gives c N at (rule_ops.Select z a b) v each = (v 0, v 1, v 2, each 0 z refl, each 1 a refl, each 2 b refl, refl)
   rule_gives c N at (rule_ops.Convert cast flags a to) v each =
       ((each 0 a refl).0, v 0, (each 0 a refl).1, each 0 a refl, ap (λ M. effects.Gives (conversion cast flags M N (v 0))) (width_of a (each 0 a refl).0 (each 0 a refl).1))
@@ -203,7 +210,7 @@ module _ (f : Function) (b k : ℕ) (held : Registers) where
   op_computes w (Select c x y) e is h =
       (before_all h.0 (before_all h.1 (before_all h.2 no_values)), first (read b k 1 c) h.0 h.3 (read b k w x ∷ read b k w y ∷ []) (before_all h.1 (before_all h.2 no_values)) (first (read b k w x) h.1 h.4 (read b k w y ∷ []) (before_all h.2 no_values) (first (read b k w y) h.2 h.5 [] no_values (nothing no_values))), h.6)
   op_computes w (Convert cast flags from x) e is h = (before_all h.0 no_values, first (read b k from x) h.0 h.1 [] no_values (nothing no_values), h.2)
-  op_computes w (Unary op truth x) e is h = absurd is
+  op_computes w (Unary op truth x) e is h = (before_all h.0 no_values, first (read b k w x) h.0 h.1 [] no_values (nothing no_values), h.2)
   op_computes w (Freeze x) e is h =
       let by = freezes_by w h.0 h.1 h.3 in
       (before_all h.0 (before_all by.0 no_values), first (read b k w x) h.0 h.2 (read b k w operands.Undef ∷ []) (before_all by.0 no_values) (first (read b k w operands.Undef) by.0 by.1 [] no_values (nothing no_values)), h.4 ∙ ap effects.Gives by.2)
@@ -214,7 +221,7 @@ module _ (f : Function) (b k : ℕ) (held : Registers) where
   op_gives w (Compare pred samesign compared x y) v is each = (v 0, v 1, each 0 (read b k compared x) refl, each 1 (read b k compared y) refl, refl)
   op_gives w (Select c x y) v is each = (v 0, v 1, v 2, each 0 (read b k 1 c) refl, each 1 (read b k w x) refl, each 2 (read b k w y) refl, refl)
   op_gives w (Convert cast flags from x) v is each = (v 0, each 0 (read b k from x) refl, refl)
-  op_gives w (Unary op truth x) v is each = absurd is
+  op_gives w (Unary op truth x) v is each = (v 0, each 0 (read b k w x) refl, refl)
   op_gives w (Freeze x) v is each = (v 0, frozen (v 0) (number_of (v 1)), each 0 (read b k w x) refl, by_choice w (v 0) (v 1) (each 1 (read b k w operands.Undef) refl), refl)
   op_gives w (Phi entries) v is each = absurd is
 
@@ -225,6 +232,7 @@ pub effects_allow : (typing : List ℕ) (N : ℕ) (op : RuleOp) (v v' : ℕ → 
     → AllowsEffect (effect_of (computed typing N op) v) (effect_of (computed typing N op) v')
 effects_allow typing N (rule_ops.Binary op flags a b) v v' none h = instruction-monotone op flags N (v 0) (v 1) (v' 0) (v' 1) (h 0 a refl) (h 1 b refl)
 effects_allow typing N (rule_ops.Compare pred samesign a b) v v' none h = comparison-monotone pred samesign (slice_index typing a.class) (v 0) (v 1) (v' 0) (v' 1) (h 0 a refl) (h 1 b refl)
+effects_allow typing N (rule_ops.Unary op truth a) v v' none h = unary-monotone op truth N (v 0) (v' 0) (h 0 a refl)
 effects_allow typing N (rule_ops.Select c a b) v v' none h = selection-monotone (v 0) (v 1) (v 2) (v' 0) (v' 1) (v' 2) (h 0 c refl) (h 1 a refl) (h 2 b refl)
 effects_allow typing N (rule_ops.Convert cast flags a to) v v' none h = conversion-monotone cast flags (slice_index typing a.class) N (v 0) (v' 0) (h 0 a refl)
 effects_allow typing N (rule_ops.Freeze a k) v v' none h = absurd (none tt)
@@ -235,6 +243,7 @@ pub effects_same : (typing : List ℕ) (c N : ℕ) (op : RuleOp) (v v' : ℕ →
     → effect_of (computed typing N op) v ≡ effect_of (computed typing N op) v'
 effects_same typing c N (rule_ops.Binary op flags a b) v v' h = let p : v 0 ≡ v' 0 = h 0 a refl in let q : v 1 ≡ v' 1 = h 1 b refl in cc
 effects_same typing c N (rule_ops.Compare pred samesign a b) v v' h = let p : v 0 ≡ v' 0 = h 0 a refl in let q : v 1 ≡ v' 1 = h 1 b refl in cc
+effects_same typing c N (rule_ops.Unary op truth a) v v' h = let p : v 0 ≡ v' 0 = h 0 a refl in cc
 effects_same typing c N (rule_ops.Select z a b) v v' h = let o : v 0 ≡ v' 0 = h 0 z refl in let p : v 1 ≡ v' 1 = h 1 a refl in let q : v 2 ≡ v' 2 = h 2 b refl in cc
 effects_same typing c N (rule_ops.Convert cast flags a to) v v' h = let p : v 0 ≡ v' 0 = h 0 a refl in cc
 effects_same typing c N (rule_ops.Freeze a k) v v' h =

@@ -5,7 +5,8 @@ use Rattle.ops.specs.declared.value.Value.{Value}
 use Rattle.ops.specs.declared.value.Value.TheVariants.{Poison, Bits}
 use Rattle.ops.specs.declared.value.Effect.TheVariants.{Undefined, Gives}
 use Rattle.ops.specs.declared.opcode.Opcode.{Opcode}
-use Rattle.ops.specs.declared.opcode.Opcode.TheVariants.{Add, Sub, Mul, UDiv, SDiv, URem, SRem, Shl, LShr, AShr, And, Or, Xor}
+use Rattle.ops.specs.declared.opcode.Opcode.TheVariants.{Add, Sub, Mul, UDiv, SDiv, URem, SRem, Shl, LShr, AShr, And, Or, Xor, UMin, UMax, SMin, SMax}
+use Rattle.ops.specs.declared.opcode.Unary.{Unary as Intrinsic}
 use Rattle.ops.specs.declared.opcode.Flags.{Flags}
 use Rattle.ops.specs.declared.comparison.Pred.{Pred}
 use Rattle.ops.specs.declared.conversion.Cast.{Cast}
@@ -19,6 +20,7 @@ use Rattle.ops.specs.Shifts.{shl, lshr, ashr}
 use Rattle.ops.specs.Bitwise.{or}
 use Rattle.ops.specs.Comparison.{comparison, holds, signs_differ}
 use Rattle.ops.specs.Conversion.{conversion, converted, breaks_flags}
+use Rattle.ops.specs.Unary.{unary, at_number, poison_where_true}
 use Rattle.ops.specs.Instruction.{instruction, on_numbers, on_poison}
 use Rattle.ops.proofs.Values.{AllowsValue-refl, AllowsEffect-refl}
 
@@ -98,6 +100,10 @@ module _ (f g : Flags) (within : AreWithin f g) where
   numbers_allow And N a b = AllowsValue-refl (bits N (bit_and a b))
   numbers_allow Or N a b = by_one g.disjoint f.disjoint (not (bit_and a b == 0)) (bits N (bit_or a b)) disjoint_within
   numbers_allow Xor N a b = AllowsValue-refl (bits N (bit_xor a b))
+  numbers_allow UMin N a b = AllowsEffect-refl (on_numbers UMin f N a b)
+  numbers_allow UMax N a b = AllowsEffect-refl (on_numbers UMax f N a b)
+  numbers_allow SMin N a b = AllowsEffect-refl (on_numbers SMin f N a b)
+  numbers_allow SMax N a b = AllowsEffect-refl (on_numbers SMax f N a b)
 
   -- an instruction with more flags allows what it does with these
   pub more_flags_allow : (op : Opcode) (N : ℕ) (a b : Value) → AllowsEffect (instruction op g N a b) (instruction op f N a b)
@@ -114,6 +120,12 @@ module _ (f g : Flags) (within : AreWithin f g) where
   more_cast_flags_allow ZExt from to (Bits a) = by_one g.nneg f.nneg (negative from a.number) (bits to (converted ZExt from to a.number)) nneg_within
   more_cast_flags_allow SExt from to (Bits a) = AllowsValue-refl (bits to (converted SExt from to a.number))
   more_cast_flags_allow cast from to Poison = tt
+
+-- and so does an intrinsic with a true truth value
+pub more_truth_allows : (truth truth' : Bool) → Within truth truth' → (op : Intrinsic) (N : ℕ) (a : Value) → AllowsValue (unary op truth' N a) (unary op truth N a)
+unfolding unary
+more_truth_allows truth truth' within op N (Bits a) = by_one truth' truth (poison_where_true op N a.number) (bits N (at_number op N a.number)) within
+more_truth_allows truth truth' within op N Poison = tt
 
 -- and so does a comparison with `samesign`
 pub more_samesign_allows : (samesign samesign' : Bool) → AreWithin (icmp_flags samesign) (icmp_flags samesign') → (pred : Pred) (N : ℕ) (a b : Value)

@@ -3,7 +3,6 @@ use Rattle.std.proofs.Common.{◌≡◌, ℕ, zero, suc, ◌<◌, List, [], ◌�
 use Rattle.std.specs.Prelude.{slice_get, slice_index}
 use Rattle.std.proofs.lemmas.Option.{same_Some, get_or_from_slice_get, slice_get_within}
 use Rattle.ops.specs.Value.{AllowsEffect}
-use Rattle.ops.specs.Flags.{AreWithin}
 use Rattle.ops.specs.Instruction.{instruction}
 use Rattle.ops.specs.declared.opcode.Opcode.{Opcode}
 use Rattle.ops.specs.declared.opcode.Flags.{Flags}
@@ -20,13 +19,16 @@ use Rattle.rule_core.specs.Positions.{operands_of}
 use Rattle.rule_core.specs.declared.rule.Op.{Op as RuleOp}
 use Rattle.rule_core.specs.declared.rule.Op.TheVariants as rule_ops
 use Rattle.rule_core.specs.declared.rule.Operand.{Operand as RuleOperand}
-use Rattle.bindings.specs.Statements.{IsSameOperation, flags_of_statement, flags_of_inst}
-use Rattle.rewriter.proofs.Flags.{more_flags_allow, more_cast_flags_allow, more_samesign_allows}
-use Rattle.rewriter.proofs.Computing.{Computation, Compares, Selects, Converts, Freezing, effect_of, computed, computed_by, IsComputed}
+use Rattle.bindings.specs.Statements.{IsSameOperation, promises_of_statement, promises_of_inst}
+use Rattle.bindings.specs.Promises.{AreKept}
+use Rattle.bindings.specs.declared.promises.Promises.{Promises}
+use Rattle.rewriter.proofs.Flags.{more_flags_allow, more_cast_flags_allow, more_truth_allows, more_samesign_allows}
+use Rattle.rewriter.proofs.Computing.{Computation, Compares, Calls, Selects, Converts, Freezing, effect_of, computed, computed_by, IsComputed}
 
 pub same_is_computed : (s : RuleOp) (i : Op) → IsSameOperation s i → IsComputed i
 same_is_computed (rule_ops.Binary opcode flags a b) (Binary opcode' flags' x y) same = tt
 same_is_computed (rule_ops.Compare pred samesign a b) (Compare pred' samesign' compared x y) same = tt
+same_is_computed (rule_ops.Unary op truth a) (Unary op' truth' x) same = tt
 same_is_computed (rule_ops.Select c a b) (Select z x y) same = tt
 same_is_computed (rule_ops.Convert cast flags a to) (Convert cast' flags' from x) same = tt
 same_is_computed (rule_ops.Freeze a j) (Freeze x) same = tt
@@ -39,6 +41,7 @@ computed_no_phi i is phi = phi
 pub arity_same : (f : Function) (b k w : ℕ) (s : RuleOp) (i : Op) → IsSameOperation s i → length (operands_of s) ≡ length (reads_of f b k w i)
 arity_same f b k w (rule_ops.Binary opcode flags a c) (Binary opcode' flags' x y) same = refl
 arity_same f b k w (rule_ops.Compare pred samesign a c) (Compare pred' samesign' compared x y) same = refl
+arity_same f b k w (rule_ops.Unary op truth a) (Unary op' truth' x) same = refl
 arity_same f b k w (rule_ops.Select c a d) (Select z x y) same = refl
 arity_same f b k w (rule_ops.Convert cast flags a to) (Convert cast' flags' from x) same = refl
 arity_same f b k w (rule_ops.Freeze a j) (Freeze x) same = refl
@@ -76,7 +79,7 @@ all_here f b k w (Binary opcode flags x y) is = one_here b k w x (read b k w y �
 all_here f b k w (Compare pred samesign compared x y) is = one_here b k compared x (read b k compared y ∷ []) (one_here b k compared y [] (none_here b k))
 all_here f b k w (Select c x y) is = one_here b k 1 c (read b k w x ∷ read b k w y ∷ []) (one_here b k w x (read b k w y ∷ []) (one_here b k w y [] (none_here b k)))
 all_here f b k w (Convert cast flags from x) is = one_here b k from x [] (none_here b k)
-all_here f b k w (Unary op truth x) is = absurd is
+all_here f b k w (Unary op truth x) is = one_here b k w x [] (none_here b k)
 all_here f b k w (Freeze x) is = one_here b k w x [] (none_here b k)
 all_here f b k w (Phi entries) is = absurd is
 
@@ -93,29 +96,33 @@ module _ (typing : List ℕ) (f : Function) (b k w : ℕ) where
   class_is a M at = get_or_from_slice_get typing a.class M 0 at
 
   -- the instruction allows what the statement computes, since it has all its flags
-  pub inst_allows : (s : RuleOp) (i : Op) → IsSameOperation s i → AreWithin (flags_of_statement s) (flags_of_inst i) → WidthsAgree s i → (v : ℕ → Value) → AllowsEffect (effect_of (computed_by w i) v) (effect_of (computed typing w s) v)
+  pub inst_allows : (s : RuleOp) (i : Op) → IsSameOperation s i → AreKept (promises_of_statement s) (promises_of_inst i) → WidthsAgree s i → (v : ℕ → Value) → AllowsEffect (effect_of (computed_by w i) v) (effect_of (computed typing w s) v)
   inst_allows (rule_ops.Binary opcode flags a c) (Binary opcode' flags' x y) same within widths v =
-      subst (λ (op : Opcode). AllowsEffect (instruction opcode' flags' w (v 0) (v 1)) (instruction op flags w (v 0) (v 1))) (sym same) (more_flags_allow flags flags' within opcode' w (v 0) (v 1))
+      subst (λ (op : Opcode). AllowsEffect (instruction opcode' flags' w (v 0) (v 1)) (instruction op flags w (v 0) (v 1))) (sym same) (more_flags_allow flags flags' within.0 opcode' w (v 0) (v 1))
   inst_allows (rule_ops.Compare pred samesign a c) (Compare pred' samesign' compared x y) same within widths v =
       let width : slice_index typing a.class ≡ compared = class_is a compared (widths 0 a (read b k compared x) refl refl) in
       let is : Compares pred' samesign compared ≡ Compares pred samesign (slice_index typing a.class) = cc in
-      subst (λ (c : Computation). AllowsEffect (effect_of (Compares pred' samesign' compared) v) (effect_of c v)) is (more_samesign_allows samesign samesign' within pred' compared (v 0) (v 1))
+      subst (λ (c : Computation). AllowsEffect (effect_of (Compares pred' samesign' compared) v) (effect_of c v)) is (more_samesign_allows samesign samesign' within.0 pred' compared (v 0) (v 1))
+  inst_allows (rule_ops.Unary op truth a) (Unary op' truth' x) same within widths v =
+      subst (λ (c : Computation). AllowsEffect (effect_of (Calls op' truth' w) v) (effect_of c v)) (ap (λ o. Calls o truth w) (sym same)) (more_truth_allows truth truth' within.1 op' w (v 0))
   inst_allows (rule_ops.Select c a d) (Select z x y) same within widths v = AllowsEffect-refl (effect_of Selects v)
   inst_allows (rule_ops.Convert cast flags a to) (Convert cast' flags' from x) same within widths v =
       let width : slice_index typing a.class ≡ from = class_is a from (widths 0 a (read b k from x) refl refl) in
       let is : Converts cast' flags from w ≡ Converts cast flags (slice_index typing a.class) w = cc in
-      subst (λ (c : Computation). AllowsEffect (effect_of (Converts cast' flags' from w) v) (effect_of c v)) is (more_cast_flags_allow flags flags' within cast' from w (v 0))
+      subst (λ (c : Computation). AllowsEffect (effect_of (Converts cast' flags' from w) v) (effect_of c v)) is (more_cast_flags_allow flags flags' within.0 cast' from w (v 0))
   inst_allows (rule_ops.Freeze a j) (Freeze x) same within widths v = AllowsEffect-refl (effect_of Freezing v)
   inst_allows s i same within widths v = absurd same
 
   -- and computes the same where it has no others
-  pub inst_same : (s : RuleOp) (i : Op) → IsSameOperation s i → flags_of_inst i ≡ flags_of_statement s → WidthsAgree s i → computed_by w i ≡ computed typing w s
-  inst_same (rule_ops.Binary opcode flags a c) (Binary opcode' flags' x y) same flags_same widths = cc
-  inst_same (rule_ops.Compare pred samesign a c) (Compare pred' samesign' compared x y) same flags_same widths =
+  pub inst_same : (s : RuleOp) (i : Op) → IsSameOperation s i → promises_of_inst i ≡ promises_of_statement s → WidthsAgree s i → computed_by w i ≡ computed typing w s
+  inst_same (rule_ops.Binary opcode flags a c) (Binary opcode' flags' x y) same promises widths = let same_flags : flags' ≡ flags = ap (λ (p : Promises). p.flags) promises in cc
+  inst_same (rule_ops.Compare pred samesign a c) (Compare pred' samesign' compared x y) same promises widths =
       let width : slice_index typing a.class ≡ compared = class_is a compared (widths 0 a (read b k compared x) refl refl) in
-      let signs : samesign' ≡ samesign = ap (λ (f : Flags). f.samesign) flags_same in cc
-  inst_same (rule_ops.Select c a d) (Select z x y) same flags_same widths = refl
-  inst_same (rule_ops.Convert cast flags a to) (Convert cast' flags' from x) same flags_same widths =
+      let signs : samesign' ≡ samesign = ap (λ (p : Promises). p.flags.samesign) promises in cc
+  inst_same (rule_ops.Unary op truth a) (Unary op' truth' x) same promises widths = let same_truth : truth' ≡ truth = ap (λ (p : Promises). p.truth) promises in cc
+  inst_same (rule_ops.Select c a d) (Select z x y) same promises widths = refl
+  inst_same (rule_ops.Convert cast flags a to) (Convert cast' flags' from x) same promises widths =
+      let same_flags : flags' ≡ flags = ap (λ (p : Promises). p.flags) promises in
       let width : slice_index typing a.class ≡ from = class_is a from (widths 0 a (read b k from x) refl refl) in cc
-  inst_same (rule_ops.Freeze a j) (Freeze x) same flags_same widths = refl
-  inst_same s i same flags_same widths = absurd same
+  inst_same (rule_ops.Freeze a j) (Freeze x) same promises widths = refl
+  inst_same s i same promises widths = absurd same

@@ -15,7 +15,7 @@ use Rattle.rule_core.specs.Positions.{operands_of, undef_in, frozen_in, choices_
 use Rattle.rule_core.specs.declared.rule.Argument.{Argument}
 use Rattle.rule_core.specs.declared.rule.Argument.TheVariants as arguments
 use Rattle.rule_core.specs.declared.rule.Op.{Op}
-use Rattle.rule_core.specs.declared.rule.Op.TheVariants.{Binary, Compare, Select, Convert, Freeze, Copy}
+use Rattle.rule_core.specs.declared.rule.Op.TheVariants.{Binary, Compare, Unary, Select, Convert, Freeze, Copy}
 use Rattle.rule_core.specs.declared.rule.Operand.{Operand}
 use Rattle.rule_core.specs.declared.rule.Statement.{Statement}
 use Rattle.substitution.proofs.Pieces.{get_left, get_right, get_cases}
@@ -144,6 +144,7 @@ taken_open : (c : ℕ) (op : Op) → open_in (operands_of op) ++ frozen_in c op 
 taken_open c (Freeze a k) = rw (append-nil (undef_in a.class a.value)) refl
 taken_open c (Binary op flags a b) = append-nil (open_in (a ∷ b ∷ []))
 taken_open c (Compare pred samesign a b) = append-nil (open_in (a ∷ b ∷ []))
+taken_open c (Unary op truth a) = append-nil (open_in (a ∷ []))
 taken_open c (Select z a b) = append-nil (open_in (z ∷ a ∷ b ∷ []))
 taken_open c (Convert cast flags a to) = append-nil (open_in (a ∷ []))
 taken_open c (Copy a) = append-nil (open_in (a ∷ []))

@@ -18,7 +18,7 @@ use Rattle.ir_core.specs.declared.operand.Operand.TheVariants as operands
 use Rattle.ir_core.specs.declared.operand.Register.{Register}
 use Rattle.ir_core.specs.declared.operand.Register.TheVariants as registers
 use Rattle.rule_core.specs.Checks.{TargetMayRead}
-use Rattle.rule_core.specs.Positions.{operands_of, IsStatementOf, binary_left, binary_right, compared, select_true, select_false, freeze, condition}
+use Rattle.rule_core.specs.Positions.{operands_of, IsStatementOf, binary_left, binary_right, compared, one_operand, select_true, select_false, freeze, condition}
 use Rattle.rule_core.specs.Terms.{in_turn, constant_values, value_at}
 use Rattle.rule_core.specs.Typing.{IsTyping}
 use Rattle.rule_core.specs.declared.rule.Argument.{Argument}
@@ -59,6 +59,7 @@ module _ (rule : Rule) (binding : Binding) where
   pub result_put_at : (t : ℕ) (op : RuleOp) → IsNoCopy op → result_at t op ≡ operands.Register (registers.Result binding.block (binding.place + put_before t))
   result_put_at t (rule_ops.Binary opcode flags a b) kept = refl
   result_put_at t (rule_ops.Compare pred samesign a b) kept = refl
+  result_put_at t (rule_ops.Unary op truth a) kept = refl
   result_put_at t (rule_ops.Select c a b) kept = refl
   result_put_at t (rule_ops.Convert cast flags a to) kept = refl
   result_put_at t (rule_ops.Freeze a j) kept = refl
@@ -81,6 +82,7 @@ module _ (rule : Rule) (binding : Binding) where
       argument_agrees some all t (class_width rule binding a.class) a.value (may a (Contains-from_get (a ∷ []) 0 a refl)) same ∙ ap (λ (l : List Operand). argument_put rule binding l (class_width rule binding a.class) a.value) is
   op_agrees some all t (rule_ops.Binary opcode flags a b) count may same is = ap (λ n. operands.Register (registers.Result binding.block (binding.place + put_before n))) count
   op_agrees some all t (rule_ops.Compare pred samesign a b) count may same is = ap (λ n. operands.Register (registers.Result binding.block (binding.place + put_before n))) count
+  op_agrees some all t (rule_ops.Unary op truth a) count may same is = ap (λ n. operands.Register (registers.Result binding.block (binding.place + put_before n))) count
   op_agrees some all t (rule_ops.Select c a b) count may same is = ap (λ n. operands.Register (registers.Result binding.block (binding.place + put_before n))) count
   op_agrees some all t (rule_ops.Convert cast flags a to) count may same is = ap (λ n. operands.Register (registers.Result binding.block (binding.place + put_before n))) count
   op_agrees some all t (rule_ops.Freeze a j) count may same is = ap (λ n. operands.Register (registers.Result binding.block (binding.place + put_before n))) count
@@ -123,6 +125,7 @@ module _ (rule : Rule) (binding : Binding) where
   abbrev pub put_op : ℕ → RuleOp → Op
   put_op N (rule_ops.Binary opcode flags a b) = ops.Binary opcode flags (operand_put rule binding results a) (operand_put rule binding results b)
   put_op N (rule_ops.Compare pred samesign a b) = ops.Compare pred samesign (class_width rule binding a.class) (operand_put rule binding results a) (operand_put rule binding results b)
+  put_op N (rule_ops.Unary op truth a) = ops.Unary op truth (operand_put rule binding results a)
   put_op N (rule_ops.Select c a b) = ops.Select (operand_put rule binding results c) (operand_put rule binding results a) (operand_put rule binding results b)
   put_op N (rule_ops.Convert cast flags a to) = ops.Convert cast flags (class_width rule binding a.class) (operand_put rule binding results a)
   put_op N (rule_ops.Freeze a j) = ops.Freeze (operand_put rule binding results a)
@@ -134,6 +137,7 @@ module _ (rule : Rule) (binding : Binding) where
   pub insts_are : (name : Name) (N : ℕ) (op : RuleOp) → IsNoCopy op → insts_of_op rule binding name N op ≡ put_inst name N op ∷ []
   insts_are name N (rule_ops.Binary opcode flags a b) kept = refl
   insts_are name N (rule_ops.Compare pred samesign a b) kept = refl
+  insts_are name N (rule_ops.Unary op truth a) kept = refl
   insts_are name N (rule_ops.Select c a b) kept = refl
   insts_are name N (rule_ops.Convert cast flags a to) kept = refl
   insts_are name N (rule_ops.Freeze a j) kept = refl
@@ -142,6 +146,7 @@ module _ (rule : Rule) (binding : Binding) where
   pub insts_none : (name : Name) (N : ℕ) (op : RuleOp) → is_copy op ≡ true → insts_of_op rule binding name N op ≡ []
   insts_none name N (rule_ops.Binary opcode flags a b) kept = absurd cc
   insts_none name N (rule_ops.Compare pred samesign a b) kept = absurd cc
+  insts_none name N (rule_ops.Unary op truth a) kept = absurd cc
   insts_none name N (rule_ops.Select c a b) kept = absurd cc
   insts_none name N (rule_ops.Convert cast flags a to) kept = absurd cc
   insts_none name N (rule_ops.Freeze a j) kept = absurd cc
@@ -155,6 +160,7 @@ module _ (rule : Rule) (binding : Binding) where
   pub computed_same : (N : ℕ) (op : RuleOp) → IsNoCopy op → computed_by N (put_op N op) ≡ computed binding.typing N op
   computed_same N (rule_ops.Binary opcode flags a b) kept = refl
   computed_same N (rule_ops.Compare pred samesign a b) kept = refl
+  computed_same N (rule_ops.Unary op truth a) kept = refl
   computed_same N (rule_ops.Select c a b) kept = refl
   computed_same N (rule_ops.Convert cast flags a to) kept = refl
   computed_same N (rule_ops.Freeze a j) kept = refl
@@ -163,6 +169,7 @@ module _ (rule : Rule) (binding : Binding) where
   pub put_is_computed : (N : ℕ) (op : RuleOp) → IsNoCopy op → IsComputed (put_op N op)
   put_is_computed N (rule_ops.Binary opcode flags a b) kept = tt
   put_is_computed N (rule_ops.Compare pred samesign a b) kept = tt
+  put_is_computed N (rule_ops.Unary op truth a) kept = tt
   put_is_computed N (rule_ops.Select c a b) kept = tt
   put_is_computed N (rule_ops.Convert cast flags a to) kept = tt
   put_is_computed N (rule_ops.Freeze a j) kept = tt
@@ -204,6 +211,7 @@ module _ (rule : Rule) (binding : Binding) where
         let first : slice_get binding.typing a.class ≡ Some w = own_width s a stands (subst (λ (op : RuleOp). Contains (operands_of op) a) (sym is) (Contains-from_get (a ∷ c ∷ []) 0 a refl)) in
         paired_more a (c ∷ []) (read b k w (operand_put rule binding results a)) (read b k w (operand_put rule binding results c) ∷ []) (read_for a w first)
         (paired_more c [] (read b k w (operand_put rule binding results c)) [] (read_for c w (sym (typed.same a.class c.class (compared stands is)) ∙ first)) paired_none)
+    reads_paired s N (rule_ops.Unary op truth a) is stands width kept = paired_more a [] (read b k N (operand_put rule binding results a)) [] (read_for a N (sym (typed.same s.class a.class (one_operand stands is)) ∙ width)) paired_none
     reads_paired s N (rule_ops.Select c x y) is stands width kept =
         paired_more c (x ∷ y ∷ []) (read b k 1 (operand_put rule binding results c)) (read b k N (operand_put rule binding results x) ∷ read b k N (operand_put rule binding results y) ∷ []) (read_for c 1 (typed.fixed c.class 1 (condition stands is)))
         (paired_more x (y ∷ []) (read b k N (operand_put rule binding results x)) (read b k N (operand_put rule binding results y) ∷ []) (read_for x N (sym (typed.same s.class x.class (select_true stands is)) ∙ width))
@@ -219,6 +227,7 @@ module _ (rule : Rule) (binding : Binding) where
     inputs_paired : (s : Statement) (N : ℕ) (op : RuleOp) → s.op ≡ op → IsStatementOf rule s → slice_get binding.typing s.class ≡ Some N → IsNoCopy op → Paired (inputs_of s.class op) (taken_by f b k N (put_op N op))
     inputs_paired s N (rule_ops.Binary opcode flags a c) is stands width kept = reads_paired s N (rule_ops.Binary opcode flags a c) is stands width kept
     inputs_paired s N (rule_ops.Compare pred samesign a c) is stands width kept = reads_paired s N (rule_ops.Compare pred samesign a c) is stands width kept
+    inputs_paired s N (rule_ops.Unary op truth a) is stands width kept = reads_paired s N (rule_ops.Unary op truth a) is stands width kept
     inputs_paired s N (rule_ops.Select c x y) is stands width kept = reads_paired s N (rule_ops.Select c x y) is stands width kept
     inputs_paired s N (rule_ops.Convert cast flags a to) is stands width kept = reads_paired s N (rule_ops.Convert cast flags a to) is stands width kept
     inputs_paired s N (rule_ops.Freeze a j) is stands width kept =
@@ -289,6 +298,7 @@ module _ (rule : Rule) (binding : Binding) where
         (argument_settled t (class_width rule binding a.class) a.value (omega arith) first (target_reads t s a at (subst (λ (op : RuleOp). Contains (operands_of op) a) (sym is) (Contains-from_get (a ∷ []) 0 a refl))))
     result_settled t s (rule_ops.Binary opcode flags a b) is at first = own_settled t s at (ap is_copy is)
     result_settled t s (rule_ops.Compare pred samesign a b) is at first = own_settled t s at (ap is_copy is)
+    result_settled t s (rule_ops.Unary op truth a) is at first = own_settled t s at (ap is_copy is)
     result_settled t s (rule_ops.Select c a b) is at first = own_settled t s at (ap is_copy is)
     result_settled t s (rule_ops.Convert cast flags a to) is at first = own_settled t s at (ap is_copy is)
     result_settled t s (rule_ops.Freeze a j) is at first = own_settled t s at (ap is_copy is)

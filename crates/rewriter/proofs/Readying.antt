@@ -6,7 +6,7 @@ use Rattle.rule_core.specs.Positions.{operands_of, IsStatementOf}
 use Rattle.rule_core.specs.declared.rule.Argument.{Argument}
 use Rattle.rule_core.specs.declared.rule.Argument.TheVariants as arguments
 use Rattle.rule_core.specs.declared.rule.Op.{Op}
-use Rattle.rule_core.specs.declared.rule.Op.TheVariants.{Binary, Compare, Select, Convert, Freeze, Copy}
+use Rattle.rule_core.specs.declared.rule.Op.TheVariants.{Binary, Compare, Unary, Select, Convert, Freeze, Copy}
 use Rattle.rule_core.specs.declared.rule.Operand.{Operand}
 use Rattle.rule_core.specs.declared.rule.Register.TheVariants as names
 use Rattle.rule_core.specs.declared.rule.Rule.{Rule}
@@ -19,6 +19,7 @@ module _ (rule : Rule) (binding : Binding) where
   by_operand : (k : ℕ) (op : Op) → ((o : Operand) → Contains (operands_of op) o → OperandIsReady rule binding k o) → OpIsReady rule binding k op
   by_operand k (Binary opcode flags a b) h = (h a (Contains-from_get (a ∷ b ∷ []) 0 a refl), h b (Contains-from_get (a ∷ b ∷ []) 1 b refl))
   by_operand k (Compare pred samesign a b) h = (h a (Contains-from_get (a ∷ b ∷ []) 0 a refl), h b (Contains-from_get (a ∷ b ∷ []) 1 b refl))
+  by_operand k (Unary op truth a) h = h a (Contains-from_get (a ∷ []) 0 a refl)
   by_operand k (Select c a b) h = (h c (Contains-from_get (c ∷ a ∷ b ∷ []) 0 c refl), h a (Contains-from_get (c ∷ a ∷ b ∷ []) 1 a refl), h b (Contains-from_get (c ∷ a ∷ b ∷ []) 2 b refl))
   by_operand k (Convert cast flags a to) h = h a (Contains-from_get (a ∷ []) 0 a refl)
   by_operand k (Freeze a j) h = h a (Contains-from_get (a ∷ []) 0 a refl)

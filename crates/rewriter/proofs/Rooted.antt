@@ -10,7 +10,7 @@ use Rattle.ir_core.specs.declared.instruction.Inst.{Inst}
 use Rattle.ir_meaning.proofs.Pieces.{some_at}
 use Rattle.rule_core.specs.Checks.{IsRule}
 use Rattle.rule_core.specs.declared.rule.Op.{Op as RuleOp}
-use Rattle.rule_core.specs.declared.rule.Op.TheVariants.{Binary, Compare, Select, Convert, Freeze, Copy}
+use Rattle.rule_core.specs.declared.rule.Op.TheVariants.{Binary, Compare, Unary, Select, Convert, Freeze, Copy}
 use Rattle.rule_core.specs.declared.rule.Rule.{Rule}
 use Rattle.rule_core.specs.declared.rule.Statement.{Statement}
 use Rattle.bindings.specs.Match.{IsMatch}
@@ -51,6 +51,7 @@ module _ (rule : Rule) (binding : Binding) where
   one_put : (name : Name) (N : ℕ) (op : RuleOp) → length (insts_of_op rule binding name N op) ≤ 1
   one_put name N (Binary opcode flags a b) = omega arith
   one_put name N (Compare pred samesign a b) = omega arith
+  one_put name N (Unary op truth a) = omega arith
   one_put name N (Select c a b) = omega arith
   one_put name N (Convert cast flags a to) = omega arith
   one_put name N (Freeze a k) = omega arith

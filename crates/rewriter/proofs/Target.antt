@@ -61,6 +61,7 @@ copied_of : (op : RuleOp) → is_copy op ≡ true → (a : RuleOperand) × (op �
 copied_of (rule_ops.Copy a) is = (a, refl)
 copied_of (rule_ops.Binary opcode flags a b) is = absurd cc
 copied_of (rule_ops.Compare pred samesign a b) is = absurd cc
+copied_of (rule_ops.Unary op truth a) is = absurd cc
 copied_of (rule_ops.Select c a b) is = absurd cc
 copied_of (rule_ops.Convert cast flags a to) is = absurd cc
 copied_of (rule_ops.Freeze a k) is = absurd cc
@@ -77,6 +78,7 @@ taken_operand c (rule_ops.Freeze a k) (suc zero) o defined at = absurd (defined 
 taken_operand c (rule_ops.Freeze a k) (suc (suc i)) o defined at = absurd cc
 taken_operand c (rule_ops.Binary opcode flags a b) i o defined at = at
 taken_operand c (rule_ops.Compare pred samesign a b) i o defined at = at
+taken_operand c (rule_ops.Unary op truth a) i o defined at = at
 taken_operand c (rule_ops.Select z a b) i o defined at = at
 taken_operand c (rule_ops.Convert cast flags a to) i o defined at = at
 taken_operand c (rule_ops.Copy a) i o defined at = at

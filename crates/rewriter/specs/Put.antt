@@ -73,6 +73,7 @@ module _ (rule : Rule) (binding : Binding) where
   abbrev pub insts_of_op : Name → ℕ → RuleOp → List Inst
   insts_of_op name N (rule_ops.Binary opcode flags a b) = record { name = name; width = N; op = ops.Binary opcode flags (operand_put results_put a) (operand_put results_put b) } ∷ []
   insts_of_op name N (rule_ops.Compare pred samesign a b) = record { name = name; width = N; op = ops.Compare pred samesign (class_width a.class) (operand_put results_put a) (operand_put results_put b) } ∷ []
+  insts_of_op name N (rule_ops.Unary op truth a) = record { name = name; width = N; op = ops.Unary op truth (operand_put results_put a) } ∷ []
   insts_of_op name N (rule_ops.Select c a b) = record { name = name; width = N; op = ops.Select (operand_put results_put c) (operand_put results_put a) (operand_put results_put b) } ∷ []
   insts_of_op name N (rule_ops.Convert cast flags a to) = record { name = name; width = N; op = ops.Convert cast flags (class_width a.class) (operand_put results_put a) } ∷ []
   insts_of_op name N (rule_ops.Freeze a k) = record { name = name; width = N; op = ops.Freeze (operand_put results_put a) } ∷ []

@@ -7,7 +7,7 @@ use Rattle.rule_core.specs.Checks.{TargetMayRead}
 use Rattle.rule_core.specs.Typing.{IsTyping}
 use Rattle.rule_core.specs.Valid.{ConstantsFit}
 use Rattle.rule_core.specs.declared.rule.Op.{Op}
-use Rattle.rule_core.specs.declared.rule.Op.TheVariants.{Binary, Compare, Select, Convert, Freeze, Copy}
+use Rattle.rule_core.specs.declared.rule.Op.TheVariants.{Binary, Compare, Unary, Select, Convert, Freeze, Copy}
 use Rattle.rule_core.specs.declared.rule.Operand.{Operand}
 use Rattle.rule_core.specs.declared.rule.Rule.{Rule}
 use Rattle.rule_core.specs.declared.rule.Statement.{Statement}
@@ -30,6 +30,7 @@ module _ (rule : Rule) (binding : Binding) where
   abbrev pub OpIsReady : ℕ → Op → Type 0
   OpIsReady k (Binary opcode flags a b) = OperandIsReady k a × OperandIsReady k b
   OpIsReady k (Compare pred samesign a b) = OperandIsReady k a × OperandIsReady k b
+  OpIsReady k (Unary op truth a) = OperandIsReady k a
   OpIsReady k (Select c a b) = OperandIsReady k c × OperandIsReady k a × OperandIsReady k b
   OpIsReady k (Convert cast flags a to) = OperandIsReady k a
   OpIsReady k (Freeze a j) = OperandIsReady k a
@@ -43,6 +44,7 @@ module _ (rule : Rule) (binding : Binding) where
   abbrev pub op_put : List PutOperand → Op → Option PutOp
   op_put results (Binary opcode flags a b) = Some (ops.Binary opcode flags (operand_put rule binding results a) (operand_put rule binding results b))
   op_put results (Compare pred samesign a b) = Some (ops.Compare pred samesign (class_width rule binding a.class) (operand_put rule binding results a) (operand_put rule binding results b))
+  op_put results (Unary op truth a) = Some (ops.Unary op truth (operand_put rule binding results a))
   op_put results (Select c a b) = Some (ops.Select (operand_put rule binding results c) (operand_put rule binding results a) (operand_put rule binding results b))
   op_put results (Convert cast flags a to) = Some (ops.Convert cast flags (class_width rule binding a.class) (operand_put rule binding results a))
   op_put results (Freeze a k) = Some (ops.Freeze (operand_put rule binding results a))

@@ -88,6 +88,9 @@ fn op_put(rule: &Rule, binding: &Binding, results: &[Operand], op: RuleOp) -> Op
                 operand_put(rule, binding, results, y),
             ))
         }
+        RuleOp::Unary(intrinsic, truth, x) => {
+            Some(Op::Unary(intrinsic, truth, operand_put(rule, binding, results, x)))
+        }
         RuleOp::Select(condition, x, y) => {
             let condition = operand_put(rule, binding, results, condition);
             let x = operand_put(rule, binding, results, x);

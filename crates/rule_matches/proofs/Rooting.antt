@@ -17,7 +17,7 @@ use Rattle.rule_core.specs.declared.rule.Statement.{Statement}
 use Rattle.bindings.specs.Statements.{IsSameOperation, StatementMatches}
 use Rattle.rule_matches.specs.declared.matches.Match.{Match}
 use Rattle.rule_matches.specs.declared.roots.RootKind.{RootKind}
-use Rattle.rule_matches.specs.declared.roots.RootKind.TheVariants.{Binary, Compare, Select, Convert, Freeze}
+use Rattle.rule_matches.specs.declared.roots.RootKind.TheVariants.{Binary, Compare, Unary, Select, Convert, Freeze}
 use Rattle.rule_matches.specs.Ready.{AreReady}
 use Rattle.rule_matches.specs.Matches.{IsMatchAmong}
 use Rattle.rule_matches.specs.Roots.{kind_of_statement, kind_of_inst, kind_of_root, HasRootKind}
@@ -26,6 +26,7 @@ use Rattle.rule_matches.specs.Roots.{kind_of_statement, kind_of_inst, kind_of_ro
 kind_same : (s : RuleOp) (i : InstOp) → IsSameOperation s i → (kind : RootKind) × (kind_of_statement s ≡ Some kind) × (kind_of_inst i ≡ Some kind)
 kind_same (rule_ops.Binary opcode flags a b) (ops.Binary opcode' flags' x y) same = (Binary opcode, refl, ap (λ o. Some (Binary o)) (sym same))
 kind_same (rule_ops.Compare pred samesign a b) (ops.Compare pred' samesign' width x y) same = (Compare pred, refl, ap (λ o. Some (Compare o)) (sym same))
+kind_same (rule_ops.Unary op truth a) (ops.Unary op' truth' x) same = (Unary op, refl, ap (λ o. Some (Unary o)) (sym same))
 kind_same (rule_ops.Select c a b) (ops.Select z x y) same = (Select, refl, refl)
 kind_same (rule_ops.Convert cast flags a to) (ops.Convert cast' flags' from x) same = (Convert cast, refl, ap (λ o. Some (Convert o)) (sym same))
 kind_same (rule_ops.Freeze a k) (ops.Freeze x) same = (Freeze, refl, refl)

@@ -6,13 +6,14 @@ use Rattle.rule_core.specs.declared.rule.Op.{Op as RuleOp}
 use Rattle.rule_core.specs.declared.rule.Op.TheVariants as rule_ops
 use Rattle.rule_core.specs.declared.rule.Rule.{Rule}
 use Rattle.rule_matches.specs.declared.roots.RootKind.{RootKind}
-use Rattle.rule_matches.specs.declared.roots.RootKind.TheVariants.{Binary, Compare, Select, Convert, Freeze}
+use Rattle.rule_matches.specs.declared.roots.RootKind.TheVariants.{Binary, Compare, Unary, Select, Convert, Freeze}
 use Rattle.rule_matches.specs.declared.roots.RulesByRoot.{RulesByRoot}
 use Rattle.rule_matches.specs.declared.roots.Group.{Group}
 
 abbrev pub kind_of_statement : RuleOp → Option RootKind
 kind_of_statement (rule_ops.Binary opcode flags a b) = Some (Binary opcode)
 kind_of_statement (rule_ops.Compare pred samesign a b) = Some (Compare pred)
+kind_of_statement (rule_ops.Unary op truth a) = Some (Unary op)
 kind_of_statement (rule_ops.Select c a b) = Some Select
 kind_of_statement (rule_ops.Convert cast flags a to) = Some (Convert cast)
 kind_of_statement (rule_ops.Freeze a k) = Some Freeze
@@ -21,9 +22,9 @@ kind_of_statement (rule_ops.Copy a) = None
 abbrev pub kind_of_inst : InstOp → Option RootKind
 kind_of_inst (ops.Binary opcode flags x y) = Some (Binary opcode)
 kind_of_inst (ops.Compare pred samesign width x y) = Some (Compare pred)
+kind_of_inst (ops.Unary op truth x) = Some (Unary op)
 kind_of_inst (ops.Select c x y) = Some Select
 kind_of_inst (ops.Convert cast flags from x) = Some (Convert cast)
-kind_of_inst (ops.Unary op truth x) = None
 kind_of_inst (ops.Freeze x) = Some Freeze
 kind_of_inst (ops.Phi entries) = None
 

@@ -4,15 +4,16 @@ ghost use Rattle.std.specs.Prelude.{◌≡◌, ◌<◌, ◌^◌, ℕ, ◌++◌, 
 ghost use Rattle.rule_matches.specs.Roots.{AreByRoot, AreCandidates, IsGroupOf, kind_of_inst, kind_of_root, kind_of_statement};
 
 use ir_core::Op;
-use ops::{Cast, Opcode, Pred};
+use ops::{Cast, Opcode, Pred, Unary};
 use rule_core::{Op as RuleOp, Rule};
 use std::alloc::{AllocError, Global};
 
-/// What an instruction does that a rule's root may match. There are 28 of them.
+/// What an instruction does that a rule's root may match. There are 36 of them.
 #[derive(Clone, Copy, PartialEq, Eq, Debug)]
 pub enum RootKind {
     Binary(Opcode),
     Compare(Pred),
+    Unary(Unary),
     Select,
     Convert(Cast),
     Freeze,
@@ -40,6 +41,7 @@ fn kind_of_statement(op: RuleOp) -> Option<RootKind>
     match op {
         RuleOp::Binary(opcode, _, _, _) => Some(RootKind::Binary(opcode)),
         RuleOp::Compare(pred, _, _, _) => Some(RootKind::Compare(pred)),
+        RuleOp::Unary(op, _, _) => Some(RootKind::Unary(op)),
         RuleOp::Select(_, _, _) => Some(RootKind::Select),
         RuleOp::Convert(cast, _, _, _) => Some(RootKind::Convert(cast)),
         RuleOp::Freeze(_, _) => Some(RootKind::Freeze),
@@ -62,10 +64,11 @@ fn kind_of_inst(op: &Op) -> Option<RootKind>
     match op {
         Op::Binary(opcode, _, _, _) => Some(RootKind::Binary(*opcode)),
         Op::Compare(pred, _, _, _, _) => Some(RootKind::Compare(*pred)),
+        Op::Unary(op, _, _) => Some(RootKind::Unary(*op)),
         Op::Select(_, _, _) => Some(RootKind::Select),
         Op::Convert(cast, _, _, _) => Some(RootKind::Convert(*cast)),
         Op::Freeze(_) => Some(RootKind::Freeze),
-        Op::Unary(_, _, _) | Op::Phi(_) => None,
+        Op::Phi(_) => None,
     }
 }
 

@@ -17,6 +17,9 @@ operand_put-x-requires-in-Compare-clause-operand c = (subst (OpIsReady c.args.ru
 pub operand_put-requires-in-Compare-clause-operand : goal.operand_put-requires-in-Compare-clause-operand
 operand_put-requires-in-Compare-clause-operand c = (subst (OpIsReady c.args.rule.now c.args.binding.now (length c.args.results.now)) c.in-Compare.is c.requires.op).1
 
+pub operand_put-requires-in-Unary-clause-operand : goal.operand_put-requires-in-Unary-clause-operand
+operand_put-requires-in-Unary-clause-operand c = subst (OpIsReady c.args.rule.now c.args.binding.now (length c.args.results.now)) c.in-Unary.is c.requires.op
+
 pub operand_put-condition-requires-clause-operand : goal.operand_put-condition-requires-clause-operand
 operand_put-condition-requires-clause-operand c = (subst (OpIsReady c.args.rule.now c.args.binding.now (length c.args.results.now)) c.in-Select.is c.requires.op).0
 
