@@ -93,6 +93,7 @@ module _ (rule : Rule) (binding : Binding) (typed : IsTyping rule binding.typing
     put_reads (rule_ops.Compare pred samesign x y) is kept =
         let w : IsWidth (class_width rule binding x.class) = operand_has x (subst (λ (op : RuleOp). Contains (operands_of op) x) (sym is) (Contains-from_get (x ∷ y ∷ []) 0 x refl)) in
         (w, (w, tt))
+    put_reads (rule_ops.Unary op truth x) is kept = let own : IsWidth N = own_class t s at in (own, tt)
     put_reads (rule_ops.Select c x y) is kept = let own : IsWidth N = own_class t s at in (one, (own, (own, tt)))
     put_reads (rule_ops.Convert cast flags x to) is kept = (operand_has x (subst (λ (op : RuleOp). Contains (operands_of op) x) (sym is) (Contains-from_get (x ∷ []) 0 x refl)), tt)
     put_reads (rule_ops.Freeze x j) is kept = let own : IsWidth N = own_class t s at in (own, tt)

@@ -73,6 +73,7 @@ module _ (rule : Rule) (binding : Binding) where
   one_put : (name : Name) (N : ℕ) (op : RuleOp) → length (insts_of_op rule binding name N op) ≤ 1
   one_put name N (rule_ops.Binary opcode flags a b) = omega arith
   one_put name N (rule_ops.Compare pred samesign a b) = omega arith
+  one_put name N (rule_ops.Unary op truth a) = omega arith
   one_put name N (rule_ops.Select c a b) = omega arith
   one_put name N (rule_ops.Convert cast flags a to) = omega arith
   one_put name N (rule_ops.Freeze a k) = omega arith
