@@ -2,6 +2,7 @@
 
 mod faults;
 mod freezes;
+mod intrinsics;
 mod loads;
 mod logs;
 mod long_words;

@@ -3,8 +3,8 @@
 ghost use Rattle.test_rewriting.specs.Ready.{FunctionIsReady, RuleIsReady};
 
 use crate::reading::{
-    ADD_ZERO, MUL_TWO, NOT_ADD, NOT_ADD_ONCE, REFREEZE, SEL_FREEZE, SEL_INC, ZEXT_TWICE,
-    function_of, match_there, rule_of,
+    ABS_NEG, ADD_ZERO, MUL_TWO, NOT_ADD, NOT_ADD_ONCE, REFREEZE, SEL_FREEZE, SEL_INC, TZ_READ,
+    ZEXT_TWICE, function_of, match_there, rule_of,
 };
 use ir_core::Function;
 use rewriter::apply;
@@ -20,7 +20,7 @@ struct Row {
     applied: Option<&'static str>,
 }
 
-const ROWS: [Row; 23] = [
+const ROWS: [Row; 33] = [
     Row {
         rule: NOT_ADD,
         function: "define i4 @f(i4 %a) { %1 = xor i4 %a, -1 %2 = add i4 %1, 5 ret i4 %2 }",
@@ -202,6 +202,77 @@ l: %x = phi i8 [ %z, %e ], [ %q, %l ] %c = icmp eq i8 %q, %x br i1 %c, label %l,
         function: "define i8 @f(i8 %a) { %r = add i8 %a, 0 ret i8 %r }",
         root: (0, 0),
         applied: None,
+    },
+    // Intrinsics that are matched and put: of two operands, and of one with its truth value.
+    Row {
+        rule: "Version: 2\nName: to-umin\n%c = icmp ult %x, %y\n%r = select %c, %x, %y\n=>\n%r = umin %x, %y\n",
+        function: "define i8 @f(i8 %a, i8 %b) { %c = icmp ult i8 %a, %b %r = select i1 %c, i8 %a, i8 %b ret i8 %r }",
+        root: (0, 1),
+        applied: Some(
+            "define i8 @f(i8 %a, i8 %b) { %c = icmp ult i8 %a, %b %r = call i8 @llvm.umin.i8(i8 %a, i8 %b) ret i8 %r }",
+        ),
+    },
+    Row {
+        rule: "Version: 2\nName: one-max\n%r = umax %x, C\n=>\n%r = umax C+1, %x\n",
+        function: "define i8 @f(i8 %a) { %r = call i8 @llvm.umax.i8(i8 %a, i8 9) ret i8 %r }",
+        root: (0, 0),
+        applied: Some("define i8 @f(i8 %a) { %r = call i8 @llvm.umax.i8(i8 10, i8 %a) ret i8 %r }"),
+    },
+    Row {
+        rule: "Version: 2\nName: one-max\n%r = umax %x, C\n=>\n%r = umax C+1, %x\n",
+        function: "define i8 @f(i8 %a) { %r = call i8 @llvm.smax.i8(i8 %a, i8 9) ret i8 %r }",
+        root: (0, 0),
+        applied: None,
+    },
+    Row {
+        rule: ABS_NEG,
+        function: "define i8 @f(i8 %a) { %n = sub i8 0, %a %r = call i8 @llvm.abs.i8(i8 %n, i1 true) ret i8 %r }",
+        root: (0, 1),
+        applied: Some(
+            "define i8 @f(i8 %a) { %n = sub i8 0, %a %r = call i8 @llvm.abs.i8(i8 %a, i1 false) ret i8 %r }",
+        ),
+    },
+    // The root has at least the statement's truth value, and no other intrinsic is it.
+    Row {
+        rule: "Version: 2\nName: abs-abs\n%r = abs minpoison %x\n=>\n%r = abs %x\n",
+        function: "define i8 @f(i8 %a) { %r = call i8 @llvm.abs.i8(i8 %a, i1 false) ret i8 %r }",
+        root: (0, 0),
+        applied: None,
+    },
+    Row {
+        rule: "Version: 2\nName: lz\n%r = ctlz %x\n=>\n%r = ctlz %x\n",
+        function: "define i8 @f(i8 %a) { %r = call i8 @llvm.cttz.i8(i8 %a, i1 false) ret i8 %r }",
+        root: (0, 0),
+        applied: None,
+    },
+    // A temporary has exactly the statement's where the target reads one, and else at least that.
+    Row {
+        rule: TZ_READ,
+        function: "define i8 @f(i8 %a) { %t = call i8 @llvm.cttz.i8(i8 %a, i1 true) %r = add i8 %t, 1 ret i8 %r }",
+        root: (0, 1),
+        applied: None,
+    },
+    Row {
+        rule: TZ_READ,
+        function: "define i8 @f(i8 %a) { %t = call i8 @llvm.cttz.i8(i8 %a, i1 false) %r = add i8 %t, 1 ret i8 %r }",
+        root: (0, 1),
+        applied: Some(
+            "define i8 @f(i8 %a) { %t = call i8 @llvm.cttz.i8(i8 %a, i1 false) %r = sub i8 %t, -1 ret i8 %r }",
+        ),
+    },
+    Row {
+        rule: "Version: 2\nName: pop-shl\n%t = ctpop %x\n%r = and %t, 0\n=>\n%r = 0\n",
+        function: "define i8 @f(i8 %a) { %t = call i8 @llvm.ctpop.i8(i8 %a) %r = and i8 %t, 0 ret i8 %r }",
+        root: (0, 1),
+        applied: Some("define i8 @f(i8 %a) { %t = call i8 @llvm.ctpop.i8(i8 %a) ret i8 0 }"),
+    },
+    Row {
+        rule: "Version: 2\nName: tz-gone\n%t = cttz %x\n%r = and %t, 0\n=>\n%r = 0\n",
+        function: "define i8 @f(i8 %a) { %t = call i8 @llvm.cttz.i8(i8 %a, i1 true) %r = and i8 %t, 0 ret i8 %r }",
+        root: (0, 1),
+        applied: Some(
+            "define i8 @f(i8 %a) { %t = call i8 @llvm.cttz.i8(i8 %a, i1 true) ret i8 0 }",
+        ),
     },
 ];
 

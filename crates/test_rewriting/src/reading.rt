@@ -37,6 +37,12 @@ pub(crate) const SEL_FREEZE: &str =
 pub(crate) const REFREEZE: &str =
     "Version: 2\nName: refreeze\nWit: t1\n%r = freeze %x\n=>\n%r = freeze %x\n";
 
+pub(crate) const ABS_NEG: &str =
+    "Version: 2\nName: abs-neg\n%n = sub 0, %x\n%r = abs %n\n=>\n%r = abs %x\n";
+
+pub(crate) const TZ_READ: &str =
+    "Version: 2\nName: tz-read\n%t = cttz %x\n%r = add %t, C\n=>\n%r = sub %t, -C\n";
+
 /// The module of a text.
 pub(crate) fn module_of(alloc: Global, text: &str) -> Result<Module, Fail>
     ensures { IfOk result ModuleMeetsChecks }

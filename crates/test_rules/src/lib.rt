@@ -8,6 +8,8 @@ mod constants;
 #[cfg(test)]
 mod freezes;
 #[cfg(test)]
+mod intrinsics;
+#[cfg(test)]
 mod one_statement;
 #[cfg(test)]
 mod preconditions;

@@ -113,7 +113,9 @@ const FILES: [(&str, usize); 5] = [
 /// The name of a kind.
 fn name_of(kind: &RuleFaultKind) -> &'static str {
     match kind {
+        RuleFaultKind::BadByte => "BadByte",
         RuleFaultKind::Syntax => "Syntax",
+        RuleFaultKind::TooMany => "TooMany",
         RuleFaultKind::LeftOut(_) => "LeftOut",
         RuleFaultKind::Unbound => "Unbound",
         RuleFaultKind::UndefInside => "UndefInside",
@@ -124,7 +126,7 @@ fn name_of(kind: &RuleFaultKind) -> &'static str {
 }
 
 /// The line and the kind of the first fault of a text.
-fn told(alloc: Global, text: &[u8]) -> Option<(usize, &'static str)> {
+pub(crate) fn told(alloc: Global, text: &[u8]) -> Option<(usize, &'static str)> {
     match read_rules(alloc, text) {
         Err(RuleError::Refused(RuleFault { line, kind })) => Some((line, name_of(&kind))),
         _ => None,
