@@ -12,10 +12,12 @@ import sys
 import tempfile
 
 sys.path.insert(0, os.path.dirname(os.path.abspath(__file__)))
-from rule_model import BINARY, CASTS, COMPARISONS, FLAGS, LEVELS, rules_of
+from rule_model import BINARY, CASTS, COMPARISONS, EXTREMES, FLAGS, LEVELS, UNARY, rules_of
 
 PREDICATES = 'eq ne ugt uge ult ule sgt sge slt sle'.split()
 OPERATORS = [op for level in LEVELS for op in level]
+# words of files of version 2
+SECOND = ['freeze', *EXTREMES, *UNARY]
 
 
 class Maker:
@@ -84,6 +86,8 @@ class Maker:
         def o():
             return self.operand(registers, target, undef)
 
+        if kind < 0.1:
+            return f'{register} = {self.flagged(self.pick(UNARY))}{written}{o()}'
         if kind < 0.62:
             return f'{register} = {self.flagged(self.pick(BINARY))}{written}{o()}, {o()}'
         if kind < 0.75:
@@ -119,7 +123,7 @@ class Maker:
             copied = self.pick(there + new[:-1] + [self.term(2, self.constants)])
             target[-1] = f'%r = {self.type(.1)}{copied}'
         left_open = [sum(' '.join(half).count(word) for word in ('undef', 'freeze')) for half in (source, target)]
-        heads = ['Version: 2'] if 'freeze' in ' '.join(source + target) else []
+        heads = ['Version: 2'] if any(word in SECOND for s in source + target for word in s.split()) else []
         heads.append(f'Name: {name}')
         if self.constants and self.chance(0.5):
             heads.append('Pre: ' + self.formula(2, self.constants))

@@ -10,10 +10,12 @@ import itertools
 import re
 import sys
 
-BINARY = 'add sub mul udiv sdiv urem srem shl lshr ashr and or xor'.split()
+EXTREMES = 'umin umax smin smax'.split()
+BINARY = 'add sub mul udiv sdiv urem srem shl lshr ashr and or xor'.split() + EXTREMES
+UNARY = 'abs ctpop ctlz cttz'.split()
 CASTS = 'trunc zext sext'.split()
 FLAGS = {**dict.fromkeys(['add', 'sub', 'mul', 'shl', 'trunc'], ['nuw', 'nsw']), **dict.fromkeys(['udiv', 'sdiv', 'lshr', 'ashr'], ['exact']),
-         'or': ['disjoint'], 'zext': ['nneg'], 'icmp': ['samesign']}
+         'or': ['disjoint'], 'zext': ['nneg'], 'icmp': ['samesign'], 'abs': ['minpoison'], **dict.fromkeys(['ctlz', 'cttz'], ['zeropoison'])}
 POISON = 'poison'
 UNDEFINED = 'undefined'
 TOKEN = re.compile(r'\s*(u>>|u<=|u>=|u<|u>|%[A-Za-z0-9_.]+|[A-Za-z][A-Za-z0-9_]*|\d+|<<|>>|==|!=|<=|>=|&&|\|\||/u(?![A-Za-z0-9_.$-])|%u(?![A-Za-z0-9_.$-])|%|[-+*/&^|~!<>(),=])')
@@ -49,6 +51,8 @@ def binary(op, flags, width, a, b):
         return rest % modulus
     if POISON in (a, b):
         return POISON
+    if op in EXTREMES:
+        return {'min': min, 'max': max}[op[1:]](a, b, key=lambda x: signed(x, width) if op[0] == 's' else x)
     if op in ('add', 'sub', 'mul'):
         compute = {'add': lambda x, y: x + y, 'sub': lambda x, y: x - y, 'mul': lambda x, y: x * y}[op]
         if 'nuw' in flags and not 0 <= compute(a, b) < modulus:
@@ -69,6 +73,18 @@ def binary(op, flags, width, a, b):
     if 'disjoint' in flags and a & b:
         return POISON
     return {'and': a & b, 'or': a | b, 'xor': a ^ b}[op]
+
+
+def unary(op, flags, width, a):
+    """What an intrinsic with one operand gives, its truth value being true where a flag says it."""
+    if a == POISON or flags and a == (1 << (width - 1) if op == 'abs' else 0):
+        return POISON
+    if op == 'abs':
+        return abs(signed(a, width)) % (1 << width)
+    if op == 'ctpop':
+        return bin(a).count('1')
+    digits = format(a, f'0{width}b')
+    return width if a == 0 else digits.index('1') if op == 'ctlz' else digits[::-1].index('1')
 
 
 def cast(op, flags, width, to, a):
@@ -247,6 +263,9 @@ def statement(line, target):
         return register, 'icmp', (flags, predicate), [operand(x, target) for x in parts(rest)], None
     if word == 'select':
         return register, 'select', None, [operand(x, target) for x in parts(right.split(None, 1)[1])], None
+    if word in UNARY:
+        flags, rest = flags_before(word, right.split(None, 1)[1])
+        return register, word, flags, [operand(rest, target)], None
     if word in CASTS:
         flags, rest = flags_before(word, right.split(None, 1)[1])
         to = None
@@ -361,7 +380,7 @@ class Rule:
                     join(result, ps[1])
                     join(result, ps[2])
                     fixed.append((ps[0], 1))
-                elif op == 'copy':
+                elif op == 'copy' or op in UNARY:
                     join(result, ps[0])
                 elif op == 'freeze':
                     join(result, ps[0])
@@ -503,6 +522,8 @@ class Rule:
             values = [self.value(typing, v, half, env) for _, v in operands]
             if op in BINARY:
                 effect = binary(op, extra, width, *values)
+            elif op in UNARY:
+                effect = unary(op, extra, width, *values)
             elif op == 'icmp':
                 effect = compare(extra[1], widths[0], *values, extra[0])
             elif op == 'select':
