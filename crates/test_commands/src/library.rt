@@ -5,7 +5,7 @@ use alive_top::alive;
 use outside::{DiskFiles, MemorySink};
 use std::alloc::AllocError;
 
-const FILES: [&str; 7] = [
+const FILES: [&str; 8] = [
     "add-sub.alive",
     "mul-div-rem.alive",
     "and-or-xor.alive",
@@ -13,6 +13,7 @@ const FILES: [&str; 7] = [
     "icmp.alive",
     "select.alive",
     "cast.alive",
+    "with-intrinsics.alive",
 ];
 
 /// The most bytes of verdicts and of a refusal that are kept, and not printed.
