@@ -27,6 +27,7 @@ use Rattle.rule_parse.specs.Keywords.{operation_in, truth_flag, is_truth_flag}
 use Rattle.ops.specs.declared.opcode.Unary.{Unary as Intrinsic}
 use Rattle.ops.specs.declared.opcode.Unary.TheVariants as intrinsics
 use Rattle.rule_tokens.specs.declared.version.Version.{Version}
+use Rattle.rule_tokens.specs.declared.version.Version.TheVariants.{One, Two}
 use Rattle.rule_tokens.specs.Limits.{Limits}
 
 module _ (limits : Limits) where
@@ -85,10 +86,16 @@ module _ (limits : Limits) where
   unfolding type_in operation_in flag_in
   width_word = (record { no_type = refl; no_operation = λ version. refl; no_flag = λ taken. refl; no_truth = no_truth_flag _ refl refl }, refl)
 
+  -- `abs` as an opcode is no word
+  no_abs : (version : Version) → operation_in version false (codes "abs") ≡ None
+  unfolding operation_in
+  no_abs One = refl
+  no_abs Two = refl
+
   called_word : (function : Function) (word : List ℕ) → IsCalled function word → IsOperandWord word × (bytes_eq word (codes "undef") ≡ false)
   unfolding type_in operation_in flag_in
   called_word Log2 word is = rw is (record { no_type = refl; no_operation = λ version. refl; no_flag = λ taken. refl; no_truth = no_truth_flag _ refl refl }, refl)
-  called_word Abs word is = rw is (record { no_type = refl; no_operation = λ version. refl; no_flag = λ taken. refl; no_truth = no_truth_flag _ refl refl }, refl)
+  called_word Abs word is = rw is (record { no_type = refl; no_operation = no_abs; no_flag = λ taken. refl; no_truth = no_truth_flag _ refl refl }, refl)
   called_word Negate word is = absurd is
   called_word Not word is = absurd is
 

@@ -336,7 +336,7 @@ module _ (spare_bytes deepest spare_statements : ℕ) where
       ([], [], (version, (own, [], inl (record { line = line; digits = text; are_digits = known.0; number = known.1; spelled = refl }), refl, refl))) refl
       (λ fits. none_spelled fits.0 (begun line (Number text ∷ token ∷ fits.1)) (unexpected line (token ∷ fits.1)) (rw is refl) fits.2)
       (λ noun fits. none_spelled fits.0 (begun line (Number text ∷ Word noun ∷ fits.1)) (unexpected line (Word noun ∷ fits.1)) (rw is refl) fits.2)
-      (λ kind. new_behind own [] kind (inl (λ flag same. cc)) (none_new kind))))
+      (λ kind. new_behind own [] kind (inl (λ word flag same. cc)) (none_new kind))))
 
   numbered : (last line : ℕ) (text : List ℕ) (rest : List Token) (found : RuleFault) → NamesEndLines rest → all_rules limits last (begun line (Number text ∷ rest)) ≡ Err found → (version : Option Version) → version_in text ≡ version → IsRefused last (begun line (Number text ∷ rest)) found
   unfolding version_at version_number_at
