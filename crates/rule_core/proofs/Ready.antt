@@ -131,7 +131,7 @@ op_ready rule typing given held s N (Compare pred samesign a b) typed stands wid
     let right : slice_get typing b.class ≡ Some M.0 = sym (typed.same a.class b.class (compared stands is)) ∙ M.1 in
     let one : N ≡ 1 = same_Some N 1 (sym width ∙ typed.fixed s.class 1 (comparison stands is)) in
     (M.0, (M.1, ready a M.0 (Contains-from_get (a ∷ b ∷ []) 0 a refl) M.1), (right, ready b M.0 (Contains-from_get (a ∷ b ∷ []) 1 b refl) right), one)
-op_ready rule typing given held s N (Unary op truth a) typed stands width is fit ready chosen =
+op_ready rule typing given held s N (Unary op truth_value a) typed stands width is fit ready chosen =
     let same : slice_get typing a.class ≡ Some N = sym (typed.same s.class a.class (one_operand stands is)) ∙ width in
     (same, ready a N (Contains-from_get (a ∷ []) 0 a refl) same)
 op_ready rule typing given held s N (Select c a b) typed stands width is fit ready chosen =
