@@ -201,7 +201,7 @@ module _ (f : Function) (b k : ℕ) (rule : Rule) (binding : Binding) (checked :
       more_may (put_before rule binding t) (put_before rule binding (suc t)) width (operand_put rule binding (results rule binding) a) (count_grows rule binding t s at) (operand_may t s at first a among width own)
   result_may t s width at first class (rule_ops.Binary opcode flags x y) is = own_may t s width at class (rule_ops.Binary opcode flags x y) is refl
   result_may t s width at first class (rule_ops.Compare pred samesign x y) is = own_may t s width at class (rule_ops.Compare pred samesign x y) is refl
-  result_may t s width at first class (rule_ops.Unary op truth x) is = own_may t s width at class (rule_ops.Unary op truth x) is refl
+  result_may t s width at first class (rule_ops.Unary op truth_value x) is = own_may t s width at class (rule_ops.Unary op truth_value x) is refl
   result_may t s width at first class (rule_ops.Select c x y) is = own_may t s width at class (rule_ops.Select c x y) is refl
   result_may t s width at first class (rule_ops.Convert cast flags x to) is = own_may t s width at class (rule_ops.Convert cast flags x to) is refl
   result_may t s width at first class (rule_ops.Freeze x j) is = own_may t s width at class (rule_ops.Freeze x j) is refl
@@ -231,7 +231,7 @@ module _ (f : Function) (b k : ℕ) (rule : Rule) (binding : Binding) (checked :
 
   put_typed : (t : ℕ) (s : Statement) → slice_get rule.target t ≡ Some s → (op : RuleOp) → s.op ≡ op → IsNoCopy op → IsTyped (class_width rule binding s.class) (put_op rule binding (class_width rule binding s.class) op)
   put_typed t s at (rule_ops.Binary opcode flags a c) is kept = subst FlagsFitOp is (checked.target_flags t s at)
-  put_typed t s at (rule_ops.Unary op truth a) is kept = subst FlagsFitOp is (checked.target_flags t s at)
+  put_typed t s at (rule_ops.Unary op truth_value a) is kept = subst FlagsFitOp is (checked.target_flags t s at)
   put_typed t s at (rule_ops.Compare pred samesign a c) is kept =
       let stands : IsStatementOf rule s = target_statement rule t s at in
       same_Some (class_width rule binding s.class) 1 (sym (own_class s stands) ∙ match.typing.fixed s.class 1 (comparison stands is))
@@ -247,7 +247,7 @@ module _ (f : Function) (b k : ℕ) (rule : Rule) (binding : Binding) (checked :
   put_arity : (N : ℕ) (op : RuleOp) → IsNoCopy op → length (operands_of op) ≡ length (reads_of f binding.block binding.place N (put_op rule binding N op))
   put_arity N (rule_ops.Binary opcode flags a c) kept = refl
   put_arity N (rule_ops.Compare pred samesign a c) kept = refl
-  put_arity N (rule_ops.Unary op truth a) kept = refl
+  put_arity N (rule_ops.Unary op truth_value a) kept = refl
   put_arity N (rule_ops.Select c a d) kept = refl
   put_arity N (rule_ops.Convert cast flags a to) kept = refl
   put_arity N (rule_ops.Freeze a j) kept = refl
@@ -345,7 +345,7 @@ module _ (f : Function) (b k : ℕ) (rule : Rule) (binding : Binding) (checked :
       argument_definite t (class_width rule binding a.class) a.value (omega arith) first (checked.target_reads t s a at among) (subst ReadsNoUndefAlone is (checked.target_undefs t s at)) e
   result_definite t s at first (rule_ops.Binary opcode flags x y) is e = cc
   result_definite t s at first (rule_ops.Compare pred samesign x y) is e = cc
-  result_definite t s at first (rule_ops.Unary op truth x) is e = cc
+  result_definite t s at first (rule_ops.Unary op truth_value x) is e = cc
   result_definite t s at first (rule_ops.Select c x y) is e = cc
   result_definite t s at first (rule_ops.Convert cast flags x to) is e = cc
   result_definite t s at first (rule_ops.Freeze x j) is e = cc

@@ -68,7 +68,7 @@ no_freeze_before : (rule : Rule) (j : ℕ) (op : RuleOp) → suc j < length rule
 no_freeze_before rule j (rule_ops.Freeze a k) before may is = let root : suc j ≡ length rule.source = may in omega arith
 no_freeze_before rule j (rule_ops.Binary opcode flags a b) before may is = is
 no_freeze_before rule j (rule_ops.Compare pred samesign a b) before may is = is
-no_freeze_before rule j (rule_ops.Unary op truth a) before may is = is
+no_freeze_before rule j (rule_ops.Unary op truth_value a) before may is = is
 no_freeze_before rule j (rule_ops.Select c a b) before may is = is
 no_freeze_before rule j (rule_ops.Convert cast flags a to) before may is = is
 no_freeze_before rule j (rule_ops.Copy a) before may is = is

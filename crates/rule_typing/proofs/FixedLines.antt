@@ -30,7 +30,7 @@ of_fixed rule c N (truth {o} {b} among is) = let (s, stands, here) = of_operand 
 at_line : (rule : Rule) (s : Statement) (op : Op) (c N : ℕ) → IsStatementOf rule s → s.op ≡ op → fixed_line s.class op ≡ Some (c, N) → Fixed rule c N
 at_line rule s (Binary op flags a b) c N stands is e = cc
 at_line rule s (Compare pred samesign a b) c N stands is e = subst (λ (p : ℕ × ℕ). Fixed rule p.0 p.1) (same_Some (s.class, 1) (c, N) e) (comparison stands is)
-at_line rule s (Unary op truth a) c N stands is e = cc
+at_line rule s (Unary op truth_value a) c N stands is e = cc
 at_line rule s (Select z a b) c N stands is e = subst (λ (p : ℕ × ℕ). Fixed rule p.0 p.1) (same_Some (z.class, 1) (c, N) e) (condition stands is)
 at_line rule s (Convert cast flags a None) c N stands is e = cc
 at_line rule s (Convert cast flags a (Some M)) c N stands is e = subst (λ (p : ℕ × ℕ). Fixed rule p.0 p.1) (same_Some (s.class, M) (c, N) e) (cast_to stands is)
@@ -63,7 +63,7 @@ of_smaller rule c d (sign_extended {s} {flags} {a} {to} stands is) = (s, stands,
 pub at_cast : (rule : Rule) (s : Statement) (op : Op) (c d : ℕ) → IsStatementOf rule s → s.op ≡ op → smaller_line s.class op ≡ Some (c, d) → Smaller rule c d
 at_cast rule s (Binary op flags a b) c d stands is e = cc
 at_cast rule s (Compare pred samesign a b) c d stands is e = cc
-at_cast rule s (Unary op truth a) c d stands is e = cc
+at_cast rule s (Unary op truth_value a) c d stands is e = cc
 at_cast rule s (Select z a b) c d stands is e = cc
 at_cast rule s (Convert Trunc flags a to) c d stands is e = subst (λ (p : ℕ × ℕ). Smaller rule p.0 p.1) (same_Some (s.class, a.class) (c, d) e) (truncated stands is)
 at_cast rule s (Convert ZExt flags a to) c d stands is e = subst (λ (p : ℕ × ℕ). Smaller rule p.0 p.1) (same_Some (a.class, s.class) (c, d) e) (zero_extended stands is)
