@@ -75,7 +75,7 @@ module _ (limits : Limits) where
 
   constant_word : (digits : List ℕ) → IsOperandWord (67 ∷ digits) × (bytes_eq (67 ∷ digits) (codes "undef") ≡ false)
   unfolding type_in operation_in flag_in
-  constant_word digits = (record { no_type = refl; no_operation = λ version. refl; no_flag = λ taken. refl; no_truth = no_truth_flag _ refl refl }, refl)
+  constant_word digits = (record { no_type = refl; no_operation = λ version. refl; no_flag = λ taken. refl; no_truth = no_truth_flag (67 ∷ digits) refl refl }, refl)
 
   constant_begins : (word : List ℕ) → is_constant word ≡ true → IsOperandWord word × (bytes_eq word (codes "undef") ≡ false)
   unfolding is_constant
@@ -84,7 +84,7 @@ module _ (limits : Limits) where
 
   width_word : IsOperandWord (codes "width") × (bytes_eq (codes "width") (codes "undef") ≡ false)
   unfolding type_in operation_in flag_in
-  width_word = (record { no_type = refl; no_operation = λ version. refl; no_flag = λ taken. refl; no_truth = no_truth_flag _ refl refl }, refl)
+  width_word = (record { no_type = refl; no_operation = λ version. refl; no_flag = λ taken. refl; no_truth = no_truth_flag (codes "width") refl refl }, refl)
 
   -- `abs` as an opcode is no word
   no_abs : (version : Version) → operation_in version false (codes "abs") ≡ None
@@ -94,17 +94,17 @@ module _ (limits : Limits) where
 
   called_word : (function : Function) (word : List ℕ) → IsCalled function word → IsOperandWord word × (bytes_eq word (codes "undef") ≡ false)
   unfolding type_in operation_in flag_in
-  called_word Log2 word is = rw is (record { no_type = refl; no_operation = λ version. refl; no_flag = λ taken. refl; no_truth = no_truth_flag _ refl refl }, refl)
-  called_word Abs word is = rw is (record { no_type = refl; no_operation = no_abs; no_flag = λ taken. refl; no_truth = no_truth_flag _ refl refl }, refl)
+  called_word Log2 word is = rw is (record { no_type = refl; no_operation = λ version. refl; no_flag = λ taken. refl; no_truth = no_truth_flag (codes "log2") refl refl }, refl)
+  called_word Abs word is = rw is (record { no_type = refl; no_operation = no_abs; no_flag = λ taken. refl; no_truth = no_truth_flag (codes "abs") refl refl }, refl)
   called_word Negate word is = absurd is
   called_word Not word is = absurd is
 
   source_word_begins : (word : List ℕ) → ((word ≡ codes "true") → IsOperandWord word) × ((word ≡ codes "false") → IsOperandWord word) × ((word ≡ codes "undef") → IsOperandWord word)
   unfolding type_in operation_in flag_in
   source_word_begins word = (
-    (λ is. rw is (record { no_type = refl; no_operation = λ version. refl; no_flag = λ taken. refl; no_truth = no_truth_flag _ refl refl })),
-    (λ is. rw is (record { no_type = refl; no_operation = λ version. refl; no_flag = λ taken. refl; no_truth = no_truth_flag _ refl refl })),
-    (λ is. rw is (record { no_type = refl; no_operation = λ version. refl; no_flag = λ taken. refl; no_truth = no_truth_flag _ refl refl })),
+    (λ is. rw is (record { no_type = refl; no_operation = λ version. refl; no_flag = λ taken. refl; no_truth = no_truth_flag (codes "true") refl refl })),
+    (λ is. rw is (record { no_type = refl; no_operation = λ version. refl; no_flag = λ taken. refl; no_truth = no_truth_flag (codes "false") refl refl })),
+    (λ is. rw is (record { no_type = refl; no_operation = λ version. refl; no_flag = λ taken. refl; no_truth = no_truth_flag (codes "undef") refl refl })),
   )
 
   -- ---- terms

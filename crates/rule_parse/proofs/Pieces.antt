@@ -124,7 +124,7 @@ module _ (limits : Limits) where
   type_is_no_flag taken word width is = rw is.1 refl
 
   pub type_is_no_truth_flag : (op : Intrinsic) (word : List ℕ) (width : ℕ) → IsWrittenType word width → is_truth_flag op word ≡ false
-  type_is_no_truth_flag op word width is = rw is.1 (no_truth_flag limits _ refl refl op)
+  type_is_no_truth_flag op word width is = rw is.1 (no_truth_flag limits (105 ∷ is.0) refl refl op)
 
   digits_are_no_letters : (digits : List ℕ) → are_digits digits ≡ true → bytes_eq digits (codes "cmp") ≡ false
   unfolding is_digit

@@ -71,7 +71,7 @@ SpellsFlags taken flags tokens = (written : List Flag) × AddsFlags taken no_fla
 
 -- [flag], which says that the truth value of the intrinsic is true
 abbrev pub SpellsTruth : Intrinsic → Bool → Part
-SpellsTruth op false = Nothing
+SpellsTruth op false tokens = Nothing tokens
 SpellsTruth op true tokens = (word : List ℕ) × (truth_flag op ≡ Some word) × Is (Word word) tokens
 
 -- the opcode of an operation that the version has
