@@ -9,7 +9,7 @@ use Rattle.ops.specs.declared.keywords.flag.Flag.{Flag}
 use Rattle.ops.specs.declared.keywords.flag.Flag.TheVariants.{Nuw, Nsw, Exact, NNeg, Disjoint, SameSign}
 use Rattle.ops.specs.Keywords.{pred_in}
 use Rattle.ops.specs.FlagKeywords.{flag_in, flag_keyword}
-use Rattle.ops.proofs.KeywordLemmas.{same_word, pred_in-of}
+use Rattle.ops.proofs.KeywordLemmas.{same_word, word_is, pred_in-of}
 use Rattle.ops.proofs.FlagKeywordLemmas.{flag_in-is}
 use Rattle.scan.specs.Bytes.{is_digit}
 use Rattle.scan.specs.RuleTokens.{is_among, is_constant}
@@ -129,6 +129,9 @@ constant_noun = kinds.constant refl
 
 -- ---- other words that are no flags
 
+other_word : (a b : List ℕ) → bytes_eq a b ≡ false → a ≡ b → ⊥
+other_word a b differ same = let both : false ≡ true = sym differ ∙ ap (λ (w : List ℕ). bytes_eq w b) same ∙ word_is b in absurd cc
+
 -- a word that is none of all flags
 abbrev NoneOfThem : List ℕ → Type 0
 NoneOfThem word = ((flag : Flag) → word ≡ flag_keyword flag → ⊥) × (word ≡ codes "minpoison" → ⊥) × (word ≡ codes "zeropoison" → ⊥)
@@ -150,7 +153,7 @@ source_other word value found = none_of_them word ((λ flag same. by flag (ap so
     by SameSign is = cc
 
 pub to_other : IsFlagWord (codes "to") → ⊥
-to_other = none_of_them (codes "to") (by, (λ is. cc), (λ is. cc))
+to_other = none_of_them (codes "to") (by, other_word (codes "to") (codes "minpoison") refl, other_word (codes "to") (codes "zeropoison") refl)
   where
     by : (flag : Flag) → codes "to" ≡ flag_keyword flag → ⊥
     by Nuw is = cc
@@ -161,7 +164,7 @@ to_other = none_of_them (codes "to") (by, (λ is. cc), (λ is. cc))
     by SameSign is = cc
 
 pub one_use_other : IsFlagWord (codes "hasOneUse") → ⊥
-one_use_other = none_of_them (codes "hasOneUse") (by, (λ is. cc), (λ is. cc))
+one_use_other = none_of_them (codes "hasOneUse") (by, other_word (codes "hasOneUse") (codes "minpoison") refl, other_word (codes "hasOneUse") (codes "zeropoison") refl)
   where
     by : (flag : Flag) → codes "hasOneUse" ≡ flag_keyword flag → ⊥
     by Nuw is = cc
@@ -172,7 +175,7 @@ one_use_other = none_of_them (codes "hasOneUse") (by, (λ is. cc), (λ is. cc))
     by SameSign is = cc
 
 pub predicate_other : (predicate : Predicate) → IsFlagWord (predicate_word predicate) → ⊥
-predicate_other IsPowerOfTwo = none_of_them (codes "isPowerOf2") (by, (λ is. cc), (λ is. cc))
+predicate_other IsPowerOfTwo = none_of_them (codes "isPowerOf2") (by, other_word (codes "isPowerOf2") (codes "minpoison") refl, other_word (codes "isPowerOf2") (codes "zeropoison") refl)
   where
     by : (flag : Flag) → codes "isPowerOf2" ≡ flag_keyword flag → ⊥
     by Nuw is = cc
@@ -181,7 +184,7 @@ predicate_other IsPowerOfTwo = none_of_them (codes "isPowerOf2") (by, (λ is. cc
     by NNeg is = cc
     by Disjoint is = cc
     by SameSign is = cc
-predicate_other IsSignBit = none_of_them (codes "isSignBit") (by, (λ is. cc), (λ is. cc))
+predicate_other IsSignBit = none_of_them (codes "isSignBit") (by, other_word (codes "isSignBit") (codes "minpoison") refl, other_word (codes "isSignBit") (codes "zeropoison") refl)
   where
     by : (flag : Flag) → codes "isSignBit" ≡ flag_keyword flag → ⊥
     by Nuw is = cc

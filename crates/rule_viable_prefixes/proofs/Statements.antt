@@ -1,6 +1,6 @@
 -- What the readers of operands, operations and statements do on a line.
 use Rattle.std.proofs.Common.{◌≡◌, ℕ, ◌<◌, Bool, true, false, List, [], ◌∷◌, ◌++◌, length, map, Option, Some, None, Ok, refl, sym, ap, subst, ◌∙◌, append_assoc, ◌≤◌, Result, Err, inl, inr, arith}
-use Rattle.std.specs.Prelude.{IsTrue, codes, drop, if◌then◌else◌}
+use Rattle.std.specs.Prelude.{IsTrue, codes}
 use Rattle.std.specs.Str.{bytes_eq}
 use Rattle.ops.specs.declared.opcode.Opcode.{Opcode}
 use Rattle.ops.specs.declared.opcode.Unary.{Unary as Intrinsic}
