@@ -49,7 +49,7 @@ use Rattle.rule_parse.specs.declared.word.Operation.{Operation}
 use Rattle.rule_parse.specs.declared.word.Operation.TheVariants as operations
 use Rattle.rule_parse.specs.Grammar.{SpellsArgument, SpellsOperand, SpellsPair, SpellsTruth, SpellsTo, SpellsOp}
 use Rattle.rule_parse.specs.RuleReaders.{source_word, term_argument_at, argument_at, typed_at, operand_at, to_at, next_flag, flags_at, pair_at, binary_at, pred_at, compare_at, is_truth_next, truth_at, unary_at, select_at, convert_at, freeze_at, copy_at, operation_at, op_at, statement_at}
-use Rattle.rule_parse.specs.Keywords.{argument_of, is_known, is_apart, token_with, opcode_token, operation_word, operation_in, truth_flag, is_truth_flag, source_word_in}
+use Rattle.rule_parse.specs.Keywords.{argument_of, is_known, is_apart, token_with, opcode_token, operation_word, operation_in, is_truth_flag, source_word_in}
 use Rattle.rule_parse.proofs.Loops.{flags-more, flags-again}
 use Rattle.rule_parse.proofs.OpSpellings.{flags_done}
 use Rattle.rule_parse.proofs.Pieces.{IsOpcode, operation_in-is, truth_flag-is, truth_flag-of, source_word_in-is, type_is_no_flag, type_is_no_truth_flag}
