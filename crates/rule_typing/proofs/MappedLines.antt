@@ -87,7 +87,6 @@ line_classes rule c d (term on) = term_ends rule rule.terms c d (λ t among. Con
 line_classes rule c d (witness_term on) = term_ends rule rule.witness_terms c d (λ t among. Contains-append_right rule.terms rule.witness_terms t among) (witness_node rule) on
 line_classes rule c d (operand {o} {n} {t} among is there) = (operand_class rule o among, term_class_stands rule t (constant_term rule n t there))
 line_classes rule c d (compared_terms {pred} {a} {b} {x} {y} among there there') = (term_class_stands rule x (constant_term rule a x there), term_class_stands rule y (constant_term rule b y there'))
-line_classes rule c d (one_operand {s} {op} {truth} {a} stands is) = (class_stands rule s stands, first_of rule s (Unary op truth a) a stands is (at [] a))
 line_classes rule c d (witness {k} {c = e} {n} {t} among chosen there) = (choice_class rule halves.Source (record { place = k; class = e }) among, term_class_stands rule t (witness_node rule n t there))
 
 -- ---- pairs under a map
