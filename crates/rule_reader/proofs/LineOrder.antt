@@ -13,7 +13,9 @@ use Rattle.scan.specs.RuleTokens.{line_at}
 use Rattle.rule_parse.specs.declared.raw.RawStatement.{RawStatement}
 use Rattle.rule_parse.specs.Grammar.{SpellsStatements}
 use Rattle.rule_tokens.specs.Parts.{Part, Maybe}
-use Rattle.rule_tokens.specs.Tokens.{Token, Line, Head, Name, Register, Word, Number, Arrow, Mark, Other, Bad, Excess, token_of, Place, TokensFrom, ends, token, name as at_name, bad_token, bad_name}
+use Rattle.rule_tokens.specs.declared.context.Context.{Context}
+use Rattle.rule_tokens.specs.Contexts.{is_opcode}
+use Rattle.rule_tokens.specs.Tokens.{Token, Line, Head, Name, Register, Word, Opcode, Number, Arrow, Mark, Other, Bad, Excess, word_of, token_of, token_at, is_called, bytes_at, Place, TokensFrom, ends, token, name as at_name, bad_token, bad_name}
 use Rattle.rule_reader.specs.WellFormed.{AreInLineOrder}
 use Rattle.rule_tokens.specs.declared.version.Version.{Version}
 use Rattle.rule_tokens.specs.Limits.{rule_limits}
@@ -26,6 +28,7 @@ Ascend low (Head text ∷ tokens) = Ascend low tokens
 Ascend low (Name text ∷ tokens) = Ascend low tokens
 Ascend low (Register text ∷ tokens) = Ascend low tokens
 Ascend low (Word text ∷ tokens) = Ascend low tokens
+Ascend low (Opcode text ∷ tokens) = Ascend low tokens
 Ascend low (Number text ∷ tokens) = Ascend low tokens
 Ascend low (Arrow ∷ tokens) = Ascend low tokens
 Ascend low (Mark text ∷ tokens) = Ascend low tokens
@@ -41,6 +44,7 @@ lower low high (Head text ∷ tokens) le up = lower low high tokens le up
 lower low high (Name text ∷ tokens) le up = lower low high tokens le up
 lower low high (Register text ∷ tokens) le up = lower low high tokens le up
 lower low high (Word text ∷ tokens) le up = lower low high tokens le up
+lower low high (Opcode text ∷ tokens) le up = lower low high tokens le up
 lower low high (Number text ∷ tokens) le up = lower low high tokens le up
 lower low high (Arrow ∷ tokens) le up = lower low high tokens le up
 lower low high (Mark text ∷ tokens) le up = lower low high tokens le up
@@ -57,6 +61,7 @@ skip low (Head text ∷ xs) ys up = skip low xs ys up
 skip low (Name text ∷ xs) ys up = skip low xs ys up
 skip low (Register text ∷ xs) ys up = skip low xs ys up
 skip low (Word text ∷ xs) ys up = skip low xs ys up
+skip low (Opcode text ∷ xs) ys up = skip low xs ys up
 skip low (Number text ∷ xs) ys up = skip low xs ys up
 skip low (Arrow ∷ xs) ys up = skip low xs ys up
 skip low (Mark text ∷ xs) ys up = skip low xs ys up
@@ -73,16 +78,21 @@ line_more text m n le =
     omega (arith, parts, same)
 
 -- a token of a kind begins no line
-no_line : (kind : RuleKind) (bytes : List ℕ) (low : ℕ) (tokens : List Token) → Ascend low tokens → Ascend low (token_of kind bytes ∷ tokens)
+no_word_line : (opcode : Bool) (bytes : List ℕ) (low : ℕ) (tokens : List Token) → Ascend low tokens → Ascend low (word_of opcode bytes ∷ tokens)
 unfolding Ascend
-no_line kinds.End bytes low tokens up = up
-no_line kinds.Other bytes low tokens up = up
-no_line kinds.Head bytes low tokens up = up
-no_line kinds.Register bytes low tokens up = up
-no_line kinds.Word bytes low tokens up = up
-no_line kinds.Number bytes low tokens up = up
-no_line kinds.Arrow bytes low tokens up = up
-no_line kinds.Mark bytes low tokens up = up
+no_word_line true bytes low tokens up = up
+no_word_line false bytes low tokens up = up
+
+no_line : (c : Context) (called : Bool) (kind : RuleKind) (bytes : List ℕ) (low : ℕ) (tokens : List Token) → Ascend low tokens → Ascend low (token_of c called kind bytes ∷ tokens)
+unfolding Ascend
+no_line c called kinds.End bytes low tokens up = up
+no_line c called kinds.Other bytes low tokens up = up
+no_line c called kinds.Head bytes low tokens up = up
+no_line c called kinds.Register bytes low tokens up = up
+no_line c called kinds.Word bytes low tokens up = no_word_line (is_opcode c called bytes) bytes low tokens up
+no_line c called kinds.Number bytes low tokens up = up
+no_line c called kinds.Arrow bytes low tokens up = up
+no_line c called kinds.Mark bytes low tokens up = up
 
 on_line : (b : Bool) (low at : ℕ) (t : Token) (tokens : List Token) → low ≤ at → Ascend at (t ∷ tokens) → Ascend low (cond b (t ∷ tokens) (Line at ∷ t ∷ tokens))
 unfolding Ascend
@@ -102,12 +112,12 @@ kind_line kinds.Mark text start not = refl
 pub up_from : (text : List ℕ) (place : Place) (at before last : ℕ) (tokens : List Token) → TokensFrom text place at before tokens last → Ascend (line_of text at) tokens
 unfolding Ascend
 up_from text _ at before last _ (ends t next end is) = tt
-up_from text _ at before last _ (token {tokens} t next not rest) =
+up_from text _ at before last _ (token {c} {tokens = tokens} t next not rest) =
     let on : t.line ≡ line_of text t.span.start = next.line ∙ kind_line t.kind text t.span.start not in
     let le : line_of text at ≤ line_of text t.span.start = line_more text at t.span.start (next.order.0) in
     let le' : line_of text t.span.start ≤ line_of text t.span.end = line_more text t.span.start t.span.end (next.order.1) in
     let later = up_from text _ t.span.end t.line last tokens rest in
-    on_line (eqb t.line before) (line_of text at) t.line (token_of t.kind _) tokens (omega arith) (no_line t.kind _ t.line tokens (lower t.line (line_of text t.span.end) tokens (omega arith) later))
+    on_line (eqb t.line before) (line_of text at) t.line (token_at text c t) tokens (omega arith) (no_line c (is_called text t.span.end) t.kind (bytes_at text t.span) t.line tokens (lower t.line (line_of text t.span.end) tokens (omega arith) later))
 up_from text _ at before last _ (at_name {found} {tokens} named rest) =
     subst (λ t. Ascend (line_of text at) (t ∷ tokens)) (sym named.2)
     (lower (line_of text at) (line_of text (at + length (rest_of_line text at))) tokens (line_more text at (at + length (rest_of_line text at)) (omega arith)) (up_from text _ (at + length (rest_of_line text at)) before last tokens rest))

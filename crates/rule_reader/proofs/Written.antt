@@ -15,6 +15,7 @@ use Rattle.rule_parse.specs.Grammar.{SpellsArgument, SpellsOperand, SpellsOp, Sp
 use Rattle.rule_parse.specs.Text.{IsWritten}
 use Rattle.rule_parse.specs.Weight.{raw_weight}
 use Rattle.rule_parse.proofs.Weight.{small_rules}
+use Rattle.rule_tokens.specs.Contexts.{at_start}
 use Rattle.rule_tokens.specs.Tokens.{Token, Line, Head, Arrow, AtToken}
 use Rattle.rule_reader.specs.FaultKinds.{Each}
 use Rattle.rule_parse.specs.Contents.{arguments_of, terms_of_formula, formula_of, target_terms, terms_of, expressions_of}
@@ -116,7 +117,7 @@ behind_version version front back low (inr (one, none)) up = (low, omega arith, 
 -- each rule of a text as written is well formed
 pub written_well_formed : (text : List ℕ) (raws : List RawRule) → IsWritten text raws → (k : ℕ) (raw : RawRule) → slice_get raws k ≡ Some raw → IsWellFormed raw
 written_well_formed text raws written k raw at =
-    let up = up_from text (AtToken false) 0 0 written.last written.tokens written.are_tokens in
+    let up = up_from text (AtToken at_start) 0 0 written.last written.tokens written.are_tokens in
     let (version, (front, back, is_version, spelled, whole)) = written.spelled in
     let (low, le, later) = behind_version version front back (line_of text 0) is_version (subst (Ascend (line_of text 0)) whole up) in
     rules_well_formed version low raws back spelled later k raw at (small_rules text raws written k raw at)
