@@ -23,7 +23,7 @@ use Rattle.rule_parse.specs.declared.half.Half.TheVariants.{Source, Target}
 use Rattle.rule_parse.specs.declared.raw.RawArgument.{RawArgument}
 use Rattle.rule_parse.specs.declared.raw.RawArgument.TheVariants as arguments
 use Rattle.rule_parse.specs.Grammar.{SpellsTermOperand, SpellsArgument}
-use Rattle.rule_parse.specs.Keywords.{operation_in, truth_flag, is_truth_flag}
+use Rattle.rule_parse.specs.Keywords.{operation_in, is_truth_flag}
 use Rattle.ops.specs.declared.opcode.Unary.{Unary as Intrinsic}
 use Rattle.ops.specs.declared.opcode.Unary.TheVariants as intrinsics
 use Rattle.rule_tokens.specs.declared.version.Version.{Version}
