@@ -6,7 +6,7 @@ use Rattle.circuits.specs.Gates.{select_gates}
 use Rattle.std.proofs.Math.Nat.{mul-le-mul_left, mul-le-mul}
 use Rattle.std.proofs.lemmas.List.Elements.{All-tail}
 use Rattle.std.proofs.lemmas.List.Sums.{sum_by-cons}
-use Rattle.ops.specs.declared.opcode.Opcode.TheVariants.{Add, Sub, Mul, UDiv, SDiv, URem, SRem, Shl, LShr, AShr, And, Or, Xor}
+use Rattle.ops.specs.declared.opcode.Opcode.TheVariants.{Add, Sub, Mul, UDiv, SDiv, URem, SRem, Shl, LShr, AShr, And, Or, Xor, UMin, UMax, SMin, SMax}
 use Rattle.rule_core.specs.declared.rule.Term.{Term}
 use Rattle.rule_core.specs.declared.rule.Node.{Node}
 use Rattle.rule_core.specs.declared.rule.Node.TheVariants as nodes
@@ -38,6 +38,10 @@ node-few N (nodes.Binary AShr a b) some low = omega (arith, shift-few N low)
 node-few N (nodes.Binary And a b) some low = omega arith
 node-few N (nodes.Binary Or a b) some low = omega arith
 node-few N (nodes.Binary Xor a b) some low = omega arith
+node-few N (nodes.Binary UMin a b) some low = omega arith
+node-few N (nodes.Binary UMax a b) some low = omega arith
+node-few N (nodes.Binary SMin a b) some low = omega arith
+node-few N (nodes.Binary SMax a b) some low = omega arith
 
 pub node-low : (N : ℕ) (node : Node) → N ≤ 64 → node_bound node N ≤ 266240
 node-low N node low =
