@@ -35,7 +35,7 @@ use Rattle.rule_tokens.specs.TypeTokens.{SpellsType}
 use Rattle.rule_parse.specs.Grammar.{SpellsArgument, SpellsUntyped, SpellsOperand, SpellsPair, SpellsFlags, SpellsTruth, SpellsOpcode, SpellsTo, SpellsOp}
 use Rattle.rule_tokens.specs.Numbers.{literal_value}
 use Rattle.rule_tokens.specs.PartReaders.{fault, name_within, type_at, maybe_type, line_end}
-use Rattle.rule_parse.specs.RuleReaders.{register_at, known_or_misplaced, source_word, term_argument_at, argument_at, typed_at, operand_at, to_at, next_flag, flag_or_end, flags_at, pair_at, binary_at, pred_at, compare_at, is_truth_next, truth_at, unary_at, select_at, convert_at, freeze_at, copy_at, operation_at, other_at, op_token, op_at}
+use Rattle.rule_parse.specs.RuleReaders.{register_at, known_or_misplaced, source_word, term_argument_at, argument_at, typed_at, operand_at, to_at, next_flag, flag_or_end, flags_at, pair_at, binary_at, pred_at, compare_at, is_truth_next, truth_at, unary_at, select_at, convert_at, freeze_at, copy_at, operation_at, other_at, operation_or_other, op_at}
 use Rattle.rule_tokens.specs.Parts.{Is, Comma, ◌⨾◌, Maybe}
 use Rattle.rule_tokens.specs.Tokens.{Token, Register, Word, Opcode as OpcodeToken, Number, Mark}
 use Rattle.rule_parse.specs.Keywords.{operation_in, source_word_in, argument_of}
@@ -328,7 +328,7 @@ module _ (limits : Limits) where
     other_at-is Target line tokens x e = copy_at-is line tokens x e
 
     op_token-is : (half : Half) (line : ℕ) (token : Token) (found : Option Operation) (rest : List Token) (x : RawOp × List Token) → ((operation : Operation) → found ≡ Some operation → IsOpcode limits version operation token)
-        → op_token limits half line token found rest ≡ Ok x → IsOpBehind half token rest x
+        → operation_or_other limits half line found (token ∷ rest) ≡ Ok x → IsOpBehind half token rest x
     op_token-is half line token (Some operation) rest x opcode e = operation_at-is half line operation token rest x (opcode operation refl) e
     op_token-is half line token None rest x opcode e = other_at-is half line (token ∷ rest) x e
 

@@ -204,14 +204,19 @@ abbrev pub other_at : Limits → Half → ℕ → List Token → Read RawOp
 other_at limits Source line tokens = Err (left_out line tokens)
 other_at limits Target line tokens = copy_at limits line tokens
 
-abbrev pub op_token : Limits → Half → ℕ → Token → Option Operation → List Token → Read RawOp
-op_token limits half line token (Some operation) rest = operation_at limits half line operation rest
-op_token limits half line token None rest = other_at limits half line (token ∷ rest)
+-- the operation of the version whose opcode is next
+abbrev pub next_operation : Version → List Token → Option Operation
+next_operation version (Word word ∷ rest) = operation_in version false word
+next_operation version (OpcodeToken word ∷ rest) = operation_in version true word
+next_operation version tokens = None
+
+-- behind its opcode, where it begins with one
+abbrev pub operation_or_other : Limits → Half → ℕ → Option Operation → List Token → Read RawOp
+operation_or_other limits half line (Some operation) tokens = operation_at limits half line operation (drop 1 tokens)
+operation_or_other limits half line None tokens = other_at limits half line tokens
 
 unfoldable pub op_at : Limits → Version → Half → ℕ → List Token → Read RawOp
-op_at limits version half line (Word word ∷ rest) = op_token limits half line (Word word) (operation_in version false word) rest
-op_at limits version half line (OpcodeToken word ∷ rest) = op_token limits half line (OpcodeToken word) (operation_in version true word) rest
-op_at limits version half line tokens = other_at limits half line tokens
+op_at limits version half line tokens = operation_or_other limits half line (next_operation version tokens) tokens
 
 -- the statement of a register, behind it
 unfoldable pub statement_at : Limits → Version → Half → ℕ → List ℕ → List Token → Read RawStatement

@@ -258,6 +258,17 @@ fn other(
     }
 }
 
+/// The operation of the version whose opcode is next.
+fn next_operation(version: Version, tokens: &[Token<'_>]) -> Option<Operation>
+    ensures { result ≡ parsing.next_operation version (seen tokens.now) }
+{
+    match tokens {
+        [Token::Word(word), ..] => operation_of(version, false, word),
+        [Token::Opcode(word), ..] => operation_of(version, true, word),
+        _ => None,
+    }
+}
+
 /// What a statement computes, behind its `=`.
 #[tactic(auto, unfolding(crate::specs::RuleReaders::op_at))]
 pub(crate) fn op(
@@ -269,12 +280,10 @@ pub(crate) fn op(
 ) -> Result<RawOp, RuleError>
     ensures { Gives (λ x. (x, seen tokens.new.now)) result (parsing.op_at rule_limits version half line (seen tokens.old.now)) }
 {
-    let (apart, word, rest) = match *tokens {
-        [Token::Word(word), rest @ ..] => (false, *word, rest),
-        [Token::Opcode(word), rest @ ..] => (true, *word, rest),
-        _ => return other(alloc, half, line, tokens),
+    let [_, rest @ ..] = *tokens else {
+        return other(alloc, half, line, tokens);
     };
-    match operation_of(version, apart, word) {
+    match next_operation(version, *tokens) {
         Some(operation) => {
             *tokens = rest;
             behind_opcode(alloc, half, line, operation, tokens)

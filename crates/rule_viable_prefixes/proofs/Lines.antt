@@ -1,6 +1,6 @@
 -- What the readers of the parts of a rule do.
 use Rattle.std.proofs.Common.{◌≡◌, ℕ, zero, suc, ◌≤◌, Bool, true, false, List, [], ◌∷◌, ◌++◌, length, Option, Some, None, Result, Ok, Err, refl, sym, ap, subst, ◌∙◌, inl, inr, arith}
-use Rattle.std.specs.Prelude.{codes}
+use Rattle.std.specs.Prelude.{drop, codes}
 use Rattle.std.specs.Str.{bytes_eq}
 use Rattle.std.proofs.lemmas.List.{append-nil}
 use Rattle.ops.proofs.KeywordLemmas.{same_word}
@@ -10,7 +10,7 @@ use Rattle.rule_tokens.specs.RuleFaults.{RuleFault}
 use Rattle.rule_tokens.specs.Steps.{◌>>=◌}
 use Rattle.rule_tokens.specs.Parts.{Part, ◌⨾◌, Maybe}
 use Rattle.rule_tokens.specs.PartReaders.{fault, unexpected, name_within, type_at, line_end}
-use Rattle.rule_tokens.specs.Tokens.{Token, Line, Head, Name, Register, Word, Opcode as OpcodeToken, Arrow}
+use Rattle.rule_tokens.specs.Tokens.{Token, Line, Head, Name, Register, Word, Arrow}
 use Rattle.rule_tokens.proofs.Ends.{EndsLine, name_within-of}
 use Rattle.rule_tokens.proofs.Steps.{bound, read_as}
 use Rattle.rule_terms.specs.declared.place.TermPlace.TheVariants.{Witness}
@@ -26,8 +26,7 @@ use Rattle.rule_parse.specs.declared.raw.RawWitness.{RawWitness}
 use Rattle.rule_parse.specs.declared.word.Operation.{Operation}
 use Rattle.rule_parse.specs.declared.word.Operation.TheVariants as operations
 use Rattle.rule_parse.specs.Grammar.{SpellsStatement, SpellsStatements, SpellsHalf, SpellsPrecondition, SpellsExpression, SpellsMoreExpressions, SpellsExpressions, SpellsWitness}
-use Rattle.rule_parse.specs.RuleReaders.{typed_at, operand_at, to_at, flags_at, pair_at, binary_at, pred_at, compare_at, truth_at, unary_at, select_at, convert_at, freeze_at, copy_at, operation_at, op_token, op_at, statement_at, statements_at, name_text, name_at, behind_precondition, precondition_at, expression_at, more_expressions, expressions_at, behind_witness, witness_at, source_at, arrow_at, target_at, unexpected_line}
-use Rattle.rule_parse.specs.Keywords.{operation_in}
+use Rattle.rule_parse.specs.RuleReaders.{typed_at, operand_at, to_at, flags_at, pair_at, binary_at, pred_at, compare_at, truth_at, unary_at, select_at, convert_at, freeze_at, copy_at, operation_at, next_operation, operation_or_other, op_at, statement_at, statements_at, name_text, name_at, behind_precondition, precondition_at, expression_at, more_expressions, expressions_at, behind_witness, witness_at, source_at, arrow_at, target_at, unexpected_line}
 use Rattle.rule_parse.proofs.Expressions.{expression_shortens}
 use Rattle.rule_parse.proofs.Readings.{name_at-is}
 use Rattle.rule_viable_prefixes.proofs.Formulas.{IsWholeFormula, formula_good}
@@ -114,15 +113,13 @@ module _ (spare_bytes deepest spare_statements : ℕ) (version : Version) where
   other_ends Source line tokens = λ x rest e. absurd cc
   other_ends Target line tokens = copy_ends line tokens
 
-  token_ends : (half : Half) (line : ℕ) (token : Token) (found : Option Operation) (rest : List Token) → Ends (op_token limits half line token found rest)
-  token_ends half line token (Some operation) rest = operation_ends half line operation rest
-  token_ends half line token None rest = other_ends half line (token ∷ rest)
+  operation_or_other_ends : (half : Half) (line : ℕ) (found : Option Operation) (tokens : List Token) → Ends (operation_or_other limits half line found tokens)
+  operation_or_other_ends half line (Some operation) tokens = operation_ends half line operation (drop 1 tokens)
+  operation_or_other_ends half line None tokens = other_ends half line tokens
 
   op_ends : (half : Half) (line : ℕ) (tokens : List Token) → Ends (op_at limits version half line tokens)
   unfolding op_at
-  op_ends half line (Word word ∷ rest) = token_ends half line (Word word) (operation_in version false word) rest
-  op_ends half line (OpcodeToken word ∷ rest) = token_ends half line (OpcodeToken word) (operation_in version true word) rest
-  op_ends half line tokens = other_ends half line tokens
+  op_ends half line tokens = operation_or_other_ends half line (next_operation version tokens) tokens
 
   statement_ends : (half : Half) (line : ℕ) (name : List ℕ) (tokens : List Token) → Ends (statement_at limits version half line name tokens)
   unfolding statement_at

@@ -1,6 +1,6 @@
 -- What rules are read within wider limits.
-use Rattle.std.proofs.Common.{ℕ, zero, suc, ◌≤◌, true, false, List, [], ◌∷◌, length, Option, Some, None, refl, arith}
-use Rattle.std.specs.Prelude.{codes}
+use Rattle.std.proofs.Common.{ℕ, zero, suc, ◌≤◌, List, [], ◌∷◌, length, Option, Some, None, refl, arith}
+use Rattle.std.specs.Prelude.{drop, codes}
 use Rattle.std.specs.Str.{bytes_eq}
 use Rattle.ops.specs.declared.opcode.Opcode.{Opcode}
 use Rattle.ops.specs.declared.opcode.Unary.{Unary as Intrinsic}
@@ -10,14 +10,13 @@ use Rattle.scan.specs.RuleTokens.{is_constant}
 use Rattle.rule_tokens.specs.declared.version.Version.{Version}
 use Rattle.rule_tokens.specs.Limits.{Limits, AreWithin}
 use Rattle.rule_tokens.specs.PartReaders.{maybe_type}
-use Rattle.rule_tokens.specs.Tokens.{Token, Line, Head, Name, Register, Word, Opcode as OpcodeToken, Number}
+use Rattle.rule_tokens.specs.Tokens.{Token, Line, Head, Name, Register, Word, Number}
 use Rattle.rule_terms.specs.declared.place.TermPlace.TheVariants.{Constant, Witness}
 use Rattle.rule_parse.specs.declared.half.Half.{Half}
 use Rattle.rule_parse.specs.declared.half.Half.TheVariants.{Source, Target}
 use Rattle.rule_parse.specs.declared.word.Operation.{Operation}
 use Rattle.rule_parse.specs.declared.word.Operation.TheVariants as operations
-use Rattle.rule_parse.specs.Keywords.{operation_in}
-use Rattle.rule_parse.specs.RuleReaders.{register_at, source_word, term_argument_at, argument_at, typed_at, operand_at, flags_at, pair_at, binary_at, pred_at, compare_at, truth_at, unary_at, select_at, convert_at, freeze_at, copy_at, operation_at, other_at, op_token, op_at, statement_at, statements_at, name_text, name_at, precondition_at, expression_at, expressions_at, witness_at, source_at, target_at, rule_at, rules_at, version_at, all_rules}
+use Rattle.rule_parse.specs.RuleReaders.{register_at, source_word, term_argument_at, argument_at, typed_at, operand_at, flags_at, pair_at, binary_at, pred_at, compare_at, truth_at, unary_at, select_at, convert_at, freeze_at, copy_at, operation_at, other_at, next_operation, operation_or_other, op_at, statement_at, statements_at, name_text, name_at, precondition_at, expression_at, expressions_at, witness_at, source_at, target_at, rule_at, rules_at, version_at, all_rules}
 use Rattle.rule_viable_prefixes.proofs.Wider.{Below, same_answer, too_many, below_bind, below_if, BelowReader, chain_of_below, name_below, term_below}
 use Rattle.rule_viable_prefixes.proofs.WiderFormulas.{formula_below}
 
@@ -101,15 +100,13 @@ module _ (limits wider : Limits) (within : AreWithin wider limits) where
   other_below Source line tokens = same_answer refl
   other_below Target line tokens = copy_below line tokens
 
-  op_token_below : (half : Half) (line : ℕ) (token : Token) (found : Option Operation) (rest : List Token) → Below (op_token limits half line token found rest) (op_token wider half line token found rest)
-  op_token_below half line token (Some operation) rest = operation_below half line operation rest
-  op_token_below half line token None rest = other_below half line (token ∷ rest)
+  operation_or_other_below : (half : Half) (line : ℕ) (found : Option Operation) (tokens : List Token) → Below (operation_or_other limits half line found tokens) (operation_or_other wider half line found tokens)
+  operation_or_other_below half line (Some operation) tokens = operation_below half line operation (drop 1 tokens)
+  operation_or_other_below half line None tokens = other_below half line tokens
 
   op_below : (version : Version) (half : Half) (line : ℕ) (tokens : List Token) → Below (op_at limits version half line tokens) (op_at wider version half line tokens)
   unfolding op_at
-  op_below version half line (Word word ∷ rest) = op_token_below half line (Word word) (operation_in version false word) rest
-  op_below version half line (OpcodeToken word ∷ rest) = op_token_below half line (OpcodeToken word) (operation_in version true word) rest
-  op_below version half line tokens = other_below half line tokens
+  op_below version half line tokens = operation_or_other_below half line (next_operation version tokens) tokens
 
   -- ---- statements
 
