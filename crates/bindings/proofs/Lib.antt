@@ -1,5 +1,6 @@
 pub mod Lists
 pub mod Reading
+pub mod Promising
 pub mod Naming
 pub mod Temporaries
 pub mod Bound

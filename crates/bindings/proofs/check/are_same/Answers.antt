@@ -1,5 +1,7 @@
+use Rattle.std.proofs.Common.{refl}
 use Rattle.ops.proofs.FlagSets.{flags_equal}
+use Rattle.bindings.proofs.Promising.{promises_equal}
 use Rattle.bindings.proofs.check.are_same.Goals as goal
 
 pub returns : goal.returns
-returns c = flags_equal c.args.found c.args.asked c.eq.result c.eq.ensures
+returns c = promises_equal c.args.found c.args.asked _ c.eq.result (flags_equal c.args.found.flags c.args.asked.flags _ refl) c.eq.ensures

@@ -1,0 +1,26 @@
+-- Promises that are the same.
+use Rattle.std.proofs.Common.{◌≡◌, ◌↔◌, Bool, true, false, ◌&&◌, IsTrue, refl, sym, ap, ◌∙◌}
+use Rattle.std.specs.Bool.{beq}
+use Rattle.ops.proofs.FlagSets.{both}
+use Rattle.bindings.specs.declared.promises.Promises.{Promises}
+
+same_promises : (p q : Promises) → p.flags ≡ q.flags → p.truth ≡ q.truth → p ≡ q
+same_promises p q flags truth =
+    let same : ◌≡◌ {A = Promises} (record { flags = p.flags; truth = p.truth }) (record { flags = q.flags; truth = q.truth }) = cc in same
+
+beq-is : (a b : Bool) → beq a b ≡ true → a ≡ b
+beq-is true true e = refl
+beq-is true false e = absurd cc
+beq-is false true e = absurd cc
+beq-is false false e = refl
+
+beq-itself : (a : Bool) → beq a a ≡ true
+beq-itself true = refl
+beq-itself false = refl
+
+-- the test of the flags, then of the truth value
+pub promises_equal : (p q : Promises) (flags equal : Bool) → (IsTrue flags ↔ p.flags ≡ q.flags) → equal ≡ (flags && beq p.truth q.truth) → IsTrue equal ↔ p ≡ q
+promises_equal p q flags equal of_flags is = (
+  (λ holds. let parts = both _ _ (sym is ∙ holds) in same_promises p q (of_flags.0 parts.0) (beq-is _ _ parts.1)),
+  (λ same. is ∙ rw (of_flags.1 (ap (λ (x : Promises). x.flags) same), same) (beq-itself q.truth)),
+)
