@@ -1,6 +1,6 @@
 //! Rules, found by what their roots are.
 
-ghost use Rattle.std.specs.Prelude.{◌≡◌, ◌<◌, ◌^◌, ℕ, ◌++◌, ◌∷◌, [], List as Seq, length, IfSome, IfNone, IfOk, OnOk};
+ghost use Rattle.std.specs.Prelude.{◌≡◌, ◌<◌, ◌^◌, IsTrue, ℕ, ◌++◌, ◌∷◌, [], List as Seq, length, IfSome, IfNone, IfOk, OnOk};
 ghost use Rattle.rule_matches.specs.Roots.{AreByRoot, AreCandidates, IsGroupOf, kind_of_inst, kind_of_root, kind_of_statement};
 
 use ir_core::Op;
@@ -72,6 +72,13 @@ fn kind_of_inst(op: &Op) -> Option<RootKind>
     }
 }
 
+/// Whether two kinds are the same.
+fn are_same(a: RootKind, b: RootKind) -> bool
+    ensures { (IsTrue result → a ≡ b) × (a ≡ b → IsTrue result) }
+{
+    a == b
+}
+
 impl RulesByRoot {
     /// The groups of these rules. The only error is want of memory.
     pub fn of(alloc: Global, rules: &[Rule]) -> Result<RulesByRoot, AllocError>
@@ -110,7 +117,9 @@ impl RulesByRoot {
         ensures some { IfSome result (IsGroupOf self.now kind) }
         ensures none { IfNone result ((g : ℕ) → ¬ IsGroupOf self.now kind g) }
     {
-        self.groups.iter().position(|group| group.kind == kind)
+        self.groups
+            .iter()
+            .position(|group| are_same(group.kind, kind))
     }
 
     /// The places of the rules that may match at an instruction, in order.
