@@ -1,4 +1,4 @@
-//! Rules of version 2, in which integer intrinsics stand: verified, applied and refused.
+//! Integer intrinsics: calls that are run, written and refused, and rules of version 2, verified, applied and refused.
 
 use super::*;
 
@@ -8,7 +8,42 @@ const TO_UMIN: &str =
 const LZ_SIGN: &str =
     "Version: 2\nName: lz-sign\n%z = ctlz %x\n%r = icmp eq %z, 0\n=>\n%r = icmp slt %x, 0\n";
 
-const ROWS: [Row; 9] = [
+const ZEROS: &str =
+    "define i8 @n(i8 %a) {\n  %1 = call i8 @llvm.ctlz.i8(i8 %a, i1 true)\n  ret i8 %1\n}\n";
+
+const ROWS: [Row; 13] = [
+    Row {
+        words: "alive run m n 5",
+        rules: "",
+        source: ZEROS,
+        status: 0,
+        out: "return 5\n",
+        err: "",
+    },
+    Row {
+        words: "alive run m n 0",
+        rules: "",
+        source: ZEROS,
+        status: 0,
+        out: "return poison\n",
+        err: "",
+    },
+    Row {
+        words: OPTIMISE,
+        rules: "",
+        source: "define i5 @f(i5 %a, i5 %b) {\n  %1 = tail call noundef i5 @llvm.umax.i5(i5 %a, i5 %b) #2\n  ret i5 %1\n}\n",
+        status: 0,
+        out: "define i5 @f(i5 %a, i5 %b) {\n  %1 = call i5 @llvm.umax.i5(i5 %a, i5 %b)\n  ret i5 %1\n}\n",
+        err: "@f: 0 rewrites\n",
+    },
+    Row {
+        words: OPTIMISE,
+        rules: "",
+        source: "define i8 @f(i8 %a) {\n  %1 = call i8 @g(i8 %a)\n  ret i8 %1\n}\n",
+        status: 4,
+        out: "",
+        err: "module: line 2: LeftOut call\n",
+    },
     Row {
         words: "alive verify r --widths 1-5",
         rules: TO_UMIN,
