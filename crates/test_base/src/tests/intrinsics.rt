@@ -108,7 +108,7 @@ fn intrinsics_give_the_worked_values(rt: HostRuntime) {
 
 // The number of so many bits in two's complement.
 fn signed(bits: u32, number: i64) -> i64 {
-    let half = 1i64.wrapping_shl(bits - 1);
+    let half = 1i64.wrapping_shl(bits.wrapping_sub(1));
     if number < half {
         number
     } else {
@@ -157,7 +157,7 @@ fn short_pairs_give(rt: &impl Abort, bits: u32, a: i64, b: i64) {
 fn short_singles_give(rt: &impl Abort, bits: u32, a: i64) {
     let of = width(rt, bits);
     let [ones, above, below] = counts(bits, a);
-    let least = signed(bits, a) == signed(bits, 1i64.wrapping_shl(bits - 1));
+    let least = signed(bits, a) == signed(bits, 1i64.wrapping_shl(bits.wrapping_sub(1)));
     let absolute = signed(bits, a).wrapping_abs();
     let expected = [
         (Abs, absolute, least),

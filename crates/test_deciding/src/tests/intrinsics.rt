@@ -119,13 +119,17 @@ fn by_graph(
 }
 
 /// The number of so many bits in two's complement, from the highest bits of a machine's word.
-fn signed(width: usize, number: u64) -> i64 {
+fn signed(width: usize, number: u64) -> i64
+    requires { width ≤ 64 }
+{
     let above = 64u32.wrapping_sub(width as u32);
     number.wrapping_shl(above).cast_signed().wrapping_shr(above)
 }
 
 /// How many bits are set, and how many are clear above the highest that is set and below the lowest, counted one by one.
-fn counts(width: usize, number: u64) -> [u64; 3] {
+fn counts(width: usize, number: u64) -> [u64; 3]
+    requires { width ≤ 64 }
+{
     let mut ones = 0u64;
     let mut above = 0u64;
     let mut below = 0u64;
@@ -144,7 +148,9 @@ fn counts(width: usize, number: u64) -> [u64; 3] {
 }
 
 /// What whole-number arithmetic says.
-fn expected(intrinsic: Intrinsic, width: usize, a: u64, b: u64) -> u64 {
+fn expected(intrinsic: Intrinsic, width: usize, a: u64, b: u64) -> u64
+    requires { width ≤ 64 }
+{
     let below = signed(width, a) < signed(width, b);
     let [ones, leading, trailing] = counts(width, a);
     match intrinsic {
@@ -263,11 +269,11 @@ fn clauses_agree(rt: &impl Abort, alloc: Global, width: usize, a: u64, b: u64) -
 
 #[test]
 fn intrinsics_of_short_words(rt: HostRuntime) -> Result<(), Fail> {
-    for width in 1..7 {
-        let modulus = 1u64.wrapping_shl(width as u32);
+    for width in 1u32..7 {
+        let modulus = 1u64.wrapping_shl(width);
         for a in 0..modulus {
             for b in 0..modulus {
-                agree(&rt, rt.alloc(), width, a, b, width < 4)?;
+                agree(&rt, rt.alloc(), width as usize, a, b, width < 4)?;
             }
         }
     }
@@ -276,14 +282,14 @@ fn intrinsics_of_short_words(rt: HostRuntime) -> Result<(), Fail> {
 
 #[test]
 fn intrinsics_of_wide_words(rt: HostRuntime) -> Result<(), Fail> {
-    for width in [7, 8, 63, 64] {
-        let above = 64u32.wrapping_sub(width as u32);
-        let ones = u64::MAX.wrapping_shr(above);
-        let least = 1u64.wrapping_shl((width as u32).wrapping_sub(1));
-        let edges = [0, 1, 6, least - 1, least, least | 12, ones - 1, ones];
+    for width in [7u32, 8, 63, 64] {
+        let ones = u64::MAX.wrapping_shr(64u32.wrapping_sub(width));
+        let least = 1u64.wrapping_shl(width.wrapping_sub(1));
+        let greatest = least.wrapping_sub(1);
+        let edges = [0, 1, 6, greatest, least, least | 12, ones ^ 1, ones];
         for a in &edges {
             for b in &edges {
-                agree(&rt, rt.alloc(), width, *a, *b, *a == *b)?;
+                agree(&rt, rt.alloc(), width as usize, *a, *b, *a == *b)?;
             }
         }
     }
@@ -292,11 +298,11 @@ fn intrinsics_of_wide_words(rt: HostRuntime) -> Result<(), Fail> {
 
 #[test]
 fn intrinsics_of_short_words_are_decided(rt: HostRuntime) -> Result<(), Fail> {
-    for width in 1..7 {
-        let modulus = 1u64.wrapping_shl(width as u32);
+    for width in 1u32..7 {
+        let modulus = 1u64.wrapping_shl(width);
         for a in 0..modulus {
             for b in 0..modulus {
-                clauses_agree(&rt, rt.alloc(), width, a, b)?;
+                clauses_agree(&rt, rt.alloc(), width as usize, a, b)?;
             }
         }
     }
