@@ -7,8 +7,9 @@ An outcome is UNDEFINED, ('return', value) or ('running', block). A literal `und
 import itertools
 import re
 
-from rule_model import BINARY, CASTS, FLAGS, POISON, UNDEFINED, binary, cast, compare
+from rule_model import BINARY, CASTS, FLAGS, POISON, UNARY, UNDEFINED, binary, cast, compare, unary
 
+CALL = re.compile(r'(?:tail |notail )?call (?:\w+ )*?i(\d+) @llvm\.(\w+)\.i\d+\((.*)\)')
 HEAD = re.compile(r'define (noundef )?i(\d+) @([\w.]+)\((.*)\)(?: .*)? \{')
 
 
@@ -44,6 +45,14 @@ class Function:
     def instruction(line):
         """The register that is assigned, or None, the opcode, what belongs to it, and the operands with their widths."""
         register, text = line.split(' = ', 1) if ' = ' in line else (None, line)
+        called = CALL.match(text)
+        if called:
+            # Items of the call and of its arguments are left out; a true truth value stands in the place of flags.
+            width, op = int(called.group(1)), called.group(2)
+            typed = [(int(words[0][1:]), words[-1]) for words in (a.split() for a in called.group(3).split(','))]
+            if op in BINARY:
+                return register, op, [], typed, width
+            return register, op, [value for _, value in typed[1:] if value == 'true'], typed[:1], width
         word, rest = text.split(None, 1) if ' ' in text else (text, '')
         words = rest.replace(',', ' ').split()
         flags = [w for w in words if w in FLAGS.get(word, [])]
@@ -91,6 +100,8 @@ class Function:
     def effect(op, extra, operands, values, width):
         if op in BINARY:
             return binary(op, extra, width, *values)
+        if op in UNARY:
+            return unary(op, extra, width, values[0])
         if op == 'icmp':
             return compare(extra[1], operands[0][0], *values, extra[0])
         if op == 'select':

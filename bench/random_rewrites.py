@@ -6,7 +6,8 @@ Each rule that the program admits at some widths up to 3 is looked for in functi
 source: at every argument (of at most 6 bits), every bound to 6 blocks and every choice the function that is written must refine the one
 read, after one step and after up to 20. Prints each function of which this is not so, and at the end how many there were, and how often
 they were rewritten. With LLI, LLVM's interpreter, 500 functions are run by it too, before and after, at arguments at which they return
-one number whatever is chosen. It gets the texts without the flags that its releases before 20 lack: that number stays.
+one number whatever is chosen. It gets the texts without the flags that its releases before 20 lack, and without the items of calls,
+which the program drops: that number stays.
 """
 import os
 import random
@@ -18,7 +19,7 @@ import tempfile
 sys.path.insert(0, os.path.dirname(os.path.abspath(__file__)))
 from ir_model import functions_of, refines
 from random_rules import Maker
-from rule_model import BINARY, FLAGS, POISON, UNDEFINED, rules_of
+from rule_model import BINARY, EXTREMES, FLAGS, POISON, UNARY, UNDEFINED, rules_of
 
 MOST_BLOCKS = 6
 LATER_FLAGS = re.compile(r'\b(icmp samesign|or disjoint|zext nneg|trunc(?: nuw| nsw)+)\b')
@@ -105,6 +106,63 @@ Pre: C u< width(%x) - 1
 =>
 %r = %x
 """
+# of files of version 2
+KNOWN_OF_SECOND = """
+Name: to-umin
+%c = icmp ult %x, %y
+%r = select %c, %x, %y
+=>
+%r = umin %x, %y
+
+Name: from-smax
+%r = smax %x, %y
+=>
+%c = icmp sgt %x, %y
+%r = select %c, %x, %y
+
+Name: abs-of-negation
+%n = sub 0, %x
+%r = abs %n
+=>
+%r = abs %x
+
+Name: smaller-of-two
+%a = umax %x, C
+%r = umin %a, C
+=>
+%r = C
+
+Name: no-ones
+%p = ctpop %x
+%r = icmp eq %p, 0
+=>
+%r = icmp eq %x, 0
+
+Name: ones-of-not
+%n = xor %x, -1
+%r = ctpop %n
+=>
+%p = ctpop %x
+%r = sub width(%x), %p
+
+Name: sign-by-zeros
+%z = ctlz %x
+%r = icmp eq %z, 0
+=>
+%r = icmp slt %x, 0
+
+Name: zeros-kept
+%z = cttz zeropoison %x
+%r = umax %z, 0
+=>
+%r = or %z, 0
+
+Name: select-freeze
+%r = select %c, %y, false
+=>
+%f = freeze %y
+%r = and %c, %f
+"""
 
 
 class Writer:
@@ -139,12 +197,22 @@ class Writer:
         """These flags and some more that it takes, each with a space behind it."""
         return ''.join(f'{flag} ' for flag in FLAGS.get(op, []) if flag in own or self.chance(p))
 
+    def call(self, op, width, texts, truth):
+        """The call of an intrinsic, with items or without."""
+        arguments = [f'i{width} {"noundef " if self.chance(0.05) else ""}{t}' for t in texts] + ([f'i1 {truth}'] if FLAGS.get(op) else [])
+        head = f'{"tail " if self.chance(0.3) else ""}call {"noundef " if self.chance(0.05) else ""}'
+        return f'{head}i{width} @llvm.{op}.i{width}({", ".join(arguments)}){" #0" if self.chance(0.1) else ""}'
+
     def filler(self, there):
         """An instruction that has no part in the rule."""
         width = self.random.choice([w for _, w in there] or [2])
         name, kind = self.fresh(), self.random.random()
         a, b = self.any_of(there, width), self.any_of(there, width)
-        if kind < 0.7:
+        if kind < 0.15:
+            op = self.random.choice([*EXTREMES, *UNARY])
+            truth = self.random.choice(['true', 'false'])
+            self.lines.append(f'  {name} = {self.call(op, width, [a] if op in UNARY else [a, b], truth)}')
+        elif kind < 0.7:
             op = self.random.choice(['add', 'sub', 'mul', 'and', 'or', 'xor', 'shl', 'lshr', 'udiv'])
             self.lines.append(f'  {name} = {op} {self.flags(op, [], 0.3)}i{width} {a}, {b}')
         elif kind < 0.9:
@@ -174,12 +242,17 @@ class Writer:
             name, width = self.fresh(), self.typing[self.rule.of[self.rule.results[k]]]
             texts = [self.operand(v, there) for _, v in operands]
             widths = [self.width(v) for _, v in operands]
-            if op in BINARY:
+            if op in EXTREMES or op in UNARY:
+                truth = 'true' if extra or self.chance(0.04) else 'false'
+                text = self.call(op, width, texts, truth)
+            elif op in BINARY:
                 text = f'{op} {self.flags(op, extra, 0.04)}i{width} {", ".join(texts)}'
             elif op == 'icmp':
                 text = f'icmp {self.flags(op, extra[0], 0.04)}{extra[1]} i{widths[0]} {", ".join(texts)}'
             elif op == 'select':
                 text = 'select ' + ', '.join(f'i{w} {t}' for w, t in zip(widths, texts))
+            elif op == 'freeze':
+                text = f'freeze i{width} {texts[0]}'
             else:
                 text = f'{op} {self.flags(op, extra, 0.04)}i{widths[0]} {texts[0]} to i{width}'
             self.bound[register] = name
@@ -277,8 +350,8 @@ def run(program, *words):
 def admitted(program, folder, choose, wanted):
     """Rules with the typings at which the program admits them: known ones, and random ones until there are enough."""
     maker, texts = Maker(choose.random()), []
-    for part in re.split(r'(?m)^(?=Name:)', KNOWN)[1:]:
-        texts.append(part.strip() + '\n')
+    for head, known in (('', KNOWN), ('Version: 2\n', KNOWN_OF_SECOND)):
+        texts += [head + part.strip() + '\n' for part in re.split(r'(?m)^(?=Name:)', known)[1:]]
     path, found, made = os.path.join(folder, 'rule.alive'), [], 0
     while len(found) < wanted:
         if not texts:
@@ -303,7 +376,13 @@ def admitted(program, folder, choose, wanted):
 def lli_results(lli, folder, text, function, runs):
     """What LLVM's interpreter returns at these arguments."""
     head = re.search(rf'define (?:noundef )?i(\d+) @{function.name}\(', text)
-    main = [LATER_FLAGS.sub(lambda found: found.group().split()[0], text), '\ndeclare i32 @printf(ptr, ...)\n@form = constant [4 x i8] c"%d\\0A\\00"\ndefine i32 @main() {\n']
+    called = sorted(set(re.findall(r'i(\d+) @llvm\.(\w+)\.', text)))
+    text = re.sub(r'(call |\(i\d+ |, i\d+ )noundef ', r'\1', text.replace(') #0\n', ')\n'))
+    main = [LATER_FLAGS.sub(lambda found: found.group().split()[0], text), '\n']
+    for width, op in called:
+        second = '' if op == 'ctpop' else ', i1' if op in UNARY else f', i{width}'
+        main.append(f'declare i{width} @llvm.{op}.i{width}(i{width}{second})\n')
+    main += ['declare i32 @printf(ptr, ...)\n@form = constant [4 x i8] c"%d\\0A\\00"\ndefine i32 @main() {\n']
     for k, arguments in enumerate(runs):
         words = ', '.join(f'i{w} {v}' if w > 1 else f'i1 {"true" if v else "false"}' for (_, w, _), v in zip(function.parameters, arguments))
         main.append(f'  %r{k} = call i{head.group(1)} @{function.name}({words})\n  %z{k} = zext i{head.group(1)} %r{k} to i32\n')
@@ -338,7 +417,7 @@ def main(program, wanted, seed, lli=None):
     choose = random.Random(seed)
     made = rewritten = rewrites = wrong = by_lli = 0
     with tempfile.TemporaryDirectory() as folder:
-        rules = admitted(program, folder, choose, max(20, wanted // IN_MODULE // 2))
+        rules = admitted(program, folder, choose, max(30, wanted // IN_MODULE // 2))
         path = os.path.join(folder, 'module.ll')
         rules_path = os.path.join(folder, 'rules.alive')
         while made < wanted:
