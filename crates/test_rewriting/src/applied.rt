@@ -209,69 +209,71 @@ l: %x = phi i8 [ %z, %e ], [ %q, %l ] %c = icmp eq i8 %q, %x br i1 %c, label %l,
         function: "define i8 @f(i8 %a, i8 %b) { %c = icmp ult i8 %a, %b %r = select i1 %c, i8 %a, i8 %b ret i8 %r }",
         root: (0, 1),
         applied: Some(
-            "define i8 @f(i8 %a, i8 %b) { %c = icmp ult i8 %a, %b %r = call i8 @llvm.umin.i8(i8 %a, i8 %b) ret i8 %r }",
+            "define i8 @f(i8 %a, i8 %b) { %c = icmp ult i8 %a, %b %r = call i8 @llvm.umin.i8(i8 %a, i8 %b)\nret i8 %r }",
         ),
     },
     Row {
         rule: "Version: 2\nName: one-max\n%r = umax %x, C\n=>\n%r = umax C+1, %x\n",
-        function: "define i8 @f(i8 %a) { %r = call i8 @llvm.umax.i8(i8 %a, i8 9) ret i8 %r }",
+        function: "define i8 @f(i8 %a) { %r = call i8 @llvm.umax.i8(i8 %a, i8 9)\nret i8 %r }",
         root: (0, 0),
-        applied: Some("define i8 @f(i8 %a) { %r = call i8 @llvm.umax.i8(i8 10, i8 %a) ret i8 %r }"),
+        applied: Some(
+            "define i8 @f(i8 %a) { %r = call i8 @llvm.umax.i8(i8 10, i8 %a)\nret i8 %r }",
+        ),
     },
     Row {
         rule: "Version: 2\nName: one-max\n%r = umax %x, C\n=>\n%r = umax C+1, %x\n",
-        function: "define i8 @f(i8 %a) { %r = call i8 @llvm.smax.i8(i8 %a, i8 9) ret i8 %r }",
+        function: "define i8 @f(i8 %a) { %r = call i8 @llvm.smax.i8(i8 %a, i8 9)\nret i8 %r }",
         root: (0, 0),
         applied: None,
     },
     Row {
         rule: ABS_NEG,
-        function: "define i8 @f(i8 %a) { %n = sub i8 0, %a %r = call i8 @llvm.abs.i8(i8 %n, i1 true) ret i8 %r }",
+        function: "define i8 @f(i8 %a) { %n = sub i8 0, %a %r = call i8 @llvm.abs.i8(i8 %n, i1 true)\nret i8 %r }",
         root: (0, 1),
         applied: Some(
-            "define i8 @f(i8 %a) { %n = sub i8 0, %a %r = call i8 @llvm.abs.i8(i8 %a, i1 false) ret i8 %r }",
+            "define i8 @f(i8 %a) { %n = sub i8 0, %a %r = call i8 @llvm.abs.i8(i8 %a, i1 false)\nret i8 %r }",
         ),
     },
     // The root has at least the statement's truth value, and no other intrinsic is it.
     Row {
         rule: "Version: 2\nName: abs-abs\n%r = abs minpoison %x\n=>\n%r = abs %x\n",
-        function: "define i8 @f(i8 %a) { %r = call i8 @llvm.abs.i8(i8 %a, i1 false) ret i8 %r }",
+        function: "define i8 @f(i8 %a) { %r = call i8 @llvm.abs.i8(i8 %a, i1 false)\nret i8 %r }",
         root: (0, 0),
         applied: None,
     },
     Row {
         rule: "Version: 2\nName: lz\n%r = ctlz %x\n=>\n%r = ctlz %x\n",
-        function: "define i8 @f(i8 %a) { %r = call i8 @llvm.cttz.i8(i8 %a, i1 false) ret i8 %r }",
+        function: "define i8 @f(i8 %a) { %r = call i8 @llvm.cttz.i8(i8 %a, i1 false)\nret i8 %r }",
         root: (0, 0),
         applied: None,
     },
     // A temporary has exactly the statement's where the target reads one, and else at least that.
     Row {
         rule: TZ_READ,
-        function: "define i8 @f(i8 %a) { %t = call i8 @llvm.cttz.i8(i8 %a, i1 true) %r = add i8 %t, 1 ret i8 %r }",
+        function: "define i8 @f(i8 %a) { %t = call i8 @llvm.cttz.i8(i8 %a, i1 true)\n%r = add i8 %t, 1 ret i8 %r }",
         root: (0, 1),
         applied: None,
     },
     Row {
         rule: TZ_READ,
-        function: "define i8 @f(i8 %a) { %t = call i8 @llvm.cttz.i8(i8 %a, i1 false) %r = add i8 %t, 1 ret i8 %r }",
+        function: "define i8 @f(i8 %a) { %t = call i8 @llvm.cttz.i8(i8 %a, i1 false)\n%r = add i8 %t, 1 ret i8 %r }",
         root: (0, 1),
         applied: Some(
-            "define i8 @f(i8 %a) { %t = call i8 @llvm.cttz.i8(i8 %a, i1 false) %r = sub i8 %t, -1 ret i8 %r }",
+            "define i8 @f(i8 %a) { %t = call i8 @llvm.cttz.i8(i8 %a, i1 false)\n%r = sub i8 %t, -1 ret i8 %r }",
         ),
     },
     Row {
         rule: "Version: 2\nName: pop-shl\n%t = ctpop %x\n%r = and %t, 0\n=>\n%r = 0\n",
-        function: "define i8 @f(i8 %a) { %t = call i8 @llvm.ctpop.i8(i8 %a) %r = and i8 %t, 0 ret i8 %r }",
+        function: "define i8 @f(i8 %a) { %t = call i8 @llvm.ctpop.i8(i8 %a)\n%r = and i8 %t, 0 ret i8 %r }",
         root: (0, 1),
-        applied: Some("define i8 @f(i8 %a) { %t = call i8 @llvm.ctpop.i8(i8 %a) ret i8 0 }"),
+        applied: Some("define i8 @f(i8 %a) { %t = call i8 @llvm.ctpop.i8(i8 %a)\nret i8 0 }"),
     },
     Row {
         rule: "Version: 2\nName: tz-gone\n%t = cttz %x\n%r = and %t, 0\n=>\n%r = 0\n",
-        function: "define i8 @f(i8 %a) { %t = call i8 @llvm.cttz.i8(i8 %a, i1 true) %r = and i8 %t, 0 ret i8 %r }",
+        function: "define i8 @f(i8 %a) { %t = call i8 @llvm.cttz.i8(i8 %a, i1 true)\n%r = and i8 %t, 0 ret i8 %r }",
         root: (0, 1),
         applied: Some(
-            "define i8 @f(i8 %a) { %t = call i8 @llvm.cttz.i8(i8 %a, i1 true) ret i8 0 }",
+            "define i8 @f(i8 %a) { %t = call i8 @llvm.cttz.i8(i8 %a, i1 true)\nret i8 0 }",
         ),
     },
 ];
