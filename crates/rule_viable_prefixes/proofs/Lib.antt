@@ -3,11 +3,18 @@ pub mod FlagRuns
 pub mod Formulas
 pub mod LimitLaws
 pub mod Lines
+pub mod MarkedFormulas
+pub mod MarkedOps
+pub mod MarkedRules
+pub mod MarkedTerms
+pub mod Marks
+pub mod Names
 pub mod Nouns
 pub mod OneKind
 pub mod Outcomes
 pub mod Parentheses
 pub mod Parts
+pub mod Placed
 pub mod Refusals
 pub mod Roomy
 pub mod Rules
@@ -16,6 +23,7 @@ pub mod Terms
 pub mod Texts
 pub mod Tolds
 pub mod Versions
+pub mod WherePassed
 pub mod Wider
 pub mod WiderFormulas
 pub mod WiderRules

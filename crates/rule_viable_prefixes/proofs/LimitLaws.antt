@@ -42,7 +42,7 @@ pub fault_is : (d e : RuleFault) → ◌≡◌ {A = Result (List RawRule) RuleFa
 fault_is d e is = let equal = is in cc
 
 -- what is spelled within some limits is within wider ones
-spelled_wider : (limits wider : Limits) → AreWithin wider limits → (rules : List RawRule) (tokens : List Token) → SpellsFile limits rules tokens → SpellsFile wider rules tokens
+pub spelled_wider : (limits wider : Limits) → AreWithin wider limits → (rules : List RawRule) (tokens : List Token) → SpellsFile limits rules tokens → SpellsFile wider rules tokens
 spelled_wider limits wider within rules tokens is = by (all_rules_below limits wider within 0 tokens)
   where
     read : all_rules limits 0 tokens ≡ Ok rules

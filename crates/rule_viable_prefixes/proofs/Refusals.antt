@@ -33,7 +33,7 @@ fault_of limits one text tokens last found are fault =
     ap (λ (ts : List Token). all_rules limits last (limited ts)) same.0 ∙ ap (λ (l : ℕ). all_rules limits l (limited fault.tokens)) same.1 ∙ fault.found
 
 -- tokens within the limit are kept whole
-kept_whole : (tokens : List Token) → IsWithinLimit tokens → limited tokens ≡ tokens
+pub kept_whole : (tokens : List Token) → IsWithinLimit tokens → limited tokens ≡ tokens
 kept_whole tokens within = elim (kept_up_to_the_limit tokens) [
   | inl (also, same) ↦ same
   | inr c ↦ let few = within (c.front ++ c.token ∷ []) c.rest (c.whole ∙ sym (append_assoc c.front (c.token ∷ []) c.rest)) in absurd (omega (arith, few, c.passed))
@@ -51,11 +51,11 @@ module _ (spare_bytes deepest spare_statements : ℕ) where
       subst IsOfText is here.0
 
   -- rules have no mark of the end of what is read
-  no_mark : (front more : List Token) (rules : List RawRule) → SpellsFile limits rules (front ++ Excess ∷ more) → ⊥
+  pub no_mark : (front more : List Token) (rules : List RawRule) → SpellsFile limits rules (front ++ Excess ∷ more) → ⊥
   no_mark front more rules is = (of_back front (Excess ∷ more) (file_of_text limits rules (front ++ Excess ∷ more) is)).0
 
   -- where two lists of tokens are split, the one front is the other and more
-  split : (xs ys vs ws : List Token) → xs ++ ys ≡ vs ++ ws
+  pub split : (xs ys vs ws : List Token) → xs ++ ys ≡ vs ++ ws
       → ((g : List Token) × (vs ≡ xs ++ g) × (ys ≡ g ++ ws)) ⊎ ((t : Token) × (g : List Token) × (xs ≡ vs ++ t ∷ g) × (ws ≡ t ∷ g ++ ys))
   split [] ys vs ws e = inl (vs, refl, e)
   split (x ∷ xs) ys [] ws e = inr (x, xs, refl, sym e)
@@ -71,11 +71,11 @@ module _ (spare_bytes deepest spare_statements : ℕ) where
   within_front tokens front back whole within first rest e =
       within first (rest ++ back) (whole ∙ ap (λ (ts : List Token). ts ++ back) e ∙ append_assoc first rest back)
 
-  fits_front : (front back : List Token) → Fits limits (front ++ back) → Fits limits front
+  pub fits_front : (front back : List Token) → Fits limits (front ++ back) → Fits limits front
   fits_front front back (rules, more, is) = (rules, back ++ more, subst (SpellsFile limits rules) (append_assoc front back more) is)
 
   -- a token that begins no line is on the line of the tokens before it
-  line_stays : (line : ℕ) (front : List Token) (token : Token) → ((number : ℕ) → token ≢ Line number) → line_behind line (front ++ token ∷ []) ≡ line_behind line front
+  pub line_stays : (line : ℕ) (front : List Token) (token : Token) → ((number : ℕ) → token ≢ Line number) → line_behind line (front ++ token ∷ []) ≡ line_behind line front
   unfolding line_behind
   line_stays line [] (Line number) none = absurd (none number refl)
   line_stays line [] token none = refl
