@@ -41,8 +41,26 @@ fn is_redundant(cnf: &Cnf, log: &[Step], trail: &Trail, place: usize, implied: &
     }
 }
 
+/// Whether the conflict rests on an entry of the level that begins at a place, before `start`.
+fn level_is_seen(trail: &Trail, place: usize, start: usize, roles: &[Role]) -> bool
+    requires roles { length roles.now ≡ length trail.now.values.items }
+    requires within { start ≤ length trail.now.entries.items }
+{
+    for later in place..start {
+        let entry = trail.entries[later];
+        if later > place && entry.cause.reason().is_none() {
+            return false;
+        }
+        if roles[entry.literal.variable() as usize] != Role::Unseen {
+            return true;
+        }
+    }
+    false
+}
+
 /// Tells of each variable of an entry before `start` whether it is implied: the conflict rests on it, or the entry is
-/// redundant. It takes them in the order of the trail, in which reasons come before what they force.
+/// redundant. It takes them in the order of the trail, in which reasons come before what they force. On a level of
+/// decisions on which the conflict doesn't rest no entry is redundant, since its decision is not.
 pub(crate) fn mark_implied(
     cnf: &Cnf,
     log: &[Step],
@@ -58,10 +76,15 @@ pub(crate) fn mark_implied(
     requires forced { EachForced (clauses_with cnf.now log.now) trail.now.entries.items }
     requires within { start ≤ length trail.now.entries.items }
 {
+    let mut is_seen = true;
     for place in 0..start {
-        let variable = trail.entries[place].literal.variable() as usize;
-        implied[variable] = roles[variable] != Role::Unseen
-            || is_redundant(cnf, log, trail, place, implied);
+        let entry = trail.entries[place];
+        if entry.cause.reason().is_none() {
+            is_seen = level_is_seen(trail, place, start, roles);
+        }
+        let variable = entry.literal.variable() as usize;
+        implied[variable] = is_seen
+            && (roles[variable] != Role::Unseen || is_redundant(cnf, log, trail, place, implied));
     }
 }
 
