@@ -1,0 +1,4 @@
+pub mod Staying
+pub mod Bound
+pub mod Away
+pub mod Keeping

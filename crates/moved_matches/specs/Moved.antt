@@ -1,0 +1,38 @@
+-- What of one function stands in another, where its registers may be others.
+use Rattle.std.specs.Prelude.{◌≡◌, ℕ, ◌<◌, map, Some, Contains, slice_get}
+use Rattle.ir_core.specs.Checks.{IsInst}
+use Rattle.ir_core.specs.Walks.{IsReached}
+use Rattle.ir_core.specs.declared.function.Function.{Function}
+use Rattle.ir_core.specs.declared.instruction.Inst.{Inst}
+use Rattle.ir_core.specs.declared.operand.Operand.{Operand}
+use Rattle.ir_core.specs.declared.operand.Operand.TheVariants as operands
+use Rattle.ir_core.specs.declared.operand.Register.{Register}
+use Rattle.ir_core.specs.declared.operand.Register.TheVariants as registers
+use Rattle.use_counts.specs.Uses.{IsUsedOnce}
+use Rattle.substitution.specs.Substitution.{Substitution, substituted_operand, substituted_inst}
+use Rattle.bindings.specs.declared.binding.Binding.{Binding}
+
+-- the register that stands for another, and that one where none does
+abbrev pub register_or : Register → Operand → Register
+register_or r (operands.Register s) = s
+register_or r a = r
+
+-- a binding, with what stands for each register, of a root at this place
+abbrev pub moved_binding : Substitution → ℕ → Binding → Binding
+moved_binding to k m = record { block = m.block; place = k; statements = map (λ r. register_or r (to r)) m.statements; inputs = map (substituted_operand to) m.inputs; constants = m.constants; typing = m.typing }
+
+-- Instruction p of block b stands at place q there in the other function: the same but for what stands for the registers that it reads.
+pub record StandsAt (f f' : Function) (to : Substitution) (b p q : ℕ) : Type 0 where
+  pub inst : Inst
+  pub was : IsInst f b p inst
+  pub is : IsInst f' b q (substituted_inst to inst)
+  pub register : to (registers.Result b p) ≡ operands.Register (registers.Result b q)
+
+-- What a match stands on stands in the other function, where its root is instruction k of its block: the block is reached, the
+-- instructions that statements are bound to stand there, temporaries before the root, and what is used once is used once.
+pub record StandsThere (f f' : Function) (to : Substitution) (m : Binding) (k : ℕ) : Type 0 where
+  pub reached : IsReached f m.block → IsReached f' m.block
+  pub root : to (registers.Result m.block m.place) ≡ operands.Register (registers.Result m.block k)
+  pub bound : (j p : ℕ) → slice_get m.statements j ≡ Some (registers.Result m.block p)
+      → (q : ℕ) × StandsAt f f' to m.block p q × (p < m.place → q < k)
+  pub uses : (r s : Register) → Contains m.statements r → to r ≡ operands.Register s → IsUsedOnce f r → IsUsedOnce f' s
