@@ -5,3 +5,4 @@ pub mod Storing
 pub mod Keeping
 pub mod Passing
 pub mod Parts
+pub mod Again

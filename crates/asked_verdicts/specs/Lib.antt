@@ -4,3 +4,4 @@ pub mod Asked
 pub mod Asks
 pub mod Parts
 pub mod Stored
+pub mod Laws

@@ -2,15 +2,17 @@
 //! is stored for it is asked before there is a search.
 //!
 //! The definitions stand in `specs/`: `Asked` says which verdicts matches ask for, in which order pairs are first asked, and what a
-//! table of verdicts says; `Asks` what one search asks, and what is kept; `Stored` which log is stored for a pair. `Parts` serves
+//! table of verdicts says; `Asks` what one search asks, and what is kept; `Stored` which log is stored for a pair. `Laws` what is asked again. `Parts` serves
 //! the private functions.
 #![tactic(auto)]
 
+mod laws;
 mod searching;
 mod stored;
 mod verdicts;
 mod widths;
 
+pub use laws::pairs_with_rows_change_nothing;
 pub use searching::{any_admitted, first_admitted};
 pub use stored::StoredLogs;
 pub use verdicts::Verdicts;
