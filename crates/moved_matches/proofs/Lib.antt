@@ -2,3 +2,4 @@ pub mod Staying
 pub mod Bound
 pub mod Away
 pub mod Keeping
+pub mod Before

@@ -1,6 +1,8 @@
 //! The laws of matches that stay, each the contract of a function that does nothing.
 
-ghost use Rattle.moved_matches.specs.Laws.{MatchesAwayFromRootsStay, MatchesOfKeptStay, MatchesStay};
+ghost use Rattle.moved_matches.specs.Laws.{MatchesAwayFromRootsStay, MatchesOfKeptStay, MatchesStay, ReadsStandBefore};
+
+use run_history::assigned_registers_keep_their_order;
 
 /// A rule that matches in a function matches in another one where what the match stands on does, with the binding that says where it
 /// stands there.
@@ -13,3 +15,10 @@ pub fn matches_stay_away_from_changes()
     ensures rewritten { MatchesAwayFromRootsStay }
     ensures cleaned { MatchesOfKeptStay }
 {}
+
+/// In a block that is reached, what an instruction that is no phi reads of the block's own results stands before it.
+pub fn reads_of_a_block_stand_before()
+    ensures { ReadsStandBefore }
+{
+    assigned_registers_keep_their_order();
+}

@@ -6,4 +6,7 @@
 
 mod laws;
 
-pub use laws::{matches_stay_away_from_changes, matches_stay_where_instructions_move};
+pub use laws::{
+    matches_stay_away_from_changes, matches_stay_where_instructions_move,
+    reads_of_a_block_stand_before,
+};
