@@ -85,12 +85,11 @@ read_off_as xs ys j d x same at = ap (λ l. get_or l j d) same ∙ get_or_from_s
 -- all that an instruction has to meet
 pub met : (f : Function) (rule : Rule) (binding : Binding) (j k : ℕ) (s : Statement) (inst : Inst) (root exact : Bool)
     → j < length rule.source → (IsTrue root ↔ (suc j ≡ length rule.source)) → (IsTrue exact ↔ TargetReadsTemporary rule)
-    → ((IsTrue root → k ≡ binding.place) × (¬ IsTrue root → k < binding.place)) → IsSameOperation s.op inst.op
+    → (IsTrue root → k ≡ binding.place) → IsSameOperation s.op inst.op
     → (AreKept (promises_of_statement s.op) (promises_of_inst inst.op) × (IsTrue exact → ¬ IsTrue root → promises_of_inst inst.op ≡ promises_of_statement s.op))
     → slice_get binding.typing s.class ≡ Some inst.width → ((i : ℕ) → MatchesAt f binding s.op binding.block k i) → InstMatches f rule binding j s k inst
 met f rule binding j k s inst root exact within is_root is_exact stands operation flags width operands = record {
-  root = λ last. stands.0 (is_root.1 last);
-  temporary = λ less. stands.1 (λ last. not_last j (length rule.source) less (is_root.0 last));
+  root = λ last. stands (is_root.1 last);
   operation = operation;
   flags = flags.0;
   no_more_flags = λ less reads. flags.1 (is_exact.1 reads) (λ last. not_last j (length rule.source) less (is_root.0 last));
@@ -103,9 +102,9 @@ behind : (j n : ℕ) (root : Bool) → j < n → (IsTrue root ↔ (suc j ≡ n))
 behind j n root within is_root none = let other : ¬ (suc j ≡ n) = λ last. none (is_root.1 last) in omega arith
 
 pub asked_place : (f : Function) (rule : Rule) (binding : Binding) (j k : ℕ) (s : Statement) (inst : Inst) (root : Bool) → j < length rule.source → (IsTrue root ↔ (suc j ≡ length rule.source))
-    → InstMatches f rule binding j s k inst → (IsTrue root → k ≡ binding.place) × (¬ IsTrue root → k < binding.place)
+    → InstMatches f rule binding j s k inst → (IsTrue root → k ≡ binding.place)
 asked_place f rule binding j k s inst root within is_root m =
-    (λ held. m.root (is_root.0 held), λ none. m.temporary (behind j (length rule.source) root within is_root none))
+    λ held. m.root (is_root.0 held)
 
 pub asked_flags : (f : Function) (rule : Rule) (binding : Binding) (j k : ℕ) (s : Statement) (inst : Inst) (root exact : Bool) → j < length rule.source → (IsTrue root ↔ (suc j ≡ length rule.source)) → (IsTrue exact ↔ TargetReadsTemporary rule)
     → InstMatches f rule binding j s k inst → AreKept (promises_of_statement s.op) (promises_of_inst inst.op) × (IsTrue exact → ¬ IsTrue root → promises_of_inst inst.op ≡ promises_of_statement s.op)

@@ -10,13 +10,13 @@ use Rattle.rule_core.specs.Checks.{IsRule}
 use Rattle.rule_core.specs.declared.rule.Rule.{Rule}
 use Rattle.rule_core.specs.declared.rule.Statement.{Statement}
 use Rattle.bindings.specs.Checks.{IsRootOperation}
-use Rattle.bindings.specs.Match.{IsMatch}
+use Rattle.bindings.specs.Match.{IsMatch, MatchesInAnyOrder, MatchesWhere}
 use Rattle.bindings.specs.Statements.{IsSameOperation}
 use Rattle.bindings.specs.declared.binding.Binding.{Binding}
 use Rattle.bindings.proofs.Bound.{statement_at}
 use Rattle.bindings.proofs.Reading.{has_inst_at, same_inst}
 
-pub matched_operation : (f : Function) (b k : ℕ) (rule : Rule) (m : Binding) → IsRule rule → IsMatch f b k rule m → IsRootOperation f b k rule
+pub matched_operation : {Before : ℕ → ℕ → Type 0} (f : Function) (b k : ℕ) (rule : Rule) (m : Binding) → IsRule rule → MatchesWhere Before f b k rule m → IsRootOperation f b k rule
 matched_operation f b k rule m is_rule is =
     let some = is_rule.source_root in
     let (s, at) = statement_at rule (length rule.source - 1) (omega arith) in
@@ -44,11 +44,28 @@ pub no_root_operation : (f : Function) (b k : ℕ) (rule : Rule) → ¬ HasInst 
 no_root_operation f b k rule none = (λ h. absurd cc, λ root. absurd (none (has_inst_at f b k root.inst root.is_inst)))
 
 -- a match stands where it says
-pub match_there : (f : Function) (b k : ℕ) (rule : Rule) (m n : Binding) → IsMatch f b k rule m → n ≡ m → IsMatch f n.block n.place rule n
+pub match_there : {Before : ℕ → ℕ → Type 0} (f : Function) (b k : ℕ) (rule : Rule) (m n : Binding) → MatchesWhere Before f b k rule m → n ≡ m → MatchesWhere Before f n.block n.place rule n
 match_there f b k rule m n is same =
-    subst (λ (x : Binding). IsMatch f x.block x.place rule x) (sym same)
-    (subst (λ (d : ℕ). IsMatch f d m.place rule m) (sym is.block) (subst (λ (p : ℕ). IsMatch f b p rule m) (sym is.place) is))
+    subst (λ (x : Binding). MatchesWhere Before f x.block x.place rule x) (sym same)
+    (subst (λ (d : ℕ). MatchesWhere Before f d m.place rule m) (sym is.block) (subst (λ (p : ℕ). MatchesWhere Before f b p rule m) (sym is.place) is))
 
-pub match_here : (f : Function) (b k : ℕ) (rule : Rule) (m : Binding) → (m.block ≡ b) × (m.place ≡ k) → IsMatch f m.block m.place rule m → IsMatch f b k rule m
+pub match_here : {Before : ℕ → ℕ → Type 0} (f : Function) (b k : ℕ) (rule : Rule) (m : Binding) → (m.block ≡ b) × (m.place ≡ k) → MatchesWhere Before f m.block m.place rule m → MatchesWhere Before f b k rule m
 match_here f b k rule m there is =
-    subst (λ (p : ℕ). IsMatch f b p rule m) there.1 (subst (λ (d : ℕ). IsMatch f d m.place rule m) there.0 is)
+    subst (λ (p : ℕ). MatchesWhere Before f b p rule m) there.1 (subst (λ (d : ℕ). MatchesWhere Before f d m.place rule m) there.0 is)
+
+-- a match is one in any order
+pub in_any_order : (f : Function) (b k : ℕ) (rule : Rule) (m : Binding) → IsMatch f b k rule m → MatchesInAnyOrder f b k rule m
+in_any_order f b k rule m is = record {
+  block = is.block;
+  place = is.place;
+  reached = is.reached;
+  statement_count = is.statement_count;
+  statements = is.statements;
+  before = λ j p less at. tt;
+  input_count = is.input_count;
+  no_undef = is.no_undef;
+  constant_count = is.constant_count;
+  typing = is.typing;
+  precondition = is.precondition;
+  one_use = is.one_use;
+}

@@ -1,9 +1,10 @@
 -- When a rule may be applied at an instruction: what its names are bound to there.
-use Rattle.std.specs.Prelude.{◌≡◌, ℕ, length, Some, Contains, slice_get}
+use Rattle.std.specs.Prelude.{◌≡◌, ℕ, suc, ◌<◌, length, Some, Contains, slice_get}
 use Rattle.ir_core.specs.Walks.{IsReached}
 use Rattle.ir_core.specs.declared.function.Function.{Function}
 use Rattle.ir_core.specs.declared.operand.Operand.TheVariants as operands
 use Rattle.ir_core.specs.declared.operand.Register.{Register}
+use Rattle.ir_core.specs.declared.operand.Register.TheVariants as registers
 use Rattle.rule_core.specs.Terms.{PreconditionHolds}
 use Rattle.rule_core.specs.Typing.{IsTyping}
 use Rattle.rule_core.specs.declared.rule.Formula.TheVariants as formulas
@@ -13,8 +14,8 @@ use Rattle.use_counts.specs.Uses.{IsUsedOnce}
 use Rattle.bindings.specs.Statements.{StatementMatches}
 use Rattle.bindings.specs.declared.binding.Binding.{Binding}
 
--- The rule matches at instruction k of block b of the function, with this binding.
-pub record IsMatch (f : Function) (b k : ℕ) (rule : Rule) (binding : Binding) : Type 0 where
+-- The rule matches at instruction k of block b of the function, with this binding, where temporaries stand to the root as is said.
+pub record MatchesWhere (Before : ℕ → ℕ → Type 0) (f : Function) (b k : ℕ) (rule : Rule) (binding : Binding) : Type 0 where
   -- the root is instruction k of block b, which the entry reaches
   pub block : binding.block ≡ b
   pub place : binding.place ≡ k
@@ -22,6 +23,8 @@ pub record IsMatch (f : Function) (b k : ℕ) (rule : Rule) (binding : Binding) 
   -- each source statement is bound to an instruction that it matches
   pub statement_count : length binding.statements ≡ length rule.source
   pub statements : (j : ℕ) (s : Statement) → slice_get rule.source j ≡ Some s → StatementMatches f rule binding j s
+  -- temporaries stand before the root
+  pub before : (j p : ℕ) → suc j < length rule.source → slice_get binding.statements j ≡ Some (registers.Result binding.block p) → Before p binding.place
   -- each input is bound to an operand that is no `undef`, and each constant to a number
   pub input_count : length binding.inputs ≡ length rule.inputs
   pub no_undef : ¬ Contains binding.inputs operands.Undef
@@ -31,3 +34,12 @@ pub record IsMatch (f : Function) (b k : ℕ) (rule : Rule) (binding : Binding) 
   pub precondition : PreconditionHolds rule binding.typing binding.constants
   -- each register that is to have one use is named by exactly one operand of the function
   pub one_use : (j : ℕ) (r : Register) → Contains rule.precondition (formulas.HasOneUse j) → slice_get binding.statements j ≡ Some r → IsUsedOnce f r
+
+-- where the instructions of a block stand in the order of their places
+abbrev pub IsMatch : Function → ℕ → ℕ → Rule → Binding → Type 0
+IsMatch = MatchesWhere (λ p k. p < k)
+
+-- And where it isn't told in which order they stand: in a function that meets its checks temporaries stand before the root all the same,
+-- since each is read on the way there.
+abbrev pub MatchesInAnyOrder : Function → ℕ → ℕ → Rule → Binding → Type 0
+MatchesInAnyOrder = MatchesWhere (λ p k. Unit {0})

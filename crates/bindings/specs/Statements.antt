@@ -62,9 +62,8 @@ TargetReadsTemporary rule = ReadsTemporary (operands_among rule.target)
 
 -- instruction k of the binding's block is what source statement j, which is this one, looks for
 pub record InstMatches (f : Function) (rule : Rule) (binding : Binding) (j : ℕ) (s : Statement) (k : ℕ) (inst : Inst) : Type 0 where
-  -- the root's is that at which the match stands, and a temporary's stands before it
+  -- the root's is that at which the match stands
   pub root : suc j ≡ length rule.source → k ≡ binding.place
-  pub temporary : suc j < length rule.source → k < binding.place
   -- the same opcode, predicate, intrinsic or cast
   pub operation : IsSameOperation s.op inst.op
   -- it has at least the statement's flags; a temporary's has no others where the target reads a temporary

@@ -1,7 +1,6 @@
 //! Whether a binding is a match.
 
 ghost use Rattle.std.specs.Prelude.{◌≡◌, ◌+◌, ◌<◌, ◌^◌, ◌↔◌, ℕ, suc, length, All, Contains, IsTrue, Some, slice_get};
-ghost use Rattle.ir_core.specs.Checks.{MeetsChecks};
 ghost use Rattle.rule_core.specs.Checks.{IsRule};
 ghost use Rattle.rule_core.specs.Positions.{operands_among, operands_of};
 ghost use Rattle.rule_core.specs.declared.rule.Formula.{Formula as Asked};
@@ -9,7 +8,7 @@ ghost use Rattle.rule_core.specs.declared.rule.Statement.{Statement as SourceSta
 ghost use Rattle.rule_typing.specs.Classes.{IsClassified};
 ghost use Rattle.bindings.specs.Checks.{IsOneUse, MatchesAt};
 ghost use Rattle.bindings.specs.Facts.{AreFactsOf};
-ghost use Rattle.bindings.specs.Match.{IsMatch};
+ghost use Rattle.bindings.specs.Match.{MatchesInAnyOrder};
 ghost use Rattle.bindings.specs.Promises.{AreKept};
 ghost use Rattle.bindings.specs.Statements.{InstMatches, IsTemporary, ReadsTemporary, StatementMatches, TargetReadsTemporary, promises_of_inst, promises_of_statement};
 
@@ -27,14 +26,13 @@ use rule_core::{Argument, Formula, Op, Register as Name, Rule, Statement};
 use rule_typing::is_typing;
 use use_counts::uses_of;
 
-/// Whether the rule matches with this binding at the instruction that the binding names.
+/// Whether the rule matches with this binding at the instruction that the binding names, in whatever order instructions stand.
 pub fn is_match(f: &Function, facts: &FunctionFacts, rule: &Rule, binding: &Binding) -> bool
-    requires checks { MeetsChecks f.now }
     requires insts { All (λ b. length b.insts < 2 ^ 32) f.now.blocks }
     requires facts { AreFactsOf f.now facts.now }
     requires rule { IsRule rule.now }
     requires classes { IsClassified rule.now }
-    ensures { IsTrue result ↔ IsMatch f.now binding.now.block binding.now.place rule.now binding.now }
+    ensures { IsTrue result ↔ MatchesInAnyOrder f.now binding.now.block binding.now.place rule.now binding.now }
 {
     if !facts.flow.reached(binding.block) || !has_sizes(rule, binding) {
         return false;
@@ -168,15 +166,11 @@ fn inst_matches(
     operands_match(f, binding, &statement.op, binding.block, place)
 }
 
-/// Whether the root is at the place of the match, and another statement's instruction before it.
+/// Whether the root is at the place of the match.
 fn stands_well(binding: &Binding, is_root: bool, place: u32) -> bool
-    ensures { IsTrue result ↔ ((IsTrue is_root → place ≡ binding.now.place) × (¬ IsTrue is_root → place < binding.now.place)) }
+    ensures { IsTrue result ↔ (IsTrue is_root → place ≡ binding.now.place) }
 {
-    if is_root {
-        place == binding.place
-    } else {
-        place < binding.place
-    }
+    !is_root || place == binding.place
 }
 
 /// Whether an instruction has the statement's flags, and, where they are to be exact and it is no root's, no others.

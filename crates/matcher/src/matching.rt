@@ -13,6 +13,7 @@ ghost use Rattle.bindings.specs.declared.binding.Binding.{Binding};
 use crate::candidate::candidate;
 use bindings::{Binding, FunctionFacts, is_match, is_root_operation};
 use ir_core::Function;
+use moved_matches::temporaries_stand_before_roots;
 use rule_core::Rule;
 use std::alloc::{AllocError, Global};
 
@@ -69,6 +70,7 @@ pub fn match_in(
     ensures ok { IfOk result (λ found. IfSome found (IsMatch f.now block place rule.now)) }
     ensures none { IfOk result (λ found. IfNone found ((binding : Binding) → ¬ IsMatch f.now block place rule.now binding)) }
 {
+    temporaries_stand_before_roots();
     if !facts.flow.reached(block) || !is_root_operation(f, block, place, rule) {
         return Ok(None);
     }

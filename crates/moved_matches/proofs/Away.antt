@@ -1,5 +1,5 @@
 -- A match away from the root of a rewrite stays.
-use Rattle.std.proofs.Common.{ℕ, List, [], ◌∷◌, subst}
+use Rattle.std.proofs.Common.{ℕ, ◌<◌, List, [], ◌∷◌, subst}
 use Rattle.std.specs.Prelude.{Contains}
 use Rattle.ir_core.specs.Walks.{IsWalk}
 use Rattle.ir_core.specs.declared.function.Function.{Function}
@@ -28,7 +28,7 @@ not_root w m away p has (block, place) =
 pub away_stay : MatchesAwayFromRootsStay
 away_stay f w rule m good definite is away uses =
     let k : ℕ = moved_place w m.block m.place in
-    matches_stay f (rewritten_function w f) (stands_for w) rule m k definite is (record {
+    matches_stay (λ p k. p < k) (λ p k. p < k) f (rewritten_function w f) (stands_for w) rule m k definite is (record {
       reached = λ h. (h.0, walk_on w f (m.block ∷ h.0) h.1);
       root = stands_other w m.block m.place (not_root w m away m.place (root_bound f rule m is good));
       bound = λ j p at.

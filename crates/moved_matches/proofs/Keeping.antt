@@ -1,5 +1,5 @@
 -- A match of instructions that are kept stays where the others go.
-use Rattle.std.proofs.Common.{◌≡◌, ℕ, true, List, [], ◌∷◌, map, refl, ap, subst, sym, ◌∙◌}
+use Rattle.std.proofs.Common.{◌≡◌, ◌<◌, ℕ, true, List, [], ◌∷◌, map, refl, ap, subst, sym, ◌∙◌}
 use Rattle.std.specs.Prelude.{Contains}
 use Rattle.ir_core.specs.Blocks.{Names, targets_of}
 use Rattle.ir_core.specs.Checks.{IsInst}
@@ -7,7 +7,7 @@ use Rattle.ir_core.specs.Walks.{IsWalk}
 use Rattle.ir_core.specs.declared.function.Function.{Function}
 use Rattle.ir_core.specs.declared.instruction.Inst.{Inst}
 use Rattle.ir_core.specs.declared.instruction.Op.{Op}
-use Rattle.ir_core.specs.declared.instruction.Op.TheVariants.{Binary, Compare, Select, Convert, Freeze, Phi}
+use Rattle.ir_core.specs.declared.instruction.Op.TheVariants.{Binary, Compare, Unary, Select, Convert, Freeze, Phi}
 use Rattle.ir_core.specs.declared.operand.Operand.{Operand}
 use Rattle.ir_core.specs.declared.operand.Operand.TheVariants as operands
 use Rattle.ir_core.specs.declared.operand.Register.{Register}
@@ -45,6 +45,7 @@ same_entries kept (e ∷ entries) =
 same_op : (kept : KeptMarks) (op : Op) → moved_op kept op ≡ substituted_op (kept_register kept) op
 same_op kept (Binary op flags x y) = (let a = same_operand kept x in let b = same_operand kept y in cc)
 same_op kept (Compare pred samesign width x y) = (let a = same_operand kept x in let b = same_operand kept y in cc)
+same_op kept (Unary op truth x) = (let a = same_operand kept x in cc)
 same_op kept (Select c x y) = (let z = same_operand kept c in let a = same_operand kept x in let b = same_operand kept y in cc)
 same_op kept (Convert cast flags from x) = (let a = same_operand kept x in cc)
 same_op kept (Freeze x) = (let a = same_operand kept x in cc)
@@ -76,7 +77,7 @@ never_undef kept r is = absurd cc
 pub kept_stay : MatchesOfKeptStay
 kept_stay f kept rule m good checks keeps is all uses =
     let k : ℕ = kept_before kept m.block m.place in
-    matches_stay f (kept_function kept f) (kept_register kept) rule m k (never_undef kept) is (record {
+    matches_stay (λ p k. p < k) (λ p k. p < k) f (kept_function kept f) (kept_register kept) rule m k (never_undef kept) is (record {
       reached = λ h. (h.0, walk_kept f kept (m.block ∷ h.0) h.1);
       root = refl;
       bound = λ j p at.

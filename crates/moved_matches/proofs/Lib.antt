@@ -3,3 +3,4 @@ pub mod Bound
 pub mod Away
 pub mod Keeping
 pub mod Before
+pub mod Temporaries

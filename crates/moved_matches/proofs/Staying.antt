@@ -3,7 +3,6 @@ use Rattle.std.proofs.Common.{◌≡◌, ℕ, zero, suc, ◌<◌, List, [], ◌�
 use Rattle.std.specs.Prelude.{Contains, slice_get}
 use Rattle.std.proofs.lemmas.List.{length-map}
 use Rattle.std.proofs.lemmas.Option.{same_Some, slice_get_within}
-use Rattle.ops.specs.Flags.{AreWithin}
 use Rattle.ir_core.specs.Checks.{IsInst}
 use Rattle.ir_core.specs.Reads.{Read, IsRead, reads_of}
 use Rattle.ir_core.specs.declared.function.Function.{Function}
@@ -27,9 +26,10 @@ use Rattle.rule_core.specs.declared.rule.Statement.{Statement}
 use Rattle.rule_typing.proofs.Images.{from_map, get_from_map, get-map}
 use Rattle.substitution.specs.Substitution.{Substitution, IsDefinite, substituted_operand, substituted_op, substituted_inst}
 use Rattle.use_counts.specs.Uses.{IsUsedOnce}
-use Rattle.bindings.specs.Match.{IsMatch}
+use Rattle.bindings.specs.Match.{MatchesWhere}
 use Rattle.bindings.specs.Operands.{OperandMatches, StandsFor}
-use Rattle.bindings.specs.Statements.{IsSameOperation, StatementMatches, flags_of_inst, flags_of_statement}
+use Rattle.bindings.specs.Promises.{AreKept}
+use Rattle.bindings.specs.Statements.{IsSameOperation, StatementMatches, promises_of_inst, promises_of_statement}
 use Rattle.bindings.specs.declared.binding.Binding.{Binding}
 use Rattle.bindings.proofs.Reading.{reads_at_inst, same_inst}
 use Rattle.moved_matches.specs.Moved.{StandsAt, StandsThere, moved_binding, register_or}
@@ -39,18 +39,20 @@ use Rattle.moved_matches.specs.Laws.{MatchesStay}
 same_operation : (to : Substitution) (s : RuleOp) (op : Op) → IsSameOperation s op → IsSameOperation s (substituted_op to op)
 same_operation to (rule_ops.Binary opcode flags a b) (ops.Binary opcode' flags' x y) same = same
 same_operation to (rule_ops.Compare pred samesign a b) (ops.Compare pred' samesign' width x y) same = same
+same_operation to (rule_ops.Unary op truth a) (ops.Unary op' truth' x) same = same
 same_operation to (rule_ops.Select c a b) (ops.Select z x y) same = tt
 same_operation to (rule_ops.Convert cast flags a to') (ops.Convert cast' flags' from x) same = same
 same_operation to (rule_ops.Freeze a j) (ops.Freeze x) same = tt
 same_operation to s op same = absurd same
 
-same_flags : (to : Substitution) (op : Op) → flags_of_inst op ≡ flags_of_inst (substituted_op to op)
-same_flags to (ops.Binary opcode flags x y) = refl
-same_flags to (ops.Compare pred samesign width x y) = refl
-same_flags to (ops.Select c x y) = refl
-same_flags to (ops.Convert cast flags from x) = refl
-same_flags to (ops.Freeze x) = refl
-same_flags to (ops.Phi entries) = refl
+same_promises : (to : Substitution) (op : Op) → promises_of_inst op ≡ promises_of_inst (substituted_op to op)
+same_promises to (ops.Binary opcode flags x y) = refl
+same_promises to (ops.Compare pred samesign width x y) = refl
+same_promises to (ops.Unary op truth x) = refl
+same_promises to (ops.Select c x y) = refl
+same_promises to (ops.Convert cast flags from x) = refl
+same_promises to (ops.Freeze x) = refl
+same_promises to (ops.Phi entries) = refl
 
 -- what was read where one is read now
 pub record WasRead (f : Function) (to : Substitution) (b p N : ℕ) (op : Op) (i : ℕ) (r : Read) : Type 0 where
@@ -67,6 +69,8 @@ was_read f f' to b p q N (rule_ops.Binary opcode flags a c) (ops.Binary opcode' 
 was_read f f' to b p q N (rule_ops.Compare pred samesign a c) (ops.Compare pred' samesign' M x y) zero r same at = record { old = record { operand = x; width = M; block = b; place = p }; is_read = refl; width = cc; operand = cc }
 was_read f f' to b p q N (rule_ops.Compare pred samesign a c) (ops.Compare pred' samesign' M x y) (suc zero) r same at = record { old = record { operand = y; width = M; block = b; place = p }; is_read = refl; width = cc; operand = cc }
 was_read f f' to b p q N (rule_ops.Compare pred samesign a c) (ops.Compare pred' samesign' M x y) (suc (suc i)) r same at = absurd cc
+was_read f f' to b p q N (rule_ops.Unary op truth a) (ops.Unary op' truth' x) zero r same at = record { old = record { operand = x; width = N; block = b; place = p }; is_read = refl; width = cc; operand = cc }
+was_read f f' to b p q N (rule_ops.Unary op truth a) (ops.Unary op' truth' x) (suc i) r same at = absurd cc
 was_read f f' to b p q N (rule_ops.Select z a c) (ops.Select w x y) zero r same at = record { old = record { operand = w; width = 1; block = b; place = p }; is_read = refl; width = cc; operand = cc }
 was_read f f' to b p q N (rule_ops.Select z a c) (ops.Select w x y) (suc zero) r same at = record { old = record { operand = x; width = N; block = b; place = p }; is_read = refl; width = cc; operand = cc }
 was_read f f' to b p q N (rule_ops.Select z a c) (ops.Select w x y) (suc (suc zero)) r same at = record { old = record { operand = y; width = N; block = b; place = p }; is_read = refl; width = cc; operand = cc }
@@ -89,7 +93,7 @@ some_at [] k within = absurd (omega arith)
 some_at (a ∷ xs) zero within = (a, refl)
 some_at (a ∷ xs) (suc k) within = some_at xs k (omega arith)
 
-module _ (f f' : Function) (to : Substitution) (rule : Rule) (m : Binding) (k : ℕ) (definite : IsDefinite to) (is : IsMatch f m.block m.place rule m) (there : StandsThere f f' to m k) where
+module _ (Before Before' : ℕ → ℕ → Type 0) (f f' : Function) (to : Substitution) (rule : Rule) (m : Binding) (k : ℕ) (definite : IsDefinite to) (is : MatchesWhere Before f m.block m.place rule m) (there : StandsThere Before Before' f f' to m k) where
   -- what a statement is bound to then
   bound_then : (j p q : ℕ) → slice_get m.statements j ≡ Some (registers.Result m.block p) → StandsAt f f' to m.block p q
       → slice_get (map (λ r. register_or r (to r)) m.statements) j ≡ Some (registers.Result m.block q)
@@ -129,7 +133,7 @@ module _ (f f' : Function) (to : Substitution) (rule : Rule) (m : Binding) (k : 
       let (q, stands, before) = there.bound j h.place h.bound in
       let same : stands.inst ≡ h.inst = same_inst f m.block h.place stands.inst h.inst stands.was h.is_inst in
       let is_inst : IsInst f' m.block q (substituted_inst to h.inst) = subst (λ (i : Inst). IsInst f' m.block q (substituted_inst to i)) same stands.is in
-      let flags : flags_of_inst h.inst.op ≡ flags_of_inst (substituted_op to h.inst.op) = same_flags to h.inst.op in
+      let flags : promises_of_inst h.inst.op ≡ promises_of_inst (substituted_op to h.inst.op) = same_promises to h.inst.op in
       record {
         place = q;
         inst = substituted_inst to h.inst;
@@ -137,9 +141,8 @@ module _ (f f' : Function) (to : Substitution) (rule : Rule) (m : Binding) (k : 
         is_inst = is_inst;
         matches = record {
           root = λ last. root_then j h.place q (h.matches.root last) stands;
-          temporary = λ earlier. before (h.matches.temporary earlier);
           operation = same_operation to s.op h.inst.op h.matches.operation;
-          flags = subst (AreWithin (flags_of_statement s.op)) flags h.matches.flags;
+          flags = subst (AreKept (promises_of_statement s.op)) flags h.matches.flags;
           no_more_flags = λ earlier reads. sym flags ∙ h.matches.no_more_flags earlier reads;
           width = h.matches.width;
           operands = λ i o r at_i is_read.
@@ -166,13 +169,24 @@ module _ (f f' : Function) (to : Substitution) (rule : Rule) (m : Binding) (k : 
       let is_that : registers.Result m.block q ≡ r = sym (ap (register_or old) names_it) ∙ now in
       there.uses old r (contains_at m.statements j old was) (names_it ∙ ap operands.Register is_that) (is.one_use j old asked was)
 
-  match_then : IsMatch f' m.block k rule (moved_binding to k m)
+  -- temporaries stand before the root
+  before_then : (j p : ℕ) → suc j < length rule.source → slice_get (map (λ r. register_or r (to r)) m.statements) j ≡ Some (registers.Result m.block p) → Before' p k
+  before_then j p less at =
+      let (s, is_statement) = some_at rule.source j (omega (arith, less)) in
+      let h = is.statements j s is_statement in
+      let (q, stands, before) = there.bound j h.place h.bound in
+      let same : registers.Result m.block q ≡ registers.Result m.block p = same_Some (registers.Result m.block q) (registers.Result m.block p) (sym (bound_then j h.place q h.bound stands) ∙ at) in
+      let place : q ≡ p = cc in
+      subst (λ (n : ℕ). Before' n k) place (before (is.before j h.place less h.bound))
+
+  match_then : MatchesWhere Before' f' m.block k rule (moved_binding to k m)
   match_then = record {
     block = refl;
     place = refl;
     reached = there.reached is.reached;
     statement_count = length-map m.statements (λ r. register_or r (to r)) ∙ is.statement_count;
     statements = statement_then;
+    before = before_then;
     input_count = length-map m.inputs (substituted_operand to) ∙ is.input_count;
     no_undef = λ has.
         let (a, among, is_undef) = from_map (substituted_operand to) m.inputs operands.Undef has in
@@ -184,4 +198,4 @@ module _ (f f' : Function) (to : Substitution) (rule : Rule) (m : Binding) (k : 
   }
 
 pub matches_stay : MatchesStay
-matches_stay f f' to rule m k definite is there = match_then f f' to rule m k definite is there
+matches_stay Before Before' f f' to rule m k definite is there = match_then Before Before' f f' to rule m k definite is there

@@ -16,16 +16,16 @@ use Rattle.needed.specs.KeptFunction.{KeptMarks, kept_before, moved_register, ke
 use Rattle.substitution.specs.Substitution.{Substitution, IsDefinite}
 use Rattle.substitution.specs.declared.rewrite.Rewrite.{Rewrite}
 use Rattle.substitution.specs.Rewritten.{root_of, moved_place, stands_for, rewritten_function}
-use Rattle.bindings.specs.Match.{IsMatch}
+use Rattle.bindings.specs.Match.{IsMatch, MatchesInAnyOrder, MatchesWhere}
 use Rattle.bindings.specs.declared.binding.Binding.{Binding}
 use Rattle.moved_matches.specs.Moved.{StandsThere, moved_binding}
 
 -- Where all that a match stands on stands in another function, the rule matches there too, at the same widths and with the same
 -- constants. Told of a substitution there and of one back, no other match stands there.
 abbrev pub MatchesStay : Type 0
-MatchesStay = (f f' : Function) (to : Substitution) (rule : Rule) (m : Binding) (k : ℕ)
-    → IsDefinite to → IsMatch f m.block m.place rule m → StandsThere f f' to m k
-    → IsMatch f' m.block k rule (moved_binding to k m)
+MatchesStay = (Before Before' : ℕ → ℕ → Type 0) (f f' : Function) (to : Substitution) (rule : Rule) (m : Binding) (k : ℕ)
+    → IsDefinite to → MatchesWhere Before f m.block m.place rule m → StandsThere Before Before' f f' to m k
+    → MatchesWhere Before' f' m.block k rule (moved_binding to k m)
 
 -- what a match asks to be used once, if it is, is used once in the other function
 abbrev pub UsesStay : Function → Function → Substitution → Binding → Type 0
@@ -57,3 +57,8 @@ abbrev pub ReadsStandBefore : Type 0
 ReadsStandBefore = (f : Function) (b k p i : ℕ) (inst : Inst) (r : Read)
     → MeetsChecks f → IsReached f b → IsInst f b k inst → ¬ IsPhi inst.op
     → IsRead f b k i r → r.operand ≡ operands.Register (registers.Result b p) → p < k
+
+-- So a rule matches in a function that meets its checks where it matches but for the order in which instructions stand.
+abbrev pub TemporariesStandBefore : Type 0
+TemporariesStandBefore = (f : Function) (b k : ℕ) (rule : Rule) (m : Binding)
+    → MeetsChecks f → IsRule rule → MatchesInAnyOrder f b k rule m → IsMatch f b k rule m

@@ -1,5 +1,5 @@
 -- What of one function stands in another, where its registers may be others.
-use Rattle.std.specs.Prelude.{◌≡◌, ℕ, ◌<◌, map, Some, Contains, slice_get}
+use Rattle.std.specs.Prelude.{◌≡◌, ℕ, map, Some, Contains, slice_get}
 use Rattle.ir_core.specs.Checks.{IsInst}
 use Rattle.ir_core.specs.Walks.{IsReached}
 use Rattle.ir_core.specs.declared.function.Function.{Function}
@@ -29,10 +29,10 @@ pub record StandsAt (f f' : Function) (to : Substitution) (b p q : ℕ) : Type 0
   pub register : to (registers.Result b p) ≡ operands.Register (registers.Result b q)
 
 -- What a match stands on stands in the other function, where its root is instruction k of its block: the block is reached, the
--- instructions that statements are bound to stand there, temporaries before the root, and what is used once is used once.
-pub record StandsThere (f f' : Function) (to : Substitution) (m : Binding) (k : ℕ) : Type 0 where
+-- instructions that statements are bound to stand there, to the root as in the first, and what is used once is used once.
+pub record StandsThere (Before Before' : ℕ → ℕ → Type 0) (f f' : Function) (to : Substitution) (m : Binding) (k : ℕ) : Type 0 where
   pub reached : IsReached f m.block → IsReached f' m.block
   pub root : to (registers.Result m.block m.place) ≡ operands.Register (registers.Result m.block k)
   pub bound : (j p : ℕ) → slice_get m.statements j ≡ Some (registers.Result m.block p)
-      → (q : ℕ) × StandsAt f f' to m.block p q × (p < m.place → q < k)
+      → (q : ℕ) × StandsAt f f' to m.block p q × (Before p m.place → Before' q k)
   pub uses : (r s : Register) → Contains m.statements r → to r ≡ operands.Register s → IsUsedOnce f r → IsUsedOnce f' s

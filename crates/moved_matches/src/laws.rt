@@ -1,6 +1,6 @@
 //! The laws of matches that stay, each the contract of a function that does nothing.
 
-ghost use Rattle.moved_matches.specs.Laws.{MatchesAwayFromRootsStay, MatchesOfKeptStay, MatchesStay, ReadsStandBefore};
+ghost use Rattle.moved_matches.specs.Laws.{MatchesAwayFromRootsStay, MatchesOfKeptStay, MatchesStay, ReadsStandBefore, TemporariesStandBefore};
 
 use run_history::assigned_registers_keep_their_order;
 
@@ -21,4 +21,11 @@ pub fn reads_of_a_block_stand_before()
     ensures { ReadsStandBefore }
 {
     assigned_registers_keep_their_order();
+}
+
+/// So temporaries of a match stand before its root, in whatever order instructions were looked at.
+pub fn temporaries_stand_before_roots()
+    ensures { TemporariesStandBefore }
+{
+    reads_of_a_block_stand_before();
 }

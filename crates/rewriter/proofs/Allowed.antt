@@ -127,7 +127,7 @@ module _ (f : Function) (b k : ℕ) (rule : Rule) (binding : Binding) (checked :
       let s = statement_at j (omega arith) in
       let m : StatementMatches f rule binding j s.0 = match.statements j s.0 s.1 in
       let is : reg ≡ registers.Result binding.block m.place = same_Some reg (registers.Result binding.block m.place) (sym at ∙ m.bound) in
-      let before : m.place < binding.place = m.matches.temporary lt in
+      let before : m.place < binding.place = match.before j m.place lt m.bound in
       let own : IsAssigned f (registers.Result binding.block m.place) binding.block binding.place = (has_inst f binding.block m.place m.inst m.is_inst, λ passed walk. inr (refl, before)) in
       (m.place, is, before, subst (λ r. IsAssigned f r binding.block binding.place) (sym is) own)
 
@@ -170,7 +170,7 @@ module _ (f : Function) (b k : ℕ) (rule : Rule) (binding : Binding) (checked :
     inputs = input_values held binding
 
     temporaries : (end : Held) × TemporariesEnd typing binding.constants rule inputs (Holds end) × Standing f rule binding held (length rule.source - 1) end
-    temporaries = temporaries_stand f rule binding held checked match.typing match.no_undef match.statements equations
+    temporaries = temporaries_stand f rule binding held checked match.typing match.no_undef match.statements match.before equations
 
     H : Held
     H = temporaries.0

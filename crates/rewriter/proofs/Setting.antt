@@ -85,7 +85,7 @@ module _ (f : Function) (b k : ℕ) (rule : Rule) (binding : Binding) (checked :
       at_or_before j s at m =
           let within : j < length rule.source = slice_get_within rule.source j s at in
           elim (cases_lt (suc j) (length rule.source)) [
-            | inl before ↦ let lt : m.place < binding.place = m.matches.temporary before in omega arith
+            | inl before ↦ let lt : m.place < binding.place = match.before j m.place before m.bound in omega arith
             | inr last ↦ let is : m.place ≡ binding.place = m.matches.root (omega arith) in omega arith
           ]
 

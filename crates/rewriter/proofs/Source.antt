@@ -155,6 +155,7 @@ module _ (f : Function) (rule : Rule) (binding : Binding) (held : Registers) whe
 
   module _ (checked : IsRule rule) (typed : IsTyping rule binding.typing) (no_undef : Contains binding.inputs operands.Undef → ⊥)
       (statements : (j : ℕ) (s : Statement) → slice_get rule.source j ≡ Some s → StatementMatches f rule binding j s)
+      (stand_before : (j p : ℕ) → suc j < length rule.source → slice_get binding.statements j ≡ Some (registers.Result binding.block p) → p < binding.place)
       (equations : (p : ℕ) (inst : Inst) → p < binding.place → IsInst f binding.block p inst → IsComputed inst.op → EquationHolds held binding.block p inst) where
     abbrev pub given : Given
     given = given_by binding.typing binding.constants [] rule
@@ -165,7 +166,7 @@ module _ (f : Function) (rule : Rule) (binding : Binding) (held : Registers) whe
     source_step j s H at before standing =
         let m : StatementMatches f rule binding j s = statements j s at in
         let is : IsComputed m.inst.op = is_computed checked typed j s at m in
-        let eq : EquationHolds held binding.block m.place m.inst = equations m.place m.inst (m.matches.temporary before) m.is_inst is in
+        let eq : EquationHolds held binding.block m.place m.inst = equations m.place m.inst (stand_before j m.place before m.bound) m.is_inst is in
         let x = op_computes f binding.block m.place held m.inst.width m.inst.op (effects.Gives eq.0) is eq.2 in
         let none : ¬ IsFreeze s.op = no_freeze_before rule j s.op before (checked.source_ops j s at) in
         let plain : inputs_of s.class s.op ≡ operands_of s.op = plain_inputs s.class s.op none in

@@ -27,6 +27,7 @@ returns c =
         reached = holds c.reached.result (c.reached.ensures c.args.f.now (sym c.requires.facts.flow)) c.if-not-reached.false;
         statement_count = sizes.0;
         statements = match;
+        before = λ j p less at. tt;
         input_count = sizes.1;
         no_undef = λ among. fails c.has_undef.result c.has_undef.ensures c.if-has_undef.false (subst (λ (os : List Operand). Contains os operands.Undef) (sym c.as_slice.ensures) among);
         constant_count = sizes.2;
