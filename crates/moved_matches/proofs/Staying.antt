@@ -197,5 +197,5 @@ module _ (Before Before' : ℕ → ℕ → Type 0) (f f' : Function) (to : Subst
     one_use = one_use_then;
   }
 
-pub matches_stay : MatchesStay
+pub matches_stay : (Before Before' : ℕ → ℕ → Type 0) → MatchesStay Before Before'
 matches_stay Before Before' f f' to rule m k definite is there = match_then Before Before' f f' to rule m k definite is there

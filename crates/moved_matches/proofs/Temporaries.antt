@@ -4,6 +4,7 @@ use Rattle.std.specs.Prelude.{Contains, flat_map, slice_get}
 use Rattle.std.proofs.lemmas.Bool.{cases_lt}
 use Rattle.std.proofs.lemmas.Option.{same_Some, slice_get_within}
 use Rattle.ir_core.specs.Checks.{IsPhi, MeetsChecks}
+use Rattle.ir_core.specs.Walks.{IsReached}
 use Rattle.ir_core.specs.Reads.{Read, IsRead, reads_of}
 use Rattle.ir_core.specs.declared.function.Function.{Function}
 use Rattle.ir_core.specs.declared.instruction.Op.{Op}
@@ -61,7 +62,7 @@ module _ (stands_before : ReadsStandBefore) (f : Function) (b k : ℕ) (rule : R
       let matched = h.matches.operands n o r there is_read in
       let (reg, bound, reads) : StandsFor m r.width (arguments.Register (names.Source j)) r.operand = subst (λ (a : Argument). StandsFor m r.width a r.operand) names_it matched.value in
       let same : reg ≡ registers.Result m.block p = same_Some reg (registers.Result m.block p) (sym bound ∙ at) in
-      stands_before f m.block h.place p n h.inst r checks is.reached h.is_inst (no_phi s.op h.inst.op h.matches.operation) is_read (reads ∙ ap operands.Register same)
+      stands_before f m.block h.place p n h.inst r checks (subst (IsReached f) (sym is.block) is.reached) h.is_inst (no_phi s.op h.inst.op h.matches.operation) is_read (reads ∙ ap operands.Register same)
 
   -- one of the last n statements but the root
   before_root : (n j p : ℕ) → length rule.source ≤ n + suc j → suc j < length rule.source → slice_get m.statements j ≡ Some (registers.Result m.block p) → p < m.place

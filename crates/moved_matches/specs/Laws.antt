@@ -21,11 +21,18 @@ use Rattle.bindings.specs.declared.binding.Binding.{Binding}
 use Rattle.moved_matches.specs.Moved.{StandsThere, moved_binding}
 
 -- Where all that a match stands on stands in another function, the rule matches there too, at the same widths and with the same
--- constants. Told of a substitution there and of one back, no other match stands there.
-abbrev pub MatchesStay : Type 0
-MatchesStay = (Before Before' : ℕ → ℕ → Type 0) (f f' : Function) (to : Substitution) (rule : Rule) (m : Binding) (k : ℕ)
+-- constants; in whatever order is asked of temporaries in each. Told of a substitution there and of one back, no other match stands there.
+abbrev pub MatchesStay : (ℕ → ℕ → Type 0) → (ℕ → ℕ → Type 0) → Type 0
+MatchesStay Before Before' = (f f' : Function) (to : Substitution) (rule : Rule) (m : Binding) (k : ℕ)
     → IsDefinite to → MatchesWhere Before f m.block m.place rule m → StandsThere Before Before' f f' to m k
     → MatchesWhere Before' f' m.block k rule (moved_binding to k m)
+
+-- temporaries are asked to stand before the root, and their order isn't asked for
+abbrev pub InOrder : ℕ → ℕ → Type 0
+InOrder p k = p < k
+
+abbrev pub InAnyOrder : ℕ → ℕ → Type 0
+InAnyOrder p k = Unit {0}
 
 -- what a match asks to be used once, if it is, is used once in the other function
 abbrev pub UsesStay : Function → Function → Substitution → Binding → Type 0

@@ -1,13 +1,14 @@
 //! The laws of matches that stay, each the contract of a function that does nothing.
 
-ghost use Rattle.moved_matches.specs.Laws.{MatchesAwayFromRootsStay, MatchesOfKeptStay, MatchesStay, ReadsStandBefore, TemporariesStandBefore};
+ghost use Rattle.moved_matches.specs.Laws.{InAnyOrder, InOrder, MatchesAwayFromRootsStay, MatchesOfKeptStay, MatchesStay, ReadsStandBefore, TemporariesStandBefore};
 
 use run_history::assigned_registers_keep_their_order;
 
 /// A rule that matches in a function matches in another one where what the match stands on does, with the binding that says where it
 /// stands there.
 pub fn matches_stay_where_instructions_move()
-    ensures { MatchesStay }
+    ensures in_order { MatchesStay InOrder InOrder }
+    ensures any_order { MatchesStay InAnyOrder InAnyOrder }
 {}
 
 /// So it does where the function is rewritten at another root, and where it is cleaned of what the match isn't bound to.
