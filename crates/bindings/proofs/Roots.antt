@@ -45,12 +45,12 @@ no_root_operation f b k rule none = (λ h. absurd cc, λ root. absurd (none (has
 
 -- a match stands where it says
 pub match_there : {Before : ℕ → ℕ → Type 0} (f : Function) (b k : ℕ) (rule : Rule) (m n : Binding) → MatchesWhere Before f b k rule m → n ≡ m → MatchesWhere Before f n.block n.place rule n
-match_there f b k rule m n is same =
+match_there {Before = Before} f b k rule m n is same =
     subst (λ (x : Binding). MatchesWhere Before f x.block x.place rule x) (sym same)
     (subst (λ (d : ℕ). MatchesWhere Before f d m.place rule m) (sym is.block) (subst (λ (p : ℕ). MatchesWhere Before f b p rule m) (sym is.place) is))
 
 pub match_here : {Before : ℕ → ℕ → Type 0} (f : Function) (b k : ℕ) (rule : Rule) (m : Binding) → (m.block ≡ b) × (m.place ≡ k) → MatchesWhere Before f m.block m.place rule m → MatchesWhere Before f b k rule m
-match_here f b k rule m there is =
+match_here {Before = Before} f b k rule m there is =
     subst (λ (p : ℕ). MatchesWhere Before f b p rule m) there.1 (subst (λ (d : ℕ). MatchesWhere Before f d m.place rule m) there.0 is)
 
 -- a match is one in any order
