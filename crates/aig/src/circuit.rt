@@ -1,5 +1,4 @@
 //! That a graph is a circuit.
-ghost use Rattle.std.specs.Prelude.{◌≡◌};
 
 use crate::graph::Aig;
 use crate::literal::Literal;

@@ -1,5 +1,5 @@
 //! Literals, and the nodes that they name.
-ghost use Rattle.std.specs.Prelude.{◌≡◌, ◌^◌, ◌-◌, ◌<◌, true, false, IsTrue};
+ghost use Rattle.std.specs.Prelude.{◌≡◌, ◌^◌, ◌-◌, ◌<◌, false, IsTrue};
 ghost use Rattle.aig.specs.Literal.{code_of, negation_of};
 
 use std::marker::Model;

@@ -1,6 +1,6 @@
 //! Searches through the matches of a function, place by place: no matches are held but those at one instruction.
 
-ghost use Rattle.std.specs.Prelude.{◌≡◌, ◌<◌, ◌≤◌, ◌^◌, map, length, All, Any, MatchBool, IfOk, OnOk};
+ghost use Rattle.std.specs.Prelude.{◌<◌, ◌≤◌, ◌^◌, map, length, All, Any, MatchBool, IfOk, OnOk};
 ghost use Rattle.ir_core.specs.Checks.{MeetsChecks};
 ghost use Rattle.ir_core.specs.declared.function.Function.{Function as FunctionSearched};
 ghost use Rattle.bindings.specs.Facts.{AreFactsOf};

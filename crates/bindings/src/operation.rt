@@ -48,7 +48,7 @@ pub(crate) fn is_same_operation(statement: RuleOp, inst: &Op) -> bool
     }
 }
 
-/// The flags of a statement.
+/// What a statement promises: its flags, or the truth value of its intrinsic.
 pub(crate) fn promises_of_statement(op: RuleOp) -> Promises
     ensures { result ≡ promises_of_statement op }
 {
@@ -61,7 +61,7 @@ pub(crate) fn promises_of_statement(op: RuleOp) -> Promises
     }
 }
 
-/// The flags of an instruction.
+/// What an instruction promises: its flags, or the truth value of its intrinsic.
 pub(crate) fn promises_of_inst(op: &Op) -> Promises
     ensures { result ≡ promises_of_inst op.now }
 {

@@ -1,6 +1,6 @@
 //! Whether the root of a rule may match an instruction.
 
-ghost use Rattle.std.specs.Prelude.{◌≡◌, ◌↔◌, IsTrue};
+ghost use Rattle.std.specs.Prelude.{◌↔◌, IsTrue};
 ghost use Rattle.ir_core.specs.Blocks.{HasInst};
 ghost use Rattle.rule_core.specs.Checks.{IsRule};
 ghost use Rattle.bindings.specs.Checks.{IsRootOperation};

@@ -1,5 +1,5 @@
 -- What the literals of a rule's circuit are and stand for.
-use Rattle.std.specs.Prelude.{◌≡◌, ℕ, Bool, List, length}
+use Rattle.std.specs.Prelude.{◌≡◌, ℕ, List, length}
 use Rattle.std.specs.List.{All}
 use Rattle.ops.specs.Number.{Number}
 use Rattle.ops.specs.declared.value.Effect.{Effect}

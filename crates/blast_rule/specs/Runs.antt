@@ -1,6 +1,5 @@
 -- What statements read, as the literals of a scope, and how they run.
 use Rattle.std.specs.Prelude.{◌≡◌, ◌≤◌, ℕ, Bool, if◌then◌else◌, List, [], length, map, Option, Some, None, slice_get}
-use Rattle.std.specs.List.{All}
 use Rattle.ops.specs.Number.{Number}
 use Rattle.ops.specs.Integer.{bits}
 use Rattle.ops.specs.declared.value.Value.{Value}

@@ -4,7 +4,6 @@ ghost use Rattle.std.specs.List.{All, AllZip};
 ghost use Rattle.rule_core.specs.Run.{Given, OperandGives};
 ghost use Rattle.rule_core.specs.Readiness.{OperandIsReady};
 ghost use Rattle.blast_value.specs.Effect.{held_value, IsOwn};
-ghost use Rattle.blast_value.specs.Words.{word_value};
 ghost use Rattle.blast_term.specs.Scope.{seen, ScopeIsOwn};
 ghost use Rattle.blast_rule.specs.Runs.{shapes, given_shape, IsGiven, HoldsOperand};
 

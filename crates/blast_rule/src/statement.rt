@@ -1,5 +1,5 @@
 //! One statement of a rule in literals.
-ghost use Rattle.std.specs.Prelude.{◌≡◌, ◌+◌, true, false, Bool, List as Seq, length, slice_get, slice_index, Some, IfOk};
+ghost use Rattle.std.specs.Prelude.{◌≡◌, true, false, Bool, List as Seq, length, slice_get, slice_index, Some, IfOk};
 ghost use Rattle.circuits.specs.Circuit.{Adds};
 ghost use Rattle.rule_core.specs.declared.rule.Op.TheVariants.{Copy as CopyOf};
 ghost use Rattle.rule_core.specs.Positions.{operands_of};

@@ -1,5 +1,5 @@
 //! The widths of the choices of statements, which are their `undef`s and their freezes.
-ghost use Rattle.std.specs.Prelude.{◌≡◌, ◌++◌, ◌<◌, length, IfOk, OnOk};
+ghost use Rattle.std.specs.Prelude.{◌≡◌, ◌++◌, ◌<◌, IfOk, OnOk};
 ghost use Rattle.rule_core.specs.Positions.{choices_among};
 ghost use Rattle.blast_setting.specs.Inputs.{widths_chosen};
 ghost use Rattle.blast_setting.specs.Names.{HaveWidths};

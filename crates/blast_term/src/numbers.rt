@@ -1,5 +1,5 @@
 //! Numbers as literals.
-ghost use Rattle.std.specs.Prelude.{◌≡◌, ◌^◌, ◌<◌, ◌≤◌, Bool, if◌then◌else◌, List as Seq, length, IfOk};
+ghost use Rattle.std.specs.Prelude.{◌≡◌, ◌^◌, ◌<◌, Bool, List as Seq, length, IfOk};
 ghost use Rattle.std.specs.List.{All};
 ghost use Rattle.ops.specs.Integer.{bits, residue};
 ghost use Rattle.circuits.specs.Circuit.{Adds};

@@ -1,5 +1,5 @@
 //! The nodes of terms in literals.
-ghost use Rattle.std.specs.Prelude.{◌≡◌, ◌<◌, ◌≤◌, Bool, List as Seq, length, map, slice_index, IfOk};
+ghost use Rattle.std.specs.Prelude.{◌≡◌, ◌<◌, Bool, List as Seq, length, map, slice_index, IfOk};
 ghost use Rattle.std.specs.List.{All};
 ghost use Rattle.ops.specs.Integer.{bits};
 ghost use Rattle.circuits.specs.Circuit.{Adds};

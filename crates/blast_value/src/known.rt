@@ -1,5 +1,5 @@
 //! Words of constants, and whether a word has a number.
-ghost use Rattle.std.specs.Prelude.{◌≡◌, ◌==◌, ◌+◌, ◌*◌, ◌^◌, ◌<◌, ◌≤◌, Bool, List as Seq, length, IfOk};
+ghost use Rattle.std.specs.Prelude.{◌≡◌, ◌==◌, ◌^◌, ◌<◌, Bool, List as Seq, length, IfOk};
 ghost use Rattle.std.specs.List.{All};
 ghost use Rattle.circuits.specs.Circuit.{Adds};
 ghost use Rattle.circuits.specs.Gates.{equality_gates};

@@ -1,5 +1,5 @@
 -- How many different inputs are named.
-use Rattle.std.proofs.Common.{◌≡◌, ℕ, suc, ◌+◌, ◌-◌, ◌<◌, ◌≤◌, true, cond, List, [], ◌∷◌, length, drop, get_or, sym, ap, ◌∙◌, arith, drop-cons, zero-add}
+use Rattle.std.proofs.Common.{◌≡◌, ℕ, suc, ◌+◌, ◌-◌, ◌<◌, ◌≤◌, true, cond, List, [], ◌∷◌, length, drop, get_or, ap, ◌∙◌, arith, drop-cons, zero-add}
 use Rattle.depth_first.specs.Found.{distinct_count}
 use Rattle.depth_first.proofs.Leaves.{either, is_among}
 

@@ -1,6 +1,6 @@
 //! How many inputs a set names.
 
-ghost use Rattle.std.specs.Prelude.{◌≡◌, ◌+◌, ◌<◌, ◌↔◌, length, IfOk, IsTrue};
+ghost use Rattle.std.specs.Prelude.{◌+◌, ◌<◌, ◌↔◌, IfOk, IsTrue};
 ghost use Rattle.depth_first.specs.Found.{distinct_count};
 
 use clauses::Cnf;

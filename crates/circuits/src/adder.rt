@@ -1,5 +1,5 @@
 //! The full adder, and the chain of full adders that adds two words.
-ghost use Rattle.std.specs.Prelude.{◌≡◌, ◌+◌, ◌*◌, ◌%◌, ◌^◌, ◌≤◌, Bool, ◌||◌, ◌&&◌, List as Seq, length, IfOk};
+ghost use Rattle.std.specs.Prelude.{◌≡◌, ◌+◌, ◌*◌, ◌^◌, Bool, ◌||◌, ◌&&◌, List as Seq, length, IfOk};
 ghost use Rattle.std.specs.Bool.{xor};
 ghost use Rattle.std.specs.List.{All};
 ghost use Rattle.circuits.specs.Circuit.{Adds};

@@ -1,5 +1,5 @@
 //! The trait of circuits, whose clauses are the laws.
-ghost use Rattle.std.specs.Prelude.{◌≡◌, ℕ, ◌+◌, ◌≤◌, Bool, true, false, not, ◌&&◌, if◌then◌else◌, List as Seq, drop, slice_index_or, IfOk, OnOk, OnErr};
+ghost use Rattle.std.specs.Prelude.{◌≡◌, ◌+◌, Bool, true, false, not, ◌&&◌, if◌then◌else◌, List as Seq, drop, slice_index_or, IfOk, OnOk, OnErr};
 ghost use Rattle.std.specs.Bool.{xor};
 ghost use Rattle.circuits.specs.Circuit.{Adds, Keeps};
 

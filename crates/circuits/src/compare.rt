@@ -1,5 +1,5 @@
 //! Comparisons of words, as unsigned and as signed numbers.
-ghost use Rattle.std.specs.Prelude.{◌≡◌, ◌==◌, nat_lt, int_lt, ◌+◌, ◌-◌, ◌*◌, ◌^◌, ◌<◌, ◌≤◌, ◌%◌, Bool, not, ◌&&◌, if◌then◌else◌, List as Seq, length, IfOk};
+ghost use Rattle.std.specs.Prelude.{◌≡◌, ◌==◌, nat_lt, int_lt, ◌+◌, ◌-◌, ◌^◌, ◌<◌, ◌%◌, Bool, not, ◌&&◌, if◌then◌else◌, List as Seq, length, IfOk};
 ghost use Rattle.std.specs.Bool.{xor};
 ghost use Rattle.std.specs.List.{All};
 ghost use Rattle.circuits.specs.Circuit.{Adds};

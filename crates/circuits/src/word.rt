@@ -1,5 +1,5 @@
 //! Words of literals, and the plain ways to make one.
-ghost use Rattle.std.specs.Prelude.{◌≡◌, ◌+◌, ◌≤◌, Bool, not, if◌then◌else◌, List as Seq, map, replicate, length, IfOk};
+ghost use Rattle.std.specs.Prelude.{◌≡◌, Bool, not, if◌then◌else◌, List as Seq, map, replicate, length, IfOk};
 ghost use Rattle.std.specs.List.{All};
 ghost use Rattle.circuits.specs.Circuit.{Adds};
 ghost use Rattle.circuits.specs.Gates.{select_gates};

@@ -1,6 +1,6 @@
 //! Reads the words of a command line.
 
-ghost use Rattle.std.specs.Prelude.{◌≡◌, ◌⊎◌, ◌≤◌, ℕ, List, Some, true, false, map, codes, string_bytes, IfOk, OnOk, IfErr, IsErrAnd, is_some, option_map};
+ghost use Rattle.std.specs.Prelude.{◌≡◌, ℕ, List, Some, true, map, codes, string_bytes, IfOk, OnOk, IfErr, IsErrAnd, is_some, option_map};
 ghost use Rattle.clap.specs.Words.{first_of, rows_of, found_of, kind_of, subcommand_rows_of};
 ghost use Rattle.clap.specs.declared.error.kind.ErrorKind.TheVariants.{OutOfMemory};
 ghost use Rattle.command_line.specs.Limits.{IsWithinLimits};

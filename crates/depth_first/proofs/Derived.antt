@@ -6,7 +6,7 @@ use Rattle.std.proofs.lemmas.Bool.{or_cases, or_left, or_right, cases_Bool, case
 use Rattle.std.proofs.lemmas.List.Elements.{filter-append}
 use Rattle.std.proofs.lemmas.List.{append-nil, take_all}
 use Rattle.clauses.specs.Literal.{Lit, negation_of, is_same}
-use Rattle.clauses.specs.Propagation.{Derives, HintsRefute, NamesFalse, NamesUnit, IsUnit, is_held, is_false}
+use Rattle.clauses.specs.Propagation.{Derives, HintsRefute, NamesFalse, IsUnit, is_held, is_false}
 use Rattle.clauses.proofs.Held.{is_same-self, is_same-true}
 use Rattle.clauses.proofs.Units.{falsified_each, unit_only, IsFalsified-agree, IsUnit-agree}
 use Rattle.clauses.proofs.Closed.{HeldWithin, HeldWithin-cons, not_held}

@@ -1,6 +1,6 @@
 -- What the answers of a search rest on.
 use Rattle.std.proofs.Common.{◌≡◌, ℕ, ◌+◌, ◌-◌, ◌<◌, ◌≤◌, Bool, Option, true, false, not, cond, List, [], ◌∷◌, ◌++◌, Some, None, length, take, drop, map, get_or, refl, sym, ap, ◌∙◌, arith, inl, inr, subst, length-drop, get_or-drop, append_assoc}
-use Rattle.std.specs.Prelude.{slice_get, ◌⊎◌, All}
+use Rattle.std.specs.Prelude.{slice_get, All}
 use Rattle.std.proofs.lemmas.Bool.{cases_Bool, true≢false, or_cases, or_left, or_right}
 use Rattle.std.proofs.lemmas.List.{length-map, take-append-drop, length-take-le, get_or-map, map-append}
 use Rattle.std.proofs.lemmas.List.Elements.{All-nil, All-cons, All-head, All-tail}

@@ -1,12 +1,11 @@
 -- The state with one clause more, and with one entry more.
-use Rattle.std.proofs.Common.{◌≡◌, ℕ, suc, ◌+◌, ◌<◌, ◌≤◌, true, false, List, [], ◌∷◌, ◌++◌, Some, length, length-append, take, refl, sym, ap, ◌∙◌, arith, inl, inr, subst}
-use Rattle.std.specs.Prelude.{slice_get, ◌⊎◌}
+use Rattle.std.proofs.Common.{◌≡◌, ℕ, ◌+◌, ◌≤◌, true, false, List, [], ◌∷◌, ◌++◌, Some, length, length-append, take, sym, ap, ◌∙◌, arith, inl, inr, subst}
+use Rattle.std.specs.Prelude.{slice_get}
 use Rattle.std.proofs.lemmas.Bool.{true≢false}
 use Rattle.std.proofs.lemmas.List.{take-append-le, take_all}
 use Rattle.clauses.specs.Literal.{Lit}
-use Rattle.clauses.specs.Propagation.{is_held, is_false}
 use Rattle.depth_first.specs.declared.trail.Entry.{Entry}
-use Rattle.depth_first.specs.TrailEntries.{literals, is_decision, Grows}
+use Rattle.depth_first.specs.TrailEntries.{literals, is_decision}
 use Rattle.depth_first.proofs.Lists.{slice_get_push_cases, slice_get_take, take_left, take_whole, take_take_below, slice_get_below}
 use Rattle.depth_first.proofs.HeldLists.{HeldWithin-entries}
 use Rattle.first_uip.specs.declared.watches.Watches.{Watches}

@@ -1,7 +1,7 @@
 -- What an analysis of a conflict shows.
-use Rattle.std.proofs.Common.{◌≡◌, ℕ, zero, suc, ◌+◌, ◌<◌, ◌≤◌, Bool, true, false, cond, List, [], ◌∷◌, ◌++◌, Option, Some, None, length, take, set, filter, get_or, refl, sym, ap, ◌∙◌, arith, inl, inr, subst}
+use Rattle.std.proofs.Common.{◌≡◌, ℕ, zero, suc, ◌+◌, ◌<◌, ◌≤◌, Bool, true, false, cond, List, [], ◌∷◌, ◌++◌, Option, Some, None, length, take, set, get_or, refl, sym, ap, ◌∙◌, arith, inl, inr, subst}
 use Rattle.std.specs.Prelude.{slice_get, remove, ◌⊎◌}
-use Rattle.std.proofs.lemmas.Bool.{cases_Bool, cases_order, cases_lt, or_cases, or_left, or_right, true≢false}
+use Rattle.std.proofs.lemmas.Bool.{cases_order, cases_lt, or_cases, or_left, or_right, true≢false}
 use Rattle.std.proofs.lemmas.List.{get_or-set_same, get_or-set_other}
 use Rattle.clauses.specs.declared.cnf.Cnf.{Cnf}
 use Rattle.clauses.specs.declared.step.Step.{Step}
@@ -12,15 +12,15 @@ use Rattle.clauses.proofs.Held.{is_same-self, is_same-true, negation-negation}
 use Rattle.clauses.proofs.Units.{falsified_each, held_at_place}
 use Rattle.clauses.proofs.Closed.{HeldWithin, IsClosed, IsNew-from_closed}
 use Rattle.depth_first.specs.declared.trail.Entry.{Entry}
-use Rattle.depth_first.specs.TrailEntries.{literals, reasons, is_decision, IsOpen, EachFresh}
+use Rattle.depth_first.specs.TrailEntries.{literals, reasons, IsOpen, EachFresh}
 use Rattle.depth_first.proofs.Lists.{some_same, slice_get_below, slice_get_last, slice_get_take, slice_get_in_take, take_take_below}
-use Rattle.depth_first.proofs.HeldLists.{Consistent, both_held, held_left, held_last, held_cases, held_one_same, not_held_nil, literal_at, HeldWithin-take, open_within, open_not_false, open_not_held}
+use Rattle.depth_first.proofs.HeldLists.{Consistent, both_held, held_left, held_last, held_cases, held_one_same, not_held_nil, literal_at, HeldWithin-take, open_within, open_not_false}
 use Rattle.depth_first.proofs.States.{remove_last}
 use Rattle.depth_first.proofs.FoundLemmas.{kept_literal}
 use Rattle.depth_first.specs.TrailEntries.{EachForced}
 use Rattle.first_uip.specs.declared.roles.Role.{Role}
-use Rattle.first_uip.specs.declared.roles.Role.TheVariants.{Unseen, Resolved, Kept}
-use Rattle.first_uip.specs.Conflict.{role_of, part_of, is_seen, is_kept, kept_entries, resolved_entries, IsResolution, Sees, NoneSeen, NoneKept, NoneDecided, DecidedAt, SameKeptFrom, IsAnalysis, IsJump, IsBelow, IsAsserting, IsOther}
+use Rattle.first_uip.specs.declared.roles.Role.TheVariants.{Unseen, Kept}
+use Rattle.first_uip.specs.Conflict.{role_of, part_of, is_seen, is_kept, kept_entries, resolved_entries, IsResolution, Sees, NoneSeen, SameKeptFrom, IsAnalysis, IsJump, IsAsserting, IsOther}
 use Rattle.first_uip.proofs.RoleLemmas.{IsResolution-keep, IsResolution-unseen, other_entry}
 use Rattle.first_uip.proofs.Resolved.{held_place, kept_refuted}
 

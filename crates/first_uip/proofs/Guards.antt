@@ -2,21 +2,20 @@
 use Rattle.std.proofs.Common.{◌≡◌, ℕ, suc, ◌+◌, ◌<◌, ◌≤◌, true, false, List, [], ◌∷◌, ◌++◌, Some, length, length-set, take, set, refl, sym, ap, ◌∙◌, arith, inl, inr, subst}
 use Rattle.std.specs.Prelude.{slice_get, ◌⊎◌}
 use Rattle.std.specs.List.{swap_remove}
-use Rattle.std.proofs.lemmas.Bool.{cases_Bool, cases_eq, cases_order, true≢false, false_from_ne_true}
+use Rattle.std.proofs.lemmas.Bool.{cases_Bool, cases_eq, true≢false, false_from_ne_true}
 use Rattle.std.proofs.lemmas.List.{take-append-le, take_all}
-use Rattle.clauses.specs.Literal.{Lit, negation_of, is_same}
+use Rattle.clauses.specs.Literal.{Lit, negation_of}
 use Rattle.clauses.specs.Propagation.{is_held, is_false}
 use Rattle.clauses.proofs.Held.{negation-negation}
-use Rattle.clauses.proofs.Closed.{HeldWithin, IsClosed}
+use Rattle.clauses.proofs.Closed.{HeldWithin}
 use Rattle.depth_first.specs.declared.trail.Entry.{Entry}
-use Rattle.depth_first.specs.declared.trail.Cause.TheVariants.{InputDecision, NonInputDecision, Reason}
 use Rattle.depth_first.specs.TrailEntries.{literals, is_decision, Grows}
 use Rattle.depth_first.specs.Propagated.{StandsFrom, IsPropagated, AllPropagated}
 use Rattle.depth_first.specs.DepthFirst.{IsSatisfied}
 use Rattle.depth_first.proofs.Lists.{some_same, slice_get_below, slice_get_cases, slice_get_left, take_left, take_next, element_at}
 use Rattle.depth_first.proofs.HeldLists.{Consistent, held_cases, held_one, held_one_same, held_left, held_right, literals-append, HeldWithin-take, HeldWithin-entries, both_held}
 use Rattle.depth_first.proofs.Open.{IsPropagated-from_held, IsPropagated-from_different}
-use Rattle.depth_first.proofs.PropagationLemmas.{stands_cases, Grows-length}
+use Rattle.depth_first.proofs.PropagationLemmas.{stands_cases}
 use Rattle.first_uip.specs.declared.watches.Watches.{Watches}
 use Rattle.first_uip.specs.declared.watches.Watched.{Watched}
 use Rattle.first_uip.specs.declared.watches.Watched.TheVariants.{Alone, Two}

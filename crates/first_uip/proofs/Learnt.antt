@@ -1,12 +1,12 @@
 -- The state after a conflict.
-use Rattle.std.proofs.Common.{◌≡◌, ℕ, ◌+◌, ◌<◌, ◌≤◌, true, false, List, [], ◌∷◌, ◌++◌, Option, Some, None, length, take, refl, sym, ap, ◌∙◌, arith, inl, inr, subst}
+use Rattle.std.proofs.Common.{◌≡◌, ℕ, ◌+◌, ◌<◌, ◌≤◌, true, false, List, [], ◌∷◌, ◌++◌, Option, Some, None, length, take, sym, ap, ◌∙◌, arith, inl, inr, subst}
 use Rattle.std.specs.Prelude.{slice_get, MatchOption, All}
 use Rattle.std.proofs.lemmas.Bool.{cases_Bool, true≢false}
-use Rattle.std.proofs.lemmas.List.{length-take-le, take-append-le}
+use Rattle.std.proofs.lemmas.List.{length-take-le}
 use Rattle.std.proofs.lemmas.List.Elements.{All-nil}
 use Rattle.clauses.specs.declared.cnf.Cnf.{Cnf}
 use Rattle.clauses.specs.declared.step.Step.{Step}
-use Rattle.clauses.specs.Literal.{Lit, is_same, IsVariable, IsWithin}
+use Rattle.clauses.specs.Literal.{Lit, is_same, IsWithin}
 use Rattle.clauses.specs.Propagation.{IsUnit, NamesUnit, is_held, is_false}
 use Rattle.clauses.specs.ClauseSet.{StepFollows, IsNew, clauses_with}
 use Rattle.clauses.proofs.Held.{is_same-true}
@@ -19,7 +19,7 @@ use Rattle.depth_first.specs.DepthFirst.{IsLearned, IsSatisfied}
 use Rattle.depth_first.proofs.Lists.{slice_get_below, slice_get_last, slice_get_left, slice_get_push_cases, slice_get_take, take_in_take, take_left, take_whole, take_take_below}
 use Rattle.depth_first.proofs.HeldLists.{HeldWithin-take, held_last, literals-append, open_within, open_not_false}
 use Rattle.depth_first.proofs.Open.{variable_within}
-use Rattle.depth_first.proofs.States.{clauses_with-push, LogFollows-push, LogIsNew-push, NoneEmpty-push}
+use Rattle.depth_first.proofs.States.{LogFollows-push, LogIsNew-push, NoneEmpty-push}
 use Rattle.depth_first.specs.TrailEntries.{EachForced}
 use Rattle.first_uip.specs.declared.watches.Watches.{Watches}
 use Rattle.first_uip.specs.declared.watches.Watched.{Watched}

@@ -1,17 +1,17 @@
 -- Lists of the clauses that watch a literal, step by step.
-use Rattle.std.proofs.Common.{◌≡◌, ℕ, ◌+◌, ◌<◌, ◌≤◌, true, false, List, [], ◌∷◌, ◌++◌, Some, length, set, refl, sym, ap, ◌∙◌, arith, inl, inr, subst, length-append, length-set}
+use Rattle.std.proofs.Common.{◌≡◌, ℕ, ◌+◌, ◌<◌, true, false, [], ◌∷◌, ◌++◌, Some, length, set, sym, ap, ◌∙◌, arith, inl, inr, subst, length-append, length-set}
 use Rattle.std.specs.Prelude.{slice_get, ◌⊎◌}
 use Rattle.std.specs.List.{swap_remove}
-use Rattle.std.proofs.lemmas.Bool.{cases_Bool, cases_eq, true≢false}
+use Rattle.std.proofs.lemmas.Bool.{cases_Bool, true≢false}
 use Rattle.clauses.specs.Literal.{Lit, is_same}
 use Rattle.clauses.specs.Propagation.{is_held}
-use Rattle.clauses.proofs.Held.{is_same-true, is_same-self}
+use Rattle.clauses.proofs.Held.{is_same-true}
 use Rattle.depth_first.specs.Propagated.{StandsFrom}
 use Rattle.depth_first.proofs.Lists.{some_same, slice_get_left, slice_get_last, slice_get_push_cases, slice_get_below}
 use Rattle.depth_first.proofs.HeldLists.{held_cases, held_one, held_one_same, not_held_nil, held_right, held_left}
 use Rattle.first_uip.specs.declared.watches.Watches.{Watches}
 use Rattle.first_uip.specs.declared.watches.Watched.{Watched}
-use Rattle.first_uip.specs.declared.watches.Watched.TheVariants.{Alone, Two}
+use Rattle.first_uip.specs.declared.watches.Watched.TheVariants.{Two}
 use Rattle.first_uip.specs.Watching.{watched_literals, numbers_of, AddsNumber, AddsNumbers, IsListed}
 use Rattle.first_uip.specs.Looks.{WatchesBoth}
 use Rattle.first_uip.proofs.Sets.{slice_get-set_cases, kept_by_drop, only_by_drop}

@@ -1,21 +1,19 @@
 -- What a look at a clause rests on.
-use Rattle.std.proofs.Common.{◌≡◌, ℕ, ◌+◌, ◌<◌, true, false, List, Some, length, get_or, refl, sym, ap, ◌∙◌, arith, inl, inr, subst}
+use Rattle.std.proofs.Common.{◌≡◌, ℕ, true, false, List, Some, length, sym, ap, ◌∙◌, arith, inl, inr, subst}
 use Rattle.std.specs.Prelude.{slice_get, All}
-use Rattle.std.proofs.lemmas.Bool.{cases_Bool, true≢false}
+use Rattle.std.proofs.lemmas.Bool.{cases_Bool}
 use Rattle.std.proofs.lemmas.List.Elements.{All-contains}
-use Rattle.std.proofs.lemmas.Option.{slice_get_read}
 use Rattle.clauses.specs.declared.cnf.Cnf.{Cnf}
 use Rattle.clauses.specs.declared.step.Step.{Step}
-use Rattle.clauses.specs.Literal.{Lit, is_same, IsVariable, IsWithin}
+use Rattle.clauses.specs.Literal.{Lit, is_same, IsVariable}
 use Rattle.clauses.specs.Propagation.{IsUnit, IsFalsified, is_held, is_false}
 use Rattle.clauses.specs.ClauseSet.{LogFollows, clauses_with}
-use Rattle.clauses.proofs.Held.{is_same-true, is_same-self}
+use Rattle.clauses.proofs.Held.{is_same-true}
 use Rattle.clauses.proofs.Units.{Contains-from_held, falsified_from, differ}
 use Rattle.depth_first.proofs.Lists.{element_at, slice_get_below}
 use Rattle.depth_first.proofs.Open.{variable_within}
 use Rattle.depth_first.proofs.Involved.{with_within}
 use Rattle.first_uip.specs.declared.watches.Watched.{Watched}
-use Rattle.first_uip.specs.declared.watches.Watched.TheVariants.{Alone, Two}
 use Rattle.first_uip.specs.Watching.{IsWatch, EachIsWatch}
 use Rattle.first_uip.specs.Looks.{WatchesBoth}
 

@@ -6,14 +6,14 @@ use Rattle.std.proofs.lemmas.Bool.{or_cases, or_left, or_right, cases_Bool, case
 use Rattle.std.proofs.lemmas.List.Elements.{filter-append}
 use Rattle.std.proofs.lemmas.List.{append-nil, take_all}
 use Rattle.clauses.specs.Literal.{Lit, negation_of, is_same}
-use Rattle.clauses.specs.Propagation.{Derives, HintsRefute, NamesFalse, NamesUnit, IsUnit, is_held, is_false}
+use Rattle.clauses.specs.Propagation.{Derives, HintsRefute, NamesFalse, IsUnit, is_held, is_false}
 use Rattle.clauses.proofs.Held.{is_same-self, is_same-true}
 use Rattle.clauses.proofs.Units.{falsified_each, unit_only, IsFalsified-agree, IsUnit-agree}
 use Rattle.clauses.proofs.Closed.{HeldWithin, HeldWithin-cons, not_held}
 use Rattle.clauses.proofs.Derivations.{Derives-push}
 use Rattle.depth_first.specs.declared.trail.Entry.{Entry}
 use Rattle.depth_first.specs.declared.trail.Cause.{Cause}
-use Rattle.depth_first.specs.declared.trail.Cause.TheVariants.{InputDecision, NonInputDecision, Reason}
+use Rattle.depth_first.specs.declared.trail.Cause.TheVariants.{Reason}
 use Rattle.depth_first.specs.TrailEntries.{literals, reasons, reason_of}
 use Rattle.depth_first.proofs.Lists.{take_next, element_at, slice_get_take, some_same}
 use Rattle.depth_first.proofs.HeldLists.{Consistent, not_held_nil, literal_at}

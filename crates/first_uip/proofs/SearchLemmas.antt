@@ -1,6 +1,6 @@
 -- The steps of a search, and what its answers rest on.
 use Rattle.std.proofs.Common.{◌≡◌, ℕ, ◌+◌, ◌<◌, ◌≤◌, Bool, Option, true, false, List, [], ◌∷◌, ◌++◌, Some, None, length, take, drop, map, refl, sym, ap, ◌∙◌, arith, inl, inr, subst}
-use Rattle.std.specs.Prelude.{slice_get, ◌⊎◌, unwrap_or, IfSome, IfNone}
+use Rattle.std.specs.Prelude.{slice_get, unwrap_or, IfSome}
 use Rattle.std.proofs.lemmas.Bool.{cases_lt, true≢false}
 use Rattle.std.proofs.lemmas.List.{take_all, append-nil}
 use Rattle.clauses.specs.declared.cnf.Cnf.{Cnf}

@@ -1,6 +1,6 @@
 -- What a conflict rests on, and what is learned of it: the clause of a unique implication point (GRASP).
-use Rattle.std.specs.Prelude.{◌≡◌, ℕ, ◌+◌, ◌<◌, ◌≤◌, ◌++◌, ◌⊎◌, Bool, true, false, List, [], ◌∷◌, Option, Some, None, filter, length, take, slice_get, slice_index_or}
-use Rattle.clauses.specs.Literal.{Lit, negation_of}
+use Rattle.std.specs.Prelude.{◌≡◌, ℕ, ◌+◌, ◌<◌, ◌≤◌, ◌⊎◌, Bool, true, false, List, Option, Some, None, filter, length, take, slice_get, slice_index_or}
+use Rattle.clauses.specs.Literal.{Lit}
 use Rattle.clauses.specs.Propagation.{is_held, is_false}
 use Rattle.depth_first.specs.declared.trail.Entry.{Entry}
 use Rattle.depth_first.specs.declared.trail.Cause.TheVariants.{Reason}

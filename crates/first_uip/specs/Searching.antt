@@ -1,5 +1,5 @@
 -- The state of a search between two steps.
-use Rattle.std.specs.Prelude.{◌≡◌, ℕ, ◌+◌, ◌≤◌, List, length}
+use Rattle.std.specs.Prelude.{ℕ, List}
 use Rattle.clauses.specs.declared.cnf.Cnf.{Cnf}
 use Rattle.clauses.specs.declared.step.Step.{Step}
 use Rattle.clauses.specs.ClauseSet.{clauses_with}

@@ -1,12 +1,12 @@
 //! From a conflict to the clause of its first unique implication point (GRASP, Chaff).
 
-ghost use Rattle.std.specs.Prelude.{◌≡◌, ◌+◌, ◌<◌, ◌≤◌, ◌++◌, ◌∷◌, [], ℕ, true, false, length, replicate, take, IfOk, IfSome, IfNone};
+ghost use Rattle.std.specs.Prelude.{◌≡◌, ◌+◌, ◌<◌, ◌≤◌, ◌++◌, ◌∷◌, [], ℕ, false, length, replicate, take, IfOk, IfSome, IfNone};
 ghost use Rattle.clauses.specs.Propagation.{NamesFalse, negations_of};
 ghost use Rattle.clauses.specs.ClauseSet.{IsNew, LogFollows, StepFollows, clauses_with};
 ghost use Rattle.clauses.proofs.Closed.{IsClosed};
 ghost use Rattle.depth_first.specs.TrailEntries.{literals, reasons};
 ghost use Rattle.depth_first.specs.TrailEntries.{EachForced};
-ghost use Rattle.first_uip.specs.Conflict.{DecidedAt, IsAnalysis, IsAsserting, IsJump, IsLastLevel, IsOther, NoneDecided, NoneKept, NoneSeen, Resolves, SeenAt, is_kept, is_seen, kept_entries, resolved_entries, role_of};
+ghost use Rattle.first_uip.specs.Conflict.{DecidedAt, IsAnalysis, IsAsserting, IsJump, IsLastLevel, IsOther, NoneDecided, NoneSeen, Resolves, SeenAt, is_kept, kept_entries, resolved_entries, role_of};
 
 use crate::minimisation::{mark_implied, settle_earlier};
 use crate::roles::{Role, resolve, see};

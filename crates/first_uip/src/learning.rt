@@ -1,6 +1,6 @@
 //! The search by conflict-driven clause learning.
 
-ghost use Rattle.std.specs.Prelude.{◌≡◌, ◌+◌, ◌^◌, ◌<◌, ◌≤◌, ◌++◌, ◌∷◌, [], length, IfOk, MatchOption, OnOk};
+ghost use Rattle.std.specs.Prelude.{◌≡◌, ◌+◌, ◌^◌, ◌<◌, ◌≤◌, [], length, IfOk, MatchOption, OnOk};
 ghost use Rattle.clauses.specs.ClauseSet.{IsNew, StepFollows, clauses_with};
 ghost use Rattle.depth_first.specs.Found.{IsFound, distinct_count};
 ghost use Rattle.depth_first.specs.DepthFirst.{IsLearned};

@@ -1,6 +1,6 @@
 //! Looking at a clause of which a watched literal became false.
 
-ghost use Rattle.std.specs.Prelude.{◌≡◌, ◌≢◌, ◌⊎◌, ◌+◌, ◌-◌, ◌<◌, true, false, length, All, IfOk, IfSome, IfNone, MatchOption};
+ghost use Rattle.std.specs.Prelude.{◌≡◌, ◌≢◌, ◌+◌, ◌-◌, ◌<◌, true, false, length, All, IfOk, IfSome, IfNone, MatchOption};
 ghost use Rattle.clauses.specs.Literal.{IsWithin};
 ghost use Rattle.clauses.specs.Propagation.{is_held, is_false};
 ghost use Rattle.clauses.specs.ClauseSet.{LogFollows, clauses_with};

@@ -1,6 +1,6 @@
 //! What part variables have in a conflict.
 
-ghost use Rattle.std.specs.Prelude.{◌≡◌, ◌+◌, ◌<◌, ℕ, true, false, length, All};
+ghost use Rattle.std.specs.Prelude.{◌≡◌, ◌+◌, ◌<◌, ℕ, true, length, All};
 ghost use Rattle.clauses.specs.ClauseSet.{LogFollows, clauses_with};
 ghost use Rattle.depth_first.specs.TrailEntries.{EachForced};
 ghost use Rattle.first_uip.specs.Conflict.{NoneDecided, Resolves, Sees, is_kept, is_seen, role_of};

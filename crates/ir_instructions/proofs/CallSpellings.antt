@@ -1,8 +1,8 @@
 -- What is spelled of calls is read, where what follows may follow.
-use Rattle.std.proofs.Common.{◌≡◌, ℕ, Bool, true, false, eqb, ◌&&◌, not, List, [], ◌∷◌, ◌++◌, drop, Option, Some, None, Ok, refl, ap, ◌∙◌, append_assoc}
+use Rattle.std.proofs.Common.{◌≡◌, ℕ, Bool, true, false, ◌&&◌, not, List, [], ◌∷◌, ◌++◌, Option, Some, None, Ok, refl, ap, ◌∙◌, append_assoc}
 use Rattle.std.proofs.lemmas.List.{append-nil}
 use Rattle.ops.specs.declared.opcode.Unary.{Unary}
-use Rattle.ir_tokens.specs.Tokens.{Token, Placed, Word, Number, Register, Mark}
+use Rattle.ir_tokens.specs.Tokens.{Token, Placed, Number, Register, Mark}
 use Rattle.ir_tokens.specs.declared.raw.RawArguments.{RawArguments}
 use Rattle.ir_tokens.specs.declared.raw.RawArguments.TheVariants as arguments
 use Rattle.ir_tokens.specs.declared.raw.RawCall.{RawCall}
@@ -20,7 +20,7 @@ use Rattle.ir_instructions.specs.ItemReaders.{item_at}
 use Rattle.ir_instructions.specs.Keywords.{truth_in}
 use Rattle.ir_instructions.specs.Parts.{Part, IsOn, Is, ◌⨾◌, Each}
 use Rattle.ir_instructions.specs.Readers.{each_at}
-use Rattle.ir_instructions.specs.TokenReaders.{is_mark, mark_at}
+use Rattle.ir_instructions.specs.TokenReaders.{mark_at}
 use Rattle.ir_instructions.specs.Punctuation as marks
 use Rattle.ir_instructions.proofs.ItemSpellings.{item_at-of, items_at-of, item_may_follow, type_begins_no_item}
 use Rattle.ir_instructions.proofs.LateItemSpellings.{late_items_at-of}

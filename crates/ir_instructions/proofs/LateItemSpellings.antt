@@ -6,7 +6,7 @@ use Rattle.ir_instructions.specs.CallGrammar.{ItemsOn, StopsOn}
 use Rattle.ir_instructions.specs.CallReaders.{is_on_line, begins_late_item, late_value_at, late_quoted_at, late_group_at, late_item_at, each_late_item_at, some_token_at, late_items_at}
 use Rattle.ir_instructions.specs.ItemGrammar.{SpellsItem, MayFollowItem, of_word, of_word_and_group, of_number, of_group, of_quoted, of_key_and_value}
 use Rattle.ir_instructions.specs.Parts.{Each}
-use Rattle.ir_instructions.specs.TokenReaders.{is_mark, mark_at}
+use Rattle.ir_instructions.specs.TokenReaders.{mark_at}
 use Rattle.ir_instructions.specs.Punctuation as marks
 use Rattle.ir_instructions.proofs.ItemSizes.{item-shorter}
 use Rattle.ir_instructions.proofs.ItemSpellings.{no_equals, item_may_follow}

@@ -17,7 +17,7 @@ use Rattle.ir_instructions.specs.declared.intrinsic.Intrinsic.TheVariants as int
 use Rattle.ir_instructions.specs.Intrinsics.{IsIntrinsicName}
 use Rattle.ir_instructions.specs.CallReaders.{begins_late_item}
 use Rattle.ir_instructions.specs.ItemGrammar.{SpellsItem}
-use Rattle.ir_instructions.specs.Parts.{Part, IsOn, Is, Nothing, Never, ◌⨾◌, Each, Comma}
+use Rattle.ir_instructions.specs.Parts.{Part, IsOn, Is, Nothing, ◌⨾◌, Each, Comma}
 use Rattle.ir_instructions.specs.PieceGrammar.{IsCaseValue, SpellsOperand, SpellsType}
 use Rattle.ir_instructions.specs.Punctuation as marks
 

@@ -9,15 +9,11 @@ use Rattle.ops.specs.Intrinsics.{is_intrinsic}
 use Rattle.ops.specs.Keywords.{opcode_keyword, cast_keyword, predicate_keyword}
 use Rattle.ops.specs.FlagKeywords.{AddsFlags, flag_keyword}
 use Rattle.scan.specs.IrTokens.{is_plain_name}
-use Rattle.ir_tokens.specs.Identifiers.{identifier_of}
-use Rattle.ir_tokens.specs.Numbers.{constant_of, is_number}
-use Rattle.ir_tokens.specs.Tokens.{Token, Word, Number, Register, Metadata, Mark}
-use Rattle.ir_tokens.specs.declared.raw.RawIdentifier.{RawIdentifier}
+use Rattle.ir_tokens.specs.Numbers.{is_number}
+use Rattle.ir_tokens.specs.Tokens.{Word, Metadata, Mark}
 use Rattle.ir_tokens.specs.declared.raw.RawInst.{RawInst}
 use Rattle.ir_tokens.specs.declared.raw.RawOp.{RawOp}
 use Rattle.ir_tokens.specs.declared.raw.RawOp.TheVariants.{Binary, Compare, Call, Select, Convert, Freeze, Phi}
-use Rattle.ir_tokens.specs.declared.raw.TypedOperand.{TypedOperand}
-use Rattle.ir_tokens.specs.declared.raw.RawOperand.{RawOperand}
 use Rattle.ir_tokens.specs.declared.raw.RawValue.{RawValue}
 use Rattle.ir_tokens.specs.declared.raw.RawValue.TheVariants as values
 use Rattle.ir_tokens.specs.declared.raw.RawIncoming.{RawIncoming}
@@ -25,7 +21,6 @@ use Rattle.ir_tokens.specs.declared.raw.RawTerminator.{RawTerminator}
 use Rattle.ir_tokens.specs.declared.raw.RawTerminator.TheVariants.{Return, Unreachable, Jump, Branch, Switch}
 use Rattle.ir_tokens.specs.declared.raw.RawCase.{RawCase}
 use Rattle.ir_instructions.specs.Parts.{Part, IsOn, Is, ◌⨾◌, Each, Comma, Separated, Repeated}
-use Rattle.ir_instructions.specs.Keywords.{IsTypeWord}
 use Rattle.ir_instructions.specs.Punctuation as marks
 pub use Rattle.ir_instructions.specs.PieceGrammar.{SpellsRegister, SpellsTarget, SpellsType, IsValueToken, SpellsOperand, SpellsTyped, IsCaseValue}
 use Rattle.ir_instructions.specs.CallGrammar.{SpellsCall}

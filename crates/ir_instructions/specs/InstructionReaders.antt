@@ -1,31 +1,22 @@
 -- Reading instructions and terminators from left to right: each reader answers what it reads, or the fault of the first token that
 -- does not fit.
-use Rattle.std.specs.Prelude.{ℕ, ◌==◌, Bool, true, false, not, if◌then◌else◌, List, [], ◌∷◌, Option, None, Some, is_some, Result, Ok, Err, codes}
-use Rattle.std.specs.Str.{bytes_eq}
+use Rattle.std.specs.Prelude.{ℕ, ◌==◌, Bool, false, not, if◌then◌else◌, List, [], ◌∷◌, Option, None, Some, is_some, Ok, Err, codes}
 use Rattle.ops.specs.declared.opcode.Opcode.{Opcode}
 use Rattle.ops.specs.declared.opcode.Flags.{Flags}
 use Rattle.ops.specs.declared.comparison.Pred.{Pred}
 use Rattle.ops.specs.declared.conversion.Cast.{Cast}
 use Rattle.ops.specs.Flags.{no_flags, flags_of, flags_of_cast, flags_of_icmp}
-use Rattle.ops.specs.Number.{Number as Numeral}
 use Rattle.ops.specs.declared.keywords.flag.Flag.{Flag}
 use Rattle.ops.specs.Keywords.{pred_in}
 use Rattle.ops.specs.FlagKeywords.{flag_in, has_flag, with_flag}
-use Rattle.scan.specs.IrTokens.{is_plain_name}
-use Rattle.ir_tokens.specs.Identifiers.{identifier_of}
-use Rattle.ir_tokens.specs.Numbers.{constant_of, is_number}
-use Rattle.ir_tokens.specs.Tokens.{Placed, Word, Number, Register, Metadata, Mark}
-use Rattle.ir_tokens.specs.declared.fault.IrFaultKind.TheVariants.{Syntax, LeftOut, ConstRange}
+use Rattle.ir_tokens.specs.Tokens.{Placed, Word, Mark}
+use Rattle.ir_tokens.specs.declared.fault.IrFaultKind.TheVariants.{Syntax}
 use Rattle.ir_tokens.specs.declared.fault.IrFaultKind.TheVariants as misfits
-use Rattle.refusal.specs.declared.fault.Fault.{Fault}
 use Rattle.ir_tokens.specs.declared.fault.IrFaultKind.{IrFaultKind}
 use Rattle.ir_instructions.specs.declared.place.Place.TheVariants as places
-use Rattle.ir_tokens.specs.declared.raw.RawIdentifier.{RawIdentifier}
 use Rattle.ir_tokens.specs.declared.raw.RawInst.{RawInst}
 use Rattle.ir_tokens.specs.declared.raw.RawOp.{RawOp}
 use Rattle.ir_tokens.specs.declared.raw.RawOp.TheVariants.{Binary, Compare, Select, Convert, Freeze, Phi}
-use Rattle.ir_tokens.specs.declared.raw.TypedOperand.{TypedOperand}
-use Rattle.ir_tokens.specs.declared.raw.RawOperand.{RawOperand}
 use Rattle.ir_tokens.specs.declared.raw.RawValue.TheVariants as values
 use Rattle.ir_tokens.specs.declared.raw.RawIncoming.{RawIncoming}
 use Rattle.ir_tokens.specs.declared.raw.RawTerminator.{RawTerminator}
@@ -37,8 +28,8 @@ use Rattle.ir_instructions.specs.declared.word.Operation.{Operation}
 use Rattle.ir_instructions.specs.declared.word.Operation.TheVariants as operations
 use Rattle.ir_instructions.specs.declared.word.Ending.{Ending}
 use Rattle.ir_instructions.specs.declared.word.Ending.TheVariants as endings
-use Rattle.ir_instructions.specs.Readers.{Reader, fault, unexpected, ◌>>=◌, done, given, or_left_out, repeat_at, each_at}
-use Rattle.ir_instructions.specs.Keywords.{type_in, operation_in, truth_in, value_in, ending_in}
+use Rattle.ir_instructions.specs.Readers.{Reader, fault, unexpected, ◌>>=◌, done, or_left_out, repeat_at, each_at}
+use Rattle.ir_instructions.specs.Keywords.{operation_in, ending_in}
 use Rattle.ir_instructions.specs.Punctuation as marks
 pub use Rattle.ir_instructions.specs.TokenReaders.{is_mark, is_keyword, is_register, is_metadata, identified, type_word, number_value}
 unfoldable pub use Rattle.ir_instructions.specs.TokenReaders.{mark_at, keyword_at, register_at, target_at, type_at, operand_at, case_value_at, typed_at, metadata_at, attachment_at, attachments_at, tail_attachment_at, tail_at}

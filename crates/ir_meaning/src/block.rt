@@ -1,6 +1,6 @@
 //! Passes through blocks.
 
-ghost use Rattle.std.specs.Prelude.{◌≡◌, ◌<◌, ◌≤◌, ℕ, IfOk, drop, length};
+ghost use Rattle.std.specs.Prelude.{◌<◌, ◌≤◌, ℕ, IfOk, drop, length};
 ghost use Rattle.ir_core.specs.Blocks.{IsBlock};
 ghost use Rattle.ir_core.specs.Checks.{IsFormed, IsInst, IsPhi};
 ghost use Rattle.ir_core.specs.Run.{Follows, OnlyZero, Passes};

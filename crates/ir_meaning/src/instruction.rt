@@ -1,6 +1,5 @@
 //! What instructions do.
 
-ghost use Rattle.std.specs.Prelude.{◌≡◌};
 ghost use Rattle.ops.specs.Value.{IsEffectOf, IsValueOf};
 ghost use Rattle.ir_core.specs.Run.{Freezes, OnlyZero, OpGives};
 ghost use Rattle.ir_meaning.specs.Step.{OpFits};

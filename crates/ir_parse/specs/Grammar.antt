@@ -2,10 +2,10 @@
 -- "Functions").
 --
 -- With the grammar of instructions and terminators this is the whole of what is read. Attachments of metadata are dropped.
-use Rattle.std.specs.Prelude.{◌≡◌, ℕ, List, [], ◌∷◌, ◌++◌, IsTrue, IsSome, codes}
+use Rattle.std.specs.Prelude.{◌≡◌, ℕ, List, [], ◌∷◌, IsSome, codes}
 use Rattle.ir_tokens.specs.declared.called.Identifier.TheVariants.{Named}
 use Rattle.ir_tokens.specs.Identifiers.{identifier_of}
-use Rattle.ir_tokens.specs.Tokens.{Placed, End, Kept, KeptGroup, Label, Word, Number, Function, Group, Quoted, Mark}
+use Rattle.ir_tokens.specs.Tokens.{Placed, End, Kept, Label, Word, Function, Mark}
 use Rattle.ir_tokens.specs.declared.raw.RawModule.{RawModule}
 use Rattle.ir_tokens.specs.declared.raw.RawEntry.{RawEntry}
 use Rattle.ir_tokens.specs.declared.raw.RawEntry.TheVariants as entries

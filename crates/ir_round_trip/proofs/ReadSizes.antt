@@ -1,9 +1,6 @@
 -- The module of a text has no more parts than the text has bytes.
-use Rattle.std.proofs.Common.{◌≡◌, ℕ, ◌+◌, ◌<◌, ◌≤◌, List, length, take, Some, sym, subst, arith}
-use Rattle.std.specs.Prelude.{slice_get}
-use Rattle.std.specs.List.{AllByRecursion}
+use Rattle.std.proofs.Common.{ℕ, ◌≤◌, List, length, take, subst, arith}
 use Rattle.std.proofs.lemmas.Option.{slice_get_within}
-use Rattle.ir_core.specs.declared.module.Module.{Module}
 use Rattle.ir_core.specs.declared.module.Entry.{Entry}
 use Rattle.ir_core.specs.declared.module.Entry.TheVariants as core_entries
 use Rattle.ir_core.specs.declared.function.Function.{Function}
@@ -20,13 +17,11 @@ use Rattle.ir_tokens.specs.declared.raw.RawOp.TheVariants.{Binary, Compare, Call
 use Rattle.ir_resolve.specs.Means.{IncomingMeans, OpMeans, InstMeans, BlockIsOf, ParameterMeans, Means, ArgumentsMean}
 use Rattle.ir_resolve.specs.Written.{Calls}
 use Rattle.ir_resolve.proofs.Pairs.{pair_of_second, same_length}
-use Rattle.ir_parse.proofs.ShorterParts.{entry-shorter}
-use Rattle.ir_parse.specs.Grammar.{SpellsEntry}
-use Rattle.ir_reader.specs.Faults.{IsEntryOf, IsModuleText, functions_of}
+use Rattle.ir_reader.specs.Faults.{IsEntryOf, functions_of}
 use Rattle.ir_reader.proofs.Places.{there}
 use Rattle.ir_round_trip.specs.Laws.{HasAtMost, ModuleTextsAreSmall}
 use Rattle.ir_round_trip.proofs.Every.{every_at}
-use Rattle.ir_round_trip.proofs.WrittenSizes.{few_tokens, few_each, OpFew, InstFew, BlockFew, FunctionFew, EntryFew, entries_few}
+use Rattle.ir_round_trip.proofs.WrittenSizes.{few_tokens, OpFew, InstFew, BlockFew, FunctionFew, EntryFew, entries_few}
 
 module _ (n : ℕ) where
   call_is_no_phi : (raw : RawFunction) (w : RawArguments) (phi : List (Operand × ℕ)) → ¬ ArgumentsMean (Calls raw) w (core.Phi phi)

@@ -1,8 +1,8 @@
 -- What is written has no more parts than the text has bytes.
-use Rattle.std.proofs.Common.{◌≡◌, ℕ, suc, ◌+◌, ◌<◌, ◌≤◌, List, [], ◌∷◌, length, Option, ap, refl, arith}
+use Rattle.std.proofs.Common.{ℕ, suc, ◌+◌, ◌<◌, ◌≤◌, List, [], ◌∷◌, length, Option, ap, refl, arith}
 use Rattle.std.specs.List.{AllByRecursion}
 use Rattle.ir_tokens.specs.declared.place.Place.{Place}
-use Rattle.ir_tokens.specs.Order.{IsTokenAt, TokensFrom, last, token}
+use Rattle.ir_tokens.specs.Order.{TokensFrom, last, token}
 use Rattle.ir_tokens.specs.Tokens.{Placed, Mark}
 use Rattle.ir_tokens.proofs.Moving.{token_moves, token_within}
 use Rattle.ir_tokens.specs.declared.raw.RawEntry.{RawEntry}
@@ -14,12 +14,11 @@ use Rattle.ir_tokens.specs.declared.raw.RawIdentifier.{RawIdentifier}
 use Rattle.ir_tokens.specs.declared.raw.RawInst.{RawInst}
 use Rattle.ir_tokens.specs.declared.raw.RawOp.{RawOp}
 use Rattle.ir_tokens.specs.declared.raw.RawOp.TheVariants.{Binary, Compare, Call, Select, Convert, Freeze, Phi}
-use Rattle.ir_tokens.specs.declared.raw.RawIncoming.{RawIncoming}
-use Rattle.ir_instructions.specs.Grammar.{Attachment, SpellsType, SpellsIncoming, SpellsOp, SpellsInst, SpellsTerminator, Tail}
+use Rattle.ir_instructions.specs.Grammar.{Attachment, SpellsIncoming, SpellsOp, SpellsInst}
 use Rattle.ir_instructions.specs.Punctuation as marks
-use Rattle.ir_instructions.specs.Parts.{Part, Is, ◌⨾◌, Maybe, Each, Comma, Separated}
+use Rattle.ir_instructions.specs.Parts.{Part, ◌⨾◌, Maybe, Each, Comma, Separated}
 use Rattle.ir_instructions.proofs.Shorter.{Shorter, NoLonger, weaker, both, on_line, token as one_token, a_token, no_part, maybe, each, repeated, a_type, attachment-shorter, tail, terminator, further_incoming-shorter, inst-shorter, insts}
-use Rattle.ir_parse.specs.Grammar.{SpellsLabel, SpellsBlock, SpellsLabelledBlock, SpellsBlocks, SpellsParameter, SpellsParameterList, SpellsParameters, SpellsName, SpellsFunction, SpellsEntry}
+use Rattle.ir_parse.specs.Grammar.{SpellsLabel, SpellsBlock, SpellsLabelledBlock, SpellsBlocks, SpellsParameter, SpellsParameterList, SpellsParameters, SpellsFunction, SpellsEntry}
 use Rattle.ir_instructions.specs.ItemGrammar.{SpellsItem}
 use Rattle.ir_instructions.proofs.ItemSizes.{item-shorter}
 use Rattle.ir_parse.proofs.ShorterParts.{block-shorter, further_parameter-shorter, entry-shorter}

@@ -27,7 +27,7 @@ pub enum Token<'a> {
     Bad,
     /// A line between functions that is kept as it is, from its first token to its last byte that is no blank.
     Kept(&'a [u8]),
-    /// A group in the header of a function that is kept as it is, with its brackets.
+    /// A group in the header or the body of a function that is kept as it is, with its brackets.
     KeptGroup(&'a [u8]),
     /// A label, without the `:`.
     Label(&'a [u8]),

@@ -1,8 +1,8 @@
 //! What is met from the root of a match down.
 
-ghost use Rattle.std.specs.Prelude.{◌≡◌, ◌+◌, ◌<◌, ◌^◌, ℕ, List as Seq, length, map, All, IfOk, IfSome, MatchOption, None, Some, slice_get, IsTrue};
+ghost use Rattle.std.specs.Prelude.{◌≡◌, ◌+◌, ◌<◌, ◌^◌, ℕ, List as Seq, length, map, All, IfOk, IfSome, None, Some, slice_get, IsTrue};
 ghost use Rattle.ir_core.specs.Names.{width_of};
-ghost use Rattle.ir_core.specs.Reads.{Read, IsRead};
+ghost use Rattle.ir_core.specs.Reads.{Read};
 ghost use Rattle.rule_core.specs.Checks.{IsRule};
 ghost use Rattle.rule_core.specs.Positions.{Fixed, operands_of};
 ghost use Rattle.rule_core.specs.Typing.{IsTyping};

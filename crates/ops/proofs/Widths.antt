@@ -19,7 +19,6 @@ use Rattle.ops.specs.Arithmetic.{arithmetic}
 use Rattle.ops.specs.Division.{udiv, sdiv, urem, srem, exactly, divides, quotient, has_no_quotient}
 use Rattle.ops.specs.Shifts.{shl, lshr, ashr}
 use Rattle.ops.specs.Bitwise.{or}
-use Rattle.ops.specs.Extremes.{smin, smax}
 use Rattle.ops.specs.Unary.{unary, at_number}
 use Rattle.ops.specs.Instruction.{instruction, on_numbers, on_poison}
 use Rattle.ops.specs.Comparison.{comparison, selection, holds}

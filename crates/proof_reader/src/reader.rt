@@ -1,6 +1,6 @@
 //! Reads the proofs of some rules.
 
-ghost use Rattle.std.specs.Prelude.{◌≡◌, ◌≢◌, ◌≤◌, ◌<◌, ◌^◌, ℕ, List as Seq, Some, slice_get, take, map, length, All, IfOk, IfErr, MatchOption};
+ghost use Rattle.std.specs.Prelude.{◌≡◌, ◌≤◌, ◌<◌, ◌^◌, List as Seq, Some, map, length, All, IfOk, IfErr, MatchOption};
 ghost use Rattle.refusal.specs.Refusals.{IfRefused};
 ghost use Rattle.proof_text.specs.declared.proof.Proof.{Proof as ProofRead};
 ghost use Rattle.rule_core.specs.Checks.{AreDistinct};

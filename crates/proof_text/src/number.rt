@@ -1,6 +1,6 @@
 //! Numbers in decimal.
 
-ghost use Rattle.std.specs.Prelude.{◌≡◌, ◌≢◌, ◌≤◌, ◌<◌, ◌⊎◌, ◌+◌, ◌*◌, ◌-◌, ◌++◌, ◌∷◌, [], true, false, IfOk, IfErr, IfSome, IfNone};
+ghost use Rattle.std.specs.Prelude.{◌≡◌, ◌≤◌, ◌<◌, ◌⊎◌, ◌+◌, ◌*◌, ◌-◌, ◌∷◌, false, IfOk, IfErr, IfSome, IfNone};
 ghost use Rattle.scan.specs.Bytes.{is_digit};
 ghost use Rattle.proof_text.specs.Reading.{ReadsNumber, Numbers, BeginsNoNumber, IsLonger, IsLongest, StopsIn};
 

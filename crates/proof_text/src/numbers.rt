@@ -1,6 +1,6 @@
 //! Lists of numbers.
 
-ghost use Rattle.std.specs.Prelude.{◌≡◌, ◌≢◌, ◌++◌, ◌∷◌, [], false, IfOk, IfErr};
+ghost use Rattle.std.specs.Prelude.{◌≡◌, ◌≢◌, ◌++◌, ◌∷◌, false, IfOk, IfErr};
 ghost use Rattle.scan.specs.Bytes.{is_digit};
 ghost use Rattle.proof_text.specs.Texts.{widths_text};
 ghost use Rattle.proof_text.specs.WellFormed.{AreWidths};

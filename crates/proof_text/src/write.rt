@@ -1,6 +1,6 @@
 //! Writes the text of proofs.
 
-ghost use Rattle.std.specs.Prelude.{◌≡◌, ◌++◌, ◌<◌, ◌^◌, flat_map, codes, IfOk, OnOk};
+ghost use Rattle.std.specs.Prelude.{◌≡◌, ◌++◌, ◌<◌, IfOk, OnOk};
 ghost use Rattle.proof_text.specs.Numerals.{numeral};
 ghost use Rattle.proof_text.specs.Texts.{literal_text, clause_text, hints_text, step_text, log_text, widths_text, head_text, proof_text, text_of};
 

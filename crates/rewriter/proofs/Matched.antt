@@ -5,7 +5,6 @@ use Rattle.std.proofs.lemmas.Option.{same_Some, get_or_from_slice_get, slice_get
 use Rattle.ops.specs.Value.{AllowsEffect}
 use Rattle.ops.specs.Instruction.{instruction}
 use Rattle.ops.specs.declared.opcode.Opcode.{Opcode}
-use Rattle.ops.specs.declared.opcode.Flags.{Flags}
 use Rattle.ops.specs.declared.value.Value.{Value}
 use Rattle.ops.proofs.Values.{AllowsEffect-refl}
 use Rattle.ir_core.specs.Checks.{IsPhi}

@@ -1,6 +1,6 @@
 -- What the target reads, where its names are bound.
 use Rattle.std.proofs.Common.{◌≡◌, ℕ, suc, ◌<◌, ◌≤◌, List, length, Some, sym, ap, subst, ◌∙◌, arith, get_or}
-use Rattle.std.specs.Prelude.{slice_get, slice_index, Contains}
+use Rattle.std.specs.Prelude.{slice_get, slice_index}
 use Rattle.std.specs.Option.{option_map_or}
 use Rattle.std.proofs.lemmas.Option.{slice_get-get_or, get_or_from_slice_get}
 use Rattle.ops.specs.Number.{Number}
@@ -9,7 +9,6 @@ use Rattle.ir_core.specs.declared.operand.Operand.TheVariants as operands
 use Rattle.ir_core.specs.declared.operand.Register.{Register}
 use Rattle.ir_core.specs.declared.operand.Register.TheVariants as registers
 use Rattle.rule_core.specs.Checks.{TargetMayRead}
-use Rattle.rule_core.specs.Typing.{IsTyping}
 use Rattle.rule_core.specs.declared.rule.Argument.{Argument}
 use Rattle.rule_core.specs.declared.rule.Argument.TheVariants as arguments
 use Rattle.rule_core.specs.declared.rule.Register.{Register as RuleRegister}

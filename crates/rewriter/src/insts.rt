@@ -1,6 +1,6 @@
 //! The instructions that a rule puts in the place of a root.
 
-ghost use Rattle.std.specs.Prelude.{◌≡◌, ◌+◌, ◌<◌, ◌≤◌, ◌^◌, ℕ, length, take, Some, slice_get, IfOk};
+ghost use Rattle.std.specs.Prelude.{◌≡◌, ◌+◌, ◌<◌, ◌^◌, length, take, Some, IfOk};
 ghost use Rattle.std.specs.Option.{option_to_list};
 ghost use Rattle.rule_core.specs.Checks.{IsRule};
 ghost use Rattle.rule_core.specs.declared.rule.Statement.{Statement};

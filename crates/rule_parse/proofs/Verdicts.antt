@@ -1,5 +1,5 @@
 -- A text has one list of rules or one fault.
-use Rattle.std.proofs.Common.{◌≡◌, ℕ, List, Result, Ok, Err, length, refl, sym, ap, subst, ◌∙◌, ◌⊎◌, inl, inr, arith}
+use Rattle.std.proofs.Common.{◌≡◌, ℕ, List, Result, Ok, Err, refl, sym, ap, subst, ◌∙◌, ◌⊎◌, inl, inr, arith}
 use Rattle.std.specs.Prelude.{IfOk, IfErr}
 use Rattle.scan.specs.Laws.{OneTokenAtAPlace}
 use Rattle.rule_tokens.specs.RuleFaults.{RuleFault, RuleError}

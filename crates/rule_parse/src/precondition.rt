@@ -1,6 +1,5 @@
 //! Preconditions from the tokens of a text.
 
-ghost use Rattle.std.specs.Prelude.{◌≡◌};
 ghost use Rattle.refusal.specs.Refusals.{Gives};
 ghost use Rattle.rule_tokens.specs.SeenTokens.{seen};
 ghost use Rattle.rule_parse.specs.RuleReaders as parsing;

@@ -1,6 +1,5 @@
 //! One statement from the tokens of its line.
 
-ghost use Rattle.std.specs.Prelude.{◌≡◌};
 ghost use Rattle.refusal.specs.Refusals.{Gives};
 ghost use Rattle.rule_parse.specs.RuleReaders as parsing;
 ghost use Rattle.rule_tokens.specs.SeenTokens.{seen};

@@ -38,7 +38,7 @@ use Rattle.rule_core.specs.declared.rule.Node.TheVariants as nodes
 use Rattle.rule_core.specs.declared.rule.Formula.{Formula}
 use Rattle.rule_core.specs.declared.rule.Formula.TheVariants as formulas
 use Rattle.rule_core.specs.FormulaNodes.{Turns, Both, Either, joint_of, OneUseIsOutermost}
-use Rattle.rule_core.specs.TermNodes.{NamesWidth, AreLastNodes}
+use Rattle.rule_core.specs.TermNodes.{AreLastNodes}
 use Rattle.rule_core.specs.Checks.{IsRule, SourceMayRead, TargetMayRead, TargetMayMeasure, MeasuresBeforeRoot, FormulaMayMeasure, HasKnownWidth, IsBeforeRoot, MayBeTerm, MayBeWitness, MayBeFormula, MayStandInSource as MayBeInSource, FlagsFitOp, ReadsNoUndefAlone, ChoicesInOrder, StandsAt as StandsInRule, names_of}
 use Rattle.rule_core.specs.Positions.{operands_of as operands_meant, operands_among, choices_among}
 use Rattle.rule_core.proofs.Members.{Contains-from_get, Contains-flat_map}

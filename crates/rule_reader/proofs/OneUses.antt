@@ -3,15 +3,14 @@ use Rattle.std.proofs.Common.{◌≡◌, ◌⊎◌, inl, inr, ℕ, zero, suc, �
 use Rattle.std.specs.Prelude.{slice_get, sum_by}
 use Rattle.std.specs.Option.{option_map_or}
 use Rattle.std.proofs.lemmas.List.Sums.{sum_by-cons}
-use Rattle.std.proofs.lemmas.Option.{slice_get_within, same_Some}
+use Rattle.std.proofs.lemmas.Option.{same_Some}
 use Rattle.rule_tokens.specs.Tokens.{Token}
-use Rattle.rule_terms.specs.declared.raw.RawNode.{RawNode}
 use Rattle.rule_terms.specs.declared.raw.RawFormula.{RawFormula}
 use Rattle.rule_terms.specs.declared.raw.RawFormula.TheVariants as raw_formulas
 use Rattle.rule_terms.specs.Grammar.{last_place}
-use Rattle.rule_terms.specs.Formulas.{SpellsFormula, SpellsWholeFormula, Standing, Outermost, Within, Level, Member, Members, Alternatives, compares, tests, one_use, turns, encloses, member, both, members, either}
+use Rattle.rule_terms.specs.Formulas.{SpellsFormula, Standing, Outermost, Within, Level, Member, compares, tests, one_use, turns, encloses, member, both, members, either}
 use Rattle.rule_terms.proofs.Predicates.{predicates}
-use Rattle.rule_core.specs.FormulaNodes.{Joint, OneUse, Single, Turns, Both, Either, IsPartOf, AsksOneUse, itself, part, OneUseMayStand, OneUseIsOutermost}
+use Rattle.rule_core.specs.FormulaNodes.{Joint, OneUse, Single, IsPartOf, AsksOneUse, itself, part, OneUseMayStand, OneUseIsOutermost}
 use Rattle.rule_parse.specs.declared.raw.RawPrecondition.{RawPrecondition}
 use Rattle.rule_parse.specs.Grammar.{SpellsPrecondition}
 use Rattle.rule_parse.specs.Weight.{formula_weight}

@@ -1,5 +1,5 @@
 -- Rules as written are well formed.
-use Rattle.std.proofs.Common.{◌≡◌, inl, inr, ℕ, zero, suc, ◌≤◌, false, List, [], ◌∷◌, ◌++◌, length, append_assoc, Some, subst, arith}
+use Rattle.std.proofs.Common.{◌≡◌, inl, inr, ℕ, zero, suc, ◌≤◌, List, [], ◌∷◌, ◌++◌, length, append_assoc, Some, subst, arith}
 use Rattle.std.specs.Prelude.{slice_get, Contains, flat_map, codes}
 use Rattle.std.proofs.lemmas.Option.{same_Some}
 use Rattle.scan.specs.Lines.{line_of}

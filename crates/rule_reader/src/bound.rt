@@ -1,8 +1,8 @@
 //! Whether what a rule names is there to use.
 
-ghost use Rattle.std.specs.Prelude.{◌↔◌, ◌≤◌, ◌⊎◌, length, IsTrue};
+ghost use Rattle.std.specs.Prelude.{◌↔◌, IsTrue};
 ghost use Rattle.rule_reader.specs.Meaning.{AreNames, IsConstant};
-ghost use Rattle.rule_reader.specs.WellFormed.{AreInLineOrder, IsWellFormed};
+ghost use Rattle.rule_reader.specs.WellFormed.{IsWellFormed};
 ghost use Rattle.rule_reader.specs.FaultKinds.{Each, NodeIsBound, TermIsBound, ArgumentIsBound, OpIsBound, FormulaIsBound, StandsAt, StatementUnbound, PreconditionUnbound, WitnessUnbound, UnboundAt};
 ghost use Rattle.rule_reader.specs.KnownRules.{half_of, place_in, IsPlaceOf};
 ghost use Rattle.rule_reader.specs.Faults.{IsFirst};

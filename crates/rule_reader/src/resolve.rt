@@ -2,7 +2,7 @@
 
 ghost use Rattle.std.specs.Prelude.{◌≡◌, ◌≤◌, ℕ, [], ◌∷◌, length, Contains, Some, slice_get, IfOk, MatchOption};
 ghost use Rattle.rule_parse.specs.Contents.{arguments_of};
-ghost use Rattle.rule_reader.specs.Meaning.{in_half, AreNames, IsConstant, IsConstantOf, HasName, ArgumentMeans, OperandMeans, OpMeans, HalfMeans, Means};
+ghost use Rattle.rule_reader.specs.Meaning.{AreNames, IsConstant, IsConstantOf, HasName, ArgumentMeans, OperandMeans, OpMeans, HalfMeans, Means};
 ghost use Rattle.rule_reader.specs.WellFormed.{IsWellFormed};
 ghost use Rattle.rule_reader.specs.FaultKinds.{MayUse};
 ghost use Rattle.rule_reader.specs.KnownRules.{half_of, IsPlaceOf, Finds, HalfIsBound, NamesAreThere, AreReady};

@@ -1,6 +1,6 @@
 //! The checks of `undef`s and freezes. Each answers the first line at which it fails.
 
-ghost use Rattle.std.specs.Prelude.{◌≡◌, ◌↔◌, ◌<◌, List, Some, Contains, length, slice_get, IsTrue};
+ghost use Rattle.std.specs.Prelude.{◌≡◌, ◌↔◌, ◌<◌, Some, Contains, length, slice_get, IsTrue};
 ghost use Rattle.rule_parse.specs.declared.raw.RawStatement.{RawStatement as written_statement};
 ghost use Rattle.rule_parse.specs.declared.raw.RawArgument.TheVariants.{Undef as undef};
 ghost use Rattle.rule_parse.specs.Contents.{arguments_of, expressions_of};

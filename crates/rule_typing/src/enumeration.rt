@@ -1,7 +1,6 @@
 //! The typings of a rule over a list of widths.
 
-ghost use Rattle.std.specs.Prelude.{◌≡◌, ◌≤◌, ◌<◌, ℕ, List as Seq, length, slice_get, slice_index, Some, IfOk, option_map};
-ghost use Rattle.rule_core.specs.Positions.{classes_of};
+ghost use Rattle.std.specs.Prelude.{◌≡◌, ◌<◌, ℕ, length, slice_get, slice_index, Some, IfOk};
 ghost use Rattle.rule_typing.specs.declared.widths.Widths.{Widths};
 ghost use Rattle.rule_typing.specs.Classes.{IsClassified, HasClasses};
 ghost use Rattle.rule_typing.specs.AllTypings.{IsAnswer, MayChoose, ComesBefore, IsFirstOf};

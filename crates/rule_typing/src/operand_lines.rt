@@ -1,8 +1,6 @@
 //! The lines of operands: each is of one class with the term that it is, and with all that has its name.
 
-ghost use Rattle.std.specs.Prelude.{◌≡◌, ◌≢◌, ℕ, [], ◌∷◌, Some};
-ghost use Rattle.rule_core.specs.declared.rule.Name.{Name};
-ghost use Rattle.rule_core.specs.Positions.{Names};
+ghost use Rattle.std.specs.Prelude.{◌≡◌, Some};
 ghost use Rattle.rule_typing.specs.Splits.{term_class, operand_pairs, operand_naming, LineOf, OperandsLine, Splits};
 
 use crate::lines::split_classes;

@@ -1,8 +1,7 @@
 //! Sets of widths.
 
-ghost use Rattle.std.specs.Prelude.{◌≡◌, ◌≤◌, ◌<◌, ◌⊎◌, ℕ};
+ghost use Rattle.std.specs.Prelude.{◌≡◌, ◌<◌, ◌⊎◌};
 ghost use Rattle.std.specs.Prelude.{Contains};
-ghost use Rattle.rule_core.specs.Positions.{Fixed};
 ghost use Rattle.rule_typing.specs.FittingWidths.{MayHaveWidth};
 ghost use Rattle.rule_typing.specs.AllTypings.{MayChoose};
 ghost use Rattle.rule_typing.specs.Solutions.{Has, HasExactly, IsLeast};

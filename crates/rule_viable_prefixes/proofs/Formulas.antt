@@ -32,7 +32,7 @@ use Rattle.rule_terms.specs.Formulas.{Standing, Outermost, Within, Level, Member
 use Rattle.rule_terms.specs.Grammar.{last_place, SpellsWholeTerm, leaf, parenthesised}
 use Rattle.rule_terms.specs.TermReaders.{opening_in, start_at, mark_at, primary_at, term_at}
 use Rattle.rule_terms.specs.Keywords.{loosest}
-use Rattle.rule_terms.proofs.FormulaReadings.{Adds, comparison_at-is, opening_at-is, member_at-is, members_of-is, alternatives_of-is, outer_member_at-is, joins_shortens, stands_within, stands_outermost}
+use Rattle.rule_terms.proofs.FormulaReadings.{comparison_at-is, opening_at-is, member_at-is, members_of-is, alternatives_of-is, outer_member_at-is, joins_shortens, stands_within, stands_outermost}
 use Rattle.rule_terms.proofs.FormulaSpellings.{term_plain, formula_says, term_compares, within_read}
 use Rattle.rule_terms.proofs.FormulaSteps.{member-turns, member-encloses, member-tests, member-compares, turns-too_deep, encloses-too_deep}
 use Rattle.rule_terms.proofs.Readings.{spells_some}
@@ -41,7 +41,7 @@ use Rattle.rule_terms.proofs.Starts.{mark_at-is}
 use Rattle.rule_viable_prefixes.specs.Misfits as kinds
 use Rattle.rule_viable_prefixes.specs.Misfits.{Fitting, IsNoun, Nests, IsTooDeep, IsFlagWord}
 use Rattle.rule_viable_prefixes.proofs.Nouns.{constant_noun, not_in_formulas, predicate_other, one_use_other}
-use Rattle.rule_viable_prefixes.proofs.Outcomes.{lack_wider, Lack, NoNoun, Takes, Alike, same, ended, NoLine, Spelling, Sample, pair, bare, Reader, IsErr, IsErrOn, IsRead, IsRefused, Outcome, Good, then_at, then, refused_here, passed, took, led, led_in, opened, opens_one, alike_as, widen, Branch, takes, refuses, by_token, with_none, widened, on_line, then_done, own_last}
+use Rattle.rule_viable_prefixes.proofs.Outcomes.{lack_wider, Lack, NoNoun, Takes, Alike, same, ended, NoLine, Spelling, Sample, pair, bare, Reader, IsErr, IsErrOn, Outcome, Good, then, passed, led, led_in, opened, opens_one, alike_as, widen, Branch, takes, refuses, by_token, with_none, widened, on_line, then_done, own_last}
 use Rattle.rule_viable_prefixes.proofs.Tolds.{Told, IsTold, says_syntax, says_too_many, says_deep, says_wider, says_carried, says_unexpected}
 use Rattle.rule_viable_prefixes.proofs.FlagRuns.{IsNew, new_behind}
 use Rattle.rule_viable_prefixes.proofs.Parentheses.{word_and_equals, seen_again, unseen_again, shorter, longer, cut, opens_at_end, closes, formula_seen, BeginsTerm, loosened, not_both, term_instead, Enclosed, parenthesis_begins}

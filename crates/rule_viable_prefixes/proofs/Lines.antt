@@ -26,16 +26,16 @@ use Rattle.rule_parse.specs.declared.raw.RawWitness.{RawWitness}
 use Rattle.rule_parse.specs.declared.word.Operation.{Operation}
 use Rattle.rule_parse.specs.declared.word.Operation.TheVariants as operations
 use Rattle.rule_parse.specs.Grammar.{SpellsStatement, SpellsStatements, SpellsHalf, SpellsPrecondition, SpellsExpression, SpellsMoreExpressions, SpellsExpressions, SpellsWitness}
-use Rattle.rule_parse.specs.RuleReaders.{typed_at, operand_at, to_at, flags_at, pair_at, binary_at, pred_at, compare_at, truth_at, unary_at, select_at, convert_at, freeze_at, copy_at, operation_at, next_operation, operation_or_other, op_at, statement_at, statements_at, name_text, name_at, behind_precondition, precondition_at, expression_at, more_expressions, expressions_at, behind_witness, witness_at, source_at, arrow_at, target_at, unexpected_line}
+use Rattle.rule_parse.specs.RuleReaders.{typed_at, operand_at, to_at, flags_at, pair_at, binary_at, pred_at, compare_at, truth_at, unary_at, select_at, convert_at, freeze_at, copy_at, operation_at, next_operation, operation_or_other, op_at, statement_at, statements_at, name_text, name_at, behind_precondition, precondition_at, expression_at, more_expressions, expressions_at, behind_witness, witness_at, source_at, arrow_at, target_at}
 use Rattle.rule_parse.proofs.Expressions.{expression_shortens}
 use Rattle.rule_parse.proofs.Readings.{name_at-is}
 use Rattle.rule_viable_prefixes.proofs.Formulas.{IsWholeFormula, formula_good}
 use Rattle.rule_viable_prefixes.specs.Misfits as kinds
 use Rattle.rule_viable_prefixes.specs.Misfits.{openings_on_line, HalfEnds}
 use Rattle.rule_viable_prefixes.proofs.FlagRuns.{none_new}
-use Rattle.rule_viable_prefixes.proofs.Outcomes.{lack_wider, Lack, Akin, same_next, noun_next, ended_next, akin, akin_behind, akin_noun, NoNoun, Alike, same, ended, alike_itself, alike_behind, Spelling, Shape, pair, bare, Reader, IsErr, IsErrOn, Outcome, Good, then, led, widen, Branch, takes, refuses, by_token, then_done, none_behind, with_none, widened}
+use Rattle.rule_viable_prefixes.proofs.Outcomes.{lack_wider, Lack, Akin, same_next, noun_next, ended_next, akin, akin_behind, akin_noun, Alike, same, ended, alike_itself, Shape, pair, bare, Reader, IsErrOn, Good, then, led, widen, Branch, takes, refuses, by_token, then_done, none_behind, widened}
 use Rattle.rule_viable_prefixes.proofs.Tolds.{says_wider, says_syntax, says_too_many, says_unexpected}
-use Rattle.rule_viable_prefixes.proofs.Parts.{Spelled, then_end, Joined, chain_good, line_end_good}
+use Rattle.rule_viable_prefixes.proofs.Parts.{Spelled, then_end, chain_good, line_end_good}
 use Rattle.rule_viable_prefixes.proofs.Rules.{Completes, GoesOn, Opens, Verdict, verdict_both, on_a_line, verdict_wider}
 use Rattle.rule_viable_prefixes.proofs.Statements.{IsAssigned, statement_good}
 use Rattle.rule_viable_prefixes.proofs.Terms.{Named, is_short, is_long, named, Term, term_good}

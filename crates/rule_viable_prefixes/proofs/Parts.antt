@@ -19,7 +19,7 @@ use Rattle.rule_terms.proofs.ChainLemmas.{Shortens, next_is-is, chain-more, chai
 use Rattle.rule_viable_prefixes.specs.Misfits as kinds
 use Rattle.rule_viable_prefixes.specs.Misfits.{Fitting, NounFits}
 use Rattle.rule_viable_prefixes.proofs.Nouns.{noun_other}
-use Rattle.rule_viable_prefixes.proofs.Outcomes.{Lack, Akin, same_next, noun_next, ended_next, NoNoun, Takes, Alike, same, ended, alike_itself, NoLine, Spelling, Sample, Shape, pair, bare, Reader, IsErrOn, Outcome, Good, then_at, then, refused_here, passed, led, Branch, takes, refuses, goes, by_token, with_none, widened, on_line, then_done}
+use Rattle.rule_viable_prefixes.proofs.Outcomes.{Lack, Akin, same_next, noun_next, ended_next, Takes, Alike, same, ended, Spelling, Sample, Shape, pair, bare, Reader, IsErrOn, Outcome, Good, then_at, then, refused_here, passed, led, Branch, takes, refuses, by_token, with_none, then_done}
 use Rattle.rule_viable_prefixes.proofs.Tolds.{says_misplaced, says_unexpected}
 use Rattle.rule_tokens.specs.Limits.{Limits}
 

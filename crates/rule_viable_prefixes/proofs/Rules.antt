@@ -10,7 +10,7 @@ use Rattle.rule_tokens.proofs.Ends.{EndsLine}
 use Rattle.rule_viable_prefixes.specs.Fits.{line_behind}
 use Rattle.rule_viable_prefixes.specs.Misfits.{openings, openings_behind, openings_on_line, Fitting, IsNoun}
 use Rattle.rule_viable_prefixes.proofs.FlagRuns.{IsNew, new_on_line}
-use Rattle.rule_viable_prefixes.proofs.Outcomes.{opened, Lack, lack_wider, Akin, same_next, akin, akin_behind, akin_noun, NoNoun, Takes, Alike, same, ended, alike_behind, Inline, Spelling, Shape, pair, Reader, IsErr, Begins, Outcome, Good}
+use Rattle.rule_viable_prefixes.proofs.Outcomes.{opened, Lack, lack_wider, Akin, same_next, akin, akin_behind, akin_noun, NoNoun, Takes, Alike, Inline, Shape, Reader, IsErr, Begins, Outcome}
 use Rattle.rule_viable_prefixes.proofs.Tolds.{says_wider, SaysFirst}
 use Rattle.rule_viable_prefixes.proofs.Parts.{Spelled}
 use Rattle.rule_tokens.specs.Limits.{Limits}

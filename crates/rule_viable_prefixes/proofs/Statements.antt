@@ -55,7 +55,7 @@ use Rattle.rule_parse.proofs.OpSpellings.{flags_done}
 use Rattle.rule_parse.proofs.Pieces.{IsOpcode, operation_in-is, truth_flag-is, truth_flag-of, source_word_in-is, type_is_no_flag, type_is_no_truth_flag}
 use Rattle.rule_parse.proofs.Beginnings.{BeginsOperand, argument_begins}
 use Rattle.rule_viable_prefixes.specs.Misfits as kinds
-use Rattle.rule_viable_prefixes.specs.Misfits.{Fitting, IsFlagWord, AreFlagWords, of_instruction, of_intrinsic, RepeatsFlag, IsNoun, NounFits, IsTooMany, kind_at, IsMisfit, itself, read_on}
+use Rattle.rule_viable_prefixes.specs.Misfits.{Fitting, IsFlagWord, AreFlagWords, of_instruction, of_intrinsic, RepeatsFlag, NounFits, IsTooMany, kind_at, IsMisfit, itself, read_on}
 use Rattle.rule_viable_prefixes.proofs.Nouns.{no_flag_in, no_truth_in, not_to, constant_noun, noun_other, source_other, to_other}
 use Rattle.rule_viable_prefixes.proofs.Outcomes.{akin, alike_itself, IsOwn, Inline, inline_none, inline_token, repeats_behind, Lack, Akin, same_next, noun_next, ended_next, NoNoun, IsErr, same_as, Takes, Alike, same, ended, Sample, pair, bare, Reader, IsErrOn, Outcome, Good, then, refused_here, passed, took, led, alike_as, widen, Branch, takes, refuses, by_token, widened, then_done, OutcomeBy, then_by}
 use Rattle.rule_viable_prefixes.proofs.Tolds.{says_word, says_syntax, says_too_many, says_misplaced, says_unexpected, says_left_out, SaysFirst}

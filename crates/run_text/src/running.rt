@@ -1,6 +1,6 @@
 //! What `run` writes of a function of a module.
 
-ghost use Rattle.std.specs.Prelude.{◌≡◌, map, IfOk, IfErr};
+ghost use Rattle.std.specs.Prelude.{map, IfOk, IfErr};
 ghost use Rattle.refusal.specs.Refusals.{IfRefused};
 ghost use Rattle.run_text.specs.Runs.{IsRun};
 ghost use Rattle.run_text.specs.RunFaults.{IsRunFault};

@@ -1,6 +1,6 @@
 //! How many of the first bytes of a text are the longest token of each kind: 0 where none begins there.
 
-ghost use Rattle.std.specs.Prelude.{◌≡◌, ℕ, List, [], ◌∷◌, ◌++◌, false, map};
+ghost use Rattle.std.specs.Prelude.{ℕ, List, [], ◌∷◌, ◌++◌, map};
 ghost use Rattle.scan.specs.Longest.{IsLongest};
 ghost use Rattle.scan.specs.RuleTokens as tokens;
 

@@ -1,6 +1,6 @@
 //! Proofs that are checked again.
 
-ghost use Rattle.std.specs.Prelude.{◌≡◌, ◌≤◌, ◌<◌, ◌^◌, map, All, Some, slice_get, length, IfOk, IfErr, OnOk};
+ghost use Rattle.std.specs.Prelude.{◌≤◌, ◌<◌, ◌^◌, map, All, length, IfOk, IfErr, OnOk};
 ghost use Rattle.refusal.specs.Refusals.{IfRefused};
 ghost use Rattle.rule_core.specs.Checks.{AreDistinct};
 ghost use Rattle.proof_reader.specs.Faults.{IsFault};

@@ -1,5 +1,5 @@
 -- What is left to do in the functions that the strategy gives.
-use Rattle.std.specs.Prelude.{ℕ, Bool, List, [], ◌∷◌, IsTrue}
+use Rattle.std.specs.Prelude.{Bool, List, [], ◌∷◌, IsTrue}
 use Rattle.std.specs.List.{AllZip, flat_map}
 use Rattle.ir_core.specs.declared.module.Module.{Module}
 use Rattle.ir_core.specs.declared.module.Entry.{Entry}

@@ -3,7 +3,7 @@
 -- A function is cleaned. Then a search goes through its matches in order, asks for the verdict of each, and ends at the first that is
 -- admitted: there the function is rewritten and cleaned, which is a step, and the search begins again. The last search of a function finds
 -- none, or has no step left; it goes through all matches.
-use Rattle.std.specs.Prelude.{◌≡◌, ℕ, zero, suc, ◌-◌, ◌≤◌, Bool, List, [], ◌∷◌, ◌++◌, map, All, Any, MatchBool}
+use Rattle.std.specs.Prelude.{◌≡◌, ℕ, suc, ◌-◌, ◌≤◌, Bool, List, [], ◌∷◌, ◌++◌, map, All, Any, MatchBool}
 use Rattle.ir_core.specs.declared.module.Module.{Module}
 use Rattle.ir_core.specs.declared.module.Entry.{Entry}
 use Rattle.ir_core.specs.declared.module.Entry.TheVariants as entries

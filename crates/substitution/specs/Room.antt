@@ -1,5 +1,5 @@
 -- Registers whose places are counted in 32 bits where other instructions stand in the place of one.
-use Rattle.std.specs.Prelude.{◌≡◌, ℕ, ◌+◌, ◌≤◌, ◌^◌, List, length, All}
+use Rattle.std.specs.Prelude.{◌≡◌, ℕ, ◌+◌, ◌≤◌, ◌^◌, length, All}
 use Rattle.ir_core.specs.declared.function.Block.{Block}
 use Rattle.ir_core.specs.declared.instruction.Inst.{Inst}
 use Rattle.ir_core.specs.declared.instruction.Op.{Op}

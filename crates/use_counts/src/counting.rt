@@ -1,6 +1,6 @@
 //! Counts of uses, in one pass over a function.
 
-ghost use Rattle.std.specs.Prelude.{◌≡◌, ◌+◌, ◌<◌, ◌≤◌, ◌^◌, ℕ, [], length, map, replicate, slice_set, slice_index_or, All, IfOk, OnOk};
+ghost use Rattle.std.specs.Prelude.{◌≡◌, ◌+◌, ◌<◌, ◌^◌, ℕ, [], length, map, replicate, slice_set, slice_index_or, All, IfOk, OnOk};
 ghost use Rattle.ir_core.specs.Assigned.{IsBefore};
 ghost use Rattle.ir_core.specs.Checks.{IsKnown};
 ghost use Rattle.ir_core.specs.Reads.{Read, IsRead};

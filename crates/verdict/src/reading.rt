@@ -1,6 +1,6 @@
 //! Reads what words and effects stand for, where their literals are truth values.
 
-ghost use Rattle.std.specs.Prelude.{◌≡◌, ◌≤◌, ◌<◌, ◌^◌, Bool, List as Seq, length, map, All, IfOk};
+ghost use Rattle.std.specs.Prelude.{◌≡◌, ◌≤◌, ◌<◌, ◌^◌, length, map, All, IfOk};
 ghost use Rattle.circuits.specs.Word.{bit, number};
 ghost use Rattle.blast_value.specs.Effect.{effect_of};
 ghost use Rattle.blast_rule.specs.Parts.{number_held};

@@ -1,6 +1,6 @@
 //! Functions.
 
-ghost use Rattle.std.specs.Prelude.{◌≡◌, IfOk};
+ghost use Rattle.std.specs.Prelude.{IfOk};
 ghost use Rattle.std.specs.List.{AllZip, AllByRecursion};
 ghost use Rattle.ir_resolve.specs.Means.{ParameterMeans, BlockIsOf, MeansBy};
 ghost use Rattle.ir_resolve.specs.Views.{known_by, CallsIn};

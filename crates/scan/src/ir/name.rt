@@ -1,6 +1,5 @@
 //! How many of the first bytes of a text are the longest name: 0 where none begins there.
 
-ghost use Rattle.std.specs.Prelude.{◌≡◌};
 ghost use Rattle.scan.specs.IrTokens as tokens;
 ghost use Rattle.scan.specs.Longest.{IsLongest};
 ghost use Rattle.scan.specs.Quoted as quoted;

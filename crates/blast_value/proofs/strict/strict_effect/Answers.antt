@@ -1,4 +1,4 @@
-use Rattle.std.proofs.Common.{sym, ◌∙◌, ◌≤◌, ◌+◌, length, arith}
+use Rattle.std.proofs.Common.{sym, ◌∙◌, ◌≤◌, ◌+◌, arith}
 use Rattle.std.proofs.lemmas.Result.{IfOk-weaker}
 use Rattle.circuits.proofs.Kept.{Adds-trans, Adds-weaken}
 use Rattle.blast_value.specs.Gates.{number_gates, poison_gates}

@@ -1,4 +1,4 @@
-use Rattle.std.proofs.Common.{◌≤◌, length}
+use Rattle.std.proofs.Common.{◌≤◌}
 use Rattle.first_uip.specs.Conflict.{NoneSeen}
 use Rattle.first_uip.proofs.analysis.last_seen.Given as goal
 

@@ -1,5 +1,4 @@
-use Rattle.std.proofs.Common.{◌≡◌, ◌+◌, ◌<◌, ◌≤◌, false, [], ◌∷◌, ◌++◌, length, take, refl, sym, ap, ◌∙◌, subst, arith}
-use Rattle.clauses.specs.Literal.{IsVariable}
+use Rattle.std.proofs.Common.{◌≡◌, ◌+◌, false, [], ◌∷◌, ◌++◌, length, take, refl, sym, ap, ◌∙◌, subst, arith}
 use Rattle.clauses.specs.ClauseSet.{clauses_with}
 use Rattle.depth_first.specs.declared.trail.Entry.{Entry}
 use Rattle.depth_first.specs.declared.trail.Cause.TheVariants.{Reason}

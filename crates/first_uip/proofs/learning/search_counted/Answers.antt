@@ -1,5 +1,5 @@
-use Rattle.std.proofs.Common.{◌≡◌, ℕ, List, ◌+◌, ◌<◌, ◌≤◌, [], ◌∷◌, ◌++◌, Some, None, length, take, refl, sym, ap, ◌∙◌, subst, arith}
-use Rattle.std.specs.Prelude.{unwrap_or, IfSome, IfNone}
+use Rattle.std.proofs.Common.{◌≡◌, List, ◌+◌, ◌≤◌, [], ◌∷◌, ◌++◌, Some, length, take, refl, sym, ◌∙◌, subst, arith}
+use Rattle.std.specs.Prelude.{unwrap_or}
 use Rattle.clauses.specs.ClauseSet.{StepFollows, all_clauses, clauses_with}
 use Rattle.clauses.specs.declared.step.Step.{Step}
 use Rattle.clauses.proofs.Closed.{IsClosed}
@@ -8,7 +8,7 @@ use Rattle.depth_first.specs.declared.trail.Cause.TheVariants.{InputDecision}
 use Rattle.depth_first.specs.Found.{IsModel, IsHonestLimit}
 use Rattle.depth_first.specs.TrailEntries.{literals, Grows}
 use Rattle.depth_first.specs.TrailEntries.{EachForced}
-use Rattle.depth_first.proofs.SearchSteps.{EachCaused-start, no_decisions, IfSome_is, IfNone_is}
+use Rattle.depth_first.proofs.SearchSteps.{EachCaused-start, no_decisions, IfNone_is}
 use Rattle.first_uip.specs.Watching.{IsWatching, IsWatchingUpTo}
 use Rattle.first_uip.specs.Conflict.{DecidedAt}
 use Rattle.first_uip.specs.Searching.{IsSearching}

@@ -1,21 +1,21 @@
-use Rattle.std.proofs.Common.{◌≡◌, ◌+◌, ◌<◌, true, false, [], ◌∷◌, Some, length, refl, sym, ap, ◌∙◌, subst, arith, inl, inr}
+use Rattle.std.proofs.Common.{◌≡◌, true, false, [], ◌∷◌, Some, length, refl, sym, ap, ◌∙◌, subst, arith, inr}
 use Rattle.std.specs.Prelude.{slice_get}
 use Rattle.std.proofs.lemmas.Option.{slice_get_read}
-use Rattle.clauses.specs.Literal.{Lit, IsVariable}
+use Rattle.clauses.specs.Literal.{Lit}
 use Rattle.clauses.specs.Propagation.{IsUnit, is_held, is_false}
 use Rattle.clauses.specs.ClauseSet.{clauses_with}
 use Rattle.depth_first.specs.declared.trail.Entry.{Entry}
 use Rattle.depth_first.specs.declared.trail.Cause.TheVariants.{Reason}
-use Rattle.depth_first.specs.TrailEntries.{literals, IsOpen, Grows}
+use Rattle.depth_first.specs.TrailEntries.{literals, Grows}
 use Rattle.depth_first.proofs.Lists.{some_same}
-use Rattle.depth_first.proofs.HeldLists.{open_from, held_last, literals-append}
+use Rattle.depth_first.proofs.HeldLists.{held_last, literals-append}
 use Rattle.depth_first.proofs.Sets.{within_from_length}
 use Rattle.depth_first.proofs.Involved.{with_within}
 use Rattle.depth_first.proofs.PropagationLemmas.{Grows-one}
 use Rattle.first_uip.specs.declared.watches.Watched.{Watched}
 use Rattle.first_uip.specs.Looks.{WatchesBoth, MovesWatch}
 use Rattle.first_uip.proofs.Listing.{IsListed-rewatch}
-use Rattle.first_uip.proofs.LookLemmas.{other_stands, literal_within, other_within, unit_if_open, falsified_if_false}
+use Rattle.first_uip.proofs.LookLemmas.{other_stands, literal_within, other_within, unit_if_open}
 use Rattle.first_uip.proofs.look.look_at.Goals as goal
 
 pub holds-requires : goal.holds-requires

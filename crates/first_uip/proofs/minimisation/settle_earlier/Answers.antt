@@ -1,11 +1,11 @@
-use Rattle.std.proofs.Common.{◌≡◌, ◌+◌, ◌-◌, ◌<◌, ◌≤◌, Some, length, set, refl, sym, ap, ◌∙◌, subst, arith}
+use Rattle.std.proofs.Common.{◌≡◌, ◌+◌, ◌-◌, ◌<◌, Some, length, set, refl, sym, ap, ◌∙◌, subst, arith}
 use Rattle.std.specs.Prelude.{slice_get}
 use Rattle.std.proofs.lemmas.Bool.{true≢false}
 use Rattle.std.proofs.lemmas.List.{get_or-set_other}
 use Rattle.std.proofs.lemmas.Option.{slice_get_read}
 use Rattle.clauses.specs.ClauseSet.{clauses_with}
 use Rattle.depth_first.specs.declared.trail.Entry.{Entry}
-use Rattle.first_uip.specs.declared.roles.Role.TheVariants.{Unseen, Resolved, Kept}
+use Rattle.first_uip.specs.declared.roles.Role.TheVariants.{Unseen, Kept}
 use Rattle.first_uip.specs.Conflict.{IsResolution, part_of, role_of, is_seen, is_kept}
 use Rattle.first_uip.proofs.RoleLemmas.{IsResolution-skip, IsResolution-keep, other_entry, unseen_if}
 use Rattle.first_uip.proofs.minimisation.settle_earlier.Goals as goal

@@ -1,4 +1,4 @@
-use Rattle.std.proofs.Common.{◌≡◌, ◌+◌, ◌-◌, ◌≤◌, length}
+use Rattle.std.proofs.Common.{◌≡◌, ◌+◌, ◌-◌, length}
 use Rattle.clauses.specs.ClauseSet.{clauses_with}
 use Rattle.depth_first.specs.TrailEntries.{Grows}
 use Rattle.first_uip.specs.Watching.{CoversBelow, IsWatchingUpTo}

@@ -1,7 +1,7 @@
-use Rattle.std.proofs.Common.{◌≡◌, ℕ, List, ◌+◌, ◌<◌, ◌≤◌, true, Some, length, take, get_or, refl, sym, ap, ◌∙◌, subst, arith, inl, inr}
+use Rattle.std.proofs.Common.{◌≡◌, ℕ, List, ◌+◌, ◌<◌, ◌≤◌, true, Some, length, take, get_or, refl, sym, ap, ◌∙◌, subst, arith}
 use Rattle.std.specs.Prelude.{slice_get}
 use Rattle.std.proofs.lemmas.Option.{slice_get_read, slice_get-get_or}
-use Rattle.clauses.specs.Literal.{Lit, negation_of, IsVariable}
+use Rattle.clauses.specs.Literal.{Lit, negation_of}
 use Rattle.clauses.specs.Propagation.{is_held, is_false}
 use Rattle.clauses.specs.ClauseSet.{clauses_with}
 use Rattle.clauses.proofs.Held.{negation-negation}
@@ -9,7 +9,7 @@ use Rattle.depth_first.specs.declared.trail.Entry.{Entry}
 use Rattle.depth_first.specs.TrailEntries.{literals, Grows}
 use Rattle.depth_first.proofs.HeldLists.{literal_at}
 use Rattle.depth_first.proofs.PropagationLemmas.{Grows-none, Grows-then, Grows-length}
-use Rattle.first_uip.specs.Watching.{numbers_of, IsListed, IsWatching, IsWatchingUpTo}
+use Rattle.first_uip.specs.Watching.{numbers_of, IsListed, IsWatchingUpTo}
 use Rattle.std.specs.List.{swap_remove}
 use Rattle.first_uip.specs.Looks.{IsLook}
 use Rattle.first_uip.specs.declared.look.Look.TheVariants.{Stays, Leaves, Falsified}

@@ -1,4 +1,4 @@
-use Rattle.std.proofs.Common.{◌≡◌, length, take}
+use Rattle.std.proofs.Common.{take}
 use Rattle.first_uip.specs.Conflict.{Sees}
 use Rattle.first_uip.proofs.roles.see.Given as goal
 

@@ -1,8 +1,7 @@
 use Rattle.std.proofs.Common.{◌≡◌, suc, ◌+◌, ◌<◌, true, [], ◌∷◌, ◌++◌, length, take, sym, ap, ◌∙◌, subst, arith}
 use Rattle.std.proofs.lemmas.Bool.{true≢false}
-use Rattle.clauses.specs.Literal.{Lit, IsVariable}
+use Rattle.clauses.specs.Literal.{Lit}
 use Rattle.clauses.specs.ClauseSet.{all_clauses}
-use Rattle.depth_first.specs.TrailEntries.{literals}
 use Rattle.depth_first.proofs.Lists.{take_next}
 use Rattle.depth_first.proofs.Open.{variable_within}
 use Rattle.depth_first.proofs.Sets.{clause_within}

@@ -1,14 +1,12 @@
-use Rattle.std.proofs.Common.{◌≡◌, ◌+◌, ◌<◌, ◌≤◌, true, false, Some, [], ◌∷◌, ◌++◌, length, take, refl, sym, ap, ◌∙◌, subst, arith, not}
-use Rattle.std.specs.Prelude.{slice_get}
-use Rattle.std.proofs.lemmas.List.{length-take-le}
+use Rattle.std.proofs.Common.{◌≡◌, ◌+◌, true, false, [], ◌∷◌, ◌++◌, take, refl, sym, ap, ◌∙◌, subst, arith, not}
 use Rattle.clauses.specs.Literal.{Lit}
 use Rattle.clauses.specs.Propagation.{IsUnit, is_held, is_false}
 use Rattle.clauses.specs.ClauseSet.{all_clauses}
 use Rattle.depth_first.specs.declared.trail.Entry.{Entry}
 use Rattle.depth_first.specs.declared.trail.Cause.TheVariants.{Reason}
-use Rattle.depth_first.specs.TrailEntries.{literals, IsOpen, Grows, is_decision}
+use Rattle.depth_first.specs.TrailEntries.{literals, Grows}
 use Rattle.depth_first.specs.DepthFirst.{IsSatisfied}
-use Rattle.depth_first.proofs.HeldLists.{open_from, held_last, literals-append}
+use Rattle.depth_first.proofs.HeldLists.{held_last, literals-append}
 use Rattle.depth_first.proofs.PropagationLemmas.{Grows-one, Grows-then}
 use Rattle.first_uip.specs.declared.watches.Watched.TheVariants.{Alone}
 use Rattle.first_uip.specs.Watching.{IsWatchingUpTo}

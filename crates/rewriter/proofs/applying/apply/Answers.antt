@@ -1,4 +1,4 @@
-use Rattle.std.proofs.Common.{◌≡◌, ◌+◌, ◌<◌, ◌≤◌, ◌∙◌, length, sym, ap, subst, arith}
+use Rattle.std.proofs.Common.{◌≡◌, ◌<◌, ◌≤◌, ◌∙◌, length, sym, ap, subst, arith}
 use Rattle.ir_core.specs.Blocks.{HasInst, IsBlock}
 use Rattle.ir_core.specs.Checks.{IsInst}
 use Rattle.ir_core.specs.declared.function.Block.{Block}

@@ -1,4 +1,4 @@
-use Rattle.std.proofs.Common.{◌≡◌, ℕ, ◌+◌, ◌-◌, ◌<◌, ◌∙◌, List, [], ◌++◌, None, ap, sym, length, take, flat_map, get_or, append-nil, arith}
+use Rattle.std.proofs.Common.{◌≡◌, ℕ, ◌+◌, ◌-◌, ◌<◌, ◌∙◌, List, ◌++◌, None, ap, sym, length, take, flat_map, get_or, append-nil, arith}
 use Rattle.std.proofs.lemmas.List.{take_all}
 use Rattle.ir_core.specs.declared.instruction.Inst.{Inst}
 use Rattle.rule_core.specs.declared.rule.Statement.{Statement}

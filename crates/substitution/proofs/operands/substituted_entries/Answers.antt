@@ -1,4 +1,4 @@
-use Rattle.std.proofs.Common.{◌≡◌, ℕ, ◌<◌, ◌∙◌, ap, sym, length, get_or, arith}
+use Rattle.std.proofs.Common.{ℕ, ◌<◌, ◌∙◌, ap, sym, length, get_or, arith}
 use Rattle.ir_core.specs.declared.operand.Operand.{Operand}
 use Rattle.substitution.specs.Rewritten.{stands_for}
 use Rattle.substitution.specs.Room.{HasRoom}

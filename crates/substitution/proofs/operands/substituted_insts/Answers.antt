@@ -1,4 +1,4 @@
-use Rattle.std.proofs.Common.{◌≡◌, ◌<◌, ◌∙◌, ap, sym, length, arith}
+use Rattle.std.proofs.Common.{◌<◌, ◌∙◌, ap, sym, length, arith}
 use Rattle.ir_core.specs.declared.instruction.Inst.{Inst}
 use Rattle.substitution.specs.Rewritten.{stands_for}
 use Rattle.substitution.specs.Room.{OpHasRoom}

@@ -1,5 +1,4 @@
-use Rattle.std.proofs.Common.{◌≡◌, ◌<◌, ◌∙◌, ap, sym, length, arith}
-use Rattle.ir_core.specs.declared.function.Block.{Block}
+use Rattle.std.proofs.Common.{◌<◌, ◌∙◌, ap, sym, length, arith}
 use Rattle.substitution.specs.Rewritten.{stands_for}
 use Rattle.substitution.specs.Room.{BlockHasRoom}
 use Rattle.substitution.specs.Substitution.{substituted_block}

@@ -1,8 +1,6 @@
-use Rattle.std.proofs.Common.{◌≡◌, ℕ, [], ◌∷◌, length, refl, sym, ap, ◌∙◌, subst, arith}
-use Rattle.clauses.specs.Literal.{Lit}
+use Rattle.std.proofs.Common.{◌≡◌, [], ◌∷◌, length, sym, ap, subst, arith}
 use Rattle.first_uip.specs.declared.watches.Watches.{Watches}
-use Rattle.first_uip.specs.declared.watches.Watched.{Watched}
-use Rattle.first_uip.specs.declared.watches.Watched.TheVariants.{Alone, Two}
+use Rattle.first_uip.specs.declared.watches.Watched.TheVariants.{Two}
 use Rattle.first_uip.specs.Watching.{numbers_of, watched_literals, AddsNumber, AddsNumbers}
 use Rattle.first_uip.proofs.Listing.{AddsNumbers-none, AddsNumbers-two}
 use Rattle.first_uip.proofs.watches.Watches.add.Goals as goal
