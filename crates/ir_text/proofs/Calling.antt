@@ -36,7 +36,7 @@ pub record IsPrintable (f : Function) : Type 0 where
 
 -- a thing of this name is called so: the identifier is written as a name is, and read as this
 pub record IsCalled (identified : Option Identifier) (name : Name) : Type 0 where
-  pub written : Written
+  pub written : Identifier
   pub is_written : identified ≡ Some written
   pub name_is : name ≡ name_in written
   pub form : IsNameText (identifier_text identified)
